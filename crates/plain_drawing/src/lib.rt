@@ -1,0 +1,2 @@
+//! What is meant by a drawing: the plain types of maps and the definitions of what is drawn.
+#![tactic(auto)]
