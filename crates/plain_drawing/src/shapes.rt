@@ -1,0 +1,35 @@
+//! The shapes of features.
+use crate::world::Point;
+use farm_base::Listed;
+use std::marker::Model;
+
+/// A list of points in order: the points of a line, of a ring, or single ones.
+#[derive(Debug, Drop)]
+pub struct Path {
+    pub points: Vec<Point>,
+}
+
+impl Model for Path {
+    ghost use Rattle.std.specs.Prelude.{List};
+    ghost use Rattle.plain_drawing.specs.declared.world.Point.{Point};
+
+    ghost Value = { List Point };
+
+    ghost view = { λ p. p.points.items };
+}
+
+/// The shape of a feature: points, lines, or a polygon by its rings.
+#[derive(Debug, Drop)]
+pub enum Geometry {
+    Points(Path),
+    Lines(Listed<Path>),
+    Polygon(Listed<Path>),
+}
+
+/// How a line ends: at its last point, in a half disk, or in half a square.
+#[derive(Clone, Copy, Debug, PartialEq, Eq)]
+pub enum LineCap {
+    Butt,
+    Round,
+    Square,
+}

@@ -1,0 +1,44 @@
+//! The world's squares and the windows through which they are drawn, all in whole world units.
+
+/// A point of the world, in units from its west and north edges. The world is `2^30` units wide and high,
+/// x to the east and y to the south.
+#[derive(Clone, Copy, Debug, PartialEq, Eq)]
+pub struct Point {
+    pub x: u32,
+    pub y: u32,
+}
+
+/// A map tile: zoom, column and row. Its zoom is at most 18, its column and row are below `2^z`.
+#[derive(Clone, Copy, Debug, PartialEq, Eq)]
+pub struct Tile {
+    pub z: u32,
+    pub x: u32,
+    pub y: u32,
+}
+
+/// A square of the quadtree, under the same bounds as a tile.
+#[derive(Clone, Copy, Debug, PartialEq, Eq)]
+pub struct Square {
+    pub z: u32,
+    pub x: u32,
+    pub y: u32,
+}
+
+/// A metatile, named by its first tile: a tile whose column and row are multiples of 8.
+#[derive(Clone, Copy, Debug, PartialEq, Eq, Hash)]
+pub struct Meta {
+    pub z: u32,
+    pub x: u32,
+    pub y: u32,
+}
+
+/// A grid of square pixels over a part of the world: its west and north edge, the side of a pixel in world
+/// units, and how many columns and rows of pixels it has.
+#[derive(Clone, Copy, Debug, PartialEq, Eq)]
+pub struct Window {
+    pub west: u32,
+    pub north: u32,
+    pub pixel: u32,
+    pub cols: u32,
+    pub rows: u32,
+}
