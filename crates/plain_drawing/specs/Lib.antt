@@ -1,2 +1,3 @@
 pub mod Features
 pub mod World
+pub mod Values
