@@ -1,14 +1,21 @@
-//! What every crate of the farm shares: want of memory, texts, bytes and attribute values.
+//! What every crate of the farm shares: want of memory, texts, bytes and attribute values, and the
+//! traits of the outside with their forms in memory and over the real files and streams.
 #![tactic(auto)]
 
+mod disk;
 mod faults;
+mod files;
 mod listed;
 mod memory;
+mod sinks;
 mod texts;
 mod values;
 
+pub use disk::{DiskFiles, OutSink};
 pub use faults::{ApplyFault, MetaFault};
+pub use files::{FailedCall, FileFault, Files, MemFiles};
 pub use listed::Listed;
 pub use memory::NoMemory;
+pub use sinks::{MemSink, Sink, SinkFault};
 pub use texts::{Bytes, Text};
 pub use values::{Attr, Value};

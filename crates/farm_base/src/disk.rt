@@ -1,0 +1,113 @@
+//! The real files and streams as files and sinks. They do not tell what they hold; what is proved of
+//! them is that they count their failures.
+ghost use Rattle.std.specs.Prelude.{◌≡◌, ℕ, ◌≤◌, ◌^◌, length, None, IfOk};
+ghost use Rattle.farm_base.specs.Outside.{Reads, ReadCounts};
+
+use crate::files::{FileFault, Files};
+use crate::sinks::{Sink, SinkFault};
+use std::alloc::Global;
+use std::io::{self, Read, Write};
+use std::{fs, rt};
+
+/// A longer file is not read.
+const LONGEST: usize = 1 << 31;
+
+/// The files of the system, through a runtime.
+#[derive(Drop)]
+pub struct DiskFiles<R> {
+    rt: R,
+    faults: u64,
+}
+
+impl<R> DiskFiles<R> {
+    /// The files that this runtime reaches; takes no memory.
+    pub fn new(rt: R) -> DiskFiles<R>
+        ensures { result.faults ≡ 0 }
+    {
+        DiskFiles { rt, faults: 0 }
+    }
+}
+
+impl<R: rt::Files> Files for DiskFiles<R> {
+    ghost use Rattle.std.specs.Prelude.{None};
+
+    ghost told = { λ _. None };
+
+    ghost faults = { λ f. f.faults };
+
+    ghost counted = { λ _. tt };
+
+    /// The bytes of the file at this path. Failed where it cannot be opened or read, or has more than
+    /// `2^31` bytes.
+    fn read(&mut self, alloc: Global, name: &str) -> Result<Vec<u8>, FileFault>
+        ensures bytes { Reads None None name.now result }
+        ensures cause { ReadCounts self.old.faults self.new.faults result }
+        ensures short { IfOk result (λ v. length v.items ≤ 2 ^ 31) }
+    {
+        match whole(alloc, &self.rt, name) {
+            Ok(bytes) => Ok(bytes),
+            Err(FileFault::NoMemory) => Err(FileFault::NoMemory),
+            Err(FileFault::Failed) => {
+                self.faults = self.faults.saturating_add(1);
+                Err(FileFault::Failed)
+            }
+        }
+    }
+}
+
+// One byte more than the longest file shows that a file is longer.
+fn whole<R: rt::Files>(alloc: Global, files: &R, name: &str) -> Result<Vec<u8>, FileFault>
+    ensures { IfOk result (λ v. length v.items ≤ 2 ^ 31) }
+{
+    let file = fs::open(files, name).map_err(|e| fault(&e))?;
+    let mut bytes = Vec::new(alloc);
+    file.take(LONGEST as u64 + 1)
+        .read_to_end(&mut bytes)
+        .map_err(|e| fault(&e))?;
+    if bytes.len() > LONGEST {
+        return Err(FileFault::Failed);
+    }
+    Ok(bytes)
+}
+
+fn fault(error: &io::Error) -> FileFault {
+    match error.kind() {
+        io::ErrorKind::OutOfMemory => FileFault::NoMemory,
+        _ => FileFault::Failed,
+    }
+}
+
+/// A stream of the system as a sink.
+#[derive(Drop)]
+pub struct OutSink<W> {
+    inner: W,
+    faults: u64,
+}
+
+impl<W> OutSink<W> {
+    /// The sink over this stream; takes no memory.
+    pub fn new(inner: W) -> OutSink<W>
+        ensures { result.faults ≡ 0 }
+    {
+        OutSink { inner, faults: 0 }
+    }
+}
+
+impl<W: Write> Sink for OutSink<W> {
+    ghost use Rattle.std.specs.Prelude.{None};
+
+    ghost taken = { λ _. None };
+
+    ghost faults = { λ s. s.faults };
+
+    /// Writes the whole piece and flushes it. Failed where the stream refuses, or takes nothing of a
+    /// piece that is not empty.
+    fn put(&mut self, piece: &[u8]) -> Result<(), SinkFault> {
+        let written = self.inner.write_all(piece).is_ok() && self.inner.flush().is_ok();
+        if written {
+            return Ok(());
+        }
+        self.faults = self.faults.saturating_add(1);
+        Err(SinkFault::Failed)
+    }
+}
