@@ -1,0 +1,10 @@
+use Rattle.std.proofs.Common.{◌∙◌}
+use Rattle.plain_drawing.proofs.Squares.{overlap_iff, squares_turned}
+use Rattle.merc_fixed.proofs.squares.overlaps.Goals as goal
+
+pub returns-then-a-b-clause-meaning : goal.returns-then-a-b-clause-meaning
+returns-then-a-b-clause-meaning c = rw c.is_ancestor.ensures (overlap_iff c.args.a c.args.b)
+
+pub returns-else-a-b-clause-meaning : goal.returns-else-a-b-clause-meaning
+returns-else-a-b-clause-meaning c =
+    rw (c.is_ancestor-else-a-b.ensures ∙ squares_turned c.args.b c.args.a) (overlap_iff c.args.a c.args.b)
