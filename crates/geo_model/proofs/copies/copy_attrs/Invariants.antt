@@ -1,0 +1,6 @@
+-- The copies are equal to the attributes so far.
+use Rattle.std.proofs.Common.{◌≡◌, take}
+use Rattle.geo_model.proofs.copies.copy_attrs.Given as goal
+
+abbrev pub invariant-loop-attr : goal.invariant-loop-attr
+invariant-loop-attr l = l.copies.items ≡ take l.attr-index l.attrs

@@ -1,0 +1,6 @@
+-- The copies are equal to the paths so far.
+use Rattle.std.proofs.Common.{◌≡◌, take}
+use Rattle.geo_model.proofs.copies.copy_paths.Given as goal
+
+abbrev pub invariant-loop-path : goal.invariant-loop-path
+invariant-loop-path l = l.copies.items ≡ take l.path-index l.paths

@@ -1,0 +1,13 @@
+//! Features: shapes of the world with attributes, within the limits of the farm's data.
+#![tactic(auto)]
+
+mod bounds;
+mod checks;
+mod copies;
+mod faults;
+mod feature;
+
+pub use bounds::Bounds;
+pub use faults::GeoFault;
+pub use feature::{Feature, make_feature};
+pub use plain_drawing::{Geometry, Path, Point};
