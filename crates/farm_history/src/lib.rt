@@ -1,0 +1,15 @@
+//! Histories of a farm: the plain types of its events and answers, and, in `specs/`, what a history
+//! tells of the past, which answer each event has, and the laws that follow.
+#![tactic(auto)]
+
+mod answers;
+mod asks;
+mod keys;
+mod queues;
+
+pub use answers::{
+    ClaimAnswer, Collected, Fetched, Finished, Looked, Renewed, Restyled, Tally, Updated,
+};
+pub use asks::{AskAnswer, Cmd, Spot, Why};
+pub use keys::{Kept, Key, Mark};
+pub use queues::{Conn, Limits, Outcome, Queue, Reply, Waiter};
