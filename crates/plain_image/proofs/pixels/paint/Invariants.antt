@@ -1,0 +1,6 @@
+use Rattle.std.proofs.Common.{◌≡◌, take}
+use Rattle.plain_drawing.specs.Canvas.{painted}
+use Rattle.plain_image.proofs.pixels.paint.Given as goal
+
+abbrev pub invariant-loop-k : goal.invariant-loop-k
+invariant-loop-k l = l.pixels ≡ painted l.s l.opacity (take l.k l.covered) l.fn.pixels

@@ -1,0 +1,74 @@
+//! The arithmetic of painting, and lists of pixels.
+ghost use Rattle.std.specs.Prelude.{◌≡◌, ℕ, ◌+◌, ◌*◌, ◌≤◌, ◌++◌, length, IfOk, flat_map};
+ghost use Rattle.plain_drawing.specs.Canvas.{cut_rows, painted};
+ghost use Rattle.plain_drawing.specs.Ppm.{pixel_bytes};
+ghost use Rattle.plain_drawing.specs.Blending.{blend_channel, blend};
+
+use std::alloc::Global;
+
+use farm_base::NoMemory;
+use plain_drawing::Colour;
+
+// One channel `s` painted over the channel `d`, rounded to the nearest.
+fn channel(s: u8, opacity: u32, d: u8) -> u8
+    requires { opacity ≤ 1000 }
+    ensures { result ≡ blend_channel opacity s d }
+{
+    ((u32::from(s) * opacity + u32::from(d) * (1000 - opacity) + 500) / 1000) as u8
+}
+
+/// The colour `s` painted over the colour `d`.
+pub fn over(s: Colour, opacity: u32, d: Colour) -> Colour
+    requires { opacity ≤ 1000 }
+    ensures { result ≡ blend s opacity d }
+{
+    Colour {
+        r: channel(s.r, opacity, d.r),
+        g: channel(s.g, opacity, d.g),
+        b: channel(s.b, opacity, d.b),
+    }
+}
+
+/// Paints the covered pixels.
+#[tactic(auto, using(crate::proofs::Painting::painted_yes, crate::proofs::Painting::painted_no))]
+pub fn paint(covered: &[bool], s: Colour, opacity: u32, pixels: &mut [Colour])
+    requires opacity { opacity ≤ 1000 }
+    requires len { length covered.now ≡ length pixels.old }
+    ensures { pixels.new ≡ painted s opacity covered.now pixels.old }
+{
+    for (k, is_covered) in covered.iter().enumerate() {
+        if *is_covered {
+            pixels[k] = over(s, opacity, pixels[k]);
+        }
+    }
+}
+
+/// The pixels of a part of rows that are `across` pixels wide, row by row.
+pub fn cut(alloc: Global, pixels: &[Colour], across: u32, col: u32, row: u32, cols: u32, rows: u32) -> Result<Vec<Colour>, NoMemory>
+    requires across { across ≤ 4096 }
+    requires few_rows { row + rows ≤ 4096 }
+    requires in_cols { col + cols ≤ across }
+    requires in_rows { (row + rows) * across ≤ length pixels.now }
+    ensures items { IfOk result (λ v. v.items ≡ cut_rows across col row cols rows pixels.now) }
+    ensures len { IfOk result (λ v. length v.items ≡ rows * cols) }
+{
+    let mut out = Vec::with_capacity(alloc, rows as usize * cols as usize)?;
+    for j in row..row + rows {
+        let start = j as usize * across as usize + col as usize;
+        out.extend_from_slice(&pixels[start..start + cols as usize])?;
+    }
+    Ok(out)
+}
+
+/// A text and then the three bytes of each pixel.
+pub fn bytes_after(alloc: Global, head: &str, pixels: &[Colour]) -> Result<Vec<u8>, NoMemory>
+    ensures { IfOk result (λ v. v.items ≡ head.now ++ flat_map pixel_bytes pixels.now) }
+{
+    let mut out = Vec::from_slice(alloc, head.as_bytes())?;
+    for pixel in pixels {
+        out.push(pixel.r)?;
+        out.push(pixel.g)?;
+        out.push(pixel.b)?;
+    }
+    Ok(out)
+}
