@@ -1,5 +1,5 @@
 //! A text and a list of bytes: plain wrappers that contracts see as lists of bytes.
-ghost use Rattle.std.specs.Prelude.{◌≡◌, IfOk};
+ghost use Rattle.std.specs.Prelude.{◌≡◌, IfOk, string_bytes};
 
 use crate::memory::NoMemory;
 use std::alloc::Global;
@@ -27,6 +27,13 @@ impl Text {
         Ok(Text {
             inner: String::from_str(alloc, text)?,
         })
+    }
+
+    /// The text of a string, which is moved in; takes no memory.
+    pub fn from_string(text: String) -> Text
+        ensures { result ≡ string_bytes text }
+    {
+        Text { inner: text }
     }
 
     /// The text itself; takes no memory.
