@@ -1,3 +1,4 @@
+pub mod Data
 pub mod Blending
 pub mod Canvas
 pub mod Features
