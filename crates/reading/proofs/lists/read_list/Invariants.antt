@@ -1,0 +1,11 @@
+use Rattle.std.specs.Prelude.{◌≡◌, ◌≤◌, [], length, drop, IsTrue}
+use Rattle.serde_json.specs.View.{items_view}
+use Rattle.reading.specs.Lists.{list_after, each_after}
+use Rattle.reading.proofs.lists.read_list.Given as goal
+
+abbrev pub invariant-loop-value : goal.invariant-loop-value
+invariant-loop-value g l = record {
+  told : list_after (g.R.ReadItem.reads l.reader) l.read.items (items_view (drop l.value-index l.values)) ≡ list_after (g.R.ReadItem.reads l.reader) [] (items_view l.values);
+  kept : IsTrue (each_after (g.R.ReadItem.keeps l.reader) [] l.read.items);
+  place : length l.read.items ≤ l.value-index;
+}

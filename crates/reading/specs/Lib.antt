@@ -1,0 +1,4 @@
+pub mod Json
+pub mod Lists
+pub mod Steps
+pub mod Values

@@ -1,0 +1,21 @@
+-- A list is read item by item; each is read with what was read before it, so that its place is the
+-- length of that.
+use Rattle.std.specs.Prelude.{ℕ, zero, suc, Bool, true, ◌&&◌, List, [], ◌∷◌, ◌++◌, Result, Ok}
+use Rattle.serde_json.specs.Data.{Data, Items, no_items, item}
+use Rattle.reading.specs.Steps.{◌>>=◌}
+
+abbrev pub items_len : Items → ℕ
+items_len no_items = zero
+items_len (item d ds) = suc (items_len ds)
+
+unfoldable pub list_after : {A E : Type 0} → (List A → Data → Result A E) → List A → Items → Result (List A) E
+list_after read before no_items = Ok before
+list_after read before (item d ds) = read before d >>= λ a. list_after read (before ++ a ∷ []) ds
+
+abbrev pub list_of : {A E : Type 0} → (List A → Data → Result A E) → Items → Result (List A) E
+list_of read items = list_after read [] items
+
+-- each passes with what stands before it: the shape of "no earlier one has its name"
+abbrev pub each_after : {A : Type 0} → (List A → A → Bool) → List A → List A → Bool
+each_after p before [] = true
+each_after p before (x ∷ xs) = p before x && each_after p (before ++ x ∷ []) xs
