@@ -2,6 +2,7 @@ pub mod Data
 pub mod Blending
 pub mod Canvas
 pub mod Features
+pub mod Filters
 pub mod Ppm
-pub mod World
 pub mod Values
+pub mod World
