@@ -9,7 +9,7 @@ use Rattle.serde_json.specs.declared.value.Value.{Value}
 use Rattle.serde_json.specs.Data.{Data, null, boolean, number, string, array, object, Members}
 use Rattle.serde_json.specs.Find.{as_object, as_array}
 use Rattle.serde_json.specs.View.{items_view, members_view}
-use Rattle.reading.specs.Lists.{items_len}
+use Rattle.serde_json.specs.Events.{items_len}
 use Rattle.reading.specs.Steps.{check}
 use Rattle.reading.specs.Values.{is_one_of, members_known, opened, within}
 use Rattle.std.specs.Prelude.{length, suc, false, Some, None, unwrap_or, Ok, Err}

@@ -1,12 +1,8 @@
 -- A list is read item by item; each is read with what was read before it, so that its place is the
 -- length of that.
-use Rattle.std.specs.Prelude.{ℕ, zero, suc, Bool, true, ◌&&◌, List, [], ◌∷◌, ◌++◌, Result, Ok}
+use Rattle.std.specs.Prelude.{Bool, true, ◌&&◌, List, [], ◌∷◌, ◌++◌, Result, Ok}
 use Rattle.serde_json.specs.Data.{Data, Items, no_items, item}
 use Rattle.reading.specs.Steps.{◌>>=◌}
-
-abbrev pub items_len : Items → ℕ
-items_len no_items = zero
-items_len (item d ds) = suc (items_len ds)
 
 unfoldable pub list_after : {A E : Type 0} → (List A → Data → Result A E) → List A → Items → Result (List A) E
 list_after read before no_items = Ok before
