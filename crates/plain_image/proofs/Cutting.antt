@@ -1,9 +1,8 @@
 -- One more row of a part of an image.
-use Rattle.std.proofs.Common.{◌≡◌, ℕ, suc, zero, ◌+◌, ◌*◌, ◌≤◌, ◌<◌, length, List, [], ◌∷◌, ◌++◌, take, drop, flat_map, refl, ap, sym, ◌∙◌, arith, add-one}
+use Rattle.std.proofs.Common.{◌≡◌, ℕ, suc, zero, ◌+◌, ◌*◌, ◌≤◌, ◌<◌, length, List, [], ◌∷◌, ◌++◌, take, drop, flat_map, ap, ◌∙◌, arith, add-one}
 use Rattle.std.proofs.lemmas.List.{append-nil, length-take, length-drop}
 use Rattle.std.proofs.Math.Nat.{mul-le-mul_right}
 use Rattle.std.specs.List.{range_with_len}
-use Rattle.std.proofs.lemmas.List.Concat.{flat_map_single, flat_map-cons}
 use Rattle.std.proofs.lemmas.Grind.{flat_map-append}
 use Rattle.plain_drawing.specs.Canvas.{cut_rows}
 
@@ -14,7 +13,7 @@ range_suc a (suc n) =
     ap (λ ks. a ∷ ks) (range_suc (a + 1) n ∙ ap (λ k. range_with_len (a + 1) n ++ k ∷ []) e)
 
 pub cut_more : {X : Type 0} (across col row cols n j : ℕ) (xs : List X) → row + n ≡ j
-  → cut_rows across col row cols (n + 1) xs ≡ cut_rows across col row cols n xs ++ take cols (drop (j * across + col) xs)
+    → cut_rows across col row cols (n + 1) xs ≡ cut_rows across col row cols n xs ++ take cols (drop (j * across + col) xs)
 cut_more across col row cols n j xs e =
     let f = λ (k : ℕ). take cols (drop (k * across + col) xs) in
     ap (λ k. flat_map f (range_with_len row k)) (add-one n)

@@ -1,11 +1,9 @@
 //! A picture: one colour for each pixel, by rows.
-use std::alloc::Global;
-use std::marker::Model;
-
-use crate::Mask;
-use crate::pixels;
+use crate::{Mask, pixels};
 use farm_base::NoMemory;
 use plain_drawing::Colour;
+use std::alloc::Global;
+use std::marker::Model;
 
 /// An image, by rows. Contracts see its sides and its pixels, row by row. Its sides are 1 to 4,096.
 #[derive(Debug, Drop)]
@@ -82,8 +80,10 @@ impl Image {
         requires col { i < self.old.cols }
         requires row { j < self.old.rows }
         requires opacity { opacity ≤ 1000 }
-        ensures { self.new ≡ record self.old { pixels = slice_set self.old.pixels (j * self.old.cols + i)
-            (blend c opacity (slice_index_or self.old.pixels (j * self.old.cols + i) c)) } }
+        ensures { self.new ≡ record self.old {
+          pixels = slice_set self.old.pixels (j * self.old.cols + i)
+              (blend c opacity (slice_index_or self.old.pixels (j * self.old.cols + i) c));
+        } }
     {
         let place = j as usize * self.cols as usize + i as usize;
         self.pixels[place] = pixels::over(c, opacity, self.pixels[place]);
@@ -91,7 +91,14 @@ impl Image {
 
     /// The image of a part of it: `cols` columns from `col` on and `rows` rows from `row` on. The part
     /// is inside and has sides of at least 1.
-    pub fn cut(&self, alloc: Global, col: u32, row: u32, cols: u32, rows: u32) -> Result<Image, NoMemory>
+    pub fn cut(
+        &self,
+        alloc: Global,
+        col: u32,
+        row: u32,
+        cols: u32,
+        rows: u32,
+    ) -> Result<Image, NoMemory>
         requires some_col { 1 ≤ cols }
         requires some_row { 1 ≤ rows }
         requires in_cols { col + cols ≤ self.now.cols }

@@ -1,10 +1,9 @@
 //! One bit for each pixel of a window: which pixels are covered.
 ghost use Rattle.std.specs.Prelude.{◌≡◌, ◌+◌, ◌*◌, ◌<◌, ◌≤◌, ℕ, IfOk, slice_set, slice_get, Some, replicate, false, true, length};
 
+use farm_base::NoMemory;
 use std::alloc::Global;
 use std::marker::Model;
-
-use farm_base::NoMemory;
 
 /// A mask over the pixels of a window, by rows: which of them are covered. Contracts see its sides
 /// and its bits, row by row. Its sides are 1 to 4,096.

@@ -4,10 +4,9 @@ ghost use Rattle.plain_drawing.specs.Canvas.{cut_rows, painted};
 ghost use Rattle.plain_drawing.specs.Ppm.{pixel_bytes};
 ghost use Rattle.plain_drawing.specs.Blending.{blend_channel, blend};
 
-use std::alloc::Global;
-
 use farm_base::NoMemory;
 use plain_drawing::Colour;
+use std::alloc::Global;
 
 // One channel `s` painted over the channel `d`, rounded to the nearest.
 fn channel(s: u8, opacity: u32, d: u8) -> u8
@@ -44,7 +43,15 @@ pub fn paint(covered: &[bool], s: Colour, opacity: u32, pixels: &mut [Colour])
 }
 
 /// The pixels of a part of rows that are `across` pixels wide, row by row.
-pub fn cut(alloc: Global, pixels: &[Colour], across: u32, col: u32, row: u32, cols: u32, rows: u32) -> Result<Vec<Colour>, NoMemory>
+pub fn cut(
+    alloc: Global,
+    pixels: &[Colour],
+    across: u32,
+    col: u32,
+    row: u32,
+    cols: u32,
+    rows: u32,
+) -> Result<Vec<Colour>, NoMemory>
     requires across { across ≤ 4096 }
     requires few_rows { row + rows ≤ 4096 }
     requires in_cols { col + cols ≤ across }

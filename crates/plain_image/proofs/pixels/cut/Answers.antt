@@ -12,7 +12,7 @@ loop-j-preserved c =
     let size : s + c.args.cols - s ≡ c.args.cols = omega arith in
     let at : c.args.row + (j - c.args.row) ≡ j = omega arith in
     let items : c.extend_from_slice.new.self.items ≡ c.loop-j.out.items ++ part =
-        c.in_ok-extend_from_slice.ensures.items ∙ ap (λ n. c.loop-j.out.items ++ take n (drop s c.args.pixels.now)) size in
+    c.in_ok-extend_from_slice.ensures.items ∙ ap (λ n. c.loop-j.out.items ++ take n (drop s c.args.pixels.now)) size in
     let count = part_len c.args.pixels.now s c.args.cols (part_fits _ _ c.args.row _ c.args.rows _ _ c.requires.in_cols c.loop-j-test.true c.requires.in_rows) in
     record {
       cut = rw more (items ∙ ap (λ xs. xs ++ part) c.loop-j.invariant.cut ∙ sym (cut_more _ _ _ _ _ _ _ at));
