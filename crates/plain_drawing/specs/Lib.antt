@@ -1,8 +1,10 @@
-pub mod Data
 pub mod Blending
 pub mod Canvas
+pub mod Data
 pub mod Features
 pub mod Filters
 pub mod Ppm
+pub mod Rings
+pub mod Strokes
 pub mod Values
 pub mod World
