@@ -1,0 +1,4 @@
+pub mod Texts
+pub mod Heads
+pub mod Streams
+pub mod Written
