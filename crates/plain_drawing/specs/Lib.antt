@@ -2,9 +2,12 @@ pub mod Blending
 pub mod Canvas
 pub mod Data
 pub mod Features
+pub mod FilterCodes
 pub mod Filters
+pub mod Grids
 pub mod Ppm
 pub mod Rings
 pub mod Strokes
+pub mod Styles
 pub mod Values
 pub mod World
