@@ -1,12 +1,15 @@
 pub mod Blending
 pub mod Canvas
 pub mod Data
+pub mod Drawing
 pub mod Features
 pub mod FilterCodes
 pub mod Filters
 pub mod Grids
 pub mod Ppm
+pub mod Reach
 pub mod Rings
+pub mod Rules
 pub mod Strokes
 pub mod Styles
 pub mod Values
