@@ -1,2 +1,3 @@
 pub mod Squares
 pub mod Windows
+pub mod Places

@@ -1,5 +1,5 @@
 -- Masks and images as lists: one bit or one colour for each pixel, row by row.
-use Rattle.std.specs.Prelude.{◌≡◌, ℕ, ◌+◌, ◌*◌, ◌≤◌, Bool, ◌||◌, cond, List, [], ◌∷◌, take, drop, flat_map}
+use Rattle.std.specs.Prelude.{◌≡◌, ℕ, ◌+◌, ◌*◌, ◌≤◌, Bool, true, ◌||◌, cond, List, [], ◌∷◌, take, drop, flat_map}
 use Rattle.std.specs.List.{range_with_len}
 use Rattle.plain_drawing.specs.declared.world.Point.{Point}
 use Rattle.plain_drawing.specs.declared.world.Window.{Window}
@@ -65,3 +65,9 @@ cut_of image col row cols rows = record {
   rows = rows;
   pixels = cut_rows image.cols col row cols rows image.pixels;
 }
+
+-- some of the bits whose pixel centre is a member are set, and no other bit changed
+pub record SetsSome (member : Point → Bool) (w : Window) (old new : Bits) : Type 0 where
+  pub chosen : Point → Bool
+  pub belongs : (c : Point) → chosen c ≡ true → member c ≡ true
+  pub is : new ≡ record old { bits = marked chosen (centres w) old.bits }
