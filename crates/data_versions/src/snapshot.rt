@@ -1,0 +1,181 @@
+//! Data that never change and are shared: snapshots, and views of their layers.
+ghost use Rattle.std.specs.Prelude.{◌≡◌, ◌≤◌, ◌<◌, IfOk, IfSome, length, slice_get, position};
+ghost use Rattle.std.specs.Option.{option_copied};
+ghost use Rattle.plain_drawing.specs.Data.{IsDataset, layer_named, features_named};
+ghost use Rattle.data_versions.specs.Near.{place_of, is_near, next_near};
+ghost use Rattle.data_versions.specs.Shared.{shared_layers};
+
+use crate::dataset::{Dataset, Layer};
+use farm_base::NoMemory;
+use geo_model::{Bounds, Feature};
+use std::alloc::Global;
+use std::marker::Model;
+use std::sync::Arc;
+
+/// A dataset that never changes and is shared. Contracts see it as the list of its layers.
+#[derive(Drop)]
+pub struct Snapshot {
+    layers: Arc<Vec<Arc<Layer>>>,
+}
+
+impl Model for Snapshot {
+    ghost use Rattle.std.specs.Prelude.{List};
+    ghost use Rattle.plain_drawing.specs.Features.{Layer};
+    ghost use Rattle.plain_drawing.specs.Data.{IsDataset};
+    ghost use Rattle.data_versions.specs.Shared.{shared_layers};
+
+    ghost Value = { List Layer };
+
+    ghost view = { λ s. shared_layers s.layers.value.items };
+
+    ghost invariant = { λ s. IsDataset (shared_layers s.layers.value.items) };
+}
+
+/// Shares each layer of the data.
+fn share_layers(alloc: Global, layers: Vec<Layer>) -> Result<Vec<Arc<Layer>>, NoMemory>
+    ensures { IfOk result (λ shared. shared_layers shared.items ≡ layers.items) }
+{
+    let mut shared = Vec::with_capacity(alloc, layers.len())?;
+    for layer in layers {
+        shared.push(Arc::new(alloc, layer)?)?;
+    }
+    Ok(shared)
+}
+
+impl Snapshot {
+    /// The snapshot of the data.
+    pub fn first(alloc: Global, dataset: Dataset) -> Result<Snapshot, NoMemory>
+        ensures { IfOk result (λ s. s ≡ dataset) }
+    {
+        let shared = share_layers(alloc, dataset.into_layers())?;
+        Ok(Snapshot {
+            layers: Arc::new(alloc, shared)?,
+        })
+    }
+
+    /// An equal snapshot, which shares all with this one.
+    pub fn share(&self) -> Result<Snapshot, NoMemory>
+        ensures { IfOk result (λ s. s ≡ self.now) }
+    {
+        Ok(Snapshot {
+            layers: Arc::try_clone(&self.layers)?,
+        })
+    }
+
+    /// The layer of the name, or none exactly where no layer has it; takes no memory.
+    #[tactic(auto, using(crate::proofs::Named::named_few))]
+    pub fn layer(&self, name: &str) -> Option<LayerView<'_>>
+        ensures { result ≡ features_named self.now name.now }
+    {
+        match find_layer(self.layers.as_slice(), name) {
+            Some(layer) => Some(LayerView { layer }),
+            None => None,
+        }
+    }
+}
+
+/// The layer of the name among those that are shared.
+fn find_layer<'a>(shared: &'a [Arc<Layer>], name: &str) -> Option<&'a Layer>
+    ensures { option_copied result ≡ layer_named (shared_layers shared.now) name.now }
+{
+    for layer in shared {
+        let layer: &Layer = layer;
+        if layer.name.as_str() == name {
+            return Some(layer);
+        }
+    }
+    None
+}
+
+/// A look at one layer of a snapshot, which contracts see as the list of its features. Its calls take no
+/// memory.
+pub struct LayerView<'a> {
+    layer: &'a Layer,
+}
+
+impl<'a> Model for LayerView<'a> {
+    ghost use Rattle.std.specs.Prelude.{List, length, ◌≤◌};
+    ghost use Rattle.plain_drawing.specs.Features.{Feature};
+
+    ghost Value = { List Feature };
+
+    ghost view = { λ v. v.layer.now.features };
+
+    ghost invariant = { λ v. length v.layer.now.features ≤ 1000000 };
+}
+
+impl LayerView<'_> {
+    /// How many features the layer has.
+    pub fn len(&self) -> u32
+        ensures { result ≡ length self.now }
+    {
+        let layer = self.layer;
+        layer.features.len() as u32
+    }
+
+    /// The feature at the place, or none exactly where the place is not below `len`.
+    pub fn get(&self, i: u32) -> Option<&Feature>
+        ensures { option_copied result ≡ slice_get self.now i }
+    {
+        let layer = self.layer;
+        layer.features.get(i as usize)
+    }
+
+    /// The place of the feature with the id, or none exactly where no feature has it.
+    pub fn place_of(&self, id: u64) -> Option<u32>
+        ensures { result ≡ place_of self.now id }
+    {
+        let layer = self.layer;
+        match find_id(layer.features.as_slice(), id) {
+            Some(place) => Some(place as u32),
+            None => None,
+        }
+    }
+
+    /// The least place from `from` on whose feature's bounding box, borders included, has a point in common
+    /// with the rectangle, borders included; none exactly where there is no such place. The caller sees to
+    /// it that the rectangle's west is not past its east, nor its north past its south.
+    pub fn next_near(&self, from: u32, west: u32, north: u32, east: u32, south: u32) -> Option<u32>
+        requires across { west ≤ east }
+        requires down { north ≤ south }
+        ensures { result ≡ next_near self.now from (record { west = west; north = north; east = east; south = south }) }
+    {
+        let layer = self.layer;
+        let start = from as usize;
+        let around = Bounds {
+            west,
+            north,
+            east,
+            south,
+        };
+        if start >= layer.features.len() {
+            return None;
+        }
+        match find_near(&layer.features[start..], around) {
+            Some(steps) => Some((start + steps) as u32),
+            None => None,
+        }
+    }
+}
+
+/// The first place of the id.
+fn find_id(features: &[Feature], id: u64) -> Option<usize>
+    ensures place { result ≡ place_of features.now id }
+    ensures bound { IfSome result (λ place. place < length features.now) }
+{
+    features.iter().position(|f| f.id() == id)
+}
+
+fn is_near(feature: &Feature, around: Bounds) -> bool
+    ensures { result ≡ is_near around feature.now }
+{
+    feature.bbox().meets(&around)
+}
+
+/// The first place of a feature near the rectangle.
+fn find_near(features: &[Feature], around: Bounds) -> Option<usize>
+    ensures place { result ≡ position (is_near around) features.now }
+    ensures bound { IfSome result (λ place. place < length features.now) }
+{
+    features.iter().position(|f| is_near(f, around))
+}
