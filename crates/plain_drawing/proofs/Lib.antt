@@ -1,3 +1,4 @@
 pub mod Squares
+pub mod Steps
 pub mod Windows
 pub mod Places
