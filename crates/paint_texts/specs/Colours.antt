@@ -1,0 +1,86 @@
+-- Colours of style texts, as CSS writes them and Mapnik reads them.
+use Rattle.std.specs.Prelude.{ℕ, ◌+◌, ◌-◌, ◌*◌, ◌==◌, ◌&&◌, Bool, List, [], ◌∷◌, take, drop, codes, nat_le, if◌then◌else◌, Option, Some, None, find, option_map, option_and_then}
+use Rattle.std.specs.Option.{option_or}
+use Rattle.std.specs.List.{prefix_len}
+use Rattle.std.specs.Str.{bytes_eq}
+use Rattle.plain_drawing.specs.declared.colour.Colour.{Colour}
+use Rattle.paint_texts.specs.Decimals.{is_digit, number}
+
+abbrev pub rgb : ℕ → ℕ → ℕ → Colour
+rgb r g b = record { r = r; g = g; b = b }
+
+-- the sixteen names
+abbrev pub colour_names : List (List ℕ × Colour)
+colour_names =
+    (codes "aqua", rgb 0 255 255) ∷ (codes "black", rgb 0 0 0) ∷ (codes "blue", rgb 0 0 255) ∷ (codes "fuchsia", rgb 255 0 255)
+    ∷ (codes "gray", rgb 128 128 128) ∷ (codes "green", rgb 0 128 0) ∷ (codes "lime", rgb 0 255 0) ∷ (codes "maroon", rgb 128 0 0)
+    ∷ (codes "navy", rgb 0 0 128) ∷ (codes "olive", rgb 128 128 0) ∷ (codes "purple", rgb 128 0 128) ∷ (codes "red", rgb 255 0 0)
+    ∷ (codes "silver", rgb 192 192 192) ∷ (codes "teal", rgb 0 128 128) ∷ (codes "white", rgb 255 255 255) ∷ (codes "yellow", rgb 255 255 0) ∷ []
+
+unfoldable pub named : List ℕ → Option Colour
+named text = option_map (λ e. e.1) (find (λ e. bytes_eq text e.0) colour_names)
+
+-- the value of a hexadecimal digit of either case
+abbrev pub hex : ℕ → Option ℕ
+hex c = if is_digit c then Some (c - 48) else
+    if nat_le 97 c && nat_le c 102 then Some (c - 87) else
+    if nat_le 65 c && nat_le c 70 then Some (c - 55) else None
+
+-- a channel of two digits
+abbrev pub two_digits : Option ℕ → Option ℕ → Option ℕ
+two_digits (Some high) (Some low) = Some (16 * high + low)
+two_digits (Some high) None = None
+two_digits None low = None
+
+abbrev pub joined : Option ℕ → Option ℕ → Option ℕ → Option Colour
+joined (Some r) (Some g) (Some b) = Some (rgb r g b)
+joined (Some r) (Some g) None = None
+joined (Some r) None b = None
+joined None g b = None
+
+-- three digits, each of them doubled, or six
+unfoldable pub channels : List ℕ → Option Colour
+channels (r ∷ g ∷ b ∷ []) = joined (two_digits (hex r) (hex r)) (two_digits (hex g) (hex g)) (two_digits (hex b) (hex b))
+channels (r ∷ s ∷ g ∷ h ∷ b ∷ c ∷ []) = joined (two_digits (hex r) (hex s)) (two_digits (hex g) (hex h)) (two_digits (hex b) (hex c))
+channels _ = None
+
+-- the rest of a text that begins with this byte
+abbrev pub behind : ℕ → List ℕ → Option (List ℕ)
+behind sign [] = None
+behind sign (c ∷ rest) = if c == sign then Some rest else None
+
+-- a hash, and the channels
+unfoldable pub hashed : List ℕ → Option Colour
+hashed text = option_and_then channels (behind 35 text)
+
+abbrev pub is_space : ℕ → Bool
+is_space c = c == 32
+
+-- the text without the spaces at its front
+abbrev pub trimmed : List ℕ → List ℕ
+trimmed text = drop (prefix_len is_space text) text
+
+-- a number of one to three digits up to 255 between spaces, and what stands behind the sign that ends it
+abbrev pub part_of : ℕ → ℕ → List ℕ → Option (ℕ × List ℕ)
+part_of sign len text =
+    if nat_le 1 len && nat_le len 3 && nat_le (number (take len text)) 255
+    then option_map (λ rest. (number (take len text), rest)) (behind sign (trimmed (drop len text))) else None
+
+unfoldable pub part : ℕ → List ℕ → Option (ℕ × List ℕ)
+part sign text = part_of sign (prefix_len is_digit (trimmed text)) (trimmed text)
+
+-- the colour, where nothing follows
+abbrev pub only : ℕ → ℕ → ℕ → List ℕ → Option Colour
+only r g b [] = Some (rgb r g b)
+only r g b (c ∷ rest) = None
+
+-- three numbers, ended by two commas and a parenthesis
+unfoldable pub parts : List ℕ → Option Colour
+parts text = option_and_then (λ r. option_and_then (λ g. option_and_then (λ b. only r.0 g.0 b.0 b.1) (part 41 g.1)) (part 44 r.1)) (part 44 text)
+
+unfoldable pub mixed : List ℕ → Option Colour
+mixed text = if bytes_eq (take 4 text) (codes "rgb(") then parts (drop 4 text) else None
+
+-- a colour text: a hash and three or six digits, or rgb(r,g,b), or a name
+unfoldable pub colour_of : List ℕ → Option Colour
+colour_of text = option_or (hashed text) (option_or (mixed text) (named text))
