@@ -1,0 +1,7 @@
+//! Which columns and rows of a window have their centres in a stretch of the world, and the loop that
+//! sets the bits of a shape within its own rows and columns.
+#![tactic(auto)]
+
+mod sides;
+
+pub use sides::first_at;
