@@ -1,13 +1,10 @@
-// A library with one function.
+//! Polygons by even-odd filling, with scan lines: each edge marks where it is crossed in each of its
+//! rows, and then each row is swept once from the west.
 #![tactic(auto)]
 
-ghost use Rattle.std.specs.Prelude.{◌≡◌};
-ghost use Rattle.raster_core.specs.Echo.{echo_of};
+mod edges;
+mod fill;
+mod reach;
+mod sweep;
 
-// The `ensures` clause is the contract: what `echo` returns is `echo_of` of its argument, a definition
-// in `specs/Echo.antt`, which a caller's clause can cite too.
-pub fn echo(x: usize) -> usize
-    ensures { result ≡ echo_of x }
-{
-    x
-}
+pub use fill::fill_mask;
