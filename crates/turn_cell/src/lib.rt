@@ -1,0 +1,14 @@
+//! A lock whose turns have one history: each turn runs one call on the value and adds one entry, and
+//! every seat knows a beginning of that one history, in which all of its own entries stand.
+#![tactic(auto)]
+
+mod call;
+mod cell;
+mod desk;
+mod rule;
+mod view;
+
+pub use call::{Call, StandsFor};
+pub use cell::{ClosedCell, Seat, TurnCell};
+pub use desk::Worn;
+pub use view::Terms;
