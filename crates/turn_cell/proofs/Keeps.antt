@@ -1,16 +1,16 @@
 -- Each kind of step of a turn keeps the rule.
-use Rattle.std.proofs.Common.{◌≡◌, ℕ, zero, suc, ◌+◌, ◌*◌, ◌%◌, ◌^◌, ◌<◌, ◌≤◌, ◌≢◌, ◌⊎◌, Bool, true, false, List, [], ◌∷◌, ◌++◌, length, get_or, set, sym, refl, ap, ◌∙◌, subst, inl, inr, ⊎_elim, arith, cond, eqb, eq-eqb, ne_eqb, Option, Some, None, length-set, length-append, append_assoc}
+use Rattle.std.proofs.Common.{◌≡◌, ℕ, ◌+◌, ◌%◌, ◌^◌, ◌<◌, ◌≤◌, ◌≢◌, true, false, List, [], ◌∷◌, ◌++◌, length, get_or, set, sym, refl, ap, ◌∙◌, subst, arith, cond, eqb, eq-eqb, ne_eqb, Option, Some, length-set, length-append}
 use Rattle.std.proofs.lemmas.List.{append-nil}
 use mathlib.Core.Logic.{dite}
-use native.Mathlib.Decide.{ℕ_discrete, dec_le}
+use native.Mathlib.Decide.{ℕ_discrete}
 use mathlib.Core.Option.{none, some}
 use lib.ListN.{get_elem?}
 use lib.Seq.{set-get_or}
 use prog.Atomic.{either}
-use Rattle.atomic_table.specs.Table.{State, step, keeps, takes, gives, Allows}
+use Rattle.atomic_table.specs.Table.{step, keeps, takes, gives, Allows}
 use Rattle.atomic_table.proofs.Lists.{set_here, set_else, set_again, exchanged}
-use Rattle.turn_cell.specs.Turns.{by, StartsWith, HasJoined, NoneAbove}
-use Rattle.turn_cell.specs.Cell.{total, below, Sat, Moment, Fits, AtHome, Kept}
+use Rattle.turn_cell.specs.Turns.{HasJoined, NoneAbove}
+use Rattle.turn_cell.specs.Cell.{total, below, Sat, Moment, Fits, Kept}
 use Rattle.turn_cell.specs.Plays.{after_draw, limit_of, drew, holding, looked, counting, counted_as, leaving, served, learned, KnowsJoined, KnowsStrangers}
 use Rattle.turn_cell.specs.declared.view.Terms.{Terms}
 use Rattle.turn_cell.specs.declared.view.View.{View}
@@ -155,9 +155,8 @@ module _ {T E L : Type 0} (stands : T → List (ℕ × E) → Type 0) (lasting :
             log,
             refl,
             got.2,
-            (λ b at_b. got.3 ∙ ap (λ (c : Terms T). lasting c.first.value) (Some-injective a b (sym live ∙ at_b))),
+            (λ b at_b. subst (λ (c : Terms T). (lasting x ≡ lasting c.first.value) × (length log < c.limit) × (c.limit ≤ 2 ^ 62)) (Some-injective a b (sym live ∙ at_b)) (got.3, omega arith, o.small)),
             (fit.sees, (fit.own a live).1 ∙ sym (fit.own a live).2),
-            omega arith,
             knows_joined o.now id m.0 log fit o.past,
             knows_strangers o.now id m.0 log fit o.strangers,
           )),

@@ -1,13 +1,11 @@
 -- Histories: the entries of one number, and beginnings of one list.
-use Rattle.std.proofs.Common.{◌≡◌, ℕ, zero, suc, ◌+◌, ◌<◌, ◌≤◌, ◌≢◌, Bool, true, false, ◌||◌, List, [], ◌∷◌, ◌++◌, length, sym, refl, ap, ◌∙◌, subst, arith, cond, eqb, leb, eq-eqb, ne_eqb, le-leb, length-append, append_assoc}
+use Rattle.std.proofs.Common.{◌≡◌, ℕ, ◌<◌, ◌≤◌, ◌≢◌, List, [], ◌∷◌, ◌++◌, length, sym, refl, ap, ◌∙◌, subst, arith, cond, eqb, eq-eqb, ne_eqb, le-leb, length-append, append_assoc}
 use Rattle.std.proofs.lemmas.List.{append-nil}
 use Rattle.std.proofs.lemmas.Bool.{lt-leb}
 use Rattle.std.proofs.lemmas.List.Elements.{filter-append}
 use mathlib.Core.Logic.{dite}
-use native.Mathlib.Decide.{ℕ_discrete, dec_le}
-use mathlib.Core.Option.{some}
-use lib.ListN.{get_elem?}
-use Rattle.turn_cell.specs.Turns.{by, StartsWith, HasJoined, NoneAbove}
+use native.Mathlib.Decide.{dec_le}
+use Rattle.turn_cell.specs.Turns.{by, StartsWith}
 use Rattle.turn_cell.specs.Plays.{longer}
 
 module _ {A : Type 0} where

@@ -2,18 +2,18 @@
 use Rattle.std.proofs.Common.{◌≡◌, ℕ, zero, suc, ◌+◌, ◌^◌, ◌<◌, ◌≤◌, ◌≢◌, ◌⊎◌, Bool, true, false, ◌||◌, List, [], ◌∷◌, ◌++◌, length, set, sym, refl, ap, ◌∙◌, subst, inl, inr, ⊎_elim, arith, Option, Some, None}
 use mathlib.Core.Logic.{dite}
 use native.Mathlib.Decide.{ℕ_discrete, dec_le}
-use mathlib.Core.Option.{none, some, some-injective, some-ne-none}
+use mathlib.Core.Option.{some, some-injective, some-ne-none}
 use lib.ListN.{get_elem?}
-use Rattle.atomic_table.specs.Table.{State, opening, Splits, Joins, Final, Seen}
+use Rattle.atomic_table.specs.Table.{opening, Splits, Joins, Final, Seen}
 use Rattle.atomic_table.proofs.Lists.{at_set, set_else, at_snoc, at_longer}
-use Rattle.turn_cell.specs.Turns.{by, StartsWith, HasJoined, NoneAbove}
+use Rattle.turn_cell.specs.Turns.{by, StartsWith}
 use Rattle.turn_cell.specs.Cell.{total, below, if_some, named, gone, drawn, newcomer, Moment, Fits, Kept}
-use Rattle.turn_cell.specs.Plays.{split_first, split_new, joining_views, spent, longer}
+use Rattle.turn_cell.specs.Plays.{split_first, split_new, joining_views, spent}
 use Rattle.turn_cell.specs.declared.view.Terms.{Terms}
 use Rattle.turn_cell.specs.declared.view.View.{View}
-use Rattle.turn_cell.proofs.Sums.{total-append, total-set, term_le, terms_le, total-none, some_term, total-ones, below-ones, only, only-is, below-one}
+use Rattle.turn_cell.proofs.Sums.{total-append, total-set, terms_le, total-none, some_term, total-ones, below-ones, only, only-is, below-one}
 use Rattle.turn_cell.proofs.Logs.{starts_longer, longer_starts_left, longer_starts_right, by-longer_left, by-longer_right, none_before, whole}
-use Rattle.turn_cell.proofs.Facts.{differ, live_spent, Some-injective, same_at, St, cell, named-live, drawn-one}
+use Rattle.turn_cell.proofs.Facts.{differ, live_spent, Some-injective, same_at, St, named-live}
 
 or_true : (b c : Bool) → b || c ≡ true → (b ≡ true) ⊎ (c ≡ true)
 or_true true c e = inl refl

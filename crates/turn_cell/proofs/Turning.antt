@@ -1,5 +1,5 @@
 -- What the steps of a turn, of a join and of a closing come to, from what each of them told.
-use Rattle.std.proofs.Common.{◌≡◌, ℕ, true, false, List, [], ◌∷◌, ◌++◌, length, get_or, sym, refl, ap, ◌∙◌, subst, Option, Some, None}
+use Rattle.std.proofs.Common.{◌≡◌, ℕ, List, [], ◌∷◌, length, get_or, sym, refl, ap, ◌∙◌, subst, arith, Option, Some, None}
 use mathlib.Core.Option.{some, some-injective}
 use lib.ListN.{get_elem?}
 use Rattle.atomic_table.specs.Seated.{TableId}
@@ -26,11 +26,12 @@ module _ {T E L : Type 0} (stands : T → List (ℕ × E) → Type 0) (lasting :
         log,
         emptied ∙ ap (λ (q : Sat T E). (q.0, (0, None) ∷ rest q.1)) g.2 ∙ ap (λ (l : List (ℕ × Option T)). (holding before.0 log, (0, None) ∷ l)) (none_of_length before.1 nothing-out),
         subst (λ (y : T). stands y log) value g.3,
-        ap lasting (sym value) ∙ g.4 a live,
+        ap lasting (sym value) ∙ (g.4 a live).0,
+        (g.4 a live).1,
+        (g.4 a live).2,
         g.5,
         g.6,
         g.7,
-        g.8,
       )
 
   -- the steps of a turn, one after another
@@ -43,13 +44,16 @@ module _ {T E L : Type 0} (stands : T → List (ℕ × E) → Type 0) (lasting :
       let log : List (ℕ × E) = e.0 in
       let now : left.0 ≡ leaving (counting (holding (with_ticket m ticket).0 log) (entry answer)) =
       ap (λ (q : Sat T E). q.0) leaves ∙ ap (λ (q : Sat T E). leaving q.0) counts ∙ ap (λ (q : Sat T E). leaving (counting q.0 (entry answer))) e.1 in
-      let due : IsDue stands lasting need x m.0.number m.0.seen log = (e.2, e.4, e.5, subst (λ (l : L). need m.0.number m.0.seen l) (sym e.3) needs) in
+      let room = e.4 in
+      let small = e.5 in
+      let due : IsDue stands lasting need x m.0.number m.0.seen log = (e.2, e.6, omega arith, subst (λ (l : L). need m.0.number m.0.seen l) (sym e.3) needs) in
       let did = ran.1 m.0.number m.0.seen log due in
       record {
         log = log;
         before = x;
         after = y;
-        follows = e.4;
+        follows = e.6;
+        room = e.4;
         seen = ap (λ (v : View T E). v.seen) now;
         mine = ap (λ (v : View T E). v.mine) now;
         stood = e.2;

@@ -1,5 +1,5 @@
 -- What a caller sees of a cell and of a seat, and the words of the public contracts.
-use Rattle.std.specs.Prelude.{◌≡◌, ℕ, ◌+◌, ◌≤◌, Bool, true, false, ◌||◌, List, [], ◌∷◌, ◌++◌, length, Option, Some, None}
+use Rattle.std.specs.Prelude.{◌≡◌, ℕ, ◌+◌, ◌<◌, ◌≤◌, Bool, true, false, ◌||◌, List, [], ◌∷◌, ◌++◌, length, Option, Some}
 use Rattle.atomic_table.specs.Seated.{TableId}
 use Rattle.turn_cell.specs.Turns.{by, Follows, HasJoined, NoneAbove}
 use Rattle.turn_cell.specs.Plays.{longer}
@@ -69,12 +69,13 @@ module _ {T E : Type 0} where
   IsWhole v = (v.first ≡ true) × (length v.joined ≡ v.splits)
 
 module _ {T E L : Type 0} (stands : T → List (ℕ × E) → Type 0) (lasting : T → L) where
-  -- What a turn did. There is a history that begins with all that the seat had seen and has no other entry of it; the seat has now seen that history and its own entry at the end. The value that the call was run on stood for the one, and what it left stood for the other.
+  -- What a turn did. There is a history that begins with all that the seat had seen and has no other entry of it; the seat has now seen that history and its own entry at the end. It was shorter than the limit. The value that the call was run on stood for the one, and what it left stood for the other.
   pub record Took (about : Terms T) (entry : E) (promise : List (ℕ × E) → L → Type 0) (v w : Held T E) : Type 0 where
     pub log : List (ℕ × E)
     pub before : T
     pub after : T
     pub follows : Follows v.number v.seen log
+    pub room : length log < about.limit
     pub seen : w.seen ≡ log ++ (v.number, entry) ∷ []
     pub mine : w.mine ≡ v.mine ++ (v.number, entry) ∷ []
     pub stood : stands before log

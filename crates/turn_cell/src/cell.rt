@@ -3,8 +3,8 @@ ghost use Rattle.std.specs.Prelude.{◌≡◌, ◌^◌, ◌≤◌, true, [], IfO
 ghost use Rattle.turn_cell.specs.Held.{IsSeatOf, first_of, SameSeat, worn_out, split_left, split_right, joining, Knows, IsWhole, Took, Closes};
 ghost use Rattle.turn_cell.specs.Turns.{StartsWith};
 
-use crate::call::{Call, StandsFor};
-use crate::desk::{Core, Place, Worn};
+use crate::call::{Call, StandsFor, Worn};
+use crate::desk::{Core, Place};
 use crate::view::Terms;
 use farm_base::NoMemory;
 use std::alloc::Global;

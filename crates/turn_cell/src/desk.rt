@@ -6,7 +6,7 @@ ghost use Rattle.turn_cell.specs.Plays.{counting, leaving, split_first, split_ne
 ghost use Rattle.turn_cell.specs.Turns.{StartsWith};
 ghost use Rattle.turn_cell.specs.Words.{IsIdle, KnowsAll, with_ticket, with_mark, Entered};
 
-use crate::call::{Call, StandsFor};
+use crate::call::{Call, StandsFor, Worn};
 use crate::rule::{Count, Cut, Draw, InTurn, Learn, Look, Merge, Said, Serve};
 use crate::view::{Terms, View};
 use atomic_table::{Refused, Table};
@@ -26,10 +26,6 @@ const COUNT: usize = 2;
 const VALUE: usize = 0;
 /// How often a turn looks before it sleeps.
 const LOOKS: u32 = 8;
-
-/// The cell's limit of turns was drawn. The call was not run.
-#[derive(Clone, Copy, Debug, PartialEq, Eq)]
-pub struct Worn;
 
 /// A seat as the table knows it.
 pub(crate) type Place<T, E> = atomic_table::Seat<Option<T>, View<T, E>>;

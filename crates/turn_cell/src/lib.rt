@@ -8,7 +8,6 @@ mod desk;
 mod rule;
 mod view;
 
-pub use call::{Call, StandsFor};
+pub use call::{Call, StandsFor, Worn};
 pub use cell::{ClosedCell, Seat, TurnCell};
-pub use desk::Worn;
 pub use view::Terms;

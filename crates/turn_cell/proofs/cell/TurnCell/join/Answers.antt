@@ -6,4 +6,4 @@ pub returns-clause-joined : goal.returns-clause-joined
 returns-clause-joined g c =
     let v = c.into.inside.place in let w = c.ended.inside.place in
     (ap (λ id. held id c.join.new.into.me.0) c.join.ensures.place.0 ∙ ap (λ m. held v.table_id m.0) c.join.ensures.view)
-        ∙ (ap (λ h. joining h (held w.table_id w.me.0)) c.into.view_is ∙ ap (λ h. joining c.args.into.now h) c.ended.view_is)
+    ∙ (ap (λ h. joining h (held w.table_id w.me.0)) c.into.view_is ∙ ap (λ h. joining c.args.into.now h) c.ended.view_is)

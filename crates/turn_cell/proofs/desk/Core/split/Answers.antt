@@ -1,4 +1,4 @@
-use Rattle.std.proofs.Common.{rules, ap}
+use Rattle.std.proofs.Common.{rules}
 use Rattle.turn_cell.proofs.Facts.{none_of_length}
 use Rattle.turn_cell.proofs.Seating.{splits_kept}
 use Rattle.turn_cell.proofs.desk.Core.split.Goals as goal
