@@ -89,6 +89,7 @@ fn find_layer<'a>(shared: &'a [Arc<Layer>], name: &str) -> Option<&'a Layer>
 
 /// A look at one layer of a snapshot, which contracts see as the list of its features. Its calls take no
 /// memory.
+#[derive(Drop)]
 pub struct LayerView<'a> {
     layer: &'a Layer,
 }
