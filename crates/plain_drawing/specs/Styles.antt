@@ -1,7 +1,8 @@
 -- Map styles as plain records, and what their values keep.
-use Rattle.std.specs.Prelude.{ℕ, ◌≤◌, ◌^◌, Bool, true, false, not, ◌&&◌, ◌==◌, nat_le, IsTrue, List, [], ◌∷◌, ◌++◌, length, Option, is_some}
+use Rattle.std.specs.Prelude.{ℕ, ◌≤◌, ◌^◌, Bool, true, false, not, ◌&&◌, ◌==◌, nat_le, IsTrue, List, [], ◌∷◌, length, Option, is_some}
 use Rattle.std.specs.List.{list_any, list_all}
 use Rattle.std.specs.Str.{bytes_eq}
+use Rattle.farm_base.specs.Earlier.{each_after}
 use Rattle.plain_drawing.specs.declared.colour.Colour.{Colour}
 use Rattle.plain_drawing.specs.declared.style.FilterMode.{FilterMode}
 use Rattle.plain_drawing.specs.declared.style.Symbolizer.{Symbolizer}
@@ -65,11 +66,6 @@ is_paint (Polygon fill opacity) = is_opacity opacity
 is_paint (Line stroke width opacity cap) = is_width width && is_opacity opacity
 is_paint (Markers fill width height opacity) = is_width width && is_width height && is_opacity opacity
 is_paint (Raster opacity) = is_opacity opacity
-
--- each passes a test with those before it
-abbrev pub each_after : {A : Type 0} → (List A → A → Bool) → List A → List A → Bool
-each_after p before [] = true
-each_after p before (x ∷ xs) = p before x && each_after p (before ++ x ∷ []) xs
 
 -- a style, layer or raster of this name is among them
 abbrev pub style_has : List ℕ → List Style → Bool

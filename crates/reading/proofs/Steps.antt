@@ -8,7 +8,8 @@ use Rattle.serde_json.specs.declared.value.Value.{Value}
 use Rattle.serde_json.specs.Data.{Data}
 use Rattle.serde_json.specs.View.{view, items_view}
 use Rattle.reading.specs.Steps.{◌>>=◌}
-use Rattle.reading.specs.Lists.{list_after, each_after}
+use Rattle.reading.specs.Lists.{list_after}
+use Rattle.farm_base.specs.Earlier.{each_after}
 
 pub list_next : {A E : Type 0} (f : List A → Data → Result A E) (vs : List Value) (k : ℕ) (v : Value) (before : List A)
     → k < length vs → v ≡ get_or vs k v

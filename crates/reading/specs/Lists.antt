@@ -1,6 +1,6 @@
 -- A list is read item by item; each is read with what was read before it, so that its place is the
 -- length of that.
-use Rattle.std.specs.Prelude.{Bool, true, ◌&&◌, List, [], ◌∷◌, ◌++◌, Result, Ok}
+use Rattle.std.specs.Prelude.{List, [], ◌∷◌, ◌++◌, Result, Ok}
 use Rattle.serde_json.specs.Data.{Data, Items, no_items, item}
 use Rattle.reading.specs.Steps.{◌>>=◌}
 
@@ -10,8 +10,3 @@ list_after read before (item d ds) = read before d >>= λ a. list_after read (be
 
 abbrev pub list_of : {A E : Type 0} → (List A → Data → Result A E) → Items → Result (List A) E
 list_of read items = list_after read [] items
-
--- each passes with what stands before it: the shape of "no earlier one has its name"
-abbrev pub each_after : {A : Type 0} → (List A → A → Bool) → List A → List A → Bool
-each_after p before [] = true
-each_after p before (x ∷ xs) = p before x && each_after p (before ++ x ∷ []) xs

@@ -3,7 +3,8 @@ ghost use Rattle.std.specs.Prelude.{◌≡◌, ◌≤◌, ◌<◌, ◌++◌, ◌
 ghost use Rattle.serde_json.specs.Data.{Data};
 ghost use Rattle.serde_json.specs.View.{view, items_view};
 ghost use Rattle.reading.specs.Steps.{Gives};
-ghost use Rattle.reading.specs.Lists.{list_of, each_after};
+ghost use Rattle.reading.specs.Lists.{list_of};
+ghost use Rattle.farm_base.specs.Earlier.{each_after};
 
 use crate::json::ReadFault;
 use serde_json::Value;
