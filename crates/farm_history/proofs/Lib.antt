@@ -1,5 +1,7 @@
 pub mod Apart
 pub mod Lists
+pub mod Marks
+pub mod Nows
 pub mod OneReply
 pub mod Places
 pub mod Replies

@@ -1,5 +1,5 @@
 -- Keys, connections and lists of them.
-use Rattle.std.proofs.Common.{◌≡◌, Bool, true, false, ◌||◌, cond, List, [], ◌∷◌, ◌++◌, map, filter, find, Some, None, refl, subst, ◌∙◌, arith}
+use Rattle.std.proofs.Common.{ap, ◌&&◌, ◌≡◌, Bool, true, false, ◌||◌, cond, List, [], ◌∷◌, ◌++◌, map, filter, find, Some, None, refl, subst, ◌∙◌, arith}
 use Rattle.std.specs.List.{list_any}
 use Rattle.std.proofs.lemmas.Bool.Decides.{nat_tests}
 use Rattle.farm_history.specs.declared.keys.Key.{Key}
@@ -158,3 +158,48 @@ each-over f P Q (x ∷ xs) g each = (g x each.0, each-over f P Q xs g each.1)
 pub none-each : {X : Type 0} (q : X → Bool) (xs : List X) → list_any q xs ≡ false → Each (λ x. q x ≡ false) xs
 none-each q [] h = tt
 none-each q (x ∷ xs) h = (grind arith, none-each q xs (grind arith))
+
+-- a filter and a map in either order
+pub map-filter : {X Y : Type 0} (f : X → Y) (q : X → Bool) (r : Y → Bool) (xs : List X) → ((x : X) → r (f x) ≡ q x) → map f (filter q xs) ≡ filter r (map f xs)
+map-filter f q r [] same = refl
+map-filter f q r (x ∷ xs) same = rw (same x) (go (q x) (map-filter f q r xs same))
+  where
+    go : (b : Bool) → map f (filter q xs) ≡ filter r (map f xs) → map f (cond b (x ∷ filter q xs) (filter q xs)) ≡ cond b (f x ∷ filter r (map f xs)) (filter r (map f xs))
+    go true ih = ap (λ ys. f x ∷ ys) ih
+    go false ih = ih
+
+pub filter-append : {X : Type 0} (q : X → Bool) (xs ys : List X) → filter q (xs ++ ys) ≡ filter q xs ++ filter q ys
+filter-append q [] ys = refl
+filter-append q (x ∷ xs) ys = go (q x) (filter-append q xs ys)
+  where
+    go : (b : Bool) → filter q (xs ++ ys) ≡ filter q xs ++ filter q ys → cond b (x ∷ filter q (xs ++ ys)) (filter q (xs ++ ys)) ≡ cond b (x ∷ filter q xs) (filter q xs) ++ filter q ys
+    go true ih = ap (λ zs. x ∷ zs) ih
+    go false ih = ih
+
+-- filters by tests that agree on each of the list
+pub filter-agree : {X : Type 0} (q r : X → Bool) (xs : List X) → Each (λ x. q x ≡ r x) xs → filter q xs ≡ filter r xs
+filter-agree q r [] same = refl
+filter-agree q r (x ∷ xs) same = rw same.0 (ap (λ zs. cond (r x) (x ∷ zs) zs) (filter-agree q r xs same.1))
+
+-- a filter that all pass
+pub filter-all : {X : Type 0} (q : X → Bool) (xs : List X) → Each (λ x. q x ≡ true) xs → filter q xs ≡ xs
+filter-all q [] passed = refl
+filter-all q (x ∷ xs) passed = rw passed.0 (ap (λ zs. x ∷ zs) (filter-all q xs passed.1))
+
+-- and one that none passes
+pub filter-none : {X : Type 0} (q : X → Bool) (xs : List X) → Each (λ x. q x ≡ false) xs → filter q xs ≡ []
+filter-none q [] failed = refl
+filter-none q (x ∷ xs) failed = rw failed.0 (filter-none q xs failed.1)
+
+-- two filters are one by both tests
+pub filter-filter : {X : Type 0} (q r : X → Bool) (xs : List X) → filter q (filter r xs) ≡ filter (λ x. r x && q x) xs
+filter-filter q r [] = refl
+filter-filter q r (x ∷ xs) = go (r x) (filter-filter q r xs)
+  where
+    go : (b : Bool) → filter q (filter r xs) ≡ filter (λ y. r y && q y) xs → filter q (cond b (x ∷ filter r xs) (filter r xs)) ≡ cond (b && q x) (x ∷ filter (λ y. r y && q y) xs) (filter (λ y. r y && q y) xs)
+    go true ih = ap (λ zs. cond (q x) (x ∷ zs) zs) ih
+    go false ih = ih
+
+pub each-all : {X : Type 0} (P : X → Type 0) (xs : List X) → ((x : X) → P x) → Each P xs
+each-all P [] f = tt
+each-all P (x ∷ xs) f = (f x, each-all P xs f)

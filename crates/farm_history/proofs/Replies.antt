@@ -1,38 +1,45 @@
 -- Each reply is one to an open ask; a reply Done is of a key that was stored after the ask.
 use Rattle.std.proofs.Common.{◌≡◌, ℕ, Bool, true, false, ◌==◌, List, [], ◌∷◌, length, filter, refl, arith}
+use Rattle.farm_history.specs.declared.keys.Key.{Key}
 use Rattle.farm_history.specs.declared.queues.Outcome.{Outcome}
 use Rattle.farm_history.specs.declared.queues.Reply.{Reply}
 use Rattle.farm_history.specs.declared.answers.Finished.{Finished}
 use Rattle.farm_history.specs.declared.answers.Finished.TheVariants.{Stored, PutFailed}
 use Rattle.farm_history.specs.declared.answers.Collected.{Collected}
 use Rattle.farm_history.specs.Entries.{Entry, Finish}
-use Rattle.farm_history.specs.Past.{Numbered, is_stopped, open_asks, is_end_of, outcome_of, reply_to, replies_to, ended}
+use Rattle.farm_history.specs.Past.{is_ended_after, Numbered, is_stopped, open_asks, is_end_of, outcome_of, reply_to, replies_to, ended}
 use Rattle.farm_history.specs.Rules.{collect_from, collect_rule}
 use Rattle.farm_history.specs.Laws.{is_stored_after}
 use Rattle.farm_history.proofs.Lists.{Each, each-map, each-filter, each-passes, each-both, each-join, each-over}
 
--- a reply to an ask of which P holds; a reply Done is of a key that was stored after the ask
+-- a reply to an ask of which P holds and that has its End; a reply Done is of a key that was stored after the ask
 pub record IsReplyIn (P : Numbered → Type 0) (h : List Entry) (r : Reply) : Type 0 where
   pub ask : Numbered
   pub holds : P ask
   pub conn_is : r.conn ≡ ask.conn
   pub number_is : r.ask ≡ ask.number
+  pub is_ended : is_ended_after h (length ask.before) ask.key ≡ true
   pub is_stored : r.outcome ≡ Outcome.Done → is_stored_after h (length ask.before) ask.key ≡ true
 
 -- what was stored after a place stays so
-pub stored_still : (e : Entry) (g : List Entry) (place : ℕ) (k : Rattle.farm_history.specs.declared.keys.Key.Key) → is_stored_after g place k ≡ true → is_stored_after (e ∷ g) place k ≡ true
+pub stored_still : (e : Entry) (g : List Entry) (place : ℕ) (k : Key) → is_stored_after g place k ≡ true → is_stored_after (e ∷ g) place k ≡ true
 unfolding is_stored_after
 stored_still (Finish t drawn (Stored clean)) g place k h = grind arith
 stored_still (Finish t drawn _) g place k h = h
 stored_still _ g place k h = h
 
+-- and what was ended
+pub ended_still : (e : Entry) (g : List Entry) (place : ℕ) (k : Key) → is_ended_after g place k ≡ true → is_ended_after (e ∷ g) place k ≡ true
+unfolding is_ended_after
+ended_still e g place k h = grind arith
+
 still_reply : (P : Numbered → Type 0) (e : Entry) (g : List Entry) (r : Reply) → IsReplyIn P g r → IsReplyIn P (e ∷ g) r
-still_reply P e g r i = record { ask = i.ask; holds = i.holds; conn_is = i.conn_is; number_is = i.number_is; is_stored = λ d. stored_still e g (length i.ask.before) i.ask.key (i.is_stored d) }
+still_reply P e g r i = record { ask = i.ask; holds = i.holds; conn_is = i.conn_is; number_is = i.number_is; is_ended = ended_still e g (length i.ask.before) i.ask.key i.is_ended; is_stored = λ d. stored_still e g (length i.ask.before) i.ask.key (i.is_stored d) }
 
 -- an ask's End answers it
 end_reply : (P : Numbered → Type 0) (t : ℕ) (drawn : Bool) (answer : Finished) (g : List Entry) (a : Numbered) → P a × (is_end_of g (Finish t drawn answer) a ≡ true) → IsReplyIn P (Finish t drawn answer ∷ g) (reply_to answer a)
-unfolding is_stored_after
-end_reply P t drawn answer g a h = record { ask = a; holds = h.0; conn_is = refl; number_is = refl; is_stored = go answer h.1 }
+unfolding is_stored_after is_ended_after
+end_reply P t drawn answer g a h = record { ask = a; holds = h.0; conn_is = refl; number_is = refl; is_ended = grind (arith, h.1); is_stored = go answer h.1 }
   where
     go : (x : Finished) → is_end_of g (Finish t drawn x) a ≡ true → outcome_of x ≡ Outcome.Done → is_stored_after (Finish t drawn x ∷ g) (length a.before) a.key ≡ true
     go (Stored clean) is_end d = grind arith

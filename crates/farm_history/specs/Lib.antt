@@ -1,5 +1,6 @@
 pub mod Entries
-pub mod Plans
-pub mod Past
-pub mod Rules
 pub mod Laws
+pub mod Past
+pub mod Plans
+pub mod Rules
+pub mod Seen

@@ -4,7 +4,7 @@
 //! proves it: what a call of a farm promises in these words holds with the laws.
 #![tactic(auto)]
 
-ghost use Rattle.farm_history.specs.Laws.{LawApart, LawOneReply, LawSound};
+ghost use Rattle.farm_history.specs.Laws.{LawApart, LawNow, LawOneReply, LawSound};
 
 /// In each legal history over a store that tells its content: every tile sent as clean is the plain drawing,
 /// byte for byte, in its map's style and over the data of one moment, and nothing has touched its
@@ -24,4 +24,11 @@ pub fn law_apart()
 /// the asker's connection, and there is none after that connection was left.
 pub fn law_one_reply()
     ensures { LawOneReply }
+{}
+
+/// Over plans whose drawing is local: in each legal history in which every update that succeeds is made as
+/// a renew, over a store that tells its content, every tile sent as clean is drawn in its map's style and
+/// over the data of that very moment.
+pub fn law_now()
+    ensures { LawNow }
 {}
