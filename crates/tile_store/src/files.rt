@@ -1,0 +1,164 @@
+//! The store in files of the system, under the folder `tiles`. It does not tell what it holds; what is
+//! proved of it is that it counts its failures.
+ghost use Rattle.std.specs.Prelude.{◌≡◌, ◌≤◌, ◌^◌, ℕ, length, None, IfOk, IfSome};
+ghost use Rattle.tile_store.specs.Stores.{Puts, Gets, Counts, whole, part};
+
+use crate::stores::{StoreFault, TileStore};
+use std::alloc::Global;
+use std::io::{self, Read, Seek, SeekFrom};
+use std::path::Path;
+use std::{fs, rt};
+
+/// A longer file is not read whole.
+const LONGEST: u64 = 1 << 31;
+
+/// Files under the folder `tiles` of the folder that the program runs in. A put writes a file beside
+/// the one of its path and renames it, so that a reader never sees half of a put; folders are made as
+/// needed.
+#[derive(Drop)]
+pub struct FileStore<R> {
+    rt: R,
+    faults: u64,
+}
+
+impl<R> FileStore<R> {
+    /// The store in the files that this runtime reaches; takes no memory.
+    pub fn new(rt: R) -> FileStore<R>
+        ensures { result.faults ≡ 0 }
+    {
+        FileStore { rt, faults: 0 }
+    }
+
+    /// Counts the fault of a call that failed.
+    fn counted<T: Drop>(&mut self, answer: Result<T, StoreFault>) -> Result<T, StoreFault>
+        ensures same { result ≡ answer }
+        ensures cause { Counts self.old.faults self.new.faults result }
+    {
+        if let Err(StoreFault::Failed) = &answer {
+            self.faults = self.faults.saturating_add(1);
+        }
+        answer
+    }
+}
+
+impl<R: rt::Files> TileStore for FileStore<R> {
+    ghost use Rattle.std.specs.Prelude.{None};
+
+    ghost told = { λ _. None };
+
+    ghost count = { λ s. s.faults };
+
+    ghost counted = { λ _. tt };
+
+    fn put(&mut self, alloc: Global, path: &str, bytes: &[u8]) -> Result<(), StoreFault> {
+        let answer = write_beside(alloc, &self.rt, path, bytes);
+        self.counted(answer)
+    }
+
+    /// The bytes of the path's file; Failed also where it has more than `2^31` bytes.
+    fn get(&mut self, alloc: Global, path: &str) -> Result<Option<Vec<u8>>, StoreFault>
+        ensures effect { Gets whole None None path.now result }
+        ensures cause { Counts self.old.faults self.new.faults result }
+        ensures at_most { IfOk result (λ found. IfSome found (λ v. length v.items ≤ 2 ^ 31)) }
+    {
+        let answer = read_whole(alloc, &self.rt, path);
+        self.counted(answer)
+    }
+
+    /// A part of the path's file, however long the file is.
+    fn get_part(
+        &mut self,
+        alloc: Global,
+        path: &str,
+        offset: u64,
+        len: u32,
+    ) -> Result<Option<Vec<u8>>, StoreFault> {
+        let answer = read_part(alloc, &self.rt, path, offset, len);
+        self.counted(answer)
+    }
+
+    fn faults(&self) -> u64 {
+        self.faults
+    }
+}
+
+/// What an error of the system means for a call.
+fn fault(error: &io::Error) -> StoreFault {
+    match error.kind() {
+        io::ErrorKind::OutOfMemory => StoreFault::NoMemory,
+        _ => StoreFault::Failed,
+    }
+}
+
+/// Writes the bytes beside the path's file, in a folder that is made as needed, and renames the file.
+fn write_beside<R: rt::Files>(
+    alloc: Global,
+    files: &R,
+    path: &str,
+    bytes: &[u8],
+) -> Result<(), StoreFault> {
+    let name = format!(in alloc; "tiles/{path}")?;
+    let beside = format!(in alloc; "tiles/{path}.new")?;
+    if let Some(folder) = Path::new(name.as_str()).parent() {
+        fs::create_dir_all(files, folder).map_err(|e| fault(&e))?;
+    }
+    fs::write(files, beside.as_str(), bytes).map_err(|e| fault(&e))?;
+    fs::rename(files, beside.as_str(), name.as_str()).map_err(|e| fault(&e))
+}
+
+/// The file of the path; `None` where there is none.
+fn open<R: rt::Files>(alloc: Global, files: &R, path: &str) -> Result<Option<R::File>, StoreFault> {
+    let name = format!(in alloc; "tiles/{path}")?;
+    match fs::open(files, name.as_str()) {
+        Ok(file) => Ok(Some(file)),
+        Err(error) if error.kind() == io::ErrorKind::NotFound => Ok(None),
+        Err(error) => Err(fault(&error)),
+    }
+}
+
+/// The bytes of the path's file. One byte more than the longest shows that a file is longer.
+fn read_whole<R: rt::Files>(
+    alloc: Global,
+    files: &R,
+    path: &str,
+) -> Result<Option<Vec<u8>>, StoreFault>
+    ensures { IfOk result (λ found. IfSome found (λ v. length v.items ≤ 2 ^ 31)) }
+{
+    let Some(file) = open(alloc, files, path)? else {
+        return Ok(None);
+    };
+    let mut bytes = Vec::new(alloc);
+    file.take(LONGEST + 1)
+        .read_to_end(&mut bytes)
+        .map_err(|e| fault(&e))?;
+    if bytes.len() as u64 > LONGEST {
+        return Err(StoreFault::Failed);
+    }
+    Ok(Some(bytes))
+}
+
+/// The bytes of the path's file from the offset on, at most `len` of them.
+fn read_part<R: rt::Files>(
+    alloc: Global,
+    files: &R,
+    path: &str,
+    offset: u64,
+    len: u32,
+) -> Result<Option<Vec<u8>>, StoreFault>
+    ensures { IfOk result (λ found. IfSome found (λ v. length v.items ≤ len)) }
+{
+    let Some(mut file) = open(alloc, files, path)? else {
+        return Ok(None);
+    };
+    let mut bytes = Vec::new(alloc);
+    // No file of the system reaches so far, and a seek there is an error.
+    if offset > i64::MAX as u64 {
+        return Ok(Some(bytes));
+    }
+    file.seek(SeekFrom::Start(offset)).map_err(|e| fault(&e))?;
+    file.take(u64::from(len))
+        .read_to_end(&mut bytes)
+        .map_err(|e| fault(&e))?;
+    bytes.truncate(len as usize);
+    Ok(Some(bytes))
+}

@@ -1,0 +1,88 @@
+//! The trait of tile stores.
+ghost use Rattle.std.specs.Prelude.{◌≡◌, ◌≤◌, ℕ, length, Option, IfOk, IfSome};
+ghost use Rattle.tile_store.specs.Stores.{StoreTold, Puts, Gets, Counts, whole, part};
+
+use farm_base::NoMemory;
+use std::alloc::{AllocError, AllocFailed, Global};
+
+/// Why a call on a store gave no answer.
+#[derive(Clone, Copy, Debug, PartialEq, Eq)]
+pub enum StoreFault {
+    /// The store could not do it.
+    Failed,
+    /// Want of memory; all is as before.
+    NoMemory,
+}
+
+impl From<NoMemory> for StoreFault {
+    ghost use Rattle.tile_store.specs.declared.stores.StoreFault.TheVariants.{NoMemory};
+
+    ghost from_gives = { λ _ e. e ≡ NoMemory };
+
+    fn from(_refused: NoMemory) -> StoreFault {
+        StoreFault::NoMemory
+    }
+}
+
+impl From<AllocError> for StoreFault {
+    ghost use Rattle.tile_store.specs.declared.stores.StoreFault.TheVariants.{NoMemory};
+
+    ghost from_gives = { λ _ e. e ≡ NoMemory };
+
+    fn from(_refused: AllocError) -> StoreFault {
+        StoreFault::NoMemory
+    }
+}
+
+impl<T: Drop> From<AllocFailed<T>> for StoreFault {
+    ghost use Rattle.tile_store.specs.declared.stores.StoreFault.TheVariants.{NoMemory};
+
+    ghost from_gives = { λ _ e. e ≡ NoMemory };
+
+    fn from(_refused: AllocFailed<T>) -> StoreFault {
+        StoreFault::NoMemory
+    }
+}
+
+/// A store of bytes under paths. Where a store tells, contracts know what each path holds and which
+/// calls failed so far; a real store does not tell. No call changes whether it tells.
+pub trait TileStore {
+    /// What each path holds and which calls failed, where the store tells.
+    ghost told: { Self → Option StoreTold };
+
+    /// How many calls failed; it never falls, and stands still at its last value, `2^64 - 1`.
+    ghost count: { Self → ℕ };
+
+    /// Makes the path hold the bytes, and changes no other path. Failed comes only where the count of
+    /// faults rose in this call; then what the path holds is unknown, and all other paths are as before.
+    fn put(&mut self, alloc: Global, path: &str, bytes: &[u8]) -> Result<(), StoreFault>
+        ensures effect { Puts (told self.old) (told self.new) path.now bytes.now result }
+        ensures cause { Counts (count self.old) (count self.new) result };
+
+    /// The bytes that the path holds; `None` exactly where it holds nothing. Changes no content. Failed
+    /// comes only where the count of faults rose in this call.
+    fn get(&mut self, alloc: Global, path: &str) -> Result<Option<Vec<u8>>, StoreFault>
+        ensures effect { Gets whole (told self.old) (told self.new) path.now result }
+        ensures cause { Counts (count self.old) (count self.new) result };
+
+    /// The bytes that the path holds from the offset on, at most `len` of them and no further than
+    /// their end; `None` exactly where the path holds nothing. Changes no content. Failed comes only
+    /// where the count of faults rose in this call.
+    fn get_part(
+        &mut self,
+        alloc: Global,
+        path: &str,
+        offset: u64,
+        len: u32,
+    ) -> Result<Option<Vec<u8>>, StoreFault>
+        ensures effect { Gets (part offset len) (told self.old) (told self.new) path.now result }
+        ensures cause { Counts (count self.old) (count self.new) result }
+        ensures short { IfOk result (λ found. IfSome found (λ v. length v.items ≤ len)) };
+
+    /// The count of faults; changes nothing and takes no memory.
+    fn faults(&self) -> u64
+        ensures { result ≡ count self.now };
+
+    /// Where the store tells, the count is the number of failed calls.
+    ghost counted: { (s : Self) → IfSome (told s) (λ t. count s ≡ length t.failed) };
+}
