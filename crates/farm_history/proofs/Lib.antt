@@ -1,7 +1,10 @@
 pub mod Apart
+pub mod Ends
+pub mod Homes
 pub mod Lists
 pub mod Marks
 pub mod Nows
+pub mod Numbers
 pub mod OneReply
 pub mod Places
 pub mod Replies
