@@ -5,18 +5,11 @@ use Rattle.std.specs.List.{list_any, list_all}
 use Rattle.std.specs.Str.{bytes_eq}
 use Rattle.farm_base.specs.declared.Attr.{Attr}
 use Rattle.farm_base.specs.declared.Value.{Value}
-use Rattle.plain_drawing.specs.Values.{attribute, sum_value, product_value, sum_of, product_of, value_step, sum_step, product_step}
-use Rattle.plain_drawing.specs.declared.SumPart.{SumPart, fold-SumPart}
-use Rattle.plain_drawing.specs.declared.ProductPart.{ProductPart, fold-ProductPart}
+use Rattle.plain_drawing.specs.Values.{attribute, sum_value, product_value, sum_of, product_of}
+use Rattle.plain_drawing.specs.declared.SumPart.{SumPart}
+use Rattle.plain_drawing.specs.declared.ProductPart.{ProductPart}
 use Rattle.plain_drawing.specs.declared.SumSign.{SumSign}
 use Rattle.plain_drawing.specs.declared.ProductSign.{ProductSign}
-
--- a later part of a sum or a product as its sign and its value
-abbrev pub sum_part : List Attr → SumPart → SumSign × Value
-sum_part attrs = fold-SumPart Value (ProductSign × Value) (SumSign × Value) (value_step attrs) product_step sum_step
-
-abbrev pub product_part : List Attr → ProductPart → ProductSign × Value
-product_part attrs = fold-ProductPart Value (ProductSign × Value) (SumSign × Value) (value_step attrs) product_step sum_step
 
 -- what is left begins with the item here
 pub left_here : {A : Type 0} (xs : List A) (i : ℕ) (x : A) → i < length xs → x ≡ get_or xs i x → drop i xs ≡ x ∷ drop (i + 1) xs

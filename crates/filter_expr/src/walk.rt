@@ -1,6 +1,6 @@
 //! The value of a filter expression for the attributes of a feature.
 ghost use Rattle.std.specs.Prelude.{◌≡◌};
-ghost use Rattle.plain_drawing.specs.Values.{value, holds};
+ghost use Rattle.plain_drawing.specs.Filters.{tree_of, tree_value, tree_holds};
 ghost use Rattle.filter_expr.specs.Shown.{plain};
 
 use crate::value::{ValueRef, attribute, compares, negated, product_of, sum_of, truth};
@@ -9,9 +9,9 @@ use plain_drawing::Expr;
 
 /// The value of the filter for these attributes; takes no memory. Operators are those of Mapnik's
 /// filter expressions, with values of this farm's own: null, truth values, whole numbers and texts.
-#[tactic(auto, using(crate::proofs::Turns::any_yes, crate::proofs::Turns::any_no, crate::proofs::Turns::all_yes, crate::proofs::Turns::all_no, crate::proofs::Turns::sum_here, crate::proofs::Turns::product_here))]
+#[tactic(auto, using(crate::proofs::Nodes::nodes, crate::proofs::Turns::any_yes, crate::proofs::Turns::any_no, crate::proofs::Turns::all_yes, crate::proofs::Turns::all_no, crate::proofs::Turns::sum_here, crate::proofs::Turns::product_here))]
 pub fn eval<'a>(e: &'a Expr, attrs: &'a [Attr]) -> ValueRef<'a>
-    ensures { plain result ≡ value attrs.now e.now }
+    ensures { plain result ≡ tree_value attrs.now (tree_of e.now) }
 {
     match e {
         Expr::Or(parts) => {
@@ -59,7 +59,7 @@ pub fn eval<'a>(e: &'a Expr, attrs: &'a [Attr]) -> ValueRef<'a>
 
 /// Whether the filter's value counts as true for these attributes; takes no memory.
 pub fn holds(e: &Expr, attrs: &[Attr]) -> bool
-    ensures { result ≡ holds attrs.now e.now }
+    ensures { result ≡ tree_holds attrs.now (tree_of e.now) }
 {
     truth(eval(e, attrs))
 }

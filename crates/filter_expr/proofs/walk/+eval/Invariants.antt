@@ -1,8 +1,8 @@
 use Rattle.std.proofs.Common.{◌≡◌, drop, map}
 use Rattle.std.specs.List.{list_any, list_all}
-use Rattle.plain_drawing.specs.Values.{value, truth, sum_value, product_value}
+use Rattle.plain_drawing.specs.Values.{truth, sum_value, product_value}
 use Rattle.filter_expr.specs.Shown.{plain}
-use Rattle.filter_expr.proofs.Turns.{sum_part, product_part}
+use Rattle.filter_expr.proofs.Nodes.{valued, sum_part, product_part}
 use Rattle.filter_expr.proofs.walk.+eval.Given as goal
 
 abbrev pub decreases-eval : goal.decreases-eval
@@ -10,11 +10,11 @@ decreases-eval l = goal.size-eval l
 
 abbrev pub invariant-loop-part : goal.invariant-loop-part
 invariant-loop-part l =
-    list_any truth (map (value l.attrs) (drop l.part-index l.part-items)) ≡ list_any truth (map (value l.attrs) l.part-items)
+    list_any truth (map (valued l.attrs) (drop l.part-index l.part-items)) ≡ list_any truth (map (valued l.attrs) l.part-items)
 
 abbrev pub invariant-loop-part-2 : goal.invariant-loop-part-2
 invariant-loop-part-2 l =
-    list_all truth (map (value l.attrs) (drop l.part-index l.part-items)) ≡ list_all truth (map (value l.attrs) l.part-items)
+    list_all truth (map (valued l.attrs) (drop l.part-index l.part-items)) ≡ list_all truth (map (valued l.attrs) l.part-items)
 
 abbrev pub invariant-loop-later : goal.invariant-loop-later
 invariant-loop-later l =
