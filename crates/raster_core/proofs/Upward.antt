@@ -1,0 +1,42 @@
+-- The rows of an edge, the edges of a ring and the rings of a polygon, one after another.
+use Rattle.std.proofs.Common.{◌≡◌, ℕ, suc, ◌+◌, ◌*◌, ◌/◌, ◌<◌, ◌≤◌, Bool, List, length, get_or, drop, flat_map, ap, sym, ◌∙◌, arith, add-one, drop-cons}
+use Rattle.std.specs.Prelude.{nat_le}
+use Rattle.std.proofs.lemmas.Bool.{le-leb, lt-leb, leb-true, leb-false}
+use Rattle.plain_drawing.specs.declared.world.Point.{Point}
+use Rattle.plain_drawing.specs.declared.world.Window.{Window}
+use Rattle.plain_drawing.specs.World.{centre}
+use Rattle.plain_drawing.specs.Rings.{counts_upward, counts, edges_from, ring_edges, in_rings}
+use Rattle.plain_drawing.proofs.Signs.{off_above, off_below}
+use Rattle.raster_core.specs.Toggles.{flip, Toggled, RowsToggled, odd_edges}
+use Rattle.raster_core.proofs.Toggling.{rows_start, rows_end, odd_cons, odd_append}
+
+-- the rows above an edge's upper end
+pub upward_start : (w : Window) (a b : Point) (top : ℕ) (old : List Bool)
+    → ((j : ℕ) → j < w.rows → nat_le top j ≡ nat_le a.y (w.north + j * w.pixel + w.pixel / 2))
+    → RowsToggled w (counts_upward a b) top old old
+upward_start w a b top old splits = rows_start w (counts_upward a b) top old
+    (λ j i above row col. off_above a b (centre w i j) (leb-false a.y (centre w i j).y (sym (splits j row) ∙ lt-leb top j above)))
+
+-- the rows from an edge's lower end on
+pub upward_end : (w : Window) (a b : Point) (j bottom : ℕ) (old now : List Bool) → bottom ≤ j
+    → ((j : ℕ) → j < w.rows → nat_le bottom j ≡ nat_le b.y (w.north + j * w.pixel + w.pixel / 2))
+    → RowsToggled w (counts_upward a b) j old now → Toggled w (counts_upward a b) old now
+upward_end w a b n bottom old now past splits r = rows_end w (counts_upward a b) n old now r
+    (λ j i below row col. off_below a b (centre w i j) (leb-true b.y (centre w i j).y (sym (splits j row) ∙ le-leb bottom j (omega arith))))
+
+pub edges_step : (before : Point) (points : List Point) (i : ℕ) (d : Point) → i < length points → (c : Point)
+    → odd_edges (edges_from before (drop i points)) c
+    ≡ flip (counts (before, get_or points i d) c) (odd_edges (edges_from (get_or points i d) (drop (i + 1) points)) c)
+edges_step before points i d lt c =
+    let p : Point = get_or points i d in
+    ap (λ ps. odd_edges (edges_from before ps) c) (drop-cons points i d lt)
+    ∙ odd_cons (λ e. counts e c) (before, p) (edges_from p (drop (suc i) points))
+    ∙ ap (λ k. flip (counts (before, p) c) (odd_edges (edges_from p (drop k points)) c)) (sym (add-one i))
+
+pub rings_step : (rings : List (List Point)) (i : ℕ) (ring : List Point) → i < length rings → ring ≡ get_or rings i ring → (c : Point)
+    → in_rings (drop i rings) c ≡ flip (odd_edges (ring_edges ring) c) (in_rings (drop (i + 1) rings) c)
+rings_step rings i ring lt is c =
+    ap (λ rs. in_rings rs c) (drop-cons rings i ring lt)
+    ∙ odd_append (λ e. counts e c) (ring_edges (get_or rings i ring)) (flat_map ring_edges (drop (suc i) rings))
+    ∙ ap (λ r. flip (odd_edges (ring_edges r) c) (in_rings (drop (suc i) rings) c)) (sym is)
+    ∙ ap (λ k. flip (odd_edges (ring_edges ring) c) (in_rings (drop k rings) c)) (sym (add-one i))

@@ -1,0 +1,7 @@
+use Rattle.std.proofs.Common.{drop}
+use Rattle.plain_drawing.specs.Rings.{in_rings}
+use Rattle.raster_core.specs.Toggles.{Remains}
+use Rattle.raster_core.proofs.edges.cross_rings.Given as goal
+
+abbrev pub invariant-loop-ring : goal.invariant-loop-ring
+invariant-loop-ring l = Remains l.w (in_rings (drop l.ring-index l.rings)) (in_rings l.rings) l.fn.bits l.bits

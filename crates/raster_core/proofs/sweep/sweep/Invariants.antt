@@ -1,0 +1,14 @@
+use Rattle.std.proofs.Common.{◌≡◌, ℕ, ◌+◌, ◌*◌, ◌<◌, Bool}
+use Rattle.plain_drawing.specs.declared.world.Point.{Point}
+use Rattle.plain_drawing.specs.Canvas.{Bits}
+use Rattle.plain_drawing.proofs.Places.{Reached}
+use Rattle.raster_core.specs.Toggles.{TellsRow}
+use Rattle.raster_core.proofs.sweep.sweep.Given as goal
+
+abbrev pub invariant-loop-j : goal.invariant-loop-j
+invariant-loop-j l = record {
+  swept : (member : Point → Bool) (start : Bits) → ((j : ℕ) → j < l.count → TellsRow l.w member l.bits j (l.top + j))
+      → Reached member l.w (l.top * l.w.cols) start l.fn.mask → Reached member l.w ((l.top + l.j) * l.w.cols) start l.mask;
+  cols : l.mask.cols ≡ l.fn.mask.cols;
+  rows : l.mask.rows ≡ l.fn.mask.rows;
+}

@@ -1,0 +1,127 @@
+//! Edges: where each of them is crossed, row by row.
+ghost use Rattle.std.specs.Prelude.{◌≡◌, ℕ, ◌+◌, ◌-◌, ◌*◌, ◌/◌, ◌<◌, ◌≤◌, nat_le, length, All};
+ghost use Rattle.plain_drawing.specs.World.{InWorld, IsWindow, centre};
+ghost use Rattle.plain_drawing.specs.Rings.{counts_upward, counts, ring_edges, in_rings};
+ghost use Rattle.raster_core.specs.Toggles.{Toggled, RowToggled, odd_edges};
+
+use centre_spans::first_at;
+use plain_drawing::{Path, Point, Window};
+
+// The least x that does not lie before the edge from `a` down to `b` at the height `y`.
+#[tactic(auto, using(crate::proofs::Heights::up_le))]
+fn place_at(a: Point, b: Point, y: u32) -> u64
+    requires upper { a.y ≤ y }
+    requires lower { y < b.y }
+    requires a_in { InWorld a }
+    requires b_in { InWorld b }
+    ensures { (x : ℕ) → nat_le result x ≡ nat_le ((y - a.y) * b.x + (b.y - y) * a.x) ((b.y - a.y) * x) }
+{
+    let rise = u64::from(y - a.y);
+    let rest = u64::from(b.y - y);
+    (rise * u64::from(b.x) + rest * u64::from(a.x)).div_ceil(rise + rest)
+}
+
+// The first column of row `j` whose centre the edge from `a` down to `b` counts at, or the number of
+// columns where there is none.
+fn crossing(a: Point, b: Point, w: Window, j: u32) -> u32
+    requires a_in { InWorld a }
+    requires b_in { InWorld b }
+    requires window { IsWindow w }
+    requires row { j < w.rows }
+    requires upper { a.y ≤ w.north + j * w.pixel + w.pixel / 2 }
+    requires lower { w.north + j * w.pixel + w.pixel / 2 < b.y }
+    ensures within { result ≤ w.cols }
+    ensures splits { (i : ℕ) → i < w.cols → nat_le result i ≡ counts_upward a b (centre w i j) }
+{
+    let y = w.north + j * w.pixel + w.pixel / 2;
+    first_at(w.west, w.pixel, w.cols, place_at(a, b, y))
+}
+
+// Marks the crossing of one row.
+fn cross_row(a: Point, b: Point, w: Window, j: u32, bits: &mut [bool])
+    requires a_in { InWorld a }
+    requires b_in { InWorld b }
+    requires window { IsWindow w }
+    requires row { j < w.rows }
+    requires upper { a.y ≤ w.north + j * w.pixel + w.pixel / 2 }
+    requires lower { w.north + j * w.pixel + w.pixel / 2 < b.y }
+    requires len { length bits.old ≡ w.rows * w.cols }
+    ensures { RowToggled w (counts_upward a b) j bits.old bits.new }
+{
+    let k = crossing(a, b, w, j);
+    if k < w.cols {
+        let place = j as usize * w.cols as usize + k as usize;
+        bits[place] = !bits[place];
+    }
+}
+
+// Marks the crossings of an edge that runs from `a` down to `b`.
+fn cross_upward(a: Point, b: Point, w: Window, bits: &mut [bool])
+    requires a_in { InWorld a }
+    requires b_in { InWorld b }
+    requires down { a.y ≤ b.y }
+    requires window { IsWindow w }
+    requires len { length bits.old ≡ w.rows * w.cols }
+    ensures { Toggled w (counts_upward a b) bits.old bits.new }
+{
+    let top = first_at(w.north, w.pixel, w.rows, u64::from(a.y));
+    let bottom = first_at(w.north, w.pixel, w.rows, u64::from(b.y));
+    for j in top..bottom {
+        cross_row(a, b, w, j, bits);
+    }
+}
+
+// Marks the crossings of an edge.
+fn cross_edge(a: Point, b: Point, w: Window, bits: &mut [bool])
+    requires a_in { InWorld a }
+    requires b_in { InWorld b }
+    requires window { IsWindow w }
+    requires len { length bits.old ≡ w.rows * w.cols }
+    ensures { Toggled w (counts (a, b)) bits.old bits.new }
+{
+    if a.y <= b.y {
+        cross_upward(a, b, w, bits);
+    } else {
+        cross_upward(b, a, w, bits);
+    }
+}
+
+// Marks the crossings of the edges of a ring, which is closed from its last point to its first.
+fn cross_ring(points: &[Point], w: Window, bits: &mut [bool])
+    requires points { All InWorld points.now }
+    requires window { IsWindow w }
+    requires len { length bits.old ≡ w.rows * w.cols }
+    ensures { Toggled w (odd_edges (ring_edges points.now)) bits.old bits.new }
+{
+    let Some(last) = points.last() else {
+        return;
+    };
+    let mut before = *last;
+    for p in points {
+        cross_edge(before, *p, w, bits);
+        before = *p;
+    }
+}
+
+// The same of a ring as a path.
+fn cross_path(ring: &Path, w: Window, bits: &mut [bool])
+    requires points { All InWorld ring.now }
+    requires window { IsWindow w }
+    requires len { length bits.old ≡ w.rows * w.cols }
+    ensures { Toggled w (odd_edges (ring_edges ring.now)) bits.old bits.new }
+{
+    cross_ring(&ring.points, w, bits);
+}
+
+/// Marks where the edges of all rings are crossed: afterwards the parity of the marks from the west up
+/// to a pixel is turned round exactly where the pixel's centre lies in the rings.
+pub fn cross_rings(rings: &[Path], w: Window, bits: &mut [bool])
+    requires rings { All (All InWorld) rings.now }
+    requires window { IsWindow w }
+    requires len { length bits.old ≡ w.rows * w.cols }
+    ensures { Toggled w (in_rings rings.now) bits.old bits.new }
+{
+    for ring in rings {
+        cross_path(ring, w, bits);
+    }
+}
