@@ -1,17 +1,20 @@
 -- The picture that the steps make has at each centre the colour that the steps make there.
-use Rattle.std.proofs.Common.{◌≡◌, ℕ, zero, suc, arith, Bool, true, false, refl, ap, sym, ◌∙◌, List, [], ◌∷◌, length, map, fold, flat_map, replicate}
+use Rattle.std.proofs.Common.{◌≡◌, ◌*◌, ℕ, zero, suc, arith, Bool, true, false, refl, ap, sym, ◌∙◌, List, [], ◌∷◌, length, map, fold, flat_map, replicate}
 use Rattle.std.specs.Prelude.{if◌then◌else◌}
 use Rattle.plain_drawing.specs.declared.world.Point.{Point}
+use Rattle.plain_drawing.specs.declared.world.Tile.{Tile}
 use Rattle.plain_drawing.specs.declared.world.Window.{Window}
 use Rattle.plain_drawing.specs.declared.colour.Colour.{Colour}
 use Rattle.plain_drawing.specs.declared.style.Symbolizer.{Symbolizer}
-use Rattle.plain_drawing.specs.World.{centres}
+use Rattle.plain_drawing.specs.World.{centres, window_of}
 use Rattle.plain_drawing.specs.Features.{Layer}
 use Rattle.plain_drawing.specs.Styles.{Style, LayerRef, MapStyle}
 use Rattle.plain_drawing.specs.Blending.{blend}
 use Rattle.plain_drawing.specs.Canvas.{Pixels, at_centres, stepped, marked, painted}
-use Rattle.plain_drawing.specs.Rules.{drawn, is_active}
-use Rattle.plain_drawing.specs.Drawing.{Item, attrs_of, symbolizer_at, item_at, style_at, layer_at, items_of, style_named}
+use Rattle.plain_drawing.specs.Rules.{drawn, is_active, denominator_of}
+use Rattle.plain_drawing.specs.Ppm.{ppm}
+use Rattle.plain_drawing.specs.Drawing.{tile_of, pixel_of, colour_at, Item, attrs_of, symbolizer_at, item_at, style_at, layer_at, items_of, style_named}
+use Rattle.plain_drawing.proofs.Places.{length-centres}
 use Rattle.plain_drawing.specs.Pictures.{with_symbolizer, with_item, with_style, with_layer, with_map}
 
 at_centres_none : {X : Type 0} (cs : List Point) (xs : List X) → at_centres (λ c x. x) cs xs ≡ xs
@@ -100,3 +103,33 @@ painted_members s opacity member (c ∷ cs) zero ds e = absurd (omega arith)
 painted_members s opacity member (c ∷ cs) (suc n) [] e = refl
 painted_members s opacity member (c ∷ cs) (suc n) (d ∷ ds) e =
     let k : n ≡ length cs = omega arith in ap (λ ys. (if member c then blend s opacity d else d) ∷ ys) (painted_members s opacity member cs n ds k)
+
+-- a picture that is all of one colour
+abbrev pub one_colour : Window → Colour → Pixels
+one_colour w colour = record { cols = w.cols; rows = w.rows; pixels = replicate (w.rows * w.cols) colour }
+
+-- the layers over the background have at each centre of a window the colour of the drawing there
+pub fresh_map : (w : Window) (z size : ℕ) (style : MapStyle) (data_layers : List Layer) → w.pixel ≡ pixel_of z size
+    → with_map w (denominator_of z size) style data_layers (one_colour w style.background_color)
+    ≡ record { cols = w.cols; rows = w.rows; pixels = map (colour_at style size z data_layers) (centres w) }
+fresh_map w z size style data_layers e =
+    map_step w (denominator_of z size) style data_layers (one_colour w style.background_color)
+    ∙ ap (λ p. record { cols = w.cols; rows = w.rows; pixels = p })
+    (at_centres-replicate (λ c d. fold (layer_at w.pixel (denominator_of z size) style data_layers c) d style.layers) (centres w) (w.rows * w.cols) style.background_color
+    (sym (length-centres w)))
+    ∙ ap (λ pixel. record {
+      cols = w.cols;
+      rows = w.rows;
+      pixels = map (λ c. fold (layer_at pixel (denominator_of z size) style data_layers c) style.background_color style.layers) (centres w);
+    }) e
+
+-- the tile is the text of the picture of its window
+pub drawn_tile : (style : MapStyle) (size : ℕ) (t : Tile) (data_layers : List Layer) (w : Window) (scale : ℕ) (fresh drawn : Pixels) (bytes : List ℕ)
+    → w ≡ window_of t size → scale ≡ denominator_of t.z size → fresh ≡ one_colour w style.background_color → drawn ≡ with_map w scale style data_layers fresh
+    → bytes ≡ ppm drawn.cols drawn.rows drawn.pixels → bytes ≡ tile_of style size t data_layers
+drawn_tile style size t data_layers w scale fresh drawn bytes window_is scale_is fresh_is drawn_is bytes_are =
+    let picture : drawn ≡ record { cols = size; rows = size; pixels = map (colour_at style size t.z data_layers) (centres (window_of t size)) } =
+    drawn_is ∙ ap (with_map w scale style data_layers) fresh_is ∙ ap (λ n. with_map w n style data_layers (one_colour w style.background_color)) scale_is
+    ∙ ap (λ v. with_map v (denominator_of t.z size) style data_layers (one_colour v style.background_color)) window_is
+    ∙ fresh_map (window_of t size) t.z size style data_layers refl in
+    bytes_are ∙ ap (λ p. ppm p.cols p.rows p.pixels) picture
