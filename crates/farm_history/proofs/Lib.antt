@@ -1,4 +1,5 @@
 pub mod Apart
+pub mod Counts
 pub mod Ends
 pub mod Homes
 pub mod Lists
@@ -6,6 +7,7 @@ pub mod Marks
 pub mod Nows
 pub mod Numbers
 pub mod OneReply
+pub mod Opens
 pub mod Places
 pub mod Replies
 pub mod Sounds
