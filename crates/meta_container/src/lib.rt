@@ -1,0 +1,11 @@
+//! META containers: the files in which a metatile's tiles are stored, written and read.
+#![tactic(auto)]
+
+mod container;
+mod reading;
+mod writing;
+
+pub use container::{Entry, Listing, PLACES};
+pub use farm_base::MetaFault;
+pub use reading::{entry_in, listing, tile_in};
+pub use writing::encode;

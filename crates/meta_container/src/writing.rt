@@ -1,0 +1,99 @@
+//! From the tiles of a metatile to its container.
+ghost use Rattle.std.specs.Prelude.{◌≡◌, ◌≤◌, ◌<◌, ◌+◌, ◌*◌, ◌^◌, ◌++◌, length, codes, IfOk, OnOk};
+ghost use Rattle.std.specs.List.{flat_map};
+ghost use Rattle.byteorder.specs.Endian.{little_bytes};
+ghost use Rattle.plain_drawing.specs.World.{tiles_across};
+ghost use Rattle.meta_container.specs.Container.{AreTilesOf, container_of, index_below, span_at, span_bytes, bytes_of, joined};
+ghost use Rattle.meta_container.specs.Container as spec;
+
+use crate::container::{HEAD_BYTES, PLACES, Span};
+use byteorder::{ByteOrder, LittleEndian};
+use farm_base::{Bytes, NoMemory};
+use merc_fixed::tiles_across;
+use plain_drawing::Meta;
+use std::alloc::Global;
+
+/// The container of a metatile's tiles, which come in order of their index places. The tiles are at
+/// least one byte long each and together under `2^31` bytes.
+#[tactic(auto, unfolding(crate::specs::Container::container_of))]
+pub fn encode(alloc: Global, m: Meta, tiles: &[Bytes]) -> Result<Vec<u8>, NoMemory>
+    requires { AreTilesOf m tiles.now }
+    ensures { IfOk result (λ v. v.items ≡ container_of m tiles.now) }
+{
+    let mut out = Vec::with_capacity(alloc, HEAD_BYTES + bytes_in(tiles))?;
+    out.extend_from_slice(b"META")?;
+    put_number(&mut out, PLACES as u32)?;
+    put_number(&mut out, m.x)?;
+    put_number(&mut out, m.y)?;
+    put_number(&mut out, m.z)?;
+    put_index(&mut out, tiles_across(m), tiles)?;
+    for tile in tiles {
+        out.extend_from_slice(tile.as_slice())?;
+    }
+    Ok(out)
+}
+
+/// How many bytes the tiles have together.
+fn bytes_in(tiles: &[Bytes]) -> usize
+    requires { bytes_of tiles.now < 2 ^ 31 }
+    ensures { result ≡ bytes_of tiles.now }
+{
+    tiles.iter().map(|tile| tile.as_slice().len()).sum()
+}
+
+/// Whether a metatile with so many tiles side by side has one at the place.
+fn has_tile(across: u32, place: u32) -> bool
+    ensures { result ≡ spec.has_tile across place }
+{
+    place / 8 < across && place % 8 < across
+}
+
+/// The pair of a place; zeros where there is no tile.
+fn span_at(across: u32, tiles: &[Bytes], place: u32) -> Span
+    requires few { across ≤ 8 }
+    requires count { length tiles.now ≡ across * across }
+    requires short { bytes_of tiles.now < 2 ^ 31 }
+    ensures { result ≡ span_at across tiles.now place }
+{
+    if !has_tile(across, place) {
+        return Span { offset: 0, size: 0 };
+    }
+    let rank = (place / 8 * across + place % 8) as usize;
+    let offset = HEAD_BYTES + bytes_in(&tiles[..rank]);
+    let size = tiles[rank].as_slice().len();
+    Span {
+        offset: offset as u32,
+        size: size as u32,
+    }
+}
+
+/// Appends a number in four bytes.
+fn put_number(out: &mut Vec<u8>, number: u32) -> Result<(), NoMemory>
+    ensures { OnOk result (out.new.items ≡ out.old.items ++ little_bytes 4 number) }
+{
+    let mut bytes = [0u8; 4];
+    LittleEndian::write_u32(&mut bytes, number);
+    out.extend_from_slice(&bytes)?;
+    Ok(())
+}
+
+/// Appends a pair in eight bytes.
+fn put_span(out: &mut Vec<u8>, span: Span) -> Result<(), NoMemory>
+    ensures { OnOk result (out.new.items ≡ out.old.items ++ span_bytes span) }
+{
+    put_number(out, span.offset)?;
+    put_number(out, span.size)
+}
+
+/// Appends the pairs of all places.
+fn put_index(out: &mut Vec<u8>, across: u32, tiles: &[Bytes]) -> Result<(), NoMemory>
+    requires few { across ≤ 8 }
+    requires count { length tiles.now ≡ across * across }
+    requires short { bytes_of tiles.now < 2 ^ 31 }
+    ensures { OnOk result (out.new.items ≡ out.old.items ++ flat_map span_bytes (index_below across tiles.now 64)) }
+{
+    for place in 0..PLACES as u32 {
+        put_span(out, span_at(across, tiles, place))?;
+    }
+    Ok(())
+}
