@@ -4,3 +4,4 @@ pub mod Facts
 pub mod Keeps
 pub mod Seating
 pub mod Turning
+pub mod Counting

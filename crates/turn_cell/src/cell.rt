@@ -14,6 +14,7 @@ use std::sync::Wait;
 
 /// A value under a lock, whose turns have one history. It is shared by reference among threads, each
 /// of which takes its turns on a seat of its own.
+#[derive(Drop)]
 pub struct TurnCell<T: StandsFor> {
     core: Core<T>,
 }
@@ -44,6 +45,7 @@ impl<T: StandsFor> Model for Seat<T> {
 }
 
 /// What is left of a cell: its value, and its whole history, of which no bytes are kept.
+#[derive(Drop)]
 pub struct ClosedCell<T: StandsFor> {
     value: T,
     last: Snapshot<Seat<T>>,

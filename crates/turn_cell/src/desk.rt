@@ -30,6 +30,7 @@ const LOOKS: u32 = 8;
 /// A seat as the table knows it.
 pub(crate) type Place<T, E> = atomic_table::Seat<Option<T>, View<T, E>>;
 
+#[derive(Drop)]
 pub(crate) struct Core<T: StandsFor> {
     pub(crate) table: Table<Option<T>, View<T, T::Entry>, Terms<T>, InTurn<T>, Global>,
     limit: u64,

@@ -11,3 +11,6 @@ mod view;
 pub use call::{Call, StandsFor, Worn};
 pub use cell::{ClosedCell, Seat, TurnCell};
 pub use view::Terms;
+
+#[cfg(test)]
+mod tests;
