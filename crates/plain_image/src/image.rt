@@ -117,4 +117,12 @@ impl Image {
         let head = format!(in alloc; "P6\n{} {}\n255\n", self.cols, self.rows)?;
         pixels::bytes_after(alloc, head.as_str(), &self.pixels)
     }
+
+    /// The image of these pixels.
+    pub fn of_pixels(cols: u32, rows: u32, pixels: Vec<Colour>) -> Image
+        requires { IsRaster cols rows (length pixels.items) }
+        ensures { result ≡ record { cols = cols; rows = rows; pixels = pixels.items } }
+    {
+        Image { cols, rows, pixels }
+    }
 }

@@ -3,7 +3,12 @@
 
 mod image;
 mod mask;
+mod parts;
 mod pixels;
+mod ppm;
+mod reading;
 
 pub use image::Image;
 pub use mask::Mask;
+pub use ppm::read_ppm;
+pub use reading::PpmFault;

@@ -2,6 +2,7 @@
 ghost use Rattle.std.specs.Prelude.{◌≡◌, ℕ, ◌+◌, ◌*◌, ◌≤◌, ◌++◌, length, IfOk, flat_map};
 ghost use Rattle.plain_drawing.specs.Canvas.{cut_rows, painted};
 ghost use Rattle.plain_drawing.specs.Ppm.{pixel_bytes};
+ghost use Rattle.plain_image.specs.PpmText.{colours};
 ghost use Rattle.plain_drawing.specs.Blending.{blend_channel, blend};
 
 use farm_base::NoMemory;
@@ -76,6 +77,24 @@ pub fn bytes_after(alloc: Global, head: &str, pixels: &[Colour]) -> Result<Vec<u
         out.push(pixel.r)?;
         out.push(pixel.g)?;
         out.push(pixel.b)?;
+    }
+    Ok(out)
+}
+
+/// The colours that `count` times three bytes say.
+pub fn colours(alloc: Global, bytes: &[u8], count: usize) -> Result<Vec<Colour>, NoMemory>
+    requires few { count ≤ 4096 * 4096 }
+    requires len { length bytes.now ≡ count * 3 }
+    ensures items { IfOk result (λ v. v.items ≡ colours bytes.now) }
+    ensures len { IfOk result (λ v. length v.items ≡ count) }
+{
+    let mut out = Vec::with_capacity(alloc, count)?;
+    for k in 0..count {
+        out.push(Colour {
+            r: bytes[k * 3],
+            g: bytes[k * 3 + 1],
+            b: bytes[k * 3 + 2],
+        })?;
     }
     Ok(out)
 }

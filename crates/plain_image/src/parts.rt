@@ -1,0 +1,195 @@
+//! The parts of a PPM text, each read from an offset of the text on.
+ghost use Rattle.std.specs.Prelude.{◌≡◌, ℕ, ◌+◌, ◌*◌, ◌≤◌, ◌<◌, length, drop, IfOk, Ok, Err};
+ghost use Rattle.plain_image.specs.PpmText.{is_blank, is_digit, one_byte, one_blank, gap, gap_end, after_in_gap, digits, side, gap_side, magic, greatest, head};
+ghost use Rattle.plain_drawing.specs.Canvas.{IsSides};
+ghost use Rattle.plain_image.specs.declared.reading.Gap.TheVariants.{Bare};
+
+use crate::reading::{Gap, Head, PpmFault, Side};
+
+fn is_blank(b: u8) -> bool
+    ensures { result ≡ is_blank b }
+{
+    b == b' ' || b == b'\t' || b == b'\r' || b == b'\n'
+}
+
+fn is_digit(b: u8) -> bool
+    ensures { result ≡ is_digit b }
+{
+    b >= b'0' && b <= b'9'
+}
+
+// The byte `c`.
+fn one_byte(bytes: &[u8], at: usize, c: u8) -> Result<usize, PpmFault>
+    requires { at ≤ length bytes.now }
+    ensures value { result ≡ one_byte c at (drop at bytes.now) }
+    ensures within { IfOk result (λ n. n ≤ length bytes.now) }
+{
+    if at < bytes.len() && bytes[at] == c {
+        Ok(at + 1)
+    } else {
+        Err(PpmFault::Bad(at as u64))
+    }
+}
+
+// One blank.
+fn one_blank(bytes: &[u8], at: usize) -> Result<usize, PpmFault>
+    requires { at ≤ length bytes.now }
+    ensures value { result ≡ one_blank at (drop at bytes.now) }
+    ensures within { IfOk result (λ n. n ≤ length bytes.now) }
+{
+    if at < bytes.len() && is_blank(bytes[at]) {
+        Ok(at + 1)
+    } else {
+        Err(PpmFault::Bad(at as u64))
+    }
+}
+
+// The place in a gap after a byte of it, or none where the byte belongs to what follows.
+fn after_in_gap(place: Gap, b: u8) -> Option<Gap>
+    ensures { result ≡ after_in_gap place b }
+{
+    match place {
+        Gap::Comment => {
+            if b == b'\n' {
+                Some(Gap::Blank)
+            } else {
+                Some(Gap::Comment)
+            }
+        }
+        Gap::Bare => after_no_comment(b),
+        Gap::Blank => after_no_comment(b),
+    }
+}
+
+fn after_no_comment(b: u8) -> Option<Gap>
+    ensures { result ≡ after_in_gap Bare b }
+{
+    if is_blank(b) {
+        Some(Gap::Blank)
+    } else if b == b'#' {
+        Some(Gap::Comment)
+    } else {
+        None
+    }
+}
+
+// Where a gap ends.
+fn gap_end(place: Gap, at: usize) -> Result<usize, PpmFault>
+    ensures value { result ≡ gap_end place at }
+    ensures within { IfOk result (λ n. n ≡ at) }
+{
+    match place {
+        Gap::Blank => Ok(at),
+        Gap::Bare => Err(PpmFault::Bad(at as u64)),
+        Gap::Comment => Err(PpmFault::Bad(at as u64)),
+    }
+}
+
+// Blanks and comments before a number.
+fn gap(bytes: &[u8], at: usize) -> Result<usize, PpmFault>
+    requires { at ≤ length bytes.now }
+    ensures value { result ≡ gap Bare at (drop at bytes.now) }
+    ensures within { IfOk result (λ n. n ≤ length bytes.now) }
+{
+    let mut place = Gap::Bare;
+    for i in at..bytes.len() {
+        match after_in_gap(place, bytes[i]) {
+            Some(next) => place = next,
+            None => return gap_end(place, i),
+        }
+    }
+    Err(PpmFault::Bad(bytes.len() as u64))
+}
+
+// A side: digits without a leading zero.
+fn side(bytes: &[u8], at: usize) -> Result<Side, PpmFault>
+    requires { at ≤ length bytes.now }
+    ensures value { result ≡ side at (drop at bytes.now) }
+    ensures next { IfOk result (λ s. s.next ≤ length bytes.now) }
+    ensures some { IfOk result (λ s. 1 ≤ s.value) }
+    ensures few { IfOk result (λ s. s.value ≤ 4096) }
+{
+    if at < bytes.len() && bytes[at] >= b'1' && bytes[at] <= b'9' {
+        digits(bytes, at + 1, u32::from(bytes[at] - b'0'))
+    } else {
+        Err(PpmFault::Bad(at as u64))
+    }
+}
+
+// Further digits of a side that is `first` so far.
+fn digits(bytes: &[u8], at: usize, first: u32) -> Result<Side, PpmFault>
+    requires inside { at ≤ length bytes.now }
+    requires some { 1 ≤ first }
+    requires few { first ≤ 4096 }
+    ensures value { result ≡ digits first at (drop at bytes.now) }
+    ensures next { IfOk result (λ s. s.next ≤ length bytes.now) }
+    ensures some { IfOk result (λ s. 1 ≤ s.value) }
+    ensures few { IfOk result (λ s. s.value ≤ 4096) }
+{
+    let mut value = first;
+    for i in at..bytes.len() {
+        let b = bytes[i];
+        if !is_digit(b) {
+            return Ok(Side { value, next: i });
+        }
+        value = value * 10 + u32::from(b - b'0');
+        if value > 4096 {
+            return Err(PpmFault::TooLarge);
+        }
+    }
+    Ok(Side {
+        value,
+        next: bytes.len(),
+    })
+}
+
+// A gap and then a side.
+fn gap_side(bytes: &[u8], at: usize) -> Result<Side, PpmFault>
+    requires { at ≤ length bytes.now }
+    ensures value { result ≡ gap_side bytes.now at }
+    ensures next { IfOk result (λ s. s.next ≤ length bytes.now) }
+    ensures some { IfOk result (λ s. 1 ≤ s.value) }
+    ensures few { IfOk result (λ s. s.value ≤ 4096) }
+{
+    let start = gap(bytes, at)?;
+    side(bytes, start)
+}
+
+// The magic number.
+fn magic(bytes: &[u8]) -> Result<usize, PpmFault>
+    ensures value { result ≡ magic bytes.now }
+    ensures within { IfOk result (λ n. n ≤ length bytes.now) }
+{
+    let six = one_byte(bytes, 0, b'P')?;
+    one_byte(bytes, six, b'6')
+}
+
+// A gap, the greatest value 255 and one blank.
+fn greatest(bytes: &[u8], at: usize) -> Result<usize, PpmFault>
+    requires { at ≤ length bytes.now }
+    ensures value { result ≡ greatest bytes.now at }
+    ensures within { IfOk result (λ n. n ≤ length bytes.now) }
+{
+    let two = gap(bytes, at)?;
+    let five = one_byte(bytes, two, b'2')?;
+    let last = one_byte(bytes, five, b'5')?;
+    let blank = one_byte(bytes, last, b'5')?;
+    one_blank(bytes, blank)
+}
+
+/// The head of a text: its sides, and where its pixels begin.
+pub fn head(bytes: &[u8]) -> Result<Head, PpmFault>
+    ensures value { result ≡ head bytes.now }
+    ensures start { IfOk result (λ h. h.start ≤ length bytes.now) }
+    ensures sides { IfOk result (λ h. IsSides h.cols h.rows) }
+{
+    let behind = magic(bytes)?;
+    let cols = gap_side(bytes, behind)?;
+    let rows = gap_side(bytes, cols.next)?;
+    let start = greatest(bytes, rows.next)?;
+    Ok(Head {
+        cols: cols.value,
+        rows: rows.value,
+        start,
+    })
+}
