@@ -1,3 +1,4 @@
 pub mod Painting
 pub mod Cutting
 pub mod Texts
+pub mod RoundTrip

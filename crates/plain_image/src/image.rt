@@ -25,10 +25,11 @@ impl Model for Image {
 }
 
 impl Image {
-    ghost use Rattle.std.specs.Prelude.{◌≡◌, ◌+◌, ◌*◌, ◌<◌, ◌≤◌, ℕ, IfOk, slice_set, slice_get, slice_index_or, Some, replicate, length};
+    ghost use Rattle.std.specs.Prelude.{◌≡◌, ◌+◌, ◌*◌, ◌<◌, ◌≤◌, ℕ, IfOk, slice_set, slice_get, slice_index_or, Some, replicate, length, Ok};
     ghost use Rattle.plain_drawing.specs.Blending.{blend};
     ghost use Rattle.plain_drawing.specs.Canvas.{IsRaster, IsSides, painted, cut_of};
     ghost use Rattle.plain_drawing.specs.Ppm.{ppm};
+    ghost use Rattle.plain_image.specs.PpmText.{ppm_of};
 
     /// An image of these sides that is all of one colour. Sides are 1 to 4,096.
     pub fn new(alloc: Global, cols: u32, rows: u32, c: Colour) -> Result<Image, NoMemory>
@@ -110,16 +111,18 @@ impl Image {
     }
 
     /// The image as a binary PPM text (Netpbm's P6): `P6`, a newline, the columns, a space, the rows, a
-    /// newline, `255`, a newline, and then three bytes for each pixel, by rows.
+    /// newline, `255`, a newline, and then three bytes for each pixel, by rows. `read_ppm` gives the image
+    /// back.
     pub fn write_ppm(&self, alloc: Global) -> Result<Vec<u8>, NoMemory>
-        ensures { IfOk result (λ v. v.items ≡ ppm self.now.cols self.now.rows self.now.pixels) }
+        ensures text { IfOk result (λ v. v.items ≡ ppm self.now.cols self.now.rows self.now.pixels) }
+        ensures reads_back { IfOk result (λ v. ppm_of v.items ≡ Ok self.now) }
     {
         let head = format!(in alloc; "P6\n{} {}\n255\n", self.cols, self.rows)?;
         pixels::bytes_after(alloc, head.as_str(), &self.pixels)
     }
 
     /// The image of these pixels.
-    pub fn of_pixels(cols: u32, rows: u32, pixels: Vec<Colour>) -> Image
+    pub(crate) fn of_pixels(cols: u32, rows: u32, pixels: Vec<Colour>) -> Image
         requires { IsRaster cols rows (length pixels.items) }
         ensures { result ≡ record { cols = cols; rows = rows; pixels = pixels.items } }
     {
