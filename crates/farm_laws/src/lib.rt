@@ -4,7 +4,11 @@
 //! proves it: what a call of a farm promises in these words holds with the laws.
 #![tactic(auto)]
 
-ghost use Rattle.farm_history.specs.Laws.{LawApart, LawNow, LawOneReply, LawSound};
+ghost use Rattle.std.specs.Prelude.{true, false, ◌≡◌};
+ghost use Rattle.farm_history.specs.Laws.{IsLocal, LawApart, LawNow, LawOneReply, LawSound, has_plain_update};
+ghost use Rattle.farm_history.specs.Rules.{Legal};
+ghost use Rattle.farm_laws.specs.Worked.{low_narrow, narrow, plain, renewed, restyled, updated, asked_twice, expired_while_drawn, updated_then_expired, expired_from_above, updated_while_drawn, queues_filled, asked_just_often, asked_too_often, put_failed, drawing_cut, left_alone, lifted_from_bulk, marked_dirty, restyled_while_drawn, renewed_one, renewed_both, has_each};
+ghost use Rattle.farm_laws.specs.Mistakes.{stored_clean_though_expired, clean_by_version, dirty_by_update, updated_past_the_table, update_fault_passed_over, queued_while_drawn, claimed_twice, replied_out_of_order, drawn_over_newest_data, expired_on_its_zoom_alone, expired_beside, joined_though_overtaken, dirty_before_low, dropped_though_room, deferred_past_the_limit, more_drawn_than_workers, claimed_after_stop, shown_after_failed_put, done_after_failed_put, stored_though_cut, ended_twice, replied_though_left, left_with_its_items, counted_before_collected, queued_a_second_time, joined_in_bulk, marked_and_clean, clean_in_the_old_style, drawn_in_the_old_style, restyled_past_the_table, clean_though_reached, renewed_out_of_reach, gone_though_told};
 
 /// In each legal history over a store that tells its content: every tile sent as clean is the plain drawing,
 /// byte for byte, in its map's style and over the data of one moment, and nothing has touched its
@@ -31,4 +35,67 @@ pub fn law_one_reply()
 /// over the data of that very moment.
 pub fn law_now()
     ensures { LawNow }
+{}
+
+/// Worked histories of small farms are legal, among them one that has all that the laws speak of: a tile
+/// sent as clean, a drawing stored as dirty, an ask answered Done and a reply Done. `specs/Worked.antt`
+/// has them, each with a line on what it shows.
+pub fn worked_histories()
+    ensures speaks { has_each expired_while_drawn ≡ true }
+    ensures draws_locally { IsLocal renewed }
+    ensures updates_by_renews { has_plain_update renewed_one ≡ false }
+    ensures asked_twice_legal { Legal plain true asked_twice }
+    ensures expired_while_drawn_legal { Legal plain true expired_while_drawn }
+    ensures updated_then_expired_legal { Legal updated true updated_then_expired }
+    ensures expired_from_above_legal { Legal plain true expired_from_above }
+    ensures updated_while_drawn_legal { Legal updated true updated_while_drawn }
+    ensures queues_filled_legal { Legal narrow true queues_filled }
+    ensures asked_just_often_legal { Legal plain true asked_just_often }
+    ensures asked_too_often_legal { Legal plain true asked_too_often }
+    ensures put_failed_legal { Legal plain true put_failed }
+    ensures drawing_cut_legal { Legal plain true drawing_cut }
+    ensures left_alone_legal { Legal plain true left_alone }
+    ensures lifted_from_bulk_legal { Legal low_narrow true lifted_from_bulk }
+    ensures marked_dirty_legal { Legal plain true marked_dirty }
+    ensures restyled_while_drawn_legal { Legal restyled true restyled_while_drawn }
+    ensures renewed_one_legal { Legal renewed true renewed_one }
+    ensures renewed_both_legal { Legal renewed true renewed_both }
+{}
+
+/// Histories with a mistake in their last answer are not legal. `specs/Mistakes.antt` has them, each named
+/// by its mistake.
+pub fn refused_mistakes()
+    ensures no_stored_clean_though_expired { Legal plain true stored_clean_though_expired → ⊥ }
+    ensures no_clean_by_version { Legal plain true clean_by_version → ⊥ }
+    ensures no_dirty_by_update { Legal updated true dirty_by_update → ⊥ }
+    ensures no_updated_past_the_table { Legal updated true updated_past_the_table → ⊥ }
+    ensures no_update_fault_passed_over { Legal updated true update_fault_passed_over → ⊥ }
+    ensures no_queued_while_drawn { Legal plain true queued_while_drawn → ⊥ }
+    ensures no_claimed_twice { Legal plain true claimed_twice → ⊥ }
+    ensures no_replied_out_of_order { Legal plain true replied_out_of_order → ⊥ }
+    ensures no_drawn_over_newest_data { Legal updated true drawn_over_newest_data → ⊥ }
+    ensures no_expired_on_its_zoom_alone { Legal plain true expired_on_its_zoom_alone → ⊥ }
+    ensures no_expired_beside { Legal plain true expired_beside → ⊥ }
+    ensures no_joined_though_overtaken { Legal plain true joined_though_overtaken → ⊥ }
+    ensures no_dirty_before_low { Legal narrow true dirty_before_low → ⊥ }
+    ensures no_dropped_though_room { Legal narrow true dropped_though_room → ⊥ }
+    ensures no_deferred_past_the_limit { Legal narrow true deferred_past_the_limit → ⊥ }
+    ensures no_more_drawn_than_workers { Legal narrow true more_drawn_than_workers → ⊥ }
+    ensures no_claimed_after_stop { Legal plain true claimed_after_stop → ⊥ }
+    ensures no_shown_after_failed_put { Legal plain true shown_after_failed_put → ⊥ }
+    ensures no_done_after_failed_put { Legal plain true done_after_failed_put → ⊥ }
+    ensures no_stored_though_cut { Legal plain true stored_though_cut → ⊥ }
+    ensures no_ended_twice { Legal plain true ended_twice → ⊥ }
+    ensures no_replied_though_left { Legal plain true replied_though_left → ⊥ }
+    ensures no_left_with_its_items { Legal plain true left_with_its_items → ⊥ }
+    ensures no_counted_before_collected { Legal plain true counted_before_collected → ⊥ }
+    ensures no_queued_a_second_time { Legal plain true queued_a_second_time → ⊥ }
+    ensures no_joined_in_bulk { Legal plain true joined_in_bulk → ⊥ }
+    ensures no_marked_and_clean { Legal plain true marked_and_clean → ⊥ }
+    ensures no_clean_in_the_old_style { Legal restyled true clean_in_the_old_style → ⊥ }
+    ensures no_drawn_in_the_old_style { Legal restyled true drawn_in_the_old_style → ⊥ }
+    ensures no_restyled_past_the_table { Legal restyled true restyled_past_the_table → ⊥ }
+    ensures no_clean_though_reached { Legal renewed true clean_though_reached → ⊥ }
+    ensures no_renewed_out_of_reach { Legal renewed true renewed_out_of_reach → ⊥ }
+    ensures no_gone_though_told { Legal plain true gone_though_told → ⊥ }
 {}

@@ -1,0 +1,91 @@
+-- The worked histories are legal, by computation.
+use Rattle.std.proofs.Common.{◌≡◌, ℕ, Bool, true, false, List, Option, Some, None, refl, ap, ◌∙◌, [], ◌∷◌, ◌++◌, cond, filter, append-nil, lit<, lit≤}
+use Rattle.farm_history.specs.Entries.{Entry}
+use Rattle.farm_history.specs.Plans.{Plan, key_of, map_of, tile_of, is_servable, overlaps, is_style_of, next}
+use Rattle.farm_history.specs.Past.{is_stopped, data_after, style_after, flights, jobs, claimed_keys, shown, is_touched_after, waiting, numbers, open_asks, is_ended_after, replies_to, asks_made, done_asks, stored_drawings}
+use Rattle.farm_history.specs.Rules.{answer_of_waiting, answer_by, Fits, Legal}
+use Rattle.farm_history.specs.Laws.{has_plain_update, IsLocal}
+use Rattle.farm_history.proofs.Lists.{filter-append}
+use Rattle.farm_laws.specs.Worked.{reached, bytes_of, low_narrow, narrow, plain, renewed, restyled, updated, asked_twice, expired_while_drawn, asked_often, asked_too_often, asked_just_often, has_each, updated_then_expired, expired_from_above, updated_while_drawn, queues_filled, put_failed, drawing_cut, left_alone, lifted_from_bulk, marked_dirty, restyled_while_drawn, two_drawn, renewed_one, renewed_both}
+
+pub asked_twice_legal : Legal plain true asked_twice
+unfolding asked_twice plain Fits is_servable overlaps is_style_of next is_stopped data_after style_after flights jobs claimed_keys shown is_touched_after waiting numbers open_asks is_ended_after replies_to asks_made done_asks stored_drawings answer_by answer_of_waiting
+asked_twice_legal = (refl, (refl, (refl, (refl, (refl, (refl, (refl, (refl, (refl, (refl, tt))))))))))
+
+pub expired_while_drawn_legal : Legal plain true expired_while_drawn
+unfolding expired_while_drawn plain Fits is_servable overlaps is_style_of next is_stopped data_after style_after flights jobs claimed_keys shown is_touched_after waiting numbers open_asks is_ended_after replies_to asks_made done_asks stored_drawings answer_by answer_of_waiting
+expired_while_drawn_legal = ((refl, refl, refl), (refl, (refl, (refl, (refl, (refl, (refl, (refl, (refl, (refl, (refl, (refl, (refl, (refl, (refl, tt)))))))))))))))
+
+pub updated_then_expired_legal : Legal updated true updated_then_expired
+unfolding updated_then_expired updated Fits is_servable overlaps is_style_of next is_stopped data_after style_after flights jobs claimed_keys shown is_touched_after waiting numbers open_asks is_ended_after replies_to asks_made done_asks stored_drawings answer_by answer_of_waiting
+updated_then_expired_legal = (refl, (refl, ((lit< tt, refl), (lit≤ tt, (refl, ((lit< tt, refl, refl), (refl, (refl, (refl, tt)))))))))
+
+pub expired_from_above_legal : Legal plain true expired_from_above
+unfolding expired_from_above plain Fits is_servable overlaps is_style_of next is_stopped data_after style_after flights jobs claimed_keys shown is_touched_after waiting numbers open_asks is_ended_after replies_to asks_made done_asks stored_drawings answer_by answer_of_waiting
+expired_from_above_legal = (refl, (refl, (refl, (refl, (refl, (refl, (refl, (refl, (refl, tt)))))))))
+
+pub updated_while_drawn_legal : Legal updated true updated_while_drawn
+unfolding updated_while_drawn updated Fits is_servable overlaps is_style_of next is_stopped data_after style_after flights jobs claimed_keys shown is_touched_after waiting numbers open_asks is_ended_after replies_to asks_made done_asks stored_drawings answer_by answer_of_waiting
+updated_while_drawn_legal = (lit≤ tt, ((lit< tt, refl), ((refl, refl, refl), (refl, ((lit< tt, refl, refl), (refl, (refl, tt)))))))
+
+pub queues_filled_legal : Legal narrow true queues_filled
+unfolding queues_filled narrow Fits is_servable overlaps is_style_of next is_stopped data_after style_after flights jobs claimed_keys shown is_touched_after waiting numbers open_asks is_ended_after replies_to asks_made done_asks stored_drawings answer_by answer_of_waiting
+queues_filled_legal = (refl, (refl, (tt, (refl, (refl, (refl, (refl, (refl, (refl, (refl, (refl, (refl, (refl, (refl, (refl, (refl, (refl, (refl, (refl, (refl, tt))))))))))))))))))))
+
+pub put_failed_legal : Legal plain true put_failed
+unfolding put_failed plain Fits is_servable overlaps is_style_of next is_stopped data_after style_after flights jobs claimed_keys shown is_touched_after waiting numbers open_asks is_ended_after replies_to asks_made done_asks stored_drawings answer_by answer_of_waiting
+put_failed_legal = (tt, (refl, (refl, (refl, (refl, (refl, (tt, (refl, (refl, (refl, (refl, (refl, (refl, (refl, tt))))))))))))))
+
+pub drawing_cut_legal : Legal plain true drawing_cut
+unfolding drawing_cut plain Fits is_servable overlaps is_style_of next is_stopped data_after style_after flights jobs claimed_keys shown is_touched_after waiting numbers open_asks is_ended_after replies_to asks_made done_asks stored_drawings answer_by answer_of_waiting
+drawing_cut_legal = (refl, (refl, (tt, (refl, (refl, tt)))))
+
+pub left_alone_legal : Legal plain true left_alone
+unfolding left_alone plain Fits is_servable overlaps is_style_of next is_stopped data_after style_after flights jobs claimed_keys shown is_touched_after waiting numbers open_asks is_ended_after replies_to asks_made done_asks stored_drawings answer_by answer_of_waiting
+left_alone_legal = (refl, (refl, (refl, (refl, (refl, (refl, (refl, (refl, tt))))))))
+
+pub lifted_from_bulk_legal : Legal low_narrow true lifted_from_bulk
+unfolding lifted_from_bulk low_narrow Fits is_servable overlaps is_style_of next is_stopped data_after style_after flights jobs claimed_keys shown is_touched_after waiting numbers open_asks is_ended_after replies_to asks_made done_asks stored_drawings answer_by answer_of_waiting
+lifted_from_bulk_legal = (refl, (refl, (refl, (refl, (refl, (refl, (refl, (refl, (refl, (refl, tt))))))))))
+
+pub marked_dirty_legal : Legal plain true marked_dirty
+unfolding marked_dirty plain Fits is_servable overlaps is_style_of next is_stopped data_after style_after flights jobs claimed_keys shown is_touched_after waiting numbers open_asks is_ended_after replies_to asks_made done_asks stored_drawings answer_by answer_of_waiting
+marked_dirty_legal = (refl, (refl, (refl, (refl, (refl, (refl, (refl, tt)))))))
+
+pub restyled_while_drawn_legal : Legal restyled true restyled_while_drawn
+unfolding restyled_while_drawn restyled Fits is_servable overlaps is_style_of next is_stopped data_after style_after flights jobs claimed_keys shown is_touched_after waiting numbers open_asks is_ended_after replies_to asks_made done_asks stored_drawings answer_by answer_of_waiting
+restyled_while_drawn_legal = (lit≤ tt, (refl, ((lit< tt, refl), ((refl, refl, refl), (refl, (refl, ((refl, refl, refl), (refl, ((lit< tt, refl), (refl, (refl, tt)))))))))))
+
+pub two_drawn_legal : Legal renewed true two_drawn
+unfolding two_drawn renewed Fits is_servable overlaps is_style_of next is_stopped data_after style_after flights jobs claimed_keys shown is_touched_after waiting numbers open_asks is_ended_after replies_to asks_made done_asks stored_drawings answer_by answer_of_waiting
+two_drawn_legal = (refl, (refl, (refl, (refl, (refl, (refl, tt))))))
+
+pub renewed_one_legal : Legal renewed true renewed_one
+unfolding renewed_one two_drawn renewed Fits is_servable overlaps is_style_of next is_stopped data_after style_after flights jobs claimed_keys shown is_touched_after waiting numbers open_asks is_ended_after replies_to asks_made done_asks stored_drawings answer_by answer_of_waiting
+renewed_one_legal = (lit≤ tt, (refl, ((refl, refl, refl), (refl, (refl, ((lit< tt, refl, refl, refl), two_drawn_legal))))))
+
+pub renewed_both_legal : Legal renewed true renewed_both
+unfolding renewed_both two_drawn renewed Fits is_servable overlaps is_style_of next is_stopped data_after style_after flights jobs claimed_keys shown is_touched_after waiting numbers open_asks is_ended_after replies_to asks_made done_asks stored_drawings answer_by answer_of_waiting
+renewed_both_legal = ((lit< tt, refl, refl, refl), two_drawn_legal)
+
+pub asked_too_often_legal : Legal plain true asked_too_often
+unfolding asked_too_often asked_often plain Fits is_servable overlaps is_style_of next is_stopped data_after style_after flights jobs claimed_keys shown is_touched_after waiting numbers open_asks is_ended_after replies_to asks_made done_asks stored_drawings answer_by answer_of_waiting
+asked_too_often_legal = (refl, (refl, (refl, (refl, (refl, (refl, (refl, (refl, (refl, (refl, (refl, (refl, (refl, (refl, (refl, (refl, (refl, (refl, (refl, (refl, (refl, (refl, (refl, (refl, (refl, (refl, (refl, (refl, (refl, (refl, (refl, (refl, (refl, (refl, (refl, (refl, (refl, (refl, (refl, (refl, (refl, (refl, (refl, (refl, (refl, (refl, (refl, (refl, (refl, (refl, (refl, (refl, (refl, (refl, (refl, (refl, (refl, (refl, (refl, (refl, (refl, (refl, (refl, (refl, (refl, tt)))))))))))))))))))))))))))))))))))))))))))))))))))))))))))))))))
+
+pub asked_just_often_legal : Legal plain true asked_just_often
+unfolding asked_just_often asked_often plain Fits is_servable overlaps is_style_of next is_stopped data_after style_after flights jobs claimed_keys shown is_touched_after waiting numbers open_asks is_ended_after replies_to asks_made done_asks stored_drawings answer_by answer_of_waiting
+asked_just_often_legal = (refl, (refl, (refl, (refl, (refl, (refl, (refl, (refl, (refl, (refl, (refl, (refl, (refl, (refl, (refl, (refl, (refl, (refl, (refl, (refl, (refl, (refl, (refl, (refl, (refl, (refl, (refl, (refl, (refl, (refl, (refl, (refl, (refl, (refl, (refl, (refl, (refl, (refl, (refl, (refl, (refl, (refl, (refl, (refl, (refl, (refl, (refl, (refl, (refl, (refl, (refl, (refl, (refl, (refl, (refl, (refl, (refl, (refl, (refl, (refl, (refl, (refl, (refl, (refl, tt))))))))))))))))))))))))))))))))))))))))))))))))))))))))))))))))
+
+-- the laws speak of something
+pub speaks : has_each expired_while_drawn ≡ true
+unfolding expired_while_drawn
+speaks = refl
+
+-- the farm with renews draws locally
+pub renewed_local : IsLocal renewed
+unfolding renewed
+renewed_local spot style known n unreached = ap (bytes_of (map_of spot) style (tile_of spot)) (filter-append (λ m. reached m (key_of spot)) known (n ∷ []) ∙ (ap (λ b. filter (λ m. reached m (key_of spot)) known ++ cond b (n ∷ []) []) unreached ∙ append-nil _))
+
+pub renewed_only : has_plain_update renewed_one ≡ false
+unfolding renewed_one two_drawn has_plain_update
+renewed_only = refl
