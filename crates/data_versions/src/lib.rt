@@ -1,9 +1,14 @@
 //! Data in versions: datasets, updates and snapshots that never change.
 #![tactic(auto)]
 
+mod bench;
 mod dataset;
+mod desk;
 mod snapshot;
+mod updates;
 
 pub use dataset::{Change, Dataset, Layer, Update};
+pub use farm_base::ApplyFault;
 pub use geo_model::Feature;
 pub use snapshot::{LayerView, Snapshot};
+pub use updates::apply;

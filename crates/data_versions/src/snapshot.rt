@@ -48,9 +48,25 @@ impl Snapshot {
         ensures { IfOk result (λ s. s ≡ dataset) }
     {
         let shared = share_layers(alloc, dataset.into_layers())?;
+        Snapshot::of(alloc, shared)
+    }
+
+    /// The snapshot of layers that are shared already.
+    pub(crate) fn of(alloc: Global, shared: Vec<Arc<Layer>>) -> Result<Snapshot, NoMemory>
+        requires { IsDataset (shared_layers shared.items) }
+        ensures { IfOk result (λ s. s ≡ shared_layers shared.items) }
+    {
         Ok(Snapshot {
             layers: Arc::new(alloc, shared)?,
         })
+    }
+
+    /// The layers, as they are shared.
+    pub(crate) fn shared(&self) -> &[Arc<Layer>]
+        ensures value { shared_layers result.now ≡ self.now }
+        ensures valid { IsDataset self.now }
+    {
+        self.layers.as_slice()
     }
 
     /// An equal snapshot, which shares all with this one.

@@ -116,12 +116,14 @@ change_fault place c layers = fault_at place c (features_named layers c.layer)
 
 -- ---- data after an update
 
--- the layer after a change, if it is the one that the change names
+-- the layer after a change of its features
 abbrev pub changed_layer : Change → Layer → Layer
-changed_layer c l = if bytes_eq l.name c.layer then record l { features = with_change c l.features } else l
+changed_layer c l = record l { features = with_change c l.features }
 
+-- the layers after a change of the one that it names; the others stay
 abbrev pub changed : Change → List Layer → List Layer
-changed c layers = map (changed_layer c) layers
+changed c [] = []
+changed c (l ∷ layers) = if bytes_eq l.name c.layer then changed_layer c l ∷ layers else l ∷ changed c layers
 
 -- go on with data that stand, or stop at a fault
 abbrev pub unless : {A : Type 0} → Option ApplyFault → Result A ApplyFault → Result A ApplyFault

@@ -1,0 +1,32 @@
+use Rattle.std.proofs.Common.{arith, sym, ◌∙◌}
+use Rattle.data_versions.proofs.Slots.{knows_replaced, replaced_is, same_standing, has_place, has_no_place, in_bounds}
+use Rattle.data_versions.proofs.bench.Bench.replace.Goals as goal
+
+pub index_mut-requires : goal.index_mut-requires
+index_mut-requires c =
+    let here = rw c.id.ensures at (sym c.get.ensures.value ∙ sym c.copied.ensures ∙ c.in-Some.is) in
+    omega (arith, c.self.inside.slots.ok, in_bounds c.self.inside.places c.self.inside.slots.items c.args.feature.now.id c.in-Some.place c.self.invariant.0 here)
+
+pub invariant_of-self : goal.invariant_of-self
+invariant_of-self c =
+    let here = rw c.id.ensures at (sym c.get.ensures.value ∙ sym c.copied.ensures ∙ c.in-Some.is) in (
+      knows_replaced c.self.inside.places c.self.inside.slots.items c.args.feature c.in-Some.place c.self.invariant.0 here,
+      rw (replaced_is c.self.inside.places c.self.inside.slots.items c.args.feature c.in-Some.place c.self.invariant.0 here)
+          (c.self.invariant.1 ∙ sym (same_standing c.args.feature.now _)),
+      c.self.invariant.2,
+    )
+
+pub returns-in-Some-clause-found : goal.returns-in-Some-clause-found
+returns-in-Some-clause-found c =
+    let here = rw c.id.ensures at (sym c.get.ensures.value ∙ sym c.copied.ensures ∙ c.in-Some.is) in
+    rw (← c.self.view_is) (sym (has_place c.self.inside.places c.self.inside.slots.items c.args.feature.now.id c.in-Some.place c.self.invariant.0 here))
+
+pub returns-in-Some-clause-done : goal.returns-in-Some-clause-done
+returns-in-Some-clause-done c =
+    let here = rw c.id.ensures at (sym c.get.ensures.value ∙ sym c.copied.ensures ∙ c.in-Some.is) in
+    λ _. rw (← c.self.view_is) (replaced_is c.self.inside.places c.self.inside.slots.items c.args.feature c.in-Some.place c.self.invariant.0 here)
+
+pub returns-in-None-clause-found : goal.returns-in-None-clause-found
+returns-in-None-clause-found c =
+    let none = rw c.id.ensures at (sym c.get.ensures.value ∙ sym c.copied.ensures ∙ c.in-None.is) in
+    rw (← c.self.view_is) (sym (has_no_place c.self.inside.places c.self.inside.slots.items c.args.feature.now.id c.self.invariant.0 none))

@@ -1,0 +1,9 @@
+-- The layers so far are shared, and valid.
+use Rattle.std.proofs.Common.{◌≡◌, take}
+use Rattle.std.specs.Prelude.{All}
+use Rattle.plain_drawing.specs.Data.{IsLayer}
+use Rattle.data_versions.specs.Shared.{shared_layers}
+use Rattle.data_versions.proofs.updates.finish.Given as goal
+
+abbrev pub invariant-loop-desk : goal.invariant-loop-desk
+invariant-loop-desk l = record { same : shared_layers l.shared.items ≡ take l.desk-index l.desks; each : All IsLayer (take l.desk-index l.desks) }
