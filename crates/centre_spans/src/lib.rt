@@ -2,6 +2,10 @@
 //! sets the bits of a shape within its own rows and columns.
 #![tactic(auto)]
 
+mod marking;
+mod shapes;
 mod sides;
 
+pub use marking::{mark, set_if};
+pub use shapes::{Shape, Stretch};
 pub use sides::first_at;

@@ -1,11 +1,12 @@
 //! The sweep of rows from the west, which sets the bits where the parity of crossings is odd.
-ghost use Rattle.std.specs.Prelude.{◌≡◌, ℕ, ◌+◌, ◌*◌, ◌<◌, ◌≤◌, Bool, true, false, length, slice_set};
+ghost use Rattle.std.specs.Prelude.{◌≡◌, ℕ, ◌+◌, ◌*◌, ◌<◌, ◌≤◌, Bool, length};
 ghost use Rattle.plain_drawing.specs.declared.world.Point.{Point};
 ghost use Rattle.plain_drawing.specs.World.{IsWindow};
 ghost use Rattle.plain_drawing.specs.Canvas.{Bits};
 ghost use Rattle.plain_drawing.proofs.Places.{Reached};
 ghost use Rattle.raster_core.specs.Toggles.{flip, TellsRow};
 
+use centre_spans::set_if;
 use plain_drawing::Window;
 use plain_image::Mask;
 
@@ -13,20 +14,6 @@ fn flipped(bit: bool, odd: bool) -> bool
     ensures { result ≡ flip bit odd }
 {
     if bit { !odd } else { odd }
-}
-
-// Sets the bit in column `i` and row `j` where the parity is odd.
-fn set_odd(odd: bool, i: u32, j: u32, mask: &mut Mask)
-    requires col { i < mask.old.cols }
-    requires row { j < mask.old.rows }
-    ensures set { odd ≡ true → mask.new ≡ record mask.old { bits = slice_set mask.old.bits (j * mask.old.cols + i) true } }
-    ensures kept { odd ≡ false → mask.new ≡ mask.old }
-    ensures cols { mask.new.cols ≡ mask.old.cols }
-    ensures rows { mask.new.rows ≡ mask.old.rows }
-{
-    if odd {
-        mask.set(i, j);
-    }
 }
 
 // Sweeps row `j` of the crossings into row `row` of the mask.
@@ -45,7 +32,7 @@ fn sweep_row(bits: &[bool], j: u32, w: Window, row: u32, mask: &mut Mask)
     let mut odd = false;
     for i in 0..w.cols {
         odd = flipped(bits[j as usize * w.cols as usize + i as usize], odd);
-        set_odd(odd, i, row, mask);
+        set_if(odd, i, row, mask);
     }
 }
 

@@ -10,9 +10,9 @@ loop-i-preserved c =
     record {
       parity = parity;
       swept = λ member start tells before.
-          swept_more c.args.w member c.args.row c.loop-i.i c.flipped-odd.result start c.loop-i.mask c.set_odd.new.mask
+          swept_more c.args.w member c.args.row c.loop-i.i c.flipped-odd.result start c.loop-i.mask c.set_if.new.mask
           c.loop-i-test.true c.requires.row (c.loop-i.invariant.cols ∙ c.requires.cols) (tells c.loop-i.i c.loop-i-test.true ∙ sym parity)
-          c.set_odd.ensures.set c.set_odd.ensures.kept (c.loop-i.invariant.swept member start tells before);
-      cols = c.set_odd.ensures.cols ∙ c.loop-i.invariant.cols;
-      rows = c.set_odd.ensures.rows ∙ c.loop-i.invariant.rows;
+          c.set_if.ensures.set c.set_if.ensures.kept (c.loop-i.invariant.swept member start tells before);
+      cols = c.set_if.ensures.cols ∙ c.loop-i.invariant.cols;
+      rows = c.set_if.ensures.rows ∙ c.loop-i.invariant.rows;
     }

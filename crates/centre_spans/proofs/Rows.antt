@@ -1,0 +1,130 @@
+-- Rows and columns outside a shape's stretches have no member.
+use Rattle.std.proofs.Common.{◌≡◌, ℕ, ◌+◌, ◌*◌, ◌/◌, ◌<◌, ◌≤◌, Bool, true, false, set, refl, ap, sym, subst, ◌∙◌, inl, inr, arith}
+use Rattle.std.specs.Prelude.{nat_le}
+use Rattle.std.proofs.Math.Nat.{mul-le-mul_right}
+use Rattle.std.proofs.lemmas.Bool.{cases_Bool, cases_lt, le-leb, lt-leb, leb-true, leb-false, false_from_ne_true}
+use Rattle.plain_drawing.specs.declared.world.Point.{Point}
+use Rattle.plain_drawing.specs.declared.world.Window.{Window}
+use Rattle.plain_drawing.specs.World.{InWorld, IsWindow, centre, centres}
+use Rattle.plain_drawing.specs.Canvas.{Bits, marked}
+use Rattle.plain_drawing.proofs.Places.{Reached, reached_start, reached_skip, reached_yes, reached_no, reached_end}
+use Rattle.centre_spans.specs.declared.shapes.Stretch.{Stretch}
+use Rattle.centre_spans.specs.Stretches.{InStretch}
+
+-- the centres of a window lie in the world
+pub centre_in : (w : Window) (i j : ℕ) → IsWindow w → i < w.cols → j < w.rows → InWorld (centre w i j)
+centre_in w i j ok p q =
+    let col : i + 1 ≤ w.cols = omega arith in
+    let row : j + 1 ≤ w.rows = omega arith in
+    record {
+      x_fits = omega (arith, ok.east_fits, mul-le-mul_right w.pixel col);
+      y_fits = omega (arith, ok.south_fits, mul-le-mul_right w.pixel row);
+    }
+
+before_start : (s : Stretch) (v : ℕ) (t : Bool) → (t ≡ true → InStretch s v) → v < s.start → t ≡ false
+before_start s v t covers out = false_from_ne_true t (λ e. let k = (covers e).from_start in omega arith)
+
+from_end : (s : Stretch) (v : ℕ) (t : Bool) → (t ≡ true → InStretch s v) → s.end ≤ v → t ≡ false
+from_end s v t covers out = false_from_ne_true t (λ e. let k = (covers e).before_end in omega arith)
+
+-- the places of one row
+row_of : (j' i j c low high : ℕ) → i < c → low ≤ c → high ≤ c → j * c + low ≤ j' * c + i → j' * c + i < j * c + high → j' ≡ j
+row_of j' i j c low high p l h from below = elim (cases_lt j' j) [
+  | inl q ↦ (let k : j' + 1 ≤ j = omega arith in absurd (omega (arith, mul-le-mul_right c k)))
+  | inr q ↦ (elim (cases_lt j j') [
+    | inl r ↦ (let k : j + 1 ≤ j' = omega arith in absurd (omega (arith, mul-le-mul_right c k)))
+    | inr r ↦ (let e : j' ≡ j = omega arith in e)
+  ])
+]
+
+col_of : (j' i j c n : ℕ) → j' ≡ j → j' * c + i < j * c + n → i < n
+col_of j' i j c n e h = omega (arith, ap (λ k. k * c) e)
+
+col_from : (j' i j c n : ℕ) → j' ≡ j → j * c + n ≤ j' * c + i → n ≤ i
+col_from j' i j c n e h = omega (arith, ap (λ k. k * c) e)
+
+-- the columns of a row before the first one of the shape
+pub row_start : (m : Point → Bool) (w : Window) (s : Stretch) (j left : ℕ) (start now : Bits) → IsWindow w → j < w.rows → left ≤ w.cols
+    → ((i : ℕ) → i < w.cols → nat_le left i ≡ nat_le s.start (w.west + i * w.pixel + w.pixel / 2))
+    → ((c : Point) → InWorld c → m c ≡ true → c.y ≡ w.north + j * w.pixel + w.pixel / 2 → InStretch s c.x)
+    → Reached m w (j * w.cols) start now → Reached m w (j * w.cols + left) start now
+row_start m w s j left start now ok row le splits covers r =
+    reached_skip m w (j * w.cols) (j * w.cols + left) start now ok.some_col (omega arith) (fits j left w.cols w.rows row le)
+    (λ j' i p q low high.
+    let e : j' ≡ j = row_of j' i j w.cols 0 left p (omega arith) le (omega arith) high in
+    let c : Point = centre w i j' in
+    before_start s c.x (m c) (λ t. covers c (centre_in w i j' ok p q) t (ap (λ k. w.north + k * w.pixel + w.pixel / 2) e))
+    (leb-false s.start c.x (sym (splits i p) ∙ lt-leb left i (col_of j' i j w.cols left e high)))) r
+  where
+    fits : (j n c rows : ℕ) → j < rows → n ≤ c → j * c + n ≤ rows * c
+    fits j n c rows p q = (let k : j + 1 ≤ rows = omega arith in omega (arith, mul-le-mul_right c k))
+
+-- the columns of a row past the last one of the shape
+pub row_end : (m : Point → Bool) (w : Window) (s : Stretch) (j i right : ℕ) (start now : Bits) → IsWindow w → j < w.rows → right ≤ i → i ≤ w.cols
+    → ((i : ℕ) → i < w.cols → nat_le right i ≡ nat_le s.end (w.west + i * w.pixel + w.pixel / 2))
+    → ((c : Point) → InWorld c → m c ≡ true → c.y ≡ w.north + j * w.pixel + w.pixel / 2 → InStretch s c.x)
+    → Reached m w (j * w.cols + i) start now → Reached m w (j * w.cols + w.cols) start now
+row_end m w s j n right start now ok row past le splits covers r =
+    reached_skip m w (j * w.cols + n) (j * w.cols + w.cols) start now ok.some_col (omega arith) (fits j w.cols w.rows row)
+    (λ j' i p q low high.
+    let e : j' ≡ j = row_of j' i j w.cols n w.cols p le (omega arith) low high in
+    let c : Point = centre w i j' in
+    let from : n ≤ i = col_from j' i j w.cols n e low in
+    from_end s c.x (m c) (λ t. covers c (centre_in w i j' ok p q) t (ap (λ k. w.north + k * w.pixel + w.pixel / 2) e))
+    (leb-true s.end c.x (sym (splits i p) ∙ le-leb right i (omega arith)))) r
+  where
+    fits : (j c rows : ℕ) → j < rows → j * c + c ≤ rows * c
+    fits j c rows p = (let k : j + 1 ≤ rows = omega arith in omega (arith, mul-le-mul_right c k))
+
+-- one pixel of a row
+pub row_more : (m : Point → Bool) (w : Window) (j i : ℕ) (t : Bool) (start now next : Bits) → i < w.cols → j < w.rows → now.cols ≡ w.cols → t ≡ m (centre w i j)
+    → (t ≡ true → next ≡ record now { bits = set now.bits (j * now.cols + i) true }) → (t ≡ false → next ≡ now)
+    → Reached m w (j * w.cols + i) start now → Reached m w (j * w.cols + (i + 1)) start next
+row_more m w j i t start now next col row cols is set_it keep_it r =
+    let P : Bits → Type 0 = λ b. Reached m w (j * w.cols + (i + 1)) start b in
+    elim (cases_Bool t) [
+      | inl e ↦ (
+          let at : record now { bits = set now.bits (j * w.cols + i) true } ≡ next =
+          ap (λ k. record now { bits = set now.bits (j * k + i) true }) (sym cols) ∙ sym (set_it e) in
+          subst P at (reached_yes m w j i (j * w.cols + i) (j * w.cols + (i + 1)) start now refl (omega arith) col row (sym is ∙ e) r))
+      | inr e ↦ subst P (sym (keep_it e)) (reached_no m w j i (j * w.cols + i) (j * w.cols + (i + 1)) start now refl (omega arith) col row (sym is ∙ e) r)
+    ]
+
+-- the rows above the first one of the shape
+pub rows_start : (m : Point → Bool) (w : Window) (s : Stretch) (top : ℕ) (old : Bits) → IsWindow w → top ≤ w.rows
+    → ((j : ℕ) → j < w.rows → nat_le top j ≡ nat_le s.start (w.north + j * w.pixel + w.pixel / 2))
+    → ((c : Point) → InWorld c → m c ≡ true → InStretch s c.y)
+    → Reached m w (top * w.cols) old old
+rows_start m w s top old ok le splits covers =
+    reached_skip m w 0 (top * w.cols) old old ok.some_col (omega arith) (mul-le-mul_right w.cols le)
+    (λ j i p q low high.
+    let c : Point = centre w i j in
+    before_start s c.y (m c) (covers c (centre_in w i j ok p q))
+    (leb-false s.start c.y (sym (splits j q) ∙ lt-leb top j (row_before j top i w.cols high))))
+    (reached_start m w old)
+  where
+    row_before : (j top i c : ℕ) → j * c + i < top * c → j < top
+    row_before j top i c h = elim (cases_lt j top) [ inl p ↦ p | inr p ↦ absurd (omega (arith, mul-le-mul_right c p)) ]
+
+-- the rows below the last one of the shape
+pub rows_end : (m : Point → Bool) (w : Window) (s : Stretch) (n bottom : ℕ) (old now : Bits) → IsWindow w → bottom ≤ n → n ≤ w.rows
+    → ((j : ℕ) → j < w.rows → nat_le bottom j ≡ nat_le s.end (w.north + j * w.pixel + w.pixel / 2))
+    → ((c : Point) → InWorld c → m c ≡ true → InStretch s c.y)
+    → Reached m w (n * w.cols) old now → now ≡ record old { bits = marked m (centres w) old.bits }
+rows_end m w s n bottom old now ok past le splits covers r =
+    reached_end m w (w.rows * w.cols) old now refl
+    (reached_skip m w (n * w.cols) (w.rows * w.cols) old now ok.some_col (mul-le-mul_right w.cols le) (omega arith)
+    (λ j i p q low high.
+    let c : Point = centre w i j in
+    let from : n ≤ j = row_from j n i w.cols p low in
+    from_end s c.y (m c) (covers c (centre_in w i j ok p q))
+    (leb-true s.end c.y (sym (splits j q) ∙ le-leb bottom j (omega arith)))) r)
+  where
+    row_from : (j n i c : ℕ) → i < c → n * c ≤ j * c + i → n ≤ j
+    row_from j n i c col h = elim (cases_lt j n) [ inl p ↦ (let q : j + 1 ≤ n = omega arith in absurd (omega (arith, mul-le-mul_right c q))) | inr p ↦ p ]
+
+pub next_row : (m : Point → Bool) (w : Window) (j : ℕ) (start now : Bits) → Reached m w (j * w.cols + w.cols) start now → Reached m w ((j + 1) * w.cols) start now
+next_row m w j start now r =
+    let P : ℕ → Type 0 = λ n. Reached m w n start now in
+    let e : j * w.cols + w.cols ≡ (j + 1) * w.cols = omega arith in
+    subst P e r
