@@ -9,5 +9,6 @@ pub mod Numbers
 pub mod OneReply
 pub mod Opens
 pub mod Places
+pub mod Queued
 pub mod Replies
 pub mod Sounds

@@ -1,11 +1,12 @@
 -- What a farm may keep of its history: marks, drawings under way, and the asks that wait or have ended.
-use Rattle.std.specs.Prelude.{ℕ, Bool, ◌&&◌, not, List, length, map, filter, Option, Some, None}
+use Rattle.std.specs.Prelude.{ℕ, Bool, ◌&&◌, not, List, ◌++◌, length, map, filter, Option, Some, None}
 use Rattle.farm_history.specs.declared.keys.Key.{Key}
 use Rattle.farm_history.specs.declared.keys.Mark.{Mark}
+use Rattle.farm_history.specs.declared.queues.Queue.{Queue}
 use Rattle.farm_history.specs.declared.queues.Waiter.{Waiter}
 use Rattle.farm_history.specs.declared.queues.Reply.{Reply}
 use Rattle.farm_history.specs.Entries.{Entry}
-use Rattle.farm_history.specs.Plans.{Plan, same_key}
+use Rattle.farm_history.specs.Plans.{Plan, Waits, same_key, same_queue}
 use Rattle.farm_history.specs.Past.{Flight, flights, shown, version, is_touched_after, Numbered, open_asks, is_ended_after, replies_to}
 
 -- the mark of a key that is shown, where before came before the Claim of what is shown: the version then, and whether the key is clean
@@ -49,3 +50,11 @@ chain_after h k = map waiter_of (asks_on h k)
 -- the replies that wait to be collected, in order
 abbrev pub outbox : List Entry → List Reply
 outbox h = replies_to (open_asks h) h
+
+-- those of the list that wait in a queue, in order
+abbrev pub in_queue : Queue → List Waits → List Waits
+in_queue queue ws = filter (λ w. same_queue w.queue queue) ws
+
+-- the list queue by queue, in the order in which the queues are taken
+abbrev pub by_queue : List Waits → List Waits
+by_queue ws = in_queue Queue.Prio ws ++ (in_queue Queue.Request ws ++ (in_queue Queue.Low ws ++ (in_queue Queue.Dirty ws ++ in_queue Queue.Bulk ws)))

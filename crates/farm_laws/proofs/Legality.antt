@@ -1,7 +1,6 @@
 -- The worked histories are legal, by computation.
-use Rattle.std.proofs.Common.{◌≡◌, ℕ, Bool, true, false, List, Option, Some, None, refl, ap, ◌∙◌, [], ◌∷◌, ◌++◌, cond, filter, append-nil, lit<, lit≤}
-use Rattle.farm_history.specs.Entries.{Entry}
-use Rattle.farm_history.specs.Plans.{Plan, key_of, map_of, tile_of, is_servable, overlaps, is_style_of, next}
+use Rattle.std.proofs.Common.{◌≡◌, true, false, refl, ap, ◌∙◌, [], ◌∷◌, ◌++◌, cond, filter, append-nil, lit<, lit≤}
+use Rattle.farm_history.specs.Plans.{key_of, map_of, tile_of, is_servable, overlaps, is_style_of, next}
 use Rattle.farm_history.specs.Past.{is_stopped, data_after, style_after, flights, jobs, claimed_keys, shown, is_touched_after, waiting, numbers, open_asks, is_ended_after, replies_to, asks_made, done_asks, stored_drawings}
 use Rattle.farm_history.specs.Rules.{answer_of_waiting, answer_by, Fits, Legal}
 use Rattle.farm_history.specs.Laws.{has_plain_update, IsLocal}

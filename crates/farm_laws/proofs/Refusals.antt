@@ -1,10 +1,9 @@
 -- No history with a mistake is legal: its last answer is not the one that the entries before it give.
-use Rattle.std.proofs.Common.{◌≡◌, ℕ, Bool, true, false, List, Option, Some, None, refl, ap, arith}
+use Rattle.std.proofs.Common.{◌≡◌, ℕ, true, ap, arith}
 use Rattle.farm_history.specs.declared.queues.Outcome.{Outcome}
 use Rattle.farm_history.specs.declared.answers.Collected.{Collected}
 use Rattle.farm_history.specs.declared.answers.Tally.{Tally}
-use Rattle.farm_history.specs.Entries.{Entry}
-use Rattle.farm_history.specs.Plans.{Plan, is_servable, overlaps, is_style_of, next}
+use Rattle.farm_history.specs.Plans.{is_servable, overlaps, is_style_of, next}
 use Rattle.farm_history.specs.Past.{is_stopped, data_after, style_after, flights, jobs, claimed_keys, shown, is_touched_after, waiting, numbers, open_asks, is_ended_after, replies_to, asks_made, done_asks, stored_drawings}
 use Rattle.farm_history.specs.Rules.{answer_of_waiting, answer_by, Fits, Legal}
 use Rattle.farm_laws.specs.Worked.{plain, updated, narrow, restyled, renewed}

@@ -1,29 +1,18 @@
 -- Histories that are not legal. Each is worked up to its last entry, whose answer is a mistake that a farm could make.
-use Rattle.std.specs.Prelude.{ℕ, zero, suc, Bool, true, false, ◌&&◌, ◌||◌, ◌==◌, if◌then◌else◌, List, [], ◌∷◌, filter, Option, Some, None}
-use Rattle.farm_base.specs.declared.faults.ApplyFault.{ApplyFault}
-use Rattle.farm_base.specs.declared.faults.ApplyFault.TheVariants.{NoFeature}
-use Rattle.plain_drawing.specs.declared.world.Tile.{Tile}
-use Rattle.farm_history.specs.declared.keys.Key.{Key}
-use Rattle.farm_history.specs.declared.queues.Conn.{Conn}
-use Rattle.farm_history.specs.declared.queues.Limits.{Limits}
+use Rattle.std.specs.Prelude.{true, false, List, [], ◌∷◌}
 use Rattle.farm_history.specs.declared.queues.Outcome.{Outcome}
 use Rattle.farm_history.specs.declared.asks.Cmd.{Cmd}
-use Rattle.farm_history.specs.declared.asks.Spot.{Spot}
-use Rattle.farm_history.specs.declared.asks.Why.TheVariants.{Stopping, Unservable, Overtaken, InDirty, Deferred, Dropped}
+use Rattle.farm_history.specs.declared.asks.Why.TheVariants.{Deferred, Dropped}
 use Rattle.farm_history.specs.declared.asks.AskAnswer.{AskAnswer}
 use Rattle.farm_history.specs.declared.asks.AskAnswer.TheVariants.{Queued, Joined, Lifted, NotDone, Silent}
-use Rattle.farm_history.specs.declared.answers.ClaimAnswer.{ClaimAnswer}
-use Rattle.farm_history.specs.declared.answers.ClaimAnswer.TheVariants.{Job, Idle, Crowded}
-use Rattle.farm_history.specs.declared.answers.Finished.{Finished}
+use Rattle.farm_history.specs.declared.answers.ClaimAnswer.TheVariants.{Job, Idle}
 use Rattle.farm_history.specs.declared.answers.Finished.TheVariants.{Stored, PutFailed}
 use Rattle.farm_history.specs.declared.answers.Updated.{Updated}
 use Rattle.farm_history.specs.declared.answers.Renewed.{Renewed}
-use Rattle.farm_history.specs.declared.answers.Restyled.TheVariants.{Styled, NoRestyle}
+use Rattle.farm_history.specs.declared.answers.Restyled.TheVariants.{Styled}
 use Rattle.farm_history.specs.declared.answers.Fetched.{Fetched}
 use Rattle.farm_history.specs.declared.answers.Looked.{Looked}
-use Rattle.farm_history.specs.declared.answers.Collected.{Collected}
-use Rattle.farm_history.specs.Entries.{Entry, Ask, Claim, Finish, Update, Renew, Restyle, Expire, Fetch, Look, Collect, Leave, Stop, Tally}
-use Rattle.farm_history.specs.Plans.{Plan, key_of, same_key}
+use Rattle.farm_history.specs.Entries.{Entry, Ask, Claim, Finish, Update, Renew, Restyle, Expire, Fetch, Look, Leave, Stop, Tally}
 use Rattle.farm_laws.specs.Worked.{goes_on, conn, spot, key, tile, render, drawn, reply}
 
 -- A drawing is stored as clean although its metatile was expired after its Claim
