@@ -2,6 +2,7 @@
 use crate::{FileStore, MemStore, StoreFault, TileStore};
 use farm_base::{Bytes, NoMemory, Text};
 use std::alloc::Global;
+use std::fs;
 use std::process::Abort;
 use std::test::Fail;
 
@@ -70,6 +71,7 @@ fn stores_hold_and_fail_by_number(rt: HostRuntime) -> Result<(), Fail> {
     let alloc = rt.alloc();
     let mut memory = MemStore::new(alloc, Vec::new(alloc), Vec::new(alloc), Vec::new(alloc))?;
     holds(&rt, &mut memory, alloc);
+    let _left_by_an_earlier_run = fs::remove_dir_all(&rt, "tiles");
     let mut files = FileStore::new(rt.clone()?);
     holds(&rt, &mut files, alloc);
 
@@ -98,5 +100,6 @@ fn stores_hold_and_fail_by_number(rt: HostRuntime) -> Result<(), Fail> {
         Err(StoreFault::Failed)
     );
     assert_eq!(rt; files.faults(), 1);
+    fs::remove_dir_all(&rt, "tiles")?;
     Ok(())
 }
