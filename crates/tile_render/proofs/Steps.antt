@@ -1,0 +1,46 @@
+-- One step of a loop more, and what holds of an Ok.
+use Rattle.std.proofs.Common.{◌≡◌, ℕ, zero, suc, ◌+◌, ◌∙◌, ap, sym, refl, arith, List, [], ◌∷◌, ◌++◌, take, fold, map, Some}
+use Rattle.std.specs.Prelude.{Result, Ok, Err, OnOk, IfOk, slice_get, option_to_list, Bool, true, false, ◌&&◌, find, unwrap_or, if◌then◌else◌}
+use Rattle.std.specs.List.{list_all}
+use Rattle.std.proofs.lemmas.Bool.{and_parts}
+use Rattle.std.proofs.lemmas.Grind.{fold-append}
+
+pub on_ok : {T E : Type 0} {P Q : Type 0} (r : Result T E) → (P → Q) → OnOk r P → OnOk r Q
+on_ok (Ok x) f h = f h
+on_ok (Err e) f h = tt
+
+pub if_ok : {T E : Type 0} (P Q : T → Type 0) (r : Result T E) → ((x : T) → P x → Q x) → IfOk r P → IfOk r Q
+if_ok P Q (Ok x) f h = f x h
+if_ok P Q (Err e) f h = tt
+
+-- what is found passes a test that all pass
+found_by : {X : Type 0} (b : Bool) (p q : X → Bool) (x y : X) (xs : List X) → (list_all q xs ≡ true → Some y ≡ find p xs → q y ≡ true)
+    → (q x && list_all q xs) ≡ true → Some y ≡ (if b then Some x else find p xs) → q y ≡ true
+found_by true p q x y xs more all e = ap q (ap (λ o. unwrap_or o y) e) ∙ (and_parts (q x) (list_all q xs) all).0
+found_by false p q x y xs more all e = more (and_parts (q x) (list_all q xs) all).1 e
+
+pub found_passes : {X : Type 0} (p q : X → Bool) (xs : List X) (y : X) → list_all q xs ≡ true → Some y ≡ find p xs → q y ≡ true
+found_passes p q [] y all e = cc
+found_passes p q (x ∷ xs) y all e = found_by (p x) p q x y xs (found_passes p q xs y) all e
+
+-- one more of a list is the item at the next place
+take_get : {X : Type 0} (xs : List X) (i : ℕ) → take (suc i) xs ≡ take i xs ++ option_to_list (slice_get xs i)
+take_get [] zero = refl
+take_get [] (suc i) = refl
+take_get (x ∷ xs) zero = refl
+take_get (x ∷ xs) (suc i) = ap (λ ys. x ∷ ys) (take_get xs i)
+
+map_append : {X Y : Type 0} (f : X → Y) (xs ys : List X) → map f (xs ++ ys) ≡ map f xs ++ map f ys
+map_append f [] ys = refl
+map_append f (x ∷ xs) ys = ap (λ zs. f x ∷ zs) (map_append f xs ys)
+
+-- a fold over one more item of a list
+pub fold_next : {X Y A : Type 0} (h : A → Y → A) (f : X → Y) (xs : List X) (a now next : A) (i : ℕ) → now ≡ fold h a (map f (take i xs))
+    → next ≡ fold h now (map f (option_to_list (slice_get xs i))) → next ≡ fold h a (map f (take (i + 1) xs))
+fold_next h f xs a now next i so_far step =
+    let e : i + 1 ≡ suc i = omega arith in
+    step ∙ ap (λ b. fold h b (map f (option_to_list (slice_get xs i)))) so_far
+    ∙ sym (fold-append h a (map f (take i xs)) (map f (option_to_list (slice_get xs i))))
+    ∙ ap (fold h a) (sym (map_append f (take i xs) (option_to_list (slice_get xs i))))
+    ∙ ap (λ ys. fold h a (map f ys)) (sym (take_get xs i))
+    ∙ ap (λ n. fold h a (map f (take n xs))) (sym e)

@@ -1,0 +1,221 @@
+//! The layers of a map and the styles that they name.
+ghost use Rattle.std.specs.Prelude.{◌≡◌, IsTrue, ◌*◌, ◌^◌, ◌<◌, ◌≤◌, OnOk, List, fold, map, flat_map, find, length, slice_get, option_to_list};
+ghost use Rattle.std.specs.List.{list_all};
+ghost use Rattle.std.specs.Option.{option_copied};
+ghost use Rattle.std.specs.Str.{bytes_eq};
+ghost use Rattle.plain_drawing.specs.World.{IsWindow};
+ghost use Rattle.plain_drawing.specs.Drawing.{feature, items_of, style_named};
+ghost use Rattle.plain_drawing.specs.Pictures.{with_item, with_style, with_layer, with_map};
+ghost use Rattle.tile_render.specs.Built.{fills_style};
+ghost use Rattle.tile_render.specs.Sources.{items_in};
+
+use crate::features::draw_item;
+use crate::sources::{Piece, Source, source_of};
+use data_versions::{LayerView, Snapshot};
+use farm_base::{NoMemory, Text};
+use plain_drawing::{LayerRef, MapStyle, Style, Window};
+use plain_image::Image;
+use scale_rules::active;
+use std::alloc::Global;
+
+/// Draws the feature at a place by a style, if there is one.
+fn draw_place(
+    alloc: Global,
+    w: Window,
+    denominator: u64,
+    style: &Style,
+    features: &LayerView<'_>,
+    place: u32,
+    image: &mut Image,
+) -> Result<(), NoMemory>
+    requires window { IsWindow w }
+    requires scale { 100 * denominator < 2 ^ 64 }
+    requires cols { image.old.cols ≡ w.cols }
+    requires rows { image.old.rows ≡ w.rows }
+    requires fills { IsTrue (fills_style style.now) }
+    ensures drawn { OnOk result (image.new ≡ fold (with_item w denominator style.now) image.old (map feature (option_to_list (slice_get features.now place)))) }
+    ensures cols { image.new.cols ≡ image.old.cols }
+    ensures rows { image.new.rows ≡ image.old.rows }
+{
+    match features.get(place) {
+        Some(shape) => draw_item(alloc, w, denominator, style, Piece::Shape(shape), image),
+        None => Ok(()),
+    }
+}
+
+/// Draws all features of a layer of data by a style, in order.
+#[tactic(auto, using(crate::proofs::Steps::fold_next))]
+fn draw_features(
+    alloc: Global,
+    w: Window,
+    denominator: u64,
+    style: &Style,
+    features: &LayerView<'_>,
+    image: &mut Image,
+) -> Result<(), NoMemory>
+    requires window { IsWindow w }
+    requires scale { 100 * denominator < 2 ^ 64 }
+    requires cols { image.old.cols ≡ w.cols }
+    requires rows { image.old.rows ≡ w.rows }
+    requires fills { IsTrue (fills_style style.now) }
+    ensures drawn { OnOk result (image.new ≡ fold (with_item w denominator style.now) image.old (map feature features.now)) }
+    ensures cols { image.new.cols ≡ image.old.cols }
+    ensures rows { image.new.rows ≡ image.old.rows }
+{
+    for place in 0..features.len() {
+        draw_place(alloc, w, denominator, style, features, place, image)?;
+    }
+    Ok(())
+}
+
+/// Draws all items of a source by a style: one pass.
+#[tactic(auto, unfolding(plain_drawing::specs::Pictures::with_style))]
+fn draw_style(
+    alloc: Global,
+    w: Window,
+    denominator: u64,
+    style: &Style,
+    source: &Source<'_>,
+    image: &mut Image,
+) -> Result<(), NoMemory>
+    requires window { IsWindow w }
+    requires scale { 100 * denominator < 2 ^ 64 }
+    requires cols { image.old.cols ≡ w.cols }
+    requires rows { image.old.rows ≡ w.rows }
+    requires fills { IsTrue (fills_style style.now) }
+    ensures drawn { OnOk result (image.new ≡ with_style w denominator (items_in source.now) image.old style.now) }
+    ensures cols { image.new.cols ≡ image.old.cols }
+    ensures rows { image.new.rows ≡ image.old.rows }
+{
+    match source {
+        Source::Raster(grid) => {
+            let grid = *grid;
+            draw_item(alloc, w, denominator, style, Piece::Raster(grid), image)
+        }
+        Source::Features(features) => {
+            draw_features(alloc, w, denominator, style, features, image)
+        }
+        Source::Nothing => Ok(()),
+    }
+}
+
+/// The style of this name among them.
+fn find_style<'a>(styles: &'a [Style], name: &str) -> Option<&'a Style>
+    ensures { option_copied result ≡ find (λ s. bytes_eq s.name name.now) styles.now }
+{
+    styles.iter().find(|style| style.name.as_str() == name)
+}
+
+/// Draws all items of a source by the style of this name, if there is one.
+#[tactic(auto, using(crate::proofs::Steps::found_passes))]
+fn draw_named(
+    alloc: Global,
+    w: Window,
+    denominator: u64,
+    styles: &[Style],
+    name: &str,
+    source: &Source<'_>,
+    image: &mut Image,
+) -> Result<(), NoMemory>
+    requires window { IsWindow w }
+    requires scale { 100 * denominator < 2 ^ 64 }
+    requires cols { image.old.cols ≡ w.cols }
+    requires rows { image.old.rows ≡ w.rows }
+    requires fills { IsTrue (list_all fills_style styles.now) }
+    ensures drawn { OnOk result (image.new ≡ fold (with_style w denominator (items_in source.now)) image.old (style_named styles.now name.now)) }
+    ensures cols { image.new.cols ≡ image.old.cols }
+    ensures rows { image.new.rows ≡ image.old.rows }
+{
+    match find_style(styles, name) {
+        Some(style) => draw_style(alloc, w, denominator, style, source, image),
+        None => Ok(()),
+    }
+}
+
+/// Draws all items of a source by each of the styles named, in order.
+fn draw_names(
+    alloc: Global,
+    w: Window,
+    denominator: u64,
+    styles: &[Style],
+    names: &[Text],
+    source: &Source<'_>,
+    image: &mut Image,
+) -> Result<(), NoMemory>
+    requires window { IsWindow w }
+    requires scale { 100 * denominator < 2 ^ 64 }
+    requires cols { image.old.cols ≡ w.cols }
+    requires rows { image.old.rows ≡ w.rows }
+    requires fills { IsTrue (list_all fills_style styles.now) }
+    ensures drawn { OnOk result (image.new ≡ fold (with_style w denominator (items_in source.now)) image.old (flat_map (style_named styles.now) names.now)) }
+    ensures cols { image.new.cols ≡ image.old.cols }
+    ensures rows { image.new.rows ≡ image.old.rows }
+{
+    for name in names {
+        let name = name.as_str();
+        draw_named(alloc, w, denominator, styles, name, source, image)?;
+    }
+    Ok(())
+}
+
+/// Draws a layer, if it is at scale.
+#[tactic(auto, unfolding(plain_drawing::specs::Pictures::with_layer))]
+fn draw_layer(
+    alloc: Global,
+    w: Window,
+    denominator: u64,
+    style: &MapStyle,
+    snapshot: &Snapshot,
+    layer: &LayerRef,
+    image: &mut Image,
+) -> Result<(), NoMemory>
+    requires window { IsWindow w }
+    requires scale { 100 * denominator < 2 ^ 64 }
+    requires cols { image.old.cols ≡ w.cols }
+    requires rows { image.old.rows ≡ w.rows }
+    requires fills { IsTrue (list_all fills_style style.now.styles) }
+    ensures drawn { OnOk result (image.new ≡ with_layer w denominator style.now snapshot.now image.old layer.now) }
+    ensures cols { image.new.cols ≡ image.old.cols }
+    ensures rows { image.new.rows ≡ image.old.rows }
+{
+    let least = layer.minimum_scale_denominator;
+    if active(least, layer.maximum_scale_denominator, denominator) {
+        let source = source_of(style, snapshot, layer.source.as_str());
+        draw_names(
+            alloc,
+            w,
+            denominator,
+            &style.styles,
+            &layer.styles,
+            &source,
+            image,
+        )
+    } else {
+        Ok(())
+    }
+}
+
+/// Draws all layers of a map style over the image, the first lowest.
+#[tactic(auto, unfolding(plain_drawing::specs::Pictures::with_map))]
+pub(crate) fn draw_map(
+    alloc: Global,
+    w: Window,
+    denominator: u64,
+    style: &MapStyle,
+    snapshot: &Snapshot,
+    image: &mut Image,
+) -> Result<(), NoMemory>
+    requires window { IsWindow w }
+    requires scale { 100 * denominator < 2 ^ 64 }
+    requires cols { image.old.cols ≡ w.cols }
+    requires rows { image.old.rows ≡ w.rows }
+    requires fills { IsTrue (list_all fills_style style.now.styles) }
+    ensures drawn { OnOk result (image.new ≡ with_map w denominator style.now snapshot.now image.old) }
+    ensures cols { image.new.cols ≡ image.old.cols }
+    ensures rows { image.new.rows ≡ image.old.rows }
+{
+    for layer in &style.layers {
+        draw_layer(alloc, w, denominator, style, snapshot, layer, image)?;
+    }
+    Ok(())
+}

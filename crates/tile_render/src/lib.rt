@@ -1,0 +1,11 @@
+//! Tiles of a map: the drawing of a style over data, pixel by pixel.
+#![tactic(auto)]
+
+mod features;
+mod layers;
+mod rules;
+mod sources;
+mod symbolizers;
+mod tiles;
+
+pub use tiles::draw_tile;

@@ -1,0 +1,118 @@
+//! One symbolizer on one item.
+ghost use Rattle.std.specs.Prelude.{◌≡◌, ◌≤◌, IsTrue, OnOk};
+ghost use Rattle.plain_drawing.specs.declared.style.Symbolizer.TheVariants as paint;
+ghost use Rattle.plain_drawing.specs.World.{IsWindow};
+ghost use Rattle.plain_drawing.specs.Styles.{is_paint};
+ghost use Rattle.plain_drawing.specs.Drawing.{feature, raster};
+ghost use Rattle.plain_drawing.specs.Pictures.{with_symbolizer};
+ghost use Rattle.tile_render.specs.Built.{is_fill};
+ghost use Rattle.tile_render.specs.Sources.{item_of};
+
+use crate::sources::Piece;
+use farm_base::NoMemory;
+use geo_model::Feature;
+use plain_drawing::{Colour, Geometry, Grid, Symbolizer, Window};
+use plain_image::{Image, Mask};
+use raster_core::fill_mask;
+use std::alloc::Global;
+
+/// Fills a feature that is a polygon; other features are not filled.
+fn fill_feature(
+    alloc: Global,
+    w: Window,
+    shape: &Feature,
+    fill: Colour,
+    opacity: u32,
+    image: &mut Image,
+) -> Result<(), NoMemory>
+    requires window { IsWindow w }
+    requires cols { image.old.cols ≡ w.cols }
+    requires rows { image.old.rows ≡ w.rows }
+    requires opacity { opacity ≤ 1000 }
+    ensures drawn { OnOk result (image.new ≡ with_symbolizer w (feature shape.now) image.old (paint.Polygon fill opacity)) }
+    ensures cols { image.new.cols ≡ image.old.cols }
+    ensures rows { image.new.rows ≡ image.old.rows }
+{
+    match shape.geometry() {
+        Geometry::Points(_) => Ok(()),
+        Geometry::Lines(_) => Ok(()),
+        Geometry::Polygon(rings) => {
+            let mut mask = Mask::new(alloc, w.cols, w.rows)?;
+            fill_mask(alloc, rings.as_slice(), w, &mut mask)?;
+            image.paint(&mask, fill, opacity);
+            Ok(())
+        }
+    }
+}
+
+/// Paints what the symbolizer covers of a feature over the image.
+fn draw_on_feature(
+    alloc: Global,
+    w: Window,
+    shape: &Feature,
+    symbolizer: Symbolizer,
+    image: &mut Image,
+) -> Result<(), NoMemory>
+    requires window { IsWindow w }
+    requires cols { image.old.cols ≡ w.cols }
+    requires rows { image.old.rows ≡ w.rows }
+    requires paint { IsTrue (is_paint symbolizer) }
+    requires fills { IsTrue (is_fill symbolizer) }
+    ensures drawn { OnOk result (image.new ≡ with_symbolizer w (feature shape.now) image.old symbolizer) }
+    ensures cols { image.new.cols ≡ image.old.cols }
+    ensures rows { image.new.rows ≡ image.old.rows }
+{
+    match symbolizer {
+        Symbolizer::Polygon { fill, fill_opacity } => {
+            fill_feature(alloc, w, shape, fill, fill_opacity, image)
+        }
+        Symbolizer::Line { .. } => unreachable!(),
+        Symbolizer::Markers { .. } => unreachable!(),
+        Symbolizer::Raster { .. } => unreachable!(),
+    }
+}
+
+/// Paints what the symbolizer covers of a grid over the image; a PolygonSymbolizer covers nothing of it.
+fn draw_on_grid(w: Window, grid: &Grid, symbolizer: Symbolizer, image: &mut Image)
+    requires window { IsWindow w }
+    requires cols { image.old.cols ≡ w.cols }
+    requires rows { image.old.rows ≡ w.rows }
+    requires paint { IsTrue (is_paint symbolizer) }
+    requires fills { IsTrue (is_fill symbolizer) }
+    ensures drawn { image.new ≡ with_symbolizer w (raster grid.now) image.old symbolizer }
+    ensures cols { image.new.cols ≡ image.old.cols }
+    ensures rows { image.new.rows ≡ image.old.rows }
+{
+    match symbolizer {
+        Symbolizer::Polygon { .. } => {}
+        Symbolizer::Line { .. } => unreachable!(),
+        Symbolizer::Markers { .. } => unreachable!(),
+        Symbolizer::Raster { .. } => unreachable!(),
+    }
+}
+
+/// Paints what the symbolizer covers of the item over the image.
+pub(crate) fn draw_symbolizer(
+    alloc: Global,
+    w: Window,
+    piece: Piece<'_>,
+    symbolizer: Symbolizer,
+    image: &mut Image,
+) -> Result<(), NoMemory>
+    requires window { IsWindow w }
+    requires cols { image.old.cols ≡ w.cols }
+    requires rows { image.old.rows ≡ w.rows }
+    requires paint { IsTrue (is_paint symbolizer) }
+    requires fills { IsTrue (is_fill symbolizer) }
+    ensures drawn { OnOk result (image.new ≡ with_symbolizer w (item_of piece.entry) image.old symbolizer) }
+    ensures cols { image.new.cols ≡ image.old.cols }
+    ensures rows { image.new.rows ≡ image.old.rows }
+{
+    match piece {
+        Piece::Shape(shape) => draw_on_feature(alloc, w, shape, symbolizer, image),
+        Piece::Raster(grid) => {
+            draw_on_grid(w, grid, symbolizer, image);
+            Ok(())
+        }
+    }
+}

@@ -1,0 +1,36 @@
+//! A tile as a PPM text.
+ghost use Rattle.std.specs.Prelude.{◌≡◌, IfOk, IsTrue};
+ghost use Rattle.std.specs.List.{list_all};
+ghost use Rattle.plain_drawing.specs.World.{IsTile, IsTileSize};
+ghost use Rattle.plain_drawing.specs.Drawing.{tile_of};
+ghost use Rattle.tile_render.specs.Built.{fills_style};
+
+use crate::layers::draw_map;
+use data_versions::Snapshot;
+use farm_base::NoMemory;
+use merc_fixed::{Tile, window};
+use plain_drawing::MapStyle;
+use plain_image::Image;
+use scale_rules::denominator;
+use std::alloc::Global;
+
+/// The tile of a map style over data, with `size` by `size` pixels, as a binary PPM text: exactly the plain
+/// drawing, whose colour at the centre of each pixel is that of the background and of each symbolizer over it.
+pub fn draw_tile(
+    alloc: Global,
+    style: &MapStyle,
+    size: u32,
+    t: Tile,
+    snapshot: &Snapshot,
+) -> Result<Vec<u8>, NoMemory>
+    requires size { IsTileSize size }
+    requires tile { IsTile t }
+    requires fills { IsTrue (list_all fills_style style.now.styles) }
+    ensures { IfOk result (λ v. v.items ≡ tile_of style.now size t snapshot.now) }
+{
+    let w = window(t, size);
+    let scale = denominator(t.z, size);
+    let mut image = Image::new(alloc, w.cols, w.rows, style.background_color)?;
+    draw_map(alloc, w, scale, style, snapshot, &mut image)?;
+    image.write_ppm(alloc)
+}
