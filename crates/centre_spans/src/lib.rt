@@ -3,9 +3,11 @@
 #![tactic(auto)]
 
 mod marking;
+mod numbers;
 mod shapes;
 mod sides;
 
 pub use marking::{mark, set_if};
+pub use numbers::{all, apart, squared};
 pub use shapes::{Shape, Stretch};
 pub use sides::first_at;

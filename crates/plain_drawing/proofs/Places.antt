@@ -1,10 +1,11 @@
 -- The centres of a window by their places, and bits that are marked place by place.
 use Rattle.std.proofs.Common.{◌≡◌, ℕ, suc, zero, ◌+◌, ◌-◌, ◌*◌, ◌/◌, ◌%◌, ◌<◌, ◌≤◌, Bool, true, false, ◌||◌, List, [], ◌∷◌, ◌++◌, length, take, get_or, set, flat_map, refl, ap, sym, ◌∙◌, inl, inr, arith, length-append}
-use Rattle.std.specs.List.{range_with_len}
+use Rattle.std.specs.List.{range_with_len, list_any}
 use Rattle.std.proofs.Math.Nat.{mul-le-mul_right, div-add-mod, mod-lt}
 use Rattle.std.proofs.lemmas.Bool.{cases_lt}
 use Rattle.std.proofs.lemmas.Nat.{row_fits}
 use Rattle.std.proofs.lemmas.List.{get_or_append_left, get_or-append-add, take_all}
+use Rattle.std.proofs.lemmas.List.Folds.{list_any_more}
 use Rattle.std.proofs.lemmas.List.FromFn.{get_or-map-range_with_len, length-map-range_with_len}
 use Rattle.plain_drawing.specs.declared.world.Point.{Point}
 use Rattle.plain_drawing.specs.declared.world.Window.{Window}
@@ -163,3 +164,26 @@ pub marked-marked : (m n : Point → Bool) (cs : List Point) (bs : List Bool) �
 marked-marked m n [] bs = refl
 marked-marked m n (c ∷ cs) [] = refl
 marked-marked m n (c ∷ cs) (b ∷ bs) = ap (λ v. v ∷ marked n cs (marked m cs bs)) (or_or b (m c) (n c)) ∙ ap (λ v. (b || (m c || n c)) ∷ v) (marked-marked m n cs bs)
+
+-- a mask before the first of several shapes
+pub mask_start : {X : Type 0} (f : Point → X → Bool) (xs : List X) (w : Window) (old : Bits)
+    → old ≡ record old { bits = marked (λ c. list_any (f c) (take 0 xs)) (centres w) old.bits }
+mask_start f xs w old = ap (λ bs. record old { bits = bs }) (sym (marked_none (λ c. list_any (f c) (take 0 xs)) (λ c. refl) (centres w) old.bits))
+
+-- one shape more
+pub mask_more : {X : Type 0} (f : Point → X → Bool) (xs : List X) (i : ℕ) (x d : X) (w : Window) (old now next : Bits) → i < length xs → x ≡ get_or xs i d
+    → now ≡ record old { bits = marked (λ c. list_any (f c) (take i xs)) (centres w) old.bits }
+    → next ≡ record now { bits = marked (λ c. f c x) (centres w) now.bits }
+    → next ≡ record old { bits = marked (λ c. list_any (f c) (take (i + 1) xs)) (centres w) old.bits }
+mask_more f xs i x d w old now next lt is before step =
+    step ∙ ap (λ (b : Bits). record b { bits = marked (λ c. f c x) (centres w) b.bits }) before
+    ∙ ap (λ bs. record old { bits = bs })
+    (marked-marked (λ c. list_any (f c) (take i xs)) (λ c. f c x) (centres w) old.bits
+    ∙ marked_same (λ c. list_any (f c) (take i xs) || f c x) (λ c. list_any (f c) (take (i + 1) xs))
+    (λ c. ap (λ y. list_any (f c) (take i xs) || f c y) is ∙ sym (list_any_more (f c) xs i d lt)) (centres w) old.bits)
+
+-- all shapes
+pub mask_all : {X : Type 0} (f : Point → X → Bool) (xs : List X) (i : ℕ) (w : Window) (old now : Bits) → length xs ≤ i
+    → now ≡ record old { bits = marked (λ c. list_any (f c) (take i xs)) (centres w) old.bits }
+    → now ≡ record old { bits = marked (λ c. list_any (f c) xs) (centres w) old.bits }
+mask_all f xs i w old now le r = r ∙ ap (λ ys. record old { bits = marked (λ c. list_any (f c) ys) (centres w) old.bits }) (take_all i xs le)

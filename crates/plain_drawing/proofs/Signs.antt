@@ -1,11 +1,14 @@
 -- Tests on signed numbers as tests on sums of naturals: how the code's whole numbers without signs meet the definitions.
 use Rattle.std.proofs.Common.{◌≡◌, ℕ, ◌+◌, ◌-◌, ◌*◌, ◌<◌, ◌≤◌, Bool, true, false, ◌&&◌, refl, ap, sym, ◌∙◌, inl, inr, arith}
-use Rattle.std.specs.Prelude.{ℤ, pos, ◌-ℤ◌, ◌*ℤ◌, ◌≤ℤ◌, ◌<ℤ◌, int_le, int_lt, nat_le, nat_lt}
+use Rattle.std.specs.Prelude.{ℤ, pos, negsuc, ◌-ℤ◌, ◌*ℤ◌, ◌≤ℤ◌, ◌<ℤ◌, int_le, int_lt, nat_le, nat_lt}
 use Rattle.std.proofs.lemmas.Bool.{cases_lt, le-leb, lt-ltb, lt-leb, le-ltb}
 use Rattle.std.proofs.lemmas.Int.{ints}
 use borrow.Author.Differences.{up, down, same_in}
 use Rattle.plain_drawing.specs.declared.world.Point.{Point}
 use Rattle.plain_drawing.specs.Rings.{less, counts_upward}
+use Rattle.plain_drawing.specs.Strokes.{square}
+use Rattle.std.specs.Prelude.{unsigned_abs, ◌+ℤ◌}
+use Rattle.std.proofs.Math.Nat.{mul-le-mul}
 
 apart : (m n : ℕ) → up (pos m -ℤ pos n) + n ≡ m + down (pos m -ℤ pos n)
 apart m n = omega (arith, ints)
@@ -65,3 +68,42 @@ off_below a b c h =
     and_false : (t : Bool) → (t && false) ≡ false
     and_false true = refl
     and_false false = refl
+
+pub square_is : (z : ℤ) → square z ≡ pos (unsigned_abs z * unsigned_abs z)
+square_is (pos n) = refl
+square_is (negsuc n) = refl
+
+pub abs-less : (m n : ℕ) → unsigned_abs (less m n) ≡ m - n + (n - m)
+abs-less m n = omega (arith, ints)
+
+-- the square of a difference is that of the gap
+pub square-less : (m n d : ℕ) → d ≡ m - n + (n - m) → square (less m n) ≡ pos (d * d)
+square-less m n d e = square_is (less m n) ∙ ap (λ t. pos (t * t)) (abs-less m n ∙ sym e)
+
+pub less-mul : (m n p q : ℕ) → less m n *ℤ less p q ≡ less (m * p + n * q) (m * q + n * p)
+less-mul m n p q =
+    let x : ℤ = less m n in
+    let y : ℤ = less p q in
+    let e1 = ap (λ t. t * up y) (apart m n) in
+    let e2 = ap (λ t. t * down y) (apart m n) in
+    let f1 = ap (λ t. m * t) (apart p q) in
+    let f2 = ap (λ t. n * t) (apart p q) in
+    same_in (x *ℤ y) (less (m * p + n * q) (m * q + n * p)) (omega (arith, ints))
+
+pub less-add : (m n p q : ℕ) → less m n +ℤ less p q ≡ less (m + p) (n + q)
+less-add m n p q = same_in (less m n +ℤ less p q) (less (m + p) (n + q)) (omega (arith, ints))
+
+pub less-sub : (m n p q : ℕ) → less m n -ℤ less p q ≡ less (m + q) (n + p)
+less-sub m n p q = same_in (less m n -ℤ less p q) (less (m + q) (n + p)) (omega (arith, ints))
+
+pub same_less : (m n p q : ℕ) → m + q ≡ p + n → less m n ≡ less p q
+same_less m n p q e = same_in (less m n) (less p q) (omega (arith, ints))
+
+pub square_below : (m n : ℕ) → m ≤ n → m * m ≤ n * n
+square_below m n h = mul-le-mul h h
+
+pub root_le : (m n : ℕ) → m * m ≤ n * n → m ≤ n
+root_le m n h = elim (cases_lt n m) [
+  | inl p ↦ (let q : n + 1 ≤ m = omega arith in absurd (omega (arith, square_below (n + 1) m q)))
+  | inr p ↦ p
+]

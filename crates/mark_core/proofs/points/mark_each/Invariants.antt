@@ -1,0 +1,8 @@
+use Rattle.std.proofs.Common.{◌≡◌, take}
+use Rattle.plain_drawing.specs.World.{centres}
+use Rattle.plain_drawing.specs.Canvas.{marked}
+use Rattle.plain_drawing.specs.Strokes.{on_marks}
+use Rattle.mark_core.proofs.points.mark_each.Given as goal
+
+abbrev pub invariant-loop-p : goal.invariant-loop-p
+invariant-loop-p l = l.mask ≡ record l.fn.mask { bits = marked (on_marks (take l.p-index l.points) l.a l.b) (centres l.w) l.fn.mask.bits }
