@@ -14,6 +14,7 @@ use std::alloc::Global;
 use std::marker::Brand;
 use std::snapshot::Snapshot;
 use std::sync::Wait;
+use std::sync::atomic::{AtomicU64, Ordering};
 use std::thread;
 
 /// The word of the next ticket.
@@ -34,6 +35,8 @@ pub(crate) type Place<T, E> = atomic_table::Seat<Option<T>, View<T, E>>;
 pub(crate) struct Core<T: StandsFor> {
     pub(crate) table: Table<Option<T>, View<T, T::Entry>, Terms<T>, InTurn<T>, Global>,
     limit: u64,
+    /// How many turns sleep. It only spares a call that would wake nobody: no clause rests on it.
+    sleepers: AtomicU64,
     ghost sized: { (table.shared.table_id.words ≡ 3) × (table.shared.table_id.slots ≡ 1) },
     ghost limited: { table.shared.key.limit ≡ limit },
 }
@@ -59,7 +62,17 @@ impl<T: StandsFor> Core<T> {
         };
         slots.push_reserved(Some(value));
         match Table::new(alloc, &[0, 0, 0], slots, &about) {
-            Ok((table, place)) => Ok((Core { table, limit }, place)),
+            Ok((table, place)) => {
+                let sleepers = AtomicU64::new(0);
+                Ok((
+                    Core {
+                        table,
+                        limit,
+                        sleepers,
+                    },
+                    place,
+                ))
+            }
             Err(Refused { mut slots }) => {
                 let last = slots.pop();
                 slots.destroy_empty();
@@ -110,12 +123,19 @@ impl<T: StandsFor> Core<T> {
                 looks += 1;
                 thread::yield_now();
             } else {
-                self.table
-                    .shared
-                    .park(rt, SERVING, (served % (1 << 32)) as u32);
+                self.sleep(rt, served);
             }
         }
         unreachable!()
+    }
+
+    /// Sleeps while the ticket that was last served is still served.
+    fn sleep<R: Wait>(&self, rt: &R, served: u64) {
+        self.sleepers.fetch_add(1, Ordering::SeqCst);
+        self.table
+            .shared
+            .park(rt, SERVING, (served % (1 << 32)) as u32);
+        self.sleepers.fetch_sub(1, Ordering::SeqCst);
     }
 
     /// Counts the entry of the call and its answer.
@@ -148,7 +168,9 @@ impl<T: StandsFor> Core<T> {
         let old = self.table.shared.exchange(place, VALUE, Some(value));
         let None = old else { unreachable!() };
         self.table.shared.fetch_add::<Serve>(place, SERVING, 1);
-        self.table.shared.wake_all(SERVING);
+        if self.sleepers.load(Ordering::SeqCst) > 0 {
+            self.table.shared.wake_all(SERVING);
+        }
     }
 
     pub(crate) fn turn<R: Wait, C: Call<T>>(
@@ -204,7 +226,11 @@ impl<T: StandsFor> Core<T> {
         requires first { IsWhole (held place.table_id place.me.0) }
         ensures { Closes T.stands T.lasting self.table.shared.key (held place.table_id place.me.0) result }
     {
-        let Core { table, limit: _ } = self;
+        let Core {
+            table,
+            limit: _,
+            sleepers: _,
+        } = self;
         let mut closed = table.close_with(place);
         let last = closed.take(VALUE);
         closed.free();
