@@ -102,9 +102,8 @@ impl<T: StandsFor> TurnCell<T> {
         ensures new { IsOkAnd result (λ seat. seat ≡ split_right first.old) }
         ensures known { Knows first.new × IfOk result Knows }
     {
-        Ok(Seat {
-            place: self.core.split(&mut first.place),
-        })
+        let place = self.core.split(&mut first.place);
+        Ok(Seat { place })
     }
 
     /// Ends a seat, which is joined into the first.
