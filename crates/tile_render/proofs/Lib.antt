@@ -1,3 +1,4 @@
 pub mod Choices
-pub mod Steps
 pub mod Painting
+pub mod Pixels
+pub mod Steps

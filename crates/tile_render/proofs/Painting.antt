@@ -1,15 +1,19 @@
 -- One symbolizer on one item, from what is painted to the picture after it.
-use Rattle.std.proofs.Common.{◌≡◌, ◌*◌, ℕ, Bool, false, ap, sym, ◌∙◌, replicate}
+use Rattle.std.proofs.Common.{refl, ◌≡◌, ◌*◌, ℕ, Bool, false, ap, sym, ◌∙◌, replicate}
 use Rattle.std.specs.Prelude.{if◌then◌else◌}
 use Rattle.plain_drawing.specs.declared.world.Point.{Point}
 use Rattle.plain_drawing.specs.declared.world.Window.{Window}
 use Rattle.plain_drawing.specs.declared.colour.Colour.{Colour}
 use Rattle.plain_drawing.specs.declared.style.Symbolizer.{Symbolizer}
+use Rattle.plain_drawing.specs.declared.style.Symbolizer.TheVariants as paint
+use Rattle.plain_drawing.specs.declared.shapes.Geometry.{Geometry}
+use Rattle.plain_drawing.specs.declared.shapes.Geometry.TheVariants as shape
+use Rattle.plain_drawing.specs.Grids.{Grid}
 use Rattle.plain_drawing.specs.World.{centres}
 use Rattle.plain_drawing.specs.Features.{Feature}
 use Rattle.plain_drawing.specs.Blending.{blend}
 use Rattle.plain_drawing.specs.Canvas.{Bits, Pixels, stepped, marked, painted}
-use Rattle.plain_drawing.specs.Drawing.{Item, feature, covers, painted_over, symbolizer_at}
+use Rattle.plain_drawing.specs.Drawing.{Item, feature, raster, raster_over, covers, painted_over, symbolizer_at}
 use Rattle.plain_drawing.specs.Pictures.{with_symbolizer}
 use Rattle.plain_drawing.proofs.Places.{length-centres}
 use Rattle.plain_drawing.proofs.Steps.{stepped_none, painted_members}
@@ -41,3 +45,15 @@ painted_shape w f s colour opacity member image next fresh mask member_is paint_
     ∙ ap (λ bs. record image { pixels = painted colour opacity bs image.pixels }) bits
     ∙ ap (λ ds. record image { pixels = ds }) (painted_members colour opacity member (centres w) (w.rows * w.cols) image.pixels (sym (length-centres w)))
     ∙ sym (ap (λ f. stepped w f image) (λ i c d. if member_is c i then paint_is d i else d))
+
+-- a RasterSymbolizer covers no feature
+pub raster_off : (pixel opacity : ℕ) (g : Geometry) (c : Point) → covers pixel g c (paint.Raster opacity) ≡ false
+raster_off pixel opacity (shape.Points points) c = refl
+raster_off pixel opacity (shape.Lines lines) c = refl
+raster_off pixel opacity (shape.Polygon rings) c = refl
+
+-- a grid painted over the pixels is the picture of the RasterSymbolizer
+pub grid_step : (w : Window) (g : Grid) (image next : Pixels) (opacity : ℕ) (s : Symbolizer) → s ≡ paint.Raster opacity
+    → next ≡ stepped w (λ c d. raster_over g c d (paint.Raster opacity)) image → next ≡ with_symbolizer w (raster g) image s
+unfolding with_symbolizer
+grid_step w g image next opacity s is next_is = next_is ∙ ap (λ t. stepped w (λ c d. raster_over g c d t) image) (sym is)

@@ -1,3 +1,4 @@
 pub mod Built
 pub mod Chosen
+pub mod Places
 pub mod Sources

@@ -2,6 +2,7 @@
 #![tactic(auto)]
 
 mod features;
+mod grids;
 mod layers;
 mod rules;
 mod sources;

@@ -8,6 +8,7 @@ ghost use Rattle.plain_drawing.specs.Pictures.{with_symbolizer};
 ghost use Rattle.tile_render.specs.Built.{is_fill};
 ghost use Rattle.tile_render.specs.Sources.{item_of};
 
+use crate::grids::blend_grid;
 use crate::sources::Piece;
 use farm_base::NoMemory;
 use geo_model::Feature;
@@ -68,26 +69,25 @@ fn draw_on_feature(
         }
         Symbolizer::Line { .. } => unreachable!(),
         Symbolizer::Markers { .. } => unreachable!(),
-        Symbolizer::Raster { .. } => unreachable!(),
+        Symbolizer::Raster { .. } => Ok(()),
     }
 }
 
-/// Paints what the symbolizer covers of a grid over the image; a PolygonSymbolizer covers nothing of it.
+/// Paints a grid in its own colours over the image, by a RasterSymbolizer; the others cover nothing of it.
 fn draw_on_grid(w: Window, grid: &Grid, symbolizer: Symbolizer, image: &mut Image)
     requires window { IsWindow w }
     requires cols { image.old.cols ≡ w.cols }
     requires rows { image.old.rows ≡ w.rows }
     requires paint { IsTrue (is_paint symbolizer) }
-    requires fills { IsTrue (is_fill symbolizer) }
     ensures drawn { image.new ≡ with_symbolizer w (raster grid.now) image.old symbolizer }
     ensures cols { image.new.cols ≡ image.old.cols }
     ensures rows { image.new.rows ≡ image.old.rows }
 {
     match symbolizer {
         Symbolizer::Polygon { .. } => {}
-        Symbolizer::Line { .. } => unreachable!(),
-        Symbolizer::Markers { .. } => unreachable!(),
-        Symbolizer::Raster { .. } => unreachable!(),
+        Symbolizer::Line { .. } => {}
+        Symbolizer::Markers { .. } => {}
+        Symbolizer::Raster { opacity } => blend_grid(w, grid, opacity, image),
     }
 }
 
