@@ -65,7 +65,8 @@ impl<T: StandsFor> TurnCell<T> {
     pub fn new(alloc: Global, value: T, limit: u64) -> Result<(TurnCell<T>, Seat<T>), T>
         requires stands { T.stands value [] }
         requires limit { limit ≤ 2 ^ 62 }
-        ensures cell { IfOk result (λ made. (made.0.about.limit ≡ limit) × (made.0.about.first.value ≡ value)) }
+        ensures cell { IfOk result
+            (λ made. (made.0.about.limit ≡ limit) × (made.0.about.first.value ≡ value)) }
         ensures seat { IfOk result (λ made. IsSeatOf made.0 made.1 × (made.1 ≡ first_of made.0)) }
         ensures err { IfErr result (λ back. back ≡ value) }
     {
@@ -88,7 +89,10 @@ impl<T: StandsFor> TurnCell<T> {
         ensures seat { IsSeatOf self.now seat.new }
         ensures same { SameSeat seat.old seat.new }
         ensures known { Knows seat.new }
-        ensures turn { MatchResult result (λ answer. Took T.stands T.lasting self.now.about (C.entry call answer) (C.promise call answer) seat.old seat.new) (λ _. seat.new ≡ worn_out seat.old) }
+        ensures turn { MatchResult result
+            (λ answer. Took T.stands T.lasting self.now.about (C.entry call answer)
+            (C.promise call answer) seat.old seat.new)
+            (λ _. seat.new ≡ worn_out seat.old) }
     {
         self.core.turn(rt, &mut seat.place, call)
     }
@@ -112,7 +116,8 @@ impl<T: StandsFor> TurnCell<T> {
         requires first { into.old.first ≡ true }
         requires ended { IsSeatOf self.now ended }
         ensures joined { into.new ≡ joining into.old ended }
-        ensures seen { StartsWith into.new.seen into.old.seen × StartsWith into.new.seen ended.seen }
+        ensures seen { StartsWith into.new.seen into.old.seen
+            × StartsWith into.new.seen ended.seen }
         ensures known { Knows into.new }
     {
         let Seat { place } = ended;

@@ -49,8 +49,14 @@ impl<T: StandsFor> Core<T> {
     ) -> Result<(Core<T>, Place<T, T::Entry>), T>
         requires stands { T.stands value [] }
         requires limit { limit ≤ 2 ^ 62 }
-        ensures cell { IfOk result (λ made. (made.0.table.shared.key.limit ≡ limit) × (made.0.table.shared.key.first.value ≡ value)) }
-        ensures place { IfOk result (λ made. (made.1.table_id ≡ made.0.table.shared.table_id) × (made.1.me ≡ (newcomer made.0.table.shared.key, []))) }
+        ensures cell { IfOk result
+            (λ made.
+            (made.0.table.shared.key.limit ≡ limit)
+            × (made.0.table.shared.key.first.value ≡ value)) }
+        ensures place { IfOk result
+            (λ made.
+            (made.1.table_id ≡ made.0.table.shared.table_id)
+            × (made.1.me ≡ (newcomer made.0.table.shared.key, []))) }
         ensures err { IfErr result (λ back. back ≡ value) }
     {
         let about = Terms {
@@ -83,10 +89,13 @@ impl<T: StandsFor> Core<T> {
 
     /// Draws the next ticket, or leaves the mark where the limit was drawn.
     fn draw<R: Wait>(&self, rt: &R, place: &mut Place<T, T::Entry>) -> Result<u64, Worn>
-        requires place { (place.old.table_id ≡ self.now.table.shared.table_id) × (place.old.me.0.about ≡ Some self.now.table.shared.key) }
+        requires place { (place.old.table_id ≡ self.now.table.shared.table_id)
+            × (place.old.me.0.about ≡ Some self.now.table.shared.key) }
         requires idle { IsIdle place.old.me }
         ensures place { (place.new.table_id ≡ place.old.table_id) × (place.new.id ≡ place.old.id) }
-        ensures drew { MatchResult result (λ ticket. place.new.me ≡ with_ticket place.old.me ticket) (λ _. place.new.me ≡ with_mark place.old.me) }
+        ensures drew { MatchResult result
+            (λ ticket. place.new.me ≡ with_ticket place.old.me ticket)
+            (λ _. place.new.me ≡ with_mark place.old.me) }
     {
         let mut guess = 0;
         for _ in rt.forever() {
@@ -108,8 +117,12 @@ impl<T: StandsFor> Core<T> {
 
     /// Waits until the ticket is served, and takes the value out.
     fn enter<R: Wait>(&self, rt: &R, place: &mut Place<T, T::Entry>, ticket: u64) -> T
-        requires place { (place.old.table_id ≡ self.now.table.shared.table_id) × (place.old.me.0.about ≡ Some self.now.table.shared.key) }
-        requires drawn { (place.old.me.0.tickets ≡ ticket ∷ []) × (place.old.me.0.holds ≡ false) × (place.old.me.0.counted ≡ 0) × (length place.old.me.1 ≡ 0) }
+        requires place { (place.old.table_id ≡ self.now.table.shared.table_id)
+            × (place.old.me.0.about ≡ Some self.now.table.shared.key) }
+        requires drawn { (place.old.me.0.tickets ≡ ticket ∷ [])
+            × (place.old.me.0.holds ≡ false)
+            × (place.old.me.0.counted ≡ 0)
+            × (length place.old.me.1 ≡ 0) }
         ensures place { (place.new.table_id ≡ place.old.table_id) × (place.new.id ≡ place.old.id) }
         ensures entered { Entered T.stands T.lasting self.now.table.shared.key place.old.me result place.new.me }
     {
@@ -146,7 +159,8 @@ impl<T: StandsFor> Core<T> {
         _answer: &C::Answer,
     )
         requires said { W.entry ≡ Some (C.entry _asked.now.value _answer.now) }
-        requires place { (place.old.table_id ≡ self.now.table.shared.table_id) × (place.old.me.0.about ≡ Some self.now.table.shared.key) }
+        requires place { (place.old.table_id ≡ self.now.table.shared.table_id)
+            × (place.old.me.0.about ≡ Some self.now.table.shared.key) }
         requires holds { (place.old.me.0.holds ≡ true) × (place.old.me.0.counted ≡ 0) }
         ensures place { (place.new.table_id ≡ place.old.table_id) × (place.new.id ≡ place.old.id) }
         ensures counted { place.new.me ≡ (counting place.old.me.0 (C.entry _asked.now.value _answer.now), place.old.me.1) }
@@ -158,8 +172,11 @@ impl<T: StandsFor> Core<T> {
 
     /// Puts the value home and serves the next ticket.
     fn leave(&self, place: &mut Place<T, T::Entry>, value: T)
-        requires place { (place.old.table_id ≡ self.now.table.shared.table_id) × (place.old.me.0.about ≡ Some self.now.table.shared.key) }
-        requires holds { (place.old.me.0.holds ≡ true) × (place.old.me.0.counted ≡ 1) × (place.old.me.1 ≡ (0, None) ∷ []) }
+        requires place { (place.old.table_id ≡ self.now.table.shared.table_id)
+            × (place.old.me.0.about ≡ Some self.now.table.shared.key) }
+        requires holds { (place.old.me.0.holds ≡ true)
+            × (place.old.me.0.counted ≡ 1)
+            × (place.old.me.1 ≡ (0, None) ∷ []) }
         requires stands { T.stands value place.old.me.0.seen }
         requires lasts { T.lasting value ≡ T.lasting self.now.table.shared.key.first.value }
         ensures place { (place.new.table_id ≡ place.old.table_id) × (place.new.id ≡ place.old.id) }
@@ -179,12 +196,23 @@ impl<T: StandsFor> Core<T> {
         place: &mut Place<T, T::Entry>,
         call: C,
     ) -> Result<C::Answer, Worn>
-        requires place { (place.old.table_id ≡ self.now.table.shared.table_id) × (place.old.me.0.about ≡ Some self.now.table.shared.key) }
+        requires place { (place.old.table_id ≡ self.now.table.shared.table_id)
+            × (place.old.me.0.about ≡ Some self.now.table.shared.key) }
         requires settled { IsIdle place.old.me × KnowsAll place.old.me.0 }
         requires need { C.need call place.old.me.0.number place.old.me.0.seen (T.lasting self.now.table.shared.key.first.value) }
-        ensures place { (place.new.table_id ≡ place.old.table_id) × (place.new.id ≡ place.old.id) × (place.new.me.0.about ≡ place.old.me.0.about) × (place.new.me.0.number ≡ place.old.me.0.number) × (place.new.me.0.first ≡ place.old.me.0.first) × (place.new.me.0.splits ≡ place.old.me.0.splits) × (place.new.me.0.joined ≡ place.old.me.0.joined) }
+        ensures place { (place.new.table_id ≡ place.old.table_id)
+            × (place.new.id ≡ place.old.id)
+            × (place.new.me.0.about ≡ place.old.me.0.about)
+            × (place.new.me.0.number ≡ place.old.me.0.number)
+            × (place.new.me.0.first ≡ place.old.me.0.first)
+            × (place.new.me.0.splits ≡ place.old.me.0.splits)
+            × (place.new.me.0.joined ≡ place.old.me.0.joined) }
         ensures settled { IsIdle place.new.me × KnowsAll place.new.me.0 }
-        ensures turn { MatchResult result (λ answer. Took T.stands T.lasting self.now.table.shared.key (C.entry call answer) (C.promise call answer) (held place.old.table_id place.old.me.0) (held place.new.table_id place.new.me.0)) (λ _. place.new.me ≡ with_mark place.old.me) }
+        ensures turn { MatchResult result
+            (λ answer. Took T.stands T.lasting self.now.table.shared.key (C.entry call answer)
+            (C.promise call answer) (held place.old.table_id place.old.me.0)
+            (held place.new.table_id place.new.me.0))
+            (λ _. place.new.me ≡ with_mark place.old.me) }
     {
         let ticket = self.draw(rt, place)?;
         let mut value = self.enter(rt, place, ticket);
@@ -196,24 +224,34 @@ impl<T: StandsFor> Core<T> {
     }
 
     pub(crate) fn split(&self, first: &mut Place<T, T::Entry>) -> Place<T, T::Entry>
-        requires place { (first.old.table_id ≡ self.now.table.shared.table_id) × (first.old.me.0.about ≡ Some self.now.table.shared.key) }
+        requires place { (first.old.table_id ≡ self.now.table.shared.table_id)
+            × (first.old.me.0.about ≡ Some self.now.table.shared.key) }
         requires settled { IsIdle first.old.me × KnowsAll first.old.me.0 }
         requires first { first.old.me.0.first ≡ true }
-        ensures place { (first.new.table_id ≡ first.old.table_id) × (first.new.id ≡ first.old.id) × (result.table_id ≡ first.old.table_id) }
-        ensures views { (first.new.me ≡ (split_first first.old.me.0, first.old.me.1)) × (result.me ≡ (split_new first.old.me.0, [])) }
+        ensures place { (first.new.table_id ≡ first.old.table_id)
+            × (first.new.id ≡ first.old.id)
+            × (result.table_id ≡ first.old.table_id) }
+        ensures views { (first.new.me ≡ (split_first first.old.me.0, first.old.me.1))
+            × (result.me ≡ (split_new first.old.me.0, [])) }
         ensures known { KnowsAll first.new.me.0 × KnowsAll result.me.0 }
     {
         self.table.shared.split_seat::<Cut>(first)
     }
 
     pub(crate) fn join(&self, into: &mut Place<T, T::Entry>, ended: Place<T, T::Entry>)
-        requires into { (into.old.table_id ≡ self.now.table.shared.table_id) × (into.old.me.0.about ≡ Some self.now.table.shared.key) }
-        requires ended { (ended.table_id ≡ self.now.table.shared.table_id) × (ended.me.0.about ≡ Some self.now.table.shared.key) }
-        requires settled { IsIdle into.old.me × KnowsAll into.old.me.0 × IsIdle ended.me × KnowsAll ended.me.0 }
+        requires into { (into.old.table_id ≡ self.now.table.shared.table_id)
+            × (into.old.me.0.about ≡ Some self.now.table.shared.key) }
+        requires ended { (ended.table_id ≡ self.now.table.shared.table_id)
+            × (ended.me.0.about ≡ Some self.now.table.shared.key) }
+        requires settled { IsIdle into.old.me
+            × KnowsAll into.old.me.0
+            × IsIdle ended.me
+            × KnowsAll ended.me.0 }
         requires first { into.old.me.0.first ≡ true }
         ensures place { (into.new.table_id ≡ into.old.table_id) × (into.new.id ≡ into.old.id) }
         ensures view { into.new.me ≡ (joining_views into.old.me.0 ended.me.0, into.old.me.1) }
-        ensures seen { StartsWith into.new.me.0.seen into.old.me.0.seen × StartsWith into.new.me.0.seen ended.me.0.seen }
+        ensures seen { StartsWith into.new.me.0.seen into.old.me.0.seen
+            × StartsWith into.new.me.0.seen ended.me.0.seen }
         ensures known { KnowsAll into.new.me.0 }
     {
         self.table.shared.join_seat::<Merge>(into, ended);
@@ -221,7 +259,8 @@ impl<T: StandsFor> Core<T> {
     }
 
     pub(crate) fn close(self, place: Place<T, T::Entry>) -> T
-        requires place { (place.table_id ≡ self.table.shared.table_id) × (place.me.0.about ≡ Some self.table.shared.key) }
+        requires place { (place.table_id ≡ self.table.shared.table_id)
+            × (place.me.0.about ≡ Some self.table.shared.key) }
         requires settled { IsIdle place.me × KnowsAll place.me.0 }
         requires first { IsWhole (held place.table_id place.me.0) }
         ensures { Closes T.stands T.lasting self.table.shared.key (held place.table_id place.me.0) result }

@@ -96,7 +96,11 @@ impl<D: Store> SharedShelf<D> {
     pub fn put<R: Wait>(&self, rt: &R, seat: &mut Seat<Shelf<D>>, number: u64) -> Result<bool, Worn>
         requires { IsSeatOf self.now.cell seat.old }
         ensures seat { IsSeatOf self.now.cell seat.new × SameSeat seat.old seat.new }
-        ensures put { MatchResult result (λ stored. seat.new.mine ≡ seat.old.mine ++ (seat.old.number, record { number = number; stored = stored }) ∷ []) (λ _. seat.new ≡ worn_out seat.old) }
+        ensures put { MatchResult result
+            (λ stored. seat.new.mine
+            ≡ seat.old.mine ++
+            (seat.old.number, record { number = number; stored = stored }) ∷ [])
+            (λ _. seat.new ≡ worn_out seat.old) }
     {
         self.cell.turn(rt, seat, Put { number })
     }

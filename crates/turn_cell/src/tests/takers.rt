@@ -43,7 +43,10 @@ pub fn take_beside<R: Threads + Wait + Sync>(rt: &R, cell: &TurnCell<Counter>, t
 fn seated(alloc: Global, cell: &TurnCell<Counter>, first: &mut Seat<Counter>, times: u64) -> Taker
     requires seat { IsSeatOf cell.now first.old }
     requires first { first.old.first ≡ true }
-    ensures first { IsSeatOf cell.now first.new × (first.new.first ≡ true) × (first.new.splits ≡ first.old.splits + 1) × (first.new.joined ≡ first.old.joined) }
+    ensures first { IsSeatOf cell.now first.new
+        × (first.new.first ≡ true)
+        × (first.new.splits ≡ first.old.splits + 1)
+        × (first.new.joined ≡ first.old.joined) }
     ensures taker { IsSeatOf cell.now result.seat }
 {
     Taker {
@@ -61,7 +64,12 @@ pub fn eight(
 ) -> Result<Vec<Taker>, AllocError>
     requires seat { IsSeatOf cell.now first.old }
     requires first { first.old.first ≡ true }
-    ensures first { IfOk result (λ takers. IsSeatOf cell.now first.new × (first.new.first ≡ true) × (first.new.splits ≡ first.old.splits + vec_len takers) × (first.new.joined ≡ first.old.joined)) }
+    ensures first { IfOk result
+        (λ takers.
+        IsSeatOf cell.now first.new
+        × (first.new.first ≡ true)
+        × (first.new.splits ≡ first.old.splits + vec_len takers)
+        × (first.new.joined ≡ first.old.joined)) }
     ensures takers { IfOk result (λ takers. All (λ t. IsSeatOf cell.now t.seat) takers.items) }
 {
     let mut takers = Vec::new(alloc);
@@ -81,7 +89,12 @@ pub fn gather(
     requires seat { IsSeatOf cell.now first.old }
     requires first { first.old.first ≡ true }
     requires takers { All (λ t. IsSeatOf cell.now t.seat) takers.items }
-    ensures first { IfOk result (λ _. IsSeatOf cell.now first.new × (first.new.first ≡ true) × (first.new.splits ≡ first.old.splits) × (length first.new.joined ≡ length first.old.joined + vec_len takers)) }
+    ensures first { IfOk result
+        (λ _.
+        IsSeatOf cell.now first.new
+        × (first.new.first ≡ true)
+        × (first.new.splits ≡ first.old.splits)
+        × (length first.new.joined ≡ length first.old.joined + vec_len takers)) }
 {
     while let Some(taker) = takers.pop() {
         let Taker {
