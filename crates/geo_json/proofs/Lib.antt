@@ -1,0 +1,5 @@
+pub mod Pairs
+pub mod Keys
+pub mod Ids
+pub mod Parts
+pub mod Validity

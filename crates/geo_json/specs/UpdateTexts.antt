@@ -1,0 +1,58 @@
+-- The update that a text says, or its first fault in reading order.
+use Rattle.std.specs.Prelude.{ℕ, Bool, ◌&&◌, nat_le, nat_lt, List, [], ◌∷◌, length, codes, Result, Ok}
+use Rattle.std.specs.Option.{ok_or}
+use Rattle.serde_json.specs.Data.{Data, no_items}
+use Rattle.serde_json.specs.Find.{get}
+use Rattle.serde_json.specs.Events.{items_len}
+use Rattle.plain_drawing.specs.Data.{Change, is_name}
+use Rattle.reading.specs.Json.{json_of}
+use Rattle.reading.specs.Lists.{list_of}
+use Rattle.reading.specs.Steps.{◌>>=◌, check}
+use Rattle.reading.specs.Values.{needed, or_value, list}
+use Rattle.geo_json.specs.Coordinates.{units_at}
+use Rattle.geo_json.specs.FeatureTexts.{id_of, feature_after}
+use Rattle.geo_json.specs.Openings.{object_of, name_at}
+use Rattle.geo_json.specs.declared.faults.DataFault.{DataFault}
+use Rattle.geo_json.specs.declared.faults.DataFault.TheVariants.{NotJson, Shape, TooMany}
+use Rattle.geo_json.specs.declared.coordinates.Units.{Units}
+
+-- the ids that a change removes, none where the key is absent
+unfoldable pub ids_in : DataFault → Data → Result (List ℕ) DataFault
+ids_in shape d = list shape d >>= λ items. list_of (λ before id. id_of shape id) items
+
+abbrev pub change_keys : List (List ℕ)
+change_keys = codes "layer" ∷ codes "remove" ∷ codes "put" ∷ []
+
+-- a change at its place: its own keys, how many puts it has, and then each feature; there is no change after 1,000,000
+unfoldable pub change_at : Units → ℕ → Data → Result Change DataFault
+change_at units part d = do
+  u ← check (nat_lt part 1000000) (Shape 1000000 0)
+  u ← object_of (Shape part 0) change_keys d
+  name ← name_at (Shape part 0) (codes "layer") d
+  remove ← or_value [] (ids_in (Shape part 0)) (get (codes "remove") d)
+  items ← or_value no_items (list (Shape part 0)) (get (codes "put") d)
+  u ← check (nat_le (items_len items) 1000000) (TooMany part)
+  put ← list_of (feature_after units part) items
+  Ok (record { layer = name; remove = remove; put = put })
+
+abbrev pub change_after : Units → List Change → Data → Result Change DataFault
+change_after units before d = change_at units (length before) d
+
+-- what holds of a change that was read after those before it
+abbrev pub is_read : List Change → Change → Bool
+is_read before c = nat_lt (length before) 1000000 && is_name c.layer && nat_le (length c.put) 1000000
+
+abbrev pub update_keys : List (List ℕ)
+update_keys = codes "units" ∷ codes "changes" ∷ []
+
+-- an update by its units and changes
+unfoldable pub changes_of : Data → Result (List Change) DataFault
+changes_of d = do
+  u ← object_of (Shape 0 0) update_keys d
+  units ← units_at (Shape 0 0) d
+  items ← needed (Shape 0 0) (list (Shape 0 0)) (get (codes "changes") d)
+  list_of (change_after units) items
+
+-- the update that the bytes say, as the list of its changes, or the first fault
+unfoldable pub update_in : List ℕ → Result (List Change) DataFault
+update_in bytes = ok_or (json_of bytes) NotJson >>= changes_of

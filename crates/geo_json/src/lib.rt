@@ -1,0 +1,16 @@
+//! Data and updates as JSON texts: the dataset or update that a text says, or its first fault.
+#![tactic(auto)]
+
+mod attributes;
+mod coordinates;
+mod datasets;
+mod faults;
+mod feature_texts;
+mod geometries;
+mod openings;
+mod updates;
+
+pub use coordinates::Units;
+pub use datasets::read_data;
+pub use faults::DataFault;
+pub use updates::read_update;
