@@ -1,6 +1,6 @@
 -- One symbolizer on one item, from what is painted to the picture after it.
-use Rattle.std.proofs.Common.{refl, ◌≡◌, ◌*◌, ℕ, Bool, false, ap, sym, ◌∙◌, replicate}
-use Rattle.std.specs.Prelude.{if◌then◌else◌}
+use Rattle.std.proofs.Common.{List, [], ◌∷◌, subst, arith, refl, ◌≡◌, ◌*◌, ℕ, Bool, false, ap, sym, ◌∙◌, replicate}
+use Rattle.std.specs.Prelude.{if◌then◌else◌, All}
 use Rattle.plain_drawing.specs.declared.world.Point.{Point}
 use Rattle.plain_drawing.specs.declared.world.Window.{Window}
 use Rattle.plain_drawing.specs.declared.colour.Colour.{Colour}
@@ -9,7 +9,8 @@ use Rattle.plain_drawing.specs.declared.style.Symbolizer.TheVariants as paint
 use Rattle.plain_drawing.specs.declared.shapes.Geometry.{Geometry}
 use Rattle.plain_drawing.specs.declared.shapes.Geometry.TheVariants as shape
 use Rattle.plain_drawing.specs.Grids.{Grid}
-use Rattle.plain_drawing.specs.World.{centres}
+use Rattle.plain_drawing.specs.World.{InWorld, centres}
+use Rattle.geo_model.specs.Shapes.{parts_of}
 use Rattle.plain_drawing.specs.Features.{Feature}
 use Rattle.plain_drawing.specs.Blending.{blend}
 use Rattle.plain_drawing.specs.Canvas.{Bits, Pixels, stepped, marked, painted}
@@ -57,3 +58,9 @@ pub grid_step : (w : Window) (g : Grid) (image next : Pixels) (opacity : ℕ) (s
     → next ≡ stepped w (λ c d. raster_over g c d (paint.Raster opacity)) image → next ≡ with_symbolizer w (raster g) image s
 unfolding with_symbolizer
 grid_step w g image next opacity s is next_is = next_is ∙ ap (λ t. stepped w (λ c d. raster_over g c d t) image) (sym is)
+
+-- the points of a shape that is points lie in the world, where the parts of the shape do
+pub points_inside : (g : Geometry) (points : List Point) → g ≡ shape.Points points → All (All InWorld) (parts_of g) → All InWorld points
+points_inside g points is inside =
+    let here : All (All InWorld) (points ∷ []) = subst (λ s. All (All InWorld) (parts_of s)) is inside in
+    here 0 [] (omega arith)

@@ -1,8 +1,9 @@
 //! One symbolizer on one item.
-ghost use Rattle.std.specs.Prelude.{◌≡◌, ◌≤◌, IsTrue, OnOk};
+ghost use Rattle.std.specs.Prelude.{◌≡◌, ◌≤◌, ◌^◌, IsTrue, OnOk};
 ghost use Rattle.plain_drawing.specs.declared.style.Symbolizer.TheVariants as paint;
 ghost use Rattle.plain_drawing.specs.World.{IsWindow};
 ghost use Rattle.plain_drawing.specs.Styles.{is_paint};
+ghost use Rattle.plain_drawing.specs.Strokes.{half_of};
 ghost use Rattle.plain_drawing.specs.Drawing.{feature, raster};
 ghost use Rattle.plain_drawing.specs.Pictures.{with_symbolizer};
 ghost use Rattle.tile_render.specs.Built.{is_fill};
@@ -12,6 +13,7 @@ use crate::grids::blend_grid;
 use crate::sources::Piece;
 use farm_base::NoMemory;
 use geo_model::Feature;
+use mark_core::mark_points;
 use plain_drawing::{Colour, Geometry, Grid, Symbolizer, Window};
 use plain_image::{Image, Mask};
 use raster_core::fill_mask;
@@ -46,6 +48,50 @@ fn fill_feature(
     }
 }
 
+/// Half of a width of so many hundredths of a pixel, in world units, rounded down.
+fn half_of(width: u64, pixel: u32) -> u32
+    requires width { width ≤ 6400 }
+    requires pixel { pixel ≤ 2 ^ 26 }
+    ensures value { result ≡ half_of width pixel }
+    ensures few { result ≤ 2 ^ 31 }
+{
+    (width * u64::from(pixel) / 200) as u32
+}
+
+/// Draws an ellipse at each point of a feature that is points; other features have no marks.
+fn mark_feature(
+    alloc: Global,
+    w: Window,
+    shape: &Feature,
+    fill: Colour,
+    sides: (u64, u64),
+    opacity: u32,
+    image: &mut Image,
+) -> Result<(), NoMemory>
+    requires window { IsWindow w }
+    requires cols { image.old.cols ≡ w.cols }
+    requires rows { image.old.rows ≡ w.rows }
+    requires width { sides.0 ≤ 6400 }
+    requires height { sides.1 ≤ 6400 }
+    requires opacity { opacity ≤ 1000 }
+    ensures drawn { OnOk result (image.new ≡ with_symbolizer w (feature shape.now) image.old (paint.Markers fill sides.0 sides.1 opacity)) }
+    ensures cols { image.new.cols ≡ image.old.cols }
+    ensures rows { image.new.rows ≡ image.old.rows }
+{
+    match shape.geometry() {
+        Geometry::Points(points) => {
+            let mut mask = Mask::new(alloc, w.cols, w.rows)?;
+            let a = half_of(sides.0, w.pixel);
+            let b = half_of(sides.1, w.pixel);
+            mark_points(points, a, b, w, &mut mask);
+            image.paint(&mask, fill, opacity);
+            Ok(())
+        }
+        Geometry::Lines(_) => Ok(()),
+        Geometry::Polygon(_) => Ok(()),
+    }
+}
+
 /// Paints what the symbolizer covers of a feature over the image.
 fn draw_on_feature(
     alloc: Global,
@@ -68,7 +114,12 @@ fn draw_on_feature(
             fill_feature(alloc, w, shape, fill, fill_opacity, image)
         }
         Symbolizer::Line { .. } => unreachable!(),
-        Symbolizer::Markers { .. } => unreachable!(),
+        Symbolizer::Markers {
+            fill,
+            width,
+            height,
+            opacity,
+        } => mark_feature(alloc, w, shape, fill, (width, height), opacity, image),
         Symbolizer::Raster { .. } => Ok(()),
     }
 }
