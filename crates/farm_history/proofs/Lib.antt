@@ -2,6 +2,7 @@ pub mod Apart
 pub mod Counts
 pub mod Ends
 pub mod Homes
+pub mod Keyed
 pub mod Lists
 pub mod Marks
 pub mod Nows
@@ -10,5 +11,8 @@ pub mod OneReply
 pub mod Opens
 pub mod Places
 pub mod Queued
+pub mod Redrawn
 pub mod Replies
+pub mod Resumed
+pub mod Since
 pub mod Sounds

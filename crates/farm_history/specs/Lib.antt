@@ -2,5 +2,6 @@ pub mod Entries
 pub mod Laws
 pub mod Past
 pub mod Plans
+pub mod Replays
 pub mod Rules
 pub mod Seen

@@ -6,6 +6,7 @@ mod answers;
 mod asks;
 mod keys;
 mod queues;
+mod saved;
 
 pub use answers::{
     ClaimAnswer, Collected, Fetched, Finished, Looked, Renewed, Restyled, Tally, Updated,
@@ -13,3 +14,4 @@ pub use answers::{
 pub use asks::{AskAnswer, Cmd, Spot, Why};
 pub use keys::{Kept, Key, Mark};
 pub use queues::{Conn, Limits, Outcome, Queue, Reply, Waiter};
+pub use saved::Past;

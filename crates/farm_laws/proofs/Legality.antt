@@ -5,7 +5,8 @@ use Rattle.farm_history.specs.Past.{is_stopped, data_after, style_after, flights
 use Rattle.farm_history.specs.Rules.{answer_of_waiting, answer_by, Fits, Legal}
 use Rattle.farm_history.specs.Laws.{has_plain_update, IsLocal}
 use Rattle.farm_history.proofs.Lists.{filter-append}
-use Rattle.farm_laws.specs.Worked.{reached, bytes_of, low_narrow, narrow, plain, renewed, restyled, updated, asked_twice, expired_while_drawn, asked_often, asked_too_often, asked_just_often, has_each, updated_then_expired, expired_from_above, updated_while_drawn, queues_filled, put_failed, drawing_cut, left_alone, lifted_from_bulk, marked_dirty, restyled_while_drawn, two_drawn, renewed_one, renewed_both}
+use Rattle.farm_history.specs.Replays.{replay_styles, replay_keys, replay_from, replay}
+use Rattle.farm_laws.specs.Worked.{changing, saved_changes, resumed_changes, reached, bytes_of, low_narrow, narrow, plain, renewed, restyled, updated, asked_twice, expired_while_drawn, asked_often, asked_too_often, asked_just_often, has_each, updated_then_expired, expired_from_above, updated_while_drawn, queues_filled, put_failed, drawing_cut, left_alone, lifted_from_bulk, marked_dirty, restyled_while_drawn, two_drawn, renewed_one, renewed_both}
 
 pub asked_twice_legal : Legal plain true asked_twice
 unfolding asked_twice plain Fits is_servable overlaps is_style_of next is_stopped data_after style_after flights jobs claimed_keys shown is_touched_after waiting numbers open_asks is_ended_after replies_to asks_made done_asks stored_drawings answer_by answer_of_waiting
@@ -88,3 +89,12 @@ renewed_local spot style known n unreached = ap (bytes_of (map_of spot) style (t
 pub renewed_only : has_plain_update renewed_one ≡ false
 unfolding renewed_one two_drawn has_plain_update
 renewed_only = refl
+
+-- the replay is what was meant, and legal
+pub resumed_changes_is : replay changing saved_changes ≡ resumed_changes
+unfolding changing saved_changes resumed_changes replay_styles replay_keys replay_from Fits is_servable overlaps is_style_of next is_stopped data_after style_after flights jobs claimed_keys shown is_touched_after waiting numbers open_asks is_ended_after replies_to asks_made done_asks stored_drawings answer_by answer_of_waiting
+resumed_changes_is = refl
+
+pub resumed_changes_legal : Legal changing true resumed_changes
+unfolding changing resumed_changes Fits is_servable overlaps is_style_of next is_stopped data_after style_after flights jobs claimed_keys shown is_touched_after waiting numbers open_asks is_ended_after replies_to asks_made done_asks stored_drawings answer_by answer_of_waiting
+resumed_changes_legal = ((lit< tt, refl, refl, refl), (refl, (refl, (refl, (refl, ((lit< tt, refl, refl), (refl, (refl, (refl, (refl, ((lit< tt, refl), tt)))))))))))

@@ -4,6 +4,7 @@ use Rattle.std.specs.List.{list_any}
 use Rattle.farm_base.specs.declared.faults.ApplyFault.TheVariants.{NoFeature}
 use Rattle.plain_drawing.specs.declared.world.Tile.{Tile}
 use Rattle.farm_history.specs.declared.keys.Key.{Key}
+use Rattle.farm_history.specs.declared.saved.Past.{Past}
 use Rattle.farm_history.specs.declared.queues.Conn.{Conn}
 use Rattle.farm_history.specs.declared.queues.Limits.{Limits}
 use Rattle.farm_history.specs.declared.queues.Outcome.{Outcome}
@@ -25,6 +26,7 @@ use Rattle.farm_history.specs.declared.answers.Collected.{Collected}
 use Rattle.farm_history.specs.Entries.{Entry, Ask, Claim, Finish, Update, Renew, Restyle, Expire, Fetch, Look, Collect, Leave, Stop, Tally}
 use Rattle.farm_history.specs.Plans.{Plan, key_of, same_key}
 use Rattle.farm_history.specs.Past.{is_done}
+use Rattle.farm_history.specs.Replays.{Saving, replay_front, replayer}
 
 -- the history that goes on with these entries, which stand in the order of time
 abbrev pub goes_on : List Entry → List Entry → List Entry
@@ -344,6 +346,31 @@ renewed_one = goes_on two_drawn (
 -- one whose update reaches both makes both dirty
 unfoldable pub renewed_both : List Entry
 renewed_both = goes_on two_drawn (Renew 1 (Renewed.Version 1 2) ∷ [])
+
+-- a farm with updates and a style to change to
+unfoldable pub changing : Plan
+changing = record (plan_of wide 2) { updates = 3; restyles = 0 ∷ []; fault = λ known n. if n == 2 then Some (NoFeature 0 7) else None }
+
+-- what is saved of a farm with one map in its new style, after two updates, with two clean metatiles: one drawn before the updates, one between them
+unfoldable pub saved_changes : Saving
+saved_changes = record { styles = Some 0 ∷ []; updates = Past.Update 1 ∷ Past.Renew 0 ∷ []; clean = record { key = key 4 0 8; version = 1 } ∷ record { key = key 4 8 8; version = 0 } ∷ [] }
+
+-- The replay of it: the style; the metatile of version 0; the first update; the metatile of version 1; the second update
+unfoldable pub resumed_changes : List Entry
+resumed_changes = goes_on [] (
+    Restyle 0 (Styled 0)
+    ∷ Ask replayer Cmd.Bulk (spot 4 8 8) (Queued 0)
+    ∷ Claim 0 (Job 0 (key 4 8 8) 0)
+    ∷ drawn 0 (Stored true)
+    ∷ Collect replay_front (Collected.Reply (record { conn = replayer; ask = 0; outcome = Outcome.Done }))
+    ∷ Update 1 (Updated.Version 1)
+    ∷ Ask replayer Cmd.Bulk (spot 4 0 8) (Queued 1)
+    ∷ Claim 0 (Job 1 (key 4 0 8) 1)
+    ∷ drawn 1 (Stored true)
+    ∷ Collect replay_front (Collected.Reply (record { conn = replayer; ask = 1; outcome = Outcome.Done }))
+    ∷ Renew 0 (Renewed.Version 2 0)
+    ∷ []
+    )
 
 -- What the laws speak of: a tile sent as clean, a drawing stored as dirty, an ask answered Done, and a reply Done.
 

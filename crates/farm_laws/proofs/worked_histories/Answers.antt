@@ -22,5 +22,7 @@ returns c = record {
   marked_dirty_legal = legality.marked_dirty_legal;
   restyled_while_drawn_legal = legality.restyled_while_drawn_legal;
   renewed_one_legal = legality.renewed_one_legal;
+  resumed_changes_is = legality.resumed_changes_is;
+  resumed_changes_legal = legality.resumed_changes_legal;
   renewed_both_legal = legality.renewed_both_legal;
 }
