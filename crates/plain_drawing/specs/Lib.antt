@@ -6,6 +6,7 @@ pub mod Features
 pub mod FilterCodes
 pub mod Filters
 pub mod Grids
+pub mod Metatiles
 pub mod Pictures
 pub mod Ppm
 pub mod Reach

@@ -1,0 +1,39 @@
+-- The tiles of a metatile, and their drawings.
+use Rattle.std.specs.Prelude.{ℕ, ◌+◌, ◌*◌, List, map, flat_map}
+use Rattle.std.specs.List.{range_with_len}
+use Rattle.plain_drawing.specs.declared.world.Tile.{Tile}
+use Rattle.plain_drawing.specs.declared.world.Meta.{Meta}
+use Rattle.plain_drawing.specs.World.{tiles_across}
+use Rattle.plain_drawing.specs.Features.{Layer}
+use Rattle.plain_drawing.specs.Styles.{MapStyle}
+use Rattle.plain_drawing.specs.Canvas.{Pixels, cut_of}
+use Rattle.plain_drawing.specs.Ppm.{ppm}
+use Rattle.plain_drawing.specs.Drawing.{tile_of}
+
+-- the tile of a metatile so many columns and rows from its first one
+abbrev pub tile_at : Meta → ℕ → ℕ → Tile
+tile_at m col row = record { z = m.z; x = m.x + col; y = m.y + row }
+
+-- a column of a metatile's tiles, from north to south
+abbrev pub column_of : Meta → ℕ → List Tile
+column_of m col = map (λ row. tile_at m col row) (range_with_len 0 (tiles_across m))
+
+-- all tiles of a metatile, in order of index place: by columns, from the west
+abbrev pub tiles_in : Meta → List Tile
+tiles_in m = flat_map (column_of m) (range_with_len 0 (tiles_across m))
+
+-- the drawings of a metatile's tiles, in order of index place
+abbrev pub tiles_of : MapStyle → ℕ → Meta → List Layer → List (List ℕ)
+tiles_of style size m data_layers = map (λ t. tile_of style size t data_layers) (tiles_in m)
+
+-- the text of the part of a picture so many tiles from its west and north edge
+abbrev pub part_text : Pixels → ℕ → ℕ → ℕ → List ℕ
+part_text image size col row = ppm size size (cut_of image (col * size) (row * size) size size).pixels
+
+-- a column of such texts
+abbrev pub column_texts : Pixels → ℕ → ℕ → ℕ → List (List ℕ)
+column_texts image size across col = map (λ row. part_text image size col row) (range_with_len 0 across)
+
+-- all parts of a picture of so many tiles across, by columns
+abbrev pub part_texts : Pixels → ℕ → ℕ → List (List ℕ)
+part_texts image size across = flat_map (column_texts image size across) (range_with_len 0 across)
