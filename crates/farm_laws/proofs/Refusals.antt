@@ -1,13 +1,13 @@
--- No history with a mistake is legal: its last answer is not the one that the entries before it give.
-use Rattle.std.proofs.Common.{◌≡◌, ℕ, true, ap, arith}
+-- Each history with a mistake is legal up to its last entry, whose answer is not one that the entries before it give.
+use Rattle.std.proofs.Common.{refl, lit<, ◌≡◌, ℕ, ap, arith}
 use Rattle.farm_history.specs.declared.queues.Outcome.{Outcome}
 use Rattle.farm_history.specs.declared.answers.Collected.{Collected}
 use Rattle.farm_history.specs.declared.answers.Tally.{Tally}
 use Rattle.farm_history.specs.Plans.{is_servable, overlaps, is_style_of, next}
 use Rattle.farm_history.specs.Past.{is_stopped, data_after, style_after, flights, jobs, claimed_keys, shown, is_touched_after, waiting, numbers, open_asks, is_ended_after, replies_to, asks_made, done_asks, stored_drawings}
-use Rattle.farm_history.specs.Rules.{answer_of_waiting, answer_by, Fits, Legal}
+use Rattle.farm_history.specs.Rules.{answer_of_waiting, answer_by, Fits}
 use Rattle.farm_laws.specs.Worked.{plain, updated, narrow, restyled, renewed}
-use Rattle.farm_laws.specs.Mistakes.{stored_clean_though_expired, clean_by_version, dirty_by_update, updated_past_the_table, update_fault_passed_over, queued_while_drawn, claimed_twice, replied_out_of_order, drawn_over_newest_data, expired_on_its_zoom_alone, expired_beside, joined_though_overtaken, dirty_before_low, dropped_though_room, deferred_past_the_limit, more_drawn_than_workers, claimed_after_stop, shown_after_failed_put, done_after_failed_put, stored_though_cut, ended_twice, replied_though_left, left_with_its_items, counted_before_collected, queued_a_second_time, joined_in_bulk, marked_and_clean, clean_in_the_old_style, drawn_in_the_old_style, restyled_past_the_table, clean_though_reached, renewed_out_of_reach, gone_though_told}
+use Rattle.farm_laws.specs.Mistakes.{IsMistake, stored_clean_though_expired, clean_by_version, dirty_by_update, updated_past_the_table, update_fault_passed_over, queued_while_drawn, claimed_twice, replied_out_of_order, drawn_over_newest_data, expired_on_its_zoom_alone, expired_beside, joined_though_overtaken, dirty_before_low, dropped_though_room, deferred_past_the_limit, more_drawn_than_workers, claimed_after_stop, shown_after_failed_put, done_after_failed_put, stored_though_cut, ended_twice, replied_though_left, left_with_its_items, counted_before_collected, queued_a_second_time, joined_in_bulk, marked_and_clean, clean_in_the_old_style, drawn_in_the_old_style, restyled_past_the_table, clean_though_reached, renewed_out_of_reach, gone_though_told}
 
 -- the number and the outcome of a reply
 abbrev ask_in : Collected → ℕ
@@ -18,134 +18,134 @@ abbrev outcome_in : Collected → Outcome
 outcome_in (Collected.Reply r) = r.outcome
 outcome_in _ = Outcome.Cut
 
-pub stored_clean_though_expired_refused : Legal plain true stored_clean_though_expired → ⊥
+pub stored_clean_though_expired_refused : IsMistake plain stored_clean_though_expired
 unfolding stored_clean_though_expired plain Fits is_servable overlaps is_style_of next is_stopped data_after style_after flights jobs claimed_keys shown is_touched_after waiting numbers open_asks is_ended_after replies_to asks_made done_asks stored_drawings answer_by answer_of_waiting
-stored_clean_though_expired_refused legal = cc legal.0
+stored_clean_though_expired_refused = ((refl, (refl, (refl, tt))), λ fits. cc fits)
 
-pub clean_by_version_refused : Legal plain true clean_by_version → ⊥
+pub clean_by_version_refused : IsMistake plain clean_by_version
 unfolding clean_by_version plain Fits is_servable overlaps is_style_of next is_stopped data_after style_after flights jobs claimed_keys shown is_touched_after waiting numbers open_asks is_ended_after replies_to asks_made done_asks stored_drawings answer_by answer_of_waiting
-clean_by_version_refused legal = cc legal.0
+clean_by_version_refused = ((refl, (refl, (refl, (refl, tt)))), λ fits. cc fits)
 
-pub dirty_by_update_refused : Legal updated true dirty_by_update → ⊥
+pub dirty_by_update_refused : IsMistake updated dirty_by_update
 unfolding dirty_by_update updated Fits is_servable overlaps is_style_of next is_stopped data_after style_after flights jobs claimed_keys shown is_touched_after waiting numbers open_asks is_ended_after replies_to asks_made done_asks stored_drawings answer_by answer_of_waiting
-dirty_by_update_refused legal = cc legal.0
+dirty_by_update_refused = (((lit< tt, refl, refl), (refl, (refl, (refl, tt)))), λ fits. cc fits)
 
-pub updated_past_the_table_refused : Legal updated true updated_past_the_table → ⊥
+pub updated_past_the_table_refused : IsMistake updated updated_past_the_table
 unfolding updated_past_the_table updated Fits is_servable overlaps is_style_of next is_stopped data_after style_after flights jobs claimed_keys shown is_touched_after waiting numbers open_asks is_ended_after replies_to asks_made done_asks stored_drawings answer_by answer_of_waiting
-updated_past_the_table_refused legal = omega (arith, legal.0.0)
+updated_past_the_table_refused = (tt, λ fits. omega (arith, fits.0))
 
-pub update_fault_passed_over_refused : Legal updated true update_fault_passed_over → ⊥
+pub update_fault_passed_over_refused : IsMistake updated update_fault_passed_over
 unfolding update_fault_passed_over updated Fits is_servable overlaps is_style_of next is_stopped data_after style_after flights jobs claimed_keys shown is_touched_after waiting numbers open_asks is_ended_after replies_to asks_made done_asks stored_drawings answer_by answer_of_waiting
-update_fault_passed_over_refused legal = cc legal.0.1
+update_fault_passed_over_refused = (tt, λ fits. cc fits.1)
 
-pub queued_while_drawn_refused : Legal plain true queued_while_drawn → ⊥
+pub queued_while_drawn_refused : IsMistake plain queued_while_drawn
 unfolding queued_while_drawn plain Fits is_servable overlaps is_style_of next is_stopped data_after style_after flights jobs claimed_keys shown is_touched_after waiting numbers open_asks is_ended_after replies_to asks_made done_asks stored_drawings answer_by answer_of_waiting
-queued_while_drawn_refused legal = cc legal.0
+queued_while_drawn_refused = ((refl, (refl, tt)), λ fits. cc fits)
 
-pub claimed_twice_refused : Legal plain true claimed_twice → ⊥
+pub claimed_twice_refused : IsMistake plain claimed_twice
 unfolding claimed_twice plain Fits is_servable overlaps is_style_of next is_stopped data_after style_after flights jobs claimed_keys shown is_touched_after waiting numbers open_asks is_ended_after replies_to asks_made done_asks stored_drawings answer_by answer_of_waiting
-claimed_twice_refused legal = cc legal.0
+claimed_twice_refused = ((refl, (refl, (refl, tt))), λ fits. cc fits)
 
-pub replied_out_of_order_refused : Legal plain true replied_out_of_order → ⊥
+pub replied_out_of_order_refused : IsMistake plain replied_out_of_order
 unfolding replied_out_of_order plain Fits is_servable overlaps is_style_of next is_stopped data_after style_after flights jobs claimed_keys shown is_touched_after waiting numbers open_asks is_ended_after replies_to asks_made done_asks stored_drawings answer_by answer_of_waiting
-replied_out_of_order_refused legal = omega (arith, ap ask_in legal.0)
+replied_out_of_order_refused = ((refl, (refl, (refl, (refl, tt)))), λ fits. omega (arith, ap ask_in fits))
 
-pub drawn_over_newest_data_refused : Legal updated true drawn_over_newest_data → ⊥
+pub drawn_over_newest_data_refused : IsMistake updated drawn_over_newest_data
 unfolding drawn_over_newest_data updated Fits is_servable overlaps is_style_of next is_stopped data_after style_after flights jobs claimed_keys shown is_touched_after waiting numbers open_asks is_ended_after replies_to asks_made done_asks stored_drawings answer_by answer_of_waiting
-drawn_over_newest_data_refused legal = cc legal.0.2
+drawn_over_newest_data_refused = ((refl, ((lit< tt, refl, refl), (refl, (refl, tt)))), λ fits. cc fits.2)
 
-pub expired_on_its_zoom_alone_refused : Legal plain true expired_on_its_zoom_alone → ⊥
+pub expired_on_its_zoom_alone_refused : IsMistake plain expired_on_its_zoom_alone
 unfolding expired_on_its_zoom_alone plain Fits is_servable overlaps is_style_of next is_stopped data_after style_after flights jobs claimed_keys shown is_touched_after waiting numbers open_asks is_ended_after replies_to asks_made done_asks stored_drawings answer_by answer_of_waiting
-expired_on_its_zoom_alone_refused legal = cc legal.0
+expired_on_its_zoom_alone_refused = ((refl, (refl, (refl, tt))), λ fits. cc fits)
 
-pub expired_beside_refused : Legal plain true expired_beside → ⊥
+pub expired_beside_refused : IsMistake plain expired_beside
 unfolding expired_beside plain Fits is_servable overlaps is_style_of next is_stopped data_after style_after flights jobs claimed_keys shown is_touched_after waiting numbers open_asks is_ended_after replies_to asks_made done_asks stored_drawings answer_by answer_of_waiting
-expired_beside_refused legal = cc legal.0
+expired_beside_refused = ((refl, (refl, (refl, tt))), λ fits. cc fits)
 
-pub joined_though_overtaken_refused : Legal plain true joined_though_overtaken → ⊥
+pub joined_though_overtaken_refused : IsMistake plain joined_though_overtaken
 unfolding joined_though_overtaken plain Fits is_servable overlaps is_style_of next is_stopped data_after style_after flights jobs claimed_keys shown is_touched_after waiting numbers open_asks is_ended_after replies_to asks_made done_asks stored_drawings answer_by answer_of_waiting
-joined_though_overtaken_refused legal = cc legal.0
+joined_though_overtaken_refused = ((refl, (refl, (refl, tt))), λ fits. cc fits)
 
-pub dirty_before_low_refused : Legal narrow true dirty_before_low → ⊥
+pub dirty_before_low_refused : IsMistake narrow dirty_before_low
 unfolding dirty_before_low narrow Fits is_servable overlaps is_style_of next is_stopped data_after style_after flights jobs claimed_keys shown is_touched_after waiting numbers open_asks is_ended_after replies_to asks_made done_asks stored_drawings answer_by answer_of_waiting
-dirty_before_low_refused legal = cc legal.0
+dirty_before_low_refused = ((refl, (refl, (refl, (refl, (refl, (refl, (refl, (refl, tt)))))))), λ fits. cc fits)
 
-pub dropped_though_room_refused : Legal narrow true dropped_though_room → ⊥
+pub dropped_though_room_refused : IsMistake narrow dropped_though_room
 unfolding dropped_though_room narrow Fits is_servable overlaps is_style_of next is_stopped data_after style_after flights jobs claimed_keys shown is_touched_after waiting numbers open_asks is_ended_after replies_to asks_made done_asks stored_drawings answer_by answer_of_waiting
-dropped_though_room_refused legal = cc legal.0
+dropped_though_room_refused = ((refl, (refl, tt)), λ fits. cc fits)
 
-pub deferred_past_the_limit_refused : Legal narrow true deferred_past_the_limit → ⊥
+pub deferred_past_the_limit_refused : IsMistake narrow deferred_past_the_limit
 unfolding deferred_past_the_limit narrow Fits is_servable overlaps is_style_of next is_stopped data_after style_after flights jobs claimed_keys shown is_touched_after waiting numbers open_asks is_ended_after replies_to asks_made done_asks stored_drawings answer_by answer_of_waiting
-deferred_past_the_limit_refused legal = cc legal.0
+deferred_past_the_limit_refused = ((refl, (refl, (refl, (refl, tt)))), λ fits. cc fits)
 
-pub more_drawn_than_workers_refused : Legal narrow true more_drawn_than_workers → ⊥
+pub more_drawn_than_workers_refused : IsMistake narrow more_drawn_than_workers
 unfolding more_drawn_than_workers narrow Fits is_servable overlaps is_style_of next is_stopped data_after style_after flights jobs claimed_keys shown is_touched_after waiting numbers open_asks is_ended_after replies_to asks_made done_asks stored_drawings answer_by answer_of_waiting
-more_drawn_than_workers_refused legal = cc legal.0
+more_drawn_than_workers_refused = ((refl, (refl, (refl, (refl, (refl, tt))))), λ fits. cc fits)
 
-pub claimed_after_stop_refused : Legal plain true claimed_after_stop → ⊥
+pub claimed_after_stop_refused : IsMistake plain claimed_after_stop
 unfolding claimed_after_stop plain Fits is_servable overlaps is_style_of next is_stopped data_after style_after flights jobs claimed_keys shown is_touched_after waiting numbers open_asks is_ended_after replies_to asks_made done_asks stored_drawings answer_by answer_of_waiting
-claimed_after_stop_refused legal = cc legal.0
+claimed_after_stop_refused = ((tt, (refl, tt)), λ fits. cc fits)
 
-pub shown_after_failed_put_refused : Legal plain true shown_after_failed_put → ⊥
+pub shown_after_failed_put_refused : IsMistake plain shown_after_failed_put
 unfolding shown_after_failed_put plain Fits is_servable overlaps is_style_of next is_stopped data_after style_after flights jobs claimed_keys shown is_touched_after waiting numbers open_asks is_ended_after replies_to asks_made done_asks stored_drawings answer_by answer_of_waiting
-shown_after_failed_put_refused legal = cc legal.0
+shown_after_failed_put_refused = ((tt, (refl, (refl, (refl, (refl, (refl, (refl, tt))))))), λ fits. cc fits)
 
-pub done_after_failed_put_refused : Legal plain true done_after_failed_put → ⊥
+pub done_after_failed_put_refused : IsMistake plain done_after_failed_put
 unfolding done_after_failed_put plain Fits is_servable overlaps is_style_of next is_stopped data_after style_after flights jobs claimed_keys shown is_touched_after waiting numbers open_asks is_ended_after replies_to asks_made done_asks stored_drawings answer_by answer_of_waiting
-done_after_failed_put_refused legal = let same : Outcome.Done ≡ Outcome.NotDone = ap outcome_in legal.0 in cc
+done_after_failed_put_refused = ((tt, (refl, (refl, tt))), λ fits. let same : Outcome.Done ≡ Outcome.NotDone = ap outcome_in fits in cc)
 
-pub stored_though_cut_refused : Legal plain true stored_though_cut → ⊥
+pub stored_though_cut_refused : IsMistake plain stored_though_cut
 unfolding stored_though_cut plain Fits is_servable overlaps is_style_of next is_stopped data_after style_after flights jobs claimed_keys shown is_touched_after waiting numbers open_asks is_ended_after replies_to asks_made done_asks stored_drawings answer_by answer_of_waiting
-stored_though_cut_refused legal = legal.0
+stored_though_cut_refused = ((refl, (refl, tt)), λ fits. fits)
 
-pub ended_twice_refused : Legal plain true ended_twice → ⊥
+pub ended_twice_refused : IsMistake plain ended_twice
 unfolding ended_twice plain Fits is_servable overlaps is_style_of next is_stopped data_after style_after flights jobs claimed_keys shown is_touched_after waiting numbers open_asks is_ended_after replies_to asks_made done_asks stored_drawings answer_by answer_of_waiting
-ended_twice_refused legal = legal.0
+ended_twice_refused = ((refl, (refl, (refl, tt))), λ fits. fits)
 
-pub replied_though_left_refused : Legal plain true replied_though_left → ⊥
+pub replied_though_left_refused : IsMistake plain replied_though_left
 unfolding replied_though_left plain Fits is_servable overlaps is_style_of next is_stopped data_after style_after flights jobs claimed_keys shown is_touched_after waiting numbers open_asks is_ended_after replies_to asks_made done_asks stored_drawings answer_by answer_of_waiting
-replied_though_left_refused legal = cc legal.0
+replied_though_left_refused = ((refl, (refl, (refl, (refl, tt)))), λ fits. cc fits)
 
-pub left_with_its_items_refused : Legal plain true left_with_its_items → ⊥
+pub left_with_its_items_refused : IsMistake plain left_with_its_items
 unfolding left_with_its_items plain Fits is_servable overlaps is_style_of next is_stopped data_after style_after flights jobs claimed_keys shown is_touched_after waiting numbers open_asks is_ended_after replies_to asks_made done_asks stored_drawings answer_by answer_of_waiting
-left_with_its_items_refused legal = cc legal.0
+left_with_its_items_refused = ((refl, (refl, tt)), λ fits. cc fits)
 
-pub counted_before_collected_refused : Legal plain true counted_before_collected → ⊥
+pub counted_before_collected_refused : IsMistake plain counted_before_collected
 unfolding counted_before_collected plain Fits is_servable overlaps is_style_of next is_stopped data_after style_after flights jobs claimed_keys shown is_touched_after waiting numbers open_asks is_ended_after replies_to asks_made done_asks stored_drawings answer_by answer_of_waiting
-counted_before_collected_refused legal = omega (arith, ap (λ (t : Tally). t.done) legal.0)
+counted_before_collected_refused = ((refl, (refl, (refl, tt))), λ fits. omega (arith, ap (λ (t : Tally). t.done) fits))
 
-pub queued_a_second_time_refused : Legal plain true queued_a_second_time → ⊥
+pub queued_a_second_time_refused : IsMistake plain queued_a_second_time
 unfolding queued_a_second_time plain Fits is_servable overlaps is_style_of next is_stopped data_after style_after flights jobs claimed_keys shown is_touched_after waiting numbers open_asks is_ended_after replies_to asks_made done_asks stored_drawings answer_by answer_of_waiting
-queued_a_second_time_refused legal = cc legal.0
+queued_a_second_time_refused = ((refl, (refl, (refl, tt))), λ fits. cc fits)
 
-pub joined_in_bulk_refused : Legal plain true joined_in_bulk → ⊥
+pub joined_in_bulk_refused : IsMistake plain joined_in_bulk
 unfolding joined_in_bulk plain Fits is_servable overlaps is_style_of next is_stopped data_after style_after flights jobs claimed_keys shown is_touched_after waiting numbers open_asks is_ended_after replies_to asks_made done_asks stored_drawings answer_by answer_of_waiting
-joined_in_bulk_refused legal = cc legal.0
+joined_in_bulk_refused = ((refl, tt), λ fits. cc fits)
 
-pub marked_and_clean_refused : Legal plain true marked_and_clean → ⊥
+pub marked_and_clean_refused : IsMistake plain marked_and_clean
 unfolding marked_and_clean plain Fits is_servable overlaps is_style_of next is_stopped data_after style_after flights jobs claimed_keys shown is_touched_after waiting numbers open_asks is_ended_after replies_to asks_made done_asks stored_drawings answer_by answer_of_waiting
-marked_and_clean_refused legal = cc legal.0
+marked_and_clean_refused = ((refl, (refl, (refl, (refl, tt)))), λ fits. cc fits)
 
-pub clean_in_the_old_style_refused : Legal restyled true clean_in_the_old_style → ⊥
+pub clean_in_the_old_style_refused : IsMistake restyled clean_in_the_old_style
 unfolding clean_in_the_old_style restyled Fits is_servable overlaps is_style_of next is_stopped data_after style_after flights jobs claimed_keys shown is_touched_after waiting numbers open_asks is_ended_after replies_to asks_made done_asks stored_drawings answer_by answer_of_waiting
-clean_in_the_old_style_refused legal = cc legal.0
+clean_in_the_old_style_refused = (((lit< tt, refl), (refl, (refl, tt))), λ fits. cc fits)
 
-pub drawn_in_the_old_style_refused : Legal restyled true drawn_in_the_old_style → ⊥
+pub drawn_in_the_old_style_refused : IsMistake restyled drawn_in_the_old_style
 unfolding drawn_in_the_old_style restyled Fits is_servable overlaps is_style_of next is_stopped data_after style_after flights jobs claimed_keys shown is_touched_after waiting numbers open_asks is_ended_after replies_to asks_made done_asks stored_drawings answer_by answer_of_waiting
-drawn_in_the_old_style_refused legal = cc legal.0.2
+drawn_in_the_old_style_refused = ((refl, (refl, ((lit< tt, refl), (refl, tt)))), λ fits. cc fits.2)
 
-pub restyled_past_the_table_refused : Legal restyled true restyled_past_the_table → ⊥
+pub restyled_past_the_table_refused : IsMistake restyled restyled_past_the_table
 unfolding restyled_past_the_table restyled Fits is_servable overlaps is_style_of next is_stopped data_after style_after flights jobs claimed_keys shown is_touched_after waiting numbers open_asks is_ended_after replies_to asks_made done_asks stored_drawings answer_by answer_of_waiting
-restyled_past_the_table_refused legal = omega (arith, legal.0.0)
+restyled_past_the_table_refused = (tt, λ fits. omega (arith, fits.0))
 
-pub clean_though_reached_refused : Legal renewed true clean_though_reached → ⊥
+pub clean_though_reached_refused : IsMistake renewed clean_though_reached
 unfolding clean_though_reached renewed Fits is_servable overlaps is_style_of next is_stopped data_after style_after flights jobs claimed_keys shown is_touched_after waiting numbers open_asks is_ended_after replies_to asks_made done_asks stored_drawings answer_by answer_of_waiting
-clean_though_reached_refused legal = cc legal.0
+clean_though_reached_refused = (((lit< tt, refl, refl, refl), (refl, (refl, (refl, tt)))), λ fits. cc fits)
 
-pub renewed_out_of_reach_refused : Legal renewed true renewed_out_of_reach → ⊥
+pub renewed_out_of_reach_refused : IsMistake renewed renewed_out_of_reach
 unfolding renewed_out_of_reach renewed Fits is_servable overlaps is_style_of next is_stopped data_after style_after flights jobs claimed_keys shown is_touched_after waiting numbers open_asks is_ended_after replies_to asks_made done_asks stored_drawings answer_by answer_of_waiting
-renewed_out_of_reach_refused legal = cc legal.0.3
+renewed_out_of_reach_refused = ((refl, (refl, (refl, tt))), λ fits. cc fits.3)
 
-pub gone_though_told_refused : Legal plain true gone_though_told → ⊥
+pub gone_though_told_refused : IsMistake plain gone_though_told
 unfolding gone_though_told plain Fits is_servable overlaps is_style_of next is_stopped data_after style_after flights jobs claimed_keys shown is_touched_after waiting numbers open_asks is_ended_after replies_to asks_made done_asks stored_drawings answer_by answer_of_waiting
-gone_though_told_refused legal = cc legal.0
+gone_though_told_refused = ((refl, (refl, (refl, tt))), λ fits. cc fits)

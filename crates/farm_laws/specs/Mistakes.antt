@@ -1,4 +1,4 @@
--- Histories that are not legal. Each is worked up to its last entry, whose answer is a mistake that a farm could make.
+-- Histories whose last answer is a mistake that a farm could make.
 use Rattle.std.specs.Prelude.{true, false, List, [], ◌∷◌}
 use Rattle.farm_history.specs.declared.queues.Outcome.{Outcome}
 use Rattle.farm_history.specs.declared.asks.Cmd.{Cmd}
@@ -13,7 +13,14 @@ use Rattle.farm_history.specs.declared.answers.Restyled.TheVariants.{Styled}
 use Rattle.farm_history.specs.declared.answers.Fetched.{Fetched}
 use Rattle.farm_history.specs.declared.answers.Looked.{Looked}
 use Rattle.farm_history.specs.Entries.{Entry, Ask, Claim, Finish, Update, Renew, Restyle, Expire, Fetch, Look, Leave, Stop, Tally}
+use Rattle.farm_history.specs.Plans.{Plan}
+use Rattle.farm_history.specs.Rules.{Fits, Legal}
 use Rattle.farm_laws.specs.Worked.{goes_on, conn, spot, key, tile, render, drawn, reply}
+
+-- the history is legal up to its last entry, and that one's answer is not right
+abbrev pub IsMistake : Plan → List Entry → Type 0
+IsMistake p [] = ⊥
+IsMistake p (e ∷ g) = Legal p true g × (Fits p true g e → ⊥)
 
 -- A drawing is stored as clean although its metatile was expired after its Claim
 unfoldable pub stored_clean_though_expired : List Entry

@@ -72,8 +72,8 @@ abbrev pub wide : Limits
 wide = record { prio = 32; request = 32; low = 32; dirty = 32; bulk = 32 }
 
 -- a farm of one map with zooms to 18, without updates and styles
-abbrev pub plan_of : Limits → ℕ → Plan
-plan_of limits workers = record {
+abbrev pub small_plan : Limits → ℕ → Plan
+small_plan limits workers = record {
   max_zooms = 18 ∷ [];
   limits = limits;
   workers = workers;
@@ -85,7 +85,7 @@ plan_of limits workers = record {
 }
 
 unfoldable pub plain : Plan
-plain = plan_of wide 2
+plain = small_plan wide 2
 
 -- Two ask for one metatile. The second joins, both are done, and a third finds it clean
 unfoldable pub asked_twice : List Entry
@@ -127,7 +127,7 @@ expired_while_drawn = goes_on [] (
 
 -- a farm with two updates that fit, and a third that removes a feature which is not there
 unfoldable pub updated : Plan
-updated = record (plan_of wide 2) { updates = 3; fault = λ known n. if n == 2 then Some (NoFeature 0 7) else None }
+updated = record (small_plan wide 2) { updates = 3; fault = λ known n. if n == 2 then Some (NoFeature 0 7) else None }
 
 -- An update leaves what is shown clean, with its older version; an expiry of a tile of another zoom makes it dirty
 unfoldable pub updated_then_expired : List Entry
@@ -174,7 +174,7 @@ updated_while_drawn = goes_on [] (
 
 -- a farm in whose queues few may wait
 unfoldable pub narrow : Plan
-narrow = plan_of (record { prio = 32; request = 2; low = 32; dirty = 2; bulk = 32 }) 2
+narrow = small_plan (record { prio = 32; request = 2; low = 32; dirty = 2; bulk = 32 }) 2
 
 -- Asks fill their queue, then the dirty queue, and then are dropped. Claims take prio, request, low and dirty in this order, and no more than there are workers; after a Stop none
 unfoldable pub queues_filled : List Entry
@@ -255,7 +255,7 @@ left_alone = goes_on [] (
 
 -- a farm in whose low queue one may wait
 unfoldable pub low_narrow : Plan
-low_narrow = plan_of (record { prio = 32; request = 32; low = 1; dirty = 32; bulk = 32 }) 2
+low_narrow = small_plan (record { prio = 32; request = 32; low = 1; dirty = 32; bulk = 32 }) 2
 
 -- What waits in the bulk queue is moved by an ask of a better command while that one's queue has room, with those who wait for it
 unfoldable pub lifted_from_bulk : List Entry
@@ -288,7 +288,7 @@ marked_dirty = goes_on [] (
 
 -- a farm with one style to change to
 unfoldable pub restyled : Plan
-restyled = record (plan_of wide 2) { restyles = 0 ∷ [] }
+restyled = record (small_plan wide 2) { restyles = 0 ∷ [] }
 
 -- The style is changed while a metatile is drawn: it is stored as dirty, in the old style, and the next drawing has the new one
 unfoldable pub restyled_while_drawn : List Entry
@@ -313,7 +313,7 @@ reached n k = if n == 0 then same_key k (key 4 0 0) else true
 
 -- a farm with two updates, whose drawings tell the updates that reach the metatile
 unfoldable pub renewed : Plan
-renewed = record (plan_of wide 2) {
+renewed = record (small_plan wide 2) {
   updates = 2;
   reaches = λ known n k. reached n k;
   drawing = λ map style t known. bytes_of map style t (filter (λ n. reached n (key_of (record { map = Some map; z = t.z; x = t.x; y = t.y }))) known);
@@ -349,7 +349,7 @@ renewed_both = goes_on two_drawn (Renew 1 (Renewed.Version 1 2) ∷ [])
 
 -- a farm with updates and a style to change to
 unfoldable pub changing : Plan
-changing = record (plan_of wide 2) { updates = 3; restyles = 0 ∷ []; fault = λ known n. if n == 2 then Some (NoFeature 0 7) else None }
+changing = record (small_plan wide 2) { updates = 3; restyles = 0 ∷ []; fault = λ known n. if n == 2 then Some (NoFeature 0 7) else None }
 
 -- what is saved of a farm with one map in its new style, after two updates, with two clean metatiles: one drawn before the updates, one between them
 unfoldable pub saved_changes : Saving

@@ -9,7 +9,7 @@ ghost use Rattle.farm_history.specs.Laws.{IsLocal, LawApart, LawNow, LawOneReply
 ghost use Rattle.farm_history.specs.Replays.{replay};
 ghost use Rattle.farm_history.specs.Rules.{Legal};
 ghost use Rattle.farm_laws.specs.Worked.{changing, saved_changes, resumed_changes, low_narrow, narrow, plain, renewed, restyled, updated, asked_twice, expired_while_drawn, updated_then_expired, expired_from_above, updated_while_drawn, queues_filled, asked_just_often, asked_too_often, put_failed, drawing_cut, left_alone, lifted_from_bulk, marked_dirty, restyled_while_drawn, renewed_one, renewed_both, has_each};
-ghost use Rattle.farm_laws.specs.Mistakes.{stored_clean_though_expired, clean_by_version, dirty_by_update, updated_past_the_table, update_fault_passed_over, queued_while_drawn, claimed_twice, replied_out_of_order, drawn_over_newest_data, expired_on_its_zoom_alone, expired_beside, joined_though_overtaken, dirty_before_low, dropped_though_room, deferred_past_the_limit, more_drawn_than_workers, claimed_after_stop, shown_after_failed_put, done_after_failed_put, stored_though_cut, ended_twice, replied_though_left, left_with_its_items, counted_before_collected, queued_a_second_time, joined_in_bulk, marked_and_clean, clean_in_the_old_style, drawn_in_the_old_style, restyled_past_the_table, clean_though_reached, renewed_out_of_reach, gone_though_told};
+ghost use Rattle.farm_laws.specs.Mistakes.{IsMistake, stored_clean_though_expired, clean_by_version, dirty_by_update, updated_past_the_table, update_fault_passed_over, queued_while_drawn, claimed_twice, replied_out_of_order, drawn_over_newest_data, expired_on_its_zoom_alone, expired_beside, joined_though_overtaken, dirty_before_low, dropped_though_room, deferred_past_the_limit, more_drawn_than_workers, claimed_after_stop, shown_after_failed_put, done_after_failed_put, stored_though_cut, ended_twice, replied_though_left, left_with_its_items, counted_before_collected, queued_a_second_time, joined_in_bulk, marked_and_clean, clean_in_the_old_style, drawn_in_the_old_style, restyled_past_the_table, clean_though_reached, renewed_out_of_reach, gone_though_told};
 
 /// In each legal history over a store that tells its content: every tile sent as clean is the plain drawing,
 /// byte for byte, in its map's style and over the data of one moment, and nothing has touched its
@@ -65,40 +65,40 @@ pub fn worked_histories()
     ensures renewed_both_legal { Legal renewed true renewed_both }
 {}
 
-/// Histories with a mistake in their last answer are not legal. `specs/Mistakes.antt` has them, each named
-/// by its mistake.
+/// Histories that are legal up to their last entry, whose answer is a mistake, are refused there.
+/// `specs/Mistakes.antt` has them, each named by its mistake.
 pub fn refused_mistakes()
-    ensures no_stored_clean_though_expired { Legal plain true stored_clean_though_expired → ⊥ }
-    ensures no_clean_by_version { Legal plain true clean_by_version → ⊥ }
-    ensures no_dirty_by_update { Legal updated true dirty_by_update → ⊥ }
-    ensures no_updated_past_the_table { Legal updated true updated_past_the_table → ⊥ }
-    ensures no_update_fault_passed_over { Legal updated true update_fault_passed_over → ⊥ }
-    ensures no_queued_while_drawn { Legal plain true queued_while_drawn → ⊥ }
-    ensures no_claimed_twice { Legal plain true claimed_twice → ⊥ }
-    ensures no_replied_out_of_order { Legal plain true replied_out_of_order → ⊥ }
-    ensures no_drawn_over_newest_data { Legal updated true drawn_over_newest_data → ⊥ }
-    ensures no_expired_on_its_zoom_alone { Legal plain true expired_on_its_zoom_alone → ⊥ }
-    ensures no_expired_beside { Legal plain true expired_beside → ⊥ }
-    ensures no_joined_though_overtaken { Legal plain true joined_though_overtaken → ⊥ }
-    ensures no_dirty_before_low { Legal narrow true dirty_before_low → ⊥ }
-    ensures no_dropped_though_room { Legal narrow true dropped_though_room → ⊥ }
-    ensures no_deferred_past_the_limit { Legal narrow true deferred_past_the_limit → ⊥ }
-    ensures no_more_drawn_than_workers { Legal narrow true more_drawn_than_workers → ⊥ }
-    ensures no_claimed_after_stop { Legal plain true claimed_after_stop → ⊥ }
-    ensures no_shown_after_failed_put { Legal plain true shown_after_failed_put → ⊥ }
-    ensures no_done_after_failed_put { Legal plain true done_after_failed_put → ⊥ }
-    ensures no_stored_though_cut { Legal plain true stored_though_cut → ⊥ }
-    ensures no_ended_twice { Legal plain true ended_twice → ⊥ }
-    ensures no_replied_though_left { Legal plain true replied_though_left → ⊥ }
-    ensures no_left_with_its_items { Legal plain true left_with_its_items → ⊥ }
-    ensures no_counted_before_collected { Legal plain true counted_before_collected → ⊥ }
-    ensures no_queued_a_second_time { Legal plain true queued_a_second_time → ⊥ }
-    ensures no_joined_in_bulk { Legal plain true joined_in_bulk → ⊥ }
-    ensures no_marked_and_clean { Legal plain true marked_and_clean → ⊥ }
-    ensures no_clean_in_the_old_style { Legal restyled true clean_in_the_old_style → ⊥ }
-    ensures no_drawn_in_the_old_style { Legal restyled true drawn_in_the_old_style → ⊥ }
-    ensures no_restyled_past_the_table { Legal restyled true restyled_past_the_table → ⊥ }
-    ensures no_clean_though_reached { Legal renewed true clean_though_reached → ⊥ }
-    ensures no_renewed_out_of_reach { Legal renewed true renewed_out_of_reach → ⊥ }
-    ensures no_gone_though_told { Legal plain true gone_though_told → ⊥ }
+    ensures no_stored_clean_though_expired { IsMistake plain stored_clean_though_expired }
+    ensures no_clean_by_version { IsMistake plain clean_by_version }
+    ensures no_dirty_by_update { IsMistake updated dirty_by_update }
+    ensures no_updated_past_the_table { IsMistake updated updated_past_the_table }
+    ensures no_update_fault_passed_over { IsMistake updated update_fault_passed_over }
+    ensures no_queued_while_drawn { IsMistake plain queued_while_drawn }
+    ensures no_claimed_twice { IsMistake plain claimed_twice }
+    ensures no_replied_out_of_order { IsMistake plain replied_out_of_order }
+    ensures no_drawn_over_newest_data { IsMistake updated drawn_over_newest_data }
+    ensures no_expired_on_its_zoom_alone { IsMistake plain expired_on_its_zoom_alone }
+    ensures no_expired_beside { IsMistake plain expired_beside }
+    ensures no_joined_though_overtaken { IsMistake plain joined_though_overtaken }
+    ensures no_dirty_before_low { IsMistake narrow dirty_before_low }
+    ensures no_dropped_though_room { IsMistake narrow dropped_though_room }
+    ensures no_deferred_past_the_limit { IsMistake narrow deferred_past_the_limit }
+    ensures no_more_drawn_than_workers { IsMistake narrow more_drawn_than_workers }
+    ensures no_claimed_after_stop { IsMistake plain claimed_after_stop }
+    ensures no_shown_after_failed_put { IsMistake plain shown_after_failed_put }
+    ensures no_done_after_failed_put { IsMistake plain done_after_failed_put }
+    ensures no_stored_though_cut { IsMistake plain stored_though_cut }
+    ensures no_ended_twice { IsMistake plain ended_twice }
+    ensures no_replied_though_left { IsMistake plain replied_though_left }
+    ensures no_left_with_its_items { IsMistake plain left_with_its_items }
+    ensures no_counted_before_collected { IsMistake plain counted_before_collected }
+    ensures no_queued_a_second_time { IsMistake plain queued_a_second_time }
+    ensures no_joined_in_bulk { IsMistake plain joined_in_bulk }
+    ensures no_marked_and_clean { IsMistake plain marked_and_clean }
+    ensures no_clean_in_the_old_style { IsMistake restyled clean_in_the_old_style }
+    ensures no_drawn_in_the_old_style { IsMistake restyled drawn_in_the_old_style }
+    ensures no_restyled_past_the_table { IsMistake restyled restyled_past_the_table }
+    ensures no_clean_though_reached { IsMistake renewed clean_though_reached }
+    ensures no_renewed_out_of_reach { IsMistake renewed renewed_out_of_reach }
+    ensures no_gone_though_told { IsMistake plain gone_though_told }
 {}
