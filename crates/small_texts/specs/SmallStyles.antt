@@ -1,12 +1,13 @@
 -- What a style text of the small form says.
-use Rattle.std.specs.Prelude.{ℕ, false, List, [], ◌∷◌, codes, None, Result, Ok}
+use Rattle.std.specs.Prelude.{ℕ, Bool, true, false, List, [], ◌∷◌, codes, None, Result, Ok}
 use Rattle.std.specs.Option.{ok_or}
+use Rattle.std.specs.List.{list_all}
 use Rattle.std.specs.Str.{bytes_eq}
 use Rattle.serde_json.specs.Data.{Data}
 use Rattle.plain_drawing.specs.declared.colour.Colour.{Colour}
 use Rattle.plain_drawing.specs.declared.style.FilterMode.TheVariants as mode
 use Rattle.plain_drawing.specs.declared.style.Symbolizer.{Symbolizer}
-use Rattle.plain_drawing.specs.declared.style.Symbolizer.TheVariants.{Polygon}
+use Rattle.plain_drawing.specs.declared.style.Symbolizer.TheVariants.{Polygon, Line, Markers, Raster}
 use Rattle.plain_drawing.specs.Styles.{Rule, Style, LayerRef, MapStyle}
 use Rattle.reading.specs.Json.{json_of}
 use Rattle.reading.specs.Steps.{◌>>=◌, check}
@@ -30,6 +31,19 @@ symbolizer_keys = codes "symbolizer" ∷ codes "fill" ∷ []
 
 abbrev pub layer_keys : List (List ℕ)
 layer_keys = codes "name" ∷ codes "source" ∷ codes "styles" ∷ []
+
+-- a PolygonSymbolizer, and a rule and a style that have no others
+abbrev pub is_polygon : Symbolizer → Bool
+is_polygon (Polygon fill opacity) = true
+is_polygon (Line stroke width opacity cap) = false
+is_polygon (Markers fill width height opacity) = false
+is_polygon (Raster opacity) = false
+
+abbrev pub paints_polygons : Rule → Bool
+paints_polygons r = list_all is_polygon r.symbolizers
+
+abbrev pub only_polygons : Style → Bool
+only_polygons s = list_all paints_polygons s.rules
 
 -- a PolygonSymbolizer with its fill, which covers wholly
 unfoldable pub symbolizer_of : Data → Result Symbolizer SmallFault

@@ -1,5 +1,6 @@
 //! Styles of the small form.
 ghost use Rattle.std.specs.Prelude.{◌≡◌, [], ◌∷◌, IfOk, IsTrue};
+ghost use Rattle.std.specs.List.{list_all};
 ghost use Rattle.serde_json.specs.View.{view};
 ghost use Rattle.plain_drawing.specs.Styles.{is_paint};
 ghost use Rattle.reading.specs.Steps.{Gives};
@@ -18,7 +19,8 @@ use std::alloc::Global;
 /// The style that a text of the small form says, or why it says none.
 #[tactic(auto, unfolding(crate::specs::SmallStyles::style_in))]
 pub fn read_style(alloc: Global, bytes: &[u8]) -> Result<MapStyle, SmallFault>
-    ensures { Gives fault.NoMemory (λ x. x) (spec.style_in bytes.now) result }
+    ensures value { Gives fault.NoMemory (λ x. x) (spec.style_in bytes.now) result }
+    ensures polygons { IfOk result (λ m. IsTrue (list_all spec.only_polygons m.styles)) }
 {
     let value = read_json(alloc, bytes, SmallFault::NotJson)?;
     map_style(alloc, &value)
@@ -26,7 +28,8 @@ pub fn read_style(alloc: Global, bytes: &[u8]) -> Result<MapStyle, SmallFault>
 
 #[tactic(auto, unfolding(crate::specs::SmallStyles::map_of))]
 fn map_style(alloc: Global, object: &Value) -> Result<MapStyle, SmallFault>
-    ensures { Gives fault.NoMemory (λ x. x) (spec.map_of (view object.now)) result }
+    ensures value { Gives fault.NoMemory (λ x. x) (spec.map_of (view object.now)) result }
+    ensures polygons { IfOk result (λ m. IsTrue (list_all spec.only_polygons m.styles)) }
 {
     open_map(object)?;
     let background_color = colour_at(object, "background-color")?;
@@ -43,8 +46,10 @@ fn whole_map(
     style: Style,
     layer: LayerRef,
 ) -> Result<MapStyle, SmallFault>
-    requires { layer.styles ≡ style.name ∷ [] }
-    ensures { Gives fault.NoMemory (λ x. x) (Ok (spec.map_with background_color style layer)) result }
+    requires named { layer.styles ≡ style.name ∷ [] }
+    requires polygons { IsTrue (spec.only_polygons style) }
+    ensures value { Gives fault.NoMemory (λ x. x) (Ok (spec.map_with background_color style layer)) result }
+    ensures polygons { IfOk result (λ m. IsTrue (list_all spec.only_polygons m.styles)) }
 {
     Ok(MapStyle {
         background_color,
@@ -57,7 +62,8 @@ fn whole_map(
 
 #[tactic(auto, unfolding(crate::specs::SmallStyles::style_of))]
 fn style(alloc: Global, object: &Value) -> Result<Style, SmallFault>
-    ensures { Gives fault.NoMemory (λ x. x) (spec.style_of (view object.now)) result }
+    ensures value { Gives fault.NoMemory (λ x. x) (spec.style_of (view object.now)) result }
+    ensures polygons { IfOk result (λ s. IsTrue (spec.only_polygons s)) }
 {
     open_style(object)?;
     let name = name_at(object, "name")?;
@@ -71,7 +77,8 @@ fn style(alloc: Global, object: &Value) -> Result<Style, SmallFault>
 
 #[tactic(auto, unfolding(crate::specs::SmallStyles::rule_of))]
 fn rule(alloc: Global, object: &Value) -> Result<Rule, SmallFault>
-    ensures { Gives fault.NoMemory (λ x. x) (spec.rule_of (view object.now)) result }
+    ensures value { Gives fault.NoMemory (λ x. x) (spec.rule_of (view object.now)) result }
+    ensures polygons { IfOk result (λ r. IsTrue (spec.paints_polygons r)) }
 {
     open_rule(object)?;
     let symbolizer = symbolizer(single(object, "symbolizers")?)?;
@@ -88,6 +95,7 @@ fn rule(alloc: Global, object: &Value) -> Result<Rule, SmallFault>
 fn symbolizer(object: &Value) -> Result<Symbolizer, SmallFault>
     ensures value { result ≡ spec.symbolizer_of (view object.now) }
     ensures paints { IfOk result (λ s. IsTrue (is_paint s)) }
+    ensures polygon { IfOk result (λ s. IsTrue (spec.is_polygon s)) }
 {
     open_symbolizer(object)?;
     if text_at(object, "symbolizer")? != "PolygonSymbolizer" {

@@ -1,0 +1,5 @@
+pub mod Built
+pub mod Decimals
+pub mod Promised
+pub mod Reported
+pub mod Spelled

@@ -1,0 +1,5 @@
+pub mod Ends
+pub mod Numbers
+pub mod Promises
+pub mod Stops
+pub mod Words

@@ -1,0 +1,51 @@
+//! The top call.
+ghost use Rattle.std.specs.Prelude.{◌≡◌, ℕ, List, Some, map, string_bytes};
+ghost use Rattle.farm_base.specs.Outside.{FilesTold};
+ghost use Rattle.farm_call.specs.Ends.{files_at, sink_at, Runs, FarmEnds};
+ghost use Rattle.farm_call.specs.Promises.{Rendered};
+
+use crate::render::render;
+use crate::stops::{Stop, report};
+use crate::words::asked;
+use farm_base::{Files, Sink};
+use std::alloc::Global;
+
+/// Does what the words ask for, over the files and sinks that are handed in, and answers the exit status:
+/// 0 where the tile was put on `out`, 1 where a file's content is refused, 2 where the words are, 3 where
+/// a file cannot be read, 4 where a put on `out` or `err` failed, 5 for want of memory. On `err` stands the
+/// line of the status, and nothing else.
+///
+/// The words are those after the program's name: `render STYLE DATA T Z X Y`.
+pub fn farm_main<F: Files, O: Sink, E: Sink>(
+    alloc: Global,
+    words: &[String],
+    files: &mut F,
+    out: &mut O,
+    err: &mut E,
+) -> u8
+    ensures ends { FarmEnds (map string_bytes words.now)
+        (files_at (F.told files.old) (F.faults files.old)) (files_at (F.told files.new) (F.faults files.new))
+        (sink_at (O.taken out.old) (O.faults out.old)) (sink_at (O.taken out.new) (O.faults out.new))
+        (sink_at (E.taken err.old) (E.faults err.old)) (sink_at (E.taken err.new) (E.faults err.new)) result }
+    ensures rendered { result ≡ 0 → (t : FilesTold) → F.told files.old ≡ Some t → (before : List ℕ) → O.taken out.old ≡ Some before
+        → Rendered (map string_bytes words.now) t.content before (O.taken out.new) }
+{
+    let end = command(alloc, words, files, out);
+    report(err, &end)
+}
+
+// Does what the words ask for.
+fn command<F: Files, O: Sink>(
+    alloc: Global,
+    words: &[String],
+    files: &mut F,
+    out: &mut O,
+) -> Result<(), Stop>
+    ensures { Runs (map string_bytes words.now) (files_at (F.told files.old) (F.faults files.old)) (files_at (F.told files.new) (F.faults files.new))
+        (sink_at (O.taken out.old) (O.faults out.old)) (sink_at (O.taken out.new) (O.faults out.new)) result }
+{
+    match asked(words) {
+        Some(asked) => render(alloc, asked, files, out),
+        None => Err(Stop::Words),
+    }
+}

@@ -1,0 +1,12 @@
+//! The top call: what the words of a command line ask for, done over the files and sinks that are handed
+//! in.
+#![tactic(auto)]
+
+mod call;
+mod numbers;
+mod render;
+mod stops;
+mod words;
+
+pub use call::farm_main;
+pub use stops::{Stop, report};
