@@ -187,3 +187,38 @@ pub mask_all : {X : Type 0} (f : Point → X → Bool) (xs : List X) (i : ℕ) (
     → now ≡ record old { bits = marked (λ c. list_any (f c) (take i xs)) (centres w) old.bits }
     → now ≡ record old { bits = marked (λ c. list_any (f c) xs) (centres w) old.bits }
 mask_all f xs i w old now le r = r ∙ ap (λ ys. record old { bits = marked (λ c. list_any (f c) ys) (centres w) old.bits }) (take_all i xs le)
+
+-- what is left to mark makes the whole of it
+pub record Left (left whole : Point → Bool) (w : Window) (old now : Bits) : Type 0 where
+  pub is : record now { bits = marked left (centres w) now.bits } ≡ record old { bits = marked whole (centres w) old.bits }
+
+pub left_start : (whole : Point → Bool) (w : Window) (old : Bits) → Left whole whole w old old
+left_start whole w old = record { is = refl }
+
+pub left_more : (left m rest whole : Point → Bool) (w : Window) (old now next : Bits) → ((c : Point) → left c ≡ (m c || rest c))
+    → next ≡ record now { bits = marked m (centres w) now.bits } → Left left whole w old now → Left rest whole w old next
+left_more left m rest whole w old now next split step r = record {
+  is =
+      ap (λ (b : Bits). record b { bits = marked rest (centres w) b.bits }) step
+      ∙ ap (λ bs. record now { bits = bs }) (marked-marked m rest (centres w) now.bits ∙ marked_same (λ c. m c || rest c) left (λ c. sym (split c)) (centres w) now.bits)
+      ∙ r.is;
+}
+
+pub left_end : (left whole : Point → Bool) (w : Window) (old now : Bits) → ((c : Point) → left c ≡ false) → Left left whole w old now
+    → now ≡ record old { bits = marked whole (centres w) old.bits }
+left_end left whole w old now none r = ap (λ bs. record now { bits = bs }) (sym (marked_none left none (centres w) now.bits)) ∙ r.is
+
+-- two marks one after another
+pub both_marks : (m n : Point → Bool) (w : Window) (old now next : Bits) → now ≡ record old { bits = marked m (centres w) old.bits }
+    → next ≡ record now { bits = marked n (centres w) now.bits } → next ≡ record old { bits = marked (λ c. m c || n c) (centres w) old.bits }
+both_marks m n w old now next a b =
+    b ∙ ap (λ (x : Bits). record x { bits = marked n (centres w) x.bits }) a ∙ ap (λ bs. record old { bits = bs }) (marked-marked m n (centres w) old.bits)
+
+-- a mark by a test that says the same
+pub same_mark : (m n : Point → Bool) (w : Window) (old now : Bits) → ((c : Point) → m c ≡ n c) → now ≡ record old { bits = marked m (centres w) old.bits }
+    → now ≡ record old { bits = marked n (centres w) old.bits }
+same_mark m n w old now same a = a ∙ ap (λ bs. record old { bits = bs }) (marked_same m n same (centres w) old.bits)
+
+-- no mark
+pub no_mark : (m : Point → Bool) (w : Window) (old : Bits) → ((c : Point) → m c ≡ false) → old ≡ record old { bits = marked m (centres w) old.bits }
+no_mark m w old none = ap (λ bs. record old { bits = bs }) (sym (marked_none m none (centres w) old.bits))

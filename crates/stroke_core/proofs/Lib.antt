@@ -1,0 +1,5 @@
+pub mod Products
+pub mod Testing
+pub mod Boxes
+pub mod Spans
+pub mod Sides

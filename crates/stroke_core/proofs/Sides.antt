@@ -1,0 +1,158 @@
+-- The sides, joins and ends of lines and rings by their places.
+use Rattle.std.proofs.Common.{◌≡◌, ◌==◌, ℕ, suc, zero, ◌+◌, ◌-◌, ◌<◌, ◌≤◌, Bool, true, false, not, ◌&&◌, ◌||◌, List, [], ◌∷◌, length, take, drop, get_or, All, refl, ap, sym, subst, ◌∙◌, inl, inr, arith, add-one, drop-cons}
+use Rattle.std.specs.Prelude.{Result, Ok, Err, OnErr, if◌then◌else◌, option_map, unwrap_or}
+use Rattle.std.specs.List.{list_any}
+use Rattle.std.proofs.lemmas.Bool.{and_parts, or_cases, or_left, or_right, eqb-true}
+use Rattle.std.proofs.lemmas.List.{take_all, drop_all, length-drop}
+use Rattle.std.proofs.lemmas.List.Elements.{All-cons, All-head, All-tail}
+use Rattle.std.proofs.lemmas.Option.{slice_get-get_or}
+use Rattle.plain_drawing.specs.declared.world.Point.{Point}
+use Rattle.plain_drawing.specs.declared.shapes.LineCap.{LineCap}
+use Rattle.plain_drawing.specs.declared.shapes.LineCap.TheVariants as with
+use Rattle.plain_drawing.specs.World.{InWorld}
+use Rattle.plain_drawing.specs.Strokes.{is_same, in_body, in_disk, before_start, past_end, kept, kept_after, on_bodies, on_joins, in_last_disk, past_last, on_caps, on_dot, on_kept, on_line, on_sides, on_disks, on_ring}
+use Rattle.stroke_core.specs.Parts.{point_at, on_ends, on_long, on_parts}
+
+-- one side more
+pub sides_step : (half : ℕ) (before : Point) (ps : List Point) (i : ℕ) (d : Point) → i < length ps → (c : Point)
+    → on_sides half before (drop i ps) c ≡ ((not (is_same before (get_or ps i d)) && in_body half before (get_or ps i d) c) || on_sides half (get_or ps i d) (drop (i + 1) ps) c)
+sides_step half before ps i d lt c =
+    ap (λ qs. on_sides half before qs c) (drop-cons ps i d lt)
+    ∙ ap (λ k. (not (is_same before (get_or ps i d)) && in_body half before (get_or ps i d) c) || on_sides half (get_or ps i d) (drop k ps) c) (sym (add-one i))
+
+pub sides_none : (half : ℕ) (before : Point) (ps : List Point) (i : ℕ) → length ps ≤ i → (c : Point) → on_sides half before (drop i ps) c ≡ false
+sides_none half before ps i le c = ap (λ qs. on_sides half before qs c) (drop_all i ps le)
+
+pub any_take : {X : Type 0} (p : X → Bool) (i : ℕ) (xs : List X) → list_any p (take i xs) ≡ true → list_any p xs ≡ true
+any_take p zero [] h = h
+any_take p zero (x ∷ xs) h = absurd (cc)
+any_take p (suc i) [] h = h
+any_take p (suc i) (x ∷ xs) h = elim (or_cases (p x) (list_any p (take i xs)) h) [
+  | inl e ↦ or_left (p x) (list_any p xs) e
+  | inr e ↦ or_right (p x) (list_any p xs) (any_take p i xs e)
+]
+
+-- the slices that the code takes
+pub long_is : (half : ℕ) (cap : LineCap) (ps : List Point) → 2 ≤ length ps → (c : Point)
+    → ((on_sides half (point_at ps 0) (take (length ps - 1) (drop 1 ps)) c || on_disks half (take (length ps - 1 - 1) (drop 1 ps)) c)
+    || on_ends half cap (point_at ps 0) (point_at ps 1) (point_at ps (length ps - 2)) (point_at ps (length ps - 1)) c) ≡ on_long half cap ps c
+long_is half cap ps some c =
+    let ends : Bool = on_ends half cap (point_at ps 0) (point_at ps 1) (point_at ps (length ps - 2)) (point_at ps (length ps - 1)) c in
+    let two : length ps - 1 - 1 ≡ length ps - 2 = omega arith in
+    let all : take (length ps - 1) (drop 1 ps) ≡ drop 1 ps = take_all (length ps - 1) (drop 1 ps) (omega (arith, length-drop 1 ps)) in
+    ap (λ qs. (on_sides half (point_at ps 0) qs c || on_disks half (take (length ps - 1 - 1) (drop 1 ps)) c) || ends) all
+    ∙ ap (λ k. (on_sides half (point_at ps 0) (drop 1 ps) c || on_disks half (take k (drop 1 ps)) c) || ends) two
+
+pub parts_none : (half : ℕ) (cap : LineCap) (ps : List Point) → length ps ≡ 0 → (c : Point) → on_parts half cap ps c ≡ false
+parts_none half cap [] e c = refl
+parts_none half cap (p ∷ ps) e c = absurd (omega arith)
+
+pub parts_one : (half : ℕ) (cap : LineCap) (ps : List Point) → length ps ≡ 1 → (c : Point) → on_dot half cap (point_at ps 0) c ≡ on_parts half cap ps c
+parts_one half cap [] e c = absurd (omega arith)
+parts_one half cap (p ∷ []) e c = refl
+parts_one half cap (p ∷ q ∷ ps) e c = absurd (omega arith)
+
+pub parts_more : (half : ℕ) (cap : LineCap) (ps : List Point) → 2 ≤ length ps → (c : Point) → on_long half cap ps c ≡ on_parts half cap ps c
+parts_more half cap [] some c = absurd (omega arith)
+parts_more half cap (p ∷ []) some c = absurd (omega arith)
+parts_more half cap (p ∷ q ∷ ps) some c = refl
+
+pub ring_none : (half : ℕ) (ps : List Point) → length ps ≡ 0 → (c : Point) → on_ring half c ps ≡ false
+ring_none half [] e c = refl
+ring_none half (p ∷ ps) e c = absurd (omega arith)
+
+pub ring_is : (half : ℕ) (ps : List Point) → (length ps ≡ 0 → ⊥) → (c : Point)
+    → (on_sides half (point_at ps (length ps - 1)) ps c || on_disks half ps c) ≡ on_ring half c ps
+ring_is half ps some c =
+    let lt : length ps - 1 < length ps = omega arith in
+    sym (ap (λ o. unwrap_or (option_map (λ last. on_sides half last ps c || on_disks half ps c) o) false) (slice_get-get_or ps (length ps - 1) (record { x = 0; y = 0 }) lt))
+
+-- kept points lie in the world where all do
+choose_within : (t : Bool) (p : Point) (rest : List Point) → InWorld p → All InWorld rest → All InWorld (if t then rest else p ∷ rest)
+choose_within true p rest h r = r
+choose_within false p rest h r = All-cons InWorld p rest h r
+
+kept_after_within : (before : Point) (ps : List Point) → All InWorld ps → All InWorld (kept_after before ps)
+kept_after_within before [] h = h
+kept_after_within before (p ∷ ps) h =
+    choose_within (is_same before p) p (kept_after p ps) (All-head InWorld p ps h) (kept_after_within p ps (All-tail InWorld p ps h))
+
+pub kept_within : (ps : List Point) → All InWorld ps → All InWorld (kept ps)
+kept_within [] h = h
+kept_within (p ∷ ps) h = All-cons InWorld p (kept_after p ps) (All-head InWorld p ps h) (kept_after_within p ps (All-tail InWorld p ps h))
+
+point_same : (p q : Point) → is_same p q ≡ true → p ≡ q
+point_same p q h =
+    let parts = and_parts (p.x == q.x) (p.y == q.y) h in
+    ap (λ x. record { x = x; y = p.y }) (eqb-true p.x q.x parts.0) ∙ ap (λ y. record { x = q.x; y = y }) (eqb-true p.y q.y parts.1)
+
+-- no point equals the one before it
+abbrev apart_from : Point → List Point → Type 0
+apart_from a [] = Unit {0}
+apart_from a (b ∷ ps) = (is_same a b ≡ false) × apart_from b ps
+
+choose_apart : (t : Bool) (before p : Point) (rest : List Point) → is_same before p ≡ t → apart_from p rest → apart_from before (if t then rest else p ∷ rest)
+choose_apart true before p rest e h = (let P : Point → Type 0 = λ q. apart_from q rest in subst P (sym (point_same before p e)) h)
+choose_apart false before p rest e h = (e, h)
+
+kept_apart : (before : Point) (ps : List Point) → apart_from before (kept_after before ps)
+kept_apart before [] = tt
+kept_apart before (p ∷ ps) = choose_apart (is_same before p) before p (kept_after p ps) refl (kept_apart p ps)
+
+sides_bodies : (half : ℕ) (a : Point) (ps : List Point) (c : Point) → apart_from a ps → on_sides half a ps c ≡ on_bodies half a ps c
+sides_bodies half a [] c h = refl
+sides_bodies half a (b ∷ ps) c h =
+    ap (λ t. (not t && in_body half a b c) || on_sides half b ps c) h.0 ∙ ap (λ t. in_body half a b c || t) (sides_bodies half b ps c h.1)
+
+joins_disks : (half : ℕ) (p : Point) (ps : List Point) (c : Point) → on_disks half (take (length ps) (p ∷ ps)) c ≡ on_joins half (p ∷ ps) c
+joins_disks half p [] c = refl
+joins_disks half p (q ∷ ps) c = ap (λ t. in_disk half p c || t) (joins_disks half q ps c)
+
+last_disk : (half : ℕ) (b : Point) (ps : List Point) (c : Point) → in_disk half (point_at (b ∷ ps) (length ps)) c ≡ in_last_disk half b ps c
+last_disk half b [] c = refl
+last_disk half b (p ∷ ps) c = last_disk half p ps c
+
+past_ends : (half : ℕ) (a b : Point) (ps : List Point) (c : Point)
+    → past_end half (point_at (a ∷ b ∷ ps) (length ps)) (point_at (b ∷ ps) (length ps)) c ≡ past_last half a b ps c
+past_ends half a b [] c = refl
+past_ends half a b (p ∷ ps) c = past_ends half b p ps c
+
+last_apart : (a b : Point) (ps : List Point) → apart_from a (b ∷ ps) → is_same (point_at (a ∷ b ∷ ps) (length ps)) (point_at (b ∷ ps) (length ps)) ≡ false
+last_apart a b [] h = h.0
+last_apart a b (p ∷ ps) h = last_apart b p ps h.1
+
+ends_caps : (half : ℕ) (cap : LineCap) (a b : Point) (ps : List Point) (c : Point) → apart_from a (b ∷ ps)
+    → on_ends half cap a b (point_at (a ∷ b ∷ ps) (length ps)) (point_at (b ∷ ps) (length ps)) c ≡ on_caps half cap a b ps c
+ends_caps half with.Butt a b ps c h = refl
+ends_caps half with.Round a b ps c h = ap (λ t. in_disk half a c || t) (last_disk half b ps c)
+ends_caps half with.Square a b ps c h =
+    let y : Point = point_at (a ∷ b ∷ ps) (length ps) in
+    let z : Point = point_at (b ∷ ps) (length ps) in
+    ap (λ t. (not t && before_start half a b c) || (not (is_same y z) && past_end half y z c)) h.0
+    ∙ ap (λ t. before_start half a b c || (not t && past_end half y z c)) (last_apart a b ps h)
+    ∙ ap (λ t. before_start half a b c || t) (past_ends half a b ps c)
+
+long_kept : (half : ℕ) (cap : LineCap) (a b : Point) (ps : List Point) (c : Point) → apart_from a (b ∷ ps)
+    → on_long half cap (a ∷ b ∷ ps) c ≡ on_kept half cap (a ∷ b ∷ ps) c
+long_kept half cap a b ps c h =
+    let l : List Point = a ∷ b ∷ ps in
+    let two : length l - 2 ≡ length ps = omega arith in
+    let one : length l - 1 ≡ suc (length ps) = omega arith in
+    ap (λ k. (on_sides half a (b ∷ ps) c || on_disks half (take k (b ∷ ps)) c) || on_ends half cap a b (point_at l k) (point_at l (length l - 1)) c) two
+    ∙ ap (λ k. (on_sides half a (b ∷ ps) c || on_disks half (take (length ps) (b ∷ ps)) c) || on_ends half cap a b (point_at l (length ps)) (point_at l k) c) one
+    ∙ ap (λ t. (on_sides half a (b ∷ ps) c || on_disks half (take (length ps) (b ∷ ps)) c) || t) (ends_caps half cap a b ps c h)
+    ∙ ap (λ t. (t || on_disks half (take (length ps) (b ∷ ps)) c) || on_caps half cap a b ps c) (sides_bodies half a (b ∷ ps) c h)
+    ∙ ap (λ t. (on_bodies half a (b ∷ ps) c || t) || on_caps half cap a b ps c) (joins_disks half b ps c)
+
+parts_are : (half : ℕ) (cap : LineCap) (p : Point) (ps : List Point) (c : Point) → apart_from p ps → on_parts half cap (p ∷ ps) c ≡ on_kept half cap (p ∷ ps) c
+parts_are half cap p [] c h = refl
+parts_are half cap p (q ∷ ps) c h = long_kept half cap p q ps c h
+
+-- the parts of the kept points are the line
+pub parts_kept : (half : ℕ) (cap : LineCap) (points : List Point) (c : Point) → on_parts half cap (kept points) c ≡ on_line half cap c points
+parts_kept half cap [] c = refl
+parts_kept half cap (p ∷ ps) c = parts_are half cap p (kept_after p ps) c (kept_apart p ps)
+
+pub on_err : {V E : Type 0} (r : Result V E) (P : Type 0) → P → OnErr r P
+on_err (Ok v) P p = tt
+on_err (Err e) P p = p

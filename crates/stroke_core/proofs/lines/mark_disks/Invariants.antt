@@ -1,0 +1,8 @@
+use Rattle.std.proofs.Common.{◌≡◌, take}
+use Rattle.plain_drawing.specs.World.{centres}
+use Rattle.plain_drawing.specs.Canvas.{marked}
+use Rattle.plain_drawing.specs.Strokes.{on_disks}
+use Rattle.stroke_core.proofs.lines.mark_disks.Given as goal
+
+abbrev pub invariant-loop-p : goal.invariant-loop-p
+invariant-loop-p l = l.mask ≡ record l.fn.mask { bits = marked (on_disks l.half (take l.p-index l.points)) (centres l.w) l.fn.mask.bits }

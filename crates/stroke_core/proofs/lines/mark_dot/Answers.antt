@@ -1,0 +1,7 @@
+use Rattle.std.proofs.Common.{ap}
+use Rattle.plain_drawing.specs.Strokes.{on_dot}
+use Rattle.plain_drawing.proofs.Places.{no_mark}
+use Rattle.stroke_core.proofs.lines.mark_dot.Goals as goal
+
+pub returns-in-Butt : goal.returns-in-Butt
+returns-in-Butt c = no_mark (on_dot c.args.half c.args.cap c.args.p) c.args.w c.args.mask.now (λ p. ap (λ cap. on_dot c.args.half cap c.args.p p) c.in-Butt.is)

@@ -1,0 +1,11 @@
+use Rattle.std.proofs.Common.{drop}
+use Rattle.plain_drawing.specs.World.{InWorld}
+use Rattle.plain_drawing.specs.Strokes.{on_sides}
+use Rattle.plain_drawing.proofs.Places.{Left}
+use Rattle.stroke_core.proofs.lines.mark_sides.Given as goal
+
+abbrev pub invariant-loop-p : goal.invariant-loop-p
+invariant-loop-p l = record {
+  within : InWorld l.before;
+  left : Left (on_sides l.half l.before (drop l.p-index l.rest)) (on_sides l.half l.fn.first l.rest) l.w l.fn.mask l.mask;
+}

@@ -1,0 +1,8 @@
+use Rattle.std.proofs.Common.{◌≡◌, take}
+use Rattle.plain_drawing.specs.World.{centres}
+use Rattle.plain_drawing.specs.Canvas.{marked}
+use Rattle.plain_drawing.specs.Strokes.{on_outline}
+use Rattle.stroke_core.proofs.outlines.stroke_rings.Given as goal
+
+abbrev pub invariant-loop-ring : goal.invariant-loop-ring
+invariant-loop-ring l = l.mask ≡ record l.fn.mask { bits = marked (on_outline (take l.ring-index l.rings) l.half) (centres l.w) l.fn.mask.bits }

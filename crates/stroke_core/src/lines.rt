@@ -1,0 +1,193 @@
+//! Strokes of lines.
+ghost use Rattle.std.specs.Prelude.{◌≡◌, ◌≤◌, ◌<◌, ◌^◌, length, All, OnOk, OnErr};
+ghost use Rattle.plain_drawing.specs.World.{InWorld, IsWindow, centres};
+ghost use Rattle.plain_drawing.specs.Canvas.{marked, SetsSome};
+ghost use Rattle.plain_drawing.specs.Strokes.{on_sides, on_disks, on_dot, on_line, on_stroke};
+ghost use Rattle.stroke_core.specs.Parts.{on_ends, on_long, on_parts};
+
+use crate::bodies::Body;
+use crate::caps::{EndCap, StartCap};
+use crate::disks::{Block, Disk};
+use crate::kept::kept;
+use centre_spans::mark;
+use farm_base::NoMemory;
+use plain_drawing::{LineCap, Path, Point, Window};
+use plain_image::Mask;
+use std::alloc::Global;
+
+/// Sets the bits of the bodies of the segments from `first` along the points.
+pub fn mark_sides(half: u32, first: Point, rest: &[Point], w: Window, mask: &mut Mask)
+    requires half { half ≤ 2 ^ 31 }
+    requires first { InWorld first }
+    requires rest { All InWorld rest.now }
+    requires window { IsWindow w }
+    requires cols { mask.old.cols ≡ w.cols }
+    requires rows { mask.old.rows ≡ w.rows }
+    ensures { mask.new ≡ record mask.old { bits = marked (on_sides half first rest.now) (centres w) mask.old.bits } }
+{
+    let mut before = first;
+    for p in rest {
+        mark(
+            &Body {
+                half,
+                a: before,
+                b: *p,
+            },
+            w,
+            mask,
+        );
+        before = *p;
+    }
+}
+
+/// Sets the bits of the disks at the points.
+pub fn mark_disks(half: u32, points: &[Point], w: Window, mask: &mut Mask)
+    requires half { half ≤ 2 ^ 31 }
+    requires points { All InWorld points.now }
+    requires window { IsWindow w }
+    requires cols { mask.old.cols ≡ w.cols }
+    requires rows { mask.old.rows ≡ w.rows }
+    ensures { mask.new ≡ record mask.old { bits = marked (on_disks half points.now) (centres w) mask.old.bits } }
+{
+    for p in points {
+        mark(&Disk { half, p: *p }, w, mask);
+    }
+}
+
+// Sets the bits of the caps of a line that begins from `a` to `b` and ends from `y` to `z`.
+fn mark_ends(
+    half: u32,
+    cap: LineCap,
+    a: Point,
+    b: Point,
+    y: Point,
+    z: Point,
+    w: Window,
+    mask: &mut Mask,
+)
+    requires half { half ≤ 2 ^ 31 }
+    requires a { InWorld a }
+    requires b { InWorld b }
+    requires y { InWorld y }
+    requires z { InWorld z }
+    requires window { IsWindow w }
+    requires cols { mask.old.cols ≡ w.cols }
+    requires rows { mask.old.rows ≡ w.rows }
+    ensures { mask.new ≡ record mask.old { bits = marked (on_ends half cap a b y z) (centres w) mask.old.bits } }
+{
+    match cap {
+        LineCap::Butt => {}
+        LineCap::Round => {
+            mark(&Disk { half, p: a }, w, mask);
+            mark(&Disk { half, p: z }, w, mask);
+        }
+        LineCap::Square => {
+            mark(&StartCap { half, a, b }, w, mask);
+            mark(&EndCap { half, a: y, b: z }, w, mask);
+        }
+    }
+}
+
+// Sets the bits of a line of one point.
+fn mark_dot(half: u32, cap: LineCap, p: Point, w: Window, mask: &mut Mask)
+    requires half { half ≤ 2 ^ 31 }
+    requires p { InWorld p }
+    requires window { IsWindow w }
+    requires cols { mask.old.cols ≡ w.cols }
+    requires rows { mask.old.rows ≡ w.rows }
+    ensures { mask.new ≡ record mask.old { bits = marked (on_dot half cap p) (centres w) mask.old.bits } }
+{
+    match cap {
+        LineCap::Butt => {}
+        LineCap::Round => mark(&Disk { half, p }, w, mask),
+        LineCap::Square => mark(&Block { half, p }, w, mask),
+    }
+}
+
+// Sets the bits of a line of two points or more.
+fn mark_long(half: u32, cap: LineCap, ps: &[Point], w: Window, mask: &mut Mask)
+    requires half { half ≤ 2 ^ 31 }
+    requires some { 2 ≤ length ps.now }
+    requires points { All InWorld ps.now }
+    requires window { IsWindow w }
+    requires cols { mask.old.cols ≡ w.cols }
+    requires rows { mask.old.rows ≡ w.rows }
+    ensures { mask.new ≡ record mask.old { bits = marked (on_long half cap ps.now) (centres w) mask.old.bits } }
+{
+    let n = ps.len();
+    mark_sides(half, ps[0], &ps[1..], w, mask);
+    mark_disks(half, &ps[1..n - 1], w, mask);
+    mark_ends(half, cap, ps[0], ps[1], ps[n - 2], ps[n - 1], w, mask);
+}
+
+// Sets the bits of a line none of whose points equals the one before.
+fn mark_line(half: u32, cap: LineCap, ps: &[Point], w: Window, mask: &mut Mask)
+    requires half { half ≤ 2 ^ 31 }
+    requires points { All InWorld ps.now }
+    requires window { IsWindow w }
+    requires cols { mask.old.cols ≡ w.cols }
+    requires rows { mask.old.rows ≡ w.rows }
+    ensures { mask.new ≡ record mask.old { bits = marked (on_parts half cap ps.now) (centres w) mask.old.bits } }
+{
+    if ps.is_empty() {
+        return;
+    }
+    if ps.len() == 1 {
+        mark_dot(half, cap, ps[0], w, mask);
+        return;
+    }
+    mark_long(half, cap, ps, w, mask);
+}
+
+// Sets the bits of one line.
+fn stroke_line(
+    alloc: Global,
+    line: &Path,
+    half: u32,
+    cap: LineCap,
+    w: Window,
+    mask: &mut Mask,
+) -> Result<(), NoMemory>
+    requires half { half ≤ 2 ^ 31 }
+    requires points { All InWorld line.now }
+    requires window { IsWindow w }
+    requires cols { mask.old.cols ≡ w.cols }
+    requires rows { mask.old.rows ≡ w.rows }
+    ensures drawn { OnOk result (mask.new ≡ record mask.old { bits = marked (λ c. on_line half cap c line.now) (centres w) mask.old.bits }) }
+    ensures refused { OnErr result (mask.new ≡ mask.old) }
+{
+    let points = kept(alloc, &line.points)?;
+    mark_line(half, cap, &points, w, mask);
+    Ok(())
+}
+
+/// Sets the bits of the mask whose pixel centre lies on the stroke of one of the lines: in the body of a
+/// segment, in the disk at an inner point, or in a cap (the stroke and cap shapes of Mapnik and AGG,
+/// with round joins). `half` is half the stroke's width in world units, at most `2^31`. A point that
+/// equals the one before it counts for nothing; of a line with one point left only the cap is drawn.
+///
+/// No other bit changes. After `NoMemory` some of the bits that belong may be set, and no others. The
+/// points lie in the world, the window is a tile's or a metatile's, and the mask has its sides.
+pub fn stroke_lines(
+    alloc: Global,
+    lines: &[Path],
+    half: u32,
+    cap: LineCap,
+    w: Window,
+    mask: &mut Mask,
+) -> Result<(), NoMemory>
+    requires half { half ≤ 2 ^ 31 }
+    requires lines { All (All InWorld) lines.now }
+    requires window { IsWindow w }
+    requires cols { mask.old.cols ≡ w.cols }
+    requires rows { mask.old.rows ≡ w.rows }
+    ensures drawn { OnOk result (mask.new ≡ record mask.old { bits = marked (on_stroke lines.now half cap) (centres w) mask.old.bits }) }
+    ensures refused { OnErr result (SetsSome (on_stroke lines.now half cap) w mask.old mask.new) }
+    ensures cols { mask.new.cols ≡ mask.old.cols }
+    ensures rows { mask.new.rows ≡ mask.old.rows }
+{
+    for line in lines {
+        stroke_line(alloc, line, half, cap, w, mask)?;
+    }
+    Ok(())
+}
