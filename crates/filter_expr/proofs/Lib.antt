@@ -1,2 +1,16 @@
+pub mod Chains
+pub mod Complete
+pub mod Final
+pub mod Levels
+pub mod Lexemes
+pub mod Lexes
+pub mod Local
+pub mod Loops
 pub mod Nodes
+pub mod Only
+pub mod Rows
+pub mod SeenLemmas
+pub mod Sound
+pub mod Spelled
+pub mod Tokenised
 pub mod Turns

@@ -1,1 +1,10 @@
+pub mod Filters
+pub mod Gives
+pub mod Grammar
+pub mod Lexing
+pub mod Places
+pub mod Reading
+pub mod Seen
 pub mod Shown
+pub mod Spelling
+pub mod Trees

@@ -1,9 +1,16 @@
 //! Filter expressions: read from a text, evaluated, and written as a text again.
 #![tactic(auto)]
 
+mod faults;
+mod lexer;
+mod parser;
+mod reader;
+mod tokens;
 mod value;
 mod walk;
 
+pub use faults::FilterFault;
 pub use plain_drawing::{CompareSign, Expr, ProductPart, ProductSign, SumPart, SumSign};
+pub use reader::{law_one_answer, law_one_tree, parse};
 pub use value::ValueRef;
 pub use walk::{eval, holds};

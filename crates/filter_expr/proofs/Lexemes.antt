@@ -1,0 +1,268 @@
+-- A token that the lexer finds is spelled by the bytes that it takes, and ends where they do.
+use Rattle.std.proofs.Common.{◌≡◌, ◌≢◌, ℕ, zero, suc, ◌+◌, ◌^◌, ◌<◌, ◌==◌, Bool, true, false, not, ◌||◌, ◌&&◌, nat_lt, if◌then◌else◌, List, [], ◌∷◌, ◌++◌, drop, take, length, get_or, Option, Some, None, ◌⊎◌, inl, inr, refl, sym, ap, ◌∙◌, subst, arith, pos}
+use Rattle.std.specs.Prelude.{codes}
+use Rattle.std.specs.List.{prefix_len}
+use Rattle.std.specs.Str.{bytes_eq}
+use Rattle.std.proofs.lemmas.Bool.{eqb-true, eq-eqb, ltb-true, ltb-false}
+use Rattle.std.proofs.lemmas.List.{take_more}
+use Rattle.std.proofs.lemmas.List.Sums.{prefix_len_stops}
+use Rattle.std.proofs.lemmas.Slice.Eq.{bytes_eq-Decides}
+use Rattle.plain_drawing.specs.declared.CompareSign.TheVariants as «compare»
+use Rattle.filter_expr.specs.declared.tokens.Token.{Token}
+use Rattle.filter_expr.specs.declared.tokens.Token.TheVariants as token
+use Rattle.filter_expr.specs.Trees.{is_unknown}
+use Rattle.filter_expr.specs.Spelling.{is_digit, is_letter, is_word_byte, is_quote, is_escaped, is_name_byte, IsDigits, number_of, IsQuoting, Spells, begins_with, goes_on, EndsBefore, StandsFirst}
+use Rattle.filter_expr.specs.Lexing.{Taken, nothing, number_token, number_at, word_token, word_at, name_at, longer, quoting_len, unescaped, quoted_of, quoted_at, single, less_at, sign_at, first_byte, token_at}
+use Rattle.filter_expr.proofs.Spelled.{wrong, split_bool, end_digits, end_words, run_all, run_stops, run_first}
+
+-- where the token is one, it stands first
+pub record Good (l : List ℕ) (r : Taken) : Type 0 where
+  pub good : is_unknown r.0 ≡ false → StandsFirst r.0 (take r.1 l) (drop r.1 l)
+
+good_if : (l : List ℕ) (b : Bool) (x y : Taken) → (b ≡ true → Good l x) → (b ≡ false → Good l y) → Good l (if b then x else y)
+good_if l true x y h g = h refl
+good_if l false x y h g = g refl
+
+good_nothing : (l : List ℕ) → Good l nothing
+good_nothing l = record { good = λ u. absurd (wrong (sym u)) }
+
+-- a token by the bytes that it takes
+good_at : (l : List ℕ) (t : Token) (n : ℕ) (us more : List ℕ) → take n l ≡ us → drop n l ≡ more → StandsFirst t us more → Good l (t, n)
+good_at l t n us more a b h = record { good = λ _. subst (λ x. StandsFirst t x (drop n l)) (sym a) (subst (λ x. StandsFirst t us x) (sym b) h) }
+
+-- ---- numbers and words
+
+begins_run : (test p : ℕ → Bool) (b : ℕ) (bs : List ℕ) (v : Bool) → p b ≡ true → test b ≡ v → begins_with test (take (prefix_len p (b ∷ bs)) (b ∷ bs)) ≡ v
+begins_run test p b bs v h g = ap (begins_with test) (run_first p b bs h) ∙ g
+
+some_first : (xs : List ℕ) (b : ℕ) (ys : List ℕ) → xs ≡ b ∷ ys → xs ≢ []
+some_first xs b ys e n = wrong (ap (begins_with (λ _. true)) (sym n ∙ e))
+
+number_spells : (us : List ℕ) → IsDigits us → Spells (number_token us) us
+unfolding number_token
+number_spells us d = by (nat_lt (number_of us) (2 ^ 63)) refl
+  where
+    by : (b : Bool) → nat_lt (number_of us) (2 ^ 63) ≡ b → Spells (if b then token.Number (pos (number_of us)) else token.Huge) us
+    by true e = (d, refl, ltb-true (number_of us) (2 ^ 63) e)
+    by false e = (d, ltb-false (number_of us) (2 ^ 63) e)
+
+number_good : (b : ℕ) (bs : List ℕ) → is_digit b ≡ true → Good (b ∷ bs) (number_at (b ∷ bs))
+unfolding number_at
+number_good b bs h = record {
+  good = λ _. (
+    number_spells (take (prefix_len is_digit (b ∷ bs)) (b ∷ bs)) (some_first (take (prefix_len is_digit (b ∷ bs)) (b ∷ bs)) b (take (prefix_len is_digit bs) bs) (run_first is_digit b bs h), run_all is_digit (b ∷ bs)),
+    end_digits (take (prefix_len is_digit (b ∷ bs)) (b ∷ bs)) (drop (prefix_len is_digit (b ∷ bs)) (b ∷ bs)) (begins_run is_digit is_digit b bs true h h) (run_stops is_digit (b ∷ bs)),
+  );
+}
+
+ladder : (w x : List ℕ) (t r : Token) → (w ≡ x → Spells t w) → (is_unknown r ≡ false → Spells r w) → is_unknown (if bytes_eq w x then t else r) ≡ false →
+    Spells (if bytes_eq w x then t else r) w
+ladder w x t r h g = by (bytes_eq w x) refl
+  where
+    by : (b : Bool) → bytes_eq w x ≡ b → is_unknown (if b then t else r) ≡ false → Spells (if b then t else r) w
+    by true e _ = h ((bytes_eq-Decides w x).0 e)
+    by false e u = g u
+
+word_spells : (w : List ℕ) → is_unknown (word_token w) ≡ false → Spells (word_token w) w
+unfolding word_token
+word_spells w =
+    ladder w (codes "true") token.True _ (λ q. q)
+    (ladder w (codes "false") token.False _ (λ q. q)
+    (ladder w (codes "null") token.Null _ (λ q. q)
+    (ladder w (codes "and") token.And _ (λ q. inl q)
+    (ladder w (codes "or") token.Or _ (λ q. inl q)
+    (ladder w (codes "not") token.Not token.Unknown (λ q. inl q) (λ u. absurd (wrong (sym u))))))))
+
+word_good : (b : ℕ) (bs : List ℕ) → is_digit b ≡ false → is_letter b ≡ true → Good (b ∷ bs) (word_at (b ∷ bs))
+unfolding word_at
+word_good b bs d h = record {
+  good = λ u.
+      let word : is_word_byte b ≡ true = ap (λ t. t || is_digit b || b == 95) h in (
+        word_spells (take (prefix_len is_word_byte (b ∷ bs)) (b ∷ bs)) u,
+        end_words (take (prefix_len is_word_byte (b ∷ bs)) (b ∷ bs)) (drop (prefix_len is_word_byte (b ∷ bs)) (b ∷ bs)) (begins_run is_digit is_word_byte b bs false word d) (begins_run is_letter is_word_byte b bs true word h) (run_stops is_word_byte (b ∷ bs)),
+      );
+}
+
+-- ---- names and strings
+
+take_two : (b : ℕ) (bs : List ℕ) (n : ℕ) → n < length bs → take (n + 2) (b ∷ bs) ≡ b ∷ (take n bs ++ get_or bs n 0 ∷ [])
+take_two b bs n h = let e : n + 2 ≡ suc (n + 1) = omega arith in ap (λ m. take m (b ∷ bs)) e ∙ ap (λ l. b ∷ l) (take_more bs n 0 h)
+
+name_end : (n : ℕ) → is_name_byte n ≡ false → n ≡ 93
+name_end n h = by (split_bool (n == 93))
+  where
+    by : ((n == 93) ≡ true) ⊎ ((n == 93) ≡ false) → n ≡ 93
+    by (inl e) = eqb-true n 93 e
+    by (inr e) = absurd (wrong (sym (sym (ap not e) ∙ h)))
+
+bracket_ends : (us more : List ℕ) → EndsBefore (91 ∷ us) more
+bracket_ends us [] = tt
+bracket_ends us (c ∷ cs) = refl
+
+quote_ends : (q : ℕ) (us more : List ℕ) → is_quote q ≡ true → EndsBefore (q ∷ us) more
+quote_ends q us [] h = tt
+quote_ends q us (c ∷ cs) h = by (split_bool (q == 39))
+  where
+    by : ((q == 39) ≡ true) ⊎ ((q == 39) ≡ false) → goes_on (q ∷ us) c ≡ false
+    by (inl e) = subst (λ n. goes_on (n ∷ us) c ≡ false) (sym (eqb-true q 39 e)) refl
+    by (inr e) = subst (λ n. goes_on (n ∷ us) c ≡ false) (sym (eqb-true q 34 (sym (ap (λ b. b || q == 34) e) ∙ h))) refl
+
+some_taken : (n : ℕ) (bs : List ℕ) → (n == 0) ≡ false → n < length bs → take n bs ≢ []
+some_taken zero bs e h = absurd (wrong (sym e))
+some_taken (suc n) [] e h = absurd (omega (arith, h))
+some_taken (suc n) (b ∷ bs) e h = some_first (b ∷ take n bs) b (take n bs) refl
+
+name_good : (bs : List ℕ) → Good (91 ∷ bs) (name_at bs)
+unfolding name_at
+name_good bs =
+    good_if (91 ∷ bs) (prefix_len is_name_byte bs == 0) _ _ (λ _. good_nothing (91 ∷ bs))
+    (λ z. good_if (91 ∷ bs) (nat_lt (prefix_len is_name_byte bs) (length bs)) _ _
+    (λ e.
+    let less : prefix_len is_name_byte bs < length bs = ltb-true (prefix_len is_name_byte bs) (length bs) e in
+    good_at (91 ∷ bs) (token.Name (take (prefix_len is_name_byte bs) bs)) (prefix_len is_name_byte bs + 2) (91 ∷ (take (prefix_len is_name_byte bs) bs ++ 93 ∷ [])) (drop (prefix_len is_name_byte bs + 2) (91 ∷ bs))
+    (take_two 91 bs (prefix_len is_name_byte bs) less
+    ∙ ap (λ x. 91 ∷ (take (prefix_len is_name_byte bs) bs ++ x ∷ [])) (name_end (get_or bs (prefix_len is_name_byte bs) 0) (prefix_len_stops is_name_byte bs 0 less)))
+    refl
+    ((refl, some_taken (prefix_len is_name_byte bs) bs z less, run_all is_name_byte bs), bracket_ends (take (prefix_len is_name_byte bs) bs ++ 93 ∷ []) (drop (prefix_len is_name_byte bs + 2) (91 ∷ bs))))
+    (λ _. good_nothing (91 ∷ bs)))
+
+-- a text in quotes, where a backslash stood just before or not
+abbrev Quoting : ℕ → Bool → List ℕ → List ℕ → Type 0
+Quoting q false t us = IsQuoting q t us
+Quoting q true t us = IsQuoting q t (92 ∷ us)
+
+record Closed (q : ℕ) (e : Bool) (bs : List ℕ) (n : ℕ) : Type 0 where
+  less : n < length bs
+  quote : get_or bs n 0 ≡ q
+  text : Quoting q e (unescaped e (take n bs)) (take n bs)
+
+abbrev ClosedAt : ℕ → Bool → List ℕ → Option ℕ → Type 0
+ClosedAt q e bs None = Unit {0}
+ClosedAt q e bs (Some n) = Closed q e bs n
+
+closed_escaped : (q b : ℕ) (bs : List ℕ) → is_escaped b ≡ true → (o : Option ℕ) → ClosedAt q false bs o → ClosedAt q true (b ∷ bs) (longer o)
+unfolding unescaped
+closed_escaped q b bs h None c = tt
+closed_escaped q b bs h (Some n) c = record { less = omega (arith, c.less); quote = c.quote; text = (take n bs, c.text, inr (refl, h)) }
+
+closed_backslash : (q : ℕ) (bs : List ℕ) → (o : Option ℕ) → ClosedAt q true bs o → ClosedAt q false (92 ∷ bs) (longer o)
+unfolding unescaped
+closed_backslash q bs None c = tt
+closed_backslash q bs (Some n) c = record { less = omega (arith, c.less); quote = c.quote; text = c.text }
+
+closed_plain : (q b : ℕ) (bs : List ℕ) → (b == q) ≡ false → (b == 92) ≡ false → (o : Option ℕ) → ClosedAt q false bs o → ClosedAt q false (b ∷ bs) (longer o)
+unfolding unescaped
+closed_plain q b bs h g None c = tt
+closed_plain q b bs h g (Some n) c = record {
+  less = omega (arith, c.less);
+  quote = c.quote;
+  text = subst (λ l. IsQuoting q l (b ∷ take n bs)) (sym (ap (λ t. if t then unescaped true (take n bs) else b ∷ unescaped false (take n bs)) g))
+      (take n bs, c.text, inl (refl, apart b q h, apart b 92 g));
+}
+  where
+    apart : (x y : ℕ) → (x == y) ≡ false → x ≢ y
+    apart x y e s = wrong (sym e ∙ eq-eqb x y s)
+
+closed_if : (q : ℕ) (e : Bool) (bs : List ℕ) (b : Bool) (x y : Option ℕ) → (b ≡ true → ClosedAt q e bs x) → (b ≡ false → ClosedAt q e bs y) → ClosedAt q e bs (if b then x else y)
+closed_if q e bs true x y h g = h refl
+closed_if q e bs false x y h g = g refl
+
+closed_at : (q : ℕ) (e : Bool) (bs : List ℕ) → ClosedAt q e bs (quoting_len q e bs)
+unfolding quoting_len unescaped
+closed_at q e [] = tt
+closed_at q true (b ∷ bs) =
+    closed_if q true (b ∷ bs) (is_escaped b) (longer (quoting_len q false bs)) None (λ h. closed_escaped q b bs h (quoting_len q false bs) (closed_at q false bs)) (λ _. tt)
+closed_at q false (b ∷ bs) =
+    closed_if q false (b ∷ bs) (b == q) (Some 0) (if b == 92 then longer (quoting_len q true bs) else longer (quoting_len q false bs))
+    (λ h. record { less = omega arith; quote = eqb-true b q h; text = refl })
+    (λ h. closed_if q false (b ∷ bs) (b == 92) (longer (quoting_len q true bs)) (longer (quoting_len q false bs))
+    (λ g. subst (λ x. ClosedAt q false (x ∷ bs) (longer (quoting_len q true bs))) (sym (eqb-true b 92 g)) (closed_backslash q bs (quoting_len q true bs) (closed_at q true bs)))
+    (λ g. closed_plain q b bs h g (quoting_len q false bs) (closed_at q false bs)))
+
+quoted_good : (q : ℕ) (bs : List ℕ) → is_quote q ≡ true → Good (q ∷ bs) (quoted_at q bs)
+unfolding quoted_at
+quoted_good q bs h = by (quoting_len q false bs) (closed_at q false bs)
+  where
+    by : (o : Option ℕ) → ClosedAt q false bs o → Good (q ∷ bs) (quoted_of bs o)
+    by None c = good_nothing (q ∷ bs)
+    by (Some n) c =
+        good_at (q ∷ bs) (token.Quoted (unescaped false (take n bs))) (n + 2) (q ∷ (take n bs ++ q ∷ [])) (drop (n + 2) (q ∷ bs))
+        (take_two q bs n c.less ∙ ap (λ x. q ∷ (take n bs ++ x ∷ [])) c.quote) refl
+        ((q, take n bs, refl, h, c.text), quote_ends q (take n bs ++ q ∷ []) (drop (n + 2) (q ∷ bs)) h)
+
+-- ---- signs
+
+one_good : (k b : ℕ) (bs : List ℕ) (t : Token) → (b == k) ≡ true → Spells t (k ∷ []) → EndsBefore (k ∷ []) bs → Good (b ∷ bs) (t, 1)
+one_good k b bs t e s h = good_at (b ∷ bs) t 1 (k ∷ []) bs (ap (λ x. x ∷ []) (eqb-true b k e)) refl (s, h)
+
+two_good : (k j b : ℕ) (bs : List ℕ) (t : Token) → (b == k) ≡ true → (first_byte bs == suc j) ≡ true → Spells t (k ∷ suc j ∷ []) → ((more : List ℕ) → EndsBefore (k ∷ suc j ∷ []) more) → Good (b ∷ bs) (t, 2)
+two_good k j b [] t e g s h = absurd (omega (arith, eqb-true 0 (suc j) g))
+two_good k j b (c ∷ cs) t e g s h =
+    good_at (b ∷ c ∷ cs) t 2 (k ∷ suc j ∷ []) cs (ap (λ x. x ∷ c ∷ []) (eqb-true b k e) ∙ ap (λ x. k ∷ x ∷ []) (eqb-true c (suc j) g)) refl (s, h cs)
+
+-- a sign that no byte makes a longer one
+alone : (us : List ℕ) → ((c : ℕ) → goes_on us c ≡ false) → (more : List ℕ) → EndsBefore us more
+alone us h [] = tt
+alone us h (c ∷ cs) = h c
+
+-- a sign before a byte that is not the one that would make it longer
+before_other : (us : List ℕ) (k : ℕ) (more : List ℕ) → ((c : ℕ) → (c == k) ≡ false → goes_on us c ≡ false) → (first_byte more == k) ≡ false → EndsBefore us more
+before_other us k [] h e = tt
+before_other us k (c ∷ cs) h e = h c e
+
+single_good : (b : ℕ) (bs : List ℕ) → Good (b ∷ bs) (single b, 1)
+unfolding single
+single_good b bs =
+    step 43 token.Plus _ refl (alone (codes "+") (λ _. refl) bs)
+    (step 45 token.Minus _ refl (alone (codes "-") (λ _. refl) bs)
+    (step 42 token.Times _ refl (alone (codes "*") (λ _. refl) bs)
+    (step 47 token.Divide _ refl (alone (codes "/") (λ _. refl) bs)
+    (step 37 token.Rest _ refl (alone (codes "%") (λ _. refl) bs)
+    (step 40 token.Open _ refl (alone (codes "(") (λ _. refl) bs)
+    (step 41 token.Close token.Unknown refl (alone (codes ")") (λ _. refl) bs) (good_nothing (b ∷ bs))))))))
+  where
+    step : (k : ℕ) (t r : Token) → Spells t (k ∷ []) → EndsBefore (k ∷ []) bs → Good (b ∷ bs) (r, 1) → Good (b ∷ bs) (if b == k then t else r, 1)
+    step k t r s h g = by (b == k) refl
+      where
+        by : (v : Bool) → (b == k) ≡ v → Good (b ∷ bs) (if v then t else r, 1)
+        by true e = one_good k b bs t e s h
+        by false e = g
+
+less_good : (b : ℕ) (bs : List ℕ) → (b == 60) ≡ true → Good (b ∷ bs) (less_at (first_byte bs))
+unfolding less_at
+less_good b bs h =
+    good_if (b ∷ bs) (first_byte bs == 61) _ _ (λ e. two_good 60 60 b bs (token.Compare compare.LessEqual) h e refl (alone (codes "<=") (λ _. refl)))
+    (λ n. good_if (b ∷ bs) (first_byte bs == 62) _ _ (λ e. two_good 60 61 b bs (token.Compare compare.Unequal) h e (inr refl) (alone (codes "<>") (λ _. refl)))
+    (λ m. one_good 60 b bs (token.Compare compare.Less) h refl (ends bs n m)))
+  where
+    ends : (bs : List ℕ) → (first_byte bs == 61) ≡ false → (first_byte bs == 62) ≡ false → EndsBefore (codes "<") bs
+    ends [] n m = tt
+    ends (c ∷ cs) n m = ap (λ x. (x && true) || (((c == 61) && true) || false)) m ∙ ap (λ x. (x && true) || false) n
+
+sign_good : (b : ℕ) (bs : List ℕ) → Good (b ∷ bs) (sign_at b (first_byte bs))
+unfolding sign_at
+sign_good b bs =
+    good_if (b ∷ bs) (b == 61) _ _ (λ e. one_good 61 b bs (token.Compare compare.Equal) e refl (alone (codes "=") (λ _. refl) bs))
+    (λ _. good_if (b ∷ bs) (b == 33) _ _
+    (λ h. good_if (b ∷ bs) (first_byte bs == 61) _ _ (λ e. two_good 33 60 b bs (token.Compare compare.Unequal) h e (inl refl) (alone (codes "!=") (λ _. refl)))
+    (λ n. one_good 33 b bs token.Not h (inr refl) (before_other (codes "!") 61 bs (λ c e. ap (λ x. (x && true) || false) e) n)))
+    (λ _. good_if (b ∷ bs) (b == 60) _ _ (less_good b bs)
+    (λ _. good_if (b ∷ bs) (b == 62) _ _
+    (λ h. good_if (b ∷ bs) (first_byte bs == 61) _ _ (λ e. two_good 62 60 b bs (token.Compare compare.GreaterEqual) h e refl (alone (codes ">=") (λ _. refl)))
+    (λ n. one_good 62 b bs (token.Compare compare.Greater) h refl (before_other (codes ">") 61 bs (λ c e. ap (λ x. (x && true) || false) e) n)))
+    (λ _. good_if (b ∷ bs) (b == 38) _ _
+    (λ h. good_if (b ∷ bs) (first_byte bs == 38) _ _ (λ e. two_good 38 37 b bs token.And h e (inr refl) (alone (codes "&&") (λ _. refl))) (λ _. good_nothing (b ∷ bs)))
+    (λ _. good_if (b ∷ bs) (b == 124) _ _
+    (λ h. good_if (b ∷ bs) (first_byte bs == 124) _ _ (λ e. two_good 124 123 b bs token.Or h e (inr refl) (alone (codes "||") (λ _. refl))) (λ _. good_nothing (b ∷ bs)))
+    (λ _. single_good b bs))))))
+
+-- ---- all tokens
+
+pub token_good : (b : ℕ) (bs : List ℕ) → Good (b ∷ bs) (token_at (b ∷ bs))
+unfolding token_at
+token_good b bs =
+    good_if (b ∷ bs) (is_digit b) _ _ (number_good b bs)
+    (λ d. good_if (b ∷ bs) (is_letter b) _ _ (word_good b bs d)
+    (λ _. good_if (b ∷ bs) (b == 91) _ _ (λ e. subst (λ x. Good (x ∷ bs) (name_at bs)) (sym (eqb-true b 91 e)) (name_good bs))
+    (λ _. good_if (b ∷ bs) (is_quote b) _ _ (quoted_good b bs)
+    (λ _. sign_good b bs))))

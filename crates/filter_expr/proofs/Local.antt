@@ -1,0 +1,232 @@
+-- What the reader answers depends on no token behind the one at which it stops.
+use Rattle.std.proofs.Common.{◌≡◌, ℕ, zero, suc, ◌≤◌, Bool, true, false, if◌then◌else◌, List, [], ◌∷◌, ◌++◌, drop, length, refl, sym, ap, ◌∙◌, subst, arith, append_assoc}
+use Rattle.filter_expr.specs.declared.tokens.Token.{Token}
+use Rattle.filter_expr.specs.declared.tokens.Spot.{Spot}
+use Rattle.filter_expr.specs.declared.faults.FilterFault.{FilterFault}
+use Rattle.filter_expr.specs.declared.faults.FilterFault.TheVariants.{Bad, NumberRange, TooDeep}
+use Rattle.filter_expr.specs.Trees.{Kind, Tree, leaf, negation, negative, comparison, or_chain, and_chain, sum_chain, product_chain, joins, is_leaf, is_huge, is_open, is_minus, is_not, is_compare, is_close, is_end}
+use Rattle.filter_expr.specs.Seen.{Part}
+use Rattle.filter_expr.specs.Reading.{Step, got, failed, Reader, then_read, starts, first_token, place, with_front, later, chained, chain_after, chain_of, Inner, or_in, and_in, not_in, compare_in, sum_in, product_in, unary_in, atom_in, within, compared, got_negation, got_negative, closed, ended, whole, sign_of}
+use Rattle.filter_expr.proofs.Chains.{Shortens, Leaves, later-stop, later-more}
+use Rattle.filter_expr.proofs.Levels.{within_shortens, and_shortens, not_shortens, product_shortens, unary_shortens, ShortensIn}
+use Rattle.filter_expr.proofs.Rows.{wrong}
+
+abbrev pub rest_of : {A : Type 0} → Step A → List Spot
+rest_of (got x ts) = ts
+rest_of (failed f ts) = ts
+
+abbrev pub with_rest : {A : Type 0} → List Spot → Step A → Step A
+with_rest us (got x ts) = got x us
+with_rest us (failed f ts) = failed f us
+
+-- what was used of the tokens, and that the same comes out where other tokens follow the next one
+pub record At {A : Type 0} (part : Reader A) (ts : List Spot) (r : Step A) : Type 0 where
+  pub used : List Spot
+  pub split : ts ≡ used ++ rest_of r
+  pub again : (s : Spot) (a b : List Spot) → rest_of r ≡ s ∷ a → part (used ++ s ∷ b) ≡ with_rest (s ∷ b) r
+
+pub record Local {A : Type 0} (part : Reader A) : Type 0 where
+  pub here : (ts : List Spot) → At part ts (part ts)
+
+same_start : (test : Token → Bool) (used a b : List Spot) (s : Spot) → starts test (used ++ s ∷ b) ≡ starts test (used ++ s ∷ a)
+same_start test [] a b s = refl
+same_start test (t ∷ used) a b s = refl
+
+-- ---- combinators
+
+local_got : {A : Type 0} (x : A) → Local (λ ts. got x ts)
+local_got x = record { here = λ ts. record { used = []; split = refl; again = λ s a b r. refl } }
+
+local_fail : {A : Type 0} (f : ℕ → FilterFault) → Local {A = A} (λ ts. failed (f (place ts)) ts)
+local_fail f = record { here = λ ts. record { used = []; split = refl; again = λ s a b r. ap (λ us. failed (f (place us)) (s ∷ b)) (sym r) } }
+
+pub then_at : {A B : Type 0} (p : Reader A) (next : A → Reader B) (ts : List Spot) (r : Step A) → At p ts r → ((x : A) (us : List Spot) → r ≡ got x us → At (next x) us (next x us)) →
+    At (λ vs. then_read (p vs) next) ts (then_read r next)
+then_at p next ts (got x us) h k = by (k x us refl)
+  where
+    again_of : (used : List Spot) → us ≡ used ++ rest_of (next x us) → ((s : Spot) (a b : List Spot) → rest_of (next x us) ≡ s ∷ a → next x (used ++ s ∷ b) ≡ with_rest (s ∷ b) (next x us)) →
+        (s : Spot) (a b : List Spot) → rest_of (next x us) ≡ s ∷ a → then_read (p ((h.used ++ used) ++ s ∷ b)) next ≡ with_rest (s ∷ b) (next x us)
+    again_of [] split again s a b e =
+        ap (λ vs. then_read (p vs) next) (append_assoc h.used [] (s ∷ b))
+        ∙ ap (λ q. then_read q next) (h.again s a b (split ∙ e)) ∙ again s a b e
+    again_of (t ∷ used) split again s a b e =
+        ap (λ vs. then_read (p vs) next) (append_assoc h.used (t ∷ used) (s ∷ b))
+        ∙ ap (λ q. then_read q next) (h.again t (used ++ rest_of (next x us)) (used ++ s ∷ b) split) ∙ again s a b e
+
+    by : At (next x) us (next x us) → At (λ vs. then_read (p vs) next) ts (next x us)
+    by m = record {
+      used = h.used ++ m.used;
+      split = h.split ∙ ap (λ l. h.used ++ l) m.split ∙ sym (append_assoc h.used m.used (rest_of (next x us)));
+      again = again_of m.used m.split m.again;
+    }
+then_at p next ts (failed f us) h k = record { used = h.used; split = h.split; again = λ s a b e. ap (λ q. then_read q next) (h.again s a b e) }
+
+local_then : {A B : Type 0} (p : Reader A) (next : A → Reader B) → Local p → ((x : A) → Local (next x)) → Local (λ vs. then_read (p vs) next)
+local_then p next h k = record { here = λ ts. then_at p next ts (p ts) (h.here ts) (λ x us _. (k x).here us) }
+
+-- a reader that is another one where the first token is as it is here
+same_at : {A : Type 0} (test : Token → Bool) (c : Bool) (p q : Reader A) (ts : List Spot) → starts test ts ≡ c → ((us : List Spot) → starts test us ≡ c → p us ≡ q us) →
+    At q ts (q ts) → At p ts (p ts)
+same_at test c p q ts e same h = subst (At p ts) (sym (same ts e)) record {
+  used = h.used;
+  split = h.split;
+  again = λ s a b r.
+      same (h.used ++ s ∷ b) (same_start test h.used a b s ∙ ap (λ l. starts test (h.used ++ l)) (sym r) ∙ ap (starts test) (sym h.split) ∙ e) ∙ h.again s a b r;
+}
+
+local_cond : {A : Type 0} (test : Token → Bool) (p q : Reader A) → Local p → Local q → Local (λ ts. if starts test ts then p ts else q ts)
+local_cond test p q h k = record { here = λ ts. by ts (starts test ts) refl }
+  where
+    by : (ts : List Spot) (c : Bool) → starts test ts ≡ c → At (λ us. if starts test us then p us else q us) ts (if starts test ts then p ts else q ts)
+    by ts true e = same_at test true (λ us. if starts test us then p us else q us) p ts e (λ us g. ap (λ t. if t then p us else q us) g) (h.here ts)
+    by ts false e = same_at test false (λ us. if starts test us then p us else q us) q ts e (λ us g. ap (λ t. if t then p us else q us) g) (k.here ts)
+
+-- one token, whatever it is
+take_one : Reader Token
+take_one ts = got (first_token ts) (drop 1 ts)
+
+local_one : Local take_one
+unfolding take_one
+local_one = record { here = by }
+  where
+    by : (ts : List Spot) → At take_one ts (got (first_token ts) (drop 1 ts))
+    by [] = record { used = []; split = refl; again = λ s a b r. absurd (nothing s a r) }
+      where
+        nothing : (s : Spot) (a : List Spot) → [] ≡ s ∷ a → ⊥
+        nothing s a r = wrong (ap (starts (λ _. true)) r)
+    by (t ∷ ts) = record { used = t ∷ []; split = refl; again = λ s a b r. refl }
+
+local_map : {A B : Type 0} (f : A → B) (p : Reader A) → Local p → Local (λ ts. then_read (p ts) (λ x us. got (f x) us))
+local_map f p h = local_then p (λ x us. got (f x) us) h (λ x. local_got (f x))
+
+-- ---- chains
+
+front_is : (front : List Part) (r : Step (List Part)) → with_front front r ≡ then_read r (λ l us. got (front ++ l) us)
+front_is front (got l us) = refl
+front_is front (failed f us) = refl
+
+after_is : (k : Kind) (e : Tree) (r : Step (List Part)) → chain_after k e r ≡ then_read r (λ l us. got (chained k e l) us)
+after_is k e (got l us) = refl
+after_is k e (failed f us) = refl
+
+at_same : {A : Type 0} (p q : Reader A) (ts : List Spot) → ((us : List Spot) → p us ≡ q us) → At q ts (q ts) → At p ts (p ts)
+at_same p q ts same h = subst (At p ts) (sym (same ts)) record { used = h.used; split = h.split; again = λ s a b r. same (h.used ++ s ∷ b) ∙ h.again s a b r }
+
+module _ (k : Kind) (part : Reader Tree) (short : Shortens part) (loc : Local part) where
+  -- one part with the sign before it, and then the others
+  more_of : Reader (List Part)
+  more_of ts = then_read (take_one ts) (λ t us. then_read (part us) (λ e vs. with_front ((t, e) ∷ []) (later k part vs)))
+
+  stop_at : (ts : List Spot) → starts (joins k) ts ≡ false → At (later k part) ts (later k part ts)
+  stop_at ts e = same_at (joins k) false (later k part) (λ us. got [] us) ts e (λ us g. later-stop k part us g) ((local_got []).here ts)
+
+  more_at : (t : Spot) (ts : List Spot) → ((us : List Spot) → length us ≤ length ts → At (later k part) us (later k part us)) → At more_of (t ∷ ts) (more_of (t ∷ ts))
+  unfolding more_of take_one
+  more_at t ts ih =
+      then_at take_one (λ x us. then_read (part us) (λ e vs. with_front ((x, e) ∷ []) (later k part vs))) (t ∷ ts) (got t.token ts) (local_one.here (t ∷ ts)) inner
+    where
+      fewer : (us : List Spot) (r : Step Tree) (e : Tree) (vs : List Spot) → Leaves (length us) r → r ≡ got e vs → length vs ≤ length us
+      fewer us r e vs l q = subst (λ (x : Step Tree). Leaves (length us) x) q l
+
+      inner : (x : Token) (us : List Spot) → got t.token ts ≡ got x us → At (λ ws. then_read (part ws) (λ e vs. with_front ((x, e) ∷ []) (later k part vs))) us
+          (then_read (part us) (λ e vs. with_front ((x, e) ∷ []) (later k part vs)))
+      inner x us q =
+          let same : us ≡ ts = cc in
+          then_at part (λ e vs. with_front ((x, e) ∷ []) (later k part vs)) us (part us) (loc.here us)
+          (λ e vs g. at_same (λ ws. with_front ((x, e) ∷ []) (later k part ws)) (λ ws. then_read (later k part ws) (λ l zs. got (((x, e) ∷ []) ++ l) zs)) vs
+          (λ ws. front_is ((x, e) ∷ []) (later k part ws))
+          (then_at (later k part) (λ l zs. got (((x, e) ∷ []) ++ l) zs) vs (later k part vs)
+          (ih vs (subst (λ (l : List Spot). length vs ≤ length l) same (fewer us (part us) e vs (short.leaves us) g)))
+          (λ l zs _. (local_got (((x, e) ∷ []) ++ l)).here zs)))
+
+  later_at : (m : ℕ) (ts : List Spot) → length ts ≤ m → At (later k part) ts (later k part ts)
+  unfolding more_of take_one
+  later_at m [] h = stop_at [] refl
+  later_at zero (t ∷ ts) h = absurd (omega (arith, h))
+  later_at (suc m) (t ∷ ts) h = by (λ us l. later_at m us (omega (arith, l, h))) (joins k t.token) refl
+    where
+      by : ((us : List Spot) → length us ≤ length ts → At (later k part) us (later k part us)) → (c : Bool) → joins k t.token ≡ c → At (later k part) (t ∷ ts) (later k part (t ∷ ts))
+      by ih true e = same_at (joins k) true (later k part) more_of (t ∷ ts) e (λ us g. later-more k part us short g) (more_at t ts ih)
+      by ih false e = stop_at (t ∷ ts) e
+
+  pub chain_local : Local (chain_of k part)
+  unfolding chain_of
+  chain_local = local_then part (λ e us. chain_after k e (later k part us)) loc
+      (λ e. record {
+        here = λ ts. at_same (λ us. chain_after k e (later k part us)) (λ us. then_read (later k part us) (λ l vs. got (chained k e l) vs)) ts (λ us. after_is k e (later k part us))
+            (then_at (later k part) (λ l vs. got (chained k e l) vs) ts (later k part ts) (later_at (length ts) ts (omega arith)) (λ l vs _. (local_got (chained k e l)).here vs));
+      })
+
+-- ---- rows
+
+pub record LocalIn (i : Inner) : Type 0 where
+  pub not_from : Local i.not_from
+  pub minus_from : Local i.minus_from
+  pub open_from : Local i.open_from
+
+-- a token is passed over, and then something is there
+local_after : {A : Type 0} (x : A) → Local (λ ts. got x (drop 1 ts))
+unfolding take_one
+local_after x = local_then take_one (λ _ us. got x us) local_one (λ _. local_got x)
+
+module _ (i : Inner) (short : ShortensIn i) (loc : LocalIn i) where
+  atom_local : Local (atom_in i)
+  unfolding atom_in take_one
+  atom_local =
+      local_cond is_leaf (λ ts. got (leaf (first_token ts)) (drop 1 ts)) (λ ts. if starts is_huge ts then failed (NumberRange (place ts)) ts else (if starts is_open ts then i.open_from ts else failed (Bad (place ts)) ts))
+      (local_map leaf take_one local_one)
+      (local_cond is_huge (λ ts. failed (NumberRange (place ts)) ts) (λ ts. if starts is_open ts then i.open_from ts else failed (Bad (place ts)) ts) (local_fail NumberRange)
+      (local_cond is_open i.open_from (λ ts. failed (Bad (place ts)) ts) loc.open_from (local_fail Bad)))
+
+  unary_local : Local (unary_in i)
+  unfolding unary_in
+  unary_local = local_cond is_minus i.minus_from (atom_in i) loc.minus_from atom_local
+
+  product_local : Local (product_in i)
+  unfolding product_in
+  product_local = chain_local product_chain (unary_in i) (unary_shortens i short) unary_local
+
+  sum_local : Local (sum_in i)
+  unfolding sum_in
+  sum_local = chain_local sum_chain (product_in i) (product_shortens i short) product_local
+
+  compare_local : Local (compare_in i)
+  unfolding compare_in take_one
+  compare_local = local_then (sum_in i) (compared i) sum_local
+      (λ a. local_cond is_compare (λ us. then_read (sum_in i (drop 1 us)) (λ b vs. got (comparison a (sign_of (first_token us)) b) vs)) (λ us. got a us)
+      (local_then take_one (λ t us. then_read (sum_in i us) (λ b vs. got (comparison a (sign_of t) b) vs)) local_one (λ t. local_map (comparison a (sign_of t)) (sum_in i) sum_local))
+      (local_got a))
+
+  not_local : Local (not_in i)
+  unfolding not_in
+  not_local = local_cond is_not i.not_from (compare_in i) loc.not_from compare_local
+
+  and_local : Local (and_in i)
+  unfolding and_in
+  and_local = chain_local and_chain (not_in i) (not_shortens i short) not_local
+
+  or_local : Local (or_in i)
+  unfolding or_in
+  or_local = chain_local or_chain (and_in i) (and_shortens i short) and_local
+
+closed_local : (e : Tree) → Local (closed e)
+closed_local e = local_cond is_close (λ us. got e (drop 1 us)) (λ us. failed (Bad (place us)) us) (local_after e) (local_fail Bad)
+
+ended_local : (e : Tree) → Local (ended e)
+ended_local e = local_cond is_end (λ us. got e us) (λ us. failed (Bad (place us)) us) (local_got e) (local_fail Bad)
+
+within_local : (n : ℕ) → LocalIn (within n)
+unfolding within take_one
+within_local zero = record { not_from = local_fail TooDeep; minus_from = local_fail TooDeep; open_from = local_fail TooDeep }
+within_local (suc n) = record {
+  not_from = local_then take_one (λ _ us. then_read (not_in (within n) us) got_negation) local_one
+      (λ _. local_then (not_in (within n)) got_negation (not_local (within n) (within_shortens n) (within_local n)) (λ e. local_got (negation e)));
+  minus_from = local_then take_one (λ _ us. then_read (unary_in (within n) us) got_negative) local_one
+      (λ _. local_then (unary_in (within n)) got_negative (unary_local (within n) (within_shortens n) (within_local n)) (λ e. local_got (negative e)));
+  open_from = local_then take_one (λ _ us. then_read (or_in (within n) us) closed) local_one
+      (λ _. local_then (or_in (within n)) closed (or_local (within n) (within_shortens n) (within_local n)) closed_local);
+}
+
+pub whole_local : Local whole
+unfolding whole
+whole_local = local_then (or_in (within 64)) ended (or_local (within 64) (within_shortens 64) (within_local 64)) ended_local

@@ -1,0 +1,12 @@
+use Rattle.std.proofs.Common.{◌≡◌, ◌≤◌, ◌-◌, ◌++◌, drop, length}
+use Rattle.filter_expr.specs.Lexing.{lexed}
+use Rattle.filter_expr.proofs.lexer.tokens.Given as goal
+
+abbrev pub invariant-tokens : goal.invariant-tokens
+invariant-tokens l = record {
+  read : l.spots.items ++ lexed l.at 0 (drop l.at l.bytes) ≡ lexed 0 0 l.bytes;
+  within : l.at ≤ length l.bytes;
+}
+
+abbrev pub decreases-tokens : goal.decreases-tokens
+decreases-tokens l = length l.bytes - l.at

@@ -1,0 +1,5 @@
+use Rattle.filter_expr.proofs.Only.{one_filter, not_both_of, one_fault}
+use Rattle.filter_expr.proofs.reader.law_one_answer.Goals as goal
+
+pub returns : goal.returns
+returns c = record { filter = one_filter; apart = not_both_of; fault = one_fault }

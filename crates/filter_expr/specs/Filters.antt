@@ -1,0 +1,137 @@
+-- What a text is as a filter: its tree, or its first fault.
+use Rattle.std.specs.Prelude.{◌≡◌, ℕ, ◌≤◌, ◌<◌, Bool, ◌||◌, IsTrue, List, [], ◌∷◌, ◌++◌, Result, Ok, Err}
+use Rattle.plain_drawing.specs.declared.Expr.{Expr}
+use Rattle.filter_expr.specs.declared.tokens.Token.{Token}
+use Rattle.filter_expr.specs.declared.tokens.Token.TheVariants as token
+use Rattle.filter_expr.specs.declared.tokens.Spot.{Spot}
+use Rattle.filter_expr.specs.declared.faults.FilterFault.{FilterFault}
+use Rattle.filter_expr.specs.declared.faults.FilterFault.TheVariants.{Bad, NumberRange, TooDeep, NoMemory}
+use Rattle.filter_expr.specs.Trees.{Tree, bare, nesting, InRange, is_huge, is_not, is_minus, is_open}
+use Rattle.filter_expr.specs.Seen.{seen}
+use Rattle.filter_expr.specs.Spelling.{TokensOf}
+use Rattle.filter_expr.specs.Grammar.{IsSpelled, Stands}
+
+-- all these tokens, the end of the text among them, spell the tree
+abbrev pub IsText : Tree → List Spot → Type 0
+IsText e ts = (us : List Spot) × (z : Spot) × (ts ≡ us ++ z ∷ []) × (z.token ≡ token.End) × IsSpelled e us
+
+-- ---- trees
+
+-- the tokens are a filter within the limits, and without its parentheses it is this tree
+pub record IsFilter (ts : List Spot) (d : Tree) : Type 0 where
+  pub tree : Tree
+  pub stands : Stands 0 tree
+  pub text : IsText tree ts
+  pub range : InRange tree
+  pub deep : nesting tree ≤ 64
+  pub is : bare tree ≡ d
+
+-- ---- faults
+
+-- a filter within the limits begins with these tokens
+pub record Begins (us : List Spot) : Type 0 where
+  pub more : List Spot
+  pub tree : Tree
+  pub stands : Stands 0 tree
+  pub spelled : IsSpelled tree (us ++ more)
+  pub range : InRange tree
+  pub deep : nesting tree ≤ 64
+
+-- a filter begins with these tokens, whatever its numbers and its depth
+pub record GoesOn (us : List Spot) : Type 0 where
+  pub more : List Spot
+  pub tree : Tree
+  pub stands : Stands 0 tree
+  pub spelled : IsSpelled tree (us ++ more)
+
+-- the tokens that are counted by the depth
+abbrev pub opens : Token → Bool
+opens t = is_not t || is_minus t || is_open t
+
+-- the place of the fault is that of this token; want of memory is no fault of a text
+abbrev pub StandsAt : FilterFault → Spot → Type 0
+StandsAt (Bad o) s = o ≡ s.offset
+StandsAt (NumberRange o) s = o ≡ s.offset
+StandsAt (TooDeep o) s = o ≡ s.offset
+StandsAt NoMemory s = ⊥
+
+-- what a tree that goes on so must be: none at all, one with a number out of range, one that nests too deeply
+abbrev pub Passes : Tree → FilterFault → Type 0
+Passes e (Bad o) = ⊥
+Passes e (NumberRange o) = InRange e → ⊥
+Passes e (TooDeep o) = 64 < nesting e
+Passes e NoMemory = ⊥
+
+-- what the limits are passed by: some filter goes on so, and its token here is such a number or opens something
+abbrev pub HasCause : FilterFault → List Spot → Spot → Type 0
+HasCause (Bad o) before here = Unit {0}
+HasCause (NumberRange o) before here = IsTrue (is_huge here.token) × GoesOn (before ++ here ∷ [])
+HasCause (TooDeep o) before here = IsTrue (opens here.token) × GoesOn (before ++ here ∷ [])
+HasCause NoMemory before here = ⊥
+
+-- the fault stands at the first token with which no filter within the limits goes on after what stands before
+pub record IsFault (ts : List Spot) (f : FilterFault) : Type 0 where
+  pub before : List Spot
+  pub here : Spot
+  pub after : List Spot
+  pub split : ts ≡ before ++ here ∷ after
+  pub place : StandsAt f here
+  pub begins : Begins before
+  pub cause : HasCause f before here
+  pub none : (e : Tree) (b : List Spot) → Stands 0 e → IsText e (before ++ here ∷ b) → Passes e f
+
+-- ---- texts
+
+-- the text is a filter, and this expression is its tree
+abbrev pub FilterOf : List ℕ → Expr → Type 0
+FilterOf text e = (ts : List Spot) × TokensOf text ts × IsFilter ts (seen e)
+
+-- the text is no filter within the limits, and this is its first fault
+abbrev pub FaultOf : List ℕ → FilterFault → Type 0
+FaultOf text f = (ts : List Spot) × TokensOf text ts × IsFault ts f
+
+-- ---- answers
+
+-- what may be answered for the text: its tree, its first fault, or want of memory
+abbrev pub MayAnswer : List ℕ → Result Expr FilterFault → Type 0
+MayAnswer text (Ok e) = FilterOf text e
+MayAnswer text (Err (Bad o)) = FaultOf text (Bad o)
+MayAnswer text (Err (NumberRange o)) = FaultOf text (NumberRange o)
+MayAnswer text (Err (TooDeep o)) = FaultOf text (TooDeep o)
+MayAnswer text (Err NoMemory) = Unit {0}
+
+-- the answer is this tree, but for want of memory
+abbrev pub AnswersTree : Expr → Result Expr FilterFault → Type 0
+AnswersTree e (Ok d) = seen d ≡ seen e
+AnswersTree e (Err (Bad o)) = ⊥
+AnswersTree e (Err (NumberRange o)) = ⊥
+AnswersTree e (Err (TooDeep o)) = ⊥
+AnswersTree e (Err NoMemory) = Unit {0}
+
+-- the answer is this fault, but for want of memory
+abbrev pub AnswersFault : FilterFault → Result Expr FilterFault → Type 0
+AnswersFault f (Ok d) = ⊥
+AnswersFault f (Err (Bad o)) = Bad o ≡ f
+AnswersFault f (Err (NumberRange o)) = NumberRange o ≡ f
+AnswersFault f (Err (TooDeep o)) = TooDeep o ≡ f
+AnswersFault f (Err NoMemory) = Unit {0}
+
+-- ---- laws
+
+-- tokens spell one tree at most that may stand by itself, parentheses aside
+abbrev pub OneTree : Type 0
+OneTree = (d e : Tree) (us : List Spot) → Stands 0 d → Stands 0 e → IsSpelled d us → IsSpelled e us → InRange d → InRange e → bare d ≡ bare e
+
+-- a text has one tree at most, no tree where it has a fault, and one fault at most
+abbrev pub OneFilter : Type 0
+OneFilter = (text : List ℕ) (d e : Expr) → FilterOf text d → FilterOf text e → seen d ≡ seen e
+
+abbrev pub NotBoth : Type 0
+NotBoth = (text : List ℕ) (e : Expr) (f : FilterFault) → FilterOf text e → FaultOf text f → ⊥
+
+abbrev pub OneFault : Type 0
+OneFault = (text : List ℕ) (f g : FilterFault) → FaultOf text f → FaultOf text g → f ≡ g
+
+-- a text has one list of tokens at most
+abbrev pub OneTokenList : Type 0
+OneTokenList = (text : List ℕ) (ts us : List Spot) → TokensOf text ts → TokensOf text us → ts ≡ us

@@ -1,0 +1,58 @@
+-- The grammar of filters: which tokens spell a tree, and which trees may stand where.
+use Rattle.std.specs.Prelude.{◌≡◌, ℕ, ◌+◌, ◌≤◌, ◌||◌, IsTrue, List, [], ◌∷◌, ◌++◌}
+use Rattle.filter_expr.specs.declared.tokens.Token.TheVariants as token
+use Rattle.filter_expr.specs.declared.tokens.Spot.{Spot}
+use Rattle.filter_expr.specs.Trees.{Kind, Tree, Terms, leaf, negation, negative, comparison, chain, parens, no_terms, term, or_chain, and_chain, sum_chain, product_chain, joins, is_leaf, is_huge}
+
+-- these tokens, wherever they stand in a text, spell the tree
+abbrev mutual
+  pub IsSpelled : Tree → List Spot → Type 0
+  IsSpelled (leaf t) us = (s : Spot) × (us ≡ s ∷ []) × (s.token ≡ t)
+  IsSpelled (negation e) us = (s : Spot) × (vs : List Spot) × (us ≡ s ∷ vs) × (s.token ≡ token.Not) × IsSpelled e vs
+  IsSpelled (negative e) us = (s : Spot) × (vs : List Spot) × (us ≡ s ∷ vs) × (s.token ≡ token.Minus) × IsSpelled e vs
+  IsSpelled (comparison a c b) us =
+      (vs : List Spot) × (s : Spot) × (ws : List Spot) × (us ≡ vs ++ s ∷ ws) × (s.token ≡ token.Compare c) × IsSpelled a vs × IsSpelled b ws
+  IsSpelled (chain k e ts) us = (vs : List Spot) × (ws : List Spot) × (us ≡ vs ++ ws) × IsSpelled e vs × AreSpelled ts ws
+  IsSpelled (parens e) us =
+      (s : Spot) × (vs : List Spot) × (z : Spot) × (us ≡ s ∷ (vs ++ z ∷ [])) × (s.token ≡ token.Open) × (z.token ≡ token.Close) × IsSpelled e vs
+
+  -- the later parts of a chain, each behind its sign
+  pub AreSpelled : Terms → List Spot → Type 0
+  AreSpelled no_terms us = us ≡ []
+  AreSpelled (term t e ts) us =
+      (s : Spot) × (vs : List Spot) × (ws : List Spot) × (us ≡ s ∷ (vs ++ ws)) × (s.token ≡ t) × IsSpelled e vs × AreSpelled ts ws
+
+-- ---- binding strengths, from `or`, the weakest: or 0, and 1, not 2, comparison 3, sum 4, product 5, unary minus 6,
+-- and 7 for what stands by itself
+
+abbrev pub kind_strength : Kind → ℕ
+kind_strength or_chain = 0
+kind_strength and_chain = 1
+kind_strength sum_chain = 4
+kind_strength product_chain = 5
+
+abbrev pub strength : Tree → ℕ
+strength (leaf t) = 7
+strength (negation e) = 2
+strength (negative e) = 6
+strength (comparison a c b) = 3
+strength (chain k e ts) = kind_strength k
+strength (parens e) = 7
+
+abbrev pub IsMany : Terms → Type 0
+IsMany no_terms = ⊥
+IsMany (term t e ts) = Unit {0}
+
+-- the tree may stand where at least this strength is asked for: the table of forms
+abbrev mutual
+  pub Stands : ℕ → Tree → Type 0
+  Stands n (leaf t) = IsTrue (is_leaf t || is_huge t)
+  Stands n (negation e) = (n ≤ 2) × Stands 2 e
+  Stands n (negative e) = (n ≤ 6) × Stands 6 e
+  Stands n (comparison a c b) = (n ≤ 3) × Stands 4 a × Stands 4 b
+  Stands n (chain k e ts) = (n ≤ kind_strength k) × Stands (kind_strength k + 1) e × IsMany ts × StandTerms k ts
+  Stands n (parens e) = Stands 0 e
+
+  pub StandTerms : Kind → Terms → Type 0
+  StandTerms k no_terms = Unit {0}
+  StandTerms k (term s e ts) = IsTrue (joins k s) × Stands (kind_strength k + 1) e × StandTerms k ts

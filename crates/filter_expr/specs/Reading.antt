@@ -1,0 +1,148 @@
+-- A reader of token lists, one function for each row of the grammar's table: it says which tree the
+-- tokens begin with, or at which token they go wrong. What it reads is tied to the grammar by proof.
+use Rattle.std.specs.Prelude.{ℕ, zero, suc, Bool, false, if◌then◌else◌, List, [], ◌∷◌, ◌++◌, drop, length, Option, Some, None}
+use Rattle.filter_expr.specs.declared.tokens.Token.{Token}
+use Rattle.filter_expr.specs.declared.tokens.Token.TheVariants as token
+use Rattle.filter_expr.specs.declared.tokens.Spot.{Spot}
+use Rattle.filter_expr.specs.declared.faults.FilterFault.{FilterFault}
+use Rattle.filter_expr.specs.declared.faults.FilterFault.TheVariants.{Bad, NumberRange, TooDeep}
+use Rattle.plain_drawing.specs.declared.CompareSign.{CompareSign}
+use Rattle.plain_drawing.specs.declared.CompareSign.TheVariants as «compare»
+use Rattle.filter_expr.specs.Trees.{Kind, Tree, leaf, negation, negative, comparison, chain, or_chain, and_chain, sum_chain, product_chain, joins, is_leaf, is_huge, is_open, is_close, is_minus, is_not, is_compare, is_end}
+use Rattle.filter_expr.specs.Seen.{Part, terms_of}
+
+-- what was read and what is left; or a fault, which stands at the first of what is left
+pub data Step (A : Type 0) : Type 0 where
+  got : A → List Spot → Step A
+  failed : FilterFault → List Spot → Step A
+
+abbrev pub Reader : Type 0 → Type 0
+Reader A = List Spot → Step A
+
+-- reads on where something was read
+abbrev pub then_read : {A B : Type 0} → Step A → (A → Reader B) → Step B
+then_read (got x ts) next = next x ts
+then_read (failed f ts) next = failed f ts
+
+abbrev pub starts : (Token → Bool) → List Spot → Bool
+starts test [] = false
+starts test (s ∷ ts) = test s.token
+
+abbrev pub first_token : List Spot → Token
+first_token [] = token.End
+first_token (s ∷ ts) = s.token
+
+abbrev pub place : List Spot → ℕ
+place [] = 0
+place (s ∷ ts) = s.offset
+
+abbrev pub sign_of : Token → CompareSign
+sign_of (token.Compare c) = c
+sign_of _ = compare.Equal
+
+-- the next token where it is such a sign
+abbrev pub next_sign : Kind → List Spot → Option Token
+next_sign k [] = None
+next_sign k (s ∷ ts) = if joins k s.token then Some s.token else None
+
+abbrev pub next_compare : List Spot → Option Token
+next_compare [] = None
+next_compare (s ∷ ts) = if is_compare s.token then Some s.token else None
+
+-- parts that were read before stand in front
+abbrev pub with_front : List Part → Step (List Part) → Step (List Part)
+with_front front (got later ts) = got (front ++ later) ts
+with_front front (failed f ts) = failed f ts
+
+-- later parts of a chain, at most so many
+unfoldable pub turns : Kind → Reader Tree → ℕ → Reader (List Part)
+turns k part zero ts = got [] ts
+turns k part (suc n) ts =
+    if starts (joins k) ts
+    then then_read (part (drop 1 ts)) (λ e us. with_front ((first_token ts, e) ∷ []) (turns k part n us))
+    else got [] ts
+
+unfoldable pub later : Kind → Reader Tree → Reader (List Part)
+later k part ts = turns k part (length ts) ts
+
+-- a part by itself, or the chain of it and the later ones
+abbrev pub chained : Kind → Tree → List Part → Tree
+chained k first [] = first
+chained k first (p ∷ ps) = chain k first (terms_of (p ∷ ps))
+
+abbrev pub chain_after : Kind → Tree → Step (List Part) → Step Tree
+chain_after k first (got parts ts) = got (chained k first parts) ts
+chain_after k first (failed f ts) = failed f ts
+
+unfoldable pub chain_of : Kind → Reader Tree → Reader Tree
+chain_of k part ts = then_read (part ts) (λ e us. chain_after k e (later k part us))
+
+-- what is read from a token on that opens something
+pub record Inner : Type 0 where
+  pub not_from : Reader Tree
+  pub minus_from : Reader Tree
+  pub open_from : Reader Tree
+
+unfoldable pub atom_in : Inner → Reader Tree
+atom_in i ts =
+    if starts is_leaf ts then got (leaf (first_token ts)) (drop 1 ts)
+    else (if starts is_huge ts then failed (NumberRange (place ts)) ts
+    else (if starts is_open ts then i.open_from ts
+    else failed (Bad (place ts)) ts))
+
+unfoldable pub unary_in : Inner → Reader Tree
+unary_in i ts = if starts is_minus ts then i.minus_from ts else atom_in i ts
+
+unfoldable pub product_in : Inner → Reader Tree
+product_in i = chain_of product_chain (unary_in i)
+
+unfoldable pub sum_in : Inner → Reader Tree
+sum_in i = chain_of sum_chain (product_in i)
+
+abbrev pub compared : Inner → Tree → Reader Tree
+compared i a us =
+    if starts is_compare us
+    then then_read (sum_in i (drop 1 us)) (λ b vs. got (comparison a (sign_of (first_token us)) b) vs)
+    else got a us
+
+unfoldable pub compare_in : Inner → Reader Tree
+compare_in i ts = then_read (sum_in i ts) (compared i)
+
+unfoldable pub not_in : Inner → Reader Tree
+not_in i ts = if starts is_not ts then i.not_from ts else compare_in i ts
+
+unfoldable pub and_in : Inner → Reader Tree
+and_in i = chain_of and_chain (not_in i)
+
+unfoldable pub or_in : Inner → Reader Tree
+or_in i = chain_of or_chain (and_in i)
+
+abbrev pub too_deep : Reader Tree
+too_deep ts = failed (TooDeep (place ts)) ts
+
+abbrev pub got_negation : Tree → Reader Tree
+got_negation e us = got (negation e) us
+
+abbrev pub got_negative : Tree → Reader Tree
+got_negative e us = got (negative e) us
+
+-- the parenthesis is closed, and leaves no node
+abbrev pub closed : Tree → Reader Tree
+closed e us = if starts is_close us then got e (drop 1 us) else failed (Bad (place us)) us
+
+-- with room for so many tokens that open something
+unfoldable pub within : ℕ → Inner
+within zero = record { not_from = too_deep; minus_from = too_deep; open_from = too_deep }
+within (suc n) = record {
+  not_from = λ ts. then_read (not_in (within n) (drop 1 ts)) got_negation;
+  minus_from = λ ts. then_read (unary_in (within n) (drop 1 ts)) got_negative;
+  open_from = λ ts. then_read (or_in (within n) (drop 1 ts)) closed;
+}
+
+-- the filter ends with the text
+abbrev pub ended : Tree → Reader Tree
+ended e us = if starts is_end us then got e us else failed (Bad (place us)) us
+
+-- the reading of all tokens of a text
+unfoldable pub whole : Reader Tree
+whole ts = then_read (or_in (within 64) ts) ended

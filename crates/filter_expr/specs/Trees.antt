@@ -1,0 +1,154 @@
+-- The trees of filters, with their parentheses, and what is asked of one.
+use Rattle.std.specs.Prelude.{ℕ, ◌+◌, max, Bool, true, false, IsTrue}
+use Rattle.plain_drawing.specs.declared.CompareSign.{CompareSign}
+use Rattle.plain_drawing.specs.declared.SumSign.{SumSign}
+use Rattle.plain_drawing.specs.declared.SumSign.TheVariants as sum
+use Rattle.plain_drawing.specs.declared.ProductSign.{ProductSign}
+use Rattle.plain_drawing.specs.declared.ProductSign.TheVariants as product
+use Rattle.filter_expr.specs.declared.tokens.Token.{Token}
+use Rattle.filter_expr.specs.declared.tokens.Token.TheVariants as token
+
+-- the four kinds of chain
+pub data Kind : Type 0 where
+  or_chain and_chain sum_chain product_chain : Kind
+
+mutual
+  pub data Tree : Type 0 where
+    -- a name, string, number, `true`, `false` or `null`: the token itself
+    leaf : Token → Tree
+    -- `not`, and the sign of a negative
+    negation : Tree → Tree
+    negative : Tree → Tree
+    comparison : Tree → CompareSign → Tree → Tree
+    -- a first part, and later parts each behind its sign
+    chain : Kind → Tree → Terms → Tree
+    parens : Tree → Tree
+
+  pub data Terms : Type 0 where
+    no_terms : Terms
+    term : Token → Tree → Terms → Terms
+
+-- ---- tests of a token
+
+abbrev pub is_or : Token → Bool
+is_or token.Or = true
+is_or _ = false
+
+abbrev pub is_and : Token → Bool
+is_and token.And = true
+is_and _ = false
+
+abbrev pub is_sum_sign : Token → Bool
+is_sum_sign token.Plus = true
+is_sum_sign token.Minus = true
+is_sum_sign _ = false
+
+abbrev pub is_product_sign : Token → Bool
+is_product_sign token.Times = true
+is_product_sign token.Divide = true
+is_product_sign token.Rest = true
+is_product_sign _ = false
+
+abbrev pub is_compare : Token → Bool
+is_compare (token.Compare c) = true
+is_compare _ = false
+
+abbrev pub is_not : Token → Bool
+is_not token.Not = true
+is_not _ = false
+
+abbrev pub is_minus : Token → Bool
+is_minus token.Minus = true
+is_minus _ = false
+
+abbrev pub is_open : Token → Bool
+is_open token.Open = true
+is_open _ = false
+
+abbrev pub is_close : Token → Bool
+is_close token.Close = true
+is_close _ = false
+
+abbrev pub is_end : Token → Bool
+is_end token.End = true
+is_end _ = false
+
+abbrev pub is_unknown : Token → Bool
+is_unknown token.Unknown = true
+is_unknown _ = false
+
+abbrev pub is_huge : Token → Bool
+is_huge token.Huge = true
+is_huge _ = false
+
+abbrev pub is_leaf : Token → Bool
+is_leaf (token.Name n) = true
+is_leaf (token.Quoted t) = true
+is_leaf (token.Number z) = true
+is_leaf token.True = true
+is_leaf token.False = true
+is_leaf token.Null = true
+is_leaf _ = false
+
+-- the sign joins the parts of such a chain
+abbrev pub joins : Kind → Token → Bool
+joins or_chain = is_or
+joins and_chain = is_and
+joins sum_chain = is_sum_sign
+joins product_chain = is_product_sign
+
+abbrev pub compare_token : CompareSign → Token
+compare_token = token.Compare
+
+abbrev pub sum_token : SumSign → Token
+sum_token sum.Plus = token.Plus
+sum_token sum.Minus = token.Minus
+
+abbrev pub product_token : ProductSign → Token
+product_token product.Times = token.Times
+product_token product.Divide = token.Divide
+product_token product.Rest = token.Rest
+
+-- ---- what is asked of a tree
+
+-- the tree without its parentheses
+abbrev mutual
+  pub bare : Tree → Tree
+  bare (leaf t) = leaf t
+  bare (negation e) = negation (bare e)
+  bare (negative e) = negative (bare e)
+  bare (comparison a c b) = comparison (bare a) c (bare b)
+  bare (chain k e ts) = chain k (bare e) (bare_terms ts)
+  bare (parens e) = bare e
+
+  pub bare_terms : Terms → Terms
+  bare_terms no_terms = no_terms
+  bare_terms (term t e ts) = term t (bare e) (bare_terms ts)
+
+-- how many `not`, negative signs and parentheses are open at once, at most
+abbrev mutual
+  pub nesting : Tree → ℕ
+  nesting (leaf t) = 0
+  nesting (negation e) = 1 + nesting e
+  nesting (negative e) = 1 + nesting e
+  nesting (comparison a c b) = max (nesting a) (nesting b)
+  nesting (chain k e ts) = max (nesting e) (nesting_terms ts)
+  nesting (parens e) = 1 + nesting e
+
+  pub nesting_terms : Terms → ℕ
+  nesting_terms no_terms = 0
+  nesting_terms (term t e ts) = max (nesting e) (nesting_terms ts)
+
+-- no number passes the greatest one
+abbrev mutual
+  pub InRange : Tree → Type 0
+  InRange (leaf t) = IsTrue (is_leaf t)
+  InRange (negation e) = InRange e
+  InRange (negative e) = InRange e
+  InRange (comparison a c b) = InRange a × InRange b
+  InRange (chain k e ts) = InRange e × TermsInRange ts
+  InRange (parens e) = InRange e
+
+  pub TermsInRange : Terms → Type 0
+  TermsInRange no_terms = Unit {0}
+  TermsInRange (term t e ts) = InRange e × TermsInRange ts

@@ -1,0 +1,58 @@
+//! Reads a filter text.
+ghost use Rattle.filter_expr.specs.Seen.{seen};
+ghost use Rattle.filter_expr.specs.Lexing.{lexed};
+ghost use Rattle.filter_expr.specs.Reading.{whole};
+ghost use Rattle.filter_expr.specs.Gives.{Answers};
+ghost use Rattle.filter_expr.specs.Filters.{FilterOf, FaultOf, MayAnswer, AnswersTree, AnswersFault, OneTree, OneFilter, NotBoth, OneFault, OneTokenList};
+ghost use Rattle.filter_expr.specs.declared.faults.FilterFault.{FilterFault};
+ghost use Rattle.plain_drawing.specs.declared.Expr.{Expr};
+
+use crate::faults::FilterFault;
+use crate::lexer::tokens;
+use crate::parser::or_chain;
+use plain_drawing::Expr;
+use std::alloc::Global;
+
+/// How many `(`, `not`, `!` and unary `-` may be open at once.
+const DEPTH: u32 = 64;
+
+/// The filter that a text says. The form of filters is that of Mapnik's filter expressions, with
+/// binding strengths of this farm's own; `docs/filters.md` has the grammar. A text that is no filter
+/// is answered by its first fault, whose place is a byte of the text or its length. Want of memory may
+/// come instead of either. Linear in the text, and no deeper than the filter nests.
+pub fn parse(alloc: Global, text: &str) -> Result<Expr, FilterFault>
+    // The answer is the text's tree or its first fault,
+    ensures answer { MayAnswer text.now result }
+
+    // and where the text has a tree, or a fault, it is that one and no other.
+    ensures tree { (e : Expr) → FilterOf text.now e → AnswersTree e result }
+    ensures fault { (f : FilterFault) → FaultOf text.now f → AnswersFault f result }
+{
+    read(alloc, text)
+}
+
+/// The reading of all tokens of the text.
+#[tactic(auto, unfolding(crate::specs::Reading::whole))]
+fn read(alloc: Global, text: &str) -> Result<Expr, FilterFault>
+    ensures { Answers seen result (whole (lexed 0 0 text.now)) }
+{
+    let mut spots = tokens(alloc, text)?;
+    let filter = or_chain(alloc, &mut spots, DEPTH)?;
+    if !spots.is_end() {
+        return Err(FilterFault::Bad(spots.place()));
+    }
+    Ok(filter)
+}
+
+/// The grammar gives the tokens of a text one tree at most.
+pub fn law_one_tree()
+    ensures tree { OneTree }
+    ensures tokens { OneTokenList }
+{}
+
+/// A text is one filter at most, or has one first fault, and never both.
+pub fn law_one_answer()
+    ensures filter { OneFilter }
+    ensures apart { NotBoth }
+    ensures fault { OneFault }
+{}

@@ -1,0 +1,258 @@
+//! Tokens of filter texts, and the list of them that is still to be read.
+ghost use Rattle.std.specs.Prelude.{◌≡◌, drop, option_map, IsTrue};
+ghost use Rattle.filter_expr.specs.Trees.{leaf, sum_token, product_token, compare_token, or_chain, and_chain, sum_chain, product_chain, is_not, is_minus, is_leaf, is_huge, is_open, is_close, is_or, is_and, is_end, is_unknown};
+ghost use Rattle.filter_expr.specs.Seen.{seen};
+ghost use Rattle.filter_expr.specs.Reading.{starts, first_token, place, next_sign, next_compare};
+
+use farm_base::Text;
+use plain_drawing::{CompareSign, Expr, ProductSign, SumSign};
+use std::collections::VecDeque;
+use std::marker::Model;
+
+/// A token of a filter text. Both spellings of a word or sign, as `or` and two bars, are one token.
+#[derive(Debug, Drop)]
+pub enum Token {
+    Name(Text),
+    Quoted(Text),
+    Number(i64),
+    /// A number above the greatest one.
+    Huge,
+    True,
+    False,
+    Null,
+    And,
+    Or,
+    Not,
+    Compare(CompareSign),
+    Plus,
+    Minus,
+    Times,
+    Divide,
+    Rest,
+    Open,
+    Close,
+    /// The end of the text.
+    End,
+    /// Bytes that begin no token.
+    Unknown,
+}
+
+/// A token and the place of its first byte in the text.
+#[derive(Debug, Drop)]
+pub struct Spot {
+    pub token: Token,
+    pub offset: usize,
+}
+
+/// The tokens that are still to be read, the next one first.
+#[derive(Debug, Drop)]
+pub struct Spots {
+    left: VecDeque<Spot>,
+}
+
+impl Model for Spots {
+    ghost use Rattle.std.specs.Prelude.{List};
+    ghost use Rattle.filter_expr.specs.declared.tokens.Spot.{Spot};
+
+    ghost Value = { List Spot };
+
+    ghost view = { λ s. s.left.items };
+}
+
+impl Spots {
+    pub fn of(left: VecDeque<Spot>) -> Spots
+        ensures { result ≡ left.items }
+    {
+        Spots { left }
+    }
+
+    pub fn is_or(&self) -> bool
+        ensures { result ≡ starts is_or self.now }
+    {
+        match self.left.front() {
+            Some(spot) => matches!(spot.token, Token::Or),
+            None => false,
+        }
+    }
+
+    pub fn is_and(&self) -> bool
+        ensures { result ≡ starts is_and self.now }
+    {
+        match self.left.front() {
+            Some(spot) => matches!(spot.token, Token::And),
+            None => false,
+        }
+    }
+
+    pub fn is_not(&self) -> bool
+        ensures { result ≡ starts is_not self.now }
+    {
+        match self.left.front() {
+            Some(spot) => matches!(spot.token, Token::Not),
+            None => false,
+        }
+    }
+
+    pub fn is_minus(&self) -> bool
+        ensures { result ≡ starts is_minus self.now }
+    {
+        match self.left.front() {
+            Some(spot) => matches!(spot.token, Token::Minus),
+            None => false,
+        }
+    }
+
+    pub fn is_huge(&self) -> bool
+        ensures { result ≡ starts is_huge self.now }
+    {
+        match self.left.front() {
+            Some(spot) => matches!(spot.token, Token::Huge),
+            None => false,
+        }
+    }
+
+    pub fn is_open(&self) -> bool
+        ensures { result ≡ starts is_open self.now }
+    {
+        match self.left.front() {
+            Some(spot) => matches!(spot.token, Token::Open),
+            None => false,
+        }
+    }
+
+    pub fn is_close(&self) -> bool
+        ensures { result ≡ starts is_close self.now }
+    {
+        match self.left.front() {
+            Some(spot) => matches!(spot.token, Token::Close),
+            None => false,
+        }
+    }
+
+    pub fn is_end(&self) -> bool
+        ensures { result ≡ starts is_end self.now }
+    {
+        match self.left.front() {
+            Some(spot) => matches!(spot.token, Token::End),
+            None => false,
+        }
+    }
+
+    /// Whether the next token is a filter by itself.
+    pub fn is_leaf(&self) -> bool
+        ensures { result ≡ starts is_leaf self.now }
+    {
+        match self.left.front() {
+            Some(spot) => spot.token.is_leaf(),
+            None => false,
+        }
+    }
+
+    /// The next token as a comparing sign, if it is one.
+    pub fn compare_sign(&self) -> Option<CompareSign>
+        ensures { option_map compare_token result ≡ next_compare self.now }
+    {
+        match self.left.front() {
+            Some(spot) => match spot.token {
+                Token::Compare(sign) => Some(sign),
+                _ => None,
+            },
+            None => None,
+        }
+    }
+
+    /// The next token as the sign of a sum, if it is one.
+    pub fn sum_sign(&self) -> Option<SumSign>
+        ensures { option_map sum_token result ≡ next_sign sum_chain self.now }
+    {
+        match self.left.front() {
+            Some(spot) => match spot.token {
+                Token::Plus => Some(SumSign::Plus),
+                Token::Minus => Some(SumSign::Minus),
+                _ => None,
+            },
+            None => None,
+        }
+    }
+
+    /// The next token as the sign of a product, if it is one.
+    pub fn product_sign(&self) -> Option<ProductSign>
+        ensures { option_map product_token result ≡ next_sign product_chain self.now }
+    {
+        match self.left.front() {
+            Some(spot) => match spot.token {
+                Token::Times => Some(ProductSign::Times),
+                Token::Divide => Some(ProductSign::Divide),
+                Token::Rest => Some(ProductSign::Rest),
+                _ => None,
+            },
+            None => None,
+        }
+    }
+
+    /// The place of the next token.
+    pub fn place(&self) -> usize
+        ensures { result ≡ place self.now }
+    {
+        match self.left.front() {
+            Some(spot) => spot.offset,
+            None => 0,
+        }
+    }
+
+    /// Passes over the next token.
+    pub fn skip(&mut self)
+        ensures { self.new ≡ drop 1 self.old }
+    {
+        let _passed = self.left.pop_front();
+    }
+
+    /// Takes the next token, which is a filter by itself, as that filter.
+    pub fn take_leaf(&mut self) -> Expr
+        requires { IsTrue (starts is_leaf self.old) }
+        ensures value { seen result ≡ leaf (first_token self.old) }
+        ensures rest { self.new ≡ drop 1 self.old }
+    {
+        match self.left.pop_front() {
+            Some(spot) => leaf_of(spot.token),
+            None => unreachable!(),
+        }
+    }
+}
+
+impl Token {
+    pub fn is_unknown(&self) -> bool
+        ensures { result ≡ is_unknown self.now }
+    {
+        matches!(self, Token::Unknown)
+    }
+
+    fn is_leaf(&self) -> bool
+        ensures { result ≡ is_leaf self.now }
+    {
+        matches!(
+            self,
+            Token::Name(_)
+                | Token::Quoted(_)
+                | Token::Number(_)
+                | Token::True
+                | Token::False
+                | Token::Null
+        )
+    }
+}
+
+fn leaf_of(token: Token) -> Expr
+    requires { IsTrue (is_leaf token) }
+    ensures { seen result ≡ leaf token }
+{
+    match token {
+        Token::Name(name) => Expr::Name(name),
+        Token::Quoted(text) => Expr::Text(text),
+        Token::Number(n) => Expr::Number(n),
+        Token::True => Expr::Truth(true),
+        Token::False => Expr::Truth(false),
+        Token::Null => Expr::Null,
+        _ => unreachable!(),
+    }
+}
