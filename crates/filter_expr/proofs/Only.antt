@@ -7,7 +7,9 @@ use Rattle.filter_expr.specs.declared.tokens.Spot.{Spot}
 use Rattle.filter_expr.specs.declared.faults.FilterFault.{FilterFault}
 use Rattle.filter_expr.specs.declared.faults.FilterFault.TheVariants.{Bad, NumberRange, TooDeep, NoMemory}
 use Rattle.filter_expr.specs.Trees.{Tree, bare, nesting, InRange, is_huge}
-use Rattle.filter_expr.specs.Seen.{seen}
+use Rattle.filter_expr.specs.Seen.{seen, shape}
+use Rattle.plain_drawing.specs.Filters.{FilterTree, tree_of}
+use Rattle.filter_expr.proofs.SeenLemmas.{shape_known}
 use Rattle.filter_expr.specs.Lexing.{lexed}
 use Rattle.filter_expr.specs.Grammar.{IsSpelled, Stands}
 use Rattle.filter_expr.specs.Filters.{IsText, IsFilter, IsFault, Begins, GoesOn, StandsAt, Passes, HasCause, opens, FilterOf, FaultOf, MayAnswer, AnswersTree, AnswersFault, OneTree, OneFilter, NotBoth, OneFault, OneTokenList}
@@ -144,10 +146,10 @@ pub one_token_list : OneTokenList
 one_token_list text ts us a b = tokens_unique text ts a ∙ sym (tokens_unique text us b)
 
 pub one_filter : OneFilter
-one_filter text d e a b = filter_unique b.0 (seen d) (seen e) (subst (λ ts. IsFilter ts (seen d)) (one_token_list text a.0 b.0 a.1 b.1) a.2) b.2
+one_filter text s t a b = shape_known s t (filter_unique b.0 (shape s) (shape t) (subst (λ ts. IsFilter ts (shape s)) (one_token_list text a.0 b.0 a.1 b.1) a.2) b.2)
 
 pub not_both_of : NotBoth
-not_both_of text e f a b = not_both b.0 (seen e) f (subst (λ ts. IsFilter ts (seen e)) (one_token_list text a.0 b.0 a.1 b.1) a.2) b.2
+not_both_of text t f a b = not_both b.0 (shape t) f (subst (λ ts. IsFilter ts (shape t)) (one_token_list text a.0 b.0 a.1 b.1) a.2) b.2
 
 pub one_fault : OneFault
 one_fault text f g a b = fault_unique b.0 f g (subst (λ ts. IsFault ts f) (one_token_list text a.0 b.0 a.1 b.1) a.2) b.2
@@ -160,15 +162,15 @@ may_answer text (Err (NumberRange o)) a = (lexed 0 0 text, lexed_tokens text, su
 may_answer text (Err (TooDeep o)) a = (lexed 0 0 text, lexed_tokens text, subst (IsAnswer (lexed 0 0 text)) a.1 (right (lexed 0 0 text) (tokens_stopped (lexed 0 0 text) 0 text (lexed_tokens text))))
 may_answer text (Err NoMemory) a = tt
 
-pub answers_tree : (text : List ℕ) (r : Result Expr FilterFault) → MayAnswer text r → (e : Expr) → FilterOf text e → AnswersTree e r
-answers_tree text (Ok d) a e b = one_filter text d e a b
-answers_tree text (Err (Bad o)) a e b = not_both_of text e (Bad o) b a
-answers_tree text (Err (NumberRange o)) a e b = not_both_of text e (NumberRange o) b a
-answers_tree text (Err (TooDeep o)) a e b = not_both_of text e (TooDeep o) b a
-answers_tree text (Err NoMemory) a e b = tt
+pub answers_tree : (text : List ℕ) (r : Result Expr FilterFault) → MayAnswer text r → (t : FilterTree) → FilterOf text t → AnswersTree t r
+answers_tree text (Ok d) a t b = one_filter text (tree_of d) t a b
+answers_tree text (Err (Bad o)) a t b = not_both_of text t (Bad o) b a
+answers_tree text (Err (NumberRange o)) a t b = not_both_of text t (NumberRange o) b a
+answers_tree text (Err (TooDeep o)) a t b = not_both_of text t (TooDeep o) b a
+answers_tree text (Err NoMemory) a t b = tt
 
 pub answers_fault : (text : List ℕ) (r : Result Expr FilterFault) → MayAnswer text r → (f : FilterFault) → FaultOf text f → AnswersFault f r
-answers_fault text (Ok d) a f b = not_both_of text d f a b
+answers_fault text (Ok d) a f b = not_both_of text (tree_of d) f a b
 answers_fault text (Err (Bad o)) a f b = one_fault text (Bad o) f a b
 answers_fault text (Err (NumberRange o)) a f b = one_fault text (NumberRange o) f a b
 answers_fault text (Err (TooDeep o)) a f b = one_fault text (TooDeep o) f a b

@@ -1,13 +1,14 @@
 -- What a text is as a filter: its tree, or its first fault.
 use Rattle.std.specs.Prelude.{◌≡◌, ℕ, ◌≤◌, ◌<◌, Bool, ◌||◌, IsTrue, List, [], ◌∷◌, ◌++◌, Result, Ok, Err}
 use Rattle.plain_drawing.specs.declared.Expr.{Expr}
+use Rattle.plain_drawing.specs.Filters.{FilterTree, tree_of}
 use Rattle.filter_expr.specs.declared.tokens.Token.{Token}
 use Rattle.filter_expr.specs.declared.tokens.Token.TheVariants as token
 use Rattle.filter_expr.specs.declared.tokens.Spot.{Spot}
 use Rattle.filter_expr.specs.declared.faults.FilterFault.{FilterFault}
 use Rattle.filter_expr.specs.declared.faults.FilterFault.TheVariants.{Bad, NumberRange, TooDeep, NoMemory}
 use Rattle.filter_expr.specs.Trees.{Tree, bare, nesting, InRange, is_huge, is_not, is_minus, is_open}
-use Rattle.filter_expr.specs.Seen.{seen}
+use Rattle.filter_expr.specs.Seen.{shape}
 use Rattle.filter_expr.specs.Spelling.{TokensOf}
 use Rattle.filter_expr.specs.Grammar.{IsSpelled, Stands}
 
@@ -82,9 +83,9 @@ pub record IsFault (ts : List Spot) (f : FilterFault) : Type 0 where
 
 -- ---- texts
 
--- the text is a filter, and this expression is its tree
-abbrev pub FilterOf : List ℕ → Expr → Type 0
-FilterOf text e = (ts : List Spot) × TokensOf text ts × IsFilter ts (seen e)
+-- the text is a filter, and this is its tree
+abbrev pub FilterOf : List ℕ → FilterTree → Type 0
+FilterOf text t = (ts : List Spot) × TokensOf text ts × IsFilter ts (shape t)
 
 -- the text is no filter within the limits, and this is its first fault
 abbrev pub FaultOf : List ℕ → FilterFault → Type 0
@@ -94,19 +95,19 @@ FaultOf text f = (ts : List Spot) × TokensOf text ts × IsFault ts f
 
 -- what may be answered for the text: its tree, its first fault, or want of memory
 abbrev pub MayAnswer : List ℕ → Result Expr FilterFault → Type 0
-MayAnswer text (Ok e) = FilterOf text e
+MayAnswer text (Ok e) = FilterOf text (tree_of e)
 MayAnswer text (Err (Bad o)) = FaultOf text (Bad o)
 MayAnswer text (Err (NumberRange o)) = FaultOf text (NumberRange o)
 MayAnswer text (Err (TooDeep o)) = FaultOf text (TooDeep o)
 MayAnswer text (Err NoMemory) = Unit {0}
 
 -- the answer is this tree, but for want of memory
-abbrev pub AnswersTree : Expr → Result Expr FilterFault → Type 0
-AnswersTree e (Ok d) = seen d ≡ seen e
-AnswersTree e (Err (Bad o)) = ⊥
-AnswersTree e (Err (NumberRange o)) = ⊥
-AnswersTree e (Err (TooDeep o)) = ⊥
-AnswersTree e (Err NoMemory) = Unit {0}
+abbrev pub AnswersTree : FilterTree → Result Expr FilterFault → Type 0
+AnswersTree t (Ok d) = tree_of d ≡ t
+AnswersTree t (Err (Bad o)) = ⊥
+AnswersTree t (Err (NumberRange o)) = ⊥
+AnswersTree t (Err (TooDeep o)) = ⊥
+AnswersTree t (Err NoMemory) = Unit {0}
 
 -- the answer is this fault, but for want of memory
 abbrev pub AnswersFault : FilterFault → Result Expr FilterFault → Type 0
@@ -124,10 +125,10 @@ OneTree = (d e : Tree) (us : List Spot) → Stands 0 d → Stands 0 e → IsSpel
 
 -- a text has one tree at most, no tree where it has a fault, and one fault at most
 abbrev pub OneFilter : Type 0
-OneFilter = (text : List ℕ) (d e : Expr) → FilterOf text d → FilterOf text e → seen d ≡ seen e
+OneFilter = (text : List ℕ) (s t : FilterTree) → FilterOf text s → FilterOf text t → s ≡ t
 
 abbrev pub NotBoth : Type 0
-NotBoth = (text : List ℕ) (e : Expr) (f : FilterFault) → FilterOf text e → FaultOf text f → ⊥
+NotBoth = (text : List ℕ) (t : FilterTree) (f : FilterFault) → FilterOf text t → FaultOf text f → ⊥
 
 abbrev pub OneFault : Type 0
 OneFault = (text : List ℕ) (f g : FilterFault) → FaultOf text f → FaultOf text g → f ≡ g

@@ -1,11 +1,12 @@
--- The tree that an expression of the code is: the same nodes, with the sign before each later part.
+-- The grammar's tree of a plain filter: the same nodes, with the sign before each later part.
 use Rattle.std.specs.Prelude.{List, [], ◌∷◌, map, Bool, true, false}
-use Rattle.plain_drawing.specs.declared.Expr.{Expr, fold-Expr}
-use Rattle.plain_drawing.specs.declared.Expr.TheOpen as «open»
+use Rattle.plain_drawing.specs.declared.Expr.{Expr}
+use Rattle.plain_drawing.specs.Filters.{FilterTree, FilterTrees, SumTrees, ProductTrees, or_tree, and_tree, not_tree, compare_tree, sum_tree, product_tree, negate_tree, name_tree, text_tree, number_tree, truth_tree, null_tree, no_trees, tree_then, no_sums, sum_then, no_products, product_then, tree_of}
 use Rattle.filter_expr.specs.declared.tokens.Token.{Token}
 use Rattle.filter_expr.specs.declared.tokens.Token.TheVariants as token
 use Rattle.filter_expr.specs.Trees.{Kind, Tree, Terms, leaf, negation, negative, comparison, chain, no_terms, term, or_chain, and_chain, sum_chain, product_chain, sum_token, product_token}
 
+-- a sign and the tree behind it
 abbrev pub Part : Type 0
 Part = Token × Tree
 
@@ -18,36 +19,42 @@ terms_of (p ∷ ps) = term p.0 p.1 (terms_of ps)
 abbrev pub behind : Token → List Tree → List Part
 behind t xs = map (λ x. (t, x)) xs
 
--- a list of parts under one sign; a list of none is the tree of no text
-abbrev pub listed : Kind → Token → List Tree → Tree
-listed k t [] = leaf token.End
-listed k t (x ∷ xs) = chain k x (terms_of (behind t xs))
-
 abbrev pub truth_token : Bool → Token
 truth_token true = token.True
 truth_token false = token.False
 
--- one node, its parts being trees
-abbrev pub expr_step : open.Expr-F Tree Part Part → Tree
-expr_step (open.Or parts) = listed or_chain token.Or parts.items
-expr_step (open.And parts) = listed and_chain token.And parts.items
-expr_step (open.Not e) = negation e.value
-expr_step (open.Compare a sign b) = comparison a.value sign b.value
-expr_step (open.Sum e parts) = chain sum_chain e.value (terms_of parts.items)
-expr_step (open.Product e parts) = chain product_chain e.value (terms_of parts.items)
-expr_step (open.Negate e) = negative e.value
-expr_step (open.Name name) = leaf (token.Name name)
-expr_step (open.Text t) = leaf (token.Quoted t)
-expr_step (open.Number z) = leaf (token.Number z)
-expr_step (open.Truth b) = leaf (truth_token b)
-expr_step open.Null = leaf token.Null
+-- the tree of a filter; a chain of no parts, or of one, is the tree of no text
+abbrev mutual
+  pub shape : FilterTree → Tree
+  shape (or_tree parts) = joined or_chain token.Or parts
+  shape (and_tree parts) = joined and_chain token.And parts
+  shape (not_tree part) = negation (shape part)
+  shape (compare_tree a sign b) = comparison (shape a) sign (shape b)
+  shape (sum_tree first parts) = chain sum_chain (shape first) (sum_terms parts)
+  shape (product_tree first parts) = chain product_chain (shape first) (product_terms parts)
+  shape (negate_tree part) = negative (shape part)
+  shape (name_tree name) = leaf (token.Name name)
+  shape (text_tree text) = leaf (token.Quoted text)
+  shape (number_tree z) = leaf (token.Number z)
+  shape (truth_tree b) = leaf (truth_token b)
+  shape null_tree = leaf token.Null
 
-abbrev pub seen_sum_step : open.SumPart-F Tree Part Part → Part
-seen_sum_step p = (sum_token p.sign, p.part)
+  pub joined : Kind → Token → FilterTrees → Tree
+  joined k t no_trees = chain k (leaf token.End) no_terms
+  joined k t (tree_then first parts) = chain k (shape first) (same_terms t parts)
 
-abbrev pub seen_product_step : open.ProductPart-F Tree Part Part → Part
-seen_product_step p = (product_token p.sign, p.part)
+  pub same_terms : Token → FilterTrees → Terms
+  same_terms t no_trees = no_terms
+  same_terms t (tree_then part parts) = term t (shape part) (same_terms t parts)
+
+  pub sum_terms : SumTrees → Terms
+  sum_terms no_sums = no_terms
+  sum_terms (sum_then sign part parts) = term (sum_token sign) (shape part) (sum_terms parts)
+
+  pub product_terms : ProductTrees → Terms
+  product_terms no_products = no_terms
+  product_terms (product_then sign part parts) = term (product_token sign) (shape part) (product_terms parts)
 
 -- the tree of an expression
 abbrev pub seen : Expr → Tree
-seen = fold-Expr Tree Part Part expr_step seen_product_step seen_sum_step
+seen e = shape (tree_of e)

@@ -54,7 +54,7 @@ fn and_chain(alloc: Global, spots: &mut Spots, depth_left: u32) -> Result<Expr, 
 
 /// `not` or `!` and a not-part, or a comparison.
 #[cycle(parser)]
-#[tactic(auto, unfolding(crate::specs::Reading::not_in, crate::specs::Reading::within))]
+#[tactic(auto, using(crate::proofs::SeenLemmas::nodes), unfolding(crate::specs::Reading::not_in, crate::specs::Reading::within))]
 fn not_part(alloc: Global, spots: &mut Spots, depth_left: u32) -> Result<Expr, FilterFault>
     ensures read { Gives seen result spots.new (not_in (within depth_left) spots.old) }
     ensures left { length spots.new ≤ length spots.old }
@@ -72,7 +72,7 @@ fn not_part(alloc: Global, spots: &mut Spots, depth_left: u32) -> Result<Expr, F
 
 /// A sum, then at most one comparing sign and a sum.
 #[cycle(parser)]
-#[tactic(auto, unfolding(crate::specs::Reading::compare_in))]
+#[tactic(auto, using(crate::proofs::SeenLemmas::nodes), unfolding(crate::specs::Reading::compare_in))]
 fn comparison(alloc: Global, spots: &mut Spots, depth_left: u32) -> Result<Expr, FilterFault>
     ensures read { Gives seen result spots.new (compare_in (within depth_left) spots.old) }
     ensures left { length spots.new ≤ length spots.old }
@@ -128,7 +128,7 @@ fn product(alloc: Global, spots: &mut Spots, depth_left: u32) -> Result<Expr, Fi
 
 /// `-` and a unary, or an atom.
 #[cycle(parser)]
-#[tactic(auto, unfolding(crate::specs::Reading::unary_in, crate::specs::Reading::within))]
+#[tactic(auto, using(crate::proofs::SeenLemmas::nodes), unfolding(crate::specs::Reading::unary_in, crate::specs::Reading::within))]
 fn unary(alloc: Global, spots: &mut Spots, depth_left: u32) -> Result<Expr, FilterFault>
     ensures read { Gives seen result spots.new (unary_in (within depth_left) spots.old) }
     ensures left { length spots.new ≤ length spots.old }

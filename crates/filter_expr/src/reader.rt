@@ -5,7 +5,7 @@ ghost use Rattle.filter_expr.specs.Reading.{whole};
 ghost use Rattle.filter_expr.specs.Gives.{Answers};
 ghost use Rattle.filter_expr.specs.Filters.{FilterOf, FaultOf, MayAnswer, AnswersTree, AnswersFault, OneTree, OneFilter, NotBoth, OneFault, OneTokenList};
 ghost use Rattle.filter_expr.specs.declared.faults.FilterFault.{FilterFault};
-ghost use Rattle.plain_drawing.specs.declared.Expr.{Expr};
+ghost use Rattle.plain_drawing.specs.Filters.{FilterTree};
 
 use crate::faults::FilterFault;
 use crate::lexer::tokens;
@@ -25,7 +25,7 @@ pub fn parse(alloc: Global, text: &str) -> Result<Expr, FilterFault>
     ensures answer { MayAnswer text.now result }
 
     // and where the text has a tree, or a fault, it is that one and no other.
-    ensures tree { (e : Expr) → FilterOf text.now e → AnswersTree e result }
+    ensures tree { (t : FilterTree) → FilterOf text.now t → AnswersTree t result }
     ensures fault { (f : FilterFault) → FaultOf text.now f → AnswersFault f result }
 {
     read(alloc, text)

@@ -242,6 +242,7 @@ impl Token {
     }
 }
 
+#[tactic(auto, using(crate::proofs::SeenLemmas::nodes))]
 fn leaf_of(token: Token) -> Expr
     requires { IsTrue (is_leaf token) }
     ensures { seen result ≡ leaf token }

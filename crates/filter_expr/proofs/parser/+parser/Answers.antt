@@ -2,9 +2,9 @@ use Rattle.std.proofs.Common.{◌≡◌, ◌∷◌, Some, None, length, map, ◌
 use Rattle.std.proofs.lemmas.List.{map-append}
 use Rattle.std.proofs.lemmas.Result.{err_from_is_err_and}
 use Rattle.filter_expr.specs.Trees.{or_chain, and_chain, sum_chain, product_chain, sum_token, product_token, joins, chain}
-use Rattle.filter_expr.specs.Seen.{seen, terms_of, behind, listed}
+use Rattle.filter_expr.specs.Seen.{seen, terms_of, behind}
 use Rattle.filter_expr.specs.Reading.{got, or_in, and_in, not_in, sum_in, product_in, unary_in, within, starts, next_sign, later}
-use Rattle.filter_expr.proofs.SeenLemmas.{seen_sum, seen_product, seen_sum-made, seen_product-made, seen-Or, seen-And, seen-Sum, seen-Product}
+use Rattle.filter_expr.proofs.SeenLemmas.{listed, seen_sum, seen_product, seen_sum-made, seen_product-made, seen-Or, seen-And, seen-Sum, seen-Product}
 use Rattle.filter_expr.proofs.Chains.{loop_goes}
 use Rattle.filter_expr.proofs.Levels.{drop_one, within_shortens, unary_shortens, product_shortens, not_shortens, and_shortens}
 use Rattle.filter_expr.proofs.Loops.{sign_joins, sign_is, no_sign, first_fails, part_fails, chain_ends, one_part, more_parts, one_listed, more_listed, or_first, and_first, not_empty}
