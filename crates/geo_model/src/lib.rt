@@ -6,6 +6,8 @@ mod checks;
 mod copies;
 mod faults;
 mod feature;
+#[cfg(test)]
+mod tests;
 
 pub use bounds::Bounds;
 pub use faults::GeoFault;
