@@ -37,7 +37,7 @@ refusing_ok text name (Ok y) x h = let e : y ≡ x = cc in ap Ok e
 refusing_ok text name (Err f) x h = absurd (cc)
 
 -- what a file that was read and checked holds
-abbrev HasValue : {A : Type 0} → (List ℕ → Result A SmallFault) → FilesTold → FilesAt → List ℕ → A → Type 0
+abbrev pub HasValue : {A : Type 0} → (List ℕ → Result A SmallFault) → FilesTold → FilesAt → List ℕ → A → Type 0
 HasValue meaning t new name x = Means meaning t.content name (Ok x) × (new.told ≡ Some t)
 
 read_ok : {A : Type 0} (meaning : List ℕ → Result A SmallFault) (text : SmallFault → List ℕ) (t : FilesTold) (new : FilesAt) (name : List ℕ) (x : A)
@@ -46,7 +46,7 @@ read_ok meaning text t new name x (Ok bytes) told gives = ((bytes.items, told.0,
 read_ok meaning text t new name x (Err file.Failed) told gives = absurd (cc)
 read_ok meaning text t new name x (Err file.NoMemory) told gives = absurd (cc)
 
-checks_ok : {A : Type 0} (meaning : List ℕ → Result A SmallFault) (text : SmallFault → List ℕ) (t : FilesTold) (old new : FilesAt) (name : List ℕ) (x : A)
+pub checks_ok : {A : Type 0} (meaning : List ℕ → Result A SmallFault) (text : SmallFault → List ℕ) (t : FilesTold) (old new : FilesAt) (name : List ℕ) (x : A)
     → old.told ≡ Some t → Checks (λ (y : A). y) meaning text old new name (Ok x) → HasValue meaning t new name x
 checks_ok meaning text t old new name x e checked =
     read_ok meaning text t new name x checked.read (subst (λ (o : Option FilesTold). Reads o new.told name checked.read) e checked.told) checked.gives

@@ -1,8 +1,9 @@
 //! The top call.
-ghost use Rattle.std.specs.Prelude.{◌≡◌, ℕ, List, Some, map, string_bytes};
-ghost use Rattle.farm_base.specs.Outside.{FilesTold};
+ghost use Rattle.std.specs.Prelude.{◌≡◌, ◌≢◌, ◌⊎◌, ℕ, List, Some, map, string_bytes};
+ghost use Rattle.farm_base.specs.Outside.{FilesTold, Rose};
+ghost use Rattle.farm_call.specs.Words.{AsksNothing};
 ghost use Rattle.farm_call.specs.Ends.{files_at, sink_at, Runs, FarmEnds};
-ghost use Rattle.farm_call.specs.Promises.{Rendered};
+ghost use Rattle.farm_call.specs.Promises.{Rendered, Refusal, Unread};
 
 use crate::render::render;
 use crate::stops::{Stop, report};
@@ -29,6 +30,15 @@ pub fn farm_main<F: Files, O: Sink, E: Sink>(
         (sink_at (E.taken err.old) (E.faults err.old)) (sink_at (E.taken err.new) (E.faults err.new)) result }
     ensures rendered { result ≡ 0 → (t : FilesTold) → F.told files.old ≡ Some t → (before : List ℕ) → O.taken out.old ≡ Some before
         → Rendered (map string_bytes words.now) t.content before (O.taken out.new) }
+    ensures refused { result ≡ 1 → (t : FilesTold) → F.told files.old ≡ Some t
+        → Refusal (map string_bytes words.now) t.content (E.taken err.old) (E.taken err.new) }
+    ensures words { result ≡ 2 → AsksNothing (map string_bytes words.now) }
+    ensures no_words { AsksNothing (map string_bytes words.now) → (result ≡ 2) ⊎ ((result ≡ 4) × Rose (E.faults err.old) (E.faults err.new)) }
+    ensures unread { result ≡ 3 → (t : FilesTold) → F.told files.old ≡ Some t
+        → Unread (map string_bytes words.now) t (F.told files.new) (E.taken err.old) (E.taken err.new) }
+    ensures read_failed { result ≡ 3 → Rose (F.faults files.old) (F.faults files.new) }
+    ensures put_failed { result ≡ 4 → Rose (O.faults out.old) (O.faults out.new) ⊎ Rose (E.faults err.old) (E.faults err.new) }
+    ensures nothing_put { result ≢ 0 → result ≢ 4 → O.taken out.new ≡ O.taken out.old }
 {
     let end = command(alloc, words, files, out);
     report(err, &end)
