@@ -2,14 +2,15 @@
 use Rattle.std.proofs.Common.{◌≡◌, ℕ, zero, suc, ◌+◌, ◌≤◌, ◌<◌, List, [], ◌∷◌, length, get_or, set, take, drop, drop-cons, add-one, refl, sym, ap, subst, arith}
 use Rattle.std.specs.Prelude.{Bool, true, false, if◌then◌else◌, cond, nat_lt, position, All, Some, None, option_map, Ok, Err}
 use Rattle.std.specs.Str.{bytes_eq}
-use Rattle.std.specs.List.{AllByRecursion, position_or_len}
-use Rattle.std.proofs.lemmas.List.Elements.{recursion_from_All, All-more}
+use Rattle.std.specs.List.{AllByRecursion, IsDistinct, position_or_len}
+use Rattle.std.proofs.lemmas.Bool.Decides.{nat_tests}
+use Rattle.std.proofs.lemmas.List.Elements.{recursion_from_All, All-from_recursion, All-more}
 use Rattle.std.specs.declared.alloc.Global.{Global}
 use Rattle.std.specs.declared.sync.Arc.{Arc}
 use Rattle.std.specs.Arc.{arc_value}
 use Rattle.data_versions.specs.Shared.{shared_layers}
 use Rattle.plain_drawing.specs.Features.{Layer}
-use Rattle.plain_drawing.specs.Data.{Change, IsLayer, IsDataset, names_of, layer_named, features_named, changed_layer, changed, change_fault, changed_from}
+use Rattle.plain_drawing.specs.Data.{Change, is_name, IsLayer, IsDataset, IsChange, IsUpdate, names_of, layer_named, features_named, changed_layer, changed, change_fault, changed_from}
 use Rattle.farm_base.specs.declared.faults.ApplyFault.{ApplyFault}
 use Rattle.std.proofs.lemmas.List.{length-map, drop_all}
 use Rattle.std.proofs.lemmas.List.Quantifiers.{position-Some}
@@ -120,3 +121,29 @@ shared_valid shares i share small each at = by_place shares i share small (recur
 pub layers_more : (layers : List Layer) (i : ℕ) (l : Layer) → i < length layers → l ≡ get_or layers i l → All IsLayer (take i layers) → IsLayer l
     → All IsLayer (take (i + 1) layers)
 layers_more layers i l small at each here = All-more IsLayer layers i l small each (subst (λ (m : Layer). IsLayer m) at here)
+
+-- ---- small data and updates
+
+-- one layer
+pub lone_layer : (layers : List Layer) (l : Layer) → layers ≡ l ∷ [] → IsLayer l → IsDataset layers
+unfolding IsDistinct
+lone_layer layers l e valid = subst (λ (ls : List Layer). IsDataset ls) (sym e) (record {
+  few = omega arith;
+  each = All-from_recursion IsLayer (l ∷ []) (valid, tt);
+  distinct = (tt, tt);
+})
+
+pub short_name : (name : List ℕ) → 1 ≤ length name → length name ≤ 64 → is_name name ≡ true
+short_name name some short = grind (arith, nat_tests)
+
+-- a layer without features
+pub bare_layer : (l : Layer) → l.features ≡ [] → 1 ≤ length l.name → length l.name ≤ 64 → IsLayer l
+unfolding IsDistinct
+bare_layer l none some short = record { named = short_name l.name some short; few = rw none (omega arith); distinct = rw none tt }
+
+-- one change
+pub lone_change : (changes : List Change) (c : Change) → changes ≡ c ∷ [] → IsChange c → IsUpdate changes
+lone_change changes c e valid = subst (λ (cs : List Change). IsUpdate cs) (sym e) (record {
+  few = omega arith;
+  each = All-from_recursion IsChange (c ∷ []) (valid, tt);
+})

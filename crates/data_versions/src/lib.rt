@@ -5,6 +5,8 @@ mod bench;
 mod dataset;
 mod desk;
 mod snapshot;
+#[cfg(test)]
+mod tests;
 mod updates;
 
 pub use dataset::{Change, Dataset, Layer, Update};
