@@ -2,10 +2,15 @@
 #![tactic(auto)]
 
 mod container;
+mod laws;
 mod reading;
 mod writing;
 
 pub use container::{Entry, Listing, PLACES};
 pub use farm_base::MetaFault;
+pub use laws::law_tiles_come_back;
 pub use reading::{entry_in, listing, tile_in};
 pub use writing::encode;
+
+#[cfg(test)]
+mod tests;
