@@ -1,0 +1,13 @@
+//! The words of the command line: clap's reading of a simple command, and the five forms that the
+//! farm's program knows.
+#![tactic(auto)]
+
+mod command;
+mod forms;
+mod reading;
+
+pub use command::{Command, WordsFault};
+pub use reading::read_words;
+
+#[cfg(test)]
+mod tests;
