@@ -14,3 +14,4 @@ pub mod Sound
 pub mod Spelled
 pub mod Tokenised
 pub mod Turns
+pub mod Plain

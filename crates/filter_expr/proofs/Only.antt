@@ -57,7 +57,7 @@ filter_read ts d a = ap whole a.text.2 ∙ by (whole (a.text.0 ++ a.text.1 ∷ [
 tree_same : (d e : Tree) (xs ys : List Spot) → ◌≡◌ {A = Step Tree} (got d xs) (got e ys) → d ≡ e
 tree_same d e xs ys q = cc
 
-filter_unique : (ts : List Spot) (d e : Tree) → IsFilter ts d → IsFilter ts e → d ≡ e
+pub filter_unique : (ts : List Spot) (d e : Tree) → IsFilter ts d → IsFilter ts e → d ≡ e
 filter_unique ts d e a b = tree_same d e (a.text.1 ∷ []) (b.text.1 ∷ []) (sym (filter_read ts d a) ∙ filter_read ts e b)
 
 -- ---- faults
@@ -129,7 +129,7 @@ same_kind (Bad o) NoMemory before here a b c d m n = absurd b
 same_kind (NumberRange o) NoMemory before here a b c d m n = absurd b
 same_kind (TooDeep o) NoMemory before here a b c d m n = absurd b
 
-fault_unique : (ts : List Spot) (f g : FilterFault) → IsFault ts f → IsFault ts g → f ≡ g
+pub fault_unique : (ts : List Spot) (f g : FilterFault) → IsFault ts f → IsFault ts g → f ≡ g
 fault_unique ts f g a b = by (meet a.before b.before a.after b.after a.here b.here (sym a.split ∙ b.split))
   where
     by : Meet a.before b.before a.here b.here → f ≡ g
@@ -153,6 +153,9 @@ not_both_of text t f a b = not_both b.0 (shape t) f (subst (λ ts. IsFilter ts (
 
 pub one_fault : OneFault
 one_fault text f g a b = fault_unique b.0 f g (subst (λ ts. IsFault ts f) (one_token_list text a.0 b.0 a.1 b.1) a.2) b.2
+
+pub lexed_answer : (text : List ℕ) → IsAnswer (lexed 0 0 text) (whole (lexed 0 0 text))
+lexed_answer text = right (lexed 0 0 text) (tokens_stopped (lexed 0 0 text) 0 text (lexed_tokens text))
 
 -- the reading of the tokens is the answer
 pub may_answer : (text : List ℕ) (r : Result Expr FilterFault) → Answers seen r (whole (lexed 0 0 text)) → MayAnswer text r

@@ -17,6 +17,7 @@ use Rattle.plain_drawing.specs.Filters.{FilterTree, FilterTrees, SumTrees, Produ
 use Rattle.filter_expr.specs.declared.tokens.Token.{Token}
 use Rattle.filter_expr.specs.declared.tokens.Token.TheVariants as token
 use Rattle.filter_expr.specs.Trees.{Kind, Tree, Terms, leaf, negation, negative, comparison, chain, parens, no_terms, term, or_chain, and_chain, sum_chain, product_chain, sum_token, product_token, is_end}
+use Rattle.filter_expr.specs.FilterTexts.{is_end_leaf, sum_sign_of, product_sign_of, leaf_back, back, backs, back_sums, back_products}
 use Rattle.filter_expr.specs.Seen.{Part, seen, shape, joined, same_terms, sum_terms, product_terms, terms_of, behind, truth_token}
 
 -- ---- nodes
@@ -111,52 +112,6 @@ pub ruleset nodes = (seen-Not, seen-Compare, seen-Negate, seen-Name, seen-Text, 
 
 -- ---- a filter is known by its tree
 
-abbrev is_end_leaf : Tree → Bool
-is_end_leaf (leaf t) = is_end t
-is_end_leaf _ = false
-
-abbrev sum_sign_of : Token → SumSign
-sum_sign_of token.Minus = sum.Minus
-sum_sign_of _ = sum.Plus
-
-abbrev product_sign_of : Token → ProductSign
-product_sign_of token.Divide = product.Divide
-product_sign_of token.Rest = product.Rest
-product_sign_of _ = product.Times
-
-abbrev leaf_back : Token → FilterTree
-leaf_back (token.Name n) = name_tree n
-leaf_back (token.Quoted t) = text_tree t
-leaf_back (token.Number z) = number_tree z
-leaf_back token.True = truth_tree true
-leaf_back token.False = truth_tree false
-leaf_back _ = null_tree
-
--- the filter of a tree
-abbrev mutual
-  back : Tree → FilterTree
-  back (leaf t) = leaf_back t
-  back (negation e) = not_tree (back e)
-  back (negative e) = negate_tree (back e)
-  back (comparison a c b) = compare_tree (back a) c (back b)
-  back (chain or_chain e ts) = or_tree (if is_end_leaf e then no_trees else tree_then (back e) (backs ts))
-  back (chain and_chain e ts) = and_tree (if is_end_leaf e then no_trees else tree_then (back e) (backs ts))
-  back (chain sum_chain e ts) = sum_tree (back e) (back_sums ts)
-  back (chain product_chain e ts) = product_tree (back e) (back_products ts)
-  back (parens e) = back e
-
-  backs : Terms → FilterTrees
-  backs no_terms = no_trees
-  backs (term t e ts) = tree_then (back e) (backs ts)
-
-  back_sums : Terms → SumTrees
-  back_sums no_terms = no_sums
-  back_sums (term t e ts) = sum_then (sum_sign_of t) (back e) (back_sums ts)
-
-  back_products : Terms → ProductTrees
-  back_products no_terms = no_products
-  back_products (term t e ts) = product_then (product_sign_of t) (back e) (back_products ts)
-
 no_end : (t : FilterTree) → is_end_leaf (shape t) ≡ false
 no_end (or_tree no_trees) = refl
 no_end (or_tree (tree_then p ps)) = refl
@@ -184,7 +139,7 @@ product_sign_back product.Divide = refl
 product_sign_back product.Rest = refl
 
 mutual
-  round : (t : FilterTree) → back (shape t) ≡ t
+  pub round : (t : FilterTree) → back (shape t) ≡ t
   round (or_tree no_trees) = refl
   round (or_tree (tree_then p ps)) =
       ap (λ b. or_tree (if b then no_trees else tree_then (back (shape p)) (backs (same_terms token.Or ps)))) (no_end p)

@@ -1,3 +1,4 @@
+pub mod FilterTexts
 pub mod Filters
 pub mod Gives
 pub mod Grammar

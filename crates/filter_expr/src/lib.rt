@@ -11,6 +11,6 @@ mod walk;
 
 pub use faults::FilterFault;
 pub use plain_drawing::{CompareSign, Expr, ProductPart, ProductSign, SumPart, SumSign};
-pub use reader::{law_one_answer, law_one_tree, parse};
+pub use reader::{law_one_answer, law_one_tree, law_says, parse};
 pub use value::ValueRef;
 pub use walk::{eval, holds};

@@ -4,6 +4,7 @@ ghost use Rattle.filter_expr.specs.Lexing.{lexed};
 ghost use Rattle.filter_expr.specs.Reading.{whole};
 ghost use Rattle.filter_expr.specs.Gives.{Answers};
 ghost use Rattle.filter_expr.specs.Filters.{FilterOf, FaultOf, MayAnswer, AnswersTree, AnswersFault, OneTree, OneFilter, NotBoth, OneFault, OneTokenList};
+ghost use Rattle.filter_expr.specs.FilterTexts.{filter_of, Says, SaysFilter, SaysFault};
 ghost use Rattle.filter_expr.specs.declared.faults.FilterFault.{FilterFault};
 ghost use Rattle.plain_drawing.specs.Filters.{FilterTree};
 
@@ -23,6 +24,9 @@ const DEPTH: u32 = 64;
 pub fn parse(alloc: Global, text: &str) -> Result<Expr, FilterFault>
     // The answer is the text's tree or its first fault,
     ensures answer { MayAnswer text.now result }
+
+    // which is what the text says as a function,
+    ensures value { Says (filter_of text.now) result }
 
     // and where the text has a tree, or a fault, it is that one and no other.
     ensures tree { (t : FilterTree) → FilterOf text.now t → AnswersTree t result }
@@ -55,4 +59,11 @@ pub fn law_one_answer()
     ensures filter { OneFilter }
     ensures apart { NotBoth }
     ensures fault { OneFault }
+{}
+
+/// The function that says what a text is as a filter says what the grammar says: its filter, or its
+/// first fault.
+pub fn law_says()
+    ensures filter { SaysFilter }
+    ensures fault { SaysFault }
 {}

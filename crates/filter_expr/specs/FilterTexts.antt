@@ -1,0 +1,87 @@
+-- What a text says as a filter, as a function: the filter that its tokens are read as, or the first fault.
+-- The grammar fixes it: it is the filter of the text where there is one, and else its fault.
+use Rattle.std.specs.Prelude.{◌≡◌, ℕ, Bool, true, false, if◌then◌else◌, List, Result, Ok, Err}
+use Rattle.plain_drawing.specs.declared.Expr.{Expr}
+use Rattle.plain_drawing.specs.declared.SumSign.{SumSign}
+use Rattle.plain_drawing.specs.declared.SumSign.TheVariants as sum
+use Rattle.plain_drawing.specs.declared.ProductSign.{ProductSign}
+use Rattle.plain_drawing.specs.declared.ProductSign.TheVariants as product
+use Rattle.plain_drawing.specs.Filters.{FilterTree, FilterTrees, SumTrees, ProductTrees, or_tree, and_tree, not_tree, compare_tree, sum_tree, product_tree, negate_tree, name_tree, text_tree, number_tree, truth_tree, null_tree, no_trees, tree_then, no_sums, sum_then, no_products, product_then, tree_of}
+use Rattle.filter_expr.specs.declared.tokens.Token.{Token}
+use Rattle.filter_expr.specs.declared.tokens.Token.TheVariants as token
+use Rattle.filter_expr.specs.declared.faults.FilterFault.{FilterFault}
+use Rattle.filter_expr.specs.declared.faults.FilterFault.TheVariants.{Bad, NumberRange, TooDeep, NoMemory}
+use Rattle.filter_expr.specs.Trees.{Tree, Terms, leaf, negation, negative, comparison, chain, parens, no_terms, term, or_chain, and_chain, sum_chain, product_chain, is_end}
+use Rattle.filter_expr.specs.Lexing.{lexed}
+use Rattle.filter_expr.specs.Reading.{Step, got, failed, whole}
+use Rattle.filter_expr.specs.Filters.{FilterOf, FaultOf}
+
+abbrev pub is_end_leaf : Tree → Bool
+is_end_leaf (leaf t) = is_end t
+is_end_leaf _ = false
+
+abbrev pub sum_sign_of : Token → SumSign
+sum_sign_of token.Minus = sum.Minus
+sum_sign_of _ = sum.Plus
+
+abbrev pub product_sign_of : Token → ProductSign
+product_sign_of token.Divide = product.Divide
+product_sign_of token.Rest = product.Rest
+product_sign_of _ = product.Times
+
+abbrev pub leaf_back : Token → FilterTree
+leaf_back (token.Name n) = name_tree n
+leaf_back (token.Quoted t) = text_tree t
+leaf_back (token.Number z) = number_tree z
+leaf_back token.True = truth_tree true
+leaf_back token.False = truth_tree false
+leaf_back _ = null_tree
+
+-- the filter of a tree
+abbrev mutual
+  pub back : Tree → FilterTree
+  back (leaf t) = leaf_back t
+  back (negation e) = not_tree (back e)
+  back (negative e) = negate_tree (back e)
+  back (comparison a c b) = compare_tree (back a) c (back b)
+  back (chain or_chain e ts) = or_tree (if is_end_leaf e then no_trees else tree_then (back e) (backs ts))
+  back (chain and_chain e ts) = and_tree (if is_end_leaf e then no_trees else tree_then (back e) (backs ts))
+  back (chain sum_chain e ts) = sum_tree (back e) (back_sums ts)
+  back (chain product_chain e ts) = product_tree (back e) (back_products ts)
+  back (parens e) = back e
+
+  pub backs : Terms → FilterTrees
+  backs no_terms = no_trees
+  backs (term t e ts) = tree_then (back e) (backs ts)
+
+  pub back_sums : Terms → SumTrees
+  back_sums no_terms = no_sums
+  back_sums (term t e ts) = sum_then (sum_sign_of t) (back e) (back_sums ts)
+
+  pub back_products : Terms → ProductTrees
+  back_products no_terms = no_products
+  back_products (term t e ts) = product_then (product_sign_of t) (back e) (back_products ts)
+
+-- what was read, as a filter or a fault
+abbrev pub verdict : Step Tree → Result FilterTree FilterFault
+verdict (got d ts) = Ok (back d)
+verdict (failed f ts) = Err f
+
+-- what the text says
+unfoldable pub filter_of : List ℕ → Result FilterTree FilterFault
+filter_of text = verdict (whole (lexed 0 0 text))
+
+-- the answer is what the text says, but for want of memory
+abbrev pub Says : Result FilterTree FilterFault → Result Expr FilterFault → Type 0
+Says said (Ok e) = said ≡ Ok (tree_of e)
+Says said (Err (Bad o)) = said ≡ Err (Bad o)
+Says said (Err (NumberRange o)) = said ≡ Err (NumberRange o)
+Says said (Err (TooDeep o)) = said ≡ Err (TooDeep o)
+Says said (Err NoMemory) = Unit {0}
+
+-- the grammar's filter of a text, and its fault, are what the text says
+abbrev pub SaysFilter : Type 0
+SaysFilter = (text : List ℕ) (t : FilterTree) → FilterOf text t → filter_of text ≡ Ok t
+
+abbrev pub SaysFault : Type 0
+SaysFault = (text : List ℕ) (f : FilterFault) → FaultOf text f → filter_of text ≡ Err f

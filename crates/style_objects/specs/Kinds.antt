@@ -1,0 +1,90 @@
+-- The kinds of values in a style text. A value of the wrong kind is Shape, a text outside its grammar or
+-- set is Text, a number outside its range is Range, at the object that holds it.
+use Rattle.std.specs.Prelude.{ℕ, ◌^◌, ◌||◌, Bool, true, false, ◌&&◌, if◌then◌else◌, List, [], ◌∷◌, codes, nat_le, Option, Some, None, Result, Ok, Err}
+use Rattle.std.specs.Option.{ok_or}
+use Rattle.std.specs.Str.{bytes_eq}
+use Rattle.serde_json.specs.Data.{Data, null, boolean, number, string, array, object, Items, no_items}
+use Rattle.plain_drawing.specs.declared.colour.Colour.{Colour}
+use Rattle.plain_drawing.specs.declared.shapes.LineCap.{LineCap}
+use Rattle.plain_drawing.specs.declared.shapes.LineCap.TheVariants as cap
+use Rattle.plain_drawing.specs.declared.style.FilterMode.{FilterMode}
+use Rattle.plain_drawing.specs.declared.style.FilterMode.TheVariants as mode
+use Rattle.plain_drawing.specs.Filters.{FilterTree}
+use Rattle.plain_drawing.specs.Styles.{is_text_to, is_width}
+use Rattle.paint_texts.specs.Colours.{colour_of}
+use Rattle.paint_texts.specs.Decimals.{hundredths_of, thousandths_of}
+use Rattle.filter_expr.specs.declared.faults.FilterFault.{FilterFault}
+use Rattle.filter_expr.specs.FilterTexts.{filter_of}
+use Rattle.reading.specs.Steps.{◌>>=◌, check}
+use Rattle.reading.specs.Values.{text, whole, or_value}
+use Rattle.style_objects.specs.declared.fault.At.{At}
+use Rattle.style_objects.specs.declared.fault.StyleFault.{StyleFault}
+use Rattle.style_objects.specs.declared.fault.StyleFault.TheVariants as fault
+
+-- a text that some grammar gives a value
+abbrev pub in_grammar : {A : Type 0} → (List ℕ → Option A) → At → Data → Result A StyleFault
+in_grammar value at d = text (fault.Shape at) d >>= λ s. ok_or (value s) (fault.Text at)
+
+unfoldable pub a_colour : At → Data → Result Colour StyleFault
+a_colour at d = in_grammar colour_of at d
+
+unfoldable pub a_scale : At → Data → Result ℕ StyleFault
+a_scale at d = in_grammar hundredths_of at d
+
+-- a scale bound that may be absent, and is then none
+unfoldable pub a_bound : At → Data → Result (Option ℕ) StyleFault
+a_bound at d = a_scale at d >>= λ n. Ok (Some n)
+
+unfoldable pub an_opacity : At → Data → Result ℕ StyleFault
+an_opacity at d = in_grammar thousandths_of at d
+
+-- a width or height of 0.01 to 64 pixels, in hundredths
+unfoldable pub a_width : At → Data → Result ℕ StyleFault
+a_width at d = in_grammar hundredths_of at d >>= λ n. if is_width n then Ok n else Err (fault.Range at)
+
+-- a text of 1 to so many bytes
+unfoldable pub a_text_to : ℕ → At → Data → Result (List ℕ) StyleFault
+a_text_to limit at d = text (fault.Shape at) d >>= λ s. if is_text_to limit s then Ok s else Err (fault.Text at)
+
+-- any text, which has no effect
+unfoldable pub any_text : At → Data → Result (Unit {0}) StyleFault
+any_text at d = text (fault.Shape at) d >>= λ s. Ok tt
+
+abbrev pub mode_of : List ℕ → Option FilterMode
+mode_of s = if bytes_eq s (codes "all") then Some mode.All else if bytes_eq s (codes "first") then Some mode.First else None
+
+unfoldable pub a_mode : At → Data → Result FilterMode StyleFault
+a_mode at d = in_grammar mode_of at d
+
+abbrev pub cap_of : List ℕ → Option LineCap
+cap_of s = if bytes_eq s (codes "butt") then Some cap.Butt else if bytes_eq s (codes "round") then Some cap.Round else
+    if bytes_eq s (codes "square") then Some cap.Square else None
+
+unfoldable pub a_cap : At → Data → Result LineCap StyleFault
+a_cap at d = in_grammar cap_of at d
+
+-- a whole number of a raster
+unfoldable pub a_number : ℕ → At → Data → Result ℕ StyleFault
+a_number low at d = whole (fault.Shape at) (fault.Range at) low (2 ^ 30) d
+
+-- what a filter text says, or its fault
+abbrev pub filter_at : At → Result FilterTree FilterFault → Result (Option FilterTree) StyleFault
+filter_at at (Ok tree) = Ok (Some tree)
+filter_at at (Err f) = Err (fault.Filter at f)
+
+unfoldable pub a_filter : At → Data → Result (Option FilterTree) StyleFault
+a_filter at d = text (fault.Shape at) d >>= λ s. filter_at at (filter_of s)
+
+-- ElseFilter is the JSON value true, in a rule without a Filter
+abbrev pub is_true : Data → Bool
+is_true (boolean b) = b
+is_true _ = false
+
+unfoldable pub an_else : Bool → At → Data → Result Bool StyleFault
+an_else has_filter at d = check (is_true d) (fault.Shape at) >>= λ u. if has_filter then Err (fault.Shape at) else Ok true
+
+-- a list of rasters, which may be absent: its items were found within their limit, unless the value is no list
+abbrev pub list_or_none : At → Option Items → Option Data → Result Items StyleFault
+list_or_none at (Some items) found = Ok items
+list_or_none at None None = Ok no_items
+list_or_none at None (Some d) = Err (fault.Shape at)

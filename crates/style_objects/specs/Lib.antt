@@ -1,0 +1,4 @@
+pub mod Keys
+pub mod Kinds
+pub mod Places
+pub mod Tables

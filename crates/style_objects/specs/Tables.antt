@@ -1,0 +1,181 @@
+-- What a style text says, object by object and key by key in reading order: the value, or the first fault
+-- with the object that it stands in. A line is a step; the first step that has a fault ends the reading.
+use Rattle.std.specs.Prelude.{ℕ, Bool, false, not, if◌then◌else◌, List, [], length, codes, Option, None, is_some, Result, Ok, Err}
+use Rattle.std.specs.Option.{ok_or}
+use Rattle.std.specs.Str.{bytes_eq}
+use Rattle.serde_json.specs.Data.{Data, Items}
+use Rattle.serde_json.specs.Find.{get}
+use Rattle.plain_drawing.specs.declared.colour.Colour.{Colour}
+use Rattle.plain_drawing.specs.declared.shapes.LineCap.TheVariants as cap
+use Rattle.plain_drawing.specs.declared.style.FilterMode.TheVariants as mode
+use Rattle.plain_drawing.specs.declared.style.Symbolizer.{Symbolizer}
+use Rattle.plain_drawing.specs.declared.style.Symbolizer.TheVariants as paint
+use Rattle.plain_drawing.specs.Filters.{FilterTree}
+use Rattle.plain_drawing.specs.Styles.{Rule, Style, LayerRef, RasterRef, MapStyle, style_has, layer_has, raster_has}
+use Rattle.paint_texts.specs.Colours.{rgb}
+use Rattle.reading.specs.Json.{json_of}
+use Rattle.reading.specs.Lists.{list_of}
+use Rattle.reading.specs.Steps.{◌>>=◌, check}
+use Rattle.reading.specs.Values.{needed, or_value, text, list, within}
+use Rattle.style_objects.specs.declared.fault.At.{At}
+use Rattle.style_objects.specs.declared.fault.StyleFault.{StyleFault}
+use Rattle.style_objects.specs.declared.fault.StyleFault.TheVariants as fault
+use Rattle.style_objects.specs.declared.keys.Object.TheVariants as object
+use Rattle.style_objects.specs.Keys.{opened_as}
+use Rattle.style_objects.specs.Kinds.{a_colour, a_scale, a_bound, an_opacity, a_width, a_text_to, any_text, a_mode, a_cap, a_number, a_filter, an_else, list_or_none}
+use Rattle.style_objects.specs.Places.{at_map, at_style, at_rule, at_symbolizer, at_layer, at_raster}
+
+-- Mapnik's defaults
+abbrev pub white : Colour
+white = rgb 255 255 255
+
+abbrev pub gray : Colour
+gray = rgb 128 128 128
+
+abbrev pub black : Colour
+black = rgb 0 0 0
+
+-- the four symbolizers
+unfoldable pub polygon_of : At → Data → Result Symbolizer StyleFault
+polygon_of at d = do
+  u ← opened_as object.PolygonSymbolizer at d
+  fill ← or_value gray (a_colour at) (get (codes "fill") d)
+  opacity ← or_value 1000 (an_opacity at) (get (codes "fill-opacity") d)
+  Ok (paint.Polygon fill opacity)
+
+unfoldable pub line_of : At → Data → Result Symbolizer StyleFault
+line_of at d = do
+  u ← opened_as object.LineSymbolizer at d
+  stroke ← or_value black (a_colour at) (get (codes "stroke") d)
+  width ← or_value 100 (a_width at) (get (codes "stroke-width") d)
+  opacity ← or_value 1000 (an_opacity at) (get (codes "stroke-opacity") d)
+  linecap ← or_value cap.Butt (a_cap at) (get (codes "stroke-linecap") d)
+  v ← or_value tt (any_text at) (get (codes "stroke-linejoin") d)
+  Ok (paint.Line stroke width opacity linecap)
+
+unfoldable pub markers_of : At → Data → Result Symbolizer StyleFault
+markers_of at d = do
+  u ← opened_as object.MarkersSymbolizer at d
+  fill ← needed (fault.Shape at) (a_colour at) (get (codes "fill") d)
+  width ← needed (fault.Shape at) (a_width at) (get (codes "width") d)
+  height ← needed (fault.Shape at) (a_width at) (get (codes "height") d)
+  opacity ← or_value 1000 (an_opacity at) (get (codes "opacity") d)
+  Ok (paint.Markers fill width height opacity)
+
+unfoldable pub raster_symbolizer_of : At → Data → Result Symbolizer StyleFault
+raster_symbolizer_of at d = do
+  u ← opened_as object.RasterSymbolizer at d
+  opacity ← or_value 1000 (an_opacity at) (get (codes "opacity") d)
+  Ok (paint.Raster opacity)
+
+-- by its name; an unknown one is Unsupported
+unfoldable pub symbolizer_named : List ℕ → At → Data → Result Symbolizer StyleFault
+symbolizer_named name at d =
+    if bytes_eq name (codes "PolygonSymbolizer") then polygon_of at d else
+    if bytes_eq name (codes "LineSymbolizer") then line_of at d else
+    if bytes_eq name (codes "MarkersSymbolizer") then markers_of at d else
+    if bytes_eq name (codes "RasterSymbolizer") then raster_symbolizer_of at d else Err (fault.Unsupported at)
+
+-- Shape where it is no object, or has no text as its symbolizer
+unfoldable pub symbolizer_of : At → Data → Result Symbolizer StyleFault
+symbolizer_of at d = do
+  name ← needed (fault.Shape at) (text (fault.Shape at)) (get (codes "symbolizer") d)
+  symbolizer_named name at d
+
+abbrev pub symbolizer_after : ℕ → ℕ → List Symbolizer → Data → Result Symbolizer StyleFault
+symbolizer_after style rule before d = symbolizer_of (at_symbolizer style rule (length before)) d
+
+-- a rule's Filter and ElseFilter, of which it has one at most
+unfoldable pub filters_of : At → Data → Result (Option FilterTree × Bool) StyleFault
+filters_of at d = do
+  filter ← or_value None (a_filter at) (get (codes "Filter") d)
+  else_filter ← or_value false (an_else (is_some filter) at) (get (codes "ElseFilter") d)
+  Ok (filter, else_filter)
+
+-- a rule
+unfoldable pub rule_of : ℕ → ℕ → Data → Result Rule StyleFault
+rule_of style rule d = do
+  u ← opened_as object.Rule (at_rule style rule) d
+  found ← within 16 (fault.Range (at_rule style rule)) (get (codes "symbolizers") d)
+  filters ← filters_of (at_rule style rule) d
+  least ← or_value 0 (a_scale (at_rule style rule)) (get (codes "MinScaleDenominator") d)
+  greatest ← or_value None (a_bound (at_rule style rule)) (get (codes "MaxScaleDenominator") d)
+  items ← ok_or found (fault.Shape (at_rule style rule))
+  symbolizers ← list_of (symbolizer_after style rule) items
+  Ok (record { filter = filters.0; else_filter = filters.1; min_scale_denominator = least; max_scale_denominator = greatest; symbolizers = symbolizers })
+
+abbrev pub rule_after : ℕ → List Rule → Data → Result Rule StyleFault
+rule_after style before d = rule_of style (length before) d
+
+-- a style: its own keys, then Double where an earlier style has its name, then its rules
+unfoldable pub style_of : ℕ → List Style → Data → Result Style StyleFault
+style_of style before d = do
+  u ← opened_as object.Style (at_style style) d
+  found ← within 256 (fault.Range (at_style style)) (get (codes "rules") d)
+  name ← needed (fault.Shape (at_style style)) (a_text_to 64 (at_style style)) (get (codes "name") d)
+  filter_mode ← or_value mode.All (a_mode (at_style style)) (get (codes "filter-mode") d)
+  items ← ok_or found (fault.Shape (at_style style))
+  v ← check (not (style_has name before)) (fault.Double (at_style style))
+  rules ← list_of (rule_after style) items
+  Ok (record { name = name; filter_mode = filter_mode; rules = rules })
+
+abbrev pub style_after : List Style → Data → Result Style StyleFault
+style_after before d = style_of (length before) before d
+
+-- a name in a layer's list: a text, of 1 to 64 bytes, that some style has
+unfoldable pub style_name_of : List Style → At → List (List ℕ) → Data → Result (List ℕ) StyleFault
+style_name_of styles at before d = do
+  name ← a_text_to 64 at d
+  u ← check (style_has name styles) (fault.NoStyle at)
+  Ok name
+
+-- a layer; an earlier layer of its name is Double, after its keys
+unfoldable pub layer_of : List Style → ℕ → List LayerRef → Data → Result LayerRef StyleFault
+layer_of styles layer before d = do
+  u ← opened_as object.Layer (at_layer layer) d
+  name ← needed (fault.Shape (at_layer layer)) (a_text_to 64 (at_layer layer)) (get (codes "name") d)
+  source ← needed (fault.Shape (at_layer layer)) (a_text_to 64 (at_layer layer)) (get (codes "source") d)
+  least ← or_value 0 (a_scale (at_layer layer)) (get (codes "minimum-scale-denominator") d)
+  greatest ← or_value None (a_bound (at_layer layer)) (get (codes "maximum-scale-denominator") d)
+  items ← needed (fault.Shape (at_layer layer)) (list (fault.Shape (at_layer layer))) (get (codes "styles") d)
+  names ← list_of (style_name_of styles (at_layer layer)) items
+  v ← check (not (layer_has name before)) (fault.Double (at_layer layer))
+  Ok (record { name = name; source = source; minimum_scale_denominator = least; maximum_scale_denominator = greatest; styles = names })
+
+abbrev pub layer_after : List Style → List LayerRef → Data → Result LayerRef StyleFault
+layer_after styles before d = layer_of styles (length before) before d
+
+-- a raster; an earlier raster of its name is Double, after its keys
+unfoldable pub raster_of : ℕ → List RasterRef → Data → Result RasterRef StyleFault
+raster_of raster before d = do
+  u ← opened_as object.Raster (at_raster raster) d
+  name ← needed (fault.Shape (at_raster raster)) (a_text_to 64 (at_raster raster)) (get (codes "name") d)
+  file ← needed (fault.Shape (at_raster raster)) (a_text_to 100 (at_raster raster)) (get (codes "file") d)
+  west ← needed (fault.Shape (at_raster raster)) (a_number 0 (at_raster raster)) (get (codes "west") d)
+  north ← needed (fault.Shape (at_raster raster)) (a_number 0 (at_raster raster)) (get (codes "north") d)
+  pixel ← needed (fault.Shape (at_raster raster)) (a_number 1 (at_raster raster)) (get (codes "pixel") d)
+  v ← check (not (raster_has name before)) (fault.Double (at_raster raster))
+  Ok (record { name = name; file = file; west = west; north = north; pixel = pixel })
+
+abbrev pub raster_after : List RasterRef → Data → Result RasterRef StyleFault
+raster_after before d = raster_of (length before) before d
+
+-- the map: its own keys, then its rasters, its styles and its layers
+unfoldable pub map_of : Data → Result MapStyle StyleFault
+map_of d = do
+  u ← opened_as object.Map at_map d
+  found_styles ← within 256 (fault.Range at_map) (get (codes "styles") d)
+  found_layers ← within 64 (fault.Range at_map) (get (codes "layers") d)
+  found_rasters ← within 2 (fault.Range at_map) (get (codes "rasters") d)
+  background ← or_value white (a_colour at_map) (get (codes "background-color") d)
+  style_items ← ok_or found_styles (fault.Shape at_map)
+  layer_items ← ok_or found_layers (fault.Shape at_map)
+  raster_items ← list_or_none at_map found_rasters (get (codes "rasters") d)
+  rasters ← list_of raster_after raster_items
+  styles ← list_of style_after style_items
+  layers ← list_of (layer_after styles) layer_items
+  Ok (record { background_color = background; styles = styles; layers = layers; rasters = rasters; grids = [] })
+
+-- what the bytes of a style say
+unfoldable pub style_in : List ℕ → Result MapStyle StyleFault
+style_in bytes = ok_or (json_of bytes) fault.NotJson >>= map_of

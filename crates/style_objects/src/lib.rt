@@ -1,0 +1,18 @@
+//! Style texts: Mapnik's style objects as JSON, read whole, each fault by its place.
+#![tactic(auto)]
+
+mod fault;
+mod keys;
+mod kinds;
+mod layers;
+mod map_style;
+mod rasters;
+mod rules;
+mod style_list;
+mod symbolizers;
+
+pub use fault::{At, Part, StyleFault};
+pub use map_style::read_style;
+pub use plain_drawing::{
+    FilterMode, Grid, LayerRef, LineCap, MapStyle, RasterRef, Rule, Style, Symbolizer,
+};

@@ -1,0 +1,64 @@
+//! The map, and the whole text.
+ghost use Rattle.std.specs.Prelude.{◌≡◌};
+ghost use Rattle.serde_json.specs.View.{view};
+ghost use Rattle.reading.specs.Steps.{Gives};
+ghost use Rattle.style_objects.specs.Tables as spec;
+ghost use Rattle.style_objects.specs.declared.fault.StyleFault.TheVariants as fault;
+
+use crate::fault::{At, StyleFault};
+use crate::keys::{Object, open};
+use crate::kinds::{colour_or, list_or_none};
+use crate::layers::layers;
+use crate::rasters::rasters;
+use crate::style_list::styles;
+use paint_texts::Colour;
+use plain_drawing::MapStyle;
+use reading::{read_json, within};
+use serde_json::Value;
+use std::alloc::Global;
+
+const WHITE: Colour = Colour {
+    r: 255,
+    g: 255,
+    b: 255,
+};
+
+#[tactic(auto, unfolding(crate::specs::Tables::map_of))]
+fn map_style(alloc: Global, object: &Value) -> Result<MapStyle, StyleFault>
+    ensures { Gives fault.NoMemory (λ x. x) (spec.map_of (view object.now)) result }
+{
+    let at = At::map();
+    open(object, Object::Map, at)?;
+    let found_styles = within(object.get("styles"), 256, StyleFault::Range(at))?;
+    let found_layers = within(object.get("layers"), 64, StyleFault::Range(at))?;
+    let found_rasters = within(object.get("rasters"), 2, StyleFault::Range(at))?;
+    let background_color = colour_or(object, "background-color", WHITE, at)?;
+    let style_items = found_styles.ok_or(StyleFault::Shape(at))?;
+    let layer_items = found_layers.ok_or(StyleFault::Shape(at))?;
+    let raster_items = list_or_none(found_rasters, object.get("rasters"), at)?;
+    let rasters = rasters(alloc, raster_items)?;
+    let styles = styles(alloc, style_items)?;
+    let layers = layers(alloc, styles.as_slice(), layer_items)?;
+    Ok(MapStyle {
+        background_color,
+        styles,
+        layers,
+        rasters,
+        grids: Vec::new(alloc),
+    })
+}
+
+/// Reads a style: the map that its text says, without grids, or the first fault in reading order.
+///
+/// The text is JSON with Mapnik's style objects; attribute values are strings, as Mapnik's XML has
+/// them. The map object is read first with its own keys, then the rasters, the styles and the layers,
+/// each in order; a style before its rules, a rule before its symbolizers. Of each object: Shape where
+/// it is no object; Unsupported for an unknown key; Range where a list in it passes its limit; then its
+/// keys in the order of the table in `docs/styles.md`.
+#[tactic(auto, unfolding(crate::specs::Tables::style_in))]
+pub fn read_style(alloc: Global, bytes: &[u8]) -> Result<MapStyle, StyleFault>
+    ensures { Gives fault.NoMemory (λ x. x) (spec.style_in bytes.now) result }
+{
+    let value = read_json(alloc, bytes, StyleFault::NotJson)?;
+    map_style(alloc, &value)
+}

@@ -1,0 +1,88 @@
+//! The rasters of a map.
+ghost use Rattle.std.specs.Prelude.{◌≡◌, ◌≤◌, [], length, IsTrue, IfOk};
+ghost use Rattle.serde_json.specs.View.{view, items_view};
+ghost use Rattle.farm_base.specs.Earlier.{each_after};
+ghost use Rattle.plain_drawing.specs.Styles.{raster_apart};
+ghost use Rattle.plain_drawing.specs.Styles as plain;
+ghost use Rattle.reading.specs.Lists.{list_of};
+ghost use Rattle.reading.specs.Steps.{Gives};
+ghost use Rattle.style_objects.specs.Tables as spec;
+ghost use Rattle.style_objects.specs.declared.fault.StyleFault.TheVariants as fault;
+
+use crate::fault::{At, StyleFault};
+use crate::keys::{Object, open};
+use crate::kinds::{number_at, text_to};
+use farm_base::Text;
+use plain_drawing::RasterRef;
+use reading::{ReadItem, read_list};
+use serde_json::Value;
+use std::alloc::Global;
+
+fn raster_has(name: &str, rasters: &[RasterRef]) -> bool
+    ensures { result ≡ plain.raster_has name.now rasters.now }
+{
+    rasters.iter().any(|r| r.name.as_str() == name)
+}
+
+#[tactic(auto, unfolding(crate::specs::Tables::raster_of))]
+fn raster(
+    alloc: Global,
+    place: u32,
+    before: &[RasterRef],
+    object: &Value,
+) -> Result<RasterRef, StyleFault>
+    ensures value { Gives fault.NoMemory (λ x. x) (spec.raster_of place before.now (view object.now)) result }
+    ensures apart { IfOk result (λ r. IsTrue (raster_apart before.now r)) }
+{
+    let at = At::raster(place);
+    open(object, Object::Raster, at)?;
+    let name = text_to(object, "name", 64, at)?;
+    let file = text_to(object, "file", 100, at)?;
+    let west = number_at(object, "west", 0, at)?;
+    let north = number_at(object, "north", 0, at)?;
+    let pixel = number_at(object, "pixel", 1, at)?;
+    if raster_has(name, before) {
+        return Err(StyleFault::Double(at));
+    }
+    Ok(RasterRef {
+        name: Text::of(alloc, name)?,
+        file: Text::of(alloc, file)?,
+        west,
+        north,
+        pixel,
+    })
+}
+
+// The rasters of a map.
+#[derive(Drop)]
+struct RasterItems {}
+
+impl ReadItem for RasterItems {
+    type Item = RasterRef;
+
+    type Fault = StyleFault;
+
+    ghost limit = { λ r. 2 };
+
+    ghost reads = { λ r before d. spec.raster_after before d };
+
+    ghost keeps = { λ r before x. raster_apart before x };
+
+    fn read(
+        &self,
+        alloc: Global,
+        before: &[RasterRef],
+        value: &Value,
+    ) -> Result<RasterRef, StyleFault> {
+        raster(alloc, before.len() as u32, before, value)
+    }
+}
+
+pub fn rasters(alloc: Global, items: &[Value]) -> Result<Vec<RasterRef>, StyleFault>
+    requires { length items.now ≤ 2 }
+    ensures value { Gives fault.NoMemory (λ v. v.items) (list_of spec.raster_after (items_view items.now)) result }
+    ensures apart { IfOk result (λ v. IsTrue (each_after raster_apart [] v.items)) }
+    ensures count { IfOk result (λ v. length v.items ≤ 2) }
+{
+    read_list(alloc, &RasterItems {}, items)
+}

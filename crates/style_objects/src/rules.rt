@@ -1,0 +1,80 @@
+//! The rules of a style.
+ghost use Rattle.std.specs.Prelude.{◌≡◌, ◌≤◌, ◌&&◌, length, true, not, option_map, is_some, IsTrue, IfOk};
+ghost use Rattle.serde_json.specs.View.{view, items_view};
+ghost use Rattle.plain_drawing.specs.Filters.{tree_of};
+ghost use Rattle.reading.specs.Lists.{list_of};
+ghost use Rattle.reading.specs.Steps.{Gives};
+ghost use Rattle.style_objects.specs.Tables as spec;
+ghost use Rattle.style_objects.specs.declared.fault.StyleFault.TheVariants as fault;
+
+use crate::fault::{At, StyleFault};
+use crate::keys::{Object, open};
+use crate::kinds::{bound_or_none, else_or_false, filter_or_none, scale_or_zero};
+use crate::symbolizers::symbolizers;
+use filter_expr::Expr;
+use plain_drawing::Rule;
+use reading::{ReadItem, read_list, within};
+use serde_json::Value;
+use std::alloc::Global;
+
+// A rule's filter, and whether it is an ElseFilter rule.
+#[tactic(auto, using(crate::proofs::Opening::some_tree), unfolding(crate::specs::Tables::filters_of))]
+fn filters(alloc: Global, object: &Value, at: At) -> Result<(Option<Expr>, bool), StyleFault>
+    ensures value { Gives fault.NoMemory (λ p. (option_map tree_of p.0, p.1)) (spec.filters_of at (view object.now)) result }
+    ensures one { IfOk result (λ p. IsTrue (not (p.1 && is_some (option_map tree_of p.0)))) }
+{
+    let filter = filter_or_none(alloc, object, "Filter", at)?;
+    let else_filter = else_or_false(object, "ElseFilter", filter.is_some(), at)?;
+    Ok((filter, else_filter))
+}
+
+#[tactic(auto, unfolding(crate::specs::Tables::rule_of))]
+fn rule(alloc: Global, style: u32, place: u32, object: &Value) -> Result<Rule, StyleFault>
+    ensures { Gives fault.NoMemory (λ x. x) (spec.rule_of style place (view object.now)) result }
+{
+    let at = At::rule(style, place);
+    open(object, Object::Rule, at)?;
+    let found = within(object.get("symbolizers"), 16, StyleFault::Range(at))?;
+    let (filter, else_filter) = filters(alloc, object, at)?;
+    let min_scale_denominator = scale_or_zero(object, "MinScaleDenominator", at)?;
+    let max_scale_denominator = bound_or_none(object, "MaxScaleDenominator", at)?;
+    let items = found.ok_or(StyleFault::Shape(at))?;
+    let symbolizers = symbolizers(alloc, style, place, items)?;
+    Ok(Rule {
+        filter,
+        else_filter,
+        min_scale_denominator,
+        max_scale_denominator,
+        symbolizers,
+    })
+}
+
+// The rules of a style.
+#[derive(Drop)]
+struct RuleItems {
+    style: u32,
+}
+
+impl ReadItem for RuleItems {
+    type Item = Rule;
+
+    type Fault = StyleFault;
+
+    ghost limit = { λ r. 256 };
+
+    ghost reads = { λ r before d. spec.rule_after r.style before d };
+
+    ghost keeps = { λ r before x. true };
+
+    fn read(&self, alloc: Global, before: &[Rule], value: &Value) -> Result<Rule, StyleFault> {
+        rule(alloc, self.style, before.len() as u32, value)
+    }
+}
+
+pub fn rules(alloc: Global, style: u32, items: &[Value]) -> Result<Vec<Rule>, StyleFault>
+    requires { length items.now ≤ 256 }
+    ensures value { Gives fault.NoMemory (λ v. v.items) (list_of (spec.rule_after style) (items_view items.now)) result }
+    ensures count { IfOk result (λ v. length v.items ≤ 256) }
+{
+    read_list(alloc, &RuleItems { style }, items)
+}

@@ -1,0 +1,78 @@
+//! The styles of a map.
+ghost use Rattle.std.specs.Prelude.{◌≡◌, ◌≤◌, [], length, IsTrue, IfOk};
+ghost use Rattle.serde_json.specs.View.{view, items_view};
+ghost use Rattle.farm_base.specs.Earlier.{each_after};
+ghost use Rattle.plain_drawing.specs.Styles.{style_apart};
+ghost use Rattle.plain_drawing.specs.Styles as plain;
+ghost use Rattle.reading.specs.Lists.{list_of};
+ghost use Rattle.reading.specs.Steps.{Gives};
+ghost use Rattle.style_objects.specs.Tables as spec;
+ghost use Rattle.style_objects.specs.declared.fault.StyleFault.TheVariants as fault;
+
+use crate::fault::{At, StyleFault};
+use crate::keys::{Object, open};
+use crate::kinds::{mode_or_all, text_to};
+use crate::rules::rules;
+use farm_base::Text;
+use plain_drawing::Style;
+use reading::{ReadItem, read_list, within};
+use serde_json::Value;
+use std::alloc::Global;
+
+/// Whether a style of this name is among them.
+pub fn style_has(name: &str, styles: &[Style]) -> bool
+    ensures { result ≡ plain.style_has name.now styles.now }
+{
+    styles.iter().any(|s| s.name.as_str() == name)
+}
+
+#[tactic(auto, unfolding(crate::specs::Tables::style_of))]
+fn style(alloc: Global, place: u32, before: &[Style], object: &Value) -> Result<Style, StyleFault>
+    ensures value { Gives fault.NoMemory (λ x. x) (spec.style_of place before.now (view object.now)) result }
+    ensures apart { IfOk result (λ s. IsTrue (style_apart before.now s)) }
+{
+    let at = At::style(place);
+    open(object, Object::Style, at)?;
+    let found = within(object.get("rules"), 256, StyleFault::Range(at))?;
+    let name = text_to(object, "name", 64, at)?;
+    let filter_mode = mode_or_all(object, "filter-mode", at)?;
+    let items = found.ok_or(StyleFault::Shape(at))?;
+    if style_has(name, before) {
+        return Err(StyleFault::Double(at));
+    }
+    let rules = rules(alloc, place, items)?;
+    Ok(Style {
+        name: Text::of(alloc, name)?,
+        filter_mode,
+        rules,
+    })
+}
+
+// The styles of a map.
+#[derive(Drop)]
+struct StyleItems {}
+
+impl ReadItem for StyleItems {
+    type Item = Style;
+
+    type Fault = StyleFault;
+
+    ghost limit = { λ r. 256 };
+
+    ghost reads = { λ r before d. spec.style_after before d };
+
+    ghost keeps = { λ r before s. style_apart before s };
+
+    fn read(&self, alloc: Global, before: &[Style], value: &Value) -> Result<Style, StyleFault> {
+        style(alloc, before.len() as u32, before, value)
+    }
+}
+
+pub fn styles(alloc: Global, items: &[Value]) -> Result<Vec<Style>, StyleFault>
+    requires { length items.now ≤ 256 }
+    ensures value { Gives fault.NoMemory (λ v. v.items) (list_of spec.style_after (items_view items.now)) result }
+    ensures apart { IfOk result (λ v. IsTrue (each_after style_apart [] v.items)) }
+    ensures count { IfOk result (λ v. length v.items ≤ 256) }
+{
+    read_list(alloc, &StyleItems {}, items)
+}
