@@ -1,4 +1,5 @@
 pub mod Choices
+pub mod Metas
 pub mod Painting
 pub mod Pixels
 pub mod Steps

@@ -4,9 +4,11 @@
 mod features;
 mod grids;
 mod layers;
+mod metatiles;
 mod rules;
 mod sources;
 mod symbolizers;
 mod tiles;
 
+pub use metatiles::{DrawnMeta, draw_meta};
 pub use tiles::draw_tile;

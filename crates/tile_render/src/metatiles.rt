@@ -1,0 +1,110 @@
+//! All tiles of a metatile, cut from one picture.
+ghost use Rattle.std.specs.Prelude.{◌≡◌, ◌+◌, ◌*◌, ◌<◌, ◌≤◌, ◌++◌, IfOk, OnOk, IsTrue};
+ghost use Rattle.std.specs.List.{list_all};
+ghost use Rattle.plain_drawing.specs.World.{IsMeta, IsTileSize};
+ghost use Rattle.plain_drawing.specs.Metatiles.{tiles_of, part_text, column_texts, part_texts};
+ghost use Rattle.tile_render.specs.Built.{fills_style};
+
+use crate::layers::draw_map;
+use data_versions::Snapshot;
+use farm_base::{Bytes, NoMemory};
+use merc_fixed::{Meta, meta_window, tiles_across};
+use plain_drawing::MapStyle;
+use plain_image::Image;
+use scale_rules::denominator;
+use std::alloc::Global;
+
+/// The tiles of a metatile as binary PPM texts, in order of index place.
+#[derive(Debug, Drop)]
+pub struct DrawnMeta {
+    pub meta: Meta,
+    pub tiles: Vec<Bytes>,
+}
+
+/// The text of the part of the image that is so many tiles from its west and north edge.
+fn cut_tile(
+    alloc: Global,
+    image: &Image,
+    size: u32,
+    col: u32,
+    row: u32,
+) -> Result<Bytes, NoMemory>
+    requires some { 1 ≤ size }
+    requires few { size ≤ 512 }
+    requires col { col < 8 }
+    requires row { row < 8 }
+    requires in_cols { col * size + size ≤ image.now.cols }
+    requires in_rows { row * size + size ≤ image.now.rows }
+    ensures { IfOk result (λ tile. tile ≡ part_text image.now size col row) }
+{
+    let part = image.cut(alloc, col * size, row * size, size, size)?;
+    let text = part.write_ppm(alloc)?;
+    Ok(Bytes::from_vec(text))
+}
+
+/// Adds the texts of a column of tiles, from north to south.
+fn cut_column(
+    alloc: Global,
+    image: &Image,
+    size: u32,
+    across: u32,
+    col: u32,
+    tiles: &mut Vec<Bytes>,
+) -> Result<(), NoMemory>
+    requires some { 1 ≤ size }
+    requires few { size ≤ 512 }
+    requires few_across { across ≤ 8 }
+    requires col { col < across }
+    requires cols { image.now.cols ≡ size * across }
+    requires rows { image.now.rows ≡ size * across }
+    ensures { OnOk result (tiles.new.items ≡ tiles.old.items ++ column_texts image.now size across col) }
+{
+    for row in 0..across {
+        let tile = cut_tile(alloc, image, size, col, row)?;
+        tiles.push(tile)?;
+    }
+    Ok(())
+}
+
+/// The texts of all tiles of the image, by columns.
+fn cut_tiles(
+    alloc: Global,
+    image: &Image,
+    size: u32,
+    across: u32,
+) -> Result<Vec<Bytes>, NoMemory>
+    requires some { 1 ≤ size }
+    requires few { size ≤ 512 }
+    requires few_across { across ≤ 8 }
+    requires cols { image.now.cols ≡ size * across }
+    requires rows { image.now.rows ≡ size * across }
+    ensures { IfOk result (λ tiles. tiles.items ≡ part_texts image.now size across) }
+{
+    let mut tiles = Vec::new(alloc);
+    for col in 0..across {
+        cut_column(alloc, image, size, across, col, &mut tiles)?;
+    }
+    Ok(tiles)
+}
+
+/// The tiles of a metatile, each exactly its `draw_tile`, in order of index place.
+pub fn draw_meta(
+    alloc: Global,
+    style: &MapStyle,
+    size: u32,
+    m: Meta,
+    snapshot: &Snapshot,
+) -> Result<DrawnMeta, NoMemory>
+    requires size { IsTileSize size }
+    requires meta { IsMeta m }
+    requires fills { IsTrue (list_all fills_style style.now.styles) }
+    ensures meta { IfOk result (λ drawn. drawn.meta ≡ m) }
+    ensures tiles { IfOk result (λ drawn. drawn.tiles.items ≡ tiles_of style.now size m snapshot.now) }
+{
+    let w = meta_window(m, size);
+    let scale = denominator(m.z, size);
+    let mut image = Image::new(alloc, w.cols, w.rows, style.background_color)?;
+    draw_map(alloc, w, scale, style, snapshot, &mut image)?;
+    let tiles = cut_tiles(alloc, &image, size, tiles_across(m))?;
+    Ok(DrawnMeta { meta: m, tiles })
+}
