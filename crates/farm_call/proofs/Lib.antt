@@ -1,4 +1,3 @@
-pub mod Built
 pub mod Decimals
 pub mod Promised
 pub mod Reported

@@ -52,7 +52,6 @@ fn picture<F: Files>(alloc: Global, asked: RenderWords, files: &mut F) -> Result
     }
 }
 
-#[tactic(auto, using(crate::proofs::Built::polygons_fill))]
 fn drawn(
     alloc: Global,
     style: &MapStyle,

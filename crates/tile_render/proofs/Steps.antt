@@ -13,16 +13,6 @@ pub if_ok : {T E : Type 0} (P Q : T → Type 0) (r : Result T E) → ((x : T) �
 if_ok P Q (Ok x) f h = f x h
 if_ok P Q (Err e) f h = tt
 
--- what is found passes a test that all pass
-found_by : {X : Type 0} (b : Bool) (p q : X → Bool) (x y : X) (xs : List X) → (list_all q xs ≡ true → Some y ≡ find p xs → q y ≡ true)
-    → (q x && list_all q xs) ≡ true → Some y ≡ (if b then Some x else find p xs) → q y ≡ true
-found_by true p q x y xs more all e = ap q (ap (λ o. unwrap_or o y) e) ∙ (and_parts (q x) (list_all q xs) all).0
-found_by false p q x y xs more all e = more (and_parts (q x) (list_all q xs) all).1 e
-
-pub found_passes : {X : Type 0} (p q : X → Bool) (xs : List X) (y : X) → list_all q xs ≡ true → Some y ≡ find p xs → q y ≡ true
-found_passes p q [] y all e = cc
-found_passes p q (x ∷ xs) y all e = found_by (p x) p q x y xs (found_passes p q xs y) all e
-
 -- one more of a list is the item at the next place
 take_get : {X : Type 0} (xs : List X) (i : ℕ) → take (suc i) xs ≡ take i xs ++ option_to_list (slice_get xs i)
 take_get [] zero = refl

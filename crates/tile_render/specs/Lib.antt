@@ -1,4 +1,3 @@
-pub mod Built
 pub mod Chosen
 pub mod Places
 pub mod Sources

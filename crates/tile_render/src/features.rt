@@ -7,7 +7,6 @@ ghost use Rattle.plain_drawing.specs.Styles.{is_paint};
 ghost use Rattle.plain_drawing.specs.Rules.{matches, is_fallback, drawn};
 ghost use Rattle.plain_drawing.specs.Drawing.{attrs_of};
 ghost use Rattle.plain_drawing.specs.Pictures.{with_symbolizer, with_item};
-ghost use Rattle.tile_render.specs.Built.{is_fill, fills_rule, fills_style};
 ghost use Rattle.tile_render.specs.Chosen.{is_chosen, with_rule, with_chosen};
 ghost use Rattle.tile_render.specs.Sources.{item_of};
 
@@ -31,7 +30,6 @@ fn draw_symbolizers(
     requires cols { image.old.cols ≡ w.cols }
     requires rows { image.old.rows ≡ w.rows }
     requires paints { IsTrue (list_all is_paint symbolizers.now) }
-    requires fills { IsTrue (list_all is_fill symbolizers.now) }
     ensures drawn { OnOk result (image.new ≡ fold (with_symbolizer w (item_of piece.entry)) image.old symbolizers.now) }
     ensures cols { image.new.cols ≡ image.old.cols }
     ensures rows { image.new.rows ≡ image.old.rows }
@@ -54,7 +52,6 @@ fn draw_rule(
     requires window { IsWindow w }
     requires cols { image.old.cols ≡ w.cols }
     requires rows { image.old.rows ≡ w.rows }
-    requires fills { IsTrue (fills_rule rule.now) }
     ensures drawn { OnOk result (image.new ≡ with_rule w (item_of piece.entry) image.old rule.now) }
     ensures cols { image.new.cols ≡ image.old.cols }
     ensures rows { image.new.rows ≡ image.old.rows }
@@ -77,7 +74,6 @@ fn draw_if_chosen(
     requires scale { 100 * denominator < 2 ^ 64 }
     requires cols { image.old.cols ≡ w.cols }
     requires rows { image.old.rows ≡ w.rows }
-    requires fills { IsTrue (fills_rule rule.now) }
     ensures drawn { OnOk result (image.new ≡ with_chosen w (item_of piece.entry) (is_chosen choice (attrs_of (item_of piece.entry)) denominator) image.old rule.now) }
     ensures cols { image.new.cols ≡ image.old.cols }
     ensures rows { image.new.rows ≡ image.old.rows }
@@ -103,7 +99,6 @@ fn draw_chosen(
     requires scale { 100 * denominator < 2 ^ 64 }
     requires cols { image.old.cols ≡ w.cols }
     requires rows { image.old.rows ≡ w.rows }
-    requires fills { IsTrue (list_all fills_rule rules.now) }
     ensures drawn { OnOk result (image.new ≡ fold (with_chosen w (item_of piece.entry) (is_chosen choice (attrs_of (item_of piece.entry)) denominator)) image.old rules.now) }
     ensures cols { image.new.cols ≡ image.old.cols }
     ensures rows { image.new.rows ≡ image.old.rows }
@@ -115,7 +110,6 @@ fn draw_chosen(
 }
 
 /// Draws an item by the first active Filter rule whose filter holds, if there is one.
-#[tactic(auto, using(crate::proofs::Steps::found_passes))]
 fn draw_first(
     alloc: Global,
     w: Window,
@@ -128,7 +122,6 @@ fn draw_first(
     requires scale { 100 * denominator < 2 ^ 64 }
     requires cols { image.old.cols ≡ w.cols }
     requires rows { image.old.rows ≡ w.rows }
-    requires fills { IsTrue (list_all fills_rule rules.now) }
     ensures drawn { OnOk result (image.new ≡ fold (with_rule w (item_of piece.entry)) image.old (option_to_list (find (matches (attrs_of (item_of piece.entry)) denominator) rules.now))) }
     ensures cols { image.new.cols ≡ image.old.cols }
     ensures rows { image.new.rows ≡ image.old.rows }
@@ -153,7 +146,6 @@ pub(crate) fn draw_item(
     requires scale { 100 * denominator < 2 ^ 64 }
     requires cols { image.old.cols ≡ w.cols }
     requires rows { image.old.rows ≡ w.rows }
-    requires fills { IsTrue (fills_style style.now) }
     ensures drawn { OnOk result (image.new ≡ with_item w denominator style.now image.old (item_of piece.entry)) }
     ensures cols { image.new.cols ≡ image.old.cols }
     ensures rows { image.new.rows ≡ image.old.rows }

@@ -6,7 +6,6 @@ ghost use Rattle.std.specs.Str.{bytes_eq};
 ghost use Rattle.plain_drawing.specs.World.{IsWindow};
 ghost use Rattle.plain_drawing.specs.Drawing.{feature, items_of, style_named};
 ghost use Rattle.plain_drawing.specs.Pictures.{with_item, with_style, with_layer, with_map};
-ghost use Rattle.tile_render.specs.Built.{fills_style};
 ghost use Rattle.tile_render.specs.Sources.{items_in};
 
 use crate::features::draw_item;
@@ -32,7 +31,6 @@ fn draw_place(
     requires scale { 100 * denominator < 2 ^ 64 }
     requires cols { image.old.cols ≡ w.cols }
     requires rows { image.old.rows ≡ w.rows }
-    requires fills { IsTrue (fills_style style.now) }
     ensures drawn { OnOk result (image.new ≡ fold (with_item w denominator style.now) image.old (map feature (option_to_list (slice_get features.now place)))) }
     ensures cols { image.new.cols ≡ image.old.cols }
     ensures rows { image.new.rows ≡ image.old.rows }
@@ -57,7 +55,6 @@ fn draw_features(
     requires scale { 100 * denominator < 2 ^ 64 }
     requires cols { image.old.cols ≡ w.cols }
     requires rows { image.old.rows ≡ w.rows }
-    requires fills { IsTrue (fills_style style.now) }
     ensures drawn { OnOk result (image.new ≡ fold (with_item w denominator style.now) image.old (map feature features.now)) }
     ensures cols { image.new.cols ≡ image.old.cols }
     ensures rows { image.new.rows ≡ image.old.rows }
@@ -82,7 +79,6 @@ fn draw_style(
     requires scale { 100 * denominator < 2 ^ 64 }
     requires cols { image.old.cols ≡ w.cols }
     requires rows { image.old.rows ≡ w.rows }
-    requires fills { IsTrue (fills_style style.now) }
     ensures drawn { OnOk result (image.new ≡ with_style w denominator (items_in source.now) image.old style.now) }
     ensures cols { image.new.cols ≡ image.old.cols }
     ensures rows { image.new.rows ≡ image.old.rows }
@@ -107,7 +103,6 @@ fn find_style<'a>(styles: &'a [Style], name: &str) -> Option<&'a Style>
 }
 
 /// Draws all items of a source by the style of this name, if there is one.
-#[tactic(auto, using(crate::proofs::Steps::found_passes))]
 fn draw_named(
     alloc: Global,
     w: Window,
@@ -121,7 +116,6 @@ fn draw_named(
     requires scale { 100 * denominator < 2 ^ 64 }
     requires cols { image.old.cols ≡ w.cols }
     requires rows { image.old.rows ≡ w.rows }
-    requires fills { IsTrue (list_all fills_style styles.now) }
     ensures drawn { OnOk result (image.new ≡ fold (with_style w denominator (items_in source.now)) image.old (style_named styles.now name.now)) }
     ensures cols { image.new.cols ≡ image.old.cols }
     ensures rows { image.new.rows ≡ image.old.rows }
@@ -146,7 +140,6 @@ fn draw_names(
     requires scale { 100 * denominator < 2 ^ 64 }
     requires cols { image.old.cols ≡ w.cols }
     requires rows { image.old.rows ≡ w.rows }
-    requires fills { IsTrue (list_all fills_style styles.now) }
     ensures drawn { OnOk result (image.new ≡ fold (with_style w denominator (items_in source.now)) image.old (flat_map (style_named styles.now) names.now)) }
     ensures cols { image.new.cols ≡ image.old.cols }
     ensures rows { image.new.rows ≡ image.old.rows }
@@ -173,7 +166,6 @@ fn draw_layer(
     requires scale { 100 * denominator < 2 ^ 64 }
     requires cols { image.old.cols ≡ w.cols }
     requires rows { image.old.rows ≡ w.rows }
-    requires fills { IsTrue (list_all fills_style style.now.styles) }
     ensures drawn { OnOk result (image.new ≡ with_layer w denominator style.now snapshot.now image.old layer.now) }
     ensures cols { image.new.cols ≡ image.old.cols }
     ensures rows { image.new.rows ≡ image.old.rows }
@@ -209,7 +201,6 @@ pub(crate) fn draw_map(
     requires scale { 100 * denominator < 2 ^ 64 }
     requires cols { image.old.cols ≡ w.cols }
     requires rows { image.old.rows ≡ w.rows }
-    requires fills { IsTrue (list_all fills_style style.now.styles) }
     ensures drawn { OnOk result (image.new ≡ with_map w denominator style.now snapshot.now image.old) }
     ensures cols { image.new.cols ≡ image.old.cols }
     ensures rows { image.new.rows ≡ image.old.rows }

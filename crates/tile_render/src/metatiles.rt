@@ -3,7 +3,6 @@ ghost use Rattle.std.specs.Prelude.{◌≡◌, ◌+◌, ◌*◌, ◌<◌, ◌≤
 ghost use Rattle.std.specs.List.{list_all};
 ghost use Rattle.plain_drawing.specs.World.{IsMeta, IsTileSize};
 ghost use Rattle.plain_drawing.specs.Metatiles.{tiles_of, part_text, column_texts, part_texts};
-ghost use Rattle.tile_render.specs.Built.{fills_style};
 
 use crate::layers::draw_map;
 use data_versions::Snapshot;
@@ -97,7 +96,6 @@ pub fn draw_meta(
 ) -> Result<DrawnMeta, NoMemory>
     requires size { IsTileSize size }
     requires meta { IsMeta m }
-    requires fills { IsTrue (list_all fills_style style.now.styles) }
     ensures meta { IfOk result (λ drawn. drawn.meta ≡ m) }
     ensures tiles { IfOk result (λ drawn. drawn.tiles.items ≡ tiles_of style.now size m snapshot.now) }
 {

@@ -6,7 +6,6 @@ ghost use Rattle.plain_drawing.specs.Styles.{is_paint};
 ghost use Rattle.plain_drawing.specs.Strokes.{half_of};
 ghost use Rattle.plain_drawing.specs.Drawing.{feature, raster};
 ghost use Rattle.plain_drawing.specs.Pictures.{with_symbolizer};
-ghost use Rattle.tile_render.specs.Built.{is_fill};
 ghost use Rattle.tile_render.specs.Sources.{item_of};
 
 use crate::grids::blend_grid;
@@ -14,10 +13,11 @@ use crate::sources::Piece;
 use farm_base::NoMemory;
 use geo_model::Feature;
 use mark_core::mark_points;
-use plain_drawing::{Colour, Geometry, Grid, Symbolizer, Window};
+use plain_drawing::{Colour, Geometry, Grid, LineCap, Symbolizer, Window};
 use plain_image::{Image, Mask};
 use raster_core::fill_mask;
 use std::alloc::Global;
+use stroke_core::{stroke_lines, stroke_rings};
 
 /// Fills a feature that is a polygon; other features are not filled.
 fn fill_feature(
@@ -92,6 +92,51 @@ fn mark_feature(
     }
 }
 
+/// How lines and outlines are stroked: the colour, the width in hundredths of a pixel, the opacity in
+/// thousandths, and how lines end.
+#[derive(Clone, Copy)]
+struct Pen {
+    colour: Colour,
+    width: u64,
+    opacity: u32,
+    cap: LineCap,
+}
+
+/// Strokes the lines of a feature, or the outlines of a polygon's rings; points have no strokes.
+fn stroke_feature(
+    alloc: Global,
+    w: Window,
+    shape: &Feature,
+    pen: Pen,
+    image: &mut Image,
+) -> Result<(), NoMemory>
+    requires window { IsWindow w }
+    requires cols { image.old.cols ≡ w.cols }
+    requires rows { image.old.rows ≡ w.rows }
+    requires width { pen.width ≤ 6400 }
+    requires opacity { pen.opacity ≤ 1000 }
+    ensures drawn { OnOk result (image.new ≡ with_symbolizer w (feature shape.now) image.old (paint.Line pen.colour pen.width pen.opacity pen.cap)) }
+    ensures cols { image.new.cols ≡ image.old.cols }
+    ensures rows { image.new.rows ≡ image.old.rows }
+{
+    let half = half_of(pen.width, w.pixel);
+    match shape.geometry() {
+        Geometry::Points(_) => Ok(()),
+        Geometry::Lines(lines) => {
+            let mut mask = Mask::new(alloc, w.cols, w.rows)?;
+            stroke_lines(alloc, lines.as_slice(), half, pen.cap, w, &mut mask)?;
+            image.paint(&mask, pen.colour, pen.opacity);
+            Ok(())
+        }
+        Geometry::Polygon(rings) => {
+            let mut mask = Mask::new(alloc, w.cols, w.rows)?;
+            stroke_rings(rings.as_slice(), half, w, &mut mask)?;
+            image.paint(&mask, pen.colour, pen.opacity);
+            Ok(())
+        }
+    }
+}
+
 /// Paints what the symbolizer covers of a feature over the image.
 fn draw_on_feature(
     alloc: Global,
@@ -104,7 +149,6 @@ fn draw_on_feature(
     requires cols { image.old.cols ≡ w.cols }
     requires rows { image.old.rows ≡ w.rows }
     requires paint { IsTrue (is_paint symbolizer) }
-    requires fills { IsTrue (is_fill symbolizer) }
     ensures drawn { OnOk result (image.new ≡ with_symbolizer w (feature shape.now) image.old symbolizer) }
     ensures cols { image.new.cols ≡ image.old.cols }
     ensures rows { image.new.rows ≡ image.old.rows }
@@ -113,7 +157,20 @@ fn draw_on_feature(
         Symbolizer::Polygon { fill, fill_opacity } => {
             fill_feature(alloc, w, shape, fill, fill_opacity, image)
         }
-        Symbolizer::Line { .. } => unreachable!(),
+        Symbolizer::Line {
+            stroke,
+            stroke_width,
+            stroke_opacity,
+            stroke_linecap,
+        } => {
+            let pen = Pen {
+                colour: stroke,
+                width: stroke_width,
+                opacity: stroke_opacity,
+                cap: stroke_linecap,
+            };
+            stroke_feature(alloc, w, shape, pen, image)
+        }
         Symbolizer::Markers {
             fill,
             width,
@@ -154,7 +211,6 @@ pub(crate) fn draw_symbolizer(
     requires cols { image.old.cols ≡ w.cols }
     requires rows { image.old.rows ≡ w.rows }
     requires paint { IsTrue (is_paint symbolizer) }
-    requires fills { IsTrue (is_fill symbolizer) }
     ensures drawn { OnOk result (image.new ≡ with_symbolizer w (item_of piece.entry) image.old symbolizer) }
     ensures cols { image.new.cols ≡ image.old.cols }
     ensures rows { image.new.rows ≡ image.old.rows }

@@ -3,7 +3,6 @@ ghost use Rattle.std.specs.Prelude.{◌≡◌, IfOk, IsTrue};
 ghost use Rattle.std.specs.List.{list_all};
 ghost use Rattle.plain_drawing.specs.World.{IsTile, IsTileSize};
 ghost use Rattle.plain_drawing.specs.Drawing.{tile_of};
-ghost use Rattle.tile_render.specs.Built.{fills_style};
 
 use crate::layers::draw_map;
 use data_versions::Snapshot;
@@ -25,7 +24,6 @@ pub fn draw_tile(
 ) -> Result<Vec<u8>, NoMemory>
     requires size { IsTileSize size }
     requires tile { IsTile t }
-    requires fills { IsTrue (list_all fills_style style.now.styles) }
     ensures { IfOk result (λ v. v.items ≡ tile_of style.now size t snapshot.now) }
 {
     let w = window(t, size);
