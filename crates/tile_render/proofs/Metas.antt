@@ -23,7 +23,7 @@ range_more a (suc n) =
 
 -- one more text of a column
 pub one_more_text : {Y : Type 0} (f : ℕ → Y) (old now next : List Y) (row : ℕ) (y : Y) → now ≡ old ++ map f (range_with_len 0 row) → y ≡ f row → next ≡ now ++ y ∷ []
-  → next ≡ old ++ map f (range_with_len 0 (row + 1))
+    → next ≡ old ++ map f (range_with_len 0 (row + 1))
 one_more_text f old now next row y so_far is step =
     let z : 0 + row ≡ row = omega arith in
     step ∙ ap (λ ys. ys ++ y ∷ []) so_far ∙ ap (λ v. old ++ map f (range_with_len 0 row) ++ v ∷ []) is
@@ -34,7 +34,7 @@ one_more_text f old now next row y so_far is step =
 
 -- one more column
 pub one_more_column : {Y : Type 0} (f : ℕ → List Y) (now next : List Y) (col : ℕ) → now ≡ flat_map f (range_with_len 0 col) → next ≡ now ++ f col
-  → next ≡ flat_map f (range_with_len 0 (col + 1))
+    → next ≡ flat_map f (range_with_len 0 (col + 1))
 one_more_column f now next col so_far step =
     let z : 0 + col ≡ col = omega arith in
     step ∙ ap (λ ys. ys ++ f col) so_far
@@ -45,8 +45,8 @@ one_more_column f now next col so_far step =
 
 -- the picture of a window that is drawn over the background
 pub drawn_picture : (style : MapStyle) (size z : ℕ) (data_layers : List Layer) (w : Window) (scale : ℕ) (fresh drawn : Pixels)
-  → w.pixel ≡ pixel_of z size → scale ≡ denominator_of z size → fresh ≡ one_colour w style.background_color → drawn ≡ with_map w scale style data_layers fresh
-  → drawn ≡ record { cols = w.cols; rows = w.rows; pixels = map (colour_at style size z data_layers) (centres w) }
+    → w.pixel ≡ pixel_of z size → scale ≡ denominator_of z size → fresh ≡ one_colour w style.background_color → drawn ≡ with_map w scale style data_layers fresh
+    → drawn ≡ record { cols = w.cols; rows = w.rows; pixels = map (colour_at style size z data_layers) (centres w) }
 drawn_picture style size z data_layers w scale fresh drawn pixel_is scale_is fresh_is drawn_is =
     drawn_is ∙ ap (with_map w scale style data_layers) fresh_is
     ∙ ap (λ n. with_map w n style data_layers (one_colour w style.background_color)) scale_is

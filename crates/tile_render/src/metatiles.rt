@@ -21,13 +21,7 @@ pub struct DrawnMeta {
 }
 
 /// The text of the part of the image that is so many tiles from its west and north edge.
-fn cut_tile(
-    alloc: Global,
-    image: &Image,
-    size: u32,
-    col: u32,
-    row: u32,
-) -> Result<Bytes, NoMemory>
+fn cut_tile(alloc: Global, image: &Image, size: u32, col: u32, row: u32) -> Result<Bytes, NoMemory>
     requires some { 1 ≤ size }
     requires few { size ≤ 512 }
     requires col { col < 8 }
@@ -66,12 +60,7 @@ fn cut_column(
 }
 
 /// The texts of all tiles of the image, by columns.
-fn cut_tiles(
-    alloc: Global,
-    image: &Image,
-    size: u32,
-    across: u32,
-) -> Result<Vec<Bytes>, NoMemory>
+fn cut_tiles(alloc: Global, image: &Image, size: u32, across: u32) -> Result<Vec<Bytes>, NoMemory>
     requires some { 1 ≤ size }
     requires few { size ≤ 512 }
     requires few_across { across ≤ 8 }
