@@ -1,0 +1,86 @@
+-- How a command ends: what is read and put, and what is reported.
+use Rattle.std.specs.Prelude.{◌≡◌, ℕ, List, Option, Result, Ok, Err, Vec}
+use Rattle.std.specs.declared.alloc.Global.{Global}
+use Rattle.farm_base.specs.Outside.{FilesTold, Reads, ReadCounts, Puts, PutCounts}
+use Rattle.farm_base.specs.declared.files.FileFault.{FileFault}
+use Rattle.farm_base.specs.declared.files.FileFault.TheVariants as file
+use Rattle.farm_base.specs.declared.sinks.SinkFault.{SinkFault}
+use Rattle.reading.specs.Steps.{Gives}
+use Rattle.call_ends.specs.Stops.{status_of, line_of, unreadable_line, refusing}
+use Rattle.call_ends.specs.declared.stops.Stop.{Stop}
+use Rattle.call_ends.specs.declared.stops.Stop.TheVariants as stop
+
+-- files at a moment: what they tell, if they do, and their count of faults
+pub record FilesAt : Type 0 where
+  pub told : Option FilesTold
+  pub faults : ℕ
+
+abbrev pub files_at : Option FilesTold → ℕ → FilesAt
+files_at told faults = record { told = told; faults = faults }
+
+-- a sink at a moment: the bytes that it took, if it tells, and its count of faults
+pub record SinkAt : Type 0 where
+  pub taken : Option (List ℕ)
+  pub faults : ℕ
+
+abbrev pub sink_at : Option (List ℕ) → ℕ → SinkAt
+sink_at taken faults = record { taken = taken; faults = faults }
+
+-- ---- a file
+
+-- what a read says: the meaning of the bytes, or why there is none
+abbrev pub said : {A F : Type 0} → (List ℕ → Result A F) → (F → Option (List ℕ)) → List ℕ → Result (Vec ℕ Global) FileFault → Result A Stop
+said meaning text name (Ok bytes) = refusing text name (meaning bytes.items)
+said meaning text name (Err file.Failed) = Err (stop.Unreadable (unreadable_line name))
+said meaning text name (Err file.NoMemory) = Err stop.NoMemory
+
+-- A file is read once and then checked: the answer is what its bytes say, its first fault, that it cannot
+-- be read, or want of memory.
+pub record Checks {A B F : Type 0} (view : B → A) (meaning : List ℕ → Result A F) (text : F → Option (List ℕ)) (old new : FilesAt) (name : List ℕ) (result : Result B Stop) : Type 0 where
+  pub read : Result (Vec ℕ Global) FileFault
+  pub told : Reads old.told new.told name read
+  pub counted : ReadCounts old.faults new.faults read
+  pub gives : Gives stop.NoMemory view (said meaning text name read) result
+
+-- ---- out and err
+
+-- the answer of a put
+abbrev pub put_end : Result (Unit {0}) SinkFault → Result (Unit {0}) Stop
+put_end (Ok done) = Ok tt
+put_end (Err fault) = Err stop.SinkFailed
+
+-- the bytes are put in one piece
+pub record PutsAll (old new : SinkAt) (bytes : List ℕ) (result : Result (Unit {0}) Stop) : Type 0 where
+  pub put : Result (Unit {0}) SinkFault
+  pub bytes_put : Puts old.taken new.taken bytes put
+  pub counted : PutCounts old.faults new.faults put
+  pub ends : result ≡ put_end put
+
+-- what was made is put; where nothing was, nothing is put
+abbrev pub PutsMade : SinkAt → SinkAt → Result (Vec ℕ Global) Stop → Result (Unit {0}) Stop → Type 0
+PutsMade old new (Ok v) result = PutsAll old new v.items result
+PutsMade old new (Err s) result = (result ≡ Err s) × (new ≡ old)
+
+-- nothing that there is is asked for: nothing is read or put
+pub record Refuses (files files' : FilesAt) (out out' : SinkAt) (result : Result (Unit {0}) Stop) : Type 0 where
+  pub ends : result ≡ Err stop.Words
+  pub files_same : files' ≡ files
+  pub out_same : out' ≡ out
+
+-- the status, or 4 where a line could not be put on err
+abbrev pub told_status : ℕ → Result (Unit {0}) SinkFault → ℕ
+told_status status (Ok done) = status
+told_status status (Err fault) = 4
+
+-- a line is put on err, in one piece; an empty one is not
+pub record Reports (status : ℕ) (line : List ℕ) (old new : SinkAt) (result : ℕ) : Type 0 where
+  pub put : Result (Unit {0}) SinkFault
+  pub bytes_put : Puts old.taken new.taken line put
+  pub counted : PutCounts old.faults new.faults put
+  pub status_is : result ≡ told_status status put
+
+-- a whole call: a command that runs so, and then the report of how it ended
+pub record EndsWith (runs : Result (Unit {0}) Stop → Type 0) (err err' : SinkAt) (result : ℕ) : Type 0 where
+  pub end : Result (Unit {0}) Stop
+  pub ran : runs end
+  pub reports : Reports (status_of end) (line_of end) err err' result

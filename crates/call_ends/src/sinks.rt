@@ -1,0 +1,61 @@
+//! What a command puts on out, and how its end is told on err.
+ghost use Rattle.std.specs.Prelude.{◌≡◌};
+ghost use Rattle.call_ends.specs.Stops as spec;
+ghost use Rattle.call_ends.specs.Ends.{sink_at, PutsAll, Reports};
+
+use crate::stops::Stop;
+use farm_base::Sink;
+
+/// Puts all bytes in one piece.
+pub fn put<O: Sink>(out: &mut O, bytes: &[u8]) -> Result<(), Stop>
+    ensures { PutsAll (sink_at (O.taken out.old) (O.faults out.old)) (sink_at (O.taken out.new) (O.faults out.new)) bytes.now result }
+{
+    match out.put(bytes) {
+        Ok(()) => Ok(()),
+        Err(_) => Err(Stop::SinkFailed),
+    }
+}
+
+const USAGE: &str =
+    "usage: tilefarm render STYLE DATA T Z X Y | script CONFIG SCRIPT | serve CONFIG | load SEED N | meta FILE\n";
+
+fn status_of(end: &Result<(), Stop>) -> u8
+    ensures { result ≡ spec.status_of end.now }
+{
+    match end {
+        Ok(()) => 0,
+        Err(Stop::Refused(_)) => 1,
+        Err(Stop::Words) => 2,
+        Err(Stop::Unreadable(_)) => 3,
+        Err(Stop::SinkFailed) => 4,
+        Err(Stop::NoMemory) => 5,
+    }
+}
+
+fn line_of(end: &Result<(), Stop>) -> &str
+    ensures { result.now ≡ spec.line_of end.now }
+{
+    match end {
+        Ok(()) => "",
+        Err(Stop::Refused(line)) => line.as_str(),
+        Err(Stop::Words) => USAGE,
+        Err(Stop::Unreadable(line)) => line.as_str(),
+        Err(Stop::SinkFailed) => "",
+        Err(Stop::NoMemory) => "tilefarm: out of memory\n",
+    }
+}
+
+/// Puts the line of an end on err, if it has one, and answers the status; 4 where that put failed.
+pub fn report<E: Sink>(err: &mut E, end: &Result<(), Stop>) -> u8
+    ensures { Reports (spec.status_of end.now) (spec.line_of end.now) (sink_at (E.taken err.old) (E.faults err.old)) (sink_at (E.taken err.new) (E.faults err.new)) result }
+{
+    let status = status_of(end);
+    let line = line_of(end);
+    if line.is_empty() {
+        return status;
+    }
+    match err.put(line.as_bytes()) {
+        Ok(()) => status,
+        Err(_) => 4,
+    }
+}
