@@ -95,11 +95,11 @@ name_end n h = by (split_bool (n == 93))
     by (inl e) = eqb-true n 93 e
     by (inr e) = absurd (wrong (sym (sym (ap not e) ∙ h)))
 
-bracket_ends : (us more : List ℕ) → EndsBefore (91 ∷ us) more
+pub bracket_ends : (us more : List ℕ) → EndsBefore (91 ∷ us) more
 bracket_ends us [] = tt
 bracket_ends us (c ∷ cs) = refl
 
-quote_ends : (q : ℕ) (us more : List ℕ) → is_quote q ≡ true → EndsBefore (q ∷ us) more
+pub quote_ends : (q : ℕ) (us more : List ℕ) → is_quote q ≡ true → EndsBefore (q ∷ us) more
 quote_ends q us [] h = tt
 quote_ends q us (c ∷ cs) h = by (split_bool (q == 39))
   where

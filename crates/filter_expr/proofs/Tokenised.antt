@@ -44,7 +44,7 @@ from_known at b bs e =
 -- ---- the lexer's list is one of tokens
 
 -- what is said of the first token, at its place
-abbrev Rest : ℕ → List ℕ → List ℕ → Spot → List Spot → Type 0
+abbrev pub Rest : ℕ → List ℕ → List ℕ → Spot → List Spot → Type 0
 Rest at us more s others =
     (StandsFirst s.token us more × AreTokens (at + length us) more others)
     ⊎ ((others ≡ []) × (us ≡ [])
@@ -121,7 +121,7 @@ digit_solid b h =
     (not_equal b 10 (λ e. absurd (omega (arith, e, low)))) (not_equal b 13 (λ e. absurd (omega (arith, e, low))))
 
 -- the bytes begin, and not with a blank
-abbrev Solid : List ℕ → Type 0
+abbrev pub Solid : List ℕ → Type 0
 Solid us = (us ≢ []) × (begins_with is_blank us ≡ false)
 
 digits_solid : (us : List ℕ) → IsDigits us → Solid us
@@ -143,7 +143,7 @@ either_solid b c v w us (inl e) h g = solid_is b v us e h
 either_solid b c v w us (inr e) h g = solid_is c w us e g
 
 -- a spelling has a first byte, and it is no blank
-first_solid : (t : Token) (us : List ℕ) → Spells t us → Solid us
+pub first_solid : (t : Token) (us : List ℕ) → Spells t us → Solid us
 first_solid (token.Name n) us s = solid_is 91 (n ++ 93 ∷ []) us s.0 refl
 first_solid (token.Quoted t) us s = solid_is s.0 (s.1 ++ s.0 ∷ []) us s.2 (quote_solid s.0 s.3)
 first_solid (token.Number z) us s = digits_solid us s.0

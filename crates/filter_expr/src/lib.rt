@@ -1,4 +1,4 @@
-//! Filter expressions: read from a text, evaluated, and written as a text again.
+//! Filter expressions: read from a text by their grammar, and evaluated.
 #![tactic(auto)]
 
 mod faults;

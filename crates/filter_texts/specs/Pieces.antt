@@ -1,0 +1,41 @@
+-- The text of a filter put together piece by piece, each behind what was written so far.
+use Rattle.std.specs.Prelude.{ℕ, Bool, ◌==◌, ◌||◌, if◌then◌else◌, List, [], ◌∷◌, ◌++◌, encode_utf8}
+use Rattle.filter_expr.specs.Trees.{Tree}
+use Rattle.filter_expr.specs.Seen.{Part}
+use Rattle.filter_texts.specs.Written.{spelling, guarded, shown, tokens_in, put_behind, put_tokens}
+
+-- what was written, and a space behind it if it is not empty
+abbrev pub spaced : List ℕ → List ℕ
+spaced [] = []
+spaced (b ∷ bs) = (b ∷ bs) ++ 32 ∷ []
+
+-- the characters that a backslash stands before: the single quote and the backslash
+abbrev pub is_escaped : ℕ → Bool
+is_escaped c = c == 39 || c == 92
+
+-- a character of a text between single quotes
+abbrev pub escaped_char : ℕ → List ℕ
+escaped_char c = if is_escaped c then 92 ∷ encode_utf8 c else encode_utf8 c
+
+-- a tree behind what was written, without parentheses of its own
+abbrev pub put_form : Tree → List ℕ → List ℕ
+put_form e out = put_tokens out (tokens_in (shown e))
+
+-- and with them where it binds more weakly than `l`
+abbrev pub put_tree : ℕ → Tree → List ℕ → List ℕ
+put_tree l e out = put_tokens out (tokens_in (guarded l (shown e)))
+
+-- trees, each behind the same word
+abbrev pub put_parts : List ℕ → ℕ → List Tree → List ℕ → List ℕ
+put_parts word l [] out = out
+put_parts word l (x ∷ xs) out = put_parts word l xs (put_tree l x (put_behind out word))
+
+-- trees with the word between each two; for none an empty word
+abbrev pub put_list : List ℕ → ℕ → List Tree → List ℕ → List ℕ
+put_list word l [] out = put_behind out []
+put_list word l (x ∷ xs) out = put_parts word l xs (put_tree l x out)
+
+-- trees, each behind its sign
+abbrev pub put_terms : ℕ → List Part → List ℕ → List ℕ
+put_terms l [] out = out
+put_terms l (p ∷ ps) out = put_terms l ps (put_tree l p.1 (put_behind out (spelling p.0)))
