@@ -1,3 +1,4 @@
+pub mod Changing
 pub mod Choices
 pub mod Metas
 pub mod Painting

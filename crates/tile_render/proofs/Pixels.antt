@@ -28,7 +28,7 @@ written_at f c g same (suc n) [] d = refl
 written_at f c g same (suc n) (x ∷ xs) d = ap (λ ys. x ∷ ys) (written_at f c g same n xs d)
 
 -- one more centre is one more element changed
-next_changed : {X : Type 0} (f : Point → X → X) (cs : List Point) (xs : List X) (n : ℕ) (d : Point) → n < length cs
+pub next_changed : {X : Type 0} (f : Point → X → X) (cs : List Point) (xs : List X) (n : ℕ) (d : Point) → n < length cs
     → changed_at f n (get_or cs n d) (at_centres f (take n cs) xs) ≡ at_centres f (take (suc n) cs) xs
 unfolding changed_at
 next_changed f [] xs n d h = absurd (omega arith)

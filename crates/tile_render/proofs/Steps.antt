@@ -1,8 +1,6 @@
 -- One step of a loop more, and what holds of an Ok.
-use Rattle.std.proofs.Common.{◌≡◌, ℕ, zero, suc, ◌+◌, ◌∙◌, ap, sym, refl, arith, List, [], ◌∷◌, ◌++◌, take, fold, map, Some}
-use Rattle.std.specs.Prelude.{Result, Ok, Err, OnOk, IfOk, slice_get, option_to_list, Bool, true, false, ◌&&◌, find, unwrap_or, if◌then◌else◌}
-use Rattle.std.specs.List.{list_all}
-use Rattle.std.proofs.lemmas.Bool.{and_parts}
+use Rattle.std.proofs.Common.{◌≡◌, ℕ, zero, suc, ◌+◌, ◌∙◌, ap, sym, refl, arith, List, [], ◌∷◌, ◌++◌, take, fold, map}
+use Rattle.std.specs.Prelude.{Result, Ok, Err, OnOk, IfOk, slice_get, option_to_list}
 use Rattle.std.proofs.lemmas.Grind.{fold-append}
 
 pub on_ok : {T E : Type 0} {P Q : Type 0} (r : Result T E) → (P → Q) → OnOk r P → OnOk r Q

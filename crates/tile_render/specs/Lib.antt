@@ -1,3 +1,4 @@
 pub mod Chosen
+pub mod Parts
 pub mod Places
 pub mod Sources

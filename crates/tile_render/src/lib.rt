@@ -4,7 +4,9 @@
 mod features;
 mod grids;
 mod layers;
+mod masks;
 mod metatiles;
+mod parts;
 mod rules;
 mod sources;
 mod symbolizers;

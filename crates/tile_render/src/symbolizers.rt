@@ -1,14 +1,18 @@
 //! One symbolizer on one item.
 ghost use Rattle.std.specs.Prelude.{◌≡◌, ◌≤◌, ◌^◌, IsTrue, OnOk};
+ghost use Rattle.drawing_reach.specs.Spreads.{spread_across, spread_down};
 ghost use Rattle.plain_drawing.specs.declared.style.Symbolizer.TheVariants as paint;
 ghost use Rattle.plain_drawing.specs.World.{IsWindow};
 ghost use Rattle.plain_drawing.specs.Styles.{is_paint};
 ghost use Rattle.plain_drawing.specs.Strokes.{half_of};
 ghost use Rattle.plain_drawing.specs.Drawing.{feature, raster};
 ghost use Rattle.plain_drawing.specs.Pictures.{with_symbolizer};
+ghost use Rattle.tile_render.specs.Parts.{IsPart, HoldsCovered};
 ghost use Rattle.tile_render.specs.Sources.{item_of};
 
 use crate::grids::blend_grid;
+use crate::masks::paint_part;
+use crate::parts::{Part, part_near, part_of};
 use crate::sources::Piece;
 use farm_base::NoMemory;
 use geo_model::Feature;
@@ -23,6 +27,7 @@ use stroke_core::{stroke_lines, stroke_rings};
 fn fill_feature(
     alloc: Global,
     w: Window,
+    part: Part,
     shape: &Feature,
     fill: Colour,
     opacity: u32,
@@ -32,6 +37,8 @@ fn fill_feature(
     requires cols { image.old.cols ≡ w.cols }
     requires rows { image.old.rows ≡ w.rows }
     requires opacity { opacity ≤ 1000 }
+    requires part { IsPart w part }
+    requires near { HoldsCovered w part shape.now (paint.Polygon fill opacity) }
     ensures drawn { OnOk result (image.new ≡ with_symbolizer w (feature shape.now) image.old (paint.Polygon fill opacity)) }
     ensures cols { image.new.cols ≡ image.old.cols }
     ensures rows { image.new.rows ≡ image.old.rows }
@@ -40,9 +47,10 @@ fn fill_feature(
         Geometry::Points(_) => Ok(()),
         Geometry::Lines(_) => Ok(()),
         Geometry::Polygon(rings) => {
-            let mut mask = Mask::new(alloc, w.cols, w.rows)?;
-            fill_mask(alloc, rings.as_slice(), w, &mut mask)?;
-            image.paint(&mask, fill, opacity);
+            let near = part_of(w, part);
+            let mut mask = Mask::new(alloc, near.cols, near.rows)?;
+            fill_mask(alloc, rings.as_slice(), near, &mut mask)?;
+            paint_part(w, part, &mask, fill, opacity, image);
             Ok(())
         }
     }
@@ -62,6 +70,7 @@ fn half_of(width: u64, pixel: u32) -> u32
 fn mark_feature(
     alloc: Global,
     w: Window,
+    part: Part,
     shape: &Feature,
     fill: Colour,
     sides: (u64, u64),
@@ -74,17 +83,20 @@ fn mark_feature(
     requires width { sides.0 ≤ 6400 }
     requires height { sides.1 ≤ 6400 }
     requires opacity { opacity ≤ 1000 }
+    requires part { IsPart w part }
+    requires near { HoldsCovered w part shape.now (paint.Markers fill sides.0 sides.1 opacity) }
     ensures drawn { OnOk result (image.new ≡ with_symbolizer w (feature shape.now) image.old (paint.Markers fill sides.0 sides.1 opacity)) }
     ensures cols { image.new.cols ≡ image.old.cols }
     ensures rows { image.new.rows ≡ image.old.rows }
 {
     match shape.geometry() {
         Geometry::Points(points) => {
-            let mut mask = Mask::new(alloc, w.cols, w.rows)?;
+            let near = part_of(w, part);
+            let mut mask = Mask::new(alloc, near.cols, near.rows)?;
             let a = half_of(sides.0, w.pixel);
             let b = half_of(sides.1, w.pixel);
-            mark_points(points, a, b, w, &mut mask);
-            image.paint(&mask, fill, opacity);
+            mark_points(points, a, b, near, &mut mask);
+            paint_part(w, part, &mask, fill, opacity, image);
             Ok(())
         }
         Geometry::Lines(_) => Ok(()),
@@ -106,6 +118,7 @@ struct Pen {
 fn stroke_feature(
     alloc: Global,
     w: Window,
+    part: Part,
     shape: &Feature,
     pen: Pen,
     image: &mut Image,
@@ -115,6 +128,8 @@ fn stroke_feature(
     requires rows { image.old.rows ≡ w.rows }
     requires width { pen.width ≤ 6400 }
     requires opacity { pen.opacity ≤ 1000 }
+    requires part { IsPart w part }
+    requires near { HoldsCovered w part shape.now (paint.Line pen.colour pen.width pen.opacity pen.cap) }
     ensures drawn { OnOk result (image.new ≡ with_symbolizer w (feature shape.now) image.old (paint.Line pen.colour pen.width pen.opacity pen.cap)) }
     ensures cols { image.new.cols ≡ image.old.cols }
     ensures rows { image.new.rows ≡ image.old.rows }
@@ -123,21 +138,97 @@ fn stroke_feature(
     match shape.geometry() {
         Geometry::Points(_) => Ok(()),
         Geometry::Lines(lines) => {
-            let mut mask = Mask::new(alloc, w.cols, w.rows)?;
-            stroke_lines(alloc, lines.as_slice(), half, pen.cap, w, &mut mask)?;
-            image.paint(&mask, pen.colour, pen.opacity);
+            let near = part_of(w, part);
+            let mut mask = Mask::new(alloc, near.cols, near.rows)?;
+            stroke_lines(alloc, lines.as_slice(), half, pen.cap, near, &mut mask)?;
+            paint_part(w, part, &mask, pen.colour, pen.opacity, image);
             Ok(())
         }
         Geometry::Polygon(rings) => {
-            let mut mask = Mask::new(alloc, w.cols, w.rows)?;
-            stroke_rings(rings.as_slice(), half, w, &mut mask)?;
-            image.paint(&mask, pen.colour, pen.opacity);
+            let near = part_of(w, part);
+            let mut mask = Mask::new(alloc, near.cols, near.rows)?;
+            stroke_rings(rings.as_slice(), half, near, &mut mask)?;
+            paint_part(w, part, &mask, pen.colour, pen.opacity, image);
             Ok(())
         }
     }
 }
 
-/// Paints what the symbolizer covers of a feature over the image.
+/// Paints what the symbolizer covers of a feature over the image, of which no more than the part may be
+/// covered.
+fn draw_on_part(
+    alloc: Global,
+    w: Window,
+    part: Part,
+    shape: &Feature,
+    symbolizer: Symbolizer,
+    image: &mut Image,
+) -> Result<(), NoMemory>
+    requires window { IsWindow w }
+    requires cols { image.old.cols ≡ w.cols }
+    requires rows { image.old.rows ≡ w.rows }
+    requires paint { IsTrue (is_paint symbolizer) }
+    requires part { IsPart w part }
+    requires near { HoldsCovered w part shape.now symbolizer }
+    ensures drawn { OnOk result (image.new ≡ with_symbolizer w (feature shape.now) image.old symbolizer) }
+    ensures cols { image.new.cols ≡ image.old.cols }
+    ensures rows { image.new.rows ≡ image.old.rows }
+{
+    match symbolizer {
+        Symbolizer::Polygon { fill, fill_opacity } => {
+            fill_feature(alloc, w, part, shape, fill, fill_opacity, image)
+        }
+        Symbolizer::Line {
+            stroke,
+            stroke_width,
+            stroke_opacity,
+            stroke_linecap,
+        } => {
+            let pen = Pen {
+                colour: stroke,
+                width: stroke_width,
+                opacity: stroke_opacity,
+                cap: stroke_linecap,
+            };
+            stroke_feature(alloc, w, part, shape, pen, image)
+        }
+        Symbolizer::Markers {
+            fill,
+            width,
+            height,
+            opacity,
+        } => mark_feature(alloc, w, part, shape, fill, (width, height), opacity, image),
+        Symbolizer::Raster { .. } => Ok(()),
+    }
+}
+
+/// How far from a feature's points a symbolizer may paint, in world units: to the west and east, and to the
+/// north and south.
+fn spread(symbolizer: Symbolizer, pixel: u32) -> (u64, u64)
+    requires paint { IsTrue (is_paint symbolizer) }
+    requires pixel { pixel ≤ 2 ^ 26 }
+    ensures across { result.0 ≡ spread_across pixel symbolizer }
+    ensures down { result.1 ≡ spread_down pixel symbolizer }
+    ensures little_across { result.0 ≤ 2 ^ 32 }
+    ensures little_down { result.1 ≤ 2 ^ 32 }
+{
+    match symbolizer {
+        Symbolizer::Polygon { .. } => (0, 0),
+        Symbolizer::Line { stroke_width, .. } => {
+            let half = u64::from(half_of(stroke_width, pixel));
+            (half + half, half + half)
+        }
+        Symbolizer::Markers { width, height, .. } => {
+            let a = half_of(width, pixel);
+            let b = half_of(height, pixel);
+            (u64::from(a), u64::from(b))
+        }
+        Symbolizer::Raster { .. } => (0, 0),
+    }
+}
+
+/// Paints what the symbolizer covers of a feature over the image. Only the part of the window near the
+/// feature is looked at.
 fn draw_on_feature(
     alloc: Global,
     w: Window,
@@ -153,31 +244,10 @@ fn draw_on_feature(
     ensures cols { image.new.cols ≡ image.old.cols }
     ensures rows { image.new.rows ≡ image.old.rows }
 {
-    match symbolizer {
-        Symbolizer::Polygon { fill, fill_opacity } => {
-            fill_feature(alloc, w, shape, fill, fill_opacity, image)
-        }
-        Symbolizer::Line {
-            stroke,
-            stroke_width,
-            stroke_opacity,
-            stroke_linecap,
-        } => {
-            let pen = Pen {
-                colour: stroke,
-                width: stroke_width,
-                opacity: stroke_opacity,
-                cap: stroke_linecap,
-            };
-            stroke_feature(alloc, w, shape, pen, image)
-        }
-        Symbolizer::Markers {
-            fill,
-            width,
-            height,
-            opacity,
-        } => mark_feature(alloc, w, shape, fill, (width, height), opacity, image),
-        Symbolizer::Raster { .. } => Ok(()),
+    let (across, down) = spread(symbolizer, w.pixel);
+    match part_near(w, shape.bbox(), across, down) {
+        Some(part) => draw_on_part(alloc, w, part, shape, symbolizer, image),
+        None => Ok(()),
     }
 }
 

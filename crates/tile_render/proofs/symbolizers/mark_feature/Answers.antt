@@ -2,7 +2,7 @@ use Rattle.std.proofs.Common.{◌∙◌, ap, sym, refl}
 use Rattle.plain_drawing.specs.declared.style.Symbolizer.TheVariants as paint
 use Rattle.plain_drawing.specs.Strokes.{on_marks, half_of}
 use Rattle.plain_drawing.specs.Drawing.{covers}
-use Rattle.tile_render.proofs.Painting.{not_covered, painted_shape, points_inside}
+use Rattle.tile_render.proofs.Painting.{not_covered, painted_part, points_inside}
 use Rattle.tile_render.proofs.symbolizers.mark_feature.Goals as goal
 
 pub mark_points-requires-clause-points : goal.mark_points-requires-clause-points
@@ -12,12 +12,12 @@ mark_points-requires-clause-points c =
 pub returns-in_ok-mask-in-Points-clause-drawn : goal.returns-in_ok-mask-in-Points-clause-drawn
 returns-in_ok-mask-in-Points-clause-drawn c =
     let s = paint.Markers c.args.fill c.args.sides.0 c.args.sides.1 c.args.opacity in
-    painted_shape c.args.w c.args.shape.now s c.args.fill c.args.opacity (on_marks c.in-Points.points c.half_of-a.result c.half_of-b.result) c.args.image.now c.paint.new.self
-    c.in_ok-mask-in-Points.mask c.mark_points.new.mask
+    painted_part c.args.w c.args.part c.args.shape.now s c.args.fill c.args.opacity (on_marks c.in-Points.points c.half_of-a.result c.half_of-b.result) c.args.image.now c.paint_part.new.image
+    c.part_of-near.result c.in_ok-mask-in-Points.mask c.mark_points.new.mask
     (λ p. ap (λ g. covers c.args.w.pixel g p s) (sym c.geometry.ensures.value ∙ c.in-Points.is)
     ∙ ap (λ a. on_marks c.in-Points.points a (half_of c.args.sides.1 c.args.w.pixel) p) (sym c.half_of-a.ensures.value)
     ∙ ap (λ b. on_marks c.in-Points.points c.half_of-a.result b p) (sym c.half_of-b.ensures.value))
-    (λ d. refl) c.in_ok-mask-in-Points.ensures c.mark_points.ensures c.paint.ensures
+    (λ d. refl) c.part_of-near.ensures.value c.requires.near c.in_ok-mask-in-Points.ensures c.mark_points.ensures c.paint_part.ensures.painted
 
 pub returns-in-Lines-clause-drawn : goal.returns-in-Lines-clause-drawn
 returns-in-Lines-clause-drawn c =

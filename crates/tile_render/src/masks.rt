@@ -1,0 +1,96 @@
+//! Masks of parts of a window, painted over the picture of the window.
+ghost use Rattle.std.specs.Prelude.{◌≡◌, ℕ, ◌+◌, ◌*◌, ◌<◌, ◌≤◌, Bool};
+ghost use Rattle.plain_drawing.specs.declared.world.Point.{Point};
+ghost use Rattle.plain_drawing.specs.World.{IsWindow};
+ghost use Rattle.plain_drawing.specs.Canvas.{Pixels, stepped};
+ghost use Rattle.tile_render.specs.Parts.{IsPart, Tells, Changed, over_member};
+
+use crate::parts::Part;
+use plain_drawing::{Colour, Window};
+use plain_image::{Image, Mask};
+
+/// Paints one pixel of the part if the mask covers it.
+fn paint_pixel(
+    w: Window,
+    part: Part,
+    mask: &Mask,
+    i: u32,
+    j: u32,
+    colour: Colour,
+    opacity: u32,
+    image: &mut Image,
+)
+    requires window { IsWindow w }
+    requires part { IsPart w part }
+    requires mask_cols { mask.now.cols ≡ part.cols }
+    requires mask_rows { mask.now.rows ≡ part.rows }
+    requires cols { image.old.cols ≡ w.cols }
+    requires rows { image.old.rows ≡ w.rows }
+    requires opacity { opacity ≤ 1000 }
+    requires col { i < part.cols }
+    requires row { j < part.rows }
+    ensures painted { (member : Point → Bool) (start : Pixels) → Tells w part member mask.now.bits
+        → Changed (over_member member colour opacity) w ((part.row + j) * w.cols + (part.col + i)) start image.old
+        → Changed (over_member member colour opacity) w ((part.row + j) * w.cols + (part.col + i + 1)) start image.new }
+    ensures cols { image.new.cols ≡ image.old.cols }
+    ensures rows { image.new.rows ≡ image.old.rows }
+{
+    if mask.has(i, j) {
+        image.blend(part.col + i, part.row + j, colour, opacity);
+    }
+}
+
+/// Paints the pixels of one row of the part that the mask covers.
+fn paint_row(
+    w: Window,
+    part: Part,
+    mask: &Mask,
+    j: u32,
+    colour: Colour,
+    opacity: u32,
+    image: &mut Image,
+)
+    requires window { IsWindow w }
+    requires part { IsPart w part }
+    requires mask_cols { mask.now.cols ≡ part.cols }
+    requires mask_rows { mask.now.rows ≡ part.rows }
+    requires cols { image.old.cols ≡ w.cols }
+    requires rows { image.old.rows ≡ w.rows }
+    requires opacity { opacity ≤ 1000 }
+    requires row { j < part.rows }
+    ensures painted { (member : Point → Bool) (start : Pixels) → Tells w part member mask.now.bits
+        → Changed (over_member member colour opacity) w ((part.row + j) * w.cols) start image.old
+        → Changed (over_member member colour opacity) w ((part.row + (j + 1)) * w.cols) start image.new }
+    ensures cols { image.new.cols ≡ image.old.cols }
+    ensures rows { image.new.rows ≡ image.old.rows }
+{
+    for i in 0..part.cols {
+        paint_pixel(w, part, mask, i, j, colour, opacity, image);
+    }
+}
+
+/// Paints the pixels of the part that the mask covers, in an opacity of 0 to 1,000 thousandths. All others
+/// stay.
+pub(crate) fn paint_part(
+    w: Window,
+    part: Part,
+    mask: &Mask,
+    colour: Colour,
+    opacity: u32,
+    image: &mut Image,
+)
+    requires window { IsWindow w }
+    requires part { IsPart w part }
+    requires mask_cols { mask.now.cols ≡ part.cols }
+    requires mask_rows { mask.now.rows ≡ part.rows }
+    requires cols { image.old.cols ≡ w.cols }
+    requires rows { image.old.rows ≡ w.rows }
+    requires opacity { opacity ≤ 1000 }
+    ensures painted { (member : Point → Bool) → Tells w part member mask.now.bits → image.new ≡ stepped w (over_member member colour opacity) image.old }
+    ensures cols { image.new.cols ≡ image.old.cols }
+    ensures rows { image.new.rows ≡ image.old.rows }
+{
+    for j in 0..part.rows {
+        paint_row(w, part, mask, j, colour, opacity, image);
+    }
+}
