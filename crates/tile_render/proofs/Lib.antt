@@ -3,4 +3,5 @@ pub mod Choices
 pub mod Metas
 pub mod Painting
 pub mod Pixels
+pub mod Skipping
 pub mod Steps

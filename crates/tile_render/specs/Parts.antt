@@ -1,5 +1,5 @@
 -- Parts of a window: so many columns from a column on, and so many rows from a row on.
-use Rattle.std.specs.Prelude.{◌≡◌, ℕ, ◌+◌, ◌*◌, ◌<◌, ◌≤◌, Bool, true, false, if◌then◌else◌, List, take, slice_index_or}
+use Rattle.std.specs.Prelude.{◌≡◌, ℕ, ◌+◌, ◌-◌, ◌*◌, ◌^◌, ◌<◌, ◌≤◌, min, Bool, true, false, if◌then◌else◌, List, take, slice_index_or}
 use Rattle.plain_drawing.specs.declared.world.Point.{Point}
 use Rattle.plain_drawing.specs.declared.world.Window.{Window}
 use Rattle.plain_drawing.specs.declared.colour.Colour.{Colour}
@@ -9,6 +9,7 @@ use Rattle.plain_drawing.specs.Features.{Feature}
 use Rattle.plain_drawing.specs.Blending.{blend}
 use Rattle.plain_drawing.specs.Canvas.{Pixels, at_centres}
 use Rattle.plain_drawing.specs.Drawing.{covers}
+use Rattle.geo_model.specs.declared.bounds.Bounds.{Bounds}
 use Rattle.tile_render.specs.declared.parts.Part.{Part}
 
 -- the part lies in the window, and has a column and a row at least
@@ -49,3 +50,12 @@ over_member member colour opacity c d = if member c then blend colour opacity d 
 -- the picture now is that of the start with the first n pixels changed by their centres
 pub record Changed (f : Point → Colour → Colour) (w : Window) (n : ℕ) (start now : Pixels) : Type 0 where
   pub is : now ≡ record start { pixels = at_centres f (take n (centres w)) start.pixels }
+
+-- the window's rectangle widened by 64 pixels on each side, and cut to the world
+abbrev pub around : Window → Bounds
+around w = record {
+  west = w.west - 64 * w.pixel;
+  north = w.north - 64 * w.pixel;
+  east = min (w.west + w.cols * w.pixel + 64 * w.pixel) (2 ^ 30);
+  south = min (w.north + w.rows * w.pixel + 64 * w.pixel) (2 ^ 30);
+}

@@ -1,18 +1,20 @@
 //! The layers of a map and the styles that they name.
-ghost use Rattle.std.specs.Prelude.{◌≡◌, IsTrue, ◌*◌, ◌^◌, ◌<◌, ◌≤◌, OnOk, List, fold, map, flat_map, find, length, slice_get, option_to_list};
+ghost use Rattle.std.specs.Prelude.{◌≡◌, IsTrue, ◌*◌, ◌^◌, ◌<◌, ◌≤◌, OnOk, List, fold, map, flat_map, find, length, slice_get, option_to_list, All};
 ghost use Rattle.std.specs.List.{list_all};
 ghost use Rattle.std.specs.Option.{option_copied};
 ghost use Rattle.std.specs.Str.{bytes_eq};
 ghost use Rattle.plain_drawing.specs.World.{IsWindow};
+ghost use Rattle.plain_drawing.specs.Styles.{is_paint};
 ghost use Rattle.plain_drawing.specs.Drawing.{feature, items_of, style_named};
 ghost use Rattle.plain_drawing.specs.Pictures.{with_item, with_style, with_layer, with_map};
 ghost use Rattle.tile_render.specs.Sources.{items_in};
 
 use crate::features::draw_item;
+use crate::parts::around;
 use crate::sources::{Piece, Source, source_of};
 use data_versions::{LayerView, Snapshot};
 use farm_base::{NoMemory, Text};
-use plain_drawing::{LayerRef, MapStyle, Style, Window};
+use plain_drawing::{LayerRef, MapStyle, Rule, Style, Window};
 use plain_image::Image;
 use scale_rules::active;
 use std::alloc::Global;
@@ -41,8 +43,24 @@ fn draw_place(
     }
 }
 
-/// Draws all features of a layer of data by a style, in order.
-#[tactic(auto, using(crate::proofs::Steps::fold_next))]
+/// Makes known what each rule keeps: its symbolizers are within their ranges.
+fn know_rule(rule: &Rule)
+    ensures { IsTrue (list_all is_paint rule.now.symbolizers) }
+{
+    let _symbolizers = rule.symbolizers.as_slice();
+}
+
+/// The same of all rules.
+fn know_rules(rules: &[Rule])
+    ensures { All (λ r. IsTrue (list_all is_paint r.symbolizers)) rules.now }
+{
+    for rule in rules {
+        know_rule(rule);
+    }
+}
+
+/// Draws the features of a layer of data by a style, in order. Those that are too far from the window to
+/// paint any of its pixels are passed over.
 fn draw_features(
     alloc: Global,
     w: Window,
@@ -59,8 +77,13 @@ fn draw_features(
     ensures cols { image.new.cols ≡ image.old.cols }
     ensures rows { image.new.rows ≡ image.old.rows }
 {
-    for place in 0..features.len() {
-        draw_place(alloc, w, denominator, style, features, place, image)?;
+    know_rules(style.rules.as_slice());
+    let near = around(w);
+    let _count = features.len();
+    let mut place = 0;
+    while let Some(next) = features.next_near(place, near.west, near.north, near.east, near.south) {
+        draw_place(alloc, w, denominator, style, features, next, image)?;
+        place = next + 1;
     }
     Ok(())
 }

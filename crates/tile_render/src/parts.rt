@@ -2,7 +2,7 @@
 ghost use Rattle.std.specs.Prelude.{◌≡◌, ℕ, ◌+◌, ◌*◌, ◌^◌, ◌<◌, ◌≤◌, IfSome, MatchOption};
 ghost use Rattle.plain_drawing.specs.World.{IsWindow, centre};
 ghost use Rattle.drawing_reach.specs.Spreads.{Beside};
-ghost use Rattle.tile_render.specs.Parts.{IsPart, InPart, part_of};
+ghost use Rattle.tile_render.specs.Parts.{IsPart, InPart, part_of, around};
 
 use centre_spans::first_at;
 use geo_model::Bounds;
@@ -61,5 +61,24 @@ pub(crate) fn part_near(w: Window, b: Bounds, across: u64, down: u64) -> Option<
         })
     } else {
         None
+    }
+}
+
+/// The window's rectangle widened by 64 pixels on each side, and cut to the world: what no feature farther
+/// off paints.
+pub(crate) fn around(w: Window) -> Bounds
+    requires { IsWindow w }
+    ensures value { result ≡ around w }
+    ensures across { result.west ≤ result.east }
+    ensures down { result.north ≤ result.south }
+{
+    let margin = 64 * u64::from(w.pixel);
+    let east = u64::from(w.west + w.cols * w.pixel) + margin;
+    let south = u64::from(w.north + w.rows * w.pixel) + margin;
+    Bounds {
+        west: u64::from(w.west).saturating_sub(margin) as u32,
+        north: u64::from(w.north).saturating_sub(margin) as u32,
+        east: east.min(1 << 30) as u32,
+        south: south.min(1 << 30) as u32,
     }
 }
