@@ -1,0 +1,156 @@
+-- How the status tells the end of a command.
+use Rattle.std.proofs.Common.{◌≡◌, ◌≢◌, ℕ, ◌⊎◌, inl, inr, List, ◌++◌, refl, sym, ap, subst, ◌∙◌, arith}
+use Rattle.std.specs.Prelude.{Option, Some, Result, Ok, Err, Vec}
+use Rattle.std.specs.declared.alloc.Global.{Global}
+use Rattle.farm_base.specs.Outside.{Puts, PutCounts, Rose}
+use Rattle.farm_base.specs.declared.sinks.SinkFault.{SinkFault}
+use Rattle.call_ends.specs.Stops.{status_of, line_of}
+use Rattle.call_ends.specs.Ends.{SinkAt, put_end, PutsAll, PutsMade, told_status, Reports, EndsWith}
+use Rattle.call_ends.specs.Promises.{Stands}
+use Rattle.call_ends.specs.declared.stops.Stop.{Stop}
+use Rattle.call_ends.specs.declared.stops.Stop.TheVariants as stop
+
+-- ---- puts
+
+-- bytes that were put stand after what the sink had
+all_put : (before bytes : List ℕ) (new : Option (List ℕ)) (put : Result (Unit {0}) SinkFault) → Ok tt ≡ put_end put → Puts (Some before) new bytes put → new ≡ Some (before ++ bytes)
+all_put before bytes new (Ok u) e h = h
+all_put before bytes new (Err f) e h = absurd (cc)
+
+pub puts_done : (out out' : SinkAt) (bytes before : List ℕ) → PutsAll out out' bytes (Ok tt) → out.taken ≡ Some before → out'.taken ≡ Some (before ++ bytes)
+puts_done out out' bytes before h taken =
+    all_put before bytes out'.taken h.put h.ends (subst (λ (o : Option (List ℕ)). Puts o out'.taken bytes h.put) taken h.bytes_put)
+
+by_put : (out out' : SinkAt) (put : Result (Unit {0}) SinkFault) (s : Stop) → Err s ≡ put_end put → PutCounts out.faults out'.faults put → (s ≡ stop.SinkFailed) × Rose out.faults out'.faults
+by_put out out' (Ok u) s e c = absurd (cc)
+by_put out out' (Err f) s e c = (cc, c.1)
+
+-- a put ends a command only where it failed, and then the count rose
+pub puts_failed : (out out' : SinkAt) (bytes : List ℕ) (s : Stop) → PutsAll out out' bytes (Err s) → (s ≡ stop.SinkFailed) × Rose out.faults out'.faults
+puts_failed out out' bytes s h = by_put out out' h.put s h.ends h.counted
+
+-- what was made was put
+pub made_done : (made : Result (Vec ℕ Global) Stop) (out out' : SinkAt) → PutsMade out out' made (Ok tt) → (v : Vec ℕ Global) × (made ≡ Ok v) × PutsAll out out' v.items (Ok tt)
+made_done (Ok v) out out' h = (v, refl, h)
+made_done (Err s) out out' h = absurd (let e = h.0 in cc)
+
+-- nothing was made, or its put failed
+pub made_failed : (made : Result (Vec ℕ Global) Stop) (out out' : SinkAt) (s : Stop) → PutsMade out out' made (Err s)
+    → ((made ≡ Err s) × (out' ≡ out)) ⊎ ((s ≡ stop.SinkFailed) × Rose out.faults out'.faults)
+made_failed (Ok v) out out' s h = inr (puts_failed out out' v.items s h)
+made_failed (Err q) out out' s h = inl (let e = h.0 in cc, h.1)
+
+-- ---- the status
+
+abbrev Told : Result (Unit {0}) Stop → Result (Unit {0}) SinkFault → ℕ → Type 0
+Told end put k = k ≡ told_status (status_of end) put
+
+-- the line was put where the status is not 4
+quiet : (end : Result (Unit {0}) Stop) (put : Result (Unit {0}) SinkFault) (k : ℕ) → k ≢ 4 → Told end put k → (put ≡ Ok tt) × (k ≡ status_of end)
+quiet end (Ok u) k not h = (refl, h)
+quiet end (Err f) k not h = absurd (not h)
+
+ends_0 : (end : Result (Unit {0}) Stop) → 0 ≡ status_of end → end ≡ Ok tt
+ends_0 (Ok u) h = refl
+ends_0 (Err (stop.Refused line)) h = absurd (omega arith)
+ends_0 (Err stop.Words) h = absurd (omega arith)
+ends_0 (Err (stop.Unreadable line)) h = absurd (omega arith)
+ends_0 (Err stop.SinkFailed) h = absurd (omega arith)
+ends_0 (Err stop.NoMemory) h = absurd (omega arith)
+
+ends_1 : (end : Result (Unit {0}) Stop) → 1 ≡ status_of end → (line : List ℕ) × (end ≡ Err (stop.Refused line))
+ends_1 (Ok u) h = absurd (omega arith)
+ends_1 (Err (stop.Refused line)) h = (line, refl)
+ends_1 (Err stop.Words) h = absurd (omega arith)
+ends_1 (Err (stop.Unreadable line)) h = absurd (omega arith)
+ends_1 (Err stop.SinkFailed) h = absurd (omega arith)
+ends_1 (Err stop.NoMemory) h = absurd (omega arith)
+
+ends_2 : (end : Result (Unit {0}) Stop) → 2 ≡ status_of end → end ≡ Err stop.Words
+ends_2 (Ok u) h = absurd (omega arith)
+ends_2 (Err (stop.Refused line)) h = absurd (omega arith)
+ends_2 (Err stop.Words) h = refl
+ends_2 (Err (stop.Unreadable line)) h = absurd (omega arith)
+ends_2 (Err stop.SinkFailed) h = absurd (omega arith)
+ends_2 (Err stop.NoMemory) h = absurd (omega arith)
+
+ends_3 : (end : Result (Unit {0}) Stop) → 3 ≡ status_of end → (line : List ℕ) × (end ≡ Err (stop.Unreadable line))
+ends_3 (Ok u) h = absurd (omega arith)
+ends_3 (Err (stop.Refused line)) h = absurd (omega arith)
+ends_3 (Err stop.Words) h = absurd (omega arith)
+ends_3 (Err (stop.Unreadable line)) h = (line, refl)
+ends_3 (Err stop.SinkFailed) h = absurd (omega arith)
+ends_3 (Err stop.NoMemory) h = absurd (omega arith)
+
+ends_4 : (end : Result (Unit {0}) Stop) → 4 ≡ status_of end → end ≡ Err stop.SinkFailed
+ends_4 (Ok u) h = absurd (omega arith)
+ends_4 (Err (stop.Refused line)) h = absurd (omega arith)
+ends_4 (Err stop.Words) h = absurd (omega arith)
+ends_4 (Err (stop.Unreadable line)) h = absurd (omega arith)
+ends_4 (Err stop.SinkFailed) h = refl
+ends_4 (Err stop.NoMemory) h = absurd (omega arith)
+
+early : (end : Result (Unit {0}) Stop) → 0 ≢ status_of end → 4 ≢ status_of end → (s : Stop) × (s ≢ stop.SinkFailed) × (end ≡ Err s)
+early (Ok u) no0 no4 = absurd (no0 refl)
+early (Err s) no0 no4 = (s, (λ h. no4 (sym (ap (λ (x : Stop). status_of (Err x)) h))), refl)
+
+stands : (err err' : SinkAt) (line : List ℕ) (put : Result (Unit {0}) SinkFault) → put ≡ Ok tt → Puts err.taken err'.taken line put → Stands err.taken err'.taken line
+stands err err' line put e h had e' =
+    subst (λ (o : Option (List ℕ)). Puts o err'.taken line (Ok tt)) e' (subst (λ (p : Result (Unit {0}) SinkFault). Puts err.taken err'.taken line p) e h)
+
+failed_4 : (put : Result (Unit {0}) SinkFault) (status before now : ℕ) → 4 ≡ told_status status put → PutCounts before now put → (4 ≡ status) ⊎ Rose before now
+failed_4 (Ok u) status before now h c = inl h
+failed_4 (Err g) status before now h c = inr c.1
+
+kept_or_4 : (put : Result (Unit {0}) SinkFault) (status before now : ℕ) → PutCounts before now put → (told_status status put ≡ status) ⊎ ((told_status status put ≡ 4) × Rose before now)
+kept_or_4 (Ok u) status before now c = inl refl
+kept_or_4 (Err g) status before now c = inr (refl, c.1)
+
+module _ (runs : Result (Unit {0}) Stop → Type 0) (err err' : SinkAt) (result : ℕ) (ends : EndsWith runs err err' result) where
+  -- with 0 the command reached its end
+  pub with_0 : result ≡ 0 → runs (Ok tt)
+  with_0 zero =
+      let told = quiet ends.end ends.reports.put 0 (omega arith) (sym zero ∙ ends.reports.status_is) in
+      subst runs (ends_0 ends.end told.1) ends.ran
+
+  -- with 1 a file was refused, and the line stands on err
+  pub with_1 : result ≡ 1 → (line : List ℕ) × runs (Err (stop.Refused line)) × Stands err.taken err'.taken line
+  with_1 one =
+      let told = quiet ends.end ends.reports.put 1 (omega arith) (sym one ∙ ends.reports.status_is) in
+      let end = ends_1 ends.end told.1 in
+      (end.0, subst runs end.1 ends.ran, subst (λ (l : List ℕ). Stands err.taken err'.taken l) (ap line_of end.1) (stands err err' (line_of ends.end) ends.reports.put told.0 ends.reports.bytes_put))
+
+  -- with 2 the words were refused, and the usage line stands on err
+  pub with_2 : result ≡ 2 → runs (Err stop.Words) × Stands err.taken err'.taken (line_of (Err stop.Words))
+  with_2 two =
+      let told = quiet ends.end ends.reports.put 2 (omega arith) (sym two ∙ ends.reports.status_is) in
+      let end = ends_2 ends.end told.1 in
+      (subst runs end ends.ran, subst (λ (l : List ℕ). Stands err.taken err'.taken l) (ap line_of end) (stands err err' (line_of ends.end) ends.reports.put told.0 ends.reports.bytes_put))
+
+  -- with 3 a read failed, and the line stands on err
+  pub with_3 : result ≡ 3 → (line : List ℕ) × runs (Err (stop.Unreadable line)) × Stands err.taken err'.taken line
+  with_3 three =
+      let told = quiet ends.end ends.reports.put 3 (omega arith) (sym three ∙ ends.reports.status_is) in
+      let end = ends_3 ends.end told.1 in
+      (end.0, subst runs end.1 ends.ran, subst (λ (l : List ℕ). Stands err.taken err'.taken l) (ap line_of end.1) (stands err err' (line_of ends.end) ends.reports.put told.0 ends.reports.bytes_put))
+
+  -- with 4 a put failed, on out or on err
+  pub with_4 : result ≡ 4 → runs (Err stop.SinkFailed) ⊎ Rose err.faults err'.faults
+  with_4 four =
+      elim (failed_4 ends.reports.put (status_of ends.end) err.faults err'.faults (sym four ∙ ends.reports.status_is) ends.reports.counted) [
+        | inl h ↦ inl (subst runs (ends_4 ends.end h) ends.ran)
+        | inr h ↦ inr h
+      ]
+
+  -- with another status than 0 and 4 the command ended early, and for no put
+  pub with_other : result ≢ 0 → result ≢ 4 → (s : Stop) × (s ≢ stop.SinkFailed) × runs (Err s)
+  with_other no0 no4 =
+      let told = quiet ends.end ends.reports.put result no4 ends.reports.status_is in
+      let end = early ends.end (λ h. no0 (told.1 ∙ sym h)) (λ h. no4 (told.1 ∙ sym h)) in
+      (end.0, end.1, subst runs end.2 ends.ran)
+
+  -- the status is that of the end, or 4 where err failed
+  pub of_end : (result ≡ status_of ends.end) ⊎ ((result ≡ 4) × Rose err.faults err'.faults)
+  of_end =
+      subst (λ n. (n ≡ status_of ends.end) ⊎ ((n ≡ 4) × Rose err.faults err'.faults)) (sym ends.reports.status_is)
+      (kept_or_4 ends.reports.put (status_of ends.end) err.faults err'.faults ends.reports.counted)
