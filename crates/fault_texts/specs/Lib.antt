@@ -1,0 +1,3 @@
+pub mod DataFaults
+pub mod RasterFaults
+pub mod StyleFaults
