@@ -1,0 +1,3 @@
+pub mod SmallData
+pub mod SmallKinds
+pub mod SmallStyles
