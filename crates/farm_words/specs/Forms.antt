@@ -28,3 +28,7 @@ Answers values (Err NoMemory) = Unit {0}
 abbrev pub IsRefused : Result Command WordsFault → Type 0
 IsRefused (Ok command) = ⊥
 IsRefused (Err fault) = Unit {0}
+
+-- Words spell one command at most.
+abbrev pub SpellOne : Type 0
+SpellOne = (one other : Command) (words : List (List ℕ)) → Spells one words → Spells other words → one ≡ other

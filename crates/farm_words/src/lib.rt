@@ -4,9 +4,11 @@
 
 mod command;
 mod forms;
+mod laws;
 mod reading;
 
 pub use command::{Command, WordsFault};
+pub use laws::law_one_command;
 pub use reading::read_words;
 
 #[cfg(test)]
