@@ -33,3 +33,7 @@ IsPlain (b ∷ bs) = (b == 45) ≡ false
 abbrev pub ArePlain : List (List ℕ) → Type 0
 ArePlain [] = Unit {0}
 ArePlain (word ∷ words) = IsPlain word × ArePlain words
+
+-- Where no word is empty or begins with `-`, the values are the words themselves.
+abbrev pub PlainAreValues : Type 0
+PlainAreValues = (words : List (List ℕ)) → ArePlain words → values_of words ≡ Some words

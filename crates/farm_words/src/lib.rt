@@ -8,7 +8,7 @@ mod laws;
 mod reading;
 
 pub use command::{Command, WordsFault};
-pub use laws::law_one_command;
+pub use laws::{law_one_command, law_plain_words};
 pub use reading::read_words;
 
 #[cfg(test)]
