@@ -1,0 +1,5 @@
+//! Tests of filters: read, evaluated and written again.
+#![tactic(auto)]
+
+#[cfg(test)]
+mod texts;
