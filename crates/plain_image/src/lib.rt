@@ -12,3 +12,6 @@ pub use image::Image;
 pub use mask::Mask;
 pub use ppm::read_ppm;
 pub use reading::PpmFault;
+
+#[cfg(test)]
+mod tests;
