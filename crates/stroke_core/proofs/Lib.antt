@@ -3,3 +3,4 @@ pub mod Testing
 pub mod Boxes
 pub mod Spans
 pub mod Sides
+pub mod Pairs

@@ -5,8 +5,8 @@ ghost use Rattle.plain_drawing.specs.World.{InWorld};
 ghost use Rattle.plain_drawing.specs.Strokes.{is_near};
 ghost use Rattle.centre_spans.specs.Stretches.{InStretch};
 
+use crate::membership::{both, in_body, is_same};
 use crate::numbers::times;
-use crate::tests::{both, in_body, is_same};
 use centre_spans::{Shape, Stretch, apart};
 use plain_drawing::Point;
 

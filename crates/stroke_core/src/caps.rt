@@ -1,7 +1,7 @@
 //! Square caps. Such a cap's corner lies further from the segment's end than half the width, and less
 //! than twice as far.
 use crate::bodies::between;
-use crate::tests::{before_start, both, is_same, past_end};
+use crate::membership::{before_start, both, is_same, past_end};
 use centre_spans::{Shape, Stretch};
 use plain_drawing::Point;
 

@@ -1,6 +1,6 @@
 //! The disks of joins and round caps, and the squares of square caps at a line of one point.
 use crate::bodies::between;
-use crate::tests::{in_block, in_disk};
+use crate::membership::{in_block, in_disk};
 use centre_spans::{Shape, Stretch};
 use plain_drawing::Point;
 

@@ -2,7 +2,7 @@
 ghost use Rattle.std.specs.Prelude.{◌≡◌, ◌++◌, ◌∷◌, [], IfOk, OnOk, if◌then◌else◌};
 ghost use Rattle.plain_drawing.specs.Strokes.{is_same, kept, kept_after};
 
-use crate::tests::is_same;
+use crate::membership::is_same;
 use farm_base::NoMemory;
 use plain_drawing::Point;
 use std::alloc::Global;

@@ -7,10 +7,13 @@ mod caps;
 mod disks;
 mod kept;
 mod lines;
+mod membership;
 mod numbers;
 mod outlines;
-mod tests;
 
 pub use lines::stroke_lines;
 pub use outlines::stroke_rings;
 pub use plain_drawing::LineCap as Cap;
+
+#[cfg(test)]
+mod tests;

@@ -1,103 +1,99 @@
-//! The tests of strokes: bodies, disks, caps and blocks.
-ghost use Rattle.std.specs.Prelude.{◌≡◌, ◌≤◌, ◌^◌, ◌&&◌};
+//! Strokes that were worked out by hand, on the whole world in 16 by 16 pixels.
+ghost use Rattle.std.specs.Prelude.{◌≡◌, ◌≤◌, ◌^◌, ◌∷◌, [], IfOk};
 ghost use Rattle.plain_drawing.specs.World.{InWorld};
-ghost use Rattle.plain_drawing.specs.Strokes.{is_near, in_body, in_disk, before_start, past_end, in_block, is_same};
 
-use crate::numbers::{along, beside, long, reach};
-use centre_spans::{all, apart, squared};
-use plain_drawing::Point;
+use crate::{Cap, stroke_lines, stroke_rings};
+use farm_base::NoMemory;
+use plain_drawing::{Path, Point, Window};
+use plain_image::Mask;
+use std::alloc::Global;
+use std::test::Fail;
 
-/// Whether two points are one.
-pub fn is_same(p: Point, q: Point) -> bool
-    ensures { result ≡ is_same p q }
+const WORLD: Window = Window {
+    west: 0,
+    north: 0,
+    pixel: 67108864,
+    cols: 16,
+    rows: 16,
+};
+
+// How many pixels are covered.
+fn covered(mask: &Mask) -> u32
+    requires cols { mask.now.cols ≡ 16 }
+    requires rows { mask.now.rows ≡ 16 }
 {
-    p.x == q.x && p.y == q.y
+    let mut count = 0u32;
+    for j in 0..16 {
+        for i in 0..16 {
+            if mask.has(i, j) {
+                count = count.saturating_add(1);
+            }
+        }
+    }
+    count
 }
 
-/// Whether both hold.
-pub fn both(a: bool, b: bool) -> bool
-    ensures { result ≡ a && b }
-{
-    a && b
-}
-
-#[tactic(auto, using(crate::proofs::Testing::near_is))]
-fn is_near(half: u32, a: Point, b: Point, c: Point) -> bool
-    requires half { half ≤ 2 ^ 31 }
+// One path of two points.
+fn pair(alloc: Global, a: Point, b: Point) -> Result<Vec<Path>, NoMemory>
     requires a { InWorld a }
     requires b { InWorld b }
-    requires c { InWorld c }
-    ensures { result ≡ is_near half a b c }
+    ensures { IfOk result (λ v. v.items ≡ (a ∷ b ∷ []) ∷ []) }
 {
-    let side = beside(a, b, c);
-    squared(apart(side.plus, side.minus)) <= reach(half, long(a, b))
+    let mut points = Vec::new(alloc);
+    points.push(a)?;
+    points.push(b)?;
+    let mut paths = Vec::new(alloc);
+    paths.push(Path { points })?;
+    Ok(paths)
 }
 
-/// Whether the body of the segment from `a` to `b` holds `c`.
-#[tactic(auto, using(crate::proofs::Testing::body_is))]
-pub fn in_body(half: u32, a: Point, b: Point, c: Point) -> bool
-    requires half { half ≤ 2 ^ 31 }
+// How many pixels the stroke of a line covers.
+#[tactic(auto, using(crate::proofs::Pairs::pair_within))]
+fn stroked(alloc: Global, a: Point, b: Point, half: u32, cap: Cap) -> Result<u32, NoMemory>
     requires a { InWorld a }
     requires b { InWorld b }
-    requires c { InWorld c }
-    ensures { result ≡ in_body half a b c }
+    requires half { half ≤ 2 ^ 31 }
 {
-    let along = along(a, b, c);
-    let starts = along.minus <= along.plus;
-    let ends = along.plus <= along.minus + long(a, b);
-    all(starts, ends, is_near(half, a, b, c))
+    let mut mask = Mask::new(alloc, 16, 16)?;
+    let lines = pair(alloc, a, b)?;
+    stroke_lines(alloc, &lines, half, cap, WORLD, &mut mask)?;
+    Ok(covered(&mask))
 }
 
-/// Whether the square cap before the segment's start holds `c`.
-#[tactic(auto, using(crate::proofs::Testing::start_is))]
-pub fn before_start(half: u32, a: Point, b: Point, c: Point) -> bool
-    requires half { half ≤ 2 ^ 31 }
+// How many pixels the outline of a ring of two points covers.
+#[tactic(auto, using(crate::proofs::Pairs::pair_within))]
+fn outlined(alloc: Global, a: Point, b: Point, half: u32) -> Result<u32, NoMemory>
     requires a { InWorld a }
     requires b { InWorld b }
-    requires c { InWorld c }
-    ensures { result ≡ before_start half a b c }
-{
-    let along = along(a, b, c);
-    let before = along.plus < along.minus;
-    let within = squared(apart(along.plus, along.minus)) <= reach(half, long(a, b));
-    all(is_near(half, a, b, c), before, within)
-}
-
-/// Whether the square cap past the segment's end holds `c`.
-#[tactic(auto, using(crate::proofs::Testing::end_is))]
-pub fn past_end(half: u32, a: Point, b: Point, c: Point) -> bool
     requires half { half ≤ 2 ^ 31 }
-    requires a { InWorld a }
-    requires b { InWorld b }
-    requires c { InWorld c }
-    ensures { result ≡ past_end half a b c }
 {
-    let along = along(a, b, c);
-    let long = long(a, b);
-    let past = along.minus + long < along.plus;
-    let within = squared(apart(along.plus, along.minus + long)) <= reach(half, long);
-    all(is_near(half, a, b, c), past, within)
+    let mut mask = Mask::new(alloc, 16, 16)?;
+    let rings = pair(alloc, a, b)?;
+    stroke_rings(&rings, half, WORLD, &mut mask)?;
+    Ok(covered(&mask))
 }
 
-/// Whether the disk round `p` holds `c`.
-#[tactic(auto, using(crate::proofs::Testing::disk_is))]
-pub fn in_disk(half: u32, p: Point, c: Point) -> bool
-    requires half { half ≤ 2 ^ 31 }
-    requires p { InWorld p }
-    requires c { InWorld c }
-    ensures { result ≡ in_disk half p c }
-{
-    let x = apart(u64::from(c.x), u64::from(p.x));
-    let y = apart(u64::from(c.y), u64::from(p.y));
-    squared(x) + squared(y) <= squared(u64::from(half))
-}
-
-/// Whether the square round `p` holds `c`.
-#[tactic(auto, using(crate::proofs::Testing::block_is))]
-pub fn in_block(half: u32, p: Point, c: Point) -> bool
-    ensures { result ≡ in_block half p c }
-{
-    let x = apart(u64::from(c.x), u64::from(p.x));
-    let y = apart(u64::from(c.y), u64::from(p.y));
-    both(x <= u64::from(half), y <= u64::from(half))
+#[test]
+fn lines_cover_what_their_caps_say(rt: HostRuntime) -> Result<(), Fail> {
+    let alloc = rt.alloc();
+    let a = Point {
+        x: 268435456,
+        y: 570425344,
+    };
+    let b = Point {
+        x: 536870912,
+        y: 570425344,
+    };
+    assert_eq!(rt; stroked(alloc, a, b, 100663296, Cap::Butt)?, 12);
+    assert_eq!(rt; stroked(alloc, a, b, 100663296, Cap::Square)?, 24);
+    assert_eq!(rt; stroked(alloc, a, b, 100663296, Cap::Round)?, 20);
+    let dot = Point {
+        x: 570425344,
+        y: 570425344,
+    };
+    assert_eq!(rt; stroked(alloc, dot, dot, 83886080, Cap::Butt)?, 0);
+    assert_eq!(rt; stroked(alloc, dot, dot, 83886080, Cap::Round)?, 5);
+    assert_eq!(rt; stroked(alloc, dot, dot, 83886080, Cap::Square)?, 9);
+    assert_eq!(rt; outlined(alloc, a, b, 100663296)?, 20);
+    Ok(())
 }
