@@ -8,3 +8,6 @@ mod reach;
 mod sweep;
 
 pub use fill::fill_mask;
+
+#[cfg(test)]
+mod tests;
