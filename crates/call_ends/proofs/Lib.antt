@@ -1,3 +1,4 @@
 pub mod Checked
+pub mod Kept
 pub mod Reported
 pub mod Statuses
