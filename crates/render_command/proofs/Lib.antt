@@ -1,0 +1,4 @@
+pub mod Grids
+pub mod Pixels
+pub mod Promised
+pub mod Reading

@@ -1,0 +1,4 @@
+pub mod Promises
+pub mod Rasters
+pub mod Renders
+pub mod Styles

@@ -1,0 +1,48 @@
+-- What a raster file says, and how the raster files of a style are read.
+use Rattle.std.specs.Prelude.{◌≡◌, ℕ, List, [], ◌∷◌, ◌++◌, flat_map, Option, Result, Ok, Err, MatchResult}
+use Rattle.plain_drawing.specs.Canvas.{Pixels}
+use Rattle.plain_drawing.specs.Grids.{Grid}
+use Rattle.plain_drawing.specs.Ppm.{pixel_bytes}
+use Rattle.plain_drawing.specs.Styles.{RasterRef}
+use Rattle.plain_image.specs.PpmText.{ppm_of}
+use Rattle.plain_image.specs.declared.reading.PpmFault.{PpmFault}
+use Rattle.raster_layers.specs.Scales.{sized}
+use Rattle.raster_layers.specs.declared.grids.GridFault.{GridFault}
+use Rattle.fault_texts.specs.RasterFaults.{ppm_text, grid_text}
+use Rattle.call_ends.specs.Ends.{FilesAt, Checks}
+use Rattle.call_ends.specs.declared.stops.Stop.{Stop}
+use Rattle.render_command.specs.declared.rasters.RasterFault.{RasterFault}
+use Rattle.render_command.specs.declared.rasters.RasterFault.TheVariants.{Ppm, Grid as NoGrid}
+
+-- the text of a raster file's fault
+abbrev pub raster_text : RasterFault → Option (List ℕ)
+raster_text (Ppm fault) = ppm_text fault
+raster_text (NoGrid fault) = grid_text fault
+
+abbrev pub as_raster : Result Grid GridFault → Result Grid RasterFault
+as_raster (Ok grid) = Ok grid
+as_raster (Err fault) = Err (NoGrid fault)
+
+-- the grid of a raster with this picture: its name, place and pixel, the picture's sides and the three bytes of each of its pixels
+abbrev pub grid_with : RasterRef → Pixels → Grid
+grid_with r image = record { name = r.name; west = r.west; north = r.north; pixel = r.pixel; cols = image.cols; rows = image.rows; bytes = flat_map pixel_bytes image.pixels }
+
+-- it, unless a side is too long
+abbrev pub with_image : RasterRef → Pixels → Result Grid RasterFault
+with_image r image = as_raster (sized (grid_with r image))
+
+abbrev pub after_ppm : RasterRef → Result Pixels PpmFault → Result Grid RasterFault
+after_ppm r (Ok image) = with_image r image
+after_ppm r (Err fault) = Err (Ppm fault)
+
+-- what the bytes of a raster's file say: the grid, or the fault of the PPM text, or that of the grid
+abbrev pub raster_in : RasterRef → List ℕ → Result Grid RasterFault
+raster_in r bytes = after_ppm r (ppm_of bytes)
+
+-- The files of these rasters are read in order, each and then checked, and none after one that stopped the
+-- reading; the grids go after those before.
+abbrev pub GridsAfter : List Grid → List RasterRef → FilesAt → FilesAt → Result (List Grid) Stop → Type 0
+GridsAfter before [] old new result = (result ≡ Ok before) × (new ≡ old)
+GridsAfter before (r ∷ rs) old new result =
+    (middle : FilesAt) × (grid : Result Grid Stop) × Checks (λ x. x) (raster_in r) raster_text old middle r.file grid
+    × MatchResult grid (λ g. GridsAfter (before ++ g ∷ []) rs middle new result) (λ s. (result ≡ Err s) × (new ≡ middle))
