@@ -1,0 +1,144 @@
+//! The time that it takes to draw a metatile.
+//!
+//! `draw_bench` draws the metatile of 256-pixel tiles at the middle of the world, at zoom 12, over 200
+//! made-up features, and prints what was drawn, the same on every run. `draw_bench rates` draws it over
+//! 200, 10,000 and 100,000 features and prints the time of each drawing too, and `draw_bench rates COUNT`
+//! over so many.
+#![tactic(auto)]
+
+ghost use Rattle.std.specs.Prelude.{IfSome};
+ghost use Rattle.plain_drawing.specs.World.{IsMeta};
+
+mod data;
+mod shapes;
+mod style;
+
+use crate::data::snapshot;
+use crate::style::STYLE;
+use farm_base::Bytes;
+use merc_fixed::{Meta, meta_of, tile};
+use plain_drawing::MapStyle;
+use std::alloc::Global;
+use std::process::ExitCode;
+use std::rt::{Clock, Env};
+use std::time::{Duration, Instant};
+use std::{env, io};
+use style_objects::read_style;
+use tile_render::draw_meta;
+
+/// What the words ask for: the first drawing, all drawings with their times, or one with its time.
+#[derive(Clone, Copy, PartialEq, Eq)]
+enum Work {
+    Plain,
+    Rates,
+    Rate(u32),
+}
+
+fn main(rt: HostRuntime) -> io::Result<ExitCode> {
+    let Some(work) = read_work(&rt)? else {
+        eprintln!(&rt; "usage: draw_bench [rates [COUNT]]")?;
+        return Ok(ExitCode::from(2));
+    };
+    let Ok(style) = read_style(rt.alloc(), STYLE.as_bytes()) else {
+        eprintln!(&rt; "no style")?;
+        return Ok(ExitCode::from(1));
+    };
+    if report_each(&rt, rt.alloc(), &style, work)? {
+        Ok(ExitCode::SUCCESS)
+    } else {
+        eprintln!(&rt; "no memory")?;
+        Ok(ExitCode::from(1))
+    }
+}
+
+/// What the words ask for, if they are in order.
+fn read_work(rt: &(impl Env + Alloc)) -> io::Result<Option<Work>> {
+    let mut words = env::args(rt)?;
+    let _program = words.next();
+    let Some(word) = words.next() else {
+        return Ok(Some(Work::Plain));
+    };
+    if word.as_str() != "rates" {
+        return Ok(None);
+    }
+    let Some(word) = words.next() else {
+        return Ok(Some(Work::Rates));
+    };
+    let is_last = words.next().is_none();
+    match word.as_str().parse::<u32>() {
+        Ok(count) if is_last => Ok(Some(Work::Rate(count))),
+        _ => Ok(None),
+    }
+}
+
+/// The lines that are asked for: false where memory was wanting.
+fn report_each<R: Clock + Print>(
+    rt: &R,
+    alloc: Global,
+    style: &MapStyle,
+    work: Work,
+) -> io::Result<bool> {
+    match work {
+        Work::Plain => report(rt, alloc, style, 200, false),
+        Work::Rates => Ok(
+            report(rt, alloc, style, 200, true)?
+                && report(rt, alloc, style, 10_000, true)?
+                && report(rt, alloc, style, 100_000, true)?,
+        ),
+        Work::Rate(count) => report(rt, alloc, style, count, true),
+    }
+}
+
+/// Draws the metatile over so many features and prints a line: false where memory was wanting.
+fn report<R: Clock + Print>(
+    rt: &R,
+    alloc: Global,
+    style: &MapStyle,
+    count: u32,
+    timed: bool,
+) -> io::Result<bool> {
+    let Some(meta) = metatile() else {
+        return Ok(false);
+    };
+    let Some(snapshot) = snapshot(alloc, "shapes", count) else {
+        return Ok(false);
+    };
+    let start = Instant::now(rt)?;
+    let Ok(drawn) = draw_meta(alloc, style, 256, meta, &snapshot) else {
+        return Ok(false);
+    };
+    let took = start.elapsed(rt)?;
+    let tiles = drawn.tiles.len();
+    let bytes = bytes_of(drawn.tiles.as_slice());
+    if timed {
+        let millis = millis_of(took);
+        println!(rt; "{count} features: {tiles} tiles, {bytes} bytes, {millis} ms")?;
+    } else {
+        println!(rt; "{count} features: {tiles} tiles, {bytes} bytes")?;
+    }
+    Ok(true)
+}
+
+/// The metatile at the middle of the world, at zoom 12.
+fn metatile() -> Option<Meta>
+    ensures { IfSome result IsMeta }
+{
+    let t = tile(12, 2048, 2048)?;
+    Some(meta_of(t))
+}
+
+/// How many bytes the tiles have together.
+fn bytes_of(tiles: &[Bytes]) -> u64 {
+    let mut bytes = 0u64;
+    for tile in tiles {
+        bytes = bytes.saturating_add(tile.as_slice().len() as u64);
+    }
+    bytes
+}
+
+/// The milliseconds of a time, without the fraction.
+fn millis_of(took: Duration) -> u64 {
+    took.as_secs()
+        .saturating_mul(1000)
+        .saturating_add(u64::from(took.subsec_millis()))
+}
