@@ -1,0 +1,191 @@
+//! Metatiles against their tiles, at the ends of the world, and with very many points.
+ghost use Rattle.std.specs.Prelude.{◌<◌, ◌^◌};
+ghost use Rattle.plain_drawing.specs.Data.{IsLayer};
+
+use crate::drawings::{data, is_all, is_boxed, map, place};
+use data_versions::{Dataset, Layer, Snapshot};
+use farm_base::{Listed, Text};
+use geo_model::{Feature, make_feature};
+use merc_fixed::{index_place, meta_of};
+use plain_drawing::{Geometry, Meta, Path, Point};
+use std::alloc::Global;
+use std::test::Fail;
+use tile_render::{draw_meta, draw_tile};
+
+const RED: &str =
+    r#"{"styles":[{"name":"s","rules":[{"symbolizers":[{"symbolizer":"PolygonSymbolizer","fill":"red"}]}]}],"layers":[{"name":"l","source":"land","styles":["s"]}]}"#;
+
+const SQUARE: &str =
+    r#"{"units":"world","layers":[{"name":"land","features":[{"id":1,"geometry":{"polygon":[[[268435456,268435456],[805306368,268435456],[805306368,805306368],[268435456,805306368]]]}}]}]}"#;
+
+#[test]
+fn four_tiles_of_one_window(rt: HostRuntime) -> Result<(), Fail> {
+    let alloc = rt.alloc();
+    let style = map(alloc, RED)?;
+    let snapshot = data(alloc, SQUARE)?;
+    let drawn = draw_meta(alloc, &style, 16, Meta { z: 1, x: 0, y: 0 }, &snapshot)?;
+    assert_eq!(rt; drawn.meta, Meta { z: 1, x: 0, y: 0 });
+    assert_eq!(rt; drawn.tiles.len(), 4);
+
+    // In order of index place, which goes by columns: north-west, south-west, north-east, south-east.
+    let bounds = [[8, 8, 16, 16], [8, 0, 16, 8], [0, 8, 8, 16], [0, 0, 8, 8]];
+    for (tile, bounds) in drawn.tiles.iter().zip(bounds) {
+        assert!(rt; is_boxed(tile.as_slice(), b"P6\n16 16\n255\n", 16, bounds));
+    }
+    Ok(())
+}
+
+// Four squares of 2048 units in the corners of the world.
+const CORNERS: &str =
+    r#"{"units":"world","layers":[{"name":"land","features":[{"id":1,"geometry":{"polygon":[[[0,0],[2048,0],[2048,2048],[0,2048]]]}},{"id":2,"geometry":{"polygon":[[[1073739776,0],[1073741824,0],[1073741824,2048],[1073739776,2048]]]}},{"id":3,"geometry":{"polygon":[[[0,1073739776],[2048,1073739776],[2048,1073741824],[0,1073741824]]]}},{"id":4,"geometry":{"polygon":[[[1073739776,1073739776],[1073741824,1073739776],[1073741824,1073741824],[1073739776,1073741824]]]}}]}]}"#;
+
+#[test]
+fn the_corners_of_the_world(rt: HostRuntime) -> Result<(), Fail> {
+    let alloc = rt.alloc();
+    let style = map(alloc, RED)?;
+    let snapshot = data(alloc, CORNERS)?;
+
+    // A tile of zoom 18 is 4096 units wide, so each shows half of its columns and rows in red.
+    for (x, y, bounds) in [
+        (0, 0, [0, 0, 256, 256]),
+        (262143, 0, [256, 0, 512, 256]),
+        (0, 262143, [0, 256, 256, 512]),
+        (262143, 262143, [256, 256, 512, 512]),
+    ] {
+        let tile = draw_tile(alloc, &style, 512, place(18, x, y)?, &snapshot)?;
+        assert!(rt;
+            is_boxed(tile.as_slice(), b"P6\n512 512\n255\n", 512, bounds),
+            "at {x} {y}"
+        );
+    }
+    Ok(())
+}
+
+// At zoom 18 a pixel of a tile of 512 has 8 units: a mark of width 0.24 is less than one unit wide to each side,
+// one of width 0.25 is one unit wide, and the centres up to 16 units above and below its own are in it.
+#[test]
+fn a_mark_of_less_than_a_unit_covers_nothing(rt: HostRuntime) -> Result<(), Fail> {
+    let alloc = rt.alloc();
+    let snapshot = data(
+        alloc,
+        r#"{"units":"world","layers":[{"name":"land","features":[{"id":1,"geometry":{"points":[[2052,2052]]}}]}]}"#,
+    )?;
+    for (width, bounds) in [("0.24", [0, 0, 0, 0]), ("0.25", [256, 254, 257, 259])] {
+        let text = format!(in alloc;
+            "{{\"styles\":[{{\"name\":\"s\",\"rules\":[{{\"symbolizers\":[{{\"symbolizer\":\"MarkersSymbolizer\",\"fill\":\"red\",\"width\":\"{width}\",\"height\":\"4\"}}]}}]}}],\"layers\":[{{\"name\":\"l\",\"source\":\"land\",\"styles\":[\"s\"]}}]}}"
+        )?;
+        let style = map(alloc, text.as_str())?;
+        let tile = draw_tile(alloc, &style, 512, place(18, 0, 0)?, &snapshot)?;
+        assert!(rt;
+            is_boxed(tile.as_slice(), b"P6\n512 512\n255\n", 512, bounds),
+            "at {width}"
+        );
+    }
+    Ok(())
+}
+
+const MIXED_STYLE: &str =
+    r##"{"background-color":"#f2efe9","styles":[{"name":"fill","rules":[{"Filter":"[k] = 1","symbolizers":[{"symbolizer":"PolygonSymbolizer","fill":"green","fill-opacity":"0.3"},{"symbolizer":"LineSymbolizer","stroke":"navy","stroke-width":"1.5"}]},{"ElseFilter":true,"symbolizers":[{"symbolizer":"PolygonSymbolizer","fill":"#808000","fill-opacity":"0.7"}]}]},{"name":"road","rules":[{"symbolizers":[{"symbolizer":"LineSymbolizer","stroke-width":"4","stroke-linecap":"round"}]},{"symbolizers":[{"symbolizer":"LineSymbolizer","stroke":"yellow","stroke-width":"2.5","stroke-opacity":"0.9","stroke-linecap":"square"}]}]},{"name":"spot","filter-mode":"first","rules":[{"Filter":"[k] > 3","symbolizers":[{"symbolizer":"MarkersSymbolizer","fill":"red","width":"6","height":"9.5","opacity":"0.5"}]},{"symbolizers":[{"symbolizer":"MarkersSymbolizer","fill":"blue","width":"3","height":"3"}]}]}],"layers":[{"name":"l","source":"land","styles":["fill","fill"]},{"name":"r","source":"roads","styles":["road"]},{"name":"s","source":"spots","styles":["spot"]}]}"##;
+
+const MIXED_DATA: &str =
+    r#"{"units":"world","layers":[{"name":"land","features":[{"id":1,"geometry":{"polygon":[[[5000000,3000000],[400000000,90000000],[700000000,900000000]],[[100000000,100000000],[300000000,120000000],[350000000,400000000]]]},"attrs":{"k":1}},{"id":2,"geometry":{"polygon":[[[520000000,0],[1073741824,0],[1073741824,560000000],[600000000,700000000]]]}}]},{"name":"roads","features":[{"id":1,"geometry":{"lines":[[[0,0],[536870912,536870912],[1073741824,200000000]],[[536870912,1073741824],[536870912,536870912]]]}}]},{"name":"spots","features":[{"id":7,"geometry":{"points":[[536870912,536870912],[200000000,200000000],[603979776,570425344]]},"attrs":{"k":4}},{"id":8,"geometry":{"points":[[67108864,0],[1073741824,1073741824]]}}]}]}"#;
+
+#[test]
+fn each_tile_of_a_metatile_is_its_own_drawing(rt: HostRuntime) -> Result<(), Fail> {
+    let alloc = rt.alloc();
+    let style = map(alloc, MIXED_STYLE)?;
+    let snapshot = data(alloc, MIXED_DATA)?;
+    for (x, y) in [(3, 5), (8, 0), (15, 15)] {
+        let meta = meta_of(place(4, x, y)?);
+        let drawn = draw_meta(alloc, &style, 16, meta, &snapshot)?;
+        assert_eq!(rt; drawn.tiles.len(), 64);
+        for col in 0..8u32 {
+            for row in 0..8u32 {
+                let t = place(4, meta.x.saturating_add(col), meta.y.saturating_add(row))?;
+                let tile = draw_tile(alloc, &style, 16, t, &snapshot)?;
+                let same = match drawn.tiles.get(index_place(t) as usize) {
+                    Some(part) => part.as_slice() == tile.as_slice(),
+                    None => false,
+                };
+                assert!(rt; same, "at {t:?}");
+            }
+        }
+    }
+    Ok(())
+}
+
+// The boundary of the square from (0, 0) to (2^29, 2^29), one point every 2^15 units.
+fn boundary(k: u32) -> Point
+    requires { k < 2 ^ 16 }
+{
+    let along = (k % 16384) * 32768;
+    match k / 16384 {
+        0 => Point { x: along, y: 0 },
+        1 => Point {
+            x: 536870912,
+            y: along,
+        },
+        2 => Point {
+            x: 536870912 - along,
+            y: 536870912,
+        },
+        _ => Point {
+            x: 0,
+            y: 536870912 - along,
+        },
+    }
+}
+
+// A polygon of that one ring.
+fn ring(alloc: Global) -> Result<Feature, Fail> {
+    let mut points = Vec::new(alloc);
+    for k in 0..65536 {
+        points.push(boundary(k))?;
+    }
+    let mut rings = Vec::new(alloc);
+    rings.push(Path { points })?;
+    Ok(make_feature(1, Geometry::Polygon(Listed::of(rings)), Vec::new(alloc))?)
+}
+
+// Data of one layer.
+#[tactic(auto, using(crate::proofs::Layers::alone))]
+fn data_of(alloc: Global, layer: Layer) -> Result<Snapshot, Fail>
+    requires { IsLayer layer }
+{
+    let dataset = Dataset::of(vec![in alloc; layer]?);
+    Ok(Snapshot::first(alloc, dataset)?)
+}
+
+// Data of one layer of this name, which has the feature alone.
+#[tactic(auto, using(crate::proofs::Layers::one_feature))]
+fn data_with(alloc: Global, name: &str, feature: Feature) -> Result<Snapshot, Fail> {
+    if name.len() < 1 || name.len() > 64 {
+        return Err(Fail::new("no name"));
+    }
+    let layer = Layer {
+        name: Text::of(alloc, name)?,
+        features: vec![in alloc; feature]?,
+    };
+    data_of(alloc, layer)
+}
+
+// A metatile of 64 tiles of 512 pixels: a body that tested each centre against each edge would make some 10^12
+// tests.
+#[test]
+fn a_ring_of_65536_points(rt: HostRuntime) -> Result<(), Fail> {
+    let alloc = rt.alloc();
+    let style = map(alloc, RED)?;
+    let snapshot = data_with(alloc, "land", ring(alloc)?)?;
+    let drawn = draw_meta(alloc, &style, 512, Meta { z: 3, x: 0, y: 0 }, &snapshot)?;
+    assert_eq!(rt; drawn.tiles.len(), 64);
+    let mut place = 0u32;
+    for tile in &drawn.tiles {
+        let red = place / 8 < 4 && place % 8 < 4;
+        assert!(rt;
+            is_all(tile.as_slice(), b"P6\n512 512\n255\n", 512, red),
+            "at {place}"
+        );
+        place = place.saturating_add(1);
+    }
+    Ok(())
+}
