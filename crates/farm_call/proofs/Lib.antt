@@ -1,5 +1,4 @@
-pub mod Decimals
-pub mod Promised
-pub mod Reported
-pub mod Spelled
+pub mod Asked
+pub mod Done
+pub mod Parts
 pub mod Statuses

@@ -1,5 +1,3 @@
-pub mod Ends
-pub mod Numbers
 pub mod Promises
-pub mod Stops
+pub mod Runs
 pub mod Words

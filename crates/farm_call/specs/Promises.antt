@@ -1,70 +1,56 @@
 -- What a call promises of each status, in the subject's words, where the files and sinks tell what they hold.
-use Rattle.std.specs.Prelude.{◌≡◌, ℕ, ◌⊎◌, List, [], ◌∷◌, ◌++◌, Option, Some, Result, Ok, Err}
-use Rattle.farm_base.specs.Outside.{FilesTold, failed_read}
-use Rattle.plain_drawing.specs.Drawing.{tile_of}
-use Rattle.plain_drawing.specs.Features.{Layer}
-use Rattle.plain_drawing.specs.Styles.{MapStyle}
-use Rattle.small_texts.specs.SmallData.{layers_in}
-use Rattle.small_texts.specs.SmallStyles.{style_in}
-use Rattle.small_texts.specs.declared.faults.SmallFault.{SmallFault}
-use Rattle.farm_call.specs.Stops.{refused_line, unreadable_line, style_text, data_text}
-use Rattle.farm_call.specs.Words.{Render, Asks}
+use Rattle.std.specs.Prelude.{◌≡◌, ℕ, ◌⊎◌, List, [], ◌++◌, take, Option, Some}
+use Rattle.farm_base.specs.Outside.{FilesTold}
+use Rattle.farm_words.specs.declared.command.Command.{Command}
+use Rattle.farm_words.specs.declared.command.Command.TheVariants.{Render, Meta}
+use Rattle.call_ends.specs.Promises.{Stands}
+use Rattle.render_command.specs.Promises as render
+use Rattle.meta_command.specs.Promises as meta
+use Rattle.farm_call.specs.Words.{AsksFor}
+use Rattle.farm_call.specs.Runs.{picture}
 
--- a file holds bytes that mean this
-abbrev pub Means : {A : Type 0} → (List ℕ → Result A SmallFault) → (List ℕ → Option (List ℕ)) → List ℕ → Result A SmallFault → Type 0
-Means meaning held name value = (bytes : List ℕ) × (held name ≡ Some bytes) × (meaning bytes ≡ value)
+-- The command is done: its whole text was put after what out had, and nothing else.
+abbrev pub Did : Command → (List ℕ → Option (List ℕ)) → List ℕ → Option (List ℕ) → Type 0
+Did (Render style data_name size tile) held before after = render.Rendered (picture style data_name size tile) held before after
+Did (Meta file) held before after = meta.Listed file held before after
+Did other held before after = ⊥
 
--- The tile of what the files hold was put after what out had, and nothing else.
-pub record Rendered (words : List (List ℕ)) (held : List ℕ → Option (List ℕ)) (before : List ℕ) (after : Option (List ℕ)) : Type 0 where
-  pub asked : Render
-  pub style : MapStyle
-  pub layers : List Layer
-  pub asks : Asks words asked
-  pub has_style : Means style_in held asked.style (Ok style)
-  pub has_layers : Means layers_in held asked.data_file (Ok layers)
-  pub put : after ≡ Some (before ++ tile_of style asked.size asked.tile layers)
+-- a file that the command reads is refused by this line: the first in order that has a fault
+abbrev pub RefusedFile : Command → (List ℕ → Option (List ℕ)) → List ℕ → Type 0
+RefusedFile (Render style data_name size tile) held line = render.Refused (picture style data_name size tile) held line
+RefusedFile (Meta file) held line = meta.Refused file held line
+RefusedFile other held line = ⊥
 
--- The first fault of the files is that of this line: the style's, or, where the style has none, the data's.
-pub record RefusedStyle (words : List (List ℕ)) (held : List ℕ → Option (List ℕ)) (line : List ℕ) : Type 0 where
-  pub asked : Render
-  pub fault : SmallFault
-  pub asks : Asks words asked
-  pub has_style : Means style_in held asked.style (Err fault)
-  pub line_is : line ≡ refused_line asked.style (style_text fault)
+-- the read of the file that is next in order failed, and no other call did
+abbrev pub UnreadFile : Command → List ℕ → FilesTold → Option FilesTold → Type 0
+UnreadFile (Render style data_name size tile) line before after = render.Unread (picture style data_name size tile) line before after
+UnreadFile (Meta file) line before after = meta.Unread file line before after
+UnreadFile other line before after = ⊥
 
-pub record RefusedData (words : List (List ℕ)) (held : List ℕ → Option (List ℕ)) (line : List ℕ) : Type 0 where
-  pub asked : Render
-  pub style : MapStyle
-  pub fault : SmallFault
-  pub asks : Asks words asked
-  pub has_style : Means style_in held asked.style (Ok style)
-  pub has_layers : Means layers_in held asked.data_file (Err fault)
-  pub line_is : line ≡ refused_line asked.data_file (data_text fault)
+-- all files that the command reads hold valid texts
+abbrev pub IsValid : Command → (List ℕ → Option (List ℕ)) → Type 0
+IsValid (Render style data_name size tile) held = render.IsValid (picture style data_name size tile) held
+IsValid (Meta file) held = meta.IsValid file held
+IsValid other held = ⊥
 
--- The read of the file that is next in order failed, and no other call did: the style's, or, where the
--- style has no fault, the data's.
-pub record UnreadStyle (words : List (List ℕ)) (line : List ℕ) (before : FilesTold) (after : Option FilesTold) : Type 0 where
-  pub asked : Render
-  pub asks : Asks words asked
-  pub failed : after ≡ Some (record before { failed = before.failed ++ failed_read asked.style ∷ [] })
-  pub line_is : line ≡ unreadable_line asked.style
+-- Status 0: what the words ask for is done.
+abbrev pub Done : List (List ℕ) → (List ℕ → Option (List ℕ)) → List ℕ → Option (List ℕ) → Type 0
+Done words held before after = (command : Command) × AsksFor words command × Did command held before after
 
-pub record UnreadData (words : List (List ℕ)) (line : List ℕ) (before : FilesTold) (after : Option FilesTold) : Type 0 where
-  pub asked : Render
-  pub style : MapStyle
-  pub asks : Asks words asked
-  pub has_style : Means style_in before.content asked.style (Ok style)
-  pub failed : after ≡ Some (record before { failed = before.failed ++ failed_read asked.data_file ∷ [] })
-  pub line_is : line ≡ unreadable_line asked.data_file
+-- Status 4: a front of the text that the words ask for was put, which may be empty or whole; or nothing was put.
+pub record PartDone (words : List (List ℕ)) (held : List ℕ → Option (List ℕ)) (before : List ℕ) (after : Option (List ℕ)) : Type 0 where
+  pub text : List ℕ
+  pub whole : Done words held [] (Some text)
+  pub len : ℕ
+  pub put : after ≡ Some (before ++ take len text)
 
--- the line stands on err after what it had
-abbrev pub Stands : Option (List ℕ) → Option (List ℕ) → List ℕ → Type 0
-Stands before after line = (had : List ℕ) → before ≡ Some had → after ≡ Some (had ++ line)
+abbrev pub Cut : List (List ℕ) → (List ℕ → Option (List ℕ)) → List ℕ → Option (List ℕ) → Type 0
+Cut words held before after = PartDone words held before after ⊎ (after ≡ Some before)
 
--- Status 1: the line of the first fault stands on err.
+-- Status 1: the line of the first fault of the files stands on err.
 abbrev pub Refusal : List (List ℕ) → (List ℕ → Option (List ℕ)) → Option (List ℕ) → Option (List ℕ) → Type 0
-Refusal words held err err' = (line : List ℕ) × (RefusedStyle words held line ⊎ RefusedData words held line) × Stands err err' line
+Refusal words held err err' = (line : List ℕ) × ((command : Command) × AsksFor words command × RefusedFile command held line) × Stands err err' line
 
 -- Status 3: the line of the file whose read failed stands on err.
 abbrev pub Unread : List (List ℕ) → FilesTold → Option FilesTold → Option (List ℕ) → Option (List ℕ) → Type 0
-Unread words before after err err' = (line : List ℕ) × (UnreadStyle words line before after ⊎ UnreadData words line before after) × Stands err err' line
+Unread words before after err err' = (line : List ℕ) × ((command : Command) × AsksFor words command × UnreadFile command line before after) × Stands err err' line

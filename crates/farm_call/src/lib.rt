@@ -3,10 +3,6 @@
 #![tactic(auto)]
 
 mod call;
-mod numbers;
-mod render;
-mod stops;
-mod words;
 
 pub use call::farm_main;
-pub use stops::{Stop, report};
+pub use call_ends::{Stop, report};

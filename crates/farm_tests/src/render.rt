@@ -195,31 +195,6 @@ fn bad_texts_are_refused_by_name(rt: HostRuntime) -> Result<(), Fail> {
         (b"".as_slice(), "tilefarm: D: dataset 1\n"),
         (b"{".as_slice(), "tilefarm: D: dataset 1\n"),
         (b"\xff".as_slice(), "tilefarm: D: dataset 1\n"),
-        (b"[]".as_slice(), "tilefarm: D: dataset 8\n"),
-        (
-            br#"{"units":"cm","layers":[]}"#.as_slice(),
-            "tilefarm: D: dataset 8\n",
-        ),
-        (
-            br#"{"layers":[{"name":"land","features":[]}]}"#.as_slice(),
-            "tilefarm: D: dataset 8\n",
-        ),
-        (
-            br#"{"units":"world","layers":[{"name":"","features":[]}]}"#.as_slice(),
-            "tilefarm: D: dataset 8\n",
-        ),
-        (
-            br#"{"units":"world","layers":[{"name":"a","features":[{"id":1,"geometry":{"polygon":[[[0,0],[1,1]]]}}]}]}"#.as_slice(),
-            "tilefarm: D: dataset 8\n",
-        ),
-        (
-            br#"{"units":"world","layers":[{"name":"a","features":[{"id":1,"geometry":{"polygon":[[[0,0],[1,1],[0,1073741825]]]}}]}]}"#.as_slice(),
-            "tilefarm: D: dataset 8\n",
-        ),
-        (
-            br#"{"units":"world","layers":[{"name":"a","features":[{"id":1,"geometry":{"polygon":[[[0,0],[1,1],[0,1]]]}},{"id":1,"geometry":{"polygon":[[[0,0],[1,1],[0,1]]]}}]}]}"#.as_slice(),
-            "tilefarm: D: dataset 8\n",
-        ),
     ] {
         let ended = call(alloc, FIRST, STYLE.as_bytes(), text, NONE)?;
         assert_eq!(rt; ended.status, 1);
@@ -230,11 +205,6 @@ fn bad_texts_are_refused_by_name(rt: HostRuntime) -> Result<(), Fail> {
     for (text, line) in [
         (b"".as_slice(), "tilefarm: S: style 1\n"),
         (nested.as_bytes(), "tilefarm: S: style 1\n"),
-        (b"{}".as_slice(), "tilefarm: S: style 10\n"),
-        (
-            br##"{"background-color":"#ffff","styles":[],"layers":[]}"##.as_slice(),
-            "tilefarm: S: style 10\n",
-        ),
     ] {
         let ended = call(alloc, FIRST, text, DATA.as_bytes(), NONE)?;
         assert_eq!(rt; ended.status, 1);

@@ -1,4 +1,5 @@
 pub mod Grids
+pub mod Kept
 pub mod Pixels
 pub mod Promised
 pub mod Reading
