@@ -1,3 +1,0 @@
-pub mod SmallData
-pub mod SmallKinds
-pub mod SmallStyles
