@@ -5,16 +5,15 @@ use Rattle.std.specs.Ordering.{nat_cmp}
 use Rattle.std.specs.BTreeMap.{BTreeMap, get, Updates, is_at, IsEmpty}
 use Rattle.std.specs.Map.{lookup}
 use Rattle.std.specs.List.{AllByRecursion, IsDistinct}
-use Rattle.std.proofs.lemmas.Map.Keys.{IsDistinct-head, IsDistinct-tail}
-use Rattle.std.specs.Option.{option_copied, option_to_list}
+use Rattle.std.specs.Option.{option_to_list}
 use Rattle.std.proofs.lemmas.Bool.{cases_eq, eq-eqb}
 use Rattle.std.proofs.lemmas.Bool.Decides.{nat_tests}
 use Rattle.std.proofs.lemmas.List.{length-map, get_or-set_same, get_or-set_other}
 use Rattle.std.proofs.lemmas.List.Elements.{filter_map-append}
-use denote.Ref.{Bor}
+use Rattle.data_versions.specs.declared.slot.Slot.{Slot}
 use Rattle.plain_drawing.specs.Features.{Feature}
 use Rattle.plain_drawing.specs.Data.{has_id, ids_of}
-use Rattle.data_versions.specs.Slots.{standing, slot_id, KnowsPlaces, without, replaced_by, with_put}
+use Rattle.data_versions.specs.Slots.{standing_in, standing, slot_id, KnowsPlaces, without, replaced_by, with_put}
 
 no_left : (a b : Bool) → (a || b) ≡ false → a ≡ false
 no_left true b h = h
@@ -39,28 +38,28 @@ some_same a b h = cc
 
 -- ---- where no slot has the id
 
-none_without : (slots : List (Option (Bor Feature))) (id : ℕ) → ((j : ℕ) → slot_id (get_or slots j None) ≡ Some id → ⊥)
+none_without : (slots : List (Option Slot)) (id : ℕ) → ((j : ℕ) → slot_id (get_or slots j None) ≡ Some id → ⊥)
     → without id (standing slots) ≡ standing slots
 none_without [] id none = refl
 none_without (None ∷ slots) id none = none_without slots id (λ j. none (suc j))
 none_without (Some f ∷ slots) id none =
-    let other : nat_eq id f.now.id ≡ false = apart id f.now.id (λ e. none 0 (ap Some (sym e))) in
-    rw other (ap (λ fs. f.now ∷ fs) (none_without slots id (λ j. none (suc j))))
+    let other : nat_eq id f.feature.now.id ≡ false = apart id f.feature.now.id (λ e. none 0 (ap Some (sym e))) in
+    rw other (ap (λ fs. f.feature.now ∷ fs) (none_without slots id (λ j. none (suc j))))
 
-none_replaced : (slots : List (Option (Bor Feature))) (g : Feature) → ((j : ℕ) → slot_id (get_or slots j None) ≡ Some g.id → ⊥)
+none_replaced : (slots : List (Option Slot)) (g : Feature) → ((j : ℕ) → slot_id (get_or slots j None) ≡ Some g.id → ⊥)
     → replaced_by g (standing slots) ≡ standing slots
 none_replaced [] g none = refl
 none_replaced (None ∷ slots) g none = none_replaced slots g (λ j. none (suc j))
 none_replaced (Some f ∷ slots) g none =
-    let other : nat_eq g.id f.now.id ≡ false = apart g.id f.now.id (λ e. none 0 (ap Some (sym e))) in
-    rw other (ap (λ fs. f.now ∷ fs) (none_replaced slots g (λ j. none (suc j))))
+    let other : nat_eq g.id f.feature.now.id ≡ false = apart g.id f.feature.now.id (λ e. none 0 (ap Some (sym e))) in
+    rw other (ap (λ fs. f.feature.now ∷ fs) (none_replaced slots g (λ j. none (suc j))))
 
-none_has : (slots : List (Option (Bor Feature))) (id : ℕ) → ((j : ℕ) → slot_id (get_or slots j None) ≡ Some id → ⊥)
+none_has : (slots : List (Option Slot)) (id : ℕ) → ((j : ℕ) → slot_id (get_or slots j None) ≡ Some id → ⊥)
     → has_id (ids_of (standing slots)) id ≡ false
 none_has [] id none = refl
 none_has (None ∷ slots) id none = none_has slots id (λ j. none (suc j))
 none_has (Some f ∷ slots) id none =
-    let other : nat_eq id f.now.id ≡ false = apart id f.now.id (λ e. none 0 (ap Some (sym e))) in
+    let other : nat_eq id f.feature.now.id ≡ false = apart id f.feature.now.id (λ e. none 0 (ap Some (sym e))) in
     rw other (none_has slots id (λ j. none (suc j)))
 
 -- ---- where one slot has it
@@ -71,42 +70,42 @@ no_suc k h = absurd (omega arith)
 one_less : (j k : ℕ) → suc j ≡ suc k → j ≡ k
 one_less j k h = omega arith
 
-one_has : (slots : List (Option (Bor Feature))) (id k : ℕ) → slot_id (get_or slots k None) ≡ Some id → has_id (ids_of (standing slots)) id ≡ true
+one_has : (slots : List (Option Slot)) (id k : ℕ) → slot_id (get_or slots k None) ≡ Some id → has_id (ids_of (standing slots)) id ≡ true
 one_has [] id k here = cc
 one_has (None ∷ slots) id zero here = cc
 one_has (None ∷ slots) id (suc k) here = one_has slots id k here
 one_has (Some f ∷ slots) id zero here =
-    let same : nat_eq id f.now.id ≡ true = eq-eqb id f.now.id (sym (some_same f.now.id id here)) in
+    let same : nat_eq id f.feature.now.id ≡ true = eq-eqb id f.feature.now.id (sym (some_same f.feature.now.id id here)) in
     rw same refl
-one_has (Some f ∷ slots) id (suc k) here = or_true (nat_eq id f.now.id) (has_id (ids_of (standing slots)) id) (one_has slots id k here)
+one_has (Some f ∷ slots) id (suc k) here = or_true (nat_eq id f.feature.now.id) (has_id (ids_of (standing slots)) id) (one_has slots id k here)
 
-standing_removed : (slots : List (Option (Bor Feature))) (id k : ℕ) → slot_id (get_or slots k None) ≡ Some id
+standing_removed : (slots : List (Option Slot)) (id k : ℕ) → slot_id (get_or slots k None) ≡ Some id
     → ((j : ℕ) → slot_id (get_or slots j None) ≡ Some id → j ≡ k) → standing (set slots k None) ≡ without id (standing slots)
 standing_removed [] id k here only = cc
 standing_removed (None ∷ slots) id zero here only = cc
 standing_removed (None ∷ slots) id (suc k) here only = standing_removed slots id k here (λ j h. one_less j k (only (suc j) h))
 standing_removed (Some f ∷ slots) id zero here only =
-    let same : nat_eq id f.now.id ≡ true = eq-eqb id f.now.id (sym (some_same f.now.id id here)) in
+    let same : nat_eq id f.feature.now.id ≡ true = eq-eqb id f.feature.now.id (sym (some_same f.feature.now.id id here)) in
     rw same (sym (none_without slots id (λ j h. no_suc j (sym (only (suc j) h)))))
 standing_removed (Some f ∷ slots) id (suc k) here only =
-    let other : nat_eq id f.now.id ≡ false = apart id f.now.id (λ e. no_suc k (only 0 (ap Some (sym e)))) in
-    rw other (ap (λ fs. f.now ∷ fs) (standing_removed slots id k here (λ j h. one_less j k (only (suc j) h))))
+    let other : nat_eq id f.feature.now.id ≡ false = apart id f.feature.now.id (λ e. no_suc k (only 0 (ap Some (sym e)))) in
+    rw other (ap (λ fs. f.feature.now ∷ fs) (standing_removed slots id k here (λ j h. one_less j k (only (suc j) h))))
 
-standing_replaced : (slots : List (Option (Bor Feature))) (g : Bor Feature) (k : ℕ) → slot_id (get_or slots k None) ≡ Some g.now.id
-    → ((j : ℕ) → slot_id (get_or slots j None) ≡ Some g.now.id → j ≡ k) → standing (set slots k (Some g)) ≡ replaced_by g.now (standing slots)
+standing_replaced : (slots : List (Option Slot)) (g : Slot) (k : ℕ) → slot_id (get_or slots k None) ≡ Some g.feature.now.id
+    → ((j : ℕ) → slot_id (get_or slots j None) ≡ Some g.feature.now.id → j ≡ k) → standing (set slots k (Some g)) ≡ replaced_by g.feature.now (standing slots)
 standing_replaced [] g k here only = cc
 standing_replaced (None ∷ slots) g zero here only = cc
 standing_replaced (None ∷ slots) g (suc k) here only = standing_replaced slots g k here (λ j h. one_less j k (only (suc j) h))
 standing_replaced (Some f ∷ slots) g zero here only =
-    let same : nat_eq g.now.id f.now.id ≡ true = eq-eqb g.now.id f.now.id (sym (some_same f.now.id g.now.id here)) in
-    rw same (ap (λ fs. g.now ∷ fs) (sym (none_replaced slots g.now (λ j h. no_suc j (sym (only (suc j) h))))))
+    let same : nat_eq g.feature.now.id f.feature.now.id ≡ true = eq-eqb g.feature.now.id f.feature.now.id (sym (some_same f.feature.now.id g.feature.now.id here)) in
+    rw same (ap (λ fs. g.feature.now ∷ fs) (sym (none_replaced slots g.feature.now (λ j h. no_suc j (sym (only (suc j) h))))))
 standing_replaced (Some f ∷ slots) g (suc k) here only =
-    let other : nat_eq g.now.id f.now.id ≡ false = apart g.now.id f.now.id (λ e. no_suc k (only 0 (ap Some (sym e)))) in
-    rw other (ap (λ fs. f.now ∷ fs) (standing_replaced slots g k here (λ j h. one_less j k (only (suc j) h))))
+    let other : nat_eq g.feature.now.id f.feature.now.id ≡ false = apart g.feature.now.id f.feature.now.id (λ e. no_suc k (only 0 (ap Some (sym e)))) in
+    rw other (ap (λ fs. f.feature.now ∷ fs) (standing_replaced slots g k here (λ j h. one_less j k (only (suc j) h))))
 
 -- ---- how many stand
 
-fewer_standing : (slots : List (Option (Bor Feature))) (id k : ℕ) → slot_id (get_or slots k None) ≡ Some id
+fewer_standing : (slots : List (Option Slot)) (id k : ℕ) → slot_id (get_or slots k None) ≡ Some id
     → length (standing (set slots k None)) + 1 ≡ length (standing slots)
 fewer_standing [] id k here = cc
 fewer_standing (None ∷ slots) id zero here = cc
@@ -119,7 +118,7 @@ same_standing g features = simp length-map
 
 -- ---- the places, after each step
 
-in_slots : (slots : List (Option (Bor Feature))) (k id : ℕ) → slot_id (get_or slots k None) ≡ Some id → k < length slots
+in_slots : (slots : List (Option Slot)) (k id : ℕ) → slot_id (get_or slots k None) ≡ Some id → k < length slots
 in_slots [] k id here = cc
 in_slots (s ∷ slots) zero id here = omega arith
 in_slots (s ∷ slots) (suc k) id here = omega (arith, in_slots slots k id here)
@@ -131,18 +130,18 @@ same_number k q = grind (arith, nat_tests)
 kept_place : (places after : BTreeMap ℕ ℕ) (id q : ℕ) (w : Option ℕ) → Updates nat_cmp places after id w → (id ≡ q → ⊥) → get nat_cmp after q ≡ get nat_cmp places q
 kept_place places after id q w updates other = updates.2 q (same_number id q ∙ apart id q other)
 
-set_other : (slots : List (Option (Bor Feature))) (k j : ℕ) (s : Option (Bor Feature)) → (j ≡ k → ⊥) → get_or (set slots k s) j None ≡ get_or slots j None
+set_other : (slots : List (Option Slot)) (k j : ℕ) (s : Option Slot) → (j ≡ k → ⊥) → get_or (set slots k s) j None ≡ get_or slots j None
 set_other slots k j s other = get_or-set_other slots k j s None other
 
-set_same : (slots : List (Option (Bor Feature))) (k : ℕ) (s : Option (Bor Feature)) → k < length slots → get_or (set slots k s) k None ≡ s
+set_same : (slots : List (Option Slot)) (k : ℕ) (s : Option Slot) → k < length slots → get_or (set slots k s) k None ≡ s
 set_same slots k s small = get_or-set_same slots k s None small
 
 -- one id has one slot
-one_slot : (places : BTreeMap ℕ ℕ) (slots : List (Option (Bor Feature))) (id k : ℕ) → KnowsPlaces places slots → get nat_cmp places id ≡ Some k
+one_slot : (places : BTreeMap ℕ ℕ) (slots : List (Option Slot)) (id k : ℕ) → KnowsPlaces places slots → get nat_cmp places id ≡ Some k
     → (j : ℕ) → slot_id (get_or slots j None) ≡ Some id → j ≡ k
 one_slot places slots id k knows here j there = some_same j k (sym (knows.held id j there) ∙ here)
 
-pub knows_removed : (places after : BTreeMap ℕ ℕ) (slots : List (Option (Bor Feature))) (id k : ℕ) → KnowsPlaces places slots
+pub knows_removed : (places after : BTreeMap ℕ ℕ) (slots : List (Option Slot)) (id k : ℕ) → KnowsPlaces places slots
     → get nat_cmp places id ≡ Some k → Updates nat_cmp places after id None → KnowsPlaces after (set slots k None)
 knows_removed places after slots id k knows here updates = record {
   found = λ q j there. elim (cases_eq id q) [
@@ -164,72 +163,72 @@ knows_removed places after slots id k knows here updates = record {
 }
 
 -- a slot whose feature is replaced by another of its id
-same_ids : (slots : List (Option (Bor Feature))) (g : Bor Feature) (k j : ℕ) → slot_id (get_or slots k None) ≡ Some g.now.id
+same_ids : (slots : List (Option Slot)) (g : Slot) (k j : ℕ) → slot_id (get_or slots k None) ≡ Some g.feature.now.id
     → slot_id (get_or (set slots k (Some g)) j None) ≡ slot_id (get_or slots j None)
 same_ids slots g k j here = elim (cases_eq j k) [
   | inl e ↦ subst (λ (x : ℕ). slot_id (get_or (set slots k (Some g)) x None) ≡ slot_id (get_or slots x None)) (sym e)
-      (ap slot_id (set_same slots k (Some g) (in_slots slots k g.now.id here)) ∙ sym here)
+      (ap slot_id (set_same slots k (Some g) (in_slots slots k g.feature.now.id here)) ∙ sym here)
   | inr away ↦ ap slot_id (set_other slots k j (Some g) away)
 ]
 
-pub knows_replaced : (places : BTreeMap ℕ ℕ) (slots : List (Option (Bor Feature))) (g : Bor Feature) (k : ℕ) → KnowsPlaces places slots
-    → get nat_cmp places g.now.id ≡ Some k → KnowsPlaces places (set slots k (Some g))
+pub knows_replaced : (places : BTreeMap ℕ ℕ) (slots : List (Option Slot)) (g : Slot) (k : ℕ) → KnowsPlaces places slots
+    → get nat_cmp places g.feature.now.id ≡ Some k → KnowsPlaces places (set slots k (Some g))
 knows_replaced places slots g k knows here = record {
-  found = λ q j there. same_ids slots g k j (knows.found g.now.id k here) ∙ knows.found q j there;
-  held = λ q j there. knows.held q j (sym (same_ids slots g k j (knows.found g.now.id k here)) ∙ there);
+  found = λ q j there. same_ids slots g k j (knows.found g.feature.now.id k here) ∙ knows.found q j there;
+  held = λ q j there. knows.held q j (sym (same_ids slots g k j (knows.found g.feature.now.id k here)) ∙ there);
 }
 
 -- an empty slot more
-pushed_none : (slots : List (Option (Bor Feature))) (j : ℕ) → get_or (slots ++ None ∷ []) j None ≡ get_or slots j None
+pushed_none : (slots : List (Option Slot)) (j : ℕ) → get_or (slots ++ None ∷ []) j None ≡ get_or slots j None
 pushed_none [] zero = refl
 pushed_none [] (suc j) = refl
 pushed_none (s ∷ slots) zero = refl
 pushed_none (s ∷ slots) (suc j) = pushed_none slots j
 
-pub knows_room : (places : BTreeMap ℕ ℕ) (slots : List (Option (Bor Feature))) → KnowsPlaces places slots → KnowsPlaces places (slots ++ None ∷ [])
+pub knows_room : (places : BTreeMap ℕ ℕ) (slots : List (Option Slot)) → KnowsPlaces places slots → KnowsPlaces places (slots ++ None ∷ [])
 knows_room places slots knows = record {
   found = λ q j there. ap slot_id (pushed_none slots j) ∙ knows.found q j there;
   held = λ q j there. knows.held q j (sym (ap slot_id (pushed_none slots j)) ∙ there);
 }
 
-pub set_last : (slots : List (Option (Bor Feature))) (s : Option (Bor Feature)) → set (slots ++ None ∷ []) (length slots) s ≡ slots ++ s ∷ []
+pub set_last : (slots : List (Option Slot)) (s : Option Slot) → set (slots ++ None ∷ []) (length slots) s ≡ slots ++ s ∷ []
 set_last [] s = refl
 set_last (x ∷ slots) s = ap (λ rest. x ∷ rest) (set_last slots s)
 
-pushed_last : (slots : List (Option (Bor Feature))) (s : Option (Bor Feature)) → get_or (slots ++ s ∷ []) (length slots) None ≡ s
+pushed_last : (slots : List (Option Slot)) (s : Option Slot) → get_or (slots ++ s ∷ []) (length slots) None ≡ s
 pushed_last [] s = refl
 pushed_last (x ∷ slots) s = pushed_last slots s
 
-pushed_other : (slots : List (Option (Bor Feature))) (s : Option (Bor Feature)) (j : ℕ) → (j ≡ length slots → ⊥) → get_or (slots ++ s ∷ []) j None ≡ get_or slots j None
+pushed_other : (slots : List (Option Slot)) (s : Option Slot) (j : ℕ) → (j ≡ length slots → ⊥) → get_or (slots ++ s ∷ []) j None ≡ get_or slots j None
 pushed_other [] s zero other = absurd (other refl)
 pushed_other [] s (suc j) other = refl
 pushed_other (x ∷ slots) s zero other = refl
 pushed_other (x ∷ slots) s (suc j) other = pushed_other slots s j (λ e. other (ap suc e))
 
-past_end : (slots : List (Option (Bor Feature))) (id j : ℕ) → slot_id (get_or slots j None) ≡ Some id → (j ≡ length slots → ⊥)
+past_end : (slots : List (Option Slot)) (id j : ℕ) → slot_id (get_or slots j None) ≡ Some id → (j ≡ length slots → ⊥)
 past_end slots id j here e = let small : j < length slots = in_slots slots j id here in absurd (omega arith)
 
 -- one more feature, of a new id, goes last
-pub knows_added : (places after : BTreeMap ℕ ℕ) (slots : List (Option (Bor Feature))) (g : Bor Feature) → KnowsPlaces places slots
-    → get nat_cmp places g.now.id ≡ None → Updates nat_cmp places after g.now.id (Some (length slots)) → KnowsPlaces after (slots ++ Some g ∷ [])
+pub knows_added : (places after : BTreeMap ℕ ℕ) (slots : List (Option Slot)) (g : Slot) → KnowsPlaces places slots
+    → get nat_cmp places g.feature.now.id ≡ None → Updates nat_cmp places after g.feature.now.id (Some (length slots)) → KnowsPlaces after (slots ++ Some g ∷ [])
 knows_added places after slots g knows fresh updates = record {
-  found = λ q j there. elim (cases_eq g.now.id q) [
+  found = λ q j there. elim (cases_eq g.feature.now.id q) [
     | inl e ↦ (
         let last : j ≡ length slots = some_same j (length slots) (sym there ∙ subst (λ (x : ℕ). get nat_cmp after x ≡ Some (length slots)) e updates.1) in
         subst (λ (x : ℕ). slot_id (get_or (slots ++ Some g ∷ []) x None) ≡ Some q) (sym last) (ap slot_id (pushed_last slots (Some g)) ∙ ap Some e))
     | inr other ↦ (
-        let slot : slot_id (get_or slots j None) ≡ Some q = knows.found q j (sym (kept_place places after g.now.id q (Some (length slots)) updates other) ∙ there) in
+        let slot : slot_id (get_or slots j None) ≡ Some q = knows.found q j (sym (kept_place places after g.feature.now.id q (Some (length slots)) updates other) ∙ there) in
         ap slot_id (pushed_other slots (Some g) j (past_end slots q j slot)) ∙ slot)
   ];
   held = λ q j there. elim (cases_eq j (length slots)) [
     | inl e ↦ (
-        let last : slot_id (get_or (slots ++ Some g ∷ []) j None) ≡ Some g.now.id = subst (λ (x : ℕ). slot_id (get_or (slots ++ Some g ∷ []) x None) ≡ Some g.now.id) (sym e) (ap slot_id (pushed_last slots (Some g))) in
-        let same : g.now.id ≡ q = some_same g.now.id q (sym last ∙ there) in
+        let last : slot_id (get_or (slots ++ Some g ∷ []) j None) ≡ Some g.feature.now.id = subst (λ (x : ℕ). slot_id (get_or (slots ++ Some g ∷ []) x None) ≡ Some g.feature.now.id) (sym e) (ap slot_id (pushed_last slots (Some g))) in
+        let same : g.feature.now.id ≡ q = some_same g.feature.now.id q (sym last ∙ there) in
         subst (λ (x : ℕ). get nat_cmp after x ≡ Some j) same (updates.1 ∙ ap Some (sym e)))
     | inr away ↦ (
         let slot : slot_id (get_or slots j None) ≡ Some q = sym (ap slot_id (pushed_other slots (Some g) j away)) ∙ there in
-        let other : (g.now.id ≡ q → ⊥) = λ e. none_some (sym (ap (get nat_cmp places) e) ∙ fresh) (knows.held q j slot) in
-        kept_place places after g.now.id q (Some (length slots)) updates other ∙ knows.held q j slot)
+        let other : (g.feature.now.id ≡ q → ⊥) = λ e. none_some (sym (ap (get nat_cmp places) e) ∙ fresh) (knows.held q j slot) in
+        kept_place places after g.feature.now.id q (Some (length slots)) updates other ∙ knows.held q j slot)
   ];
 }
 
@@ -241,43 +240,43 @@ knows_nothing places empty = record {
 
 -- ---- what the features are, after each step
 
-pub has_place : (places : BTreeMap ℕ ℕ) (slots : List (Option (Bor Feature))) (id k : ℕ) → KnowsPlaces places slots → get nat_cmp places id ≡ Some k
+pub has_place : (places : BTreeMap ℕ ℕ) (slots : List (Option Slot)) (id k : ℕ) → KnowsPlaces places slots → get nat_cmp places id ≡ Some k
     → has_id (ids_of (standing slots)) id ≡ true
 has_place places slots id k knows here = one_has slots id k (knows.found id k here)
 
-no_place : (places : BTreeMap ℕ ℕ) (slots : List (Option (Bor Feature))) (id : ℕ) → KnowsPlaces places slots → get nat_cmp places id ≡ None
+no_place : (places : BTreeMap ℕ ℕ) (slots : List (Option Slot)) (id : ℕ) → KnowsPlaces places slots → get nat_cmp places id ≡ None
     → (j : ℕ) → slot_id (get_or slots j None) ≡ Some id → ⊥
 no_place places slots id knows none j there = none_some none (knows.held id j there)
 
-pub has_no_place : (places : BTreeMap ℕ ℕ) (slots : List (Option (Bor Feature))) (id : ℕ) → KnowsPlaces places slots → get nat_cmp places id ≡ None
+pub has_no_place : (places : BTreeMap ℕ ℕ) (slots : List (Option Slot)) (id : ℕ) → KnowsPlaces places slots → get nat_cmp places id ≡ None
     → has_id (ids_of (standing slots)) id ≡ false
 has_no_place places slots id knows none = none_has slots id (no_place places slots id knows none)
 
-pub removed_is : (places : BTreeMap ℕ ℕ) (slots : List (Option (Bor Feature))) (id k : ℕ) → KnowsPlaces places slots → get nat_cmp places id ≡ Some k
+pub removed_is : (places : BTreeMap ℕ ℕ) (slots : List (Option Slot)) (id k : ℕ) → KnowsPlaces places slots → get nat_cmp places id ≡ Some k
     → standing (set slots k None) ≡ without id (standing slots)
 removed_is places slots id k knows here = standing_removed slots id k (knows.found id k here) (one_slot places slots id k knows here)
 
-pub removed_count : (places : BTreeMap ℕ ℕ) (slots : List (Option (Bor Feature))) (id k : ℕ) → KnowsPlaces places slots → get nat_cmp places id ≡ Some k
+pub removed_count : (places : BTreeMap ℕ ℕ) (slots : List (Option Slot)) (id k : ℕ) → KnowsPlaces places slots → get nat_cmp places id ≡ Some k
     → length (standing (set slots k None)) + 1 ≡ length (standing slots)
 removed_count places slots id k knows here = fewer_standing slots id k (knows.found id k here)
 
-pub replaced_is : (places : BTreeMap ℕ ℕ) (slots : List (Option (Bor Feature))) (g : Bor Feature) (k : ℕ) → KnowsPlaces places slots → get nat_cmp places g.now.id ≡ Some k
-    → standing (set slots k (Some g)) ≡ replaced_by g.now (standing slots)
+pub replaced_is : (places : BTreeMap ℕ ℕ) (slots : List (Option Slot)) (g : Slot) (k : ℕ) → KnowsPlaces places slots → get nat_cmp places g.feature.now.id ≡ Some k
+    → standing (set slots k (Some g)) ≡ replaced_by g.feature.now (standing slots)
 replaced_is places slots g k knows here =
-    standing_replaced slots g k (knows.found g.now.id k here) (one_slot places slots g.now.id k knows here)
+    standing_replaced slots g k (knows.found g.feature.now.id k here) (one_slot places slots g.feature.now.id k knows here)
 
-pub added_is : (slots : List (Option (Bor Feature))) (g : Bor Feature) → standing (slots ++ Some g ∷ []) ≡ standing slots ++ g.now ∷ []
-added_is slots g = filter_map-append option_copied slots (Some g ∷ [])
+pub added_is : (slots : List (Option Slot)) (g : Slot) → standing (slots ++ Some g ∷ []) ≡ standing slots ++ g.feature.now ∷ []
+added_is slots g = filter_map-append standing_in slots (Some g ∷ [])
 
-pub room_is : (slots : List (Option (Bor Feature))) → standing (slots ++ None ∷ []) ≡ standing slots
-room_is slots = filter_map-append option_copied slots (None ∷ []) ∙ append-nil (standing slots)
+pub room_is : (slots : List (Option Slot)) → standing (slots ++ None ∷ []) ≡ standing slots
+room_is slots = filter_map-append standing_in slots (None ∷ []) ∙ append-nil (standing slots)
 
-pub in_bounds : (places : BTreeMap ℕ ℕ) (slots : List (Option (Bor Feature))) (id k : ℕ) → KnowsPlaces places slots → get nat_cmp places id ≡ Some k
+pub in_bounds : (places : BTreeMap ℕ ℕ) (slots : List (Option Slot)) (id k : ℕ) → KnowsPlaces places slots → get nat_cmp places id ≡ Some k
     → k < length slots
 in_bounds places slots id k knows here = in_slots slots k id (knows.found id k here)
 
 -- a map with the same entries
-pub knows_same : (places after : BTreeMap ℕ ℕ) (slots : List (Option (Bor Feature))) → KnowsPlaces places slots → after.entries ≡ places.entries → KnowsPlaces after slots
+pub knows_same : (places after : BTreeMap ℕ ℕ) (slots : List (Option Slot)) → KnowsPlaces places slots → after.entries ≡ places.entries → KnowsPlaces after slots
 knows_same places after slots knows same = record {
   found = λ q j there. knows.found q j (sym (ap (λ es. lookup (is_at (nat_cmp q)) es) same) ∙ there);
   held = λ q j there. ap (λ es. lookup (is_at (nat_cmp q)) es) same ∙ knows.held q j there;
@@ -290,21 +289,21 @@ put_known f features known = rw known refl
 pub put_new : (f : Feature) (features : List Feature) → has_id (ids_of features) f.id ≡ false → features ++ f ∷ [] ≡ with_put f features
 put_new f features fresh = rw fresh refl
 
-unheld_by : (o : Option ℕ) (places : BTreeMap ℕ ℕ) (slots : List (Option (Bor Feature))) (id : ℕ) → KnowsPlaces places slots
+unheld_by : (o : Option ℕ) (places : BTreeMap ℕ ℕ) (slots : List (Option Slot)) (id : ℕ) → KnowsPlaces places slots
     → has_id (ids_of (standing slots)) id ≡ false → get nat_cmp places id ≡ o → get nat_cmp places id ≡ None
 unheld_by None places slots id knows fresh is = is
 unheld_by (Some k) places slots id knows fresh is = let held : has_id (ids_of (standing slots)) id ≡ true = has_place places slots id k knows is in cc
 
 -- a new id has no place
-pub unheld : (places : BTreeMap ℕ ℕ) (slots : List (Option (Bor Feature))) (id : ℕ) → KnowsPlaces places slots
+pub unheld : (places : BTreeMap ℕ ℕ) (slots : List (Option Slot)) (id : ℕ) → KnowsPlaces places slots
     → has_id (ids_of (standing slots)) id ≡ false → get nat_cmp places id ≡ None
 unheld places slots id knows fresh = unheld_by (get nat_cmp places id) places slots id knows fresh refl
 
-pub set_end : (slots : List (Option (Bor Feature))) (s : Option (Bor Feature)) (n : ℕ) → n ≡ length slots → set (slots ++ None ∷ []) n s ≡ slots ++ s ∷ []
+pub set_end : (slots : List (Option Slot)) (s : Option Slot) (n : ℕ) → n ≡ length slots → set (slots ++ None ∷ []) n s ≡ slots ++ s ∷ []
 set_end slots s n e = rw e (set_last slots s)
 
-pub added_count : (slots : List (Option (Bor Feature))) (g : Bor Feature) (n : ℕ) → n ≡ length (standing slots) → n + 1 ≡ length (standing (slots ++ Some g ∷ []))
-added_count slots g n e = rw (added_is slots g) (omega (arith, length-append (standing slots) (g.now ∷ [])))
+pub added_count : (slots : List (Option Slot)) (g : Slot) (n : ℕ) → n ≡ length (standing slots) → n + 1 ≡ length (standing (slots ++ Some g ∷ []))
+added_count slots g n e = rw (added_is slots g) (omega (arith, length-append (standing slots) (g.feature.now ∷ [])))
 
 -- ---- no two features of one id stand
 
@@ -312,42 +311,25 @@ apart_ids : (ids : List ℕ) (id : ℕ) → has_id ids id ≡ false → AllByRec
 apart_ids [] id fresh = tt
 apart_ids (k ∷ ids) id fresh = (no_left (nat_eq id k) (has_id ids id) fresh, apart_ids ids id (no_right (nat_eq id k) (has_id ids id) fresh))
 
-distinct_slots : (slots : List (Option (Bor Feature))) → ((id i j : ℕ) → slot_id (get_or slots i None) ≡ Some id → slot_id (get_or slots j None) ≡ Some id → i ≡ j)
+distinct_slots : (slots : List (Option Slot)) → ((id i j : ℕ) → slot_id (get_or slots i None) ≡ Some id → slot_id (get_or slots j None) ≡ Some id → i ≡ j)
     → IsDistinct nat_eq (ids_of (standing slots))
 unfolding IsDistinct
 distinct_slots [] one = tt
 distinct_slots (None ∷ slots) one = distinct_slots slots (λ id i j p q. one_less i j (one id (suc i) (suc j) p q))
 distinct_slots (Some f ∷ slots) one = (
-  apart_ids (ids_of (standing slots)) f.now.id (none_has slots f.now.id (λ j h. no_suc j (one f.now.id 0 (suc j) refl h))),
+  apart_ids (ids_of (standing slots)) f.feature.now.id (none_has slots f.feature.now.id (λ j h. no_suc j (one f.feature.now.id 0 (suc j) refl h))),
   distinct_slots slots (λ id i j p q. one_less i j (one id (suc i) (suc j) p q)),
 )
 
-pub standing_distinct : (places : BTreeMap ℕ ℕ) (slots : List (Option (Bor Feature))) → KnowsPlaces places slots → IsDistinct nat_eq (ids_of (standing slots))
+pub standing_distinct : (places : BTreeMap ℕ ℕ) (slots : List (Option Slot)) → KnowsPlaces places slots → IsDistinct nat_eq (ids_of (standing slots))
 standing_distinct places slots knows = distinct_slots slots (λ id i j p q. some_same i j (sym (knows.held id i p) ∙ knows.held id j q))
 
--- ---- of distinct ids the next one is new
-
-at_id : (features : List Feature) (id i : ℕ) (d : Feature) → i < length features → AllByRecursion (λ k. nat_eq id k ≡ false) (ids_of features)
-    → nat_eq id (get_or features i d).id ≡ false
-at_id [] id i d small each = absurd (omega arith)
-at_id (g ∷ features) id zero d small each = each.0
-at_id (g ∷ features) id (suc i) d small each = at_id features id i d (omega arith) each.1
-
-pub next_is_new : (features : List Feature) (i : ℕ) (f : Feature) → i < length features → IsDistinct nat_eq (ids_of features) → f ≡ get_or features i f
-    → has_id (ids_of (take i features)) f.id ≡ false
-next_is_new [] i f small distinct at = absurd (omega arith)
-next_is_new (g ∷ features) zero f small distinct at = refl
-next_is_new (g ∷ features) (suc i) f small distinct at =
-    let here : nat_eq g.id f.id ≡ false = rw at (at_id features g.id i f (omega arith) (IsDistinct-head nat_eq g.id (ids_of features) distinct)) in
-    let first : nat_eq f.id g.id ≡ false = grind (arith, nat_tests, here) in
-    rw first (next_is_new features i f (omega arith) (IsDistinct-tail nat_eq g.id (ids_of features) distinct) at)
-
 -- the next slot as well
-pub standing_more : (slots : List (Option (Bor Feature))) (i : ℕ) (d : Option (Bor Feature)) → i < length slots
-    → standing (take (i + 1) slots) ≡ standing (take i slots) ++ option_to_list (option_copied (get_or slots i d))
+pub standing_more : (slots : List (Option Slot)) (i : ℕ) (d : Option Slot) → i < length slots
+    → standing (take (i + 1) slots) ≡ standing (take i slots) ++ option_to_list (standing_in (get_or slots i d))
 standing_more [] i d small = absurd (omega arith)
 standing_more (None ∷ slots) zero d small = refl
 standing_more (Some f ∷ slots) zero d small = refl
 standing_more (None ∷ slots) (suc i) d small = rw (add-one (suc i)) (rw (add-one i) at (standing_more slots i d (omega arith)))
 standing_more (Some f ∷ slots) (suc i) d small =
-    rw (add-one (suc i)) (ap (λ fs. f.now ∷ fs) (rw (add-one i) at (standing_more slots i d (omega arith))))
+    rw (add-one (suc i)) (ap (λ fs. f.feature.now ∷ fs) (rw (add-one i) at (standing_more slots i d (omega arith))))

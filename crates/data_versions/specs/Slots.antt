@@ -1,23 +1,47 @@
 -- A layer while it is changed: slots in which features stand, or stood.
-use Rattle.std.specs.Prelude.{◌≡◌, ℕ, not, nat_eq, if◌then◌else◌, List, [], ◌∷◌, ◌++◌, map, filter, get_or, Option, Some, None, option_map}
+use Rattle.std.specs.Prelude.{◌≡◌, ℕ, Bool, true, false, not, cond, nat_eq, if◌then◌else◌, List, [], ◌∷◌, ◌++◌, map, filter, get_or, Option, Some, None, option_map}
 use Rattle.std.specs.Ordering.{nat_cmp}
 use Rattle.std.specs.List.{filter_map}
-use Rattle.std.specs.Option.{option_copied}
 use Rattle.std.specs.BTreeMap.{BTreeMap, get}
-use denote.Ref.{Bor}
 use Rattle.plain_drawing.specs.Features.{Feature}
 use Rattle.plain_drawing.specs.Data.{has_id, ids_of}
+use Rattle.data_versions.specs.declared.slot.Slot.{Slot}
+
+-- the feature that stands in a slot
+abbrev pub standing_in : Option Slot → Option Feature
+standing_in None = None
+standing_in (Some s) = Some s.feature.now
 
 -- the features that stand in the slots, in order
-abbrev pub standing : List (Option (Bor Feature)) → List Feature
-standing slots = filter_map option_copied slots
+abbrev pub standing : List (Option Slot) → List Feature
+standing slots = filter_map standing_in slots
 
 -- the id of the feature in a slot
-abbrev pub slot_id : Option (Bor Feature) → Option ℕ
-slot_id s = option_map (λ f. f.now.id) s
+abbrev pub slot_id : Option Slot → Option ℕ
+slot_id s = option_map (λ f. f.feature.now.id) s
+
+-- the slot has the feature that it had from the start
+abbrev pub is_old : Option Slot → Bool
+is_old None = false
+is_old (Some s) = s.is_old
+
+-- that feature
+abbrev pub old_in : Option Slot → Option Feature
+old_in None = None
+old_in (Some s) = cond s.is_old (Some s.feature.now) None
+
+abbrev pub IsOldAs : Option Slot → Feature → Type 0
+IsOldAs None f = Unit {0}
+IsOldAs (Some s) f = s.is_old ≡ true → s.feature.now ≡ f
+
+-- there is a slot for each of the features from the start, and one that says so has its feature
+abbrev pub HasOld : List (Option Slot) → List Feature → Type 0
+HasOld slots [] = Unit {0}
+HasOld [] (f ∷ features) = ⊥
+HasOld (s ∷ slots) (f ∷ features) = IsOldAs s f × HasOld slots features
 
 -- the places tell in which slot each id stands
-pub record KnowsPlaces (places : BTreeMap ℕ ℕ) (slots : List (Option (Bor Feature))) : Type 0 where
+pub record KnowsPlaces (places : BTreeMap ℕ ℕ) (slots : List (Option Slot)) : Type 0 where
   pub found : (id k : ℕ) → get nat_cmp places id ≡ Some k → slot_id (get_or slots k None) ≡ Some id
   pub held : (id k : ℕ) → slot_id (get_or slots k None) ≡ Some id → get nat_cmp places id ≡ Some k
 

@@ -1,24 +1,30 @@
 //! A layer while an update changes it.
 ghost use Rattle.std.specs.Prelude.{◌≡◌, ◌≤◌, ◌<◌, ◌∷◌, ◌++◌, [], true, false, nat_eq, length, IfOk, OnOk, MatchResult};
 ghost use Rattle.std.specs.List.{IsDistinct};
-ghost use Rattle.std.specs.Option.{option_copied, option_to_list};
 ghost use Rattle.plain_drawing.specs.Data.{has_id, ids_of};
 ghost use Rattle.data_versions.specs.Slots.{without, replaced_by, with_put};
+ghost use Rattle.data_versions.specs.Chunks.{joined};
 
+use crate::chunk::{Chunk, MOST_TOGETHER};
+use crate::pack::Pack;
+use crate::slot::{Slot, copy_slots, keep_chunk, old_slots, places_of};
 use farm_base::NoMemory;
 use geo_model::Feature;
 use std::alloc::Global;
 use std::collections::BTreeMap;
 use std::marker::Model;
+use std::sync::Arc;
 
 /// The most features of a layer.
 pub(crate) const MOST_FEATURES: usize = 1_000_000;
 
 /// The features of a layer by reference, each in a slot that stays its own, so that a removal moves no other
-/// feature and an id is found without a walk. Contracts see it as the list of its features.
+/// feature and an id is found without a walk. The first slots are those of the features from the start, chunk
+/// by chunk. Contracts see it as the list of its features.
 #[derive(Drop)]
 pub(crate) struct Bench<'a> {
-    slots: Vec<Option<&'a Feature>>,
+    chunks: &'a [Arc<Chunk>],
+    slots: Vec<Option<Slot<'a>>>,
     places: BTreeMap<u64, usize>,
     count: usize,
 }
@@ -26,39 +32,32 @@ pub(crate) struct Bench<'a> {
 impl<'a> Model for Bench<'a> {
     ghost use Rattle.std.specs.Prelude.{◌≡◌, ◌≤◌, List, length};
     ghost use Rattle.plain_drawing.specs.Features.{Feature};
-    ghost use Rattle.data_versions.specs.Slots.{standing, KnowsPlaces};
+    ghost use Rattle.data_versions.specs.Slots.{standing, HasOld, KnowsPlaces};
+    ghost use Rattle.data_versions.specs.Chunks.{joined};
 
     ghost Value = { List Feature };
 
     ghost view = { λ b. standing b.slots.items };
 
-    ghost invariant = { λ b. KnowsPlaces b.places b.slots.items × (b.count ≡ length (standing b.slots.items)) × (b.count ≤ 1000000) };
+    ghost invariant = { λ b. KnowsPlaces b.places b.slots.items × (b.count ≡ length (standing b.slots.items)) × (b.count ≤ 1000000) × HasOld b.slots.items (joined b.chunks.now) };
 }
 
 impl<'a> Bench<'a> {
-    /// No features yet.
-    fn new(alloc: Global) -> Bench<'a>
-        ensures { result ≡ [] }
+    /// The features of the chunks of a layer.
+    pub(crate) fn of(alloc: Global, chunks: &'a [Arc<Chunk>]) -> Result<Bench<'a>, NoMemory>
+        requires few { length (joined chunks.now) ≤ 1000000 }
+        requires distinct { IsDistinct nat_eq (ids_of (joined chunks.now)) }
+        ensures { IfOk result (λ b. b ≡ joined chunks.now) }
     {
-        Bench {
-            slots: Vec::new(alloc),
-            places: BTreeMap::new(alloc),
-            count: 0,
-        }
-    }
-
-    /// The features of a layer.
-    #[tactic(auto, using(crate::proofs::Slots::next_is_new))]
-    pub(crate) fn of(alloc: Global, features: &'a [Feature]) -> Result<Bench<'a>, NoMemory>
-        requires few { length features.now ≤ 1000000 }
-        requires distinct { IsDistinct nat_eq (ids_of features.now) }
-        ensures { IfOk result (λ b. b ≡ features.now) }
-    {
-        let mut bench = Bench::new(alloc);
-        for feature in features {
-            bench.add(feature)?;
-        }
-        Ok(bench)
+        let slots = old_slots(alloc, chunks)?;
+        let places = places_of(alloc, slots.as_slice())?;
+        let count = slots.len();
+        Ok(Bench {
+            chunks,
+            slots,
+            places,
+            count,
+        })
     }
 
     /// How many features there are: at most 1,000,000, of distinct ids.
@@ -96,7 +95,10 @@ impl<'a> Bench<'a> {
         let place = self.slots.len();
         self.slots.push(None)?;
         self.places.insert(feature.id(), place)?;
-        self.slots[place] = Some(feature);
+        self.slots[place] = Some(Slot {
+            feature,
+            is_old: false,
+        });
         self.count += 1;
         Ok(())
     }
@@ -109,7 +111,10 @@ impl<'a> Bench<'a> {
     {
         match self.places.get(&feature.id()).copied() {
             Some(place) => {
-                self.slots[place] = Some(feature);
+                self.slots[place] = Some(Slot {
+                    feature,
+                    is_old: false,
+                });
                 true
             }
             None => false,
@@ -132,32 +137,22 @@ impl<'a> Bench<'a> {
         Ok(true)
     }
 
-    /// Copies of the features, in order.
-    #[tactic(auto, using(crate::proofs::Slots::standing_more))]
-    pub(crate) fn copies(&self, alloc: Global) -> Result<Vec<Feature>, NoMemory>
-        ensures { IfOk result (λ copies. copies.items ≡ self.now) }
+    /// The features in chunks. A chunk in which nothing changed is shared, but for the last one, which is
+    /// filled up where new features follow.
+    pub(crate) fn chunks(&self, alloc: Global) -> Result<Vec<Arc<Chunk>>, NoMemory>
+        ensures { IfOk result (λ chunks. joined chunks.items ≡ self.now) }
     {
-        let mut copies = Vec::with_capacity(alloc, self.count)?;
-        for slot in &self.slots {
-            copy_slot(alloc, slot, &mut copies)?;
+        let mut pack = Pack::new(alloc);
+        let mut at = 0;
+        for (place, shared) in self.chunks.iter().enumerate() {
+            let chunk: &Chunk = shared;
+            let end = at + chunk.features().len();
+            let is_last = place + 1 == self.chunks.len();
+            let may_share = !is_last || end - at == MOST_TOGETHER || end == self.slots.len();
+            keep_chunk(alloc, shared, may_share, &self.slots[at..end], &mut pack)?;
+            at = end;
         }
-        Ok(copies)
-    }
-}
-
-/// Adds a copy of the feature that stands in the slot, if there is one.
-fn copy_slot(
-    alloc: Global,
-    slot: &Option<&Feature>,
-    copies: &mut Vec<Feature>,
-) -> Result<(), NoMemory>
-    ensures { OnOk result (copies.new.items ≡ copies.old.items ++ option_to_list (option_copied slot.now)) }
-{
-    match slot {
-        Some(feature) => {
-            copies.push(feature.copy(alloc)?)?;
-            Ok(())
-        }
-        None => Ok(()),
+        copy_slots(alloc, &self.slots[at..], &mut pack)?;
+        pack.into_chunks(alloc)
     }
 }

@@ -5,7 +5,8 @@ ghost use Rattle.std.specs.Str.{bytes_eq};
 ghost use Rattle.plain_drawing.specs.Data.{ids_of, kept, first_missing, is_too_many, with_puts, with_change, features_fault, changed_layer, IsLayer};
 
 use crate::bench::Bench;
-use crate::dataset::{Change, Layer};
+use crate::chunked::ChunkedLayer;
+use crate::dataset::Change;
 use farm_base::{ApplyFault, NoMemory, Text};
 use geo_model::Feature;
 use std::alloc::Global;
@@ -64,7 +65,7 @@ fn change_bench<'a>(bench: &mut Bench<'a>, place: u32, change: &'a Change) -> Re
 /// layer that it is now.
 #[derive(Drop)]
 pub(crate) struct Desk<'a> {
-    shared: &'a Arc<Layer>,
+    shared: &'a Arc<ChunkedLayer>,
     bench: Option<Bench<'a>>,
 }
 
@@ -82,7 +83,7 @@ impl<'a> Model for Desk<'a> {
 
 impl<'a> Desk<'a> {
     /// The layer, unchanged so far.
-    pub(crate) fn of(shared: &'a Arc<Layer>) -> Desk<'a>
+    pub(crate) fn of(shared: &'a Arc<ChunkedLayer>) -> Desk<'a>
         requires { IsLayer (arc_value shared.now) }
         ensures { result ≡ arc_value shared.now }
     {
@@ -96,8 +97,8 @@ impl<'a> Desk<'a> {
     pub(crate) fn is_named(&self, name: &str) -> bool
         ensures { result ≡ bytes_eq self.now.name name.now }
     {
-        let layer: &Layer = self.shared;
-        layer.name.as_str() == name
+        let layer: &ChunkedLayer = self.shared;
+        layer.name() == name
     }
 
     /// Does the change, which stands at this place of its update. After a refusal the layer is of no more
@@ -112,10 +113,10 @@ impl<'a> Desk<'a> {
         ensures right { OnOk result (features_fault place change.now self.old.features ≡ None) }
         ensures refused { IfErr result (λ e. e ≢ ApplyFault.NoMemory → features_fault place change.now self.old.features ≡ Some e) }
     {
-        let layer: &'a Layer = self.shared;
+        let layer: &'a ChunkedLayer = self.shared;
         let mut bench = match self.bench.take() {
             Some(bench) => bench,
-            None => Bench::of(alloc, layer.features.as_slice()).map_err(no_memory)?,
+            None => Bench::of(alloc, layer.chunks()).map_err(no_memory)?,
         };
         change_bench(&mut bench, place, change)?;
         self.bench = Some(bench);
@@ -123,19 +124,17 @@ impl<'a> Desk<'a> {
     }
 
     /// The layer as it is now, which shares all with the old one where nothing changed it.
-    pub(crate) fn finish(&self, alloc: Global) -> Result<Arc<Layer>, NoMemory>
+    pub(crate) fn finish(&self, alloc: Global) -> Result<Arc<ChunkedLayer>, NoMemory>
         ensures layer { IfOk result (λ shared. arc_value shared ≡ self.now) }
         ensures valid { OnOk result (IsLayer self.now) }
     {
-        let layer: &Layer = self.shared;
+        let layer: &ChunkedLayer = self.shared;
         match &self.bench {
             None => Ok(Arc::try_clone(self.shared)?),
             Some(bench) => {
                 let _count = bench.len();
-                let changed = Layer {
-                    name: Text::of(alloc, layer.name.as_str())?,
-                    features: bench.copies(alloc)?,
-                };
+                let name = Text::of(alloc, layer.name())?;
+                let changed = ChunkedLayer::of(alloc, name, bench.chunks(alloc)?)?;
                 Ok(Arc::new(alloc, changed)?)
             }
         }

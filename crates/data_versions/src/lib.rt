@@ -2,8 +2,13 @@
 #![tactic(auto)]
 
 mod bench;
+mod cells;
+mod chunk;
+mod chunked;
 mod dataset;
 mod desk;
+mod pack;
+mod slot;
 mod snapshot;
 #[cfg(test)]
 mod tests;

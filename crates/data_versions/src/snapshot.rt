@@ -1,21 +1,24 @@
 //! Data that never change and are shared: snapshots, and views of their layers.
-ghost use Rattle.std.specs.Prelude.{◌≡◌, ◌≤◌, ◌<◌, IfOk, IfSome, length, slice_get, position};
+ghost use Rattle.std.specs.Prelude.{◌≡◌, ◌≤◌, IfOk, All, length, slice_get};
 ghost use Rattle.std.specs.Option.{option_copied};
-ghost use Rattle.plain_drawing.specs.Data.{IsDataset, layer_named, features_named};
-ghost use Rattle.data_versions.specs.Near.{place_of, is_near, next_near};
+ghost use Rattle.plain_drawing.specs.Data.{IsLayer, IsDataset, layer_named, features_named};
+ghost use Rattle.data_versions.specs.Near.{place_of, next_near};
 ghost use Rattle.data_versions.specs.Shared.{shared_layers};
 
+use crate::chunked::ChunkedLayer;
 use crate::dataset::{Dataset, Layer};
+use crate::pack::Pack;
 use farm_base::NoMemory;
 use geo_model::{Bounds, Feature};
 use std::alloc::Global;
 use std::marker::Model;
 use std::sync::Arc;
 
-/// A dataset that never changes and is shared. Contracts see it as the list of its layers.
+/// A dataset that never changes and is shared, each layer in chunks of at most 256 features. Contracts see it
+/// as the list of its layers.
 #[derive(Drop)]
 pub struct Snapshot {
-    layers: Arc<Vec<Arc<Layer>>>,
+    layers: Arc<Vec<Arc<ChunkedLayer>>>,
 }
 
 impl Model for Snapshot {
@@ -31,13 +34,26 @@ impl Model for Snapshot {
     ghost invariant = { λ s. IsDataset (shared_layers s.layers.value.items) };
 }
 
-/// Shares each layer of the data.
-fn share_layers(alloc: Global, layers: Vec<Layer>) -> Result<Vec<Arc<Layer>>, NoMemory>
+/// Puts the features of the layer into chunks.
+fn chunk_layer(alloc: Global, layer: Layer) -> Result<ChunkedLayer, NoMemory>
+    requires { length layer.features ≤ 1000000 }
+    ensures { IfOk result (λ chunked. chunked ≡ layer) }
+{
+    let mut pack = Pack::new(alloc);
+    for feature in layer.features {
+        pack.add(alloc, feature)?;
+    }
+    ChunkedLayer::of(alloc, layer.name, pack.into_chunks(alloc)?)
+}
+
+/// Puts each layer of the data into chunks, and shares it.
+fn share_layers(alloc: Global, layers: Vec<Layer>) -> Result<Vec<Arc<ChunkedLayer>>, NoMemory>
+    requires { All IsLayer layers.items }
     ensures { IfOk result (λ shared. shared_layers shared.items ≡ layers.items) }
 {
     let mut shared = Vec::with_capacity(alloc, layers.len())?;
     for layer in layers {
-        shared.push(Arc::new(alloc, layer)?)?;
+        shared.push(Arc::new(alloc, chunk_layer(alloc, layer)?)?)?;
     }
     Ok(shared)
 }
@@ -52,7 +68,7 @@ impl Snapshot {
     }
 
     /// The snapshot of layers that are shared already.
-    pub(crate) fn of(alloc: Global, shared: Vec<Arc<Layer>>) -> Result<Snapshot, NoMemory>
+    pub(crate) fn of(alloc: Global, shared: Vec<Arc<ChunkedLayer>>) -> Result<Snapshot, NoMemory>
         requires { IsDataset (shared_layers shared.items) }
         ensures { IfOk result (λ s. s ≡ shared_layers shared.items) }
     {
@@ -62,7 +78,7 @@ impl Snapshot {
     }
 
     /// The layers, as they are shared.
-    pub(crate) fn shared(&self) -> &[Arc<Layer>]
+    pub(crate) fn shared(&self) -> &[Arc<ChunkedLayer>]
         ensures value { shared_layers result.now ≡ self.now }
         ensures valid { IsDataset self.now }
     {
@@ -79,7 +95,6 @@ impl Snapshot {
     }
 
     /// The layer of the name, or none exactly where no layer has it; takes no memory.
-    #[tactic(auto, using(crate::proofs::Named::named_few))]
     pub fn layer(&self, name: &str) -> Option<LayerView<'_>>
         ensures { result ≡ features_named self.now name.now }
     {
@@ -91,12 +106,12 @@ impl Snapshot {
 }
 
 /// The layer of the name among those that are shared.
-fn find_layer<'a>(shared: &'a [Arc<Layer>], name: &str) -> Option<&'a Layer>
+fn find_layer<'a>(shared: &'a [Arc<ChunkedLayer>], name: &str) -> Option<&'a ChunkedLayer>
     ensures { option_copied result ≡ layer_named (shared_layers shared.now) name.now }
 {
     for layer in shared {
-        let layer: &Layer = layer;
-        if layer.name.as_str() == name {
+        let layer: &ChunkedLayer = layer;
+        if layer.name() == name {
             return Some(layer);
         }
     }
@@ -107,18 +122,16 @@ fn find_layer<'a>(shared: &'a [Arc<Layer>], name: &str) -> Option<&'a Layer>
 /// memory.
 #[derive(Drop)]
 pub struct LayerView<'a> {
-    layer: &'a Layer,
+    layer: &'a ChunkedLayer,
 }
 
 impl<'a> Model for LayerView<'a> {
-    ghost use Rattle.std.specs.Prelude.{List, length, ◌≤◌};
+    ghost use Rattle.std.specs.Prelude.{List};
     ghost use Rattle.plain_drawing.specs.Features.{Feature};
 
     ghost Value = { List Feature };
 
     ghost view = { λ v. v.layer.now.features };
-
-    ghost invariant = { λ v. length v.layer.now.features ≤ 1000000 };
 }
 
 impl LayerView<'_> {
@@ -126,27 +139,21 @@ impl LayerView<'_> {
     pub fn len(&self) -> u32
         ensures { result ≡ length self.now }
     {
-        let layer = self.layer;
-        layer.features.len() as u32
+        self.layer.len()
     }
 
     /// The feature at the place, or none exactly where the place is not below `len`.
     pub fn get(&self, i: u32) -> Option<&Feature>
         ensures { option_copied result ≡ slice_get self.now i }
     {
-        let layer = self.layer;
-        layer.features.get(i as usize)
+        self.layer.get(i)
     }
 
     /// The place of the feature with the id, or none exactly where no feature has it.
     pub fn place_of(&self, id: u64) -> Option<u32>
         ensures { result ≡ place_of self.now id }
     {
-        let layer = self.layer;
-        match find_id(layer.features.as_slice(), id) {
-            Some(place) => Some(place as u32),
-            None => None,
-        }
+        self.layer.place_of(id)
     }
 
     /// The least place from `from` on whose feature's bounding box, borders included, has a point in common
@@ -157,42 +164,12 @@ impl LayerView<'_> {
         requires down { north ≤ south }
         ensures { result ≡ next_near self.now from (record { west = west; north = north; east = east; south = south }) }
     {
-        let layer = self.layer;
-        let start = from as usize;
         let around = Bounds {
             west,
             north,
             east,
             south,
         };
-        if start >= layer.features.len() {
-            return None;
-        }
-        match find_near(&layer.features[start..], around) {
-            Some(steps) => Some((start + steps) as u32),
-            None => None,
-        }
+        self.layer.next_near(from, around)
     }
-}
-
-/// The first place of the id.
-fn find_id(features: &[Feature], id: u64) -> Option<usize>
-    ensures place { result ≡ place_of features.now id }
-    ensures bound { IfSome result (λ place. place < length features.now) }
-{
-    features.iter().position(|f| f.id() == id)
-}
-
-fn is_near(feature: &Feature, around: Bounds) -> bool
-    ensures { result ≡ is_near around feature.now }
-{
-    feature.bbox().meets(&around)
-}
-
-/// The first place of a feature near the rectangle.
-fn find_near(features: &[Feature], around: Bounds) -> Option<usize>
-    ensures place { result ≡ position (is_near around) features.now }
-    ensures bound { IfSome result (λ place. place < length features.now) }
-{
-    features.iter().position(|f| is_near(f, around))
 }

@@ -4,7 +4,8 @@ ghost use Rattle.std.specs.Str.{bytes_eq};
 ghost use Rattle.plain_drawing.specs.Data.{IsLayer, names_of, changed, change_fault, updated};
 ghost use Rattle.data_versions.specs.Shared.{shared_layers};
 
-use crate::dataset::{Change, Layer, Update};
+use crate::chunked::ChunkedLayer;
+use crate::dataset::{Change, Update};
 use crate::desk::{Desk, no_memory};
 use crate::snapshot::Snapshot;
 use farm_base::{ApplyFault, NoMemory};
@@ -12,7 +13,7 @@ use std::alloc::Global;
 use std::sync::Arc;
 
 /// A desk for each layer.
-fn desks<'a>(alloc: Global, shared: &'a [Arc<Layer>]) -> Result<Vec<Desk<'a>>, NoMemory>
+fn desks<'a>(alloc: Global, shared: &'a [Arc<ChunkedLayer>]) -> Result<Vec<Desk<'a>>, NoMemory>
     requires { All IsLayer (shared_layers shared.now) }
     ensures { IfOk result (λ desks. desks.items ≡ shared_layers shared.now) }
 {
@@ -70,7 +71,7 @@ fn change_all<'a>(
 }
 
 /// The layers as they are on their desks.
-fn finish(alloc: Global, desks: &[Desk<'_>]) -> Result<Vec<Arc<Layer>>, NoMemory>
+fn finish(alloc: Global, desks: &[Desk<'_>]) -> Result<Vec<Arc<ChunkedLayer>>, NoMemory>
     ensures same { IfOk result (λ shared. shared_layers shared.items ≡ desks.now) }
     ensures valid { OnOk result (All IsLayer desks.now) }
 {
@@ -84,7 +85,8 @@ fn finish(alloc: Global, desks: &[Desk<'_>]) -> Result<Vec<Arc<Layer>>, NoMemory
 /// The snapshot after the update's changes in order, within each the removals in order and then the puts in
 /// order: a put with a known id replaces in place, and one with a new id goes last. Else the first fault in
 /// order: a change of a layer that there is not, a removal of an id that its layer does not hold (any more),
-/// a put that would give its layer more than 1,000,000 features. The old snapshot stays as it is.
+/// a put that would give its layer more than 1,000,000 features. The old snapshot stays as it is, and the two
+/// share the layers, and in a changed layer the chunks, in which nothing changed.
 #[tactic(auto, using(crate::proofs::Named::dataset_kept))]
 pub fn apply(alloc: Global, old: &Snapshot, update: &Update) -> Result<Snapshot, ApplyFault>
     ensures done { IfOk result (λ next. updated update.now old.now ≡ Ok next) }

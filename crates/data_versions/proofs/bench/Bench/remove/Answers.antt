@@ -1,5 +1,8 @@
 use Rattle.std.proofs.Common.{arith, sym, ◌∙◌}
 use Rattle.data_versions.proofs.Slots.{knows_removed, removed_is, removed_count, has_place, has_no_place, in_bounds}
+use Rattle.std.specs.Prelude.{None}
+use Rattle.data_versions.specs.Chunks.{joined}
+use Rattle.data_versions.proofs.Old.{old_set}
 use Rattle.data_versions.proofs.bench.Bench.remove.Goals as goal
 
 pub index_mut-requires : goal.index_mut-requires
@@ -16,6 +19,7 @@ invariant_of-self c =
       knows_removed c.self.inside.places c.remove.new.self c.self.inside.slots.items c.args.id c.in-Some.place c.self.invariant.0 here c.remove.ensures.updates,
       omega (arith, c.self.invariant.1, removed_count c.self.inside.places c.self.inside.slots.items c.args.id c.in-Some.place c.self.invariant.0 here),
       omega (arith, c.self.invariant.2),
+      old_set c.self.inside.slots.items (joined c.self.inside.chunks.now) c.in-Some.place None c.self.invariant.3 (λ _. tt),
     )
 
 pub returns-in-Some-clause-found : goal.returns-in-Some-clause-found

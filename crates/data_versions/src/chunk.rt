@@ -1,0 +1,160 @@
+//! A chunk of a layer: up to 256 features that snapshots share, with the box and the cells in which they lie.
+ghost use Rattle.std.specs.Prelude.{◌≡◌, ◌≤◌, ◌<◌, ◌+◌, false, length, drop, position, slice_get, All, IfSome};
+ghost use Rattle.std.specs.Option.{option_copied};
+ghost use Rattle.data_versions.specs.Near.{place_of, is_near};
+ghost use Rattle.data_versions.specs.Cells.{IsWide, IsBoxed, IsMarked, box_of};
+ghost use Rattle.geo_model.specs.Bounds.{Within};
+
+use crate::cells::cells_met;
+use geo_model::{Bounds, Feature};
+use std::marker::Model;
+
+/// The most features of a chunk.
+pub(crate) const MOST_TOGETHER: usize = 256;
+
+/// Up to 256 features, the box that holds them, and those of its eight by eight cells that they meet: the
+/// bit `8 * row + column` stands for a cell, counted from the north and from the west. Contracts see it as
+/// the list of its features.
+#[derive(Drop)]
+pub(crate) struct Chunk {
+    features: Vec<Feature>,
+    bounds: Bounds,
+    cells: u64,
+}
+
+impl Model for Chunk {
+    ghost use Rattle.std.specs.Prelude.{List};
+    ghost use Rattle.plain_drawing.specs.Features.{Feature};
+    ghost use Rattle.data_versions.specs.Cells.{IsChunk};
+
+    ghost Value = { List Feature };
+
+    ghost view = { λ c. c.features.items };
+
+    ghost invariant = { λ c. IsChunk c.bounds c.cells c.features.items };
+}
+
+/// The least rectangle that holds both.
+fn widened(bounds: Bounds, part: Bounds) -> Bounds
+    ensures old { Within bounds result }
+    ensures new { Within part result }
+{
+    Bounds {
+        west: bounds.west.min(part.west),
+        north: bounds.north.min(part.north),
+        east: bounds.east.max(part.east),
+        south: bounds.south.max(part.south),
+    }
+}
+
+/// The feature's box, which holds a point.
+fn wide_box(feature: &Feature) -> Bounds
+    ensures value { result ≡ box_of feature.now }
+    ensures wide { IsWide result }
+{
+    let _geometry = feature.geometry();
+    feature.bbox()
+}
+
+/// The box that holds all the features.
+fn box_around(features: &[Feature]) -> Bounds
+    ensures { All (IsBoxed result) features.now }
+{
+    let mut bounds = Bounds {
+        west: u32::MAX,
+        north: u32::MAX,
+        east: 0,
+        south: 0,
+    };
+    for feature in features {
+        bounds = widened(bounds, wide_box(feature));
+    }
+    bounds
+}
+
+/// The cells of the box that the features meet.
+fn cells_under(bounds: Bounds, features: &[Feature]) -> u64
+    ensures { All (IsMarked bounds result) features.now }
+{
+    let mut cells = 0;
+    for feature in features {
+        cells |= cells_met(bounds, feature.bbox());
+    }
+    cells
+}
+
+impl Chunk {
+    /// The chunk of the features; takes no memory.
+    pub(crate) fn of(features: Vec<Feature>) -> Chunk
+        requires { length features.items ≤ 256 }
+        ensures { result ≡ features.items }
+    {
+        let bounds = box_around(features.as_slice());
+        let cells = cells_under(bounds, features.as_slice());
+        Chunk {
+            features,
+            bounds,
+            cells,
+        }
+    }
+
+    /// The features in order.
+    pub(crate) fn features(&self) -> &[Feature]
+        ensures value { result.now ≡ self.now }
+        ensures few { length self.now ≤ 256 }
+    {
+        self.features.as_slice()
+    }
+
+    /// The feature at the place.
+    pub(crate) fn get(&self, i: usize) -> Option<&Feature>
+        ensures { option_copied result ≡ slice_get self.now i }
+    {
+        self.features.get(i)
+    }
+
+    /// Whether a cell of the features meets the rectangle; if none does, no feature is near it.
+    fn may_meet(&self, around: Bounds) -> bool
+        requires { IsWide around }
+        ensures { result ≡ false → All (λ f. is_near around f ≡ false) self.now }
+    {
+        self.cells & cells_met(self.bounds, around) != 0
+    }
+
+    /// How many steps past the place `from` the first feature near the rectangle stands.
+    pub(crate) fn next_near(&self, from: usize, around: Bounds) -> Option<usize>
+        requires { IsWide around }
+        ensures steps { result ≡ position (is_near around) (drop from self.now) }
+        ensures bound { IfSome result (λ steps. from + steps < length self.now) }
+    {
+        if !self.may_meet(around) {
+            return None;
+        }
+        if from >= self.features.len() {
+            return None;
+        }
+        find_near(&self.features[from..], around)
+    }
+
+    /// The place of the feature with the id.
+    pub(crate) fn place_of(&self, id: u64) -> Option<usize>
+        ensures place { result ≡ place_of self.now id }
+        ensures bound { IfSome result (λ place. place < length self.now) }
+    {
+        self.features.iter().position(|f| f.id() == id)
+    }
+}
+
+fn is_near(feature: &Feature, around: Bounds) -> bool
+    ensures { result ≡ is_near around feature.now }
+{
+    feature.bbox().meets(&around)
+}
+
+/// The first place of a feature near the rectangle.
+fn find_near(features: &[Feature], around: Bounds) -> Option<usize>
+    ensures place { result ≡ position (is_near around) features.now }
+    ensures bound { IfSome result (λ place. place < length features.now) }
+{
+    features.iter().position(|f| is_near(f, around))
+}

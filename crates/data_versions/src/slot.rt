@@ -1,0 +1,130 @@
+//! The slots of a layer while an update changes it.
+ghost use Rattle.std.specs.Prelude.{◌≡◌, ◌++◌, true, false, nat_eq, length, map, Some, IfOk, OnOk};
+ghost use Rattle.std.specs.List.{IsDistinct, list_all};
+ghost use Rattle.std.specs.Option.{option_to_list};
+ghost use Rattle.std.specs.Arc.{arc_value};
+ghost use Rattle.plain_drawing.specs.Data.{ids_of};
+ghost use Rattle.data_versions.specs.Slots.{standing_in, standing, is_old, old_in, HasOld, KnowsPlaces};
+ghost use Rattle.data_versions.specs.Chunks.{joined};
+
+use crate::chunk::Chunk;
+use crate::pack::Pack;
+use farm_base::NoMemory;
+use geo_model::Feature;
+use std::alloc::Global;
+use std::collections::BTreeMap;
+use std::sync::Arc;
+
+/// A feature in its slot, and whether it stands there from the start.
+#[derive(Clone, Copy)]
+pub(crate) struct Slot<'a> {
+    pub(crate) feature: &'a Feature,
+    pub(crate) is_old: bool,
+}
+
+/// Adds a slot for each of the features, which stand there from the start.
+fn add_old<'a>(slots: &mut Vec<Option<Slot<'a>>>, features: &'a [Feature]) -> Result<(), NoMemory>
+    ensures { OnOk result (map old_in slots.new.items ≡ map old_in slots.old.items ++ map Some features.now) }
+{
+    for feature in features {
+        slots.push(Some(Slot {
+            feature,
+            is_old: true,
+        }))?;
+    }
+    Ok(())
+}
+
+/// A slot for each feature of the chunks.
+pub(crate) fn old_slots<'a>(
+    alloc: Global,
+    chunks: &'a [Arc<Chunk>],
+) -> Result<Vec<Option<Slot<'a>>>, NoMemory>
+    ensures { IfOk result (λ slots. map old_in slots.items ≡ map Some (joined chunks.now)) }
+{
+    let mut slots = Vec::new(alloc);
+    for shared in chunks {
+        let chunk: &'a Chunk = shared;
+        add_old(&mut slots, chunk.features())?;
+    }
+    Ok(slots)
+}
+
+/// In which slot each id stands.
+pub(crate) fn places_of(
+    alloc: Global,
+    slots: &[Option<Slot<'_>>],
+) -> Result<BTreeMap<u64, usize>, NoMemory>
+    requires { IsDistinct nat_eq (ids_of (standing slots.now)) }
+    ensures { IfOk result (λ places. KnowsPlaces places slots.now) }
+{
+    let mut places = BTreeMap::new(alloc);
+    for (place, slot) in slots.iter().enumerate() {
+        match slot {
+            Some(here) => {
+                places.insert(here.feature.id(), place)?;
+            }
+            None => {}
+        }
+    }
+    Ok(places)
+}
+
+fn is_old(slot: &Option<Slot<'_>>) -> bool
+    ensures { result ≡ is_old slot.now }
+{
+    match slot {
+        Some(here) => here.is_old,
+        None => false,
+    }
+}
+
+/// Whether each slot has the feature that it had from the start.
+fn are_old(slots: &[Option<Slot<'_>>]) -> bool
+    ensures { result ≡ list_all is_old slots.now }
+{
+    slots.iter().all(|slot| is_old(slot))
+}
+
+/// Adds a copy of the feature that stands in the slot, if there is one.
+fn copy_slot(alloc: Global, slot: &Option<Slot<'_>>, pack: &mut Pack) -> Result<(), NoMemory>
+    ensures { OnOk result (pack.new ≡ pack.old ++ option_to_list (standing_in slot.now)) }
+{
+    match slot {
+        Some(here) => pack.add(alloc, here.feature.copy(alloc)?),
+        None => Ok(()),
+    }
+}
+
+/// Adds copies of the features that stand in the slots.
+pub(crate) fn copy_slots(
+    alloc: Global,
+    slots: &[Option<Slot<'_>>],
+    pack: &mut Pack,
+) -> Result<(), NoMemory>
+    ensures { OnOk result (pack.new ≡ pack.old ++ standing slots.now) }
+{
+    for slot in slots {
+        copy_slot(alloc, slot, pack)?;
+    }
+    Ok(())
+}
+
+/// Adds what stands in the slots of the chunk. Where nothing changed there, and it may be, the chunk is
+/// shared.
+pub(crate) fn keep_chunk(
+    alloc: Global,
+    chunk: &Arc<Chunk>,
+    may_share: bool,
+    slots: &[Option<Slot<'_>>],
+    pack: &mut Pack,
+) -> Result<(), NoMemory>
+    requires old { HasOld slots.now (arc_value chunk.now) }
+    requires long { length slots.now ≡ length (arc_value chunk.now) }
+    ensures { OnOk result (pack.new ≡ pack.old ++ standing slots.now) }
+{
+    if may_share && are_old(slots) {
+        return pack.share(alloc, chunk);
+    }
+    copy_slots(alloc, slots, pack)
+}
