@@ -1,16 +1,27 @@
 //! Updates of a snapshot, and what the old one still shows.
 ghost use Rattle.plain_drawing.specs.Data.{IsLayer, IsChange};
 
-use crate::{ApplyFault, Change, Dataset, Feature, Layer, Snapshot, Update, apply};
+use crate::{ApplyFault, Change, Dataset, Feature, Layer, LayerView, Snapshot, Update, apply};
 use farm_base::{NoMemory, Text};
 use geo_model::{Geometry, Path, Point, make_feature};
 use std::alloc::Global;
 use std::test::Fail;
 
-// A feature of one point, as far east as its id says.
+// Where the feature of the id is: as far east as the id says, and from 2,000 on spread over a square.
+fn spot(id: u32) -> Point {
+    if id < 2000 {
+        return Point { x: id % 1024, y: 7 };
+    }
+    Point {
+        x: id.wrapping_mul(37) % 1024,
+        y: id.wrapping_mul(id) % 1021,
+    }
+}
+
+// A feature of one point.
 fn feature(alloc: Global, id: u32) -> Result<Option<Feature>, NoMemory> {
     let mut points = Vec::new(alloc);
-    points.push(Point { x: id % 1024, y: 7 })?;
+    points.push(spot(id))?;
     let geometry = Geometry::Points(Path { points });
     Ok(make_feature(u64::from(id), geometry, Vec::new(alloc)).ok())
 }
@@ -79,6 +90,75 @@ fn after(
     Ok(apply(alloc, old, &update))
 }
 
+// What a plain list of ids is after the change.
+fn plain_after(
+    alloc: Global,
+    ids: &[u32],
+    remove: &[u64],
+    put: &[u32],
+) -> Result<Vec<u32>, NoMemory> {
+    let mut left = Vec::new(alloc);
+    for id in ids {
+        if !remove.contains(&u64::from(*id)) {
+            left.push(*id)?;
+        }
+    }
+    for id in put {
+        if !left.contains(id) {
+            left.push(*id)?;
+        }
+    }
+    Ok(left)
+}
+
+// Whether the layer has exactly these ids, each at its place.
+fn shows(view: &LayerView<'_>, ids: &[u32]) -> bool {
+    if ids.len() > 10_000 {
+        return false;
+    }
+    for (place, id) in ids.iter().enumerate() {
+        let place = place as u32;
+        if view.get(place).map(|f| f.id()) != Some(u64::from(*id)) {
+            return false;
+        }
+        if view.place_of(u64::from(*id)) != Some(place) {
+            return false;
+        }
+    }
+    view.len() as usize == ids.len()
+}
+
+// The place of the next feature in the square of 100 units, in a plain list of ids.
+fn plain_next(ids: &[u32], from: u32, corner: Point) -> Option<usize> {
+    for (place, id) in ids.iter().enumerate() {
+        let p = spot(*id);
+        let across = corner.x <= p.x && p.x - corner.x <= 100;
+        let down = corner.y <= p.y && p.y - corner.y <= 100;
+        if place >= from as usize && across && down {
+            return Some(place);
+        }
+    }
+    None
+}
+
+// Whether the layer and the plain list have the same next feature from the place on, in each of a hundred
+// squares.
+fn finds_as_plain(view: &LayerView<'_>, ids: &[u32], from: u32) -> bool {
+    for column in 0..10u32 {
+        for row in 0..10u32 {
+            let corner = Point {
+                x: column * 100,
+                y: row * 100,
+            };
+            let found = view.next_near(from, corner.x, corner.y, corner.x + 100, corner.y + 100);
+            if found.map(|place| place as usize) != plain_next(ids, from, corner) {
+                return false;
+            }
+        }
+    }
+    true
+}
+
 fn is_shared<T: Send + Sync>(_shared: &T) -> bool {
     true
 }
@@ -125,5 +205,43 @@ fn refused_updates(rt: HostRuntime) -> Result<(), Fail> {
     let moved = after(alloc, &next, "land", &[1], &[1])??;
     let view = moved.layer("land").ok_or("no layer")?;
     assert_eq!(rt; view.place_of(1), Some(1));
+    Ok(())
+}
+
+#[test]
+fn changes_in_many_chunks(rt: HostRuntime) -> Result<(), Fail> {
+    let alloc = rt.alloc();
+    let empty = Snapshot::first(alloc, bare(alloc, "roads")?.ok_or("no data")?)?;
+    let mut ids = Vec::new(alloc);
+    for id in 1..1001u32 {
+        ids.push(id)?;
+    }
+    let first = after(alloc, &empty, "roads", &[], ids.as_slice())??;
+    let mut remove = Vec::new(alloc);
+    for id in 1..1001u64 {
+        if id % 7 == 0 || (id > 256 && id <= 512) {
+            remove.push(id)?;
+        }
+    }
+    let put = [3, 900, 2000, 700, 2001, 2000];
+    let next = after(alloc, &first, "roads", remove.as_slice(), &put)??;
+    let plain = plain_after(alloc, ids.as_slice(), remove.as_slice(), &put)?;
+    let mut spread = Vec::new(alloc);
+    for id in 2100..2800u32 {
+        spread.push(id)?;
+    }
+    let gone = [1, 2, 600, 700];
+    let last = after(alloc, &next, "roads", &gone, spread.as_slice())??;
+    let longer = plain_after(alloc, plain.as_slice(), &gone, spread.as_slice())?;
+    assert_eq!(rt; longer.len(), 1338);
+    let view = first.layer("roads").ok_or("no layer")?;
+    assert!(rt; shows(&view, ids.as_slice()) && finds_as_plain(&view, ids.as_slice(), 300));
+    let view = next.layer("roads").ok_or("no layer")?;
+    assert!(rt; shows(&view, plain.as_slice()) && finds_as_plain(&view, plain.as_slice(), 0));
+    let view = last.layer("roads").ok_or("no layer")?;
+    assert!(rt; shows(&view, longer.as_slice()));
+    assert!(rt;
+        finds_as_plain(&view, longer.as_slice(), 0) && finds_as_plain(&view, longer.as_slice(), 700)
+    );
     Ok(())
 }
