@@ -1,0 +1,41 @@
+//! Runs the commands that stand in the file `cases`, one a line, over the files beside it, and writes of each
+//! what it puts on out, then what it puts on err, then its status. What is wanted of it was computed by another
+//! program, which was written from the formats alone.
+#![tactic(auto)]
+
+use farm_base::{DiskFiles, Files, MemSink, OutSink, Sink};
+use farm_call::farm_main;
+use std::alloc::Global;
+use std::process::ExitCode;
+use std::str;
+
+fn main(rt: HostRuntime) -> ExitCode {
+    match run(rt) {
+        Some(()) => ExitCode::SUCCESS,
+        None => ExitCode::FAILURE,
+    }
+}
+
+// None where the cases cannot be read, a put on out fails, or memory runs out.
+fn run(rt: HostRuntime) -> Option<()> {
+    let alloc = rt.alloc();
+    let mut files = DiskFiles::new(rt);
+    let mut out = OutSink::new(rt.stdout());
+    let cases = files.read(alloc, "cases").ok()?;
+    for line in str::from_utf8(cases.as_slice()).ok()?.lines() {
+        case(alloc, line, &mut files, &mut out)?;
+    }
+    Some(())
+}
+
+fn case<F: Files, O: Sink>(alloc: Global, line: &str, files: &mut F, out: &mut O) -> Option<()> {
+    let mut words = Vec::new(alloc);
+    for word in line.split(' ') {
+        words.push(String::from_str(alloc, word).ok()?).ok()?;
+    }
+    let mut err = MemSink::new(alloc, 1000, Vec::new(alloc)).ok()?;
+    let status = farm_main(alloc, words.as_slice(), files, out, &mut err);
+    out.put(err.bytes()).ok()?;
+    let end = format!(in alloc; "status {status}\n").ok()?;
+    out.put(end.as_bytes()).ok()
+}
