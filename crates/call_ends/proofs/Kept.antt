@@ -1,5 +1,5 @@
 -- What files tell stays as it was, unless a read failed and ended the command.
-use Rattle.std.proofs.Common.{◌≡◌, ◌≢◌, ℕ, ◌⊎◌, inl, inr, List, refl, ap, subst, ◌∙◌}
+use Rattle.std.proofs.Common.{◌≡◌, ◌≢◌, ℕ, ◌⊎◌, inl, inr, List, refl, sym, ap, subst, ◌∙◌}
 use Rattle.std.specs.Prelude.{Option, Some, Result, Ok, Err, Vec, MatchResult}
 use Rattle.std.specs.declared.alloc.Global.{Global}
 use Rattle.farm_base.specs.Outside.{FilesTold, Reads}
@@ -8,6 +8,7 @@ use Rattle.farm_base.specs.declared.files.FileFault.TheVariants as file
 use Rattle.reading.specs.Steps.{Gives, seen}
 use Rattle.call_ends.specs.Stops.{unreadable_line}
 use Rattle.call_ends.specs.Ends.{FilesAt, SinkAt, said, Checks, PutsMade}
+use Rattle.call_ends.specs.Promises.{Means}
 use Rattle.call_ends.specs.declared.stops.Stop.{Stop}
 use Rattle.call_ends.specs.declared.stops.Stop.TheVariants as stop
 
@@ -81,3 +82,13 @@ seen_kept f t new (Err s) result is kept = err_kept t new s (Err s) result refl 
 pub made_kept : (t : FilesTold) (new : FilesAt) (made : Result (Vec ℕ Global) Stop) (out out' : SinkAt) (end : Result (Unit {0}) Stop) → PutsMade out out' made end → Kept t new made → Kept t new end
 made_kept t new (Ok v) out out' end put kept = inl (ok_kept t new v kept)
 made_kept t new (Err s) out out' end put kept = err_kept t new s (Err s) end refl put.0 kept
+
+-- a file means something or has a fault, and not both
+pub means_apart : {A F : Type 0} (meaning : List ℕ → Result A F) (held : List ℕ → Option (List ℕ)) (name : List ℕ) (x : A) (f : F)
+    → Means meaning held name (Ok x) → Means meaning held name (Err f) → ⊥
+means_apart {A} {F} meaning held name x f a b =
+    let one : Some a.0 ≡ Some b.0 = sym a.1 ∙ b.1 in
+    let same : a.0 ≡ b.0 = cc in
+    let good : Result A F = Ok x in
+    let both : good ≡ Err f = sym a.2 ∙ ap meaning same ∙ b.2 in
+    cc

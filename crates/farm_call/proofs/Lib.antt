@@ -1,4 +1,5 @@
 pub mod Asked
 pub mod Done
 pub mod Parts
+pub mod Refusals
 pub mod Statuses

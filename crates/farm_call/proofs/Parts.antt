@@ -41,7 +41,7 @@ made_part (Ok v) out out' end before taken h =
 made_part (Err s) out out' end before taken h = inr h.1
 
 -- a put of these bytes into an empty sink
-whole : (v : Vec ℕ Global) → PutsMade (sink_at (Some []) 0) (sink_at (Some v.items) 0) (Ok v) (Ok tt)
+pub whole : (v : Vec ℕ Global) → PutsMade (sink_at (Some []) 0) (sink_at (Some v.items) 0) (Ok v) (Ok tt)
 whole v = record { put = Ok tt; bytes_put = refl; counted = refl; ends = refl }
 
 -- what the command was to put, and the front of it that was put

@@ -15,6 +15,7 @@ use Rattle.farm_call.specs.Promises.{RefusedFile, UnreadFile, IsValid, Done, Par
 use Rattle.farm_call.proofs.Asked.{asked_one}
 use Rattle.farm_call.proofs.Done.{does_ok, does_refused, does_unread, does_files_rose, does_out_rose, does_no_words, does_nothing, does_complete, does_kept, valid_built}
 use Rattle.farm_call.proofs.Parts.{Part, does_part}
+use Rattle.farm_call.proofs.Refusals.{EndsRefused, refused_built, does_refusing}
 
 -- ---- by the way a command ends
 
@@ -89,6 +90,16 @@ ends_valid words t files files' out out' end c asks e valid calm still (inl run)
     does_complete files files' out out' run.0 t e (subst (λ (x : Command). IsValid x t.content) same valid) calm still end run.3
 ends_valid words t files files' out out' end c asks e valid calm still (inr (inl none)) = absurd (none.0 c (valid_built c t.content valid) asks)
 ends_valid words t files files' out out' end c asks e valid calm still (inr (inr wants)) = inr wants.ends
+
+-- the words ask for a command of whose files one is refused, and no count rises: it ends with a refusal, or memory was wanting
+ends_refused : (words : List (List ℕ)) (t : FilesTold) (files files' : FilesAt) (out out' : SinkAt) (end : Result (Unit {0}) Stop) (c : Command) (line : List ℕ) → AsksFor words c
+    → files.told ≡ Some t → RefusedFile c t.content line → (Rose files.faults files'.faults → ⊥) → (Rose out.faults out'.faults → ⊥)
+    → Runs words files files' out out' end → EndsRefused end
+ends_refused words t files files' out out' end c line asks e bad calm still (inl run) =
+    let same : c ≡ run.0 = asked_one words c run.0 asks run.1 in
+    does_refusing run.0 line files files' out out' t e (subst (λ (x : Command). RefusedFile x t.content line) same bad) calm still end run.3
+ends_refused words t files files' out out' end c line asks e bad calm still (inr (inl none)) = absurd (none.0 c (refused_built c t.content line bad) asks)
+ends_refused words t files files' out out' end c line asks e bad calm still (inr (inr wants)) = inr wants.ends
 
 -- what the files tell stays, unless a read failed, or memory was wanting
 runs_kept : (words : List (List ℕ)) (t : FilesTold) (files files' : FilesAt) (out out' : SinkAt) (end : Result (Unit {0}) Stop) → files.told ≡ Some t
@@ -178,5 +189,14 @@ module _ (words : List (List ℕ)) (files files' : FilesAt) (out out' err err' :
   complete c asks t e valid calm still quiet =
       elim (ends_valid words t files files' out out' ends.end c asks e valid calm still ends.ran) [
         | inl h ↦ elim (status_at (Ok tt) h) [ inl zero ↦ inl zero | inr four ↦ absurd (quiet four.1) ]
+        | inr h ↦ elim (status_at (Err stop.NoMemory) h) [ inl five ↦ inr five | inr four ↦ absurd (quiet four.1) ]
+      ]
+
+  -- where the words ask for a command of whose files one is refused and no count rises, the status is 1, or 5 for want of memory
+  pub refusing : (c : Command) (line : List ℕ) → AsksFor words c → (t : FilesTold) → files.told ≡ Some t → RefusedFile c t.content line
+      → (Rose files.faults files'.faults → ⊥) → (Rose out.faults out'.faults → ⊥) → (Rose err.faults err'.faults → ⊥) → (result ≡ 1) ⊎ (result ≡ 5)
+  refusing c line asks t e bad calm still quiet =
+      elim (ends_refused words t files files' out out' ends.end c line asks e bad calm still ends.ran) [
+        | inl h ↦ elim (status_at (Err (stop.Refused h.0)) h.1) [ inl one ↦ inl one | inr four ↦ absurd (quiet four.1) ]
         | inr h ↦ elim (status_at (Err stop.NoMemory) h) [ inl five ↦ inr five | inr four ↦ absurd (quiet four.1) ]
       ]

@@ -5,7 +5,7 @@ ghost use Rattle.farm_words.specs.declared.command.Command as words_command;
 ghost use Rattle.call_ends.specs.Ends.{files_at, sink_at, EndsWith};
 ghost use Rattle.farm_call.specs.Words.{AsksFor, AsksNothing};
 ghost use Rattle.farm_call.specs.Runs.{IsSound, Does, Runs};
-ghost use Rattle.farm_call.specs.Promises.{IsValid, Done, Cut, Refusal, Unread};
+ghost use Rattle.farm_call.specs.Promises.{RefusedFile, IsValid, Done, Cut, Refusal, Unread};
 
 use call_ends::{Stop, report};
 use farm_base::{Files, Sink};
@@ -36,6 +36,9 @@ pub fn farm_main<F: Files, O: Sink, E: Sink>(
         → Done (map string_bytes words.now) t.content before (O.taken out.new) }
     ensures refused { result ≡ 1 → (t : FilesTold) → F.told files.old ≡ Some t
         → Refusal (map string_bytes words.now) t.content (E.taken err.old) (E.taken err.new) }
+    ensures refusing { (c : words_command.Command) → (line : List ℕ) → AsksFor (map string_bytes words.now) c → (t : FilesTold) → F.told files.old ≡ Some t → RefusedFile c t.content line
+        → ¬ (Rose (F.faults files.old) (F.faults files.new)) → ¬ (Rose (O.faults out.old) (O.faults out.new)) → ¬ (Rose (E.faults err.old) (E.faults err.new))
+        → (result ≡ 1) ⊎ (result ≡ 5) }
     ensures words { result ≡ 2 → AsksNothing (map string_bytes words.now) }
     ensures no_words { AsksNothing (map string_bytes words.now) → (result ≡ 2) ⊎ ((result ≡ 5) ⊎ ((result ≡ 4) × Rose (E.faults err.old) (E.faults err.new))) }
     ensures unread { result ≡ 3 → (t : FilesTold) → F.told files.old ≡ Some t

@@ -1,3 +1,4 @@
+pub mod Apart
 pub mod Kept
 pub mod Promised
 pub mod Written

@@ -1,3 +1,4 @@
+pub mod Apart
 pub mod Grids
 pub mod Kept
 pub mod Pixels

@@ -33,3 +33,6 @@ returns-clause-complete g c = status.complete _ _ _ _ _ _ _ _ (record { end = c.
 
 pub returns-clause-one_failed : goal.returns-clause-one_failed
 returns-clause-one_failed g c = status.one_failed _ _ _ _ _ _ _ _ (record { end = c.command-end.result; ran = c.command-end.ensures; reports = c.report.ensures })
+
+pub returns-clause-refusing : goal.returns-clause-refusing
+returns-clause-refusing g c = status.refusing _ _ _ _ _ _ _ _ (record { end = c.command-end.result; ran = c.command-end.ensures; reports = c.report.ensures })
