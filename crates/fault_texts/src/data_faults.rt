@@ -42,12 +42,7 @@ fn id_text(alloc: Global, part: u32, id: u64) -> Result<Text, NoMemory>
     Ok(Text::from_string(format!(in alloc; "dataset 4 at {part} id {id}")?))
 }
 
-fn geometry_text(
-    alloc: Global,
-    fault: GeoFault,
-    part: u32,
-    item: u32,
-) -> Result<Text, NoMemory>
+fn geometry_text(alloc: Global, fault: GeoFault, part: u32, item: u32) -> Result<Text, NoMemory>
     ensures { IfOk result (λ t. spec.geometry_text fault part item ≡ Some t) }
 {
     match fault {

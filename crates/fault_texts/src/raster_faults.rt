@@ -12,9 +12,7 @@ pub fn ppm_text(alloc: Global, fault: PpmFault) -> Result<Text, NoMemory>
     ensures { IfOk result (λ t. spec.ppm_text fault ≡ Some t) }
 {
     match fault {
-        PpmFault::Bad(offset) => {
-            Ok(Text::from_string(format!(in alloc; "ppm 1 at {offset}")?))
-        }
+        PpmFault::Bad(offset) => { Ok(Text::from_string(format!(in alloc; "ppm 1 at {offset}")?)) }
         PpmFault::TooLarge => Text::of(alloc, "ppm 2"),
         PpmFault::NoMemory => Err(NoMemory),
     }

@@ -66,12 +66,7 @@ fn offset_text_at(alloc: Global, at: At, filter: &str, offset: usize) -> Result<
     offset_text(alloc, style.as_str(), filter, offset)
 }
 
-fn offset_text(
-    alloc: Global,
-    style: &str,
-    filter: &str,
-    offset: usize,
-) -> Result<Text, NoMemory>
+fn offset_text(alloc: Global, style: &str, filter: &str, offset: usize) -> Result<Text, NoMemory>
     ensures { IfOk result (λ t. t ≡ style.now ++ codes " " ++ filter.now ++ codes " " ++ decimal offset) }
 {
     Ok(Text::from_string(format!(in alloc; "{style} {filter} {offset}")?))
