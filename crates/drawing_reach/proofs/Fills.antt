@@ -5,8 +5,8 @@ use Rattle.std.specs.List.{AllByRecursion}
 use Rattle.std.proofs.Math.Nat.{mul-le-mul_left}
 use Rattle.std.proofs.lemmas.Bool.{cases_lt, le-leb, lt-leb}
 use Rattle.plain_drawing.specs.declared.world.Point.{Point}
-use Rattle.plain_drawing.specs.Rings.{counts_upward, counts, edges_from, ring_edges, in_rings}
-use Rattle.plain_drawing.proofs.Signs.{upward_is, off_above, off_below}
+use Rattle.plain_drawing.specs.Rings.{counts_down, counts, edges_from, ring_edges, in_rings}
+use Rattle.plain_drawing.proofs.Signs.{downward_is, off_above, off_below}
 use Rattle.raster_core.specs.Toggles.{flip, odd_edges}
 use Rattle.raster_core.proofs.Toggling.{odd_cons, odd_append}
 use Rattle.geo_model.specs.declared.bounds.Bounds.{Bounds}
@@ -41,12 +41,12 @@ rings_off Q c off (r ∷ rs) h =
     ∙ ap (λ t. flip t (in_rings rs c)) (off r h.0)
     ∙ rings_off Q c off rs h.1
 
-by_order : (a b c : Point) (t : Bool) → counts_upward a b c ≡ false → counts_upward b a c ≡ false
-    → (if t then counts_upward a b c else counts_upward b a c) ≡ false
+by_order : (a b c : Point) (t : Bool) → counts_down a b c ≡ false → counts_down b a c ≡ false
+    → (if t then counts_down a b c else counts_down b a c) ≡ false
 by_order a b c true p q = p
 by_order a b c false p q = q
 
-edge_off : (a b c : Point) → counts_upward a b c ≡ false → counts_upward b a c ≡ false → counts (a, b) c ≡ false
+edge_off : (a b c : Point) → counts_down a b c ≡ false → counts_down b a c ≡ false → counts (a, b) c ≡ false
 edge_off a b c p q = by_order a b c (nat_le a.y b.y) p q
 
 -- ---- to the west of an edge
@@ -57,13 +57,13 @@ west_sum r s ax bx cx some p q =
     let b : cx + 1 ≤ bx = omega arith in
     omega (arith, mul-le-mul_left r b, mul-le-mul_left s a)
 
-west_upward : (a b c : Point) → c.x < a.x → c.x < b.x → counts_upward a b c ≡ false
-west_upward a b c p q = elim (cases_lt c.y a.y) [
+west_down : (a b c : Point) → c.x < a.x → c.x < b.x → counts_down a b c ≡ false
+west_down a b c p q = elim (cases_lt c.y a.y) [
   | inl above ↦ off_above a b c above
   | inr from ↦ (elim (cases_lt c.y b.y) [
     | inl before ↦ (
         let h : b.y - a.y ≡ c.y - a.y + (b.y - c.y) = omega arith in
-        sym (upward_is a b c from before)
+        sym (downward_is a b c from before)
         ∙ ap (λ t. nat_le ((c.y - a.y) * b.x + (b.y - c.y) * a.x) (t * c.x)) h
         ∙ lt-leb ((c.y - a.y) * b.x + (b.y - c.y) * a.x) ((c.y - a.y + (b.y - c.y)) * c.x) (west_sum (c.y - a.y) (b.y - c.y) a.x b.x c.x (omega arith) p q))
     | inr below ↦ off_below a b c below
@@ -75,13 +75,13 @@ west_upward a b c p q = elim (cases_lt c.y a.y) [
 east_sum : (r s ax bx cx : ℕ) → ax ≤ cx → bx ≤ cx → r * bx + s * ax ≤ (r + s) * cx
 east_sum r s ax bx cx p q = omega (arith, mul-le-mul_left r q, mul-le-mul_left s p)
 
-east_upward : (a b c : Point) → a.y ≤ b.y → a.x ≤ c.x → b.x ≤ c.x → counts_upward a b c ≡ flip (nat_le a.y c.y) (nat_le b.y c.y)
-east_upward a b c down p q = elim (cases_lt c.y a.y) [
+east_down : (a b c : Point) → a.y ≤ b.y → a.x ≤ c.x → b.x ≤ c.x → counts_down a b c ≡ flip (nat_le a.y c.y) (nat_le b.y c.y)
+east_down a b c down p q = elim (cases_lt c.y a.y) [
   | inl above ↦ off_above a b c above ∙ sym (ap (λ t. flip t (nat_le b.y c.y)) (lt-leb a.y c.y above) ∙ lt-leb b.y c.y (omega arith))
   | inr from ↦ (elim (cases_lt c.y b.y) [
     | inl before ↦ (
         let h : b.y - a.y ≡ c.y - a.y + (b.y - c.y) = omega arith in
-        sym (upward_is a b c from before)
+        sym (downward_is a b c from before)
         ∙ ap (λ t. nat_le ((c.y - a.y) * b.x + (b.y - c.y) * a.x) (t * c.x)) h
         ∙ le-leb ((c.y - a.y) * b.x + (b.y - c.y) * a.x) ((c.y - a.y + (b.y - c.y)) * c.x) (east_sum (c.y - a.y) (b.y - c.y) a.x b.x c.x p q)
         ∙ sym (ap (λ t. flip t (nat_le b.y c.y)) (le-leb a.y c.y from) ∙ ap not (lt-leb b.y c.y before)))
@@ -110,9 +110,9 @@ flip_chain false false t = refl
 east_edge : (a b c : Point) → a.x ≤ c.x → b.x ≤ c.x → counts (a, b) c ≡ flip (nat_le a.y c.y) (nat_le b.y c.y)
 east_edge a b c p q = elim (cases_lt b.y a.y) [
   | inl up ↦ (
-      ap (λ t. if t then counts_upward a b c else counts_upward b a c) (lt-leb a.y b.y up)
-      ∙ east_upward b a c (omega arith) q p ∙ flip_comm (nat_le b.y c.y) (nat_le a.y c.y))
-  | inr down ↦ ap (λ t. if t then counts_upward a b c else counts_upward b a c) (le-leb a.y b.y down) ∙ east_upward a b c down p q
+      ap (λ t. if t then counts_down a b c else counts_down b a c) (lt-leb a.y b.y up)
+      ∙ east_down b a c (omega arith) q p ∙ flip_comm (nat_le b.y c.y) (nat_le a.y c.y))
+  | inr down ↦ ap (λ t. if t then counts_down a b c else counts_down b a c) (le-leb a.y b.y down) ∙ east_down a b c down p q
 ]
 
 east_edges : (c before : Point) (ps : List Point) → before.x ≤ c.x → AllByRecursion (λ q. q.x ≤ c.x) ps
@@ -143,7 +143,7 @@ rings_map P Q f rings h = all_map (AllByRecursion P) (AllByRecursion Q) (all_map
 pub rings_beside : (b : Bounds) (rings : List (List Point)) (c : Point) → AllByRecursion (AllByRecursion (InBounds b)) rings → in_rings rings c ≡ true → Beside b 0 0 c
 rings_beside b rings c all h =
     let west : b.west ≤ c.x = inside_by b.west c.x (in_rings rings c) h (λ out.
-    rings_off (AllByRecursion (λ q. c.x < q.x)) c (ring_off (λ q. c.x < q.x) c (λ p q k l. edge_off p q c (west_upward p q c k l) (west_upward q p c l k))) rings
+    rings_off (AllByRecursion (λ q. c.x < q.x)) c (ring_off (λ q. c.x < q.x) c (λ p q k l. edge_off p q c (west_down p q c k l) (west_down q p c l k))) rings
     (rings_map (InBounds b) (λ q. c.x < q.x) (λ p k. omega arith) rings all)) in
     let east : c.x ≤ b.east = inside_by c.x b.east (in_rings rings c) h (λ out.
     rings_off (AllByRecursion (λ q. q.x ≤ c.x)) c (east_ring c) rings (rings_map (InBounds b) (λ q. q.x ≤ c.x) (λ p k. omega arith) rings all)) in

@@ -16,7 +16,8 @@ use Rattle.plain_drawing.specs.declared.ProductPart.{ProductPart, fold-ProductPa
 use Rattle.plain_drawing.specs.declared.SumSign.{SumSign}
 use Rattle.plain_drawing.specs.declared.ProductSign.{ProductSign}
 use Rattle.plain_drawing.specs.declared.CompareSign.{CompareSign}
-use Rattle.plain_drawing.specs.Values.{truth, compares, negated, sum_value, product_value, sum_of, product_of}
+use Rattle.plain_drawing.specs.Values.{truth, compares, negated, sum_of, product_of}
+use Rattle.filter_expr.specs.Parts.{sum_value, product_value}
 use Rattle.plain_drawing.specs.Filters.{FilterTree, tree_of, tree_value, any_true, all_true, after_sums, after_products, trees_of, sums_of, products_of, tree_step, sum_part_step, product_part_step}
 
 -- the value of an expression's tree

@@ -5,7 +5,8 @@ use Rattle.std.specs.List.{list_any, list_all}
 use Rattle.std.specs.Str.{bytes_eq}
 use Rattle.farm_base.specs.declared.Attr.{Attr}
 use Rattle.farm_base.specs.declared.Value.{Value}
-use Rattle.plain_drawing.specs.Values.{attribute, sum_value, product_value, sum_of, product_of}
+use Rattle.plain_drawing.specs.Values.{attribute, sum_of, product_of}
+use Rattle.filter_expr.specs.Parts.{sum_value, product_value}
 use Rattle.plain_drawing.specs.declared.SumPart.{SumPart}
 use Rattle.plain_drawing.specs.declared.ProductPart.{ProductPart}
 use Rattle.plain_drawing.specs.declared.SumSign.{SumSign}

@@ -3,6 +3,7 @@ pub mod Filters
 pub mod Gives
 pub mod Grammar
 pub mod Lexing
+pub mod Parts
 pub mod Places
 pub mod Reading
 pub mod Seen

@@ -4,4 +4,3 @@ pub mod Signs
 pub mod Squares
 pub mod Steps
 pub mod Windows
-pub mod WorkedRows

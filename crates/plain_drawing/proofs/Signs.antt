@@ -5,7 +5,7 @@ use Rattle.std.proofs.lemmas.Bool.{cases_lt, le-leb, lt-ltb, lt-leb, le-ltb}
 use Rattle.std.proofs.lemmas.Int.{ints}
 use borrow.Author.Differences.{up, down, same_in}
 use Rattle.plain_drawing.specs.declared.world.Point.{Point}
-use Rattle.plain_drawing.specs.Rings.{less, counts_upward}
+use Rattle.plain_drawing.specs.Rings.{less, counts_down}
 use Rattle.plain_drawing.specs.Strokes.{square}
 use Rattle.std.specs.Prelude.{unsigned_abs, ◌+ℤ◌}
 use Rattle.std.proofs.Math.Nat.{mul-le-mul}
@@ -41,9 +41,9 @@ edge_is r q ax bx cx = same_le (r * bx + q * ax) ((r + q) * cx) (pos r *ℤ less
     (λ h. edge_above r (r + q) ax bx cx (omega arith))
 
 -- the test of an edge between its two heights, without signs
-pub upward_is : (a b c : Point) → a.y ≤ c.y → c.y < b.y
-    → nat_le ((c.y - a.y) * b.x + (b.y - c.y) * a.x) ((b.y - a.y) * c.x) ≡ counts_upward a b c
-upward_is a b c p q =
+pub downward_is : (a b c : Point) → a.y ≤ c.y → c.y < b.y
+    → nat_le ((c.y - a.y) * b.x + (b.y - c.y) * a.x) ((b.y - a.y) * c.x) ≡ counts_down a b c
+downward_is a b c p q =
     let r : ℕ = c.y - a.y in
     let s : ℕ = b.y - c.y in
     let h : b.y - a.y ≡ r + s = omega arith in
@@ -57,10 +57,10 @@ upward_is a b c p q =
     ∙ ap (λ t. t && int_le (less c.y a.y *ℤ less b.x a.x) (less c.x a.x *ℤ less b.y a.y)) (lt-ltb c.y b.y q))
 
 -- rows outside an edge's heights
-pub off_above : (a b c : Point) → c.y < a.y → counts_upward a b c ≡ false
+pub off_above : (a b c : Point) → c.y < a.y → counts_down a b c ≡ false
 off_above a b c h = ap (λ t. t && nat_lt c.y b.y && int_le (less c.y a.y *ℤ less b.x a.x) (less c.x a.x *ℤ less b.y a.y)) (lt-leb a.y c.y h)
 
-pub off_below : (a b c : Point) → b.y ≤ c.y → counts_upward a b c ≡ false
+pub off_below : (a b c : Point) → b.y ≤ c.y → counts_down a b c ≡ false
 off_below a b c h =
     ap (λ t. nat_le a.y c.y && t && int_le (less c.y a.y *ℤ less b.x a.x) (less c.x a.x *ℤ less b.y a.y)) (le-ltb c.y b.y h)
     ∙ ap (λ t. t && int_le (less c.y a.y *ℤ less b.x a.x) (less c.x a.x *ℤ less b.y a.y)) (and_false (nat_le a.y c.y))

@@ -1,4 +1,4 @@
--- Masks and images as lists: one bit or one colour for each pixel, row by row.
+-- Masks and images as lists: one bit or one colour for each pixel, row by row. Words of inner contracts: no colour of a drawing is defined by them.
 use Rattle.std.specs.Prelude.{◌≡◌, ℕ, ◌+◌, ◌*◌, ◌≤◌, Bool, true, ◌||◌, cond, List, [], ◌∷◌, take, drop, flat_map}
 use Rattle.std.specs.List.{range_with_len}
 use Rattle.plain_drawing.specs.declared.world.Point.{Point}

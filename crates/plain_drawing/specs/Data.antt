@@ -18,9 +18,11 @@ pub record Change : Type 0 where
 abbrev pub is_name : List ℕ → Bool
 is_name name = nat_le 1 (length name) && nat_le (length name) 64
 
+-- the ids of features, in their order
 abbrev pub ids_of : List Feature → List ℕ
 ids_of features = map (λ f. f.id) features
 
+-- the names of layers, in their order
 abbrev pub names_of : List Layer → List (List ℕ)
 names_of layers = map (λ l. l.name) layers
 
@@ -106,6 +108,7 @@ layer_named layers name = find (λ l. bytes_eq l.name name) layers
 abbrev pub features_named : List Layer → List ℕ → Option (List Feature)
 features_named layers name = option_map (λ l. l.features) (layer_named layers name)
 
+-- a layer that is not there is the fault before all others; else it is that of the layer's features
 abbrev pub fault_at : ℕ → Change → Option (List Feature) → Option ApplyFault
 fault_at place c None = Some (NoLayer place)
 fault_at place c (Some features) = features_fault place c features

@@ -1,4 +1,4 @@
--- The plain drawing: the colour at a point, and the tile that has it at the centre of each pixel.
+-- The plain drawing: the colour at a point, and the tile that has it at the centre of each pixel. Layers, styles and symbolizers are painted in Mapnik's painter order.
 use Rattle.std.specs.Prelude.{ℕ, ◌/◌, Bool, false, if◌then◌else◌, List, [], ◌∷◌, map, flat_map, fold, find, Option, Some, None, option_map, option_to_list, unwrap_or}
 use Rattle.std.specs.Str.{bytes_eq}
 use Rattle.farm_base.specs.declared.Attr.{Attr}
@@ -28,6 +28,7 @@ pub data Item : Type 0 where
   feature : Feature → Item
   raster : Grid → Item
 
+-- the attributes of an item that filters see
 abbrev pub attrs_of : Item → List Attr
 attrs_of (feature f) = f.attrs
 attrs_of (raster g) = []

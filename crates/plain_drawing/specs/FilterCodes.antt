@@ -1,4 +1,5 @@
--- A filter tree can be told apart from every other by numbers alone, which a type seen as one asks for.
+-- A filter tree can be told apart from every other by numbers alone, which a type that is seen as trees asks for. Each kind of value
+-- has its code and the way back, and the way back from a code gives the value again. No meaning of a filter rests on this file.
 use Rattle.std.specs.Prelude.{ℕ, List, [], ◌∷◌, Bool, true, false, cond, ◌==◌, ℤ, pos, negsuc, ◌≡◌, refl}
 use Rattle.std.proofs.Common.{sym, ◌∙◌, ap}
 use base.Stored.{Gv, gnil, gnum, gcons, num, Coded}
@@ -10,6 +11,7 @@ use Rattle.plain_drawing.specs.declared.expr.ProductSign.{ProductSign}
 use Rattle.plain_drawing.specs.declared.expr.ProductSign.TheVariants.{Times, Divide, Rest}
 use Rattle.plain_drawing.specs.Filters.{FilterTree, FilterTrees, SumTrees, ProductTrees, or_tree, and_tree, not_tree, compare_tree, sum_tree, product_tree, negate_tree, name_tree, text_tree, number_tree, truth_tree, null_tree, no_trees, tree_then, no_sums, sum_then, no_products, product_then}
 
+-- comparing signs as numbers, and back
 abbrev compare_number : CompareSign → ℕ
 compare_number Equal = 0
 compare_number Unequal = 1
@@ -21,6 +23,7 @@ compare_number GreaterEqual = 5
 abbrev compare_back : ℕ → CompareSign
 compare_back n = cond (n == 0) Equal (cond (n == 1) Unequal (cond (n == 2) Less (cond (n == 3) LessEqual (cond (n == 4) Greater GreaterEqual))))
 
+-- signs of a sum
 abbrev sum_number : SumSign → ℕ
 sum_number Plus = 0
 sum_number Minus = 1
@@ -28,6 +31,7 @@ sum_number Minus = 1
 abbrev sum_back : ℕ → SumSign
 sum_back n = cond (n == 0) Plus Minus
 
+-- signs of a product
 abbrev product_number : ProductSign → ℕ
 product_number Times = 0
 product_number Divide = 1
@@ -36,6 +40,7 @@ product_number Rest = 2
 abbrev product_back : ℕ → ProductSign
 product_back n = cond (n == 0) Times (cond (n == 1) Divide Rest)
 
+-- texts
 abbrev text_code : List ℕ → Gv
 text_code [] = gnil
 text_code (x ∷ xs) = gcons (gnum x) (text_code xs)
@@ -45,6 +50,7 @@ text_back gnil = []
 text_back (gnum n) = []
 text_back (gcons x xs) = num x ∷ text_back xs
 
+-- whole numbers
 abbrev number_code : ℤ → Gv
 number_code (pos n) = gnum n
 number_code (negsuc n) = gcons (gnum n) gnil
@@ -54,6 +60,7 @@ number_back gnil = pos 0
 number_back (gnum n) = pos n
 number_back (gcons n g) = negsuc (num n)
 
+-- truth values
 abbrev truth_number : Bool → ℕ
 truth_number true = 1
 truth_number false = 0
@@ -62,6 +69,7 @@ truth_number false = 0
 abbrev node : ℕ → Gv → Gv → Gv → Gv
 node kind held a b = gcons (gnum kind) (gcons held (gcons a b))
 
+-- trees and their lists of parts
 abbrev mutual
   tree_code : FilterTree → Gv
   tree_code (or_tree parts) = node 0 gnil gnil (trees_code parts)
@@ -97,6 +105,7 @@ node_back kind held a b bs sums products =
     (cond (kind == 6) (negate_tree a) (cond (kind == 7) (name_tree (text_back held)) (cond (kind == 8) (text_tree (text_back held))
     (cond (kind == 9) (number_tree (number_back held)) (truth_tree (num held == 1)))))))))))
 
+-- a code read back as a tree or as a list of parts; what is no code gives the null of its kind
 abbrev mutual
   tree_back : Gv → FilterTree
   tree_back gnil = null_tree
@@ -126,6 +135,7 @@ abbrev mutual
   products_back (gcons sign (gnum n)) = no_products
   products_back (gcons sign (gcons part later)) = product_then (product_back (num sign)) (tree_back part) (products_back later)
 
+-- what is read back from each kind's code is the value
 compare_round : (s : CompareSign) → compare_back (compare_number s) ≡ s
 compare_round Equal = refl
 compare_round Unequal = refl
@@ -183,5 +193,6 @@ mutual
   products_round no_products = refl
   products_round (product_then sign part later) = λ i. product_then (product_round sign i) (tree_round part i) (products_round later i)
 
+-- the codes of filter trees, no two of which are alike
 abbrev pub filter_code : Coded FilterTree
 filter_code = record { code = tree_code; inj = λ x y e. sym (tree_round x) ∙ ap tree_back e ∙ tree_round y }

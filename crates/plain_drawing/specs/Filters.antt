@@ -10,7 +10,7 @@ use Rattle.plain_drawing.specs.declared.expr.SumSign.{SumSign}
 use Rattle.plain_drawing.specs.declared.expr.ProductSign.{ProductSign}
 use Rattle.plain_drawing.specs.Values.{truth, attribute, compares, sum_of, product_of, negated}
 
--- a filter; a chain is one list of its parts, each later part of a sum or product with its sign
+-- a filter: `or` and `and` of parts, `not`, a comparison, a sum or a product with its later parts, a minus sign, and the atoms
 mutual
   pub data FilterTree : Type 0 where
     or_tree : FilterTrees → FilterTree
@@ -26,19 +26,22 @@ mutual
     truth_tree : Bool → FilterTree
     null_tree : FilterTree
 
+  -- the parts of an `or` or `and`
   pub data FilterTrees : Type 0 where
     no_trees : FilterTrees
     tree_then : FilterTree → FilterTrees → FilterTrees
 
+  -- the later parts of a sum, each with its sign
   pub data SumTrees : Type 0 where
     no_sums : SumTrees
     sum_then : SumSign → FilterTree → SumTrees → SumTrees
 
+  -- the later parts of a product, each with its sign
   pub data ProductTrees : Type 0 where
     no_products : ProductTrees
     product_then : ProductSign → FilterTree → ProductTrees → ProductTrees
 
--- the value of a filter for these attributes; chains are computed from the left
+-- the value of a filter for these attributes, by cases
 abbrev mutual
   pub tree_value : List Attr → FilterTree → Value
   tree_value attrs (or_tree parts) = Truth (any_true attrs parts)
@@ -54,18 +57,22 @@ abbrev mutual
   tree_value attrs (truth_tree b) = Truth b
   tree_value attrs null_tree = Null
 
+  -- one of the parts counts as true
   pub any_true : List Attr → FilterTrees → Bool
   any_true attrs no_trees = false
   any_true attrs (tree_then part later) = truth (tree_value attrs part) || any_true attrs later
 
+  -- each of the parts counts as true
   pub all_true : List Attr → FilterTrees → Bool
   all_true attrs no_trees = true
   all_true attrs (tree_then part later) = truth (tree_value attrs part) && all_true attrs later
 
+  -- a value with the later parts of a sum, from the left
   pub after_sums : List Attr → Value → SumTrees → Value
   after_sums attrs v no_sums = v
   after_sums attrs v (sum_then sign part later) = after_sums attrs (sum_of sign v (tree_value attrs part)) later
 
+  -- a value with the later parts of a product, from the left
   pub after_products : List Attr → Value → ProductTrees → Value
   after_products attrs v no_products = v
   after_products attrs v (product_then sign part later) = after_products attrs (product_of sign v (tree_value attrs part)) later
@@ -74,15 +81,17 @@ abbrev mutual
 abbrev pub tree_holds : List Attr → FilterTree → Bool
 tree_holds attrs t = truth (tree_value attrs t)
 
--- lists of parts as trees
+-- the parts of an `or` or `and` from a list
 abbrev pub trees_of : List FilterTree → FilterTrees
 trees_of [] = no_trees
 trees_of (t ∷ ts) = tree_then t (trees_of ts)
 
+-- the later parts of a sum from a list
 abbrev pub sums_of : List (SumSign × FilterTree) → SumTrees
 sums_of [] = no_sums
 sums_of (p ∷ ps) = sum_then p.0 p.1 (sums_of ps)
 
+-- the later parts of a product from a list
 abbrev pub products_of : List (ProductSign × FilterTree) → ProductTrees
 products_of [] = no_products
 products_of (p ∷ ps) = product_then p.0 p.1 (products_of ps)
@@ -102,9 +111,11 @@ tree_step (open.Number z) = number_tree z
 tree_step (open.Truth b) = truth_tree b
 tree_step open.Null = null_tree
 
+-- a later part of a sum: its sign, and its tree
 abbrev pub sum_part_step : open.SumPart-F FilterTree (ProductSign × FilterTree) (SumSign × FilterTree) → SumSign × FilterTree
 sum_part_step p = (p.sign, p.part)
 
+-- a later part of a product likewise
 abbrev pub product_part_step : open.ProductPart-F FilterTree (ProductSign × FilterTree) (SumSign × FilterTree) → ProductSign × FilterTree
 product_part_step p = (p.sign, p.part)
 

@@ -26,6 +26,8 @@ tiles_in m = flat_map (column_of m) (range_with_len 0 (tiles_across m))
 abbrev pub tiles_of : MapStyle → ℕ → Meta → List Layer → List (List ℕ)
 tiles_of style size m data_layers = map (λ t. tile_of style size t data_layers) (tiles_in m)
 
+-- ---- parts of a picture as texts: words of inner contracts
+
 -- the text of the part of a picture so many tiles from its west and north edge
 abbrev pub part_text : Pixels → ℕ → ℕ → ℕ → List ℕ
 part_text image size col row = ppm size size (cut_of image (col * size) (row * size) size size).pixels

@@ -36,5 +36,6 @@ points_reach points margin s = list_any (λ q. nat_lt q.x ((s.x + 1) * side_at s
     && list_any (λ q. nat_lt q.y ((s.y + 1) * side_at s.z + margin)) points
     && list_any (λ q. nat_le (s.y * side_at s.z) (q.y + margin)) points
 
+-- the feature's points pass this test
 abbrev pub feature_reaches : Feature → ℕ → ℕ → Square → Bool
 feature_reaches f size z s = points_reach (all_points f.geometry) (margin_of size z) s

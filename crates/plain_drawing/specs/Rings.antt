@@ -7,12 +7,12 @@ abbrev pub less : ℕ → ℕ → ℤ
 less m n = pos m -ℤ pos n
 
 -- an edge that runs from a down to b counts at c where c lies beside it and not to the west of it: its upper end counts, its lower one does not
-abbrev pub counts_upward : Point → Point → Point → Bool
-counts_upward a b c = nat_le a.y c.y && nat_lt c.y b.y && int_le (less c.y a.y *ℤ less b.x a.x) (less c.x a.x *ℤ less b.y a.y)
+abbrev pub counts_down : Point → Point → Point → Bool
+counts_down a b c = nat_le a.y c.y && nat_lt c.y b.y && int_le (less c.y a.y *ℤ less b.x a.x) (less c.x a.x *ℤ less b.y a.y)
 
 -- an edge counts at c by its ends named so that the upper one comes first
 abbrev pub counts : Point × Point → Point → Bool
-counts e c = if nat_le e.0.y e.1.y then counts_upward e.0 e.1 c else counts_upward e.1 e.0 c
+counts e c = if nat_le e.0.y e.1.y then counts_down e.0 e.1 c else counts_down e.1 e.0 c
 
 -- the edges along a list of points, from the point before the first
 abbrev pub edges_from : Point → List Point → List (Point × Point)
@@ -27,6 +27,7 @@ ring_edges ps = unwrap_or (option_map (λ last. edges_from last ps) (slice_get p
 abbrev pub counting : List (List Point) → Point → ℕ
 counting rings c = count_by (λ e. counts e c) (flat_map ring_edges rings)
 
+-- the number is odd
 abbrev pub is_odd : ℕ → Bool
 is_odd n = n % 2 == 1
 

@@ -21,6 +21,7 @@ is_below (Some greatest) denominator = nat_lt (100 * denominator) greatest
 abbrev pub is_active : ℕ → Option ℕ → ℕ → Bool
 is_active least greatest denominator = nat_le least (100 * denominator) && is_below greatest denominator
 
+-- the rule is active at the denominator
 abbrev pub at_scale : ℕ → Rule → Bool
 at_scale denominator r = is_active r.min_scale_denominator r.max_scale_denominator denominator
 

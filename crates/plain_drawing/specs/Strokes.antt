@@ -1,4 +1,5 @@
--- Strokes and marks: which points lie on a line, on a ring's outline or in a mark, all in whole numbers.
+-- Strokes and marks: which points lie on a line, on a ring's outline or in a mark, all in whole numbers. The shapes of bodies and caps
+-- are those of Mapnik's strokes; that every join is round, and the ellipse of a mark, are this project's own.
 use Rattle.std.specs.Prelude.{ℕ, ◌-◌, ◌*◌, ◌/◌, ◌==◌, Bool, false, not, ◌&&◌, ◌||◌, nat_le, if◌then◌else◌, List, [], ◌∷◌, length, slice_get, option_map, unwrap_or, ℤ, pos, ◌+ℤ◌, ◌-ℤ◌, ◌*ℤ◌, int_le, int_lt, unsigned_abs}
 use Rattle.std.specs.List.{list_any}
 use Rattle.plain_drawing.specs.declared.world.Point.{Point}
@@ -6,6 +7,7 @@ use Rattle.plain_drawing.specs.declared.shapes.LineCap.{LineCap}
 use Rattle.plain_drawing.specs.declared.shapes.LineCap.TheVariants as with
 use Rattle.plain_drawing.specs.Rings.{less}
 
+-- a number times itself
 abbrev pub square : ℤ → ℤ
 square z = z *ℤ z
 
@@ -49,6 +51,7 @@ past_end half a b c = is_near half a b c && int_lt (long a b) (along a b c) && i
 unfoldable pub in_block : ℕ → Point → Point → Bool
 in_block half p c = nat_le (unsigned_abs (less c.x p.x)) half && nat_le (unsigned_abs (less c.y p.y)) half
 
+-- two points are one
 abbrev pub is_same : Point → Point → Bool
 is_same p q = p.x == q.x && p.y == q.y
 
@@ -57,6 +60,7 @@ abbrev pub kept_after : Point → List Point → List Point
 kept_after before [] = []
 kept_after before (p ∷ ps) = if is_same before p then kept_after p ps else p ∷ kept_after p ps
 
+-- a line's points, the first always with them
 abbrev pub kept : List Point → List Point
 kept [] = []
 kept (p ∷ ps) = p ∷ kept_after p ps
@@ -82,7 +86,7 @@ abbrev pub past_last : ℕ → Point → Point → List Point → Point → Bool
 past_last half a b [] c = past_end half a b c
 past_last half a b (p ∷ ps) c = past_last half b p ps c
 
--- the caps at the two ends of the line a, b and the points behind: nothing, half disks, or half squares
+-- the caps at the two ends of the line a, b and the points behind: nothing, disks, or half squares
 abbrev pub on_caps : ℕ → LineCap → Point → Point → List Point → Point → Bool
 on_caps half with.Butt a b ps c = false
 on_caps half with.Round a b ps c = in_disk half a c || in_last_disk half b ps c

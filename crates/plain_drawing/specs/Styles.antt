@@ -67,20 +67,23 @@ is_paint (Line stroke width opacity cap) = is_width width && is_opacity opacity
 is_paint (Markers fill width height opacity) = is_width width && is_width height && is_opacity opacity
 is_paint (Raster opacity) = is_opacity opacity
 
--- a style, layer or raster of this name is among them
+-- a style of this name is among them
 abbrev pub style_has : List ℕ → List Style → Bool
 style_has name styles = list_any (λ s. bytes_eq s.name name) styles
 
+-- a layer of this name is among them
 abbrev pub layer_has : List ℕ → List LayerRef → Bool
 layer_has name layers = list_any (λ l. bytes_eq l.name name) layers
 
+-- a raster of this name is among them
 abbrev pub raster_has : List ℕ → List RasterRef → Bool
 raster_has name rasters = list_any (λ r. bytes_eq r.name name) rasters
 
--- no earlier one has the name
+-- no earlier style has the name
 abbrev pub style_apart : List Style → Style → Bool
 style_apart before s = not (style_has s.name before)
 
+-- no earlier raster has the name
 abbrev pub raster_apart : List RasterRef → RasterRef → Bool
 raster_apart before r = not (raster_has r.name before)
 

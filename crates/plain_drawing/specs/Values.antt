@@ -1,14 +1,11 @@
 -- The value of a filter for the attributes of a feature, by cases over its tree.
 use Rattle.std.specs.Prelude.{ℕ, ◌-◌, ◌^◌, List, [], ◌∷◌, Bool, true, false, not, ◌&&◌, if◌then◌else◌, ℤ, pos, negsuc, ◌+ℤ◌, ◌-ℤ◌, ◌*ℤ◌, int_lt, int_le, int_div, int_rem}
-use Rattle.std.specs.List.{list_any, list_all}
 use Rattle.std.specs.Ordering.{nat_cmp, int_eq, is_lt}
 use Rattle.std.specs.Cmp.Lexicographic.{slice_cmp}
 use Rattle.std.specs.Str.{bytes_eq}
 use Rattle.farm_base.specs.declared.Value.{Value}
 use Rattle.farm_base.specs.declared.Value.TheVariants.{Null, Truth, Whole, Text}
 use Rattle.farm_base.specs.declared.Attr.{Attr}
-use Rattle.plain_drawing.specs.declared.expr.Expr.{Expr, fold-Expr}
-use Rattle.plain_drawing.specs.declared.expr.Expr.TheOpen as «open»
 use Rattle.plain_drawing.specs.declared.expr.CompareSign.{CompareSign}
 use Rattle.plain_drawing.specs.declared.expr.CompareSign.TheVariants.{Equal, Unequal, Less, LessEqual, Greater, GreaterEqual}
 use Rattle.plain_drawing.specs.declared.expr.SumSign.{SumSign}
@@ -73,11 +70,12 @@ of_numbers f _ _ = Null
 abbrev pub divided_by : ℤ → Value → Value
 divided_by y v = if int_eq y (pos 0) then Null else v
 
+-- the exact sum or difference
 abbrev pub sum_of : SumSign → Value → Value → Value
 sum_of Plus = of_numbers (λ x y. fitting (x +ℤ y))
 sum_of Minus = of_numbers (λ x y. fitting (x -ℤ y))
 
--- quotients are rounded towards zero, and a rest has the dividend's sign
+-- the exact product, the quotient rounded towards zero, or the rest with the dividend's sign
 abbrev pub product_of : ProductSign → Value → Value → Value
 product_of Times = of_numbers (λ x y. fitting (x *ℤ y))
 product_of Divide = of_numbers (λ x y. divided_by y (fitting (int_div x y)))
@@ -86,41 +84,3 @@ product_of Rest = of_numbers (λ x y. divided_by y (fitting (int_rem x y)))
 -- 0 less the value: the exact result, or null
 abbrev pub negated : Value → Value
 negated v = sum_of Minus (Whole (pos 0)) v
-
--- chains are computed from the left
-abbrev pub sum_value : Value → List (SumSign × Value) → Value
-sum_value v [] = v
-sum_value v (p ∷ later) = sum_value (sum_of p.0 v p.1) later
-
-abbrev pub product_value : Value → List (ProductSign × Value) → Value
-product_value v [] = v
-product_value v (p ∷ later) = product_value (product_of p.0 v p.1) later
-
--- one node, its parts being their values
-abbrev pub value_step : List Attr → open.Expr-F Value (ProductSign × Value) (SumSign × Value) → Value
-value_step attrs (open.Or parts) = Truth (list_any truth parts.items)
-value_step attrs (open.And parts) = Truth (list_all truth parts.items)
-value_step attrs (open.Not e) = Truth (not (truth e.value))
-value_step attrs (open.Compare a sign b) = Truth (compares sign a.value b.value)
-value_step attrs (open.Sum e parts) = sum_value e.value parts.items
-value_step attrs (open.Product e parts) = product_value e.value parts.items
-value_step attrs (open.Negate e) = negated e.value
-value_step attrs (open.Name name) = attribute name attrs
-value_step attrs (open.Text t) = Text t
-value_step attrs (open.Number z) = Whole z
-value_step attrs (open.Truth b) = Truth b
-value_step attrs open.Null = Null
-
-abbrev pub sum_step : open.SumPart-F Value (ProductSign × Value) (SumSign × Value) → SumSign × Value
-sum_step p = (p.sign, p.part)
-
-abbrev pub product_step : open.ProductPart-F Value (ProductSign × Value) (SumSign × Value) → ProductSign × Value
-product_step p = (p.sign, p.part)
-
--- the value of a filter for these attributes
-abbrev pub value : List Attr → Expr → Value
-value attrs = fold-Expr Value (ProductSign × Value) (SumSign × Value) (value_step attrs) product_step sum_step
-
--- the filter holds where its value counts as true
-abbrev pub holds : List Attr → Expr → Bool
-holds attrs e = truth (value attrs e)

@@ -8,7 +8,8 @@ pub struct Point {
     pub y: u32,
 }
 
-/// A map tile: zoom, column and row. Its zoom is at most 18, its column and row are below `2^z`.
+/// A map tile: zoom, column and row. What draws or stores one asks that its zoom is at most 18 and its column and
+/// row are below `2^z`; `merc_fixed::tile` gives such tiles alone.
 #[derive(Clone, Copy, Debug, PartialEq, Eq)]
 pub struct Tile {
     pub z: u32,
@@ -16,7 +17,7 @@ pub struct Tile {
     pub y: u32,
 }
 
-/// A square of the quadtree, under the same bounds as a tile.
+/// A square of the quadtree: zoom, column and row, under the same bounds as those of a tile.
 #[derive(Clone, Copy, Debug, PartialEq, Eq)]
 pub struct Square {
     pub z: u32,

@@ -1,4 +1,4 @@
-pub mod Upward
+pub mod Downward
 pub mod Heights
 pub mod Toggling
 pub mod Stretches

@@ -6,15 +6,15 @@ use Rattle.std.proofs.lemmas.Option.{slice_get-get_or}
 use Rattle.plain_drawing.specs.declared.world.Point.{Point}
 use Rattle.plain_drawing.specs.declared.world.Window.{Window}
 use Rattle.plain_drawing.specs.World.{centre}
-use Rattle.plain_drawing.specs.Rings.{counts_upward, counts, edges_from, ring_edges, in_rings}
+use Rattle.plain_drawing.specs.Rings.{counts_down, counts, edges_from, ring_edges, in_rings}
 use Rattle.plain_drawing.proofs.Signs.{off_above, off_below}
 use Rattle.raster_core.specs.Reaches.{north_of, south_of, northmost, southmost}
 use Rattle.raster_core.specs.Toggles.{flip, odd_edges}
 use Rattle.raster_core.proofs.Toggling.{odd_cons, odd_append}
 
 -- c lies above the point, or not above it: what a row has to do with each point for no edge to count
-by_order : (a b c : Point) (t : Bool) → counts_upward a b c ≡ false → counts_upward b a c ≡ false
-    → (if t then counts_upward a b c else counts_upward b a c) ≡ false
+by_order : (a b c : Point) (t : Bool) → counts_down a b c ≡ false → counts_down b a c ≡ false
+    → (if t then counts_down a b c else counts_down b a c) ≡ false
 by_order a b c true p q = p
 by_order a b c false p q = q
 

@@ -1,7 +1,7 @@
 //! Edges: where each of them is crossed, row by row.
 ghost use Rattle.std.specs.Prelude.{◌≡◌, ℕ, ◌+◌, ◌-◌, ◌*◌, ◌/◌, ◌<◌, ◌≤◌, nat_le, length, All};
 ghost use Rattle.plain_drawing.specs.World.{InWorld, IsWindow, centre};
-ghost use Rattle.plain_drawing.specs.Rings.{counts_upward, counts, ring_edges, in_rings};
+ghost use Rattle.plain_drawing.specs.Rings.{counts_down, counts, ring_edges, in_rings};
 ghost use Rattle.raster_core.specs.Toggles.{Toggled, RowToggled, odd_edges};
 
 use centre_spans::first_at;
@@ -31,7 +31,7 @@ fn crossing(a: Point, b: Point, w: Window, j: u32) -> u32
     requires upper { a.y ≤ w.north + j * w.pixel + w.pixel / 2 }
     requires lower { w.north + j * w.pixel + w.pixel / 2 < b.y }
     ensures within { result ≤ w.cols }
-    ensures splits { (i : ℕ) → i < w.cols → nat_le result i ≡ counts_upward a b (centre w i j) }
+    ensures splits { (i : ℕ) → i < w.cols → nat_le result i ≡ counts_down a b (centre w i j) }
 {
     let y = w.north + j * w.pixel + w.pixel / 2;
     first_at(w.west, w.pixel, w.cols, place_at(a, b, y))
@@ -46,7 +46,7 @@ fn cross_row(a: Point, b: Point, w: Window, j: u32, bits: &mut [bool])
     requires upper { a.y ≤ w.north + j * w.pixel + w.pixel / 2 }
     requires lower { w.north + j * w.pixel + w.pixel / 2 < b.y }
     requires len { length bits.old ≡ w.rows * w.cols }
-    ensures { RowToggled w (counts_upward a b) j bits.old bits.new }
+    ensures { RowToggled w (counts_down a b) j bits.old bits.new }
 {
     let k = crossing(a, b, w, j);
     if k < w.cols {
@@ -56,13 +56,13 @@ fn cross_row(a: Point, b: Point, w: Window, j: u32, bits: &mut [bool])
 }
 
 // Marks the crossings of an edge that runs from `a` down to `b`.
-fn cross_upward(a: Point, b: Point, w: Window, bits: &mut [bool])
+fn cross_down(a: Point, b: Point, w: Window, bits: &mut [bool])
     requires a_in { InWorld a }
     requires b_in { InWorld b }
     requires down { a.y ≤ b.y }
     requires window { IsWindow w }
     requires len { length bits.old ≡ w.rows * w.cols }
-    ensures { Toggled w (counts_upward a b) bits.old bits.new }
+    ensures { Toggled w (counts_down a b) bits.old bits.new }
 {
     let top = first_at(w.north, w.pixel, w.rows, u64::from(a.y));
     let bottom = first_at(w.north, w.pixel, w.rows, u64::from(b.y));
@@ -80,9 +80,9 @@ fn cross_edge(a: Point, b: Point, w: Window, bits: &mut [bool])
     ensures { Toggled w (counts (a, b)) bits.old bits.new }
 {
     if a.y <= b.y {
-        cross_upward(a, b, w, bits);
+        cross_down(a, b, w, bits);
     } else {
-        cross_upward(b, a, w, bits);
+        cross_down(b, a, w, bits);
     }
 }
 

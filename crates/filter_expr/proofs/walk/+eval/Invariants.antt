@@ -1,6 +1,7 @@
 use Rattle.std.proofs.Common.{◌≡◌, drop, map}
 use Rattle.std.specs.List.{list_any, list_all}
-use Rattle.plain_drawing.specs.Values.{truth, sum_value, product_value}
+use Rattle.plain_drawing.specs.Values.{truth}
+use Rattle.filter_expr.specs.Parts.{sum_value, product_value}
 use Rattle.filter_expr.specs.Shown.{plain}
 use Rattle.filter_expr.proofs.Nodes.{valued, sum_part, product_part}
 use Rattle.filter_expr.proofs.walk.+eval.Given as goal

@@ -1,5 +1,5 @@
 use Rattle.raster_core.proofs.Toggling.{remains_more}
-use Rattle.raster_core.proofs.Upward.{edges_step}
+use Rattle.raster_core.proofs.Downward.{edges_step}
 use Rattle.raster_core.proofs.edges.cross_ring.Goals as goal
 
 pub loop-p-preserved : goal.loop-p-preserved

@@ -1,5 +1,5 @@
 use Rattle.raster_core.proofs.Toggling.{remains_more}
-use Rattle.raster_core.proofs.Upward.{rings_step}
+use Rattle.raster_core.proofs.Downward.{rings_step}
 use Rattle.raster_core.proofs.edges.cross_rings.Goals as goal
 
 pub loop-ring-preserved : goal.loop-ring-preserved

@@ -5,23 +5,23 @@ use Rattle.std.proofs.lemmas.Bool.{le-leb, lt-leb, leb-true, leb-false}
 use Rattle.plain_drawing.specs.declared.world.Point.{Point}
 use Rattle.plain_drawing.specs.declared.world.Window.{Window}
 use Rattle.plain_drawing.specs.World.{centre}
-use Rattle.plain_drawing.specs.Rings.{counts_upward, counts, edges_from, ring_edges, in_rings}
+use Rattle.plain_drawing.specs.Rings.{counts_down, counts, edges_from, ring_edges, in_rings}
 use Rattle.plain_drawing.proofs.Signs.{off_above, off_below}
 use Rattle.raster_core.specs.Toggles.{flip, Toggled, RowsToggled, odd_edges}
 use Rattle.raster_core.proofs.Toggling.{rows_start, rows_end, odd_cons, odd_append}
 
 -- the rows above an edge's upper end
-pub upward_start : (w : Window) (a b : Point) (top : ℕ) (old : List Bool)
+pub downward_start : (w : Window) (a b : Point) (top : ℕ) (old : List Bool)
     → ((j : ℕ) → j < w.rows → nat_le top j ≡ nat_le a.y (w.north + j * w.pixel + w.pixel / 2))
-    → RowsToggled w (counts_upward a b) top old old
-upward_start w a b top old splits = rows_start w (counts_upward a b) top old
+    → RowsToggled w (counts_down a b) top old old
+downward_start w a b top old splits = rows_start w (counts_down a b) top old
     (λ j i above row col. off_above a b (centre w i j) (leb-false a.y (centre w i j).y (sym (splits j row) ∙ lt-leb top j above)))
 
 -- the rows from an edge's lower end on
-pub upward_end : (w : Window) (a b : Point) (j bottom : ℕ) (old now : List Bool) → bottom ≤ j
+pub downward_end : (w : Window) (a b : Point) (j bottom : ℕ) (old now : List Bool) → bottom ≤ j
     → ((j : ℕ) → j < w.rows → nat_le bottom j ≡ nat_le b.y (w.north + j * w.pixel + w.pixel / 2))
-    → RowsToggled w (counts_upward a b) j old now → Toggled w (counts_upward a b) old now
-upward_end w a b n bottom old now past splits r = rows_end w (counts_upward a b) n old now r
+    → RowsToggled w (counts_down a b) j old now → Toggled w (counts_down a b) old now
+downward_end w a b n bottom old now past splits r = rows_end w (counts_down a b) n old now r
     (λ j i below row col. off_below a b (centre w i j) (leb-true b.y (centre w i j).y (sym (splits j row) ∙ le-leb bottom j (omega arith))))
 
 pub edges_step : (before : Point) (points : List Point) (i : ℕ) (d : Point) → i < length points → (c : Point)

@@ -1,6 +1,0 @@
-use Rattle.plain_drawing.specs.Rings.{counts_upward}
-use Rattle.raster_core.specs.Toggles.{RowsToggled}
-use Rattle.raster_core.proofs.edges.cross_upward.Given as goal
-
-abbrev pub invariant-loop-j : goal.invariant-loop-j
-invariant-loop-j l = RowsToggled l.w (counts_upward l.a l.b) l.j l.fn.bits l.bits
