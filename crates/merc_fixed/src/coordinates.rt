@@ -2,7 +2,10 @@
 ghost use Rattle.std.specs.Prelude.{◌≡◌, ◌≤◌};
 ghost use Rattle.plain_drawing.specs.World.{x_from_cm, y_from_cm, units_from_edge};
 
-/// Centimetres from the middle of the web Mercator world to its edges.
+/// The width of the web Mercator world in centimetres.
+const WORLD_CM: u128 = 4007501668;
+
+/// Centimetres from the middle of that world to its edges.
 const HALF_CM: i64 = 2003750834;
 
 /// The x of a Mercator coordinate in centimetres, to the east: `floor((c + 2003750834) * 2^30 / 4007501668)`,
@@ -25,10 +28,7 @@ fn units_from_edge(cm: i128) -> Option<u32>
     ensures { result ≡ units_from_edge cm }
 {
     let cm = u64::try_from(cm).ok()?;
-    if cm > 4007501671 {
-        return None;
-    }
-    let units = cm * (1 << 30) / 4007501668;
+    let units = u128::from(cm) * (1 << 30) / WORLD_CM;
     if units <= 1 << 30 {
         Some(units as u32)
     } else {

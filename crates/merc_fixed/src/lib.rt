@@ -3,6 +3,8 @@
 
 mod coordinates;
 mod squares;
+#[cfg(test)]
+mod tests;
 mod tiles;
 mod windows;
 

@@ -1,6 +1,7 @@
 //! The squares of tiles and metatiles, and where they overlap.
-ghost use Rattle.std.specs.Prelude.{◌≡◌, ◌≤◌, ◌↔◌, IsTrue};
+ghost use Rattle.std.specs.Prelude.{◌≡◌, ◌≤◌, ◌↔◌, ◌⊎◌, IsTrue};
 ghost use Rattle.plain_drawing.specs.World.{IsTile, IsMeta, IsSquare, tile_square, meta_square, squares_meet, Overlap};
+ghost use Rattle.merc_fixed.specs.Ancestors.{IsOver};
 
 use plain_drawing::{Meta, Square, Tile};
 
@@ -41,6 +42,7 @@ pub fn overlaps(a: Square, b: Square) -> bool
     requires second { IsSquare b }
     ensures test { result ≡ squares_meet a b }
     ensures meaning { IsTrue result ↔ Overlap a b }
+    ensures ancestor { IsTrue result ↔ (IsOver a b ⊎ IsOver b a) }
 {
     if a.z <= b.z {
         is_ancestor(a, b)
