@@ -1,6 +1,7 @@
--- Each legal history over a store that tells its content is sound.
+-- Each legal history is sound.
 use Rattle.std.proofs.Common.{◌≡◌, ℕ, ◌<◌, Bool, true, false, ◌&&◌, ◌||◌, cond, ◌==◌, nat_lt, List, [], ◌∷◌, ◌++◌, length, Option, Some, None, MatchBool, refl, sym, ap, ◌∙◌, subst, arith}
 use Rattle.std.proofs.lemmas.Bool.Decides.{nat_tests}
+use Rattle.std.specs.Bool.{OnTrue}
 use Rattle.farm_history.specs.declared.keys.Key.{Key}
 use Rattle.farm_history.specs.declared.queues.Conn.{Conn}
 use Rattle.farm_history.specs.declared.queues.Reply.{Reply}
@@ -109,28 +110,34 @@ shown_drawn p told (Finish t drawn PutFailed ∷ g) k before legal s =
     drawn_by_lost t drawn g k before (is_on (flight_in (flights g) t) k) (λ s'. shown_drawn p told g k before legal.1 s') s
 shown_drawn p told (e ∷ g) k before legal s = drawn_still e g k before (shown_drawn p told g k before legal.1 s)
 
--- what a Fetch answered Clean says: its key is shown, untouched since, with the version and the bytes of its Claim
-pub record IsSentClean (p : Plan) (g : List Entry) (spot : Spot) (v : ℕ) (bytes : List ℕ) : Type 0 where
+-- what a Fetch answered Clean says: its spot can be served, its key is shown, untouched since, with the version of its Claim, and where the store tells with its bytes
+pub record IsSentClean (p : Plan) (told : Bool) (g : List Entry) (spot : Spot) (v : ℕ) (bytes : List ℕ) : Type 0 where
+  pub servable : is_servable p spot ≡ true
   pub before : List Entry
   pub is_shown : shown g (key_of spot) ≡ Some before
   pub is_untouched : is_touched_after p g (length before) (key_of spot) ≡ false
   pub version_is : v ≡ version before
-  pub bytes_are : bytes ≡ drawn_after p before spot
+  pub bytes_are : told ≡ true → bytes ≡ drawn_after p before spot
 
-pub sent_clean : (p : Plan) (g : List Entry) (spot : Spot) (v : ℕ) (bytes : List ℕ) → FetchFits p true g spot (Fetched.Clean v bytes) → IsSentClean p g spot v bytes
-sent_clean p g spot v bytes fits = servable (is_servable p spot) fits
+-- what holds where b is true, where it is
+on_true : {X : Type 0} (b : Bool) → OnTrue b X → b ≡ true → X
+on_true true h is = h
+on_true false h is = cc
+
+pub sent_clean : (p : Plan) (told : Bool) (g : List Entry) (spot : Spot) (v : ℕ) (bytes : List ℕ) → FetchFits p told g spot (Fetched.Clean v bytes) → IsSentClean p told g spot v bytes
+sent_clean p told g spot v bytes fits = served (is_servable p spot) refl fits
   where
-    at : (o : Option (List Entry)) → shown g (key_of spot) ≡ o → ShownFits p true g spot o (Fetched.Clean v bytes) → IsSentClean p g spot v bytes
-    at None is h = cc
-    at (Some before) is h = record { before = before; is_shown = is; is_untouched = h.0; version_is = h.1; bytes_are = h.2 }
+    at : (o : Option (List Entry)) → is_servable p spot ≡ true → shown g (key_of spot) ≡ o → ShownFits p told g spot o (Fetched.Clean v bytes) → IsSentClean p told g spot v bytes
+    at None can is h = cc
+    at (Some before) can is h = record { servable = can; before = before; is_shown = is; is_untouched = h.0; version_is = h.1; bytes_are = on_true told h.2 }
 
-    servable : (b : Bool) → MatchBool b (ShownFits p true g spot (shown g (key_of spot)) (Fetched.Clean v bytes)) (Fetched.Clean v bytes ≡ Fetched.Unservable) → IsSentClean p g spot v bytes
-    servable false h = cc
-    servable true h = at (shown g (key_of spot)) refl h
+    served : (b : Bool) → is_servable p spot ≡ b → MatchBool b (ShownFits p told g spot (shown g (key_of spot)) (Fetched.Clean v bytes)) (Fetched.Clean v bytes ≡ Fetched.Unservable) → IsSentClean p told g spot v bytes
+    served false can h = cc
+    served true can h = at (shown g (key_of spot)) can refl h
 
-fresh_fetch : (p : Plan) (g : List Entry) (spot : Spot) (v : ℕ) (bytes : List ℕ) → Legal p true g → IsSentClean p g spot v bytes → IsDrawnFresh p g spot v bytes
-fresh_fetch p g spot v bytes legal s =
-    let d = shown_drawn p true g (key_of spot) s.before legal s.is_shown in
+fresh_fetch : (p : Plan) (told : Bool) (g : List Entry) (spot : Spot) (v : ℕ) (bytes : List ℕ) → Legal p told g → IsSentClean p told g spot v bytes → IsDrawnFresh p told g spot v bytes
+fresh_fetch p told g spot v bytes legal s =
+    let d = shown_drawn p told g (key_of spot) s.before legal s.is_shown in
     record {
       since = d.since;
       worker = d.worker;
@@ -143,12 +150,12 @@ fresh_fetch p g spot v bytes legal s =
       bytes_are = s.bytes_are;
     }
 
-pub fresh : (p : Plan) (h : List Entry) → Legal p true h → Fresh p h
+pub fresh : (p : Plan) (told : Bool) (h : List Entry) → Legal p told h → Fresh p told h
 unfolding Fits
-fresh p [] legal = tt
-fresh p (Fetch spot (Fetched.Clean v bytes) ∷ g) legal = (fresh_fetch p g spot v bytes legal.1 (sent_clean p g spot v bytes legal.0), fresh p g legal.1)
-fresh p (Fetch spot _ ∷ g) legal = (tt, fresh p g legal.1)
-fresh p (e ∷ g) legal = (tt, fresh p g legal.1)
+fresh p told [] legal = tt
+fresh p told (Fetch spot (Fetched.Clean v bytes) ∷ g) legal = (fresh_fetch p told g spot v bytes legal.1 (sent_clean p told g spot v bytes legal.0), fresh p told g legal.1)
+fresh p told (Fetch spot _ ∷ g) legal = (tt, fresh p told g legal.1)
+fresh p told (e ∷ g) legal = (tt, fresh p told g legal.1)
 
 -- Single.
 
@@ -311,4 +318,4 @@ each_done p told (e ∷ g) legal = (tt, each_done p told g legal.1)
 
 -- each legal history is sound
 pub sound : LawSound
-sound p h legal = record { fresh = fresh p h legal; single = single p true h legal; gap = gap p true h legal; done = each_done p true h legal }
+sound p told h legal = record { fresh = fresh p told h legal; single = single p told h legal; gap = gap p told h legal; done = each_done p told h legal }

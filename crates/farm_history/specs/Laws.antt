@@ -1,4 +1,4 @@
--- What is promised of histories, and the laws: every legal history keeps it, whatever the plan.
+-- What is promised of histories, and the laws: every legal history keeps it. `told` says that the store tells its content, as in the rules.
 use Rattle.std.specs.Prelude.{ℕ, Bool, true, false, ◌&&◌, ◌||◌, ◌==◌, nat_lt, if◌then◌else◌, ◌≡◌, List, [], ◌∷◌, ◌++◌, length, Option, Some, None}
 use Rattle.farm_history.specs.declared.keys.Key.{Key}
 use Rattle.farm_history.specs.declared.queues.Conn.{Conn}
@@ -13,11 +13,11 @@ use Rattle.farm_history.specs.declared.answers.Fetched.{Fetched}
 use Rattle.farm_history.specs.declared.answers.Updated.{Updated}
 use Rattle.farm_history.specs.declared.answers.Collected.{Collected}
 use Rattle.farm_history.specs.Entries.{Entry, Ask, Claim, Finish, Update, Fetch, Collect, Leave, EachMoment, EachPast}
-use Rattle.farm_history.specs.Plans.{Plan, AreApart, same_key, same_conn, key_of, map_of, tile_of}
+use Rattle.farm_history.specs.Plans.{Plan, AreApart, same_key, same_conn, key_of, map_of, tile_of, is_servable}
 use Rattle.farm_history.specs.Past.{Flight, version, drawn_after, flights, flight_in, flies, is_on, is_touched_after, is_clean, waits, number_in, Numbered}
 use Rattle.farm_history.specs.Rules.{Legal}
 
--- Fresh: what is sent as clean is the plain drawing at one moment, and nothing has touched it since.
+-- Fresh: what is sent as clean is of a drawing that was claimed and then stored, and nothing has touched it since that Claim.
 
 -- whether the drawing of that ticket is stored in those entries
 unfoldable pub is_stored_in : List Entry → ℕ → Bool
@@ -26,8 +26,8 @@ is_stored_in (Finish t drawn (Stored clean) ∷ g) ticket = t == ticket || is_st
 is_stored_in (_ ∷ g) ticket = is_stored_in g ticket
 
 -- A Fetch of the spot answered Clean with a version and bytes, after h: the history h has a Claim on the spot's key whose ticket was stored after it;
--- no entry after that Claim touches the key; the version is the one before the Claim; and the bytes are those of the tile, drawn plainly in the style and over the data before the Claim
-pub record IsDrawnFresh (p : Plan) (h : List Entry) (spot : Spot) (sent : ℕ) (bytes : List ℕ) : Type 0 where
+-- no entry after that Claim touches the key; the version is the one before the Claim; and where the store tells its content, the bytes are those that the plan draws of the tile in the style and over the data before the Claim
+pub record IsDrawnFresh (p : Plan) (told : Bool) (h : List Entry) (spot : Spot) (sent : ℕ) (bytes : List ℕ) : Type 0 where
   pub since : List Entry
   pub worker : ℕ
   pub ticket : ℕ
@@ -36,18 +36,20 @@ pub record IsDrawnFresh (p : Plan) (h : List Entry) (spot : Spot) (sent : ℕ) (
   pub is_stored : is_stored_in since ticket ≡ true
   pub is_untouched : is_touched_after p h (length before) (key_of spot) ≡ false
   pub version_is : sent ≡ version before
-  pub bytes_are : bytes ≡ drawn_after p before spot
+  pub bytes_are : told ≡ true → bytes ≡ drawn_after p before spot
 
-abbrev pub FreshAt : Plan → List Entry → Entry → Type 0
-FreshAt p g (Fetch spot (Fetched.Clean v bytes)) = IsDrawnFresh p g spot v bytes
-FreshAt p g _ = Unit {0}
+-- where the entry sends a tile as clean, the tile is drawn fresh, g being what came before the entry
+abbrev pub FreshAt : Plan → Bool → List Entry → Entry → Type 0
+FreshAt p told g (Fetch spot (Fetched.Clean v bytes)) = IsDrawnFresh p told g spot v bytes
+FreshAt p told g _ = Unit {0}
 
 -- each tile sent as clean is drawn fresh
-abbrev pub Fresh : Plan → List Entry → Type 0
-Fresh p h = EachMoment (FreshAt p) h
+abbrev pub Fresh : Plan → Bool → List Entry → Type 0
+Fresh p told h = EachMoment (FreshAt p told) h
 
 -- Single: no metatile is drawn twice at once.
 
+-- the key of a flight
 abbrev pub flight_key : Flight → Key
 flight_key f = f.key
 
@@ -79,7 +81,7 @@ GapAt p h =
     (since : List Entry) (t : ℕ) (drawn clean : Bool) (g : List Entry) (f : Flight) →
     h ≡ since ++ Finish t drawn (Stored clean) ∷ g → flight_in (flights g) t ≡ Some f → is_touched_after p g (length f.before) f.key ≡ true → StaysDirty p h (length g) f.key clean
 
--- and so at each time
+-- at each time what was touched while it was being drawn stays dirty, until a drawing that was claimed later is stored
 abbrev pub Gap : Plan → List Entry → Type 0
 Gap p h = EachPast (GapAt p) h
 
@@ -102,10 +104,12 @@ pub record IsStoredFor (h : List Entry) (r : Reply) : Type 0 where
   pub has_number : number_in answer ≡ Some r.ask
   pub is_stored : is_stored_after h (length before) (key_of spot) ≡ true
 
+-- a reply Done, after h, is to an ask after which a drawing of its key is stored; of other replies nothing is said
 abbrev pub DoneReply : List Entry → Reply → Outcome → Type 0
 DoneReply h r Outcome.Done = IsStoredFor h r
 DoneReply h r _ = Unit {0}
 
+-- where the entry is an ask answered Done, its key is clean before it; where it collects a reply, that reply is as it should be
 abbrev pub DoneAt : Plan → List Entry → Entry → Type 0
 DoneAt p g (Ask conn command spot AskAnswer.Done) = is_clean p g (key_of spot) ≡ true
 DoneAt p g (Collect front (Collected.Reply r)) = DoneReply g r r.outcome
@@ -115,19 +119,20 @@ DoneAt p g _ = Unit {0}
 abbrev pub EachDone : Plan → List Entry → Type 0
 EachDone p h = EachMoment (DoneAt p) h
 
--- the four promises
-pub record Sound (p : Plan) (h : List Entry) : Type 0 where
-  pub fresh : Fresh p h
+-- the four promises; only the bytes of what is sent as clean rest on a store that tells its content
+pub record Sound (p : Plan) (told : Bool) (h : List Entry) : Type 0 where
+  pub fresh : Fresh p told h
   pub single : Single h
   pub gap : Gap p h
   pub done : EachDone p h
 
--- Over a store that tells its content, each legal history is sound
+-- Each legal history is sound
 abbrev pub LawSound : Type 0
-LawSound = (p : Plan) (h : List Entry) → Legal p true h → Sound p h
+LawSound = (p : Plan) (told : Bool) (h : List Entry) → Legal p told h → Sound p told h
 
--- Apart: of a key that waits, flies or is clean, one of the three is true.
+-- Apart: of waiting, flying and being clean a key does at most one.
 
+-- of the three truths at most one holds
 pub record AtMostOne (waits flies clean : Bool) : Type 0 where
   pub not_both : waits ≡ true → flies ≡ false
   pub clean_not_flying : clean ≡ true → flies ≡ false
@@ -137,7 +142,7 @@ pub record AtMostOne (waits flies clean : Bool) : Type 0 where
 abbrev pub LawApart : Type 0
 LawApart = (p : Plan) (told : Bool) (h : List Entry) → Legal p told h → (k : Key) → AtMostOne (waits p h k) (flies h k) (is_clean p h k)
 
--- One reply: an ask has at most one reply, and none once its connection is left.
+-- One reply: an ask has at most one reply, and none after a Leave of its connection that stands after the ask.
 
 -- where the option holds that number, the ask; else what was found before
 abbrev pub asked_here : Option ℕ → ℕ → Conn → Key → List Entry → Option Numbered → Option Numbered
@@ -162,7 +167,7 @@ is_replied [] n = false
 is_replied (Collect front (Collected.Reply r) ∷ g) n = r.ask == n || is_replied g n
 is_replied (_ ∷ g) n = is_replied g n
 
--- the reply is that of an ask before it, of the asker's connection; no earlier reply has its number, and the connection was not left after the ask
+-- the reply is that of an ask before it, of the asker's connection; no earlier reply has its number, and no Leave of the connection stands after the ask
 pub record IsOnlyReply (h : List Entry) (r : Reply) : Type 0 where
   pub ask : Numbered
   pub is_asked : asked h r.ask ≡ Some ask
@@ -175,6 +180,7 @@ abbrev pub IsNewNumber : List Entry → Option ℕ → Type 0
 IsNewNumber g None = Unit {0}
 IsNewNumber g (Some n) = asked g n ≡ None
 
+-- where the entry is an ask with a number, the number is new; where it collects a reply, that is the only one to its ask
 abbrev pub OneReplyAt : List Entry → Entry → Type 0
 OneReplyAt g (Ask conn command spot answer) = IsNewNumber g (number_in answer)
 OneReplyAt g (Collect front (Collected.Reply r)) = IsOnlyReply g r
@@ -192,16 +198,18 @@ has_plain_update [] = false
 has_plain_update (Update n (Updated.Version v) ∷ g) = true
 has_plain_update (_ ∷ g) = has_plain_update g
 
--- Drawing is local: an update whose features, old and new, do not reach the metatile of a tile changes no byte of the tile
+-- Drawing is local: of a servable spot, an update whose features, old and new, do not reach the metatile changes no byte of the tile. Of a spot that cannot be served nothing is said
 abbrev pub IsLocal : Plan → Type 0
 IsLocal p = (spot : Spot) (style : Option ℕ) (data_numbers : List ℕ) (n : ℕ) →
+    is_servable p spot ≡ true →
     p.reaches data_numbers n (key_of spot) ≡ false →
     p.drawing (map_of spot) style (tile_of spot) (data_numbers ++ n ∷ []) ≡ p.drawing (map_of spot) style (tile_of spot) data_numbers
 
+-- where the entry sends a tile as clean, its bytes are those that the plan draws in the style and over the data of that moment
 abbrev pub NowAt : Plan → List Entry → Entry → Type 0
 NowAt p g (Fetch spot (Fetched.Clean v bytes)) = bytes ≡ drawn_after p g spot
 NowAt p g _ = Unit {0}
 
--- Where drawing is local, in each legal history without plain updates, over a store that tells its content, each tile sent as clean is drawn in the style and over the data of that moment
+-- Where drawing is local, in each legal history without plain updates, over a store that tells its content, each tile sent as clean is as the plan draws it in the style and over the data of that moment
 abbrev pub LawNow : Type 0
 LawNow = (p : Plan) (h : List Entry) → IsLocal p → has_plain_update h ≡ false → Legal p true h → EachMoment (NowAt p) h

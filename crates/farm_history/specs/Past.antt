@@ -45,7 +45,7 @@ style_after p [] map = None
 style_after p (Restyle n (Styled count) ∷ g) map = if is_style_of p n map then Some n else style_after p g map
 style_after p (_ ∷ g) map = style_after p g map
 
--- the bytes of a spot's tile, drawn plainly in the map's style and over the data after the history
+-- the bytes that the plan draws of a spot's tile, in the map's style and over the data after the history
 abbrev pub drawn_after : Plan → List Entry → Spot → List ℕ
 drawn_after p h spot = p.drawing (map_of spot) (style_after p h (map_of spot)) (tile_of spot) (data_after h)
 
@@ -55,6 +55,7 @@ pub record Flight : Type 0 where
   pub key : Key
   pub before : List Entry
 
+-- the flights that do not have that ticket
 abbrev pub without_ticket : ℕ → List Flight → List Flight
 without_ticket t fs = filter (λ f. not (f.ticket == t)) fs
 
@@ -89,6 +90,7 @@ claimed_keys [] = []
 claimed_keys (Claim worker (Job t k v) ∷ g) = if is_in k (claimed_keys g) then claimed_keys g else claimed_keys g ++ k ∷ []
 claimed_keys (_ ∷ g) = claimed_keys g
 
+-- whether there is a flight, and it is of the key
 abbrev pub is_on : Option Flight → Key → Bool
 is_on None k = false
 is_on (Some f) k = same_key f.key k
@@ -103,7 +105,7 @@ abbrev pub stored_on : Option Flight → Key → Option (List Entry) → Option 
 stored_on None k otherwise = otherwise
 stored_on (Some f) k otherwise = if same_key f.key k then Some f.before else otherwise
 
--- and after a drawing was refused by the store: nothing, where it is of the key
+-- what is shown of a key after a drawing was refused by the store: nothing, where the drawing is of the key
 abbrev pub lost_on : Option Flight → Key → Option (List Entry) → Option (List Entry)
 lost_on f k otherwise = if is_on f k then None else otherwise
 
@@ -116,7 +118,8 @@ shown (_ ∷ g) k = shown g k
 
 -- Whether an entry touches a key, where g came before it:
 -- an Expire whose tile's square overlaps the key's; an Ask with Dirty on a servable spot of the key, before any Stop;
--- a Restyle answered Styled of the key's map; a Renew answered Version whose update, over the data before it, reaches the key's square. Nothing else does
+-- a Restyle answered Styled of the key's map; a Renew answered Version whose update, over the data before it, reaches the key's square. Nothing else does.
+-- Expiry by lists of tiles is that of mod_tile's render_expired; how far it goes (every map and every zoom), and what else touches, is this farm's own rule
 abbrev pub touches : Plan → List Entry → Entry → Key → Bool
 touches p g (Expire tile count) k = overlaps tile k
 touches p g (Ask conn command spot answer) k = is_dirty_command command && (not (is_stopped g) && (is_servable p spot && same_key (key_of spot) k))
@@ -163,7 +166,8 @@ after_stale limits None ws = ws
 after_stale limits (Some f) ws = with_dirty limits f.key ws
 
 -- What waits, in the order in which it came to its queue. Beside what answers do, an ask with Dirty that touches a key which neither waits nor flies puts it in the dirty queue,
--- a Finish answered Stored(false) does so with its key, and a Claim takes the key of its Job out
+-- a Finish answered Stored(false) does so with its key, and a Claim takes the key of its Job out.
+-- The five queues, and that an ask whose own queue is full goes to the dirty queue, are renderd's; the rest is this farm's own rule
 unfoldable pub waiting : Plan → List Entry → List Waits
 waiting p [] = []
 waiting p (Ask conn command spot answer ∷ g) =
@@ -198,13 +202,16 @@ pub record Numbered : Type 0 where
   pub key : Key
   pub before : List Entry
 
+-- the asks, and last among them the new one where it was given a number; g came before it
 abbrev pub with_ask : Option ℕ → Conn → Key → List Entry → List Numbered → List Numbered
 with_ask None conn k g asks = asks
 with_ask (Some n) conn k g asks = asks ++ record { conn = conn; number = n; key = k; before = g } ∷ []
 
+-- the asks that are not of the connection
 abbrev pub without_conn : Conn → List Numbered → List Numbered
 without_conn conn asks = filter (λ a. not (same_conn a.conn conn)) asks
 
+-- the asks that do not have that number
 abbrev pub without_number : ℕ → List Numbered → List Numbered
 without_number n asks = filter (λ a. not (a.number == n)) asks
 
@@ -255,10 +262,12 @@ asks_made [] = 0
 asks_made (Ask conn command spot answer ∷ g) = if is_dirty_command command then asks_made g else asks_made g + 1
 asks_made (_ ∷ g) = asks_made g
 
+-- whether an ask was answered Done at once
 abbrev pub is_done_answer : AskAnswer → Bool
 is_done_answer AskAnswer.Done = true
 is_done_answer _ = false
 
+-- whether a reply says Done
 abbrev pub is_done : Outcome → Bool
 is_done Outcome.Done = true
 is_done _ = false

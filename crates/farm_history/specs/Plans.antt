@@ -30,7 +30,7 @@ pub record Plan : Type 0 where
   pub fault : List ℕ → ℕ → Option ApplyFault
   -- whether a feature that update number n names over the data, old or new, reaches the key's metatile square
   pub reaches : List ℕ → ℕ → Key → Bool
-  -- the bytes of a map's tile in the style of that number (none: the map's first style) over the data
+  -- the bytes of a map's tile in the style of that number (none: the map's first style) over the data; any function, which the laws do not look into
   pub drawing : ℕ → Option ℕ → Tile → List ℕ → List ℕ
 
 -- whether two metatiles are one
@@ -63,6 +63,7 @@ AreApart key (x ∷ xs) = (list_any (λ y. same_key (key y) (key x)) xs ≡ fals
 abbrev pub tile_of : Spot → Tile
 tile_of spot = record { z = spot.z; x = spot.x; y = spot.y }
 
+-- the map that is given, or the first
 abbrev pub map_or_first : Option ℕ → ℕ
 map_or_first None = 0
 map_or_first (Some map) = map
@@ -75,10 +76,12 @@ map_of spot = map_or_first spot.map
 abbrev pub key_of : Spot → Key
 key_of spot = record { map = map_of spot; meta = meta_of (tile_of spot) }
 
+-- whether there is a limit, and n is at most that
 abbrev pub is_at_most : ℕ → Option ℕ → Bool
 is_at_most n None = false
 is_at_most n (Some m) = nat_lt n (m + 1)
 
+-- the greatest zoom of the map, where a map is given and the table has it
 abbrev pub greatest_zoom : List ℕ → Option ℕ → Option ℕ
 greatest_zoom zooms None = None
 greatest_zoom zooms (Some map) = slice_get zooms map
@@ -95,7 +98,7 @@ overlaps tile k = squares_meet (tile_square tile) (meta_square k.meta)
 unfoldable pub is_style_of : Plan → ℕ → ℕ → Bool
 is_style_of p n map = holds (slice_get p.restyles n) map
 
--- the place of a queue in the order in which the queues are taken
+-- the place of a queue in the order in which the queues are taken, which is renderd's
 abbrev pub queue_place : Queue → ℕ
 queue_place Queue.Prio = 0
 queue_place Queue.Request = 1
@@ -164,6 +167,6 @@ has_room limits queue ws = nat_lt (how_many_in ws queue) (limit_of limits queue)
 abbrev pub first_in : List Waits → Queue → Option Waits
 first_in ws queue = find (λ w. same_queue w.queue queue) ws
 
--- the one that is taken next: the first of the first queue in which one waits
+-- the one that is taken next: the first of the first queue in which one waits, in renderd's order of its queues: prio, request, low, dirty, bulk
 unfoldable pub next : List Waits → Option Waits
 next ws = option_or (first_in ws Queue.Prio) (option_or (first_in ws Queue.Request) (option_or (first_in ws Queue.Low) (option_or (first_in ws Queue.Dirty) (first_in ws Queue.Bulk))))

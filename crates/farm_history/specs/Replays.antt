@@ -56,6 +56,7 @@ are_rising (x ∷ xs) = list_all (λ y. key_before x.key y.key) xs && are_rising
 abbrev pub kept_of : List Kept → Key → Option Kept
 kept_of kept k = find (λ x. same_key x.key k) kept
 
+-- the version with which a key is kept
 abbrev pub kept_version : Kept → ℕ
 kept_version x = x.version
 
@@ -74,10 +75,11 @@ pub record IsSaved (p : Plan) (h : List Entry) (s : Saving) : Type 0 where
 
 -- Replaying.
 
--- the connection that asks in a replay, of a front that no other connection has
+-- the front that asks in a replay; those of a running farm are 0, 1 and 2
 abbrev pub replay_front : ℕ
 replay_front = 3
 
+-- the connection that asks in a replay
 abbrev pub replayer : Conn
 replayer = record { front = replay_front; number = 0 }
 
@@ -100,7 +102,7 @@ replay_key k g =
     ∷ Ask replayer Cmd.Bulk (lowest k) (Queued (numbers g))
     ∷ g
 
--- so is each kept key of that version, in order
+-- each kept key of that version, in order, is asked for, claimed, stored as clean and collected
 unfoldable pub replay_keys : ℕ → List Kept → List Entry → List Entry
 replay_keys v [] g = g
 replay_keys v (x ∷ xs) g = replay_keys v xs (if x.version == v then replay_key x.key g else g)

@@ -27,7 +27,7 @@ use Rattle.farm_history.specs.Entries.{Entry, Ask, Claim, Finish, Update, Renew,
 use Rattle.farm_history.specs.Plans.{Plan, Waits, key_of, is_servable, overlaps, is_style_of, is_dirty_command, is_lifting, own_queue, waits_in_queue, has_room, next}
 use Rattle.farm_history.specs.Past.{Flight, is_stopped, data_after, version, drawn_after, flights, flight_in, flies, jobs, shown, is_touched_after, is_clean, clean_count, is_overtaken, waiting, waits, numbers, open_asks, how_many_of, ended, totals}
 
--- Asks with a render command.
+-- Asks with a render command. The queues, and that an ask whose own queue is full goes to the dirty queue, are renderd's; all other lines, and the limits, are this farm's own rule.
 
 -- what the answer to such an ask depends on
 pub record Tests : Type 0 where
@@ -150,7 +150,7 @@ RestyleFits p g n (Styled count) = (n < length p.restyles) × (count ≡ clean_c
 -- Reads.
 
 -- What a read of a shown key is answered, where before came before the Claim of what is shown. Clean and Dirty are as the key stands, with the version before that Claim.
--- Where the store tells its content, the bytes are those of the tile drawn plainly in the style and over the data before that Claim, and Gone and Spoilt do not come
+-- Where the store tells its content, the bytes are those that the plan draws of the tile in the style and over the data before that Claim, and Gone and Spoilt do not come
 abbrev pub ReadFits : Plan → Bool → List Entry → Spot → List Entry → Fetched → Type 0
 ReadFits p told g spot before (Fetched.Clean v bytes) = (is_touched_after p g (length before) (key_of spot) ≡ false) × (v ≡ version before) × OnTrue told (bytes ≡ drawn_after p before spot)
 ReadFits p told g spot before (Fetched.Dirty v bytes) = (is_touched_after p g (length before) (key_of spot) ≡ true) × (v ≡ version before) × OnTrue told (bytes ≡ drawn_after p before spot)

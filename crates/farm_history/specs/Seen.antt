@@ -25,6 +25,7 @@ pub record Taken : Type 0 where
   pub version : ℕ
   pub touched : Bool
 
+-- the flight as it is kept
 abbrev pub taken_of : Plan → List Entry → Flight → Taken
 taken_of p h f = record { ticket = f.ticket; key = f.key; version = version f.before; touched = is_touched_after p h (length f.before) f.key }
 
@@ -36,6 +37,7 @@ taken_after p h = map (taken_of p h) (flights h)
 abbrev pub is_waiter : List Entry → Key → Numbered → Bool
 is_waiter h k a = same_key a.key k && not (is_ended_after h (length a.before) a.key)
 
+-- an open ask as it is kept: its connection and its number
 abbrev pub waiter_of : Numbered → Waiter
 waiter_of a = record { conn = a.conn; ask = a.number }
 

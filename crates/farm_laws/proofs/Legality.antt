@@ -1,11 +1,14 @@
 -- The worked histories are legal, by computation.
-use Rattle.std.proofs.Common.{◌≡◌, true, false, refl, ap, ◌∙◌, [], ◌∷◌, ◌++◌, cond, filter, append-nil, lit<, lit≤}
-use Rattle.farm_history.specs.Plans.{key_of, map_of, tile_of, is_servable, overlaps, is_style_of, next}
+use Rattle.std.proofs.Common.{◌≡◌, ℕ, zero, suc, Bool, true, false, ◌&&◌, nat_lt, Option, Some, None, List, refl, ap, ◌∙◌, [], ◌∷◌, ◌++◌, cond, filter, append-nil, lit<, lit≤, arith}
+use Rattle.std.proofs.lemmas.Bool.Decides.{nat_tests}
+use Rattle.farm_history.specs.declared.keys.Key.{Key}
+use Rattle.farm_history.specs.Plans.{key_of, map_of, tile_of, is_at_most, greatest_zoom, is_servable, overlaps, is_style_of, next}
 use Rattle.farm_history.specs.Past.{is_stopped, data_after, style_after, flights, jobs, claimed_keys, shown, is_touched_after, waiting, numbers, open_asks, is_ended_after, replies_to, asks_made, done_asks, stored_drawings}
 use Rattle.farm_history.specs.Rules.{answer_of_waiting, answer_by, Fits, Legal}
 use Rattle.farm_history.specs.Laws.{has_plain_update, IsLocal}
 use Rattle.farm_history.proofs.Lists.{filter-append}
 use Rattle.farm_history.specs.Replays.{replay_styles, replay_keys, replay_from, replay}
+use Rattle.farm_laws.specs.Mistakes.{gone_though_told}
 use Rattle.farm_laws.specs.Worked.{changing, saved_changes, resumed_changes, reached, bytes_of, low_narrow, narrow, plain, renewed, restyled, updated, asked_twice, expired_while_drawn, asked_often, asked_too_often, asked_just_often, has_each, updated_then_expired, expired_from_above, updated_while_drawn, queues_filled, put_failed, drawing_cut, left_alone, lifted_from_bulk, marked_dirty, restyled_while_drawn, two_drawn, renewed_one, renewed_both}
 
 pub asked_twice_legal : Legal plain true asked_twice
@@ -76,15 +79,34 @@ pub asked_just_often_legal : Legal plain true asked_just_often
 unfolding asked_just_often asked_often plain Fits is_servable overlaps is_style_of next is_stopped data_after style_after flights jobs claimed_keys shown is_touched_after waiting numbers open_asks is_ended_after replies_to asks_made done_asks stored_drawings answer_by answer_of_waiting
 asked_just_often_legal = (refl, (refl, (refl, (refl, (refl, (refl, (refl, (refl, (refl, (refl, (refl, (refl, (refl, (refl, (refl, (refl, (refl, (refl, (refl, (refl, (refl, (refl, (refl, (refl, (refl, (refl, (refl, (refl, (refl, (refl, (refl, (refl, (refl, (refl, (refl, (refl, (refl, (refl, (refl, (refl, (refl, (refl, (refl, (refl, (refl, (refl, (refl, (refl, (refl, (refl, (refl, (refl, (refl, (refl, (refl, (refl, (refl, (refl, (refl, (refl, (refl, (refl, (refl, (refl, tt))))))))))))))))))))))))))))))))))))))))))))))))))))))))))))))))
 
+-- over a store that does not tell its content, what is shown may be gone
+pub gone_untold_legal : Legal plain false gone_though_told
+unfolding gone_though_told plain Fits is_servable overlaps is_style_of next is_stopped data_after style_after flights jobs claimed_keys shown is_touched_after waiting numbers open_asks is_ended_after replies_to asks_made done_asks stored_drawings answer_by answer_of_waiting
+gone_untold_legal = (refl, (refl, (refl, (refl, tt))))
+
 -- the laws speak of something
 pub speaks : has_each expired_while_drawn ≡ true
 unfolding expired_while_drawn
 speaks = refl
 
+-- what can be served of one map with zooms to 18 is not past zoom 18
+not_past : (map : Option ℕ) (z : ℕ) (rest : Bool) → is_at_most z (greatest_zoom (18 ∷ []) map) && rest ≡ true → nat_lt 18 z ≡ false
+not_past None z rest h = cc
+not_past (Some zero) z rest h = grind (arith, nat_tests)
+not_past (Some (suc m)) z rest h = cc
+
+-- an update that does not reach the key is not told where b is false
+not_told : (known : List ℕ) (n : ℕ) (k : Key) (b : Bool) → b ≡ false → reached n k ≡ false →
+    cond b (known ++ n ∷ []) (filter (λ m. reached m k) (known ++ n ∷ [])) ≡ cond b known (filter (λ m. reached m k) known)
+not_told known n k true past unreached = cc
+not_told known n k false past unreached =
+    filter-append (λ m. reached m k) known (n ∷ []) ∙ (ap (λ b. filter (λ m. reached m k) known ++ cond b (n ∷ []) []) unreached ∙ append-nil _)
+
 -- the farm with renews draws locally
 pub renewed_local : IsLocal renewed
-unfolding renewed
-renewed_local spot style known n unreached = ap (bytes_of (map_of spot) style (tile_of spot)) (filter-append (λ m. reached m (key_of spot)) known (n ∷ []) ∙ (ap (λ b. filter (λ m. reached m (key_of spot)) known ++ cond b (n ∷ []) []) unreached ∙ append-nil _))
+unfolding renewed is_servable
+renewed_local spot style known n servable unreached =
+    ap (bytes_of (map_of spot) style (tile_of spot)) (not_told known n (key_of spot) (nat_lt 18 spot.z) (not_past spot.map spot.z _ servable) unreached)
 
 pub renewed_only : has_plain_update renewed_one ≡ false
 unfolding renewed_one two_drawn has_plain_update

@@ -1,5 +1,5 @@
 -- Worked histories of small farms, each from its first entry to its last. They show what the rules answer, and that the laws speak of something.
-use Rattle.std.specs.Prelude.{ℕ, zero, suc, Bool, true, false, ◌&&◌, ◌==◌, if◌then◌else◌, List, [], ◌∷◌, filter, Option, Some, None}
+use Rattle.std.specs.Prelude.{ℕ, zero, suc, Bool, true, false, ◌&&◌, ◌==◌, nat_lt, if◌then◌else◌, List, [], ◌∷◌, filter, Option, Some, None}
 use Rattle.std.specs.List.{list_any}
 use Rattle.farm_base.specs.declared.faults.ApplyFault.TheVariants.{NoFeature}
 use Rattle.plain_drawing.specs.declared.world.Tile.{Tile}
@@ -45,6 +45,7 @@ spot z x y = record { map = Some 0; z = z; x = x; y = y }
 abbrev pub key : ℕ → ℕ → ℕ → Key
 key z x y = record { map = 0; meta = record { z = z; x = x; y = y } }
 
+-- a tile by its zoom, column and row
 abbrev pub tile : ℕ → ℕ → ℕ → Tile
 tile z x y = record { z = z; x = x; y = y }
 
@@ -60,14 +61,16 @@ drawn ticket answer = Finish ticket true answer
 abbrev pub reply : ℕ → ℕ → Outcome → Entry
 reply n ask outcome = Collect 0 (Collected.Reply (record { conn = conn n; ask = ask; outcome = outcome }))
 
--- bytes that tell a style, a tile and data apart: the style's number plus one, or 0; the tile's numbers; the data
+-- the style's number plus one, or 0 for none
 abbrev pub style_place : Option ℕ → ℕ
 style_place None = 0
 style_place (Some n) = suc n
 
+-- bytes that tell a style, a tile and data apart: the style's place, the tile's numbers, the data
 abbrev pub bytes_of : ℕ → Option ℕ → Tile → List ℕ → List ℕ
 bytes_of map style t known = style_place style ∷ t.z ∷ t.x ∷ t.y ∷ known
 
+-- queues in each of which 32 may wait
 abbrev pub wide : Limits
 wide = record { prio = 32; request = 32; low = 32; dirty = 32; bulk = 32 }
 
@@ -84,6 +87,7 @@ small_plan limits workers = record {
   drawing = bytes_of;
 }
 
+-- a farm of two workers
 unfoldable pub plain : Plan
 plain = small_plan wide 2
 
@@ -311,12 +315,12 @@ restyled_while_drawn = goes_on [] (
 abbrev pub reached : ℕ → Key → Bool
 reached n k = if n == 0 then same_key k (key 4 0 0) else true
 
--- a farm with two updates, whose drawings tell the updates that reach the metatile
+-- a farm with two updates. Its drawings of tiles to zoom 18 tell the updates that reach the metatile; those of tiles past it, which cannot be served, tell every update
 unfoldable pub renewed : Plan
 renewed = record (small_plan wide 2) {
   updates = 2;
   reaches = λ known n k. reached n k;
-  drawing = λ map style t known. bytes_of map style t (filter (λ n. reached n (key_of (record { map = Some map; z = t.z; x = t.x; y = t.y }))) known);
+  drawing = λ map style t known. bytes_of map style t (if nat_lt 18 t.z then known else filter (λ n. reached n (key_of (record { map = Some map; z = t.z; x = t.x; y = t.y }))) known);
 }
 
 -- two metatiles are drawn
@@ -343,7 +347,7 @@ renewed_one = goes_on two_drawn (
     ∷ []
     )
 
--- one whose update reaches both makes both dirty
+-- A renew whose update reaches both metatiles makes both dirty
 unfoldable pub renewed_both : List Entry
 renewed_both = goes_on two_drawn (Renew 1 (Renewed.Version 1 2) ∷ [])
 
@@ -374,18 +378,22 @@ resumed_changes = goes_on [] (
 
 -- What the laws speak of: a tile sent as clean, a drawing stored as dirty, an ask answered Done, and a reply Done.
 
+-- whether the entry sends a tile as clean
 abbrev pub is_clean_fetch : Entry → Bool
 is_clean_fetch (Fetch s (Fetched.Clean v bytes)) = true
 is_clean_fetch _ = false
 
+-- whether the entry stores a drawing as dirty
 abbrev pub is_stale_finish : Entry → Bool
 is_stale_finish (Finish ticket made (Stored false)) = true
 is_stale_finish _ = false
 
+-- whether the entry is an ask answered Done
 abbrev pub is_done_ask : Entry → Bool
 is_done_ask (Ask c command s AskAnswer.Done) = true
 is_done_ask _ = false
 
+-- whether the entry collects a reply Done
 abbrev pub is_done_reply : Entry → Bool
 is_done_reply (Collect front (Collected.Reply r)) = is_done r.outcome
 is_done_reply _ = false
@@ -398,6 +406,6 @@ has_each h = list_any is_clean_fetch h && (list_any is_stale_finish h && (list_a
 unfoldable pub asked_too_often : List Entry
 asked_too_often = goes_on (asked_often 64) (render 0 (spot 0 0 0) (NotDone Backlog) ∷ [])
 
--- and the 64th is not
+-- The 64th open ask of a connection is not turned away
 unfoldable pub asked_just_often : List Entry
 asked_just_often = goes_on (asked_often 63) (render 0 (spot 0 0 0) (Joined 63) ∷ [])

@@ -11,11 +11,13 @@ ghost use Rattle.farm_history.specs.Rules.{Legal};
 ghost use Rattle.farm_laws.specs.Worked.{changing, saved_changes, resumed_changes, low_narrow, narrow, plain, renewed, restyled, updated, asked_twice, expired_while_drawn, updated_then_expired, expired_from_above, updated_while_drawn, queues_filled, asked_just_often, asked_too_often, put_failed, drawing_cut, left_alone, lifted_from_bulk, marked_dirty, restyled_while_drawn, renewed_one, renewed_both, has_each};
 ghost use Rattle.farm_laws.specs.Mistakes.{IsMistake, stored_clean_though_expired, clean_by_version, dirty_by_update, updated_past_the_table, update_fault_passed_over, queued_while_drawn, claimed_twice, replied_out_of_order, drawn_over_newest_data, expired_on_its_zoom_alone, expired_beside, joined_though_overtaken, dirty_before_low, dropped_though_room, deferred_past_the_limit, more_drawn_than_workers, claimed_after_stop, shown_after_failed_put, done_after_failed_put, stored_though_cut, ended_twice, replied_though_left, left_with_its_items, counted_before_collected, queued_a_second_time, joined_in_bulk, marked_and_clean, clean_in_the_old_style, drawn_in_the_old_style, restyled_past_the_table, clean_though_reached, renewed_out_of_reach, gone_though_told};
 
-/// In each legal history over a store that tells its content: every tile sent as clean is the plain drawing,
-/// byte for byte, in its map's style and over the data of one moment, and nothing has touched its
-/// metatile since; no metatile is drawn twice at once; what is touched while it is being drawn is stored
-/// as dirty and stays dirty until a later drawing of it is stored; and every Done names a metatile that
-/// was clean at the ask or stored after it.
+/// In each legal history: every tile sent as clean is of a drawing that was claimed and then stored, and nothing
+/// has touched its metatile since that claim; over a store that tells its content, its bytes are those that the
+/// plan's `drawing` gives in the style and over the data before the claim; no metatile is drawn twice at once;
+/// what is touched while it is being drawn is stored as dirty and stays dirty until a later drawing of it is
+/// stored; and every Done names a metatile that was clean at the ask or stored after it.
+///
+/// The plan's `drawing` is any function here. Nothing in this law ties it to the plain drawing of a style.
 pub fn law_sound()
     ensures { LawSound }
 {}
@@ -26,21 +28,22 @@ pub fn law_apart()
 {}
 
 /// In each legal history the numbers of asks differ, and each ask has at most one reply. The reply goes to
-/// the asker's connection, and there is none after that connection was left.
+/// the asker's connection, and there is none after a Leave of that connection that stands after the ask.
 pub fn law_one_reply()
     ensures { LawOneReply }
 {}
 
-/// Over plans whose drawing is local: in each legal history in which every update that succeeds is made as
-/// a renew, over a store that tells its content, every tile sent as clean is drawn in its map's style and
-/// over the data of that very moment.
+/// Over plans whose drawing is local at the spots that can be served: in each legal history in which every
+/// update that succeeds is made as a renew, over a store that tells its content, every tile sent as clean is
+/// as the plan draws it in its map's style and over the data of that very moment.
 pub fn law_now()
     ensures { LawNow }
 {}
 
 /// Worked histories of small farms are legal, among them one that has all that the laws speak of: a tile
 /// sent as clean, a drawing stored as dirty, an ask answered Done and a reply Done. `specs/Worked.antt`
-/// has them, each with a line on what it shows.
+/// has them, each with a line on what it shows. Over a store that does not tell its content, a read may find
+/// that what is shown is gone.
 pub fn worked_histories()
     ensures speaks { has_each expired_while_drawn ≡ true }
     ensures draws_locally { IsLocal renewed }
@@ -63,6 +66,7 @@ pub fn worked_histories()
     ensures resumed_changes_is { replay changing saved_changes ≡ resumed_changes }
     ensures resumed_changes_legal { Legal changing true resumed_changes }
     ensures renewed_both_legal { Legal renewed true renewed_both }
+    ensures gone_untold_legal { Legal plain false gone_though_told }
 {}
 
 /// Histories that are legal up to their last entry, whose answer is a mistake, are refused there.

@@ -25,4 +25,5 @@ returns c = record {
   resumed_changes_is = legality.resumed_changes_is;
   resumed_changes_legal = legality.resumed_changes_legal;
   renewed_both_legal = legality.renewed_both_legal;
+  gone_untold_legal = legality.gone_untold_legal;
 }
