@@ -1,8 +1,8 @@
 -- What the check of a file says of it: what it holds, its first fault, or that its read failed.
-use Rattle.std.proofs.Common.{◌≡◌, ◌≢◌, ℕ, ◌⊎◌, inl, inr, List, [], ◌∷◌, ◌++◌, refl, sym, ap, subst, ◌∙◌}
+use Rattle.std.proofs.Common.{◌≡◌, ◌≢◌, ℕ, ◌⊎◌, inl, inr, List, refl, sym, ap, subst, ◌∙◌}
 use Rattle.std.specs.Prelude.{Option, Some, None, Result, Ok, Err, Vec}
 use Rattle.std.specs.declared.alloc.Global.{Global}
-use Rattle.farm_base.specs.Outside.{FilesTold, Reads, ReadCounts, Rose, failed_read}
+use Rattle.farm_base.specs.Outside.{FilesTold, Reads, ReadCounts, Rose}
 use Rattle.farm_base.specs.declared.files.FileFault.{FileFault}
 use Rattle.farm_base.specs.declared.files.FileFault.TheVariants as file
 use Rattle.reading.specs.Steps.{Gives}

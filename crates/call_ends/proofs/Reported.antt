@@ -12,7 +12,7 @@ nothing_put (Some xs) = ap Some (sym (append-nil xs))
 
 -- where the line is empty, nothing is put and the status stays
 pub report_none : (status : ℕ) (line : List ℕ) (at : SinkAt) (result : ℕ) → (length line == 0) ≡ true → result ≡ status → Reports status line at at result
-report_none status [] at result none same = record { put = Ok tt; bytes_put = nothing_put at.taken; counted = refl; status_is = same }
+report_none status [] at result none same = record { put = Ok tt; bytes_put = nothing_put at.taken; counted = refl; status_is = same; quiet = λ e. (refl, refl) }
 report_none status (x ∷ xs) at result none same = absurd (grind (arith, nat_tests))
 
 -- the parts of a line that names a file, joined in any order

@@ -1,11 +1,11 @@
 -- How the status tells the end of a command.
-use Rattle.std.proofs.Common.{◌≡◌, ◌≢◌, ℕ, ◌⊎◌, inl, inr, List, ◌++◌, refl, sym, ap, subst, ◌∙◌, arith}
+use Rattle.std.proofs.Common.{◌≡◌, ◌≢◌, ℕ, ◌⊎◌, inl, inr, List, [], ◌++◌, refl, sym, ap, subst, ◌∙◌, arith}
 use Rattle.std.specs.Prelude.{Option, Some, Result, Ok, Err, Vec}
 use Rattle.std.specs.declared.alloc.Global.{Global}
 use Rattle.farm_base.specs.Outside.{Puts, PutCounts, Rose}
 use Rattle.farm_base.specs.declared.sinks.SinkFault.{SinkFault}
 use Rattle.call_ends.specs.Stops.{status_of, line_of}
-use Rattle.call_ends.specs.Ends.{SinkAt, put_end, PutsAll, PutsMade, told_status, Reports, EndsWith}
+use Rattle.call_ends.specs.Ends.{SinkAt, put_end, PutsAll, PutsMade, told_status, EndsWith}
 use Rattle.call_ends.specs.Promises.{Stands}
 use Rattle.call_ends.specs.declared.stops.Stop.{Stop}
 use Rattle.call_ends.specs.declared.stops.Stop.TheVariants as stop
@@ -90,6 +90,14 @@ ends_4 (Err (stop.Unreadable line)) h = absurd (omega arith)
 ends_4 (Err stop.SinkFailed) h = refl
 ends_4 (Err stop.NoMemory) h = absurd (omega arith)
 
+ends_5 : (end : Result (Unit {0}) Stop) → 5 ≡ status_of end → end ≡ Err stop.NoMemory
+ends_5 (Ok u) h = absurd (omega arith)
+ends_5 (Err (stop.Refused line)) h = absurd (omega arith)
+ends_5 (Err stop.Words) h = absurd (omega arith)
+ends_5 (Err (stop.Unreadable line)) h = absurd (omega arith)
+ends_5 (Err stop.SinkFailed) h = absurd (omega arith)
+ends_5 (Err stop.NoMemory) h = refl
+
 early : (end : Result (Unit {0}) Stop) → 0 ≢ status_of end → 4 ≢ status_of end → (s : Stop) × (s ≢ stop.SinkFailed) × (end ≡ Err s)
 early (Ok u) no0 no4 = absurd (no0 refl)
 early (Err s) no0 no4 = (s, (λ h. no4 (sym (ap (λ (x : Stop). status_of (Err x)) h))), refl)
@@ -98,9 +106,19 @@ stands : (err err' : SinkAt) (line : List ℕ) (put : Result (Unit {0}) SinkFaul
 stands err err' line put e h had e' =
     subst (λ (o : Option (List ℕ)). Puts o err'.taken line (Ok tt)) e' (subst (λ (p : Result (Unit {0}) SinkFault). Puts err.taken err'.taken line p) e h)
 
-failed_4 : (put : Result (Unit {0}) SinkFault) (status before now : ℕ) → 4 ≡ told_status status put → PutCounts before now put → (4 ≡ status) ⊎ Rose before now
-failed_4 (Ok u) status before now h c = inl h
-failed_4 (Err g) status before now h c = inr c.1
+-- why a status is 4: the command's own put failed, or that of the line of another end
+abbrev pub Fails : (Stop → Type 0) → ℕ → ℕ → Type 0
+Fails runs before now = Rose before now × (s : Stop) × (s ≢ stop.SinkFailed) × runs s
+
+failed_4 : (end : Result (Unit {0}) Stop) (put : Result (Unit {0}) SinkFault) (before now : ℕ) → (line_of end ≡ [] → put ≡ Ok tt)
+    → 4 ≡ told_status (status_of end) put → PutCounts before now put → (end ≡ Err stop.SinkFailed) ⊎ Fails (λ s. end ≡ Err s) before now
+failed_4 end (Ok u) before now calm h c = inl (ends_4 end h)
+failed_4 (Ok v) (Err g) before now calm h c = absurd (let e = calm refl in cc)
+failed_4 (Err stop.SinkFailed) (Err g) before now calm h c = inl refl
+failed_4 (Err (stop.Refused line)) (Err g) before now calm h c = inr (c.1, stop.Refused line, (λ q. cc), refl)
+failed_4 (Err stop.Words) (Err g) before now calm h c = inr (c.1, stop.Words, (λ q. cc), refl)
+failed_4 (Err (stop.Unreadable line)) (Err g) before now calm h c = inr (c.1, stop.Unreadable line, (λ q. cc), refl)
+failed_4 (Err stop.NoMemory) (Err g) before now calm h c = inr (c.1, stop.NoMemory, (λ q. cc), refl)
 
 kept_or_4 : (put : Result (Unit {0}) SinkFault) (status before now : ℕ) → PutCounts before now put → (told_status status put ≡ status) ⊎ ((told_status status put ≡ 4) × Rose before now)
 kept_or_4 (Ok u) status before now c = inl refl
@@ -112,6 +130,12 @@ module _ (runs : Result (Unit {0}) Stop → Type 0) (err err' : SinkAt) (result 
   with_0 zero =
       let told = quiet ends.end ends.reports.put 0 (omega arith) (sym zero ∙ ends.reports.status_is) in
       subst runs (ends_0 ends.end told.1) ends.ran
+
+  -- and err is as it was
+  pub silent_0 : result ≡ 0 → err'.taken ≡ err.taken
+  silent_0 zero =
+      let told = quiet ends.end ends.reports.put 0 (omega arith) (sym zero ∙ ends.reports.status_is) in
+      ap (λ (at : SinkAt). at.taken) (ends.reports.quiet (ap line_of (ends_0 ends.end told.1))).1
 
   -- with 1 a file was refused, and the line stands on err
   pub with_1 : result ≡ 1 → (line : List ℕ) × runs (Err (stop.Refused line)) × Stands err.taken err'.taken line
@@ -134,13 +158,20 @@ module _ (runs : Result (Unit {0}) Stop → Type 0) (err err' : SinkAt) (result 
       let end = ends_3 ends.end told.1 in
       (end.0, subst runs end.1 ends.ran, subst (λ (l : List ℕ). Stands err.taken err'.taken l) (ap line_of end.1) (stands err err' (line_of ends.end) ends.reports.put told.0 ends.reports.bytes_put))
 
-  -- with 4 a put failed, on out or on err
-  pub with_4 : result ≡ 4 → runs (Err stop.SinkFailed) ⊎ Rose err.faults err'.faults
+  -- with 4 the command's put failed; or it ended early, for no put, and the put of its line failed
+  pub with_4 : result ≡ 4 → runs (Err stop.SinkFailed) ⊎ Fails (λ s. runs (Err s)) err.faults err'.faults
   with_4 four =
-      elim (failed_4 ends.reports.put (status_of ends.end) err.faults err'.faults (sym four ∙ ends.reports.status_is) ends.reports.counted) [
-        | inl h ↦ inl (subst runs (ends_4 ends.end h) ends.ran)
-        | inr h ↦ inr h
+      elim (failed_4 ends.end ends.reports.put err.faults err'.faults (λ e. (ends.reports.quiet e).0) (sym four ∙ ends.reports.status_is) ends.reports.counted) [
+        | inl h ↦ inl (subst runs h ends.ran)
+        | inr h ↦ inr (h.0, h.1, h.2, subst runs h.3 ends.ran)
       ]
+
+  -- with 5 memory was wanting, and the line that says so stands on err
+  pub with_5 : result ≡ 5 → Stands err.taken err'.taken (line_of (Err stop.NoMemory))
+  with_5 five =
+      let told = quiet ends.end ends.reports.put 5 (omega arith) (sym five ∙ ends.reports.status_is) in
+      let end = ends_5 ends.end told.1 in
+      subst (λ (l : List ℕ). Stands err.taken err'.taken l) (ap line_of end) (stands err err' (line_of ends.end) ends.reports.put told.0 ends.reports.bytes_put)
 
   -- with another status than 0 and 4 the command ended early, and for no put
   pub with_other : result ≢ 0 → result ≢ 4 → (s : Stop) × (s ≢ stop.SinkFailed) × runs (Err s)

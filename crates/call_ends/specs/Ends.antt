@@ -1,5 +1,5 @@
 -- How a command ends: what is read and put, and what is reported.
-use Rattle.std.specs.Prelude.{◌≡◌, ℕ, List, Option, Result, Ok, Err, Vec}
+use Rattle.std.specs.Prelude.{◌≡◌, ℕ, List, [], Option, Result, Ok, Err, Vec}
 use Rattle.std.specs.declared.alloc.Global.{Global}
 use Rattle.farm_base.specs.Outside.{FilesTold, Reads, ReadCounts, Puts, PutCounts}
 use Rattle.farm_base.specs.declared.files.FileFault.{FileFault}
@@ -15,6 +15,7 @@ pub record FilesAt : Type 0 where
   pub told : Option FilesTold
   pub faults : ℕ
 
+-- files that tell this, with this count
 abbrev pub files_at : Option FilesTold → ℕ → FilesAt
 files_at told faults = record { told = told; faults = faults }
 
@@ -23,6 +24,7 @@ pub record SinkAt : Type 0 where
   pub taken : Option (List ℕ)
   pub faults : ℕ
 
+-- a sink that took this, with this count
 abbrev pub sink_at : Option (List ℕ) → ℕ → SinkAt
 sink_at taken faults = record { taken = taken; faults = faults }
 
@@ -34,7 +36,7 @@ said meaning text name (Ok bytes) = refusing text name (meaning bytes.items)
 said meaning text name (Err file.Failed) = Err (stop.Unreadable (unreadable_line name))
 said meaning text name (Err file.NoMemory) = Err stop.NoMemory
 
--- A file is read once and then checked: the answer is what its bytes say, its first fault, that it cannot
+-- A file is read and then checked: the answer is what its bytes say, its first fault, that it cannot
 -- be read, or want of memory.
 pub record Checks {A B F : Type 0} (view : B → A) (meaning : List ℕ → Result A F) (text : F → Option (List ℕ)) (old new : FilesAt) (name : List ℕ) (result : Result B Stop) : Type 0 where
   pub read : Result (Vec ℕ Global) FileFault
@@ -49,7 +51,7 @@ abbrev pub put_end : Result (Unit {0}) SinkFault → Result (Unit {0}) Stop
 put_end (Ok done) = Ok tt
 put_end (Err fault) = Err stop.SinkFailed
 
--- the bytes are put in one piece
+-- the bytes are put
 pub record PutsAll (old new : SinkAt) (bytes : List ℕ) (result : Result (Unit {0}) Stop) : Type 0 where
   pub put : Result (Unit {0}) SinkFault
   pub bytes_put : Puts old.taken new.taken bytes put
@@ -72,12 +74,13 @@ abbrev pub told_status : ℕ → Result (Unit {0}) SinkFault → ℕ
 told_status status (Ok done) = status
 told_status status (Err fault) = 4
 
--- a line is put on err, in one piece; an empty one is not
+-- a line is put on err; an empty one is not: the sink is as it was
 pub record Reports (status : ℕ) (line : List ℕ) (old new : SinkAt) (result : ℕ) : Type 0 where
   pub put : Result (Unit {0}) SinkFault
   pub bytes_put : Puts old.taken new.taken line put
   pub counted : PutCounts old.faults new.faults put
   pub status_is : result ≡ told_status status put
+  pub quiet : line ≡ [] → (put ≡ Ok tt) × (new ≡ old)
 
 -- a whole call: a command that runs so, and then the report of how it ended
 pub record EndsWith (runs : Result (Unit {0}) Stop → Type 0) (err err' : SinkAt) (result : ℕ) : Type 0 where

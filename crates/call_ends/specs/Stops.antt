@@ -12,8 +12,13 @@ status_of (Err (Unreadable line)) = 3
 status_of (Err SinkFailed) = 4
 status_of (Err NoMemory) = 5
 
+-- the usage line, which names all commands, those that are not built yet too
 abbrev pub usage : List ℕ
 usage = codes "usage: tilefarm render STYLE DATA T Z X Y | script CONFIG SCRIPT | serve CONFIG | load SEED N | meta FILE\n"
+
+-- the line of want of memory
+abbrev pub want_of_memory : List ℕ
+want_of_memory = codes "tilefarm: out of memory\n"
 
 -- the line on err, which is empty at the end of the command and where a put failed
 abbrev pub line_of : Result (Unit {0}) Stop → List ℕ
@@ -22,12 +27,13 @@ line_of (Err (Refused line)) = line
 line_of (Err Words) = usage
 line_of (Err (Unreadable line)) = line
 line_of (Err SinkFailed) = []
-line_of (Err NoMemory) = codes "tilefarm: out of memory\n"
+line_of (Err NoMemory) = want_of_memory
 
--- the lines that name a file
+-- the line of a file that is refused: its name, and the text of its fault
 abbrev pub refused_line : List ℕ → List ℕ → List ℕ
 refused_line name text = codes "tilefarm: " ++ name ++ codes ": " ++ text ++ codes "\n"
 
+-- the line of a file that cannot be read
 abbrev pub unreadable_line : List ℕ → List ℕ
 unreadable_line name = codes "tilefarm: " ++ name ++ codes ": cannot be read\n"
 

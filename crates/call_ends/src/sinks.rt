@@ -6,7 +6,7 @@ ghost use Rattle.call_ends.specs.Ends.{sink_at, PutsAll, Reports};
 use crate::stops::Stop;
 use farm_base::Sink;
 
-/// Puts all bytes in one piece.
+/// Puts all bytes.
 pub fn put<O: Sink>(out: &mut O, bytes: &[u8]) -> Result<(), Stop>
     ensures { PutsAll (sink_at (O.taken out.old) (O.faults out.old)) (sink_at (O.taken out.new) (O.faults out.new)) bytes.now result }
 {

@@ -3,8 +3,9 @@ use Rattle.std.proofs.Common.{◌≡◌, ◌≢◌, ℕ, ◌⊎◌, inl, inr, Li
 use Rattle.std.specs.Prelude.{Option, Some, Result, Ok, Err}
 use Rattle.farm_base.specs.Outside.{FilesTold, Rose}
 use Rattle.farm_words.specs.declared.command.Command.{Command}
-use Rattle.call_ends.specs.Stops.{status_of}
+use Rattle.call_ends.specs.Stops.{status_of, usage, want_of_memory}
 use Rattle.call_ends.specs.Ends.{FilesAt, SinkAt, EndsWith}
+use Rattle.call_ends.specs.Promises.{Stands}
 use Rattle.call_ends.specs.declared.stops.Stop.{Stop}
 use Rattle.call_ends.specs.declared.stops.Stop.TheVariants as stop
 use Rattle.call_ends.proofs.Kept.{Kept}
@@ -118,6 +119,10 @@ module _ (words : List (List ℕ)) (files files' : FilesAt) (out out' err err' :
   pub done : result ≡ 0 → (t : FilesTold) → files.told ≡ Some t → (before : List ℕ) → out.taken ≡ Some before → Done words t.content before out'.taken
   done zero t e before taken = runs_ok words t files files' out out' before e taken (status.with_0 (Runs words files files' out out') err err' result ends zero)
 
+  -- and err is as it was
+  pub silent : result ≡ 0 → err'.taken ≡ err.taken
+  silent zero = status.silent_0 (Runs words files files' out out') err err' result ends zero
+
   -- with 1, the line of the first fault of the files stands on err
   pub refusal : result ≡ 1 → (t : FilesTold) → files.told ≡ Some t → Refusal words t.content err.taken err'.taken
   refusal one t e =
@@ -129,6 +134,14 @@ module _ (words : List (List ℕ)) (files files' : FilesAt) (out out' err err' :
   nothing_asked two =
       let end = status.with_2 (Runs words files files' out out') err err' result ends two in
       runs_words words files files' out out' end.0
+
+  -- and the usage line stands on err
+  pub usage_line : result ≡ 2 → Stands err.taken err'.taken usage
+  usage_line two = (status.with_2 (Runs words files files' out out') err err' result ends two).1
+
+  -- with 5, the line of want of memory stands on err
+  pub want_line : result ≡ 5 → Stands err.taken err'.taken want_of_memory
+  want_line five = status.with_5 (Runs words files files' out out') err err' result ends five
 
   -- the status of an end, or 4 where err failed
   status_at : (end : Result (Unit {0}) Stop) → ends.end ≡ end → (result ≡ status_of end) ⊎ ((result ≡ 4) × Rose err.faults err'.faults)
@@ -165,12 +178,12 @@ module _ (words : List (List ℕ)) (files files' : FilesAt) (out out' err err' :
         | inr (inr h) ↦ inr (status_at (Err stop.NoMemory) h)
       ]
 
-  -- with 4, the count of out or of err rose
-  pub sinks_rose : result ≡ 4 → Rose out.faults out'.faults ⊎ Rose err.faults err'.faults
+  -- with 4, the count of out rose; or that of err, and nothing was put on out
+  pub sinks_rose : result ≡ 4 → Rose out.faults out'.faults ⊎ (Rose err.faults err'.faults × (out'.taken ≡ out.taken))
   sinks_rose four =
       elim (status.with_4 (Runs words files files' out out') err err' result ends four) [
         | inl run ↦ inl (runs_out_rose words files files' out out' run)
-        | inr rose ↦ inr rose
+        | inr rose ↦ inr (rose.0, ap (λ (at : SinkAt). at.taken) (runs_same words files files' out out' rose.1 rose.2 rose.3))
       ]
 
   -- with 4, a front of what the words ask for was put, or nothing; so it is with every status

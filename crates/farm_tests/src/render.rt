@@ -1,4 +1,4 @@
-//! `render` as a user sees it. The expected texts are those of the specification and of Netpbm.
+//! `render` as a user sees it. The expected texts are written out from `docs/commands.md` and Netpbm's P6.
 use farm_base::{Bytes, MemFiles, MemSink, Text};
 use farm_call::farm_main;
 use std::alloc::Global;
@@ -185,6 +185,20 @@ fn files_and_sinks_that_fail(rt: HostRuntime) -> Result<(), Fail> {
     assert_eq!(rt; ended.status, 4);
     assert!(rt; USAGE.as_bytes().starts_with(ended.err.bytes()));
     assert!(rt; ended.out.bytes().is_empty());
+    Ok(())
+}
+
+#[test]
+fn a_success_asks_nothing_of_err(rt: HostRuntime) -> Result<(), Fail> {
+    let alloc = rt.alloc();
+    let faults = Faults {
+        reads: &[],
+        out: &[],
+        err: &[0],
+    };
+    let ended = call(alloc, FIRST, STYLE.as_bytes(), DATA.as_bytes(), faults)?;
+    assert_eq!(rt; ended.status, 0);
+    assert!(rt; ended.err.bytes().is_empty());
     Ok(())
 }
 

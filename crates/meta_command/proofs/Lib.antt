@@ -1,4 +1,3 @@
 pub mod Apart
 pub mod Kept
 pub mod Promised
-pub mod Written

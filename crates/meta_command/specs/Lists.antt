@@ -1,4 +1,4 @@
--- What `meta` does: a file is read once, and the text of what it holds is put.
+-- What `meta` does: a file is read and checked, and the text of what it holds is put.
 use Rattle.std.specs.Prelude.{◌≡◌, ℕ, List, Result, Ok, Err, Vec}
 use Rattle.std.specs.declared.alloc.Global.{Global}
 use Rattle.reading.specs.Steps.{Gives}

@@ -17,10 +17,10 @@ use farm_base::{FileFault, Files, MetaFault, Sink};
 use meta_container::{Listing, listing};
 use std::alloc::Global;
 
-/// Puts the lines of the container that `file` holds on `out`, in one piece: `z x y` of its metatile,
+/// Puts the lines of the container that `file` holds on `out`: `z x y` of its metatile,
 /// then `place offset size` of each tile that is there, in order of the places (mod_tile's index).
 ///
-/// The file is read once. Refused, with a line that names the file and the fault's number, where it is no
+/// Refused, with a line that names the file and the fault's number, where it is no
 /// container; Unreadable where the read failed, SinkFailed where the put did.
 pub fn meta<F: Files, O: Sink>(
     alloc: Global,

@@ -17,8 +17,8 @@ use plain_drawing::{MapStyle, Tile};
 use std::alloc::Global;
 use tile_render::draw_tile;
 
-/// Renders the tile that is asked for and puts it on `out` in one piece. The files are read in this order,
-/// each once and checked before the next is read: the style, the raster files that it names, the data.
+/// Renders the tile that is asked for and puts it on `out`. The files are read in this order, each checked
+/// before the next is read: the style, the raster files that it names, the data.
 /// The first that is refused or cannot be read ends the command, and then nothing is put.
 pub fn render<F: Files, O: Sink>(
     alloc: Global,

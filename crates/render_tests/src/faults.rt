@@ -1,4 +1,4 @@
-//! The texts of the faults of styles and of data, as `docs/formats.md` has them.
+//! The texts of the faults of styles and of data, as `docs/styles.md` and `docs/data.md` have them.
 use crate::call::render;
 use std::test::Fail;
 

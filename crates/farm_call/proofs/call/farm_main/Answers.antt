@@ -36,3 +36,12 @@ returns-clause-one_failed g c = status.one_failed _ _ _ _ _ _ _ _ (record { end 
 
 pub returns-clause-refusing : goal.returns-clause-refusing
 returns-clause-refusing g c = status.refusing _ _ _ _ _ _ _ _ (record { end = c.command-end.result; ran = c.command-end.ensures; reports = c.report.ensures })
+
+pub returns-clause-silent : goal.returns-clause-silent
+returns-clause-silent g c = status.silent _ _ _ _ _ _ _ _ (record { end = c.command-end.result; ran = c.command-end.ensures; reports = c.report.ensures })
+
+pub returns-clause-usage_line : goal.returns-clause-usage_line
+returns-clause-usage_line g c = status.usage_line _ _ _ _ _ _ _ _ (record { end = c.command-end.result; ran = c.command-end.ensures; reports = c.report.ensures })
+
+pub returns-clause-want_line : goal.returns-clause-want_line
+returns-clause-want_line g c = status.want_line _ _ _ _ _ _ _ _ (record { end = c.command-end.result; ran = c.command-end.ensures; reports = c.report.ensures })
