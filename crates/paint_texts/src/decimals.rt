@@ -56,7 +56,7 @@ fn ended(whole: &[u8], rest: &[u8], places: u32) -> Option<u64>
         return None;
     }
     let fraction = &rest[1..];
-    let fits = rest[0] == 46
+    let fits = rest[0] == b'.'
         && whole.len() <= 12
         && are_digits(fraction)
         && 1 <= fraction.len()

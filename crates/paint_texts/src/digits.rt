@@ -6,7 +6,7 @@ ghost use Rattle.paint_texts.specs.Decimals as spec;
 pub fn is_digit(c: u8) -> bool
     ensures { result ≡ spec.is_digit c }
 {
-    48 <= c && c <= 57
+    b'0' <= c && c <= b'9'
 }
 
 /// How many digits stand at the front.
@@ -33,7 +33,7 @@ pub fn number(digits: &[u8]) -> u64
 {
     let mut n = 0;
     for digit in digits {
-        n = 10 * n + u64::from(*digit - 48);
+        n = 10 * n + u64::from(*digit - b'0');
     }
     n
 }

@@ -63,8 +63,8 @@ fn hex(c: u8) -> Option<u8>
 {
     match c {
         b'0'..=b'9' => Some(c - b'0'),
-        b'a'..=b'f' => Some(c - 87),
-        b'A'..=b'F' => Some(c - 55),
+        b'a'..=b'f' => Some(c - b'a' + 10),
+        b'A'..=b'F' => Some(c - b'A' + 10),
         _ => None,
     }
 }
