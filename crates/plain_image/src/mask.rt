@@ -1,6 +1,4 @@
 //! One bit for each pixel of a window: which pixels are covered.
-ghost use Rattle.std.specs.Prelude.{◌≡◌, ◌+◌, ◌*◌, ◌<◌, ◌≤◌, ℕ, IfOk, slice_set, slice_get, Some, replicate, false, true, length};
-
 use farm_base::NoMemory;
 use std::alloc::Global;
 use std::marker::Model;

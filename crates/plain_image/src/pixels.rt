@@ -70,9 +70,11 @@ pub fn cut(
 
 /// A text and then the three bytes of each pixel.
 pub fn bytes_after(alloc: Global, head: &str, pixels: &[Colour]) -> Result<Vec<u8>, NoMemory>
+    requires few { length pixels.now ≤ 4096 * 4096 }
     ensures { IfOk result (λ v. v.items ≡ head.now ++ flat_map pixel_bytes pixels.now) }
 {
-    let mut out = Vec::from_slice(alloc, head.as_bytes())?;
+    let mut out = Vec::with_capacity(alloc, head.len() + 3 * pixels.len())?;
+    out.extend_from_slice(head.as_bytes())?;
     for pixel in pixels {
         out.push(pixel.r)?;
         out.push(pixel.g)?;

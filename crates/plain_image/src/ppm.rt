@@ -26,8 +26,6 @@ pub fn read_ppm(alloc: Global, bytes: &[u8]) -> Result<Image, PpmFault>
     if there > count * 3 {
         return Err(PpmFault::Bad((head.start + count * 3) as u64));
     }
-    match pixels::colours(alloc, &bytes[head.start..], count) {
-        Ok(read) => Ok(Image::of_pixels(head.cols, head.rows, read)),
-        Err(_) => Err(PpmFault::NoMemory),
-    }
+    let read = pixels::colours(alloc, &bytes[head.start..], count)?;
+    Ok(Image::of_pixels(head.cols, head.rows, read))
 }

@@ -1,6 +1,6 @@
 //! The head of a PPM text, part by part. Each part is read from an offset of the text on.
 
-use std::alloc::AllocError;
+use farm_base::NoMemory;
 
 /// Why a text is no PPM image.
 #[derive(Clone, Copy, Debug, PartialEq, Eq)]
@@ -14,13 +14,13 @@ pub enum PpmFault {
     NoMemory,
 }
 
-impl From<AllocError> for PpmFault {
+impl From<NoMemory> for PpmFault {
     ghost use Rattle.std.specs.Prelude.{◌≡◌};
     ghost use Rattle.plain_image.specs.declared.reading.PpmFault.TheVariants.{NoMemory};
 
     ghost from_gives = { λ _ e. e ≡ NoMemory };
 
-    fn from(_refused: AllocError) -> PpmFault {
+    fn from(_refused: NoMemory) -> PpmFault {
         PpmFault::NoMemory
     }
 }
