@@ -3,14 +3,22 @@
 #![tactic(auto)]
 
 #[cfg(test)]
+mod cases;
+#[cfg(test)]
 mod drawings;
+#[cfg(test)]
+mod fills;
 #[cfg(test)]
 mod grids;
 #[cfg(test)]
 mod images;
 #[cfg(test)]
+mod lines;
+#[cfg(test)]
+mod marks;
+#[cfg(test)]
 mod metatiles;
 #[cfg(test)]
-mod rules;
+mod mixes;
 #[cfg(test)]
-mod shapes;
+mod rules;
