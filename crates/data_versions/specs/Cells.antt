@@ -24,6 +24,7 @@ pub record IsWide (b : Bounds) : Type 0 where
   pub across : b.west ≤ b.east
   pub down : b.north ≤ b.south
 
+-- the bounding box of a feature's points
 abbrev pub box_of : Feature → Bounds
 box_of f = bounds_of (parts_of f.geometry)
 

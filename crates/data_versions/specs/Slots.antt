@@ -25,16 +25,17 @@ abbrev pub is_old : Option Slot → Bool
 is_old None = false
 is_old (Some s) = s.is_old
 
--- that feature
+-- the feature that a slot has had from the start, if it still has it
 abbrev pub old_in : Option Slot → Option Feature
 old_in None = None
 old_in (Some s) = cond s.is_old (Some s.feature.now) None
 
+-- if a slot still has the feature that it had from the start, it is this one
 abbrev pub IsOldAs : Option Slot → Feature → Type 0
 IsOldAs None f = Unit {0}
 IsOldAs (Some s) f = s.is_old ≡ true → s.feature.now ≡ f
 
--- there is a slot for each of the features from the start, and one that says so has its feature
+-- each of the features from the start has its slot, in order, and a slot that still has its first feature has that one
 abbrev pub HasOld : List (Option Slot) → List Feature → Type 0
 HasOld slots [] = Unit {0}
 HasOld [] (f ∷ features) = ⊥

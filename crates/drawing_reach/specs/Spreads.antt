@@ -6,14 +6,15 @@ use Rattle.plain_drawing.specs.declared.style.Symbolizer.TheVariants as paint
 use Rattle.plain_drawing.specs.Strokes.{half_of}
 use Rattle.geo_model.specs.declared.bounds.Bounds.{Bounds}
 
--- to the west and to the east, in world units, where pixels have this side: fills not at all, strokes by their whole width (a square cap's corner lies further off than half of it), marks by half their width
+-- how far a symbolizer may paint to the west and to the east, in world units, where pixels have this side: strokes by their whole
+-- width (a square cap's corner lies further off than half of it), marks by half their width, and all else not at all
 abbrev pub spread_across : ℕ → Symbolizer → ℕ
 spread_across pixel (paint.Polygon fill opacity) = 0
 spread_across pixel (paint.Line stroke width opacity cap) = half_of width pixel + half_of width pixel
 spread_across pixel (paint.Markers fill width height opacity) = half_of width pixel
 spread_across pixel (paint.Raster opacity) = 0
 
--- to the north and to the south: the same, and marks by half their height
+-- how far a symbolizer may paint to the north and to the south: strokes by their whole width, marks by half their height
 abbrev pub spread_down : ℕ → Symbolizer → ℕ
 spread_down pixel (paint.Polygon fill opacity) = 0
 spread_down pixel (paint.Line stroke width opacity cap) = half_of width pixel + half_of width pixel

@@ -37,13 +37,14 @@ IsValid other held = ⊥
 abbrev pub Done : List (List ℕ) → (List ℕ → Option (List ℕ)) → List ℕ → Option (List ℕ) → Type 0
 Done words held before after = (command : Command) × AsksFor words command × Did command held before after
 
--- Status 4: a front of the text that the words ask for was put, which may be empty or whole; or nothing was put.
+-- A front of the text that the words ask for was put after what out had; it may be empty or whole.
 pub record PartDone (words : List (List ℕ)) (held : List ℕ → Option (List ℕ)) (before : List ℕ) (after : Option (List ℕ)) : Type 0 where
   pub text : List ℕ
   pub whole : Done words held [] (Some text)
   pub len : ℕ
   pub put : after ≡ Some (before ++ take len text)
 
+-- Status 4: out has what it had before, or behind it a front of the text that the words ask for.
 abbrev pub Cut : List (List ℕ) → (List ℕ → Option (List ℕ)) → List ℕ → Option (List ℕ) → Type 0
 Cut words held before after = PartDone words held before after ⊎ (after ≡ Some before)
 

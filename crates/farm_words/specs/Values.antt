@@ -5,14 +5,15 @@ use Rattle.clap.specs.Kinds.{Kinds}
 use Rattle.clap.specs.Words.{App, Rule, new_app, new_rule, with_rule, fault_of, matches_of, all_of}
 use Rattle.clap.specs.declared.builder.action.ArgAction.TheVariants.{Append}
 
--- the positional
+-- the one positional, which takes each word
 abbrev pub words_rule : Rule
 words_rule = record (new_rule (codes "words")) { action = Some Append }
 
--- the command, before and with it
+-- the command before it has its positional: without its own name among the words, and without a help flag
 abbrev pub bare_app : App
 bare_app = let app = new_app (codes "tilefarm") in record app { top = record app.top { no_binary_name = true; disable_help_flag = true } }
 
+-- the command by which clap reads the words: it has the one positional
 abbrev pub farm_app : App
 farm_app = with_rule bare_app words_rule
 
@@ -30,6 +31,7 @@ abbrev pub IsPlain : List ℕ → Type 0
 IsPlain [] = ⊥
 IsPlain (b ∷ bs) = (b == 45) ≡ false
 
+-- none of the words is empty or begins with `-`
 abbrev pub ArePlain : List (List ℕ) → Type 0
 ArePlain [] = Unit {0}
 ArePlain (word ∷ words) = IsPlain word × ArePlain words

@@ -6,7 +6,7 @@ use Rattle.geo_model.specs.declared.faults.GeoFault.TheVariants as geometry
 use Rattle.geo_json.specs.declared.faults.DataFault.{DataFault}
 use Rattle.geo_json.specs.declared.faults.DataFault.TheVariants as fault
 
--- a feature that its parts do not make, by its places and the number of the parts' fault
+-- the text of a feature that its parts do not make: the places of its layer and of itself, and the number of the parts' fault
 abbrev pub geometry_text : GeoFault → ℕ → ℕ → Option (List ℕ)
 geometry_text geometry.TooFewPoints part item = Some (codes "dataset 3 at " ++ decimal part ++ codes " " ++ decimal item ++ codes " geometry 1")
 geometry_text geometry.OutOfWorld part item = Some (codes "dataset 3 at " ++ decimal part ++ codes " " ++ decimal item ++ codes " geometry 2")
@@ -15,6 +15,7 @@ geometry_text geometry.TooManyAttrs part item = Some (codes "dataset 3 at " ++ d
 geometry_text geometry.DoubleName part item = Some (codes "dataset 3 at " ++ decimal part ++ codes " " ++ decimal item ++ codes " geometry 5")
 geometry_text geometry.NoMemory part item = None
 
+-- the text of a fault of data: its number, and where it stands
 abbrev pub data_text : DataFault → Option (List ℕ)
 data_text fault.NotJson = Some (codes "dataset 1")
 data_text (fault.Shape part item) = Some (codes "dataset 2 at " ++ decimal part ++ codes " " ++ decimal item)

@@ -9,7 +9,7 @@ use Rattle.style_objects.specs.declared.fault.Part.TheVariants as part
 use Rattle.style_objects.specs.declared.fault.StyleFault.{StyleFault}
 use Rattle.style_objects.specs.declared.fault.StyleFault.TheVariants as style
 
--- the kind of an object
+-- the word for the kind of an object
 abbrev pub part_text : Part → List ℕ
 part_text part.Map = codes "map"
 part_text part.Style = codes "style"
@@ -29,6 +29,7 @@ filter_text_at at (filter.NumberRange offset) = Some (codes "style 3" ++ at_text
 filter_text_at at (filter.TooDeep offset) = Some (codes "style 3" ++ at_text at ++ codes " filter 3 " ++ decimal offset)
 filter_text_at at filter.NoMemory = None
 
+-- the text of a style's fault: its number, and the object that it stands in
 abbrev pub style_text : StyleFault → Option (List ℕ)
 style_text style.NotJson = Some (codes "style 1")
 style_text (style.Shape at) = Some (codes "style 2" ++ at_text at)

@@ -16,19 +16,23 @@ use Rattle.filter_expr.specs.Lexing.{lexed}
 use Rattle.filter_expr.specs.Reading.{Step, got, failed, whole}
 use Rattle.filter_expr.specs.Filters.{FilterOf, FaultOf}
 
+-- the tree is only the end of the text, which stands in a chain of no parts where its first part would
 abbrev pub is_end_leaf : Tree → Bool
 is_end_leaf (leaf t) = is_end t
 is_end_leaf _ = false
 
+-- the sign that a token is in a sum: `-`, and `+` for every other token
 abbrev pub sum_sign_of : Token → SumSign
 sum_sign_of token.Minus = sum.Minus
 sum_sign_of _ = sum.Plus
 
+-- the sign that a token is in a product: `/`, `%`, and `*` for every other token
 abbrev pub product_sign_of : Token → ProductSign
 product_sign_of token.Divide = product.Divide
 product_sign_of token.Rest = product.Rest
 product_sign_of _ = product.Times
 
+-- the filter that one token is: a name, a text, a number or a truth value, and null for every other token
 abbrev pub leaf_back : Token → FilterTree
 leaf_back (token.Name n) = name_tree n
 leaf_back (token.Quoted t) = text_tree t
@@ -37,7 +41,7 @@ leaf_back token.True = truth_tree true
 leaf_back token.False = truth_tree false
 leaf_back _ = null_tree
 
--- the filter of a tree
+-- the filter that a tree says
 abbrev mutual
   pub back : Tree → FilterTree
   back (leaf t) = leaf_back t
@@ -50,14 +54,17 @@ abbrev mutual
   back (chain product_chain e ts) = product_tree (back e) (back_products ts)
   back (parens e) = back e
 
+  -- the filters that a chain's later parts say
   pub backs : Terms → FilterTrees
   backs no_terms = no_trees
   backs (term t e ts) = tree_then (back e) (backs ts)
 
+  -- the later parts of a sum, each with its sign
   pub back_sums : Terms → SumTrees
   back_sums no_terms = no_sums
   back_sums (term t e ts) = sum_then (sum_sign_of t) (back e) (back_sums ts)
 
+  -- the later parts of a product, each with its sign
   pub back_products : Terms → ProductTrees
   back_products no_terms = no_products
   back_products (term t e ts) = product_then (product_sign_of t) (back e) (back_products ts)
@@ -67,7 +74,7 @@ abbrev pub verdict : Step Tree → Result FilterTree FilterFault
 verdict (got d ts) = Ok (back d)
 verdict (failed f ts) = Err f
 
--- what the text says
+-- what a text says as a filter: the filter, or its first fault
 unfoldable pub filter_of : List ℕ → Result FilterTree FilterFault
 filter_of text = verdict (whole (lexed 0 0 text))
 
@@ -79,9 +86,10 @@ Says said (Err (NumberRange o)) = said ≡ Err (NumberRange o)
 Says said (Err (TooDeep o)) = said ≡ Err (TooDeep o)
 Says said (Err NoMemory) = Unit {0}
 
--- the grammar's filter of a text, and its fault, are what the text says
+-- a filter that the grammar gives a text is what the text says
 abbrev pub SaysFilter : Type 0
 SaysFilter = (text : List ℕ) (t : FilterTree) → FilterOf text t → filter_of text ≡ Ok t
 
+-- a fault that the grammar finds in a text is what the text says
 abbrev pub SaysFault : Type 0
 SaysFault = (text : List ℕ) (f : FilterFault) → FaultOf text f → filter_of text ≡ Err f

@@ -45,7 +45,7 @@ pub record GoesOn (us : List Spot) : Type 0 where
   pub stands : Stands 0 tree
   pub spelled : IsSpelled tree (us ++ more)
 
--- the tokens that are counted by the depth
+-- a token that may open something: `not`, a minus sign or an opening parenthesis
 abbrev pub opens : Token → Bool
 opens t = is_not t || is_minus t || is_open t
 
@@ -56,14 +56,14 @@ StandsAt (NumberRange o) s = o ≡ s.offset
 StandsAt (TooDeep o) s = o ≡ s.offset
 StandsAt NoMemory s = ⊥
 
--- what a tree that goes on so must be: none at all, one with a number out of range, one that nests too deeply
+-- a tree passes the limit that the fault speaks of: a number is out of range, or it nests too deeply; for a bad token there is no such tree
 abbrev pub Passes : Tree → FilterFault → Type 0
 Passes e (Bad o) = ⊥
 Passes e (NumberRange o) = InRange e → ⊥
 Passes e (TooDeep o) = 64 < nesting e
 Passes e NoMemory = ⊥
 
--- what the limits are passed by: some filter goes on so, and its token here is such a number or opens something
+-- the token here can pass the limit: it is a number out of range or may open something, and a filter begins with the tokens up to it
 abbrev pub HasCause : FilterFault → List Spot → Spot → Type 0
 HasCause (Bad o) before here = Unit {0}
 HasCause (NumberRange o) before here = IsTrue (is_huge here.token) × GoesOn (before ++ here ∷ [])
@@ -123,13 +123,15 @@ AnswersFault f (Err NoMemory) = Unit {0}
 abbrev pub OneTree : Type 0
 OneTree = (d e : Tree) (us : List Spot) → Stands 0 d → Stands 0 e → IsSpelled d us → IsSpelled e us → InRange d → InRange e → bare d ≡ bare e
 
--- a text has one tree at most, no tree where it has a fault, and one fault at most
+-- a text has one tree at most
 abbrev pub OneFilter : Type 0
 OneFilter = (text : List ℕ) (s t : FilterTree) → FilterOf text s → FilterOf text t → s ≡ t
 
+-- a text that has a tree has no fault
 abbrev pub NotBoth : Type 0
 NotBoth = (text : List ℕ) (t : FilterTree) (f : FilterFault) → FilterOf text t → FaultOf text f → ⊥
 
+-- a text has one fault at most
 abbrev pub OneFault : Type 0
 OneFault = (text : List ℕ) (f g : FilterFault) → FaultOf text f → FaultOf text g → f ≡ g
 

@@ -13,7 +13,7 @@ Gives view (Err (Bad o)) ts read = read ≡ failed (Bad o) ts
 Gives view (Err (NumberRange o)) ts read = read ≡ failed (NumberRange o) ts
 Gives view (Err (TooDeep o)) ts read = read ≡ failed (TooDeep o) ts
 
--- the same of a whole text, of which nothing is left to be read
+-- the answer for a whole text is the tree or the fault that was read, but for want of memory
 abbrev pub Answers : {A B : Type 0} → (A → B) → Result A FilterFault → Step B → Type 0
 Answers view (Ok x) read = (ts : List Spot) × (read ≡ got (view x) ts)
 Answers view (Err NoMemory) read = Unit {0}

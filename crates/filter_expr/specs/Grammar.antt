@@ -25,12 +25,14 @@ abbrev mutual
 -- ---- binding strengths, from `or`, the weakest: or 0, and 1, not 2, comparison 3, sum 4, product 5, unary minus 6,
 -- and 7 for what stands by itself
 
+-- how strongly a chain's signs bind its parts
 abbrev pub kind_strength : Kind → ℕ
 kind_strength or_chain = 0
 kind_strength and_chain = 1
 kind_strength sum_chain = 4
 kind_strength product_chain = 5
 
+-- how strongly a tree is bound together
 abbrev pub strength : Tree → ℕ
 strength (leaf t) = 7
 strength (negation e) = 2
@@ -39,6 +41,7 @@ strength (comparison a c b) = 3
 strength (chain k e ts) = kind_strength k
 strength (parens e) = 7
 
+-- there is a later part at least
 abbrev pub IsMany : Terms → Type 0
 IsMany no_terms = ⊥
 IsMany (term t e ts) = Unit {0}
@@ -53,6 +56,7 @@ abbrev mutual
   Stands n (chain k e ts) = (n ≤ kind_strength k) × Stands (kind_strength k + 1) e × IsMany ts × StandTerms k ts
   Stands n (parens e) = Stands 0 e
 
+  -- each later part stands behind a sign of the chain and binds more strongly than the chain
   pub StandTerms : Kind → Terms → Type 0
   StandTerms k no_terms = Unit {0}
   StandTerms k (term s e ts) = IsTrue (joins k s) × Stands (kind_strength k + 1) e × StandTerms k ts

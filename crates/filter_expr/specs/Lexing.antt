@@ -15,27 +15,30 @@ use Rattle.filter_expr.specs.Spelling.{is_blank, is_digit, is_letter, is_word_by
 abbrev pub Taken : Type 0
 Taken = Token × ℕ
 
+-- what is taken where no token stands: the unknown token
 abbrev pub nothing : Taken
 nothing = (token.Unknown, 1)
 
+-- every byte but the backslash
 abbrev pub is_plain_byte : ℕ → Bool
 is_plain_byte b = not (b == 92)
 
--- the bytes of which a run is made
+-- the bytes of which a run of each kind is made
 abbrev pub run_test : Run → ℕ → Bool
 run_test Digits = is_digit
 run_test Word = is_word_byte
 run_test Name = is_name_byte
 run_test Plain = is_plain_byte
 
--- digits
+-- the token of a run of digits: a number, or the huge one from 2^63 on
 unfoldable pub number_token : List ℕ → Token
 number_token ds = if nat_lt (number_of ds) (2 ^ 63) then token.Number (pos (number_of ds)) else token.Huge
 
+-- the number at the front of bytes that begin with a digit, and how many digits it has
 unfoldable pub number_at : List ℕ → Taken
 number_at bs = (number_token (take (prefix_len is_digit bs) bs), prefix_len is_digit bs)
 
--- a run of letters, digits and `_`
+-- the token of a word of letters, digits and `_`: one of the six that have a meaning, or the unknown one
 unfoldable pub word_token : List ℕ → Token
 word_token w =
     if bytes_eq w (codes "true") then token.True
@@ -46,10 +49,11 @@ word_token w =
     else (if bytes_eq w (codes "not") then token.Not
     else token.Unknown)))))
 
+-- the word at the front of bytes that begin with a letter, and how many bytes it has
 unfoldable pub word_at : List ℕ → Taken
 word_at bs = (word_token (take (prefix_len is_word_byte bs) bs), prefix_len is_word_byte bs)
 
--- what follows an opening bracket
+-- the name that follows an opening bracket, up to the closing one; no token where it is empty or is not closed
 unfoldable pub name_at : List ℕ → Taken
 name_at bs =
     if prefix_len is_name_byte bs == 0 then nothing
@@ -57,6 +61,7 @@ name_at bs =
     then (token.Name (take (prefix_len is_name_byte bs) bs), prefix_len is_name_byte bs + 2)
     else nothing)
 
+-- a count that is greater by one, if there is a count
 abbrev pub longer : Option ℕ → Option ℕ
 longer None = None
 longer (Some n) = Some (suc n)
@@ -76,10 +81,12 @@ unescaped escaped [] = []
 unescaped true (b ∷ bs) = b ∷ unescaped false bs
 unescaped false (b ∷ bs) = if b == 92 then unescaped true bs else b ∷ unescaped false bs
 
+-- the text in quotes whose closing quote stands after so many bytes; no token where there is no count
 abbrev pub quoted_of : List ℕ → Option ℕ → Taken
 quoted_of bs None = nothing
 quoted_of bs (Some n) = (token.Quoted (unescaped false (take n bs)), n + 2)
 
+-- the text that follows an opening quote, up to the closing one of the same kind
 unfoldable pub quoted_at : ℕ → List ℕ → Taken
 quoted_at q bs = quoted_of bs (quoting_len q false bs)
 
@@ -95,6 +102,7 @@ single b =
     else (if b == 41 then token.Close
     else token.Unknown))))))
 
+-- the sign that begins with `<`, by the byte behind it: `<=`, `<>` or `<` alone
 unfoldable pub less_at : ℕ → Taken
 less_at c =
     if c == 61 then (token.Compare compare.LessEqual, 2)
@@ -112,10 +120,12 @@ sign_at b c =
     else (if b == 124 then (if c == 124 then (token.Or, 2) else nothing)
     else (single b, 1))))))
 
+-- the first byte, or 0 where there is none
 abbrev pub first_byte : List ℕ → ℕ
 first_byte [] = 0
 first_byte (b ∷ bs) = b
 
+-- the token at the front of bytes, and how many bytes it takes; the unknown token where none stands there
 unfoldable pub token_at : List ℕ → Taken
 token_at [] = nothing
 token_at (b ∷ bs) =
@@ -125,7 +135,8 @@ token_at (b ∷ bs) =
     else (if is_quote b then quoted_at b bs
     else sign_at b (first_byte bs))))
 
--- the tokens of bytes that begin at this place; the second number counts the bytes that still belong to the token before
+-- the tokens of bytes that begin at this place, up to the end or to bytes at which no token stands; the second number counts
+-- the bytes that still belong to the token before
 unfoldable pub lexed : ℕ → ℕ → List ℕ → List Spot
 lexed at left [] = record { token = token.End; offset = at } ∷ []
 lexed at (suc left) (b ∷ bs) = lexed (suc at) left bs

@@ -16,35 +16,41 @@ pub data Step (A : Type 0) : Type 0 where
   got : A → List Spot → Step A
   failed : FilterFault → List Spot → Step A
 
+-- a way to read something from the front of the tokens
 abbrev pub Reader : Type 0 → Type 0
 Reader A = List Spot → Step A
 
--- reads on where something was read
+-- reads on where something was read; a fault ends the reading
 abbrev pub then_read : {A B : Type 0} → Step A → (A → Reader B) → Step B
 then_read (got x ts) next = next x ts
 then_read (failed f ts) next = failed f ts
 
+-- there is a first token, and it passes the test
 abbrev pub starts : (Token → Bool) → List Spot → Bool
 starts test [] = false
 starts test (s ∷ ts) = test s.token
 
+-- the first token, or the end of the text where there is none
 abbrev pub first_token : List Spot → Token
 first_token [] = token.End
 first_token (s ∷ ts) = s.token
 
+-- where in the text the first token stands, or 0 where there is none
 abbrev pub place : List Spot → ℕ
 place [] = 0
 place (s ∷ ts) = s.offset
 
+-- the sign of a token that compares, and `=` for every other token
 abbrev pub sign_of : Token → CompareSign
 sign_of (token.Compare c) = c
 sign_of _ = compare.Equal
 
--- the next token where it is such a sign
+-- the next token, if it is a sign that joins a chain of this kind
 abbrev pub next_sign : Kind → List Spot → Option Token
 next_sign k [] = None
 next_sign k (s ∷ ts) = if joins k s.token then Some s.token else None
 
+-- the next token, if it is a sign that compares
 abbrev pub next_compare : List Spot → Option Token
 next_compare [] = None
 next_compare (s ∷ ts) = if is_compare s.token then Some s.token else None
@@ -62,6 +68,7 @@ turns k part (suc n) ts =
     then then_read (part (drop 1 ts)) (λ e us. with_front ((first_token ts, e) ∷ []) (turns k part n us))
     else got [] ts
 
+-- all later parts of a chain: there are no more of them than tokens
 unfoldable pub later : Kind → Reader Tree → Reader (List Part)
 later k part ts = turns k part (length ts) ts
 
@@ -70,19 +77,22 @@ abbrev pub chained : Kind → Tree → List Part → Tree
 chained k first [] = first
 chained k first (p ∷ ps) = chain k first (terms_of (p ∷ ps))
 
+-- a first part with the later ones that were read behind it, or the fault of their reading
 abbrev pub chain_after : Kind → Tree → Step (List Part) → Step Tree
 chain_after k first (got parts ts) = got (chained k first parts) ts
 chain_after k first (failed f ts) = failed f ts
 
+-- a part, and then each later part behind a sign that joins chains of this kind
 unfoldable pub chain_of : Kind → Reader Tree → Reader Tree
 chain_of k part ts = then_read (part ts) (λ e us. chain_after k e (later k part us))
 
--- what is read from a token on that opens something
+-- what is read from a `not`, from a minus sign and from an opening parenthesis on
 pub record Inner : Type 0 where
   pub not_from : Reader Tree
   pub minus_from : Reader Tree
   pub open_from : Reader Tree
 
+-- what stands by itself: a value of one token, or what an opening parenthesis begins
 unfoldable pub atom_in : Inner → Reader Tree
 atom_in i ts =
     if starts is_leaf ts then got (leaf (first_token ts)) (drop 1 ts)
@@ -90,39 +100,50 @@ atom_in i ts =
     else (if starts is_open ts then i.open_from ts
     else failed (Bad (place ts)) ts))
 
+-- a negative where a minus sign stands first, and else what stands by itself
 unfoldable pub unary_in : Inner → Reader Tree
 unary_in i ts = if starts is_minus ts then i.minus_from ts else atom_in i ts
 
+-- a product, or one part that may be negative
 unfoldable pub product_in : Inner → Reader Tree
 product_in i = chain_of product_chain (unary_in i)
 
+-- a sum, or one product alone
 unfoldable pub sum_in : Inner → Reader Tree
 sum_in i = chain_of sum_chain (product_in i)
 
+-- a first sum compared with the next one, where a sign that compares follows, and else the first sum alone
 abbrev pub compared : Inner → Tree → Reader Tree
 compared i a us =
     if starts is_compare us
     then then_read (sum_in i (drop 1 us)) (λ b vs. got (comparison a (sign_of (first_token us)) b) vs)
     else got a us
 
+-- a comparison of two sums, or one sum alone
 unfoldable pub compare_in : Inner → Reader Tree
 compare_in i ts = then_read (sum_in i ts) (compared i)
 
+-- the opposite of something where `not` stands first, and else a comparison
 unfoldable pub not_in : Inner → Reader Tree
 not_in i ts = if starts is_not ts then i.not_from ts else compare_in i ts
 
+-- parts that `and` joins, or one part alone
 unfoldable pub and_in : Inner → Reader Tree
 and_in i = chain_of and_chain (not_in i)
 
+-- parts that `or` joins, or one part alone: a whole filter
 unfoldable pub or_in : Inner → Reader Tree
 or_in i = chain_of or_chain (and_in i)
 
+-- the fault at a token that would open one thing more than may be open at once
 abbrev pub too_deep : Reader Tree
 too_deep ts = failed (TooDeep (place ts)) ts
 
+-- the opposite of what was read behind `not`
 abbrev pub got_negation : Tree → Reader Tree
 got_negation e us = got (negation e) us
 
+-- the negative of what was read behind the minus sign
 abbrev pub got_negative : Tree → Reader Tree
 got_negative e us = got (negative e) us
 
@@ -130,7 +151,7 @@ got_negative e us = got (negative e) us
 abbrev pub closed : Tree → Reader Tree
 closed e us = if starts is_close us then got e (drop 1 us) else failed (Bad (place us)) us
 
--- with room for so many tokens that open something
+-- what is read from a token that opens something on, where so many things may be open at once
 unfoldable pub within : ℕ → Inner
 within zero = record { not_from = too_deep; minus_from = too_deep; open_from = too_deep }
 within (suc n) = record {

@@ -19,6 +19,7 @@ terms_of (p ∷ ps) = term p.0 p.1 (terms_of ps)
 abbrev pub behind : Token → List Tree → List Part
 behind t xs = map (λ x. (t, x)) xs
 
+-- the token of a truth value
 abbrev pub truth_token : Bool → Token
 truth_token true = token.True
 truth_token false = token.False
@@ -39,18 +40,22 @@ abbrev mutual
   shape (truth_tree b) = leaf (truth_token b)
   shape null_tree = leaf token.Null
 
+  -- parts as a chain of this kind, each later one behind this sign
   pub joined : Kind → Token → FilterTrees → Tree
   joined k t no_trees = chain k (leaf token.End) no_terms
   joined k t (tree_then first parts) = chain k (shape first) (same_terms t parts)
 
+  -- later parts, each behind the same sign
   pub same_terms : Token → FilterTrees → Terms
   same_terms t no_trees = no_terms
   same_terms t (tree_then part parts) = term t (shape part) (same_terms t parts)
 
+  -- the later parts of a sum, each behind its sign
   pub sum_terms : SumTrees → Terms
   sum_terms no_sums = no_terms
   sum_terms (sum_then sign part parts) = term (sum_token sign) (shape part) (sum_terms parts)
 
+  -- the later parts of a product, each behind its sign
   pub product_terms : ProductTrees → Terms
   product_terms no_products = no_terms
   product_terms (product_then sign part parts) = term (product_token sign) (shape part) (product_terms parts)

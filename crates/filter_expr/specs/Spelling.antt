@@ -9,13 +9,15 @@ use Rattle.filter_expr.specs.declared.tokens.Spot.{Spot}
 
 -- ---- bytes
 
--- space, tab, newline and carriage return
+-- a space, tab, newline or carriage return
 abbrev pub is_blank : ℕ → Bool
 is_blank b = b == 32 || b == 9 || b == 10 || b == 13
 
+-- a byte from `0` to `9`
 abbrev pub is_digit : ℕ → Bool
 is_digit b = nat_le 48 b && nat_le b 57
 
+-- a byte from `a` to `z` or from `A` to `Z`
 abbrev pub is_letter : ℕ → Bool
 is_letter b = (nat_le 97 b && nat_le b 122) || (nat_le 65 b && nat_le b 90)
 
@@ -23,7 +25,7 @@ is_letter b = (nat_le 97 b && nat_le b 122) || (nat_le 65 b && nat_le b 90)
 abbrev pub is_word_byte : ℕ → Bool
 is_word_byte b = is_letter b || is_digit b || b == 95
 
--- `'` and `"`
+-- one of the two quotes, `'` and `"`
 abbrev pub is_quote : ℕ → Bool
 is_quote b = b == 39 || b == 34
 
@@ -31,6 +33,7 @@ is_quote b = b == 39 || b == 34
 abbrev pub is_escaped : ℕ → Bool
 is_escaped b = b == 92 || is_quote b
 
+-- what may stand in a name between brackets: every byte but the closing bracket
 abbrev pub is_name_byte : ℕ → Bool
 is_name_byte b = not (b == 93)
 
@@ -45,6 +48,7 @@ abbrev pub number_after : ℕ → List ℕ → ℕ
 number_after n [] = n
 number_after n (d ∷ ds) = number_after (10 * n + (d - 48)) ds
 
+-- the number that decimal digits spell
 abbrev pub number_of : List ℕ → ℕ
 number_of = number_after 0
 
@@ -86,10 +90,12 @@ Spells token.Unknown us = ⊥
 
 -- ---- where a spelling ends
 
+-- all signs of filters, as they are spelled
 abbrev pub signs : List (List ℕ)
 signs = codes "=" ∷ codes "!=" ∷ codes "<>" ∷ codes "<" ∷ codes "<=" ∷ codes ">" ∷ codes ">=" ∷ codes "&&" ∷ codes "||"
     ∷ codes "!" ∷ codes "+" ∷ codes "-" ∷ codes "*" ∷ codes "/" ∷ codes "%" ∷ codes "(" ∷ codes ")" ∷ []
 
+-- there is a first byte, and it passes the test
 abbrev pub begins_with : (ℕ → Bool) → List ℕ → Bool
 begins_with test [] = false
 begins_with test (b ∷ bs) = test b

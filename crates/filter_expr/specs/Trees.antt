@@ -12,6 +12,7 @@ use Rattle.filter_expr.specs.declared.tokens.Token.TheVariants as token
 pub data Kind : Type 0 where
   or_chain and_chain sum_chain product_chain : Kind
 
+-- a filter as a text spells it, with its parentheses
 mutual
   pub data Tree : Type 0 where
     -- a name, string, number, `true`, `false` or `null`: the token itself
@@ -24,63 +25,77 @@ mutual
     chain : Kind → Tree → Terms → Tree
     parens : Tree → Tree
 
+  -- the later parts of a chain, each behind its sign
   pub data Terms : Type 0 where
     no_terms : Terms
     term : Token → Tree → Terms → Terms
 
 -- ---- tests of a token
 
+-- the token is `or`
 abbrev pub is_or : Token → Bool
 is_or token.Or = true
 is_or _ = false
 
+-- the token is `and`
 abbrev pub is_and : Token → Bool
 is_and token.And = true
 is_and _ = false
 
+-- the token is a sign of sums, `+` or `-`
 abbrev pub is_sum_sign : Token → Bool
 is_sum_sign token.Plus = true
 is_sum_sign token.Minus = true
 is_sum_sign _ = false
 
+-- the token is a sign of products, `*`, `/` or `%`
 abbrev pub is_product_sign : Token → Bool
 is_product_sign token.Times = true
 is_product_sign token.Divide = true
 is_product_sign token.Rest = true
 is_product_sign _ = false
 
+-- the token is a sign that compares
 abbrev pub is_compare : Token → Bool
 is_compare (token.Compare c) = true
 is_compare _ = false
 
+-- the token is `not`
 abbrev pub is_not : Token → Bool
 is_not token.Not = true
 is_not _ = false
 
+-- the token is a minus sign
 abbrev pub is_minus : Token → Bool
 is_minus token.Minus = true
 is_minus _ = false
 
+-- the token is an opening parenthesis
 abbrev pub is_open : Token → Bool
 is_open token.Open = true
 is_open _ = false
 
+-- the token is a closing parenthesis
 abbrev pub is_close : Token → Bool
 is_close token.Close = true
 is_close _ = false
 
+-- the token is the end of the text
 abbrev pub is_end : Token → Bool
 is_end token.End = true
 is_end _ = false
 
+-- the token is the unknown one, which stands where the bytes are no token
 abbrev pub is_unknown : Token → Bool
 is_unknown token.Unknown = true
 is_unknown _ = false
 
+-- the token is a number that passes the greatest one
 abbrev pub is_huge : Token → Bool
 is_huge token.Huge = true
 is_huge _ = false
 
+-- the token is a value by itself: a name, a text, a number in range, a truth value or null
 abbrev pub is_leaf : Token → Bool
 is_leaf (token.Name n) = true
 is_leaf (token.Quoted t) = true
@@ -90,20 +105,23 @@ is_leaf token.False = true
 is_leaf token.Null = true
 is_leaf _ = false
 
--- the sign joins the parts of such a chain
+-- the sign joins the parts of a chain of this kind
 abbrev pub joins : Kind → Token → Bool
 joins or_chain = is_or
 joins and_chain = is_and
 joins sum_chain = is_sum_sign
 joins product_chain = is_product_sign
 
+-- the token of a sign that compares
 abbrev pub compare_token : CompareSign → Token
 compare_token = token.Compare
 
+-- the token of a sum's sign
 abbrev pub sum_token : SumSign → Token
 sum_token sum.Plus = token.Plus
 sum_token sum.Minus = token.Minus
 
+-- the token of a product's sign
 abbrev pub product_token : ProductSign → Token
 product_token product.Times = token.Times
 product_token product.Divide = token.Divide
@@ -121,6 +139,7 @@ abbrev mutual
   bare (chain k e ts) = chain k (bare e) (bare_terms ts)
   bare (parens e) = bare e
 
+  -- the later parts of a chain without their parentheses
   pub bare_terms : Terms → Terms
   bare_terms no_terms = no_terms
   bare_terms (term t e ts) = term t (bare e) (bare_terms ts)
@@ -135,11 +154,12 @@ abbrev mutual
   nesting (chain k e ts) = max (nesting e) (nesting_terms ts)
   nesting (parens e) = 1 + nesting e
 
+  -- how many `not`, negative signs and parentheses are open at once in the later parts of a chain, at most
   pub nesting_terms : Terms → ℕ
   nesting_terms no_terms = 0
   nesting_terms (term t e ts) = max (nesting e) (nesting_terms ts)
 
--- no number passes the greatest one
+-- no number in the tree passes the greatest one
 abbrev mutual
   pub InRange : Tree → Type 0
   InRange (leaf t) = IsTrue (is_leaf t)
@@ -149,6 +169,7 @@ abbrev mutual
   InRange (chain k e ts) = InRange e × TermsInRange ts
   InRange (parens e) = InRange e
 
+  -- no number in the later parts of a chain passes the greatest one
   pub TermsInRange : Terms → Type 0
   TermsInRange no_terms = Unit {0}
   TermsInRange (term t e ts) = InRange e × TermsInRange ts

@@ -21,7 +21,7 @@ escaped_char c = if is_escaped c then 92 ∷ encode_utf8 c else encode_utf8 c
 abbrev pub put_form : Tree → List ℕ → List ℕ
 put_form e out = put_tokens out (tokens_in (shown e))
 
--- and with them where it binds more weakly than `l`
+-- a tree behind what was written, in parentheses where it binds more weakly than `l`
 abbrev pub put_tree : ℕ → Tree → List ℕ → List ℕ
 put_tree l e out = put_tokens out (tokens_in (guarded l (shown e)))
 

@@ -12,7 +12,7 @@ use Rattle.filter_expr.specs.Seen.{shape}
 use Rattle.filter_expr.specs.declared.faults.FilterFault.{FilterFault}
 use Rattle.filter_expr.specs.Filters.{FilterOf, MayAnswer, AnswersTree}
 
--- a backslash before each quote and each backslash
+-- a text with a backslash before each single quote and each backslash
 abbrev pub escaped_text : List ℕ → List ℕ
 escaped_text [] = []
 escaped_text (b ∷ bs) = if b == 39 || b == 92 then 92 ∷ b ∷ escaped_text bs else b ∷ escaped_text bs
@@ -45,7 +45,7 @@ spelling token.Close = codes ")"
 spelling token.End = []
 spelling token.Unknown = []
 
--- in parentheses where the tree binds too weakly for its place
+-- the tree, in parentheses where it binds too weakly for its place
 abbrev pub guarded : ℕ → Tree → Tree
 guarded l e = if nat_lt (strength e) l then parens e else e
 
@@ -59,6 +59,7 @@ abbrev mutual
   shown (chain k e ts) = chain k (guarded (kind_strength k + 1) (shown e)) (shown_terms k ts)
   shown (parens e) = shown e
 
+  -- the later parts of a chain with parentheses only where they are needed
   pub shown_terms : Kind → Terms → Terms
   shown_terms k no_terms = no_terms
   shown_terms k (term t e ts) = term t (guarded (kind_strength k + 1) (shown e)) (shown_terms k ts)
@@ -73,6 +74,7 @@ abbrev mutual
   tokens_in (chain k e ts) = tokens_in e ++ tokens_of_terms ts
   tokens_in (parens e) = token.Open ∷ (tokens_in e ++ token.Close ∷ [])
 
+  -- the tokens of the later parts of a chain, each behind its sign
   pub tokens_of_terms : Terms → List Token
   tokens_of_terms no_terms = []
   tokens_of_terms (term t e ts) = t ∷ (tokens_in e ++ tokens_of_terms ts)
@@ -82,6 +84,7 @@ abbrev pub put_behind : List ℕ → List ℕ → List ℕ
 put_behind [] word = word
 put_behind (b ∷ bs) word = (b ∷ bs) ++ 32 ∷ word
 
+-- the spellings of tokens, one after another, behind what was written so far
 abbrev pub put_tokens : List ℕ → List Token → List ℕ
 put_tokens out [] = out
 put_tokens out (t ∷ ts) = put_tokens (put_behind out (spelling t)) ts

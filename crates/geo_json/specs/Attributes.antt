@@ -32,6 +32,7 @@ unfoldable pub attrs_after : DataFault → List Attr → Members → Result (Lis
 attrs_after shape before no_members = Ok before
 attrs_after shape before (member key d others) = attr_of shape key d >>= λ a. attrs_after shape (before ++ a ∷ []) others
 
+-- all attributes of a JSON object; any other value is a fault
 unfoldable pub attrs_of : DataFault → Data → Result (List Attr) DataFault
 attrs_of shape d = ok_or (as_object d) shape >>= λ members. attrs_after shape [] members
 

@@ -19,8 +19,7 @@ units_named shape name = if bytes_eq name (codes "cm") then Ok Centimetres else 
 abbrev pub units_at : DataFault → Data → Result Units DataFault
 units_at shape d = or_value Centimetres (λ u. text shape u >>= units_named shape) (get (codes "units") d)
 
--- a coordinate that no point of the world has: what lies outside of the world is kept as this one, so that its feature
--- is refused in its turn
+-- a coordinate that no point of the world has: it stands for all that lies outside of the world, and its feature is refused in its turn
 abbrev pub outside : ℕ
 outside = 2 ^ 30 + 1
 
@@ -29,11 +28,12 @@ abbrev pub in_world : ℤ → ℕ
 in_world (pos n) = if nat_le n (2 ^ 30) then n else outside
 in_world (negsuc n) = outside
 
--- a coordinate to the east, and one to the south
+-- the world coordinate, from the west edge, of a number in these units
 abbrev pub x_of : Units → ℤ → ℕ
 x_of Centimetres c = unwrap_or (x_from_cm c) outside
 x_of World c = in_world c
 
+-- the world coordinate, from the north edge, of a number in these units
 abbrev pub y_of : Units → ℤ → ℕ
 y_of Centimetres c = unwrap_or (y_from_cm c) outside
 y_of World c = in_world c
@@ -45,5 +45,6 @@ pair_of units shape (item x no_items) = Err shape
 pair_of units shape (item x (item y no_items)) = signed shape x >>= λ a. signed shape y >>= λ b. Ok (record { x = x_of units a; y = y_of units b })
 pair_of units shape (item x (item y (item z ds))) = Err shape
 
+-- a point as a JSON value: a list of its two coordinates
 unfoldable pub point_of : Units → DataFault → Data → Result Point DataFault
 point_of units shape d = list shape d >>= pair_of units shape

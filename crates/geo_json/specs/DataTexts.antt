@@ -24,6 +24,7 @@ use Rattle.geo_json.specs.declared.coordinates.Units.{Units}
 abbrev pub has_layer : List Layer → List ℕ → Bool
 has_layer before name = list_any (λ l. bytes_eq l.name name) before
 
+-- the keys that a layer may have
 abbrev pub layer_keys : List (List ℕ)
 layer_keys = codes "name" ∷ codes "features" ∷ []
 
@@ -40,6 +41,7 @@ layer_at units part before d = do
   features ← list_of (new_feature_after units part) items
   Ok (record { name = name; features = features })
 
+-- a layer of the list, at the place behind those that were read before it
 abbrev pub layer_after : Units → List Layer → Data → Result Layer DataFault
 layer_after units before d = layer_at units (length before) before d
 
@@ -48,6 +50,7 @@ abbrev pub is_read : List Layer → Layer → Bool
 is_read before l = nat_lt (length before) 64 && not (has_layer before l.name)
     && is_name l.name && nat_le (length l.features) 1000000 && each_after is_new [] l.features
 
+-- the keys that data may have
 abbrev pub data_keys : List (List ℕ)
 data_keys = codes "units" ∷ codes "layers" ∷ []
 

@@ -27,6 +27,7 @@ id_of shape d = whole shape shape 0 (2 ^ 64 - 1) d
 abbrev pub parts_fault : Geometry → List Attr → Option GeoFault
 parts_fault g attrs = first_of (shape_fault g) (if nat_lt 64 (length attrs) then Some TooManyAttrs else None)
 
+-- the feature, or the fault that its parts have, with its places
 abbrev pub made_unless : ℕ → ℕ → Feature → Option GeoFault → Result Feature DataFault
 made_unless part place f None = Ok f
 made_unless part place f (Some fault) = Err (Geo fault part place)
@@ -35,6 +36,7 @@ made_unless part place f (Some fault) = Err (Geo fault part place)
 abbrev pub made_of : ℕ → ℕ → ℕ → Geometry → List Attr → Result Feature DataFault
 made_of part place id g attrs = made_unless part place (record { id = id; geometry = g; attrs = attrs }) (parts_fault g attrs)
 
+-- the keys that a feature may have
 abbrev pub feature_keys : List (List ℕ)
 feature_keys = codes "id" ∷ codes "geometry" ∷ codes "attrs" ∷ []
 

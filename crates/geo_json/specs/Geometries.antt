@@ -28,6 +28,7 @@ one_shape units shape None (Some d) None = paths_of units shape d >>= λ lines. 
 one_shape units shape None None (Some d) = paths_of units shape d >>= λ rings. Ok (Polygon rings)
 one_shape units shape _ _ _ = Err shape
 
+-- the three keys of which a shape has one
 abbrev pub geometry_keys : List (List ℕ)
 geometry_keys = codes "points" ∷ codes "lines" ∷ codes "polygon" ∷ []
 

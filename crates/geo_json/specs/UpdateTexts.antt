@@ -16,10 +16,11 @@ use Rattle.geo_json.specs.declared.faults.DataFault.{DataFault}
 use Rattle.geo_json.specs.declared.faults.DataFault.TheVariants.{NotJson, Shape, TooMany}
 use Rattle.geo_json.specs.declared.coordinates.Units.{Units}
 
--- the ids that a change removes, none where the key is absent
+-- the ids that a change removes, as a JSON list
 unfoldable pub ids_in : DataFault → Data → Result (List ℕ) DataFault
 ids_in shape d = list shape d >>= λ items. list_of (λ before id. id_of shape id) items
 
+-- the keys that a change may have
 abbrev pub change_keys : List (List ℕ)
 change_keys = codes "layer" ∷ codes "remove" ∷ codes "put" ∷ []
 
@@ -35,6 +36,7 @@ change_at units part d = do
   put ← list_of (feature_after units part) items
   Ok (record { layer = name; remove = remove; put = put })
 
+-- a change of the list, at the place behind those that were read before it
 abbrev pub change_after : Units → List Change → Data → Result Change DataFault
 change_after units before d = change_at units (length before) d
 
@@ -42,6 +44,7 @@ change_after units before d = change_at units (length before) d
 abbrev pub is_read : List Change → Change → Bool
 is_read before c = nat_lt (length before) 1000000 && is_name c.layer && nat_le (length c.put) 1000000
 
+-- the keys that an update may have
 abbrev pub update_keys : List (List ℕ)
 update_keys = codes "units" ∷ codes "changes" ∷ []
 

@@ -23,6 +23,7 @@ least_points (Points points) = 1
 least_points (Lines lines) = 2
 least_points (Polygon rings) = 3
 
+-- there is no part at all
 abbrev pub is_none : List (List Point) → Bool
 is_none [] = true
 is_none (part ∷ parts) = false

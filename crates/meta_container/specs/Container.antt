@@ -11,10 +11,11 @@ use Rattle.plain_drawing.specs.World.{tiles_across, IsMeta}
 abbrev pub span_bytes : Span → List ℕ
 span_bytes span = little_bytes 4 span.offset ++ little_bytes 4 span.size
 
--- lists of bytes one after another, and how many bytes they have together
+-- the bytes of tiles, one tile after another
 abbrev pub joined : List (List ℕ) → List ℕ
 joined tiles = flat_map (λ tile. tile) tiles
 
+-- how many bytes tiles have together
 abbrev pub bytes_of : List (List ℕ) → ℕ
 bytes_of tiles = sum_by (λ tile. length tile) tiles
 

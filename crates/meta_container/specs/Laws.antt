@@ -16,7 +16,7 @@ abbrev pub TilesComeBack : Type 0
 TilesComeBack = (m : Meta) (tiles : List (List ℕ)) (t : Tile) → AreTilesOf m tiles → IsTile t → meta_of t ≡ m
     → tile_found (container_of m tiles) m (index_place t) ≡ Ok (tile_of m tiles t)
 
--- And from its head alone the pair of each tile, which names the tile's bytes in the container.
+-- From a container's head alone the pair of each tile is read back, which names the tile's bytes in the container.
 abbrev pub EntriesComeBack : Type 0
 EntriesComeBack = (m : Meta) (tiles : List (List ℕ)) (t : Tile) → AreTilesOf m tiles → IsTile t → meta_of t ≡ m
     → (entry : Entry) × (entry_found (take head_len (container_of m tiles)) m (index_place t) ≡ Ok entry)

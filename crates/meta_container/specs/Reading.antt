@@ -51,14 +51,15 @@ is_meta m = nat_le m.z 18 && (nat_lt m.x (2 ^ m.z) && (nat_lt m.y (2 ^ m.z) && (
 abbrev pub entry_at : List ℕ → ℕ → Entry
 entry_at bytes place = record { place = place; offset = number_at (20 + 8 * place) bytes; size = number_at (24 + 8 * place) bytes }
 
--- a pair of size 0 names no tile
+-- the pair names a tile: its size is not 0
 abbrev pub is_present : Entry → Bool
 is_present entry = not (entry.size == 0)
 
--- a pair that begins in the head, or a pair that ends past the bytes
+-- a pair that begins in the head
 abbrev pub begins_in_head : Entry → Bool
 begins_in_head entry = nat_lt entry.offset head_len
 
+-- a pair that begins in the head or ends past so many bytes
 abbrev pub is_wild : ℕ → Entry → Bool
 is_wild len entry = begins_in_head entry || nat_lt len (entry.offset + entry.size)
 
@@ -94,7 +95,7 @@ entry_found head m place =
 unfoldable pub entries_below : List ℕ → ℕ → List Entry
 entries_below bytes count = filter is_present (map (entry_at bytes) (range_with_len 0 count))
 
--- those among all 64 places
+-- the pairs that name tiles among all 64 places, in order
 unfoldable pub entries_in : List ℕ → List Entry
 entries_in bytes = entries_below bytes 64
 

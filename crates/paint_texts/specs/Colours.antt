@@ -6,10 +6,11 @@ use Rattle.std.specs.Str.{bytes_eq}
 use Rattle.plain_drawing.specs.declared.colour.Colour.{Colour}
 use Rattle.paint_texts.specs.Decimals.{is_digit, number}
 
+-- the colour of so much red, green and blue
 abbrev pub rgb : ℕ → ℕ → ℕ → Colour
 rgb r g b = record { r = r; g = g; b = b }
 
--- the sixteen names
+-- the sixteen colours that have a name
 abbrev pub colour_names : List (List ℕ × Colour)
 colour_names =
     (codes "aqua", rgb 0 255 255) ∷ (codes "black", rgb 0 0 0) ∷ (codes "blue", rgb 0 0 255) ∷ (codes "fuchsia", rgb 255 0 255)
@@ -17,6 +18,7 @@ colour_names =
     ∷ (codes "navy", rgb 0 0 128) ∷ (codes "olive", rgb 128 128 0) ∷ (codes "purple", rgb 128 0 128) ∷ (codes "red", rgb 255 0 0)
     ∷ (codes "silver", rgb 192 192 192) ∷ (codes "teal", rgb 0 128 128) ∷ (codes "white", rgb 255 255 255) ∷ (codes "yellow", rgb 255 255 0) ∷ []
 
+-- the colour of this name, if it is one of the sixteen
 unfoldable pub named : List ℕ → Option Colour
 named text = option_map (λ e. e.1) (find (λ e. bytes_eq text e.0) colour_names)
 
@@ -26,19 +28,20 @@ hex c = if is_digit c then Some (c - 48) else
     if nat_le 97 c && nat_le c 102 then Some (c - 87) else
     if nat_le 65 c && nat_le c 70 then Some (c - 55) else None
 
--- a channel of two digits
+-- a channel by the values of its two hexadecimal digits
 abbrev pub two_digits : Option ℕ → Option ℕ → Option ℕ
 two_digits (Some high) (Some low) = Some (16 * high + low)
 two_digits (Some high) None = None
 two_digits None low = None
 
+-- the colour of three channels, if each of them is there
 abbrev pub joined : Option ℕ → Option ℕ → Option ℕ → Option Colour
 joined (Some r) (Some g) (Some b) = Some (rgb r g b)
 joined (Some r) (Some g) None = None
 joined (Some r) None b = None
 joined None g b = None
 
--- three digits, each of them doubled, or six
+-- the colour of three hexadecimal digits, each of them doubled, or of six
 unfoldable pub channels : List ℕ → Option Colour
 channels (r ∷ g ∷ b ∷ []) = joined (two_digits (hex r) (hex r)) (two_digits (hex g) (hex g)) (two_digits (hex b) (hex b))
 channels (r ∷ s ∷ g ∷ h ∷ b ∷ c ∷ []) = joined (two_digits (hex r) (hex s)) (two_digits (hex g) (hex h)) (two_digits (hex b) (hex c))
@@ -49,10 +52,11 @@ abbrev pub behind : ℕ → List ℕ → Option (List ℕ)
 behind sign [] = None
 behind sign (c ∷ rest) = if c == sign then Some rest else None
 
--- a hash, and the channels
+-- the colour of a hash and the three or six digits behind it
 unfoldable pub hashed : List ℕ → Option Colour
 hashed text = option_and_then channels (behind 35 text)
 
+-- the byte of a space
 abbrev pub is_space : ℕ → Bool
 is_space c = c == 32
 
@@ -60,24 +64,26 @@ is_space c = c == 32
 abbrev pub trimmed : List ℕ → List ℕ
 trimmed text = drop (prefix_len is_space text) text
 
--- a number of one to three digits up to 255 between spaces, and what stands behind the sign that ends it
+-- a number of so many digits, one to three of them and up to 255, and what stands behind the sign that ends it
 abbrev pub part_of : ℕ → ℕ → List ℕ → Option (ℕ × List ℕ)
 part_of sign len text =
     if nat_le 1 len && nat_le len 3 && nat_le (number (take len text)) 255
     then option_map (λ rest. (number (take len text), rest)) (behind sign (trimmed (drop len text))) else None
 
+-- the number at the front of a text, with spaces round it, and what stands behind the sign that ends it
 unfoldable pub part : ℕ → List ℕ → Option (ℕ × List ℕ)
 part sign text = part_of sign (prefix_len is_digit (trimmed text)) (trimmed text)
 
--- the colour, where nothing follows
+-- the colour of three numbers, where nothing follows them
 abbrev pub only : ℕ → ℕ → ℕ → List ℕ → Option Colour
 only r g b [] = Some (rgb r g b)
 only r g b (c ∷ rest) = None
 
--- three numbers, ended by two commas and a parenthesis
+-- the colour of three numbers that two commas and a parenthesis end
 unfoldable pub parts : List ℕ → Option Colour
 parts text = option_and_then (λ r. option_and_then (λ g. option_and_then (λ b. only r.0 g.0 b.0 b.1) (part 41 g.1)) (part 44 r.1)) (part 44 text)
 
+-- the colour of a text that begins with `rgb(` and goes on with three numbers
 unfoldable pub mixed : List ℕ → Option Colour
 mixed text = if bytes_eq (take 4 text) (codes "rgb(") then parts (drop 4 text) else None
 

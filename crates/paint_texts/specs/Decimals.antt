@@ -31,23 +31,25 @@ pub record IsDecimal (places : ℕ) (text : List ℕ) (n : ℕ) : Type 0 where
   pub spelled : ((text ≡ whole) × (1 ≤ length whole) × (fraction ≡ [])) ⊎ ((text ≡ whole ++ 46 ∷ fraction) × (1 ≤ length fraction))
   pub value : n ≡ scaled places whole fraction
 
--- the same as a function: the digits at the front, and what stands behind them
+-- the number of the digits at the front and of what stands behind them, if the two are a decimal text
 abbrev pub ends : ℕ → List ℕ → List ℕ → Option ℕ
 ends places whole [] = if nat_le 1 (length whole) && nat_le (length whole) 12 then Some (scaled places whole []) else None
 ends places whole (c ∷ fraction) =
     if (c == 46) && nat_le (length whole) 12 && list_all is_digit fraction && nat_le 1 (length fraction) && nat_le (length fraction) places then Some (scaled places whole fraction) else None
 
+-- the number that a decimal text says, in parts of which 10^places make one
 unfoldable pub decimal_of : ℕ → List ℕ → Option ℕ
 decimal_of places text = ends places (take (prefix_len is_digit text) text) (drop (prefix_len is_digit text) text)
 
--- the number in hundredths
+-- the number that a decimal text says, in hundredths
 abbrev pub hundredths_of : List ℕ → Option ℕ
 hundredths_of text = decimal_of 2 text
 
--- the number in thousandths, which is at most 1
+-- a number in thousandths, if it is at most 1
 abbrev pub at_most_one : Option ℕ → Option ℕ
 at_most_one None = None
 at_most_one (Some n) = if nat_le n 1000 then Some n else None
 
+-- the number that a decimal text says, in thousandths, if it is at most 1
 abbrev pub thousandths_of : List ℕ → Option ℕ
 thousandths_of text = at_most_one (decimal_of 3 text)

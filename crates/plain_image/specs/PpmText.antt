@@ -1,4 +1,5 @@
--- What a PPM text says: each part reads the bytes from an offset of the text on, and answers the offset behind it, or the fault at the first byte that may not stand where it stands.
+-- What a PPM text says: each part reads the bytes from an offset of the text on, and answers the offset behind it, or the fault at
+-- the first byte that may not stand where it stands.
 use Rattle.std.specs.Prelude.{ℕ, ◌+◌, ◌-◌, ◌*◌, ◌≡◌, ◌==◌, Bool, ◌&&◌, ◌||◌, nat_le, nat_lt, if◌then◌else◌, List, [], ◌∷◌, length, drop, Result, Ok, Err, Option, Some, None}
 use Rattle.std.specs.Option.{option_map_or}
 use Rattle.plain_drawing.specs.declared.colour.Colour.{Colour}
@@ -46,6 +47,7 @@ abbrev pub gap : Gap → ℕ → List ℕ → Result ℕ PpmFault
 gap place n [] = Err (Bad n)
 gap place n (b ∷ bs) = option_map_or (λ next. gap next (n + 1) bs) (after_in_gap place b) (gap_end place n)
 
+-- the byte of a decimal digit
 abbrev pub is_digit : ℕ → Bool
 is_digit b = nat_le 48 b && nat_le b 57
 

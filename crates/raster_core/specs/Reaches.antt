@@ -10,9 +10,10 @@ north_of so_far points = fold (λ y p. min y p.y) so_far points
 abbrev pub south_of : ℕ → List Point → ℕ
 south_of so_far points = fold (λ y p. max y p.y) so_far points
 
--- the same of all rings
+-- the least of a number and the y of all the rings' points
 abbrev pub northmost : ℕ → List (List Point) → ℕ
 northmost so_far rings = fold north_of so_far rings
 
+-- the greatest of a number and the y of all the rings' points
 abbrev pub southmost : ℕ → List (List Point) → ℕ
 southmost so_far rings = fold south_of so_far rings

@@ -28,19 +28,19 @@ pub record Toggled (w : Window) (member : Point → Bool) (old new : List Bool) 
   pub len : length new ≡ length old
   pub at : (j i : ℕ) → j < w.rows → i < w.cols → parity_at w.cols new j i ≡ flip (member (centre w i j)) (parity_at w.cols old j i)
 
--- the same in one row, and nothing in the others
+-- in one row each parity is turned round exactly where the pixel's centre is a member, and the other rows stay
 pub record RowToggled (w : Window) (member : Point → Bool) (row : ℕ) (old new : List Bool) : Type 0 where
   pub len : length new ≡ length old
   pub at : (i : ℕ) → i < w.cols → parity_at w.cols new row i ≡ flip (member (centre w i row)) (parity_at w.cols old row i)
   pub others : (j i : ℕ) → j ≢ row → i < w.cols → parity_at w.cols new j i ≡ parity_at w.cols old j i
 
--- the same in the rows before one
+-- in the rows before one each parity is turned round exactly where the pixel's centre is a member, and the other rows stay
 pub record RowsToggled (w : Window) (member : Point → Bool) (rows : ℕ) (old new : List Bool) : Type 0 where
   pub len : length new ≡ length old
   pub done : (j i : ℕ) → j < rows → j < w.rows → i < w.cols → parity_at w.cols new j i ≡ flip (member (centre w i j)) (parity_at w.cols old j i)
   pub rest : (j i : ℕ) → rows ≤ j → i < w.cols → parity_at w.cols new j i ≡ parity_at w.cols old j i
 
--- what is left to turn round makes the whole of it
+-- the new parities, turned round at the members that are left, are the old ones turned round at all members
 pub record Remains (w : Window) (left whole : Point → Bool) (old new : List Bool) : Type 0 where
   pub len : length new ≡ length old
   pub at : (j i : ℕ) → j < w.rows → i < w.cols → flip (left (centre w i j)) (parity_at w.cols new j i) ≡ flip (whole (centre w i j)) (parity_at w.cols old j i)

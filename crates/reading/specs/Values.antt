@@ -26,13 +26,14 @@ text fault d = ok_or (as_str d) fault
 abbrev pub truth : {E : Type 0} → E → Data → Result Bool E
 truth fault d = ok_or (as_bool d) fault
 
--- a whole number within two bounds: shape where it is no whole number, range where it is one outside
+-- a number that has to be whole and within two bounds: shape where it is not whole, range where it lies outside
 abbrev pub integer_within : {E : Type 0} → E → E → ℕ → ℕ → Option Num → Result ℕ E
 integer_within shape range low high None = Err shape
 integer_within shape range low high (Some (unsigned n)) = if nat_le low n && nat_le n high then Ok n else Err range
 integer_within shape range low high (Some (negative z)) = Err range
 integer_within shape range low high (Some (float x)) = Err shape
 
+-- a whole number within two bounds, as a JSON value
 abbrev pub whole : {E : Type 0} → E → E → ℕ → ℕ → Data → Result ℕ E
 whole shape range low high d = integer_within shape range low high (as_number d)
 
@@ -44,16 +45,16 @@ signed fault d = ok_or (option_and_then as_i64 (as_number d)) fault
 abbrev pub list : {E : Type 0} → E → Data → Result Items E
 list fault d = ok_or (as_array d) fault
 
--- the name is one of those
+-- the name is one of these
 abbrev pub is_one_of : List (List ℕ) → List ℕ → Bool
 is_one_of names name = list_any (λ s. bytes_eq name s) names
 
--- each key is one of those
+-- each key is one of these
 abbrev pub members_known : List (List ℕ) → Members → Bool
 members_known names no_members = true
 members_known names (member key value others) = is_one_of names key && members_known names others
 
--- an object with no other keys than those
+-- an object with no other keys than these
 abbrev pub only_keys : List (List ℕ) → Data → Bool
 only_keys names (object members) = members_known names members
 only_keys names _ = false
@@ -67,5 +68,6 @@ abbrev pub items_within : {E : Type 0} → ℕ → E → Option Items → Result
 items_within limit fault None = Ok None
 items_within limit fault (Some items) = if nat_le (items_len items) limit then Ok (Some items) else Err fault
 
+-- the list that stands at a key, if one does, within its limit
 unfoldable pub within : {E : Type 0} → ℕ → E → Option Data → Result (Option Items) E
 within limit fault found = items_within limit fault (option_and_then as_array found)

@@ -40,13 +40,13 @@ pub record Rendered (r : Render) (held : List ℕ → Option (List ℕ)) (before
   pub has_layers : Means dataset_in held r.data_file (Ok layers)
   pub put : after ≡ Some (before ++ tile_of style r.size r.tile layers)
 
--- The first fault of the files is that of this line. The style's file has it:
+-- The style's file has a fault, and this is its line.
 pub record RefusedStyle (r : Render) (held : List ℕ → Option (List ℕ)) (line : List ℕ) : Type 0 where
   pub fault : StyleFault
   pub has_style : Means style_in held r.style (Err fault)
   pub line_is : Refusing style_text r.style fault line
 
--- or it has none, and neither have the raster files before this one:
+-- The style and the raster files before one have no fault, but that raster file has, and this is its line.
 pub record RefusedRaster (r : Render) (held : List ℕ → Option (List ℕ)) (line : List ℕ) : Type 0 where
   pub text : MapStyle
   pub front : List RasterRef
@@ -60,7 +60,7 @@ pub record RefusedRaster (r : Render) (held : List ℕ → Option (List ℕ)) (l
   pub has_raster : Means (raster_in raster) held raster.file (Err fault)
   pub line_is : Refusing raster_text raster.file fault line
 
--- or the style and its raster files have none, and the data have it.
+-- The style and its raster files have no fault, but the data have, and this is its line.
 pub record RefusedData (r : Render) (held : List ℕ → Option (List ℕ)) (line : List ℕ) : Type 0 where
   pub style : MapStyle
   pub fault : DataFault
@@ -68,11 +68,11 @@ pub record RefusedData (r : Render) (held : List ℕ → Option (List ℕ)) (lin
   pub has_layers : Means dataset_in held r.data_file (Err fault)
   pub line_is : Refusing data_text r.data_file fault line
 
+-- The line is that of the first fault of the files, which the style, a raster file or the data may have.
 abbrev pub Refused : Render → (List ℕ → Option (List ℕ)) → List ℕ → Type 0
 Refused r held line = RefusedStyle r held line ⊎ RefusedRaster r held line ⊎ RefusedData r held line
 
--- The read of the file that is next in order failed, and no other call did: of the style, of a raster file
--- where the style and the raster files before it have no fault, or of the data where those have none.
+-- The read of a raster file failed, and no other call did; the style and the raster files before it have no fault.
 pub record UnreadRaster (r : Render) (line : List ℕ) (before : FilesTold) (after : Option FilesTold) : Type 0 where
   pub text : MapStyle
   pub front : List RasterRef
@@ -84,11 +84,13 @@ pub record UnreadRaster (r : Render) (line : List ℕ) (before : FilesTold) (aft
   pub has_grids : HasGrids before.content front grids
   pub fails : FailsAt before after raster.file line
 
+-- The read of the data failed, and no other call did; the style and its raster files have no fault.
 pub record UnreadData (r : Render) (line : List ℕ) (before : FilesTold) (after : Option FilesTold) : Type 0 where
   pub style : MapStyle
   pub has_style : HasStyle before.content r.style style
   pub fails : FailsAt before after r.data_file line
 
+-- The read of the file that is next in order failed, and no other call did: of the style, a raster file or the data.
 abbrev pub Unread : Render → List ℕ → FilesTold → Option FilesTold → Type 0
 Unread r line before after = FailsAt before after r.style line ⊎ UnreadRaster r line before after ⊎ UnreadData r line before after
 

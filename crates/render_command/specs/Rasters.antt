@@ -19,6 +19,7 @@ abbrev pub raster_text : RasterFault → Option (List ℕ)
 raster_text (Ppm fault) = ppm_text fault
 raster_text (NoGrid fault) = grid_text fault
 
+-- the grid, or its fault as one of the raster's file
 abbrev pub as_raster : Result Grid GridFault → Result Grid RasterFault
 as_raster (Ok grid) = Ok grid
 as_raster (Err fault) = Err (NoGrid fault)
@@ -27,10 +28,11 @@ as_raster (Err fault) = Err (NoGrid fault)
 abbrev pub grid_with : RasterRef → Pixels → Grid
 grid_with r image = record { name = r.name; west = r.west; north = r.north; pixel = r.pixel; cols = image.cols; rows = image.rows; bytes = flat_map pixel_bytes image.pixels }
 
--- it, unless a side is too long
+-- the grid of a raster with this picture, unless a side is too long
 abbrev pub with_image : RasterRef → Pixels → Result Grid RasterFault
 with_image r image = as_raster (sized (grid_with r image))
 
+-- the grid of the picture that was read, or the fault of its PPM text
 abbrev pub after_ppm : RasterRef → Result Pixels PpmFault → Result Grid RasterFault
 after_ppm r (Ok image) = with_image r image
 after_ppm r (Err fault) = Err (Ppm fault)

@@ -21,6 +21,7 @@ pub record Render : Type 0 where
   pub size : ℕ
   pub tile : Tile
 
+-- what the words of `render` ask for
 abbrev pub request : RenderWords → Render
 request asked = record { style = asked.style.now; data_file = asked.data_file.now; size = asked.size; tile = asked.tile }
 

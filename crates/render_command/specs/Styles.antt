@@ -9,6 +9,7 @@ use Rattle.call_ends.specs.Ends.{FilesAt, Checks}
 use Rattle.call_ends.specs.declared.stops.Stop.{Stop}
 use Rattle.render_command.specs.Rasters.{GridsAfter}
 
+-- the style with these grids
 abbrev pub with_grids : MapStyle → List Grid → MapStyle
 with_grids style grids = record style { grids = grids }
 

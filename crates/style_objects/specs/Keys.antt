@@ -8,6 +8,7 @@ use Rattle.style_objects.specs.declared.fault.StyleFault.TheVariants as fault
 use Rattle.style_objects.specs.declared.keys.Object.{Object}
 use Rattle.style_objects.specs.declared.keys.Object.TheVariants as object
 
+-- the keys that an object of each kind may have
 abbrev pub keys_of : Object → List (List ℕ)
 keys_of object.Map = codes "background-color" ∷ codes "styles" ∷ codes "layers" ∷ codes "rasters" ∷ []
 keys_of object.Style = codes "name" ∷ codes "filter-mode" ∷ codes "rules" ∷ []

@@ -25,16 +25,19 @@ use Rattle.style_objects.specs.declared.fault.StyleFault.TheVariants as fault
 abbrev pub in_grammar : {A : Type 0} → (List ℕ → Option A) → At → Data → Result A StyleFault
 in_grammar value at d = text (fault.Shape at) d >>= λ s. ok_or (value s) (fault.Text at)
 
+-- a colour
 unfoldable pub a_colour : At → Data → Result Colour StyleFault
 a_colour at d = in_grammar colour_of at d
 
+-- a scale denominator, in hundredths
 unfoldable pub a_scale : At → Data → Result ℕ StyleFault
 a_scale at d = in_grammar hundredths_of at d
 
--- a scale bound that may be absent, and is then none
+-- a greatest scale denominator, in hundredths, where there is one
 unfoldable pub a_bound : At → Data → Result (Option ℕ) StyleFault
 a_bound at d = a_scale at d >>= λ n. Ok (Some n)
 
+-- an opacity from 0 to 1, in thousandths
 unfoldable pub an_opacity : At → Data → Result ℕ StyleFault
 an_opacity at d = in_grammar thousandths_of at d
 
@@ -50,20 +53,24 @@ a_text_to limit at d = text (fault.Shape at) d >>= λ s. if is_text_to limit s t
 unfoldable pub any_text : At → Data → Result (Unit {0}) StyleFault
 any_text at d = text (fault.Shape at) d >>= λ s. Ok tt
 
+-- the filter mode of a text, `all` or `first`
 abbrev pub mode_of : List ℕ → Option FilterMode
 mode_of s = if bytes_eq s (codes "all") then Some mode.All else if bytes_eq s (codes "first") then Some mode.First else None
 
+-- a filter mode
 unfoldable pub a_mode : At → Data → Result FilterMode StyleFault
 a_mode at d = in_grammar mode_of at d
 
+-- the line cap of a text, `butt`, `round` or `square`
 abbrev pub cap_of : List ℕ → Option LineCap
 cap_of s = if bytes_eq s (codes "butt") then Some cap.Butt else if bytes_eq s (codes "round") then Some cap.Round else
     if bytes_eq s (codes "square") then Some cap.Square else None
 
+-- a line cap
 unfoldable pub a_cap : At → Data → Result LineCap StyleFault
 a_cap at d = in_grammar cap_of at d
 
--- a whole number of a raster
+-- a whole number of a raster, from this least one to 2^30
 unfoldable pub a_number : ℕ → At → Data → Result ℕ StyleFault
 a_number low at d = whole (fault.Shape at) (fault.Range at) low (2 ^ 30) d
 
@@ -72,14 +79,16 @@ abbrev pub filter_at : At → Result FilterTree FilterFault → Result (Option F
 filter_at at (Ok tree) = Ok (Some tree)
 filter_at at (Err f) = Err (fault.Filter at f)
 
+-- a filter, as its text says it
 unfoldable pub a_filter : At → Data → Result (Option FilterTree) StyleFault
 a_filter at d = text (fault.Shape at) d >>= λ s. filter_at at (filter_of s)
 
--- ElseFilter is the JSON value true, in a rule without a Filter
+-- the JSON value true
 abbrev pub is_true : Data → Bool
 is_true (boolean b) = b
 is_true _ = false
 
+-- the value of ElseFilter, which has to be true, in a rule that has no Filter
 unfoldable pub an_else : Bool → At → Data → Result Bool StyleFault
 an_else has_filter at d = check (is_true d) (fault.Shape at) >>= λ u. if has_filter then Err (fault.Shape at) else Ok true
 

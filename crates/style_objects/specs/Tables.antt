@@ -25,17 +25,19 @@ use Rattle.style_objects.specs.Keys.{opened_as}
 use Rattle.style_objects.specs.Kinds.{a_colour, a_scale, a_bound, an_opacity, a_width, a_text_to, any_text, a_mode, a_cap, a_number, a_filter, an_else, list_or_none}
 use Rattle.style_objects.specs.Places.{at_map, at_style, at_rule, at_symbolizer, at_layer, at_raster}
 
--- Mapnik's defaults
+-- the background of a map that says none
 abbrev pub white : Colour
 white = rgb 255 255 255
 
+-- the fill of a polygon symbolizer that says none
 abbrev pub gray : Colour
 gray = rgb 128 128 128
 
+-- the stroke of a line symbolizer that says none
 abbrev pub black : Colour
 black = rgb 0 0 0
 
--- the four symbolizers
+-- a polygon symbolizer: its fill and its opacity, either of which may be absent
 unfoldable pub polygon_of : At → Data → Result Symbolizer StyleFault
 polygon_of at d = do
   u ← opened_as object.PolygonSymbolizer at d
@@ -43,6 +45,7 @@ polygon_of at d = do
   opacity ← or_value 1000 (an_opacity at) (get (codes "fill-opacity") d)
   Ok (paint.Polygon fill opacity)
 
+-- a line symbolizer: its stroke, width, opacity and cap, any of which may be absent; a join has no effect
 unfoldable pub line_of : At → Data → Result Symbolizer StyleFault
 line_of at d = do
   u ← opened_as object.LineSymbolizer at d
@@ -53,6 +56,7 @@ line_of at d = do
   v ← or_value tt (any_text at) (get (codes "stroke-linejoin") d)
   Ok (paint.Line stroke width opacity linecap)
 
+-- a markers symbolizer: its fill, width and height, which have to be there, and its opacity, which may be absent
 unfoldable pub markers_of : At → Data → Result Symbolizer StyleFault
 markers_of at d = do
   u ← opened_as object.MarkersSymbolizer at d
@@ -62,13 +66,14 @@ markers_of at d = do
   opacity ← or_value 1000 (an_opacity at) (get (codes "opacity") d)
   Ok (paint.Markers fill width height opacity)
 
+-- a raster symbolizer: its opacity, which may be absent
 unfoldable pub raster_symbolizer_of : At → Data → Result Symbolizer StyleFault
 raster_symbolizer_of at d = do
   u ← opened_as object.RasterSymbolizer at d
   opacity ← or_value 1000 (an_opacity at) (get (codes "opacity") d)
   Ok (paint.Raster opacity)
 
--- by its name; an unknown one is Unsupported
+-- a symbolizer of the kind that has this name; an unknown name is Unsupported
 unfoldable pub symbolizer_named : List ℕ → At → Data → Result Symbolizer StyleFault
 symbolizer_named name at d =
     if bytes_eq name (codes "PolygonSymbolizer") then polygon_of at d else
@@ -76,12 +81,13 @@ symbolizer_named name at d =
     if bytes_eq name (codes "MarkersSymbolizer") then markers_of at d else
     if bytes_eq name (codes "RasterSymbolizer") then raster_symbolizer_of at d else Err (fault.Unsupported at)
 
--- Shape where it is no object, or has no text as its symbolizer
+-- a symbolizer of any kind: Shape where it is no object, or has no text at the key `symbolizer`
 unfoldable pub symbolizer_of : At → Data → Result Symbolizer StyleFault
 symbolizer_of at d = do
   name ← needed (fault.Shape at) (text (fault.Shape at)) (get (codes "symbolizer") d)
   symbolizer_named name at d
 
+-- a symbolizer of a rule, at the place behind those that were read before it
 abbrev pub symbolizer_after : ℕ → ℕ → List Symbolizer → Data → Result Symbolizer StyleFault
 symbolizer_after style rule before d = symbolizer_of (at_symbolizer style rule (length before)) d
 
@@ -92,7 +98,7 @@ filters_of at d = do
   else_filter ← or_value false (an_else (is_some filter) at) (get (codes "ElseFilter") d)
   Ok (filter, else_filter)
 
--- a rule
+-- a rule: its own keys, then its symbolizers
 unfoldable pub rule_of : ℕ → ℕ → Data → Result Rule StyleFault
 rule_of style rule d = do
   u ← opened_as object.Rule (at_rule style rule) d
@@ -104,6 +110,7 @@ rule_of style rule d = do
   symbolizers ← list_of (symbolizer_after style rule) items
   Ok (record { filter = filters.0; else_filter = filters.1; min_scale_denominator = least; max_scale_denominator = greatest; symbolizers = symbolizers })
 
+-- a rule of a style, at the place behind those that were read before it
 abbrev pub rule_after : ℕ → List Rule → Data → Result Rule StyleFault
 rule_after style before d = rule_of style (length before) d
 
@@ -119,6 +126,7 @@ style_of style before d = do
   rules ← list_of (rule_after style) items
   Ok (record { name = name; filter_mode = filter_mode; rules = rules })
 
+-- a style of the map, at the place behind those that were read before it
 abbrev pub style_after : List Style → Data → Result Style StyleFault
 style_after before d = style_of (length before) before d
 
@@ -142,6 +150,7 @@ layer_of styles layer before d = do
   v ← check (not (layer_has name before)) (fault.Double (at_layer layer))
   Ok (record { name = name; source = source; minimum_scale_denominator = least; maximum_scale_denominator = greatest; styles = names })
 
+-- a layer of the map, at the place behind those that were read before it
 abbrev pub layer_after : List Style → List LayerRef → Data → Result LayerRef StyleFault
 layer_after styles before d = layer_of styles (length before) before d
 
@@ -157,6 +166,7 @@ raster_of raster before d = do
   v ← check (not (raster_has name before)) (fault.Double (at_raster raster))
   Ok (record { name = name; file = file; west = west; north = north; pixel = pixel })
 
+-- a raster of the map, at the place behind those that were read before it
 abbrev pub raster_after : List RasterRef → Data → Result RasterRef StyleFault
 raster_after before d = raster_of (length before) before d
 

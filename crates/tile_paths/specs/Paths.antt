@@ -5,11 +5,11 @@ use Rattle.std.specs.List.{list_all}
 use Rattle.std.specs.Fmt.{decimal}
 use Rattle.plain_drawing.specs.declared.world.Meta.{Meta}
 
--- the bytes of names: `a` to `z`, `0` to `9`, `_` and `-`
+-- a byte of a name: `a` to `z`, `0` to `9`, `_` and `-`
 abbrev pub is_name_byte : ℕ → Bool
 is_name_byte b = (nat_le 97 b && nat_le b 122) || ((nat_le 48 b && nat_le b 57) || (b == 95 || b == 45))
 
--- a map's name: 1 to 40 such bytes
+-- a map's name: 1 to 40 bytes of names
 pub record IsName (name : List ℕ) : Type 0 where
   pub some : 1 ≤ length name
   pub short : length name ≤ 40
@@ -28,8 +28,7 @@ abbrev pub five : ℕ → ℕ → ℕ → ℕ → ℕ → List ℕ
 five h4 h3 h2 h1 h0 =
     in_folder (decimal h4) (in_folder (decimal h3) (in_folder (decimal h2) (in_folder (decimal h1) (decimal h0 ++ codes ".meta"))))
 
--- The path of a map's metatile. The last of the five numbers has the lowest four bits of x and y, the
--- one before it the next four, and so on.
+-- The path of a map's metatile: the map's name, the zoom, and five numbers of four bits of x and four of y each, the lowest in the last.
 unfoldable pub path_of : List ℕ → Meta → List ℕ
 path_of name m =
     in_folder name (in_folder (decimal m.z)

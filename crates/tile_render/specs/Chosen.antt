@@ -19,6 +19,6 @@ is_chosen Fallback attrs denominator r = is_fallback denominator r
 unfoldable pub with_rule : Window → Item → Pixels → Rule → Pixels
 with_rule w item image r = fold (with_symbolizer w item) image r.symbolizers
 
--- the same if the rule is chosen
+-- the picture after a rule's symbolizers on an item if the rule is chosen, and else as it was
 unfoldable pub with_chosen : Window → Item → (Rule → Bool) → Pixels → Rule → Pixels
 with_chosen w item chosen image r = if chosen r then with_rule w item image r else image

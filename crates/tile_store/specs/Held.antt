@@ -18,7 +18,7 @@ pub record StoreHeld : Type 0 where
   pub get_calls : ℕ
   pub failed : List FailedCall
 
--- what it tells
+-- what the store in memory tells
 abbrev pub told_of : StoreHeld → StoreTold
 told_of store = record { content = content_of store.held; failed = store.failed }
 
@@ -27,10 +27,11 @@ abbrev pub with_content : List (List ℕ × List ℕ) → List ℕ → List ℕ 
 with_content [] path bytes = (path, bytes) ∷ []
 with_content (pair ∷ pairs) path bytes = if bytes_eq pair.0 path then (pair.0, bytes) ∷ pairs else pair ∷ with_content pairs path bytes
 
--- is the next put to fail, and the next get?
+-- is the next put to fail?
 abbrev pub put_fails : StoreHeld → Bool
 put_fails store = is_to_fail store.puts store.put_calls
 
+-- is the next get to fail?
 abbrev pub get_fails : StoreHeld → Bool
 get_fails store = is_to_fail store.gets store.get_calls
 

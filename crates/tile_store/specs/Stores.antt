@@ -11,10 +11,11 @@ pub record StoreTold : Type 0 where
   pub content : List ℕ → Option (List ℕ)
   pub failed : List FailedCall
 
--- a put at this path that failed, and a get of it, whole or in part
+-- the note of a put at this path that failed
 abbrev pub failed_put : List ℕ → FailedCall
 failed_put path = record { name = path; put = true }
 
+-- the note of a get of this path that failed, whole or in part
 abbrev pub failed_get : List ℕ → FailedCall
 failed_get path = record { name = path; put = false }
 
@@ -40,7 +41,7 @@ Puts (Some old) new path bytes (Ok done) = (now : StoreTold) × (new ≡ Some no
 Puts (Some old) new path bytes (Err Failed) = (now : StoreTold) × (new ≡ Some now) × PutFailed old now path
 Puts (Some old) new path bytes (Err NoMemory) = new ≡ Some old
 
--- A get of a path by a view of its bytes. The content stays, and so does whether it is told. Ok has
+-- A get of a path by a view of its bytes. Neither the content nor whether it is told changes. Ok has
 -- the view of the bytes that the path holds, and none exactly where it holds nothing; a failed get is
 -- noted, and nothing else is.
 abbrev pub Gets : (List ℕ → List ℕ) → Option StoreTold → Option StoreTold → List ℕ → Result (Option (Vec ℕ Global)) StoreFault → Type 0

@@ -1,5 +1,6 @@
 -- The rule of the cell's table: what holds at every moment of the three words, of the value and of what all seats have seen.
--- The words are the next ticket to draw (0), the ticket that is served (1) and the number of entries (2). The one slot has the value, or nothing while a turn has it.
+-- The words are the next ticket to draw (0), the ticket that is served (1) and the number of entries (2). The one slot has the
+-- value, or nothing while a turn has it.
 use Rattle.std.specs.Prelude.{◌≡◌, ℕ, zero, suc, ◌+◌, ◌^◌, ◌≤◌, true, false, List, [], ◌∷◌, length, Option, Some, None}
 use mathlib.Core.Option.{some}
 use lib.ListN.{get_elem?}
@@ -18,6 +19,7 @@ abbrev pub below : (ℕ → ℕ) → ℕ → ℕ
 below f zero = 0
 below f (suc n) = below f n + f n
 
+-- a number where there is something, and 0 where there is nothing
 abbrev pub if_some : {A : Type 0} → ℕ → Option A → ℕ
 if_some n None = 0
 if_some n (Some x) = n
@@ -72,6 +74,7 @@ module _ {T E L : Type 0} (stands : T → List (ℕ × E) → Type 0) (lasting :
   abbrev pub AtHome : Terms T → List (ℕ × E) → List (mathlib.Core.Option.Option (Option T)) → Type 0
   AtHome about log homes = (x : T) × (get_elem? homes 0 ≡ some (some (Some x))) × stands x log × (lasting x ≡ lasting about.first.value)
 
+  -- what holds at every moment of the cell's words, of its value and of its seats
   pub record Kept (about : Terms T) (s : State (Option T) (View T E)) : Type 0 where
     pub now : Moment E
     pub words : s.words ≡ now.ticket ∷ now.serving ∷ length now.log ∷ []

@@ -60,7 +60,8 @@ module _ {T E : Type 0} where
   abbrev pub joining : Held T E → Held T E → Held T E
   joining v w = record v { seen = longer v.seen w.seen; worn = v.worn || w.worn; joined = v.joined ++ (w.number, w.mine) ∷ [] }
 
-  -- In what a seat has seen stand just its own entries, and in what the first seat has seen just those entries of each joined number that are noted with it, and none of a number above its splits.
+  -- In what a seat has seen stand just its own entries, and in what the first seat has seen just those entries of each joined number
+  -- that are noted with it, and none of a number above its splits.
   abbrev pub Knows : Held T E → Type 0
   Knows v = (by v.number v.seen ≡ v.mine) × (v.first ≡ true → HasJoined v.joined v.seen) × (v.first ≡ true → NoneAbove v.splits v.seen)
 
@@ -69,7 +70,9 @@ module _ {T E : Type 0} where
   IsWhole v = (v.first ≡ true) × (length v.joined ≡ v.splits)
 
 module _ {T E L : Type 0} (stands : T → List (ℕ × E) → Type 0) (lasting : T → L) where
-  -- What a turn did. There is a history that begins with all that the seat had seen and has no other entry of it; the seat has now seen that history and its own entry at the end. It was shorter than the limit. The value that the call was run on stood for the one, and what it left stood for the other.
+  -- What a turn did. There is a history that begins with all that the seat had seen and has no other entry of it; the seat has now
+  -- seen that history and its own entry at the end. It was shorter than the limit. The value that the call was run on stood for that
+  -- history, and what it left stands for it with the entry.
   pub record Took (about : Terms T) (entry : E) (promise : List (ℕ × E) → L → Type 0) (v w : Held T E) : Type 0 where
     pub log : List (ℕ × E)
     pub before : T
@@ -85,7 +88,8 @@ module _ {T E L : Type 0} (stands : T → List (ℕ × E) → Type 0) (lasting :
     pub promised : promise log (lasting about.first.value)
     pub worn : w.worn ≡ v.worn
 
-  -- What a closing gives: a value that stands for all that the seat has seen, which is the whole history. Where the seat has the mark, that is as long as the limit.
+  -- What a closing gives: a value that stands for all that the seat has seen, which is the whole history. Where the seat has the mark,
+  -- that is no shorter than the limit.
   pub record Closes (about : Terms T) (v : Held T E) (x : T) : Type 0 where
     pub stands_now : stands x v.seen
     pub lasts : lasting x ≡ lasting about.first.value

@@ -8,48 +8,57 @@ use Rattle.turn_cell.specs.Cell.{Sat}
 use Rattle.turn_cell.specs.declared.view.Terms.{Terms}
 use Rattle.turn_cell.specs.declared.view.View.{View}
 
--- what the seat knows of its own entries, of those of joined numbers, and of numbers that no seat has had
+-- what a seat knows of whose entries stand in the history
 module _ {T E : Type 0} where
+  -- in what the seat has seen, the entries of its number are just its own
   abbrev pub KnowsOwn : View T E → Type 0
   KnowsOwn v = by v.number v.seen ≡ v.mine
 
+  -- if it is the first seat, each number that was joined into it has just the entries that are noted with it
   abbrev pub KnowsJoined : View T E → List (ℕ × E) → Type 0
   KnowsJoined v log = v.first ≡ true → HasJoined v.joined log
 
+  -- if it is the first seat, no number above its splits has an entry
   abbrev pub KnowsStrangers : View T E → List (ℕ × E) → Type 0
   KnowsStrangers v log = v.first ≡ true → NoneAbove v.splits log
 
+  -- the seat has seen all that either seat of its last join had seen
   abbrev pub KnowsHeard : View T E → Type 0
   KnowsHeard v = (k : ℕ) (l : List (ℕ × E)) → get_elem? v.heard k ≡ some l → StartsWith v.seen l
 
+-- how many turns the cell gives at most; 0 for a seat that is spent
 abbrev pub limit_of : {T : Type 0} → Option (Terms T) → ℕ
 limit_of None = 0
 limit_of (Some a) = a.limit
 
 module _ {T E : Type 0} where
-  -- Draw a ticket. A try that finds the limit leaves the mark, one that finds the number that it expected has that ticket, and any other changes nothing.
+  -- the seat after a try to draw a ticket: with the mark where it found the limit, with the ticket where it found the number
+  -- that it expected, and as before where it found any other
   abbrev pub after_draw : ℕ → View T E → ℕ → View T E
   after_draw old v found = cond (found == limit_of v.about) (record v { worn = true }) (cond (found == old) (record v { tickets = found ∷ [] }) v)
 
+  -- a try to draw a ticket changes the seat by the number that it found, and nothing else
   abbrev pub drew : Step (Option T) → Sat T E → ℕ → Sat T E → Type 0
   drew st m r n = n ≡ (after_draw st.first m.0 r, m.1)
 
-  -- Look whether the ticket is served. Then the value is out with the seat, which has seen the whole history.
+  -- the seat that has found its ticket served: the value is out with it, and it has seen the whole history
   abbrev pub holding : View T E → List (ℕ × E) → View T E
   holding v log = record v { holds = true; seen = log }
 
-  -- Count the entry.
+  -- the seat that has counted its entry: this stands last in what it has seen and among its own
   abbrev pub counting : View T E → E → View T E
   counting v e = record v { seen = v.seen ++ (v.number, e) ∷ []; mine = v.mine ++ (v.number, e) ∷ []; counted = 1 }
 
+  -- a step that counts an entry leaves the seat with it, and what a first seat knows holds with the entry too
   abbrev pub counted_as : Option E → Step (Option T) → Sat T E → ℕ → Sat T E → Type 0
   counted_as said st m r n = (e : E) → said ≡ Some e
       → (n ≡ (counting m.0 e, m.1)) × KnowsJoined m.0 (m.0.seen ++ (m.0.number, e) ∷ []) × KnowsStrangers m.0 (m.0.seen ++ (m.0.number, e) ∷ [])
 
-  -- Serve the next. The value is home again.
+  -- the seat that has served the next ticket: it has no ticket and no value
   abbrev pub leaving : View T E → View T E
   leaving v = record v { tickets = []; holds = false; counted = 0 }
 
+  -- a step that serves the next ticket leaves the seat without a ticket, and the value is home
   abbrev pub served : Step (Option T) → Sat T E → ℕ → Sat T E → Type 0
   served st m r n = n ≡ (leaving m.0, rest m.1)
 
@@ -57,10 +66,11 @@ module _ {T E : Type 0} where
   abbrev pub learned : Step (Option T) → Sat T E → ℕ → Sat T E → Type 0
   learned st m r n = (n ≡ m) × KnowsHeard m.0 × KnowsOwn m.0 × KnowsJoined m.0 m.0.seen × KnowsStrangers m.0 m.0.seen
 
-  -- Split a seat.
+  -- the first seat after a split, which it counts
   abbrev pub split_first : View T E → View T E
   split_first v = record v { splits = v.splits + 1 }
 
+  -- the seat that a split gives: it has the next number, has seen as much, and has no entries of its own
   abbrev pub split_new : View T E → View T E
   split_new v = record v { number = v.splits + 1; mine = []; tickets = []; holds = false; counted = 0; first = false; splits = 0; joined = []; heard = [] }
 
@@ -69,10 +79,11 @@ abbrev pub longer : {A : Type 0} → List A → List A → List A
 longer xs ys = cond (nat_le (length xs) (length ys)) ys xs
 
 module _ {T E : Type 0} where
-  -- Join a seat.
+  -- the first seat after a join: it has seen what either had seen, and notes the number of the other with its entries
   abbrev pub joining_views : View T E → View T E → View T E
   joining_views v w = record v { seen = longer v.seen w.seen; worn = v.worn || w.worn; joined = v.joined ++ (w.number, w.mine) ∷ []; heard = v.seen ∷ w.seen ∷ [] }
 
+  -- a seat after it was joined into the first: nothing is left with it
   abbrev pub spent : View T E
   spent = record { about = None; number = 0; seen = []; mine = []; worn = false; tickets = []; holds = false; counted = 0; first = false; splits = 0; joined = []; heard = [] }
 
@@ -83,5 +94,6 @@ module _ {T E L : Type 0} (stands : T → List (ℕ × E) → Type 0) (lasting :
       × ((a : Terms T) → m.0.about ≡ Some a → (lasting x ≡ lasting a.first.value) × (length log < a.limit) × (a.limit ≤ 2 ^ 62))
       × Follows m.0.number m.0.seen log × KnowsJoined m.0 log × KnowsStrangers m.0 log
 
+  -- a look whether the seat's ticket is served: if it is, the value comes to the seat, and else nothing changes
   abbrev pub looked : Step (Option T) → Sat T E → ℕ → Sat T E → Type 0
   looked st m r n = (k : ℕ) → m.0.tickets ≡ k ∷ [] → (r ≡ k → Gets m n) × (r ≢ k → n ≡ m)

@@ -25,7 +25,8 @@ module _ {E : Type 0} where
   NoneAbove last log = (n : ℕ) → last < n → by n log ≡ []
 
 module _ {T E L : Type 0} (stands : T → List (ℕ × E) → Type 0) (lasting : T → L) where
-  -- a call may run on the value: it stands for a history that begins with all that seat n has seen and has no other entry of it, the history is not full, and the call's need holds
+  -- a call may run on the value: it stands for a history that begins with all that seat n has seen and has no other entry of it, the
+  -- history is not full, and the call's need holds
   abbrev pub IsDue : (ℕ → List (ℕ × E) → L → Type 0) → T → ℕ → List (ℕ × E) → List (ℕ × E) → Type 0
   IsDue need x n seen log = stands x log × Follows n seen log × (length log < 2 ^ 62) × need n seen (lasting x)
 
@@ -33,7 +34,8 @@ module _ {T E L : Type 0} (stands : T → List (ℕ × E) → Type 0) (lasting :
   abbrev pub Ready : (ℕ → List (ℕ × E) → L → Type 0) → T → Type 0
   Ready need x = (n : ℕ) × (seen : List (ℕ × E)) × (log : List (ℕ × E)) × IsDue need x n seen log
 
-  -- the value keeps its lasting part. For every seat and history at which the call was due, what is left stands for that history with the seat's entry at its end, and the promise holds of the history before it
+  -- the value keeps its lasting part. For every seat and history at which the call was due, what is left stands for that history with
+  -- the seat's entry at its end, and the promise holds of the history before it
   abbrev pub Ran : {A : Type 0} → (ℕ → List (ℕ × E) → L → Type 0) → (A → E) → (A → List (ℕ × E) → L → Type 0) → T → T → A → Type 0
   Ran need entry promise x y answer = (lasting y ≡ lasting x)
       × ((n : ℕ) (seen log : List (ℕ × E)) → IsDue need x n seen log → stands y (log ++ (n, entry answer) ∷ []) × promise answer log (lasting x))

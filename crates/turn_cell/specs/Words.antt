@@ -11,9 +11,11 @@ module _ {T E : Type 0} where
   abbrev pub IsIdle : Sat T E → Type 0
   IsIdle m = (length m.1 ≡ 0) × (length m.0.tickets ≡ 0) × (m.0.holds ≡ false) × (m.0.counted ≡ 0)
 
+  -- the seat knows whose entries stand in all that it has seen
   abbrev pub KnowsAll : View T E → Type 0
   KnowsAll v = KnowsOwn v × KnowsJoined v v.seen × KnowsStrangers v v.seen
 
+  -- the seat is between two turns, and knows whose entries stand in all that it has seen
   abbrev pub IsSettled : Sat T E → Type 0
   IsSettled m = IsIdle m × KnowsAll m.0
 
@@ -21,6 +23,7 @@ module _ {T E : Type 0} where
   abbrev pub with_ticket : Sat T E → ℕ → Sat T E
   with_ticket m ticket = (record m.0 { tickets = ticket ∷ [] }, m.1)
 
+  -- the seat with the mark that the limit of turns was drawn
   abbrev pub with_mark : Sat T E → Sat T E
   with_mark m = (record m.0 { worn = true }, m.1)
 

@@ -25,25 +25,31 @@ use Rattle.plain_drawing.specs.Drawing.{pixel_of, covers, tile_of}
 
 -- ---- colours and pictures
 
+-- the colour of so much red, green and blue
 abbrev pub rgb : ℕ → ℕ → ℕ → Colour
 rgb r g b = record { r = r; g = g; b = b }
 
+-- full red, green and blue
 abbrev pub white : Colour
 white = rgb 255 255 255
 
+-- full red
 abbrev pub red : Colour
 red = rgb 255 0 0
 
+-- full blue
 abbrev pub blue : Colour
 blue = rgb 0 0 255
 
+-- full green
 abbrev pub lime : Colour
 lime = rgb 0 255 0
 
--- red and blue half over white
+-- red at half opacity over white
 abbrev pub pale_red : Colour
 pale_red = rgb 255 128 128
 
+-- blue at half opacity over white
 abbrev pub pale_blue : Colour
 pale_blue = rgb 128 128 255
 
@@ -51,11 +57,11 @@ pale_blue = rgb 128 128 255
 abbrev pub rows : ℕ → List Colour → List Colour
 rows n row = flat_map (λ r. r) (replicate n row)
 
--- the world at zoom 0 in 16 by 16 pixels
+-- the one tile of zoom 0, which is the world
 abbrev pub world : Tile
 world = record { z = 0; x = 0; y = 0 }
 
--- the text of such a picture
+-- the PPM text of a picture of 16 by 16 pixels
 abbrev pub picture : List Colour → List ℕ
 picture pixels = ppm 16 16 pixels
 
@@ -77,31 +83,35 @@ square a b = box (2 * a) (2 * a) (2 * b) (2 * b)
 abbrev pub covered : Geometry → Symbolizer → ℕ
 covered g s = count_by (λ c. covers (pixel_of 0 16) g c s) (centres (window_of world 16))
 
+-- how many centres a fill of these rings covers
 abbrev pub filled : List (List Point) → ℕ
 filled rings = covered (shape.Polygon rings) (paint.Polygon red 1000)
 
--- a stroke of so many hundredths of a pixel
+-- how many centres a stroke along a line covers, its width in hundredths of a pixel
 abbrev pub stroked : List Point → ℕ → LineCap → ℕ
 stroked points width cap = covered (shape.Lines (points ∷ [])) (paint.Line red width 1000 cap)
 
+-- how many centres a stroke along these rings covers, its width in hundredths of a pixel
 abbrev pub outlined : List (List Point) → ℕ → LineCap → ℕ
 outlined rings width cap = covered (shape.Polygon rings) (paint.Line red width 1000 cap)
 
--- marks of so many hundredths of a pixel both ways
+-- how many centres marks on these points cover, their width and height in hundredths of a pixel
 abbrev pub spotted : List Point → ℕ → ℕ → ℕ
 spotted points width height = covered (shape.Points points) (paint.Markers red width height 1000)
 
--- a line of 4 pixels along the centres of row 8, there, there with its points doubled, and there and back
+-- a line of 4 pixels along the centres of row 8
 abbrev pub level : List Point
 level = at 8 17 ∷ at 16 17 ∷ []
 
+-- the line of 4 pixels with each of its points doubled
 abbrev pub level_doubled : List Point
 level_doubled = at 8 17 ∷ at 8 17 ∷ at 16 17 ∷ at 16 17 ∷ []
 
+-- the line of 4 pixels there and back
 abbrev pub level_back : List Point
 level_back = at 8 17 ∷ at 16 17 ∷ at 8 17 ∷ []
 
--- a line of one point, at a centre
+-- a line whose two points are one, at a centre
 abbrev pub dot : List Point
 dot = at 17 17 ∷ at 17 17 ∷ []
 
@@ -141,16 +151,17 @@ map_of source s rasters grids = record {
   grids = grids;
 }
 
--- data of one layer: polygons of one ring, without attributes
+-- a feature that is a polygon of one ring, without attributes
 abbrev pub polygon : List Point → Feature
 polygon ring = record { id = 1; geometry = shape.Polygon (ring ∷ []); attrs = [] }
 
+-- data of one layer, named land, with a polygon for each ring
 abbrev pub land : List (List Point) → List Layer
 land rings = record { name = codes "land"; features = map polygon rings } ∷ []
 
 -- ---- filter modes
 
--- the attribute k
+-- the attribute k with this number as its value
 abbrev pub k : ℕ → List Attr
 k n = record { name = codes "k"; value = value.Whole (pos n) } ∷ []
 
@@ -158,14 +169,15 @@ k n = record { name = codes "k"; value = value.Whole (pos n) } ∷ []
 abbrev pub compared : CompareSign → Option FilterTree
 compared s = Some (compare_tree (name_tree (codes "k")) s (number_tree (pos 1)))
 
+-- an opaque fill of this colour
 abbrev pub fill : Colour → Symbolizer
 fill c = paint.Polygon c 1000
 
--- where k is 1 red, where it is at least 1 blue, elsewhere lime
+-- a style of three rules: red where k is 1, blue where it is at least 1, and lime elsewhere
 abbrev pub coloured : FilterMode → Style
 coloured mode = style mode (rule (compared sign.Equal) false (fill red) ∷ rule (compared sign.GreaterEqual) false (fill blue) ∷ rule None true (fill lime) ∷ [])
 
--- what a feature with this k meets
+-- the symbolizers that draw a feature with this k
 abbrev pub met : FilterMode → ℕ → List Symbolizer
 met mode n = drawn (k n) (denominator_of 0 16) (coloured mode)
 
@@ -183,14 +195,15 @@ halves = record {
   bytes = 255 ∷ 0 ∷ 0 ∷ 0 ∷ 0 ∷ 255 ∷ [];
 }
 
+-- the raster of a style to which the grid of two halves belongs
 abbrev pub halves_ref : RasterRef
 halves_ref = record { name = codes "sky"; file = codes "sky.ppm"; west = 0; north = 0; pixel = 2 ^ 29 }
 
--- a map of it alone
+-- a map of the grid of two halves alone, drawn with this opacity
 abbrev pub sky : ℕ → MapStyle
 sky opacity = map_of (codes "sky") (paint.Raster opacity) (halves_ref ∷ []) (halves ∷ [])
 
--- two colours side by side over white
+-- a picture of two colours side by side in its north half, over white
 abbrev pub over_white : Colour → Colour → List Colour
 over_white west east = rows 8 (replicate 8 west ++ replicate 8 east) ++ rows 8 (replicate 16 white)
 
