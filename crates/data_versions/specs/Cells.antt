@@ -15,7 +15,7 @@ part_of low high x = (x - low) * 8 / (high - low + 1)
 abbrev pub cell_at : Bounds → Point → ℕ
 cell_at b p = 8 * part_of b.north b.south p.y + part_of b.west b.east p.x
 
--- of each point that lies in the box and in the part, the cell is among the cells: its bit is set
+-- each point that lies in the box and in the part has its cell among the cells: the bit of it is set
 pub record Marks (box part : Bounds) (cells : ℕ) : Type 0 where
   pub each : (p : Point) → InBounds box p → InBounds part p → bit_at cells (cell_at box p) ≡ 1
 

@@ -16,7 +16,7 @@ use Rattle.farm_call.specs.Words.{AsksFor, IsBuilt, AsksNothing}
 abbrev pub picture : List ℕ → List ℕ → ℕ → Tile → render.Render
 picture style data_name size tile = record { style = style; data_file = data_name; size = size; tile = tile }
 
--- what the words make sure of a command: the tile is one, of a named size
+-- what the words make sure of a command: its tile is one of the world, and its size is one that tiles may have
 abbrev pub IsSound : Command → Type 0
 IsSound (Render style data_name size tile) = IsTileSize size × IsTile tile
 IsSound other = Unit {0}

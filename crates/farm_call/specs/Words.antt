@@ -18,6 +18,6 @@ IsBuilt (Render style data_name size tile) = Unit {0}
 IsBuilt (Meta file) = Unit {0}
 IsBuilt other = ⊥
 
--- the words ask for nothing that there is
+-- the words ask for no command that there is
 abbrev pub AsksNothing : List (List ℕ) → Type 0
 AsksNothing words = (command : Command) → IsBuilt command → ¬ (AsksFor words command)

@@ -99,7 +99,7 @@ written t = put_tokens [] (tokens_in (shown (shape t)))
 abbrev pub ReadsAgain : Type 0
 ReadsAgain = (text : List ℕ) (t : FilterTree) → FilterOf text t → FilterOf (written t) t
 
--- of a filter that may be answered for some text, what is written is answered by that filter, but for want of memory
+-- a filter that may be answered for some text is answered again for what is written of it, but for want of memory
 abbrev pub AnswersAgain : Type 0
 AnswersAgain =
     (text : List ℕ) (e : Expr) → MayAnswer text (Ok e) → (r : Result Expr FilterFault) → MayAnswer (written (tree_of e)) r → AnswersTree (tree_of e) r

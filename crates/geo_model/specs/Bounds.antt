@@ -26,7 +26,7 @@ pub record IsLeastBounds (b : Bounds) (parts : List (List Point)) : Type 0 where
 abbrev pub meets : Bounds → Bounds → Bool
 meets a b = nat_le a.west b.east && nat_le b.west a.east && nat_le a.north b.south && nat_le b.north a.south
 
--- no point yet: every point of the world widens it to itself
+-- the box of no point yet: every point of the world widens it to that point alone
 abbrev pub no_bounds : Bounds
 no_bounds = record { west = 2 ^ 30; north = 2 ^ 30; east = 0; south = 0 }
 

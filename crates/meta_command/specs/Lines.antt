@@ -24,7 +24,7 @@ entry_line entry = three entry.place entry.offset entry.size
 abbrev pub listing_text : Listing → List ℕ
 listing_text listing = meta_line listing.meta ++ flat_map entry_line listing.entries.items
 
--- the text of a fault: its number, in the order in which reading checks but for the mark's
+-- the text of a fault: its number
 abbrev pub fault_text : MetaFault → Option (List ℕ)
 fault_text (Short len) = Some (codes "meta 1")
 fault_text Magic = Some (codes "meta 2")

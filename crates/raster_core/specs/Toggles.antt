@@ -45,7 +45,7 @@ pub record Remains (w : Window) (left whole : Point → Bool) (old new : List Bo
   pub len : length new ≡ length old
   pub at : (j i : ℕ) → j < w.rows → i < w.cols → flip (left (centre w i j)) (parity_at w.cols new j i) ≡ flip (whole (centre w i j)) (parity_at w.cols old j i)
 
--- an odd number of edges counts
+-- an odd number of the edges counts for the point
 abbrev pub odd_edges : List (Point × Point) → Point → Bool
 odd_edges edges c = is_odd (count_by (λ e. counts e c) edges)
 

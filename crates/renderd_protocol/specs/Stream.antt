@@ -35,7 +35,7 @@ pub record Taken : Type 0 where
   pub requests : List Request
   pub rest : List ℕ
 
--- one more request in front
+-- what is taken, with one more request in front
 abbrev pub after_request : Request → Taken → Taken
 after_request request taken = record { requests = request ∷ taken.requests; rest = taken.rest }
 

@@ -15,13 +15,13 @@ on_ends half with.Butt a b y z c = false
 on_ends half with.Round a b y z c = in_disk half a c || in_disk half z c
 on_ends half with.Square a b y z c = (not (is_same a b) && before_start half a b c) || (not (is_same y z) && past_end half y z c)
 
--- a line of two points or more: its sides, the disks at its inner points, and its ends
+-- the stroke of a line of two points or more: its sides, the disks at its inner points, and its ends
 abbrev pub on_long : ℕ → LineCap → List Point → Point → Bool
 on_long half cap ps c =
     (on_sides half (point_at ps 0) (drop 1 ps) c || on_disks half (take (length ps - 2) (drop 1 ps)) c)
     || on_ends half cap (point_at ps 0) (point_at ps 1) (point_at ps (length ps - 2)) (point_at ps (length ps - 1)) c
 
--- any line
+-- the stroke of any line: of no point nothing, of one point a dot
 abbrev pub on_parts : ℕ → LineCap → List Point → Point → Bool
 on_parts half cap [] c = false
 on_parts half cap (p ∷ []) c = on_dot half cap p c

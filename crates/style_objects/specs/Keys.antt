@@ -20,6 +20,6 @@ keys_of object.LineSymbolizer = codes "symbolizer" ∷ codes "stroke" ∷ codes 
 keys_of object.MarkersSymbolizer = codes "symbolizer" ∷ codes "fill" ∷ codes "width" ∷ codes "height" ∷ codes "opacity" ∷ []
 keys_of object.RasterSymbolizer = codes "symbolizer" ∷ codes "opacity" ∷ []
 
--- the first step of each object: Shape where it is none, Unsupported where it has another key
+-- the first step of each object: Shape where it is no object, Unsupported where it has a key of another name
 unfoldable pub opened_as : Object → At → Data → Result (Unit {0}) StyleFault
 opened_as kind at d = opened (fault.Shape at) (fault.Unsupported at) (keys_of kind) d

@@ -43,7 +43,7 @@ pub record Tells (w : Window) (p : Part) (member : Point → Bool) (bits : List 
   pub at : (j i : ℕ) → j < p.rows → i < p.cols → slice_index_or bits (j * p.cols + i) false ≡ member (centre w (p.col + i) (p.row + j))
   pub holds : Holds w p member
 
--- a member's colour painted over
+-- the colour painted over at a member, and as it was elsewhere
 abbrev pub over_member : (Point → Bool) → Colour → ℕ → Point → Colour → Colour
 over_member member colour opacity c d = if member c then blend colour opacity d else d
 

@@ -6,7 +6,7 @@ use Rattle.tile_render.specs.declared.sources.Piece.TheVariants as piece
 use Rattle.tile_render.specs.declared.sources.Source.{Source}
 use Rattle.tile_render.specs.declared.sources.Source.TheVariants as source
 
--- the item that a piece is
+-- the item that a piece of a source is
 abbrev pub item_of : Piece → Item
 item_of (piece.Shape f) = feature f.now
 item_of (piece.Raster g) = raster g.now

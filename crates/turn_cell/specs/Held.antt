@@ -32,7 +32,7 @@ module _ {T E : Type 0} where
   abbrev pub held : TableId → View T E → Held T E
   held cell v = record { cell = cell; about = v.about; number = v.number; seen = v.seen; mine = v.mine; worn = v.worn; first = v.first; splits = v.splits; joined = v.joined }
 
-  -- it is a seat of that cell
+  -- the seat is one of that cell
   abbrev pub IsSeatOf : Made T → Held T E → Type 0
   IsSeatOf made v = (v.cell ≡ made.cell) × (v.about ≡ Some made.about)
 
@@ -40,7 +40,7 @@ module _ {T E : Type 0} where
   abbrev pub first_of : Made T → Held T E
   first_of made = record { cell = made.cell; about = Some made.about; number = 0; seen = []; mine = []; worn = false; first = true; splits = 0; joined = [] }
 
-  -- a turn changes neither the number nor the splits nor the joins
+  -- the seat has the number, the splits and the joins that it had, as after a turn
   abbrev pub SameSeat : Held T E → Held T E → Type 0
   SameSeat v w = (w.number ≡ v.number) × (w.first ≡ v.first) × (w.splits ≡ v.splits) × (w.joined ≡ v.joined)
 
