@@ -66,10 +66,6 @@ pub front_twice : (xs ys : List Part) (r : Step (List Part)) → with_front xs (
 front_twice xs ys (got later ts) = ap (λ l. got l ts) (sym (append_assoc xs ys later))
 front_twice xs ys (failed f ts) = refl
 
-pub front_none : (r : Step (List Part)) → with_front [] r ≡ r
-front_none (got later ts) = refl
-front_none (failed f ts) = refl
-
 -- ---- the turns of a loop that collects the later parts
 
 module _ (k : Kind) (part : Reader Tree) (short : Shortens part) (front : List Part) (ts : List Spot) (from : Step (List Part)) (read : with_front front (later k part ts) ≡ from) where

@@ -189,9 +189,6 @@ own_negative e n us rest p ih =
     by (suc m) =
         then_fine m (suc m) e (negative e) rest rest (unary_in (within m) (p.1 ++ rest)) got_negative (λ x. x) (λ x. omega (arith, x)) (ih m p.1 p.4) (refl, refl)
 
-compare_token_is : (c : CompareSign) (t : Token) → t ≡ token.Compare c → is_compare t ≡ true
-compare_token_is c t e = ap is_compare e
-
 own_comparison : (a : Tree) (c : CompareSign) (b : Tree) (n : ℕ) (us rest : List Spot) → IsSpelled (comparison a c b) us → Stops 3 rest →
     ((vs more : List Spot) → IsSpelled a vs → Stops 4 more → Fine n a more (sum_in (within n) (vs ++ more))) →
     ((vs more : List Spot) → IsSpelled b vs → Stops 4 more → Fine n b more (sum_in (within n) (vs ++ more))) → Fine n (comparison a c b) rest (row 3 (within n) (us ++ rest))

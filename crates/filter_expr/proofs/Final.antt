@@ -36,10 +36,6 @@ no_stop_first : (us vs : List Spot) → NoStop (us ++ vs) → NoStop us
 no_stop_first [] vs h = tt
 no_stop_first (s ∷ us) vs h = (h.0, no_stop_first us vs h.1)
 
-no_stop_second : (us vs : List Spot) → NoStop (us ++ vs) → NoStop vs
-no_stop_second [] vs h = h
-no_stop_second (s ∷ us) vs h = no_stop_second us vs h.1
-
 leaf_no_stop : (t : Token) → IsTrue (is_leaf t || is_huge t) → is_stop t ≡ false
 leaf_no_stop token.End h = absurd (wrong h)
 leaf_no_stop token.Unknown h = absurd (wrong h)

@@ -1,3 +1,4 @@
+pub mod Back
 pub mod Chains
 pub mod Complete
 pub mod Final

@@ -1,5 +1,5 @@
 -- What a text says as a function is what the grammar says of it.
-use Rattle.std.proofs.Common.{◌≡◌, ℕ, List, refl, sym, ◌∙◌, ap, subst}
+use Rattle.std.proofs.Common.{◌≡◌, ℕ, List, ◌⊎◌, inl, inr, sym, ◌∙◌, ap, subst}
 use Rattle.std.specs.Prelude.{Result, Ok, Err}
 use Rattle.plain_drawing.specs.declared.Expr.{Expr}
 use Rattle.plain_drawing.specs.Filters.{FilterTree, tree_of}
@@ -11,10 +11,11 @@ use Rattle.filter_expr.specs.Seen.{seen, shape}
 use Rattle.filter_expr.specs.Lexing.{lexed}
 use Rattle.filter_expr.specs.Reading.{Step, got, failed, whole}
 use Rattle.filter_expr.specs.Gives.{Answers}
-use Rattle.filter_expr.specs.Filters.{IsFilter, IsFault, FilterOf, FaultOf}
-use Rattle.filter_expr.specs.FilterTexts.{back, verdict, filter_of, Says, SaysFilter, SaysFault}
+use Rattle.filter_expr.specs.Filters.{IsFilter, IsFault, FilterOf, FaultOf, SomeTokenList, SomeAnswer}
+use Rattle.filter_expr.specs.FilterTexts.{back, verdict, filter_of, Says, SaysFilter, SaysFault, FilterSaid, FaultSaid}
 use Rattle.filter_expr.proofs.SeenLemmas.{round}
-use Rattle.filter_expr.proofs.Final.{IsAnswer, right, not_both}
+use Rattle.filter_expr.proofs.Back.{tree_again}
+use Rattle.filter_expr.proofs.Final.{IsAnswer, not_both}
 use Rattle.filter_expr.proofs.Only.{one_token_list, filter_unique, fault_unique, lexed_answer}
 use Rattle.filter_expr.proofs.Tokenised.{lexed_tokens}
 
@@ -43,3 +44,41 @@ says_fault text f b =
     go : (s : Step Tree) → IsAnswer (lexed 0 0 text) s → IsFault (lexed 0 0 text) f → verdict s ≡ Err f
     go (got d us) a h = absurd (not_both (lexed 0 0 text) d f a h)
     go (failed g us) a h = ap Err (fault_unique (lexed 0 0 text) g f a h)
+
+-- ---- and the other way
+
+ok_same : (s t : FilterTree) → ◌≡◌ {A = Result FilterTree FilterFault} (Ok s) (Ok t) → s ≡ t
+ok_same s t q = cc
+
+err_same : (f g : FilterFault) → ◌≡◌ {A = Result FilterTree FilterFault} (Err f) (Err g) → f ≡ g
+err_same f g q = cc
+
+-- what the tokens are as a filter is the tree of some filter
+filter_again : (ts : List Spot) (d : Tree) → IsFilter ts d → IsFilter ts (shape (back d))
+filter_again ts d a = subst (IsFilter ts) (sym a.is ∙ sym (tree_again a.tree 0 a.stands a.range) ∙ ap (λ x. shape (back x)) a.is) a
+
+pub filter_said : FilterSaid
+unfolding filter_of
+filter_said text t q = (lexed 0 0 text, lexed_tokens text, go (whole (lexed 0 0 text)) (lexed_answer text) q)
+  where
+    go : (s : Step Tree) → IsAnswer (lexed 0 0 text) s → verdict s ≡ Ok t → IsFilter (lexed 0 0 text) (shape t)
+    go (got d us) a e = subst (λ x. IsFilter (lexed 0 0 text) (shape x)) (ok_same (back d) t e) (filter_again (lexed 0 0 text) d a)
+    go (failed f us) a e = absurd (cc)
+
+pub fault_said : FaultSaid
+unfolding filter_of
+fault_said text f q = (lexed 0 0 text, lexed_tokens text, go (whole (lexed 0 0 text)) (lexed_answer text) q)
+  where
+    go : (s : Step Tree) → IsAnswer (lexed 0 0 text) s → verdict s ≡ Err f → IsFault (lexed 0 0 text) f
+    go (got d us) a e = absurd (cc)
+    go (failed g us) a e = subst (IsFault (lexed 0 0 text)) (err_same g f e) a
+
+pub some_answer : SomeAnswer
+some_answer text = go (whole (lexed 0 0 text)) (lexed_answer text)
+  where
+    go : (s : Step Tree) → IsAnswer (lexed 0 0 text) s → ((t : FilterTree) × FilterOf text t) ⊎ ((f : FilterFault) × FaultOf text f)
+    go (got d us) a = inl (back d, (lexed 0 0 text, lexed_tokens text, filter_again (lexed 0 0 text) d a))
+    go (failed f us) a = inr (f, (lexed 0 0 text, lexed_tokens text, a))
+
+pub some_tokens : SomeTokenList
+some_tokens text = (lexed 0 0 text, lexed_tokens text)

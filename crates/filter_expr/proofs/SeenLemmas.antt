@@ -16,8 +16,8 @@ use Rattle.plain_drawing.specs.declared.ProductSign.TheVariants as product
 use Rattle.plain_drawing.specs.Filters.{FilterTree, FilterTrees, SumTrees, ProductTrees, or_tree, and_tree, not_tree, compare_tree, sum_tree, product_tree, negate_tree, name_tree, text_tree, number_tree, truth_tree, null_tree, no_trees, tree_then, no_sums, sum_then, no_products, product_then, tree_of, tree_step, sum_part_step, product_part_step, trees_of, sums_of, products_of}
 use Rattle.filter_expr.specs.declared.tokens.Token.{Token}
 use Rattle.filter_expr.specs.declared.tokens.Token.TheVariants as token
-use Rattle.filter_expr.specs.Trees.{Kind, Tree, Terms, leaf, negation, negative, comparison, chain, parens, no_terms, term, or_chain, and_chain, sum_chain, product_chain, sum_token, product_token, is_end}
-use Rattle.filter_expr.specs.FilterTexts.{is_end_leaf, sum_sign_of, product_sign_of, leaf_back, back, backs, back_sums, back_products}
+use Rattle.filter_expr.specs.Trees.{Kind, Tree, leaf, negation, negative, comparison, chain, no_terms, term, or_chain, and_chain, sum_chain, product_chain, sum_token, product_token}
+use Rattle.filter_expr.specs.FilterTexts.{is_end_leaf, sum_sign_of, product_sign_of, back, backs, back_sums, back_products}
 use Rattle.filter_expr.specs.Seen.{Part, seen, shape, joined, same_terms, sum_terms, product_terms, terms_of, behind, truth_token}
 
 -- ---- nodes

@@ -1,5 +1,5 @@
 -- What a text says as a filter, as a function: the filter that its tokens are read as, or the first fault.
--- The grammar fixes it: it is the filter of the text where there is one, and else its fault.
+-- It is what the grammar gives the text: the filter where there is one, and else the first fault.
 use Rattle.std.specs.Prelude.{◌≡◌, ℕ, Bool, true, false, if◌then◌else◌, List, Result, Ok, Err}
 use Rattle.plain_drawing.specs.declared.Expr.{Expr}
 use Rattle.plain_drawing.specs.declared.SumSign.{SumSign}
@@ -93,3 +93,11 @@ SaysFilter = (text : List ℕ) (t : FilterTree) → FilterOf text t → filter_o
 -- a fault that the grammar finds in a text is what the text says
 abbrev pub SaysFault : Type 0
 SaysFault = (text : List ℕ) (f : FilterFault) → FaultOf text f → filter_of text ≡ Err f
+
+-- a filter that a text says is the one that the grammar gives it
+abbrev pub FilterSaid : Type 0
+FilterSaid = (text : List ℕ) (t : FilterTree) → filter_of text ≡ Ok t → FilterOf text t
+
+-- a fault that a text says is one that the grammar finds in it
+abbrev pub FaultSaid : Type 0
+FaultSaid = (text : List ℕ) (f : FilterFault) → filter_of text ≡ Err f → FaultOf text f

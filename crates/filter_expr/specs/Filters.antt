@@ -1,5 +1,5 @@
 -- What a text is as a filter: its tree, or its first fault.
-use Rattle.std.specs.Prelude.{◌≡◌, ℕ, ◌≤◌, ◌<◌, Bool, ◌||◌, IsTrue, List, [], ◌∷◌, ◌++◌, Result, Ok, Err}
+use Rattle.std.specs.Prelude.{◌≡◌, ℕ, ◌≤◌, ◌<◌, Bool, ◌||◌, IsTrue, List, [], ◌∷◌, ◌++◌, ◌⊎◌, Result, Ok, Err}
 use Rattle.plain_drawing.specs.declared.Expr.{Expr}
 use Rattle.plain_drawing.specs.Filters.{FilterTree, tree_of}
 use Rattle.filter_expr.specs.declared.tokens.Token.{Token}
@@ -123,6 +123,10 @@ AnswersFault f (Err NoMemory) = Unit {0}
 abbrev pub OneTree : Type 0
 OneTree = (d e : Tree) (us : List Spot) → Stands 0 d → Stands 0 e → IsSpelled d us → IsSpelled e us → InRange d → InRange e → bare d ≡ bare e
 
+-- a text has a tree, or a fault
+abbrev pub SomeAnswer : Type 0
+SomeAnswer = (text : List ℕ) → ((t : FilterTree) × FilterOf text t) ⊎ ((f : FilterFault) × FaultOf text f)
+
 -- a text has one tree at most
 abbrev pub OneFilter : Type 0
 OneFilter = (text : List ℕ) (s t : FilterTree) → FilterOf text s → FilterOf text t → s ≡ t
@@ -134,6 +138,10 @@ NotBoth = (text : List ℕ) (t : FilterTree) (f : FilterFault) → FilterOf text
 -- a text has one fault at most
 abbrev pub OneFault : Type 0
 OneFault = (text : List ℕ) (f g : FilterFault) → FaultOf text f → FaultOf text g → f ≡ g
+
+-- a text has a list of tokens
+abbrev pub SomeTokenList : Type 0
+SomeTokenList = (text : List ℕ) → (ts : List Spot) × TokensOf text ts
 
 -- a text has one list of tokens at most
 abbrev pub OneTokenList : Type 0

@@ -3,8 +3,8 @@ ghost use Rattle.filter_expr.specs.Seen.{seen};
 ghost use Rattle.filter_expr.specs.Lexing.{lexed};
 ghost use Rattle.filter_expr.specs.Reading.{whole};
 ghost use Rattle.filter_expr.specs.Gives.{Answers};
-ghost use Rattle.filter_expr.specs.Filters.{FilterOf, FaultOf, MayAnswer, AnswersTree, AnswersFault, OneTree, OneFilter, NotBoth, OneFault, OneTokenList};
-ghost use Rattle.filter_expr.specs.FilterTexts.{filter_of, Says, SaysFilter, SaysFault};
+ghost use Rattle.filter_expr.specs.Filters.{FilterOf, FaultOf, MayAnswer, AnswersTree, AnswersFault, OneTree, SomeAnswer, OneFilter, NotBoth, OneFault, SomeTokenList, OneTokenList};
+ghost use Rattle.filter_expr.specs.FilterTexts.{filter_of, Says, SaysFilter, SaysFault, FilterSaid, FaultSaid};
 ghost use Rattle.filter_expr.specs.declared.faults.FilterFault.{FilterFault};
 ghost use Rattle.plain_drawing.specs.Filters.{FilterTree};
 
@@ -48,22 +48,27 @@ fn read(alloc: Global, text: &str) -> Result<Expr, FilterFault>
     Ok(filter)
 }
 
-/// The grammar gives the tokens of a text one tree at most.
+/// Each text has one list of tokens, and no two. Tokens spell one tree at most, parentheses aside, where
+/// no number is too great.
 pub fn law_one_tree()
-    ensures tree { OneTree }
+    ensures some { SomeTokenList }
     ensures tokens { OneTokenList }
+    ensures tree { OneTree }
 {}
 
-/// A text is one filter at most, or has one first fault, and never both.
+/// Each text is one filter, or has one first fault, and never both.
 pub fn law_one_answer()
+    ensures some { SomeAnswer }
     ensures filter { OneFilter }
     ensures apart { NotBoth }
     ensures fault { OneFault }
 {}
 
-/// The function that says what a text is as a filter says what the grammar says: its filter, or its
-/// first fault.
+/// The function that says what a text is as a filter says exactly what the grammar says: it gives the
+/// text's filter, or the text's first fault, and nothing else.
 pub fn law_says()
     ensures filter { SaysFilter }
     ensures fault { SaysFault }
+    ensures said { FilterSaid }
+    ensures refused { FaultSaid }
 {}

@@ -1,6 +1,6 @@
 //! Tokens of filter texts, and the list of them that is still to be read.
 ghost use Rattle.std.specs.Prelude.{◌≡◌, drop, option_map, IsTrue};
-ghost use Rattle.filter_expr.specs.Trees.{leaf, sum_token, product_token, compare_token, or_chain, and_chain, sum_chain, product_chain, is_not, is_minus, is_leaf, is_huge, is_open, is_close, is_or, is_and, is_end, is_unknown};
+ghost use Rattle.filter_expr.specs.Trees.{leaf, sum_token, product_token, compare_token, sum_chain, product_chain, is_not, is_minus, is_leaf, is_huge, is_open, is_close, is_or, is_and, is_end, is_unknown};
 ghost use Rattle.filter_expr.specs.Seen.{seen};
 ghost use Rattle.filter_expr.specs.Reading.{starts, first_token, place, next_sign, next_compare};
 

@@ -1,5 +1,5 @@
 -- The text of each form of a filter, by the texts of its parts.
-use Rattle.std.proofs.Common.{◌≡◌, ℕ, ◌+◌, ◌<◌, ◌≤◌, Bool, true, false, if◌then◌else◌, ℤ, List, [], ◌∷◌, ◌++◌, length, get_or, drop, map, refl, sym, ap, ◌∙◌, append_assoc}
+use Rattle.std.proofs.Common.{◌≡◌, ℕ, ◌+◌, ◌<◌, ◌≤◌, Bool, true, false, if◌then◌else◌, ℤ, List, [], ◌∷◌, ◌++◌, length, get_or, drop, map, refl, ap, ◌∙◌}
 use Rattle.std.proofs.lemmas.Bool.{lt-ltb, le-ltb}
 use Rattle.std.specs.declared.boxed.Box.{Box}
 use Rattle.std.specs.declared.vec.Vec.{Vec}
@@ -17,11 +17,7 @@ use Rattle.filter_expr.specs.Grammar.{kind_strength, strength}
 use Rattle.filter_expr.proofs.SeenLemmas.{listed, seen_sum, seen_product, seen-Or, seen-And, seen-Not, seen-Compare, seen-Sum, seen-Product, seen-Negate, seen-Name, seen-Text, seen-Number, seen-Truth, seen-Null}
 use Rattle.filter_expr.proofs.Turns.{left_here}
 use Rattle.filter_texts.specs.Written.{spelling, guarded, shown, shown_terms, tokens_in, tokens_of_terms, put_behind, put_tokens}
-use Rattle.filter_texts.specs.Pieces.{spaced, put_form, put_tree, put_parts, put_list, put_terms}
-
-pub behind_spaced : (out word : List ℕ) → put_behind out word ≡ spaced out ++ word
-behind_spaced [] word = refl
-behind_spaced (b ∷ bs) word = sym (append_assoc (b ∷ bs) (32 ∷ []) word)
+use Rattle.filter_texts.specs.Pieces.{put_form, put_tree, put_parts, put_list, put_terms}
 
 put_both : (out : List ℕ) (ts us : List Token) → put_tokens out (ts ++ us) ≡ put_tokens (put_tokens out ts) us
 put_both out [] us = refl

@@ -1,5 +1,6 @@
 use Rattle.filter_expr.proofs.Only.{one_tree, one_token_list}
+use Rattle.filter_expr.proofs.Plain.{some_tokens}
 use Rattle.filter_expr.proofs.reader.law_one_tree.Goals as goal
 
 pub returns : goal.returns
-returns c = record { tree = one_tree; tokens = one_token_list }
+returns c = record { some = some_tokens; tokens = one_token_list; tree = one_tree }
