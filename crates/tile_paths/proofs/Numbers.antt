@@ -13,12 +13,12 @@ pub decimal_short : (n : ℕ) → n < 256 → length (decimal n) ≤ 3
 decimal_short n h = length-decimal-le 3 n (omega arith) (omega arith) (omega arith)
 
 -- no digit is a byte below `0`
-digits_only : (n e i : ℕ) → n < 256 → e < 48 → i < length (decimal n) → get_or (decimal n) i 0 ≢ e
+pub digits_only : (n e i : ℕ) → n < 256 → e < 48 → i < length (decimal n) → get_or (decimal n) i 0 ≢ e
 digits_only n e i h low l eq =
     let d = digit_at (decimal n) i (decimal_is_IsNumeral n (omega arith)).0.1 l in omega arith
 
 -- no byte of a name is a slash
-no_slash : (name : List ℕ) (i : ℕ) → IsName name → i < length name → get_or name i 0 ≢ 47
+pub no_slash : (name : List ℕ) (i : ℕ) → IsName name → i < length name → get_or name i 0 ≢ 47
 no_slash name i is l eq =
     let p = AllPass-from_list_all is_name_byte name is.plain i 0 l in
     let q : is_name_byte 47 ≡ true = ap is_name_byte (sym eq) ∙ p in

@@ -1,12 +1,12 @@
 //! From a path to its metatile.
-ghost use Rattle.std.specs.Prelude.{◌≡◌, ◌≤◌, ◌<◌, ◌+◌, ◌*◌, ◌/◌, ◌%◌, ◌++◌, ◌∷◌, ℕ, List, length, IsTrue, IfSome, IsSomeAnd};
-ghost use Rattle.std.specs.List.{list_all};
+ghost use Rattle.std.specs.Prelude.{◌≡◌, ◌≤◌, ◌<◌, ◌+◌, ◌*◌, ◌/◌, ◌%◌, ◌++◌, ◌∷◌, ℕ, List, length, IfSome, IsSomeAnd};
 ghost use Rattle.std.specs.Fmt.{decimal};
 ghost use Rattle.plain_drawing.specs.declared.world.Meta.{Meta};
 ghost use Rattle.plain_drawing.specs.World.{IsMeta};
 ghost use Rattle.tile_paths.specs.Paths.{IsName, path_of};
 ghost use Rattle.tile_paths.specs.Paths as spec;
 
+use crate::names::is_name;
 use crate::writing::path;
 use arrayvec::ArrayString;
 use merc_fixed::{meta_of, tile};
@@ -46,27 +46,6 @@ struct Parts<'a> {
     z: u32,
     x: u32,
     y: u32,
-}
-
-/// Whether the text is a map's name.
-fn is_name(text: &str) -> bool
-    ensures yes { IsTrue result → IsName text.now }
-    ensures no { IsName text.now → IsTrue result }
-{
-    let len = text.len();
-    len >= 1 && len <= 40 && are_name_bytes(text.as_bytes())
-}
-
-fn are_name_bytes(bytes: &[u8]) -> bool
-    ensures { result ≡ list_all spec.is_name_byte bytes.now }
-{
-    bytes.iter().all(|b| is_name_byte(*b))
-}
-
-fn is_name_byte(b: u8) -> bool
-    ensures { result ≡ spec.is_name_byte b }
-{
-    matches!(b, b'a'..=b'z' | b'0'..=b'9' | b'_' | b'-')
 }
 
 /// The number before the first byte `end`, and what follows that byte.

@@ -1,5 +1,5 @@
 //! Paths as mod_tile makes them.
-use crate::{path, read_path};
+use crate::{is_name, path, read_path};
 use merc_fixed::{meta_of, tile};
 use plain_drawing::Meta;
 use std::test::Fail;
@@ -51,6 +51,30 @@ fn paths_both_ways(rt: HostRuntime) -> Result<(), Fail> {
         "",
     ] {
         assert!(rt; read_path(wrong).is_none(), "{wrong}");
+    }
+    Ok(())
+}
+
+#[test]
+fn names_of_maps(rt: HostRuntime) -> Result<(), Fail> {
+    for name in [
+        "default",
+        "a",
+        "_-9",
+        "abcdefghijklmnopqrstuvwxyz_-0123456789ab",
+    ] {
+        assert!(rt; is_name(name), "{name}");
+    }
+    for text in [
+        "",
+        "Default",
+        "a b",
+        "a.b",
+        "a/b",
+        "\u{e9}",
+        "abcdefghijklmnopqrstuvwxyz_-0123456789abc",
+    ] {
+        assert!(rt; !is_name(text), "{text}");
     }
     Ok(())
 }

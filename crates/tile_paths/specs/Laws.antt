@@ -1,0 +1,19 @@
+-- What holds of paths: each is the path of one name and metatile, and none is the path of anything else
+-- that a store holds.
+use Rattle.std.specs.Prelude.{◌≡◌, ◌≢◌, ℕ, List, ◌++◌, codes}
+use Rattle.plain_drawing.specs.declared.world.Meta.{Meta}
+use Rattle.plain_drawing.specs.World.{IsMeta}
+use Rattle.tile_paths.specs.Paths.{IsName, path_of}
+
+-- Two metatiles of maps that have one path are the same metatile of the same map.
+abbrev pub OnePath : Type 0
+OnePath = (name other : List ℕ) (m n : Meta) → IsName name → IsName other → IsMeta m → IsMeta n
+    → path_of name m ≡ path_of other n → (name ≡ other) × (m ≡ n)
+
+-- Every path ends in `.meta`.
+abbrev pub EndsInMeta : Type 0
+EndsInMeta = (name : List ℕ) (m : Meta) → (front : List ℕ) × (path_of name m ≡ front ++ codes ".meta")
+
+-- So none is the path of a saved farm.
+abbrev pub IsNotSaved : Type 0
+IsNotSaved = (name : List ℕ) (m : Meta) → path_of name m ≢ codes "farm.saved"
