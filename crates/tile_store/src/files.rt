@@ -1,20 +1,26 @@
 //! The store in files of the system, under the folder `tiles`. It does not tell what it holds; what is
-//! proved of it is that it counts its failures.
-ghost use Rattle.std.specs.Prelude.{◌≡◌, ◌≤◌, ◌^◌, ℕ, length, None, IfOk, IfSome};
+//! proved of it is that it counts its failures and which paths it refuses.
+ghost use Rattle.std.specs.Prelude.{◌≡◌, ◌≤◌, ◌^◌, ℕ, false, length, None, Err, IfOk, IfSome};
+ghost use Rattle.tile_store.specs.declared.stores.StoreFault.TheVariants.{Failed};
 ghost use Rattle.tile_store.specs.Stores.{Puts, Gets, Counts, whole, part};
+ghost use Rattle.tile_store.specs.Files as spec;
+ghost use Rattle.tile_store.specs.Files.{is_own_path};
 
 use crate::stores::{StoreFault, TileStore};
 use std::alloc::Global;
+use std::fs::{self, OpenFile};
 use std::io::{self, Read, Seek, SeekFrom};
 use std::path::Path;
-use std::{fs, rt};
+use std::rt;
 
 /// A longer file is not read whole.
 const LONGEST: u64 = 1 << 31;
 
 /// Files under the folder `tiles` of the folder that the program runs in. A put writes a file beside
-/// the one of its path and renames it, so that a reader never sees half of a put; folders are made as
-/// needed.
+/// the one of its path, which has its name and `.new`, and renames it, so that a reader never sees half
+/// of a put; folders are made as needed. So that no put meets the file of another path, paths with a
+/// part between slashes that is empty, `.` or `..` or ends in `.new` are not taken: every call with one
+/// is Failed, and so is one with a path that is a folder or lies below a file.
 #[derive(Drop)]
 pub struct FileStore<R> {
     rt: R,
@@ -50,29 +56,41 @@ impl<R: rt::Files> TileStore for FileStore<R> {
 
     ghost counted = { λ _. tt };
 
-    fn put(&mut self, alloc: Global, path: &str, bytes: &[u8]) -> Result<(), StoreFault> {
+    /// Makes the path's file have the bytes; Failed also for a path that is not taken.
+    fn put(&mut self, alloc: Global, path: &str, bytes: &[u8]) -> Result<(), StoreFault>
+        ensures effect { Puts None None path.now bytes.now result }
+        ensures cause { Counts self.old.faults self.new.faults result }
+        ensures taken { is_own_path path.now ≡ false → result ≡ Err Failed }
+    {
         let answer = write_beside(alloc, &self.rt, path, bytes);
         self.counted(answer)
     }
 
-    /// The bytes of the path's file; Failed also where it has more than `2^31` bytes.
+    /// The bytes of the path's file; Failed also where it has more than `2^31` bytes, and for a path that
+    /// is not taken.
     fn get(&mut self, alloc: Global, path: &str) -> Result<Option<Vec<u8>>, StoreFault>
         ensures effect { Gets whole None None path.now result }
         ensures cause { Counts self.old.faults self.new.faults result }
+        ensures taken { is_own_path path.now ≡ false → result ≡ Err Failed }
         ensures at_most { IfOk result (λ found. IfSome found (λ v. length v.items ≤ 2 ^ 31)) }
     {
         let answer = read_whole(alloc, &self.rt, path);
         self.counted(answer)
     }
 
-    /// A part of the path's file, however long the file is.
+    /// A part of the path's file, however long the file is; Failed also for a path that is not taken.
     fn get_part(
         &mut self,
         alloc: Global,
         path: &str,
         offset: u64,
         len: u32,
-    ) -> Result<Option<Vec<u8>>, StoreFault> {
+    ) -> Result<Option<Vec<u8>>, StoreFault>
+        ensures effect { Gets (part offset len) None None path.now result }
+        ensures cause { Counts self.old.faults self.new.faults result }
+        ensures short { IfOk result (λ found. IfSome found (λ v. length v.items ≤ len)) }
+        ensures taken { is_own_path path.now ≡ false → result ≡ Err Failed }
+    {
         let answer = read_part(alloc, &self.rt, path, offset, len);
         self.counted(answer)
     }
@@ -90,15 +108,41 @@ fn fault(error: &io::Error) -> StoreFault {
     }
 }
 
+/// Whether the part of a path names a file or folder of its own.
+fn is_part(part: &str) -> bool
+    ensures { result ≡ spec.is_part part.now }
+{
+    part != "" && part != "." && part != ".." && !part.as_bytes().ends_with(b".new")
+}
+
+/// Whether the path is one that the store takes.
+fn is_own_path(path: &str) -> bool
+    ensures { result ≡ is_own_path path.now }
+{
+    path.split('/').all(is_part)
+}
+
+/// The name of the path's file; Failed where the path is not taken.
+fn name_of(alloc: Global, path: &str) -> Result<String, StoreFault>
+    ensures { is_own_path path.now ≡ false → result ≡ Err Failed }
+{
+    if !is_own_path(path) {
+        return Err(StoreFault::Failed);
+    }
+    Ok(format!(in alloc; "tiles/{path}")?)
+}
+
 /// Writes the bytes beside the path's file, in a folder that is made as needed, and renames the file.
 fn write_beside<R: rt::Files>(
     alloc: Global,
     files: &R,
     path: &str,
     bytes: &[u8],
-) -> Result<(), StoreFault> {
-    let name = format!(in alloc; "tiles/{path}")?;
-    let beside = format!(in alloc; "tiles/{path}.new")?;
+) -> Result<(), StoreFault>
+    ensures { is_own_path path.now ≡ false → result ≡ Err Failed }
+{
+    let name = name_of(alloc, path)?;
+    let beside = format!(in alloc; "{name}.new")?;
     if let Some(folder) = Path::new(name.as_str()).parent() {
         fs::create_dir_all(files, folder).map_err(|e| fault(&e))?;
     }
@@ -106,14 +150,21 @@ fn write_beside<R: rt::Files>(
     fs::rename(files, beside.as_str(), name.as_str()).map_err(|e| fault(&e))
 }
 
-/// The file of the path; `None` where there is none.
-fn open<R: rt::Files>(alloc: Global, files: &R, path: &str) -> Result<Option<R::File>, StoreFault> {
-    let name = format!(in alloc; "tiles/{path}")?;
-    match fs::open(files, name.as_str()) {
-        Ok(file) => Ok(Some(file)),
-        Err(error) if error.kind() == io::ErrorKind::NotFound => Ok(None),
-        Err(error) => Err(fault(&error)),
+/// The file of the path; `None` where there is nothing, and Failed where there is a folder.
+fn open<R: rt::Files>(alloc: Global, files: &R, path: &str) -> Result<Option<R::File>, StoreFault>
+    ensures { is_own_path path.now ≡ false → result ≡ Err Failed }
+{
+    let name = name_of(alloc, path)?;
+    let file = match fs::open(files, name.as_str()) {
+        Ok(file) => file,
+        Err(error) if error.kind() == io::ErrorKind::NotFound => return Ok(None),
+        Err(error) => return Err(fault(&error)),
+    };
+    let about = file.metadata().map_err(|e| fault(&e))?;
+    if about.is_dir() {
+        return Err(StoreFault::Failed);
     }
+    Ok(Some(file))
 }
 
 /// The bytes of the path's file. One byte more than the longest shows that a file is longer.
@@ -122,7 +173,8 @@ fn read_whole<R: rt::Files>(
     files: &R,
     path: &str,
 ) -> Result<Option<Vec<u8>>, StoreFault>
-    ensures { IfOk result (λ found. IfSome found (λ v. length v.items ≤ 2 ^ 31)) }
+    ensures short { IfOk result (λ found. IfSome found (λ v. length v.items ≤ 2 ^ 31)) }
+    ensures taken { is_own_path path.now ≡ false → result ≡ Err Failed }
 {
     let Some(file) = open(alloc, files, path)? else {
         return Ok(None);
@@ -145,7 +197,8 @@ fn read_part<R: rt::Files>(
     offset: u64,
     len: u32,
 ) -> Result<Option<Vec<u8>>, StoreFault>
-    ensures { IfOk result (λ found. IfSome found (λ v. length v.items ≤ len)) }
+    ensures short { IfOk result (λ found. IfSome found (λ v. length v.items ≤ len)) }
+    ensures taken { is_own_path path.now ≡ false → result ≡ Err Failed }
 {
     let Some(mut file) = open(alloc, files, path)? else {
         return Ok(None);

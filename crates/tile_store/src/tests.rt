@@ -4,6 +4,7 @@ use farm_base::{Bytes, NoMemory, Text};
 use std::alloc::Global;
 use std::fs;
 use std::process::Abort;
+use std::rt::Files;
 use std::test::Fail;
 
 /// What a get gave, as a slice.
@@ -66,16 +67,10 @@ fn failing(alloc: Global) -> Result<MemStore, NoMemory> {
     MemStore::new(alloc, held, puts, gets)
 }
 
+/// The gets 0 and 3 fail, of `get` and `get_part` together, and the put 1, which leaves half.
 #[test]
-fn stores_hold_and_fail_by_number(rt: HostRuntime) -> Result<(), Fail> {
+fn memory_fails_by_number(rt: HostRuntime) -> Result<(), Fail> {
     let alloc = rt.alloc();
-    let mut memory = MemStore::new(alloc, Vec::new(alloc), Vec::new(alloc), Vec::new(alloc))?;
-    holds(&rt, &mut memory, alloc);
-    let _left_by_an_earlier_run = fs::remove_dir_all(&rt, "tiles");
-    let mut files = FileStore::new(rt.clone()?);
-    holds(&rt, &mut files, alloc);
-
-    // The gets 0 and 3 fail, of `get` and `get_part` together, and the put 1, which leaves half.
     let mut store = failing(alloc)?;
     assert!(rt; slice(&store.get(alloc, "a")) == Err(StoreFault::Failed));
     gets(&rt, &mut store, alloc, "a", b"old");
@@ -93,13 +88,44 @@ fn stores_hold_and_fail_by_number(rt: HostRuntime) -> Result<(), Fail> {
     assert!(rt; first.name.as_str() == "a" && !first.put);
     assert!(rt; second.name.as_str() == "b" && second.put);
     assert!(rt; third.name.as_str() == "a" && !third.put);
+    Ok(())
+}
 
-    // A put at a path whose folder is a file fails, and is counted.
-    assert_eq!(rt;
-        files.put(alloc, "farm.saved/x", b"1"),
-        Err(StoreFault::Failed)
-    );
-    assert_eq!(rt; files.faults(), 1);
+/// Paths that are not taken, a path that is a folder, and one below a file.
+fn other_paths_fail<R: Files>(rt: &impl Abort, store: &mut FileStore<R>, alloc: Global) {
+    assert_eq!(rt; store.put(alloc, "a", b"1"), Ok(()));
+    let refused = [
+        "", ".", "..", "../x", "/x", "x/", "map//b", "./a", "a.new", "a.new/b",
+    ];
+    for path in refused {
+        let put = store.put(alloc, path, b"3");
+        assert_eq!(rt; put, Err(StoreFault::Failed), "put at {path}");
+        let got = store.get(alloc, path);
+        assert!(rt; slice(&got) == Err(StoreFault::Failed), "get of {path}");
+    }
+    assert_eq!(rt; store.faults(), 20);
+    for path in ["map", "a/b"] {
+        let put = store.put(alloc, path, b"4");
+        assert_eq!(rt; put, Err(StoreFault::Failed), "put at {path}");
+        let got = store.get(alloc, path);
+        assert!(rt; slice(&got) == Err(StoreFault::Failed), "get of {path}");
+        let part = store.get_part(alloc, path, 0, 0);
+        assert!(rt; slice(&part) == Err(StoreFault::Failed), "part of {path}");
+    }
+    assert_eq!(rt; store.faults(), 26);
+    gets(rt, store, alloc, "a", b"1");
+}
+
+#[test]
+fn memory_and_files_hold(rt: HostRuntime) -> Result<(), Fail> {
+    let alloc = rt.alloc();
+    let mut memory = MemStore::new(alloc, Vec::new(alloc), Vec::new(alloc), Vec::new(alloc))?;
+    holds(&rt, &mut memory, alloc);
+    let _left_by_an_earlier_run = fs::remove_dir_all(&rt, "tiles");
+    let mut files = FileStore::new(rt.clone()?);
+    holds(&rt, &mut files, alloc);
+    other_paths_fail(&rt, &mut files, alloc);
+    gets(&rt, &mut files, alloc, "map/0/0/0/0/0/0.meta", b"xy");
     fs::remove_dir_all(&rt, "tiles")?;
     Ok(())
 }
