@@ -9,8 +9,10 @@ pub trait StandsFor {
     /// The part of the value that no call changes. No value of it need be made.
     type Lasting;
 
+    /// That part of a value.
     ghost lasting: { Self → Self.Lasting };
 
+    /// Whether a value stands for a history.
     ghost stands: { Self → List (ℕ × Self.Entry) → Type 0 };
 }
 
@@ -23,13 +25,13 @@ pub trait Call<T: StandsFor>: Drop {
     /// What the caller is answered.
     type Answer;
 
-    // The entry of the history, which the call and its answer determine.
+    /// The entry of the history, which the call and its answer determine.
     ghost entry: { Self → Self.Answer → T.Entry };
 
-    // What the call needs of the seat's number, of what the seat has seen and of the lasting part.
+    /// What the call needs of the seat's number, of what the seat has seen and of the lasting part.
     ghost need: { Self → ℕ → List (ℕ × T.Entry) → T.Lasting → Type 0 };
 
-    // What it promises of its answer, of the history before its entry and of the lasting part.
+    /// What it promises of its answer, of the history before its entry and of the lasting part.
     ghost promise: { Self → Self.Answer → List (ℕ × T.Entry) → T.Lasting → Type 0 };
 
     /// Runs the call on the value, which is out of the cell meanwhile: no other turn sees it.

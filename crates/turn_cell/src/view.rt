@@ -4,7 +4,9 @@ use std::snapshot::Snapshot;
 
 /// What a cell was made with: the number of turns that it gives at most, and its first value.
 pub struct Terms<T> {
+    /// The number of turns that the cell gives at most, up to `2^62`.
     pub limit: u64,
+    /// The value that the cell was made with.
     pub first: Snapshot<T>,
 }
 
@@ -19,6 +21,7 @@ impl<T> Drop for Terms<T> {
 pub struct View<T, E> {
     /// The cell's terms, or nothing where the seat was joined into the first and is spent.
     pub about: Option<Terms<T>>,
+    /// The seat's number: 0 for the first, and k for the k-th that was split from it.
     pub number: u64,
     /// The beginning of the history that it has seen.
     pub seen: LinkedList<(u64, E)>,
@@ -32,6 +35,7 @@ pub struct View<T, E> {
     pub holds: bool,
     /// 1 from the step that counts its entry to the step that serves the next.
     pub counted: u64,
+    /// It is the first seat.
     pub first: bool,
     /// How often the first seat was split.
     pub splits: u64,
