@@ -306,17 +306,20 @@ head_alone tiles t l =
 entries_back : (tiles : List (List ℕ)) (t : Tile) → AreTilesOf (meta_of t) tiles → IsTile t
     → (entry : Entry) × (entry_found (take head_len (container_of (meta_of t) tiles)) (meta_of t) (index_place t) ≡ Ok entry)
     × (take entry.size (drop entry.offset (container_of (meta_of t) tiles)) ≡ tile_of (meta_of t) tiles t)
+    × (entry.size ≡ length (tile_of (meta_of t) tiles t))
 entries_back tiles t are is =
     let p = placed tiles t are is in (
       entry_of tiles t,
       ap (λ bytes. entry_found bytes (meta_of t) (index_place t)) (head_alone tiles t p.indexed) ∙ entry_back tiles t [] are is,
       ap (λ bytes. take (entry_of tiles t).size (drop (entry_of tiles t).offset bytes)) (container_is tiles t)
           ∙ part_there (meta_of t) (index tiles t) tiles (number t) p.indexed p.below,
+      refl,
     )
 
 pub entries_come_back : EntriesComeBack
 entries_come_back m tiles t are is e =
     subst (λ (n : Meta). AreTilesOf n tiles
     → (entry : Entry) × (entry_found (take head_len (container_of n tiles)) n (index_place t) ≡ Ok entry)
-    × (take entry.size (drop entry.offset (container_of n tiles)) ≡ tile_of n tiles t))
+    × (take entry.size (drop entry.offset (container_of n tiles)) ≡ tile_of n tiles t)
+    × (entry.size ≡ length (tile_of n tiles t)))
     e (λ are'. entries_back tiles t are' is) are

@@ -1,5 +1,5 @@
 -- What holds of the containers that are written.
-use Rattle.std.specs.Prelude.{◌≡◌, ℕ, List, [], take, drop, slice_index_or, Ok}
+use Rattle.std.specs.Prelude.{◌≡◌, ℕ, List, [], length, take, drop, slice_index_or, Ok}
 use Rattle.plain_drawing.specs.declared.world.Meta.{Meta}
 use Rattle.plain_drawing.specs.declared.world.Tile.{Tile}
 use Rattle.plain_drawing.specs.World.{IsTile, meta_of, tiles_across, index_place}
@@ -16,8 +16,10 @@ abbrev pub TilesComeBack : Type 0
 TilesComeBack = (m : Meta) (tiles : List (List ℕ)) (t : Tile) → AreTilesOf m tiles → IsTile t → meta_of t ≡ m
     → tile_found (container_of m tiles) m (index_place t) ≡ Ok (tile_of m tiles t)
 
--- From a container's head alone the pair of each tile is read back, which names the tile's bytes in the container.
+-- From a container's head alone the pair of each tile is read back, which names the tile's bytes in the
+-- container, all of them and no more.
 abbrev pub EntriesComeBack : Type 0
 EntriesComeBack = (m : Meta) (tiles : List (List ℕ)) (t : Tile) → AreTilesOf m tiles → IsTile t → meta_of t ≡ m
     → (entry : Entry) × (entry_found (take head_len (container_of m tiles)) m (index_place t) ≡ Ok entry)
     × (take entry.size (drop entry.offset (container_of m tiles)) ≡ tile_of m tiles t)
+    × (entry.size ≡ length (tile_of m tiles t))

@@ -6,7 +6,7 @@ mod laws;
 mod reading;
 mod writing;
 
-pub use container::{Entry, Listing, PLACES};
+pub use container::{Entry, HEAD_BYTES, Listing, PLACES};
 pub use farm_base::MetaFault;
 pub use laws::law_tiles_come_back;
 pub use reading::{entry_in, listing, tile_in};
