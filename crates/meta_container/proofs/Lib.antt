@@ -1,3 +1,4 @@
 pub mod Entries
 pub mod Index
 pub mod Written
+pub mod Drawn

@@ -1,3 +1,4 @@
 pub mod Container
 pub mod Reading
 pub mod Laws
+pub mod Drawn

@@ -1,0 +1,171 @@
+-- The drawings of a metatile's tiles: how many, how long, and which stands at a tile's place.
+use Rattle.std.proofs.Common.{◌≡◌, ℕ, zero, suc, ◌+◌, ◌*◌, ◌/◌, ◌%◌, ◌<◌, ◌≤◌, true, ◌&&◌, List, [], ◌∷◌, ◌++◌, length, get_or, map, flat_map, Ok, refl, ap, subst, ◌∙◌, arith, length-append}
+use Rattle.std.specs.Prelude.{codes}
+use Rattle.std.specs.List.{range_with_len, list_all}
+use Rattle.std.specs.Fmt.{decimal}
+use Rattle.std.proofs.Math.Nat.{mul-le-mul_right, mul-le-mul}
+use Rattle.std.proofs.lemmas.Bool.{lt-ltb}
+use Rattle.std.proofs.lemmas.Fmt.{length-decimal-le}
+use Rattle.std.proofs.lemmas.List.{length-map, get_or-map, get_or_append_left, get_or-append-add}
+use Rattle.std.proofs.lemmas.List.FromFn.{length-map-range_with_len, get_or-map-range_with_len}
+use Rattle.std.proofs.lemmas.List.Sums.{sum_by-cons}
+use Rattle.plain_drawing.specs.declared.colour.Colour.{Colour}
+use Rattle.plain_drawing.specs.declared.world.Meta.{Meta}
+use Rattle.plain_drawing.specs.declared.world.Tile.{Tile}
+use Rattle.plain_drawing.specs.World.{IsTile, meta_of, tiles_across, index_place, window_of, centres}
+use Rattle.plain_drawing.specs.Features.{Layer}
+use Rattle.plain_drawing.specs.Styles.{MapStyle}
+use Rattle.plain_drawing.specs.Ppm.{pixel_bytes, ppm}
+use Rattle.plain_drawing.specs.Drawing as drawing
+use Rattle.plain_drawing.specs.Metatiles.{tile_at, column_of, tiles_in, tiles_of}
+use Rattle.plain_drawing.proofs.Places.{length-centres}
+use Rattle.plain_drawing.proofs.Windows.{size_bounds}
+use Rattle.meta_container.specs.Container.{bytes_of, is_stored, rank}
+use Rattle.meta_container.specs.Laws.{tile_of}
+use Rattle.meta_container.specs.Drawn.{DrawnAreTiles, DrawnInPlace, DrawnComeBack}
+use Rattle.meta_container.proofs.Written.{tiles_come_back}
+
+-- n pieces of one length, laid end to end
+length_pieces : {X : Type 0} (f : ℕ → List X) (m : ℕ) → ((k : ℕ) → length (f k) ≡ m) → (a n : ℕ) → length (flat_map f (range_with_len a n)) ≡ n * m
+length_pieces f m each a zero = omega arith
+length_pieces f m each a (suc n) =
+    length-append (f a) (flat_map f (range_with_len (a + 1) n)) ∙ omega (arith, each a, length_pieces f m each (a + 1) n)
+
+get_or_pieces : {X : Type 0} (f : ℕ → List X) (m : ℕ) → ((k : ℕ) → length (f k) ≡ m) → (a n j i : ℕ) (d : X) → i < m → j < n
+    → get_or (flat_map f (range_with_len a n)) (j * m + i) d ≡ get_or (f (a + j)) i d
+get_or_pieces f m each a zero j i d p q = absurd (omega arith)
+get_or_pieces f m each a (suc n) zero i d p q =
+    let e : 0 * m + i ≡ i = omega arith in
+    let e0 : a ≡ a + 0 = omega arith in
+    let lt : i < length (f a) = omega (arith, each a) in
+    ap (λ k. get_or (f a ++ flat_map f (range_with_len (a + 1) n)) k d) e
+    ∙ get_or_append_left (f a) (flat_map f (range_with_len (a + 1) n)) d i lt
+    ∙ ap (λ k. get_or (f k) i d) e0
+get_or_pieces f m each a (suc n) (suc j) i d p q =
+    let e : suc j * m + i ≡ length (f a) + (j * m + i) = omega (arith, each a) in
+    let e1 : a + 1 + j ≡ a + suc j = omega arith in
+    ap (λ k. get_or (f a ++ flat_map f (range_with_len (a + 1) n)) k d) e
+    ∙ get_or-append-add (f a) (flat_map f (range_with_len (a + 1) n)) (j * m + i) d
+    ∙ get_or_pieces f m each (a + 1) n j i d p (omega arith)
+    ∙ ap (λ k. get_or (f k) i d) e1
+
+-- the tiles of a metatile
+length_column : (m : Meta) (col : ℕ) → length (column_of m col) ≡ tiles_across m
+length_column m col = length-map-range_with_len (λ row. tile_at m col row) 0 (tiles_across m)
+
+length_tiles : (m : Meta) → length (tiles_in m) ≡ tiles_across m * tiles_across m
+length_tiles m = length_pieces (column_of m) (tiles_across m) (length_column m) 0 (tiles_across m)
+
+tile_in_place : (m : Meta) (col row : ℕ) (d : Tile) → col < tiles_across m → row < tiles_across m
+    → get_or (tiles_in m) (col * tiles_across m + row) d ≡ tile_at m col row
+tile_in_place m col row d p q =
+    let e : 0 + col ≡ col = omega arith in
+    get_or_pieces (column_of m) (tiles_across m) (length_column m) 0 (tiles_across m) col row d q p
+    ∙ ap (λ k. get_or (column_of m k) row d) e
+    ∙ get_or-map-range_with_len (λ k. tile_at m col k) 0 (tiles_across m) row row d q (omega arith)
+
+-- a tile is the one of its column and row in its metatile
+abbrev tile_of_numbers : ℕ → ℕ → ℕ → Tile
+tile_of_numbers z x y = record { z = z; x = x; y = y }
+
+tile_is : (z x y w v : ℕ) → w ≡ x → v ≡ y → tile_of_numbers z w v ≡ tile_of_numbers z x y
+tile_is z x y w v e f = rw (e, f) refl
+
+-- the bytes of a picture
+length_pixels : (pixels : List Colour) → length (flat_map pixel_bytes pixels) ≡ 3 * length pixels
+length_pixels [] = refl
+length_pixels (c ∷ cs) = let e = length_pixels cs in omega arith
+
+-- the bytes of a head with these digits, and what follows it
+length_head : (digits rest : List ℕ) → length (codes "P6\n" ++ digits ++ codes " " ++ digits ++ codes "\n255\n" ++ rest) ≡ 9 + length digits + length digits + length rest
+length_head digits rest =
+    length-append (codes "P6\n" ++ digits ++ codes " " ++ digits ++ codes "\n255\n") rest
+    ∙ ap (λ n. n + length rest)
+    (length-append (codes "P6\n" ++ digits ++ codes " " ++ digits) (codes "\n255\n")
+    ∙ ap (λ n. n + 5)
+    (length-append (codes "P6\n" ++ digits ++ codes " ") digits
+    ∙ ap (λ n. n + length digits) (length-append (codes "P6\n" ++ digits) (codes " ") ∙ ap (λ n. n + 1) (length-append (codes "P6\n") digits))))
+    ∙ sum (length digits) (length rest)
+  where
+    sum : (d r : ℕ) → 3 + d + 1 + d + 5 + r ≡ 9 + d + d + r
+    sum d r = omega arith
+
+length_ppm : (size : ℕ) (pixels : List Colour) → size ≤ 512 → length pixels ≡ size * size → length (ppm size size pixels) ≤ 786447
+length_ppm size pixels few count =
+    let d : length (decimal size) ≤ 3 = length-decimal-le 3 size (omega arith) (omega arith) (omega arith) in
+    let p = length_pixels pixels in
+    let s : size * size ≤ 512 * 512 = mul-le-mul few few in
+    most (length (ppm size size pixels)) (length (decimal size)) (length (flat_map pixel_bytes pixels)) (length_head (decimal size) (flat_map pixel_bytes pixels)) d (omega (arith, p, count, s))
+  where
+    most : (n digits rest : ℕ) → n ≡ 9 + digits + digits + rest → digits ≤ 3 → rest ≤ 786432 → n ≤ 786447
+    most n digits rest e d r = omega arith
+
+length_drawn : (style : MapStyle) (size : ℕ) (t : Tile) (data_layers : List Layer) → size ≤ 512 → length (drawing.tile_of style size t data_layers) ≤ 786447
+length_drawn style size t data_layers few =
+    length_ppm size (map (drawing.colour_at style size t.z data_layers) (centres (window_of t size))) few
+    (length-map (centres (window_of t size)) (drawing.colour_at style size t.z data_layers) ∙ length-centres (window_of t size))
+
+stored_drawn : (style : MapStyle) (size : ℕ) (t : Tile) (data_layers : List Layer) → is_stored (drawing.tile_of style size t data_layers) ≡ true
+stored_drawn style size t data_layers = lt-ltb 0 (length (drawing.tile_of style size t data_layers)) (omega arith)
+
+-- drawings one after another
+all_stored : (style : MapStyle) (size : ℕ) (data_layers : List Layer) (ts : List Tile) → list_all is_stored (map (λ t. drawing.tile_of style size t data_layers) ts) ≡ true
+all_stored style size data_layers [] = refl
+all_stored style size data_layers (t ∷ ts) =
+    ap (λ b. b && list_all is_stored (map (λ u. drawing.tile_of style size u data_layers) ts)) (stored_drawn style size t data_layers)
+    ∙ all_stored style size data_layers ts
+
+all_short : (style : MapStyle) (size : ℕ) (data_layers : List Layer) (ts : List Tile) → size ≤ 512
+    → bytes_of (map (λ t. drawing.tile_of style size t data_layers) ts) ≤ length ts * 786447
+all_short style size data_layers [] few = omega arith
+all_short style size data_layers (t ∷ ts) few =
+    let one = length_drawn style size t data_layers few in
+    let more = all_short style size data_layers ts few in
+    let sum = sum_by-cons (λ (tile : List ℕ). length tile) (drawing.tile_of style size t data_layers) (map (λ u. drawing.tile_of style size u data_layers) ts) in
+    omega (arith, sum, one, more)
+
+pub drawn_are_tiles : DrawnAreTiles
+drawn_are_tiles style size m data_layers is size_is =
+    let few = (size_bounds size size_is).1 in
+    let across : tiles_across m ≤ 8 = omega arith in
+    let square : tiles_across m * tiles_across m ≤ 8 * 8 = mul-le-mul across across in
+    let count = length-map (tiles_in m) (λ t. drawing.tile_of style size t data_layers) ∙ length_tiles m in
+    let short = all_short style size data_layers (tiles_in m) few in
+    let tiles = length_tiles m in
+    let most : length (tiles_in m) ≤ 64 = omega (arith, tiles, square) in
+    record { meta = is; count = count; stored = all_stored style size data_layers (tiles_in m); short = omega (arith, short, most) }
+
+own_place : (style : MapStyle) (size : ℕ) (data_layers : List Layer) (t : Tile) → IsTile t
+    → tile_of (meta_of t) (tiles_of style size (meta_of t) data_layers) t ≡ drawing.tile_of style size t data_layers
+own_place style size data_layers t is =
+    let x = is.x_fits in
+    let y = is.y_fits in
+    let col : index_place t / 8 ≡ t.x % 8 = omega arith in
+    let row : index_place t % 8 ≡ t.y % 8 = omega arith in
+    let col_fits : t.x % 8 < tiles_across (meta_of t) = omega arith in
+    let row_fits : t.y % 8 < tiles_across (meta_of t) = omega arith in
+    let place : rank (tiles_across (meta_of t)) (index_place t) ≡ t.x % 8 * tiles_across (meta_of t) + t.y % 8 =
+    ap (λ n. n * tiles_across (meta_of t) + index_place t % 8) col ∙ ap (λ n. t.x % 8 * tiles_across (meta_of t) + n) row in
+    let there = tile_in_place (meta_of t) (t.x % 8) (t.y % 8) t col_fits row_fits in
+    let cols : t.x / 8 * 8 + t.x % 8 ≡ t.x = omega arith in
+    let rows : t.y / 8 * 8 + t.y % 8 ≡ t.y = omega arith in
+    let across : tiles_across (meta_of t) ≤ 8 = omega arith in
+    let below : t.x % 8 * tiles_across (meta_of t) + t.y % 8 < length (tiles_in (meta_of t)) =
+    below_all (tiles_across (meta_of t)) (t.x % 8) (t.y % 8) (length (tiles_in (meta_of t))) col_fits row_fits (length_tiles (meta_of t)) in
+    ap (λ n. get_or (tiles_of style size (meta_of t) data_layers) n []) place
+    ∙ get_or-map (λ u. drawing.tile_of style size u data_layers) (tiles_in (meta_of t)) (t.x % 8 * tiles_across (meta_of t) + t.y % 8) t [] below
+    ∙ ap (λ u. drawing.tile_of style size u data_layers) (there ∙ tile_is t.z t.x t.y (t.x / 8 * 8 + t.x % 8) (t.y / 8 * 8 + t.y % 8) cols rows)
+  where
+    below_all : (a p q n : ℕ) → p < a → q < a → n ≡ a * a → p * a + q < n
+    below_all a p q n h g e =
+        let m : (p + 1) * a ≤ a * a = mul-le-mul_right a (omega arith) in
+        omega arith
+
+pub drawn_in_place : DrawnInPlace
+drawn_in_place style size m data_layers t is e =
+    subst (λ (n : Meta). tile_of n (tiles_of style size n data_layers) t ≡ drawing.tile_of style size t data_layers) e (own_place style size data_layers t is)
+
+pub drawn_come_back : DrawnComeBack
+drawn_come_back style size m data_layers t m_is size_is is e =
+    tiles_come_back m (tiles_of style size m data_layers) t (drawn_are_tiles style size m data_layers m_is size_is) is e
+    ∙ ap Ok (drawn_in_place style size m data_layers t is e)
