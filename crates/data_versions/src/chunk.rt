@@ -52,6 +52,7 @@ fn wide_box(feature: &Feature) -> Bounds
     ensures value { result ≡ box_of feature.now }
     ensures wide { IsWide result }
 {
+    // Read for what `geometry` ensures: the shape has a point.
     let _geometry = feature.geometry();
     feature.bbox()
 }

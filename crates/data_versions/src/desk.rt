@@ -47,6 +47,7 @@ fn put_all<'a>(bench: &mut Bench<'a>, place: u32, puts: &'a [Feature]) -> Result
             return Err(ApplyFault::TooMany(place));
         }
     }
+    // Read for what `len` ensures: the bench holds at most 1,000,000 features.
     let _count = bench.len();
     Ok(())
 }
@@ -132,6 +133,7 @@ impl<'a> Desk<'a> {
         match &self.bench {
             None => Ok(Arc::try_clone(self.shared)?),
             Some(bench) => {
+                // Read for what `len` ensures: the ids are distinct, and there are at most 1,000,000 features.
                 let _count = bench.len();
                 let name = Text::of(alloc, layer.name())?;
                 let changed = ChunkedLayer::of(alloc, name, bench.chunks(alloc)?)?;
