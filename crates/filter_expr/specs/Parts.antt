@@ -1,9 +1,34 @@
--- The values of chains as lists of values, from the left. Words of the loops that compute them; the meaning of a filter is that of its tree.
+-- The values of chains as lists of values, from the left. Words of the functions that compute them; the meaning of a filter is that of its tree.
 use Rattle.std.specs.Prelude.{List, [], ◌∷◌}
 use Rattle.farm_base.specs.declared.Value.{Value}
-use Rattle.plain_drawing.specs.declared.expr.SumSign.{SumSign}
-use Rattle.plain_drawing.specs.declared.expr.ProductSign.{ProductSign}
+use Rattle.farm_base.specs.declared.Attr.{Attr}
+use Rattle.plain_drawing.specs.declared.Expr.{Expr}
+use Rattle.plain_drawing.specs.declared.SumPart.{SumPart, fold-SumPart}
+use Rattle.plain_drawing.specs.declared.SumSign.{SumSign}
+use Rattle.plain_drawing.specs.declared.ProductPart.{ProductPart, fold-ProductPart}
+use Rattle.plain_drawing.specs.declared.ProductSign.{ProductSign}
 use Rattle.plain_drawing.specs.Values.{sum_of, product_of}
+use Rattle.plain_drawing.specs.Filters.{FilterTree, tree_of, tree_value, tree_step, sum_part_step, product_part_step}
+
+-- the value of an expression's tree
+abbrev pub valued : List Attr → Expr → Value
+valued attrs e = tree_value attrs (tree_of e)
+
+-- a later part of a sum as its sign and its tree
+abbrev pub tree_of_sum : SumPart → SumSign × FilterTree
+tree_of_sum = fold-SumPart FilterTree (ProductSign × FilterTree) (SumSign × FilterTree) tree_step product_part_step sum_part_step
+
+-- a later part of a product as its sign and its tree
+abbrev pub tree_of_product : ProductPart → ProductSign × FilterTree
+tree_of_product = fold-ProductPart FilterTree (ProductSign × FilterTree) (SumSign × FilterTree) tree_step product_part_step sum_part_step
+
+-- a later part of a sum as its sign and its value
+abbrev pub sum_part : List Attr → SumPart → SumSign × Value
+sum_part attrs p = ((tree_of_sum p).0, tree_value attrs (tree_of_sum p).1)
+
+-- a later part of a product as its sign and its value
+abbrev pub product_part : List Attr → ProductPart → ProductSign × Value
+product_part attrs p = ((tree_of_product p).0, tree_value attrs (tree_of_product p).1)
 
 -- a value with the later parts of a sum, each with its sign
 abbrev pub sum_value : Value → List (SumSign × Value) → Value

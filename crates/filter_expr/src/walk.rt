@@ -1,53 +1,31 @@
 //! The value of a filter expression for the attributes of a feature.
-ghost use Rattle.std.specs.Prelude.{◌≡◌};
+ghost use Rattle.std.specs.Prelude.{◌≡◌, map};
+ghost use Rattle.std.specs.List.{list_any, list_all};
+ghost use Rattle.plain_drawing.specs.Values.{truth};
 ghost use Rattle.plain_drawing.specs.Filters.{tree_of, tree_value, tree_holds};
+ghost use Rattle.filter_expr.specs.Parts.{valued, sum_part, product_part, sum_value, product_value};
 ghost use Rattle.filter_expr.specs.Shown.{plain};
 
 use crate::value::{ValueRef, attribute, compares, negated, product_of, sum_of, truth};
 use farm_base::Attr;
-use plain_drawing::Expr;
+use plain_drawing::{Expr, ProductPart, SumPart};
 
 /// The value of the filter for these attributes; takes no memory. Operators are those of Mapnik's
 /// filter expressions, with values of this farm's own: null, truth values, whole numbers and texts.
-#[tactic(auto, using(crate::proofs::Nodes::nodes, crate::proofs::Turns::any_yes, crate::proofs::Turns::any_no, crate::proofs::Turns::all_yes, crate::proofs::Turns::all_no, crate::proofs::Turns::sum_here, crate::proofs::Turns::product_here))]
+#[cycle(eval)]
+#[tactic(auto, using(crate::proofs::Nodes::nodes))]
 pub fn eval<'a>(e: &'a Expr, attrs: &'a [Attr]) -> ValueRef<'a>
     ensures { plain result ≡ tree_value attrs.now (tree_of e.now) }
 {
     match e {
-        Expr::Or(parts) => {
-            for part in parts {
-                if truth(eval(part, attrs)) {
-                    return ValueRef::Truth(true);
-                }
-            }
-            ValueRef::Truth(false)
-        }
-        Expr::And(parts) => {
-            for part in parts {
-                if !truth(eval(part, attrs)) {
-                    return ValueRef::Truth(false);
-                }
-            }
-            ValueRef::Truth(true)
-        }
+        Expr::Or(parts) => ValueRef::Truth(any_of(parts, attrs)),
+        Expr::And(parts) => ValueRef::Truth(all_of(parts, attrs)),
         Expr::Not(part) => ValueRef::Truth(!truth(eval(part, attrs))),
         Expr::Compare(a, sign, b) => {
             ValueRef::Truth(compares(*sign, eval(a, attrs), eval(b, attrs)))
         }
-        Expr::Sum(first, parts) => {
-            let mut v = eval(first, attrs);
-            for later in parts {
-                v = sum_of(later.sign, v, eval(&later.part, attrs));
-            }
-            v
-        }
-        Expr::Product(first, parts) => {
-            let mut v = eval(first, attrs);
-            for later in parts {
-                v = product_of(later.sign, v, eval(&later.part, attrs));
-            }
-            v
-        }
+        Expr::Sum(first, parts) => after_sums(eval(first, attrs), parts, attrs),
+        Expr::Product(first, parts) => after_products(eval(first, attrs), parts, attrs),
         Expr::Negate(part) => negated(eval(part, attrs)),
         Expr::Name(name) => attribute(name.as_str(), attrs),
         Expr::Text(text) => ValueRef::Text(text.as_str()),
@@ -55,6 +33,64 @@ pub fn eval<'a>(e: &'a Expr, attrs: &'a [Attr]) -> ValueRef<'a>
         Expr::Truth(b) => ValueRef::Truth(*b),
         Expr::Null => ValueRef::Null,
     }
+}
+
+/// Whether one of the parts counts as true.
+#[cycle(eval)]
+#[tactic(auto, using(crate::proofs::Turns::any_yes, crate::proofs::Turns::any_no))]
+fn any_of(parts: &[Expr], attrs: &[Attr]) -> bool
+    ensures { result ≡ list_any truth (map (valued attrs.now) parts.now) }
+{
+    for part in parts {
+        if truth(eval(part, attrs)) {
+            return true;
+        }
+    }
+    false
+}
+
+/// Whether each of the parts counts as true.
+#[cycle(eval)]
+#[tactic(auto, using(crate::proofs::Turns::all_yes, crate::proofs::Turns::all_no))]
+fn all_of(parts: &[Expr], attrs: &[Attr]) -> bool
+    ensures { result ≡ list_all truth (map (valued attrs.now) parts.now) }
+{
+    for part in parts {
+        if !truth(eval(part, attrs)) {
+            return false;
+        }
+    }
+    true
+}
+
+/// The first value of a sum with its later parts taken in, from the left.
+#[cycle(eval)]
+#[tactic(auto, using(crate::proofs::Turns::sum_here))]
+fn after_sums<'a>(first: ValueRef<'a>, parts: &'a [SumPart], attrs: &'a [Attr]) -> ValueRef<'a>
+    ensures { plain result ≡ sum_value (plain first.entry) (map (sum_part attrs.now) parts.now) }
+{
+    let mut v = first;
+    for later in parts {
+        v = sum_of(later.sign, v, eval(&later.part, attrs));
+    }
+    v
+}
+
+/// The first value of a product with its later parts taken in, from the left.
+#[cycle(eval)]
+#[tactic(auto, using(crate::proofs::Turns::product_here))]
+fn after_products<'a>(
+    first: ValueRef<'a>,
+    parts: &'a [ProductPart],
+    attrs: &'a [Attr],
+) -> ValueRef<'a>
+    ensures { plain result ≡ product_value (plain first.entry) (map (product_part attrs.now) parts.now) }
+{
+    let mut v = first;
+    for later in parts {
+        v = product_of(later.sign, v, eval(&later.part, attrs));
+    }
+    v
 }
 
 /// Whether the filter's value counts as true for these attributes; takes no memory.
