@@ -50,6 +50,19 @@ next_pixel w f xs now next j i hi hj so_far step =
     ∙ next_changed f (centres w) xs (j * w.cols + i) d within
     ∙ ap (λ n. at_centres f (take n (centres w)) xs) e
 
+-- no pixel of a row is changed yet, and all are
+pub row_begins : (w : Window) (f : Point → Colour → Colour) (xs now : List Colour) (j : ℕ)
+    → now ≡ at_centres f (take (j * w.cols) (centres w)) xs → now ≡ at_centres f (take (j * w.cols + 0) (centres w)) xs
+row_begins w f xs now j so_far =
+    let e : j * w.cols ≡ j * w.cols + 0 = omega arith in
+    so_far ∙ ap (λ n. at_centres f (take n (centres w)) xs) e
+
+pub row_ends : (w : Window) (f : Point → Colour → Colour) (xs now : List Colour) (j i : ℕ) → i ≡ w.cols
+    → now ≡ at_centres f (take (j * w.cols + i) (centres w)) xs → now ≡ at_centres f (take ((j + 1) * w.cols) (centres w)) xs
+row_ends w f xs now j i all so_far =
+    let e : j * w.cols + i ≡ (j + 1) * w.cols = omega arith in
+    so_far ∙ ap (λ n. at_centres f (take n (centres w)) xs) e
+
 -- all rows are the whole step
 pub all_rows : (w : Window) (f : Point → Colour → Colour) (xs now : List Colour) (j : ℕ) → j ≡ w.rows
     → now ≡ at_centres f (take (j * w.cols) (centres w)) xs → now ≡ at_centres f (centres w) xs

@@ -79,6 +79,7 @@ fn draw_features(
 {
     know_rules(style.rules.as_slice());
     let near = around(w);
+    // Read for what `len` ensures: the number of features is a `u32`, so a place past each of them is one too.
     let _count = features.len();
     let mut place = 0;
     while let Some(next) = features.next_near(place, near.west, near.north, near.east, near.south) {

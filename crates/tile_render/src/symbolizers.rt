@@ -66,26 +66,33 @@ fn half_of(width: u64, pixel: u32) -> u32
     (width * u64::from(pixel) / 200) as u32
 }
 
+/// What a mark is: its colour, its width and height in hundredths of a pixel, and the opacity in thousandths.
+#[derive(Clone, Copy)]
+struct Dot {
+    colour: Colour,
+    width: u64,
+    height: u64,
+    opacity: u32,
+}
+
 /// Draws an ellipse at each point of a feature that is points; other features have no marks.
 fn mark_feature(
     alloc: Global,
     w: Window,
     part: Part,
     shape: &Feature,
-    fill: Colour,
-    sides: (u64, u64),
-    opacity: u32,
+    dot: Dot,
     image: &mut Image,
 ) -> Result<(), NoMemory>
     requires window { IsWindow w }
     requires cols { image.old.cols ≡ w.cols }
     requires rows { image.old.rows ≡ w.rows }
-    requires width { sides.0 ≤ 6400 }
-    requires height { sides.1 ≤ 6400 }
-    requires opacity { opacity ≤ 1000 }
+    requires width { dot.width ≤ 6400 }
+    requires height { dot.height ≤ 6400 }
+    requires opacity { dot.opacity ≤ 1000 }
     requires part { IsPart w part }
-    requires near { HoldsCovered w part shape.now (paint.Markers fill sides.0 sides.1 opacity) }
-    ensures drawn { OnOk result (image.new ≡ with_symbolizer w (feature shape.now) image.old (paint.Markers fill sides.0 sides.1 opacity)) }
+    requires near { HoldsCovered w part shape.now (paint.Markers dot.colour dot.width dot.height dot.opacity) }
+    ensures drawn { OnOk result (image.new ≡ with_symbolizer w (feature shape.now) image.old (paint.Markers dot.colour dot.width dot.height dot.opacity)) }
     ensures cols { image.new.cols ≡ image.old.cols }
     ensures rows { image.new.rows ≡ image.old.rows }
 {
@@ -93,10 +100,10 @@ fn mark_feature(
         Geometry::Points(points) => {
             let near = part_of(w, part);
             let mut mask = Mask::new(alloc, near.cols, near.rows)?;
-            let a = half_of(sides.0, w.pixel);
-            let b = half_of(sides.1, w.pixel);
+            let a = half_of(dot.width, w.pixel);
+            let b = half_of(dot.height, w.pixel);
             mark_points(points, a, b, near, &mut mask);
-            paint_part(w, part, &mask, fill, opacity, image);
+            paint_part(w, part, &mask, dot.colour, dot.opacity, image);
             Ok(())
         }
         Geometry::Lines(_) => Ok(()),
@@ -197,7 +204,15 @@ fn draw_on_part(
             width,
             height,
             opacity,
-        } => mark_feature(alloc, w, part, shape, fill, (width, height), opacity, image),
+        } => {
+            let dot = Dot {
+                colour: fill,
+                width,
+                height,
+                opacity,
+            };
+            mark_feature(alloc, w, part, shape, dot, image)
+        }
         Symbolizer::Raster { .. } => Ok(()),
     }
 }

@@ -1,16 +1,14 @@
-use Rattle.std.proofs.Common.{◌∙◌, ap, arith}
+use Rattle.std.proofs.Common.{◌∙◌, arith}
 use Rattle.plain_drawing.specs.declared.style.Symbolizer.TheVariants as paint
 use Rattle.plain_drawing.specs.Drawing.{raster_over}
-use Rattle.tile_render.proofs.Pixels.{next_pixel, whole_step}
+use Rattle.tile_render.proofs.Pixels.{whole_step}
 use Rattle.tile_render.proofs.grids.blend_grid.Goals as goal
 
-pub loop-i-preserved : goal.loop-i-preserved
-loop-i-preserved c = record {
-  cols = ap (λ m. m.cols) c.blend_pixel.ensures ∙ c.loop-i.invariant.cols;
-  rows = ap (λ m. m.rows) c.blend_pixel.ensures ∙ c.loop-i.invariant.rows;
-  pixels =
-      next_pixel c.args.w (λ p d. raster_over c.args.grid.now p d (paint.Raster c.args.opacity)) c.args.image.now.pixels _ _ c.loop-j.j c.loop-i.i c.loop-i-test.true c.loop-j-test.true
-      c.loop-i.invariant.pixels (ap (λ m. m.pixels) c.blend_pixel.ensures);
+pub loop-j-preserved : goal.loop-j-preserved
+loop-j-preserved c = record {
+  cols = c.blend_row.ensures.cols ∙ c.loop-j.invariant.cols;
+  rows = c.blend_row.ensures.rows ∙ c.loop-j.invariant.rows;
+  pixels = c.blend_row.ensures.painted c.args.image.now.pixels c.loop-j.invariant.pixels;
 }
 
 pub returns : goal.returns

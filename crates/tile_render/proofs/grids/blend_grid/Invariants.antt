@@ -1,4 +1,4 @@
-use Rattle.std.proofs.Common.{◌≡◌, ◌+◌, ◌*◌, take}
+use Rattle.std.proofs.Common.{◌≡◌, ◌*◌, take}
 use Rattle.plain_drawing.specs.declared.style.Symbolizer.TheVariants as paint
 use Rattle.plain_drawing.specs.World.{centres}
 use Rattle.plain_drawing.specs.Canvas.{at_centres}
@@ -10,11 +10,4 @@ invariant-loop-j l = record {
   cols : l.image.cols ≡ l.fn.image.cols;
   rows : l.image.rows ≡ l.fn.image.rows;
   pixels : l.image.pixels ≡ at_centres (λ c d. raster_over l.grid c d (paint.Raster l.opacity)) (take (l.j * l.w.cols) (centres l.w)) l.fn.image.pixels;
-}
-
-abbrev pub invariant-loop-i : goal.invariant-loop-i
-invariant-loop-i l = record {
-  cols : l.image.cols ≡ l.fn.image.cols;
-  rows : l.image.rows ≡ l.fn.image.rows;
-  pixels : l.image.pixels ≡ at_centres (λ c d. raster_over l.grid c d (paint.Raster l.opacity)) (take (l.j * l.w.cols + l.i) (centres l.w)) l.fn.image.pixels;
 }

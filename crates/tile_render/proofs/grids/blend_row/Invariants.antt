@@ -1,0 +1,15 @@
+use Rattle.std.proofs.Common.{◌≡◌, ◌+◌, ◌*◌, List, take}
+use Rattle.plain_drawing.specs.declared.colour.Colour.{Colour}
+use Rattle.plain_drawing.specs.declared.style.Symbolizer.TheVariants as paint
+use Rattle.plain_drawing.specs.World.{centres}
+use Rattle.plain_drawing.specs.Canvas.{at_centres}
+use Rattle.plain_drawing.specs.Drawing.{raster_over}
+use Rattle.tile_render.proofs.grids.blend_row.Given as goal
+
+abbrev pub invariant-loop-i : goal.invariant-loop-i
+invariant-loop-i l = record {
+  cols : l.image.cols ≡ l.fn.image.cols;
+  rows : l.image.rows ≡ l.fn.image.rows;
+  painted : (start : List Colour) → l.fn.image.pixels ≡ at_centres (λ c d. raster_over l.grid c d (paint.Raster l.opacity)) (take (l.j * l.w.cols) (centres l.w)) start
+      → l.image.pixels ≡ at_centres (λ c d. raster_over l.grid c d (paint.Raster l.opacity)) (take (l.j * l.w.cols + l.i) (centres l.w)) start;
+}
