@@ -4,7 +4,7 @@ use Rattle.std.specs.Option.{ok_or, is_some}
 use Rattle.std.specs.List.{list_any}
 use Rattle.std.specs.Str.{bytes_eq}
 use Rattle.serde_json.specs.Data.{Data, object, Items, Members, no_members, member, Num, unsigned, negative, float}
-use Rattle.serde_json.specs.Find.{as_object, as_array, as_str, as_bool, as_number, as_i64}
+use Rattle.serde_json.specs.Find.{as_object, as_array, as_str, as_number, as_i64}
 use Rattle.serde_json.specs.Events.{items_len}
 use Rattle.reading.specs.Steps.{◌>>=◌, check}
 
@@ -21,10 +21,6 @@ or_value default read (Some d) = read d
 -- a text
 abbrev pub text : {E : Type 0} → E → Data → Result (List ℕ) E
 text fault d = ok_or (as_str d) fault
-
--- a truth value
-abbrev pub truth : {E : Type 0} → E → Data → Result Bool E
-truth fault d = ok_or (as_bool d) fault
 
 -- a number that has to be whole and within two bounds: shape where it is not whole, range where it lies outside
 abbrev pub integer_within : {E : Type 0} → E → E → ℕ → ℕ → Option Num → Result ℕ E

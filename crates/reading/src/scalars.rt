@@ -13,13 +13,6 @@ pub fn text<E: Drop>(value: &Value, fault: E) -> Result<&str, E>
     value.as_str().ok_or(fault)
 }
 
-/// The truth value, or the fault where the value is none.
-pub fn truth<E: Drop>(value: &Value, fault: E) -> Result<bool, E>
-    ensures { result ≡ spec.truth fault (view value.now) }
-{
-    value.as_bool().ok_or(fault)
-}
-
 /// The whole number: `shape` where the value is none (a fraction, an exponent and `-0` make a number
 /// none), `range` where it is one below `low` or above `high`.
 pub fn whole<E: Drop>(value: &Value, shape: E, range: E, low: u64, high: u64) -> Result<u64, E>

@@ -1,5 +1,5 @@
--- An object is opened with the keys of its kind; and what follows from lists that were read.
-use Rattle.std.specs.Prelude.{◌≡◌, ℕ, true, List, [], Option, Some, None, option_map, is_some, Result, refl}
+-- What follows from lists that were read.
+use Rattle.std.specs.Prelude.{◌≡◌, ℕ, true, List, [], Option, Some, None, option_map, is_some, refl}
 use Rattle.std.specs.List.{list_all}
 use Rattle.farm_base.specs.Earlier.{each_after}
 use Rattle.plain_drawing.specs.declared.expr.Expr.{Expr}
@@ -7,19 +7,7 @@ use Rattle.plain_drawing.specs.declared.style.Symbolizer.{Symbolizer}
 use Rattle.plain_drawing.specs.Filters.{tree_of}
 use Rattle.plain_drawing.specs.Styles.{Style, style_has, is_paint}
 use Rattle.reading.proofs.Steps.{all_each}
-use Rattle.std.proofs.Common.{◌∙◌, ap, sym}
-use Rattle.serde_json.specs.Data.{Data}
-use Rattle.reading.specs.Values.{opened}
-use Rattle.style_objects.specs.declared.fault.At.{At}
-use Rattle.style_objects.specs.declared.fault.StyleFault.{StyleFault}
-use Rattle.style_objects.specs.declared.fault.StyleFault.TheVariants as fault
-use Rattle.style_objects.specs.declared.keys.Object.{Object}
-use Rattle.style_objects.specs.Keys.{keys_of, opened_as}
-
-pub opened_kind : (kind k : Object) (at : At) (d : Data) (r : Result (Unit {0}) StyleFault)
-    → kind ≡ k → r ≡ opened (fault.Shape at) (fault.Unsupported at) (keys_of k) d → r ≡ opened_as kind at d
-unfolding opened_as
-opened_kind kind k at d r e h = h ∙ ap (λ x. opened (fault.Shape at) (fault.Unsupported at) (keys_of x) d) (sym e)
+use Rattle.std.proofs.Common.{◌∙◌, sym}
 
 -- lists whose items pass by themselves
 pub paints_fit : (xs : List Symbolizer) → each_after (λ before s. is_paint s) [] xs ≡ true → list_all is_paint xs ≡ true

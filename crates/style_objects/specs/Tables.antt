@@ -25,7 +25,7 @@ use Rattle.style_objects.specs.Keys.{opened_as}
 use Rattle.style_objects.specs.Kinds.{a_colour, a_scale, a_bound, an_opacity, a_width, a_text_to, any_text, a_mode, a_cap, a_number, a_filter, an_else, list_or_none}
 use Rattle.style_objects.specs.Places.{at_map, at_style, at_rule, at_symbolizer, at_layer, at_raster}
 
--- the background of a map that says none
+-- the background of a map that says none: this project's own choice, for Mapnik's is transparent
 abbrev pub white : Colour
 white = rgb 255 255 255
 
