@@ -27,7 +27,7 @@ fn attr(alloc: Global, name: &str, value: Value) -> Result<Attr, NoMemory> {
     })
 }
 
-// The fault of a feature of one path, by how it is made a shape.
+// The fault of a feature with this shape and these attributes, if it has one.
 fn fault_of(geometry: Geometry, attrs: Vec<Attr>) -> Option<GeoFault> {
     make_feature(1, geometry, attrs).err()
 }
@@ -72,9 +72,9 @@ fn parts_that_make_no_feature(rt: HostRuntime) -> Result<(), Fail> {
         fault_of(empty, Vec::new(alloc)),
         Some(GeoFault::TooFewPoints)
     );
-    let line = polygon(alloc, path(alloc, &[(0, 0), (WORLD + 1, 0)])?)?;
+    let short_ring = polygon(alloc, path(alloc, &[(0, 0), (WORLD + 1, 0)])?)?;
     assert_eq!(rt;
-        fault_of(line, Vec::new(alloc)),
+        fault_of(short_ring, Vec::new(alloc)),
         Some(GeoFault::TooFewPoints)
     );
     let outside = Geometry::Points(path(alloc, &[(WORLD, WORLD), (0, WORLD + 1)])?);
