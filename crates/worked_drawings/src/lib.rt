@@ -11,6 +11,7 @@ ghost use Rattle.plain_drawing.specs.declared.shapes.LineCap.TheVariants.{Butt, 
 ghost use Rattle.plain_drawing.specs.declared.style.FilterMode.TheVariants.{All, First};
 ghost use Rattle.plain_drawing.specs.declared.shapes.Geometry.TheVariants as shape;
 ghost use Rattle.plain_drawing.specs.declared.style.Symbolizer.TheVariants as paint;
+ghost use Rattle.plain_drawing.specs.Strokes.{half_of};
 ghost use Rattle.plain_drawing.specs.Rules.{denominator_of, is_active};
 ghost use Rattle.plain_drawing.specs.Drawing.{covers};
 ghost use Rattle.worked_drawings.specs.Worked.{red, blue, lime, white, pale_red, pale_blue, rows, picture, at, box, square, filled, stroked, outlined, spotted, level, level_doubled, level_back, dot, map_of, land, fill, met, sky, over_white, drawn_world};
@@ -52,10 +53,18 @@ pub fn worked_polygons()
     ensures shared_edge { drawn_world (map_of (codes "land") (paint.Polygon red 500) [] []) (land (box 0 0 17 32 ∷ box 17 0 32 32 ∷ [])) ≡ picture (rows 16 (replicate 16 pale_red)) }
 {}
 
-/// How many pixels are covered by fills, strokes with each cap, outlines and marks. Of a square whose corners
-/// are centres the north and west edges belong to it, and the south and east ones do not.
+/// Half of each width that is used here, in world units, and how many pixels are covered by fills, strokes with
+/// each cap, outlines and marks. Of a square whose corners are centres the north and west edges belong to it, and
+/// the south and east ones do not.
 #[tactic(auto, unfolding(plain_drawing::specs::Strokes::long, plain_drawing::specs::Strokes::along, plain_drawing::specs::Strokes::beside, plain_drawing::specs::Strokes::reach, plain_drawing::specs::Strokes::is_near, plain_drawing::specs::Strokes::in_body, plain_drawing::specs::Strokes::in_disk, plain_drawing::specs::Strokes::before_start, plain_drawing::specs::Strokes::past_end, plain_drawing::specs::Strokes::in_block, plain_drawing::specs::Strokes::in_mark))]
 pub fn worked_covers()
+    ensures half_of_300 { half_of 300 (2 ^ 26) ≡ 100663296 }
+    ensures half_of_150 { half_of 150 (2 ^ 26) ≡ 50331648 }
+    ensures half_of_250 { half_of 250 (2 ^ 26) ≡ 83886080 }
+    ensures half_of_100 { half_of 100 (2 ^ 26) ≡ 33554432 }
+    ensures half_of_400 { half_of 400 (2 ^ 26) ≡ 134217728 }
+    ensures half_of_200 { half_of 200 (2 ^ 26) ≡ 67108864 }
+    ensures half_of_24 { half_of 24 8 ≡ 0 }
     ensures ring_in_ring { filled (square 2 14 ∷ square 6 10 ∷ []) ≡ 128 }
     ensures ring_twice { filled (square 2 14 ∷ square 2 14 ∷ []) ≡ 0 }
     ensures corners_at_centres { filled (box 9 9 25 25 ∷ []) ≡ 64 }
