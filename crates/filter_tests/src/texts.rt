@@ -102,7 +102,7 @@ fn read_as(alloc: Global, text: &str) -> Result<String, AllocError> {
 }
 
 /// Texts with their trees or faults.
-const READINGS: [(&str, &str); 93] = [
+const READINGS: [(&str, &str); 94] = [
     // what stands by itself
     ("[a]", "[a]"),
     ("[a b'\"\\c]", "[a b'\"\\c]"),
@@ -211,6 +211,7 @@ const FAULTS: [(&str, &str); 6] = [
     ("-9223372036854775808", "range 1"),
     ("1 9223372036854775808", "bad 2"),
     ("[a] = 1 # 2", "bad 8"),
+    ("[a] > 1.5", "bad 7"),
     ("9223372036854775808 )", "range 0"),
     ("(1 + 2", "bad 6"),
 ];
@@ -256,7 +257,7 @@ fn value_of(alloc: Global, text: &str, attrs: &[Attr]) -> Result<String, AllocEr
 }
 
 /// Filters with their values where a is 7, least the least number, t a text and y true.
-const VALUES: [(&str, &str); 48] = [
+const VALUES: [(&str, &str); 49] = [
     ("[a] > '5'", "false"),
     ("[a] != '7'", "true"),
     ("[none] = null", "true"),
@@ -268,6 +269,7 @@ const VALUES: [(&str, &str); 48] = [
     ("7 % -2", "1"),
     ("7 % 0", "null"),
     ("[least] % -1", "0"),
+    ("-9223372036854775807 - 1", "-9223372036854775808"),
     ("[least] / -1", "null"),
     ("-[least]", "null"),
     ("[least] - 1", "null"),
