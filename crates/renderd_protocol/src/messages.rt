@@ -16,8 +16,11 @@ pub struct Request {
     /// The command: 0 Ignore, 1 Render, 2 Dirty, 3 Done, 4 NotDone, 5 RenderPrio, 6 RenderBulk,
     /// 7 RenderLow.
     pub cmd: u32,
+    /// The tile's column, any number: whether there is such a tile is not asked here.
     pub x: u32,
+    /// The tile's row, any number.
     pub y: u32,
+    /// The tile's zoom, any number.
     pub z: u32,
     /// The name of the map (`xmlname`), from version 2 on.
     pub name: ArrayVec<u8, TEXT_BYTES>,

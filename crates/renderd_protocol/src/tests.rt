@@ -22,6 +22,11 @@ const PRIO: [u8; 144] = [
     0, 0, 0, 0, 0, 0, 0, 0, 0, 0, 0, 0, 0, 0, 0, 0, 0, 0, 0, 0, 0, 0, 0, 0, 0, 0,
 ];
 
+/// Version 1, command Dirty, x -1 of the original, y 256, z 18.
+const DIRTY: [u8; 20] = [
+    1, 0, 0, 0, 2, 0, 0, 0, 255, 255, 255, 255, 0, 1, 0, 0, 18, 0, 0, 0,
+];
+
 fn text(bytes: &[u8]) -> ArrayVec<u8, 40> {
     let mut text = ArrayVec::new();
     let _ = text.try_extend_from_slice(bytes);
@@ -62,12 +67,14 @@ fn messages_of_each_version(rt: HostRuntime) -> Result<(), Fail> {
     );
     reads(
         &rt,
-        &[
-            1, 0, 0, 0, 2, 0, 0, 0, 255, 255, 255, 255, 0, 1, 0, 0, 18, 0, 0, 0,
-        ],
+        &DIRTY,
         request(1, 2, 4_294_967_295, 256, 18, [b"", b"", b""]),
     );
+    Ok(())
+}
 
+#[test]
+fn fields_of_any_bytes(rt: HostRuntime) -> Result<(), Fail> {
     // mod_tile's padding is not zero.
     let mut padded = RENDER;
     padded[61] = b'i';
@@ -89,13 +96,23 @@ fn messages_of_each_version(rt: HostRuntime) -> Result<(), Fail> {
     assert_eq!(rt; next(&[9, 0, 0]), Found::NeedMore);
     assert_eq!(rt; next(&[9, 0, 0, 0]), Found::BadVersion(9));
     assert_eq!(rt; next(&[0, 0, 0, 0, 7]), Found::BadVersion(0));
+    Ok(())
+}
 
-    // The answer Done is the request with another command, and zeros for the padding.
+/// An answer is the request with another command, and zeros for the padding.
+#[test]
+fn answers_of_each_version(rt: HostRuntime) -> Result<(), Fail> {
     let mut done = RENDER;
     done[4] = 3;
     let asked = request(2, 1, 0, 0, 0, [b"default", b"", b""]);
     assert_eq!(rt; write(&asked, 3).as_slice(), done.as_slice());
     let asked = request(3, 5, 535, 340, 10, [b"osm", b"image/png", b"x"]);
     assert_eq!(rt; write(&asked, 5).as_slice(), PRIO.as_slice());
+
+    // Version 1 has no place for a name.
+    let asked = request(1, 2, 4_294_967_295, 256, 18, [b"osm", b"", b""]);
+    let mut done = DIRTY;
+    done[4] = 3;
+    assert_eq!(rt; write(&asked, 3).as_slice(), done.as_slice());
     Ok(())
 }
