@@ -22,7 +22,7 @@ abbrev pub DrawnInPlace : Type 0
 DrawnInPlace = (style : MapStyle) (size : ℕ) (m : Meta) (data_layers : List Layer) (t : Tile) → IsTile t → meta_of t ≡ m
     → tile_of m (tiles_of style size m data_layers) t ≡ drawing.tile_of style size t data_layers
 
--- So what is read as a tile in the container of its drawn metatile is the drawing of that tile.
+-- What is read as a tile in the container of its drawn metatile is the drawing of that tile.
 abbrev pub DrawnComeBack : Type 0
 DrawnComeBack = (style : MapStyle) (size : ℕ) (m : Meta) (data_layers : List Layer) (t : Tile) → IsMeta m → IsTileSize size → IsTile t → meta_of t ≡ m
     → tile_found (container_of m (tiles_of style size m data_layers)) m (index_place t) ≡ Ok (drawing.tile_of style size t data_layers)

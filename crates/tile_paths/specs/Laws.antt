@@ -14,6 +14,6 @@ OnePath = (name other : List ℕ) (m n : Meta) → IsName name → IsName other 
 abbrev pub EndsInMeta : Type 0
 EndsInMeta = (name : List ℕ) (m : Meta) → (front : List ℕ) × (path_of name m ≡ front ++ codes ".meta")
 
--- So none is the path of a saved farm.
+-- No metatile has the path of a saved farm, `farm.saved`.
 abbrev pub IsNotSaved : Type 0
 IsNotSaved = (name : List ℕ) (m : Meta) → path_of name m ≢ codes "farm.saved"

@@ -9,6 +9,6 @@ abbrev pub is_part : List ℕ → Bool
 is_part part =
     not (bytes_eq part (codes "")) && (not (bytes_eq part (codes ".")) && (not (bytes_eq part (codes "..")) && not (ends_with (λ a b. a == b) part (codes ".new"))))
 
--- a path whose parts between slashes all are such
+-- a path whose parts between slashes all name files or folders of their own
 abbrev pub is_own_path : List ℕ → Bool
 is_own_path path = list_all is_part (slice_split (λ b. b == 47) path)
