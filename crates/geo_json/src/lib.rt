@@ -8,8 +8,6 @@ mod faults;
 mod feature_texts;
 mod geometries;
 mod openings;
-#[cfg(test)]
-mod tests;
 mod updates;
 
 pub use coordinates::Units;
