@@ -1,0 +1,4 @@
+mod Features
+mod Rasters
+mod Steps
+mod Styles

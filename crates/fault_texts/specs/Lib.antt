@@ -1,3 +1,4 @@
 pub mod DataFaults
 pub mod RasterFaults
 pub mod StyleFaults
+pub mod Told

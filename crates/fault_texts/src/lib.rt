@@ -1,12 +1,14 @@
 //! The texts of the faults of styles, data and raster files, as a refusal tells them on err.
 //!
-//! Want of memory has no text: a function here that is given it answers it.
+//! Want of memory has no text: a function here that is given it answers it. No text is refused for it.
 #![tactic(auto)]
 
 mod data_faults;
+mod laws;
 mod raster_faults;
 mod style_faults;
 
 pub use data_faults::data_text;
+pub use laws::{law_data_are_told, law_rasters_are_told, law_styles_are_told};
 pub use raster_faults::{grid_text, ppm_text};
 pub use style_faults::style_text;

@@ -1,0 +1,27 @@
+-- What a text is refused for has a text of its own: want of memory is no fault of what a text says.
+use Rattle.std.specs.Prelude.{◌≡◌, ℕ, List, Err, is_some, IsTrue}
+use Rattle.plain_image.specs.PpmText.{ppm_of}
+use Rattle.plain_image.specs.declared.reading.PpmFault.{PpmFault}
+use Rattle.raster_layers.specs.declared.grids.GridFault.{GridFault}
+use Rattle.geo_json.specs.DataTexts.{dataset_in}
+use Rattle.geo_json.specs.declared.faults.DataFault.{DataFault}
+use Rattle.style_objects.specs.Tables.{style_in}
+use Rattle.style_objects.specs.declared.fault.StyleFault.{StyleFault}
+use Rattle.fault_texts.specs.DataFaults.{data_text}
+use Rattle.fault_texts.specs.RasterFaults.{ppm_text, grid_text}
+use Rattle.fault_texts.specs.StyleFaults.{style_text}
+
+-- of a style
+abbrev pub StylesAreTold : Type 0
+StylesAreTold = (bytes : List ℕ) (e : StyleFault) → style_in bytes ≡ Err e → IsTrue (is_some (style_text e))
+
+-- of data
+abbrev pub DataAreTold : Type 0
+DataAreTold = (bytes : List ℕ) (e : DataFault) → dataset_in bytes ≡ Err e → IsTrue (is_some (data_text e))
+
+-- of the PPM text of a raster file, and of the grid that it makes
+abbrev pub PpmTextsAreTold : Type 0
+PpmTextsAreTold = (bytes : List ℕ) (e : PpmFault) → ppm_of bytes ≡ Err e → IsTrue (is_some (ppm_text e))
+
+abbrev pub GridsAreTold : Type 0
+GridsAreTold = (e : GridFault) → IsTrue (is_some (grid_text e))
