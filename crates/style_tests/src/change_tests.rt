@@ -125,6 +125,8 @@ fn places_and_what_is_near(rt: HostRuntime) -> Result<(), Fail> {
     ] {
         assert_eq!(rt; view.place_of(id), place, "of {id}");
     }
+    let triangle = view.get(2).ok_or("no feature")?;
+    assert_eq!(rt; triangle.bbox().east, 60);
     assert!(rt; shared.layer("Land").is_none());
     Ok(())
 }
