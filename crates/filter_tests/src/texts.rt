@@ -102,7 +102,7 @@ fn read_as(alloc: Global, text: &str) -> Result<String, AllocError> {
 }
 
 /// Texts with their trees or faults.
-const READINGS: [(&str, &str); 94] = [
+const READINGS: [(&str, &str); 93] = [
     // what stands by itself
     ("[a]", "[a]"),
     ("[a b'\"\\c]", "[a b'\"\\c]"),
@@ -206,7 +206,7 @@ const READINGS: [(&str, &str); 94] = [
 ];
 
 /// More faults: numbers and signs that begin nothing.
-const FAULTS: [(&str, &str); 6] = [
+const FAULTS: [(&str, &str); 7] = [
     ("9223372036854775808", "range 0"),
     ("-9223372036854775808", "range 1"),
     ("1 9223372036854775808", "bad 2"),
