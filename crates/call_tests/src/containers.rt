@@ -6,7 +6,7 @@ ghost use Rattle.meta_container.specs.Container.{is_stored, bytes_of};
 use crate::calls::{Faults, NONE, call};
 use farm_base::{Bytes, NoMemory};
 use meta_container::encode;
-use plain_drawing::Meta;
+use plain_world::Meta;
 use std::alloc::Global;
 use std::test::Fail;
 

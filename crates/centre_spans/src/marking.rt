@@ -1,13 +1,13 @@
 //! The loop over the centres near a shape.
 ghost use Rattle.std.specs.Prelude.{◌≡◌, ℕ, ◌+◌, ◌*◌, ◌<◌, ◌≤◌, Bool, true, false, slice_set};
-ghost use Rattle.plain_drawing.specs.World.{IsWindow, centres};
-ghost use Rattle.plain_drawing.specs.Canvas.{Bits, marked};
-ghost use Rattle.plain_drawing.proofs.Places.{Reached};
+ghost use Rattle.plain_world.specs.World.{IsWindow, centres};
+ghost use Rattle.plain_shapes.specs.Canvas.{Bits, marked};
+ghost use Rattle.plain_shapes.proofs.Places.{Reached};
 
 use crate::shapes::Shape;
 use crate::sides::first_at;
-use plain_drawing::{Point, Window};
 use plain_image::Mask;
+use plain_world::{Point, Window};
 
 /// Sets the bit in column `i` and row `j` where it is asked for.
 pub fn set_if(asked: bool, i: u32, j: u32, mask: &mut Mask)

@@ -1,10 +1,10 @@
 //! What a shape says of itself, so that only the centres near it are tested.
 ghost use Rattle.std.specs.Prelude.{◌≡◌, ◌≤◌, ◌^◌, Bool, true};
-ghost use Rattle.plain_drawing.specs.declared.world.Point.{Point};
-ghost use Rattle.plain_drawing.specs.World.{InWorld};
+ghost use Rattle.plain_world.specs.declared.world.Point.{Point};
+ghost use Rattle.plain_world.specs.World.{InWorld};
 ghost use Rattle.centre_spans.specs.Stretches.{InStretch};
 
-use plain_drawing::Point;
+use plain_world::Point;
 
 /// Places along one direction: from `start` on and before `end`, in world units.
 #[derive(Clone, Copy, Debug, PartialEq, Eq)]

@@ -8,11 +8,11 @@ use Rattle.std.specs.Int.{bit_at, w64}
 use Rattle.std.specs.Int.RustNames.{bit_or}
 use lib.Bits.{bit_and}
 use Rattle.std.proofs.lemmas.Bool.{cases_eq}
-use Rattle.plain_drawing.specs.declared.world.Point.{Point}
+use Rattle.plain_world.specs.declared.world.Point.{Point}
 use Rattle.geo_model.specs.declared.bounds.Bounds.{Bounds}
-use Rattle.plain_drawing.specs.declared.shapes.Geometry.{Geometry}
-use Rattle.plain_drawing.specs.declared.shapes.Geometry.TheVariants.{Points, Lines, Polygon}
-use Rattle.plain_drawing.specs.Features.{Feature}
+use Rattle.plain_shapes.specs.declared.shapes.Geometry.{Geometry}
+use Rattle.plain_shapes.specs.declared.shapes.Geometry.TheVariants.{Points, Lines, Polygon}
+use Rattle.plain_data.specs.Features.{Feature}
 use Rattle.geo_model.specs.Bounds.{InBounds, Within, IsLeastBounds, meets}
 use Rattle.geo_model.specs.Shapes.{parts_of, least_points, is_none, IsShape}
 use Rattle.data_versions.specs.Near.{is_near}

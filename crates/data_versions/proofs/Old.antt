@@ -10,8 +10,8 @@ use Rattle.std.proofs.lemmas.List.{map-append, take_more, take_rest, drop-drop, 
 use Rattle.std.proofs.lemmas.List.Elements.{filter_map-append}
 use Rattle.std.proofs.Math.Seq.{take-add}
 use Rattle.std.specs.Arc.{arc_value}
-use Rattle.plain_drawing.specs.Features.{Feature}
-use Rattle.plain_drawing.specs.Data.{has_id, ids_of}
+use Rattle.plain_data.specs.Features.{Feature}
+use Rattle.plain_data.specs.Data.{has_id, ids_of}
 use Rattle.data_versions.specs.declared.slot.Slot.{Slot}
 use Rattle.data_versions.specs.Slots.{standing_in, standing, is_old, old_in, IsOldAs, HasOld, KnowsPlaces}
 use Rattle.data_versions.specs.Chunks.{joined}

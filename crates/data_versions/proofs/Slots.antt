@@ -11,8 +11,8 @@ use Rattle.std.proofs.lemmas.Bool.Decides.{nat_tests}
 use Rattle.std.proofs.lemmas.List.{length-map, get_or-set_same, get_or-set_other}
 use Rattle.std.proofs.lemmas.List.Elements.{filter_map-append}
 use Rattle.data_versions.specs.declared.slot.Slot.{Slot}
-use Rattle.plain_drawing.specs.Features.{Feature}
-use Rattle.plain_drawing.specs.Data.{has_id, ids_of}
+use Rattle.plain_data.specs.Features.{Feature}
+use Rattle.plain_data.specs.Data.{has_id, ids_of}
 use Rattle.data_versions.specs.Slots.{standing_in, standing, slot_id, KnowsPlaces, without, replaced_by, with_put}
 
 no_left : (a b : Bool) → (a || b) ≡ false → a ≡ false

@@ -1,8 +1,8 @@
 -- The eight by eight cells of a box, and the features of a chunk that its box and its cells speak of.
 use Rattle.std.specs.Prelude.{◌≡◌, ℕ, ◌+◌, ◌-◌, ◌*◌, ◌/◌, ◌≤◌, List, length, All}
 use Rattle.std.specs.Int.{bit_at}
-use Rattle.plain_drawing.specs.declared.world.Point.{Point}
-use Rattle.plain_drawing.specs.Features.{Feature}
+use Rattle.plain_world.specs.declared.world.Point.{Point}
+use Rattle.plain_data.specs.Features.{Feature}
 use Rattle.geo_model.specs.declared.bounds.Bounds.{Bounds}
 use Rattle.geo_model.specs.Bounds.{bounds_of, InBounds, Within}
 use Rattle.geo_model.specs.Shapes.{parts_of}

@@ -4,7 +4,7 @@ use Rattle.std.specs.List.{flat_map}
 use Rattle.std.specs.declared.alloc.Global.{Global}
 use Rattle.std.specs.declared.sync.Arc.{Arc}
 use Rattle.std.specs.Arc.{arc_value}
-use Rattle.plain_drawing.specs.Features.{Feature}
+use Rattle.plain_data.specs.Features.{Feature}
 
 -- the features of the chunks, one chunk after another
 abbrev pub joined : List (Arc (List Feature) Global) → List Feature

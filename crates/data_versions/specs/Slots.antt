@@ -3,8 +3,8 @@ use Rattle.std.specs.Prelude.{◌≡◌, ℕ, Bool, true, false, not, cond, nat_
 use Rattle.std.specs.Ordering.{nat_cmp}
 use Rattle.std.specs.List.{filter_map}
 use Rattle.std.specs.BTreeMap.{BTreeMap, get}
-use Rattle.plain_drawing.specs.Features.{Feature}
-use Rattle.plain_drawing.specs.Data.{has_id, ids_of}
+use Rattle.plain_data.specs.Features.{Feature}
+use Rattle.plain_data.specs.Data.{has_id, ids_of}
 use Rattle.data_versions.specs.declared.slot.Slot.{Slot}
 
 -- the feature that stands in a slot

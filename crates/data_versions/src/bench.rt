@@ -1,7 +1,7 @@
 //! A layer while an update changes it.
 ghost use Rattle.std.specs.Prelude.{◌≡◌, ◌≤◌, ◌<◌, ◌∷◌, ◌++◌, [], true, false, nat_eq, length, IfOk, OnOk, MatchResult};
 ghost use Rattle.std.specs.List.{IsDistinct};
-ghost use Rattle.plain_drawing.specs.Data.{has_id, ids_of};
+ghost use Rattle.plain_data.specs.Data.{has_id, ids_of};
 ghost use Rattle.data_versions.specs.Slots.{without, replaced_by, with_put};
 ghost use Rattle.data_versions.specs.Chunks.{joined};
 
@@ -31,7 +31,7 @@ pub(crate) struct Bench<'a> {
 
 impl<'a> Model for Bench<'a> {
     ghost use Rattle.std.specs.Prelude.{◌≡◌, ◌≤◌, List, length};
-    ghost use Rattle.plain_drawing.specs.Features.{Feature};
+    ghost use Rattle.plain_data.specs.Features.{Feature};
     ghost use Rattle.data_versions.specs.Slots.{standing, HasOld, KnowsPlaces};
     ghost use Rattle.data_versions.specs.Chunks.{joined};
 

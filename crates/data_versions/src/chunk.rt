@@ -24,7 +24,7 @@ pub(crate) struct Chunk {
 
 impl Model for Chunk {
     ghost use Rattle.std.specs.Prelude.{List};
-    ghost use Rattle.plain_drawing.specs.Features.{Feature};
+    ghost use Rattle.plain_data.specs.Features.{Feature};
     ghost use Rattle.data_versions.specs.Cells.{IsChunk};
 
     ghost Value = { List Feature };

@@ -22,7 +22,7 @@ pub(crate) struct ChunkedLayer {
 }
 
 impl Model for ChunkedLayer {
-    ghost use Rattle.plain_drawing.specs.Features.{Layer};
+    ghost use Rattle.plain_data.specs.Features.{Layer};
     ghost use Rattle.data_versions.specs.Chunks.{joined, IsChunked};
 
     ghost Value = { Layer };

@@ -2,7 +2,7 @@
 ghost use Rattle.std.specs.Prelude.{◌≡◌, ◌≢◌, ◌≤◌, true, false, nat_eq, length, map, IfOk, OnOk, IfErr, Some, None, option_map};
 ghost use Rattle.std.specs.Arc.{arc_value};
 ghost use Rattle.std.specs.Str.{bytes_eq};
-ghost use Rattle.plain_drawing.specs.Data.{ids_of, kept, first_missing, is_too_many, with_puts, with_change, features_fault, changed_layer, IsLayer};
+ghost use Rattle.plain_data.specs.Data.{ids_of, kept, first_missing, is_too_many, with_puts, with_change, features_fault, changed_layer, IsLayer};
 
 use crate::bench::Bench;
 use crate::chunked::ChunkedLayer;
@@ -72,8 +72,8 @@ pub(crate) struct Desk<'a> {
 
 impl<'a> Model for Desk<'a> {
     ghost use Rattle.std.specs.Prelude.{unwrap_or};
-    ghost use Rattle.plain_drawing.specs.Features.{Layer};
-    ghost use Rattle.plain_drawing.specs.Data.{IsLayer};
+    ghost use Rattle.plain_data.specs.Features.{Layer};
+    ghost use Rattle.plain_data.specs.Data.{IsLayer};
 
     ghost Value = { Layer };
 

@@ -20,7 +20,7 @@ pub(crate) struct Pack {
 
 impl Model for Pack {
     ghost use Rattle.std.specs.Prelude.{◌≤◌, ◌++◌, List, length};
-    ghost use Rattle.plain_drawing.specs.Features.{Feature};
+    ghost use Rattle.plain_data.specs.Features.{Feature};
     ghost use Rattle.data_versions.specs.Chunks.{joined};
 
     ghost Value = { List Feature };

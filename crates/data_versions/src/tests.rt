@@ -1,5 +1,5 @@
 //! Updates of a snapshot, and what the old one still shows.
-ghost use Rattle.plain_drawing.specs.Data.{IsLayer, IsChange};
+ghost use Rattle.plain_data.specs.Data.{IsLayer, IsChange};
 
 use crate::{ApplyFault, Change, Dataset, Feature, Layer, LayerView, Snapshot, Update, apply};
 use farm_base::{NoMemory, Text};

@@ -1,7 +1,7 @@
 //! An update gives the next snapshot.
 ghost use Rattle.std.specs.Prelude.{◌≡◌, ◌≢◌, ◌≤◌, length, position, All, IfOk, OnOk, IfErr, Some, None, Ok, Err};
 ghost use Rattle.std.specs.Str.{bytes_eq};
-ghost use Rattle.plain_drawing.specs.Data.{IsLayer, names_of, changed, change_fault, updated};
+ghost use Rattle.plain_data.specs.Data.{IsLayer, names_of, changed, change_fault, updated};
 ghost use Rattle.data_versions.specs.Shared.{shared_layers};
 
 use crate::chunked::ChunkedLayer;

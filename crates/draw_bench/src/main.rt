@@ -7,7 +7,7 @@
 #![tactic(auto)]
 
 ghost use Rattle.std.specs.Prelude.{IfSome};
-ghost use Rattle.plain_drawing.specs.World.{IsMeta};
+ghost use Rattle.plain_world.specs.World.{IsMeta};
 
 mod data;
 mod shapes;

@@ -3,7 +3,7 @@ use Rattle.std.proofs.Common.{◌≤◌, ◌^◌, List, [], ◌∷◌, arith}
 use Rattle.std.specs.Prelude.{All, fold}
 use Rattle.std.specs.List.{AllByRecursion}
 use Rattle.std.proofs.lemmas.List.Elements.{All-from_recursion}
-use Rattle.plain_drawing.specs.declared.world.Point.{Point}
+use Rattle.plain_world.specs.declared.world.Point.{Point}
 use Rattle.geo_model.specs.declared.bounds.Bounds.{Bounds}
 use Rattle.geo_model.specs.Bounds.{InBounds, Within, no_bounds, widened, bounds_of}
 use Rattle.drawing_reach.proofs.Members.{all_map}

@@ -1,12 +1,12 @@
 -- What a symbolizer covers of a shape lies in every rectangle that holds the shape's points, widened by what the symbolizer spreads.
 use Rattle.std.proofs.Common.{◌≡◌, ℕ, true, [], ◌∷◌}
 use Rattle.std.specs.Prelude.{All}
-use Rattle.plain_drawing.specs.declared.world.Point.{Point}
-use Rattle.plain_drawing.specs.declared.shapes.Geometry.{Geometry}
-use Rattle.plain_drawing.specs.declared.shapes.Geometry.TheVariants as shape
+use Rattle.plain_world.specs.declared.world.Point.{Point}
+use Rattle.plain_shapes.specs.declared.shapes.Geometry.{Geometry}
+use Rattle.plain_shapes.specs.declared.shapes.Geometry.TheVariants as shape
 use Rattle.plain_drawing.specs.declared.style.Symbolizer.{Symbolizer}
 use Rattle.plain_drawing.specs.declared.style.Symbolizer.TheVariants as paint
-use Rattle.plain_drawing.specs.Strokes.{half_of}
+use Rattle.plain_shapes.specs.Strokes.{half_of}
 use Rattle.plain_drawing.specs.Drawing.{covers}
 use Rattle.geo_model.specs.declared.bounds.Bounds.{Bounds}
 use Rattle.geo_model.specs.Bounds.{InBounds}

@@ -4,9 +4,9 @@ use Rattle.std.specs.Prelude.{nat_le, if◌then◌else◌, option_map, unwrap_or
 use Rattle.std.specs.List.{AllByRecursion}
 use Rattle.std.proofs.Math.Nat.{mul-le-mul_left}
 use Rattle.std.proofs.lemmas.Bool.{cases_lt, le-leb, lt-leb}
-use Rattle.plain_drawing.specs.declared.world.Point.{Point}
-use Rattle.plain_drawing.specs.Rings.{counts_down, counts, edges_from, ring_edges, in_rings}
-use Rattle.plain_drawing.proofs.Signs.{downward_is, off_above, off_below}
+use Rattle.plain_world.specs.declared.world.Point.{Point}
+use Rattle.plain_shapes.specs.Rings.{counts_down, counts, edges_from, ring_edges, in_rings}
+use Rattle.plain_shapes.proofs.Signs.{downward_is, off_above, off_below}
 use Rattle.raster_core.specs.Toggles.{flip, odd_edges}
 use Rattle.raster_core.proofs.Toggling.{odd_cons, odd_append}
 use Rattle.geo_model.specs.declared.bounds.Bounds.{Bounds}

@@ -4,10 +4,10 @@ use Rattle.std.specs.Prelude.{if◌then◌else◌, option_map, unwrap_or, All}
 use Rattle.std.specs.List.{AllByRecursion}
 use Rattle.std.proofs.lemmas.Bool.{or_cases, and_parts}
 use Rattle.std.proofs.lemmas.List.Elements.{All-from_recursion}
-use Rattle.plain_drawing.specs.declared.world.Point.{Point}
-use Rattle.plain_drawing.specs.declared.shapes.LineCap.{LineCap}
-use Rattle.plain_drawing.specs.declared.shapes.LineCap.TheVariants as with
-use Rattle.plain_drawing.specs.Strokes.{is_same, in_body, in_disk, in_mark, before_start, past_end, kept, kept_after, on_sides, on_disks, on_dot, on_line, on_stroke, on_ring, on_outline, on_marks}
+use Rattle.plain_world.specs.declared.world.Point.{Point}
+use Rattle.plain_shapes.specs.declared.shapes.LineCap.{LineCap}
+use Rattle.plain_shapes.specs.declared.shapes.LineCap.TheVariants as with
+use Rattle.plain_shapes.specs.Strokes.{is_same, in_body, in_disk, in_mark, before_start, past_end, kept, kept_after, on_sides, on_disks, on_dot, on_line, on_stroke, on_ring, on_outline, on_marks}
 use Rattle.geo_model.specs.declared.bounds.Bounds.{Bounds}
 use Rattle.geo_model.specs.Bounds.{InBounds}
 use Rattle.stroke_core.specs.Parts.{point_at, on_ends, on_parts}

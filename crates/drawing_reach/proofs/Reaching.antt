@@ -6,16 +6,16 @@ use Rattle.std.proofs.Math.Nat.{mul-le-mul_right, mul-div-le}
 use Rattle.std.proofs.lemmas.Nat.{le-div}
 use Rattle.std.proofs.lemmas.Bool.{cases_lt, and_parts, le-leb, leb-true, leb-false}
 use Rattle.std.proofs.lemmas.List.Elements.{All-from_recursion}
-use Rattle.plain_drawing.specs.declared.world.Point.{Point}
-use Rattle.plain_drawing.specs.declared.shapes.Geometry.{Geometry}
-use Rattle.plain_drawing.specs.declared.shapes.Geometry.TheVariants as shape
+use Rattle.plain_world.specs.declared.world.Point.{Point}
+use Rattle.plain_shapes.specs.declared.shapes.Geometry.{Geometry}
+use Rattle.plain_shapes.specs.declared.shapes.Geometry.TheVariants as shape
 use Rattle.plain_drawing.specs.declared.style.Symbolizer.{Symbolizer}
 use Rattle.plain_drawing.specs.declared.style.Symbolizer.TheVariants as paint
-use Rattle.plain_drawing.specs.World.{side_at}
+use Rattle.plain_world.specs.World.{side_at}
 use Rattle.plain_drawing.specs.Styles.{is_paint, is_width, is_opacity}
-use Rattle.plain_drawing.specs.Strokes.{half_of}
+use Rattle.plain_shapes.specs.Strokes.{half_of}
 use Rattle.plain_drawing.specs.Drawing.{covers, pixel_of}
-use Rattle.plain_drawing.specs.Reach.{all_points, margin_of, InReach}
+use Rattle.plain_data.specs.Reach.{all_points, margin_of, InReach}
 use Rattle.geo_model.specs.declared.bounds.Bounds.{Bounds}
 use Rattle.geo_model.specs.Bounds.{InBounds}
 use Rattle.geo_model.specs.Shapes.{parts_of}

@@ -6,22 +6,22 @@ use Rattle.std.proofs.Math.Nat.{mul-le-mul_right, mul-div-le}
 use Rattle.std.proofs.lemmas.Bool.{and_parts}
 use Rattle.std.proofs.lemmas.List.Elements.{recursion_from_All}
 use Rattle.farm_base.specs.declared.Attr.{Attr}
-use Rattle.plain_drawing.specs.declared.world.Point.{Point}
-use Rattle.plain_drawing.specs.declared.world.Window.{Window}
-use Rattle.plain_drawing.specs.declared.world.Tile.{Tile}
-use Rattle.plain_drawing.specs.declared.colour.Colour.{Colour}
+use Rattle.plain_world.specs.declared.world.Point.{Point}
+use Rattle.plain_world.specs.declared.world.Window.{Window}
+use Rattle.plain_world.specs.declared.world.Tile.{Tile}
+use Rattle.plain_shapes.specs.declared.colour.Colour.{Colour}
 use Rattle.plain_drawing.specs.declared.style.FilterMode.{FilterMode}
 use Rattle.plain_drawing.specs.declared.style.FilterMode.TheVariants.{All as AllRules, First}
 use Rattle.plain_drawing.specs.declared.style.Symbolizer.{Symbolizer}
-use Rattle.plain_drawing.specs.World.{side_at, centre, row_centres, centres, window_of, tile_square, InSquare, IsTile, IsTileSize, IsWindow}
-use Rattle.plain_drawing.specs.Features.{Feature}
+use Rattle.plain_world.specs.World.{side_at, centre, row_centres, centres, window_of, tile_square, InSquare, IsTile, IsTileSize, IsWindow}
+use Rattle.plain_data.specs.Features.{Feature}
 use Rattle.plain_drawing.specs.Styles.{Rule, Style, is_paint}
 use Rattle.plain_drawing.specs.Rules.{matches, is_fallback, taken, drawing_rules, drawn}
-use Rattle.plain_drawing.specs.Canvas.{Pixels, at_centres}
+use Rattle.plain_shapes.specs.Canvas.{Pixels, at_centres}
 use Rattle.plain_drawing.specs.Drawing.{covers, painted_over, feature, pixel_of}
 use Rattle.plain_drawing.specs.Pictures.{with_symbolizer, with_item}
-use Rattle.plain_drawing.specs.Reach.{Reaches, feature_reaches}
-use Rattle.plain_drawing.proofs.Windows.{window_is}
+use Rattle.plain_data.specs.Reach.{Reaches, feature_reaches}
+use Rattle.plain_world.proofs.Windows.{window_is}
 use Rattle.drawing_reach.specs.Laws.{KeepsRanges}
 use Rattle.drawing_reach.proofs.Members.{all_map}
 use Rattle.drawing_reach.proofs.Reaching.{covered_reached}

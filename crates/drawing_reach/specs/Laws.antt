@@ -1,18 +1,18 @@
 -- Laws of what a feature reaches.
 use Rattle.std.specs.Prelude.{ℕ, ◌≡◌, ◌↔◌, IsTrue, true, false, All}
 use Rattle.std.specs.List.{list_all}
-use Rattle.plain_drawing.specs.declared.world.Point.{Point}
-use Rattle.plain_drawing.specs.declared.world.Square.{Square}
-use Rattle.plain_drawing.specs.declared.world.Tile.{Tile}
+use Rattle.plain_world.specs.declared.world.Point.{Point}
+use Rattle.plain_world.specs.declared.world.Square.{Square}
+use Rattle.plain_world.specs.declared.world.Tile.{Tile}
 use Rattle.plain_drawing.specs.declared.style.Symbolizer.{Symbolizer}
-use Rattle.plain_drawing.specs.declared.shapes.Geometry.{Geometry}
-use Rattle.plain_drawing.specs.World.{window_of, tile_square, IsTile, IsTileSize}
-use Rattle.plain_drawing.specs.Features.{Feature}
+use Rattle.plain_shapes.specs.declared.shapes.Geometry.{Geometry}
+use Rattle.plain_world.specs.World.{window_of, tile_square, IsTile, IsTileSize}
+use Rattle.plain_data.specs.Features.{Feature}
 use Rattle.plain_drawing.specs.Styles.{Style, is_paint}
-use Rattle.plain_drawing.specs.Canvas.{Pixels}
+use Rattle.plain_shapes.specs.Canvas.{Pixels}
 use Rattle.plain_drawing.specs.Drawing.{covers, feature, pixel_of}
 use Rattle.plain_drawing.specs.Pictures.{with_item}
-use Rattle.plain_drawing.specs.Reach.{all_points, margin_of, InReach, Reaches, feature_reaches}
+use Rattle.plain_data.specs.Reach.{all_points, margin_of, InReach, Reaches, feature_reaches}
 
 -- the test on a square's edges says whether some point of the square lies in the feature's reach
 abbrev pub LawByEdges : Type 0

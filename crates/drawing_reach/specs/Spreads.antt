@@ -1,9 +1,9 @@
 -- How far from the points of a shape a symbolizer may paint.
 use Rattle.std.specs.Prelude.{ℕ, ◌+◌, ◌≤◌}
-use Rattle.plain_drawing.specs.declared.world.Point.{Point}
+use Rattle.plain_world.specs.declared.world.Point.{Point}
 use Rattle.plain_drawing.specs.declared.style.Symbolizer.{Symbolizer}
 use Rattle.plain_drawing.specs.declared.style.Symbolizer.TheVariants as paint
-use Rattle.plain_drawing.specs.Strokes.{half_of}
+use Rattle.plain_shapes.specs.Strokes.{half_of}
 use Rattle.geo_model.specs.declared.bounds.Bounds.{Bounds}
 
 -- how far a symbolizer may paint to the west and to the east, in world units, where pixels have this side: strokes by their whole

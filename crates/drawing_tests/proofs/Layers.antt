@@ -2,8 +2,8 @@
 use Rattle.std.proofs.Common.{◌≡◌, ◌≤◌, List, [], ◌∷◌, length, sym, subst, arith}
 use Rattle.std.specs.List.{IsDistinct}
 use Rattle.std.proofs.lemmas.List.Elements.{All-from_recursion}
-use Rattle.plain_drawing.specs.Features.{Feature, Layer}
-use Rattle.plain_drawing.specs.Data.{IsLayer, IsDataset}
+use Rattle.plain_data.specs.Features.{Feature, Layer}
+use Rattle.plain_data.specs.Data.{IsLayer, IsDataset}
 use Rattle.data_versions.proofs.Named.{short_name}
 
 pub one_feature : (l : Layer) (f : Feature) → l.features ≡ f ∷ [] → 1 ≤ length l.name → length l.name ≤ 64 → IsLayer l

@@ -1,6 +1,6 @@
 //! What the tests share: maps and data read from texts, tiles drawn from them, and pictures written in letters.
 ghost use Rattle.std.specs.Prelude.{IfOk};
-ghost use Rattle.plain_drawing.specs.World.{IsTile};
+ghost use Rattle.plain_world.specs.World.{IsTile};
 
 use data_versions::Snapshot;
 use geo_json::read_data;

@@ -4,7 +4,8 @@ ghost use Rattle.plain_drawing.specs.Styles.{grid_matches, grids_match};
 
 use crate::drawings::{data, map, picture};
 use farm_base::Text;
-use plain_drawing::{Grid, MapStyle, RasterRef, Tile};
+use plain_drawing::{Grid, MapStyle, RasterRef};
+use plain_world::Tile;
 use raster_layers::{GridFault, make_grid};
 use std::alloc::Global;
 use std::test::Fail;

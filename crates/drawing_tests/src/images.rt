@@ -1,7 +1,7 @@
 //! Drawn tiles as images: read back from their texts, and cut.
 use crate::drawings::{is_boxed, world};
-use plain_drawing::Colour;
 use plain_image::{Image, read_ppm};
+use plain_shapes::Colour;
 use std::alloc::Global;
 use std::test::Fail;
 

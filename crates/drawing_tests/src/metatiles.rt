@@ -1,13 +1,14 @@
 //! Metatiles against their tiles, at the ends of the world, and with very many points.
 ghost use Rattle.std.specs.Prelude.{◌<◌, ◌^◌};
-ghost use Rattle.plain_drawing.specs.Data.{IsLayer};
+ghost use Rattle.plain_data.specs.Data.{IsLayer};
 
 use crate::drawings::{data, is_all, is_boxed, map, place};
 use data_versions::{Dataset, Layer, Snapshot};
 use farm_base::{Listed, Text};
 use geo_model::{Feature, make_feature};
 use merc_fixed::{index_place, meta_of};
-use plain_drawing::{Geometry, Meta, Path, Point};
+use plain_shapes::{Geometry, Path};
+use plain_world::{Meta, Point};
 use std::alloc::Global;
 use std::test::Fail;
 use tile_render::{draw_meta, draw_tile};

@@ -1,7 +1,7 @@
 -- What a call does: what its words ask for.
 use Rattle.std.specs.Prelude.{◌≡◌, ℕ, ◌⊎◌, List, Result, Err}
-use Rattle.plain_drawing.specs.World.{IsTile, IsTileSize}
-use Rattle.plain_drawing.specs.declared.world.Tile.{Tile}
+use Rattle.plain_world.specs.World.{IsTile, IsTileSize}
+use Rattle.plain_world.specs.declared.world.Tile.{Tile}
 use Rattle.farm_words.specs.declared.command.Command.{Command}
 use Rattle.farm_words.specs.declared.command.Command.TheVariants.{Render, Meta}
 use Rattle.call_ends.specs.Ends.{FilesAt, SinkAt, Refuses}

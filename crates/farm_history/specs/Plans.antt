@@ -3,9 +3,9 @@ use Rattle.std.specs.Prelude.{ℕ, ◌+◌, ◌^◌, Bool, true, false, ◌&&◌
 use Rattle.std.specs.List.{list_any}
 use Rattle.std.specs.Option.{option_or}
 use Rattle.farm_base.specs.declared.faults.ApplyFault.{ApplyFault}
-use Rattle.plain_drawing.specs.declared.world.Tile.{Tile}
-use Rattle.plain_drawing.specs.declared.world.Meta.{Meta}
-use Rattle.plain_drawing.specs.World.{squares_meet, tile_square, meta_square, meta_of}
+use Rattle.plain_world.specs.declared.world.Tile.{Tile}
+use Rattle.plain_world.specs.declared.world.Meta.{Meta}
+use Rattle.plain_world.specs.World.{squares_meet, tile_square, meta_square, meta_of}
 use Rattle.farm_history.specs.declared.keys.Key.{Key}
 use Rattle.farm_history.specs.declared.asks.Spot.{Spot}
 use Rattle.farm_history.specs.declared.asks.Cmd.{Cmd}

@@ -1,5 +1,5 @@
 //! Keys of metatiles, and what is kept of one.
-use plain_drawing::Meta;
+use plain_world::Meta;
 
 /// A metatile of a map: the map by its place in the plan.
 #[derive(Clone, Copy, Debug, PartialEq, Eq, Hash)]

@@ -2,7 +2,7 @@
 use Rattle.std.specs.Prelude.{ℕ, zero, suc, Bool, true, false, ◌&&◌, ◌==◌, nat_lt, if◌then◌else◌, List, [], ◌∷◌, filter, Option, Some, None}
 use Rattle.std.specs.List.{list_any}
 use Rattle.farm_base.specs.declared.faults.ApplyFault.TheVariants.{NoFeature}
-use Rattle.plain_drawing.specs.declared.world.Tile.{Tile}
+use Rattle.plain_world.specs.declared.world.Tile.{Tile}
 use Rattle.farm_history.specs.declared.keys.Key.{Key}
 use Rattle.farm_history.specs.declared.saved.Past.{Past}
 use Rattle.farm_history.specs.declared.queues.Conn.{Conn}

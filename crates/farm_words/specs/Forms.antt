@@ -1,7 +1,7 @@
 -- The five forms of words, and the command that each spells.
 use Rattle.std.specs.Prelude.{◌≡◌, ℕ, ◌^◌, ◌<◌, ◌≤◌, List, [], ◌∷◌, Result, Ok, Err, codes}
 use Rattle.std.specs.Fmt.{decimal}
-use Rattle.plain_drawing.specs.World.{IsTile, IsTileSize}
+use Rattle.plain_world.specs.World.{IsTile, IsTileSize}
 use Rattle.farm_words.specs.declared.command.Command.{Command}
 use Rattle.farm_words.specs.declared.command.Command.TheVariants.{Render, Script, Serve, Load, Meta}
 use Rattle.farm_words.specs.declared.command.WordsFault.{WordsFault}

@@ -2,7 +2,7 @@
 ghost use Rattle.std.specs.Prelude.{◌≡◌};
 
 use farm_base::{NoMemory, Text};
-use plain_drawing::Tile;
+use plain_world::Tile;
 use std::alloc::{AllocError, AllocFailed};
 
 /// A command of the program.

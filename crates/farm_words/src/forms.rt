@@ -1,15 +1,15 @@
 //! From values to the command that they spell.
 ghost use Rattle.std.specs.Prelude.{◌≡◌, ◌≤◌, ◌<◌, ◌^◌, ◌∷◌, ℕ, Some, map, codes, IfSome};
 ghost use Rattle.std.specs.Fmt.{decimal};
-ghost use Rattle.plain_drawing.specs.World.{IsTile, IsTileSize};
-ghost use Rattle.plain_drawing.specs.declared.world.Tile.{Tile};
+ghost use Rattle.plain_world.specs.World.{IsTile, IsTileSize};
+ghost use Rattle.plain_world.specs.declared.world.Tile.{Tile};
 ghost use Rattle.farm_words.specs.Forms.{Answers};
 
 use crate::command::{Command, WordsFault};
 use farm_base::Text;
 use itoa::Buffer;
 use merc_fixed::tile;
-use plain_drawing::Tile;
+use plain_world::Tile;
 use std::alloc::Global;
 
 /// The number that the text spells in decimal, without sign or leading zeros.

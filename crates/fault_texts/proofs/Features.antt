@@ -6,9 +6,9 @@ use Rattle.serde_json.specs.Data.{Data, null, boolean, number, string, array, ob
 use Rattle.serde_json.specs.Find.{get, as_str, as_array, as_object, as_number, as_i64}
 use Rattle.serde_json.specs.Events.{items_len}
 use Rattle.farm_base.specs.declared.values.Attr.{Attr}
-use Rattle.plain_drawing.specs.declared.shapes.Geometry.{Geometry}
-use Rattle.plain_drawing.specs.Features.{Feature, Layer}
-use Rattle.plain_drawing.specs.Data.{is_name}
+use Rattle.plain_shapes.specs.declared.shapes.Geometry.{Geometry}
+use Rattle.plain_data.specs.Features.{Feature, Layer}
+use Rattle.plain_data.specs.Data.{is_name}
 use Rattle.geo_model.specs.declared.faults.GeoFault.TheVariants.{TooFewPoints, OutOfWorld, TooManyPoints, TooManyAttrs}
 use Rattle.geo_model.specs.Shapes.{has_too_few, is_outside, parts_of, point_count, first_of}
 use Rattle.reading.specs.Json.{json_of}

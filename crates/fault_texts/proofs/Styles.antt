@@ -4,7 +4,7 @@ use Rattle.std.specs.Option.{ok_or}
 use Rattle.std.specs.Str.{bytes_eq}
 use Rattle.serde_json.specs.Data.{Data, Items}
 use Rattle.serde_json.specs.Find.{get, as_str, as_array}
-use Rattle.plain_drawing.specs.declared.shapes.LineCap.TheVariants as cap
+use Rattle.plain_shapes.specs.declared.shapes.LineCap.TheVariants as cap
 use Rattle.plain_drawing.specs.declared.style.FilterMode.TheVariants as mode
 use Rattle.plain_drawing.specs.Styles.{Style, LayerRef, RasterRef, style_has, layer_has, raster_has, is_text_to, is_width}
 use Rattle.filter_expr.specs.declared.faults.FilterFault.TheVariants.{Bad, NumberRange, TooDeep, NoMemory}

@@ -1,6 +1,6 @@
 -- The filter of a tree of the grammar has that tree, parentheses aside.
 use Rattle.std.proofs.Common.{◌≡◌, ℕ, ◌+◌, true, false, if◌then◌else◌, refl, ◌∙◌, ap}
-use Rattle.plain_drawing.specs.Filters.{or_tree, and_tree, no_trees, tree_then}
+use Rattle.plain_filters.specs.Filters.{or_tree, and_tree, no_trees, tree_then}
 use Rattle.filter_expr.specs.declared.tokens.Token.{Token}
 use Rattle.filter_expr.specs.declared.tokens.Token.TheVariants as token
 use Rattle.filter_expr.specs.Trees.{Kind, Tree, Terms, leaf, negation, negative, comparison, chain, parens, no_terms, term, or_chain, and_chain, sum_chain, product_chain, joins, is_leaf, is_end, is_or, is_and, is_sum_sign, is_product_sign, sum_token, product_token, bare, bare_terms, InRange, TermsInRange}

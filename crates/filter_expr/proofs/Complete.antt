@@ -5,7 +5,7 @@ use Rattle.filter_expr.specs.declared.tokens.Token.TheVariants as token
 use Rattle.filter_expr.specs.declared.tokens.Spot.{Spot}
 use Rattle.filter_expr.specs.declared.faults.FilterFault.{FilterFault}
 use Rattle.filter_expr.specs.declared.faults.FilterFault.TheVariants.{Bad, NumberRange, TooDeep, NoMemory}
-use Rattle.plain_drawing.specs.declared.CompareSign.{CompareSign}
+use Rattle.plain_filters.specs.declared.CompareSign.{CompareSign}
 use Rattle.filter_expr.specs.Trees.{Kind, Tree, Terms, leaf, negation, negative, comparison, chain, parens, no_terms, term, or_chain, and_chain, sum_chain, product_chain, joins, is_leaf, is_huge, is_open, is_minus, is_not, is_compare, is_close, bare, bare_terms, nesting, nesting_terms, InRange, TermsInRange}
 use Rattle.filter_expr.specs.Seen.{Part, terms_of}
 use Rattle.filter_expr.specs.Grammar.{IsSpelled, AreSpelled, kind_strength, IsMany, Stands, StandTerms}

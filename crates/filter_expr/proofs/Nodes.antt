@@ -7,17 +7,17 @@ use Rattle.std.specs.declared.alloc.Global.{Global}
 use Rattle.farm_base.specs.declared.Attr.{Attr}
 use Rattle.farm_base.specs.declared.Value.{Value}
 use Rattle.farm_base.specs.declared.Value.TheVariants.{Truth}
-use Rattle.plain_drawing.specs.declared.Expr.{Expr, fold-roll-Expr}
-use Rattle.plain_drawing.specs.declared.Expr.TheVariants as node
-use Rattle.plain_drawing.specs.declared.Expr.TheOpen as «open»
-use Rattle.plain_drawing.specs.declared.SumPart.{SumPart}
-use Rattle.plain_drawing.specs.declared.ProductPart.{ProductPart}
-use Rattle.plain_drawing.specs.declared.SumSign.{SumSign}
-use Rattle.plain_drawing.specs.declared.ProductSign.{ProductSign}
-use Rattle.plain_drawing.specs.declared.CompareSign.{CompareSign}
-use Rattle.plain_drawing.specs.Values.{truth, compares, negated, sum_of, product_of}
+use Rattle.plain_filters.specs.declared.Expr.{Expr, fold-roll-Expr}
+use Rattle.plain_filters.specs.declared.Expr.TheVariants as node
+use Rattle.plain_filters.specs.declared.Expr.TheOpen as «open»
+use Rattle.plain_filters.specs.declared.SumPart.{SumPart}
+use Rattle.plain_filters.specs.declared.ProductPart.{ProductPart}
+use Rattle.plain_filters.specs.declared.SumSign.{SumSign}
+use Rattle.plain_filters.specs.declared.ProductSign.{ProductSign}
+use Rattle.plain_filters.specs.declared.CompareSign.{CompareSign}
+use Rattle.plain_filters.specs.Values.{truth, compares, negated, sum_of, product_of}
 use Rattle.filter_expr.specs.Parts.{valued, tree_of_sum, tree_of_product, sum_part, product_part, sum_value, product_value}
-use Rattle.plain_drawing.specs.Filters.{FilterTree, tree_of, tree_value, any_true, all_true, after_sums, after_products, trees_of, sums_of, products_of, tree_step, sum_part_step, product_part_step}
+use Rattle.plain_filters.specs.Filters.{FilterTree, tree_of, tree_value, any_true, all_true, after_sums, after_products, trees_of, sums_of, products_of, tree_step, sum_part_step, product_part_step}
 
 any_listed : (attrs : List Attr) (es : List Expr) → any_true attrs (trees_of (map tree_of es)) ≡ list_any truth (map (valued attrs) es)
 any_listed attrs [] = refl

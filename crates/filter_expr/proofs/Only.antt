@@ -1,6 +1,6 @@
 -- Each text has one answer at most, and the reading is it.
 use Rattle.std.proofs.Common.{◌≡◌, ℕ, ◌+◌, ◌≤◌, true, List, [], ◌∷◌, ◌++◌, ◌⊎◌, inl, inr, Result, Ok, Err, refl, sym, ap, ◌∙◌, subst, arith, append_assoc}
-use Rattle.plain_drawing.specs.declared.Expr.{Expr}
+use Rattle.plain_filters.specs.declared.Expr.{Expr}
 use Rattle.filter_expr.specs.declared.tokens.Token.{Token}
 use Rattle.filter_expr.specs.declared.tokens.Token.TheVariants as token
 use Rattle.filter_expr.specs.declared.tokens.Spot.{Spot}
@@ -8,7 +8,7 @@ use Rattle.filter_expr.specs.declared.faults.FilterFault.{FilterFault}
 use Rattle.filter_expr.specs.declared.faults.FilterFault.TheVariants.{Bad, NumberRange, TooDeep, NoMemory}
 use Rattle.filter_expr.specs.Trees.{Tree, bare, nesting, InRange, is_huge}
 use Rattle.filter_expr.specs.Seen.{seen, shape}
-use Rattle.plain_drawing.specs.Filters.{FilterTree, tree_of}
+use Rattle.plain_filters.specs.Filters.{FilterTree, tree_of}
 use Rattle.filter_expr.proofs.SeenLemmas.{shape_known}
 use Rattle.filter_expr.specs.Lexing.{lexed}
 use Rattle.filter_expr.specs.Grammar.{IsSpelled, Stands}

@@ -3,17 +3,17 @@ use Rattle.std.proofs.Common.{◌≡◌, ℕ, Bool, true, false, if◌then◌els
 use Rattle.std.specs.declared.boxed.Box.{Box}
 use Rattle.std.specs.declared.vec.Vec.{Vec}
 use Rattle.std.specs.declared.alloc.Global.{Global}
-use Rattle.plain_drawing.specs.declared.Expr.{Expr, fold-roll-Expr, roll-Expr, map-Expr}
-use Rattle.plain_drawing.specs.declared.Expr.TheVariants as node
-use Rattle.plain_drawing.specs.declared.Expr.TheOpen as «open»
-use Rattle.plain_drawing.specs.declared.SumPart.{SumPart, fold-SumPart, fold-roll-SumPart, roll-SumPart}
-use Rattle.plain_drawing.specs.declared.ProductPart.{ProductPart, fold-ProductPart, fold-roll-ProductPart, roll-ProductPart}
-use Rattle.plain_drawing.specs.declared.CompareSign.{CompareSign}
-use Rattle.plain_drawing.specs.declared.SumSign.{SumSign}
-use Rattle.plain_drawing.specs.declared.SumSign.TheVariants as sum
-use Rattle.plain_drawing.specs.declared.ProductSign.{ProductSign}
-use Rattle.plain_drawing.specs.declared.ProductSign.TheVariants as product
-use Rattle.plain_drawing.specs.Filters.{FilterTree, FilterTrees, SumTrees, ProductTrees, or_tree, and_tree, not_tree, compare_tree, sum_tree, product_tree, negate_tree, name_tree, text_tree, number_tree, truth_tree, null_tree, no_trees, tree_then, no_sums, sum_then, no_products, product_then, tree_of, tree_step, sum_part_step, product_part_step, trees_of, sums_of, products_of}
+use Rattle.plain_filters.specs.declared.Expr.{Expr, fold-roll-Expr, roll-Expr, map-Expr}
+use Rattle.plain_filters.specs.declared.Expr.TheVariants as node
+use Rattle.plain_filters.specs.declared.Expr.TheOpen as «open»
+use Rattle.plain_filters.specs.declared.SumPart.{SumPart, fold-SumPart, fold-roll-SumPart, roll-SumPart}
+use Rattle.plain_filters.specs.declared.ProductPart.{ProductPart, fold-ProductPart, fold-roll-ProductPart, roll-ProductPart}
+use Rattle.plain_filters.specs.declared.CompareSign.{CompareSign}
+use Rattle.plain_filters.specs.declared.SumSign.{SumSign}
+use Rattle.plain_filters.specs.declared.SumSign.TheVariants as sum
+use Rattle.plain_filters.specs.declared.ProductSign.{ProductSign}
+use Rattle.plain_filters.specs.declared.ProductSign.TheVariants as product
+use Rattle.plain_filters.specs.Filters.{FilterTree, FilterTrees, SumTrees, ProductTrees, or_tree, and_tree, not_tree, compare_tree, sum_tree, product_tree, negate_tree, name_tree, text_tree, number_tree, truth_tree, null_tree, no_trees, tree_then, no_sums, sum_then, no_products, product_then, tree_of, tree_step, sum_part_step, product_part_step, trees_of, sums_of, products_of}
 use Rattle.filter_expr.specs.declared.tokens.Token.{Token}
 use Rattle.filter_expr.specs.declared.tokens.Token.TheVariants as token
 use Rattle.filter_expr.specs.Trees.{Kind, Tree, leaf, negation, negative, comparison, chain, no_terms, term, or_chain, and_chain, sum_chain, product_chain, sum_token, product_token}

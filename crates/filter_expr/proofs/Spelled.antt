@@ -5,7 +5,7 @@ use Rattle.std.specs.List.{prefix_len, list_all, list_any}
 use Rattle.std.specs.Str.{bytes_eq}
 use Rattle.std.proofs.lemmas.Bool.{eqb-true, lt-ltb, le-ltb, eq-eqb}
 use Rattle.std.proofs.lemmas.List.{length-append}
-use Rattle.plain_drawing.specs.declared.CompareSign.TheVariants as «compare»
+use Rattle.plain_filters.specs.declared.CompareSign.TheVariants as «compare»
 use Rattle.filter_expr.specs.declared.tokens.Token.{Token}
 use Rattle.filter_expr.specs.declared.tokens.Token.TheVariants as token
 use Rattle.filter_expr.specs.Spelling.{is_digit, is_letter, is_word_byte, is_quote, is_escaped, is_name_byte, IsDigits, number_of, IsQuoting, Spells, signs, begins_with, EndsBefore}

@@ -5,12 +5,12 @@ use Rattle.std.specs.List.{list_any, list_all}
 use Rattle.std.specs.Str.{bytes_eq}
 use Rattle.farm_base.specs.declared.Attr.{Attr}
 use Rattle.farm_base.specs.declared.Value.{Value}
-use Rattle.plain_drawing.specs.Values.{attribute, sum_of, product_of}
+use Rattle.plain_filters.specs.Values.{attribute, sum_of, product_of}
 use Rattle.filter_expr.specs.Parts.{sum_value, product_value}
-use Rattle.plain_drawing.specs.declared.SumPart.{SumPart}
-use Rattle.plain_drawing.specs.declared.ProductPart.{ProductPart}
-use Rattle.plain_drawing.specs.declared.SumSign.{SumSign}
-use Rattle.plain_drawing.specs.declared.ProductSign.{ProductSign}
+use Rattle.plain_filters.specs.declared.SumPart.{SumPart}
+use Rattle.plain_filters.specs.declared.ProductPart.{ProductPart}
+use Rattle.plain_filters.specs.declared.SumSign.{SumSign}
+use Rattle.plain_filters.specs.declared.ProductSign.{ProductSign}
 
 -- what is left begins with the item here
 pub left_here : {A : Type 0} (xs : List A) (i : ℕ) (x : A) → i < length xs → x ≡ get_or xs i x → drop i xs ≡ x ∷ drop (i + 1) xs

@@ -1,12 +1,12 @@
 -- What a text says as a filter, as a function: the filter that its tokens are read as, or the first fault.
 -- It is what the grammar gives the text: the filter where there is one, and else the first fault.
 use Rattle.std.specs.Prelude.{◌≡◌, ℕ, Bool, true, false, if◌then◌else◌, List, Result, Ok, Err}
-use Rattle.plain_drawing.specs.declared.Expr.{Expr}
-use Rattle.plain_drawing.specs.declared.SumSign.{SumSign}
-use Rattle.plain_drawing.specs.declared.SumSign.TheVariants as sum
-use Rattle.plain_drawing.specs.declared.ProductSign.{ProductSign}
-use Rattle.plain_drawing.specs.declared.ProductSign.TheVariants as product
-use Rattle.plain_drawing.specs.Filters.{FilterTree, FilterTrees, SumTrees, ProductTrees, or_tree, and_tree, not_tree, compare_tree, sum_tree, product_tree, negate_tree, name_tree, text_tree, number_tree, truth_tree, null_tree, no_trees, tree_then, no_sums, sum_then, no_products, product_then, tree_of}
+use Rattle.plain_filters.specs.declared.Expr.{Expr}
+use Rattle.plain_filters.specs.declared.SumSign.{SumSign}
+use Rattle.plain_filters.specs.declared.SumSign.TheVariants as sum
+use Rattle.plain_filters.specs.declared.ProductSign.{ProductSign}
+use Rattle.plain_filters.specs.declared.ProductSign.TheVariants as product
+use Rattle.plain_filters.specs.Filters.{FilterTree, FilterTrees, SumTrees, ProductTrees, or_tree, and_tree, not_tree, compare_tree, sum_tree, product_tree, negate_tree, name_tree, text_tree, number_tree, truth_tree, null_tree, no_trees, tree_then, no_sums, sum_then, no_products, product_then, tree_of}
 use Rattle.filter_expr.specs.declared.tokens.Token.{Token}
 use Rattle.filter_expr.specs.declared.tokens.Token.TheVariants as token
 use Rattle.filter_expr.specs.declared.faults.FilterFault.{FilterFault}

@@ -1,7 +1,7 @@
 -- What a text is as a filter: its tree, or its first fault.
 use Rattle.std.specs.Prelude.{◌≡◌, ℕ, ◌≤◌, ◌<◌, Bool, ◌||◌, IsTrue, List, [], ◌∷◌, ◌++◌, ◌⊎◌, Result, Ok, Err}
-use Rattle.plain_drawing.specs.declared.Expr.{Expr}
-use Rattle.plain_drawing.specs.Filters.{FilterTree, tree_of}
+use Rattle.plain_filters.specs.declared.Expr.{Expr}
+use Rattle.plain_filters.specs.Filters.{FilterTree, tree_of}
 use Rattle.filter_expr.specs.declared.tokens.Token.{Token}
 use Rattle.filter_expr.specs.declared.tokens.Token.TheVariants as token
 use Rattle.filter_expr.specs.declared.tokens.Spot.{Spot}

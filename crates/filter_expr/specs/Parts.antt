@@ -2,13 +2,13 @@
 use Rattle.std.specs.Prelude.{List, [], ◌∷◌}
 use Rattle.farm_base.specs.declared.Value.{Value}
 use Rattle.farm_base.specs.declared.Attr.{Attr}
-use Rattle.plain_drawing.specs.declared.Expr.{Expr}
-use Rattle.plain_drawing.specs.declared.SumPart.{SumPart, fold-SumPart}
-use Rattle.plain_drawing.specs.declared.SumSign.{SumSign}
-use Rattle.plain_drawing.specs.declared.ProductPart.{ProductPart, fold-ProductPart}
-use Rattle.plain_drawing.specs.declared.ProductSign.{ProductSign}
-use Rattle.plain_drawing.specs.Values.{sum_of, product_of}
-use Rattle.plain_drawing.specs.Filters.{FilterTree, tree_of, tree_value, tree_step, sum_part_step, product_part_step}
+use Rattle.plain_filters.specs.declared.Expr.{Expr}
+use Rattle.plain_filters.specs.declared.SumPart.{SumPart, fold-SumPart}
+use Rattle.plain_filters.specs.declared.SumSign.{SumSign}
+use Rattle.plain_filters.specs.declared.ProductPart.{ProductPart, fold-ProductPart}
+use Rattle.plain_filters.specs.declared.ProductSign.{ProductSign}
+use Rattle.plain_filters.specs.Values.{sum_of, product_of}
+use Rattle.plain_filters.specs.Filters.{FilterTree, tree_of, tree_value, tree_step, sum_part_step, product_part_step}
 
 -- the value of an expression's tree
 abbrev pub valued : List Attr → Expr → Value

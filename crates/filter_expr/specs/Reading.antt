@@ -6,8 +6,8 @@ use Rattle.filter_expr.specs.declared.tokens.Token.TheVariants as token
 use Rattle.filter_expr.specs.declared.tokens.Spot.{Spot}
 use Rattle.filter_expr.specs.declared.faults.FilterFault.{FilterFault}
 use Rattle.filter_expr.specs.declared.faults.FilterFault.TheVariants.{Bad, NumberRange, TooDeep}
-use Rattle.plain_drawing.specs.declared.CompareSign.{CompareSign}
-use Rattle.plain_drawing.specs.declared.CompareSign.TheVariants as «compare»
+use Rattle.plain_filters.specs.declared.CompareSign.{CompareSign}
+use Rattle.plain_filters.specs.declared.CompareSign.TheVariants as «compare»
 use Rattle.filter_expr.specs.Trees.{Kind, Tree, leaf, negation, negative, comparison, chain, or_chain, and_chain, sum_chain, product_chain, joins, is_leaf, is_huge, is_open, is_close, is_minus, is_not, is_compare, is_end}
 use Rattle.filter_expr.specs.Seen.{Part, terms_of}
 

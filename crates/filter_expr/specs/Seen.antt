@@ -1,7 +1,7 @@
 -- The grammar's tree of a plain filter: the same nodes, with the sign before each later part.
 use Rattle.std.specs.Prelude.{List, [], ◌∷◌, map, Bool, true, false}
-use Rattle.plain_drawing.specs.declared.Expr.{Expr}
-use Rattle.plain_drawing.specs.Filters.{FilterTree, FilterTrees, SumTrees, ProductTrees, or_tree, and_tree, not_tree, compare_tree, sum_tree, product_tree, negate_tree, name_tree, text_tree, number_tree, truth_tree, null_tree, no_trees, tree_then, no_sums, sum_then, no_products, product_then, tree_of}
+use Rattle.plain_filters.specs.declared.Expr.{Expr}
+use Rattle.plain_filters.specs.Filters.{FilterTree, FilterTrees, SumTrees, ProductTrees, or_tree, and_tree, not_tree, compare_tree, sum_tree, product_tree, negate_tree, name_tree, text_tree, number_tree, truth_tree, null_tree, no_trees, tree_then, no_sums, sum_then, no_products, product_then, tree_of}
 use Rattle.filter_expr.specs.declared.tokens.Token.{Token}
 use Rattle.filter_expr.specs.declared.tokens.Token.TheVariants as token
 use Rattle.filter_expr.specs.Trees.{Kind, Tree, Terms, leaf, negation, negative, comparison, chain, no_terms, term, or_chain, and_chain, sum_chain, product_chain, sum_token, product_token}

@@ -1,10 +1,10 @@
 -- The trees of filters, with their parentheses, and what is asked of one.
 use Rattle.std.specs.Prelude.{ℕ, ◌+◌, max, Bool, true, false, IsTrue}
-use Rattle.plain_drawing.specs.declared.CompareSign.{CompareSign}
-use Rattle.plain_drawing.specs.declared.SumSign.{SumSign}
-use Rattle.plain_drawing.specs.declared.SumSign.TheVariants as sum
-use Rattle.plain_drawing.specs.declared.ProductSign.{ProductSign}
-use Rattle.plain_drawing.specs.declared.ProductSign.TheVariants as product
+use Rattle.plain_filters.specs.declared.CompareSign.{CompareSign}
+use Rattle.plain_filters.specs.declared.SumSign.{SumSign}
+use Rattle.plain_filters.specs.declared.SumSign.TheVariants as sum
+use Rattle.plain_filters.specs.declared.ProductSign.{ProductSign}
+use Rattle.plain_filters.specs.declared.ProductSign.TheVariants as product
 use Rattle.filter_expr.specs.declared.tokens.Token.{Token}
 use Rattle.filter_expr.specs.declared.tokens.Token.TheVariants as token
 

@@ -7,7 +7,7 @@ ghost use Rattle.filter_expr.specs.Lexing.{run_test, number_token, number_at, wo
 
 use crate::tokens::{Spot, Spots, Token};
 use farm_base::{NoMemory, Text};
-use plain_drawing::CompareSign;
+use plain_filters::CompareSign;
 use std::alloc::Global;
 use std::collections::VecDeque;
 

@@ -7,7 +7,7 @@ ghost use Rattle.filter_expr.specs.Gives.{Gives};
 
 use crate::faults::FilterFault;
 use crate::tokens::Spots;
-use plain_drawing::{Expr, ProductPart, SumPart};
+use plain_filters::{Expr, ProductPart, SumPart};
 use std::alloc::Global;
 
 /// An and-part, then any number of `or` or double bars and an and-part.

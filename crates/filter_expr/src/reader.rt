@@ -6,12 +6,12 @@ ghost use Rattle.filter_expr.specs.Gives.{Answers};
 ghost use Rattle.filter_expr.specs.Filters.{FilterOf, FaultOf, MayAnswer, AnswersTree, AnswersFault, OneTree, SomeAnswer, OneFilter, NotBoth, OneFault, SomeTokenList, OneTokenList};
 ghost use Rattle.filter_expr.specs.FilterTexts.{filter_of, Says, SaysFilter, SaysFault, FilterSaid, FaultSaid};
 ghost use Rattle.filter_expr.specs.declared.faults.FilterFault.{FilterFault};
-ghost use Rattle.plain_drawing.specs.Filters.{FilterTree};
+ghost use Rattle.plain_filters.specs.Filters.{FilterTree};
 
 use crate::faults::FilterFault;
 use crate::lexer::tokens;
 use crate::parser::or_chain;
-use plain_drawing::Expr;
+use plain_filters::Expr;
 use std::alloc::Global;
 
 /// How many `(`, `not`, `!` and unary `-` may be open at once.

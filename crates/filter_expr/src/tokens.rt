@@ -5,7 +5,7 @@ ghost use Rattle.filter_expr.specs.Seen.{seen};
 ghost use Rattle.filter_expr.specs.Reading.{starts, first_token, place, next_sign, next_compare};
 
 use farm_base::Text;
-use plain_drawing::{CompareSign, Expr, ProductSign, SumSign};
+use plain_filters::{CompareSign, Expr, ProductSign, SumSign};
 use std::collections::VecDeque;
 use std::marker::Model;
 

@@ -1,14 +1,14 @@
 //! The value of a filter expression for the attributes of a feature.
 ghost use Rattle.std.specs.Prelude.{◌≡◌, map};
 ghost use Rattle.std.specs.List.{list_any, list_all};
-ghost use Rattle.plain_drawing.specs.Values.{truth};
-ghost use Rattle.plain_drawing.specs.Filters.{tree_of, tree_value, tree_holds};
+ghost use Rattle.plain_filters.specs.Values.{truth};
+ghost use Rattle.plain_filters.specs.Filters.{tree_of, tree_value, tree_holds};
 ghost use Rattle.filter_expr.specs.Parts.{valued, sum_part, product_part, sum_value, product_value};
 ghost use Rattle.filter_expr.specs.Shown.{plain};
 
 use crate::value::{ValueRef, attribute, compares, negated, product_of, sum_of, truth};
 use farm_base::Attr;
-use plain_drawing::{Expr, ProductPart, SumPart};
+use plain_filters::{Expr, ProductPart, SumPart};
 
 /// The value of the filter for these attributes; takes no memory. Operators are those of Mapnik's
 /// filter expressions, with values of this farm's own: null, truth values, whole numbers and texts.

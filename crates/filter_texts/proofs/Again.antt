@@ -5,9 +5,9 @@ use Rattle.std.specs.Fmt.{signed_decimal, decimal}
 use Rattle.std.proofs.lemmas.Bool.{ltb-false, le-ltb, eq-eqb, le-leb}
 use Rattle.std.proofs.lemmas.List.{append-nil, length-append}
 use Rattle.std.proofs.lemmas.Fmt.{decimal_by_steps}
-use Rattle.plain_drawing.specs.declared.CompareSign.{CompareSign}
-use Rattle.plain_drawing.specs.declared.CompareSign.TheVariants as «compare»
-use Rattle.plain_drawing.specs.Filters.{tree_of}
+use Rattle.plain_filters.specs.declared.CompareSign.{CompareSign}
+use Rattle.plain_filters.specs.declared.CompareSign.TheVariants as «compare»
+use Rattle.plain_filters.specs.Filters.{tree_of}
 use Rattle.filter_expr.specs.declared.tokens.Token.{Token}
 use Rattle.filter_expr.specs.declared.tokens.Token.TheVariants as token
 use Rattle.filter_expr.specs.declared.tokens.Spot.{Spot}

@@ -4,11 +4,11 @@ use Rattle.std.proofs.lemmas.Bool.{lt-ltb, le-ltb}
 use Rattle.std.specs.declared.boxed.Box.{Box}
 use Rattle.std.specs.declared.vec.Vec.{Vec}
 use Rattle.std.specs.declared.alloc.Global.{Global}
-use Rattle.plain_drawing.specs.declared.Expr.{Expr}
-use Rattle.plain_drawing.specs.declared.Expr.TheVariants as node
-use Rattle.plain_drawing.specs.declared.SumPart.{SumPart}
-use Rattle.plain_drawing.specs.declared.ProductPart.{ProductPart}
-use Rattle.plain_drawing.specs.declared.CompareSign.{CompareSign}
+use Rattle.plain_filters.specs.declared.Expr.{Expr}
+use Rattle.plain_filters.specs.declared.Expr.TheVariants as node
+use Rattle.plain_filters.specs.declared.SumPart.{SumPart}
+use Rattle.plain_filters.specs.declared.ProductPart.{ProductPart}
+use Rattle.plain_filters.specs.declared.CompareSign.{CompareSign}
 use Rattle.filter_expr.specs.declared.tokens.Token.{Token}
 use Rattle.filter_expr.specs.declared.tokens.Token.TheVariants as token
 use Rattle.filter_expr.specs.Trees.{Kind, Tree, leaf, parens, or_chain, and_chain, sum_chain, product_chain}

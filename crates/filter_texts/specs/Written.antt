@@ -1,9 +1,9 @@
 -- A filter as a text again: its tokens with parentheses where they are needed, and a space between two tokens.
 use Rattle.std.specs.Prelude.{◌≡◌, ℕ, ◌+◌, ◌==◌, ◌||◌, nat_lt, if◌then◌else◌, List, [], ◌∷◌, ◌++◌, codes, Result, Ok}
 use Rattle.std.specs.Fmt.{signed_decimal}
-use Rattle.plain_drawing.specs.declared.CompareSign.TheVariants as «compare»
-use Rattle.plain_drawing.specs.declared.Expr.{Expr}
-use Rattle.plain_drawing.specs.Filters.{FilterTree, tree_of}
+use Rattle.plain_filters.specs.declared.CompareSign.TheVariants as «compare»
+use Rattle.plain_filters.specs.declared.Expr.{Expr}
+use Rattle.plain_filters.specs.Filters.{FilterTree, tree_of}
 use Rattle.filter_expr.specs.declared.tokens.Token.{Token}
 use Rattle.filter_expr.specs.declared.tokens.Token.TheVariants as token
 use Rattle.filter_expr.specs.Trees.{Kind, Tree, Terms, leaf, negation, negative, comparison, chain, parens, no_terms, term}

@@ -8,7 +8,7 @@ ghost use Rattle.filter_texts.specs.Written.{escaped_text, spelling, put_behind,
 ghost use Rattle.filter_texts.specs.Pieces.{spaced, escaped_char};
 
 use farm_base::NoMemory;
-use plain_drawing::{CompareSign, Expr, ProductSign, SumSign};
+use plain_filters::{CompareSign, Expr, ProductSign, SumSign};
 
 /// The space before the next word; none before the first.
 fn put_space(out: &mut String) -> Result<(), NoMemory>

@@ -1,6 +1,6 @@
 //! Writes a filter as a text.
 ghost use Rattle.std.specs.Prelude.{◌≡◌, OnOk, IfOk, ℕ, List, map, string_bytes};
-ghost use Rattle.plain_drawing.specs.Filters.{tree_of};
+ghost use Rattle.plain_filters.specs.Filters.{tree_of};
 ghost use Rattle.filter_expr.specs.Seen.{seen};
 ghost use Rattle.filter_expr.specs.Filters.{FilterOf};
 ghost use Rattle.filter_expr.proofs.SeenLemmas.{seen_sum, seen_product};
@@ -13,7 +13,7 @@ use crate::words::{
     truth_word,
 };
 use farm_base::{NoMemory, Text};
-use plain_drawing::{Expr, ProductPart, SumPart};
+use plain_filters::{Expr, ProductPart, SumPart};
 use std::alloc::Global;
 
 /// The filter as a text: a space between two tokens, parentheses only where a part binds too weakly for

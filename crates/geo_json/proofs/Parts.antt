@@ -2,7 +2,7 @@
 use Rattle.std.proofs.Common.{◌≡◌, List, refl}
 use Rattle.std.specs.Prelude.{false}
 use Rattle.farm_base.specs.declared.values.Attr.{Attr}
-use Rattle.plain_drawing.specs.declared.shapes.Geometry.{Geometry}
+use Rattle.plain_shapes.specs.declared.shapes.Geometry.{Geometry}
 use Rattle.geo_model.specs.Shapes.{has_double_name, fault_of}
 use Rattle.geo_json.specs.FeatureTexts.{parts_fault}
 

@@ -3,8 +3,8 @@ use Rattle.std.specs.Prelude.{ℕ, ℤ, pos, negsuc, ◌+◌, ◌^◌, nat_le, i
 use Rattle.std.specs.Str.{bytes_eq}
 use Rattle.serde_json.specs.Data.{Data, Items, no_items, item}
 use Rattle.serde_json.specs.Find.{get}
-use Rattle.plain_drawing.specs.declared.world.Point.{Point}
-use Rattle.plain_drawing.specs.World.{x_from_cm, y_from_cm}
+use Rattle.plain_world.specs.declared.world.Point.{Point}
+use Rattle.plain_world.specs.World.{x_from_cm, y_from_cm}
 use Rattle.reading.specs.Steps.{◌>>=◌}
 use Rattle.reading.specs.Values.{or_value, text, list, signed}
 use Rattle.geo_json.specs.declared.faults.DataFault.{DataFault}

@@ -7,8 +7,8 @@ use Rattle.serde_json.specs.Data.{Data}
 use Rattle.serde_json.specs.Find.{get}
 use Rattle.serde_json.specs.Events.{items_len}
 use Rattle.farm_base.specs.Earlier.{each_after}
-use Rattle.plain_drawing.specs.Features.{Layer}
-use Rattle.plain_drawing.specs.Data.{is_name}
+use Rattle.plain_data.specs.Features.{Layer}
+use Rattle.plain_data.specs.Data.{is_name}
 use Rattle.reading.specs.Json.{json_of}
 use Rattle.reading.specs.Lists.{list_of}
 use Rattle.reading.specs.Steps.{◌>>=◌, check}

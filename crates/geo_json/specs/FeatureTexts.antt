@@ -3,9 +3,9 @@ use Rattle.std.specs.Prelude.{ℕ, ◌^◌, ◌-◌, Bool, not, nat_lt, List, []
 use Rattle.serde_json.specs.Data.{Data}
 use Rattle.serde_json.specs.Find.{get}
 use Rattle.farm_base.specs.declared.values.Attr.{Attr}
-use Rattle.plain_drawing.specs.declared.shapes.Geometry.{Geometry}
-use Rattle.plain_drawing.specs.Features.{Feature}
-use Rattle.plain_drawing.specs.Data.{has_id, ids_of}
+use Rattle.plain_shapes.specs.declared.shapes.Geometry.{Geometry}
+use Rattle.plain_data.specs.Features.{Feature}
+use Rattle.plain_data.specs.Data.{has_id, ids_of}
 use Rattle.geo_model.specs.declared.faults.GeoFault.{GeoFault}
 use Rattle.geo_model.specs.declared.faults.GeoFault.TheVariants.{TooManyAttrs}
 use Rattle.geo_model.specs.Shapes.{shape_fault, first_of}

@@ -2,9 +2,9 @@
 use Rattle.std.specs.Prelude.{ℕ, List, [], ◌∷◌, codes, Option, Some, None, Result, Ok, Err}
 use Rattle.serde_json.specs.Data.{Data}
 use Rattle.serde_json.specs.Find.{get}
-use Rattle.plain_drawing.specs.declared.world.Point.{Point}
-use Rattle.plain_drawing.specs.declared.shapes.Geometry.{Geometry}
-use Rattle.plain_drawing.specs.declared.shapes.Geometry.TheVariants.{Points, Lines, Polygon}
+use Rattle.plain_world.specs.declared.world.Point.{Point}
+use Rattle.plain_shapes.specs.declared.shapes.Geometry.{Geometry}
+use Rattle.plain_shapes.specs.declared.shapes.Geometry.TheVariants.{Points, Lines, Polygon}
 use Rattle.reading.specs.Lists.{list_of}
 use Rattle.reading.specs.Steps.{◌>>=◌}
 use Rattle.reading.specs.Values.{list}

@@ -4,7 +4,7 @@ use Rattle.std.specs.Option.{ok_or}
 use Rattle.serde_json.specs.Data.{Data, no_items}
 use Rattle.serde_json.specs.Find.{get}
 use Rattle.serde_json.specs.Events.{items_len}
-use Rattle.plain_drawing.specs.Data.{Change, is_name}
+use Rattle.plain_data.specs.Data.{Change, is_name}
 use Rattle.reading.specs.Json.{json_of}
 use Rattle.reading.specs.Lists.{list_of}
 use Rattle.reading.specs.Steps.{◌>>=◌, check}

@@ -5,7 +5,7 @@ ghost use Rattle.geo_json.specs.Coordinates as spec;
 
 use crate::faults::DataFault;
 use merc_fixed::{x_from_cm, y_from_cm};
-use plain_drawing::Point;
+use plain_world::Point;
 use reading::{list, signed, text};
 use serde_json::Value;
 

@@ -20,7 +20,7 @@ use crate::geometries::geometry;
 use crate::openings::open;
 use farm_base::Attr;
 use geo_model::{Feature, make_feature};
-use plain_drawing::Geometry;
+use plain_shapes::Geometry;
 use reading::{ReadItem, ReadKnown, read_list, read_list_with, whole};
 use serde_json::Value;
 use std::alloc::Global;

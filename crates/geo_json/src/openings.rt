@@ -1,7 +1,7 @@
 //! What the objects of data and updates have in common.
 ghost use Rattle.std.specs.Prelude.{◌≡◌, map, IfOk, IsTrue};
 ghost use Rattle.serde_json.specs.View.{view};
-ghost use Rattle.plain_drawing.specs.Data.{is_name};
+ghost use Rattle.plain_data.specs.Data.{is_name};
 ghost use Rattle.reading.specs.Steps.{seen};
 ghost use Rattle.geo_json.specs.Openings as spec;
 

@@ -3,11 +3,11 @@ use Rattle.std.specs.Prelude.{ℕ, ◌^◌, ◌≤◌, ◌≡◌, Bool, true, fa
 use Rattle.std.specs.List.{list_any}
 use Rattle.std.specs.Str.{bytes_eq}
 use Rattle.farm_base.specs.declared.values.Attr.{Attr}
-use Rattle.plain_drawing.specs.declared.world.Point.{Point}
-use Rattle.plain_drawing.specs.declared.shapes.Geometry.{Geometry}
-use Rattle.plain_drawing.specs.declared.shapes.Geometry.TheVariants.{Points, Lines, Polygon}
-use Rattle.plain_drawing.specs.World.{InWorld}
-use Rattle.plain_drawing.specs.Features.{Feature}
+use Rattle.plain_world.specs.declared.world.Point.{Point}
+use Rattle.plain_shapes.specs.declared.shapes.Geometry.{Geometry}
+use Rattle.plain_shapes.specs.declared.shapes.Geometry.TheVariants.{Points, Lines, Polygon}
+use Rattle.plain_world.specs.World.{InWorld}
+use Rattle.plain_data.specs.Features.{Feature}
 use Rattle.geo_model.specs.declared.faults.GeoFault.{GeoFault}
 use Rattle.geo_model.specs.declared.faults.GeoFault.TheVariants.{TooFewPoints, OutOfWorld, TooManyPoints, TooManyAttrs, DoubleName}
 

@@ -2,7 +2,8 @@
 ghost use Rattle.std.specs.Prelude.{◌≡◌, fold};
 ghost use Rattle.geo_model.specs.Bounds.{widened, meets, no_bounds, bounds_of};
 
-use plain_drawing::{Path, Point};
+use plain_shapes::Path;
+use plain_world::Point;
 
 /// A rectangle of the world by its least and greatest coordinates, which belong to it.
 #[derive(Clone, Copy, Debug, PartialEq, Eq)]

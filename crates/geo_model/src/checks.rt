@@ -7,7 +7,8 @@ ghost use Rattle.geo_model.specs.Shapes.{parts_of, least_points, is_none, has_to
 use crate::bounds::WORLD;
 use crate::faults::GeoFault;
 use farm_base::Attr;
-use plain_drawing::{Geometry, Path, Point};
+use plain_shapes::{Geometry, Path};
+use plain_world::Point;
 use std::slice;
 
 /// The most points of a feature.

@@ -2,7 +2,7 @@
 ghost use Rattle.std.specs.Prelude.{◌≡◌, IfOk};
 
 use farm_base::{Attr, Listed, NoMemory, Text, Value};
-use plain_drawing::{Geometry, Path};
+use plain_shapes::{Geometry, Path};
 use std::alloc::Global;
 
 fn copy_path(alloc: Global, path: &Path) -> Result<Path, NoMemory>

@@ -8,7 +8,7 @@ use crate::checks::{check_attrs, check_shape, parts_of};
 use crate::copies::{copy_attrs, copy_geometry};
 use crate::faults::GeoFault;
 use farm_base::{Attr, NoMemory};
-use plain_drawing::Geometry;
+use plain_shapes::Geometry;
 use std::alloc::Global;
 use std::marker::Model;
 
@@ -24,7 +24,7 @@ pub struct Feature {
 
 impl Model for Feature {
     ghost use Rattle.std.specs.Prelude.{◌≡◌, None};
-    ghost use Rattle.plain_drawing.specs.Features.{Feature};
+    ghost use Rattle.plain_data.specs.Features.{Feature};
     ghost use Rattle.geo_model.specs.Bounds.{bounds_of};
     ghost use Rattle.geo_model.specs.Shapes.{parts_of, fault_of};
 

@@ -12,4 +12,5 @@ mod tests;
 pub use bounds::Bounds;
 pub use faults::GeoFault;
 pub use feature::{Feature, make_feature};
-pub use plain_drawing::{Geometry, Path, Point};
+pub use plain_shapes::{Geometry, Path};
+pub use plain_world::Point;

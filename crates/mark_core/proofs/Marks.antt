@@ -3,9 +3,9 @@ use Rattle.std.proofs.Common.{◌≡◌, ℕ, ◌+◌, ◌-◌, ◌*◌, ◌≤�
 use Rattle.std.specs.Prelude.{nat_le}
 use Rattle.std.proofs.Math.Nat.{mul-le-mul_right}
 use Rattle.std.proofs.lemmas.Bool.{cases_lt, leb-true, and_parts}
-use Rattle.plain_drawing.specs.declared.world.Point.{Point}
-use Rattle.plain_drawing.specs.Strokes.{in_mark}
-use Rattle.plain_drawing.proofs.Signs.{square-less, root_le, square_below}
+use Rattle.plain_world.specs.declared.world.Point.{Point}
+use Rattle.plain_shapes.specs.Strokes.{in_mark}
+use Rattle.plain_shapes.proofs.Signs.{square-less, root_le, square_below}
 
 pub mark_is : (a b : ℕ) (c p : Point) (x y : ℕ) → x ≡ c.x - p.x + (p.x - c.x) → y ≡ c.y - p.y + (p.y - c.y)
     → (nat_le 1 a && nat_le 1 b && nat_le (x * x * (b * b) + y * y * (a * a)) (a * a * (b * b))) ≡ in_mark a b c p

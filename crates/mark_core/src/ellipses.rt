@@ -1,10 +1,10 @@
 //! The ellipse of a mark.
 ghost use Rattle.std.specs.Prelude.{◌≡◌, ◌+◌, ◌-◌, ◌*◌, ◌≤◌, ◌^◌};
-ghost use Rattle.plain_drawing.specs.World.{InWorld};
-ghost use Rattle.plain_drawing.specs.Strokes.{in_mark};
+ghost use Rattle.plain_world.specs.World.{InWorld};
+ghost use Rattle.plain_shapes.specs.Strokes.{in_mark};
 
 use centre_spans::{Shape, Stretch, all, apart, squared};
-use plain_drawing::Point;
+use plain_world::Point;
 
 /// The ellipse round `centre` that is `a` wide and `b` high to each side, in world units. Where one of
 /// them is 0 it holds nothing.
@@ -54,8 +54,8 @@ fn around(p: u32, reach: u32) -> Stretch
 
 impl Shape for Ellipse {
     ghost use Rattle.std.specs.Prelude.{◌≡◌, ◌≤◌, ◌^◌};
-    ghost use Rattle.plain_drawing.specs.World.{InWorld};
-    ghost use Rattle.plain_drawing.specs.Strokes.{in_mark};
+    ghost use Rattle.plain_world.specs.World.{InWorld};
+    ghost use Rattle.plain_shapes.specs.Strokes.{in_mark};
 
     ghost holds = { λ s c. in_mark s.a s.b c s.centre };
 

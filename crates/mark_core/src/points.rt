@@ -1,13 +1,14 @@
 //! Marks at all points of a path.
 ghost use Rattle.std.specs.Prelude.{◌≡◌, ◌≤◌, ◌^◌, All};
-ghost use Rattle.plain_drawing.specs.World.{InWorld, IsWindow, centres};
-ghost use Rattle.plain_drawing.specs.Canvas.{marked};
-ghost use Rattle.plain_drawing.specs.Strokes.{on_marks};
+ghost use Rattle.plain_world.specs.World.{InWorld, IsWindow, centres};
+ghost use Rattle.plain_shapes.specs.Canvas.{marked};
+ghost use Rattle.plain_shapes.specs.Strokes.{on_marks};
 
 use crate::ellipses::Ellipse;
 use centre_spans::mark;
-use plain_drawing::{Path, Point, Window};
 use plain_image::Mask;
+use plain_shapes::Path;
+use plain_world::{Point, Window};
 
 fn mark_each(points: &[Point], a: u32, b: u32, w: Window, mask: &mut Mask)
     requires points { All InWorld points.now }

@@ -3,10 +3,10 @@ use Rattle.std.proofs.Common.{◌≡◌, ℕ, ◌+◌, ◌-◌, ◌/◌, ◌^◌
 use Rattle.std.specs.Prelude.{◌==◌}
 use Rattle.std.proofs.lemmas.Bool.{and_from, and_parts}
 use Rattle.std.proofs.lemmas.Bool.Decides.{nat_tests}
-use Rattle.plain_drawing.specs.declared.world.Square.{Square}
-use Rattle.plain_drawing.specs.World.{squares_meet}
-use Rattle.plain_drawing.proofs.Squares.{ancestor, squares_turned}
-use Rattle.merc_fixed.specs.Ancestors.{IsOver}
+use Rattle.plain_world.specs.declared.world.Square.{Square}
+use Rattle.plain_world.specs.World.{squares_meet}
+use Rattle.plain_world.proofs.Squares.{ancestor, squares_turned}
+use Rattle.plain_world.specs.Ancestors.{IsOver}
 
 same_from : (a b : ℕ) → a ≡ b → (a == b) ≡ true
 same_from a b e = grind (arith, nat_tests)

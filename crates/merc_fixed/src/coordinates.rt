@@ -1,6 +1,6 @@
 //! World units from Mercator coordinates in centimetres.
 ghost use Rattle.std.specs.Prelude.{◌≡◌, ◌≤◌};
-ghost use Rattle.plain_drawing.specs.World.{x_from_cm, y_from_cm, units_from_edge};
+ghost use Rattle.plain_world.specs.World.{x_from_cm, y_from_cm, units_from_edge};
 
 /// The width of the web Mercator world in centimetres.
 const WORLD_CM: u128 = 4007501668;

@@ -1,9 +1,9 @@
 //! The squares of tiles and metatiles, and where they overlap.
 ghost use Rattle.std.specs.Prelude.{◌≡◌, ◌≤◌, ◌↔◌, ◌⊎◌, IsTrue};
-ghost use Rattle.plain_drawing.specs.World.{IsTile, IsMeta, IsSquare, tile_square, meta_square, squares_meet, Overlap};
-ghost use Rattle.merc_fixed.specs.Ancestors.{IsOver};
+ghost use Rattle.plain_world.specs.World.{IsTile, IsMeta, IsSquare, tile_square, meta_square, squares_meet, Overlap};
+ghost use Rattle.plain_world.specs.Ancestors.{IsOver};
 
-use plain_drawing::{Meta, Square, Tile};
+use plain_world::{Meta, Square, Tile};
 
 /// The square of a metatile: `(z - 3, x / 8, y / 8)` from zoom 3 on, and below that the whole world.
 pub fn meta_square(m: Meta) -> Square

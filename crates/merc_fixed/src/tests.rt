@@ -1,6 +1,6 @@
 //! Places and squares of single tiles and metatiles.
 use crate::{index_place, meta_square, overlaps, tile_square};
-use plain_drawing::{Meta, Tile};
+use plain_world::{Meta, Tile};
 
 #[test]
 fn a_tiles_place_in_its_metatile(rt: HostRuntime) {

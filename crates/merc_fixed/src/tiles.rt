@@ -1,8 +1,8 @@
 //! Tiles and the metatiles that they lie in.
 ghost use Rattle.std.specs.Prelude.{◌≡◌, ◌<◌, ◌≤◌, ◌^◌, ℕ, IfSome, IfNone};
-ghost use Rattle.plain_drawing.specs.World.{IsTile, IsMeta, meta_of, tiles_across, index_place};
+ghost use Rattle.plain_world.specs.World.{IsTile, IsMeta, meta_of, tiles_across, index_place};
 
-use plain_drawing::{Meta, Tile};
+use plain_world::{Meta, Tile};
 
 /// The tile of this zoom, column and row; `None` exactly where the zoom is over 18 or the column or row
 /// is not below `2^z`.

@@ -1,9 +1,9 @@
 //! The pixel windows of tiles and metatiles.
 ghost use Rattle.std.specs.Prelude.{◌≡◌, ◌<◌, ◌≤◌, ◌*◌, ◌^◌};
-ghost use Rattle.plain_drawing.specs.World.{side_at, IsTile, IsMeta, IsTileSize, IsWindow, InWorld, window_of, meta_window_of, centre};
+ghost use Rattle.plain_world.specs.World.{side_at, IsTile, IsMeta, IsTileSize, IsWindow, InWorld, window_of, meta_window_of, centre};
 
 use crate::tiles::tiles_across;
-use plain_drawing::{Meta, Point, Tile, Window};
+use plain_world::{Meta, Point, Tile, Window};
 
 /// The window of a tile of `size` by `size` pixels.
 pub fn window(t: Tile, size: u32) -> Window

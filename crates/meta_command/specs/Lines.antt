@@ -4,7 +4,7 @@ use Rattle.std.specs.List.{flat_map}
 use Rattle.std.specs.Fmt.{decimal}
 use Rattle.farm_base.specs.declared.faults.MetaFault.{MetaFault}
 use Rattle.farm_base.specs.declared.faults.MetaFault.TheVariants.{Short, Magic, Compressed, Count, Place, Index}
-use Rattle.plain_drawing.specs.declared.world.Meta.{Meta}
+use Rattle.plain_world.specs.declared.world.Meta.{Meta}
 use Rattle.meta_container.specs.declared.container.Entry.{Entry}
 use Rattle.meta_container.specs.declared.container.Listing.{Listing}
 

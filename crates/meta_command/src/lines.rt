@@ -3,7 +3,7 @@ ghost use Rattle.std.specs.Prelude.{◌≡◌, IfOk, string_bytes};
 ghost use Rattle.meta_command.specs.Lines.{meta_line, entry_line, listing_text};
 
 use meta_container::{Entry, Listing};
-use plain_drawing::Meta;
+use plain_world::Meta;
 use std::alloc::{AllocError, Global};
 
 /// The text of a listing: `z x y` of the metatile, and for each tile that is there, in order of the

@@ -9,17 +9,17 @@ use Rattle.std.proofs.lemmas.Fmt.{length-decimal-le}
 use Rattle.std.proofs.lemmas.List.{length-map, get_or-map, get_or_append_left, get_or-append-add}
 use Rattle.std.proofs.lemmas.List.FromFn.{length-map-range_with_len, get_or-map-range_with_len}
 use Rattle.std.proofs.lemmas.List.Sums.{sum_by-cons}
-use Rattle.plain_drawing.specs.declared.colour.Colour.{Colour}
-use Rattle.plain_drawing.specs.declared.world.Meta.{Meta}
-use Rattle.plain_drawing.specs.declared.world.Tile.{Tile}
-use Rattle.plain_drawing.specs.World.{IsTile, meta_of, tiles_across, index_place, window_of, centres}
-use Rattle.plain_drawing.specs.Features.{Layer}
+use Rattle.plain_shapes.specs.declared.colour.Colour.{Colour}
+use Rattle.plain_world.specs.declared.world.Meta.{Meta}
+use Rattle.plain_world.specs.declared.world.Tile.{Tile}
+use Rattle.plain_world.specs.World.{IsTile, meta_of, tiles_across, index_place, window_of, centres}
+use Rattle.plain_data.specs.Features.{Layer}
 use Rattle.plain_drawing.specs.Styles.{MapStyle}
-use Rattle.plain_drawing.specs.Ppm.{pixel_bytes, ppm}
+use Rattle.plain_shapes.specs.Ppm.{pixel_bytes, ppm}
 use Rattle.plain_drawing.specs.Drawing as drawing
 use Rattle.plain_drawing.specs.Metatiles.{tile_at, column_of, tiles_in, tiles_of}
-use Rattle.plain_drawing.proofs.Places.{length-centres}
-use Rattle.plain_drawing.proofs.Windows.{size_bounds}
+use Rattle.plain_shapes.proofs.Places.{length-centres}
+use Rattle.plain_world.proofs.Windows.{size_bounds}
 use Rattle.meta_container.specs.Container.{bytes_of, is_stored, rank}
 use Rattle.meta_container.specs.Laws.{tile_of}
 use Rattle.meta_container.specs.Drawn.{DrawnAreTiles, DrawnInPlace, DrawnComeBack}

@@ -11,9 +11,9 @@ use Rattle.std.proofs.lemmas.List.FromFn.{length-map-range_with_len, get_or-map-
 use Rattle.std.proofs.lemmas.List.Sums.{sum_by-cons, sum_by_more_le, AllPass-from_list_all}
 use Rattle.byteorder.specs.Endian.{little_bytes, little_number}
 use Rattle.byteorder.specs.Numbers.{little_number-reads_back}
-use Rattle.plain_drawing.specs.declared.world.Meta.{Meta}
-use Rattle.plain_drawing.specs.declared.world.Tile.{Tile}
-use Rattle.plain_drawing.specs.World.{IsTile, IsMeta, meta_of, tiles_across, index_place}
+use Rattle.plain_world.specs.declared.world.Meta.{Meta}
+use Rattle.plain_world.specs.declared.world.Tile.{Tile}
+use Rattle.plain_world.specs.World.{IsTile, IsMeta, meta_of, tiles_across, index_place}
 use Rattle.meta_container.specs.declared.container.Entry.{Entry}
 use Rattle.meta_container.specs.declared.container.Span.{Span}
 use Rattle.meta_container.specs.Container.{span_bytes, joined, bytes_of, head_len, has_tile, rank, span_at, index_below, container_of, is_stored, AreTilesOf}

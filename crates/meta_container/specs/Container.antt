@@ -3,9 +3,9 @@
 use Rattle.std.specs.Prelude.{◌≡◌, ℕ, ◌+◌, ◌*◌, ◌/◌, ◌%◌, ◌^◌, ◌<◌, ◌++◌, Bool, ◌&&◌, List, length, take, map, codes, nat_lt, slice_index_or, [], if◌then◌else◌, IsTrue, sum_by}
 use Rattle.std.specs.List.{flat_map, range_with_len, list_all}
 use Rattle.byteorder.specs.Endian.{little_bytes}
-use Rattle.plain_drawing.specs.declared.world.Meta.{Meta}
+use Rattle.plain_world.specs.declared.world.Meta.{Meta}
 use Rattle.meta_container.specs.declared.container.Span.{Span}
-use Rattle.plain_drawing.specs.World.{tiles_across, IsMeta}
+use Rattle.plain_world.specs.World.{tiles_across, IsMeta}
 
 -- the eight bytes of a pair: where a tile begins, from the file's start, and how many bytes it has
 abbrev pub span_bytes : Span → List ℕ

@@ -1,8 +1,8 @@
 -- What holds of the containers that are written.
 use Rattle.std.specs.Prelude.{◌≡◌, ℕ, List, [], length, take, drop, slice_index_or, Ok}
-use Rattle.plain_drawing.specs.declared.world.Meta.{Meta}
-use Rattle.plain_drawing.specs.declared.world.Tile.{Tile}
-use Rattle.plain_drawing.specs.World.{IsTile, meta_of, tiles_across, index_place}
+use Rattle.plain_world.specs.declared.world.Meta.{Meta}
+use Rattle.plain_world.specs.declared.world.Tile.{Tile}
+use Rattle.plain_world.specs.World.{IsTile, meta_of, tiles_across, index_place}
 use Rattle.meta_container.specs.declared.container.Entry.{Entry}
 use Rattle.meta_container.specs.Container.{AreTilesOf, head_len, rank, container_of}
 use Rattle.meta_container.specs.Reading.{tile_found, entry_found}

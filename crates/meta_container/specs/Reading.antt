@@ -8,7 +8,7 @@ use Rattle.std.specs.Borrow.{Bor}
 use Rattle.byteorder.specs.Endian.{little_number}
 use Rattle.farm_base.specs.declared.faults.MetaFault.{MetaFault}
 use Rattle.farm_base.specs.declared.faults.MetaFault.TheVariants.{Short, Magic, Compressed, Count, Place, Index}
-use Rattle.plain_drawing.specs.declared.world.Meta.{Meta}
+use Rattle.plain_world.specs.declared.world.Meta.{Meta}
 use Rattle.meta_container.specs.declared.container.Entry.{Entry}
 use Rattle.meta_container.specs.declared.container.Listing.{Listing}
 use Rattle.meta_container.specs.Container.{head_len}

@@ -1,6 +1,6 @@
 //! What a container names.
 use arrayvec::ArrayVec;
-use plain_drawing::Meta;
+use plain_world::Meta;
 
 /// The places of a container's index.
 pub const PLACES: usize = 64;

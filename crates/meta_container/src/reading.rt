@@ -1,7 +1,7 @@
 //! From the bytes of a container to its tiles. Nothing here takes memory, and the bytes of the tiles
 //! are not looked at.
 ghost use Rattle.std.specs.Prelude.{◌≡◌, ◌≤◌, ◌<◌, ◌+◌, ◌*◌, length, find, Option, option_copied};
-ghost use Rattle.plain_drawing.specs.World.{IsTile, IsMeta, meta_of, index_place};
+ghost use Rattle.plain_world.specs.World.{IsTile, IsMeta, meta_of, index_place};
 ghost use Rattle.meta_container.specs.Reading as spec;
 ghost use Rattle.meta_container.specs.Reading.{Hands, number_at, meta_in, is_present, entries_in, tile_found, entry_found, listing_found};
 
@@ -10,7 +10,7 @@ use arrayvec::ArrayVec;
 use byteorder::{ByteOrder, LittleEndian};
 use farm_base::MetaFault;
 use merc_fixed::index_place;
-use plain_drawing::{Meta, Tile};
+use plain_world::{Meta, Tile};
 
 /// The bytes of a tile in the container of its metatile, or the first fault in this order: Short with
 /// fewer than 4 bytes, Compressed, Magic, Short with fewer than 532 bytes, Count, Place where the head

@@ -5,7 +5,7 @@ ghost use Rattle.meta_container.specs.Container.{is_stored, bytes_of};
 
 use crate::{Entry, HEAD_BYTES, MetaFault, encode, entry_in, listing, tile_in};
 use farm_base::{Bytes, NoMemory};
-use plain_drawing::{Meta, Tile};
+use plain_world::{Meta, Tile};
 use std::alloc::Global;
 use std::process::Abort;
 use std::test::Fail;

@@ -2,7 +2,7 @@
 ghost use Rattle.std.specs.Prelude.{◌≡◌, ◌≤◌, ◌<◌, ◌+◌, ◌*◌, ◌^◌, ◌++◌, length, codes, IfOk, OnOk};
 ghost use Rattle.std.specs.List.{flat_map};
 ghost use Rattle.byteorder.specs.Endian.{little_bytes};
-ghost use Rattle.plain_drawing.specs.World.{tiles_across};
+ghost use Rattle.plain_world.specs.World.{tiles_across};
 ghost use Rattle.meta_container.specs.Container.{AreTilesOf, container_of, index_below, span_at, span_bytes, bytes_of, joined};
 ghost use Rattle.meta_container.specs.Container as spec;
 
@@ -10,7 +10,7 @@ use crate::container::{HEAD_BYTES, PLACES, Span};
 use byteorder::{ByteOrder, LittleEndian};
 use farm_base::{Bytes, NoMemory};
 use merc_fixed::tiles_across;
-use plain_drawing::Meta;
+use plain_world::Meta;
 use std::alloc::Global;
 
 /// The container of a metatile's tiles, which come in order of their index places. The tiles are at

@@ -5,7 +5,7 @@ ghost use Rattle.paint_texts.specs.Decimals.{is_digit};
 ghost use Rattle.paint_texts.specs.Colours as spec;
 
 use crate::digits::{front_len, number};
-use plain_drawing::Colour;
+use plain_shapes::Colour;
 
 /// The colour of a text: `#rgb` (each digit doubled) or `#rrggbb` with hexadecimal digits of either
 /// case; `rgb(r,g,b)` with numbers from 0 to 255, spaces round the numbers ignored; or one of the

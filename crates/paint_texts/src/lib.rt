@@ -7,4 +7,4 @@ mod hues;
 
 pub use decimals::{hundredths, thousandths};
 pub use hues::colour;
-pub use plain_drawing::Colour;
+pub use plain_shapes::Colour;

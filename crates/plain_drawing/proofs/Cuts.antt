@@ -5,17 +5,17 @@ use Rattle.std.proofs.lemmas.List.{same_lists, get_or-take, get_or-drop, length-
 use Rattle.std.proofs.lemmas.List.FromFn.{get_or-map-range_with_len, length-map-range_with_len}
 use Rattle.std.proofs.Math.Nat.{mul-le-mul_right, mul-div_cancel_left}
 use Rattle.std.proofs.lemmas.Nat.{pow_pos, pow-add}
-use Rattle.plain_drawing.specs.declared.world.Tile.{Tile}
-use Rattle.plain_drawing.specs.declared.world.Meta.{Meta}
-use Rattle.plain_drawing.specs.declared.world.Window.{Window}
-use Rattle.plain_drawing.specs.World.{side_at, centre, row_centres, centres, tiles_across, window_of, meta_window_of, IsTileSize}
-use Rattle.plain_drawing.specs.Features.{Layer}
+use Rattle.plain_world.specs.declared.world.Tile.{Tile}
+use Rattle.plain_world.specs.declared.world.Meta.{Meta}
+use Rattle.plain_world.specs.declared.world.Window.{Window}
+use Rattle.plain_world.specs.World.{side_at, centre, row_centres, centres, tiles_across, window_of, meta_window_of, IsTileSize}
+use Rattle.plain_data.specs.Features.{Layer}
 use Rattle.plain_drawing.specs.Styles.{MapStyle}
-use Rattle.plain_drawing.specs.Canvas.{Pixels, cut_rows, cut_of}
-use Rattle.plain_drawing.specs.Ppm.{ppm}
+use Rattle.plain_shapes.specs.Canvas.{Pixels, cut_rows, cut_of}
+use Rattle.plain_shapes.specs.Ppm.{ppm}
 use Rattle.plain_drawing.specs.Drawing.{colour_at, tile_of}
 use Rattle.plain_drawing.specs.Metatiles.{tile_at, column_of, tiles_of, part_text, column_texts, part_texts}
-use Rattle.plain_drawing.proofs.Places.{length-centres, get_or-centres}
+use Rattle.plain_shapes.proofs.Places.{length-centres, get_or-centres}
 
 -- a window that is a part of another, so many columns and rows from its corner
 pub record Part (v w : Window) (col row : ℕ) : Type 0 where

@@ -1,20 +1,20 @@
 -- The picture that the steps make has at each centre the colour that the steps make there.
 use Rattle.std.proofs.Common.{◌≡◌, ◌*◌, ℕ, zero, suc, arith, Bool, true, false, refl, ap, sym, ◌∙◌, List, [], ◌∷◌, length, map, fold, flat_map, replicate}
 use Rattle.std.specs.Prelude.{if◌then◌else◌}
-use Rattle.plain_drawing.specs.declared.world.Point.{Point}
-use Rattle.plain_drawing.specs.declared.world.Tile.{Tile}
-use Rattle.plain_drawing.specs.declared.world.Window.{Window}
-use Rattle.plain_drawing.specs.declared.colour.Colour.{Colour}
+use Rattle.plain_world.specs.declared.world.Point.{Point}
+use Rattle.plain_world.specs.declared.world.Tile.{Tile}
+use Rattle.plain_world.specs.declared.world.Window.{Window}
+use Rattle.plain_shapes.specs.declared.colour.Colour.{Colour}
 use Rattle.plain_drawing.specs.declared.style.Symbolizer.{Symbolizer}
-use Rattle.plain_drawing.specs.World.{centres, window_of}
-use Rattle.plain_drawing.specs.Features.{Layer}
+use Rattle.plain_world.specs.World.{centres, window_of}
+use Rattle.plain_data.specs.Features.{Layer}
 use Rattle.plain_drawing.specs.Styles.{Style, LayerRef, MapStyle}
-use Rattle.plain_drawing.specs.Blending.{blend}
-use Rattle.plain_drawing.specs.Canvas.{Pixels, at_centres, stepped, marked, painted}
+use Rattle.plain_shapes.specs.Blending.{blend}
+use Rattle.plain_shapes.specs.Canvas.{Pixels, at_centres, stepped, marked, painted}
 use Rattle.plain_drawing.specs.Rules.{drawn, is_active, denominator_of}
-use Rattle.plain_drawing.specs.Ppm.{ppm}
+use Rattle.plain_shapes.specs.Ppm.{ppm}
 use Rattle.plain_drawing.specs.Drawing.{tile_of, pixel_of, colour_at, Item, attrs_of, symbolizer_at, item_at, style_at, layer_at, items_of, style_named}
-use Rattle.plain_drawing.proofs.Places.{length-centres}
+use Rattle.plain_shapes.proofs.Places.{length-centres}
 use Rattle.plain_drawing.specs.Pictures.{with_symbolizer, with_item, with_style, with_layer, with_map}
 
 at_centres_none : {X : Type 0} (cs : List Point) (xs : List X) → at_centres (λ c x. x) cs xs ≡ xs

@@ -2,22 +2,22 @@
 use Rattle.std.specs.Prelude.{ℕ, ◌/◌, Bool, false, if◌then◌else◌, List, [], ◌∷◌, map, flat_map, fold, find, Option, Some, None, option_map, option_to_list, unwrap_or}
 use Rattle.std.specs.Str.{bytes_eq}
 use Rattle.farm_base.specs.declared.Attr.{Attr}
-use Rattle.plain_drawing.specs.declared.world.Point.{Point}
-use Rattle.plain_drawing.specs.declared.world.Tile.{Tile}
-use Rattle.plain_drawing.specs.declared.colour.Colour.{Colour}
-use Rattle.plain_drawing.specs.declared.shapes.Geometry.{Geometry}
-use Rattle.plain_drawing.specs.declared.shapes.Geometry.TheVariants as shape
+use Rattle.plain_world.specs.declared.world.Point.{Point}
+use Rattle.plain_world.specs.declared.world.Tile.{Tile}
+use Rattle.plain_shapes.specs.declared.colour.Colour.{Colour}
+use Rattle.plain_shapes.specs.declared.shapes.Geometry.{Geometry}
+use Rattle.plain_shapes.specs.declared.shapes.Geometry.TheVariants as shape
 use Rattle.plain_drawing.specs.declared.style.Symbolizer.{Symbolizer}
 use Rattle.plain_drawing.specs.declared.style.Symbolizer.TheVariants as paint
-use Rattle.plain_drawing.specs.World.{side_at, window_of, centres}
-use Rattle.plain_drawing.specs.Features.{Feature, Layer}
+use Rattle.plain_world.specs.World.{side_at, window_of, centres}
+use Rattle.plain_data.specs.Features.{Feature, Layer}
 use Rattle.plain_drawing.specs.Styles.{Style, LayerRef, MapStyle}
 use Rattle.plain_drawing.specs.Grids.{Grid, grid_at}
-use Rattle.plain_drawing.specs.Rings.{in_rings}
-use Rattle.plain_drawing.specs.Strokes.{on_stroke, on_outline, on_marks, half_of}
-use Rattle.plain_drawing.specs.Blending.{blend}
+use Rattle.plain_shapes.specs.Rings.{in_rings}
+use Rattle.plain_shapes.specs.Strokes.{on_stroke, on_outline, on_marks, half_of}
+use Rattle.plain_shapes.specs.Blending.{blend}
 use Rattle.plain_drawing.specs.Rules.{drawn, denominator_of, is_active}
-use Rattle.plain_drawing.specs.Ppm.{ppm}
+use Rattle.plain_shapes.specs.Ppm.{ppm}
 
 -- the side of a pixel of a tile of zoom z and so many pixels, in world units
 abbrev pub pixel_of : ℕ → ℕ → ℕ

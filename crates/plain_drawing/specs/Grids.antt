@@ -1,7 +1,7 @@
 -- Grids: pictures that lie on the world.
 use Rattle.std.specs.Prelude.{ℕ, ◌+◌, ◌-◌, ◌*◌, ◌/◌, ◌≡◌, ◌≤◌, ◌&&◌, nat_le, nat_lt, if◌then◌else◌, List, length, slice_index, Option, Some, None}
-use Rattle.plain_drawing.specs.declared.world.Point.{Point}
-use Rattle.plain_drawing.specs.declared.colour.Colour.{Colour}
+use Rattle.plain_world.specs.declared.world.Point.{Point}
+use Rattle.plain_shapes.specs.declared.colour.Colour.{Colour}
 
 -- a grid: its name, its west and north edge, the side of its pixels, its columns and rows, and three bytes a pixel by rows
 pub record Grid : Type 0 where

@@ -1,13 +1,13 @@
 -- The tiles of a metatile, and their drawings.
 use Rattle.std.specs.Prelude.{ℕ, ◌+◌, ◌*◌, List, map, flat_map}
 use Rattle.std.specs.List.{range_with_len}
-use Rattle.plain_drawing.specs.declared.world.Tile.{Tile}
-use Rattle.plain_drawing.specs.declared.world.Meta.{Meta}
-use Rattle.plain_drawing.specs.World.{tiles_across}
-use Rattle.plain_drawing.specs.Features.{Layer}
+use Rattle.plain_world.specs.declared.world.Tile.{Tile}
+use Rattle.plain_world.specs.declared.world.Meta.{Meta}
+use Rattle.plain_world.specs.World.{tiles_across}
+use Rattle.plain_data.specs.Features.{Layer}
 use Rattle.plain_drawing.specs.Styles.{MapStyle}
-use Rattle.plain_drawing.specs.Canvas.{Pixels, cut_of}
-use Rattle.plain_drawing.specs.Ppm.{ppm}
+use Rattle.plain_shapes.specs.Canvas.{Pixels, cut_of}
+use Rattle.plain_shapes.specs.Ppm.{ppm}
 use Rattle.plain_drawing.specs.Drawing.{tile_of}
 
 -- the tile of a metatile so many columns and rows from its first one

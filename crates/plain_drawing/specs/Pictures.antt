@@ -1,10 +1,10 @@
 -- The drawing as whole pictures: what each step makes of all pixels of a window at once. Words of inner contracts.
 use Rattle.std.specs.Prelude.{ℕ, if◌then◌else◌, List, fold, flat_map}
-use Rattle.plain_drawing.specs.declared.world.Window.{Window}
+use Rattle.plain_world.specs.declared.world.Window.{Window}
 use Rattle.plain_drawing.specs.declared.style.Symbolizer.{Symbolizer}
-use Rattle.plain_drawing.specs.Features.{Layer}
+use Rattle.plain_data.specs.Features.{Layer}
 use Rattle.plain_drawing.specs.Styles.{Style, LayerRef, MapStyle}
-use Rattle.plain_drawing.specs.Canvas.{Pixels, stepped}
+use Rattle.plain_shapes.specs.Canvas.{Pixels, stepped}
 use Rattle.plain_drawing.specs.Rules.{drawn, is_active}
 use Rattle.plain_drawing.specs.Drawing.{Item, attrs_of, symbolizer_at, items_of, style_named}
 

@@ -5,7 +5,7 @@ use Rattle.farm_base.specs.declared.Attr.{Attr}
 use Rattle.plain_drawing.specs.declared.style.FilterMode.{FilterMode}
 use Rattle.plain_drawing.specs.declared.style.FilterMode.TheVariants.{All, First}
 use Rattle.plain_drawing.specs.declared.style.Symbolizer.{Symbolizer}
-use Rattle.plain_drawing.specs.Filters.{FilterTree, tree_holds}
+use Rattle.plain_filters.specs.Filters.{FilterTree, tree_holds}
 use Rattle.plain_drawing.specs.Styles.{Rule, Style}
 
 -- the scale denominator at zoom z with tiles of so many pixels, rounded down (Mapnik's and OGC's 559082264 for zoom 0 at 256 pixels)

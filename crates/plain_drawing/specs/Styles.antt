@@ -3,11 +3,11 @@ use Rattle.std.specs.Prelude.{ℕ, ◌≤◌, ◌^◌, Bool, true, false, not, �
 use Rattle.std.specs.List.{list_any, list_all}
 use Rattle.std.specs.Str.{bytes_eq}
 use Rattle.farm_base.specs.Earlier.{each_after}
-use Rattle.plain_drawing.specs.declared.colour.Colour.{Colour}
+use Rattle.plain_shapes.specs.declared.colour.Colour.{Colour}
 use Rattle.plain_drawing.specs.declared.style.FilterMode.{FilterMode}
 use Rattle.plain_drawing.specs.declared.style.Symbolizer.{Symbolizer}
 use Rattle.plain_drawing.specs.declared.style.Symbolizer.TheVariants.{Polygon, Line, Markers, Raster}
-use Rattle.plain_drawing.specs.Filters.{FilterTree}
+use Rattle.plain_filters.specs.Filters.{FilterTree}
 use Rattle.plain_drawing.specs.Grids.{Grid}
 
 -- a rule: its filter, if it has one, whether it is an ElseFilter rule, its scales in hundredths, what it paints

@@ -2,9 +2,9 @@
 ghost use Rattle.std.specs.Prelude.{◌≡◌};
 ghost use Rattle.plain_drawing.specs.Grids.{grid_at};
 
-use crate::colour::Colour;
-use crate::world::Point;
 use farm_base::Text;
+use plain_shapes::Colour;
+use plain_world::Point;
 use std::marker::Model;
 
 /// A raster on the world: its west and north edge and the side of its pixels in world units, how many columns

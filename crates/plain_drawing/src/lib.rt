@@ -1,16 +1,10 @@
-//! What is meant by a drawing: the plain types of maps and the definitions of what is drawn.
+//! What is meant by a drawing: styles with their rules, grids, and the colour of each point of a tile.
+//!
+//! It joins the world, shapes, data and filters. Styles, raster files and the drawing of tiles stand on it.
 #![tactic(auto)]
 
-mod colour;
-mod expr;
 mod grid;
-mod shapes;
 mod style;
-mod world;
 
-pub use colour::Colour;
-pub use expr::{CompareSign, Expr, ProductPart, ProductSign, SumPart, SumSign};
 pub use grid::Grid;
-pub use shapes::{Geometry, LineCap, Path};
 pub use style::{FilterMode, LayerRef, MapStyle, RasterRef, Rule, Style, Symbolizer};
-pub use world::{Meta, Point, Square, Tile, Window};

@@ -2,11 +2,10 @@
 ghost use Rattle.std.specs.Prelude.{◌≡◌, IsTrue};
 ghost use Rattle.plain_drawing.specs.Styles.{grids_match};
 
-use crate::colour::Colour;
-use crate::expr::Expr;
 use crate::grid::Grid;
-use crate::shapes::LineCap;
 use farm_base::Text;
+use plain_filters::Expr;
+use plain_shapes::{Colour, LineCap};
 use std::marker::Model;
 
 /// How the Filter rules of a style are taken (Mapnik's `filter-mode`): all that match, or the first one.
@@ -60,9 +59,9 @@ pub struct Rule {
 
 impl Model for Rule {
     ghost use Rattle.std.specs.Prelude.{option_map};
-    ghost use Rattle.plain_drawing.specs.Filters.{tree_of};
+    ghost use Rattle.plain_filters.specs.Filters.{tree_of};
     ghost use Rattle.plain_drawing.specs.Styles.{Rule, IsRule};
-    ghost use Rattle.plain_drawing.specs.FilterCodes.{filter_code};
+    ghost use Rattle.plain_filters.specs.FilterCodes.{filter_code};
     ghost use Rattle.std.specs.Coded.{codes};
 
     ghost Value = { Rule };
@@ -90,7 +89,7 @@ pub struct Style {
 
 impl Model for Style {
     ghost use Rattle.plain_drawing.specs.Styles.{Style, IsStyle};
-    ghost use Rattle.plain_drawing.specs.FilterCodes.{filter_code};
+    ghost use Rattle.plain_filters.specs.FilterCodes.{filter_code};
     ghost use Rattle.std.specs.Coded.{codes};
 
     ghost Value = { Style };
@@ -173,7 +172,7 @@ pub struct MapStyle {
 
 impl Model for MapStyle {
     ghost use Rattle.plain_drawing.specs.Styles.{MapStyle, IsMapStyle};
-    ghost use Rattle.plain_drawing.specs.FilterCodes.{filter_code};
+    ghost use Rattle.plain_filters.specs.FilterCodes.{filter_code};
     ghost use Rattle.std.specs.Coded.{codes};
 
     ghost Value = { MapStyle };

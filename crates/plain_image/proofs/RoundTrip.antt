@@ -7,9 +7,9 @@ use Rattle.std.proofs.lemmas.Bool.{le-leb, le-ltb, ne_eqb}
 use Rattle.std.proofs.lemmas.Fmt.{decimal_by_steps}
 use Rattle.std.proofs.Math.Seq.{drop-append_seam}
 use Rattle.std.proofs.lemmas.List.{length-drop, drop-drop}
-use Rattle.plain_drawing.specs.declared.colour.Colour.{Colour}
-use Rattle.plain_drawing.specs.Canvas.{Pixels}
-use Rattle.plain_drawing.specs.Ppm.{pixel_bytes, ppm}
+use Rattle.plain_shapes.specs.declared.colour.Colour.{Colour}
+use Rattle.plain_shapes.specs.Canvas.{Pixels}
+use Rattle.plain_shapes.specs.Ppm.{pixel_bytes, ppm}
 use Rattle.plain_image.specs.PpmText.{and_then, is_digit, after_in_gap, gap, gap_end, digits, side, gap_side, one_byte, one_blank, greatest, head, colours, picture, ppm_of}
 use Rattle.plain_image.specs.declared.reading.Gap.TheVariants.{Bare, Blank}
 use Rattle.plain_image.specs.declared.reading.PpmFault.TheVariants.{Bad, TooLarge}

@@ -1,8 +1,8 @@
 -- The head of a PPM text, as it is written, and the pixels behind it.
 use Rattle.std.proofs.Common.{◌≡◌, ℕ, List, [], ◌∷◌, ◌++◌, flat_map, ap, ◌∙◌, append_assoc}
 use Rattle.std.specs.Fmt.{decimal}
-use Rattle.plain_drawing.specs.declared.colour.Colour.{Colour}
-use Rattle.plain_drawing.specs.Ppm.{pixel_bytes, ppm}
+use Rattle.plain_shapes.specs.declared.colour.Colour.{Colour}
+use Rattle.plain_shapes.specs.Ppm.{pixel_bytes, ppm}
 
 pub ppm_is : (cols rows : ℕ) (pixels : List Colour) (head : List ℕ)
     → head ≡ 80 ∷ 54 ∷ 10 ∷ (decimal cols ++ 32 ∷ (decimal rows ++ 10 ∷ 50 ∷ 53 ∷ 53 ∷ 10 ∷ []))

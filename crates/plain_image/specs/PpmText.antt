@@ -2,8 +2,8 @@
 -- the first byte that may not stand where it stands.
 use Rattle.std.specs.Prelude.{ℕ, ◌+◌, ◌-◌, ◌*◌, ◌≡◌, ◌==◌, Bool, ◌&&◌, ◌||◌, nat_le, nat_lt, if◌then◌else◌, List, [], ◌∷◌, length, drop, Result, Ok, Err, Option, Some, None}
 use Rattle.std.specs.Option.{option_map_or}
-use Rattle.plain_drawing.specs.declared.colour.Colour.{Colour}
-use Rattle.plain_drawing.specs.Canvas.{Pixels}
+use Rattle.plain_shapes.specs.declared.colour.Colour.{Colour}
+use Rattle.plain_shapes.specs.Canvas.{Pixels}
 use Rattle.plain_image.specs.declared.reading.PpmFault.{PpmFault}
 use Rattle.plain_image.specs.declared.reading.PpmFault.TheVariants.{Bad, TooLarge, NoMemory}
 use Rattle.plain_image.specs.declared.reading.Gap.{Gap}

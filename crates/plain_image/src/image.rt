@@ -1,7 +1,7 @@
 //! A picture: one colour for each pixel, by rows.
 use crate::{Mask, pixels};
 use farm_base::NoMemory;
-use plain_drawing::Colour;
+use plain_shapes::Colour;
 use std::alloc::Global;
 use std::marker::Model;
 
@@ -15,7 +15,7 @@ pub struct Image {
 
 impl Model for Image {
     ghost use Rattle.std.specs.Prelude.{length};
-    ghost use Rattle.plain_drawing.specs.Canvas.{Pixels, IsRaster};
+    ghost use Rattle.plain_shapes.specs.Canvas.{Pixels, IsRaster};
 
     ghost Value = { Pixels };
 
@@ -26,9 +26,9 @@ impl Model for Image {
 
 impl Image {
     ghost use Rattle.std.specs.Prelude.{◌≡◌, ◌+◌, ◌*◌, ◌<◌, ◌≤◌, ℕ, IfOk, slice_set, slice_get, slice_index_or, Some, replicate, length, Ok};
-    ghost use Rattle.plain_drawing.specs.Blending.{blend};
-    ghost use Rattle.plain_drawing.specs.Canvas.{IsRaster, IsSides, painted, cut_of};
-    ghost use Rattle.plain_drawing.specs.Ppm.{ppm};
+    ghost use Rattle.plain_shapes.specs.Blending.{blend};
+    ghost use Rattle.plain_shapes.specs.Canvas.{IsRaster, IsSides, painted, cut_of};
+    ghost use Rattle.plain_shapes.specs.Ppm.{ppm};
     ghost use Rattle.plain_image.specs.PpmText.{ppm_of};
 
     /// An image of these sides that is all of one colour. Sides are 1 to 4,096.

@@ -1,7 +1,7 @@
 //! The parts of a PPM text, each read from an offset of the text on.
 ghost use Rattle.std.specs.Prelude.{◌≡◌, ℕ, ◌+◌, ◌*◌, ◌≤◌, ◌<◌, length, drop, IfOk, Ok, Err};
 ghost use Rattle.plain_image.specs.PpmText.{is_blank, is_digit, one_byte, one_blank, gap, gap_end, after_in_gap, digits, side, gap_side, magic, greatest, head};
-ghost use Rattle.plain_drawing.specs.Canvas.{IsSides};
+ghost use Rattle.plain_shapes.specs.Canvas.{IsSides};
 ghost use Rattle.plain_image.specs.declared.reading.Gap.TheVariants.{Bare};
 
 use crate::reading::{Gap, Head, PpmFault, Side};

@@ -1,12 +1,12 @@
 //! The arithmetic of painting, and lists of pixels.
 ghost use Rattle.std.specs.Prelude.{◌≡◌, ℕ, ◌+◌, ◌*◌, ◌≤◌, ◌++◌, length, IfOk, flat_map};
-ghost use Rattle.plain_drawing.specs.Canvas.{cut_rows, painted};
-ghost use Rattle.plain_drawing.specs.Ppm.{pixel_bytes};
+ghost use Rattle.plain_shapes.specs.Canvas.{cut_rows, painted};
+ghost use Rattle.plain_shapes.specs.Ppm.{pixel_bytes};
 ghost use Rattle.plain_image.specs.PpmText.{colours};
-ghost use Rattle.plain_drawing.specs.Blending.{blend_channel, blend};
+ghost use Rattle.plain_shapes.specs.Blending.{blend_channel, blend};
 
 use farm_base::NoMemory;
-use plain_drawing::Colour;
+use plain_shapes::Colour;
 use std::alloc::Global;
 
 // One channel `s` painted over the channel `d`, rounded to the nearest.

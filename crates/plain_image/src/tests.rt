@@ -1,6 +1,6 @@
 //! Pictures made, painted, cut, written and read, and texts that are refused at their exact places.
 use crate::{Image, Mask, PpmFault, read_ppm};
-use plain_drawing::Colour;
+use plain_shapes::Colour;
 use std::alloc::Global;
 use std::test::Fail;
 

@@ -2,11 +2,11 @@
 use Rattle.std.proofs.Common.{◌≡◌, ℕ, suc, ◌+◌, ◌*◌, ◌/◌, ◌<◌, ◌≤◌, Bool, List, length, get_or, drop, flat_map, ap, sym, ◌∙◌, arith, add-one, drop-cons}
 use Rattle.std.specs.Prelude.{nat_le}
 use Rattle.std.proofs.lemmas.Bool.{le-leb, lt-leb, leb-true, leb-false}
-use Rattle.plain_drawing.specs.declared.world.Point.{Point}
-use Rattle.plain_drawing.specs.declared.world.Window.{Window}
-use Rattle.plain_drawing.specs.World.{centre}
-use Rattle.plain_drawing.specs.Rings.{counts_down, counts, edges_from, ring_edges, in_rings}
-use Rattle.plain_drawing.proofs.Signs.{off_above, off_below}
+use Rattle.plain_world.specs.declared.world.Point.{Point}
+use Rattle.plain_world.specs.declared.world.Window.{Window}
+use Rattle.plain_world.specs.World.{centre}
+use Rattle.plain_shapes.specs.Rings.{counts_down, counts, edges_from, ring_edges, in_rings}
+use Rattle.plain_shapes.proofs.Signs.{off_above, off_below}
 use Rattle.raster_core.specs.Toggles.{flip, Toggled, RowsToggled, odd_edges}
 use Rattle.raster_core.proofs.Toggling.{rows_start, rows_end, odd_cons, odd_append}
 

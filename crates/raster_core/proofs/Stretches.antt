@@ -3,11 +3,11 @@ use Rattle.std.proofs.Common.{◌≡◌, ℕ, suc, zero, ◌+◌, ◌-◌, ◌*�
 use Rattle.std.specs.Prelude.{nat_le, if◌then◌else◌, option_map, unwrap_or}
 use Rattle.std.proofs.lemmas.Bool.{le-leb, lt-leb, leb-true, leb-false}
 use Rattle.std.proofs.lemmas.Option.{slice_get-get_or}
-use Rattle.plain_drawing.specs.declared.world.Point.{Point}
-use Rattle.plain_drawing.specs.declared.world.Window.{Window}
-use Rattle.plain_drawing.specs.World.{centre}
-use Rattle.plain_drawing.specs.Rings.{counts_down, counts, edges_from, ring_edges, in_rings}
-use Rattle.plain_drawing.proofs.Signs.{off_above, off_below}
+use Rattle.plain_world.specs.declared.world.Point.{Point}
+use Rattle.plain_world.specs.declared.world.Window.{Window}
+use Rattle.plain_world.specs.World.{centre}
+use Rattle.plain_shapes.specs.Rings.{counts_down, counts, edges_from, ring_edges, in_rings}
+use Rattle.plain_shapes.proofs.Signs.{off_above, off_below}
 use Rattle.raster_core.specs.Reaches.{north_of, south_of, northmost, southmost}
 use Rattle.raster_core.specs.Toggles.{flip, odd_edges}
 use Rattle.raster_core.proofs.Toggling.{odd_cons, odd_append}

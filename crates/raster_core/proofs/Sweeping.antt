@@ -3,11 +3,11 @@ use Rattle.std.proofs.Common.{◌≡◌, ℕ, ◌+◌, ◌-◌, ◌*◌, ◌/◌
 use Rattle.std.proofs.Math.Nat.{mul-le-mul_right}
 use Rattle.std.proofs.Math.Seq.{take-append_seam}
 use Rattle.std.proofs.lemmas.Bool.{cases_Bool, cases_lt}
-use Rattle.plain_drawing.specs.declared.world.Point.{Point}
-use Rattle.plain_drawing.specs.declared.world.Window.{Window}
-use Rattle.plain_drawing.specs.World.{IsWindow, centre, centres}
-use Rattle.plain_drawing.specs.Canvas.{Bits, marked}
-use Rattle.plain_drawing.proofs.Places.{Reached, reached_start, reached_skip, reached_yes, reached_no, reached_end}
+use Rattle.plain_world.specs.declared.world.Point.{Point}
+use Rattle.plain_world.specs.declared.world.Window.{Window}
+use Rattle.plain_world.specs.World.{IsWindow, centre, centres}
+use Rattle.plain_shapes.specs.Canvas.{Bits, marked}
+use Rattle.plain_shapes.proofs.Places.{Reached, reached_start, reached_skip, reached_yes, reached_no, reached_end}
 use Rattle.raster_core.specs.Toggles.{flip, odd_below, Toggled, TellsRow}
 use Rattle.raster_core.proofs.Toggling.{parity_none}
 

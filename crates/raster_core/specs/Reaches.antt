@@ -1,6 +1,6 @@
 -- How far to the north and south points and rings reach.
 use Rattle.std.specs.Prelude.{ℕ, List, fold, min, max}
-use Rattle.plain_drawing.specs.declared.world.Point.{Point}
+use Rattle.plain_world.specs.declared.world.Point.{Point}
 
 -- the least of a number and the points' y
 abbrev pub north_of : ℕ → List Point → ℕ

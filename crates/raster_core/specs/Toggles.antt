@@ -1,9 +1,9 @@
 -- The parity of crossings: one bit a pixel says how often, by parity, edges are crossed on the way into that pixel from the west.
 use Rattle.std.specs.Prelude.{◌≡◌, ◌≢◌, ℕ, suc, zero, ◌+◌, ◌*◌, ◌<◌, ◌≤◌, Bool, true, false, not, List, length, slice_index_or, count_by}
-use Rattle.plain_drawing.specs.declared.world.Point.{Point}
-use Rattle.plain_drawing.specs.declared.world.Window.{Window}
-use Rattle.plain_drawing.specs.World.{centre}
-use Rattle.plain_drawing.specs.Rings.{counts, is_odd}
+use Rattle.plain_world.specs.declared.world.Point.{Point}
+use Rattle.plain_world.specs.declared.world.Window.{Window}
+use Rattle.plain_world.specs.World.{centre}
+use Rattle.plain_shapes.specs.Rings.{counts, is_odd}
 
 -- b, turned round where a is true
 abbrev pub flip : Bool → Bool → Bool

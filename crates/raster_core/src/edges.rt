@@ -1,11 +1,12 @@
 //! Edges: where each of them is crossed, row by row.
 ghost use Rattle.std.specs.Prelude.{◌≡◌, ℕ, ◌+◌, ◌-◌, ◌*◌, ◌/◌, ◌<◌, ◌≤◌, nat_le, length, All};
-ghost use Rattle.plain_drawing.specs.World.{InWorld, IsWindow, centre};
-ghost use Rattle.plain_drawing.specs.Rings.{counts_down, counts, ring_edges, in_rings};
+ghost use Rattle.plain_world.specs.World.{InWorld, IsWindow, centre};
+ghost use Rattle.plain_shapes.specs.Rings.{counts_down, counts, ring_edges, in_rings};
 ghost use Rattle.raster_core.specs.Toggles.{Toggled, RowToggled, odd_edges};
 
 use centre_spans::first_at;
-use plain_drawing::{Path, Point, Window};
+use plain_shapes::Path;
+use plain_world::{Point, Window};
 
 // The least x that does not lie before the edge from `a` down to `b` at the height `y`.
 #[tactic(auto, using(crate::proofs::Heights::up_le))]

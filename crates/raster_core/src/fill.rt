@@ -1,16 +1,17 @@
 //! The filling of polygons.
 ghost use Rattle.std.specs.Prelude.{◌≡◌, ℕ, ◌+◌, ◌*◌, ◌<◌, ◌≤◌, Bool, false, All, OnOk, OnErr};
-ghost use Rattle.plain_drawing.specs.World.{InWorld, IsWindow, centre, centres};
-ghost use Rattle.plain_drawing.specs.Rings.{in_rings};
-ghost use Rattle.plain_drawing.specs.Canvas.{marked};
+ghost use Rattle.plain_world.specs.World.{InWorld, IsWindow, centre, centres};
+ghost use Rattle.plain_shapes.specs.Rings.{in_rings};
+ghost use Rattle.plain_shapes.specs.Canvas.{marked};
 
 use crate::edges::cross_rings;
 use crate::reach::{north_of_rings, south_of_rings};
 use crate::sweep::sweep;
 use centre_spans::first_at;
 use farm_base::NoMemory;
-use plain_drawing::{Path, Window};
 use plain_image::Mask;
+use plain_shapes::Path;
+use plain_world::Window;
 use std::alloc::Global;
 
 // Fills the rows from `top` on and before `bottom`; the other rows have no member.

@@ -2,7 +2,8 @@
 ghost use Rattle.std.specs.Prelude.{◌≡◌};
 ghost use Rattle.raster_core.specs.Reaches.{north_of, south_of, northmost, southmost};
 
-use plain_drawing::{Path, Point};
+use plain_shapes::Path;
+use plain_world::Point;
 
 // The least y of the points, or `so_far` where that is less.
 fn north_of_points(points: &[Point], so_far: u32) -> u32

@@ -1,14 +1,14 @@
 //! The sweep of rows from the west, which sets the bits where the parity of crossings is odd.
 ghost use Rattle.std.specs.Prelude.{◌≡◌, ℕ, ◌+◌, ◌*◌, ◌<◌, ◌≤◌, Bool, length};
-ghost use Rattle.plain_drawing.specs.declared.world.Point.{Point};
-ghost use Rattle.plain_drawing.specs.World.{IsWindow};
-ghost use Rattle.plain_drawing.specs.Canvas.{Bits};
-ghost use Rattle.plain_drawing.proofs.Places.{Reached};
+ghost use Rattle.plain_world.specs.declared.world.Point.{Point};
+ghost use Rattle.plain_world.specs.World.{IsWindow};
+ghost use Rattle.plain_shapes.specs.Canvas.{Bits};
+ghost use Rattle.plain_shapes.proofs.Places.{Reached};
 ghost use Rattle.raster_core.specs.Toggles.{flip, TellsRow};
 
 use centre_spans::set_if;
-use plain_drawing::Window;
 use plain_image::Mask;
+use plain_world::Window;
 
 fn flipped(bit: bool, odd: bool) -> bool
     ensures { result ≡ flip bit odd }

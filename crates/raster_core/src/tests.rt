@@ -1,11 +1,12 @@
 //! A ring of very many points, filled in a window of the greatest sides.
 ghost use Rattle.std.specs.Prelude.{◌≡◌, ◌<◌, ◌^◌, IfOk, All};
-ghost use Rattle.plain_drawing.specs.World.{InWorld, IsWindow};
+ghost use Rattle.plain_world.specs.World.{InWorld, IsWindow};
 
 use crate::fill_mask;
 use farm_base::NoMemory;
-use plain_drawing::{Path, Point, Window};
 use plain_image::Mask;
+use plain_shapes::Path;
+use plain_world::{Point, Window};
 use std::alloc::Global;
 use std::test::Fail;
 

@@ -1,8 +1,8 @@
 -- A grid that is drawn at its own scale.
 use Rattle.std.specs.Prelude.{◌≡◌, ◌≤◌, ◌⊎◌, ℕ, ◌+◌, ◌*◌, ◌&&◌, nat_le, if◌then◌else◌, Some, Result, Ok, Err}
-use Rattle.plain_drawing.specs.declared.world.Window.{Window}
-use Rattle.plain_drawing.specs.declared.colour.Colour.{Colour}
-use Rattle.plain_drawing.specs.World.{centre}
+use Rattle.plain_world.specs.declared.world.Window.{Window}
+use Rattle.plain_shapes.specs.declared.colour.Colour.{Colour}
+use Rattle.plain_world.specs.World.{centre}
 use Rattle.plain_drawing.specs.Grids.{Grid, pixel_at, grid_at}
 use Rattle.raster_layers.specs.declared.grids.GridFault.{GridFault}
 use Rattle.raster_layers.specs.declared.grids.GridFault.TheVariants.{Size}

@@ -3,7 +3,7 @@ use Rattle.std.proofs.Common.{◌≡◌, ℕ, inl, inr, List, [], ◌∷◌, ◌
 use Rattle.std.specs.Prelude.{Some, Result, Ok, Err, Vec}
 use Rattle.std.specs.declared.alloc.Global.{Global}
 use Rattle.farm_base.specs.Outside.{FilesTold}
-use Rattle.plain_drawing.specs.Features.{Layer}
+use Rattle.plain_data.specs.Features.{Layer}
 use Rattle.plain_drawing.specs.Grids.{Grid}
 use Rattle.plain_drawing.specs.Styles.{RasterRef, MapStyle}
 use Rattle.geo_json.specs.DataTexts.{dataset_in}

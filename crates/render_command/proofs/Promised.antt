@@ -4,7 +4,7 @@ use Rattle.std.specs.Prelude.{Some, Result, Ok, Err, Vec, MatchResult}
 use Rattle.std.specs.declared.alloc.Global.{Global}
 use Rattle.farm_base.specs.Outside.{FilesTold, Rose}
 use Rattle.plain_drawing.specs.Drawing.{tile_of}
-use Rattle.plain_drawing.specs.Features.{Layer}
+use Rattle.plain_data.specs.Features.{Layer}
 use Rattle.plain_drawing.specs.Grids.{Grid}
 use Rattle.plain_drawing.specs.Styles.{RasterRef, MapStyle}
 use Rattle.reading.specs.Steps.{seen}

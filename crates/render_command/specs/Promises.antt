@@ -2,7 +2,7 @@
 use Rattle.std.specs.Prelude.{◌≡◌, ℕ, ◌⊎◌, List, [], ◌∷◌, ◌++◌, Option, Some, Ok, Err}
 use Rattle.farm_base.specs.Outside.{FilesTold}
 use Rattle.plain_drawing.specs.Drawing.{tile_of}
-use Rattle.plain_drawing.specs.Features.{Layer}
+use Rattle.plain_data.specs.Features.{Layer}
 use Rattle.plain_drawing.specs.Grids.{Grid}
 use Rattle.plain_drawing.specs.Styles.{RasterRef, MapStyle}
 use Rattle.geo_json.specs.DataTexts.{dataset_in}

@@ -2,9 +2,9 @@
 use Rattle.std.specs.Prelude.{◌≡◌, ℕ, List, Result, Ok, Err, Vec}
 use Rattle.std.specs.declared.alloc.Global.{Global}
 use Rattle.plain_drawing.specs.Drawing.{tile_of}
-use Rattle.plain_drawing.specs.Features.{Layer}
+use Rattle.plain_data.specs.Features.{Layer}
 use Rattle.plain_drawing.specs.Styles.{MapStyle}
-use Rattle.plain_drawing.specs.declared.world.Tile.{Tile}
+use Rattle.plain_world.specs.declared.world.Tile.{Tile}
 use Rattle.reading.specs.Steps.{Gives}
 use Rattle.geo_json.specs.DataTexts.{dataset_in}
 use Rattle.fault_texts.specs.DataFaults.{data_text}

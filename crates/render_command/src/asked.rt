@@ -1,5 +1,5 @@
 //! What `render` is asked for.
-use plain_drawing::Tile;
+use plain_world::Tile;
 
 /// The names of a style's and of the data's file, the tile's size in pixels, and the tile.
 #[derive(Clone, Copy)]

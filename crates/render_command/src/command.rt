@@ -1,7 +1,7 @@
 //! The files are read in order, and the tile is drawn and put.
 ghost use Rattle.std.specs.Prelude.{Ok};
 ghost use Rattle.reading.specs.Steps.{Gives};
-ghost use Rattle.plain_drawing.specs.World.{IsTile, IsTileSize};
+ghost use Rattle.plain_world.specs.World.{IsTile, IsTileSize};
 ghost use Rattle.plain_drawing.specs.Drawing.{tile_of};
 ghost use Rattle.call_ends.specs.Ends.{files_at, sink_at};
 ghost use Rattle.call_ends.specs.declared.stops.Stop.TheVariants as stop;
@@ -13,7 +13,8 @@ use crate::styles::bound_style;
 use call_ends::{Stop, put};
 use data_versions::{Dataset, Snapshot};
 use farm_base::{Files, Sink};
-use plain_drawing::{MapStyle, Tile};
+use plain_drawing::MapStyle;
+use plain_world::Tile;
 use std::alloc::Global;
 use tile_render::draw_tile;
 

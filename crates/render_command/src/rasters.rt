@@ -1,6 +1,6 @@
 //! Raster files: each is a PPM text that makes the grid of a raster.
 ghost use Rattle.std.specs.Prelude.{◌≡◌, ◌*◌, Some, IfOk, length, flat_map};
-ghost use Rattle.plain_drawing.specs.Ppm.{pixel_bytes};
+ghost use Rattle.plain_shapes.specs.Ppm.{pixel_bytes};
 ghost use Rattle.plain_image.specs.declared.reading.PpmFault.TheVariants as ppm;
 ghost use Rattle.reading.specs.Steps.{Gives, seen};
 ghost use Rattle.call_ends.specs.Stops.{refusing};

@@ -2,7 +2,7 @@
 #![tactic(auto)]
 
 ghost use Rattle.std.specs.Prelude.{◌≡◌, ◌*◌, ◌^◌, ◌<◌, ◌≤◌};
-ghost use Rattle.plain_drawing.specs.World.{IsTileSize};
+ghost use Rattle.plain_world.specs.World.{IsTileSize};
 ghost use Rattle.plain_drawing.specs.Rules.{denominator_of, is_active};
 
 /// The scale denominator of zoom `z`, which is at most 18, with tiles of `size` pixels, rounded down: that of

@@ -3,9 +3,9 @@ use Rattle.std.proofs.Common.{◌≡◌, ◌==◌, ℕ, ◌+◌, ◌-◌, ◌*�
 use Rattle.std.specs.Prelude.{nat_le, nat_lt, ◌⊎◌}
 use Rattle.std.proofs.Math.Nat.{mul-le-mul, mul-le-mul_left, mul-le-mul_right}
 use Rattle.std.proofs.lemmas.Bool.{cases_lt, leb-true, and_parts, and_cases, eqb-false}
-use Rattle.plain_drawing.specs.declared.world.Point.{Point}
-use Rattle.plain_drawing.specs.Strokes.{is_same, is_near, in_body, in_disk, before_start, past_end, in_block}
-use Rattle.plain_drawing.proofs.Signs.{root_le, square_below}
+use Rattle.plain_world.specs.declared.world.Point.{Point}
+use Rattle.plain_shapes.specs.Strokes.{is_same, is_near, in_body, in_disk, before_start, past_end, in_block}
+use Rattle.plain_shapes.proofs.Signs.{root_le, square_below}
 use Rattle.stroke_core.proofs.Products.{along_is, beside_is, long_is}
 use Rattle.stroke_core.proofs.Testing.{near_is, body_is, start_is, end_is, disk_is, block_is}
 

@@ -1,10 +1,10 @@
 -- The numbers of a segment and a point as sums of products.
 use Rattle.std.proofs.Common.{◌≡◌, ℕ, ◌+◌, ◌-◌, ◌*◌, ap, sym, ◌∙◌, arith}
 use Rattle.std.specs.Prelude.{pos, ◌+ℤ◌, ◌-ℤ◌, ◌*ℤ◌}
-use Rattle.plain_drawing.specs.declared.world.Point.{Point}
-use Rattle.plain_drawing.specs.Rings.{less}
-use Rattle.plain_drawing.specs.Strokes.{square, along, beside, long}
-use Rattle.plain_drawing.proofs.Signs.{less-mul, less-add, less-sub, same_less, square-less}
+use Rattle.plain_world.specs.declared.world.Point.{Point}
+use Rattle.plain_shapes.specs.Rings.{less}
+use Rattle.plain_shapes.specs.Strokes.{square, along, beside, long}
+use Rattle.plain_shapes.proofs.Signs.{less-mul, less-add, less-sub, same_less, square-less}
 
 pub along_is : (a b c : Point) (p m : ℕ)
     → p ≡ c.x * b.x + a.x * a.x + c.y * b.y + a.y * a.y → m ≡ c.x * a.x + a.x * b.x + c.y * a.y + a.y * b.y

@@ -6,11 +6,11 @@ use Rattle.std.proofs.lemmas.Bool.{and_parts, or_cases, or_left, or_right, eqb-t
 use Rattle.std.proofs.lemmas.List.{take_all, drop_all, length-drop}
 use Rattle.std.proofs.lemmas.List.Elements.{All-cons, All-head, All-tail}
 use Rattle.std.proofs.lemmas.Option.{slice_get-get_or}
-use Rattle.plain_drawing.specs.declared.world.Point.{Point}
-use Rattle.plain_drawing.specs.declared.shapes.LineCap.{LineCap}
-use Rattle.plain_drawing.specs.declared.shapes.LineCap.TheVariants as with
-use Rattle.plain_drawing.specs.World.{InWorld}
-use Rattle.plain_drawing.specs.Strokes.{is_same, in_body, in_disk, before_start, past_end, kept, kept_after, on_bodies, on_joins, in_last_disk, past_last, on_caps, on_dot, on_kept, on_line, on_sides, on_disks, on_ring}
+use Rattle.plain_world.specs.declared.world.Point.{Point}
+use Rattle.plain_shapes.specs.declared.shapes.LineCap.{LineCap}
+use Rattle.plain_shapes.specs.declared.shapes.LineCap.TheVariants as with
+use Rattle.plain_world.specs.World.{InWorld}
+use Rattle.plain_shapes.specs.Strokes.{is_same, in_body, in_disk, before_start, past_end, kept, kept_after, on_bodies, on_joins, in_last_disk, past_last, on_caps, on_dot, on_kept, on_line, on_sides, on_disks, on_ring}
 use Rattle.stroke_core.specs.Parts.{point_at, on_ends, on_long, on_parts}
 
 -- one side more

@@ -3,8 +3,8 @@ use Rattle.std.proofs.Common.{◌≡◌, ℕ, ◌+◌, ◌-◌, ◌*◌, ◌/◌
 use Rattle.std.specs.Prelude.{nat_le}
 use Rattle.std.proofs.Math.Nat.{mul-le-mul_right, div-add-mod, mod-lt}
 use Rattle.std.proofs.lemmas.Bool.{cases_lt, and_parts, not-true}
-use Rattle.plain_drawing.specs.declared.world.Point.{Point}
-use Rattle.plain_drawing.specs.Strokes.{is_same, is_near, in_body, before_start, past_end}
+use Rattle.plain_world.specs.declared.world.Point.{Point}
+use Rattle.plain_shapes.specs.Strokes.{is_same, is_near, in_body, before_start, past_end}
 use Rattle.centre_spans.specs.declared.shapes.Stretch.{Stretch}
 use Rattle.centre_spans.specs.Stretches.{InStretch}
 use Rattle.stroke_core.proofs.Products.{along_is, long_is}

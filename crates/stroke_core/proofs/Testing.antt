@@ -2,10 +2,10 @@
 use Rattle.std.proofs.Common.{◌≡◌, ℕ, ◌+◌, ◌-◌, ◌*◌, Bool, ◌&&◌, refl, ap, sym, ◌∙◌, arith}
 use Rattle.std.specs.Prelude.{pos, ◌-ℤ◌, int_le, int_lt, nat_le, nat_lt, unsigned_abs}
 use Rattle.std.proofs.lemmas.Int.{ints}
-use Rattle.plain_drawing.specs.declared.world.Point.{Point}
-use Rattle.plain_drawing.specs.Rings.{less}
-use Rattle.plain_drawing.specs.Strokes.{along, beside, long, reach, is_near, in_body, in_disk, before_start, past_end, in_block}
-use Rattle.plain_drawing.proofs.Signs.{same_le, same_lt, square-less, abs-less}
+use Rattle.plain_world.specs.declared.world.Point.{Point}
+use Rattle.plain_shapes.specs.Rings.{less}
+use Rattle.plain_shapes.specs.Strokes.{along, beside, long, reach, is_near, in_body, in_disk, before_start, past_end, in_block}
+use Rattle.plain_shapes.proofs.Signs.{same_le, same_lt, square-less, abs-less}
 
 pub near_is : (half : ℕ) (a b c : Point) (p m d l r : ℕ) → less p m ≡ beside a b c → d ≡ p - m + (m - p) → pos l ≡ long a b → r ≡ half * half * l
     → nat_le (d * d) r ≡ is_near half a b c

@@ -1,9 +1,9 @@
 -- A line's stroke as the code goes through it: sides, joins and ends by their places in the list of kept points.
 use Rattle.std.specs.Prelude.{ℕ, ◌-◌, Bool, false, not, ◌&&◌, ◌||◌, List, [], ◌∷◌, length, take, drop, slice_index_or}
-use Rattle.plain_drawing.specs.declared.world.Point.{Point}
-use Rattle.plain_drawing.specs.declared.shapes.LineCap.{LineCap}
-use Rattle.plain_drawing.specs.declared.shapes.LineCap.TheVariants as with
-use Rattle.plain_drawing.specs.Strokes.{is_same, in_disk, before_start, past_end, on_sides, on_disks, on_dot}
+use Rattle.plain_world.specs.declared.world.Point.{Point}
+use Rattle.plain_shapes.specs.declared.shapes.LineCap.{LineCap}
+use Rattle.plain_shapes.specs.declared.shapes.LineCap.TheVariants as with
+use Rattle.plain_shapes.specs.Strokes.{is_same, in_disk, before_start, past_end, on_sides, on_disks, on_dot}
 
 -- the point at a place of a list that has it
 abbrev pub point_at : List Point → ℕ → Point

@@ -1,14 +1,14 @@
 //! The bodies of segments, row by row.
 ghost use Rattle.std.specs.Prelude.{◌≡◌, ◌+◌, ◌-◌, ◌≤◌, ◌<◌, ◌^◌, ℕ, min, max, true};
-ghost use Rattle.plain_drawing.specs.declared.world.Point.{Point};
-ghost use Rattle.plain_drawing.specs.World.{InWorld};
-ghost use Rattle.plain_drawing.specs.Strokes.{is_near};
+ghost use Rattle.plain_world.specs.declared.world.Point.{Point};
+ghost use Rattle.plain_world.specs.World.{InWorld};
+ghost use Rattle.plain_shapes.specs.Strokes.{is_near};
 ghost use Rattle.centre_spans.specs.Stretches.{InStretch};
 
 use crate::membership::{both, in_body, is_same};
 use crate::numbers::times;
 use centre_spans::{Shape, Stretch, apart};
-use plain_drawing::Point;
+use plain_world::Point;
 
 /// The body of the segment from `a` to `b`; where these are one point it holds nothing.
 #[derive(Clone, Copy, Debug, PartialEq, Eq)]
@@ -62,8 +62,8 @@ fn slanted(upper: Point, lower: Point, half: u32, y: u32) -> Stretch
 
 impl Shape for Body {
     ghost use Rattle.std.specs.Prelude.{◌≡◌, ◌≤◌, ◌^◌, not, ◌&&◌};
-    ghost use Rattle.plain_drawing.specs.World.{InWorld};
-    ghost use Rattle.plain_drawing.specs.Strokes.{in_body, is_same};
+    ghost use Rattle.plain_world.specs.World.{InWorld};
+    ghost use Rattle.plain_shapes.specs.Strokes.{in_body, is_same};
 
     ghost holds = { λ s c. not (is_same s.a s.b) && in_body s.half s.a s.b c };
 

@@ -3,7 +3,7 @@
 use crate::bodies::between;
 use crate::membership::{before_start, both, is_same, past_end};
 use centre_spans::{Shape, Stretch};
-use plain_drawing::Point;
+use plain_world::Point;
 
 /// The square cap before the start of the segment from `a` to `b`; where these are one point it holds
 /// nothing.
@@ -16,8 +16,8 @@ pub struct StartCap {
 
 impl Shape for StartCap {
     ghost use Rattle.std.specs.Prelude.{◌≡◌, ◌≤◌, ◌^◌, not, ◌&&◌};
-    ghost use Rattle.plain_drawing.specs.World.{InWorld};
-    ghost use Rattle.plain_drawing.specs.Strokes.{before_start, is_same};
+    ghost use Rattle.plain_world.specs.World.{InWorld};
+    ghost use Rattle.plain_shapes.specs.Strokes.{before_start, is_same};
 
     ghost holds = { λ s c. not (is_same s.a s.b) && before_start s.half s.a s.b c };
 
@@ -50,8 +50,8 @@ pub struct EndCap {
 
 impl Shape for EndCap {
     ghost use Rattle.std.specs.Prelude.{◌≡◌, ◌≤◌, ◌^◌, not, ◌&&◌};
-    ghost use Rattle.plain_drawing.specs.World.{InWorld};
-    ghost use Rattle.plain_drawing.specs.Strokes.{past_end, is_same};
+    ghost use Rattle.plain_world.specs.World.{InWorld};
+    ghost use Rattle.plain_shapes.specs.Strokes.{past_end, is_same};
 
     ghost holds = { λ s c. not (is_same s.a s.b) && past_end s.half s.a s.b c };
 

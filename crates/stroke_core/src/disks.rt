@@ -2,7 +2,7 @@
 use crate::bodies::between;
 use crate::membership::{in_block, in_disk};
 use centre_spans::{Shape, Stretch};
-use plain_drawing::Point;
+use plain_world::Point;
 
 /// The disk round a point.
 #[derive(Clone, Copy, Debug, PartialEq, Eq)]
@@ -13,8 +13,8 @@ pub struct Disk {
 
 impl Shape for Disk {
     ghost use Rattle.std.specs.Prelude.{◌≡◌, ◌≤◌, ◌^◌};
-    ghost use Rattle.plain_drawing.specs.World.{InWorld};
-    ghost use Rattle.plain_drawing.specs.Strokes.{in_disk};
+    ghost use Rattle.plain_world.specs.World.{InWorld};
+    ghost use Rattle.plain_shapes.specs.Strokes.{in_disk};
 
     ghost holds = { λ s c. in_disk s.half s.p c };
 
@@ -42,8 +42,8 @@ pub struct Block {
 
 impl Shape for Block {
     ghost use Rattle.std.specs.Prelude.{◌≡◌, ◌≤◌, ◌^◌};
-    ghost use Rattle.plain_drawing.specs.World.{InWorld};
-    ghost use Rattle.plain_drawing.specs.Strokes.{in_block};
+    ghost use Rattle.plain_world.specs.World.{InWorld};
+    ghost use Rattle.plain_shapes.specs.Strokes.{in_block};
 
     ghost holds = { λ s c. in_block s.half s.p c };
 

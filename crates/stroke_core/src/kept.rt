@@ -1,10 +1,10 @@
 //! The points of a line without those that equal the one before.
 ghost use Rattle.std.specs.Prelude.{◌≡◌, ◌++◌, ◌∷◌, [], IfOk, OnOk, if◌then◌else◌};
-ghost use Rattle.plain_drawing.specs.Strokes.{is_same, kept, kept_after};
+ghost use Rattle.plain_shapes.specs.Strokes.{is_same, kept, kept_after};
 
 use crate::membership::is_same;
 use farm_base::NoMemory;
-use plain_drawing::Point;
+use plain_world::Point;
 use std::alloc::Global;
 
 fn keep_one(out: &mut Vec<Point>, before: Point, p: Point) -> Result<(), NoMemory>

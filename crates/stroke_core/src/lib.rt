@@ -13,7 +13,7 @@ mod outlines;
 
 pub use lines::stroke_lines;
 pub use outlines::stroke_rings;
-pub use plain_drawing::LineCap as Cap;
+pub use plain_shapes::LineCap as Cap;
 
 #[cfg(test)]
 mod tests;

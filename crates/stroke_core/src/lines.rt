@@ -1,8 +1,8 @@
 //! Strokes of lines.
 ghost use Rattle.std.specs.Prelude.{◌≡◌, ◌≤◌, ◌<◌, ◌^◌, length, All, OnOk, OnErr};
-ghost use Rattle.plain_drawing.specs.World.{InWorld, IsWindow, centres};
-ghost use Rattle.plain_drawing.specs.Canvas.{marked, SetsSome};
-ghost use Rattle.plain_drawing.specs.Strokes.{on_sides, on_disks, on_dot, on_line, on_stroke};
+ghost use Rattle.plain_world.specs.World.{InWorld, IsWindow, centres};
+ghost use Rattle.plain_shapes.specs.Canvas.{marked, SetsSome};
+ghost use Rattle.plain_shapes.specs.Strokes.{on_sides, on_disks, on_dot, on_line, on_stroke};
 ghost use Rattle.stroke_core.specs.Parts.{on_ends, on_long, on_parts};
 
 use crate::bodies::Body;
@@ -11,8 +11,9 @@ use crate::disks::{Block, Disk};
 use crate::kept::kept;
 use centre_spans::mark;
 use farm_base::NoMemory;
-use plain_drawing::{LineCap, Path, Point, Window};
 use plain_image::Mask;
+use plain_shapes::{LineCap, Path};
+use plain_world::{Point, Window};
 use std::alloc::Global;
 
 /// Sets the bits of the bodies of the segments from `first` along the points.

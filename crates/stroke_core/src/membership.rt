@@ -1,11 +1,11 @@
 //! The tests of strokes: bodies, disks, caps and blocks.
 ghost use Rattle.std.specs.Prelude.{◌≡◌, ◌≤◌, ◌^◌, ◌&&◌};
-ghost use Rattle.plain_drawing.specs.World.{InWorld};
-ghost use Rattle.plain_drawing.specs.Strokes.{is_near, in_body, in_disk, before_start, past_end, in_block, is_same};
+ghost use Rattle.plain_world.specs.World.{InWorld};
+ghost use Rattle.plain_shapes.specs.Strokes.{is_near, in_body, in_disk, before_start, past_end, in_block, is_same};
 
 use crate::numbers::{along, beside, long, reach};
 use centre_spans::{all, apart, squared};
-use plain_drawing::Point;
+use plain_world::Point;
 
 /// Whether two points are one.
 pub fn is_same(p: Point, q: Point) -> bool

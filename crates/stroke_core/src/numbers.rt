@@ -1,12 +1,12 @@
 //! The numbers of a segment and a point, without signs: a number that may be below zero is what is to
 //! be added and what is to be taken away.
 ghost use Rattle.std.specs.Prelude.{◌≡◌, ◌+◌, ◌*◌, ◌^◌, ◌≤◌, pos};
-ghost use Rattle.plain_drawing.specs.World.{InWorld};
-ghost use Rattle.plain_drawing.specs.Rings.{less};
-ghost use Rattle.plain_drawing.specs.Strokes.{along, beside, long};
+ghost use Rattle.plain_world.specs.World.{InWorld};
+ghost use Rattle.plain_shapes.specs.Rings.{less};
+ghost use Rattle.plain_shapes.specs.Strokes.{along, beside, long};
 
 use centre_spans::apart;
-use plain_drawing::Point;
+use plain_world::Point;
 
 /// The number `plus - minus`, which may be below zero.
 #[derive(Clone, Copy, Debug, PartialEq, Eq)]

@@ -1,13 +1,14 @@
 //! Outlines of rings.
 ghost use Rattle.std.specs.Prelude.{◌≡◌, ◌≤◌, ◌^◌, All, IsOk};
-ghost use Rattle.plain_drawing.specs.World.{InWorld, IsWindow, centres};
-ghost use Rattle.plain_drawing.specs.Canvas.{marked};
-ghost use Rattle.plain_drawing.specs.Strokes.{on_ring, on_outline};
+ghost use Rattle.plain_world.specs.World.{InWorld, IsWindow, centres};
+ghost use Rattle.plain_shapes.specs.Canvas.{marked};
+ghost use Rattle.plain_shapes.specs.Strokes.{on_ring, on_outline};
 
 use crate::lines::{mark_disks, mark_sides};
 use farm_base::NoMemory;
-use plain_drawing::{Path, Point, Window};
 use plain_image::Mask;
+use plain_shapes::Path;
+use plain_world::{Point, Window};
 
 // Sets the bits of the outline of a ring, which is closed from its last point to its first.
 fn mark_ring(half: u32, ps: &[Point], w: Window, mask: &mut Mask)

@@ -1,11 +1,12 @@
 //! Strokes that were worked out by hand, on the whole world in 16 by 16 pixels.
 ghost use Rattle.std.specs.Prelude.{◌≡◌, ◌≤◌, ◌^◌, ◌∷◌, [], IfOk};
-ghost use Rattle.plain_drawing.specs.World.{InWorld};
+ghost use Rattle.plain_world.specs.World.{InWorld};
 
 use crate::{Cap, stroke_lines, stroke_rings};
 use farm_base::NoMemory;
-use plain_drawing::{Path, Point, Window};
 use plain_image::Mask;
+use plain_shapes::Path;
+use plain_world::{Point, Window};
 use std::alloc::Global;
 use std::test::Fail;
 

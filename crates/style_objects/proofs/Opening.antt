@@ -2,9 +2,9 @@
 use Rattle.std.specs.Prelude.{◌≡◌, ℕ, true, List, [], Option, Some, None, option_map, is_some, refl}
 use Rattle.std.specs.List.{list_all}
 use Rattle.farm_base.specs.Earlier.{each_after}
-use Rattle.plain_drawing.specs.declared.expr.Expr.{Expr}
+use Rattle.plain_filters.specs.declared.expr.Expr.{Expr}
 use Rattle.plain_drawing.specs.declared.style.Symbolizer.{Symbolizer}
-use Rattle.plain_drawing.specs.Filters.{tree_of}
+use Rattle.plain_filters.specs.Filters.{tree_of}
 use Rattle.plain_drawing.specs.Styles.{Style, style_has, is_paint}
 use Rattle.reading.proofs.Steps.{all_each}
 use Rattle.std.proofs.Common.{◌∙◌, sym}

@@ -4,12 +4,12 @@ use Rattle.std.specs.Prelude.{ℕ, ◌^◌, ◌||◌, Bool, true, false, ◌&&�
 use Rattle.std.specs.Option.{ok_or}
 use Rattle.std.specs.Str.{bytes_eq}
 use Rattle.serde_json.specs.Data.{Data, null, boolean, number, string, array, object, Items, no_items}
-use Rattle.plain_drawing.specs.declared.colour.Colour.{Colour}
-use Rattle.plain_drawing.specs.declared.shapes.LineCap.{LineCap}
-use Rattle.plain_drawing.specs.declared.shapes.LineCap.TheVariants as cap
+use Rattle.plain_shapes.specs.declared.colour.Colour.{Colour}
+use Rattle.plain_shapes.specs.declared.shapes.LineCap.{LineCap}
+use Rattle.plain_shapes.specs.declared.shapes.LineCap.TheVariants as cap
 use Rattle.plain_drawing.specs.declared.style.FilterMode.{FilterMode}
 use Rattle.plain_drawing.specs.declared.style.FilterMode.TheVariants as mode
-use Rattle.plain_drawing.specs.Filters.{FilterTree}
+use Rattle.plain_filters.specs.Filters.{FilterTree}
 use Rattle.plain_drawing.specs.Styles.{is_text_to, is_width}
 use Rattle.paint_texts.specs.Colours.{colour_of}
 use Rattle.paint_texts.specs.Decimals.{hundredths_of, thousandths_of}

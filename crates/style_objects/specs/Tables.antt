@@ -5,12 +5,12 @@ use Rattle.std.specs.Option.{ok_or}
 use Rattle.std.specs.Str.{bytes_eq}
 use Rattle.serde_json.specs.Data.{Data, Items}
 use Rattle.serde_json.specs.Find.{get}
-use Rattle.plain_drawing.specs.declared.colour.Colour.{Colour}
-use Rattle.plain_drawing.specs.declared.shapes.LineCap.TheVariants as cap
+use Rattle.plain_shapes.specs.declared.colour.Colour.{Colour}
+use Rattle.plain_shapes.specs.declared.shapes.LineCap.TheVariants as cap
 use Rattle.plain_drawing.specs.declared.style.FilterMode.TheVariants as mode
 use Rattle.plain_drawing.specs.declared.style.Symbolizer.{Symbolizer}
 use Rattle.plain_drawing.specs.declared.style.Symbolizer.TheVariants as paint
-use Rattle.plain_drawing.specs.Filters.{FilterTree}
+use Rattle.plain_filters.specs.Filters.{FilterTree}
 use Rattle.plain_drawing.specs.Styles.{Rule, Style, LayerRef, RasterRef, MapStyle, style_has, layer_has, raster_has}
 use Rattle.paint_texts.specs.Colours.{rgb}
 use Rattle.reading.specs.Json.{json_of}

@@ -2,11 +2,11 @@
 ghost use Rattle.std.specs.Prelude.{◌≡◌, ◌≤◌, ◌&&◌, ◌^◌, not, false, IsTrue, IfOk, IfSome, length, Some, None, option_map, is_some};
 ghost use Rattle.serde_json.specs.Find.{get};
 ghost use Rattle.serde_json.specs.View.{view, items_view};
-ghost use Rattle.plain_drawing.specs.Filters.{tree_of};
+ghost use Rattle.plain_filters.specs.Filters.{tree_of};
 ghost use Rattle.plain_drawing.specs.Styles.{is_text_to, is_width, is_opacity};
 ghost use Rattle.reading.specs.Steps.{seen, Gives};
 ghost use Rattle.reading.specs.Values.{needed, or_value};
-ghost use Rattle.plain_drawing.specs.declared.shapes.LineCap.TheVariants as cap;
+ghost use Rattle.plain_shapes.specs.declared.shapes.LineCap.TheVariants as cap;
 ghost use Rattle.plain_drawing.specs.declared.style.FilterMode.TheVariants as mode;
 ghost use Rattle.style_objects.specs.Kinds as spec;
 ghost use Rattle.style_objects.specs.declared.fault.StyleFault.TheVariants as fault;
@@ -14,7 +14,8 @@ ghost use Rattle.style_objects.specs.declared.fault.StyleFault.TheVariants as fa
 use crate::fault::{At, StyleFault};
 use filter_expr::{Expr, FilterFault, parse};
 use paint_texts::{Colour, hundredths, thousandths};
-use plain_drawing::{FilterMode, LineCap};
+use plain_drawing::FilterMode;
+use plain_shapes::LineCap;
 use reading::{text, whole};
 use serde_json::Value;
 use std::alloc::Global;

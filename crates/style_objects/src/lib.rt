@@ -13,6 +13,5 @@ mod symbolizers;
 
 pub use fault::{At, Part, StyleFault};
 pub use map_style::read_style;
-pub use plain_drawing::{
-    FilterMode, Grid, LayerRef, LineCap, MapStyle, RasterRef, Rule, Style, Symbolizer,
-};
+pub use plain_drawing::{FilterMode, Grid, LayerRef, MapStyle, RasterRef, Rule, Style, Symbolizer};
+pub use plain_shapes::LineCap;

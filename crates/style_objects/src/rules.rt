@@ -1,7 +1,7 @@
 //! The rules of a style.
 ghost use Rattle.std.specs.Prelude.{◌≡◌, ◌≤◌, ◌&&◌, length, true, not, option_map, is_some, IsTrue, IfOk};
 ghost use Rattle.serde_json.specs.View.{view, items_view};
-ghost use Rattle.plain_drawing.specs.Filters.{tree_of};
+ghost use Rattle.plain_filters.specs.Filters.{tree_of};
 ghost use Rattle.reading.specs.Lists.{list_of};
 ghost use Rattle.reading.specs.Steps.{Gives};
 ghost use Rattle.style_objects.specs.Tables as spec;

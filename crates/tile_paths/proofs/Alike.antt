@@ -4,7 +4,7 @@ use Rattle.std.specs.Prelude.{codes}
 use Rattle.std.specs.Fmt.{decimal}
 use Rattle.std.proofs.lemmas.Fmt.{decimal_injective}
 use Rattle.std.proofs.Math.Seq.{drop-append_seam}
-use Rattle.plain_drawing.specs.declared.world.Meta.{Meta}
+use Rattle.plain_world.specs.declared.world.Meta.{Meta}
 use Rattle.tile_paths.specs.Paths.{in_folder, path_of}
 use Rattle.tile_paths.specs.Laws.{OnePath, EndsInMeta, IsNotSaved}
 use Rattle.tile_paths.specs.declared.reading.Five.{Five}

@@ -2,8 +2,8 @@
 use Rattle.std.proofs.Common.{◌≡◌, ℕ, ◌+◌, ◌*◌, ◌/◌, ◌%◌, ◌^◌, ◌<◌, ◌≤◌, List, arith}
 use Rattle.std.proofs.Math.Nat.{pow-le-pow_right}
 use Rattle.std.specs.Fmt.{decimal}
-use Rattle.plain_drawing.specs.declared.world.Meta.{Meta}
-use Rattle.plain_drawing.specs.World.{IsMeta}
+use Rattle.plain_world.specs.declared.world.Meta.{Meta}
+use Rattle.plain_world.specs.World.{IsMeta}
 use Rattle.tile_paths.specs.Paths.{beside, five, in_folder, path_of}
 use Rattle.tile_paths.specs.declared.reading.Five.{Five}
 

@@ -1,8 +1,8 @@
 -- What holds of paths: each is the path of one name and metatile, and none is the path of anything else
 -- that a store holds.
 use Rattle.std.specs.Prelude.{◌≡◌, ◌≢◌, ℕ, List, ◌++◌, codes}
-use Rattle.plain_drawing.specs.declared.world.Meta.{Meta}
-use Rattle.plain_drawing.specs.World.{IsMeta}
+use Rattle.plain_world.specs.declared.world.Meta.{Meta}
+use Rattle.plain_world.specs.World.{IsMeta}
 use Rattle.tile_paths.specs.Paths.{IsName, path_of}
 
 -- Two metatiles of maps that have one path are the same metatile of the same map.

@@ -3,7 +3,7 @@
 use Rattle.std.specs.Prelude.{ℕ, ◌+◌, ◌*◌, ◌/◌, ◌%◌, ◌≤◌, ◌==◌, ◌&&◌, ◌||◌, ◌++◌, ◌∷◌, Bool, List, length, nat_le, codes, IsTrue}
 use Rattle.std.specs.List.{list_all}
 use Rattle.std.specs.Fmt.{decimal}
-use Rattle.plain_drawing.specs.declared.world.Meta.{Meta}
+use Rattle.plain_world.specs.declared.world.Meta.{Meta}
 
 -- a byte of a name: `a` to `z`, `0` to `9`, `_` and `-`
 abbrev pub is_name_byte : ℕ → Bool

@@ -1,8 +1,8 @@
 //! From a path to its metatile.
 ghost use Rattle.std.specs.Prelude.{◌≡◌, ◌≤◌, ◌<◌, ◌+◌, ◌*◌, ◌/◌, ◌%◌, ◌++◌, ◌∷◌, ℕ, List, length, IfSome, IsSomeAnd};
 ghost use Rattle.std.specs.Fmt.{decimal};
-ghost use Rattle.plain_drawing.specs.declared.world.Meta.{Meta};
-ghost use Rattle.plain_drawing.specs.World.{IsMeta};
+ghost use Rattle.plain_world.specs.declared.world.Meta.{Meta};
+ghost use Rattle.plain_world.specs.World.{IsMeta};
 ghost use Rattle.tile_paths.specs.Paths.{IsName, path_of};
 ghost use Rattle.tile_paths.specs.Paths as spec;
 
@@ -10,7 +10,7 @@ use crate::names::is_name;
 use crate::writing::path;
 use arrayvec::ArrayString;
 use merc_fixed::{meta_of, tile};
-use plain_drawing::Meta;
+use plain_world::Meta;
 
 /// The name and the metatile of which this is the path; `None` exactly where it is the path of none.
 pub fn read_path(text: &str) -> Option<(ArrayString<40>, Meta)>

@@ -1,7 +1,7 @@
 //! Paths as mod_tile makes them.
 use crate::{is_name, path, read_path};
 use merc_fixed::{meta_of, tile};
-use plain_drawing::Meta;
+use plain_world::Meta;
 use std::test::Fail;
 
 #[test]

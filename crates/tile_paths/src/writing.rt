@@ -2,13 +2,13 @@
 ghost use Rattle.std.specs.Prelude.{◌≡◌, ◌≤◌, ◌<◌, ◌+◌, ◌++◌, ◌∷◌, length};
 ghost use Rattle.std.specs.Fmt.{decimal};
 ghost use Rattle.arrayvec.specs.ArrayString.{array_string_len};
-ghost use Rattle.plain_drawing.specs.World.{IsMeta};
+ghost use Rattle.plain_world.specs.World.{IsMeta};
 ghost use Rattle.tile_paths.specs.Paths.{IsName, path_of};
 ghost use Rattle.tile_paths.specs.Paths as spec;
 
 use arrayvec::ArrayString;
 use itoa::Buffer;
-use plain_drawing::Meta;
+use plain_world::Meta;
 
 /// The path under which a map's metatile is stored: `name/z/h4/h3/h2/h1/h0.meta`, where `h0` has the
 /// lowest four bits of x and y, `h1` the next four, and so on (mod_tile's `xyz_to_meta`). The name has

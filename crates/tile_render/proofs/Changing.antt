@@ -5,13 +5,13 @@ use Rattle.std.proofs.Math.Nat.{mul-le-mul_right, div-add-mod, mod-lt}
 use Rattle.std.proofs.lemmas.Bool.{cases_lt, false_from_ne_true}
 use Rattle.std.proofs.lemmas.Nat.{row_fits}
 use Rattle.std.proofs.lemmas.List.{take_all}
-use Rattle.plain_drawing.specs.declared.world.Point.{Point}
-use Rattle.plain_drawing.specs.declared.world.Window.{Window}
-use Rattle.plain_drawing.specs.declared.colour.Colour.{Colour}
-use Rattle.plain_drawing.specs.World.{centre, centres}
-use Rattle.plain_drawing.specs.Blending.{blend}
-use Rattle.plain_drawing.specs.Canvas.{Pixels, at_centres, stepped}
-use Rattle.plain_drawing.proofs.Places.{length-centres, get_or-centres}
+use Rattle.plain_world.specs.declared.world.Point.{Point}
+use Rattle.plain_world.specs.declared.world.Window.{Window}
+use Rattle.plain_shapes.specs.declared.colour.Colour.{Colour}
+use Rattle.plain_world.specs.World.{centre, centres}
+use Rattle.plain_shapes.specs.Blending.{blend}
+use Rattle.plain_shapes.specs.Canvas.{Pixels, at_centres, stepped}
+use Rattle.plain_shapes.proofs.Places.{length-centres, get_or-centres}
 use Rattle.tile_render.specs.declared.parts.Part.{Part}
 use Rattle.tile_render.specs.Places.{changed_at}
 use Rattle.tile_render.specs.Parts.{IsPart, InPart, Holds, Tells, Changed, over_member}

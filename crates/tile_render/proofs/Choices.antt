@@ -4,10 +4,10 @@ use Rattle.std.specs.Prelude.{if◌then◌else◌, option_to_list, Option}
 use Rattle.std.specs.List.{list_any}
 use Rattle.std.proofs.lemmas.Grind.{fold-append}
 use Rattle.farm_base.specs.declared.Attr.{Attr}
-use Rattle.plain_drawing.specs.declared.world.Window.{Window}
+use Rattle.plain_world.specs.declared.world.Window.{Window}
 use Rattle.plain_drawing.specs.declared.style.FilterMode.TheVariants.{All, First}
 use Rattle.plain_drawing.specs.Styles.{Rule, Style}
-use Rattle.plain_drawing.specs.Canvas.{Pixels}
+use Rattle.plain_shapes.specs.Canvas.{Pixels}
 use Rattle.plain_drawing.specs.Rules.{matches, is_fallback, taken}
 use Rattle.plain_drawing.specs.Drawing.{Item, attrs_of}
 use Rattle.plain_drawing.specs.Pictures.{with_symbolizer, with_item}

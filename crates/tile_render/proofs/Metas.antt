@@ -3,11 +3,11 @@ use Rattle.std.proofs.Common.{◌≡◌, ℕ, zero, suc, ◌+◌, ap, sym, ◌�
 use Rattle.std.specs.List.{range_with_len}
 use Rattle.std.proofs.lemmas.List.{append-nil, map-append}
 use Rattle.std.proofs.lemmas.Grind.{flat_map-append}
-use Rattle.plain_drawing.specs.declared.world.Window.{Window}
-use Rattle.plain_drawing.specs.World.{centres}
-use Rattle.plain_drawing.specs.Features.{Layer}
+use Rattle.plain_world.specs.declared.world.Window.{Window}
+use Rattle.plain_world.specs.World.{centres}
+use Rattle.plain_data.specs.Features.{Layer}
 use Rattle.plain_drawing.specs.Styles.{MapStyle}
-use Rattle.plain_drawing.specs.Canvas.{Pixels}
+use Rattle.plain_shapes.specs.Canvas.{Pixels}
 use Rattle.plain_drawing.specs.Rules.{denominator_of}
 use Rattle.plain_drawing.specs.Drawing.{colour_at, pixel_of}
 use Rattle.plain_drawing.specs.Pictures.{with_map}

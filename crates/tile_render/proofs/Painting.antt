@@ -4,27 +4,27 @@ use Rattle.std.specs.Prelude.{if◌then◌else◌, All}
 use Rattle.std.proofs.lemmas.Bool.{false_from_ne_true}
 use Rattle.std.proofs.lemmas.Nat.{row_fits}
 use Rattle.std.proofs.lemmas.List.{get_or-map}
-use Rattle.plain_drawing.specs.declared.world.Point.{Point}
-use Rattle.plain_drawing.specs.declared.world.Window.{Window}
-use Rattle.plain_drawing.specs.declared.colour.Colour.{Colour}
+use Rattle.plain_world.specs.declared.world.Point.{Point}
+use Rattle.plain_world.specs.declared.world.Window.{Window}
+use Rattle.plain_shapes.specs.declared.colour.Colour.{Colour}
 use Rattle.plain_drawing.specs.declared.style.Symbolizer.{Symbolizer}
 use Rattle.plain_drawing.specs.declared.style.Symbolizer.TheVariants as paint
-use Rattle.plain_drawing.specs.declared.shapes.Geometry.{Geometry}
-use Rattle.plain_drawing.specs.declared.shapes.Geometry.TheVariants as shape
+use Rattle.plain_shapes.specs.declared.shapes.Geometry.{Geometry}
+use Rattle.plain_shapes.specs.declared.shapes.Geometry.TheVariants as shape
 use Rattle.plain_drawing.specs.Grids.{Grid}
-use Rattle.plain_drawing.specs.World.{InWorld, centre, centres}
+use Rattle.plain_world.specs.World.{InWorld, centre, centres}
 use Rattle.geo_model.specs.declared.bounds.Bounds.{Bounds}
 use Rattle.geo_model.specs.Bounds.{InBounds}
 use Rattle.geo_model.specs.Shapes.{parts_of}
 use Rattle.drawing_reach.specs.Spreads.{Beside, spread_across, spread_down}
 use Rattle.drawing_reach.proofs.Covers.{covered_beside}
 use Rattle.drawing_reach.proofs.Unreached.{missed, all_centres}
-use Rattle.plain_drawing.specs.Features.{Feature}
-use Rattle.plain_drawing.specs.Blending.{blend}
-use Rattle.plain_drawing.specs.Canvas.{Bits, Pixels, stepped, marked}
+use Rattle.plain_data.specs.Features.{Feature}
+use Rattle.plain_shapes.specs.Blending.{blend}
+use Rattle.plain_shapes.specs.Canvas.{Bits, Pixels, stepped, marked}
 use Rattle.plain_drawing.specs.Drawing.{Item, feature, raster, raster_over, covers, painted_over, symbolizer_at}
 use Rattle.plain_drawing.specs.Pictures.{with_symbolizer}
-use Rattle.plain_drawing.proofs.Places.{length-centres, get_or-centres}
+use Rattle.plain_shapes.proofs.Places.{length-centres, get_or-centres}
 use Rattle.plain_drawing.proofs.Steps.{stepped_none, at_centres-replicate}
 use Rattle.tile_render.specs.declared.parts.Part.{Part}
 use Rattle.tile_render.specs.Parts.{InPart, part_of, Holds, HoldsCovered, Tells, over_member}

@@ -7,13 +7,13 @@ use Rattle.std.proofs.lemmas.Bool.{le-leb, ltb-false, false_from_ne_true}
 use Rattle.std.proofs.lemmas.List.{take_all, get_or-drop, length-drop}
 use Rattle.std.proofs.lemmas.List.Sums.{prefix_len_passes}
 use Rattle.std.proofs.lemmas.List.Quantifiers.{position-Some}
-use Rattle.plain_drawing.specs.declared.world.Window.{Window}
+use Rattle.plain_world.specs.declared.world.Window.{Window}
 use Rattle.plain_drawing.specs.declared.style.Symbolizer.{Symbolizer}
-use Rattle.plain_drawing.specs.declared.shapes.Geometry.TheVariants as shape
-use Rattle.plain_drawing.specs.World.{IsWindow, centre}
-use Rattle.plain_drawing.specs.Features.{Feature}
+use Rattle.plain_shapes.specs.declared.shapes.Geometry.TheVariants as shape
+use Rattle.plain_world.specs.World.{IsWindow, centre}
+use Rattle.plain_data.specs.Features.{Feature}
 use Rattle.plain_drawing.specs.Styles.{Rule, Style, is_paint}
-use Rattle.plain_drawing.specs.Canvas.{Pixels}
+use Rattle.plain_shapes.specs.Canvas.{Pixels}
 use Rattle.plain_drawing.specs.Drawing.{covers, feature}
 use Rattle.plain_drawing.specs.Pictures.{with_item}
 use Rattle.geo_model.specs.declared.bounds.Bounds.{Bounds}

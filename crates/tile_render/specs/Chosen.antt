@@ -1,9 +1,9 @@
 -- The rules of a style that are chosen for an item, one after another.
 use Rattle.std.specs.Prelude.{ℕ, Bool, if◌then◌else◌, List, fold}
 use Rattle.farm_base.specs.declared.Attr.{Attr}
-use Rattle.plain_drawing.specs.declared.world.Window.{Window}
+use Rattle.plain_world.specs.declared.world.Window.{Window}
 use Rattle.plain_drawing.specs.Styles.{Rule}
-use Rattle.plain_drawing.specs.Canvas.{Pixels}
+use Rattle.plain_shapes.specs.Canvas.{Pixels}
 use Rattle.plain_drawing.specs.Rules.{matches, is_fallback}
 use Rattle.plain_drawing.specs.Drawing.{Item}
 use Rattle.plain_drawing.specs.Pictures.{with_symbolizer}

@@ -1,13 +1,13 @@
 -- Parts of a window: so many columns from a column on, and so many rows from a row on.
 use Rattle.std.specs.Prelude.{◌≡◌, ℕ, ◌+◌, ◌-◌, ◌*◌, ◌^◌, ◌<◌, ◌≤◌, min, Bool, true, false, if◌then◌else◌, List, take, slice_index_or}
-use Rattle.plain_drawing.specs.declared.world.Point.{Point}
-use Rattle.plain_drawing.specs.declared.world.Window.{Window}
-use Rattle.plain_drawing.specs.declared.colour.Colour.{Colour}
+use Rattle.plain_world.specs.declared.world.Point.{Point}
+use Rattle.plain_world.specs.declared.world.Window.{Window}
+use Rattle.plain_shapes.specs.declared.colour.Colour.{Colour}
 use Rattle.plain_drawing.specs.declared.style.Symbolizer.{Symbolizer}
-use Rattle.plain_drawing.specs.World.{centre, centres}
-use Rattle.plain_drawing.specs.Features.{Feature}
-use Rattle.plain_drawing.specs.Blending.{blend}
-use Rattle.plain_drawing.specs.Canvas.{Pixels, at_centres}
+use Rattle.plain_world.specs.World.{centre, centres}
+use Rattle.plain_data.specs.Features.{Feature}
+use Rattle.plain_shapes.specs.Blending.{blend}
+use Rattle.plain_shapes.specs.Canvas.{Pixels, at_centres}
 use Rattle.plain_drawing.specs.Drawing.{covers}
 use Rattle.geo_model.specs.declared.bounds.Bounds.{Bounds}
 use Rattle.tile_render.specs.declared.parts.Part.{Part}

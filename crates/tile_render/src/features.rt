@@ -2,7 +2,7 @@
 ghost use Rattle.std.specs.Prelude.{◌≡◌, ◌*◌, ◌^◌, ◌<◌, IsTrue, OnOk, List, fold, flat_map, filter, find};
 ghost use Rattle.std.specs.List.{list_all};
 ghost use Rattle.std.specs.Option.{option_copied, option_to_list};
-ghost use Rattle.plain_drawing.specs.World.{IsWindow};
+ghost use Rattle.plain_world.specs.World.{IsWindow};
 ghost use Rattle.plain_drawing.specs.Styles.{is_paint};
 ghost use Rattle.plain_drawing.specs.Rules.{matches, is_fallback, drawn};
 ghost use Rattle.plain_drawing.specs.Drawing.{attrs_of};
@@ -14,8 +14,9 @@ use crate::rules::{Choice, any_matches, first_match, is_chosen};
 use crate::sources::Piece;
 use crate::symbolizers::draw_symbolizer;
 use farm_base::NoMemory;
-use plain_drawing::{FilterMode, Rule, Style, Symbolizer, Window};
+use plain_drawing::{FilterMode, Rule, Style, Symbolizer};
 use plain_image::Image;
+use plain_world::Window;
 use std::alloc::Global;
 
 /// Draws an item by the symbolizers, in order.

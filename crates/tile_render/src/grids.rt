@@ -1,15 +1,16 @@
 //! Grids painted over an image.
 ghost use Rattle.std.specs.Prelude.{◌≡◌, ◌+◌, ◌*◌, ◌<◌, ◌≤◌, List, take};
-ghost use Rattle.plain_drawing.specs.declared.colour.Colour.{Colour};
+ghost use Rattle.plain_shapes.specs.declared.colour.Colour.{Colour};
 ghost use Rattle.plain_drawing.specs.declared.style.Symbolizer.TheVariants as paint;
-ghost use Rattle.plain_drawing.specs.World.{IsWindow, centre, centres};
-ghost use Rattle.plain_drawing.specs.Canvas.{at_centres, stepped};
+ghost use Rattle.plain_world.specs.World.{IsWindow, centre, centres};
+ghost use Rattle.plain_shapes.specs.Canvas.{at_centres, stepped};
 ghost use Rattle.plain_drawing.specs.Drawing.{raster_over};
 ghost use Rattle.tile_render.specs.Places.{changed_at};
 
 use merc_fixed::centre;
-use plain_drawing::{Grid, Window};
+use plain_drawing::Grid;
 use plain_image::Image;
+use plain_world::Window;
 
 /// Paints the grid's colour at the centre of one pixel over that pixel, if the grid has one there.
 fn blend_pixel(w: Window, grid: &Grid, opacity: u32, i: u32, j: u32, image: &mut Image)

@@ -3,7 +3,7 @@ ghost use Rattle.std.specs.Prelude.{◌≡◌, IsTrue, ◌*◌, ◌^◌, ◌<◌
 ghost use Rattle.std.specs.List.{list_all};
 ghost use Rattle.std.specs.Option.{option_copied};
 ghost use Rattle.std.specs.Str.{bytes_eq};
-ghost use Rattle.plain_drawing.specs.World.{IsWindow};
+ghost use Rattle.plain_world.specs.World.{IsWindow};
 ghost use Rattle.plain_drawing.specs.Styles.{is_paint};
 ghost use Rattle.plain_drawing.specs.Drawing.{feature, items_of, style_named};
 ghost use Rattle.plain_drawing.specs.Pictures.{with_item, with_style, with_layer, with_map};
@@ -14,8 +14,9 @@ use crate::parts::around;
 use crate::sources::{Piece, Source, source_of};
 use data_versions::{LayerView, Snapshot};
 use farm_base::{NoMemory, Text};
-use plain_drawing::{LayerRef, MapStyle, Rule, Style, Window};
+use plain_drawing::{LayerRef, MapStyle, Rule, Style};
 use plain_image::Image;
+use plain_world::Window;
 use scale_rules::active;
 use std::alloc::Global;
 

@@ -1,13 +1,14 @@
 //! Masks of parts of a window, painted over the picture of the window.
 ghost use Rattle.std.specs.Prelude.{◌≡◌, ℕ, ◌+◌, ◌*◌, ◌<◌, ◌≤◌, Bool};
-ghost use Rattle.plain_drawing.specs.declared.world.Point.{Point};
-ghost use Rattle.plain_drawing.specs.World.{IsWindow};
-ghost use Rattle.plain_drawing.specs.Canvas.{Pixels, stepped};
+ghost use Rattle.plain_world.specs.declared.world.Point.{Point};
+ghost use Rattle.plain_world.specs.World.{IsWindow};
+ghost use Rattle.plain_shapes.specs.Canvas.{Pixels, stepped};
 ghost use Rattle.tile_render.specs.Parts.{IsPart, Tells, Changed, over_member};
 
 use crate::parts::Part;
-use plain_drawing::{Colour, Window};
 use plain_image::{Image, Mask};
+use plain_shapes::Colour;
+use plain_world::Window;
 
 /// Paints one pixel of the part if the mask covers it.
 fn paint_pixel(

@@ -1,7 +1,7 @@
 //! All tiles of a metatile, cut from one picture.
 ghost use Rattle.std.specs.Prelude.{◌≡◌, ◌+◌, ◌*◌, ◌<◌, ◌≤◌, ◌++◌, IfOk, OnOk, IsTrue};
 ghost use Rattle.std.specs.List.{list_all};
-ghost use Rattle.plain_drawing.specs.World.{IsMeta, IsTileSize};
+ghost use Rattle.plain_world.specs.World.{IsMeta, IsTileSize};
 ghost use Rattle.plain_drawing.specs.Metatiles.{tiles_of, part_text, column_texts, part_texts};
 
 use crate::layers::draw_map;

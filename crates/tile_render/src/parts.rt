@@ -1,12 +1,12 @@
 //! The part of a window that is near a feature, so that no more than its pixels is looked at.
 ghost use Rattle.std.specs.Prelude.{◌≡◌, ℕ, ◌+◌, ◌*◌, ◌^◌, ◌<◌, ◌≤◌, IfSome, MatchOption};
-ghost use Rattle.plain_drawing.specs.World.{IsWindow, centre};
+ghost use Rattle.plain_world.specs.World.{IsWindow, centre};
 ghost use Rattle.drawing_reach.specs.Spreads.{Beside};
 ghost use Rattle.tile_render.specs.Parts.{IsPart, InPart, part_of, around};
 
 use centre_spans::first_at;
 use geo_model::Bounds;
-use plain_drawing::Window;
+use plain_world::Window;
 
 /// Some columns and rows of a window.
 #[derive(Clone, Copy)]

@@ -2,13 +2,14 @@
 ghost use Rattle.std.specs.Prelude.{◌≡◌, ◌*◌, ◌^◌, ◌<◌, option_map, find};
 ghost use Rattle.std.specs.Option.{option_copied};
 ghost use Rattle.std.specs.List.{list_any};
-ghost use Rattle.plain_drawing.specs.Filters.{tree_of};
+ghost use Rattle.plain_filters.specs.Filters.{tree_of};
 ghost use Rattle.plain_drawing.specs.Rules.{at_scale, filter_holds, matches, is_fallback};
 ghost use Rattle.tile_render.specs.Chosen.{is_chosen};
 
 use farm_base::Attr;
 use filter_expr::holds;
-use plain_drawing::{Expr, Rule};
+use plain_drawing::Rule;
+use plain_filters::Expr;
 use scale_rules::active;
 
 /// Which rules of a style are drawn: the active Filter rules whose filter holds, or the active ElseFilter rules.

@@ -1,7 +1,7 @@
 //! A tile as a PPM text.
 ghost use Rattle.std.specs.Prelude.{◌≡◌, IfOk, IsTrue};
 ghost use Rattle.std.specs.List.{list_all};
-ghost use Rattle.plain_drawing.specs.World.{IsTile, IsTileSize};
+ghost use Rattle.plain_world.specs.World.{IsTile, IsTileSize};
 ghost use Rattle.plain_drawing.specs.Drawing.{tile_of};
 
 use crate::layers::draw_map;

@@ -2,24 +2,24 @@
 use Rattle.std.specs.Prelude.{ℕ, ◌*◌, ◌/◌, ◌^◌, Bool, true, false, List, [], ◌∷◌, ◌++◌, map, flat_map, replicate, count_by, codes, pos, Option, Some, None}
 use Rattle.farm_base.specs.declared.Attr.{Attr}
 use Rattle.farm_base.specs.declared.Value.TheVariants as value
-use Rattle.plain_drawing.specs.declared.world.Point.{Point}
-use Rattle.plain_drawing.specs.declared.world.Tile.{Tile}
-use Rattle.plain_drawing.specs.declared.colour.Colour.{Colour}
-use Rattle.plain_drawing.specs.declared.shapes.Geometry.{Geometry}
-use Rattle.plain_drawing.specs.declared.shapes.Geometry.TheVariants as shape
-use Rattle.plain_drawing.specs.declared.shapes.LineCap.{LineCap}
+use Rattle.plain_world.specs.declared.world.Point.{Point}
+use Rattle.plain_world.specs.declared.world.Tile.{Tile}
+use Rattle.plain_shapes.specs.declared.colour.Colour.{Colour}
+use Rattle.plain_shapes.specs.declared.shapes.Geometry.{Geometry}
+use Rattle.plain_shapes.specs.declared.shapes.Geometry.TheVariants as shape
+use Rattle.plain_shapes.specs.declared.shapes.LineCap.{LineCap}
 use Rattle.plain_drawing.specs.declared.style.FilterMode.{FilterMode}
 use Rattle.plain_drawing.specs.declared.style.FilterMode.TheVariants as mode
 use Rattle.plain_drawing.specs.declared.style.Symbolizer.{Symbolizer}
 use Rattle.plain_drawing.specs.declared.style.Symbolizer.TheVariants as paint
-use Rattle.plain_drawing.specs.declared.expr.CompareSign.{CompareSign}
-use Rattle.plain_drawing.specs.declared.expr.CompareSign.TheVariants as sign
-use Rattle.plain_drawing.specs.World.{window_of, centres}
-use Rattle.plain_drawing.specs.Features.{Feature, Layer}
-use Rattle.plain_drawing.specs.Filters.{FilterTree, compare_tree, name_tree, number_tree}
+use Rattle.plain_filters.specs.declared.expr.CompareSign.{CompareSign}
+use Rattle.plain_filters.specs.declared.expr.CompareSign.TheVariants as sign
+use Rattle.plain_world.specs.World.{window_of, centres}
+use Rattle.plain_data.specs.Features.{Feature, Layer}
+use Rattle.plain_filters.specs.Filters.{FilterTree, compare_tree, name_tree, number_tree}
 use Rattle.plain_drawing.specs.Styles.{Rule, Style, LayerRef, RasterRef, MapStyle}
 use Rattle.plain_drawing.specs.Grids.{Grid}
-use Rattle.plain_drawing.specs.Ppm.{ppm}
+use Rattle.plain_shapes.specs.Ppm.{ppm}
 use Rattle.plain_drawing.specs.Rules.{denominator_of, drawn}
 use Rattle.plain_drawing.specs.Drawing.{pixel_of, covers, tile_of}
 

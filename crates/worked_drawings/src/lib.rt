@@ -6,12 +6,12 @@
 #![tactic(auto)]
 
 ghost use Rattle.std.specs.Prelude.{◌≡◌, ◌^◌, ◌*◌, ◌∷◌, ◌++◌, [], true, false, None, Some, replicate, codes};
-ghost use Rattle.plain_drawing.specs.World.{centre};
-ghost use Rattle.plain_drawing.specs.declared.shapes.LineCap.TheVariants.{Butt, Round, Square};
+ghost use Rattle.plain_world.specs.World.{centre};
+ghost use Rattle.plain_shapes.specs.declared.shapes.LineCap.TheVariants.{Butt, Round, Square};
 ghost use Rattle.plain_drawing.specs.declared.style.FilterMode.TheVariants.{All, First};
-ghost use Rattle.plain_drawing.specs.declared.shapes.Geometry.TheVariants as shape;
+ghost use Rattle.plain_shapes.specs.declared.shapes.Geometry.TheVariants as shape;
 ghost use Rattle.plain_drawing.specs.declared.style.Symbolizer.TheVariants as paint;
-ghost use Rattle.plain_drawing.specs.Strokes.{half_of};
+ghost use Rattle.plain_shapes.specs.Strokes.{half_of};
 ghost use Rattle.plain_drawing.specs.Rules.{denominator_of, is_active};
 ghost use Rattle.plain_drawing.specs.Drawing.{covers};
 ghost use Rattle.worked_drawings.specs.Worked.{red, blue, lime, white, pale_red, pale_blue, rows, picture, at, box, square, filled, stroked, outlined, spotted, level, level_doubled, level_back, dot, map_of, land, fill, met, sky, over_white, drawn_world};
@@ -56,7 +56,7 @@ pub fn worked_polygons()
 /// Half of each width that is used here, in world units, and how many pixels are covered by fills, strokes with
 /// each cap, outlines and marks. Of a square whose corners are centres the north and west edges belong to it, and
 /// the south and east ones do not.
-#[tactic(auto, unfolding(plain_drawing::specs::Strokes::long, plain_drawing::specs::Strokes::along, plain_drawing::specs::Strokes::beside, plain_drawing::specs::Strokes::reach, plain_drawing::specs::Strokes::is_near, plain_drawing::specs::Strokes::in_body, plain_drawing::specs::Strokes::in_disk, plain_drawing::specs::Strokes::before_start, plain_drawing::specs::Strokes::past_end, plain_drawing::specs::Strokes::in_block, plain_drawing::specs::Strokes::in_mark))]
+#[tactic(auto, unfolding(plain_shapes::specs::Strokes::long, plain_shapes::specs::Strokes::along, plain_shapes::specs::Strokes::beside, plain_shapes::specs::Strokes::reach, plain_shapes::specs::Strokes::is_near, plain_shapes::specs::Strokes::in_body, plain_shapes::specs::Strokes::in_disk, plain_shapes::specs::Strokes::before_start, plain_shapes::specs::Strokes::past_end, plain_shapes::specs::Strokes::in_block, plain_shapes::specs::Strokes::in_mark))]
 pub fn worked_covers()
     ensures half_of_300 { half_of 300 (2 ^ 26) ≡ 100663296 }
     ensures half_of_150 { half_of 150 (2 ^ 26) ≡ 50331648 }

@@ -1,6 +1,6 @@
 use Rattle.std.proofs.Common.{◌≡◌, ◌*◌, ◌/◌, ◌%◌, ◌^◌, ◌<◌, ap, arith}
 use Rattle.std.proofs.lemmas.Nat.{shl_whole}
-use Rattle.plain_drawing.proofs.Windows.{size_bounds}
+use Rattle.plain_world.proofs.Windows.{size_bounds}
 use Rattle.scale_rules.proofs.denominator.Goals as goal
 
 pub returns-clause-value : goal.returns-clause-value

@@ -1,5 +1,5 @@
 use Rattle.std.proofs.Common.{◌≡◌, drop}
-use Rattle.plain_drawing.specs.Values.{attribute}
+use Rattle.plain_filters.specs.Values.{attribute}
 use Rattle.filter_expr.proofs.value.attribute.Given as goal
 
 abbrev pub invariant-loop-attr : goal.invariant-loop-attr

@@ -1,5 +1,5 @@
 use Rattle.std.proofs.Common.{rules, ◌≡◌, sym, subst}
-use Rattle.plain_drawing.specs.Filters.{tree_of}
+use Rattle.plain_filters.specs.Filters.{tree_of}
 use Rattle.filter_expr.specs.Filters.{FilterOf}
 use Rattle.filter_texts.specs.Written.{written}
 use Rattle.filter_texts.proofs.Again.{written_again}

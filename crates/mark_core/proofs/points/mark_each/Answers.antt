@@ -1,6 +1,6 @@
 use Rattle.std.proofs.Common.{refl}
-use Rattle.plain_drawing.specs.Strokes.{in_mark}
-use Rattle.plain_drawing.proofs.Places.{mask_start, mask_more, mask_all}
+use Rattle.plain_shapes.specs.Strokes.{in_mark}
+use Rattle.plain_shapes.proofs.Places.{mask_start, mask_more, mask_all}
 use Rattle.mark_core.proofs.points.mark_each.Goals as goal
 
 pub loop-p-init : goal.loop-p-init

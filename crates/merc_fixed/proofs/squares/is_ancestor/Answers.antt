@@ -1,7 +1,7 @@
 use Rattle.std.proofs.Common.{◌≡◌, ℕ, ◌+◌, ◌-◌, ◌/◌, ◌^◌, Bool, ◌&&◌, ap, sym, ◌∙◌, arith}
 use Rattle.std.specs.Prelude.{◌==◌}
 use Rattle.std.proofs.lemmas.Bool.{eq-eqb}
-use Rattle.plain_drawing.proofs.Squares.{ancestor}
+use Rattle.plain_world.proofs.Squares.{ancestor}
 use Rattle.merc_fixed.proofs.squares.is_ancestor.Goals as goal
 
 pub returns-then-low-steps : goal.returns-then-low-steps

@@ -1,5 +1,5 @@
 use Rattle.std.proofs.Common.{◌∙◌, arith}
-use Rattle.plain_drawing.proofs.Squares.{overlap_iff, squares_turned}
+use Rattle.plain_world.proofs.Squares.{overlap_iff, squares_turned}
 use Rattle.merc_fixed.proofs.Ancestors.{meet_over, meet_under}
 use Rattle.merc_fixed.proofs.squares.overlaps.Goals as goal
 

@@ -1,6 +1,6 @@
 use Rattle.std.proofs.Common.{◌+◌, ◌*◌, ◌^◌, ◌≤◌, arith}
-use Rattle.plain_drawing.specs.World.{side_at}
-use Rattle.plain_drawing.proofs.Windows.{columns_fit}
+use Rattle.plain_world.specs.World.{side_at}
+use Rattle.plain_world.proofs.Windows.{columns_fit}
 use Rattle.merc_fixed.proofs.windows.edge.Goals as goal
 
 pub overflow_mul-result : goal.overflow_mul-result

@@ -1,4 +1,4 @@
-use Rattle.plain_drawing.proofs.Windows.{meta_window_is}
+use Rattle.plain_world.proofs.Windows.{meta_window_is}
 use Rattle.merc_fixed.proofs.windows.meta_window.Goals as goal
 
 pub returns-clause-valid : goal.returns-clause-valid

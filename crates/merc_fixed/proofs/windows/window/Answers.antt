@@ -1,4 +1,4 @@
-use Rattle.plain_drawing.proofs.Windows.{window_is}
+use Rattle.plain_world.proofs.Windows.{window_is}
 use Rattle.merc_fixed.proofs.windows.window.Goals as goal
 
 pub returns-clause-valid : goal.returns-clause-valid

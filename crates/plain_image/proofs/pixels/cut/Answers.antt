@@ -1,5 +1,5 @@
 use Rattle.std.proofs.Common.{◌≡◌, ℕ, ◌+◌, ◌-◌, ◌*◌, ◌++◌, List, length, take, drop, sym, ◌∙◌, ap, arith, length-append}
-use Rattle.plain_drawing.specs.declared.colour.Colour.{Colour}
+use Rattle.plain_shapes.specs.declared.colour.Colour.{Colour}
 use Rattle.plain_image.proofs.Cutting.{cut_more, part_len, part_fits}
 use Rattle.plain_image.proofs.pixels.cut.Goals as goal
 

@@ -1,4 +1,4 @@
-use Rattle.plain_drawing.specs.Rings.{counts_down}
+use Rattle.plain_shapes.specs.Rings.{counts_down}
 use Rattle.raster_core.specs.Toggles.{RowsToggled}
 use Rattle.raster_core.proofs.edges.cross_down.Given as goal
 

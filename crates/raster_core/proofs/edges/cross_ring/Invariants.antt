@@ -1,6 +1,6 @@
 use Rattle.std.proofs.Common.{drop}
-use Rattle.plain_drawing.specs.World.{InWorld}
-use Rattle.plain_drawing.specs.Rings.{edges_from, ring_edges}
+use Rattle.plain_world.specs.World.{InWorld}
+use Rattle.plain_shapes.specs.Rings.{edges_from, ring_edges}
 use Rattle.raster_core.specs.Toggles.{Remains, odd_edges}
 use Rattle.raster_core.proofs.edges.cross_ring.Given as goal
 

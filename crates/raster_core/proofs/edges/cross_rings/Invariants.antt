@@ -1,5 +1,5 @@
 use Rattle.std.proofs.Common.{drop}
-use Rattle.plain_drawing.specs.Rings.{in_rings}
+use Rattle.plain_shapes.specs.Rings.{in_rings}
 use Rattle.raster_core.specs.Toggles.{Remains}
 use Rattle.raster_core.proofs.edges.cross_rings.Given as goal
 

@@ -1,6 +1,6 @@
 use Rattle.std.proofs.Common.{◌+◌, ◌*◌, ◌/◌, ◌∙◌}
-use Rattle.plain_drawing.specs.World.{centre}
-use Rattle.plain_drawing.proofs.Signs.{downward_is}
+use Rattle.plain_world.specs.World.{centre}
+use Rattle.plain_shapes.proofs.Signs.{downward_is}
 use Rattle.raster_core.proofs.edges.crossing.Goals as goal
 
 pub returns-clause-splits : goal.returns-clause-splits

@@ -1,5 +1,5 @@
 use Rattle.raster_core.proofs.Sweeping.{filled_none}
-use Rattle.plain_drawing.specs.Rings.{in_rings}
+use Rattle.plain_shapes.specs.Rings.{in_rings}
 use Rattle.raster_core.proofs.fill.fill_mask.Goals as goal
 
 pub returns-then-bottom-top-clause-filled : goal.returns-then-bottom-top-clause-filled

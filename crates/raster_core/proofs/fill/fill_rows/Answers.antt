@@ -1,6 +1,6 @@
 use Rattle.std.proofs.Common.{◌+◌, ◌-◌, Bool, ◌∙◌, arith}
-use Rattle.plain_drawing.specs.declared.world.Point.{Point}
-use Rattle.plain_drawing.specs.Rings.{in_rings}
+use Rattle.plain_world.specs.declared.world.Point.{Point}
+use Rattle.plain_shapes.specs.Rings.{in_rings}
 use Rattle.raster_core.proofs.Sweeping.{part_window, tells_rows, reached_top, filled, lent_back}
 use Rattle.raster_core.proofs.fill.fill_rows.Goals as goal
 

@@ -1,7 +1,7 @@
 use Rattle.std.proofs.Common.{◌≡◌, ◌+◌, ◌*◌, Bool}
-use Rattle.plain_drawing.specs.declared.world.Point.{Point}
-use Rattle.plain_drawing.specs.Canvas.{Bits}
-use Rattle.plain_drawing.proofs.Places.{Reached}
+use Rattle.plain_world.specs.declared.world.Point.{Point}
+use Rattle.plain_shapes.specs.Canvas.{Bits}
+use Rattle.plain_shapes.proofs.Places.{Reached}
 use Rattle.raster_core.specs.Toggles.{odd_below, row_bit, TellsRow}
 use Rattle.raster_core.proofs.sweep.sweep_row.Given as goal
 

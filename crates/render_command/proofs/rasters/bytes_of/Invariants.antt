@@ -1,5 +1,5 @@
 use Rattle.std.proofs.Common.{◌≡◌, take, flat_map}
-use Rattle.plain_drawing.specs.Ppm.{pixel_bytes}
+use Rattle.plain_shapes.specs.Ppm.{pixel_bytes}
 use Rattle.render_command.proofs.rasters.bytes_of.Given as goal
 
 abbrev pub invariant-loop-place : goal.invariant-loop-place

@@ -1,5 +1,5 @@
 use Rattle.std.proofs.Common.{◌≡◌, ◌++◌, drop}
-use Rattle.plain_drawing.specs.Strokes.{kept_after}
+use Rattle.plain_shapes.specs.Strokes.{kept_after}
 use Rattle.stroke_core.proofs.kept.keep.Given as goal
 
 abbrev pub invariant-loop-p : goal.invariant-loop-p

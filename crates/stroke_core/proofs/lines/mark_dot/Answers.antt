@@ -1,6 +1,6 @@
 use Rattle.std.proofs.Common.{ap}
-use Rattle.plain_drawing.specs.Strokes.{on_dot}
-use Rattle.plain_drawing.proofs.Places.{no_mark}
+use Rattle.plain_shapes.specs.Strokes.{on_dot}
+use Rattle.plain_shapes.proofs.Places.{no_mark}
 use Rattle.stroke_core.proofs.lines.mark_dot.Goals as goal
 
 pub returns-in-Butt : goal.returns-in-Butt

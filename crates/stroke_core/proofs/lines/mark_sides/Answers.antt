@@ -1,4 +1,4 @@
-use Rattle.plain_drawing.proofs.Places.{left_more, left_end}
+use Rattle.plain_shapes.proofs.Places.{left_more, left_end}
 use Rattle.stroke_core.proofs.Sides.{sides_step, sides_none}
 use Rattle.stroke_core.proofs.lines.mark_sides.Goals as goal
 

@@ -1,7 +1,7 @@
 use Rattle.std.proofs.Common.{drop}
-use Rattle.plain_drawing.specs.World.{InWorld}
-use Rattle.plain_drawing.specs.Strokes.{on_sides}
-use Rattle.plain_drawing.proofs.Places.{Left}
+use Rattle.plain_world.specs.World.{InWorld}
+use Rattle.plain_shapes.specs.Strokes.{on_sides}
+use Rattle.plain_shapes.proofs.Places.{Left}
 use Rattle.stroke_core.proofs.lines.mark_sides.Given as goal
 
 abbrev pub invariant-loop-p : goal.invariant-loop-p

@@ -1,8 +1,8 @@
 use Rattle.std.proofs.Common.{List, All, subst, ap, sym, ◌∙◌}
-use Rattle.plain_drawing.specs.declared.world.Point.{Point}
-use Rattle.plain_drawing.specs.World.{InWorld}
-use Rattle.plain_drawing.specs.Strokes.{kept, on_line}
-use Rattle.plain_drawing.proofs.Places.{same_mark}
+use Rattle.plain_world.specs.declared.world.Point.{Point}
+use Rattle.plain_world.specs.World.{InWorld}
+use Rattle.plain_shapes.specs.Strokes.{kept, on_line}
+use Rattle.plain_shapes.proofs.Places.{same_mark}
 use Rattle.stroke_core.specs.Parts.{on_parts}
 use Rattle.stroke_core.proofs.Sides.{kept_within, parts_kept}
 use Rattle.stroke_core.proofs.lines.stroke_line.Goals as goal

@@ -1,7 +1,7 @@
 use Rattle.std.proofs.Common.{◌≡◌, take}
-use Rattle.plain_drawing.specs.World.{centres}
-use Rattle.plain_drawing.specs.Canvas.{marked}
-use Rattle.plain_drawing.specs.Strokes.{on_stroke}
+use Rattle.plain_world.specs.World.{centres}
+use Rattle.plain_shapes.specs.Canvas.{marked}
+use Rattle.plain_shapes.specs.Strokes.{on_stroke}
 use Rattle.stroke_core.proofs.lines.stroke_lines.Given as goal
 
 abbrev pub invariant-loop-line : goal.invariant-loop-line

@@ -1,5 +1,5 @@
-use Rattle.plain_drawing.specs.Strokes.{on_ring}
-use Rattle.plain_drawing.proofs.Places.{mask_start, mask_more, mask_all}
+use Rattle.plain_shapes.specs.Strokes.{on_ring}
+use Rattle.plain_shapes.proofs.Places.{mask_start, mask_more, mask_all}
 use Rattle.stroke_core.proofs.outlines.stroke_rings.Goals as goal
 
 pub loop-ring-init : goal.loop-ring-init

@@ -1,7 +1,7 @@
 use Rattle.std.proofs.Common.{◌≡◌, take}
-use Rattle.plain_drawing.specs.World.{centres}
-use Rattle.plain_drawing.specs.Canvas.{marked}
-use Rattle.plain_drawing.specs.Strokes.{on_outline}
+use Rattle.plain_world.specs.World.{centres}
+use Rattle.plain_shapes.specs.Canvas.{marked}
+use Rattle.plain_shapes.specs.Strokes.{on_outline}
 use Rattle.stroke_core.proofs.outlines.stroke_rings.Given as goal
 
 abbrev pub invariant-loop-ring : goal.invariant-loop-ring

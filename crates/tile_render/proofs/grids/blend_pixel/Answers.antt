@@ -1,9 +1,9 @@
 use Rattle.std.proofs.Common.{◌≡◌, ◌+◌, ◌*◌, ◌∙◌, ap, sym, get_or, set, Some, None}
 use Rattle.std.specs.Prelude.{unwrap_or, option_map}
 use Rattle.plain_drawing.specs.declared.style.Symbolizer.TheVariants as paint
-use Rattle.plain_drawing.specs.World.{centre}
+use Rattle.plain_world.specs.World.{centre}
 use Rattle.plain_drawing.specs.Grids.{grid_at}
-use Rattle.plain_drawing.specs.Blending.{blend}
+use Rattle.plain_shapes.specs.Blending.{blend}
 use Rattle.plain_drawing.specs.Drawing.{raster_over}
 use Rattle.tile_render.proofs.Pixels.{unchanged_at, written_at}
 use Rattle.tile_render.proofs.grids.blend_pixel.Goals as goal

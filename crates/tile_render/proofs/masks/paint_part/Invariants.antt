@@ -1,5 +1,5 @@
 use Rattle.std.proofs.Common.{◌≡◌, ◌+◌, ◌*◌, Bool}
-use Rattle.plain_drawing.specs.declared.world.Point.{Point}
+use Rattle.plain_world.specs.declared.world.Point.{Point}
 use Rattle.tile_render.specs.Parts.{Tells, Changed, over_member}
 use Rattle.tile_render.proofs.masks.paint_part.Given as goal
 

@@ -1,6 +1,6 @@
 use Rattle.std.proofs.Common.{◌≡◌, ◌+◌, ◌*◌, Bool}
-use Rattle.plain_drawing.specs.declared.world.Point.{Point}
-use Rattle.plain_drawing.specs.Canvas.{Pixels}
+use Rattle.plain_world.specs.declared.world.Point.{Point}
+use Rattle.plain_shapes.specs.Canvas.{Pixels}
 use Rattle.tile_render.specs.Parts.{Tells, Changed, over_member}
 use Rattle.tile_render.proofs.masks.paint_row.Given as goal
 

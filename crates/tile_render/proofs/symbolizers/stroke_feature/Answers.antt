@@ -1,6 +1,6 @@
 use Rattle.std.proofs.Common.{◌∙◌, ap, sym, refl}
 use Rattle.plain_drawing.specs.declared.style.Symbolizer.TheVariants as paint
-use Rattle.plain_drawing.specs.Strokes.{on_stroke, on_outline, half_of}
+use Rattle.plain_shapes.specs.Strokes.{on_stroke, on_outline, half_of}
 use Rattle.plain_drawing.specs.Drawing.{covers}
 use Rattle.tile_render.proofs.Painting.{not_covered, painted_part}
 use Rattle.tile_render.proofs.symbolizers.stroke_feature.Goals as goal

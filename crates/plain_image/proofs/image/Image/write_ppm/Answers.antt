@@ -1,5 +1,5 @@
 use Rattle.std.proofs.Common.{◌≡◌, ◌∙◌, IfOk}
-use Rattle.plain_drawing.specs.Ppm.{ppm}
+use Rattle.plain_shapes.specs.Ppm.{ppm}
 use Rattle.plain_image.proofs.RoundTrip.{ppm_of-ppm, then_reads}
 use Rattle.plain_image.proofs.Texts.{ppm_is}
 use Rattle.plain_image.proofs.image.Image.write_ppm.Goals as goal

@@ -1,7 +1,7 @@
 -- Features and the layers of data, as drawings see them.
 use Rattle.std.specs.Prelude.{ℕ, List}
 use Rattle.farm_base.specs.declared.values.Attr.{Attr}
-use Rattle.plain_drawing.specs.declared.shapes.Geometry.{Geometry}
+use Rattle.plain_shapes.specs.declared.shapes.Geometry.{Geometry}
 
 -- a feature: its id, its shape and its attributes
 pub record Feature : Type 0 where

@@ -5,9 +5,9 @@ use Rattle.std.proofs.lemmas.Bool.{cases_order, and_from, and_parts}
 use Rattle.std.proofs.lemmas.Bool.Decides.{nat_tests}
 use Rattle.std.proofs.lemmas.Nat.{pow_pos, pow-add, div-add-mod', mod_below}
 use Rattle.std.proofs.Math.Nat.{mul-le-mul_right}
-use Rattle.plain_drawing.specs.declared.world.Point.{Point}
-use Rattle.plain_drawing.specs.declared.world.Square.{Square}
-use Rattle.plain_drawing.specs.World.{side_at, Overlap, stretches_meet, squares_meet}
+use Rattle.plain_world.specs.declared.world.Point.{Point}
+use Rattle.plain_world.specs.declared.world.Square.{Square}
+use Rattle.plain_world.specs.World.{side_at, Overlap, stretches_meet, squares_meet}
 
 -- `&&` of tests
 both_same : (p q r s : Bool) → p ≡ q → r ≡ s → (p && r) ≡ (q && s)

@@ -1,6 +1,6 @@
 -- Ancestors in the quadtree of squares.
 use Rattle.std.specs.Prelude.{ℕ, ◌+◌, ◌/◌, ◌^◌, ◌≡◌}
-use Rattle.plain_drawing.specs.declared.world.Square.{Square}
+use Rattle.plain_world.specs.declared.world.Square.{Square}
 
 -- a is b or an ancestor of b: it stands some zooms higher, and each zoom up halves column and row
 abbrev pub IsOver : Square → Square → Type 0

@@ -1,12 +1,12 @@
 -- Which squares a change of a feature may touch: the feature's bounding box, widened by 64 pixels on each side.
 use Rattle.std.specs.Prelude.{ℕ, ◌+◌, ◌*◌, ◌/◌, Bool, ◌&&◌, IsTrue, nat_le, nat_lt, List, flat_map}
 use Rattle.std.specs.List.{list_any}
-use Rattle.plain_drawing.specs.declared.world.Point.{Point}
-use Rattle.plain_drawing.specs.declared.world.Square.{Square}
-use Rattle.plain_drawing.specs.declared.shapes.Geometry.{Geometry}
-use Rattle.plain_drawing.specs.declared.shapes.Geometry.TheVariants.{Points, Lines, Polygon}
-use Rattle.plain_drawing.specs.World.{side_at, InSquare}
-use Rattle.plain_drawing.specs.Features.{Feature}
+use Rattle.plain_world.specs.declared.world.Point.{Point}
+use Rattle.plain_world.specs.declared.world.Square.{Square}
+use Rattle.plain_shapes.specs.declared.shapes.Geometry.{Geometry}
+use Rattle.plain_shapes.specs.declared.shapes.Geometry.TheVariants.{Points, Lines, Polygon}
+use Rattle.plain_world.specs.World.{side_at, InSquare}
+use Rattle.plain_data.specs.Features.{Feature}
 
 -- all points of a shape
 abbrev pub all_points : Geometry → List Point

@@ -3,9 +3,9 @@ use Rattle.std.proofs.Common.{◌≡◌, ℕ, ◌+◌, ◌-◌, ◌*◌, ◌/◌
 use Rattle.std.proofs.lemmas.Nat.{pow_pos, pow-add, le-div}
 use Rattle.std.proofs.lemmas.Bool.{cases_lt}
 use Rattle.std.proofs.Math.Nat.{mul-le-mul_right, mul-le-mul_left, mul-div-le, div-le_of_le-mul, pow-le-pow_right}
-use Rattle.plain_drawing.specs.declared.world.Tile.{Tile}
-use Rattle.plain_drawing.specs.declared.world.Meta.{Meta}
-use Rattle.plain_drawing.specs.World.{side_at, IsTile, IsMeta, IsTileSize, IsWindow, tiles_across, window_of, meta_window_of}
+use Rattle.plain_world.specs.declared.world.Tile.{Tile}
+use Rattle.plain_world.specs.declared.world.Meta.{Meta}
+use Rattle.plain_world.specs.World.{side_at, IsTile, IsMeta, IsTileSize, IsWindow, tiles_across, window_of, meta_window_of}
 
 -- as many columns as a zoom has, each as wide as its squares, are the world
 pub world_wide : (z : ℕ) → z ≤ 18 → 2 ^ z * side_at z ≡ 2 ^ 30

@@ -2,10 +2,10 @@
 -- are those of Mapnik's strokes; that every join is round, and the ellipse of a mark, are this project's own.
 use Rattle.std.specs.Prelude.{ℕ, ◌-◌, ◌*◌, ◌/◌, ◌==◌, Bool, false, not, ◌&&◌, ◌||◌, nat_le, if◌then◌else◌, List, [], ◌∷◌, length, slice_get, option_map, unwrap_or, ℤ, pos, ◌+ℤ◌, ◌-ℤ◌, ◌*ℤ◌, int_le, int_lt, unsigned_abs}
 use Rattle.std.specs.List.{list_any}
-use Rattle.plain_drawing.specs.declared.world.Point.{Point}
-use Rattle.plain_drawing.specs.declared.shapes.LineCap.{LineCap}
-use Rattle.plain_drawing.specs.declared.shapes.LineCap.TheVariants as with
-use Rattle.plain_drawing.specs.Rings.{less}
+use Rattle.plain_world.specs.declared.world.Point.{Point}
+use Rattle.plain_shapes.specs.declared.shapes.LineCap.{LineCap}
+use Rattle.plain_shapes.specs.declared.shapes.LineCap.TheVariants as with
+use Rattle.plain_shapes.specs.Rings.{less}
 
 -- a number times itself
 abbrev pub square : ℤ → ℤ

@@ -3,12 +3,12 @@ use Rattle.std.specs.Prelude.{ℕ, List, [], ◌∷◌, Bool, true, false, not, 
 use Rattle.farm_base.specs.declared.Value.{Value}
 use Rattle.farm_base.specs.declared.Value.TheVariants.{Null, Truth, Whole, Text}
 use Rattle.farm_base.specs.declared.Attr.{Attr}
-use Rattle.plain_drawing.specs.declared.expr.Expr.{Expr, fold-Expr}
-use Rattle.plain_drawing.specs.declared.expr.Expr.TheOpen as «open»
-use Rattle.plain_drawing.specs.declared.expr.CompareSign.{CompareSign}
-use Rattle.plain_drawing.specs.declared.expr.SumSign.{SumSign}
-use Rattle.plain_drawing.specs.declared.expr.ProductSign.{ProductSign}
-use Rattle.plain_drawing.specs.Values.{truth, attribute, compares, sum_of, product_of, negated}
+use Rattle.plain_filters.specs.declared.expr.Expr.{Expr, fold-Expr}
+use Rattle.plain_filters.specs.declared.expr.Expr.TheOpen as «open»
+use Rattle.plain_filters.specs.declared.expr.CompareSign.{CompareSign}
+use Rattle.plain_filters.specs.declared.expr.SumSign.{SumSign}
+use Rattle.plain_filters.specs.declared.expr.ProductSign.{ProductSign}
+use Rattle.plain_filters.specs.Values.{truth, attribute, compares, sum_of, product_of, negated}
 
 -- a filter: `or` and `and` of parts, `not`, a comparison, a sum or a product with its later parts, a minus sign, and the atoms
 mutual

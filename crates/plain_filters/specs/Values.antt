@@ -6,12 +6,12 @@ use Rattle.std.specs.Str.{bytes_eq}
 use Rattle.farm_base.specs.declared.Value.{Value}
 use Rattle.farm_base.specs.declared.Value.TheVariants.{Null, Truth, Whole, Text}
 use Rattle.farm_base.specs.declared.Attr.{Attr}
-use Rattle.plain_drawing.specs.declared.expr.CompareSign.{CompareSign}
-use Rattle.plain_drawing.specs.declared.expr.CompareSign.TheVariants.{Equal, Unequal, Less, LessEqual, Greater, GreaterEqual}
-use Rattle.plain_drawing.specs.declared.expr.SumSign.{SumSign}
-use Rattle.plain_drawing.specs.declared.expr.SumSign.TheVariants.{Plus, Minus}
-use Rattle.plain_drawing.specs.declared.expr.ProductSign.{ProductSign}
-use Rattle.plain_drawing.specs.declared.expr.ProductSign.TheVariants.{Times, Divide, Rest}
+use Rattle.plain_filters.specs.declared.expr.CompareSign.{CompareSign}
+use Rattle.plain_filters.specs.declared.expr.CompareSign.TheVariants.{Equal, Unequal, Less, LessEqual, Greater, GreaterEqual}
+use Rattle.plain_filters.specs.declared.expr.SumSign.{SumSign}
+use Rattle.plain_filters.specs.declared.expr.SumSign.TheVariants.{Plus, Minus}
+use Rattle.plain_filters.specs.declared.expr.ProductSign.{ProductSign}
+use Rattle.plain_filters.specs.declared.expr.ProductSign.TheVariants.{Times, Divide, Rest}
 
 -- null, false, 0 and the empty text count as false, all else as true
 abbrev pub truth : Value → Bool

@@ -4,9 +4,9 @@ use Rattle.std.specs.Prelude.{ℤ, pos, negsuc, ◌-ℤ◌, ◌*ℤ◌, ◌≤�
 use Rattle.std.proofs.lemmas.Bool.{cases_lt, le-leb, lt-ltb, lt-leb, le-ltb}
 use Rattle.std.proofs.lemmas.Int.{ints}
 use borrow.Author.Differences.{up, down, same_in}
-use Rattle.plain_drawing.specs.declared.world.Point.{Point}
-use Rattle.plain_drawing.specs.Rings.{less, counts_down}
-use Rattle.plain_drawing.specs.Strokes.{square}
+use Rattle.plain_world.specs.declared.world.Point.{Point}
+use Rattle.plain_shapes.specs.Rings.{less, counts_down}
+use Rattle.plain_shapes.specs.Strokes.{square}
 use Rattle.std.specs.Prelude.{unsigned_abs, ◌+ℤ◌}
 use Rattle.std.proofs.Math.Nat.{mul-le-mul}
 

@@ -4,7 +4,7 @@ use Rattle.std.specs.List.{list_any, IsDistinct}
 use Rattle.std.specs.Str.{bytes_eq}
 use Rattle.farm_base.specs.declared.faults.ApplyFault.{ApplyFault}
 use Rattle.farm_base.specs.declared.faults.ApplyFault.TheVariants.{NoLayer, NoFeature, TooMany}
-use Rattle.plain_drawing.specs.Features.{Feature, Layer}
+use Rattle.plain_data.specs.Features.{Feature, Layer}
 
 -- a change of one layer: the ids to be removed, and then the features to be put
 pub record Change : Type 0 where

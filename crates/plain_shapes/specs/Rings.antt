@@ -1,6 +1,6 @@
 -- Even-odd filling: which points lie inside the rings of a polygon.
 use Rattle.std.specs.Prelude.{ℕ, ◌-◌, ◌%◌, ◌==◌, Bool, ◌&&◌, nat_le, nat_lt, if◌then◌else◌, List, [], ◌∷◌, length, flat_map, count_by, slice_get, option_map, unwrap_or, ℤ, pos, ◌-ℤ◌, ◌*ℤ◌, int_le}
-use Rattle.plain_drawing.specs.declared.world.Point.{Point}
+use Rattle.plain_world.specs.declared.world.Point.{Point}
 
 -- a difference that may be below zero
 abbrev pub less : ℕ → ℕ → ℤ

@@ -1,7 +1,7 @@
 -- An image as a binary PPM text (Netpbm's P6).
 use Rattle.std.specs.Prelude.{ℕ, List, [], ◌∷◌, ◌++◌, flat_map, codes}
 use Rattle.std.specs.Fmt.{decimal}
-use Rattle.plain_drawing.specs.declared.colour.Colour.{Colour}
+use Rattle.plain_shapes.specs.declared.colour.Colour.{Colour}
 
 -- the three bytes of a pixel
 abbrev pub pixel_bytes : Colour → List ℕ

@@ -3,13 +3,13 @@
 use Rattle.std.specs.Prelude.{ℕ, List, [], ◌∷◌, Bool, true, false, cond, ◌==◌, ℤ, pos, negsuc, ◌≡◌, refl}
 use Rattle.std.proofs.Common.{sym, ◌∙◌, ap}
 use base.Stored.{Gv, gnil, gnum, gcons, num, Coded}
-use Rattle.plain_drawing.specs.declared.expr.CompareSign.{CompareSign}
-use Rattle.plain_drawing.specs.declared.expr.CompareSign.TheVariants.{Equal, Unequal, Less, LessEqual, Greater, GreaterEqual}
-use Rattle.plain_drawing.specs.declared.expr.SumSign.{SumSign}
-use Rattle.plain_drawing.specs.declared.expr.SumSign.TheVariants.{Plus, Minus}
-use Rattle.plain_drawing.specs.declared.expr.ProductSign.{ProductSign}
-use Rattle.plain_drawing.specs.declared.expr.ProductSign.TheVariants.{Times, Divide, Rest}
-use Rattle.plain_drawing.specs.Filters.{FilterTree, FilterTrees, SumTrees, ProductTrees, or_tree, and_tree, not_tree, compare_tree, sum_tree, product_tree, negate_tree, name_tree, text_tree, number_tree, truth_tree, null_tree, no_trees, tree_then, no_sums, sum_then, no_products, product_then}
+use Rattle.plain_filters.specs.declared.expr.CompareSign.{CompareSign}
+use Rattle.plain_filters.specs.declared.expr.CompareSign.TheVariants.{Equal, Unequal, Less, LessEqual, Greater, GreaterEqual}
+use Rattle.plain_filters.specs.declared.expr.SumSign.{SumSign}
+use Rattle.plain_filters.specs.declared.expr.SumSign.TheVariants.{Plus, Minus}
+use Rattle.plain_filters.specs.declared.expr.ProductSign.{ProductSign}
+use Rattle.plain_filters.specs.declared.expr.ProductSign.TheVariants.{Times, Divide, Rest}
+use Rattle.plain_filters.specs.Filters.{FilterTree, FilterTrees, SumTrees, ProductTrees, or_tree, and_tree, not_tree, compare_tree, sum_tree, product_tree, negate_tree, name_tree, text_tree, number_tree, truth_tree, null_tree, no_trees, tree_then, no_sums, sum_then, no_products, product_then}
 
 -- comparing signs as numbers, and back
 abbrev compare_number : CompareSign → ℕ

@@ -1,6 +1,6 @@
 -- How a colour is painted over another, in an opacity of 0 to 1,000 thousandths (that a symbolizer has an opacity is Mapnik's; the rounding is this project's own).
 use Rattle.std.specs.Prelude.{ℕ, ◌+◌, ◌-◌, ◌*◌, ◌/◌}
-use Rattle.plain_drawing.specs.declared.colour.Colour.{Colour}
+use Rattle.plain_shapes.specs.declared.colour.Colour.{Colour}
 
 -- one channel s over the channel d, rounded to the nearest, halves up
 abbrev pub blend_channel : ℕ → ℕ → ℕ → ℕ

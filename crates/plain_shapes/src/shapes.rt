@@ -1,6 +1,6 @@
 //! The shapes of features.
-use crate::world::Point;
 use farm_base::Listed;
+use plain_world::Point;
 use std::marker::Model;
 
 /// A list of points in order: the points of a line, of a ring, or single ones.
@@ -11,7 +11,7 @@ pub struct Path {
 
 impl Model for Path {
     ghost use Rattle.std.specs.Prelude.{List};
-    ghost use Rattle.plain_drawing.specs.declared.world.Point.{Point};
+    ghost use Rattle.plain_world.specs.declared.world.Point.{Point};
 
     ghost Value = { List Point };
 

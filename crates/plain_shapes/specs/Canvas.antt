@@ -1,11 +1,11 @@
 -- Masks and images as lists: one bit or one colour for each pixel, row by row. Words of inner contracts: no colour of a drawing is defined by them.
 use Rattle.std.specs.Prelude.{◌≡◌, ℕ, ◌+◌, ◌*◌, ◌≤◌, Bool, true, ◌||◌, cond, List, [], ◌∷◌, take, drop, flat_map}
 use Rattle.std.specs.List.{range_with_len}
-use Rattle.plain_drawing.specs.declared.world.Point.{Point}
-use Rattle.plain_drawing.specs.declared.world.Window.{Window}
-use Rattle.plain_drawing.specs.declared.colour.Colour.{Colour}
-use Rattle.plain_drawing.specs.Blending.{blend}
-use Rattle.plain_drawing.specs.World.{centres}
+use Rattle.plain_world.specs.declared.world.Point.{Point}
+use Rattle.plain_world.specs.declared.world.Window.{Window}
+use Rattle.plain_shapes.specs.declared.colour.Colour.{Colour}
+use Rattle.plain_shapes.specs.Blending.{blend}
+use Rattle.plain_world.specs.World.{centres}
 
 -- a mask: how many columns and rows it has, and for each pixel whether it is covered, row by row
 pub record Bits : Type 0 where

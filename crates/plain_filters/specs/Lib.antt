@@ -1,0 +1,3 @@
+pub mod FilterCodes
+pub mod Filters
+pub mod Values
