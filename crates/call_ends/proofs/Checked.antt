@@ -2,13 +2,14 @@
 use Rattle.std.proofs.Common.{◌≡◌, ◌≢◌, ℕ, ◌⊎◌, inl, inr, List, refl, sym, ap, subst, ◌∙◌}
 use Rattle.std.specs.Prelude.{Option, Some, None, Result, Ok, Err, Vec}
 use Rattle.std.specs.declared.alloc.Global.{Global}
-use Rattle.farm_base.specs.Outside.{FilesTold, Reads, ReadCounts, Rose}
+use Rattle.farm_base.specs.Outside.{FilesTold, Rose}
 use Rattle.farm_base.specs.declared.files.FileFault.{FileFault}
 use Rattle.farm_base.specs.declared.files.FileFault.TheVariants as file
 use Rattle.reading.specs.Steps.{Gives}
 use Rattle.call_ends.specs.Stops.{refused_line, unreadable_line, stop_at, refusing}
 use Rattle.call_ends.specs.Ends.{FilesAt, said, Checks}
 use Rattle.call_ends.specs.Promises.{Means, Refusing, FailsAt}
+use Rattle.call_ends.proofs.Outsides.{ReadTells, ReadCounts, read_tells, read_counts}
 use Rattle.call_ends.specs.declared.stops.Stop.{Stop}
 use Rattle.call_ends.specs.declared.stops.Stop.TheVariants as stop
 
@@ -39,7 +40,7 @@ refusing_ok text name (Ok y) x h = let e : y ≡ x = cc in ap Ok e
 refusing_ok text name (Err f) x h = absurd (cc)
 
 read_ok : {A F : Type 0} (meaning : List ℕ → Result A F) (text : F → Option (List ℕ)) (t : FilesTold) (new : FilesAt) (name : List ℕ) (x : A)
-    (read : Result (Vec ℕ Global) FileFault) → Reads (Some t) new.told name read → said meaning text name read ≡ Ok x → HasValue meaning t new name x
+    (read : Result (Vec ℕ Global) FileFault) → ReadTells t new.told name read → said meaning text name read ≡ Ok x → HasValue meaning t new name x
 read_ok meaning text t new name x (Ok bytes) told gives = ((bytes.items, told.0, refusing_ok text name (meaning bytes.items) x gives), told.1)
 read_ok meaning text t new name x (Err file.Failed) told gives = absurd (cc)
 read_ok meaning text t new name x (Err file.NoMemory) told gives = absurd (cc)
@@ -47,7 +48,7 @@ read_ok meaning text t new name x (Err file.NoMemory) told gives = absurd (cc)
 pub checks_ok : {A F : Type 0} (meaning : List ℕ → Result A F) (text : F → Option (List ℕ)) (t : FilesTold) (old new : FilesAt) (name : List ℕ) (x : A)
     → old.told ≡ Some t → Checks (λ (y : A). y) meaning text old new name (Ok x) → HasValue meaning t new name x
 checks_ok meaning text t old new name x e checked =
-    read_ok meaning text t new name x checked.read (subst (λ (o : Option FilesTold). Reads o new.told name checked.read) e checked.told) checked.gives
+    read_ok meaning text t new name x checked.read (read_tells t old new name checked.read e checked.reads) checked.gives
 
 -- ---- a file that is refused
 
@@ -65,7 +66,7 @@ refusing_refused meaning text t name bytes line (Ok x) has is h = absurd (cc)
 refusing_refused meaning text t name bytes line (Err f) has is h = (f, (bytes, has, is), stop_refused name line (text f) (let e : stop_at name (text f) ≡ stop.Refused line = cc in e))
 
 read_refused : {A F : Type 0} (meaning : List ℕ → Result A F) (text : F → Option (List ℕ)) (t : FilesTold) (new : FilesAt) (name line : List ℕ)
-    (read : Result (Vec ℕ Global) FileFault) → Reads (Some t) new.told name read → said meaning text name read ≡ Err (stop.Refused line) → HasFault meaning text t name line
+    (read : Result (Vec ℕ Global) FileFault) → ReadTells t new.told name read → said meaning text name read ≡ Err (stop.Refused line) → HasFault meaning text t name line
 read_refused meaning text t new name line (Ok bytes) told h = refusing_refused meaning text t name bytes.items line (meaning bytes.items) told.0 refl h
 read_refused meaning text t new name line (Err file.Failed) told h = absurd (cc)
 read_refused meaning text t new name line (Err file.NoMemory) told h = absurd (cc)
@@ -73,7 +74,7 @@ read_refused meaning text t new name line (Err file.NoMemory) told h = absurd (c
 pub checks_refused : {A F : Type 0} (meaning : List ℕ → Result A F) (text : F → Option (List ℕ)) (t : FilesTold) (old new : FilesAt) (name line : List ℕ)
     → old.told ≡ Some t → Checks (λ (y : A). y) meaning text old new name (Err (stop.Refused line)) → HasFault meaning text t name line
 checks_refused meaning text t old new name line e checked =
-    read_refused meaning text t new name line checked.read (subst (λ (o : Option FilesTold). Reads o new.told name checked.read) e checked.told) (checked.gives (λ h. cc))
+    read_refused meaning text t new name line checked.read (read_tells t old new name checked.read e checked.reads) (checked.gives (λ h. cc))
 
 -- ---- a file whose read failed
 
@@ -86,7 +87,7 @@ refusing_unread text name line (Ok x) h = cc
 refusing_unread text name line (Err f) h = stop_unread name line (text f) (let e : stop_at name (text f) ≡ stop.Unreadable line = cc in e)
 
 read_unread : {A F : Type 0} (meaning : List ℕ → Result A F) (text : F → Option (List ℕ)) (t : FilesTold) (new : FilesAt) (name line : List ℕ)
-    (read : Result (Vec ℕ Global) FileFault) → Reads (Some t) new.told name read → said meaning text name read ≡ Err (stop.Unreadable line) → FailsAt t new.told name line
+    (read : Result (Vec ℕ Global) FileFault) → ReadTells t new.told name read → said meaning text name read ≡ Err (stop.Unreadable line) → FailsAt t new.told name line
 read_unread meaning text t new name line (Ok bytes) told h = absurd (refusing_unread text name line (meaning bytes.items) h)
 read_unread meaning text t new name line (Err file.Failed) told h = (told, cc)
 read_unread meaning text t new name line (Err file.NoMemory) told h = absurd (cc)
@@ -94,7 +95,7 @@ read_unread meaning text t new name line (Err file.NoMemory) told h = absurd (cc
 pub checks_unread : {A F : Type 0} (meaning : List ℕ → Result A F) (text : F → Option (List ℕ)) (t : FilesTold) (old new : FilesAt) (name line : List ℕ)
     → old.told ≡ Some t → Checks (λ (y : A). y) meaning text old new name (Err (stop.Unreadable line)) → FailsAt t new.told name line
 checks_unread meaning text t old new name line e checked =
-    read_unread meaning text t new name line checked.read (subst (λ (o : Option FilesTold). Reads o new.told name checked.read) e checked.told) (checked.gives (λ h. cc))
+    read_unread meaning text t new name line checked.read (read_tells t old new name checked.read e checked.reads) (checked.gives (λ h. cc))
 
 -- ---- the count of faults
 
@@ -107,7 +108,7 @@ read_rose meaning text before now name line (Err file.NoMemory) counted h = absu
 -- the count rose where the read failed
 pub checks_rose : {A F : Type 0} (meaning : List ℕ → Result A F) (text : F → Option (List ℕ)) (old new : FilesAt) (name line : List ℕ)
     → Checks (λ (y : A). y) meaning text old new name (Err (stop.Unreadable line)) → Rose old.faults new.faults
-checks_rose meaning text old new name line checked = read_rose meaning text old.faults new.faults name line checked.read checked.counted (checked.gives (λ h. cc))
+checks_rose meaning text old new name line checked = read_rose meaning text old.faults new.faults name line checked.read (read_counts old new name checked.read checked.reads) (checked.gives (λ h. cc))
 
 read_stays : {A F : Type 0} (meaning : List ℕ → Result A F) (text : F → Option (List ℕ)) (before now : ℕ) (name : List ℕ) (x : A)
     (read : Result (Vec ℕ Global) FileFault) → ReadCounts before now read → said meaning text name read ≡ Ok x → now ≡ before
@@ -118,7 +119,7 @@ read_stays meaning text before now name x (Err file.NoMemory) counted h = absurd
 -- it stays where the file was read and means something
 pub checks_stays : {A F : Type 0} (meaning : List ℕ → Result A F) (text : F → Option (List ℕ)) (old new : FilesAt) (name : List ℕ) (x : A)
     → Checks (λ (y : A). y) meaning text old new name (Ok x) → new.faults ≡ old.faults
-checks_stays meaning text old new name x checked = read_stays meaning text old.faults new.faults name x checked.read checked.counted checked.gives
+checks_stays meaning text old new name x checked = read_stays meaning text old.faults new.faults name x checked.read (read_counts old new name checked.read checked.reads) checked.gives
 
 -- ---- no other end
 
@@ -160,7 +161,7 @@ refusing_held text name (Err f) x s is h = cc
 
 read_held : {A F : Type 0} (meaning : List ℕ → Result A F) (text : F → Option (List ℕ)) (t : FilesTold) (old new : FilesAt) (name : List ℕ) (x : A) (s : Stop)
     → Means meaning t.content name (Ok x) → s ≢ stop.NoMemory → (Rose old.faults new.faults → ⊥)
-    → (read : Result (Vec ℕ Global) FileFault) → Reads (Some t) new.told name read → ReadCounts old.faults new.faults read → said meaning text name read ≡ Err s → ⊥
+    → (read : Result (Vec ℕ Global) FileFault) → ReadTells t new.told name read → ReadCounts old.faults new.faults read → said meaning text name read ≡ Err s → ⊥
 read_held {A} {F} meaning text t old new name x s means free calm (Ok bytes) told counted h =
     let one : Some bytes.items ≡ Some means.0 = sym told.0 ∙ means.1 in
     let same : bytes.items ≡ means.0 = cc in
@@ -173,7 +174,7 @@ pub checks_held : {A F : Type 0} (meaning : List ℕ → Result A F) (text : F �
     → old.told ≡ Some t → Means meaning t.content name (Ok x) → s ≢ stop.NoMemory → (Rose old.faults new.faults → ⊥) → Checks (λ (y : A). y) meaning text old new name (Err s) → ⊥
 checks_held meaning text t old new name x s e means free calm checked =
     read_held meaning text t old new name x s means free calm checked.read
-    (subst (λ (o : Option FilesTold). Reads o new.told name checked.read) e checked.told) checked.counted (checked.gives free)
+    (read_tells t old new name checked.read e checked.reads) (read_counts old new name checked.read checked.reads) (checked.gives free)
 
 -- two values that one file means are one
 pub means_one : {A F : Type 0} (meaning : List ℕ → Result A F) (held : List ℕ → Option (List ℕ)) (name : List ℕ) (x y : A)

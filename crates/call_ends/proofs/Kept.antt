@@ -2,13 +2,14 @@
 use Rattle.std.proofs.Common.{◌≡◌, ◌≢◌, ℕ, ◌⊎◌, inl, inr, List, refl, sym, ap, subst, ◌∙◌}
 use Rattle.std.specs.Prelude.{Option, Some, Result, Ok, Err, Vec, MatchResult}
 use Rattle.std.specs.declared.alloc.Global.{Global}
-use Rattle.farm_base.specs.Outside.{FilesTold, Reads}
+use Rattle.farm_base.specs.Outside.{FilesTold}
 use Rattle.farm_base.specs.declared.files.FileFault.{FileFault}
 use Rattle.farm_base.specs.declared.files.FileFault.TheVariants as file
 use Rattle.reading.specs.Steps.{Gives, seen}
 use Rattle.call_ends.specs.Stops.{unreadable_line}
 use Rattle.call_ends.specs.Ends.{FilesAt, SinkAt, said, Checks, PutsMade}
 use Rattle.call_ends.specs.Promises.{Means}
+use Rattle.call_ends.proofs.Outsides.{ReadTells, read_tells}
 use Rattle.call_ends.specs.declared.stops.Stop.{Stop}
 use Rattle.call_ends.specs.declared.stops.Stop.TheVariants as stop
 
@@ -55,7 +56,7 @@ failed_blamed meaning text name (Ok x) gives = absurd (cc)
 failed_blamed meaning text name (Err s) gives = blame (unreadable_line name) s (said meaning text name (Err file.Failed)) refl gives
 
 read_kept : {A F : Type 0} (meaning : List ℕ → Result A F) (text : F → Option (List ℕ)) (t : FilesTold) (new : FilesAt) (name : List ℕ) (result : Result A Stop)
-    (read : Result (Vec ℕ Global) FileFault) → Reads (Some t) new.told name read → Gives stop.NoMemory (λ (y : A). y) (said meaning text name read) result → Kept t new result
+    (read : Result (Vec ℕ Global) FileFault) → ReadTells t new.told name read → Gives stop.NoMemory (λ (y : A). y) (said meaning text name read) result → Kept t new result
 read_kept meaning text t new name result (Ok bytes) told gives = inl told.1
 read_kept meaning text t new name result (Err file.Failed) told gives = inr (failed_blamed meaning text name result gives)
 read_kept meaning text t new name result (Err file.NoMemory) told gives = inl told
@@ -63,7 +64,7 @@ read_kept meaning text t new name result (Err file.NoMemory) told gives = inl to
 pub checks_kept : {A F : Type 0} (meaning : List ℕ → Result A F) (text : F → Option (List ℕ)) (t : FilesTold) (old new : FilesAt) (name : List ℕ) (result : Result A Stop)
     → old.told ≡ Some t → Checks (λ (y : A). y) meaning text old new name result → Kept t new result
 checks_kept meaning text t old new name result e checked =
-    read_kept meaning text t new name result checked.read (subst (λ (o : Option FilesTold). Reads o new.told name checked.read) e checked.told) checked.gives
+    read_kept meaning text t new name result checked.read (read_tells t old new name checked.read e checked.reads) checked.gives
 
 pub same_kept : (t : FilesTold) (old new : FilesAt) → new ≡ old → old.told ≡ Some t → new.told ≡ Some t
 same_kept t old new same e = ap (λ (at : FilesAt). at.told) same ∙ e

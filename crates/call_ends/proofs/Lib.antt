@@ -1,4 +1,5 @@
 pub mod Checked
 pub mod Kept
+pub mod Outsides
 pub mod Reported
 pub mod Statuses

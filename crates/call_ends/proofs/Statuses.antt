@@ -2,24 +2,25 @@
 use Rattle.std.proofs.Common.{◌≡◌, ◌≢◌, ℕ, ◌⊎◌, inl, inr, List, [], ◌++◌, refl, sym, ap, subst, ◌∙◌, arith}
 use Rattle.std.specs.Prelude.{Option, Some, Result, Ok, Err, Vec}
 use Rattle.std.specs.declared.alloc.Global.{Global}
-use Rattle.farm_base.specs.Outside.{Puts, PutCounts, Rose}
+use Rattle.farm_base.specs.Outside.{Puts, Rose}
 use Rattle.farm_base.specs.declared.sinks.SinkFault.{SinkFault}
 use Rattle.call_ends.specs.Stops.{status_of, line_of}
 use Rattle.call_ends.specs.Ends.{SinkAt, put_end, PutsAll, PutsMade, told_status, EndsWith}
 use Rattle.call_ends.specs.Promises.{Stands}
+use Rattle.call_ends.proofs.Outsides.{PutTells, PutCounts, put_tells, put_counts}
 use Rattle.call_ends.specs.declared.stops.Stop.{Stop}
 use Rattle.call_ends.specs.declared.stops.Stop.TheVariants as stop
 
 -- ---- puts
 
 -- bytes that were put stand after what the sink had
-all_put : (before bytes : List ℕ) (new : Option (List ℕ)) (put : Result (Unit {0}) SinkFault) → Ok tt ≡ put_end put → Puts (Some before) new bytes put → new ≡ Some (before ++ bytes)
+all_put : (before bytes : List ℕ) (new : Option (List ℕ)) (put : Result (Unit {0}) SinkFault) → Ok tt ≡ put_end put → PutTells before new bytes put → new ≡ Some (before ++ bytes)
 all_put before bytes new (Ok u) e h = h
 all_put before bytes new (Err f) e h = absurd (cc)
 
-pub puts_done : (out out' : SinkAt) (bytes before : List ℕ) → PutsAll out out' bytes (Ok tt) → out.taken ≡ Some before → out'.taken ≡ Some (before ++ bytes)
+pub puts_done : (out out' : SinkAt) (bytes before : List ℕ) → PutsAll out out' bytes (Ok tt) → out.told ≡ Some before → out'.told ≡ Some (before ++ bytes)
 puts_done out out' bytes before h taken =
-    all_put before bytes out'.taken h.put h.ends (subst (λ (o : Option (List ℕ)). Puts o out'.taken bytes h.put) taken h.bytes_put)
+    all_put before bytes out'.told h.put h.ends (put_tells before out out' bytes h.put taken h.puts)
 
 by_put : (out out' : SinkAt) (put : Result (Unit {0}) SinkFault) (s : Stop) → Err s ≡ put_end put → PutCounts out.faults out'.faults put → (s ≡ stop.SinkFailed) × Rose out.faults out'.faults
 by_put out out' (Ok u) s e c = absurd (cc)
@@ -27,7 +28,7 @@ by_put out out' (Err f) s e c = (cc, c.1)
 
 -- a put ends a command only where it failed, and then the count rose
 pub puts_failed : (out out' : SinkAt) (bytes : List ℕ) (s : Stop) → PutsAll out out' bytes (Err s) → (s ≡ stop.SinkFailed) × Rose out.faults out'.faults
-puts_failed out out' bytes s h = by_put out out' h.put s h.ends h.counted
+puts_failed out out' bytes s h = by_put out out' h.put s h.ends (put_counts out out' bytes h.put h.puts)
 
 -- what was made was put
 pub made_done : (made : Result (Vec ℕ Global) Stop) (out out' : SinkAt) → PutsMade out out' made (Ok tt) → (v : Vec ℕ Global) × (made ≡ Ok v) × PutsAll out out' v.items (Ok tt)
@@ -102,9 +103,8 @@ early : (end : Result (Unit {0}) Stop) → 0 ≢ status_of end → 4 ≢ status_
 early (Ok u) no0 no4 = absurd (no0 refl)
 early (Err s) no0 no4 = (s, (λ h. no4 (sym (ap (λ (x : Stop). status_of (Err x)) h))), refl)
 
-stands : (err err' : SinkAt) (line : List ℕ) (put : Result (Unit {0}) SinkFault) → put ≡ Ok tt → Puts err.taken err'.taken line put → Stands err.taken err'.taken line
-stands err err' line put e h had e' =
-    subst (λ (o : Option (List ℕ)). Puts o err'.taken line (Ok tt)) e' (subst (λ (p : Result (Unit {0}) SinkFault). Puts err.taken err'.taken line p) e h)
+stands : (err err' : SinkAt) (line : List ℕ) (put : Result (Unit {0}) SinkFault) → put ≡ Ok tt → Puts err err' line put → Stands err.told err'.told line
+stands err err' line put e h had e' = put_tells had err err' line (Ok tt) e' (subst (λ (p : Result (Unit {0}) SinkFault). Puts err err' line p) e h)
 
 -- why a status is 4: the command's own put failed, or that of the line of another end
 abbrev pub Fails : (Stop → Type 0) → ℕ → ℕ → Type 0
@@ -132,46 +132,46 @@ module _ (runs : Result (Unit {0}) Stop → Type 0) (err err' : SinkAt) (result 
       subst runs (ends_0 ends.end told.1) ends.ran
 
   -- and err is as it was
-  pub silent_0 : result ≡ 0 → err'.taken ≡ err.taken
+  pub silent_0 : result ≡ 0 → err'.told ≡ err.told
   silent_0 zero =
       let told = quiet ends.end ends.reports.put 0 (omega arith) (sym zero ∙ ends.reports.status_is) in
-      ap (λ (at : SinkAt). at.taken) (ends.reports.quiet (ap line_of (ends_0 ends.end told.1))).1
+      ap (λ (at : SinkAt). at.told) (ends.reports.quiet (ap line_of (ends_0 ends.end told.1))).1
 
   -- with 1 a file was refused, and the line stands on err
-  pub with_1 : result ≡ 1 → (line : List ℕ) × runs (Err (stop.Refused line)) × Stands err.taken err'.taken line
+  pub with_1 : result ≡ 1 → (line : List ℕ) × runs (Err (stop.Refused line)) × Stands err.told err'.told line
   with_1 one =
       let told = quiet ends.end ends.reports.put 1 (omega arith) (sym one ∙ ends.reports.status_is) in
       let end = ends_1 ends.end told.1 in
-      (end.0, subst runs end.1 ends.ran, subst (λ (l : List ℕ). Stands err.taken err'.taken l) (ap line_of end.1) (stands err err' (line_of ends.end) ends.reports.put told.0 ends.reports.bytes_put))
+      (end.0, subst runs end.1 ends.ran, subst (λ (l : List ℕ). Stands err.told err'.told l) (ap line_of end.1) (stands err err' (line_of ends.end) ends.reports.put told.0 ends.reports.puts))
 
   -- with 2 the words were refused, and the usage line stands on err
-  pub with_2 : result ≡ 2 → runs (Err stop.Words) × Stands err.taken err'.taken (line_of (Err stop.Words))
+  pub with_2 : result ≡ 2 → runs (Err stop.Words) × Stands err.told err'.told (line_of (Err stop.Words))
   with_2 two =
       let told = quiet ends.end ends.reports.put 2 (omega arith) (sym two ∙ ends.reports.status_is) in
       let end = ends_2 ends.end told.1 in
-      (subst runs end ends.ran, subst (λ (l : List ℕ). Stands err.taken err'.taken l) (ap line_of end) (stands err err' (line_of ends.end) ends.reports.put told.0 ends.reports.bytes_put))
+      (subst runs end ends.ran, subst (λ (l : List ℕ). Stands err.told err'.told l) (ap line_of end) (stands err err' (line_of ends.end) ends.reports.put told.0 ends.reports.puts))
 
   -- with 3 a read failed, and the line stands on err
-  pub with_3 : result ≡ 3 → (line : List ℕ) × runs (Err (stop.Unreadable line)) × Stands err.taken err'.taken line
+  pub with_3 : result ≡ 3 → (line : List ℕ) × runs (Err (stop.Unreadable line)) × Stands err.told err'.told line
   with_3 three =
       let told = quiet ends.end ends.reports.put 3 (omega arith) (sym three ∙ ends.reports.status_is) in
       let end = ends_3 ends.end told.1 in
-      (end.0, subst runs end.1 ends.ran, subst (λ (l : List ℕ). Stands err.taken err'.taken l) (ap line_of end.1) (stands err err' (line_of ends.end) ends.reports.put told.0 ends.reports.bytes_put))
+      (end.0, subst runs end.1 ends.ran, subst (λ (l : List ℕ). Stands err.told err'.told l) (ap line_of end.1) (stands err err' (line_of ends.end) ends.reports.put told.0 ends.reports.puts))
 
   -- with 4 the command's put failed; or it ended early, for no put, and the put of its line failed
   pub with_4 : result ≡ 4 → runs (Err stop.SinkFailed) ⊎ Fails (λ s. runs (Err s)) err.faults err'.faults
   with_4 four =
-      elim (failed_4 ends.end ends.reports.put err.faults err'.faults (λ e. (ends.reports.quiet e).0) (sym four ∙ ends.reports.status_is) ends.reports.counted) [
+      elim (failed_4 ends.end ends.reports.put err.faults err'.faults (λ e. (ends.reports.quiet e).0) (sym four ∙ ends.reports.status_is) (put_counts err err' (line_of ends.end) ends.reports.put ends.reports.puts)) [
         | inl h ↦ inl (subst runs h ends.ran)
         | inr h ↦ inr (h.0, h.1, h.2, subst runs h.3 ends.ran)
       ]
 
   -- with 5 memory was wanting, and the line that says so stands on err
-  pub with_5 : result ≡ 5 → Stands err.taken err'.taken (line_of (Err stop.NoMemory))
+  pub with_5 : result ≡ 5 → Stands err.told err'.told (line_of (Err stop.NoMemory))
   with_5 five =
       let told = quiet ends.end ends.reports.put 5 (omega arith) (sym five ∙ ends.reports.status_is) in
       let end = ends_5 ends.end told.1 in
-      subst (λ (l : List ℕ). Stands err.taken err'.taken l) (ap line_of end) (stands err err' (line_of ends.end) ends.reports.put told.0 ends.reports.bytes_put)
+      subst (λ (l : List ℕ). Stands err.told err'.told l) (ap line_of end) (stands err err' (line_of ends.end) ends.reports.put told.0 ends.reports.puts)
 
   -- with another status than 0 and 4 the command ended early, and for no put
   pub with_other : result ≢ 0 → result ≢ 4 → (s : Stop) × (s ≢ stop.SinkFailed) × runs (Err s)
@@ -184,4 +184,4 @@ module _ (runs : Result (Unit {0}) Stop → Type 0) (err err' : SinkAt) (result 
   pub of_end : (result ≡ status_of ends.end) ⊎ ((result ≡ 4) × Rose err.faults err'.faults)
   of_end =
       subst (λ n. (n ≡ status_of ends.end) ⊎ ((n ≡ 4) × Rose err.faults err'.faults)) (sym ends.reports.status_is)
-      (kept_or_4 ends.reports.put (status_of ends.end) err.faults err'.faults ends.reports.counted)
+      (kept_or_4 ends.reports.put (status_of ends.end) err.faults err'.faults (put_counts err err' (line_of ends.end) ends.reports.put ends.reports.puts))

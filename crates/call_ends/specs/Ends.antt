@@ -1,7 +1,7 @@
 -- How a command ends: what is read and put, and what is reported.
 use Rattle.std.specs.Prelude.{◌≡◌, ℕ, List, [], Option, Result, Ok, Err, Vec}
 use Rattle.std.specs.declared.alloc.Global.{Global}
-use Rattle.farm_base.specs.Outside.{FilesTold, Reads, ReadCounts, Puts, PutCounts}
+use Rattle.farm_base.specs.Outside.{Outside, FilesTold, Reads, Puts}
 use Rattle.farm_base.specs.declared.files.FileFault.{FileFault}
 use Rattle.farm_base.specs.declared.files.FileFault.TheVariants as file
 use Rattle.farm_base.specs.declared.sinks.SinkFault.{SinkFault}
@@ -10,23 +10,13 @@ use Rattle.call_ends.specs.Stops.{status_of, line_of, unreadable_line, refusing}
 use Rattle.call_ends.specs.declared.stops.Stop.{Stop}
 use Rattle.call_ends.specs.declared.stops.Stop.TheVariants as stop
 
--- files at a moment: what they tell, if they do, and their count of faults
-pub record FilesAt : Type 0 where
-  pub told : Option FilesTold
-  pub faults : ℕ
+-- files at a moment
+abbrev pub FilesAt : Type 0
+FilesAt = Outside FilesTold
 
--- files that tell this, with this count
-abbrev pub files_at : Option FilesTold → ℕ → FilesAt
-files_at told faults = record { told = told; faults = faults }
-
--- a sink at a moment: the bytes that it took, if it tells, and its count of faults
-pub record SinkAt : Type 0 where
-  pub taken : Option (List ℕ)
-  pub faults : ℕ
-
--- a sink that took this, with this count
-abbrev pub sink_at : Option (List ℕ) → ℕ → SinkAt
-sink_at taken faults = record { taken = taken; faults = faults }
+-- a sink at a moment
+abbrev pub SinkAt : Type 0
+SinkAt = Outside (List ℕ)
 
 -- ---- a file
 
@@ -40,8 +30,7 @@ said meaning text name (Err file.NoMemory) = Err stop.NoMemory
 -- be read, or want of memory.
 pub record Checks {A B F : Type 0} (view : B → A) (meaning : List ℕ → Result A F) (text : F → Option (List ℕ)) (old new : FilesAt) (name : List ℕ) (result : Result B Stop) : Type 0 where
   pub read : Result (Vec ℕ Global) FileFault
-  pub told : Reads old.told new.told name read
-  pub counted : ReadCounts old.faults new.faults read
+  pub reads : Reads old new name read
   pub gives : Gives stop.NoMemory view (said meaning text name read) result
 
 -- ---- out and err
@@ -54,8 +43,7 @@ put_end (Err fault) = Err stop.SinkFailed
 -- the bytes are put
 pub record PutsAll (old new : SinkAt) (bytes : List ℕ) (result : Result (Unit {0}) Stop) : Type 0 where
   pub put : Result (Unit {0}) SinkFault
-  pub bytes_put : Puts old.taken new.taken bytes put
-  pub counted : PutCounts old.faults new.faults put
+  pub puts : Puts old new bytes put
   pub ends : result ≡ put_end put
 
 -- what was made is put; where nothing was, nothing is put
@@ -77,8 +65,7 @@ told_status status (Err fault) = 4
 -- a line is put on err; an empty one is not: the sink is as it was
 pub record Reports (status : ℕ) (line : List ℕ) (old new : SinkAt) (result : ℕ) : Type 0 where
   pub put : Result (Unit {0}) SinkFault
-  pub bytes_put : Puts old.taken new.taken line put
-  pub counted : PutCounts old.faults new.faults put
+  pub puts : Puts old new line put
   pub status_is : result ≡ told_status status put
   pub quiet : line ≡ [] → (put ≡ Ok tt) × (new ≡ old)
 

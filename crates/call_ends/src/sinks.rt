@@ -1,14 +1,14 @@
 //! What a command puts on out, and how its end is told on err.
 ghost use Rattle.std.specs.Prelude.{◌≡◌};
 ghost use Rattle.call_ends.specs.Stops as spec;
-ghost use Rattle.call_ends.specs.Ends.{sink_at, PutsAll, Reports};
+ghost use Rattle.call_ends.specs.Ends.{PutsAll, Reports};
 
 use crate::stops::Stop;
 use farm_base::Sink;
 
 /// Puts all bytes.
 pub fn put<O: Sink>(out: &mut O, bytes: &[u8]) -> Result<(), Stop>
-    ensures { PutsAll (sink_at (O.taken out.old) (O.faults out.old)) (sink_at (O.taken out.new) (O.faults out.new)) bytes.now result }
+    ensures { PutsAll (O.state out.old) (O.state out.new) bytes.now result }
 {
     match out.put(bytes) {
         Ok(()) => Ok(()),
@@ -47,7 +47,7 @@ fn line_of(end: &Result<(), Stop>) -> &str
 
 /// Puts the line of an end on err, if it has one, and answers the status; 4 where that put failed.
 pub fn report<E: Sink>(err: &mut E, end: &Result<(), Stop>) -> u8
-    ensures { Reports (spec.status_of end.now) (spec.line_of end.now) (sink_at (E.taken err.old) (E.faults err.old)) (sink_at (E.taken err.new) (E.faults err.new)) result }
+    ensures { Reports (spec.status_of end.now) (spec.line_of end.now) (E.state err.old) (E.state err.new) result }
 {
     let status = status_of(end);
     let line = line_of(end);

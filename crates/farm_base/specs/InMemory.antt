@@ -6,7 +6,7 @@ use Rattle.std.specs.declared.alloc.Global.{Global}
 use Rattle.farm_base.specs.declared.files.FailedCall.{FailedCall}
 use Rattle.farm_base.specs.declared.files.FileFault.{FileFault}
 use Rattle.farm_base.specs.declared.files.FileFault.TheVariants.{Failed, NoMemory}
-use Rattle.farm_base.specs.Outside.{FilesTold, failed_read}
+use Rattle.farm_base.specs.Outside.{Outside, FilesTold, failed_read}
 
 -- the next value of a count that stands still at its last value
 abbrev pub next_count : ℕ → ℕ
@@ -31,6 +31,10 @@ content_of files name = option_map (λ f. f.1) (find (λ f. bytes_eq f.0 name) f
 abbrev pub told_of : FilesHeld → FilesTold
 told_of held = record { content = content_of held.files; failed = held.failed }
 
+-- files in memory as an object of the outside: they tell, and count the reads that failed
+abbrev pub files_state : FilesHeld → Outside FilesTold
+files_state held = record { told = Some (told_of held); faults = length held.failed }
+
 -- what a read of a name has: nothing where it is to fail or no file has the name
 abbrev pub read_of : FilesHeld → List ℕ → Option (List ℕ)
 read_of held name = if is_to_fail held.reads held.calls then None else content_of held.files name
@@ -53,6 +57,10 @@ pub record SinkHeld : Type 0 where
   pub puts : List ℕ
   pub calls : ℕ
   pub faults : ℕ
+
+-- a sink in memory as an object of the outside: it tells its bytes
+abbrev pub sink_state : SinkHeld → Outside (List ℕ)
+sink_state held = record { told = Some held.bytes; faults = held.faults }
 
 -- does a put of this many bytes fail? It does by its number, or where it would pass the room.
 abbrev pub put_fails : SinkHeld → ℕ → Bool

@@ -1,3 +1,4 @@
+pub mod Digits
 pub mod Earlier
 pub mod InMemory
 pub mod Outside

@@ -1,7 +1,8 @@
 //! The real files and streams as files and sinks. They do not tell what they hold; what is proved of
 //! them is that they count their failures.
-ghost use Rattle.std.specs.Prelude.{◌≡◌, ℕ, ◌≤◌, ◌^◌, length, None, IfOk};
-ghost use Rattle.farm_base.specs.Outside.{Reads, ReadCounts};
+ghost use Rattle.std.specs.Prelude.{◌≡◌, ℕ, ◌≤◌, ◌^◌, length, IfOk, OnOk};
+ghost use Rattle.std.specs.Io.KnownBytes.{Appends};
+ghost use Rattle.farm_base.specs.Outside.{Reads, Puts, untold};
 
 use crate::files::{FileFault, Files};
 use crate::sinks::{Sink, SinkFault};
@@ -29,19 +30,16 @@ impl<R> DiskFiles<R> {
 }
 
 impl<R: rt::Files> Files for DiskFiles<R> {
-    ghost use Rattle.std.specs.Prelude.{None};
+    ghost use Rattle.farm_base.specs.Outside.{untold};
 
-    ghost told = { λ _. None };
-
-    ghost faults = { λ f. f.faults };
+    ghost state = { λ f. untold f.faults };
 
     ghost counted = { λ _. tt };
 
     /// The bytes of the file at this path. Failed where it cannot be opened or read, or has more than
     /// `2^31` bytes.
     fn read(&mut self, alloc: Global, name: &str) -> Result<Vec<u8>, FileFault>
-        ensures bytes { Reads None None name.now result }
-        ensures cause { ReadCounts self.old.faults self.new.faults result }
+        ensures state { Reads (untold self.old.faults) (untold self.new.faults) name.now result }
         ensures short { IfOk result (λ v. length v.items ≤ 2 ^ 31) }
     {
         match whole(alloc, &self.rt, name) {
@@ -94,15 +92,17 @@ impl<W> OutSink<W> {
 }
 
 impl<W: Write> Sink for OutSink<W> {
-    ghost use Rattle.std.specs.Prelude.{None};
+    ghost use Rattle.farm_base.specs.Outside.{untold};
 
-    ghost taken = { λ _. None };
+    ghost state = { λ s. untold s.faults };
 
-    ghost faults = { λ s. s.faults };
-
-    /// Writes the whole piece and flushes it. Failed where the stream refuses, or takes nothing of a
-    /// piece that is not empty.
-    fn put(&mut self, piece: &[u8]) -> Result<(), SinkFault> {
+    /// Writes the whole piece and flushes it. Where the stream's bytes are known, Ok has appended the
+    /// whole piece to them. Failed where the stream refuses, or takes nothing of a piece that is not
+    /// empty.
+    fn put(&mut self, piece: &[u8]) -> Result<(), SinkFault>
+        ensures state { Puts (untold self.old.faults) (untold self.new.faults) piece.now result }
+        ensures written { OnOk result (Appends (W.contents self.old.inner) (W.contents self.new.inner) piece.now) }
+    {
         let written = self.inner.write_all(piece).is_ok() && self.inner.flush().is_ok();
         if written {
             return Ok(());

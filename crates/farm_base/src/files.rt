@@ -1,8 +1,8 @@
 //! Files that are read whole: the trait, its form in memory and the adapter over the real ones.
 ghost use Rattle.std.specs.Prelude.{◌≡◌, ℕ, [], ◌∷◌, ◌++◌, length, Option, Some, IfOk, IfSome, OnOk, OnErr, option_map};
-ghost use Rattle.farm_base.specs.Outside.{FilesTold, Reads, ReadCounts, failed_read};
+ghost use Rattle.farm_base.specs.Outside.{Outside, FilesTold, Reads, failed_read};
 ghost use Rattle.farm_base.specs.InMemory as spec;
-ghost use Rattle.farm_base.specs.InMemory.{content_of, read_of, told_of, next_count, GivesHeld, ReadsHeld};
+ghost use Rattle.farm_base.specs.InMemory.{content_of, read_of, files_state, next_count, GivesHeld, ReadsHeld};
 
 use crate::memory::NoMemory;
 use crate::texts::{Bytes, Text};
@@ -58,20 +58,17 @@ pub struct FailedCall {
 /// Files that are read whole by their names. Where an object tells, contracts know what each name
 /// holds and which calls failed so far; the real files do not tell.
 pub trait Files {
-    /// What each name holds and which calls failed, where the object tells.
-    ghost told: { Self → Option FilesTold };
-
-    /// How many calls failed; it never falls, and stands still at its last value.
-    ghost faults: { Self → ℕ };
+    /// What each name holds and which calls failed, where the object tells, and how many calls failed:
+    /// a count that never falls, and stands still at its last value, `2^64 - 1`.
+    ghost state: { Self → Outside FilesTold };
 
     /// The bytes of the file of this name. Failed comes only where the count of faults rose in this
     /// call, and never changes what the files hold.
     fn read(&mut self, alloc: Global, name: &str) -> Result<Vec<u8>, FileFault>
-        ensures bytes { Reads (told self.old) (told self.new) name.now result }
-        ensures cause { ReadCounts (faults self.old) (faults self.new) result };
+        ensures { Reads (state self.old) (state self.new) name.now result };
 
     /// Where the object tells, the count is the number of failed calls.
-    ghost counted: { (s : Self) → IfSome (told s) (λ t. faults s ≡ length t.failed) };
+    ghost counted: { (s : Self) → IfSome (state s).told (λ t. (state s).faults ≡ length t.failed) };
 }
 
 /// Named contents in memory, and the reads that are to fail.
@@ -180,21 +177,16 @@ impl MemFiles {
 }
 
 impl Files for MemFiles {
-    ghost use Rattle.std.specs.Prelude.{Some, refl};
-    ghost use Rattle.farm_base.specs.InMemory.{told_of};
+    ghost use Rattle.std.specs.Prelude.{refl};
+    ghost use Rattle.farm_base.specs.InMemory.{files_state};
 
-    ghost told = { λ f. Some (told_of f) };
-
-    ghost use Rattle.std.specs.Prelude.{length};
-
-    ghost faults = { λ f. length f.failed };
+    ghost state = { files_state };
 
     ghost counted = { λ f. refl };
 
     /// As the trait says, and exactly: Failed where this read is to fail or no file has the name.
     fn read(&mut self, alloc: Global, name: &str) -> Result<Vec<u8>, FileFault>
-        ensures bytes { Reads (Some (told_of self.old)) (Some (told_of self.new)) name.now result }
-        ensures cause { ReadCounts (length self.old.failed) (length self.new.failed) result }
+        ensures state { Reads (files_state self.old) (files_state self.new) name.now result }
         ensures exact { ReadsHeld self.old self.new name.now result }
     {
         let bytes = self.copied(alloc, name)?;

@@ -1,7 +1,7 @@
 //! Sinks that take bytes in pieces: the trait, its form in memory and the adapter over the real ones.
 ghost use Rattle.std.specs.Prelude.{◌≡◌, ℕ, List, [], length, Option, Some, IfOk, Result, is_err};
-ghost use Rattle.farm_base.specs.Outside.{Puts, PutCounts};
-ghost use Rattle.farm_base.specs.InMemory.{SinkHeld, after_put, put_fails};
+ghost use Rattle.farm_base.specs.Outside.{Outside, Puts};
+ghost use Rattle.farm_base.specs.InMemory.{SinkHeld, after_put, put_fails, sink_state};
 
 use crate::files::is_to_fail;
 use crate::memory::NoMemory;
@@ -18,17 +18,14 @@ pub enum SinkFault {
 /// A sink that takes bytes in pieces. Where an object tells, contracts know the bytes that it took so
 /// far; the real streams do not tell.
 pub trait Sink {
-    /// The bytes taken so far, where the object tells.
-    ghost taken: { Self → Option (List ℕ) };
-
-    /// How many puts failed; it never falls, and stands still at its last value.
-    ghost faults: { Self → ℕ };
+    /// The bytes taken so far, where the object tells, and how many puts failed: a count that never
+    /// falls, and stands still at its last value, `2^64 - 1`.
+    ghost state: { Self → Outside (List ℕ) };
 
     /// Puts a piece; takes no memory. After Ok the whole piece was taken, after Failed some front of it,
     /// and Failed comes only where the count of faults rose in this call.
     fn put(&mut self, piece: &[u8]) -> Result<(), SinkFault>
-        ensures bytes { Puts (taken self.old) (taken self.new) piece.now result }
-        ensures cause { PutCounts (faults self.old) (faults self.new) result };
+        ensures { Puts (state self.old) (state self.new) piece.now result };
 }
 
 /// A sink in memory with a fixed room, and the puts that are to fail.
@@ -76,16 +73,13 @@ impl MemSink {
 }
 
 impl Sink for MemSink {
-    ghost use Rattle.std.specs.Prelude.{Some};
+    ghost use Rattle.farm_base.specs.InMemory.{sink_state};
 
-    ghost taken = { λ s. Some s.bytes };
-
-    ghost faults = { λ s. s.faults };
+    ghost state = { sink_state };
 
     /// As the trait says, and exactly: Failed where this put is to fail or would pass the room.
     fn put(&mut self, piece: &[u8]) -> Result<(), SinkFault>
-        ensures bytes { Puts (Some self.old.bytes) (Some self.new.bytes) piece.now result }
-        ensures cause { PutCounts self.old.faults self.new.faults result }
+        ensures state { Puts (sink_state self.old) (sink_state self.new) piece.now result }
         ensures fails { is_err result ≡ put_fails self.old (length piece.now) }
         ensures exact { self.new ≡ after_put self.old piece.now }
     {

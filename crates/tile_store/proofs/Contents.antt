@@ -1,11 +1,13 @@
 -- What contents hold after a put.
-use Rattle.std.proofs.Common.{◌≡◌, ◌≢◌, ℕ, suc, ◌+◌, ◌<◌, ◌≤◌, List, [], ◌∷◌, ◌++◌, length, get_or, set, Bool, true, false, not, cond, Some, None, nat_lt, refl, sym, ap, ◌∙◌, arith}
+use Rattle.std.proofs.Common.{◌≡◌, ◌≢◌, ℕ, suc, ◌+◌, ◌<◌, ◌≤◌, List, [], ◌∷◌, ◌++◌, length, length-append, get_or, set, Bool, true, false, not, cond, Some, None, nat_lt, refl, sym, ap, ◌∙◌, arith}
 use Rattle.std.specs.Prelude.{option_map, find, position}
 use Rattle.std.specs.List.{position_or_len}
 use Rattle.std.proofs.lemmas.Slice.Eq.{bytes_eq-Decides}
 use Rattle.std.specs.Str.{bytes_eq}
 use Rattle.std.proofs.lemmas.Bool.Decides.{nat_tests}
+use Rattle.farm_base.specs.declared.files.FailedCall.{FailedCall}
 use Rattle.farm_base.specs.InMemory.{content_of}
+use Rattle.farm_base.specs.Outside.{Counted}
 use Rattle.tile_store.specs.Held.{with_content, StoreHeld, told_of}
 use Rattle.tile_store.specs.Stores.{Stored, PutFailed, failed_put}
 
@@ -140,3 +142,9 @@ half_stored old new path bytes held failed = record {
   others = λ q ne. ap (λ pairs. content_of pairs q) held ∙ content_other old.held path bytes q ne;
   failed = failed;
 }
+
+-- one more call that failed is counted
+pub counted_one : (before now : List FailedCall) (call : FailedCall) → now ≡ before ++ call ∷ [] → Counted (length before) (length now)
+counted_one before now call is =
+    let len : length now ≡ length before + 1 = ap length is ∙ length-append before (call ∷ []) in
+    (omega arith, omega arith)

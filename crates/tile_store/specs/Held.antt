@@ -1,9 +1,10 @@
 -- The store that stands in memory, as contracts see it.
-use Rattle.std.specs.Prelude.{◌≡◌, ℕ, ◌/◌, Bool, true, false, List, [], ◌∷◌, ◌++◌, length, take, Option, Result, Ok, Err, Vec, option_map, if◌then◌else◌}
+use Rattle.std.specs.Prelude.{◌≡◌, ℕ, ◌/◌, Bool, true, false, List, [], ◌∷◌, ◌++◌, length, take, Option, Some, Result, Ok, Err, Vec, option_map, if◌then◌else◌}
 use Rattle.std.specs.Str.{bytes_eq}
 use Rattle.std.specs.declared.alloc.Global.{Global}
 use Rattle.farm_base.specs.declared.files.FailedCall.{FailedCall}
 use Rattle.farm_base.specs.InMemory.{content_of, is_to_fail, next_count}
+use Rattle.farm_base.specs.Outside.{Outside}
 use Rattle.tile_store.specs.declared.stores.StoreFault.{StoreFault}
 use Rattle.tile_store.specs.declared.stores.StoreFault.TheVariants.{Failed, NoMemory}
 use Rattle.tile_store.specs.Stores.{StoreTold, failed_put, failed_get}
@@ -21,6 +22,10 @@ pub record StoreHeld : Type 0 where
 -- what the store in memory tells
 abbrev pub told_of : StoreHeld → StoreTold
 told_of store = record { content = content_of store.held; failed = store.failed }
+
+-- the store in memory as an object of the outside: it tells, and counts the calls that failed
+abbrev pub store_state : StoreHeld → Outside StoreTold
+store_state store = record { told = Some (told_of store); faults = length store.failed }
 
 -- the contents with these bytes at a path, in place of those that it held
 abbrev pub with_content : List (List ℕ × List ℕ) → List ℕ → List ℕ → List (List ℕ × List ℕ)

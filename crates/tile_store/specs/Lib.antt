@@ -1,3 +1,4 @@
 pub mod Stores
 pub mod Held
 pub mod Files
+pub mod inner

@@ -1,8 +1,8 @@
 -- What a tile store tells of itself, and what a call on it may do.
-use Rattle.std.specs.Prelude.{◌≡◌, ◌≢◌, ◌≤◌, ℕ, true, false, List, [], ◌∷◌, ◌++◌, take, drop, Option, Some, None, Result, Ok, Err, Vec, option_map}
+use Rattle.std.specs.Prelude.{◌≡◌, ◌≢◌, ℕ, true, false, List, [], ◌∷◌, ◌++◌, take, drop, Option, Some, None, Result, Ok, Err, Vec, option_map, IfSome, MatchOption}
 use Rattle.std.specs.declared.alloc.Global.{Global}
 use Rattle.farm_base.specs.declared.files.FailedCall.{FailedCall}
-use Rattle.farm_base.specs.Outside.{Rose}
+use Rattle.farm_base.specs.Outside.{Outside, Counted}
 use Rattle.tile_store.specs.declared.stores.StoreFault.{StoreFault}
 use Rattle.tile_store.specs.declared.stores.StoreFault.TheVariants.{Failed, NoMemory}
 
@@ -34,21 +34,30 @@ pub record PutFailed (old new : StoreTold) (path : List ℕ) : Type 0 where
   pub others : KeepsOthers old new path
   pub failed : new.failed ≡ old.failed ++ failed_put path ∷ []
 
--- A put of bytes at a path. Whether the store tells stays; after NoMemory all is as before.
-abbrev pub Puts : Option StoreTold → Option StoreTold → List ℕ → List ℕ → Result (Unit {0}) StoreFault → Type 0
-Puts None new path bytes result = new ≡ None
-Puts (Some old) new path bytes (Ok done) = (now : StoreTold) × (new ≡ Some now) × Stored old now path bytes
-Puts (Some old) new path bytes (Err Failed) = (now : StoreTold) × (new ≡ Some now) × PutFailed old now path
-Puts (Some old) new path bytes (Err NoMemory) = new ≡ Some old
+-- whether the store tells stays, and where it does, this holds of what it told and what it tells now
+abbrev pub IfTold : Outside StoreTold → Outside StoreTold → (StoreTold → StoreTold → Type 0) → Type 0
+IfTold old new holds = MatchOption old.told (new.told ≡ None) (λ before. (now : StoreTold) × (new.told ≡ Some now) × holds before now)
 
--- A get of a path by a view of its bytes. Neither the content nor whether it is told changes. Ok has
--- the view of the bytes that the path holds, and none exactly where it holds nothing; a failed get is
--- noted, and nothing else is.
-abbrev pub Gets : (List ℕ → List ℕ) → Option StoreTold → Option StoreTold → List ℕ → Result (Option (Vec ℕ Global)) StoreFault → Type 0
-Gets view None new path result = new ≡ None
-Gets view (Some old) new path (Ok found) = (option_map (λ v. v.items) found ≡ option_map view (old.content path)) × (new ≡ Some old)
-Gets view (Some old) new path (Err Failed) = new ≡ Some (record old { failed = old.failed ++ failed_get path ∷ [] })
-Gets view (Some old) new path (Err NoMemory) = new ≡ Some old
+-- A put of bytes at a path. After Ok the path holds the bytes and the count is as before; after Failed
+-- what the path holds is unknown, and the count has risen; after NoMemory all is as before.
+abbrev pub Puts : Outside StoreTold → Outside StoreTold → List ℕ → List ℕ → Result (Unit {0}) StoreFault → Type 0
+Puts old new path bytes (Ok done) = IfTold old new (λ before now. Stored before now path bytes) × (new.faults ≡ old.faults)
+Puts old new path bytes (Err Failed) = IfTold old new (λ before now. PutFailed before now path) × Counted old.faults new.faults
+Puts old new path bytes (Err NoMemory) = new ≡ old
+
+-- the same content after one more get of this path that failed
+abbrev pub with_failed_get : List ℕ → StoreTold → StoreTold
+with_failed_get path store = record store { failed = store.failed ++ failed_get path ∷ [] }
+
+-- A get of a path by a view of its bytes. After Ok all is as before, and where the store tells, the
+-- answer is the view of the bytes that the path holds, and none exactly where it holds nothing. After
+-- Failed the count has risen, the failed get is noted where the store tells, and nothing else has
+-- changed. After NoMemory all is as before.
+abbrev pub Gets : (List ℕ → List ℕ) → Outside StoreTold → Outside StoreTold → List ℕ → Result (Option (Vec ℕ Global)) StoreFault → Type 0
+Gets view old new path (Ok found) =
+    (new ≡ old) × IfSome old.told (λ t. option_map (λ v. v.items) found ≡ option_map view (t.content path))
+Gets view old new path (Err Failed) = (new.told ≡ option_map (with_failed_get path) old.told) × Counted old.faults new.faults
+Gets view old new path (Err NoMemory) = new ≡ old
 
 -- the whole of the bytes
 abbrev pub whole : List ℕ → List ℕ
@@ -57,9 +66,3 @@ whole bytes = bytes
 -- the bytes from an offset on, at most so many and no further than their end
 abbrev pub part : ℕ → ℕ → List ℕ → List ℕ
 part offset len bytes = take len (drop offset bytes)
-
--- the count of faults over a call: it rises where the call failed, and else it stays
-abbrev pub Counts : {T : Type 0} → ℕ → ℕ → Result T StoreFault → Type 0
-Counts before now (Ok value) = now ≡ before
-Counts before now (Err Failed) = (before ≤ now) × Rose before now
-Counts before now (Err NoMemory) = now ≡ before

@@ -1,8 +1,10 @@
 //! The store in files of the system, under the folder `tiles`. It does not tell what it holds; what is
 //! proved of it is that it counts its failures and which paths it refuses.
-ghost use Rattle.std.specs.Prelude.{◌≡◌, ◌≤◌, ◌^◌, ℕ, false, length, None, Err, IfOk, IfSome};
+ghost use Rattle.std.specs.Prelude.{◌≡◌, ◌≤◌, ◌^◌, ℕ, false, length, Err, IfOk, IfSome};
+ghost use Rattle.farm_base.specs.Outside.{untold};
 ghost use Rattle.tile_store.specs.declared.stores.StoreFault.TheVariants.{Failed};
-ghost use Rattle.tile_store.specs.Stores.{Puts, Gets, Counts, whole, part};
+ghost use Rattle.tile_store.specs.Stores.{Puts, Gets, whole, part};
+ghost use Rattle.tile_store.specs.inner.Counts.{Counts};
 ghost use Rattle.tile_store.specs.Files as spec;
 ghost use Rattle.tile_store.specs.Files.{is_own_path};
 
@@ -48,18 +50,15 @@ impl<R> FileStore<R> {
 }
 
 impl<R: rt::Files> TileStore for FileStore<R> {
-    ghost use Rattle.std.specs.Prelude.{None};
+    ghost use Rattle.farm_base.specs.Outside.{untold};
 
-    ghost told = { λ _. None };
-
-    ghost count = { λ s. s.faults };
+    ghost state = { λ s. untold s.faults };
 
     ghost counted = { λ _. tt };
 
     /// Makes the path's file have the bytes; Failed also for a path that is not taken.
     fn put(&mut self, alloc: Global, path: &str, bytes: &[u8]) -> Result<(), StoreFault>
-        ensures effect { Puts None None path.now bytes.now result }
-        ensures cause { Counts self.old.faults self.new.faults result }
+        ensures state { Puts (untold self.old.faults) (untold self.new.faults) path.now bytes.now result }
         ensures taken { is_own_path path.now ≡ false → result ≡ Err Failed }
     {
         let answer = write_beside(alloc, &self.rt, path, bytes);
@@ -69,8 +68,7 @@ impl<R: rt::Files> TileStore for FileStore<R> {
     /// The bytes of the path's file; Failed also where it has more than `2^31` bytes, and for a path that
     /// is not taken.
     fn get(&mut self, alloc: Global, path: &str) -> Result<Option<Vec<u8>>, StoreFault>
-        ensures effect { Gets whole None None path.now result }
-        ensures cause { Counts self.old.faults self.new.faults result }
+        ensures state { Gets whole (untold self.old.faults) (untold self.new.faults) path.now result }
         ensures taken { is_own_path path.now ≡ false → result ≡ Err Failed }
         ensures at_most { IfOk result (λ found. IfSome found (λ v. length v.items ≤ 2 ^ 31)) }
     {
@@ -86,8 +84,7 @@ impl<R: rt::Files> TileStore for FileStore<R> {
         offset: u64,
         len: u32,
     ) -> Result<Option<Vec<u8>>, StoreFault>
-        ensures effect { Gets (part offset len) None None path.now result }
-        ensures cause { Counts self.old.faults self.new.faults result }
+        ensures state { Gets (part offset len) (untold self.old.faults) (untold self.new.faults) path.now result }
         ensures short { IfOk result (λ found. IfSome found (λ v. length v.items ≤ len)) }
         ensures taken { is_own_path path.now ≡ false → result ≡ Err Failed }
     {

@@ -4,8 +4,8 @@ ghost use Rattle.std.specs.Str.{bytes_eq};
 ghost use Rattle.farm_base.specs.InMemory.{content_of, next_count};
 ghost use Rattle.farm_base.specs.InMemory as base;
 ghost use Rattle.tile_store.specs.declared.stores.StoreFault.TheVariants.{Failed, NoMemory};
-ghost use Rattle.tile_store.specs.Stores.{Puts, Gets, Counts, whole, part, failed_put, failed_get};
-ghost use Rattle.tile_store.specs.Held.{told_of, with_content, put_fails, get_fails, half, PutsHeld, GetsHeld};
+ghost use Rattle.tile_store.specs.Stores.{Puts, Gets, whole, part, failed_put, failed_get};
+ghost use Rattle.tile_store.specs.Held.{store_state, with_content, put_fails, get_fails, half, PutsHeld, GetsHeld};
 
 use crate::stores::{StoreFault, TileStore};
 use farm_base::{Bytes, FailedCall, NoMemory, Text};
@@ -173,20 +173,17 @@ impl MemStore {
 }
 
 impl TileStore for MemStore {
-    ghost use Rattle.std.specs.Prelude.{Some, length, refl};
-    ghost use Rattle.tile_store.specs.Held.{told_of};
+    ghost use Rattle.std.specs.Prelude.{refl};
+    ghost use Rattle.tile_store.specs.Held.{store_state};
 
-    ghost told = { λ s. Some (told_of s) };
-
-    ghost count = { λ s. length s.failed };
+    ghost state = { store_state };
 
     ghost counted = { λ s. refl };
 
     /// As the trait says, and exactly: it fails where its number is in the list, and then the path
     /// holds the first half of the bytes, rounded down.
     fn put(&mut self, alloc: Global, path: &str, bytes: &[u8]) -> Result<(), StoreFault>
-        ensures effect { Puts (Some (told_of self.old)) (Some (told_of self.new)) path.now bytes.now result }
-        ensures cause { Counts (length self.old.failed) (length self.new.failed) result }
+        ensures state { Puts (store_state self.old) (store_state self.new) path.now bytes.now result }
         ensures exact { PutsHeld self.old self.new path.now bytes.now result }
     {
         if self.put_is_to_fail() {
@@ -199,8 +196,7 @@ impl TileStore for MemStore {
 
     /// As the trait says, and exactly: it fails where its number is in the list.
     fn get(&mut self, alloc: Global, path: &str) -> Result<Option<Vec<u8>>, StoreFault>
-        ensures effect { Gets whole (Some (told_of self.old)) (Some (told_of self.new)) path.now result }
-        ensures cause { Counts (length self.old.failed) (length self.new.failed) result }
+        ensures state { Gets whole (store_state self.old) (store_state self.new) path.now result }
         ensures exact { GetsHeld whole self.old self.new path.now result }
     {
         if self.get_is_to_fail() {
@@ -223,8 +219,7 @@ impl TileStore for MemStore {
         offset: u64,
         len: u32,
     ) -> Result<Option<Vec<u8>>, StoreFault>
-        ensures effect { Gets (part offset len) (Some (told_of self.old)) (Some (told_of self.new)) path.now result }
-        ensures cause { Counts (length self.old.failed) (length self.new.failed) result }
+        ensures state { Gets (part offset len) (store_state self.old) (store_state self.new) path.now result }
         ensures short { IfOk result (λ found. IfSome found (λ v. length v.items ≤ len)) }
         ensures exact { GetsHeld (part offset len) self.old self.new path.now result }
     {

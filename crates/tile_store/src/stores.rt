@@ -1,6 +1,7 @@
 //! The trait of tile stores.
 ghost use Rattle.std.specs.Prelude.{◌≡◌, ◌≤◌, ℕ, length, Option, IfOk, IfSome};
-ghost use Rattle.tile_store.specs.Stores.{StoreTold, Puts, Gets, Counts, whole, part};
+ghost use Rattle.farm_base.specs.Outside.{Outside};
+ghost use Rattle.tile_store.specs.Stores.{StoreTold, Puts, Gets, whole, part};
 
 use farm_base::NoMemory;
 use std::alloc::{AllocError, AllocFailed, Global};
@@ -47,23 +48,19 @@ impl<T: Drop> From<AllocFailed<T>> for StoreFault {
 /// A store of bytes under paths. Where a store tells, contracts know what each path holds and which
 /// calls failed so far; a real store does not tell. No call changes whether it tells.
 pub trait TileStore {
-    /// What each path holds and which calls failed, where the store tells.
-    ghost told: { Self → Option StoreTold };
-
-    /// How many calls failed; it never falls, and stands still at its last value, `2^64 - 1`.
-    ghost count: { Self → ℕ };
+    /// What each path holds and which calls failed, where the store tells, and how many calls failed: a
+    /// count that never falls, and stands still at its last value, `2^64 - 1`.
+    ghost state: { Self → Outside StoreTold };
 
     /// Makes the path hold the bytes, and changes no other path. Failed comes only where the count of
     /// faults rose in this call; then what the path holds is unknown, and all other paths are as before.
     fn put(&mut self, alloc: Global, path: &str, bytes: &[u8]) -> Result<(), StoreFault>
-        ensures effect { Puts (told self.old) (told self.new) path.now bytes.now result }
-        ensures cause { Counts (count self.old) (count self.new) result };
+        ensures { Puts (state self.old) (state self.new) path.now bytes.now result };
 
     /// The bytes that the path holds; `None` exactly where it holds nothing. Changes no content. Failed
     /// comes only where the count of faults rose in this call.
     fn get(&mut self, alloc: Global, path: &str) -> Result<Option<Vec<u8>>, StoreFault>
-        ensures effect { Gets whole (told self.old) (told self.new) path.now result }
-        ensures cause { Counts (count self.old) (count self.new) result };
+        ensures { Gets whole (state self.old) (state self.new) path.now result };
 
     /// The bytes that the path holds from the offset on, at most `len` of them and no further than
     /// their end; `None` exactly where the path holds nothing. Changes no content. Failed comes only
@@ -75,14 +72,13 @@ pub trait TileStore {
         offset: u64,
         len: u32,
     ) -> Result<Option<Vec<u8>>, StoreFault>
-        ensures effect { Gets (part offset len) (told self.old) (told self.new) path.now result }
-        ensures cause { Counts (count self.old) (count self.new) result }
+        ensures state { Gets (part offset len) (state self.old) (state self.new) path.now result }
         ensures short { IfOk result (λ found. IfSome found (λ v. length v.items ≤ len)) };
 
     /// The count of faults; changes nothing and takes no memory.
     fn faults(&self) -> u64
-        ensures { result ≡ count self.now };
+        ensures { result ≡ (state self.now).faults };
 
     /// Where the store tells, the count is the number of failed calls.
-    ghost counted: { (s : Self) → IfSome (told s) (λ t. count s ≡ length t.failed) };
+    ghost counted: { (s : Self) → IfSome (state s).told (λ t. (state s).faults ≡ length t.failed) };
 }
