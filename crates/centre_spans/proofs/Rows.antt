@@ -6,8 +6,10 @@ use Rattle.std.proofs.lemmas.Bool.{cases_Bool, cases_lt, le-leb, lt-leb, leb-tru
 use Rattle.plain_world.specs.declared.world.Point.{Point}
 use Rattle.plain_world.specs.declared.world.Window.{Window}
 use Rattle.plain_world.specs.World.{InWorld, IsWindow, centre, centres}
-use Rattle.plain_shapes.specs.Canvas.{Bits, marked}
-use Rattle.plain_shapes.proofs.Places.{Reached, reached_start, reached_skip, reached_yes, reached_no, reached_end}
+use Rattle.plain_shapes.specs.Images.{Bits}
+use Rattle.plain_shapes.specs.inner.Canvas.{marked}
+use Rattle.plain_shapes.specs.inner.Canvas.{Reached}
+use Rattle.plain_shapes.proofs.Places.{reached_start, reached_skip, reached_yes, reached_no, reached_end}
 use Rattle.centre_spans.specs.declared.shapes.Stretch.{Stretch}
 use Rattle.centre_spans.specs.Stretches.{InStretch}
 

@@ -1,8 +1,9 @@
 //! The loop over the centres near a shape.
 ghost use Rattle.std.specs.Prelude.{◌≡◌, ℕ, ◌+◌, ◌*◌, ◌<◌, ◌≤◌, Bool, true, false, slice_set};
 ghost use Rattle.plain_world.specs.World.{IsWindow, centres};
-ghost use Rattle.plain_shapes.specs.Canvas.{Bits, marked};
-ghost use Rattle.plain_shapes.proofs.Places.{Reached};
+ghost use Rattle.plain_shapes.specs.Images.{Bits};
+ghost use Rattle.plain_shapes.specs.inner.Canvas.{marked};
+ghost use Rattle.plain_shapes.specs.inner.Canvas.{Reached};
 
 use crate::shapes::Shape;
 use crate::sides::first_at;

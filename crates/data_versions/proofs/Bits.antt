@@ -16,7 +16,7 @@ use Rattle.plain_data.specs.Features.{Feature}
 use Rattle.geo_model.specs.Bounds.{InBounds, Within, IsLeastBounds, meets}
 use Rattle.geo_model.specs.Shapes.{parts_of, least_points, is_none, IsShape}
 use Rattle.data_versions.specs.Near.{is_near}
-use Rattle.data_versions.specs.Cells.{part_of, cell_at, Marks, IsWide, box_of, IsBoxed, IsMarked, IsChunk}
+use Rattle.data_versions.specs.inner.Cells.{part_of, cell_at, Marks, IsWide, box_of, IsBoxed, IsMarked, IsChunk}
 use Rattle.std.proofs.Math.Nat.{div-mul-le_self}
 use Rattle.std.proofs.lemmas.Nat.{le-div}
 use Rattle.std.proofs.lemmas.Nat.Bits.{bit_at_or, bit_at_and, bit_at-lt, bit_at-zero, bit_at_set_same}

@@ -7,7 +7,7 @@ use Rattle.std.proofs.lemmas.List.{length-map, map-append, drop_all}
 use Rattle.std.proofs.lemmas.List.Folds.{list_any-append}
 use Rattle.plain_data.specs.Features.{Feature}
 use Rattle.plain_data.specs.Data.{has_id, ids_of, kept, last_put, replaced, added, with_puts, first_missing, is_too_many}
-use Rattle.data_versions.specs.Slots.{without, replaced_by, with_put}
+use Rattle.data_versions.specs.inner.Slots.{without, replaced_by, with_put}
 
 no_left : (a b : Bool) → (a || b) ≡ false → a ≡ false
 no_left true b h = h

@@ -13,8 +13,8 @@ use Rattle.std.specs.Arc.{arc_value}
 use Rattle.plain_data.specs.Features.{Feature}
 use Rattle.plain_data.specs.Data.{has_id, ids_of}
 use Rattle.data_versions.specs.declared.slot.Slot.{Slot}
-use Rattle.data_versions.specs.Slots.{standing_in, standing, is_old, old_in, IsOldAs, HasOld, KnowsPlaces}
-use Rattle.data_versions.specs.Chunks.{joined}
+use Rattle.data_versions.specs.inner.Slots.{standing_in, standing, is_old, old_in, IsOldAs, HasOld, KnowsPlaces}
+use Rattle.data_versions.specs.inner.Chunks.{joined}
 use Rattle.data_versions.proofs.Places.{Chunks, ChunkShare, joined_more}
 use Rattle.std.specs.Option.{option_to_list}
 use Rattle.data_versions.proofs.Slots.{knows_room, knows_added, unheld, standing_more}

@@ -13,7 +13,7 @@ use Rattle.std.proofs.lemmas.List.Elements.{filter_map-append}
 use Rattle.data_versions.specs.declared.slot.Slot.{Slot}
 use Rattle.plain_data.specs.Features.{Feature}
 use Rattle.plain_data.specs.Data.{has_id, ids_of}
-use Rattle.data_versions.specs.Slots.{standing_in, standing, slot_id, KnowsPlaces, without, replaced_by, with_put}
+use Rattle.data_versions.specs.inner.Slots.{standing_in, standing, slot_id, KnowsPlaces, without, replaced_by, with_put}
 
 no_left : (a b : Bool) → (a || b) ≡ false → a ≡ false
 no_left true b h = h

@@ -1,5 +1,3 @@
-pub mod Slots
 pub mod Near
 pub mod Shared
-pub mod Cells
-pub mod Chunks
+pub mod inner

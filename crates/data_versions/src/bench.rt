@@ -2,21 +2,19 @@
 ghost use Rattle.std.specs.Prelude.{◌≡◌, ◌≤◌, ◌<◌, ◌∷◌, ◌++◌, [], true, false, nat_eq, length, IfOk, OnOk, MatchResult};
 ghost use Rattle.std.specs.List.{IsDistinct};
 ghost use Rattle.plain_data.specs.Data.{has_id, ids_of};
-ghost use Rattle.data_versions.specs.Slots.{without, replaced_by, with_put};
-ghost use Rattle.data_versions.specs.Chunks.{joined};
+ghost use Rattle.data_versions.specs.inner.Slots.{without, replaced_by, with_put};
+ghost use Rattle.data_versions.specs.inner.Chunks.{joined};
 
 use crate::chunk::{Chunk, MOST_TOGETHER};
 use crate::pack::Pack;
 use crate::slot::{Slot, copy_slots, keep_chunk, old_slots, places_of};
 use farm_base::NoMemory;
 use geo_model::Feature;
+use plain_data::MOST_FEATURES;
 use std::alloc::Global;
 use std::collections::BTreeMap;
 use std::marker::Model;
 use std::sync::Arc;
-
-/// The most features of a layer.
-pub(crate) const MOST_FEATURES: usize = 1_000_000;
 
 /// The features of a layer by reference, each in a slot that stays its own, so that a removal moves no other
 /// feature and an id is found without a walk. The first slots are those of the features from the start, chunk
@@ -32,8 +30,8 @@ pub(crate) struct Bench<'a> {
 impl<'a> Model for Bench<'a> {
     ghost use Rattle.std.specs.Prelude.{◌≡◌, ◌≤◌, List, length};
     ghost use Rattle.plain_data.specs.Features.{Feature};
-    ghost use Rattle.data_versions.specs.Slots.{standing, HasOld, KnowsPlaces};
-    ghost use Rattle.data_versions.specs.Chunks.{joined};
+    ghost use Rattle.data_versions.specs.inner.Slots.{standing, HasOld, KnowsPlaces};
+    ghost use Rattle.data_versions.specs.inner.Chunks.{joined};
 
     ghost Value = { List Feature };
 

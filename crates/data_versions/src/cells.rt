@@ -1,7 +1,7 @@
 //! Which of the eight by eight cells of a box a rectangle meets, as bits of a number.
 ghost use Rattle.std.specs.Prelude.{◌≡◌, ◌≤◌, ◌<◌, ◌+◌, ◌*◌, ℕ};
 ghost use Rattle.std.specs.Int.{bit_at};
-ghost use Rattle.data_versions.specs.Cells.{part_of, Marks};
+ghost use Rattle.data_versions.specs.inner.Cells.{part_of, Marks};
 
 use geo_model::Bounds;
 

@@ -2,7 +2,7 @@
 ghost use Rattle.std.specs.Prelude.{◌≡◌, ◌≤◌, ◌<◌, ◌+◌, false, length, drop, position, slice_get, All, IfSome};
 ghost use Rattle.std.specs.Option.{option_copied};
 ghost use Rattle.data_versions.specs.Near.{place_of, is_near};
-ghost use Rattle.data_versions.specs.Cells.{IsWide, IsBoxed, IsMarked, box_of};
+ghost use Rattle.data_versions.specs.inner.Cells.{IsWide, IsBoxed, IsMarked, box_of};
 ghost use Rattle.geo_model.specs.Bounds.{Within};
 
 use crate::cells::cells_met;
@@ -25,7 +25,7 @@ pub(crate) struct Chunk {
 impl Model for Chunk {
     ghost use Rattle.std.specs.Prelude.{List};
     ghost use Rattle.plain_data.specs.Features.{Feature};
-    ghost use Rattle.data_versions.specs.Cells.{IsChunk};
+    ghost use Rattle.data_versions.specs.inner.Cells.{IsChunk};
 
     ghost Value = { List Feature };
 

@@ -2,8 +2,9 @@
 ghost use Rattle.std.specs.Prelude.{◌≡◌, ◌≤◌, ◌<◌, ◌+◌, length, slice_index, slice_get, IfOk};
 ghost use Rattle.std.specs.Option.{option_copied};
 ghost use Rattle.data_versions.specs.Near.{place_of, next_near};
-ghost use Rattle.data_versions.specs.Cells.{IsWide};
-ghost use Rattle.data_versions.specs.Chunks.{joined, IsStarts};
+ghost use Rattle.data_versions.specs.inner.Cells.{IsWide};
+ghost use Rattle.data_versions.specs.inner.Chunks.{joined, IsStarts};
+ghost use Rattle.plain_data.specs.Limits.{most_features};
 
 use crate::chunk::Chunk;
 use farm_base::{NoMemory, Text};
@@ -23,7 +24,7 @@ pub(crate) struct ChunkedLayer {
 
 impl Model for ChunkedLayer {
     ghost use Rattle.plain_data.specs.Features.{Layer};
-    ghost use Rattle.data_versions.specs.Chunks.{joined, IsChunked};
+    ghost use Rattle.data_versions.specs.inner.Chunks.{joined, IsChunked};
 
     ghost Value = { Layer };
 
@@ -34,7 +35,7 @@ impl Model for ChunkedLayer {
 
 /// The place of each chunk's first feature, and how many features there are.
 fn starts_of(alloc: Global, chunks: &[Arc<Chunk>]) -> Result<(Vec<u32>, u32), NoMemory>
-    requires { length (joined chunks.now) ≤ 1000000 }
+    requires { length (joined chunks.now) ≤ most_features }
     ensures starts { IfOk result (λ r. IsStarts r.0.items chunks.now) }
     ensures count { IfOk result (λ r. r.1 ≡ length (joined chunks.now)) }
 {
@@ -76,7 +77,7 @@ impl ChunkedLayer {
         name: Text,
         chunks: Vec<Arc<Chunk>>,
     ) -> Result<ChunkedLayer, NoMemory>
-        requires { length (joined chunks.items) ≤ 1000000 }
+        requires { length (joined chunks.items) ≤ most_features }
         ensures { IfOk result (λ l. l ≡ record { name = name; features = joined chunks.items }) }
     {
         let (starts, count) = starts_of(alloc, chunks.as_slice())?;

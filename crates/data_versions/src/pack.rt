@@ -1,7 +1,7 @@
 //! Features that are put into chunks one after another.
 ghost use Rattle.std.specs.Prelude.{◌≡◌, ◌≤◌, ◌<◌, ◌∷◌, ◌++◌, [], length, IfOk, OnOk};
 ghost use Rattle.std.specs.Arc.{arc_value};
-ghost use Rattle.data_versions.specs.Chunks.{joined};
+ghost use Rattle.data_versions.specs.inner.Chunks.{joined};
 
 use crate::chunk::{Chunk, MOST_TOGETHER};
 use farm_base::NoMemory;
@@ -21,7 +21,7 @@ pub(crate) struct Pack {
 impl Model for Pack {
     ghost use Rattle.std.specs.Prelude.{◌≤◌, ◌++◌, List, length};
     ghost use Rattle.plain_data.specs.Features.{Feature};
-    ghost use Rattle.data_versions.specs.Chunks.{joined};
+    ghost use Rattle.data_versions.specs.inner.Chunks.{joined};
 
     ghost Value = { List Feature };
 

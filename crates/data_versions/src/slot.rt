@@ -4,8 +4,8 @@ ghost use Rattle.std.specs.List.{IsDistinct, list_all};
 ghost use Rattle.std.specs.Option.{option_to_list};
 ghost use Rattle.std.specs.Arc.{arc_value};
 ghost use Rattle.plain_data.specs.Data.{ids_of};
-ghost use Rattle.data_versions.specs.Slots.{standing_in, standing, is_old, old_in, HasOld, KnowsPlaces};
-ghost use Rattle.data_versions.specs.Chunks.{joined};
+ghost use Rattle.data_versions.specs.inner.Slots.{standing_in, standing, is_old, old_in, HasOld, KnowsPlaces};
+ghost use Rattle.data_versions.specs.inner.Chunks.{joined};
 
 use crate::chunk::Chunk;
 use crate::pack::Pack;

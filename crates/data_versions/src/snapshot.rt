@@ -4,6 +4,7 @@ ghost use Rattle.std.specs.Option.{option_copied};
 ghost use Rattle.plain_data.specs.Data.{IsLayer, IsDataset, layer_named, features_named};
 ghost use Rattle.data_versions.specs.Near.{place_of, next_near};
 ghost use Rattle.data_versions.specs.Shared.{shared_layers};
+ghost use Rattle.plain_data.specs.Limits.{most_features};
 
 use crate::chunked::ChunkedLayer;
 use crate::dataset::{Dataset, Layer};
@@ -36,7 +37,7 @@ impl Model for Snapshot {
 
 /// Puts the features of the layer into chunks.
 fn chunk_layer(alloc: Global, layer: Layer) -> Result<ChunkedLayer, NoMemory>
-    requires { length layer.features ≤ 1000000 }
+    requires { length layer.features ≤ most_features }
     ensures { IfOk result (λ chunked. chunked ≡ layer) }
 {
     let mut pack = Pack::new(alloc);

@@ -3,6 +3,7 @@ ghost use Rattle.std.specs.Prelude.{◌≡◌, ◌≢◌, ◌≤◌, length, pos
 ghost use Rattle.std.specs.Str.{bytes_eq};
 ghost use Rattle.plain_data.specs.Data.{IsLayer, names_of, changed, change_fault, updated};
 ghost use Rattle.data_versions.specs.Shared.{shared_layers};
+ghost use Rattle.plain_data.specs.Limits.{most_features};
 
 use crate::chunked::ChunkedLayer;
 use crate::dataset::{Change, Update};
@@ -59,7 +60,7 @@ fn change_all<'a>(
     desks: &mut [Desk<'a>],
     changes: &'a [Change],
 ) -> Result<(), ApplyFault>
-    requires { length changes.now ≤ 1000000 }
+    requires { length changes.now ≤ most_features }
     ensures done { OnOk result (updated changes.now desks.old ≡ Ok desks.new) }
     ensures names { OnOk result (names_of desks.new ≡ names_of desks.old) }
     ensures refused { IfErr result (λ e. e ≢ ApplyFault.NoMemory → updated changes.now desks.old ≡ Err e) }

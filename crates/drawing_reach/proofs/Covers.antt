@@ -11,7 +11,7 @@ use Rattle.plain_drawing.specs.Drawing.{covers}
 use Rattle.geo_model.specs.declared.bounds.Bounds.{Bounds}
 use Rattle.geo_model.specs.Bounds.{InBounds}
 use Rattle.geo_model.specs.Shapes.{parts_of}
-use Rattle.drawing_reach.specs.Spreads.{Beside, spread_across, spread_down}
+use Rattle.drawing_reach.specs.inner.Spreads.{Beside, spread_across, spread_down}
 use Rattle.drawing_reach.proofs.Members.{parts_by_recursion}
 use Rattle.drawing_reach.proofs.Fills.{rings_beside}
 use Rattle.drawing_reach.proofs.Outlines.{lines_beside, outlines_beside, marks_beside}

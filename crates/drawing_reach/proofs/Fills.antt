@@ -7,11 +7,11 @@ use Rattle.std.proofs.lemmas.Bool.{cases_lt, le-leb, lt-leb}
 use Rattle.plain_world.specs.declared.world.Point.{Point}
 use Rattle.plain_shapes.specs.Rings.{counts_down, counts, edges_from, ring_edges, in_rings}
 use Rattle.plain_shapes.proofs.Signs.{downward_is, off_above, off_below}
-use Rattle.raster_core.specs.Toggles.{flip, odd_edges}
+use Rattle.raster_core.specs.inner.Toggles.{flip, odd_edges}
 use Rattle.raster_core.proofs.Toggling.{odd_cons, odd_append}
 use Rattle.geo_model.specs.declared.bounds.Bounds.{Bounds}
 use Rattle.geo_model.specs.Bounds.{InBounds}
-use Rattle.drawing_reach.specs.Spreads.{Beside}
+use Rattle.drawing_reach.specs.inner.Spreads.{Beside}
 use Rattle.drawing_reach.proofs.Members.{last_of, last_at, last_has, all_map}
 
 -- ---- where no edge counts

@@ -10,11 +10,11 @@ use Rattle.plain_shapes.specs.declared.shapes.LineCap.TheVariants as with
 use Rattle.plain_shapes.specs.Strokes.{is_same, in_body, in_disk, in_mark, before_start, past_end, kept, kept_after, on_sides, on_disks, on_dot, on_line, on_stroke, on_ring, on_outline, on_marks}
 use Rattle.geo_model.specs.declared.bounds.Bounds.{Bounds}
 use Rattle.geo_model.specs.Bounds.{InBounds}
-use Rattle.stroke_core.specs.Parts.{point_at, on_ends, on_parts}
+use Rattle.stroke_core.specs.inner.Parts.{point_at, on_ends, on_parts}
 use Rattle.stroke_core.proofs.Boxes.{InBox, body_box, start_box, end_box, disk_box, block_box}
 use Rattle.stroke_core.proofs.Sides.{any_take, parts_kept}
 use Rattle.mark_core.proofs.Marks.{mark_near}
-use Rattle.drawing_reach.specs.Spreads.{Beside}
+use Rattle.drawing_reach.specs.inner.Spreads.{Beside}
 use Rattle.drawing_reach.proofs.Members.{not_true, any_in, last_of, last_at, last_has}
 
 -- the box of two points of the rectangle

@@ -19,7 +19,7 @@ use Rattle.plain_data.specs.Reach.{all_points, margin_of, InReach}
 use Rattle.geo_model.specs.declared.bounds.Bounds.{Bounds}
 use Rattle.geo_model.specs.Bounds.{InBounds}
 use Rattle.geo_model.specs.Shapes.{parts_of}
-use Rattle.drawing_reach.specs.Spreads.{Beside, spread_across, spread_down}
+use Rattle.drawing_reach.specs.inner.Spreads.{Beside, spread_across, spread_down}
 use Rattle.drawing_reach.proofs.Members.{none_passes, picked, all_map, all_pair, all_parts}
 use Rattle.drawing_reach.proofs.Covers.{covered_beside}
 

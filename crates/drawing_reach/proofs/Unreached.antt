@@ -17,12 +17,13 @@ use Rattle.plain_world.specs.World.{side_at, centre, row_centres, centres, windo
 use Rattle.plain_data.specs.Features.{Feature}
 use Rattle.plain_drawing.specs.Styles.{Rule, Style, is_paint}
 use Rattle.plain_drawing.specs.Rules.{matches, is_fallback, taken, drawing_rules, drawn}
-use Rattle.plain_shapes.specs.Canvas.{Pixels, at_centres}
+use Rattle.plain_shapes.specs.Images.{Pixels}
+use Rattle.plain_shapes.specs.inner.Canvas.{at_centres}
 use Rattle.plain_drawing.specs.Drawing.{covers, painted_over, feature, pixel_of}
-use Rattle.plain_drawing.specs.Pictures.{with_symbolizer, with_item}
+use Rattle.plain_drawing.specs.inner.Pictures.{with_symbolizer, with_item}
 use Rattle.plain_data.specs.Reach.{Reaches, feature_reaches}
 use Rattle.plain_world.proofs.Windows.{window_is}
-use Rattle.drawing_reach.specs.Laws.{KeepsRanges}
+use Rattle.plain_drawing.specs.Styles.{KeepsRanges}
 use Rattle.drawing_reach.proofs.Members.{all_map}
 use Rattle.drawing_reach.proofs.Reaching.{covered_reached}
 use Rattle.drawing_reach.proofs.Edges.{by_edges}

@@ -1,6 +1,5 @@
 -- Laws of what a feature reaches.
-use Rattle.std.specs.Prelude.{ℕ, ◌≡◌, ◌↔◌, IsTrue, true, false, All}
-use Rattle.std.specs.List.{list_all}
+use Rattle.std.specs.Prelude.{ℕ, ◌≡◌, ◌↔◌, IsTrue, true, false}
 use Rattle.plain_world.specs.declared.world.Point.{Point}
 use Rattle.plain_world.specs.declared.world.Square.{Square}
 use Rattle.plain_world.specs.declared.world.Tile.{Tile}
@@ -8,10 +7,10 @@ use Rattle.plain_drawing.specs.declared.style.Symbolizer.{Symbolizer}
 use Rattle.plain_shapes.specs.declared.shapes.Geometry.{Geometry}
 use Rattle.plain_world.specs.World.{window_of, tile_square, IsTile, IsTileSize}
 use Rattle.plain_data.specs.Features.{Feature}
-use Rattle.plain_drawing.specs.Styles.{Style, is_paint}
-use Rattle.plain_shapes.specs.Canvas.{Pixels}
+use Rattle.plain_drawing.specs.Styles.{Style, is_paint, KeepsRanges}
+use Rattle.plain_shapes.specs.Images.{Pixels}
 use Rattle.plain_drawing.specs.Drawing.{covers, feature, pixel_of}
-use Rattle.plain_drawing.specs.Pictures.{with_item}
+use Rattle.plain_drawing.specs.inner.Pictures.{with_item}
 use Rattle.plain_data.specs.Reach.{all_points, margin_of, InReach, Reaches, feature_reaches}
 
 -- the test on a square's edges says whether some point of the square lies in the feature's reach
@@ -21,10 +20,6 @@ LawByEdges = (f : Feature) (size z : ℕ) (s : Square) → IsTrue (feature_reach
 -- what a symbolizer covers of a shape lies within 64 pixels of the box of its points
 abbrev pub LawWithin : Type 0
 LawWithin = (g : Geometry) (size z : ℕ) (s : Symbolizer) (c : Point) → IsTrue (is_paint s) → covers (pixel_of z size) g c s ≡ true → InReach (all_points g) (margin_of size z) c
-
--- every symbolizer of the style keeps its ranges
-abbrev pub KeepsRanges : Style → Type 0
-KeepsRanges style = All (λ r. IsTrue (list_all is_paint r.symbolizers)) style.rules
 
 -- a feature that does not reach a tile's square leaves every pixel of its picture as it is
 abbrev pub LawUnreached : Type 0

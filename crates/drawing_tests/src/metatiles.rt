@@ -6,7 +6,6 @@ use crate::drawings::{data, is_all, is_boxed, map, place};
 use data_versions::{Dataset, Layer, Snapshot};
 use farm_base::{Listed, Text};
 use geo_model::{Feature, make_feature};
-use merc_fixed::{index_place, meta_of};
 use plain_shapes::{Geometry, Path};
 use plain_world::{Meta, Point};
 use std::alloc::Global;
@@ -81,36 +80,6 @@ fn a_mark_of_less_than_a_unit_covers_nothing(rt: HostRuntime) -> Result<(), Fail
             is_boxed(tile.as_slice(), b"P6\n512 512\n255\n", 512, bounds),
             "at {width}"
         );
-    }
-    Ok(())
-}
-
-const MIXED_STYLE: &str =
-    r##"{"background-color":"#f2efe9","styles":[{"name":"fill","rules":[{"Filter":"[k] = 1","symbolizers":[{"symbolizer":"PolygonSymbolizer","fill":"green","fill-opacity":"0.3"},{"symbolizer":"LineSymbolizer","stroke":"navy","stroke-width":"1.5"}]},{"ElseFilter":true,"symbolizers":[{"symbolizer":"PolygonSymbolizer","fill":"#808000","fill-opacity":"0.7"}]}]},{"name":"road","rules":[{"symbolizers":[{"symbolizer":"LineSymbolizer","stroke-width":"4","stroke-linecap":"round"}]},{"symbolizers":[{"symbolizer":"LineSymbolizer","stroke":"yellow","stroke-width":"2.5","stroke-opacity":"0.9","stroke-linecap":"square"}]}]},{"name":"spot","filter-mode":"first","rules":[{"Filter":"[k] > 3","symbolizers":[{"symbolizer":"MarkersSymbolizer","fill":"red","width":"6","height":"9.5","opacity":"0.5"}]},{"symbolizers":[{"symbolizer":"MarkersSymbolizer","fill":"blue","width":"3","height":"3"}]}]}],"layers":[{"name":"l","source":"land","styles":["fill","fill"]},{"name":"r","source":"roads","styles":["road"]},{"name":"s","source":"spots","styles":["spot"]}]}"##;
-
-const MIXED_DATA: &str =
-    r#"{"units":"world","layers":[{"name":"land","features":[{"id":1,"geometry":{"polygon":[[[5000000,3000000],[400000000,90000000],[700000000,900000000]],[[100000000,100000000],[300000000,120000000],[350000000,400000000]]]},"attrs":{"k":1}},{"id":2,"geometry":{"polygon":[[[520000000,0],[1073741824,0],[1073741824,560000000],[600000000,700000000]]]}}]},{"name":"roads","features":[{"id":1,"geometry":{"lines":[[[0,0],[536870912,536870912],[1073741824,200000000]],[[536870912,1073741824],[536870912,536870912]]]}}]},{"name":"spots","features":[{"id":7,"geometry":{"points":[[536870912,536870912],[200000000,200000000],[603979776,570425344]]},"attrs":{"k":4}},{"id":8,"geometry":{"points":[[67108864,0],[1073741824,1073741824]]}}]}]}"#;
-
-#[test]
-fn each_tile_of_a_metatile_is_its_own_drawing(rt: HostRuntime) -> Result<(), Fail> {
-    let alloc = rt.alloc();
-    let style = map(alloc, MIXED_STYLE)?;
-    let snapshot = data(alloc, MIXED_DATA)?;
-    for (x, y) in [(3, 5), (8, 0), (15, 15)] {
-        let meta = meta_of(place(4, x, y)?);
-        let drawn = draw_meta(alloc, &style, 16, meta, &snapshot)?;
-        assert_eq!(rt; drawn.tiles.len(), 64);
-        for col in 0..8u32 {
-            for row in 0..8u32 {
-                let t = place(4, meta.x.saturating_add(col), meta.y.saturating_add(row))?;
-                let tile = draw_tile(alloc, &style, 16, t, &snapshot)?;
-                let same = match drawn.tiles.get(index_place(t) as usize) {
-                    Some(part) => part.as_slice() == tile.as_slice(),
-                    None => false,
-                };
-                assert!(rt; same, "at {t:?}");
-            }
-        }
     }
     Ok(())
 }

@@ -20,7 +20,7 @@ use Rattle.geo_json.specs.declared.coordinates.Units.{Units}
 use Rattle.geo_json.specs.declared.coordinates.Units.TheVariants.{Centimetres}
 use Rattle.geo_json.specs.Attributes.{attr_value, attr_of, attrs_after, attrs_of, attrs_at}
 use Rattle.geo_json.specs.Coordinates.{units_named, units_at, pair_of, point_of}
-use Rattle.geo_json.specs.DataTexts.{has_layer, layer_at, layer_after, layers_of, dataset_in}
+use Rattle.geo_json.specs.DataTexts.{has_layer, layer_said, layer_after, layers_of, dataset_in}
 use Rattle.geo_json.specs.FeatureTexts.{id_of, made_unless, made_of, feature_of, is_new, new_feature_after}
 use Rattle.geo_json.specs.Geometries.{path_of, paths_of, one_shape, geometry_of}
 use Rattle.geo_json.specs.Openings.{object_of, name_of, name_at}
@@ -155,8 +155,8 @@ new_told units part before d =
 
 -- ---- data
 
-layer_told : (units : Units) (part : ℕ) (before : List Layer) (d : Data) → Told (layer_at units part before d)
-unfolding layer_at
+layer_told : (units : Units) (part : ℕ) (before : List Layer) (d : Data) → Told (layer_said units part before d)
+unfolding layer_said
 layer_told units part before d =
     step HasText _ _ (checks HasText (nat_lt part 64) (fault.Shape 64 0) refl) (λ t.
     step HasText _ _ (object_told (fault.Shape part 0) refl _ d) (λ u.

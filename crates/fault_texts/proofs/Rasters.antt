@@ -6,7 +6,8 @@ use Rattle.plain_image.specs.declared.reading.PpmFault.TheVariants.{Bad}
 use Rattle.plain_image.specs.declared.reading.Gap.{Gap}
 use Rattle.plain_image.specs.declared.reading.Gap.TheVariants.{Bare, Blank, Comment}
 use Rattle.plain_image.specs.declared.reading.Head.{Head}
-use Rattle.plain_image.specs.PpmText.{and_then, is_blank, one_byte, one_blank, after_in_gap, gap_end, gap, is_digit, digits, side, gap_side, magic, greatest, head, picture, ppm_of}
+use Rattle.farm_base.specs.Digits.{is_digit}
+use Rattle.plain_image.specs.PpmText.{and_then, is_whitespace, one_byte, one_blank, after_in_gap, gap_end, gap, digits, side, gap_side, magic, greatest, head, picture_behind, ppm_of}
 use Rattle.raster_layers.specs.declared.grids.GridFault.TheVariants.{Size}
 use Rattle.fault_texts.specs.RasterFaults.{ppm_text}
 use Rattle.fault_texts.specs.Told.{PpmTextsAreTold, GridsAreTold}
@@ -28,7 +29,7 @@ byte_told c n (b ∷ bs) = either HasText (b == c) (Ok (n + 1)) (Err (Bad n)) tt
 
 blank_told : (n : ℕ) (bytes : List ℕ) → Told (one_blank n bytes)
 blank_told n [] = refl
-blank_told n (b ∷ bs) = either HasText (is_blank b) (Ok (n + 1)) (Err (Bad n)) tt refl
+blank_told n (b ∷ bs) = either HasText (is_whitespace b) (Ok (n + 1)) (Err (Bad n)) tt refl
 
 gap_end_told : (place : Gap) (n : ℕ) → Told (gap_end place n)
 gap_end_told Blank n = tt
@@ -73,7 +74,7 @@ head_told bytes =
     and_told _ _ (gap_side_told bytes cols.next) (λ rows.
     and_told _ _ (greatest_told bytes rows.next) (λ start. tt))))
 
-picture_told : (bytes : List ℕ) (h : Head) → Told (picture bytes h)
+picture_told : (bytes : List ℕ) (h : Head) → Told (picture_behind bytes h)
 picture_told bytes h =
     either HasText (nat_lt (length bytes) (h.start + h.rows * h.cols * 3)) _ _ refl
     (either HasText (nat_lt (h.start + h.rows * h.cols * 3) (length bytes)) _ _ refl tt)

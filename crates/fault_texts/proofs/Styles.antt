@@ -24,7 +24,7 @@ use Rattle.style_objects.specs.declared.keys.Object.TheVariants as object
 use Rattle.style_objects.specs.Keys.{keys_of, opened_as}
 use Rattle.style_objects.specs.Kinds.{in_grammar, a_colour, a_scale, a_bound, an_opacity, a_width, a_text_to, any_text, a_mode, a_cap, a_number, filter_at, a_filter, is_true, an_else, list_or_none}
 use Rattle.style_objects.specs.Places.{at_map, at_style, at_rule, at_symbolizer, at_layer, at_raster}
-use Rattle.style_objects.specs.Tables.{white, gray, black, polygon_of, line_of, markers_of, raster_symbolizer_of, symbolizer_named, symbolizer_of, symbolizer_after, filters_of, rule_of, rule_after, style_of, style_after, style_name_of, layer_of, layer_after, raster_of, raster_after, map_of, style_in}
+use Rattle.style_objects.specs.Tables.{white, gray, black, polygon_of, line_symbolizer_of, markers_of, raster_symbolizer_of, symbolizer_named, symbolizer_of, symbolizer_after, filters_of, rule_of, rule_after, style_of, style_after, style_name_of, layer_of, layer_after, raster_of, raster_after, map_of, style_in}
 use Rattle.fault_texts.specs.StyleFaults.{style_text}
 use Rattle.fault_texts.specs.Told.{StylesAreTold}
 use Rattle.fault_texts.proofs.Steps.{OnFault, of_fault, step, either, checks, has, needs, may, opens, few, wholes, lists}
@@ -122,8 +122,8 @@ polygon_told at d =
     step HasText _ _ (may HasText gray (a_colour at) (get (codes "fill") d) (colour_told at)) (λ fill.
     step HasText _ _ (may HasText 1000 (an_opacity at) (get (codes "fill-opacity") d) (opacity_told at)) (λ opacity. tt)))
 
-line_told : (at : At) (d : Data) → Told (line_of at d)
-unfolding line_of
+line_told : (at : At) (d : Data) → Told (line_symbolizer_of at d)
+unfolding line_symbolizer_of
 line_told at d =
     step HasText _ _ (opened_told object.LineSymbolizer at d) (λ u.
     step HasText _ _ (may HasText black (a_colour at) (get (codes "stroke") d) (colour_told at)) (λ stroke.

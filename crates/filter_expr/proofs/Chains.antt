@@ -5,7 +5,7 @@ use Rattle.filter_expr.specs.declared.tokens.Token.{Token}
 use Rattle.filter_expr.specs.declared.faults.FilterFault.{FilterFault}
 use Rattle.filter_expr.specs.Trees.{Kind, Tree, joins}
 use Rattle.filter_expr.specs.Seen.{Part}
-use Rattle.filter_expr.specs.Places.{IsAt}
+use Rattle.filter_expr.proofs.Places.{IsAt}
 use Rattle.filter_expr.specs.Reading.{Step, got, failed, Reader, then_read, starts, first_token, with_front, turns, later, chain_after, chain_of}
 
 -- no more is left than so much, and a fault stands at the first of it

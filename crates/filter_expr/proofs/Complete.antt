@@ -9,7 +9,7 @@ use Rattle.plain_filters.specs.declared.CompareSign.{CompareSign}
 use Rattle.filter_expr.specs.Trees.{Kind, Tree, Terms, leaf, negation, negative, comparison, chain, parens, no_terms, term, or_chain, and_chain, sum_chain, product_chain, joins, is_leaf, is_huge, is_open, is_minus, is_not, is_compare, is_close, bare, bare_terms, nesting, nesting_terms, InRange, TermsInRange}
 use Rattle.filter_expr.specs.Seen.{Part, terms_of}
 use Rattle.filter_expr.specs.Grammar.{IsSpelled, AreSpelled, kind_strength, IsMany, Stands, StandTerms}
-use Rattle.filter_expr.specs.Reading.{Step, got, failed, Reader, then_read, starts, with_front, later, chained, chain_after, chain_of, Inner, or_in, and_in, not_in, compare_in, sum_in, product_in, unary_in, atom_in, within, compared, got_negation, got_negative, closed, sign_of}
+use Rattle.filter_expr.specs.Reading.{Step, got, failed, Reader, then_read, starts, with_front, later, chained, chain_after, chain_of, Inner, or_in, and_in, not_in, compare_in, sum_in, product_in, unary_in, atom_in, within_depth, compared, got_negation, got_negative, closed, sign_of}
 use Rattle.filter_expr.proofs.Chains.{later-stop, later-more}
 use Rattle.filter_expr.proofs.Rows.{row, part_row, part_shortens, strength_below, Stops, stops_up, close_stops, compare_stops, sign_stops, wrong}
 
@@ -86,20 +86,20 @@ chain_lift k part n e rest ts stop h =
     then_fine n n e e rest rest (part ts) (λ d us. chain_after k d (later k part us)) (λ x. x) (λ x. x) h
     (subst (λ r. Fine n e rest (chain_after k (bare e) r)) (sym (later-stop k part rest stop)) (refl, refl))
 
-lift : (l n : ℕ) (e : Tree) (us rest : List Spot) → l < 7 → Stands (suc l) e → IsSpelled e us → Stops l rest → Fine n e rest (row (suc l) (within n) (us ++ rest)) →
-    Fine n e rest (row l (within n) (us ++ rest))
+lift : (l n : ℕ) (e : Tree) (us rest : List Spot) → l < 7 → Stands (suc l) e → IsSpelled e us → Stops l rest → Fine n e rest (row (suc l) (within_depth n) (us ++ rest)) →
+    Fine n e rest (row l (within_depth n) (us ++ rest))
 unfolding or_in and_in not_in compare_in sum_in product_in unary_in
-lift zero n e us rest h s p stop f = chain_lift or_chain (and_in (within n)) n e rest (us ++ rest) (stop.chains or_chain (omega arith)) f
-lift (suc zero) n e us rest h s p stop f = chain_lift and_chain (not_in (within n)) n e rest (us ++ rest) (stop.chains and_chain (omega arith)) f
+lift zero n e us rest h s p stop f = chain_lift or_chain (and_in (within_depth n)) n e rest (us ++ rest) (stop.chains or_chain (omega arith)) f
+lift (suc zero) n e us rest h s p stop f = chain_lift and_chain (not_in (within_depth n)) n e rest (us ++ rest) (stop.chains and_chain (omega arith)) f
 lift (suc (suc zero)) n e us rest h s p stop f =
-    fine_if n e rest (starts is_not (us ++ rest)) false ((within n).not_from (us ++ rest)) (compare_in (within n) (us ++ rest)) (first_not e 3 us rest (omega arith) s p) f
+    fine_if n e rest (starts is_not (us ++ rest)) false ((within_depth n).not_from (us ++ rest)) (compare_in (within_depth n) (us ++ rest)) (first_not e 3 us rest (omega arith) s p) f
 lift (suc (suc (suc zero))) n e us rest h s p stop f =
-    then_fine n n e e rest rest (sum_in (within n) (us ++ rest)) (compared (within n)) (λ x. x) (λ x. x) f
+    then_fine n n e e rest rest (sum_in (within_depth n) (us ++ rest)) (compared (within_depth n)) (λ x. x) (λ x. x) f
     (fine_if n e rest (starts is_compare rest) false _ (got (bare e) rest) (stop.compares (omega arith)) (refl, refl))
-lift (suc (suc (suc (suc zero)))) n e us rest h s p stop f = chain_lift sum_chain (product_in (within n)) n e rest (us ++ rest) (stop.chains sum_chain (omega arith)) f
-lift (suc (suc (suc (suc (suc zero))))) n e us rest h s p stop f = chain_lift product_chain (unary_in (within n)) n e rest (us ++ rest) (stop.chains product_chain (omega arith)) f
+lift (suc (suc (suc (suc zero)))) n e us rest h s p stop f = chain_lift sum_chain (product_in (within_depth n)) n e rest (us ++ rest) (stop.chains sum_chain (omega arith)) f
+lift (suc (suc (suc (suc (suc zero))))) n e us rest h s p stop f = chain_lift product_chain (unary_in (within_depth n)) n e rest (us ++ rest) (stop.chains product_chain (omega arith)) f
 lift (suc (suc (suc (suc (suc (suc zero)))))) n e us rest h s p stop f =
-    fine_if n e rest (starts is_minus (us ++ rest)) false ((within n).minus_from (us ++ rest)) (atom_in (within n) (us ++ rest)) (first_minus e us rest s p) f
+    fine_if n e rest (starts is_minus (us ++ rest)) false ((within_depth n).minus_from (us ++ rest)) (atom_in (within_depth n) (us ++ rest)) (first_minus e us rest s p) f
 lift (suc (suc (suc (suc (suc (suc (suc l))))))) n e us rest h s p stop f = absurd (omega (arith, h))
 
 -- a tree stands also where less is asked for
@@ -112,94 +112,94 @@ stands_down (chain k e ts) l m h s = (omega (arith, h, s.0), s.1, s.2, s.3)
 stands_down (parens e) l m h s = s
 
 -- some rows further down
-down : (d l n : ℕ) (e : Tree) (us rest : List Spot) → l + d ≤ 7 → Stands (l + d) e → IsSpelled e us → Stops l rest → Fine n e rest (row (l + d) (within n) (us ++ rest)) →
-    Fine n e rest (row l (within n) (us ++ rest))
-down zero l n e us rest h s p stop f = subst (λ m. Fine n e rest (row m (within n) (us ++ rest))) (add-zero l) f
+down : (d l n : ℕ) (e : Tree) (us rest : List Spot) → l + d ≤ 7 → Stands (l + d) e → IsSpelled e us → Stops l rest → Fine n e rest (row (l + d) (within_depth n) (us ++ rest)) →
+    Fine n e rest (row l (within_depth n) (us ++ rest))
+down zero l n e us rest h s p stop f = subst (λ m. Fine n e rest (row m (within_depth n) (us ++ rest))) (add-zero l) f
 down (suc d) l n e us rest h s p stop f =
     let same : l + suc d ≡ suc l + d = omega arith in
     let stands : Stands (suc l + d) e = subst (λ m. Stands m e) same s in
     lift l n e us rest (omega (arith, h)) (stands_down e (suc l + d) (suc l) (omega arith) stands) p stop
     (down d (suc l) n e us rest (omega (arith, h)) stands p (stops_up l (suc l) rest (omega arith) stop)
-    (subst (λ m. Fine n e rest (row m (within n) (us ++ rest))) same f))
+    (subst (λ m. Fine n e rest (row m (within_depth n) (us ++ rest))) same f))
 
 -- from the tree's own row to any row below
 from_own : (e : Tree) (s l n : ℕ) (us rest : List Spot) → l ≤ s → s ≤ 7 → Stands s e → IsSpelled e us → Stops l rest →
-    Fine n e rest (row s (within n) (us ++ rest)) → Fine n e rest (row l (within n) (us ++ rest))
+    Fine n e rest (row s (within_depth n) (us ++ rest)) → Fine n e rest (row l (within_depth n) (us ++ rest))
 from_own e s l n us rest h g stands p stop f =
     let same : s ≡ l + (s - l) = omega (arith, h) in
-    down (s - l) l n e us rest (omega (arith, h, g)) (subst (λ m. Stands m e) same stands) p stop (subst (λ m. Fine n e rest (row m (within n) (us ++ rest))) same f)
+    down (s - l) l n e us rest (omega (arith, h, g)) (subst (λ m. Stands m e) same stands) p stop (subst (λ m. Fine n e rest (row m (within_depth n) (us ++ rest))) same f)
 
 -- ---- each node at its own row
 
-own_leaf : (t : Token) (n : ℕ) (us rest : List Spot) → IsTrue (is_leaf t || is_huge t) → IsSpelled (leaf t) us → Fine n (leaf t) rest (row 7 (within n) (us ++ rest))
+own_leaf : (t : Token) (n : ℕ) (us rest : List Spot) → IsTrue (is_leaf t || is_huge t) → IsSpelled (leaf t) us → Fine n (leaf t) rest (row 7 (within_depth n) (us ++ rest))
 unfolding atom_in
-own_leaf t n us rest h p = subst (λ vs. Fine n (leaf t) rest (atom_in (within n) (vs ++ rest))) (sym p.1) (by (is_leaf p.0.token) refl)
+own_leaf t n us rest h p = subst (λ vs. Fine n (leaf t) rest (atom_in (within_depth n) (vs ++ rest))) (sym p.1) (by (is_leaf p.0.token) refl)
   where
     huge : is_leaf t ≡ false → is_huge t ≡ true
     huge e = sym (ap (λ b. b || is_huge t) e) ∙ h
 
     by : (b : Bool) → is_leaf p.0.token ≡ b →
         Fine n (leaf t) rest (if b then got (leaf p.0.token) rest else (if is_huge p.0.token then failed (NumberRange p.0.offset) (p.0 ∷ rest)
-        else (if is_open p.0.token then (within n).open_from (p.0 ∷ rest) else failed (Bad p.0.offset) (p.0 ∷ rest))))
+        else (if is_open p.0.token then (within_depth n).open_from (p.0 ∷ rest) else failed (Bad p.0.offset) (p.0 ∷ rest))))
     by true e = (ap leaf p.2, refl)
     by false e =
         fine_if n (leaf t) rest (is_huge p.0.token) true (failed (NumberRange p.0.offset) (p.0 ∷ rest)) _ (ap is_huge p.2 ∙ huge (sym (ap is_leaf p.2) ∙ e))
         (λ r. wrong (sym (sym (ap is_leaf p.2) ∙ e) ∙ r))
 
 own_parens : (e : Tree) (n : ℕ) (us rest : List Spot) → IsSpelled (parens e) us →
-    ((m : ℕ) (vs more : List Spot) → IsSpelled e vs → Stops 0 more → Fine m e more (or_in (within m) (vs ++ more))) → Fine n (parens e) rest (row 7 (within n) (us ++ rest))
-unfolding atom_in within
-own_parens e n us rest p ih = subst (λ vs. Fine n (parens e) rest (atom_in (within n) (vs ++ rest))) (sym p.3) opened
+    ((m : ℕ) (vs more : List Spot) → IsSpelled e vs → Stops 0 more → Fine m e more (or_in (within_depth m) (vs ++ more))) → Fine n (parens e) rest (row 7 (within_depth n) (us ++ rest))
+unfolding atom_in within_depth
+own_parens e n us rest p ih = subst (λ vs. Fine n (parens e) rest (atom_in (within_depth n) (vs ++ rest))) (sym p.3) opened
   where
-    by : (m : ℕ) → Fine m (parens e) rest ((within m).open_from (p.0 ∷ ((p.1 ++ p.2 ∷ []) ++ rest)))
+    by : (m : ℕ) → Fine m (parens e) rest ((within_depth m).open_from (p.0 ∷ ((p.1 ++ p.2 ∷ []) ++ rest)))
     by zero = omega arith
     by (suc m) =
-        subst (λ ts. Fine (suc m) (parens e) rest (then_read (or_in (within m) ts) closed)) (sym (append_assoc p.1 (p.2 ∷ []) rest))
-        (then_fine m (suc m) e (parens e) (p.2 ∷ rest) rest (or_in (within m) (p.1 ++ p.2 ∷ rest)) closed (λ x. x) (λ x. omega (arith, x))
+        subst (λ ts. Fine (suc m) (parens e) rest (then_read (or_in (within_depth m) ts) closed)) (sym (append_assoc p.1 (p.2 ∷ []) rest))
+        (then_fine m (suc m) e (parens e) (p.2 ∷ rest) rest (or_in (within_depth m) (p.1 ++ p.2 ∷ rest)) closed (λ x. x) (λ x. omega (arith, x))
         (ih m p.1 (p.2 ∷ rest) p.6 (close_stops p.2 rest p.5))
         (fine_if (suc m) (parens e) rest (is_close p.2.token) true (got (bare e) rest) _ (ap is_close p.5) (refl, refl)))
 
-    opened : Fine n (parens e) rest (atom_in (within n) ((p.0 ∷ (p.1 ++ p.2 ∷ [])) ++ rest))
+    opened : Fine n (parens e) rest (atom_in (within_depth n) ((p.0 ∷ (p.1 ++ p.2 ∷ [])) ++ rest))
     opened =
         fine_if n (parens e) rest (is_leaf p.0.token) false _ _ (ap is_leaf p.4)
         (fine_if n (parens e) rest (is_huge p.0.token) false _ _ (ap is_huge p.4)
         (fine_if n (parens e) rest (is_open p.0.token) true _ _ (ap is_open p.4) (by n)))
 
 own_negation : (e : Tree) (n : ℕ) (us rest : List Spot) → IsSpelled (negation e) us →
-    ((m : ℕ) (vs : List Spot) → IsSpelled e vs → Fine m e rest (not_in (within m) (vs ++ rest))) → Fine n (negation e) rest (row 2 (within n) (us ++ rest))
-unfolding not_in within
+    ((m : ℕ) (vs : List Spot) → IsSpelled e vs → Fine m e rest (not_in (within_depth m) (vs ++ rest))) → Fine n (negation e) rest (row 2 (within_depth n) (us ++ rest))
+unfolding not_in within_depth
 own_negation e n us rest p ih =
-    subst (λ vs. Fine n (negation e) rest (not_in (within n) (vs ++ rest))) (sym p.2)
+    subst (λ vs. Fine n (negation e) rest (not_in (within_depth n) (vs ++ rest))) (sym p.2)
     (fine_if n (negation e) rest (is_not p.0.token) true _ _ (ap is_not p.3) (by n))
   where
-    by : (m : ℕ) → Fine m (negation e) rest ((within m).not_from (p.0 ∷ (p.1 ++ rest)))
+    by : (m : ℕ) → Fine m (negation e) rest ((within_depth m).not_from (p.0 ∷ (p.1 ++ rest)))
     by zero = omega arith
     by (suc m) =
-        then_fine m (suc m) e (negation e) rest rest (not_in (within m) (p.1 ++ rest)) got_negation (λ x. x) (λ x. omega (arith, x)) (ih m p.1 p.4) (refl, refl)
+        then_fine m (suc m) e (negation e) rest rest (not_in (within_depth m) (p.1 ++ rest)) got_negation (λ x. x) (λ x. omega (arith, x)) (ih m p.1 p.4) (refl, refl)
 
 own_negative : (e : Tree) (n : ℕ) (us rest : List Spot) → IsSpelled (negative e) us →
-    ((m : ℕ) (vs : List Spot) → IsSpelled e vs → Fine m e rest (unary_in (within m) (vs ++ rest))) → Fine n (negative e) rest (row 6 (within n) (us ++ rest))
-unfolding unary_in within
+    ((m : ℕ) (vs : List Spot) → IsSpelled e vs → Fine m e rest (unary_in (within_depth m) (vs ++ rest))) → Fine n (negative e) rest (row 6 (within_depth n) (us ++ rest))
+unfolding unary_in within_depth
 own_negative e n us rest p ih =
-    subst (λ vs. Fine n (negative e) rest (unary_in (within n) (vs ++ rest))) (sym p.2)
+    subst (λ vs. Fine n (negative e) rest (unary_in (within_depth n) (vs ++ rest))) (sym p.2)
     (fine_if n (negative e) rest (is_minus p.0.token) true _ _ (ap is_minus p.3) (by n))
   where
-    by : (m : ℕ) → Fine m (negative e) rest ((within m).minus_from (p.0 ∷ (p.1 ++ rest)))
+    by : (m : ℕ) → Fine m (negative e) rest ((within_depth m).minus_from (p.0 ∷ (p.1 ++ rest)))
     by zero = omega arith
     by (suc m) =
-        then_fine m (suc m) e (negative e) rest rest (unary_in (within m) (p.1 ++ rest)) got_negative (λ x. x) (λ x. omega (arith, x)) (ih m p.1 p.4) (refl, refl)
+        then_fine m (suc m) e (negative e) rest rest (unary_in (within_depth m) (p.1 ++ rest)) got_negative (λ x. x) (λ x. omega (arith, x)) (ih m p.1 p.4) (refl, refl)
 
 own_comparison : (a : Tree) (c : CompareSign) (b : Tree) (n : ℕ) (us rest : List Spot) → IsSpelled (comparison a c b) us → Stops 3 rest →
-    ((vs more : List Spot) → IsSpelled a vs → Stops 4 more → Fine n a more (sum_in (within n) (vs ++ more))) →
-    ((vs more : List Spot) → IsSpelled b vs → Stops 4 more → Fine n b more (sum_in (within n) (vs ++ more))) → Fine n (comparison a c b) rest (row 3 (within n) (us ++ rest))
+    ((vs more : List Spot) → IsSpelled a vs → Stops 4 more → Fine n a more (sum_in (within_depth n) (vs ++ more))) →
+    ((vs more : List Spot) → IsSpelled b vs → Stops 4 more → Fine n b more (sum_in (within_depth n) (vs ++ more))) → Fine n (comparison a c b) rest (row 3 (within_depth n) (us ++ rest))
 unfolding compare_in
 own_comparison a c b n us rest p stop iha ihb =
-    subst (λ vs. Fine n (comparison a c b) rest (compare_in (within n) (vs ++ rest))) (sym p.3)
-    (subst (λ vs. Fine n (comparison a c b) rest (compare_in (within n) vs)) (sym (append_assoc p.0 (p.1 ∷ p.2) rest))
-    (then_fine n n a (comparison a c b) (p.1 ∷ (p.2 ++ rest)) rest (sum_in (within n) (p.0 ++ p.1 ∷ (p.2 ++ rest))) (compared (within n)) (λ x. x.0) (λ x. omega (arith, x))
+    subst (λ vs. Fine n (comparison a c b) rest (compare_in (within_depth n) (vs ++ rest))) (sym p.3)
+    (subst (λ vs. Fine n (comparison a c b) rest (compare_in (within_depth n) vs)) (sym (append_assoc p.0 (p.1 ∷ p.2) rest))
+    (then_fine n n a (comparison a c b) (p.1 ∷ (p.2 ++ rest)) rest (sum_in (within_depth n) (p.0 ++ p.1 ∷ (p.2 ++ rest))) (compared (within_depth n)) (λ x. x.0) (λ x. omega (arith, x))
     (iha p.0 (p.1 ∷ (p.2 ++ rest)) p.5 (compare_stops p.1 (p.2 ++ rest) (ap is_compare p.4)))
     (fine_if n (comparison a c b) rest (is_compare p.1.token) true _ _ (ap is_compare p.4)
-    (then_fine n n b (comparison a c b) rest rest (sum_in (within n) (p.2 ++ rest)) (λ d vs. got (comparison (bare a) (sign_of p.1.token) d) vs) (λ x. x.1) (λ x. omega (arith, x))
+    (then_fine n n b (comparison a c b) rest rest (sum_in (within_depth n) (p.2 ++ rest)) (λ d vs. got (comparison (bare a) (sign_of p.1.token) d) vs) (λ x. x.1) (λ x. omega (arith, x))
     (ihb p.2 rest p.6 (stops_up 3 4 rest (omega arith) stop))
     (ap (λ t. comparison (bare a) (sign_of t) (bare b)) p.4, refl)))))
 
@@ -230,20 +230,20 @@ terms_stop k no_terms ws rest s p stop = subst (λ vs. Stops (kind_strength k + 
 terms_stop k (term t e ps) ws rest s p stop =
     subst (λ vs. Stops (kind_strength k + 1) (vs ++ rest)) (sym p.3) (sign_stops k p.0 ((p.1 ++ p.2) ++ rest) (ap (joins k) p.4 ∙ s.0))
 
-own_terms_none : (k : Kind) (n : ℕ) (ws rest : List Spot) → ws ≡ [] → Stops (kind_strength k) rest → FineTerms n no_terms rest (later k (part_row k (within n)) (ws ++ rest))
+own_terms_none : (k : Kind) (n : ℕ) (ws rest : List Spot) → ws ≡ [] → Stops (kind_strength k) rest → FineTerms n no_terms rest (later k (part_row k (within_depth n)) (ws ++ rest))
 own_terms_none k n ws rest p stop =
-    subst (λ vs. FineTerms n no_terms rest (later k (part_row k (within n)) (vs ++ rest))) (sym p)
-    (subst (λ r. FineTerms n no_terms rest r) (sym (later-stop k (part_row k (within n)) rest (stop.chains k (omega arith)))) (refl, refl))
+    subst (λ vs. FineTerms n no_terms rest (later k (part_row k (within_depth n)) (vs ++ rest))) (sym p)
+    (subst (λ r. FineTerms n no_terms rest r) (sym (later-stop k (part_row k (within_depth n)) rest (stop.chains k (omega arith)))) (refl, refl))
 
 own_terms_some : (t : Token) (e : Tree) (qs : Terms) (k : Kind) (n : ℕ) (ws rest : List Spot) → StandTerms k (term t e qs) → AreSpelled (term t e qs) ws → Stops (kind_strength k) rest →
-    ((vs more : List Spot) → IsSpelled e vs → Stops (kind_strength k + 1) more → Fine n e more (part_row k (within n) (vs ++ more))) →
-    ((vs : List Spot) → AreSpelled qs vs → FineTerms n qs rest (later k (part_row k (within n)) (vs ++ rest))) →
-    FineTerms n (term t e qs) rest (later k (part_row k (within n)) (ws ++ rest))
+    ((vs more : List Spot) → IsSpelled e vs → Stops (kind_strength k + 1) more → Fine n e more (part_row k (within_depth n) (vs ++ more))) →
+    ((vs : List Spot) → AreSpelled qs vs → FineTerms n qs rest (later k (part_row k (within_depth n)) (vs ++ rest))) →
+    FineTerms n (term t e qs) rest (later k (part_row k (within_depth n)) (ws ++ rest))
 own_terms_some t e qs k n ws rest s p stop ih more =
-    subst (λ vs. FineTerms n (term t e qs) rest (later k (part_row k (within n)) (vs ++ rest))) (sym p.3)
-    (subst (λ r. FineTerms n (term t e qs) rest r) (sym (later-more k (part_row k (within n)) (p.0 ∷ ((p.1 ++ p.2) ++ rest)) (part_shortens k n) (ap (joins k) p.4 ∙ s.0)))
-    (then_terms n p.0 t e qs (p.2 ++ rest) rest (part_row k (within n) ((p.1 ++ p.2) ++ rest)) (later k (part_row k (within n))) p.4
-    (subst (λ vs. Fine n e (p.2 ++ rest) (part_row k (within n) vs)) (sym (append_assoc p.1 p.2 rest))
+    subst (λ vs. FineTerms n (term t e qs) rest (later k (part_row k (within_depth n)) (vs ++ rest))) (sym p.3)
+    (subst (λ r. FineTerms n (term t e qs) rest r) (sym (later-more k (part_row k (within_depth n)) (p.0 ∷ ((p.1 ++ p.2) ++ rest)) (part_shortens k n) (ap (joins k) p.4 ∙ s.0)))
+    (then_terms n p.0 t e qs (p.2 ++ rest) rest (part_row k (within_depth n) ((p.1 ++ p.2) ++ rest)) (later k (part_row k (within_depth n))) p.4
+    (subst (λ vs. Fine n e (p.2 ++ rest) (part_row k (within_depth n) vs)) (sym (append_assoc p.1 p.2 rest))
     (ih p.1 (p.2 ++ rest) p.5 (terms_stop k qs p.2 rest s.2 p.6 stop)))
     (more p.2 p.6)))
 
@@ -260,16 +260,16 @@ after_fine k n e ps rest (failed (TooDeep o) ts) m h = omega (arith, h)
 after_fine k n e ps rest (failed NoMemory ts) m h = h
 
 own_chain : (k : Kind) (e : Tree) (ps : Terms) (n : ℕ) (us rest : List Spot) → StandTerms k ps → IsMany ps → IsSpelled (chain k e ps) us → Stops (kind_strength k) rest →
-    ((vs more : List Spot) → IsSpelled e vs → Stops (kind_strength k + 1) more → Fine n e more (part_row k (within n) (vs ++ more))) →
-    ((ws : List Spot) → AreSpelled ps ws → FineTerms n ps rest (later k (part_row k (within n)) (ws ++ rest))) →
-    Fine n (chain k e ps) rest (chain_of k (part_row k (within n)) (us ++ rest))
+    ((vs more : List Spot) → IsSpelled e vs → Stops (kind_strength k + 1) more → Fine n e more (part_row k (within_depth n) (vs ++ more))) →
+    ((ws : List Spot) → AreSpelled ps ws → FineTerms n ps rest (later k (part_row k (within_depth n)) (ws ++ rest))) →
+    Fine n (chain k e ps) rest (chain_of k (part_row k (within_depth n)) (us ++ rest))
 unfolding chain_of
 own_chain k e ps n us rest s m p stop ih more =
-    subst (λ vs. Fine n (chain k e ps) rest (chain_of k (part_row k (within n)) (vs ++ rest))) (sym p.2)
-    (subst (λ vs. Fine n (chain k e ps) rest (chain_of k (part_row k (within n)) vs)) (sym (append_assoc p.0 p.1 rest))
-    (then_fine n n e (chain k e ps) (p.1 ++ rest) rest (part_row k (within n) (p.0 ++ (p.1 ++ rest))) (λ d us. chain_after k d (later k (part_row k (within n)) us)) (λ x. x.0) (λ x. omega (arith, x))
+    subst (λ vs. Fine n (chain k e ps) rest (chain_of k (part_row k (within_depth n)) (vs ++ rest))) (sym p.2)
+    (subst (λ vs. Fine n (chain k e ps) rest (chain_of k (part_row k (within_depth n)) vs)) (sym (append_assoc p.0 p.1 rest))
+    (then_fine n n e (chain k e ps) (p.1 ++ rest) rest (part_row k (within_depth n) (p.0 ++ (p.1 ++ rest))) (λ d us. chain_after k d (later k (part_row k (within_depth n)) us)) (λ x. x.0) (λ x. omega (arith, x))
     (ih p.0 (p.1 ++ rest) p.3 (terms_stop k ps p.1 rest s p.4 stop))
-    (after_fine k n e ps rest (later k (part_row k (within n)) (p.1 ++ rest)) m (more p.1 p.4))))
+    (after_fine k n e ps rest (later k (part_row k (within_depth n)) (p.1 ++ rest)) m (more p.1 p.4))))
 
 part_is_row : (k : Kind) (i : Inner) → part_row k i ≡ row (kind_strength k + 1) i
 part_is_row or_chain i = refl
@@ -287,7 +287,7 @@ chain_is_row product_chain i = refl
 -- ---- all trees
 
 mutual
-  pub complete : (e : Tree) (n l : ℕ) (us rest : List Spot) → l ≤ 7 → Stands l e → IsSpelled e us → Stops l rest → Fine n e rest (row l (within n) (us ++ rest))
+  pub complete : (e : Tree) (n l : ℕ) (us rest : List Spot) → l ≤ 7 → Stands l e → IsSpelled e us → Stops l rest → Fine n e rest (row l (within_depth n) (us ++ rest))
   complete (leaf t) n l us rest h s p stop = from_own (leaf t) 7 l n us rest h (omega arith) s p stop (own_leaf t n us rest s p)
   complete (negation e) n l us rest h s p stop =
       from_own (negation e) 2 l n us rest s.0 (omega arith) (omega arith, s.1) p stop
@@ -301,9 +301,9 @@ mutual
       (λ vs more q g. complete a n 4 vs more (omega arith) s.1 q g) (λ vs more q g. complete b n 4 vs more (omega arith) s.2 q g))
   complete (chain k e ps) n l us rest h s p stop =
       from_own (chain k e ps) (kind_strength k) l n us rest s.0 (omega (arith, strength_below k)) (omega arith, s.1, s.2, s.3) p stop
-      (subst (λ (r : Reader Tree). Fine n (chain k e ps) rest (r (us ++ rest))) (chain_is_row k (within n))
+      (subst (λ (r : Reader Tree). Fine n (chain k e ps) rest (r (us ++ rest))) (chain_is_row k (within_depth n))
       (own_chain k e ps n us rest s.3 s.2 p (stops_up l (kind_strength k) rest s.0 stop)
-      (λ vs more q g. subst (λ (r : Reader Tree). Fine n e more (r (vs ++ more))) (sym (part_is_row k (within n)))
+      (λ vs more q g. subst (λ (r : Reader Tree). Fine n e more (r (vs ++ more))) (sym (part_is_row k (within_depth n)))
       (complete e n (kind_strength k + 1) vs more (omega (arith, strength_below k)) s.1 q g))
       (λ ws q. complete_terms ps k n ws rest s.3 q (stops_up l (kind_strength k) rest s.0 stop))))
   complete (parens e) n l us rest h s p stop =
@@ -311,11 +311,11 @@ mutual
       (own_parens e n us rest p (λ m vs more q g. complete e m 0 vs more (omega arith) s q g))
 
   complete_terms : (ps : Terms) (k : Kind) (n : ℕ) (ws rest : List Spot) → StandTerms k ps → AreSpelled ps ws → Stops (kind_strength k) rest →
-      FineTerms n ps rest (later k (part_row k (within n)) (ws ++ rest))
+      FineTerms n ps rest (later k (part_row k (within_depth n)) (ws ++ rest))
   complete_terms no_terms k n ws rest s p stop =
       own_terms_none k n ws rest p stop
   complete_terms (term t e qs) k n ws rest s p stop =
       own_terms_some t e qs k n ws rest s p stop
-      (λ vs more q g. subst (λ (r : Reader Tree). Fine n e more (r (vs ++ more))) (sym (part_is_row k (within n)))
+      (λ vs more q g. subst (λ (r : Reader Tree). Fine n e more (r (vs ++ more))) (sym (part_is_row k (within_depth n)))
       (complete e n (kind_strength k + 1) vs more (omega (arith, strength_below k)) s.1 q g))
       (λ vs q. complete_terms qs k n vs rest s.2 q stop)

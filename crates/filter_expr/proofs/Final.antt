@@ -9,8 +9,8 @@ use Rattle.filter_expr.specs.declared.faults.FilterFault.TheVariants.{Bad, Numbe
 use Rattle.filter_expr.specs.Trees.{Kind, Tree, Terms, leaf, negation, negative, comparison, chain, parens, no_terms, term, joins, is_leaf, is_huge, is_end, is_unknown, bare, nesting, InRange, or_chain, and_chain, sum_chain, product_chain}
 use Rattle.filter_expr.specs.Grammar.{IsSpelled, AreSpelled, kind_strength, Stands, StandTerms}
 use Rattle.filter_expr.specs.Filters.{IsText, IsFilter, IsFault, Begins, GoesOn, StandsAt, Passes, HasCause}
-use Rattle.filter_expr.specs.Places.{IsAt}
-use Rattle.filter_expr.specs.Reading.{Step, got, failed, then_read, or_in, within, ended, whole}
+use Rattle.filter_expr.proofs.Places.{IsAt}
+use Rattle.filter_expr.specs.Reading.{Step, got, failed, then_read, or_in, within_depth, ended, whole_filter}
 use Rattle.filter_expr.proofs.Chains.{Leaves}
 use Rattle.filter_expr.proofs.Levels.{whole_shortens}
 use Rattle.filter_expr.proofs.Complete.{Fine, complete}
@@ -93,9 +93,9 @@ abbrev pub Reads : Tree → Spot → Step Tree → Type 0
 Reads e z (got d rest) = (d ≡ bare e) × (rest ≡ z ∷ [])
 Reads e z (failed f rest) = Passes e f
 
-pub reads_whole : (e : Tree) (us : List Spot) (z : Spot) → Stands 0 e → z.token ≡ token.End → IsSpelled e us → Reads e z (whole (us ++ z ∷ []))
-unfolding whole
-reads_whole e us z s q p = by (or_in (within 64) (us ++ z ∷ [])) (complete e 64 0 us (z ∷ []) (omega arith) s p (end_stops z [] q))
+pub reads_whole : (e : Tree) (us : List Spot) (z : Spot) → Stands 0 e → z.token ≡ token.End → IsSpelled e us → Reads e z (whole_filter (us ++ z ∷ []))
+unfolding whole_filter
+reads_whole e us z s q p = by (or_in (within_depth 64) (us ++ z ∷ [])) (complete e 64 0 us (z ∷ []) (omega arith) s p (end_stops z [] q))
   where
     at_end : (d : Tree) → d ≡ bare e → (rest : List Spot) → rest ≡ z ∷ [] → Reads e z (ended d rest)
     at_end d h rest g =
@@ -115,11 +115,11 @@ reads_failed e z f rest (got d us) q h = absurd (cc)
 reads_failed e z f rest (failed g us) q h = let same : g ≡ f = cc in subst (Passes e) same h
 
 -- no tree goes on with the tokens at which the reading stops, but for those that pass the fault
-none_failed : (ts : List Spot) (f : FilterFault) (rest : List Spot) → whole ts ≡ failed f rest → (used : List Spot) (here : Spot) (after : List Spot) →
-    ts ≡ used ++ rest → rest ≡ here ∷ after → At whole ts (whole ts) → (e : Tree) (b : List Spot) → Stands 0 e → IsText e (used ++ here ∷ b) → Passes e f
+none_failed : (ts : List Spot) (f : FilterFault) (rest : List Spot) → whole_filter ts ≡ failed f rest → (used : List Spot) (here : Spot) (after : List Spot) →
+    ts ≡ used ++ rest → rest ≡ here ∷ after → At whole_filter ts (whole_filter ts) → (e : Tree) (b : List Spot) → Stands 0 e → IsText e (used ++ here ∷ b) → Passes e f
 none_failed ts f rest q used here after split next loc e b s p =
-    reads_failed e p.1 f (here ∷ b) (whole (p.0 ++ p.1 ∷ []))
-    (ap whole (sym p.2) ∙ ap (λ l. whole (l ++ here ∷ b)) (sym same) ∙ loc.again here after b (ap rest_of q ∙ next) ∙ ap (with_rest (here ∷ b)) q)
+    reads_failed e p.1 f (here ∷ b) (whole_filter (p.0 ++ p.1 ∷ []))
+    (ap whole_filter (sym p.2) ∙ ap (λ l. whole_filter (l ++ here ∷ b)) (sym same) ∙ loc.again here after b (ap rest_of q ∙ next) ∙ ap (with_rest (here ∷ b)) q)
     (reads_whole e p.0 p.1 s p.3 p.4)
   where
     same : loc.used ≡ used
@@ -157,7 +157,7 @@ begins_of : (us : List Spot) → Begun 64 0 us → Begins us
 begins_of us b = record { more = b.more; tree = b.tree; stands = b.stands; spelled = b.spelled; range = b.range; deep = b.deep }
 
 -- a fault, by what stands before it and the tokens from it on
-fault_of : (ts : List Spot) → Stopped ts → (f : FilterFault) (rest us : List Spot) → whole ts ≡ failed f rest → ts ≡ us ++ rest → Begun 64 0 us → Cause 0 f us rest → IsFault ts f
+fault_of : (ts : List Spot) → Stopped ts → (f : FilterFault) (rest us : List Spot) → whole_filter ts ≡ failed f rest → ts ≡ us ++ rest → Begun 64 0 us → Cause 0 f us rest → IsFault ts f
 fault_of ts stop f [] us q split b c =
     absurd (stopped_not_all ts stop (subst NoStop (sym (split ∙ append-nil us)) (no_stop_first us b.more (tree_no_stop b.tree 0 (us ++ b.more) b.stands b.spelled))))
 fault_of ts stop f (here ∷ after) us q split b c = record {
@@ -165,7 +165,7 @@ fault_of ts stop f (here ∷ after) us q split b c = record {
   here = here;
   after = after;
   split = split;
-  place = stands_at f here after (at_of (length ts) f (here ∷ after) (whole ts) q (whole_shortens.leaves ts));
+  place = stands_at f here after (at_of (length ts) f (here ∷ after) (whole_filter ts) q (whole_shortens.leaves ts));
   begins = begins_of us b;
   cause = has_cause f us here after c;
   none = none_failed ts f (here ∷ after) q us here after split refl (whole_local.here ts);
@@ -174,11 +174,11 @@ fault_of ts stop f (here ∷ after) us q split b c = record {
 begun_of : (d : Tree) (us : List Spot) → Whole 64 0 d us → Begun 64 0 us
 begun_of d us w = record { more = []; tree = w.tree; stands = w.stands; spelled = subst (IsSpelled w.tree) (sym (append-nil us)) w.spelled; range = w.range; deep = w.deep }
 
-pub right : (ts : List Spot) → Stopped ts → IsAnswer ts (whole ts)
-unfolding whole
-right ts stop = subst (IsAnswer ts) refl (by (or_in (within 64) ts) refl (sound_or 64 (within 64) (within_sound 64) ts))
+pub right : (ts : List Spot) → Stopped ts → IsAnswer ts (whole_filter ts)
+unfolding whole_filter
+right ts stop = subst (IsAnswer ts) refl (by (or_in (within_depth 64) ts) refl (sound_or 64 (within_depth 64) (within_sound 64) ts))
   where
-    at_end : (d : Tree) (us rest : List Spot) → or_in (within 64) ts ≡ got d rest → ts ≡ us ++ rest → Whole 64 0 d us → IsAnswer ts (ended d rest)
+    at_end : (d : Tree) (us rest : List Spot) → or_in (within_depth 64) ts ≡ got d rest → ts ≡ us ++ rest → Whole 64 0 d us → IsAnswer ts (ended d rest)
     at_end d us [] q split w = fault_of ts stop (Bad 0) [] us (ap (λ r. then_read r ended) q) split (begun_of d us w) tt
     at_end d us (z ∷ more) q split w = last (is_end z.token) refl
       where
@@ -195,7 +195,7 @@ right ts stop = subst (IsAnswer ts) refl (by (or_in (within 64) ts) refl (sound_
             fault_of ts stop (Bad z.offset) (z ∷ more) us
             (ap (λ r. then_read r ended) q ∙ ap (λ b. if b then got d (z ∷ more) else failed (Bad z.offset) (z ∷ more)) e) split (begun_of d us w) tt
 
-    by : (r : Step Tree) → or_in (within 64) ts ≡ r → Outcome 64 0 ts r → IsAnswer ts (then_read r ended)
+    by : (r : Step Tree) → or_in (within_depth 64) ts ≡ r → Outcome 64 0 ts r → IsAnswer ts (then_read r ended)
     by (got d rest) q o = at_end d o.0 rest q o.1 o.2
     by (failed f rest) q o = fault_of ts stop f rest o.0 (ap (λ r. then_read r ended) q) o.1 o.2 o.3
 

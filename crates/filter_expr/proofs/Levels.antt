@@ -5,7 +5,7 @@ use Rattle.filter_expr.specs.declared.faults.FilterFault.{FilterFault}
 use Rattle.filter_expr.specs.declared.faults.FilterFault.TheVariants.{Bad, NumberRange}
 use Rattle.filter_expr.specs.Trees.{Kind, Tree, leaf, comparison, joins, or_chain, and_chain, sum_chain, product_chain, is_leaf, is_huge, is_open, is_close, is_minus, is_not, is_compare, is_end}
 use Rattle.filter_expr.specs.Seen.{Part}
-use Rattle.filter_expr.specs.Reading.{Step, got, failed, Reader, then_read, with_front, turns, later, chain_after, chain_of, Inner, atom_in, unary_in, product_in, sum_in, compare_in, not_in, and_in, or_in, within, closed, ended, whole, starts, first_token, place, sign_of, compared, got_negation, got_negative}
+use Rattle.filter_expr.specs.Reading.{Step, got, failed, Reader, then_read, with_front, turns, later, chain_after, chain_of, Inner, atom_in, unary_in, product_in, sum_in, compare_in, not_in, and_in, or_in, within_depth, closed, ended, whole_filter, starts, first_token, place, sign_of, compared, got_negation, got_negative}
 use Rattle.filter_expr.proofs.Chains.{Leaves, Shortens}
 
 abbrev fault : FilterFault → List Spot → Step Tree
@@ -116,8 +116,8 @@ module _ (i : Inner) (short : ShortensIn i) where
   unfolding or_in
   or_shortens = chain_shortens or_chain (and_in i) and_shortens
 
-pub within_shortens : (n : ℕ) → ShortensIn (within n)
-unfolding within
+pub within_shortens : (n : ℕ) → ShortensIn (within_depth n)
+unfolding within_depth
 within_shortens zero = record {
   not_from = record { leaves = λ ts. (refl_le (length ts), refl) };
   minus_from = record { leaves = λ ts. (refl_le (length ts), refl) };
@@ -125,23 +125,23 @@ within_shortens zero = record {
 }
 within_shortens (suc n) = record {
   not_from = record {
-    leaves = λ ts. then_leaves (length ts) (not_in (within n) (drop 1 ts)) got_negation
-        (weaken (length (drop 1 ts)) (length ts) (not_in (within n) (drop 1 ts)) (drop_one ts) ((not_shortens (within n) (within_shortens n)).leaves (drop 1 ts))) (λ e us h. h);
+    leaves = λ ts. then_leaves (length ts) (not_in (within_depth n) (drop 1 ts)) got_negation
+        (weaken (length (drop 1 ts)) (length ts) (not_in (within_depth n) (drop 1 ts)) (drop_one ts) ((not_shortens (within_depth n) (within_shortens n)).leaves (drop 1 ts))) (λ e us h. h);
   };
   minus_from = record {
-    leaves = λ ts. then_leaves (length ts) (unary_in (within n) (drop 1 ts)) got_negative
-        (weaken (length (drop 1 ts)) (length ts) (unary_in (within n) (drop 1 ts)) (drop_one ts) ((unary_shortens (within n) (within_shortens n)).leaves (drop 1 ts))) (λ e us h. h);
+    leaves = λ ts. then_leaves (length ts) (unary_in (within_depth n) (drop 1 ts)) got_negative
+        (weaken (length (drop 1 ts)) (length ts) (unary_in (within_depth n) (drop 1 ts)) (drop_one ts) ((unary_shortens (within_depth n) (within_shortens n)).leaves (drop 1 ts))) (λ e us h. h);
   };
   open_from = record {
-    leaves = λ ts. then_leaves (length ts) (or_in (within n) (drop 1 ts)) closed
-        (weaken (length (drop 1 ts)) (length ts) (or_in (within n) (drop 1 ts)) (drop_one ts) ((or_shortens (within n) (within_shortens n)).leaves (drop 1 ts)))
+    leaves = λ ts. then_leaves (length ts) (or_in (within_depth n) (drop 1 ts)) closed
+        (weaken (length (drop 1 ts)) (length ts) (or_in (within_depth n) (drop 1 ts)) (drop_one ts) ((or_shortens (within_depth n) (within_shortens n)).leaves (drop 1 ts)))
         (λ e us h. closed_leaves (length ts) e us h);
   };
 }
 
-pub whole_shortens : Shortens whole
-unfolding whole
+pub whole_shortens : Shortens whole_filter
+unfolding whole_filter
 whole_shortens = record {
-  leaves = λ ts. then_leaves (length ts) (or_in (within 64) ts) ended ((or_shortens (within 64) (within_shortens 64)).leaves ts)
+  leaves = λ ts. then_leaves (length ts) (or_in (within_depth 64) ts) ended ((or_shortens (within_depth 64) (within_shortens 64)).leaves ts)
       (λ e us h. ended_leaves (length ts) e us h);
 }

@@ -11,8 +11,9 @@ use Rattle.plain_filters.specs.declared.CompareSign.TheVariants as «compare»
 use Rattle.filter_expr.specs.declared.tokens.Token.{Token}
 use Rattle.filter_expr.specs.declared.tokens.Token.TheVariants as token
 use Rattle.filter_expr.specs.Trees.{is_unknown}
-use Rattle.filter_expr.specs.Spelling.{is_digit, is_letter, is_word_byte, is_quote, is_escaped, is_name_byte, IsDigits, number_of, IsQuoting, Spells, begins_with, goes_on, EndsBefore, StandsFirst}
-use Rattle.filter_expr.specs.Lexing.{Taken, nothing, number_token, number_at, word_token, word_at, name_at, longer, quoting_len, unescaped, quoted_of, quoted_at, single, less_at, sign_at, first_byte, token_at}
+use Rattle.farm_base.specs.Digits.{is_digit}
+use Rattle.filter_expr.specs.Spelling.{is_letter, is_word_byte, is_quote, is_escaped, is_name_byte, IsDigits, number_of, IsQuoting, Spells, begins_with, goes_on, EndsBefore, StandsFirst}
+use Rattle.filter_expr.specs.Lexing.{Taken, nothing, number_token, number_token_at, word_token, word_at, name_token_at, longer, quoting_len, unescaped, quoted_of, quoted_at, single, less_at, sign_at, first_byte, token_at}
 use Rattle.filter_expr.proofs.Spelled.{wrong, split_bool, end_digits, end_words, run_all, run_stops, run_first}
 
 -- where the token is one, it stands first
@@ -46,8 +47,8 @@ number_spells us d = by (nat_lt (number_of us) (2 ^ 63)) refl
     by true e = (d, refl, ltb-true (number_of us) (2 ^ 63) e)
     by false e = (d, ltb-false (number_of us) (2 ^ 63) e)
 
-number_good : (b : ℕ) (bs : List ℕ) → is_digit b ≡ true → Good (b ∷ bs) (number_at (b ∷ bs))
-unfolding number_at
+number_good : (b : ℕ) (bs : List ℕ) → is_digit b ≡ true → Good (b ∷ bs) (number_token_at (b ∷ bs))
+unfolding number_token_at
 number_good b bs h = record {
   good = λ _. (
     number_spells (take (prefix_len is_digit (b ∷ bs)) (b ∷ bs)) (some_first (take (prefix_len is_digit (b ∷ bs)) (b ∷ bs)) b (take (prefix_len is_digit bs) bs) (run_first is_digit b bs h), run_all is_digit (b ∷ bs)),
@@ -112,8 +113,8 @@ some_taken zero bs e h = absurd (wrong (sym e))
 some_taken (suc n) [] e h = absurd (omega (arith, h))
 some_taken (suc n) (b ∷ bs) e h = some_first (b ∷ take n bs) b (take n bs) refl
 
-name_good : (bs : List ℕ) → Good (91 ∷ bs) (name_at bs)
-unfolding name_at
+name_good : (bs : List ℕ) → Good (91 ∷ bs) (name_token_at bs)
+unfolding name_token_at
 name_good bs =
     good_if (91 ∷ bs) (prefix_len is_name_byte bs == 0) _ _ (λ _. good_nothing (91 ∷ bs))
     (λ z. good_if (91 ∷ bs) (nat_lt (prefix_len is_name_byte bs) (length bs)) _ _
@@ -263,6 +264,6 @@ unfolding token_at
 token_good b bs =
     good_if (b ∷ bs) (is_digit b) _ _ (number_good b bs)
     (λ d. good_if (b ∷ bs) (is_letter b) _ _ (word_good b bs d)
-    (λ _. good_if (b ∷ bs) (b == 91) _ _ (λ e. subst (λ x. Good (x ∷ bs) (name_at bs)) (sym (eqb-true b 91 e)) (name_good bs))
+    (λ _. good_if (b ∷ bs) (b == 91) _ _ (λ e. subst (λ x. Good (x ∷ bs) (name_token_at bs)) (sym (eqb-true b 91 e)) (name_good bs))
     (λ _. good_if (b ∷ bs) (is_quote b) _ _ (quoted_good b bs)
     (λ _. sign_good b bs))))

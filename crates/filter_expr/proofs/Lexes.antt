@@ -10,8 +10,9 @@ use Rattle.filter_expr.specs.declared.tokens.Spot.{Spot}
 use Rattle.filter_expr.specs.declared.tokens.Token.{Token}
 use Rattle.filter_expr.specs.declared.tokens.Token.TheVariants as token
 use Rattle.filter_expr.specs.Trees.{is_unknown}
-use Rattle.filter_expr.specs.Spelling.{is_blank, is_escaped, is_name_byte, is_digit, is_letter, is_word_byte, is_quote, number_of, number_after}
-use Rattle.filter_expr.specs.Lexing.{Taken, nothing, single, quoted_of, first_byte, word_token, longer, quoting_len, unescaped, is_plain_byte, number_token, number_at, word_at, name_at, quoted_at, sign_at, less_at, token_at, lexed}
+use Rattle.farm_base.specs.Digits.{is_digit, number_after}
+use Rattle.filter_expr.specs.Spelling.{is_blank, is_escaped, is_name_byte, is_letter, is_word_byte, is_quote, number_of}
+use Rattle.filter_expr.specs.Lexing.{Taken, nothing, single, quoted_of, first_byte, word_token, longer, quoting_len, unescaped, is_plain_byte, number_token, number_token_at, word_at, name_token_at, quoted_at, sign_at, less_at, token_at, lexed}
 
 wrong : false ≡ true → ⊥
 wrong e = grind arith
@@ -226,8 +227,8 @@ run_fits p b bs t h = record { least = prefix_some p b bs h; most = prefix_len-l
 nothing_fits : (n : ℕ) → Fits (suc n) nothing
 nothing_fits n = record { least = omega arith; most = omega arith }
 
-name_fits : (bs : List ℕ) → Fits (suc (length bs)) (name_at bs)
-unfolding name_at
+name_fits : (bs : List ℕ) → Fits (suc (length bs)) (name_token_at bs)
+unfolding name_token_at
 name_fits bs =
     fits_if (suc (length bs)) (prefix_len is_name_byte bs == 0) _ _ (λ _. nothing_fits (length bs))
     (λ _. fits_if (suc (length bs)) (nat_lt (prefix_len is_name_byte bs) (length bs)) _ _
@@ -269,7 +270,7 @@ sign_fits b [] = record { least = (sign_small b 0).least; most = omega (arith, (
 sign_fits b (c ∷ bs) = record { least = (sign_small b c).least; most = omega (arith, (sign_small b c).most) }
 
 pub token_fits : (b : ℕ) (bs : List ℕ) → Fits (length (b ∷ bs)) (token_at (b ∷ bs))
-unfolding token_at number_at word_at
+unfolding token_at number_token_at word_at
 token_fits b bs =
     fits_if (length (b ∷ bs)) (is_digit b) _ _ (run_fits is_digit b bs (number_token (take (prefix_len is_digit (b ∷ bs)) (b ∷ bs))))
     (λ _. fits_if (length (b ∷ bs)) (is_letter b) _ _ (λ e. run_fits is_word_byte b bs (word_token (take (prefix_len is_word_byte (b ∷ bs)) (b ∷ bs))) (ap (λ t. t || is_digit b || b == 95) e))

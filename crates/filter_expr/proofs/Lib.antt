@@ -9,10 +9,11 @@ pub mod Local
 pub mod Loops
 pub mod Nodes
 pub mod Only
+pub mod Places
+pub mod Plain
 pub mod Rows
 pub mod SeenLemmas
 pub mod Sound
 pub mod Spelled
 pub mod Tokenised
 pub mod Turns
-pub mod Plain

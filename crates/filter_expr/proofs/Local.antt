@@ -6,7 +6,7 @@ use Rattle.filter_expr.specs.declared.faults.FilterFault.{FilterFault}
 use Rattle.filter_expr.specs.declared.faults.FilterFault.TheVariants.{Bad, NumberRange, TooDeep}
 use Rattle.filter_expr.specs.Trees.{Kind, Tree, leaf, negation, negative, comparison, or_chain, and_chain, sum_chain, product_chain, joins, is_leaf, is_huge, is_open, is_minus, is_not, is_compare, is_close, is_end}
 use Rattle.filter_expr.specs.Seen.{Part}
-use Rattle.filter_expr.specs.Reading.{Step, got, failed, Reader, then_read, starts, first_token, place, with_front, later, chained, chain_after, chain_of, Inner, or_in, and_in, not_in, compare_in, sum_in, product_in, unary_in, atom_in, within, compared, got_negation, got_negative, closed, ended, whole, sign_of}
+use Rattle.filter_expr.specs.Reading.{Step, got, failed, Reader, then_read, starts, first_token, place, with_front, later, chained, chain_after, chain_of, Inner, or_in, and_in, not_in, compare_in, sum_in, product_in, unary_in, atom_in, within_depth, compared, got_negation, got_negative, closed, ended, whole_filter, sign_of}
 use Rattle.filter_expr.proofs.Chains.{Shortens, Leaves, later-stop, later-more}
 use Rattle.filter_expr.proofs.Levels.{within_shortens, and_shortens, not_shortens, product_shortens, unary_shortens, ShortensIn}
 use Rattle.filter_expr.proofs.Rows.{wrong}
@@ -215,18 +215,18 @@ closed_local e = local_cond is_close (λ us. got e (drop 1 us)) (λ us. failed (
 ended_local : (e : Tree) → Local (ended e)
 ended_local e = local_cond is_end (λ us. got e us) (λ us. failed (Bad (place us)) us) (local_got e) (local_fail Bad)
 
-within_local : (n : ℕ) → LocalIn (within n)
-unfolding within take_one
+within_local : (n : ℕ) → LocalIn (within_depth n)
+unfolding within_depth take_one
 within_local zero = record { not_from = local_fail TooDeep; minus_from = local_fail TooDeep; open_from = local_fail TooDeep }
 within_local (suc n) = record {
-  not_from = local_then take_one (λ _ us. then_read (not_in (within n) us) got_negation) local_one
-      (λ _. local_then (not_in (within n)) got_negation (not_local (within n) (within_shortens n) (within_local n)) (λ e. local_got (negation e)));
-  minus_from = local_then take_one (λ _ us. then_read (unary_in (within n) us) got_negative) local_one
-      (λ _. local_then (unary_in (within n)) got_negative (unary_local (within n) (within_shortens n) (within_local n)) (λ e. local_got (negative e)));
-  open_from = local_then take_one (λ _ us. then_read (or_in (within n) us) closed) local_one
-      (λ _. local_then (or_in (within n)) closed (or_local (within n) (within_shortens n) (within_local n)) closed_local);
+  not_from = local_then take_one (λ _ us. then_read (not_in (within_depth n) us) got_negation) local_one
+      (λ _. local_then (not_in (within_depth n)) got_negation (not_local (within_depth n) (within_shortens n) (within_local n)) (λ e. local_got (negation e)));
+  minus_from = local_then take_one (λ _ us. then_read (unary_in (within_depth n) us) got_negative) local_one
+      (λ _. local_then (unary_in (within_depth n)) got_negative (unary_local (within_depth n) (within_shortens n) (within_local n)) (λ e. local_got (negative e)));
+  open_from = local_then take_one (λ _ us. then_read (or_in (within_depth n) us) closed) local_one
+      (λ _. local_then (or_in (within_depth n)) closed (or_local (within_depth n) (within_shortens n) (within_local n)) closed_local);
 }
 
-pub whole_local : Local whole
-unfolding whole
-whole_local = local_then (or_in (within 64)) ended (or_local (within 64) (within_shortens 64) (within_local 64)) ended_local
+pub whole_local : Local whole_filter
+unfolding whole_filter
+whole_local = local_then (or_in (within_depth 64)) ended (or_local (within_depth 64) (within_shortens 64) (within_local 64)) ended_local

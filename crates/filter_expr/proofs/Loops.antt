@@ -7,7 +7,7 @@ use Rattle.filter_expr.specs.declared.faults.FilterFault.{FilterFault}
 use Rattle.filter_expr.specs.declared.faults.FilterFault.TheVariants.{Bad, NumberRange, TooDeep, NoMemory}
 use Rattle.filter_expr.specs.Trees.{Kind, Tree, joins, chain, or_chain, and_chain, is_or, is_and}
 use Rattle.filter_expr.specs.Seen.{Part, terms_of, behind}
-use Rattle.filter_expr.specs.Gives.{Gives}
+use Rattle.filter_expr.specs.inner.Gives.{Gives}
 use Rattle.filter_expr.specs.Reading.{got, failed, Reader, starts, first_token, next_sign, with_front, later, chained, chain_of}
 use Rattle.filter_expr.proofs.Chains.{Shortens, loop_fails, loop_ends, chain_fails, chain_reads}
 

@@ -16,7 +16,7 @@ use Rattle.plain_filters.specs.declared.SumSign.{SumSign}
 use Rattle.plain_filters.specs.declared.ProductSign.{ProductSign}
 use Rattle.plain_filters.specs.declared.CompareSign.{CompareSign}
 use Rattle.plain_filters.specs.Values.{truth, compares, negated, sum_of, product_of}
-use Rattle.filter_expr.specs.Parts.{valued, tree_of_sum, tree_of_product, sum_part, product_part, sum_value, product_value}
+use Rattle.filter_expr.specs.inner.Parts.{valued, tree_of_sum, tree_of_product, sum_part, product_part, sum_value, product_value}
 use Rattle.plain_filters.specs.Filters.{FilterTree, tree_of, tree_value, any_true, all_true, after_sums, after_products, trees_of, sums_of, products_of, tree_step, sum_part_step, product_part_step}
 
 any_listed : (attrs : List Attr) (es : List Expr) → any_true attrs (trees_of (map tree_of es)) ≡ list_any truth (map (valued attrs) es)

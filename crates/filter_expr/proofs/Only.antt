@@ -13,8 +13,8 @@ use Rattle.filter_expr.proofs.SeenLemmas.{shape_known}
 use Rattle.filter_expr.specs.Lexing.{lexed}
 use Rattle.filter_expr.specs.Grammar.{IsSpelled, Stands}
 use Rattle.filter_expr.specs.Filters.{IsText, IsFilter, IsFault, Begins, GoesOn, StandsAt, Passes, HasCause, opens, FilterOf, FaultOf, MayAnswer, AnswersTree, AnswersFault, OneTree, OneFilter, NotBoth, OneFault, OneTokenList}
-use Rattle.filter_expr.specs.Gives.{Answers}
-use Rattle.filter_expr.specs.Reading.{Step, got, failed, or_in, within, whole}
+use Rattle.filter_expr.specs.inner.Gives.{Answers}
+use Rattle.filter_expr.specs.Reading.{Step, got, failed, or_in, within_depth, whole_filter}
 use Rattle.filter_expr.proofs.Complete.{Fine, complete}
 use Rattle.filter_expr.proofs.Rows.{Stops, wrong}
 use Rattle.filter_expr.proofs.Final.{IsAnswer, right, Reads, reads_whole, kept, not_both}
@@ -42,13 +42,13 @@ got_same d e q = cc
 pub one_tree : OneTree
 one_tree d e us sd se pd pe rd re =
     let n : ℕ = nesting d + nesting e in
-    let read : (x : Tree) → Stands 0 x → IsSpelled x us → InRange x → nesting x ≤ n → or_in (within n) (us ++ []) ≡ got (bare x) [] =
-    λ x s p r h. reads_bare n x us s p r h (or_in (within n) (us ++ [])) (complete x n 0 us [] (omega arith) s p nothing_stops) in
+    let read : (x : Tree) → Stands 0 x → IsSpelled x us → InRange x → nesting x ≤ n → or_in (within_depth n) (us ++ []) ≡ got (bare x) [] =
+    λ x s p r h. reads_bare n x us s p r h (or_in (within_depth n) (us ++ [])) (complete x n 0 us [] (omega arith) s p nothing_stops) in
     got_same (bare d) (bare e) (sym (read d sd pd rd (omega arith)) ∙ read e se pe re (omega arith))
 
 -- a filter is what the reading gives
-filter_read : (ts : List Spot) (d : Tree) (a : IsFilter ts d) → whole ts ≡ got d (a.text.1 ∷ [])
-filter_read ts d a = ap whole a.text.2 ∙ by (whole (a.text.0 ++ a.text.1 ∷ [])) (reads_whole a.tree a.text.0 a.text.1 a.stands a.text.3 a.text.4)
+filter_read : (ts : List Spot) (d : Tree) (a : IsFilter ts d) → whole_filter ts ≡ got d (a.text.1 ∷ [])
+filter_read ts d a = ap whole_filter a.text.2 ∙ by (whole_filter (a.text.0 ++ a.text.1 ∷ [])) (reads_whole a.tree a.text.0 a.text.1 a.stands a.text.3 a.text.4)
   where
     by : (r : Step Tree) → Reads a.tree a.text.1 r → r ≡ got d (a.text.1 ∷ [])
     by (got x rest) h = ap (λ y. got y rest) (h.0 ∙ a.is) ∙ ap (got d) h.1
@@ -154,11 +154,11 @@ not_both_of text t f a b = not_both b.0 (shape t) f (subst (λ ts. IsFilter ts (
 pub one_fault : OneFault
 one_fault text f g a b = fault_unique b.0 f g (subst (λ ts. IsFault ts f) (one_token_list text a.0 b.0 a.1 b.1) a.2) b.2
 
-pub lexed_answer : (text : List ℕ) → IsAnswer (lexed 0 0 text) (whole (lexed 0 0 text))
+pub lexed_answer : (text : List ℕ) → IsAnswer (lexed 0 0 text) (whole_filter (lexed 0 0 text))
 lexed_answer text = right (lexed 0 0 text) (tokens_stopped (lexed 0 0 text) 0 text (lexed_tokens text))
 
 -- the reading of the tokens is the answer
-pub may_answer : (text : List ℕ) (r : Result Expr FilterFault) → Answers seen r (whole (lexed 0 0 text)) → MayAnswer text r
+pub may_answer : (text : List ℕ) (r : Result Expr FilterFault) → Answers seen r (whole_filter (lexed 0 0 text)) → MayAnswer text r
 may_answer text (Ok e) a = (lexed 0 0 text, lexed_tokens text, subst (IsAnswer (lexed 0 0 text)) a.1 (right (lexed 0 0 text) (tokens_stopped (lexed 0 0 text) 0 text (lexed_tokens text))))
 may_answer text (Err (Bad o)) a = (lexed 0 0 text, lexed_tokens text, subst (IsAnswer (lexed 0 0 text)) a.1 (right (lexed 0 0 text) (tokens_stopped (lexed 0 0 text) 0 text (lexed_tokens text))))
 may_answer text (Err (NumberRange o)) a = (lexed 0 0 text, lexed_tokens text, subst (IsAnswer (lexed 0 0 text)) a.1 (right (lexed 0 0 text) (tokens_stopped (lexed 0 0 text) 0 text (lexed_tokens text))))

@@ -5,7 +5,7 @@ use Rattle.filter_expr.specs.declared.tokens.Token.TheVariants as token
 use Rattle.filter_expr.specs.declared.tokens.Spot.{Spot}
 use Rattle.filter_expr.specs.Trees.{Kind, Tree, joins, is_or, is_and, is_sum_sign, is_product_sign, is_compare, or_chain, and_chain, sum_chain, product_chain}
 use Rattle.filter_expr.specs.Grammar.{kind_strength}
-use Rattle.filter_expr.specs.Reading.{Reader, Inner, starts, or_in, and_in, not_in, compare_in, sum_in, product_in, unary_in, atom_in, within}
+use Rattle.filter_expr.specs.Reading.{Reader, Inner, starts, or_in, and_in, not_in, compare_in, sum_in, product_in, unary_in, atom_in, within_depth}
 use Rattle.filter_expr.proofs.Chains.{Shortens}
 use Rattle.filter_expr.proofs.Levels.{within_shortens, or_shortens, and_shortens, not_shortens, compare_shortens, sum_shortens, product_shortens, unary_shortens, atom_shortens}
 
@@ -22,15 +22,15 @@ row (suc (suc (suc (suc (suc zero))))) = product_in
 row (suc (suc (suc (suc (suc (suc zero)))))) = unary_in
 row (suc (suc (suc (suc (suc (suc (suc n))))))) = atom_in
 
-pub row_shortens : (l n : ℕ) → Shortens (row l (within n))
-row_shortens zero n = or_shortens (within n) (within_shortens n)
-row_shortens (suc zero) n = and_shortens (within n) (within_shortens n)
-row_shortens (suc (suc zero)) n = not_shortens (within n) (within_shortens n)
-row_shortens (suc (suc (suc zero))) n = compare_shortens (within n) (within_shortens n)
-row_shortens (suc (suc (suc (suc zero)))) n = sum_shortens (within n) (within_shortens n)
-row_shortens (suc (suc (suc (suc (suc zero))))) n = product_shortens (within n) (within_shortens n)
-row_shortens (suc (suc (suc (suc (suc (suc zero)))))) n = unary_shortens (within n) (within_shortens n)
-row_shortens (suc (suc (suc (suc (suc (suc (suc m))))))) n = atom_shortens (within n) (within_shortens n)
+pub row_shortens : (l n : ℕ) → Shortens (row l (within_depth n))
+row_shortens zero n = or_shortens (within_depth n) (within_shortens n)
+row_shortens (suc zero) n = and_shortens (within_depth n) (within_shortens n)
+row_shortens (suc (suc zero)) n = not_shortens (within_depth n) (within_shortens n)
+row_shortens (suc (suc (suc zero))) n = compare_shortens (within_depth n) (within_shortens n)
+row_shortens (suc (suc (suc (suc zero)))) n = sum_shortens (within_depth n) (within_shortens n)
+row_shortens (suc (suc (suc (suc (suc zero))))) n = product_shortens (within_depth n) (within_shortens n)
+row_shortens (suc (suc (suc (suc (suc (suc zero)))))) n = unary_shortens (within_depth n) (within_shortens n)
+row_shortens (suc (suc (suc (suc (suc (suc (suc m))))))) n = atom_shortens (within_depth n) (within_shortens n)
 
 -- the part of a chain is read by the row above
 abbrev pub part_row : Kind → Inner → Reader Tree
@@ -39,11 +39,11 @@ part_row and_chain = not_in
 part_row sum_chain = product_in
 part_row product_chain = unary_in
 
-pub part_shortens : (k : Kind) (n : ℕ) → Shortens (part_row k (within n))
-part_shortens or_chain n = and_shortens (within n) (within_shortens n)
-part_shortens and_chain n = not_shortens (within n) (within_shortens n)
-part_shortens sum_chain n = product_shortens (within n) (within_shortens n)
-part_shortens product_chain n = unary_shortens (within n) (within_shortens n)
+pub part_shortens : (k : Kind) (n : ℕ) → Shortens (part_row k (within_depth n))
+part_shortens or_chain n = and_shortens (within_depth n) (within_shortens n)
+part_shortens and_chain n = not_shortens (within_depth n) (within_shortens n)
+part_shortens sum_chain n = product_shortens (within_depth n) (within_shortens n)
+part_shortens product_chain n = unary_shortens (within_depth n) (within_shortens n)
 
 pub strength_below : (k : Kind) → kind_strength k ≤ 5
 strength_below or_chain = omega arith

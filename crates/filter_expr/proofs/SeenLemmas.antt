@@ -18,25 +18,13 @@ use Rattle.filter_expr.specs.declared.tokens.Token.{Token}
 use Rattle.filter_expr.specs.declared.tokens.Token.TheVariants as token
 use Rattle.filter_expr.specs.Trees.{Kind, Tree, leaf, negation, negative, comparison, chain, no_terms, term, or_chain, and_chain, sum_chain, product_chain, sum_token, product_token}
 use Rattle.filter_expr.specs.FilterTexts.{is_end_leaf, sum_sign_of, product_sign_of, back, backs, back_sums, back_products}
+use Rattle.filter_expr.specs.inner.SeenParts.{tree_of_sum, tree_of_product, seen_sum, seen_product}
 use Rattle.filter_expr.specs.Seen.{Part, seen, shape, joined, same_terms, sum_terms, product_terms, terms_of, behind, truth_token}
 
 -- ---- nodes
 
 abbrev part_of : Token → Tree → Part
 part_of t e = (t, e)
-
-abbrev tree_of_sum : SumPart → SumSign × FilterTree
-tree_of_sum = fold-SumPart FilterTree (ProductSign × FilterTree) (SumSign × FilterTree) tree_step product_part_step sum_part_step
-
-abbrev tree_of_product : ProductPart → ProductSign × FilterTree
-tree_of_product = fold-ProductPart FilterTree (ProductSign × FilterTree) (SumSign × FilterTree) tree_step product_part_step sum_part_step
-
--- a later part of a sum or a product as its sign and its tree
-abbrev pub seen_sum : SumPart → Part
-seen_sum p = (sum_token (tree_of_sum p).0, shape (tree_of_sum p).1)
-
-abbrev pub seen_product : ProductPart → Part
-seen_product p = (product_token (tree_of_product p).0, shape (tree_of_product p).1)
 
 pub seen_sum-made : (p : open.SumPart-F Expr ProductPart SumPart) → seen_sum (roll-SumPart p) ≡ (sum_token p.sign, seen p.part)
 seen_sum-made p =

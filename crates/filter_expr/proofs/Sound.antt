@@ -10,7 +10,7 @@ use Rattle.filter_expr.specs.Trees.{Kind, Tree, Terms, leaf, negation, negative,
 use Rattle.filter_expr.specs.Seen.{Part, terms_of}
 use Rattle.filter_expr.specs.Grammar.{IsSpelled, AreSpelled, kind_strength, IsMany, Stands, StandTerms}
 use Rattle.filter_expr.specs.Filters.{opens}
-use Rattle.filter_expr.specs.Reading.{Step, got, failed, Reader, then_read, starts, first_token, with_front, turns, later, chained, chain_after, chain_of, Inner, or_in, and_in, not_in, compare_in, sum_in, product_in, unary_in, atom_in, within, compared, got_negation, got_negative, closed, sign_of, too_deep}
+use Rattle.filter_expr.specs.Reading.{Step, got, failed, Reader, then_read, starts, first_token, with_front, turns, later, chained, chain_after, chain_of, Inner, or_in, and_in, not_in, compare_in, sum_in, product_in, unary_in, atom_in, within_depth, compared, got_negation, got_negative, closed, sign_of, too_deep}
 use Rattle.filter_expr.proofs.Complete.{stands_down}
 use Rattle.filter_expr.proofs.Rows.{wrong}
 
@@ -504,8 +504,8 @@ module _ (n : ℕ) (i : Inner) (sound : SoundIn n i) where
 opened_wide : (l : ℕ) (s : Spot) (ts : List Spot) (e : Tree) (more : List Spot) → IsTrue (opens s.token) → Stands l e → IsSpelled e (s ∷ more) → Outcome 0 l (s ∷ ts) (too_deep (s ∷ ts))
 opened_wide l s ts e more o st p = ([], refl, null_begins 0 l, (o, record { more = more; tree = e; stands = st; spelled = p }))
 
-pub within_sound : (n : ℕ) → SoundIn n (within n)
-unfolding within
+pub within_sound : (n : ℕ) → SoundIn n (within_depth n)
+unfolding within_depth
 within_sound zero = record { not_from = by_not; minus_from = by_minus; open_from = by_open }
   where
     null : Spot
@@ -527,18 +527,18 @@ within_sound zero = record { not_from = by_not; minus_from = by_minus; open_from
         opened_wide 7 s ts (parens (leaf null.token)) (null ∷ spot_of token.Close ∷ []) (ap opens (open_is s.token e)) refl (s, null ∷ [], spot_of token.Close, refl, open_is s.token e, refl, (null, refl, refl))
 within_sound (suc n) = record { not_from = by_not (within_sound n); minus_from = by_minus (within_sound n); open_from = by_open (within_sound n) }
   where
-    by_not : SoundIn n (within n) → (ts : List Spot) → starts is_not ts ≡ true → Outcome (suc n) 2 ts (then_read (not_in (within n) (drop 1 ts)) got_negation)
+    by_not : SoundIn n (within_depth n) → (ts : List Spot) → starts is_not ts ≡ true → Outcome (suc n) 2 ts (then_read (not_in (within_depth n) (drop 1 ts)) got_negation)
     by_not ih [] e = absurd (wrong e)
     by_not ih (s ∷ ts) e =
         wrapped n 2 token.Not negation (λ d us z q p. (z, us, refl, q, p)) (λ d p. (omega arith, p)) (λ d p. p) (λ d p. omega (arith, p)) (λ d. refl) s ts (not_is s.token e)
-        (not_in (within n) ts) (sound_not n (within n) ih ts)
+        (not_in (within_depth n) ts) (sound_not n (within_depth n) ih ts)
 
-    by_minus : SoundIn n (within n) → (ts : List Spot) → starts is_minus ts ≡ true → Outcome (suc n) 6 ts (then_read (unary_in (within n) (drop 1 ts)) got_negative)
+    by_minus : SoundIn n (within_depth n) → (ts : List Spot) → starts is_minus ts ≡ true → Outcome (suc n) 6 ts (then_read (unary_in (within_depth n) (drop 1 ts)) got_negative)
     by_minus ih [] e = absurd (wrong e)
     by_minus ih (s ∷ ts) e =
         wrapped n 6 token.Minus negative (λ d us z q p. (z, us, refl, q, p)) (λ d p. (omega arith, p)) (λ d p. p) (λ d p. omega (arith, p)) (λ d. refl) s ts (minus_is s.token e)
-        (unary_in (within n) ts) (sound_unary n (within n) ih ts)
+        (unary_in (within_depth n) ts) (sound_unary n (within_depth n) ih ts)
 
-    by_open : SoundIn n (within n) → (ts : List Spot) → starts is_open ts ≡ true → Outcome (suc n) 7 ts (then_read (or_in (within n) (drop 1 ts)) closed)
+    by_open : SoundIn n (within_depth n) → (ts : List Spot) → starts is_open ts ≡ true → Outcome (suc n) 7 ts (then_read (or_in (within_depth n) (drop 1 ts)) closed)
     by_open ih [] e = absurd (wrong e)
-    by_open ih (s ∷ ts) e = enclosed n s ts (open_is s.token e) (or_in (within n) ts) (sound_or n (within n) ih ts)
+    by_open ih (s ∷ ts) e = enclosed n s ts (open_is s.token e) (or_in (within_depth n) ts) (sound_or n (within_depth n) ih ts)

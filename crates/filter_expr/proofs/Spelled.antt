@@ -8,8 +8,9 @@ use Rattle.std.proofs.lemmas.List.{length-append}
 use Rattle.plain_filters.specs.declared.CompareSign.TheVariants as «compare»
 use Rattle.filter_expr.specs.declared.tokens.Token.{Token}
 use Rattle.filter_expr.specs.declared.tokens.Token.TheVariants as token
-use Rattle.filter_expr.specs.Spelling.{is_digit, is_letter, is_word_byte, is_quote, is_escaped, is_name_byte, IsDigits, number_of, IsQuoting, Spells, signs, begins_with, EndsBefore}
-use Rattle.filter_expr.specs.Lexing.{Taken, nothing, number_token, number_at, word_token, word_at, name_at, longer, quoting_len, unescaped, quoted_of, quoted_at, single, less_at, sign_at, first_byte, token_at}
+use Rattle.farm_base.specs.Digits.{is_digit}
+use Rattle.filter_expr.specs.Spelling.{is_letter, is_word_byte, is_quote, is_escaped, is_name_byte, IsDigits, number_of, IsQuoting, Spells, signs, begins_with, EndsBefore}
+use Rattle.filter_expr.specs.Lexing.{Taken, nothing, number_token, number_token_at, word_token, word_at, name_token_at, longer, quoting_len, unescaped, quoted_of, quoted_at, single, less_at, sign_at, first_byte, token_at}
 
 pub wrong : false ≡ true → ⊥
 wrong e = grind arith
@@ -104,16 +105,16 @@ number_of_run n l = (number_token (take n l), n)
 pub record Found (t : Token) (us more : List ℕ) : Type 0 where
   pub at : ◌≡◌ {A = Taken} (token_at (us ++ more)) (t, length us)
 
-digit_at : (b : ℕ) (bs : List ℕ) → is_digit b ≡ true → token_at (b ∷ bs) ≡ number_at (b ∷ bs)
+digit_at : (b : ℕ) (bs : List ℕ) → is_digit b ≡ true → token_at (b ∷ bs) ≡ number_token_at (b ∷ bs)
 unfolding token_at
-digit_at b bs e = ap (λ (t : Bool). if t then number_at (b ∷ bs) else (if is_letter b then word_at (b ∷ bs) else (if b == 91 then name_at bs else (if is_quote b then quoted_at b bs else sign_at b (first_byte bs))))) e
+digit_at b bs e = ap (λ (t : Bool). if t then number_token_at (b ∷ bs) else (if is_letter b then word_at (b ∷ bs) else (if b == 91 then name_token_at bs else (if is_quote b then quoted_at b bs else sign_at b (first_byte bs))))) e
 
 digits_first : (us : List ℕ) → us ≢ [] → list_all is_digit us ≡ true → begins_with is_digit us ≡ true
 digits_first [] n h = absurd (n refl)
 digits_first (b ∷ us) n h = (both_true (is_digit b) (list_all is_digit us) h).0
 
 digits_found : (us more : List ℕ) (t : Token) → IsDigits us → EndsBefore us more → number_token us ≡ t → Found t us more
-unfolding number_at
+unfolding number_token_at
 digits_found [] more t d e q = absurd (d.0 refl)
 digits_found (b ∷ us) more t d e q = record {
   at =
@@ -138,10 +139,10 @@ not_equal a b n = by (a == b) refl
     by true e = absurd (n (eqb-true a b e))
     by false e = refl
 
-name_found : (n more : List ℕ) → n ≢ [] → list_all is_name_byte n ≡ true → ◌≡◌ {A = Taken} (name_at ((n ++ 93 ∷ []) ++ more)) (token.Name n, length n + 2)
-unfolding name_at
+name_found : (n more : List ℕ) → n ≢ [] → list_all is_name_byte n ≡ true → ◌≡◌ {A = Taken} (name_token_at ((n ++ 93 ∷ []) ++ more)) (token.Name n, length n + 2)
+unfolding name_token_at
 name_found n more some all =
-    ap (λ l. name_at l) (append_assoc n (93 ∷ []) more)
+    ap (λ l. name_token_at l) (append_assoc n (93 ∷ []) more)
     ∙ ap (λ m. name_from m (n ++ 93 ∷ more)) (run_exact is_name_byte n (93 ∷ more) all refl)
     ∙ ap (λ b. if b then nothing else name_within (length n) (n ++ 93 ∷ more)) (not_zero n some)
     ∙ ap (λ b. if b then taken (token.Name (take (length n) (n ++ 93 ∷ more))) (length n + 2) else nothing)

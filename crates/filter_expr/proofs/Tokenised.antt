@@ -8,7 +8,8 @@ use Rattle.filter_expr.specs.declared.tokens.Token.{Token}
 use Rattle.filter_expr.specs.declared.tokens.Token.TheVariants as token
 use Rattle.filter_expr.specs.declared.tokens.Spot.{Spot}
 use Rattle.filter_expr.specs.Trees.{is_unknown}
-use Rattle.filter_expr.specs.Spelling.{is_blank, is_digit, is_quote, IsDigits, begins_with, Spells, StandsFirst, AreTokens, TokensOf}
+use Rattle.farm_base.specs.Digits.{is_digit}
+use Rattle.filter_expr.specs.Spelling.{is_blank, is_quote, IsDigits, begins_with, Spells, StandsFirst, AreTokens, TokensOf}
 use Rattle.filter_expr.specs.Lexing.{Taken, token_at, lexed}
 use Rattle.filter_expr.proofs.Spelled.{wrong, split_bool, token_complete, both_true, not_equal}
 use Rattle.filter_expr.proofs.Lexemes.{token_good}

@@ -6,7 +6,7 @@ use Rattle.std.specs.Str.{bytes_eq}
 use Rattle.farm_base.specs.declared.Attr.{Attr}
 use Rattle.farm_base.specs.declared.Value.{Value}
 use Rattle.plain_filters.specs.Values.{attribute, sum_of, product_of}
-use Rattle.filter_expr.specs.Parts.{sum_value, product_value}
+use Rattle.filter_expr.specs.inner.Parts.{sum_value, product_value}
 use Rattle.plain_filters.specs.declared.SumPart.{SumPart}
 use Rattle.plain_filters.specs.declared.ProductPart.{ProductPart}
 use Rattle.plain_filters.specs.declared.SumSign.{SumSign}

@@ -9,7 +9,8 @@ use Rattle.filter_expr.specs.declared.tokens.Spot.{Spot}
 use Rattle.filter_expr.specs.declared.lexer.Run.{Run}
 use Rattle.filter_expr.specs.declared.lexer.Run.TheVariants.{Digits, Word, Name, Plain}
 use Rattle.filter_expr.specs.Trees.{is_unknown}
-use Rattle.filter_expr.specs.Spelling.{is_blank, is_digit, is_letter, is_word_byte, is_quote, is_escaped, is_name_byte, number_of}
+use Rattle.farm_base.specs.Digits.{is_digit}
+use Rattle.filter_expr.specs.Spelling.{is_blank, is_letter, is_word_byte, is_quote, is_escaped, is_name_byte, number_of}
 
 -- a token, and how many bytes it takes
 abbrev pub Taken : Type 0
@@ -35,8 +36,8 @@ unfoldable pub number_token : List ℕ → Token
 number_token ds = if nat_lt (number_of ds) (2 ^ 63) then token.Number (pos (number_of ds)) else token.Huge
 
 -- the number at the front of bytes that begin with a digit, and how many digits it has
-unfoldable pub number_at : List ℕ → Taken
-number_at bs = (number_token (take (prefix_len is_digit bs) bs), prefix_len is_digit bs)
+unfoldable pub number_token_at : List ℕ → Taken
+number_token_at bs = (number_token (take (prefix_len is_digit bs) bs), prefix_len is_digit bs)
 
 -- the token of a word of letters, digits and `_`: one of the six that have a meaning, or the unknown one
 unfoldable pub word_token : List ℕ → Token
@@ -54,8 +55,8 @@ unfoldable pub word_at : List ℕ → Taken
 word_at bs = (word_token (take (prefix_len is_word_byte bs) bs), prefix_len is_word_byte bs)
 
 -- the name that follows an opening bracket, up to the closing one; no token where it is empty or is not closed
-unfoldable pub name_at : List ℕ → Taken
-name_at bs =
+unfoldable pub name_token_at : List ℕ → Taken
+name_token_at bs =
     if prefix_len is_name_byte bs == 0 then nothing
     else (if nat_lt (prefix_len is_name_byte bs) (length bs)
     then (token.Name (take (prefix_len is_name_byte bs) bs), prefix_len is_name_byte bs + 2)
@@ -129,9 +130,9 @@ first_byte (b ∷ bs) = b
 unfoldable pub token_at : List ℕ → Taken
 token_at [] = nothing
 token_at (b ∷ bs) =
-    if is_digit b then number_at (b ∷ bs)
+    if is_digit b then number_token_at (b ∷ bs)
     else (if is_letter b then word_at (b ∷ bs)
-    else (if b == 91 then name_at bs
+    else (if b == 91 then name_token_at bs
     else (if is_quote b then quoted_at b bs
     else sign_at b (first_byte bs))))
 

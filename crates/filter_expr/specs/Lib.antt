@@ -1,12 +1,9 @@
 pub mod FilterTexts
 pub mod Filters
-pub mod Gives
 pub mod Grammar
 pub mod Lexing
-pub mod Parts
-pub mod Places
 pub mod Reading
 pub mod Seen
-pub mod Shown
 pub mod Spelling
 pub mod Trees
+pub mod inner

@@ -152,12 +152,12 @@ abbrev pub closed : Tree → Reader Tree
 closed e us = if starts is_close us then got e (drop 1 us) else failed (Bad (place us)) us
 
 -- what is read from a token that opens something on, where so many things may be open at once
-unfoldable pub within : ℕ → Inner
-within zero = record { not_from = too_deep; minus_from = too_deep; open_from = too_deep }
-within (suc n) = record {
-  not_from = λ ts. then_read (not_in (within n) (drop 1 ts)) got_negation;
-  minus_from = λ ts. then_read (unary_in (within n) (drop 1 ts)) got_negative;
-  open_from = λ ts. then_read (or_in (within n) (drop 1 ts)) closed;
+unfoldable pub within_depth : ℕ → Inner
+within_depth zero = record { not_from = too_deep; minus_from = too_deep; open_from = too_deep }
+within_depth (suc n) = record {
+  not_from = λ ts. then_read (not_in (within_depth n) (drop 1 ts)) got_negation;
+  minus_from = λ ts. then_read (unary_in (within_depth n) (drop 1 ts)) got_negative;
+  open_from = λ ts. then_read (or_in (within_depth n) (drop 1 ts)) closed;
 }
 
 -- the filter ends with the text
@@ -165,5 +165,5 @@ abbrev pub ended : Tree → Reader Tree
 ended e us = if starts is_end us then got e us else failed (Bad (place us)) us
 
 -- the reading of all tokens of a text
-unfoldable pub whole : Reader Tree
-whole ts = then_read (or_in (within 64) ts) ended
+unfoldable pub whole_filter : Reader Tree
+whole_filter ts = then_read (or_in (within_depth 64) ts) ended

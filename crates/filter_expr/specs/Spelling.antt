@@ -2,6 +2,7 @@
 use Rattle.std.specs.Prelude.{◌≡◌, ◌≢◌, ℕ, ◌+◌, ◌-◌, ◌*◌, ◌^◌, ◌<◌, ◌≤◌, Bool, false, not, ◌==◌, ◌||◌, ◌&&◌, nat_le, if◌then◌else◌, IsTrue, List, [], ◌∷◌, ◌++◌, length, codes, pos, ◌⊎◌}
 use Rattle.std.specs.List.{list_any, list_all}
 use Rattle.std.specs.Str.{bytes_eq}
+use Rattle.farm_base.specs.Digits.{is_digit, number_after}
 use Rattle.plain_filters.specs.declared.CompareSign.TheVariants as «compare»
 use Rattle.filter_expr.specs.declared.tokens.Token.{Token}
 use Rattle.filter_expr.specs.declared.tokens.Token.TheVariants as token
@@ -12,10 +13,6 @@ use Rattle.filter_expr.specs.declared.tokens.Spot.{Spot}
 -- a space, tab, newline or carriage return
 abbrev pub is_blank : ℕ → Bool
 is_blank b = b == 32 || b == 9 || b == 10 || b == 13
-
--- a byte from `0` to `9`
-abbrev pub is_digit : ℕ → Bool
-is_digit b = nat_le 48 b && nat_le b 57
 
 -- a byte from `a` to `z` or from `A` to `Z`
 abbrev pub is_letter : ℕ → Bool
@@ -42,11 +39,6 @@ is_name_byte b = not (b == 93)
 -- one digit or more
 abbrev pub IsDigits : List ℕ → Type 0
 IsDigits us = (us ≢ []) × IsTrue (list_all is_digit us)
-
--- the number that decimal digits spell, after a number that others spelled before them
-abbrev pub number_after : ℕ → List ℕ → ℕ
-number_after n [] = n
-number_after n (d ∷ ds) = number_after (10 * n + (d - 48)) ds
 
 -- the number that decimal digits spell
 abbrev pub number_of : List ℕ → ℕ

@@ -2,8 +2,9 @@
 ghost use Rattle.std.specs.Prelude.{◌≡◌, ◌<◌, ◌≤◌, ◌+◌, IfOk, IfSome, length, drop, slice_index, string_bytes, take, ◌++◌, true, false};
 ghost use Rattle.std.specs.List.{prefix_len};
 ghost use Rattle.std.specs.Str.{IsCharBoundary};
-ghost use Rattle.filter_expr.specs.Spelling.{is_blank, is_digit, is_letter, is_quote, is_escaped};
-ghost use Rattle.filter_expr.specs.Lexing.{run_test, number_token, number_at, word_token, word_at, name_at, quoting_len, unescaped, quoted_at, sign_at, less_at, single, token_at, lexed};
+ghost use Rattle.farm_base.specs.Digits.{is_digit};
+ghost use Rattle.filter_expr.specs.Spelling.{is_blank, is_letter, is_quote, is_escaped};
+ghost use Rattle.filter_expr.specs.Lexing.{run_test, number_token, number_token_at, word_token, word_at, name_token_at, quoting_len, unescaped, quoted_at, sign_at, less_at, single, token_at, lexed};
 
 use crate::tokens::{Spot, Spots, Token};
 use farm_base::{NoMemory, Text};
@@ -58,13 +59,13 @@ fn token_at(alloc: Global, text: &str, at: usize) -> Result<(Token, usize), NoMe
     let bytes = text.as_bytes();
     let first = bytes[at];
     if is_digit(first) {
-        return Ok(number_at(&bytes[at..]));
+        return Ok(number_token_at(&bytes[at..]));
     }
     if is_letter(first) {
         return Ok(word_at(&bytes[at..]));
     }
     if first == b'[' {
-        return name_at(alloc, &text[at + 1..]);
+        return name_token_at(alloc, &text[at + 1..]);
     }
     if is_quote(first) {
         return quoted_at(alloc, first, &text[at + 1..]);
@@ -139,9 +140,9 @@ fn run_len(run: Run, bytes: &[u8]) -> usize
 }
 
 /// The number at the front.
-#[tactic(auto, unfolding(crate::specs::Lexing::number_at))]
-fn number_at(bytes: &[u8]) -> (Token, usize)
-    ensures { result ≡ number_at bytes.now }
+#[tactic(auto, unfolding(crate::specs::Lexing::number_token_at))]
+fn number_token_at(bytes: &[u8]) -> (Token, usize)
+    ensures { result ≡ number_token_at bytes.now }
 {
     let count = run_len(Run::Digits, bytes);
     (number_token(&bytes[..count]), count)
@@ -192,9 +193,9 @@ fn word_token(word: &[u8]) -> Token
 }
 
 /// The name whose opening bracket stands before this text.
-#[tactic(auto, using(crate::proofs::Lexes::cuts), unfolding(crate::specs::Lexing::name_at))]
-fn name_at(alloc: Global, rest: &str) -> Result<(Token, usize), NoMemory>
-    ensures { IfOk result (λ r. r ≡ name_at rest.now) }
+#[tactic(auto, using(crate::proofs::Lexes::cuts), unfolding(crate::specs::Lexing::name_token_at))]
+fn name_token_at(alloc: Global, rest: &str) -> Result<(Token, usize), NoMemory>
+    ensures { IfOk result (λ r. r ≡ name_token_at rest.now) }
 {
     let count = run_len(Run::Name, rest.as_bytes());
     if count == 0 || count == rest.len() {

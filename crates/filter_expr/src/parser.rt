@@ -2,8 +2,8 @@
 //! weakest binding to the strongest. Binding strengths are this farm's own.
 ghost use Rattle.std.specs.Prelude.{◌≡◌, ◌≤◌, length};
 ghost use Rattle.filter_expr.specs.Seen.{seen};
-ghost use Rattle.filter_expr.specs.Reading.{or_in, and_in, not_in, compare_in, sum_in, product_in, unary_in, atom_in, within};
-ghost use Rattle.filter_expr.specs.Gives.{Gives};
+ghost use Rattle.filter_expr.specs.Reading.{or_in, and_in, not_in, compare_in, sum_in, product_in, unary_in, atom_in, within_depth};
+ghost use Rattle.filter_expr.specs.inner.Gives.{Gives};
 
 use crate::faults::FilterFault;
 use crate::tokens::Spots;
@@ -14,7 +14,7 @@ use std::alloc::Global;
 #[cycle(parser)]
 #[tactic(auto, unfolding(crate::specs::Reading::or_in))]
 pub fn or_chain(alloc: Global, spots: &mut Spots, depth_left: u32) -> Result<Expr, FilterFault>
-    ensures read { Gives seen result spots.new (or_in (within depth_left) spots.old) }
+    ensures read { Gives seen result spots.new (or_in (within_depth depth_left) spots.old) }
     ensures left { length spots.new ≤ length spots.old }
 {
     let first = and_chain(alloc, spots, depth_left)?;
@@ -35,7 +35,7 @@ pub fn or_chain(alloc: Global, spots: &mut Spots, depth_left: u32) -> Result<Exp
 #[cycle(parser)]
 #[tactic(auto, unfolding(crate::specs::Reading::and_in))]
 fn and_chain(alloc: Global, spots: &mut Spots, depth_left: u32) -> Result<Expr, FilterFault>
-    ensures read { Gives seen result spots.new (and_in (within depth_left) spots.old) }
+    ensures read { Gives seen result spots.new (and_in (within_depth depth_left) spots.old) }
     ensures left { length spots.new ≤ length spots.old }
 {
     let first = not_part(alloc, spots, depth_left)?;
@@ -54,9 +54,9 @@ fn and_chain(alloc: Global, spots: &mut Spots, depth_left: u32) -> Result<Expr, 
 
 /// `not` or `!` and a not-part, or a comparison.
 #[cycle(parser)]
-#[tactic(auto, using(crate::proofs::SeenLemmas::nodes), unfolding(crate::specs::Reading::not_in, crate::specs::Reading::within))]
+#[tactic(auto, using(crate::proofs::SeenLemmas::nodes), unfolding(crate::specs::Reading::not_in, crate::specs::Reading::within_depth))]
 fn not_part(alloc: Global, spots: &mut Spots, depth_left: u32) -> Result<Expr, FilterFault>
-    ensures read { Gives seen result spots.new (not_in (within depth_left) spots.old) }
+    ensures read { Gives seen result spots.new (not_in (within_depth depth_left) spots.old) }
     ensures left { length spots.new ≤ length spots.old }
 {
     if !spots.is_not() {
@@ -74,7 +74,7 @@ fn not_part(alloc: Global, spots: &mut Spots, depth_left: u32) -> Result<Expr, F
 #[cycle(parser)]
 #[tactic(auto, using(crate::proofs::SeenLemmas::nodes), unfolding(crate::specs::Reading::compare_in))]
 fn comparison(alloc: Global, spots: &mut Spots, depth_left: u32) -> Result<Expr, FilterFault>
-    ensures read { Gives seen result spots.new (compare_in (within depth_left) spots.old) }
+    ensures read { Gives seen result spots.new (compare_in (within_depth depth_left) spots.old) }
     ensures left { length spots.new ≤ length spots.old }
 {
     let a = sum(alloc, spots, depth_left)?;
@@ -90,7 +90,7 @@ fn comparison(alloc: Global, spots: &mut Spots, depth_left: u32) -> Result<Expr,
 #[cycle(parser)]
 #[tactic(auto, unfolding(crate::specs::Reading::sum_in))]
 fn sum(alloc: Global, spots: &mut Spots, depth_left: u32) -> Result<Expr, FilterFault>
-    ensures read { Gives seen result spots.new (sum_in (within depth_left) spots.old) }
+    ensures read { Gives seen result spots.new (sum_in (within_depth depth_left) spots.old) }
     ensures left { length spots.new ≤ length spots.old }
 {
     let first = product(alloc, spots, depth_left)?;
@@ -110,7 +110,7 @@ fn sum(alloc: Global, spots: &mut Spots, depth_left: u32) -> Result<Expr, Filter
 #[cycle(parser)]
 #[tactic(auto, unfolding(crate::specs::Reading::product_in))]
 fn product(alloc: Global, spots: &mut Spots, depth_left: u32) -> Result<Expr, FilterFault>
-    ensures read { Gives seen result spots.new (product_in (within depth_left) spots.old) }
+    ensures read { Gives seen result spots.new (product_in (within_depth depth_left) spots.old) }
     ensures left { length spots.new ≤ length spots.old }
 {
     let first = unary(alloc, spots, depth_left)?;
@@ -128,9 +128,9 @@ fn product(alloc: Global, spots: &mut Spots, depth_left: u32) -> Result<Expr, Fi
 
 /// `-` and a unary, or an atom.
 #[cycle(parser)]
-#[tactic(auto, using(crate::proofs::SeenLemmas::nodes), unfolding(crate::specs::Reading::unary_in, crate::specs::Reading::within))]
+#[tactic(auto, using(crate::proofs::SeenLemmas::nodes), unfolding(crate::specs::Reading::unary_in, crate::specs::Reading::within_depth))]
 fn unary(alloc: Global, spots: &mut Spots, depth_left: u32) -> Result<Expr, FilterFault>
-    ensures read { Gives seen result spots.new (unary_in (within depth_left) spots.old) }
+    ensures read { Gives seen result spots.new (unary_in (within_depth depth_left) spots.old) }
     ensures left { length spots.new ≤ length spots.old }
 {
     if !spots.is_minus() {
@@ -146,9 +146,9 @@ fn unary(alloc: Global, spots: &mut Spots, depth_left: u32) -> Result<Expr, Filt
 
 /// A name, string, number, `true`, `false`, `null`, or a filter in parentheses.
 #[cycle(parser)]
-#[tactic(auto, unfolding(crate::specs::Reading::atom_in, crate::specs::Reading::within))]
+#[tactic(auto, unfolding(crate::specs::Reading::atom_in, crate::specs::Reading::within_depth))]
 fn atom(alloc: Global, spots: &mut Spots, depth_left: u32) -> Result<Expr, FilterFault>
-    ensures read { Gives seen result spots.new (atom_in (within depth_left) spots.old) }
+    ensures read { Gives seen result spots.new (atom_in (within_depth depth_left) spots.old) }
     ensures left { length spots.new ≤ length spots.old }
 {
     if spots.is_leaf() {

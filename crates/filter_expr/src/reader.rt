@@ -1,8 +1,8 @@
 //! Reads a filter text.
 ghost use Rattle.filter_expr.specs.Seen.{seen};
 ghost use Rattle.filter_expr.specs.Lexing.{lexed};
-ghost use Rattle.filter_expr.specs.Reading.{whole};
-ghost use Rattle.filter_expr.specs.Gives.{Answers};
+ghost use Rattle.filter_expr.specs.Reading.{whole_filter};
+ghost use Rattle.filter_expr.specs.inner.Gives.{Answers};
 ghost use Rattle.filter_expr.specs.Filters.{FilterOf, FaultOf, MayAnswer, AnswersTree, AnswersFault, OneTree, SomeAnswer, OneFilter, NotBoth, OneFault, SomeTokenList, OneTokenList};
 ghost use Rattle.filter_expr.specs.FilterTexts.{filter_of, Says, SaysFilter, SaysFault, FilterSaid, FaultSaid};
 ghost use Rattle.filter_expr.specs.declared.faults.FilterFault.{FilterFault};
@@ -36,9 +36,9 @@ pub fn parse(alloc: Global, text: &str) -> Result<Expr, FilterFault>
 }
 
 /// The reading of all tokens of the text.
-#[tactic(auto, unfolding(crate::specs::Reading::whole))]
+#[tactic(auto, unfolding(crate::specs::Reading::whole_filter))]
 fn read(alloc: Global, text: &str) -> Result<Expr, FilterFault>
-    ensures { Answers seen result (whole (lexed 0 0 text.now)) }
+    ensures { Answers seen result (whole_filter (lexed 0 0 text.now)) }
 {
     let mut spots = tokens(alloc, text)?;
     let filter = or_chain(alloc, &mut spots, DEPTH)?;

@@ -1,7 +1,7 @@
 //! Values of filters, and what the operators make of them.
 ghost use Rattle.std.specs.Prelude.{◌≡◌, int_rem};
 ghost use Rattle.plain_filters.specs.Values.{truth, same, below, ordered, compares, sum_of, product_of, negated, attribute, divided_by, fitting};
-ghost use Rattle.filter_expr.specs.Shown.{plain, plain_number};
+ghost use Rattle.filter_expr.specs.inner.Shown.{plain, plain_number};
 
 use farm_base::{Attr, Value};
 use plain_filters::{CompareSign, ProductSign, SumSign};

@@ -3,8 +3,8 @@ ghost use Rattle.std.specs.Prelude.{◌≡◌, map};
 ghost use Rattle.std.specs.List.{list_any, list_all};
 ghost use Rattle.plain_filters.specs.Values.{truth};
 ghost use Rattle.plain_filters.specs.Filters.{tree_of, tree_value, tree_holds};
-ghost use Rattle.filter_expr.specs.Parts.{valued, sum_part, product_part, sum_value, product_value};
-ghost use Rattle.filter_expr.specs.Shown.{plain};
+ghost use Rattle.filter_expr.specs.inner.Parts.{valued, sum_part, product_part, sum_value, product_value};
+ghost use Rattle.filter_expr.specs.inner.Shown.{plain};
 
 use crate::value::{ValueRef, attribute, compares, negated, product_of, sum_of, truth};
 use farm_base::Attr;

@@ -13,7 +13,8 @@ use Rattle.filter_expr.specs.declared.tokens.Token.TheVariants as token
 use Rattle.filter_expr.specs.declared.tokens.Spot.{Spot}
 use Rattle.filter_expr.specs.Trees.{Kind, Tree, Terms, leaf, negation, negative, comparison, chain, parens, no_terms, term, or_chain, and_chain, sum_chain, product_chain, joins, is_leaf, bare, bare_terms, nesting, nesting_terms, InRange, TermsInRange}
 use Rattle.filter_expr.specs.Seen.{shape}
-use Rattle.filter_expr.specs.Spelling.{is_digit, IsDigits, number_of, number_after, IsQuoting, Spells, begins_with, EndsBefore, AreTokens, TokensOf}
+use Rattle.farm_base.specs.Digits.{is_digit, number_after}
+use Rattle.filter_expr.specs.Spelling.{IsDigits, number_of, IsQuoting, Spells, begins_with, EndsBefore, AreTokens, TokensOf}
 use Rattle.filter_expr.specs.Grammar.{IsSpelled, AreSpelled, kind_strength, strength, IsMany, Stands, StandTerms}
 use Rattle.filter_expr.specs.Filters.{IsFilter, FilterOf}
 use Rattle.filter_texts.specs.Written.{escaped_text, spelling, guarded, shown, shown_terms, tokens_in, tokens_of_terms, put_tokens, written, ReadsAgain, AnswersAgain, IsKnownByText}

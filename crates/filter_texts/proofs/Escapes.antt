@@ -5,7 +5,7 @@ use Rattle.std.proofs.lemmas.List.{append-nil}
 use Rattle.std.proofs.lemmas.Str.{inside_one}
 use Rattle.filter_expr.proofs.Spelled.{split_bool}
 use Rattle.filter_texts.specs.Written.{escaped_text}
-use Rattle.filter_texts.specs.Pieces.{is_escaped, escaped_char}
+use Rattle.filter_texts.specs.inner.Pieces.{is_escaped, escaped_char}
 
 -- bytes of which none is escaped
 unescaped_run : (us rest : List ℕ) → ((k : ℕ) → k < length us → is_escaped (get_or us k 0) ≡ false) → escaped_text (us ++ rest) ≡ us ++ escaped_text rest

@@ -14,10 +14,11 @@ use Rattle.filter_expr.specs.declared.tokens.Token.TheVariants as token
 use Rattle.filter_expr.specs.Trees.{Kind, Tree, leaf, parens, or_chain, and_chain, sum_chain, product_chain}
 use Rattle.filter_expr.specs.Seen.{Part, seen, terms_of, behind, truth_token}
 use Rattle.filter_expr.specs.Grammar.{kind_strength, strength}
-use Rattle.filter_expr.proofs.SeenLemmas.{listed, seen_sum, seen_product, seen-Or, seen-And, seen-Not, seen-Compare, seen-Sum, seen-Product, seen-Negate, seen-Name, seen-Text, seen-Number, seen-Truth, seen-Null}
+use Rattle.filter_expr.proofs.SeenLemmas.{listed, seen-Or, seen-And, seen-Not, seen-Compare, seen-Sum, seen-Product, seen-Negate, seen-Name, seen-Text, seen-Number, seen-Truth, seen-Null}
+use Rattle.filter_expr.specs.inner.SeenParts.{seen_sum, seen_product}
 use Rattle.filter_expr.proofs.Turns.{left_here}
 use Rattle.filter_texts.specs.Written.{spelling, guarded, shown, shown_terms, tokens_in, tokens_of_terms, put_behind, put_tokens}
-use Rattle.filter_texts.specs.Pieces.{put_form, put_tree, put_parts, put_list, put_terms}
+use Rattle.filter_texts.specs.inner.Pieces.{put_form, put_tree, put_parts, put_list, put_terms}
 
 put_both : (out : List ℕ) (ts us : List Token) → put_tokens out (ts ++ us) ≡ put_tokens (put_tokens out ts) us
 put_both out [] us = refl

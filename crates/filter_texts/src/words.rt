@@ -5,7 +5,7 @@ ghost use Rattle.filter_expr.specs.Trees.{sum_token, product_token};
 ghost use Rattle.filter_expr.specs.Grammar.{strength};
 ghost use Rattle.filter_expr.specs.Seen.{seen, truth_token};
 ghost use Rattle.filter_texts.specs.Written.{escaped_text, spelling, put_behind, shown};
-ghost use Rattle.filter_texts.specs.Pieces.{spaced, escaped_char};
+ghost use Rattle.filter_texts.specs.inner.Pieces.{spaced, escaped_char};
 
 use farm_base::NoMemory;
 use plain_filters::{CompareSign, Expr, ProductSign, SumSign};

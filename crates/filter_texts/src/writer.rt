@@ -3,10 +3,10 @@ ghost use Rattle.std.specs.Prelude.{◌≡◌, OnOk, IfOk, ℕ, List, map, strin
 ghost use Rattle.plain_filters.specs.Filters.{tree_of};
 ghost use Rattle.filter_expr.specs.Seen.{seen};
 ghost use Rattle.filter_expr.specs.Filters.{FilterOf};
-ghost use Rattle.filter_expr.proofs.SeenLemmas.{seen_sum, seen_product};
+ghost use Rattle.filter_expr.specs.inner.SeenParts.{seen_sum, seen_product};
 ghost use Rattle.filter_texts.specs.Written.{written};
-ghost use Rattle.filter_texts.specs.Pieces as piece;
-ghost use Rattle.filter_texts.specs.Pieces.{put_tree, put_terms};
+ghost use Rattle.filter_texts.specs.inner.Pieces as piece;
+ghost use Rattle.filter_texts.specs.inner.Pieces.{put_tree, put_terms};
 
 use crate::words::{
     compare_word, product_word, put_name, put_number, put_quoted, put_word, strength, sum_word,

@@ -9,7 +9,7 @@ use Rattle.std.proofs.lemmas.List.{map-append}
 use Rattle.std.proofs.lemmas.List.Folds.{list_any-append}
 use Rattle.plain_data.specs.Data.{has_id, ids_of}
 use Rattle.plain_data.specs.Features.{Feature}
-use Rattle.geo_json.specs.KnownIds.{KnowsIds}
+use Rattle.geo_json.specs.inner.KnownIds.{KnowsIds}
 
 pushed : (before : List Feature) (f : Feature) (q : ℕ) → has_id (ids_of (before ++ f ∷ [])) q ≡ (has_id (ids_of before) q || (nat_eq q f.id || false))
 pushed before f q = rw (map-append (λ (g : Feature). g.id) before (f ∷ []), list_any-append (nat_eq q) (ids_of before) (f.id ∷ [])) refl

@@ -19,6 +19,7 @@ use Rattle.geo_json.specs.Openings.{object_of, name_at}
 use Rattle.geo_json.specs.declared.faults.DataFault.{DataFault}
 use Rattle.geo_json.specs.declared.faults.DataFault.TheVariants.{NotJson, Shape, DoubleLayer, TooMany}
 use Rattle.geo_json.specs.declared.coordinates.Units.{Units}
+use Rattle.plain_data.specs.Limits.{most_data_layers, most_features}
 
 -- an earlier layer has the name
 abbrev pub has_layer : List Layer → List ℕ → Bool
@@ -30,25 +31,25 @@ layer_keys = codes "name" ∷ codes "features" ∷ []
 
 -- a layer at its place after those before it: its own keys, its name among the earlier ones, how many features it has,
 -- and then each feature; there is no layer after 64
-unfoldable pub layer_at : Units → ℕ → List Layer → Data → Result Layer DataFault
-layer_at units part before d = do
-  u ← check (nat_lt part 64) (Shape 64 0)
+unfoldable pub layer_said : Units → ℕ → List Layer → Data → Result Layer DataFault
+layer_said units part before d = do
+  u ← check (nat_lt part most_data_layers) (Shape most_data_layers 0)
   u ← object_of (Shape part 0) layer_keys d
   name ← name_at (Shape part 0) (codes "name") d
   items ← needed (Shape part 0) (list (Shape part 0)) (get (codes "features") d)
   u ← check (not (has_layer before name)) (DoubleLayer part)
-  u ← check (nat_le (items_len items) 1000000) (TooMany part)
+  u ← check (nat_le (items_len items) most_features) (TooMany part)
   features ← list_of (new_feature_after units part) items
   Ok (record { name = name; features = features })
 
 -- a layer of the list, at the place behind those that were read before it
 abbrev pub layer_after : Units → List Layer → Data → Result Layer DataFault
-layer_after units before d = layer_at units (length before) before d
+layer_after units before d = layer_said units (length before) before d
 
 -- what holds of a layer that was read after those before it
 abbrev pub is_read : List Layer → Layer → Bool
-is_read before l = nat_lt (length before) 64 && not (has_layer before l.name)
-    && is_name l.name && nat_le (length l.features) 1000000 && each_after is_new [] l.features
+is_read before l = nat_lt (length before) most_data_layers && not (has_layer before l.name)
+    && is_name l.name && nat_le (length l.features) most_features && each_after is_new [] l.features
 
 -- the keys that data may have
 abbrev pub data_keys : List (List ℕ)

@@ -17,6 +17,7 @@ use Rattle.geo_json.specs.Openings.{object_of}
 use Rattle.geo_json.specs.declared.faults.DataFault.{DataFault}
 use Rattle.geo_json.specs.declared.faults.DataFault.TheVariants.{Shape, Geo, DoubleId}
 use Rattle.geo_json.specs.declared.coordinates.Units.{Units}
+use Rattle.plain_data.specs.Limits.{most_attrs}
 
 -- an id is a whole number of 64 bits
 unfoldable pub id_of : DataFault → Data → Result ℕ DataFault
@@ -25,7 +26,7 @@ id_of shape d = whole shape shape 0 (2 ^ 64 - 1) d
 -- the faults that the parts of a feature may have, in order: those of its shape, and then more than 64 attributes;
 -- the keys of an object are distinct, so no two attributes have one name
 abbrev pub parts_fault : Geometry → List Attr → Option GeoFault
-parts_fault g attrs = first_of (shape_fault g) (if nat_lt 64 (length attrs) then Some TooManyAttrs else None)
+parts_fault g attrs = first_of (shape_fault g) (if nat_lt most_attrs (length attrs) then Some TooManyAttrs else None)
 
 -- the feature, or the fault that its parts have, with its places
 abbrev pub made_unless : ℕ → ℕ → Feature → Option GeoFault → Result Feature DataFault

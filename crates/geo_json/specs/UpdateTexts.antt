@@ -15,6 +15,7 @@ use Rattle.geo_json.specs.Openings.{object_of, name_at}
 use Rattle.geo_json.specs.declared.faults.DataFault.{DataFault}
 use Rattle.geo_json.specs.declared.faults.DataFault.TheVariants.{NotJson, Shape, TooMany}
 use Rattle.geo_json.specs.declared.coordinates.Units.{Units}
+use Rattle.plain_data.specs.Limits.{most_features}
 
 -- the ids that a change removes, as a JSON list
 unfoldable pub ids_in : DataFault → Data → Result (List ℕ) DataFault
@@ -27,12 +28,12 @@ change_keys = codes "layer" ∷ codes "remove" ∷ codes "put" ∷ []
 -- a change at its place: its own keys, how many puts it has, and then each feature; there is no change after 1,000,000
 unfoldable pub change_at : Units → ℕ → Data → Result Change DataFault
 change_at units part d = do
-  u ← check (nat_lt part 1000000) (Shape 1000000 0)
+  u ← check (nat_lt part most_features) (Shape most_features 0)
   u ← object_of (Shape part 0) change_keys d
   name ← name_at (Shape part 0) (codes "layer") d
   remove ← or_value [] (ids_in (Shape part 0)) (get (codes "remove") d)
   items ← or_value no_items (list (Shape part 0)) (get (codes "put") d)
-  u ← check (nat_le (items_len items) 1000000) (TooMany part)
+  u ← check (nat_le (items_len items) most_features) (TooMany part)
   put ← list_of (feature_after units part) items
   Ok (record { layer = name; remove = remove; put = put })
 
@@ -42,7 +43,7 @@ change_after units before d = change_at units (length before) d
 
 -- what holds of a change that was read after those before it
 abbrev pub is_read : List Change → Change → Bool
-is_read before c = nat_lt (length before) 1000000 && is_name c.layer && nat_le (length c.put) 1000000
+is_read before c = nat_lt (length before) most_features && is_name c.layer && nat_le (length c.put) most_features
 
 -- the keys that an update may have
 abbrev pub update_keys : List (List ℕ)

@@ -9,6 +9,7 @@ ghost use Rattle.reading.specs.Steps.{Gives};
 ghost use Rattle.geo_json.specs.DataTexts as spec;
 ghost use Rattle.geo_json.specs.Openings.{object_of};
 ghost use Rattle.geo_json.specs.declared.faults.DataFault.TheVariants as fault;
+ghost use Rattle.plain_data.specs.Limits.{most_features};
 
 use crate::coordinates::{Units, units_at};
 use crate::faults::DataFault;
@@ -16,6 +17,7 @@ use crate::feature_texts::new_features;
 use crate::openings::{name_at, open};
 use data_versions::{Dataset, Layer};
 use farm_base::Text;
+use plain_data::{MOST_DATA_LAYERS, MOST_FEATURES};
 use reading::{ReadItem, list, read_json, read_list};
 use serde_json::Value;
 use std::alloc::Global;
@@ -60,9 +62,9 @@ fn layers(alloc: Global, units: Units, items: &[Value]) -> Result<Vec<Layer>, Da
 /// Whether there are at most 1,000,000 values.
 #[tactic(auto, using(crate::proofs::Validity::values_len))]
 pub(crate) fn is_few(items: &[Value]) -> bool
-    ensures { result ≡ nat_le (items_len (items_view items.now)) 1000000 }
+    ensures { result ≡ nat_le (items_len (items_view items.now)) most_features }
 {
-    items.len() <= 1_000_000
+    items.len() <= MOST_FEATURES
 }
 
 fn has_layer(layers: &[Layer], name: &str) -> bool
@@ -84,13 +86,13 @@ fn open_layer(object: &Value, shape: DataFault) -> Result<(), DataFault>
 }
 
 /// The layer that the value says, after those before it.
-#[tactic(auto, unfolding(crate::specs::DataTexts::layer_at), using(crate::proofs::Validity::values_few))]
+#[tactic(auto, unfolding(crate::specs::DataTexts::layer_said), using(crate::proofs::Validity::values_few))]
 fn layer(alloc: Global, units: Units, before: &[Layer], object: &Value) -> Result<Layer, DataFault>
     ensures value { Gives fault.NoMemory (λ l. l) (spec.layer_after units before.now (view object.now)) result }
     ensures valid { IfOk result (λ l. IsTrue (spec.is_read before.now l)) }
 {
-    if before.len() >= 64 {
-        return Err(DataFault::Shape(64, 0));
+    if before.len() >= MOST_DATA_LAYERS {
+        return Err(DataFault::Shape(MOST_DATA_LAYERS as u32, 0));
     }
     let part = before.len() as u32;
     let shape = DataFault::Shape(part, 0);

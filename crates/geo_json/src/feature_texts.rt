@@ -9,9 +9,10 @@ ghost use Rattle.reading.specs.Values.{needed};
 ghost use Rattle.serde_json.specs.Find.{get};
 ghost use Rattle.geo_json.specs.FeatureTexts as spec;
 ghost use Rattle.geo_json.specs.Geometries.{geometry_of};
-ghost use Rattle.geo_json.specs.KnownIds.{KnowsIds};
+ghost use Rattle.geo_json.specs.inner.KnownIds.{KnowsIds};
 ghost use Rattle.geo_json.specs.Openings.{object_of};
 ghost use Rattle.geo_json.specs.declared.faults.DataFault.TheVariants as fault;
+ghost use Rattle.plain_data.specs.Limits.{most_features};
 
 use crate::attributes::attrs_at;
 use crate::coordinates::Units;
@@ -110,7 +111,7 @@ fn new_feature(
     before: &[Feature],
     object: &Value,
 ) -> Result<Feature, DataFault>
-    requires place { length before.now < 1000000 }
+    requires place { length before.now < most_features }
     requires known { KnowsIds known.old before.now }
     ensures value { Gives fault.NoMemory (λ f. f) (spec.new_feature_after units part before.now (view object.now)) result }
     ensures apart { IfOk result (λ f. IsTrue (spec.is_new before.now f)) }
@@ -132,9 +133,9 @@ pub(crate) fn features(
     part: u32,
     items: &[Value],
 ) -> Result<Vec<Feature>, DataFault>
-    requires { length items.now ≤ 1000000 }
+    requires { length items.now ≤ most_features }
     ensures value { Gives fault.NoMemory (λ v. v.items) (list_of (spec.feature_after units part) (items_view items.now)) result }
-    ensures few { IfOk result (λ v. length v.items ≤ 1000000) }
+    ensures few { IfOk result (λ v. length v.items ≤ most_features) }
 {
     read_list(alloc, &FeatureItems { units, part }, items)
 }
@@ -146,9 +147,9 @@ pub(crate) fn new_features(
     part: u32,
     items: &[Value],
 ) -> Result<Vec<Feature>, DataFault>
-    requires { length items.now ≤ 1000000 }
+    requires { length items.now ≤ most_features }
     ensures value { Gives fault.NoMemory (λ v. v.items) (list_of (spec.new_feature_after units part) (items_view items.now)) result }
-    ensures few { IfOk result (λ v. length v.items ≤ 1000000) }
+    ensures few { IfOk result (λ v. length v.items ≤ most_features) }
     ensures apart { IfOk result (λ v. IsTrue (each_after spec.is_new [] v.items)) }
 {
     let mut known = BTreeSet::new(alloc);
@@ -167,7 +168,7 @@ impl ReadItem for FeatureItems {
 
     type Fault = DataFault;
 
-    ghost limit = { λ r. 1000000 };
+    ghost limit = { λ r. most_features };
 
     ghost reads = { λ r before d. spec.feature_after r.units r.part before d };
 
@@ -192,7 +193,7 @@ impl ReadKnown for NewFeatureItems {
 
     type Known = BTreeSet<u64>;
 
-    ghost limit = { λ r. 1000000 };
+    ghost limit = { λ r. most_features };
 
     ghost reads = { λ r before d. spec.new_feature_after r.units r.part before d };
 

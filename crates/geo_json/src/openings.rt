@@ -6,6 +6,7 @@ ghost use Rattle.reading.specs.Steps.{seen};
 ghost use Rattle.geo_json.specs.Openings as spec;
 
 use crate::faults::DataFault;
+use plain_data::MOST_NAME_BYTES;
 use reading::{opened, text};
 use serde_json::Value;
 
@@ -13,7 +14,7 @@ use serde_json::Value;
 pub(crate) fn is_name(name: &str) -> bool
     ensures { result ≡ is_name name.now }
 {
-    1 <= name.len() && name.len() <= 64
+    1 <= name.len() && name.len() <= MOST_NAME_BYTES
 }
 
 /// An object with no other keys than these.

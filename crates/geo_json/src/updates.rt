@@ -19,6 +19,7 @@ use crate::feature_texts::{features, id_of};
 use crate::openings::{name_at, open};
 use data_versions::{Change, Update};
 use farm_base::Text;
+use plain_data::MOST_FEATURES;
 use reading::{ReadItem, list, read_json, read_list};
 use serde_json::Value;
 use std::alloc::Global;
@@ -110,8 +111,8 @@ fn change(
     ensures value { Gives fault.NoMemory (λ c. c) (spec.change_after units before.now (view object.now)) result }
     ensures valid { IfOk result (λ c. IsTrue (spec.is_read before.now c)) }
 {
-    if before.len() >= 1_000_000 {
-        return Err(DataFault::Shape(1_000_000, 0));
+    if before.len() >= MOST_FEATURES {
+        return Err(DataFault::Shape(MOST_FEATURES as u32, 0));
     }
     let part = before.len() as u32;
     let shape = DataFault::Shape(part, 0);

@@ -9,6 +9,7 @@ use Rattle.plain_shapes.specs.declared.shapes.Geometry.TheVariants.{Points, Line
 use Rattle.plain_world.specs.World.{InWorld}
 use Rattle.plain_data.specs.Features.{Feature}
 use Rattle.geo_model.specs.declared.faults.GeoFault.{GeoFault}
+use Rattle.plain_data.specs.Limits.{most_points, most_attrs}
 use Rattle.geo_model.specs.declared.faults.GeoFault.TheVariants.{TooFewPoints, OutOfWorld, TooManyPoints, TooManyAttrs, DoubleName}
 
 -- the parts of a shape: all points together, or each line, or each ring
@@ -50,13 +51,13 @@ abbrev pub shape_fault : Geometry → Option GeoFault
 shape_fault g =
     if has_too_few g then Some TooFewPoints
     else (if list_any (list_any is_outside) (parts_of g) then Some OutOfWorld
-    else (if nat_lt 65536 (point_count g) then Some TooManyPoints
+    else (if nat_lt most_points (point_count g) then Some TooManyPoints
     else None))
 
 -- the first fault of attributes
 abbrev pub attrs_fault : List Attr → Option GeoFault
 attrs_fault attrs =
-    if nat_lt 64 (length attrs) then Some TooManyAttrs
+    if nat_lt most_attrs (length attrs) then Some TooManyAttrs
     else (if has_double_name attrs then Some DoubleName
     else None)
 
@@ -73,9 +74,9 @@ fault_of g attrs = first_of (shape_fault g) (attrs_fault attrs)
 pub record IsShape (g : Geometry) : Type 0 where
   pub enough : has_too_few g ≡ false
   pub in_world : All (All InWorld) (parts_of g)
-  pub few : point_count g ≤ 65536
+  pub few : point_count g ≤ most_points
 
 -- what the attributes of a feature keep
 pub record IsAttrs (attrs : List Attr) : Type 0 where
-  pub few : length attrs ≤ 64
+  pub few : length attrs ≤ most_attrs
   pub distinct : has_double_name attrs ≡ false

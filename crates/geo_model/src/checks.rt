@@ -2,20 +2,16 @@
 ghost use Rattle.std.specs.Prelude.{◌≡◌, ◌<◌, ◌≤◌, length, ◌^◌, nat_lt, sum_by, MatchResult, Some, None};
 ghost use Rattle.std.specs.List.{list_any};
 ghost use Rattle.std.specs.Str.{bytes_eq};
+ghost use Rattle.plain_data.specs.Limits.{most_points};
 ghost use Rattle.geo_model.specs.Shapes.{parts_of, least_points, is_none, has_too_few, is_outside, point_count, has_double_name, shape_fault, attrs_fault};
 
 use crate::bounds::WORLD;
 use crate::faults::GeoFault;
 use farm_base::Attr;
+use plain_data::{MOST_ATTRS, MOST_POINTS};
 use plain_shapes::{Geometry, Path};
 use plain_world::Point;
 use std::slice;
-
-/// The most points of a feature.
-const MOST_POINTS: usize = 65_536;
-
-/// The most attributes of a feature.
-const MOST_ATTRS: usize = 64;
 
 /// The parts of the shape: all points together, or each line, or each ring.
 pub(crate) fn parts_of(geometry: &Geometry) -> &[Path]
@@ -76,7 +72,7 @@ fn point_count(path: &Path) -> usize
 
 #[tactic(auto, using(std::proofs::lemmas::List::Sums::sum_by_more_le, std::proofs::lemmas::List::Sums::sum_by_more))]
 fn has_too_many_points(parts: &[Path]) -> bool
-    ensures { result ≡ nat_lt 65536 (sum_by length parts.now) }
+    ensures { result ≡ nat_lt most_points (sum_by length parts.now) }
 {
     let mut count = 0usize;
     for part in parts {

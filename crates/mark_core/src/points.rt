@@ -1,7 +1,7 @@
 //! Marks at all points of a path.
 ghost use Rattle.std.specs.Prelude.{◌≡◌, ◌≤◌, ◌^◌, All};
 ghost use Rattle.plain_world.specs.World.{InWorld, IsWindow, centres};
-ghost use Rattle.plain_shapes.specs.Canvas.{marked};
+ghost use Rattle.plain_shapes.specs.inner.Canvas.{marked};
 ghost use Rattle.plain_shapes.specs.Strokes.{on_marks};
 
 use crate::ellipses::Ellipse;

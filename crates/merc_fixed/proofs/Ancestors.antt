@@ -27,7 +27,7 @@ meets_over a b l h e =
     let both = and_parts (b.x / 2 ^ d == a.x) (b.y / 2 ^ d == a.y) (ancestor a b d z h ∙ e) in
     (d, z, same_is (b.x / 2 ^ d) a.x both.0, same_is (b.y / 2 ^ d) a.y both.1)
 
-either_meets : (a b : Square) → a.z ≤ 18 → b.z ≤ 18 → (IsOver a b ⊎ IsOver b a) → squares_meet a b ≡ true
+pub either_meets : (a b : Square) → a.z ≤ 18 → b.z ≤ 18 → (IsOver a b ⊎ IsOver b a) → squares_meet a b ≡ true
 either_meets a b g h (inl over) = over_meets a b h over
 either_meets a b g h (inr over) = squares_turned a b ∙ over_meets b a g over
 

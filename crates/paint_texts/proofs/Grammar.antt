@@ -7,7 +7,8 @@ use Rattle.std.proofs.lemmas.Bool.{le-leb}
 use Rattle.std.proofs.lemmas.Bool.Decides.{nat_tests}
 use Rattle.std.proofs.lemmas.Option.{cond_some, none-some}
 use Rattle.std.proofs.Math.Seq.{take-append_seam, drop-append_seam}
-use Rattle.paint_texts.specs.Decimals.{is_digit, scaled, IsDecimal, ends, decimal_of, hundredths_of, at_most_one, thousandths_of}
+use Rattle.farm_base.specs.Digits.{is_digit}
+use Rattle.paint_texts.specs.Decimals.{scaled, IsDecimal, ends, decimal_of, hundredths_of, at_most_one, thousandths_of}
 use Rattle.paint_texts.proofs.Runs.{front_passes, front_spelled}
 
 -- what is read is in the grammar, told from the whole part and what stands behind it

@@ -6,7 +6,7 @@ use Rattle.std.proofs.lemmas.List.{drop_more, drop_all}
 use Rattle.std.proofs.lemmas.Bool.Decides.{nat_tests}
 use Rattle.std.proofs.lemmas.List.Folds.{list_all_at}
 use Rattle.std.proofs.Math.Nat.{pow-suc, pow-le-pow_right, mul-le-mul}
-use Rattle.paint_texts.specs.Decimals.{is_digit, number_after}
+use Rattle.farm_base.specs.Digits.{is_digit, number_after}
 
 -- a list behind one more element
 take_one : {A : Type 0} (x : A) (xs : List A) (n : ℕ) → take (1 + n) (x ∷ xs) ≡ x ∷ take n xs
@@ -40,13 +40,11 @@ front_spelled p (x ∷ xs) rest h z = go (p x) refl h (λ k. front_spelled p xs 
 -- one more digit
 pub number_more : (ds : List ℕ) (k d n m all : ℕ) → d ≡ get_or ds k 0 → m ≡ 10 * n + (d - 48) → k < length ds
     → number_after n (drop k ds) ≡ all → number_after m (drop (k + 1) ds) ≡ all
-unfolding number_after
 number_more ds k d n m all e f h t =
     ap (λ x. number_after x (drop (k + 1) ds)) (f ∙ ap (λ x. 10 * n + (x - 48)) e)
     ∙ sym (ap (number_after n) (drop_more ds k 0 h)) ∙ t
 
 pub number_ends : (ds : List ℕ) (k n all : ℕ) → length ds ≤ k → number_after n (drop k ds) ≡ all → n ≡ all
-unfolding number_after
 number_ends ds k n all h t = sym (ap (number_after n) (drop_all k ds h)) ∙ t
 
 -- a number of fewer than 12 digits, and one more

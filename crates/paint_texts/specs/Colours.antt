@@ -4,7 +4,8 @@ use Rattle.std.specs.Option.{option_or}
 use Rattle.std.specs.List.{prefix_len}
 use Rattle.std.specs.Str.{bytes_eq}
 use Rattle.plain_shapes.specs.declared.colour.Colour.{Colour}
-use Rattle.paint_texts.specs.Decimals.{is_digit, number}
+use Rattle.farm_base.specs.Digits.{is_digit}
+use Rattle.paint_texts.specs.Decimals.{number}
 
 -- the colour of so much red, green and blue
 abbrev pub rgb : ℕ → ℕ → ℕ → Colour

@@ -1,15 +1,7 @@
 -- Decimal numbers of style texts: up to 12 digits, and a fraction of a few.
 use Rattle.std.specs.Prelude.{◌≡◌, ◌≤◌, ◌⊎◌, ℕ, ◌+◌, ◌-◌, ◌*◌, ◌^◌, ◌==◌, ◌&&◌, Bool, true, List, [], ◌∷◌, ◌++◌, length, take, drop, nat_le, if◌then◌else◌, Option, Some, None}
 use Rattle.std.specs.List.{list_all, prefix_len}
-
--- the byte of a decimal digit
-abbrev pub is_digit : ℕ → Bool
-is_digit c = nat_le 48 c && nat_le c 57
-
--- the number that these digits spell after others that spelled n
-unfoldable pub number_after : ℕ → List ℕ → ℕ
-number_after n [] = n
-number_after n (d ∷ ds) = number_after (10 * n + (d - 48)) ds
+use Rattle.farm_base.specs.Digits.{is_digit, number_after}
 
 -- the number that these digits spell
 abbrev pub number : List ℕ → ℕ

@@ -1,6 +1,7 @@
 //! Decimal numbers.
 ghost use Rattle.std.specs.Prelude.{◌≡◌, ◌≤◌, ◌<◌, ◌^◌, ◌↔◌, ℕ, Some, length, true};
 ghost use Rattle.std.specs.List.{list_all};
+ghost use Rattle.farm_base.specs.Digits.{is_digit};
 ghost use Rattle.paint_texts.specs.Decimals as spec;
 
 use crate::digits::{are_digits, front_len, number};
@@ -46,7 +47,7 @@ fn decimal(text: &str, places: u32) -> Option<u64>
 // The whole part, and what stands behind its digits.
 fn ended(whole: &[u8], rest: &[u8], places: u32) -> Option<u64>
     requires few { places ≤ 3 }
-    requires digits { list_all spec.is_digit whole.now ≡ true }
+    requires digits { list_all is_digit whole.now ≡ true }
     ensures { result ≡ spec.ends places whole.now rest.now }
 {
     if rest.is_empty() {
@@ -71,9 +72,9 @@ fn ended(whole: &[u8], rest: &[u8], places: u32) -> Option<u64>
 #[tactic(auto, unfolding(crate::specs::Decimals::scaled))]
 fn scaled(whole: &[u8], fraction: &[u8], places: u32) -> u64
     requires places { places ≤ 3 }
-    requires whole_digits { list_all spec.is_digit whole.now ≡ true }
+    requires whole_digits { list_all is_digit whole.now ≡ true }
     requires whole_few { length whole.now ≤ 12 }
-    requires digits { list_all spec.is_digit fraction.now ≡ true }
+    requires digits { list_all is_digit fraction.now ≡ true }
     requires few { length fraction.now ≤ places }
     ensures { result ≡ spec.scaled places whole.now fraction.now }
 {

@@ -1,7 +1,7 @@
 //! Colours.
 ghost use Rattle.std.specs.Prelude.{◌≡◌, ◌+◌, ◌*◌, ◌≤◌, true, length, take, option_map, IfSome};
 ghost use Rattle.std.specs.List.{list_all, prefix_len};
-ghost use Rattle.paint_texts.specs.Decimals.{is_digit};
+ghost use Rattle.farm_base.specs.Digits.{is_digit};
 ghost use Rattle.paint_texts.specs.Colours as spec;
 
 use crate::digits::{front_len, number};

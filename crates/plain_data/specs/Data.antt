@@ -4,6 +4,7 @@ use Rattle.std.specs.List.{list_any, IsDistinct}
 use Rattle.std.specs.Str.{bytes_eq}
 use Rattle.farm_base.specs.declared.faults.ApplyFault.{ApplyFault}
 use Rattle.farm_base.specs.declared.faults.ApplyFault.TheVariants.{NoLayer, NoFeature, TooMany}
+use Rattle.plain_data.specs.Limits.{most_name_bytes, most_data_layers, most_features}
 use Rattle.plain_data.specs.Features.{Feature, Layer}
 
 -- a change of one layer: the ids to be removed, and then the features to be put
@@ -16,7 +17,7 @@ pub record Change : Type 0 where
 
 -- a name of a layer has 1 to 64 bytes
 abbrev pub is_name : List ℕ → Bool
-is_name name = nat_le 1 (length name) && nat_le (length name) 64
+is_name name = nat_le 1 (length name) && nat_le (length name) most_name_bytes
 
 -- the ids of features, in their order
 abbrev pub ids_of : List Feature → List ℕ
@@ -29,23 +30,23 @@ names_of layers = map (λ l. l.name) layers
 -- a layer has at most 1,000,000 features, no two of one id
 pub record IsLayer (l : Layer) : Type 0 where
   pub named : IsTrue (is_name l.name)
-  pub few : length l.features ≤ 1000000
+  pub few : length l.features ≤ most_features
   pub distinct : IsDistinct nat_eq (ids_of l.features)
 
 -- data are at most 64 layers, no two of one name
 pub record IsDataset (layers : List Layer) : Type 0 where
-  pub few : length layers ≤ 64
+  pub few : length layers ≤ most_data_layers
   pub each : All IsLayer layers
   pub distinct : IsDistinct bytes_eq (names_of layers)
 
 -- a change names a layer and puts at most 1,000,000 features
 pub record IsChange (c : Change) : Type 0 where
   pub named : IsTrue (is_name c.layer)
-  pub few : length c.put ≤ 1000000
+  pub few : length c.put ≤ most_features
 
 -- an update has at most 1,000,000 changes
 pub record IsUpdate (changes : List Change) : Type 0 where
-  pub few : length changes ≤ 1000000
+  pub few : length changes ≤ most_features
   pub each : All IsChange changes
 
 -- ---- a layer after one change
@@ -89,7 +90,7 @@ first_missing held (id ∷ later) = if has_id held id then first_missing (filter
 
 -- a layer of more than 1,000,000 features: some put of a new id has passed the limit
 abbrev pub is_too_many : List Feature → Bool
-is_too_many features = nat_lt 1000000 (length features)
+is_too_many features = nat_lt most_features (length features)
 
 -- the fault of the removals comes before that of the puts
 abbrev pub removal_or_put : ℕ → Option ℕ → Bool → Option ApplyFault

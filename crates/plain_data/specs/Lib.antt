@@ -1,3 +1,4 @@
 pub mod Data
 pub mod Features
+pub mod Limits
 pub mod Reach

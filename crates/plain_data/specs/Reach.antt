@@ -7,6 +7,7 @@ use Rattle.plain_shapes.specs.declared.shapes.Geometry.{Geometry}
 use Rattle.plain_shapes.specs.declared.shapes.Geometry.TheVariants.{Points, Lines, Polygon}
 use Rattle.plain_world.specs.World.{side_at, InSquare}
 use Rattle.plain_data.specs.Features.{Feature}
+use Rattle.plain_data.specs.Limits.{most_width}
 
 -- all points of a shape
 abbrev pub all_points : Geometry → List Point
@@ -16,7 +17,7 @@ all_points (Polygon rings) = flat_map (λ r. r) rings
 
 -- 64 pixels in world units
 abbrev pub margin_of : ℕ → ℕ → ℕ
-margin_of size z = 64 * side_at z / size
+margin_of size z = most_width * side_at z / size
 
 -- p lies in the bounding box of the points widened by the margin, borders included: beside the least and the greatest coordinate, that is beside some point's, on each side
 pub record InReach (points : List Point) (margin : ℕ) (p : Point) : Type 0 where

@@ -11,10 +11,12 @@ use Rattle.plain_world.specs.declared.world.Window.{Window}
 use Rattle.plain_world.specs.World.{side_at, centre, row_centres, centres, tiles_across, window_of, meta_window_of, IsTileSize}
 use Rattle.plain_data.specs.Features.{Layer}
 use Rattle.plain_drawing.specs.Styles.{MapStyle}
-use Rattle.plain_shapes.specs.Canvas.{Pixels, cut_rows, cut_of}
+use Rattle.plain_shapes.specs.Images.{Pixels}
+use Rattle.plain_shapes.specs.inner.Canvas.{cut_rows, cut_of}
 use Rattle.plain_shapes.specs.Ppm.{ppm}
 use Rattle.plain_drawing.specs.Drawing.{colour_at, tile_of}
-use Rattle.plain_drawing.specs.Metatiles.{tile_at, column_of, tiles_of, part_text, column_texts, part_texts}
+use Rattle.plain_drawing.specs.Metatiles.{tile_at, column_of, tiles_of}
+use Rattle.plain_drawing.specs.inner.PartTexts.{part_text, column_texts, part_texts}
 use Rattle.plain_shapes.proofs.Places.{length-centres, get_or-centres}
 
 -- a window that is a part of another, so many columns and rows from its corner

@@ -10,12 +10,13 @@ use Rattle.plain_world.specs.World.{centres, window_of}
 use Rattle.plain_data.specs.Features.{Layer}
 use Rattle.plain_drawing.specs.Styles.{Style, LayerRef, MapStyle}
 use Rattle.plain_shapes.specs.Blending.{blend}
-use Rattle.plain_shapes.specs.Canvas.{Pixels, at_centres, stepped, marked, painted}
+use Rattle.plain_shapes.specs.Images.{Pixels}
+use Rattle.plain_shapes.specs.inner.Canvas.{at_centres, stepped, marked, painted}
 use Rattle.plain_drawing.specs.Rules.{drawn, is_active, denominator_of}
 use Rattle.plain_shapes.specs.Ppm.{ppm}
-use Rattle.plain_drawing.specs.Drawing.{tile_of, pixel_of, colour_at, Item, attrs_of, symbolizer_at, item_at, style_at, layer_at, items_of, style_named}
+use Rattle.plain_drawing.specs.Drawing.{tile_of, pixel_of, colour_at, Item, item_attrs, symbolizer_at, item_at, style_at, layer_at, items_of, style_named}
 use Rattle.plain_shapes.proofs.Places.{length-centres}
-use Rattle.plain_drawing.specs.Pictures.{with_symbolizer, with_item, with_style, with_layer, with_map}
+use Rattle.plain_drawing.specs.inner.Pictures.{with_symbolizer, with_item, with_style, with_layer, with_map}
 
 at_centres_none : {X : Type 0} (cs : List Point) (xs : List X) → at_centres (λ c x. x) cs xs ≡ xs
 at_centres_none [] xs = refl
@@ -63,7 +64,7 @@ item_step : (w : Window) (denominator : ℕ) (style : Style) (image : Pixels) (i
     → with_item w denominator style image item ≡ stepped w (λ c d. item_at w.pixel denominator style c d item) image
 unfolding with_item
 item_step w denominator style image item =
-    fold_stepped w (symbolizer_at w.pixel item) (with_symbolizer w item) (symbolizer_step w item) (drawn (attrs_of item) denominator style) image
+    fold_stepped w (symbolizer_at w.pixel item) (with_symbolizer w item) (symbolizer_step w item) (drawn (item_attrs item) denominator style) image
 
 style_step : (w : Window) (denominator : ℕ) (items : List Item) (image : Pixels) (style : Style)
     → with_style w denominator items image style ≡ stepped w (λ c d. style_at w.pixel denominator items c d style) image

@@ -29,9 +29,9 @@ pub data Item : Type 0 where
   raster : Grid → Item
 
 -- the attributes of an item that filters see
-abbrev pub attrs_of : Item → List Attr
-attrs_of (feature f) = f.attrs
-attrs_of (raster g) = []
+abbrev pub item_attrs : Item → List Attr
+item_attrs (feature f) = f.attrs
+item_attrs (raster g) = []
 
 -- the symbolizer covers the point on a shape, where pixels have this side: polygons are filled, lines and rings stroked, points marked; on other shapes it covers nothing
 abbrev pub covers : ℕ → Geometry → Point → Symbolizer → Bool
@@ -67,7 +67,7 @@ symbolizer_at pixel (raster g) c d s = raster_over g c d s
 
 -- after each symbolizer that an item meets in a style
 abbrev pub item_at : ℕ → ℕ → Style → Point → Colour → Item → Colour
-item_at pixel denominator style c d item = fold (symbolizer_at pixel item c) d (drawn (attrs_of item) denominator style)
+item_at pixel denominator style c d item = fold (symbolizer_at pixel item c) d (drawn (item_attrs item) denominator style)
 
 -- after one pass of a style over all items
 abbrev pub style_at : ℕ → ℕ → List Item → Point → Colour → Style → Colour

@@ -2,6 +2,7 @@
 use Rattle.std.specs.Prelude.{ℕ, ◌+◌, ◌-◌, ◌*◌, ◌/◌, ◌≡◌, ◌≤◌, ◌&&◌, nat_le, nat_lt, if◌then◌else◌, List, length, slice_index, Option, Some, None}
 use Rattle.plain_world.specs.declared.world.Point.{Point}
 use Rattle.plain_shapes.specs.declared.colour.Colour.{Colour}
+use Rattle.plain_drawing.specs.Limits.{most_grid_side}
 
 -- a grid: its name, its west and north edge, the side of its pixels, its columns and rows, and three bytes a pixel by rows
 pub record Grid : Type 0 where
@@ -18,8 +19,8 @@ pub record IsGrid (pixel cols rows : ℕ) (bytes : List ℕ) : Type 0 where
   pub some_pixel : 1 ≤ pixel
   pub some_col : 1 ≤ cols
   pub some_row : 1 ≤ rows
-  pub few_cols : cols ≤ 1024
-  pub few_rows : rows ≤ 1024
+  pub few_cols : cols ≤ most_grid_side
+  pub few_rows : rows ≤ most_grid_side
   pub three_each : length bytes ≡ 3 * (rows * cols)
 
 -- the colour at a place among pixels of three bytes

@@ -1,6 +1,7 @@
 pub mod Drawing
 pub mod Grids
+pub mod Limits
 pub mod Metatiles
-pub mod Pictures
 pub mod Rules
 pub mod Styles
+pub mod inner

@@ -6,8 +6,6 @@ use Rattle.plain_world.specs.declared.world.Meta.{Meta}
 use Rattle.plain_world.specs.World.{tiles_across}
 use Rattle.plain_data.specs.Features.{Layer}
 use Rattle.plain_drawing.specs.Styles.{MapStyle}
-use Rattle.plain_shapes.specs.Canvas.{Pixels, cut_of}
-use Rattle.plain_shapes.specs.Ppm.{ppm}
 use Rattle.plain_drawing.specs.Drawing.{tile_of}
 
 -- the tile of a metatile so many columns and rows from its first one
@@ -25,17 +23,3 @@ tiles_in m = flat_map (column_of m) (range_with_len 0 (tiles_across m))
 -- the drawings of a metatile's tiles, in order of index place
 abbrev pub tiles_of : MapStyle → ℕ → Meta → List Layer → List (List ℕ)
 tiles_of style size m data_layers = map (λ t. tile_of style size t data_layers) (tiles_in m)
-
--- ---- parts of a picture as texts: words of inner contracts
-
--- the text of the part of a picture so many tiles from its west and north edge
-abbrev pub part_text : Pixels → ℕ → ℕ → ℕ → List ℕ
-part_text image size col row = ppm size size (cut_of image (col * size) (row * size) size size).pixels
-
--- a column of such texts
-abbrev pub column_texts : Pixels → ℕ → ℕ → ℕ → List (List ℕ)
-column_texts image size across col = map (λ row. part_text image size col row) (range_with_len 0 across)
-
--- all parts of a picture of so many tiles across, by columns
-abbrev pub part_texts : Pixels → ℕ → ℕ → List (List ℕ)
-part_texts image size across = flat_map (column_texts image size across) (range_with_len 0 across)

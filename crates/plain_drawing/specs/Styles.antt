@@ -1,5 +1,5 @@
 -- Map styles as plain records, and what their values keep.
-use Rattle.std.specs.Prelude.{ℕ, ◌≤◌, ◌^◌, Bool, true, false, not, ◌&&◌, ◌==◌, nat_le, IsTrue, List, [], ◌∷◌, length, Option, is_some}
+use Rattle.std.specs.Prelude.{ℕ, ◌*◌, ◌≤◌, ◌^◌, Bool, true, false, not, ◌&&◌, ◌==◌, nat_le, IsTrue, All, List, [], ◌∷◌, length, Option, is_some}
 use Rattle.std.specs.List.{list_any, list_all}
 use Rattle.std.specs.Str.{bytes_eq}
 use Rattle.farm_base.specs.Earlier.{each_after}
@@ -8,6 +8,8 @@ use Rattle.plain_drawing.specs.declared.style.FilterMode.{FilterMode}
 use Rattle.plain_drawing.specs.declared.style.Symbolizer.{Symbolizer}
 use Rattle.plain_drawing.specs.declared.style.Symbolizer.TheVariants.{Polygon, Line, Markers, Raster}
 use Rattle.plain_filters.specs.Filters.{FilterTree}
+use Rattle.plain_data.specs.Limits.{most_name_bytes, most_width}
+use Rattle.plain_drawing.specs.Limits.{most_styles, most_rules, most_symbolizers, most_map_layers, most_rasters, most_file_bytes}
 use Rattle.plain_drawing.specs.Grids.{Grid}
 
 -- a rule: its filter, if it has one, whether it is an ElseFilter rule, its scales in hundredths, what it paints
@@ -54,7 +56,7 @@ is_text_to limit text = nat_le 1 (length text) && nat_le (length text) limit
 
 -- a width or height of 0.01 to 64 pixels, in hundredths
 abbrev pub is_width : ℕ → Bool
-is_width w = nat_le 1 w && nat_le w 6400
+is_width w = nat_le 1 w && nat_le w (100 * most_width)
 
 -- an opacity of 0 to 1, in thousandths
 abbrev pub is_opacity : ℕ → Bool
@@ -66,6 +68,10 @@ is_paint (Polygon fill opacity) = is_opacity opacity
 is_paint (Line stroke width opacity cap) = is_width width && is_opacity opacity
 is_paint (Markers fill width height opacity) = is_width width && is_width height && is_opacity opacity
 is_paint (Raster opacity) = is_opacity opacity
+
+-- every symbolizer of the style keeps its ranges
+abbrev pub KeepsRanges : Style → Type 0
+KeepsRanges style = All (λ r. IsTrue (list_all is_paint r.symbolizers)) style.rules
 
 -- a style of this name is among them
 abbrev pub style_has : List ℕ → List Style → Bool
@@ -110,23 +116,23 @@ are_bound rasters (g ∷ gs) = grids_match rasters (g ∷ gs)
 -- what every rule keeps: no filter beside ElseFilter, and at most 16 symbolizers within their ranges
 pub record IsRule (else_filter : Bool) (filter : Option FilterTree) (symbolizers : List Symbolizer) : Type 0 where
   pub one_kind : IsTrue (not (else_filter && is_some filter))
-  pub few : length symbolizers ≤ 16
+  pub few : length symbolizers ≤ most_symbolizers
   pub paints : IsTrue (list_all is_paint symbolizers)
 
 -- what every style keeps: a name of 1 to 64 bytes and at most 256 rules
 pub record IsStyle (name : List ℕ) (rules : List Rule) : Type 0 where
-  pub name_fits : IsTrue (is_text_to 64 name)
-  pub few : length rules ≤ 256
+  pub name_fits : IsTrue (is_text_to most_name_bytes name)
+  pub few : length rules ≤ most_rules
 
 -- what every layer of a map keeps: a name and a source of 1 to 64 bytes
 pub record IsLayerRef (name source : List ℕ) : Type 0 where
-  pub name_fits : IsTrue (is_text_to 64 name)
-  pub source_fits : IsTrue (is_text_to 64 source)
+  pub name_fits : IsTrue (is_text_to most_name_bytes name)
+  pub source_fits : IsTrue (is_text_to most_name_bytes source)
 
 -- what every raster of a map keeps: a name of 1 to 64 bytes, a file of 1 to 100, a place in the world, a pixel of 1 to 2^30 units
 pub record IsRasterRef (name file : List ℕ) (west north pixel : ℕ) : Type 0 where
-  pub name_fits : IsTrue (is_text_to 64 name)
-  pub file_fits : IsTrue (is_text_to 100 file)
+  pub name_fits : IsTrue (is_text_to most_name_bytes name)
+  pub file_fits : IsTrue (is_text_to most_file_bytes file)
   pub west_fits : west ≤ 2 ^ 30
   pub north_fits : north ≤ 2 ^ 30
   pub some_pixel : 1 ≤ pixel
@@ -134,9 +140,9 @@ pub record IsRasterRef (name file : List ℕ) (west north pixel : ℕ) : Type 0 
 
 -- what every map style keeps: at most 256 styles, 64 layers and 2 rasters with distinct names, each named style there, grids bound or none
 pub record IsMapStyle (styles : List Style) (layers : List LayerRef) (rasters : List RasterRef) (grids : List Grid) : Type 0 where
-  pub few_styles : length styles ≤ 256
-  pub few_layers : length layers ≤ 64
-  pub few_rasters : length rasters ≤ 2
+  pub few_styles : length styles ≤ most_styles
+  pub few_layers : length layers ≤ most_map_layers
+  pub few_rasters : length rasters ≤ most_rasters
   pub styles_apart : IsTrue (each_after style_apart [] styles)
   pub layers_apart : IsTrue (each_after (layer_apart styles) [] layers)
   pub rasters_apart : IsTrue (each_after raster_apart [] rasters)

@@ -4,7 +4,12 @@
 #![tactic(auto)]
 
 mod grid;
+mod limits;
 mod style;
 
 pub use grid::Grid;
+pub use limits::{
+    MOST_FILE_BYTES, MOST_GRID_SIDE, MOST_MAP_LAYERS, MOST_RASTERS, MOST_RULES, MOST_STYLES,
+    MOST_SYMBOLIZERS,
+};
 pub use style::{FilterMode, LayerRef, MapStyle, RasterRef, Rule, Style, Symbolizer};

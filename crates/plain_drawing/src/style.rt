@@ -1,6 +1,7 @@
 //! Styles: which symbolizers a map draws, on which features, at which scales.
-ghost use Rattle.std.specs.Prelude.{◌≡◌, IsTrue};
-ghost use Rattle.plain_drawing.specs.Styles.{grids_match};
+ghost use Rattle.std.specs.Prelude.{◌≡◌, IsTrue, All};
+ghost use Rattle.std.specs.List.{list_all};
+ghost use Rattle.plain_drawing.specs.Styles.{grids_match, is_paint, KeepsRanges};
 
 use crate::grid::Grid;
 use farm_base::Text;
@@ -61,7 +62,7 @@ impl Model for Rule {
     ghost use Rattle.std.specs.Prelude.{option_map};
     ghost use Rattle.plain_filters.specs.Filters.{tree_of};
     ghost use Rattle.plain_drawing.specs.Styles.{Rule, IsRule};
-    ghost use Rattle.plain_filters.specs.FilterCodes.{filter_code};
+    ghost use Rattle.plain_filters.specs.inner.FilterCodes.{filter_code};
     ghost use Rattle.std.specs.Coded.{codes};
 
     ghost Value = { Rule };
@@ -79,6 +80,22 @@ impl Model for Rule {
     ghost invariant = { λ r. IsRule r.else_filter (option_map tree_of r.filter) r.symbolizers.items };
 }
 
+/// Makes known what a rule keeps: its symbolizers are within their ranges.
+fn know_rule(rule: &Rule)
+    ensures { IsTrue (list_all is_paint rule.now.symbolizers) }
+{
+    let _symbolizers = rule.symbolizers.as_slice();
+}
+
+/// Makes known what each of the rules keeps.
+fn know_rules(rules: &[Rule])
+    ensures { All (λ r. IsTrue (list_all is_paint r.symbolizers)) rules.now }
+{
+    for rule in rules {
+        know_rule(rule);
+    }
+}
+
 /// A style: its name of 1 to 64 bytes and at most 256 rules.
 #[derive(Debug, Drop)]
 pub struct Style {
@@ -89,7 +106,7 @@ pub struct Style {
 
 impl Model for Style {
     ghost use Rattle.plain_drawing.specs.Styles.{Style, IsStyle};
-    ghost use Rattle.plain_filters.specs.FilterCodes.{filter_code};
+    ghost use Rattle.plain_filters.specs.inner.FilterCodes.{filter_code};
     ghost use Rattle.std.specs.Coded.{codes};
 
     ghost Value = { Style };
@@ -103,6 +120,25 @@ impl Model for Style {
     } };
 
     ghost invariant = { λ s. IsStyle s.name s.rules.items };
+}
+
+impl Style {
+    /// Makes known to a proof that the symbolizers of every rule are within their ranges, which a style's value
+    /// alone does not tell. Nothing else happens.
+    pub fn know(&self)
+        ensures { KeepsRanges self.now }
+    {
+        know_rules(&self.rules);
+    }
+}
+
+/// Makes known what each of the styles keeps.
+fn know_styles(styles: &[Style])
+    ensures { All KeepsRanges styles.now }
+{
+    for style in styles {
+        style.know();
+    }
 }
 
 /// A layer of a map: its name, the data layer or raster that it draws, both of 1 to 64 bytes, its scales as
@@ -172,7 +208,7 @@ pub struct MapStyle {
 
 impl Model for MapStyle {
     ghost use Rattle.plain_drawing.specs.Styles.{MapStyle, IsMapStyle};
-    ghost use Rattle.plain_filters.specs.FilterCodes.{filter_code};
+    ghost use Rattle.plain_filters.specs.inner.FilterCodes.{filter_code};
     ghost use Rattle.std.specs.Coded.{codes};
 
     ghost Value = { MapStyle };
@@ -191,6 +227,14 @@ impl Model for MapStyle {
 }
 
 impl MapStyle {
+    /// Makes known to a proof that the symbolizers of every style are within their ranges, which the law that
+    /// a feature changes nothing outside of its reach asks for. Nothing else happens.
+    pub fn know(&self)
+        ensures { All KeepsRanges self.now.styles }
+    {
+        know_styles(&self.styles);
+    }
+
     /// The same style with these grids for its rasters; takes no memory.
     pub fn bind(self, grids: Vec<Grid>) -> MapStyle
         requires { IsTrue (grids_match self.rasters grids.items) }

@@ -1,3 +1,3 @@
-pub mod FilterCodes
+pub mod inner
 pub mod Filters
 pub mod Values

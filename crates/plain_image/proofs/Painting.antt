@@ -1,7 +1,7 @@
 -- One more pixel painted: what a loop over the bits leaves.
 use Rattle.std.proofs.Common.{◌≡◌, ℕ, suc, zero, ◌+◌, ◌<◌, Bool, true, false, cond, List, [], ◌∷◌, length, take, get_or, set, refl, ap, arith, add-one}
 use Rattle.plain_shapes.specs.declared.colour.Colour.{Colour}
-use Rattle.plain_shapes.specs.Canvas.{painted}
+use Rattle.plain_shapes.specs.inner.Canvas.{painted}
 use Rattle.plain_shapes.specs.Blending.{blend}
 
 yes : (s : Colour) (a : ℕ) (bs : List Bool) (ds : List Colour) (k : ℕ) (e : Colour) → k < length bs → get_or bs k false ≡ true → painted s a (take (suc k) bs) ds ≡ set (painted s a (take k bs) ds) k (blend s a (get_or (painted s a (take k bs) ds) k e))

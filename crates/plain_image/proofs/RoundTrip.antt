@@ -8,9 +8,10 @@ use Rattle.std.proofs.lemmas.Fmt.{decimal_by_steps}
 use Rattle.std.proofs.Math.Seq.{drop-append_seam}
 use Rattle.std.proofs.lemmas.List.{length-drop, drop-drop}
 use Rattle.plain_shapes.specs.declared.colour.Colour.{Colour}
-use Rattle.plain_shapes.specs.Canvas.{Pixels}
+use Rattle.plain_shapes.specs.Images.{Pixels}
 use Rattle.plain_shapes.specs.Ppm.{pixel_bytes, ppm}
-use Rattle.plain_image.specs.PpmText.{and_then, is_digit, after_in_gap, gap, gap_end, digits, side, gap_side, one_byte, one_blank, greatest, head, colours, picture, ppm_of}
+use Rattle.farm_base.specs.Digits.{is_digit}
+use Rattle.plain_image.specs.PpmText.{and_then, after_in_gap, gap, gap_end, digits, side, gap_side, one_byte, one_blank, greatest, head, colours, picture_behind, ppm_of}
 use Rattle.plain_image.specs.declared.reading.Gap.TheVariants.{Bare, Blank}
 use Rattle.plain_image.specs.declared.reading.PpmFault.TheVariants.{Bad, TooLarge}
 
@@ -128,12 +129,12 @@ ppm_of-ppm cols rows pixels some_col few_cols some_row few_rows count =
     let d = drop_next (m + 1 + 1 + 1) text (10 ∷ body) 53 c in
     let e = drop_next (m + 1 + 1 + 1 + 1) text body 10 d in
     let len : length text ≡ start + rows * cols * 3 = omega (arith, length_from (m + 1 + 1 + 1 + 1) text body 10 d, length_written pixels, ap (λ t. t * 3) count) in
-    ap (λ bytes. and_then (head bytes) (picture bytes)) is
-    ∙ ap (λ r. and_then (and_then r (λ cols. and_then (gap_side text cols.next) (λ rows. and_then (greatest text rows.next) (λ start. Ok (record { cols = cols.value; rows = rows.value; start = start }))))) (picture text))
+    ap (λ bytes. and_then (head bytes) (picture_behind bytes)) is
+    ∙ ap (λ r. and_then (and_then r (λ cols. and_then (gap_side text cols.next) (λ rows. and_then (greatest text rows.next) (λ start. Ok (record { cols = cols.value; rows = rows.value; start = start }))))) (picture_behind text))
     (gap_side_decimal text 2 cols 10 32 (decimal rows ++ tail) some_col few_cols refl refl at_cols)
-    ∙ ap (λ r. and_then (and_then r (λ rows. and_then (greatest text rows.next) (λ start. Ok (record { cols = cols; rows = rows.value; start = start })))) (picture text))
+    ∙ ap (λ r. and_then (and_then r (λ rows. and_then (greatest text rows.next) (λ start. Ok (record { cols = cols; rows = rows.value; start = start })))) (picture_behind text))
     (gap_side_decimal text n rows 32 10 (50 ∷ 53 ∷ 53 ∷ 10 ∷ body) some_row few_rows refl refl at_rows)
-    ∙ ap (λ r. and_then (and_then r (λ start. Ok (record { cols = cols; rows = rows; start = start }))) (picture text)) (greatest_written text m body at_rest)
+    ∙ ap (λ r. and_then (and_then r (λ start. Ok (record { cols = cols; rows = rows; start = start }))) (picture_behind text)) (greatest_written text m body at_rest)
     ∙ ap (λ t. if t then Err (Bad (length text)) else (if nat_lt (start + rows * cols * 3) (length text) then Err (Bad (start + rows * cols * 3)) else Ok (record { cols = cols; rows = rows; pixels = colours (drop start text) }))) (le-ltb (length text) (start + rows * cols * 3) (omega arith))
     ∙ ap (λ t. if t then Err (Bad (start + rows * cols * 3)) else Ok (record { cols = cols; rows = rows; pixels = colours (drop start text) })) (le-ltb (start + rows * cols * 3) (length text) (omega arith))
     ∙ ap (λ ps. Ok (record { cols = cols; rows = rows; pixels = ps })) (ap colours e ∙ colours_written pixels)

@@ -2,14 +2,16 @@
 -- the first byte that may not stand where it stands.
 use Rattle.std.specs.Prelude.{ℕ, ◌+◌, ◌-◌, ◌*◌, ◌≡◌, ◌==◌, Bool, ◌&&◌, ◌||◌, nat_le, nat_lt, if◌then◌else◌, List, [], ◌∷◌, length, drop, Result, Ok, Err, Option, Some, None}
 use Rattle.std.specs.Option.{option_map_or}
+use Rattle.farm_base.specs.Digits.{is_digit}
 use Rattle.plain_shapes.specs.declared.colour.Colour.{Colour}
-use Rattle.plain_shapes.specs.Canvas.{Pixels}
+use Rattle.plain_shapes.specs.Images.{Pixels}
 use Rattle.plain_image.specs.declared.reading.PpmFault.{PpmFault}
 use Rattle.plain_image.specs.declared.reading.PpmFault.TheVariants.{Bad, TooLarge, NoMemory}
 use Rattle.plain_image.specs.declared.reading.Gap.{Gap}
 use Rattle.plain_image.specs.declared.reading.Gap.TheVariants.{Bare, Blank, Comment}
 use Rattle.plain_image.specs.declared.reading.Side.{Side}
 use Rattle.plain_image.specs.declared.reading.Head.{Head}
+use Rattle.plain_world.specs.Limits.{most_side}
 
 -- one part after another: the first fault is the answer
 abbrev pub and_then : {A B : Type 0} → Result A PpmFault → (A → Result B PpmFault) → Result B PpmFault
@@ -17,8 +19,8 @@ and_then (Ok a) f = f a
 and_then (Err e) f = Err e
 
 -- space, tab, carriage return and newline
-abbrev pub is_blank : ℕ → Bool
-is_blank b = b == 32 || b == 9 || b == 13 || b == 10
+abbrev pub is_whitespace : ℕ → Bool
+is_whitespace b = b == 32 || b == 9 || b == 13 || b == 10
 
 -- this very byte
 abbrev pub one_byte : ℕ → ℕ → List ℕ → Result ℕ PpmFault
@@ -28,13 +30,13 @@ one_byte c n (b ∷ bs) = if b == c then Ok (n + 1) else Err (Bad n)
 -- one blank
 abbrev pub one_blank : ℕ → List ℕ → Result ℕ PpmFault
 one_blank n [] = Err (Bad n)
-one_blank n (b ∷ bs) = if is_blank b then Ok (n + 1) else Err (Bad n)
+one_blank n (b ∷ bs) = if is_whitespace b then Ok (n + 1) else Err (Bad n)
 
 -- the place in a gap after a byte of it, or none where the byte is neither a blank nor in a comment
 abbrev pub after_in_gap : Gap → ℕ → Option Gap
 after_in_gap Comment b = if b == 10 then Some Blank else Some Comment
-after_in_gap Bare b = if is_blank b then Some Blank else (if b == 35 then Some Comment else None)
-after_in_gap Blank b = if is_blank b then Some Blank else (if b == 35 then Some Comment else None)
+after_in_gap Bare b = if is_whitespace b then Some Blank else (if b == 35 then Some Comment else None)
+after_in_gap Blank b = if is_whitespace b then Some Blank else (if b == 35 then Some Comment else None)
 
 -- the end of a gap: a number may stand there if a blank stands before it
 abbrev pub gap_end : Gap → ℕ → Result ℕ PpmFault
@@ -47,16 +49,12 @@ abbrev pub gap : Gap → ℕ → List ℕ → Result ℕ PpmFault
 gap place n [] = Err (Bad n)
 gap place n (b ∷ bs) = option_map_or (λ next. gap next (n + 1) bs) (after_in_gap place b) (gap_end place n)
 
--- the byte of a decimal digit
-abbrev pub is_digit : ℕ → Bool
-is_digit b = nat_le 48 b && nat_le b 57
-
 -- further digits of a side that is v so far: too large as soon as they pass 4,096
 abbrev pub digits : ℕ → ℕ → List ℕ → Result Side PpmFault
 digits v n [] = Ok (record { value = v; next = n })
 digits v n (b ∷ bs) =
     if is_digit b
-    then (if nat_lt 4096 (v * 10 + (b - 48)) then Err TooLarge else digits (v * 10 + (b - 48)) (n + 1) bs)
+    then (if nat_lt most_side (v * 10 + (b - 48)) then Err TooLarge else digits (v * 10 + (b - 48)) (n + 1) bs)
     else Ok (record { value = v; next = n })
 
 -- a side: digits without a leading zero
@@ -98,15 +96,15 @@ colours (r ∷ g ∷ []) = []
 colours (r ∷ g ∷ b ∷ bs) = record { r = r; g = g; b = b } ∷ colours bs
 
 -- the picture behind a head: as many bytes as its sides ask for, none missing and none more
-abbrev pub picture : List ℕ → Head → Result Pixels PpmFault
-picture bytes h =
+abbrev pub picture_behind : List ℕ → Head → Result Pixels PpmFault
+picture_behind bytes h =
     if nat_lt (length bytes) (h.start + h.rows * h.cols * 3) then Err (Bad (length bytes))
     else (if nat_lt (h.start + h.rows * h.cols * 3) (length bytes) then Err (Bad (h.start + h.rows * h.cols * 3))
     else Ok (record { cols = h.cols; rows = h.rows; pixels = colours (drop h.start bytes) }))
 
 -- the image that a PPM text says, or its first fault
 unfoldable pub ppm_of : List ℕ → Result Pixels PpmFault
-ppm_of bytes = and_then (head bytes) (picture bytes)
+ppm_of bytes = and_then (head bytes) (picture_behind bytes)
 
 -- an answer to a text: exactly what the text says, but that memory may be wanting
 abbrev pub ReadsPpm : Result Pixels PpmFault → Result Pixels PpmFault → Type 0

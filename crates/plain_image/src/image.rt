@@ -15,7 +15,7 @@ pub struct Image {
 
 impl Model for Image {
     ghost use Rattle.std.specs.Prelude.{length};
-    ghost use Rattle.plain_shapes.specs.Canvas.{Pixels, IsRaster};
+    ghost use Rattle.plain_shapes.specs.Images.{Pixels, IsRaster};
 
     ghost Value = { Pixels };
 
@@ -27,7 +27,8 @@ impl Model for Image {
 impl Image {
     ghost use Rattle.std.specs.Prelude.{◌≡◌, ◌+◌, ◌*◌, ◌<◌, ◌≤◌, ℕ, IfOk, slice_set, slice_get, slice_index_or, Some, replicate, length, Ok};
     ghost use Rattle.plain_shapes.specs.Blending.{blend};
-    ghost use Rattle.plain_shapes.specs.Canvas.{IsRaster, IsSides, painted, cut_of};
+    ghost use Rattle.plain_shapes.specs.Images.{IsRaster, IsSides};
+    ghost use Rattle.plain_shapes.specs.inner.Canvas.{painted, cut_of};
     ghost use Rattle.plain_shapes.specs.Ppm.{ppm};
     ghost use Rattle.plain_image.specs.PpmText.{ppm_of};
 

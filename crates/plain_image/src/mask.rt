@@ -14,7 +14,7 @@ pub struct Mask {
 
 impl Model for Mask {
     ghost use Rattle.std.specs.Prelude.{length};
-    ghost use Rattle.plain_shapes.specs.Canvas.{Bits, IsRaster};
+    ghost use Rattle.plain_shapes.specs.Images.{Bits, IsRaster};
 
     ghost Value = { Bits };
 
@@ -25,7 +25,7 @@ impl Model for Mask {
 
 impl Mask {
     ghost use Rattle.std.specs.Prelude.{◌≡◌, ◌+◌, ◌*◌, ◌<◌, ◌≤◌, ℕ, IfOk, slice_set, slice_get, Some, replicate, false, true, length};
-    ghost use Rattle.plain_shapes.specs.Canvas.{IsRaster, IsSides};
+    ghost use Rattle.plain_shapes.specs.Images.{IsRaster, IsSides};
 
     /// A mask of these sides that covers nothing. Sides are 1 to 4,096.
     pub fn new(alloc: Global, cols: u32, rows: u32) -> Result<Mask, NoMemory>

@@ -1,13 +1,16 @@
 //! The parts of a PPM text, each read from an offset of the text on.
 ghost use Rattle.std.specs.Prelude.{◌≡◌, ℕ, ◌+◌, ◌*◌, ◌≤◌, ◌<◌, length, drop, IfOk, Ok, Err};
-ghost use Rattle.plain_image.specs.PpmText.{is_blank, is_digit, one_byte, one_blank, gap, gap_end, after_in_gap, digits, side, gap_side, magic, greatest, head};
-ghost use Rattle.plain_shapes.specs.Canvas.{IsSides};
+ghost use Rattle.farm_base.specs.Digits.{is_digit};
+ghost use Rattle.plain_image.specs.PpmText.{is_whitespace, one_byte, one_blank, gap, gap_end, after_in_gap, digits, side, gap_side, magic, greatest, head};
+ghost use Rattle.plain_shapes.specs.Images.{IsSides};
 ghost use Rattle.plain_image.specs.declared.reading.Gap.TheVariants.{Bare};
+ghost use Rattle.plain_world.specs.Limits.{most_side};
 
 use crate::reading::{Gap, Head, PpmFault, Side};
+use plain_world::MOST_SIDE;
 
-fn is_blank(b: u8) -> bool
-    ensures { result ≡ is_blank b }
+fn is_whitespace(b: u8) -> bool
+    ensures { result ≡ is_whitespace b }
 {
     b == b' ' || b == b'\t' || b == b'\r' || b == b'\n'
 }
@@ -37,7 +40,7 @@ fn one_blank(bytes: &[u8], at: usize) -> Result<usize, PpmFault>
     ensures value { result ≡ one_blank at (drop at bytes.now) }
     ensures within { IfOk result (λ n. n ≤ length bytes.now) }
 {
-    if at < bytes.len() && is_blank(bytes[at]) {
+    if at < bytes.len() && is_whitespace(bytes[at]) {
         Ok(at + 1)
     } else {
         Err(PpmFault::Bad(at as u64))
@@ -64,7 +67,7 @@ fn after_in_gap(place: Gap, b: u8) -> Option<Gap>
 fn after_no_comment(b: u8) -> Option<Gap>
     ensures { result ≡ after_in_gap Bare b }
 {
-    if is_blank(b) {
+    if is_whitespace(b) {
         Some(Gap::Blank)
     } else if b == b'#' {
         Some(Gap::Comment)
@@ -107,7 +110,7 @@ fn side(bytes: &[u8], at: usize) -> Result<Side, PpmFault>
     ensures value { result ≡ side at (drop at bytes.now) }
     ensures next { IfOk result (λ s. s.next ≤ length bytes.now) }
     ensures some { IfOk result (λ s. 1 ≤ s.value) }
-    ensures few { IfOk result (λ s. s.value ≤ 4096) }
+    ensures few { IfOk result (λ s. s.value ≤ most_side) }
 {
     if at < bytes.len() && bytes[at] >= b'1' && bytes[at] <= b'9' {
         digits(bytes, at + 1, u32::from(bytes[at] - b'0'))
@@ -120,11 +123,11 @@ fn side(bytes: &[u8], at: usize) -> Result<Side, PpmFault>
 fn digits(bytes: &[u8], at: usize, first: u32) -> Result<Side, PpmFault>
     requires inside { at ≤ length bytes.now }
     requires some { 1 ≤ first }
-    requires few { first ≤ 4096 }
+    requires few { first ≤ most_side }
     ensures value { result ≡ digits first at (drop at bytes.now) }
     ensures next { IfOk result (λ s. s.next ≤ length bytes.now) }
     ensures some { IfOk result (λ s. 1 ≤ s.value) }
-    ensures few { IfOk result (λ s. s.value ≤ 4096) }
+    ensures few { IfOk result (λ s. s.value ≤ most_side) }
 {
     let mut value = first;
     for i in at..bytes.len() {
@@ -133,7 +136,7 @@ fn digits(bytes: &[u8], at: usize, first: u32) -> Result<Side, PpmFault>
             return Ok(Side { value, next: i });
         }
         value = value * 10 + u32::from(b - b'0');
-        if value > 4096 {
+        if value > MOST_SIDE {
             return Err(PpmFault::TooLarge);
         }
     }
@@ -149,7 +152,7 @@ fn gap_side(bytes: &[u8], at: usize) -> Result<Side, PpmFault>
     ensures value { result ≡ gap_side bytes.now at }
     ensures next { IfOk result (λ s. s.next ≤ length bytes.now) }
     ensures some { IfOk result (λ s. 1 ≤ s.value) }
-    ensures few { IfOk result (λ s. s.value ≤ 4096) }
+    ensures few { IfOk result (λ s. s.value ≤ most_side) }
 {
     let start = gap(bytes, at)?;
     side(bytes, start)

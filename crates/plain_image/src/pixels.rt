@@ -1,9 +1,10 @@
 //! The arithmetic of painting, and lists of pixels.
 ghost use Rattle.std.specs.Prelude.{◌≡◌, ℕ, ◌+◌, ◌*◌, ◌≤◌, ◌++◌, length, IfOk, flat_map};
-ghost use Rattle.plain_shapes.specs.Canvas.{cut_rows, painted};
+ghost use Rattle.plain_shapes.specs.inner.Canvas.{cut_rows, painted};
 ghost use Rattle.plain_shapes.specs.Ppm.{pixel_bytes};
 ghost use Rattle.plain_image.specs.PpmText.{colours};
 ghost use Rattle.plain_shapes.specs.Blending.{blend_channel, blend};
+ghost use Rattle.plain_world.specs.Limits.{most_side};
 
 use farm_base::NoMemory;
 use plain_shapes::Colour;
@@ -53,8 +54,8 @@ pub fn cut(
     cols: u32,
     rows: u32,
 ) -> Result<Vec<Colour>, NoMemory>
-    requires across { across ≤ 4096 }
-    requires few_rows { row + rows ≤ 4096 }
+    requires across { across ≤ most_side }
+    requires few_rows { row + rows ≤ most_side }
     requires in_cols { col + cols ≤ across }
     requires in_rows { (row + rows) * across ≤ length pixels.now }
     ensures items { IfOk result (λ v. v.items ≡ cut_rows across col row cols rows pixels.now) }
@@ -70,7 +71,7 @@ pub fn cut(
 
 /// A text and then the three bytes of each pixel.
 pub fn bytes_after(alloc: Global, head: &str, pixels: &[Colour]) -> Result<Vec<u8>, NoMemory>
-    requires few { length pixels.now ≤ 4096 * 4096 }
+    requires few { length pixels.now ≤ most_side * most_side }
     ensures { IfOk result (λ v. v.items ≡ head.now ++ flat_map pixel_bytes pixels.now) }
 {
     let mut out = Vec::with_capacity(alloc, head.len() + 3 * pixels.len())?;
@@ -85,7 +86,7 @@ pub fn bytes_after(alloc: Global, head: &str, pixels: &[Colour]) -> Result<Vec<u
 
 /// The colours that `count` times three bytes say.
 pub fn colours(alloc: Global, bytes: &[u8], count: usize) -> Result<Vec<Colour>, NoMemory>
-    requires few { count ≤ 4096 * 4096 }
+    requires few { count ≤ most_side * most_side }
     requires len { length bytes.now ≡ count * 3 }
     ensures items { IfOk result (λ v. v.items ≡ colours bytes.now) }
     ensures len { IfOk result (λ v. length v.items ≡ count) }

@@ -10,7 +10,8 @@ use Rattle.std.proofs.lemmas.List.FromFn.{get_or-map-range_with_len, length-map-
 use Rattle.plain_world.specs.declared.world.Point.{Point}
 use Rattle.plain_world.specs.declared.world.Window.{Window}
 use Rattle.plain_world.specs.World.{centre, row_centres, centres}
-use Rattle.plain_shapes.specs.Canvas.{Bits, marked}
+use Rattle.plain_shapes.specs.Images.{Bits}
+use Rattle.plain_shapes.specs.inner.Canvas.{marked, Reached}
 
 -- n pieces of one length, laid end to end
 length_pieces : {X : Type 0} (f : ℕ → List X) (m : ℕ) → ((k : ℕ) → length (f k) ≡ m) → (a n : ℕ) → length (flat_map f (range_with_len a n)) ≡ n * m
@@ -85,10 +86,6 @@ marked_skip m cs bs n (suc k) d fits none =
     ap (λ v. marked m (take v cs) bs) (let e : n + suc k ≡ suc (n + k) = omega arith in e)
     ∙ marked_suc_no m cs bs (n + k) d (omega arith) (none (n + k) (omega arith) (omega arith))
     ∙ marked_skip m cs bs n k d (omega arith) (λ p low high. none p low (omega arith))
-
--- the bits now are those of old with the members among the first n centres set
-pub record Reached (m : Point → Bool) (w : Window) (n : ℕ) (old now : Bits) : Type 0 where
-  pub is : now ≡ record old { bits = marked m (take n (centres w)) old.bits }
 
 pub reached_start : (m : Point → Bool) (w : Window) (old : Bits) → Reached m w 0 old old
 reached_start m w old = record { is = refl }

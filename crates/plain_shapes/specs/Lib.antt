@@ -1,5 +1,6 @@
 pub mod Blending
-pub mod Canvas
+pub mod Images
 pub mod Ppm
 pub mod Rings
 pub mod Strokes
+pub mod inner

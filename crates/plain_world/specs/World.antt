@@ -7,6 +7,7 @@ use Rattle.plain_world.specs.declared.world.Tile.{Tile}
 use Rattle.plain_world.specs.declared.world.Square.{Square}
 use Rattle.plain_world.specs.declared.world.Meta.{Meta}
 use Rattle.plain_world.specs.declared.world.Window.{Window}
+use Rattle.plain_world.specs.Limits.{most_side}
 
 -- a point whose coordinates are at most the world's side
 pub record InWorld (p : Point) : Type 0 where
@@ -95,8 +96,8 @@ pub record IsWindow (w : Window) : Type 0 where
   pub small_pixel : w.pixel ≤ 2 ^ 26
   pub some_col : 1 ≤ w.cols
   pub some_row : 1 ≤ w.rows
-  pub few_cols : w.cols ≤ 4096
-  pub few_rows : w.rows ≤ 4096
+  pub few_cols : w.cols ≤ most_side
+  pub few_rows : w.rows ≤ most_side
   pub east_fits : w.west + w.cols * w.pixel ≤ 2 ^ 30
   pub south_fits : w.north + w.rows * w.pixel ≤ 2 ^ 30
 

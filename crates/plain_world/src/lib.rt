@@ -5,6 +5,8 @@
 //! paths, containers, words and histories; so do shapes, data and drawings.
 #![tactic(auto)]
 
+mod limits;
 mod world;
 
+pub use limits::MOST_SIDE;
 pub use world::{Meta, Point, Square, Tile, Window};

@@ -8,8 +8,8 @@ use Rattle.plain_world.specs.declared.world.Window.{Window}
 use Rattle.plain_world.specs.World.{centre}
 use Rattle.plain_shapes.specs.Rings.{counts_down, counts, edges_from, ring_edges, in_rings}
 use Rattle.plain_shapes.proofs.Signs.{off_above, off_below}
-use Rattle.raster_core.specs.Reaches.{north_of, south_of, northmost, southmost}
-use Rattle.raster_core.specs.Toggles.{flip, odd_edges}
+use Rattle.raster_core.specs.inner.Reaches.{north_of, south_of, northmost, southmost}
+use Rattle.raster_core.specs.inner.Toggles.{flip, odd_edges}
 use Rattle.raster_core.proofs.Toggling.{odd_cons, odd_append}
 
 -- c lies above the point, or not above it: what a row has to do with each point for no edge to count

@@ -6,9 +6,11 @@ use Rattle.std.proofs.lemmas.Bool.{cases_Bool, cases_lt}
 use Rattle.plain_world.specs.declared.world.Point.{Point}
 use Rattle.plain_world.specs.declared.world.Window.{Window}
 use Rattle.plain_world.specs.World.{IsWindow, centre, centres}
-use Rattle.plain_shapes.specs.Canvas.{Bits, marked}
-use Rattle.plain_shapes.proofs.Places.{Reached, reached_start, reached_skip, reached_yes, reached_no, reached_end}
-use Rattle.raster_core.specs.Toggles.{flip, odd_below, Toggled, TellsRow}
+use Rattle.plain_shapes.specs.Images.{Bits}
+use Rattle.plain_shapes.specs.inner.Canvas.{marked}
+use Rattle.plain_shapes.specs.inner.Canvas.{Reached}
+use Rattle.plain_shapes.proofs.Places.{reached_start, reached_skip, reached_yes, reached_no, reached_end}
+use Rattle.raster_core.specs.inner.Toggles.{flip, odd_below, Toggled, TellsRow}
 use Rattle.raster_core.proofs.Toggling.{parity_none}
 
 pub odd_more : (f : ℕ → Bool) (i : ℕ) → odd_below f (i + 1) ≡ flip (f i) (odd_below f i)

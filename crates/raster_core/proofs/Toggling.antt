@@ -8,7 +8,7 @@ use Rattle.plain_world.specs.declared.world.Point.{Point}
 use Rattle.plain_world.specs.declared.world.Window.{Window}
 use Rattle.plain_world.specs.World.{centre}
 use Rattle.plain_shapes.specs.Rings.{is_odd}
-use Rattle.raster_core.specs.Toggles.{flip, odd_below, row_bit, parity_at, Toggled, RowToggled, RowsToggled, Remains}
+use Rattle.raster_core.specs.inner.Toggles.{flip, odd_below, row_bit, parity_at, Toggled, RowToggled, RowsToggled, Remains}
 
 flip-not : (a b : Bool) → flip (not a) b ≡ not (flip a b)
 flip-not true true = refl

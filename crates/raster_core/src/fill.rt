@@ -2,7 +2,7 @@
 ghost use Rattle.std.specs.Prelude.{◌≡◌, ℕ, ◌+◌, ◌*◌, ◌<◌, ◌≤◌, Bool, false, All, OnOk, OnErr};
 ghost use Rattle.plain_world.specs.World.{InWorld, IsWindow, centre, centres};
 ghost use Rattle.plain_shapes.specs.Rings.{in_rings};
-ghost use Rattle.plain_shapes.specs.Canvas.{marked};
+ghost use Rattle.plain_shapes.specs.inner.Canvas.{marked};
 
 use crate::edges::cross_rings;
 use crate::reach::{north_of_rings, south_of_rings};

@@ -1,6 +1,6 @@
 //! How far to the north and south the rings of a polygon reach.
 ghost use Rattle.std.specs.Prelude.{◌≡◌};
-ghost use Rattle.raster_core.specs.Reaches.{north_of, south_of, northmost, southmost};
+ghost use Rattle.raster_core.specs.inner.Reaches.{north_of, south_of, northmost, southmost};
 
 use plain_shapes::Path;
 use plain_world::Point;

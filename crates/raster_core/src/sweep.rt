@@ -2,9 +2,9 @@
 ghost use Rattle.std.specs.Prelude.{◌≡◌, ℕ, ◌+◌, ◌*◌, ◌<◌, ◌≤◌, Bool, length};
 ghost use Rattle.plain_world.specs.declared.world.Point.{Point};
 ghost use Rattle.plain_world.specs.World.{IsWindow};
-ghost use Rattle.plain_shapes.specs.Canvas.{Bits};
-ghost use Rattle.plain_shapes.proofs.Places.{Reached};
-ghost use Rattle.raster_core.specs.Toggles.{flip, TellsRow};
+ghost use Rattle.plain_shapes.specs.Images.{Bits};
+ghost use Rattle.plain_shapes.specs.inner.Canvas.{Reached};
+ghost use Rattle.raster_core.specs.inner.Toggles.{flip, TellsRow};
 
 use centre_spans::set_if;
 use plain_image::Mask;

@@ -6,10 +6,11 @@ use Rattle.plain_world.specs.World.{centre}
 use Rattle.plain_drawing.specs.Grids.{Grid, pixel_at, grid_at}
 use Rattle.raster_layers.specs.declared.grids.GridFault.{GridFault}
 use Rattle.raster_layers.specs.declared.grids.GridFault.TheVariants.{Size}
+use Rattle.plain_drawing.specs.Limits.{most_grid_side}
 
 -- a grid, unless a side is over 1,024
 abbrev pub sized : Grid → Result Grid GridFault
-sized g = if nat_le g.cols 1024 && nat_le g.rows 1024 then Ok g else Err Size
+sized g = if nat_le g.cols most_grid_side && nat_le g.rows most_grid_side then Ok g else Err Size
 
 -- the numbers differ by a multiple of p
 abbrev pub DifferBy : ℕ → ℕ → ℕ → Type 0

@@ -3,7 +3,7 @@ ghost use Rattle.std.specs.Prelude.{◌≡◌, ◌≤◌, ◌*◌, length};
 ghost use Rattle.raster_layers.specs.Scales.{sized};
 
 use farm_base::Text;
-use plain_drawing::Grid;
+use plain_drawing::{Grid, MOST_GRID_SIDE};
 
 /// Why a picture is no grid.
 #[derive(Clone, Copy, Debug, PartialEq, Eq)]
@@ -29,7 +29,7 @@ pub fn make_grid(
     requires three_each { length bytes.items ≡ 3 * (rows * cols) }
     ensures { result ≡ sized (record { name = name; west = west; north = north; pixel = pixel; cols = cols; rows = rows; bytes = bytes.items }) }
 {
-    if cols > 1024 || rows > 1024 {
+    if cols > MOST_GRID_SIDE || rows > MOST_GRID_SIDE {
         return Err(GridFault::Size);
     }
     Ok(Grid {

@@ -6,7 +6,7 @@ use Rattle.std.proofs.lemmas.Bool.Decides.{Decides-eqb}
 use Rattle.std.proofs.lemmas.List.{append-nil}
 use Rattle.std.proofs.lemmas.Slice.Eq.{bytes_eq-Decides}
 use Rattle.farm_base.specs.Outside.{FilesTold}
-use Rattle.plain_shapes.specs.Canvas.{Pixels}
+use Rattle.plain_shapes.specs.Images.{Pixels}
 use Rattle.plain_drawing.specs.Grids.{Grid}
 use Rattle.plain_drawing.specs.Styles.{RasterRef, grid_matches, grids_match}
 use Rattle.plain_image.specs.PpmText.{ppm_of}

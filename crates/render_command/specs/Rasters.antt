@@ -1,6 +1,6 @@
 -- What a raster file says, and how the raster files of a style are read.
 use Rattle.std.specs.Prelude.{◌≡◌, ℕ, List, [], ◌∷◌, ◌++◌, flat_map, Option, Result, Ok, Err, MatchResult}
-use Rattle.plain_shapes.specs.Canvas.{Pixels}
+use Rattle.plain_shapes.specs.Images.{Pixels}
 use Rattle.plain_drawing.specs.Grids.{Grid}
 use Rattle.plain_shapes.specs.Ppm.{pixel_bytes}
 use Rattle.plain_drawing.specs.Styles.{RasterRef}

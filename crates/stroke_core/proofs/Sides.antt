@@ -11,7 +11,7 @@ use Rattle.plain_shapes.specs.declared.shapes.LineCap.{LineCap}
 use Rattle.plain_shapes.specs.declared.shapes.LineCap.TheVariants as with
 use Rattle.plain_world.specs.World.{InWorld}
 use Rattle.plain_shapes.specs.Strokes.{is_same, in_body, in_disk, before_start, past_end, kept, kept_after, on_bodies, on_joins, in_last_disk, past_last, on_caps, on_dot, on_kept, on_line, on_sides, on_disks, on_ring}
-use Rattle.stroke_core.specs.Parts.{point_at, on_ends, on_long, on_parts}
+use Rattle.stroke_core.specs.inner.Parts.{point_at, on_ends, on_long, on_parts}
 
 -- one side more
 pub sides_step : (half : ℕ) (before : Point) (ps : List Point) (i : ℕ) (d : Point) → i < length ps → (c : Point)

@@ -1,9 +1,9 @@
 //! Strokes of lines.
 ghost use Rattle.std.specs.Prelude.{◌≡◌, ◌≤◌, ◌<◌, ◌^◌, length, All, OnOk, OnErr};
 ghost use Rattle.plain_world.specs.World.{InWorld, IsWindow, centres};
-ghost use Rattle.plain_shapes.specs.Canvas.{marked, SetsSome};
+ghost use Rattle.plain_shapes.specs.inner.Canvas.{marked, SetsSome};
 ghost use Rattle.plain_shapes.specs.Strokes.{on_sides, on_disks, on_dot, on_line, on_stroke};
-ghost use Rattle.stroke_core.specs.Parts.{on_ends, on_long, on_parts};
+ghost use Rattle.stroke_core.specs.inner.Parts.{on_ends, on_long, on_parts};
 
 use crate::bodies::Body;
 use crate::caps::{EndCap, StartCap};

@@ -1,7 +1,7 @@
 //! Outlines of rings.
 ghost use Rattle.std.specs.Prelude.{◌≡◌, ◌≤◌, ◌^◌, All, IsOk};
 ghost use Rattle.plain_world.specs.World.{InWorld, IsWindow, centres};
-ghost use Rattle.plain_shapes.specs.Canvas.{marked};
+ghost use Rattle.plain_shapes.specs.inner.Canvas.{marked};
 ghost use Rattle.plain_shapes.specs.Strokes.{on_ring, on_outline};
 
 use crate::lines::{mark_disks, mark_sides};

@@ -24,6 +24,8 @@ use Rattle.style_objects.specs.declared.keys.Object.TheVariants as object
 use Rattle.style_objects.specs.Keys.{opened_as}
 use Rattle.style_objects.specs.Kinds.{a_colour, a_scale, a_bound, an_opacity, a_width, a_text_to, any_text, a_mode, a_cap, a_number, a_filter, an_else, list_or_none}
 use Rattle.style_objects.specs.Places.{at_map, at_style, at_rule, at_symbolizer, at_layer, at_raster}
+use Rattle.plain_data.specs.Limits.{most_name_bytes}
+use Rattle.plain_drawing.specs.Limits.{most_styles, most_rules, most_symbolizers, most_map_layers, most_rasters, most_file_bytes}
 
 -- the background of a map that says none: this project's own choice, for Mapnik's is transparent
 abbrev pub white : Colour
@@ -46,8 +48,8 @@ polygon_of at d = do
   Ok (paint.Polygon fill opacity)
 
 -- a line symbolizer: its stroke, width, opacity and cap, any of which may be absent; a join has no effect
-unfoldable pub line_of : At → Data → Result Symbolizer StyleFault
-line_of at d = do
+unfoldable pub line_symbolizer_of : At → Data → Result Symbolizer StyleFault
+line_symbolizer_of at d = do
   u ← opened_as object.LineSymbolizer at d
   stroke ← or_value black (a_colour at) (get (codes "stroke") d)
   width ← or_value 100 (a_width at) (get (codes "stroke-width") d)
@@ -77,7 +79,7 @@ raster_symbolizer_of at d = do
 unfoldable pub symbolizer_named : List ℕ → At → Data → Result Symbolizer StyleFault
 symbolizer_named name at d =
     if bytes_eq name (codes "PolygonSymbolizer") then polygon_of at d else
-    if bytes_eq name (codes "LineSymbolizer") then line_of at d else
+    if bytes_eq name (codes "LineSymbolizer") then line_symbolizer_of at d else
     if bytes_eq name (codes "MarkersSymbolizer") then markers_of at d else
     if bytes_eq name (codes "RasterSymbolizer") then raster_symbolizer_of at d else Err (fault.Unsupported at)
 
@@ -102,7 +104,7 @@ filters_of at d = do
 unfoldable pub rule_of : ℕ → ℕ → Data → Result Rule StyleFault
 rule_of style rule d = do
   u ← opened_as object.Rule (at_rule style rule) d
-  found ← within 16 (fault.Range (at_rule style rule)) (get (codes "symbolizers") d)
+  found ← within most_symbolizers (fault.Range (at_rule style rule)) (get (codes "symbolizers") d)
   filters ← filters_of (at_rule style rule) d
   least ← or_value 0 (a_scale (at_rule style rule)) (get (codes "MinScaleDenominator") d)
   greatest ← or_value None (a_bound (at_rule style rule)) (get (codes "MaxScaleDenominator") d)
@@ -118,8 +120,8 @@ rule_after style before d = rule_of style (length before) d
 unfoldable pub style_of : ℕ → List Style → Data → Result Style StyleFault
 style_of style before d = do
   u ← opened_as object.Style (at_style style) d
-  found ← within 256 (fault.Range (at_style style)) (get (codes "rules") d)
-  name ← needed (fault.Shape (at_style style)) (a_text_to 64 (at_style style)) (get (codes "name") d)
+  found ← within most_rules (fault.Range (at_style style)) (get (codes "rules") d)
+  name ← needed (fault.Shape (at_style style)) (a_text_to most_name_bytes (at_style style)) (get (codes "name") d)
   filter_mode ← or_value mode.All (a_mode (at_style style)) (get (codes "filter-mode") d)
   items ← ok_or found (fault.Shape (at_style style))
   v ← check (not (style_has name before)) (fault.Double (at_style style))
@@ -133,7 +135,7 @@ style_after before d = style_of (length before) before d
 -- a name in a layer's list: a text, of 1 to 64 bytes, that some style has
 unfoldable pub style_name_of : List Style → At → List (List ℕ) → Data → Result (List ℕ) StyleFault
 style_name_of styles at before d = do
-  name ← a_text_to 64 at d
+  name ← a_text_to most_name_bytes at d
   u ← check (style_has name styles) (fault.NoStyle at)
   Ok name
 
@@ -141,8 +143,8 @@ style_name_of styles at before d = do
 unfoldable pub layer_of : List Style → ℕ → List LayerRef → Data → Result LayerRef StyleFault
 layer_of styles layer before d = do
   u ← opened_as object.Layer (at_layer layer) d
-  name ← needed (fault.Shape (at_layer layer)) (a_text_to 64 (at_layer layer)) (get (codes "name") d)
-  source ← needed (fault.Shape (at_layer layer)) (a_text_to 64 (at_layer layer)) (get (codes "source") d)
+  name ← needed (fault.Shape (at_layer layer)) (a_text_to most_name_bytes (at_layer layer)) (get (codes "name") d)
+  source ← needed (fault.Shape (at_layer layer)) (a_text_to most_name_bytes (at_layer layer)) (get (codes "source") d)
   least ← or_value 0 (a_scale (at_layer layer)) (get (codes "minimum-scale-denominator") d)
   greatest ← or_value None (a_bound (at_layer layer)) (get (codes "maximum-scale-denominator") d)
   items ← needed (fault.Shape (at_layer layer)) (list (fault.Shape (at_layer layer))) (get (codes "styles") d)
@@ -158,8 +160,8 @@ layer_after styles before d = layer_of styles (length before) before d
 unfoldable pub raster_of : ℕ → List RasterRef → Data → Result RasterRef StyleFault
 raster_of raster before d = do
   u ← opened_as object.Raster (at_raster raster) d
-  name ← needed (fault.Shape (at_raster raster)) (a_text_to 64 (at_raster raster)) (get (codes "name") d)
-  file ← needed (fault.Shape (at_raster raster)) (a_text_to 100 (at_raster raster)) (get (codes "file") d)
+  name ← needed (fault.Shape (at_raster raster)) (a_text_to most_name_bytes (at_raster raster)) (get (codes "name") d)
+  file ← needed (fault.Shape (at_raster raster)) (a_text_to most_file_bytes (at_raster raster)) (get (codes "file") d)
   west ← needed (fault.Shape (at_raster raster)) (a_number 0 (at_raster raster)) (get (codes "west") d)
   north ← needed (fault.Shape (at_raster raster)) (a_number 0 (at_raster raster)) (get (codes "north") d)
   pixel ← needed (fault.Shape (at_raster raster)) (a_number 1 (at_raster raster)) (get (codes "pixel") d)
@@ -174,9 +176,9 @@ raster_after before d = raster_of (length before) before d
 unfoldable pub map_of : Data → Result MapStyle StyleFault
 map_of d = do
   u ← opened_as object.Map at_map d
-  found_styles ← within 256 (fault.Range at_map) (get (codes "styles") d)
-  found_layers ← within 64 (fault.Range at_map) (get (codes "layers") d)
-  found_rasters ← within 2 (fault.Range at_map) (get (codes "rasters") d)
+  found_styles ← within most_styles (fault.Range at_map) (get (codes "styles") d)
+  found_layers ← within most_map_layers (fault.Range at_map) (get (codes "layers") d)
+  found_rasters ← within most_rasters (fault.Range at_map) (get (codes "rasters") d)
   background ← or_value white (a_colour at_map) (get (codes "background-color") d)
   style_items ← ok_or found_styles (fault.Shape at_map)
   layer_items ← ok_or found_layers (fault.Shape at_map)

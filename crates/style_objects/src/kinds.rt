@@ -14,6 +14,7 @@ ghost use Rattle.style_objects.specs.declared.fault.StyleFault.TheVariants as fa
 use crate::fault::{At, StyleFault};
 use filter_expr::{Expr, FilterFault, parse};
 use paint_texts::{Colour, hundredths, thousandths};
+use plain_data::MOST_WIDTH;
 use plain_drawing::FilterMode;
 use plain_shapes::LineCap;
 use reading::{text, whole};
@@ -91,7 +92,7 @@ fn a_width(value: &Value, at: At) -> Result<u64, StyleFault>
     ensures fits { IfOk result (λ n. IsTrue (is_width n)) }
 {
     let n = hundredths(text(value, StyleFault::Shape(at))?).ok_or(StyleFault::Text(at))?;
-    if 1 <= n && n <= 6400 {
+    if 1 <= n && n <= 100 * MOST_WIDTH {
         Ok(n)
     } else {
         Err(StyleFault::Range(at))

@@ -9,12 +9,14 @@ ghost use Rattle.reading.specs.Lists.{list_of};
 ghost use Rattle.reading.specs.Steps.{Gives};
 ghost use Rattle.style_objects.specs.Tables as spec;
 ghost use Rattle.style_objects.specs.declared.fault.StyleFault.TheVariants as fault;
+ghost use Rattle.plain_drawing.specs.Limits.{most_map_layers};
 
 use crate::fault::{At, StyleFault};
 use crate::keys::{Object, open};
 use crate::kinds::{a_text_to, bound_or_none, scale_or_zero, text_to};
 use crate::style_list::style_has;
 use farm_base::Text;
+use plain_data::MOST_NAME_BYTES;
 use plain_drawing::{LayerRef, Style};
 use reading::{ReadItem, list, read_list};
 use serde_json::Value;
@@ -40,7 +42,7 @@ impl ReadItem for NameItems<'_> {
 
     #[tactic(auto, unfolding(crate::specs::Tables::style_name_of))]
     fn read(&self, alloc: Global, _before: &[Text], value: &Value) -> Result<Text, StyleFault> {
-        let name = a_text_to(value, 64, self.at)?;
+        let name = a_text_to(value, MOST_NAME_BYTES, self.at)?;
         if !style_has(name, self.styles) {
             return Err(StyleFault::NoStyle(self.at));
         }
@@ -82,8 +84,8 @@ fn layer(
 {
     let at = At::layer(place);
     open(object, Object::Layer, at)?;
-    let name = text_to(object, "name", 64, at)?;
-    let source = text_to(object, "source", 64, at)?;
+    let name = text_to(object, "name", MOST_NAME_BYTES, at)?;
+    let source = text_to(object, "source", MOST_NAME_BYTES, at)?;
     let minimum_scale_denominator = scale_or_zero(object, "minimum-scale-denominator", at)?;
     let maximum_scale_denominator = bound_or_none(object, "maximum-scale-denominator", at)?;
     let items = list(object.get("styles"), StyleFault::Shape(at))?;
@@ -111,7 +113,7 @@ impl ReadItem for LayerItems<'_> {
 
     type Fault = StyleFault;
 
-    ghost limit = { λ r. 64 };
+    ghost limit = { λ r. most_map_layers };
 
     ghost reads = { λ r before d. spec.layer_after r.styles.now before d };
 
@@ -128,10 +130,10 @@ impl ReadItem for LayerItems<'_> {
 }
 
 pub fn layers(alloc: Global, styles: &[Style], items: &[Value]) -> Result<Vec<LayerRef>, StyleFault>
-    requires { length items.now ≤ 64 }
+    requires { length items.now ≤ most_map_layers }
     ensures value { Gives fault.NoMemory (λ v. v.items) (list_of (spec.layer_after styles.now) (items_view items.now)) result }
     ensures apart { IfOk result (λ v. IsTrue (each_after (layer_apart styles.now) [] v.items)) }
-    ensures count { IfOk result (λ v. length v.items ≤ 64) }
+    ensures count { IfOk result (λ v. length v.items ≤ most_map_layers) }
 {
     read_list(alloc, &LayerItems { styles }, items)
 }

@@ -12,7 +12,7 @@ use crate::layers::layers;
 use crate::rasters::rasters;
 use crate::style_list::styles;
 use paint_texts::Colour;
-use plain_drawing::MapStyle;
+use plain_drawing::{MOST_MAP_LAYERS, MOST_RASTERS, MOST_STYLES, MapStyle};
 use reading::{read_json, within};
 use serde_json::Value;
 use std::alloc::Global;
@@ -29,9 +29,9 @@ fn map_style(alloc: Global, object: &Value) -> Result<MapStyle, StyleFault>
 {
     let at = At::map();
     open(object, Object::Map, at)?;
-    let found_styles = within(object.get("styles"), 256, StyleFault::Range(at))?;
-    let found_layers = within(object.get("layers"), 64, StyleFault::Range(at))?;
-    let found_rasters = within(object.get("rasters"), 2, StyleFault::Range(at))?;
+    let found_styles = within(object.get("styles"), MOST_STYLES, StyleFault::Range(at))?;
+    let found_layers = within(object.get("layers"), MOST_MAP_LAYERS, StyleFault::Range(at))?;
+    let found_rasters = within(object.get("rasters"), MOST_RASTERS, StyleFault::Range(at))?;
     let background_color = colour_or(object, "background-color", WHITE, at)?;
     let style_items = found_styles.ok_or(StyleFault::Shape(at))?;
     let layer_items = found_layers.ok_or(StyleFault::Shape(at))?;

@@ -8,12 +8,14 @@ ghost use Rattle.reading.specs.Lists.{list_of};
 ghost use Rattle.reading.specs.Steps.{Gives};
 ghost use Rattle.style_objects.specs.Tables as spec;
 ghost use Rattle.style_objects.specs.declared.fault.StyleFault.TheVariants as fault;
+ghost use Rattle.plain_drawing.specs.Limits.{most_rasters};
 
 use crate::fault::{At, StyleFault};
 use crate::keys::{Object, open};
 use crate::kinds::{number_at, text_to};
 use farm_base::Text;
-use plain_drawing::RasterRef;
+use plain_data::MOST_NAME_BYTES;
+use plain_drawing::{MOST_FILE_BYTES, RasterRef};
 use reading::{ReadItem, read_list};
 use serde_json::Value;
 use std::alloc::Global;
@@ -36,8 +38,8 @@ fn raster(
 {
     let at = At::raster(place);
     open(object, Object::Raster, at)?;
-    let name = text_to(object, "name", 64, at)?;
-    let file = text_to(object, "file", 100, at)?;
+    let name = text_to(object, "name", MOST_NAME_BYTES, at)?;
+    let file = text_to(object, "file", MOST_FILE_BYTES, at)?;
     let west = number_at(object, "west", 0, at)?;
     let north = number_at(object, "north", 0, at)?;
     let pixel = number_at(object, "pixel", 1, at)?;
@@ -62,7 +64,7 @@ impl ReadItem for RasterItems {
 
     type Fault = StyleFault;
 
-    ghost limit = { λ r. 2 };
+    ghost limit = { λ r. most_rasters };
 
     ghost reads = { λ r before d. spec.raster_after before d };
 
@@ -79,10 +81,10 @@ impl ReadItem for RasterItems {
 }
 
 pub fn rasters(alloc: Global, items: &[Value]) -> Result<Vec<RasterRef>, StyleFault>
-    requires { length items.now ≤ 2 }
+    requires { length items.now ≤ most_rasters }
     ensures value { Gives fault.NoMemory (λ v. v.items) (list_of spec.raster_after (items_view items.now)) result }
     ensures apart { IfOk result (λ v. IsTrue (each_after raster_apart [] v.items)) }
-    ensures count { IfOk result (λ v. length v.items ≤ 2) }
+    ensures count { IfOk result (λ v. length v.items ≤ most_rasters) }
 {
     read_list(alloc, &RasterItems {}, items)
 }

@@ -6,13 +6,14 @@ ghost use Rattle.reading.specs.Lists.{list_of};
 ghost use Rattle.reading.specs.Steps.{Gives};
 ghost use Rattle.style_objects.specs.Tables as spec;
 ghost use Rattle.style_objects.specs.declared.fault.StyleFault.TheVariants as fault;
+ghost use Rattle.plain_drawing.specs.Limits.{most_rules};
 
 use crate::fault::{At, StyleFault};
 use crate::keys::{Object, open};
 use crate::kinds::{bound_or_none, else_or_false, filter_or_none, scale_or_zero};
 use crate::symbolizers::symbolizers;
 use filter_expr::Expr;
-use plain_drawing::Rule;
+use plain_drawing::{MOST_SYMBOLIZERS, Rule};
 use reading::{ReadItem, read_list, within};
 use serde_json::Value;
 use std::alloc::Global;
@@ -34,7 +35,11 @@ fn rule(alloc: Global, style: u32, place: u32, object: &Value) -> Result<Rule, S
 {
     let at = At::rule(style, place);
     open(object, Object::Rule, at)?;
-    let found = within(object.get("symbolizers"), 16, StyleFault::Range(at))?;
+    let found = within(
+        object.get("symbolizers"),
+        MOST_SYMBOLIZERS,
+        StyleFault::Range(at),
+    )?;
     let (filter, else_filter) = filters(alloc, object, at)?;
     let min_scale_denominator = scale_or_zero(object, "MinScaleDenominator", at)?;
     let max_scale_denominator = bound_or_none(object, "MaxScaleDenominator", at)?;
@@ -60,7 +65,7 @@ impl ReadItem for RuleItems {
 
     type Fault = StyleFault;
 
-    ghost limit = { λ r. 256 };
+    ghost limit = { λ r. most_rules };
 
     ghost reads = { λ r before d. spec.rule_after r.style before d };
 
@@ -72,9 +77,9 @@ impl ReadItem for RuleItems {
 }
 
 pub fn rules(alloc: Global, style: u32, items: &[Value]) -> Result<Vec<Rule>, StyleFault>
-    requires { length items.now ≤ 256 }
+    requires { length items.now ≤ most_rules }
     ensures value { Gives fault.NoMemory (λ v. v.items) (list_of (spec.rule_after style) (items_view items.now)) result }
-    ensures count { IfOk result (λ v. length v.items ≤ 256) }
+    ensures count { IfOk result (λ v. length v.items ≤ most_rules) }
 {
     read_list(alloc, &RuleItems { style }, items)
 }

@@ -8,13 +8,15 @@ ghost use Rattle.reading.specs.Lists.{list_of};
 ghost use Rattle.reading.specs.Steps.{Gives};
 ghost use Rattle.style_objects.specs.Tables as spec;
 ghost use Rattle.style_objects.specs.declared.fault.StyleFault.TheVariants as fault;
+ghost use Rattle.plain_drawing.specs.Limits.{most_styles};
 
 use crate::fault::{At, StyleFault};
 use crate::keys::{Object, open};
 use crate::kinds::{mode_or_all, text_to};
 use crate::rules::rules;
 use farm_base::Text;
-use plain_drawing::Style;
+use plain_data::MOST_NAME_BYTES;
+use plain_drawing::{MOST_RULES, Style};
 use reading::{ReadItem, read_list, within};
 use serde_json::Value;
 use std::alloc::Global;
@@ -33,8 +35,8 @@ fn style(alloc: Global, place: u32, before: &[Style], object: &Value) -> Result<
 {
     let at = At::style(place);
     open(object, Object::Style, at)?;
-    let found = within(object.get("rules"), 256, StyleFault::Range(at))?;
-    let name = text_to(object, "name", 64, at)?;
+    let found = within(object.get("rules"), MOST_RULES, StyleFault::Range(at))?;
+    let name = text_to(object, "name", MOST_NAME_BYTES, at)?;
     let filter_mode = mode_or_all(object, "filter-mode", at)?;
     let items = found.ok_or(StyleFault::Shape(at))?;
     if style_has(name, before) {
@@ -57,7 +59,7 @@ impl ReadItem for StyleItems {
 
     type Fault = StyleFault;
 
-    ghost limit = { λ r. 256 };
+    ghost limit = { λ r. most_styles };
 
     ghost reads = { λ r before d. spec.style_after before d };
 
@@ -69,10 +71,10 @@ impl ReadItem for StyleItems {
 }
 
 pub fn styles(alloc: Global, items: &[Value]) -> Result<Vec<Style>, StyleFault>
-    requires { length items.now ≤ 256 }
+    requires { length items.now ≤ most_styles }
     ensures value { Gives fault.NoMemory (λ v. v.items) (list_of spec.style_after (items_view items.now)) result }
     ensures apart { IfOk result (λ v. IsTrue (each_after style_apart [] v.items)) }
-    ensures count { IfOk result (λ v. length v.items ≤ 256) }
+    ensures count { IfOk result (λ v. length v.items ≤ most_styles) }
 {
     read_list(alloc, &StyleItems {}, items)
 }

@@ -10,6 +10,7 @@ ghost use Rattle.reading.specs.Values.{needed, text as spec_text};
 ghost use Rattle.serde_json.specs.Find.{get};
 ghost use Rattle.style_objects.specs.Tables as spec;
 ghost use Rattle.style_objects.specs.declared.fault.StyleFault.TheVariants as fault;
+ghost use Rattle.plain_drawing.specs.Limits.{most_symbolizers};
 
 use crate::fault::{At, StyleFault};
 use crate::keys::{Object, open};
@@ -41,9 +42,9 @@ fn polygon(object: &Value, at: At) -> Result<Symbolizer, StyleFault>
     Ok(Symbolizer::Polygon { fill, fill_opacity })
 }
 
-#[tactic(auto, unfolding(crate::specs::Tables::line_of))]
+#[tactic(auto, unfolding(crate::specs::Tables::line_symbolizer_of))]
 fn line(object: &Value, at: At) -> Result<Symbolizer, StyleFault>
-    ensures value { result ≡ spec.line_of at (view object.now) }
+    ensures value { result ≡ spec.line_symbolizer_of at (view object.now) }
     ensures fits { IfOk result (λ s. IsTrue (is_paint s)) }
 {
     open(object, Object::LineSymbolizer, at)?;
@@ -131,7 +132,7 @@ impl ReadItem for SymbolizerItems {
 
     type Fault = StyleFault;
 
-    ghost limit = { λ r. 16 };
+    ghost limit = { λ r. most_symbolizers };
 
     ghost reads = { λ r before d. spec.symbolizer_after r.style r.rule before d };
 
@@ -157,10 +158,10 @@ pub fn symbolizers(
     rule: u32,
     items: &[Value],
 ) -> Result<Vec<Symbolizer>, StyleFault>
-    requires { length items.now ≤ 16 }
+    requires { length items.now ≤ most_symbolizers }
     ensures value { Gives fault.NoMemory (λ v. v.items) (list_of (spec.symbolizer_after style rule) (items_view items.now)) result }
     ensures fits { IfOk result (λ v. IsTrue (list_all is_paint v.items)) }
-    ensures count { IfOk result (λ v. length v.items ≤ 16) }
+    ensures count { IfOk result (λ v. length v.items ≤ most_symbolizers) }
 {
     let symbolizers = read_list(alloc, &SymbolizerItems { style, rule }, items)?;
     Ok(symbolizers)

@@ -13,21 +13,10 @@ dataset 1 <-
 dataset 1 <- {"layers":[]
 dataset 1 <- {"layers":[]} x
 dataset 1 <- {"layers":[],}
-dataset 1 <- {"units":"\ud800","layers":[]}
 dataset 2 at 0 0 <- []
 dataset 2 at 0 0 <- null
 dataset 2 at 0 0 <- 5
 dataset 2 at 0 0 <- {}
-dataset 2 at 0 0 <- {"units":"cm"}
-dataset 2 at 0 0 <- {"layers":null}
-dataset 2 at 0 0 <- {"layers":{}}
-dataset 2 at 0 0 <- {"layers":"a"}
-dataset 2 at 0 0 <- {"layers":[],"units":"m"}
-dataset 2 at 0 0 <- {"layers":[],"units":"CM"}
-dataset 2 at 0 0 <- {"layers":[],"units":""}
-dataset 2 at 0 0 <- {"layers":[],"units":5}
-dataset 2 at 0 0 <- {"layers":[],"units":null}
-dataset 2 at 0 0 <- {"layers":[],"name":"a"}
 in {"units":"world","layers":[%]}
 layer a <- {"name":"a","features":[]}
 layer aaaaaaaaaaaaaaaaaaaaaaaaaaaaaaaaaaaaaaaaaaaaaaaaaaaaaaaaaaaaaaaa <- {"features":[],"name":"aaaaaaaaaaaaaaaaaaaaaaaaaaaaaaaaaaaaaaaaaaaaaaaaaaaaaaaaaaaaaaaa"}
@@ -37,23 +26,12 @@ dataset 2 at 0 0 <- null
 dataset 2 at 0 0 <- "a"
 dataset 2 at 0 0 <- []
 dataset 2 at 0 0 <- {}
-dataset 2 at 0 0 <- {"features":[]}
-dataset 2 at 0 0 <- {"name":5,"features":[]}
-dataset 2 at 0 0 <- {"name":null,"features":[]}
-dataset 2 at 0 0 <- {"name":"","features":[]}
-dataset 2 at 0 0 <- {"name":"aaaaaaaaaaaaaaaaaaaaaaaaaaaaaaaaaaaaaaaaaaaaaaaaaaaaaaaaaaaaaaaaa","features":[]}
-dataset 2 at 0 0 <- {"name":"aéééééééééééééééééééééééééééééééé","features":[]}
-dataset 2 at 0 0 <- {"name":"a"}
-dataset 2 at 0 0 <- {"name":"a","features":null}
-dataset 2 at 0 0 <- {"name":"a","features":{}}
-dataset 2 at 0 0 <- {"name":"a","features":[],"units":"cm"}
 dataset 2 at 1 0 <- {"name":"a","features":[]},{"name":"a"}
 dataset 2 at 1 0 <- {"name":"a","features":[]},{"name":"a","features":[],"x":1}
 dataset 5 at 1 <- {"name":"a","features":[]},{"name":"a","features":[]}
 dataset 5 at 1 <- {"name":"a","features":[]},{"name":"a","features":[5]}
 dataset 5 at 2 <- {"name":"a","features":[]},{"name":"b","features":[]},{"name":"a","features":[]},5
 dataset 2 at 0 1 <- {"name":"a","features":[{"id":1,"geometry":{"points":[[5,6]]}},5]},{"name":"a","features":[]}
-dataset 2 at 0 0 <- {"name":"a","features":[5]},{"name":""}
 "##;
 
 const FEATURE: &str = r##"
@@ -63,15 +41,6 @@ dataset 2 at 0 0 <- null
 dataset 2 at 0 0 <- []
 dataset 2 at 0 0 <- {}
 dataset 2 at 0 0 <- {"geometry":{"points":[[5,6]]}}
-dataset 2 at 0 0 <- {"id":1}
-dataset 2 at 0 0 <- {"id":1,"geometry":null}
-dataset 2 at 0 0 <- {"id":1,"geometry":[]}
-dataset 2 at 0 0 <- {"id":1,"geometry":{}}
-dataset 2 at 0 0 <- {"id":1,"geometry":{"points":[[5,6]]},"name":"x"}
-dataset 2 at 0 0 <- {"id":1,"geometry":{"points":[[5,6]],"x":1}}
-dataset 2 at 0 0 <- {"id":1,"geometry":{"point":[5,6]}}
-dataset 2 at 0 0 <- {"id":1,"geometry":{"points":[[5,6]],"lines":[[[1,2],[3,4]]]}}
-dataset 2 at 0 0 <- {"id":1,"geometry":{"lines":[[[1,2],[3,4]]],"polygon":[[[1,2],[3,4],[5,6]]]}}
 dataset 4 at 0 id 7 <- {"id":7,"geometry":{"points":[[5,6]]}},{"id":8,"geometry":{"points":[[5,6]]}},{"id":7,"geometry":{"points":[[1,2]]}}
 dataset 3 at 0 1 geometry 1 <- {"id":7,"geometry":{"points":[[5,6]]}},{"id":7,"geometry":{"points":[]}}
 dataset 2 at 0 1 <- {"id":7,"geometry":{"points":[[5,6]]}},{"id":7,"geometry":{"points":[[5]]}}
@@ -88,9 +57,6 @@ dataset 2 at 0 0 <- 18446744073709551616
 dataset 2 at 0 0 <- -1
 dataset 2 at 0 0 <- -0
 dataset 2 at 0 0 <- 1.0
-dataset 2 at 0 0 <- 1e0
-dataset 2 at 0 0 <- "1"
-dataset 2 at 0 0 <- null
 "##;
 
 const SHAPES: &str = r##"
@@ -101,33 +67,14 @@ dataset 2 at 0 0 <- "points":null
 dataset 2 at 0 0 <- "points":{}
 dataset 2 at 0 0 <- "points":[5,6]
 dataset 2 at 0 0 <- "points":[[5,6],null]
-dataset 2 at 0 0 <- "points":[[]]
-dataset 2 at 0 0 <- "points":[[5]]
-dataset 2 at 0 0 <- "points":[[5,6,7]]
-dataset 2 at 0 0 <- "points":[[[5,6]]]
 feature 1 lines / 1,2 3,4 <- "lines":[[[1,2],[3,4]]]
 feature 1 lines / 1,2 1,2 / 3,4 5,6 7,8 <- "lines":[[[1,2],[1,2]],[[3,4],[5,6],[7,8]]]
 dataset 3 at 0 0 geometry 1 <- "lines":[]
 dataset 3 at 0 0 geometry 1 <- "lines":[[]]
 dataset 3 at 0 0 geometry 1 <- "lines":[[[1,2]]]
-dataset 3 at 0 0 geometry 1 <- "lines":[[[1,2],[3,4]],[[1,2]]]
-dataset 2 at 0 0 <- "lines":[[1,2],[3,4]]
-dataset 2 at 0 0 <- "lines":{}
-dataset 2 at 0 0 <- "lines":[null]
-dataset 2 at 0 0 <- "lines":[[[1,2],[3,"4"]]]
 feature 1 polygon / 1,2 3,4 5,6 <- "polygon":[[[1,2],[3,4],[5,6]]]
 feature 1 polygon / 1,2 3,4 5,6 / 7,8 7,8 7,8 <- "polygon":[[[1,2],[3,4],[5,6]],[[7,8],[7,8],[7,8]]]
-dataset 3 at 0 0 geometry 1 <- "polygon":[]
-dataset 3 at 0 0 geometry 1 <- "polygon":[[]]
-dataset 3 at 0 0 geometry 1 <- "polygon":[[[1,2],[3,4]]]
-dataset 3 at 0 0 geometry 1 <- "polygon":[[[1,2],[3,4],[5,6]],[[1,2],[3,4]]]
-dataset 2 at 0 0 <- "polygon":[[1,2],[3,4],[5,6]]
-dataset 2 at 0 0 <- "polygon":5
-dataset 3 at 0 0 geometry 1 <- "lines":[[[-1,0],[0,0]],[[1,2]]]
-dataset 3 at 0 0 geometry 1 <- "polygon":[[[-1,0],[0,0]]]
 dataset 3 at 0 0 geometry 2 <- "lines":[[[1,2],[3,4]],[[-1,0],[0,0]]]
-dataset 2 at 0 0 <- "points":[[-1,0],[5]]
-dataset 2 at 0 0 <- "lines":[],"x":1
 in {"units":"world","layers":[{"name":"a","features":[{"id":1,"geometry":{"points":[[5,%]]}}]}]}
 feature 1 points 5,0 <- 0
 feature 1 points 5,1073741824 <- 1073741824
@@ -135,16 +82,10 @@ dataset 3 at 0 0 geometry 2 <- 1073741825
 dataset 3 at 0 0 geometry 2 <- -1
 dataset 3 at 0 0 geometry 2 <- 4294967296
 dataset 3 at 0 0 geometry 2 <- 9223372036854775807
-dataset 3 at 0 0 geometry 2 <- -9223372036854775808
 dataset 2 at 0 0 <- 9223372036854775808
 dataset 2 at 0 0 <- -9223372036854775809
 dataset 2 at 0 0 <- 18446744073709551615
 dataset 2 at 0 0 <- 1.5
-dataset 2 at 0 0 <- 5.0
-dataset 2 at 0 0 <- 1e1
-dataset 2 at 0 0 <- -0
-dataset 2 at 0 0 <- "6"
-dataset 2 at 0 0 <- null
 in {"units":"world","layers":[{"name":"a","features":[{"id":1,"geometry":{"points":[[%,6]]}}]}]}
 feature 1 points 1073741824,6 <- 1073741824
 dataset 3 at 0 0 geometry 2 <- 1073741825
@@ -167,10 +108,6 @@ feature 1 points 536870912,1073741824 <- 0,-2003750837
 dataset 3 at 0 0 geometry 2 <- 0,-2003750838
 feature 1 points 536870912,0 <- 0,2003750834
 dataset 3 at 0 0 geometry 2 <- 0,2003750835
-dataset 3 at 0 0 geometry 2 <- 9223372036854775807,0
-dataset 3 at 0 0 geometry 2 <- -9223372036854775808,0
-dataset 3 at 0 0 geometry 2 <- 0,9223372036854775807
-dataset 3 at 0 0 geometry 2 <- 0,-9223372036854775808
 dataset 2 at 0 0 <- 0,9223372036854775808
 dataset 2 at 0 0 <- 0,-9223372036854775809
 in {"units":"cm","layers":[{"name":"a","features":[{"id":1,"geometry":{"points":[[%]]}}]}]}
@@ -192,17 +129,6 @@ dataset 2 at 0 0 <- null
 dataset 2 at 0 0 <- []
 dataset 2 at 0 0 <- "a"
 dataset 2 at 0 0 <- {"":1}
-dataset 2 at 0 0 <- {"aaaaaaaaaaaaaaaaaaaaaaaaaaaaaaaaaaaaaaaaaaaaaaaaaaaaaaaaaaaaaaaaa":1}
-dataset 2 at 0 0 <- {"aéééééééééééééééééééééééééééééééé":1}
-dataset 2 at 0 0 <- {"a":[]}
-dataset 2 at 0 0 <- {"a":{}}
-dataset 2 at 0 0 <- {"a":1.5}
-dataset 2 at 0 0 <- {"a":1.0}
-dataset 2 at 0 0 <- {"a":1e2}
-dataset 2 at 0 0 <- {"a":-0}
-dataset 2 at 0 0 <- {"a":9223372036854775808}
-dataset 2 at 0 0 <- {"a":-9223372036854775809}
-dataset 2 at 0 0 <- {"a":18446744073709551616}
 in {"units":"world","layers":[{"name":"a","features":[{"id":1,"geometry":{"points":%}]}]}
 dataset 2 at 0 0 <- []},"attrs":5
 dataset 2 at 0 0 <- [[-1,0]]},"attrs":{"a":1.5}
@@ -221,12 +147,6 @@ dataset 2 at 0 0 <- []
 dataset 2 at 0 0 <- null
 dataset 2 at 0 0 <- {}
 dataset 2 at 0 0 <- {"units":"cm"}
-dataset 2 at 0 0 <- {"changes":null}
-dataset 2 at 0 0 <- {"changes":{}}
-dataset 2 at 0 0 <- {"changes":[],"units":"m"}
-dataset 2 at 0 0 <- {"changes":[],"units":null}
-dataset 2 at 0 0 <- {"changes":[],"layers":[]}
-dataset 2 at 0 0 <- {"layers":[]}
 in {"units":"world","changes":[%]}
 change a removes puts 0 <- {"layer":"a"}
 change a removes puts 0 <- {"layer":"a","remove":[],"put":[]}
@@ -237,22 +157,6 @@ dataset 2 at 0 0 <- null
 dataset 2 at 0 0 <- []
 dataset 2 at 0 0 <- {}
 dataset 2 at 0 0 <- {"put":[]}
-dataset 2 at 0 0 <- {"layer":5}
-dataset 2 at 0 0 <- {"layer":""}
-dataset 2 at 0 0 <- {"layer":"aaaaaaaaaaaaaaaaaaaaaaaaaaaaaaaaaaaaaaaaaaaaaaaaaaaaaaaaaaaaaaaaa"}
-dataset 2 at 0 0 <- {"layer":"a","remove":null}
-dataset 2 at 0 0 <- {"layer":"a","remove":5}
-dataset 2 at 0 0 <- {"layer":"a","remove":{}}
-dataset 2 at 0 0 <- {"layer":"a","remove":[null]}
-dataset 2 at 0 0 <- {"layer":"a","remove":["1"]}
-dataset 2 at 0 0 <- {"layer":"a","remove":[1,-1]}
-dataset 2 at 0 0 <- {"layer":"a","remove":[-0]}
-dataset 2 at 0 0 <- {"layer":"a","remove":[1.0]}
-dataset 2 at 0 0 <- {"layer":"a","remove":[18446744073709551616]}
-dataset 2 at 0 0 <- {"layer":"a","put":null}
-dataset 2 at 0 0 <- {"layer":"a","put":{}}
-dataset 2 at 0 0 <- {"layer":"a","name":"b"}
-dataset 2 at 0 0 <- {"name":"a"}
 dataset 2 at 1 0 <- {"layer":"a"},{"layer":"a","remove":[1.5]}
 dataset 2 at 2 0 <- {"layer":"a"},{"layer":"b"},5
 in {"units":"world","changes":[{"layer":"a"},{"layer":"a","remove":[1],"put":[%]}]}

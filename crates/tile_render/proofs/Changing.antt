@@ -10,11 +10,12 @@ use Rattle.plain_world.specs.declared.world.Window.{Window}
 use Rattle.plain_shapes.specs.declared.colour.Colour.{Colour}
 use Rattle.plain_world.specs.World.{centre, centres}
 use Rattle.plain_shapes.specs.Blending.{blend}
-use Rattle.plain_shapes.specs.Canvas.{Pixels, at_centres, stepped}
+use Rattle.plain_shapes.specs.Images.{Pixels}
+use Rattle.plain_shapes.specs.inner.Canvas.{at_centres, stepped}
 use Rattle.plain_shapes.proofs.Places.{length-centres, get_or-centres}
 use Rattle.tile_render.specs.declared.parts.Part.{Part}
-use Rattle.tile_render.specs.Places.{changed_at}
-use Rattle.tile_render.specs.Parts.{IsPart, InPart, Holds, Tells, Changed, over_member}
+use Rattle.tile_render.specs.inner.Places.{changed_at}
+use Rattle.tile_render.specs.inner.Parts.{IsPart, InPart, Holds, Tells, Changed, over_member}
 use Rattle.tile_render.proofs.Pixels.{unchanged_at, written_at, next_changed}
 
 changed_start : (f : Point → Colour → Colour) (w : Window) (start : Pixels) → Changed f w 0 start start

@@ -7,11 +7,11 @@ use Rattle.farm_base.specs.declared.Attr.{Attr}
 use Rattle.plain_world.specs.declared.world.Window.{Window}
 use Rattle.plain_drawing.specs.declared.style.FilterMode.TheVariants.{All, First}
 use Rattle.plain_drawing.specs.Styles.{Rule, Style}
-use Rattle.plain_shapes.specs.Canvas.{Pixels}
+use Rattle.plain_shapes.specs.Images.{Pixels}
 use Rattle.plain_drawing.specs.Rules.{matches, is_fallback, taken}
-use Rattle.plain_drawing.specs.Drawing.{Item, attrs_of}
-use Rattle.plain_drawing.specs.Pictures.{with_symbolizer, with_item}
-use Rattle.tile_render.specs.Chosen.{with_rule, with_chosen}
+use Rattle.plain_drawing.specs.Drawing.{Item, item_attrs}
+use Rattle.plain_drawing.specs.inner.Pictures.{with_symbolizer, with_item}
+use Rattle.tile_render.specs.inner.Chosen.{with_rule, with_chosen}
 
 chosen_by : (b : Bool) (w : Window) (item : Item) (p : Rule → Bool) (r : Rule) (rules : List Rule) (image : Pixels)
     → fold (with_symbolizer w item) (if b then with_rule w item image r else image) (flat_map (λ r. r.symbolizers) (filter p rules))
@@ -45,53 +45,53 @@ one_rule w item None image = refl
 one_rule w item (Some r) image = sym (fold-append (with_symbolizer w item) image r.symbolizers [])
 
 -- what is drawn where some Filter rule matches and all are taken
-pub all_taken : (w : Window) (d : ℕ) (s : Style) (item : Item) (image : Pixels) → list_any (matches (attrs_of item) d) s.rules ≡ true → s.filter_mode ≡ All
-    → fold (with_chosen w item (matches (attrs_of item) d)) image s.rules ≡ with_item w d s image item
+pub all_taken : (w : Window) (d : ℕ) (s : Style) (item : Item) (image : Pixels) → list_any (matches (item_attrs item) d) s.rules ≡ true → s.filter_mode ≡ All
+    → fold (with_chosen w item (matches (item_attrs item) d)) image s.rules ≡ with_item w d s image item
 unfolding with_item
 all_taken w d s item image any mode =
-    chosen_all w item (matches (attrs_of item) d) s.rules image
-    ∙ ap (λ m. fold (with_symbolizer w item) image (flat_map (λ r. r.symbolizers) (taken m (filter (matches (attrs_of item) d) s.rules)))) (sym mode)
+    chosen_all w item (matches (item_attrs item) d) s.rules image
+    ∙ ap (λ m. fold (with_symbolizer w item) image (flat_map (λ r. r.symbolizers) (taken m (filter (matches (item_attrs item) d) s.rules)))) (sym mode)
     ∙ ap (λ b. fold (with_symbolizer w item) image (flat_map (λ r. r.symbolizers)
-    (if b then taken s.filter_mode (filter (matches (attrs_of item) d) s.rules) else filter (is_fallback d) s.rules))) (sym any)
+    (if b then taken s.filter_mode (filter (matches (item_attrs item) d) s.rules) else filter (is_fallback d) s.rules))) (sym any)
 
 -- where some Filter rule matches and the first one is taken
-pub first_taken : (w : Window) (d : ℕ) (s : Style) (item : Item) (image : Pixels) → list_any (matches (attrs_of item) d) s.rules ≡ true → s.filter_mode ≡ First
-    → fold (with_rule w item) image (option_to_list (find (matches (attrs_of item) d) s.rules)) ≡ with_item w d s image item
+pub first_taken : (w : Window) (d : ℕ) (s : Style) (item : Item) (image : Pixels) → list_any (matches (item_attrs item) d) s.rules ≡ true → s.filter_mode ≡ First
+    → fold (with_rule w item) image (option_to_list (find (matches (item_attrs item) d) s.rules)) ≡ with_item w d s image item
 unfolding with_item with_rule
 first_taken w d s item image any mode =
-    one_rule w item (find (matches (attrs_of item) d) s.rules) image
-    ∙ ap (λ rs. fold (with_symbolizer w item) image (flat_map (λ r. r.symbolizers) rs)) (sym (first_found (matches (attrs_of item) d) s.rules))
-    ∙ ap (λ m. fold (with_symbolizer w item) image (flat_map (λ r. r.symbolizers) (taken m (filter (matches (attrs_of item) d) s.rules)))) (sym mode)
+    one_rule w item (find (matches (item_attrs item) d) s.rules) image
+    ∙ ap (λ rs. fold (with_symbolizer w item) image (flat_map (λ r. r.symbolizers) rs)) (sym (first_found (matches (item_attrs item) d) s.rules))
+    ∙ ap (λ m. fold (with_symbolizer w item) image (flat_map (λ r. r.symbolizers) (taken m (filter (matches (item_attrs item) d) s.rules)))) (sym mode)
     ∙ ap (λ b. fold (with_symbolizer w item) image (flat_map (λ r. r.symbolizers)
-    (if b then taken s.filter_mode (filter (matches (attrs_of item) d) s.rules) else filter (is_fallback d) s.rules))) (sym any)
+    (if b then taken s.filter_mode (filter (matches (item_attrs item) d) s.rules) else filter (is_fallback d) s.rules))) (sym any)
 
 -- where none matches
-pub fallbacks_taken : (w : Window) (d : ℕ) (s : Style) (item : Item) (image : Pixels) → list_any (matches (attrs_of item) d) s.rules ≡ false
+pub fallbacks_taken : (w : Window) (d : ℕ) (s : Style) (item : Item) (image : Pixels) → list_any (matches (item_attrs item) d) s.rules ≡ false
     → fold (with_chosen w item (is_fallback d)) image s.rules ≡ with_item w d s image item
 unfolding with_item
 fallbacks_taken w d s item image none =
     chosen_all w item (is_fallback d) s.rules image
     ∙ ap (λ b. fold (with_symbolizer w item) image (flat_map (λ r. r.symbolizers)
-    (if b then taken s.filter_mode (filter (matches (attrs_of item) d) s.rules) else filter (is_fallback d) s.rules))) (sym none)
+    (if b then taken s.filter_mode (filter (matches (item_attrs item) d) s.rules) else filter (is_fallback d) s.rules))) (sym none)
 
 -- the same in the words of the code, which has looked at the rules and attributes before
 pub all_drawn : (w : Window) (d : ℕ) (s : Style) (item : Item) (image : Pixels) (rules : List Rule) (attrs : List Attr) (any : Bool)
-    → rules ≡ s.rules → attrs ≡ attrs_of item → any ≡ list_any (matches attrs d) rules → any ≡ true → s.filter_mode ≡ All
-    → fold (with_chosen w item (matches (attrs_of item) d)) image rules ≡ with_item w d s image item
+    → rules ≡ s.rules → attrs ≡ item_attrs item → any ≡ list_any (matches attrs d) rules → any ≡ true → s.filter_mode ≡ All
+    → fold (with_chosen w item (matches (item_attrs item) d)) image rules ≡ with_item w d s image item
 all_drawn w d s item image rules attrs any same of is holds mode =
-    ap (fold (with_chosen w item (matches (attrs_of item) d)) image) same
-    ∙ all_taken w d s item image (ap (λ rs. list_any (matches (attrs_of item) d) rs) (sym same) ∙ ap (λ bs. list_any (matches bs d) rules) (sym of) ∙ sym is ∙ holds) mode
+    ap (fold (with_chosen w item (matches (item_attrs item) d)) image) same
+    ∙ all_taken w d s item image (ap (λ rs. list_any (matches (item_attrs item) d) rs) (sym same) ∙ ap (λ bs. list_any (matches bs d) rules) (sym of) ∙ sym is ∙ holds) mode
 
 pub first_drawn : (w : Window) (d : ℕ) (s : Style) (item : Item) (image : Pixels) (rules : List Rule) (attrs : List Attr) (any : Bool)
-    → rules ≡ s.rules → attrs ≡ attrs_of item → any ≡ list_any (matches attrs d) rules → any ≡ true → s.filter_mode ≡ First
-    → fold (with_rule w item) image (option_to_list (find (matches (attrs_of item) d) rules)) ≡ with_item w d s image item
+    → rules ≡ s.rules → attrs ≡ item_attrs item → any ≡ list_any (matches attrs d) rules → any ≡ true → s.filter_mode ≡ First
+    → fold (with_rule w item) image (option_to_list (find (matches (item_attrs item) d) rules)) ≡ with_item w d s image item
 first_drawn w d s item image rules attrs any same of is holds mode =
-    ap (λ rs. fold (with_rule w item) image (option_to_list (find (matches (attrs_of item) d) rs))) same
-    ∙ first_taken w d s item image (ap (λ rs. list_any (matches (attrs_of item) d) rs) (sym same) ∙ ap (λ bs. list_any (matches bs d) rules) (sym of) ∙ sym is ∙ holds) mode
+    ap (λ rs. fold (with_rule w item) image (option_to_list (find (matches (item_attrs item) d) rs))) same
+    ∙ first_taken w d s item image (ap (λ rs. list_any (matches (item_attrs item) d) rs) (sym same) ∙ ap (λ bs. list_any (matches bs d) rules) (sym of) ∙ sym is ∙ holds) mode
 
 pub fallbacks_drawn : (w : Window) (d : ℕ) (s : Style) (item : Item) (image : Pixels) (rules : List Rule) (attrs : List Attr) (any : Bool)
-    → rules ≡ s.rules → attrs ≡ attrs_of item → any ≡ list_any (matches attrs d) rules → any ≡ false
+    → rules ≡ s.rules → attrs ≡ item_attrs item → any ≡ list_any (matches attrs d) rules → any ≡ false
     → fold (with_chosen w item (is_fallback d)) image rules ≡ with_item w d s image item
 fallbacks_drawn w d s item image rules attrs any same of is fails =
     ap (fold (with_chosen w item (is_fallback d)) image) same
-    ∙ fallbacks_taken w d s item image (ap (λ rs. list_any (matches (attrs_of item) d) rs) (sym same) ∙ ap (λ bs. list_any (matches bs d) rules) (sym of) ∙ sym is ∙ fails)
+    ∙ fallbacks_taken w d s item image (ap (λ rs. list_any (matches (item_attrs item) d) rs) (sym same) ∙ ap (λ bs. list_any (matches bs d) rules) (sym of) ∙ sym is ∙ fails)

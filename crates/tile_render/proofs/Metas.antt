@@ -7,10 +7,10 @@ use Rattle.plain_world.specs.declared.world.Window.{Window}
 use Rattle.plain_world.specs.World.{centres}
 use Rattle.plain_data.specs.Features.{Layer}
 use Rattle.plain_drawing.specs.Styles.{MapStyle}
-use Rattle.plain_shapes.specs.Canvas.{Pixels}
+use Rattle.plain_shapes.specs.Images.{Pixels}
 use Rattle.plain_drawing.specs.Rules.{denominator_of}
 use Rattle.plain_drawing.specs.Drawing.{colour_at, pixel_of}
-use Rattle.plain_drawing.specs.Pictures.{with_map}
+use Rattle.plain_drawing.specs.inner.Pictures.{with_map}
 use Rattle.plain_drawing.proofs.Steps.{one_colour, fresh_map}
 
 -- a range of one more number

@@ -16,18 +16,19 @@ use Rattle.plain_world.specs.World.{InWorld, centre, centres}
 use Rattle.geo_model.specs.declared.bounds.Bounds.{Bounds}
 use Rattle.geo_model.specs.Bounds.{InBounds}
 use Rattle.geo_model.specs.Shapes.{parts_of}
-use Rattle.drawing_reach.specs.Spreads.{Beside, spread_across, spread_down}
+use Rattle.drawing_reach.specs.inner.Spreads.{Beside, spread_across, spread_down}
 use Rattle.drawing_reach.proofs.Covers.{covered_beside}
 use Rattle.drawing_reach.proofs.Unreached.{missed, all_centres}
 use Rattle.plain_data.specs.Features.{Feature}
 use Rattle.plain_shapes.specs.Blending.{blend}
-use Rattle.plain_shapes.specs.Canvas.{Bits, Pixels, stepped, marked}
+use Rattle.plain_shapes.specs.Images.{Bits, Pixels}
+use Rattle.plain_shapes.specs.inner.Canvas.{stepped, marked}
 use Rattle.plain_drawing.specs.Drawing.{Item, feature, raster, raster_over, covers, painted_over, symbolizer_at}
-use Rattle.plain_drawing.specs.Pictures.{with_symbolizer}
+use Rattle.plain_drawing.specs.inner.Pictures.{with_symbolizer}
 use Rattle.plain_shapes.proofs.Places.{length-centres, get_or-centres}
 use Rattle.plain_drawing.proofs.Steps.{stepped_none, at_centres-replicate}
 use Rattle.tile_render.specs.declared.parts.Part.{Part}
-use Rattle.tile_render.specs.Parts.{InPart, part_of, Holds, HoldsCovered, Tells, over_member}
+use Rattle.tile_render.specs.inner.Parts.{InPart, part_of, Holds, HoldsCovered, Tells, over_member}
 
 -- a symbolizer that changes no colour leaves the picture
 pub untouched : (w : Window) (item : Item) (image : Pixels) (s : Symbolizer) → ((c : Point) (d : Colour) → symbolizer_at w.pixel item c d s ≡ d)

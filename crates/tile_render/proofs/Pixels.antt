@@ -5,10 +5,11 @@ use Rattle.std.proofs.Math.Nat.{mul-le-mul_right}
 use Rattle.plain_world.specs.declared.world.Point.{Point}
 use Rattle.plain_world.specs.declared.world.Window.{Window}
 use Rattle.plain_world.specs.World.{centre, centres}
-use Rattle.plain_shapes.specs.Canvas.{Pixels, at_centres, stepped}
+use Rattle.plain_shapes.specs.Images.{Pixels}
+use Rattle.plain_shapes.specs.inner.Canvas.{at_centres, stepped}
 use Rattle.plain_shapes.specs.declared.colour.Colour.{Colour}
 use Rattle.plain_shapes.proofs.Places.{length-centres, get_or-centres}
-use Rattle.tile_render.specs.Places.{changed_at}
+use Rattle.tile_render.specs.inner.Places.{changed_at}
 
 -- a step that leaves this element as it is changes nothing
 pub unchanged_at : {X : Type 0} (f : Point → X → X) (c : Point) → ((x : X) → f c x ≡ x) → (place : ℕ) (xs : List X) → xs ≡ changed_at f place c xs

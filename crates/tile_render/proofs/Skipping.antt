@@ -13,20 +13,20 @@ use Rattle.plain_shapes.specs.declared.shapes.Geometry.TheVariants as shape
 use Rattle.plain_world.specs.World.{IsWindow, centre}
 use Rattle.plain_data.specs.Features.{Feature}
 use Rattle.plain_drawing.specs.Styles.{Rule, Style, is_paint}
-use Rattle.plain_shapes.specs.Canvas.{Pixels}
+use Rattle.plain_shapes.specs.Images.{Pixels}
 use Rattle.plain_drawing.specs.Drawing.{covers, feature}
-use Rattle.plain_drawing.specs.Pictures.{with_item}
+use Rattle.plain_drawing.specs.inner.Pictures.{with_item}
 use Rattle.geo_model.specs.declared.bounds.Bounds.{Bounds}
 use Rattle.geo_model.specs.Bounds.{bounds_of, meets}
 use Rattle.geo_model.specs.Shapes.{parts_of}
 use Rattle.data_versions.specs.Near.{is_near, next_near}
-use Rattle.drawing_reach.specs.Spreads.{Beside}
-use Rattle.drawing_reach.specs.Laws.{KeepsRanges}
+use Rattle.drawing_reach.specs.inner.Spreads.{Beside}
+use Rattle.plain_drawing.specs.Styles.{KeepsRanges}
 use Rattle.drawing_reach.proofs.Members.{not_true}
 use Rattle.drawing_reach.proofs.Boxes.{box_holds, box_west, box_north}
 use Rattle.drawing_reach.proofs.Reaching.{covered_within}
 use Rattle.drawing_reach.proofs.Unreached.{Misses, all_centres, item_missed}
-use Rattle.tile_render.specs.Parts.{around}
+use Rattle.tile_render.specs.inner.Parts.{around}
 use Rattle.tile_render.proofs.Steps.{fold_next}
 
 -- ---- a feature far from the window leaves the picture
@@ -164,7 +164,3 @@ all_drawn w d style features place start now ok keeps none so_far =
     so_far ∙ sym (skipped (with_item w d style) feature features start place (length features)
     (λ j f low high has m. far_item w d style f m ok keeps (none_left features place (around w) none j f low has)))
     ∙ ap (λ fs. fold (with_item w d style) start (map feature fs)) (take_all (place + length features) features (omega arith))
-
--- the style's rules as the code has them
-pub keeps_as : (style : Style) (rules : List Rule) → rules ≡ style.rules → All (λ r. IsTrue (list_all is_paint r.symbolizers)) rules → KeepsRanges style
-keeps_as style rules is h = (let P : List Rule → Type 0 = λ rs. All (λ r. IsTrue (list_all is_paint r.symbolizers)) rs in subst P is h)

@@ -1,4 +1,1 @@
-pub mod Chosen
-pub mod Parts
-pub mod Places
-pub mod Sources
+pub mod inner

@@ -5,10 +5,10 @@ ghost use Rattle.std.specs.Option.{option_copied, option_to_list};
 ghost use Rattle.plain_world.specs.World.{IsWindow};
 ghost use Rattle.plain_drawing.specs.Styles.{is_paint};
 ghost use Rattle.plain_drawing.specs.Rules.{matches, is_fallback, drawn};
-ghost use Rattle.plain_drawing.specs.Drawing.{attrs_of};
-ghost use Rattle.plain_drawing.specs.Pictures.{with_symbolizer, with_item};
-ghost use Rattle.tile_render.specs.Chosen.{is_chosen, with_rule, with_chosen};
-ghost use Rattle.tile_render.specs.Sources.{item_of};
+ghost use Rattle.plain_drawing.specs.Drawing.{item_attrs};
+ghost use Rattle.plain_drawing.specs.inner.Pictures.{with_symbolizer, with_item};
+ghost use Rattle.tile_render.specs.inner.Chosen.{is_chosen, with_rule, with_chosen};
+ghost use Rattle.tile_render.specs.inner.Sources.{item_of};
 
 use crate::rules::{Choice, any_matches, first_match, is_chosen};
 use crate::sources::Piece;
@@ -42,7 +42,7 @@ fn draw_symbolizers(
 }
 
 /// Draws an item by a rule, whatever its filter and scales.
-#[tactic(auto, unfolding(crate::specs::Chosen::with_rule))]
+#[tactic(auto, unfolding(crate::specs::inner::Chosen::with_rule))]
 fn draw_rule(
     alloc: Global,
     w: Window,
@@ -61,7 +61,7 @@ fn draw_rule(
 }
 
 /// Draws an item by a rule if it is chosen.
-#[tactic(auto, unfolding(crate::specs::Chosen::with_chosen))]
+#[tactic(auto, unfolding(crate::specs::inner::Chosen::with_chosen))]
 fn draw_if_chosen(
     alloc: Global,
     w: Window,
@@ -75,7 +75,7 @@ fn draw_if_chosen(
     requires scale { 100 * denominator < 2 ^ 64 }
     requires cols { image.old.cols ≡ w.cols }
     requires rows { image.old.rows ≡ w.rows }
-    ensures drawn { OnOk result (image.new ≡ with_chosen w (item_of piece.entry) (is_chosen choice (attrs_of (item_of piece.entry)) denominator) image.old rule.now) }
+    ensures drawn { OnOk result (image.new ≡ with_chosen w (item_of piece.entry) (is_chosen choice (item_attrs (item_of piece.entry)) denominator) image.old rule.now) }
     ensures cols { image.new.cols ≡ image.old.cols }
     ensures rows { image.new.rows ≡ image.old.rows }
 {
@@ -100,7 +100,7 @@ fn draw_chosen(
     requires scale { 100 * denominator < 2 ^ 64 }
     requires cols { image.old.cols ≡ w.cols }
     requires rows { image.old.rows ≡ w.rows }
-    ensures drawn { OnOk result (image.new ≡ fold (with_chosen w (item_of piece.entry) (is_chosen choice (attrs_of (item_of piece.entry)) denominator)) image.old rules.now) }
+    ensures drawn { OnOk result (image.new ≡ fold (with_chosen w (item_of piece.entry) (is_chosen choice (item_attrs (item_of piece.entry)) denominator)) image.old rules.now) }
     ensures cols { image.new.cols ≡ image.old.cols }
     ensures rows { image.new.rows ≡ image.old.rows }
 {
@@ -123,7 +123,7 @@ fn draw_first(
     requires scale { 100 * denominator < 2 ^ 64 }
     requires cols { image.old.cols ≡ w.cols }
     requires rows { image.old.rows ≡ w.rows }
-    ensures drawn { OnOk result (image.new ≡ fold (with_rule w (item_of piece.entry)) image.old (option_to_list (find (matches (attrs_of (item_of piece.entry)) denominator) rules.now))) }
+    ensures drawn { OnOk result (image.new ≡ fold (with_rule w (item_of piece.entry)) image.old (option_to_list (find (matches (item_attrs (item_of piece.entry)) denominator) rules.now))) }
     ensures cols { image.new.cols ≡ image.old.cols }
     ensures rows { image.new.rows ≡ image.old.rows }
 {

@@ -3,9 +3,9 @@ ghost use Rattle.std.specs.Prelude.{◌≡◌, ◌+◌, ◌*◌, ◌<◌, ◌≤
 ghost use Rattle.plain_shapes.specs.declared.colour.Colour.{Colour};
 ghost use Rattle.plain_drawing.specs.declared.style.Symbolizer.TheVariants as paint;
 ghost use Rattle.plain_world.specs.World.{IsWindow, centre, centres};
-ghost use Rattle.plain_shapes.specs.Canvas.{at_centres, stepped};
+ghost use Rattle.plain_shapes.specs.inner.Canvas.{at_centres, stepped};
 ghost use Rattle.plain_drawing.specs.Drawing.{raster_over};
-ghost use Rattle.tile_render.specs.Places.{changed_at};
+ghost use Rattle.tile_render.specs.inner.Places.{changed_at};
 
 use merc_fixed::centre;
 use plain_drawing::Grid;

@@ -1,20 +1,18 @@
 //! The layers of a map and the styles that they name.
-ghost use Rattle.std.specs.Prelude.{◌≡◌, IsTrue, ◌*◌, ◌^◌, ◌<◌, ◌≤◌, OnOk, List, fold, map, flat_map, find, length, slice_get, option_to_list, All};
-ghost use Rattle.std.specs.List.{list_all};
+ghost use Rattle.std.specs.Prelude.{◌≡◌, ◌*◌, ◌^◌, ◌<◌, ◌≤◌, OnOk, List, fold, map, flat_map, find, length, slice_get, option_to_list};
 ghost use Rattle.std.specs.Option.{option_copied};
 ghost use Rattle.std.specs.Str.{bytes_eq};
 ghost use Rattle.plain_world.specs.World.{IsWindow};
-ghost use Rattle.plain_drawing.specs.Styles.{is_paint};
 ghost use Rattle.plain_drawing.specs.Drawing.{feature, items_of, style_named};
-ghost use Rattle.plain_drawing.specs.Pictures.{with_item, with_style, with_layer, with_map};
-ghost use Rattle.tile_render.specs.Sources.{items_in};
+ghost use Rattle.plain_drawing.specs.inner.Pictures.{with_item, with_style, with_layer, with_map};
+ghost use Rattle.tile_render.specs.inner.Sources.{items_in};
 
 use crate::features::draw_item;
 use crate::parts::around;
 use crate::sources::{Piece, Source, source_of};
 use data_versions::{LayerView, Snapshot};
 use farm_base::{NoMemory, Text};
-use plain_drawing::{LayerRef, MapStyle, Rule, Style};
+use plain_drawing::{LayerRef, MapStyle, Style};
 use plain_image::Image;
 use plain_world::Window;
 use scale_rules::active;
@@ -44,22 +42,6 @@ fn draw_place(
     }
 }
 
-/// Makes known what each rule keeps: its symbolizers are within their ranges.
-fn know_rule(rule: &Rule)
-    ensures { IsTrue (list_all is_paint rule.now.symbolizers) }
-{
-    let _symbolizers = rule.symbolizers.as_slice();
-}
-
-/// The same of all rules.
-fn know_rules(rules: &[Rule])
-    ensures { All (λ r. IsTrue (list_all is_paint r.symbolizers)) rules.now }
-{
-    for rule in rules {
-        know_rule(rule);
-    }
-}
-
 /// Draws the features of a layer of data by a style, in order. Those that are too far from the window to
 /// paint any of its pixels are passed over.
 fn draw_features(
@@ -78,7 +60,7 @@ fn draw_features(
     ensures cols { image.new.cols ≡ image.old.cols }
     ensures rows { image.new.rows ≡ image.old.rows }
 {
-    know_rules(style.rules.as_slice());
+    style.know();
     let near = around(w);
     // Read for what `len` ensures: the number of features is a `u32`, so a place past each of them is one too.
     let _count = features.len();
@@ -91,7 +73,7 @@ fn draw_features(
 }
 
 /// Draws all items of a source by a style: one pass.
-#[tactic(auto, unfolding(plain_drawing::specs::Pictures::with_style))]
+#[tactic(auto, unfolding(plain_drawing::specs::inner::Pictures::with_style))]
 fn draw_style(
     alloc: Global,
     w: Window,
@@ -177,7 +159,7 @@ fn draw_names(
 }
 
 /// Draws a layer, if it is at scale.
-#[tactic(auto, unfolding(plain_drawing::specs::Pictures::with_layer))]
+#[tactic(auto, unfolding(plain_drawing::specs::inner::Pictures::with_layer))]
 fn draw_layer(
     alloc: Global,
     w: Window,
@@ -213,7 +195,7 @@ fn draw_layer(
 }
 
 /// Draws all layers of a map style over the image, the first lowest.
-#[tactic(auto, unfolding(plain_drawing::specs::Pictures::with_map))]
+#[tactic(auto, unfolding(plain_drawing::specs::inner::Pictures::with_map))]
 pub(crate) fn draw_map(
     alloc: Global,
     w: Window,

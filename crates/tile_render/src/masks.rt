@@ -2,8 +2,9 @@
 ghost use Rattle.std.specs.Prelude.{◌≡◌, ℕ, ◌+◌, ◌*◌, ◌<◌, ◌≤◌, Bool};
 ghost use Rattle.plain_world.specs.declared.world.Point.{Point};
 ghost use Rattle.plain_world.specs.World.{IsWindow};
-ghost use Rattle.plain_shapes.specs.Canvas.{Pixels, stepped};
-ghost use Rattle.tile_render.specs.Parts.{IsPart, Tells, Changed, over_member};
+ghost use Rattle.plain_shapes.specs.Images.{Pixels};
+ghost use Rattle.plain_shapes.specs.inner.Canvas.{stepped};
+ghost use Rattle.tile_render.specs.inner.Parts.{IsPart, Tells, Changed, over_member};
 
 use crate::parts::Part;
 use plain_image::{Image, Mask};

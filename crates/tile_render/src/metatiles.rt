@@ -2,7 +2,8 @@
 ghost use Rattle.std.specs.Prelude.{◌≡◌, ◌+◌, ◌*◌, ◌<◌, ◌≤◌, ◌++◌, IfOk, OnOk, IsTrue};
 ghost use Rattle.std.specs.List.{list_all};
 ghost use Rattle.plain_world.specs.World.{IsMeta, IsTileSize};
-ghost use Rattle.plain_drawing.specs.Metatiles.{tiles_of, part_text, column_texts, part_texts};
+ghost use Rattle.plain_drawing.specs.Metatiles.{tiles_of};
+ghost use Rattle.plain_drawing.specs.inner.PartTexts.{part_text, column_texts, part_texts};
 
 use crate::layers::draw_map;
 use data_versions::Snapshot;

@@ -1,11 +1,12 @@
 //! The part of a window that is near a feature, so that no more than its pixels is looked at.
 ghost use Rattle.std.specs.Prelude.{◌≡◌, ℕ, ◌+◌, ◌*◌, ◌^◌, ◌<◌, ◌≤◌, IfSome, MatchOption};
 ghost use Rattle.plain_world.specs.World.{IsWindow, centre};
-ghost use Rattle.drawing_reach.specs.Spreads.{Beside};
-ghost use Rattle.tile_render.specs.Parts.{IsPart, InPart, part_of, around};
+ghost use Rattle.drawing_reach.specs.inner.Spreads.{Beside};
+ghost use Rattle.tile_render.specs.inner.Parts.{IsPart, InPart, part_of, around};
 
 use centre_spans::first_at;
 use geo_model::Bounds;
+use plain_data::MOST_WIDTH;
 use plain_world::Window;
 
 /// Some columns and rows of a window.
@@ -72,7 +73,7 @@ pub(crate) fn around(w: Window) -> Bounds
     ensures across { result.west ≤ result.east }
     ensures down { result.north ≤ result.south }
 {
-    let margin = 64 * u64::from(w.pixel);
+    let margin = MOST_WIDTH * u64::from(w.pixel);
     let east = u64::from(w.west + w.cols * w.pixel) + margin;
     let south = u64::from(w.north + w.rows * w.pixel) + margin;
     Bounds {

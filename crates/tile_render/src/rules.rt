@@ -4,7 +4,7 @@ ghost use Rattle.std.specs.Option.{option_copied};
 ghost use Rattle.std.specs.List.{list_any};
 ghost use Rattle.plain_filters.specs.Filters.{tree_of};
 ghost use Rattle.plain_drawing.specs.Rules.{at_scale, filter_holds, matches, is_fallback};
-ghost use Rattle.tile_render.specs.Chosen.{is_chosen};
+ghost use Rattle.tile_render.specs.inner.Chosen.{is_chosen};
 
 use farm_base::Attr;
 use filter_expr::holds;

@@ -2,8 +2,8 @@
 ghost use Rattle.std.specs.Prelude.{◌≡◌, find};
 ghost use Rattle.std.specs.Option.{option_copied};
 ghost use Rattle.std.specs.Str.{bytes_eq};
-ghost use Rattle.plain_drawing.specs.Drawing.{items_of, attrs_of};
-ghost use Rattle.tile_render.specs.Sources.{item_of, items_in};
+ghost use Rattle.plain_drawing.specs.Drawing.{items_of, item_attrs};
+ghost use Rattle.tile_render.specs.inner.Sources.{item_of, items_in};
 
 use data_versions::{LayerView, Snapshot};
 use farm_base::Attr;
@@ -28,7 +28,7 @@ pub(crate) enum Source<'a> {
 impl<'a> Piece<'a> {
     /// The item's attributes.
     pub(crate) fn attrs(self) -> &'a [Attr]
-        ensures { result.now ≡ attrs_of (item_of self.entry) }
+        ensures { result.now ≡ item_attrs (item_of self.entry) }
     {
         match self {
             Piece::Shape(feature) => feature.attrs(),

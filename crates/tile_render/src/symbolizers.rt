@@ -1,14 +1,15 @@
 //! One symbolizer on one item.
 ghost use Rattle.std.specs.Prelude.{◌≡◌, ◌≤◌, ◌^◌, IsTrue, OnOk};
-ghost use Rattle.drawing_reach.specs.Spreads.{spread_across, spread_down};
+ghost use Rattle.drawing_reach.specs.inner.Spreads.{spread_across, spread_down};
 ghost use Rattle.plain_drawing.specs.declared.style.Symbolizer.TheVariants as paint;
 ghost use Rattle.plain_world.specs.World.{IsWindow};
 ghost use Rattle.plain_drawing.specs.Styles.{is_paint};
 ghost use Rattle.plain_shapes.specs.Strokes.{half_of};
 ghost use Rattle.plain_drawing.specs.Drawing.{feature, raster};
-ghost use Rattle.plain_drawing.specs.Pictures.{with_symbolizer};
-ghost use Rattle.tile_render.specs.Parts.{IsPart, HoldsCovered};
-ghost use Rattle.tile_render.specs.Sources.{item_of};
+ghost use Rattle.plain_drawing.specs.inner.Pictures.{with_symbolizer};
+ghost use Rattle.tile_render.specs.inner.Parts.{IsPart, HoldsCovered};
+ghost use Rattle.tile_render.specs.inner.Sources.{item_of};
+ghost use Rattle.plain_data.specs.Limits.{most_width};
 
 use crate::grids::blend_grid;
 use crate::masks::paint_part;
@@ -60,7 +61,7 @@ fn fill_feature(
 
 /// Half of a width of so many hundredths of a pixel, in world units, rounded down.
 fn half_of(width: u64, pixel: u32) -> u32
-    requires width { width ≤ 6400 }
+    requires width { width ≤ 100 * most_width }
     requires pixel { pixel ≤ 2 ^ 26 }
     ensures value { result ≡ half_of width pixel }
     ensures few { result ≤ 2 ^ 31 }
@@ -89,8 +90,8 @@ fn mark_feature(
     requires window { IsWindow w }
     requires cols { image.old.cols ≡ w.cols }
     requires rows { image.old.rows ≡ w.rows }
-    requires width { dot.width ≤ 6400 }
-    requires height { dot.height ≤ 6400 }
+    requires width { dot.width ≤ 100 * most_width }
+    requires height { dot.height ≤ 100 * most_width }
     requires opacity { dot.opacity ≤ 1000 }
     requires part { IsPart w part }
     requires near { HoldsCovered w part shape.now (paint.Markers dot.colour dot.width dot.height dot.opacity) }
@@ -135,7 +136,7 @@ fn stroke_feature(
     requires window { IsWindow w }
     requires cols { image.old.cols ≡ w.cols }
     requires rows { image.old.rows ≡ w.rows }
-    requires width { pen.width ≤ 6400 }
+    requires width { pen.width ≤ 100 * most_width }
     requires opacity { pen.opacity ≤ 1000 }
     requires part { IsPart w part }
     requires near { HoldsCovered w part shape.now (paint.Line pen.colour pen.width pen.opacity pen.cap) }

@@ -8,7 +8,7 @@ use Rattle.turn_cell.specs.Turns.{StartsWith, IsDue, Ran}
 use Rattle.turn_cell.specs.Cell.{Sat, Kept}
 use Rattle.turn_cell.specs.Plays.{holding, counting, leaving, Gets, KnowsHeard, joining_views}
 use Rattle.turn_cell.specs.Held.{held, Took, Closes, IsWhole}
-use Rattle.turn_cell.specs.Words.{IsIdle, with_ticket, Entered}
+use Rattle.turn_cell.specs.inner.Words.{IsIdle, with_ticket, Entered}
 use Rattle.turn_cell.specs.declared.view.Terms.{Terms}
 use Rattle.turn_cell.specs.declared.view.View.{View}
 use Rattle.turn_cell.proofs.Facts.{Some-injective, none_of_length}

@@ -1,5 +1,5 @@
-pub mod Turns
 pub mod Cell
-pub mod Plays
 pub mod Held
-pub mod Words
+pub mod Plays
+pub mod Turns
+pub mod inner

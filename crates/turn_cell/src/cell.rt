@@ -35,7 +35,7 @@ pub struct Seat<T: StandsFor> {
 
 impl<T: StandsFor> Model for Seat<T> {
     ghost use Rattle.turn_cell.specs.Held.{Held, held};
-    ghost use Rattle.turn_cell.specs.Words.{IsSettled};
+    ghost use Rattle.turn_cell.specs.inner.Words.{IsSettled};
 
     ghost Value = { Held T T.Entry };
 

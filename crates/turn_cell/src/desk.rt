@@ -4,7 +4,7 @@ ghost use Rattle.turn_cell.specs.Cell.{newcomer};
 ghost use Rattle.turn_cell.specs.Held.{held, Took, Closes, IsWhole, worn_out, joining};
 ghost use Rattle.turn_cell.specs.Plays.{counting, leaving, split_first, split_new, joining_views, KnowsJoined, KnowsStrangers};
 ghost use Rattle.turn_cell.specs.Turns.{StartsWith};
-ghost use Rattle.turn_cell.specs.Words.{IsIdle, KnowsAll, with_ticket, with_mark, Entered};
+ghost use Rattle.turn_cell.specs.inner.Words.{IsIdle, KnowsAll, with_ticket, with_mark, Entered};
 
 use crate::call::{Call, StandsFor, Worn};
 use crate::rule::{Count, Cut, Draw, InTurn, Learn, Look, Merge, Said, Serve};

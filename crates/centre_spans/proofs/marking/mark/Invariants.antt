@@ -1,5 +1,5 @@
 use Rattle.std.proofs.Common.{◌≡◌, ◌*◌, ◌≤◌}
-use Rattle.plain_shapes.proofs.Places.{Reached}
+use Rattle.plain_shapes.specs.inner.Canvas.{Reached}
 use Rattle.centre_spans.proofs.marking.mark.Given as goal
 
 abbrev pub invariant-loop-j : goal.invariant-loop-j

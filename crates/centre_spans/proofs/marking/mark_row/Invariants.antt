@@ -1,6 +1,6 @@
 use Rattle.std.proofs.Common.{◌≡◌, ◌+◌, ◌*◌, ◌≤◌}
-use Rattle.plain_shapes.specs.Canvas.{Bits}
-use Rattle.plain_shapes.proofs.Places.{Reached}
+use Rattle.plain_shapes.specs.Images.{Bits}
+use Rattle.plain_shapes.specs.inner.Canvas.{Reached}
 use Rattle.centre_spans.proofs.marking.mark_row.Given as goal
 
 abbrev pub invariant-loop-i : goal.invariant-loop-i

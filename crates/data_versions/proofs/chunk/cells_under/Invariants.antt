@@ -1,7 +1,7 @@
 -- The cells hold the features so far.
 use Rattle.std.proofs.Common.{take}
 use Rattle.std.specs.Prelude.{All}
-use Rattle.data_versions.specs.Cells.{IsMarked}
+use Rattle.data_versions.specs.inner.Cells.{IsMarked}
 use Rattle.data_versions.proofs.chunk.cells_under.Given as goal
 
 abbrev pub invariant-loop-feature : goal.invariant-loop-feature

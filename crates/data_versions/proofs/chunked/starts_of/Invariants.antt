@@ -1,6 +1,6 @@
 -- The starts and the count are those of the chunks so far.
 use Rattle.std.proofs.Common.{◌≡◌, take, length}
-use Rattle.data_versions.specs.Chunks.{joined, IsStarts}
+use Rattle.data_versions.specs.inner.Chunks.{joined, IsStarts}
 use Rattle.data_versions.proofs.chunked.starts_of.Given as goal
 
 abbrev pub invariant-loop-shared : goal.invariant-loop-shared

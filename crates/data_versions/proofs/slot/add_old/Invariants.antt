@@ -1,7 +1,7 @@
 -- The features so far have slots.
 use Rattle.std.proofs.Common.{◌≡◌, ◌++◌, take}
 use Rattle.std.specs.Prelude.{map, Some}
-use Rattle.data_versions.specs.Slots.{old_in}
+use Rattle.data_versions.specs.inner.Slots.{old_in}
 use Rattle.data_versions.proofs.slot.add_old.Given as goal
 
 abbrev pub invariant-loop-feature : goal.invariant-loop-feature

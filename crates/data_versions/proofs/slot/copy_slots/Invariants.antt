@@ -1,6 +1,6 @@
 -- What stands in the slots so far is in the pack.
 use Rattle.std.proofs.Common.{◌≡◌, ◌++◌, take}
-use Rattle.data_versions.specs.Slots.{standing}
+use Rattle.data_versions.specs.inner.Slots.{standing}
 use Rattle.data_versions.proofs.slot.copy_slots.Given as goal
 
 abbrev pub invariant-loop-slot : goal.invariant-loop-slot

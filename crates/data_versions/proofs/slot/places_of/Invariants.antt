@@ -1,6 +1,6 @@
 -- The places are those of the slots so far.
 use Rattle.std.proofs.Common.{take}
-use Rattle.data_versions.specs.Slots.{KnowsPlaces}
+use Rattle.data_versions.specs.inner.Slots.{KnowsPlaces}
 use Rattle.data_versions.proofs.slot.places_of.Given as goal
 
 abbrev pub invariant-loop-place : goal.invariant-loop-place

@@ -1,5 +1,6 @@
 use Rattle.std.proofs.Common.{◌≡◌, ◌<◌, ◌^◌, drop}
-use Rattle.filter_expr.specs.Spelling.{number_of, number_after}
+use Rattle.farm_base.specs.Digits.{number_after}
+use Rattle.filter_expr.specs.Spelling.{number_of}
 use Rattle.filter_expr.proofs.lexer.number_token.Given as goal
 
 abbrev pub invariant-loop-digit : goal.invariant-loop-digit

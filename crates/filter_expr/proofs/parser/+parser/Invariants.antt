@@ -2,8 +2,8 @@ use Rattle.std.proofs.Common.{◌≡◌, ◌+◌, ◌*◌, ◌≤◌, length, ma
 use Rattle.filter_expr.specs.declared.tokens.Token.TheVariants as token
 use Rattle.filter_expr.specs.Trees.{or_chain, and_chain, sum_chain, product_chain}
 use Rattle.filter_expr.specs.Seen.{seen, behind}
-use Rattle.filter_expr.specs.Reading.{with_front, later, within, and_in, not_in, product_in, unary_in}
-use Rattle.filter_expr.proofs.SeenLemmas.{seen_sum, seen_product}
+use Rattle.filter_expr.specs.Reading.{with_front, later, within_depth, and_in, not_in, product_in, unary_in}
+use Rattle.filter_expr.specs.inner.SeenParts.{seen_sum, seen_product}
 use Rattle.filter_expr.proofs.parser.+parser.Given as goal
 
 abbrev pub decreases-or_chain : goal.decreases-or_chain
@@ -32,8 +32,8 @@ decreases-atom l = 8 * l.depth_left + 1
 
 abbrev pub invariant-or_chain-ors : goal.invariant-or_chain-ors
 invariant-or_chain-ors l = record {
-  read : with_front (behind token.Or (map seen l.parts.items)) (later or_chain (and_in (within l.depth_left)) l.spots)
-      ≡ later or_chain (and_in (within l.depth_left)) l.initial.spots;
+  read : with_front (behind token.Or (map seen l.parts.items)) (later or_chain (and_in (within_depth l.depth_left)) l.spots)
+      ≡ later or_chain (and_in (within_depth l.depth_left)) l.initial.spots;
   kept : l.first ≡ l.initial.first;
   left : length l.spots ≤ length l.initial.spots;
 }
@@ -43,8 +43,8 @@ decreases-or_chain-ors l = length l.spots
 
 abbrev pub invariant-and_chain-ands : goal.invariant-and_chain-ands
 invariant-and_chain-ands l = record {
-  read : with_front (behind token.And (map seen l.parts.items)) (later and_chain (not_in (within l.depth_left)) l.spots)
-      ≡ later and_chain (not_in (within l.depth_left)) l.initial.spots;
+  read : with_front (behind token.And (map seen l.parts.items)) (later and_chain (not_in (within_depth l.depth_left)) l.spots)
+      ≡ later and_chain (not_in (within_depth l.depth_left)) l.initial.spots;
   kept : l.first ≡ l.initial.first;
   left : length l.spots ≤ length l.initial.spots;
 }
@@ -54,8 +54,8 @@ decreases-and_chain-ands l = length l.spots
 
 abbrev pub invariant-sum-sums : goal.invariant-sum-sums
 invariant-sum-sums l = record {
-  read : with_front (map seen_sum l.parts.items) (later sum_chain (product_in (within l.depth_left)) l.spots)
-      ≡ later sum_chain (product_in (within l.depth_left)) l.initial.spots;
+  read : with_front (map seen_sum l.parts.items) (later sum_chain (product_in (within_depth l.depth_left)) l.spots)
+      ≡ later sum_chain (product_in (within_depth l.depth_left)) l.initial.spots;
   kept : l.first ≡ l.initial.first;
   left : length l.spots ≤ length l.initial.spots;
 }
@@ -65,8 +65,8 @@ decreases-sum-sums l = length l.spots
 
 abbrev pub invariant-product-products : goal.invariant-product-products
 invariant-product-products l = record {
-  read : with_front (map seen_product l.parts.items) (later product_chain (unary_in (within l.depth_left)) l.spots)
-      ≡ later product_chain (unary_in (within l.depth_left)) l.initial.spots;
+  read : with_front (map seen_product l.parts.items) (later product_chain (unary_in (within_depth l.depth_left)) l.spots)
+      ≡ later product_chain (unary_in (within_depth l.depth_left)) l.initial.spots;
   kept : l.first ≡ l.initial.first;
   left : length l.spots ≤ length l.initial.spots;
 }

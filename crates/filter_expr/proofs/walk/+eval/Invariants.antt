@@ -1,8 +1,8 @@
 use Rattle.std.proofs.Common.{◌≡◌, drop, map}
 use Rattle.std.specs.List.{list_any, list_all}
 use Rattle.plain_filters.specs.Values.{truth}
-use Rattle.filter_expr.specs.Parts.{valued, sum_part, product_part, sum_value, product_value}
-use Rattle.filter_expr.specs.Shown.{plain}
+use Rattle.filter_expr.specs.inner.Parts.{valued, sum_part, product_part, sum_value, product_value}
+use Rattle.filter_expr.specs.inner.Shown.{plain}
 use Rattle.filter_expr.proofs.walk.+eval.Given as goal
 
 abbrev pub invariant-any_of-loop-part : goal.invariant-any_of-loop-part

@@ -1,7 +1,7 @@
 use Rattle.std.proofs.Common.{rules, ◌≡◌, ◌++◌, ap, ◌∙◌, string_bytes, encode_utf8}
 use Rattle.std.specs.Str.Iter.{chars_rest}
 use Rattle.filter_texts.specs.Written.{escaped_text}
-use Rattle.filter_texts.specs.Pieces.{escaped_char}
+use Rattle.filter_texts.specs.inner.Pieces.{escaped_char}
 use Rattle.filter_texts.proofs.Escapes.{escapes_go}
 use Rattle.filter_texts.proofs.words.put_escaped.Goals as goal
 

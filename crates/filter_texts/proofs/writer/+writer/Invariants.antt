@@ -1,7 +1,7 @@
 use Rattle.std.proofs.Common.{◌≡◌, map, drop, string_bytes}
 use Rattle.filter_expr.specs.Seen.{seen}
-use Rattle.filter_expr.proofs.SeenLemmas.{seen_sum, seen_product}
-use Rattle.filter_texts.specs.Pieces.{put_parts, put_list, put_terms}
+use Rattle.filter_expr.specs.inner.SeenParts.{seen_sum, seen_product}
+use Rattle.filter_texts.specs.inner.Pieces.{put_parts, put_list, put_terms}
 use Rattle.filter_texts.proofs.writer.+writer.Given as goal
 
 abbrev pub invariant-put_list-loop-i : goal.invariant-put_list-loop-i

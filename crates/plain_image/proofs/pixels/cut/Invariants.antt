@@ -1,5 +1,5 @@
 use Rattle.std.proofs.Common.{◌≡◌, ◌-◌, ◌*◌, length}
-use Rattle.plain_shapes.specs.Canvas.{cut_rows}
+use Rattle.plain_shapes.specs.inner.Canvas.{cut_rows}
 use Rattle.plain_image.proofs.pixels.cut.Given as goal
 
 abbrev pub invariant-loop-j : goal.invariant-loop-j

@@ -1,5 +1,5 @@
 use Rattle.std.proofs.Common.{◌≡◌, take}
-use Rattle.plain_shapes.specs.Canvas.{painted}
+use Rattle.plain_shapes.specs.inner.Canvas.{painted}
 use Rattle.plain_image.proofs.pixels.paint.Given as goal
 
 abbrev pub invariant-loop-k : goal.invariant-loop-k

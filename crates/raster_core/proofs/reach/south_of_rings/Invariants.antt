@@ -1,5 +1,5 @@
 use Rattle.std.proofs.Common.{◌≡◌, take}
-use Rattle.raster_core.specs.Reaches.{southmost}
+use Rattle.raster_core.specs.inner.Reaches.{southmost}
 use Rattle.raster_core.proofs.reach.south_of_rings.Given as goal
 
 abbrev pub invariant-loop-ring : goal.invariant-loop-ring

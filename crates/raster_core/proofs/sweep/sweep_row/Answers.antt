@@ -1,5 +1,5 @@
 use Rattle.std.proofs.Common.{ap, sym, ◌∙◌}
-use Rattle.raster_core.specs.Toggles.{flip, row_bit}
+use Rattle.raster_core.specs.inner.Toggles.{flip, row_bit}
 use Rattle.raster_core.proofs.Sweeping.{odd_more, swept_more}
 use Rattle.raster_core.proofs.sweep.sweep_row.Goals as goal
 

@@ -1,8 +1,8 @@
 use Rattle.std.proofs.Common.{◌≡◌, ◌+◌, ◌*◌, Bool}
 use Rattle.plain_world.specs.declared.world.Point.{Point}
-use Rattle.plain_shapes.specs.Canvas.{Bits}
-use Rattle.plain_shapes.proofs.Places.{Reached}
-use Rattle.raster_core.specs.Toggles.{odd_below, row_bit, TellsRow}
+use Rattle.plain_shapes.specs.Images.{Bits}
+use Rattle.plain_shapes.specs.inner.Canvas.{Reached}
+use Rattle.raster_core.specs.inner.Toggles.{odd_below, row_bit, TellsRow}
 use Rattle.raster_core.proofs.sweep.sweep_row.Given as goal
 
 abbrev pub invariant-loop-i : goal.invariant-loop-i

@@ -1,7 +1,7 @@
 use Rattle.std.proofs.Common.{ap, sym, not, ◌&&◌, ◌||◌}
 use Rattle.plain_shapes.specs.Strokes.{is_same, in_disk, before_start, past_end}
 use Rattle.plain_shapes.proofs.Places.{no_mark, both_marks, same_mark}
-use Rattle.stroke_core.specs.Parts.{on_ends}
+use Rattle.stroke_core.specs.inner.Parts.{on_ends}
 use Rattle.stroke_core.proofs.lines.mark_ends.Goals as goal
 
 pub returns-in-Butt : goal.returns-in-Butt

@@ -1,7 +1,7 @@
 use Rattle.std.proofs.Common.{◌∙◌, sym}
 use Rattle.std.proofs.lemmas.Bool.{eqb-true}
 use Rattle.plain_shapes.proofs.Places.{no_mark}
-use Rattle.stroke_core.specs.Parts.{on_parts}
+use Rattle.stroke_core.specs.inner.Parts.{on_parts}
 use Rattle.stroke_core.proofs.Sides.{parts_none}
 use Rattle.stroke_core.proofs.lines.mark_line.Goals as goal
 

@@ -1,7 +1,7 @@
 use Rattle.std.proofs.Common.{◌-◌, ◌||◌, length, take, drop}
 use Rattle.plain_shapes.specs.Strokes.{on_sides, on_disks}
 use Rattle.plain_shapes.proofs.Places.{both_marks, same_mark}
-use Rattle.stroke_core.specs.Parts.{point_at, on_ends, on_long}
+use Rattle.stroke_core.specs.inner.Parts.{point_at, on_ends, on_long}
 use Rattle.stroke_core.proofs.Sides.{long_is}
 use Rattle.stroke_core.proofs.lines.mark_long.Goals as goal
 

@@ -3,7 +3,7 @@ use Rattle.plain_world.specs.declared.world.Point.{Point}
 use Rattle.plain_world.specs.World.{InWorld}
 use Rattle.plain_shapes.specs.Strokes.{kept, on_line}
 use Rattle.plain_shapes.proofs.Places.{same_mark}
-use Rattle.stroke_core.specs.Parts.{on_parts}
+use Rattle.stroke_core.specs.inner.Parts.{on_parts}
 use Rattle.stroke_core.proofs.Sides.{kept_within, parts_kept}
 use Rattle.stroke_core.proofs.lines.stroke_line.Goals as goal
 

@@ -1,5 +1,5 @@
 use Rattle.std.proofs.Common.{take, ◌∙◌}
-use Rattle.plain_shapes.specs.Canvas.{SetsSome}
+use Rattle.plain_shapes.specs.inner.Canvas.{SetsSome}
 use Rattle.plain_shapes.specs.Strokes.{on_line, on_stroke}
 use Rattle.plain_shapes.proofs.Places.{mask_start, mask_more, mask_all}
 use Rattle.stroke_core.proofs.Sides.{any_take, on_err}

@@ -1,6 +1,6 @@
 use Rattle.std.proofs.Common.{◌≡◌, take}
 use Rattle.plain_world.specs.World.{centres}
-use Rattle.plain_shapes.specs.Canvas.{marked}
+use Rattle.plain_shapes.specs.inner.Canvas.{marked}
 use Rattle.plain_shapes.specs.Strokes.{on_stroke}
 use Rattle.stroke_core.proofs.lines.stroke_lines.Given as goal
 

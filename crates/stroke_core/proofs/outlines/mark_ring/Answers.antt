@@ -2,7 +2,7 @@ use Rattle.std.proofs.Common.{◌-◌, ◌||◌, length, sym, ◌∙◌}
 use Rattle.std.proofs.lemmas.Bool.{eqb-true, eqb-false}
 use Rattle.plain_shapes.specs.Strokes.{on_sides, on_disks, on_ring}
 use Rattle.plain_shapes.proofs.Places.{no_mark, both_marks, same_mark}
-use Rattle.stroke_core.specs.Parts.{point_at}
+use Rattle.stroke_core.specs.inner.Parts.{point_at}
 use Rattle.stroke_core.proofs.Sides.{ring_none, ring_is}
 use Rattle.stroke_core.proofs.outlines.mark_ring.Goals as goal
 

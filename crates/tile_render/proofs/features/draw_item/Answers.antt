@@ -1,5 +1,5 @@
 use Rattle.std.proofs.Common.{◌∙◌, ap, sym}
-use Rattle.tile_render.specs.Sources.{item_of}
+use Rattle.tile_render.specs.inner.Sources.{item_of}
 use Rattle.tile_render.proofs.Choices.{all_drawn, first_drawn, fallbacks_drawn}
 use Rattle.tile_render.proofs.Steps.{on_ok}
 use Rattle.tile_render.proofs.features.draw_item.Goals as goal

@@ -1,6 +1,6 @@
 use Rattle.std.proofs.Common.{◌≡◌, fold, take}
-use Rattle.plain_drawing.specs.Pictures.{with_symbolizer}
-use Rattle.tile_render.specs.Sources.{item_of}
+use Rattle.plain_drawing.specs.inner.Pictures.{with_symbolizer}
+use Rattle.tile_render.specs.inner.Sources.{item_of}
 use Rattle.tile_render.proofs.features.draw_symbolizers.Given as goal
 
 abbrev pub invariant-loop-symbolizer : goal.invariant-loop-symbolizer

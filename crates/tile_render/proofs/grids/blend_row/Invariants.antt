@@ -2,7 +2,7 @@ use Rattle.std.proofs.Common.{◌≡◌, ◌+◌, ◌*◌, List, take}
 use Rattle.plain_shapes.specs.declared.colour.Colour.{Colour}
 use Rattle.plain_drawing.specs.declared.style.Symbolizer.TheVariants as paint
 use Rattle.plain_world.specs.World.{centres}
-use Rattle.plain_shapes.specs.Canvas.{at_centres}
+use Rattle.plain_shapes.specs.inner.Canvas.{at_centres}
 use Rattle.plain_drawing.specs.Drawing.{raster_over}
 use Rattle.tile_render.proofs.grids.blend_row.Given as goal
 

@@ -1,6 +1,6 @@
 use Rattle.std.proofs.Common.{◌≡◌, ◌-◌, fold, take, map, length}
 use Rattle.plain_drawing.specs.Drawing.{feature}
-use Rattle.plain_drawing.specs.Pictures.{with_item}
+use Rattle.plain_drawing.specs.inner.Pictures.{with_item}
 use Rattle.tile_render.proofs.layers.draw_features.Given as goal
 
 abbrev pub invariant-loop-next : goal.invariant-loop-next

@@ -1,5 +1,5 @@
 use Rattle.std.proofs.Common.{◌≡◌, fold, take}
-use Rattle.plain_drawing.specs.Pictures.{with_layer}
+use Rattle.plain_drawing.specs.inner.Pictures.{with_layer}
 use Rattle.tile_render.proofs.layers.draw_map.Given as goal
 
 abbrev pub invariant-loop-layer : goal.invariant-loop-layer

@@ -1,7 +1,7 @@
 use Rattle.std.proofs.Common.{◌≡◌, fold, take, flat_map}
 use Rattle.plain_drawing.specs.Drawing.{style_named}
-use Rattle.plain_drawing.specs.Pictures.{with_style}
-use Rattle.tile_render.specs.Sources.{items_in}
+use Rattle.plain_drawing.specs.inner.Pictures.{with_style}
+use Rattle.tile_render.specs.inner.Sources.{items_in}
 use Rattle.tile_render.proofs.layers.draw_names.Given as goal
 
 abbrev pub invariant-loop-name : goal.invariant-loop-name

@@ -1,6 +1,6 @@
 use Rattle.std.proofs.Common.{◌≡◌, ◌+◌, ◌*◌, Bool}
 use Rattle.plain_world.specs.declared.world.Point.{Point}
-use Rattle.tile_render.specs.Parts.{Tells, Changed, over_member}
+use Rattle.tile_render.specs.inner.Parts.{Tells, Changed, over_member}
 use Rattle.tile_render.proofs.masks.paint_part.Given as goal
 
 abbrev pub invariant-loop-j : goal.invariant-loop-j

@@ -1,7 +1,7 @@
 use Rattle.std.proofs.Common.{◌≡◌, ◌+◌, ◌*◌, Bool}
 use Rattle.plain_world.specs.declared.world.Point.{Point}
-use Rattle.plain_shapes.specs.Canvas.{Pixels}
-use Rattle.tile_render.specs.Parts.{Tells, Changed, over_member}
+use Rattle.plain_shapes.specs.Images.{Pixels}
+use Rattle.tile_render.specs.inner.Parts.{Tells, Changed, over_member}
 use Rattle.tile_render.proofs.masks.paint_row.Given as goal
 
 abbrev pub invariant-loop-i : goal.invariant-loop-i

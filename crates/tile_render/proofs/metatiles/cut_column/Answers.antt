@@ -1,4 +1,4 @@
-use Rattle.plain_drawing.specs.Metatiles.{part_text}
+use Rattle.plain_drawing.specs.inner.PartTexts.{part_text}
 use Rattle.tile_render.proofs.Metas.{one_more_text}
 use Rattle.tile_render.proofs.metatiles.cut_column.Goals as goal
 

@@ -1,5 +1,5 @@
 use Rattle.std.proofs.Common.{◌≡◌, ◌++◌}
-use Rattle.plain_drawing.specs.Metatiles.{part_text}
+use Rattle.plain_drawing.specs.inner.PartTexts.{part_text}
 use Rattle.std.proofs.Common.{map}
 use Rattle.std.specs.List.{range_with_len}
 use Rattle.tile_render.proofs.metatiles.cut_column.Given as goal

@@ -1,4 +1,4 @@
-use Rattle.plain_drawing.specs.Metatiles.{column_texts}
+use Rattle.plain_drawing.specs.inner.PartTexts.{column_texts}
 use Rattle.tile_render.proofs.Metas.{one_more_column}
 use Rattle.tile_render.proofs.metatiles.cut_tiles.Goals as goal
 

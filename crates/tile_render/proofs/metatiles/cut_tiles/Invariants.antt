@@ -1,5 +1,5 @@
 use Rattle.std.proofs.Common.{◌≡◌}
-use Rattle.plain_drawing.specs.Metatiles.{column_texts}
+use Rattle.plain_drawing.specs.inner.PartTexts.{column_texts}
 use Rattle.std.proofs.Common.{flat_map}
 use Rattle.std.specs.List.{range_with_len}
 use Rattle.tile_render.proofs.metatiles.cut_tiles.Given as goal

@@ -1,5 +1,5 @@
 use Rattle.std.proofs.Common.{◌∙◌, ap}
-use Rattle.plain_drawing.specs.Metatiles.{part_texts}
+use Rattle.plain_drawing.specs.inner.PartTexts.{part_texts}
 use Rattle.plain_drawing.proofs.Steps.{one_colour}
 use Rattle.plain_drawing.proofs.Cuts.{tiles_cut}
 use Rattle.tile_render.proofs.Metas.{drawn_picture}

@@ -1,7 +1,7 @@
 use Rattle.std.proofs.Common.{◌≡◌, ◌++◌, ◌∷◌, [], length, arith, sym, ap, ◌∙◌}
 use Rattle.std.specs.Prelude.{None, Some, false}
 use Rattle.data_versions.specs.declared.slot.Slot.{Slot}
-use Rattle.data_versions.specs.Chunks.{joined}
+use Rattle.data_versions.specs.inner.Chunks.{joined}
 use Rattle.data_versions.proofs.Old.{old_room}
 use Rattle.data_versions.proofs.Slots.{knows_room, knows_same, knows_added, room_is, added_is, added_count, set_end, unheld}
 use Rattle.data_versions.proofs.bench.Bench.add.Goals as goal

@@ -1,6 +1,6 @@
 use Rattle.std.proofs.Common.{◌≡◌, ◌+◌, length, drop, ap, ◌∙◌, arith}
 use Rattle.std.specs.Arc.{arc_value}
-use Rattle.data_versions.specs.Chunks.{joined}
+use Rattle.data_versions.specs.inner.Chunks.{joined}
 use Rattle.data_versions.proofs.Places.{joined_rest}
 use Rattle.data_versions.proofs.Old.{end_within, old_part, old_left, packed_more, packed_all}
 use Rattle.data_versions.proofs.bench.Bench.chunks.Goals as goal

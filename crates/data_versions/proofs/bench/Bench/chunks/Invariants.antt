@@ -1,7 +1,7 @@
 -- What stands in the slots of the chunks so far is in the pack.
 use Rattle.std.proofs.Common.{◌≡◌, ◌≤◌, length, take, drop}
-use Rattle.data_versions.specs.Slots.{standing, HasOld}
-use Rattle.data_versions.specs.Chunks.{joined}
+use Rattle.data_versions.specs.inner.Slots.{standing, HasOld}
+use Rattle.data_versions.specs.inner.Chunks.{joined}
 use Rattle.data_versions.proofs.bench.Bench.chunks.Given as goal
 
 abbrev pub invariant-loop-place : goal.invariant-loop-place

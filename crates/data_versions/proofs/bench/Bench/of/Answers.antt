@@ -1,5 +1,5 @@
 use Rattle.std.proofs.Common.{arith}
-use Rattle.data_versions.specs.Chunks.{joined}
+use Rattle.data_versions.specs.inner.Chunks.{joined}
 use Rattle.data_versions.proofs.Old.{all_stand, all_old, old_count}
 use Rattle.data_versions.proofs.bench.Bench.of.Goals as goal
 

@@ -1,7 +1,7 @@
 use Rattle.std.proofs.Common.{arith, sym, ◌∙◌}
 use Rattle.data_versions.proofs.Slots.{knows_removed, removed_is, removed_count, has_place, has_no_place, in_bounds}
 use Rattle.std.specs.Prelude.{None}
-use Rattle.data_versions.specs.Chunks.{joined}
+use Rattle.data_versions.specs.inner.Chunks.{joined}
 use Rattle.data_versions.proofs.Old.{old_set}
 use Rattle.data_versions.proofs.bench.Bench.remove.Goals as goal
 

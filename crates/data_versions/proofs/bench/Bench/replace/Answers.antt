@@ -2,7 +2,7 @@ use Rattle.std.proofs.Common.{refl, arith, sym, ◌∙◌}
 use Rattle.data_versions.proofs.Slots.{knows_replaced, replaced_is, same_standing, has_place, has_no_place, in_bounds}
 use Rattle.std.specs.Prelude.{Some, false}
 use Rattle.data_versions.specs.declared.slot.Slot.{Slot}
-use Rattle.data_versions.specs.Chunks.{joined}
+use Rattle.data_versions.specs.inner.Chunks.{joined}
 use Rattle.data_versions.proofs.Old.{old_set, old_put}
 use Rattle.data_versions.proofs.bench.Bench.replace.Goals as goal
 

@@ -1,7 +1,7 @@
 -- No feature of the chunks so far is the one sought.
 use Rattle.std.proofs.Common.{◌≡◌, length, take, drop}
 use Rattle.data_versions.specs.Near.{next_near, is_near}
-use Rattle.data_versions.specs.Chunks.{joined}
+use Rattle.data_versions.specs.inner.Chunks.{joined}
 use Rattle.data_versions.proofs.Places.{sought}
 use Rattle.data_versions.proofs.chunked.ChunkedLayer.next_near.Given as goal
 

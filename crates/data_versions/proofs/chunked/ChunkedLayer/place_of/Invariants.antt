@@ -2,7 +2,7 @@
 use Rattle.std.proofs.Common.{◌≡◌, ◌+◌, length, take, drop}
 use Rattle.std.specs.Prelude.{option_map}
 use Rattle.data_versions.specs.Near.{place_of}
-use Rattle.data_versions.specs.Chunks.{joined}
+use Rattle.data_versions.specs.inner.Chunks.{joined}
 use Rattle.data_versions.proofs.chunked.ChunkedLayer.place_of.Given as goal
 
 abbrev pub invariant-loop-at : goal.invariant-loop-at

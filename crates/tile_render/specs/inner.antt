@@ -1,0 +1,4 @@
+pub mod Chosen
+pub mod Parts
+pub mod Places
+pub mod Sources

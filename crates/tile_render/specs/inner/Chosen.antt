@@ -1,0 +1,24 @@
+-- The rules of a style that are chosen for an item, one after another.
+use Rattle.std.specs.Prelude.{ℕ, Bool, if◌then◌else◌, List, fold}
+use Rattle.farm_base.specs.declared.Attr.{Attr}
+use Rattle.plain_world.specs.declared.world.Window.{Window}
+use Rattle.plain_drawing.specs.Styles.{Rule}
+use Rattle.plain_shapes.specs.Images.{Pixels}
+use Rattle.plain_drawing.specs.Rules.{matches, is_fallback}
+use Rattle.plain_drawing.specs.Drawing.{Item}
+use Rattle.plain_drawing.specs.inner.Pictures.{with_symbolizer}
+use Rattle.tile_render.specs.declared.rules.Choice.{Choice}
+use Rattle.tile_render.specs.declared.rules.Choice.TheVariants.{Matching, Fallback}
+
+-- the active Filter rules whose filter holds, or the active ElseFilter rules
+abbrev pub is_chosen : Choice → List Attr → ℕ → Rule → Bool
+is_chosen Matching attrs denominator r = matches attrs denominator r
+is_chosen Fallback attrs denominator r = is_fallback denominator r
+
+-- the picture after a rule's symbolizers on an item
+unfoldable pub with_rule : Window → Item → Pixels → Rule → Pixels
+with_rule w item image r = fold (with_symbolizer w item) image r.symbolizers
+
+-- the picture after a rule's symbolizers on an item if the rule is chosen, and else as it was
+unfoldable pub with_chosen : Window → Item → (Rule → Bool) → Pixels → Rule → Pixels
+with_chosen w item chosen image r = if chosen r then with_rule w item image r else image
