@@ -6,15 +6,13 @@ use Rattle.farm_history.specs.declared.keys.Key.{Key}
 use Rattle.farm_history.specs.declared.answers.ClaimAnswer.TheVariants.{Job}
 use Rattle.farm_history.specs.declared.answers.Finished.TheVariants.{Stored, PutFailed}
 use Rattle.farm_history.specs.Entries.{Entry, Claim, Finish}
-use Rattle.farm_history.specs.Plans.{Plan, AreApart, same_key, is_in}
+use Rattle.farm_history.specs.Plans.{Plan, AreApart, own_key, same_key, is_in}
 use Rattle.farm_history.specs.Past.{Flight, flights, flight_in, claimed_keys, is_on, stored_on, shown, is_fresh, is_clean, clean_count}
-use Rattle.farm_history.proofs.Lists.{same_key-true, same_key-self, Each, each-append, each-map, each-filter, each-find, any-append, any-filter_on, any-filter_off, apart-append, apart-filter, none-each, filter-all}
+use Rattle.farm_history.specs.Lists.{Each}
+use Rattle.farm_history.proofs.Lists.{same_key-true, same_key-self, each-append, each-map, each-filter, each-find, any-append, any-filter_on, any-filter_off, apart-append, apart-filter, none-each, filter-all}
 
 pub count-cons : {X : Type 0} (q : X → Bool) (x : X) (xs : List X) → count_by q (x ∷ xs) ≡ cond (q x) 1 0 + count_by q xs
 count-cons q x xs = sum_by-append (λ y. cond (q y) 1 0) (x ∷ []) xs ∙ omega arith
-
-abbrev pub own_key : Key → Key
-own_key k = k
 
 -- each claimed key is listed once
 pub claimed_apart : (h : List Entry) → AreApart own_key (claimed_keys h)

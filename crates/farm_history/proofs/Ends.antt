@@ -15,7 +15,8 @@ use Rattle.farm_history.specs.Plans.{same_key, same_conn, key_of}
 use Rattle.farm_history.specs.Past.{Flight, flights, flight_in, finishes, is_on, Numbered, number_in, with_ask, without_conn, open_asks, is_ended_after, is_end_of, outcome_of, reply_to, replies_to, ended}
 use Rattle.farm_history.specs.Laws.{asked}
 use Rattle.farm_history.specs.Seen.{is_waiter, waiter_of, asks_on, chain_after, outbox}
-use Rattle.farm_history.proofs.Lists.{same_key-true, same_key-sym, Each, each-append, each-map, each-filter, each-all, map-filter, filter-append, filter-agree, filter-none, filter-filter}
+use Rattle.farm_history.specs.Lists.{Each}
+use Rattle.farm_history.proofs.Lists.{same_key-true, same_key-sym, each-append, each-map, each-filter, each-all, map-filter, filter-append, filter-agree, filter-none, filter-filter}
 use Rattle.farm_history.proofs.OneReply.{IsOpen}
 use Rattle.farm_history.proofs.Replies.{IsReplyIn}
 
@@ -64,7 +65,7 @@ unfolding open_asks is_ended_after
 asks_on_unnumbered conn command spot answer g k is = ap (λ o. filter (is_waiter g k) (with_ask o conn (key_of spot) g (open_asks g))) is
 
 -- two filters in either order
-filter_swap : {X : Type 0} (q r : X → Bool) (xs : List X) → filter q (filter r xs) ≡ filter r (filter q xs)
+pub filter_swap : {X : Type 0} (q r : X → Bool) (xs : List X) → filter q (filter r xs) ≡ filter r (filter q xs)
 filter_swap q r xs = filter-filter q r xs ∙ (filter-agree _ _ xs (each-all _ xs (λ x. grind arith)) ∙ sym (filter-filter r q xs))
 
 -- a Leave takes its connection out of each
@@ -170,7 +171,7 @@ outbox_reply front r g = replies_filter _ _ (open_asks g) g (λ answer a. refl)
 abbrev pub reply_for : Finished → Waiter → Reply
 reply_for answer w = record { conn = w.conn; ask = w.ask; outcome = outcome_of answer }
 
-map-map : {X Y Z : Type 0} (f : X → Y) (g : Y → Z) (xs : List X) → map g (map f xs) ≡ map (λ x. g (f x)) xs
+pub map-map : {X Y Z : Type 0} (f : X → Y) (g : Y → Z) (xs : List X) → map g (map f xs) ≡ map (λ x. g (f x)) xs
 map-map f g [] = refl
 map-map f g (x ∷ xs) = ap (λ zs. g (f x) ∷ zs) (map-map f g xs)
 

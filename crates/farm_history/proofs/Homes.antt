@@ -18,10 +18,11 @@ use Rattle.farm_history.specs.Entries.{Entry, Ask, Claim, Finish, Collect, Leave
 use Rattle.farm_history.specs.Plans.{Plan, Waits, same_key, key_of, is_dirty_command, own_queue, waits_in, without_key, has_room}
 use Rattle.farm_history.specs.Past.{Flight, flights, flight_in, without_ticket, flies_in, flies, is_on, touches, with_dirty, after_answer, after_stale, waiting, waits, Numbered, number_in, numbers, with_ask, open_asks, is_ended_after}
 use Rattle.farm_history.specs.Rules.{Tests, answer_of_waiting, answer_by, tests_of, ask_rule, FlightFits, Fits, Legal}
-use Rattle.farm_history.proofs.Lists.{same_key-self, Each, each-append, each-map, each-filter, each-both, any-append, waits_without_other, none-each, filter-all}
+use Rattle.farm_history.specs.Lists.{Each, Differ}
+use Rattle.farm_history.proofs.Lists.{same_key-self, each-append, each-map, each-filter, each-both, any-append, waits_without_other, none-each, filter-all}
 use Rattle.farm_history.proofs.Apart.{ask_dirty, ask_render}
 use Rattle.farm_history.proofs.Ends.{asks_earlier, ended_more}
-use Rattle.farm_history.proofs.Numbers.{Differ, flight_ticket, tickets_differ}
+use Rattle.farm_history.proofs.Numbers.{flight_ticket, tickets_differ}
 
 -- what waits still waits after an answer
 answer_still : (answer : AskAnswer) (own : Queue) (k j : Key) (ws : List Waits) → waits_in ws j ≡ true → waits_in (after_answer answer own k ws) j ≡ true

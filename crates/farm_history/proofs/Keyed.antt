@@ -18,7 +18,8 @@ use Rattle.farm_history.specs.Plans.{Plan, Waits, same_key, key_of, is_servable,
 use Rattle.farm_history.specs.Past.{Flight, flights, flight_in, flies, is_on, stored_on, shown, touches, with_dirty, after_answer, after_stale, waiting, numbers}
 use Rattle.farm_history.specs.Rules.{Tests, answer_of_waiting, answer_by, tests_of, ask_rule, Fits, Legal}
 use Rattle.farm_history.specs.Replays.{lowest}
-use Rattle.farm_history.proofs.Lists.{same_key-true, Each, each-append, each-filter, each-find}
+use Rattle.farm_history.specs.Lists.{Each}
+use Rattle.farm_history.proofs.Lists.{same_key-true, each-append, each-filter, each-find}
 use Rattle.farm_history.proofs.Apart.{places, ask_dirty, ask_render, job_is_next}
 use Rattle.farm_history.proofs.Queued.{next_found}
 

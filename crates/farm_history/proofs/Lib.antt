@@ -1,14 +1,17 @@
 pub mod Apart
 pub mod Counts
 pub mod Ends
+pub mod Flying
 pub mod Homes
 pub mod Keyed
 pub mod Lists
+pub mod Marked
 pub mod Marks
 pub mod Nows
 pub mod Numbers
 pub mod OneReply
 pub mod Opens
+pub mod Order
 pub mod Places
 pub mod Queued
 pub mod Redrawn
@@ -16,3 +19,6 @@ pub mod Replies
 pub mod Resumed
 pub mod Since
 pub mod Sounds
+pub mod Unended
+pub mod Unflown
+pub mod Few

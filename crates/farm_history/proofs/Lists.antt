@@ -4,6 +4,7 @@ use Rattle.std.specs.List.{list_any}
 use Rattle.std.proofs.lemmas.Bool.Decides.{nat_tests}
 use Rattle.farm_history.specs.declared.keys.Key.{Key}
 use Rattle.farm_history.specs.declared.queues.Conn.{Conn}
+use Rattle.farm_history.specs.Lists.{Each}
 use Rattle.farm_history.specs.Plans.{Waits, AreApart, same_key, same_conn, waits_in, without_key}
 
 -- keys that are the same are equal
@@ -98,11 +99,6 @@ apart-filter key q (x ∷ xs) apart = go (q x) (apart-filter key q xs apart.1)
     go : (b : Bool) → AreApart key (filter q xs) → AreApart key (cond b (x ∷ filter q xs) (filter q xs))
     go true ih = (not_any (λ y. same_key (key y) (key x)) q xs apart.0, ih)
     go false ih = ih
-
--- P holds of each of the list
-abbrev pub Each : {X : Type 0} → (X → Type 0) → List X → Type 0
-Each P [] = Unit {0}
-Each P (x ∷ xs) = P x × Each P xs
 
 pub each-append : {X : Type 0} (P : X → Type 0) (xs : List X) (x : X) → Each P xs → P x → Each P (xs ++ x ∷ [])
 each-append P [] x each here = (here, tt)

@@ -1,5 +1,5 @@
 -- How the marks and the drawings under way go on, entry by entry.
-use Rattle.std.proofs.Common.{◌≡◌, ℕ, suc, ◌<◌, ◌≤◌, Bool, true, false, not, ◌&&◌, ◌||◌, ◌==◌, nat_lt, List, [], ◌∷◌, ◌++◌, length, map, filter, Option, Some, None, option_map, refl, sym, ap, ap₂, ◌∙◌, arith}
+use Rattle.std.proofs.Common.{◌≡◌, ℕ, suc, ◌<◌, ◌≤◌, Bool, true, false, not, ◌||◌, ◌==◌, nat_lt, List, [], ◌∷◌, ◌++◌, length, map, filter, Option, Some, None, option_map, refl, sym, ap, ap₂, ◌∙◌, arith}
 use Rattle.std.proofs.lemmas.List.{map-append}
 use Rattle.std.proofs.lemmas.Bool.Decides.{nat_tests}
 use Rattle.farm_history.specs.declared.keys.Key.{Key}
@@ -11,18 +11,11 @@ use Rattle.farm_history.specs.Entries.{Entry, Claim, Finish}
 use Rattle.farm_history.specs.Plans.{Plan, same_key}
 use Rattle.farm_history.specs.Past.{Flight, version, flights, flight_in, shown, touches, is_touched_after}
 use Rattle.farm_history.specs.Rules.{EndFits}
-use Rattle.farm_history.specs.Seen.{mark_at, mark_after, Taken, taken_of, taken_after}
-use Rattle.farm_history.proofs.Lists.{Each, map-filter}
+use Rattle.farm_history.specs.Seen.{soiled, mark_at, mark_after, taken_of, overtaken_by, taken_after}
+use Rattle.farm_history.specs.Lists.{Each}
+use Rattle.farm_history.proofs.Lists.{map-filter}
 use Rattle.farm_history.proofs.Places.{flights_earlier, shown_earlier, untouched}
 use Rattle.farm_history.proofs.Apart.{stored_here, stored_other, lost_here, lost_other}
-
--- a mark after an entry that touches its key, or doesn't
-abbrev pub soiled : Bool → Mark → Mark
-soiled touching m = record { version = m.version; clean = not touching && m.clean }
-
--- a drawing under way after an entry that touches its key, or doesn't
-abbrev pub overtaken_by : (Key → Bool) → Taken → Taken
-overtaken_by touching t = record { ticket = t.ticket; key = t.key; version = t.version; touched = touching t.key || t.touched }
 
 -- the entry is no Finish
 abbrev pub is_finish : Entry → Bool

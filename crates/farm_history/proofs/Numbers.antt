@@ -10,15 +10,11 @@ use Rattle.farm_history.specs.Plans.{Plan, key_of}
 use Rattle.farm_history.specs.Past.{Flight, flights, jobs, Numbered, number_in, with_ask, open_asks, is_ended_after, is_end_of, reply_to, replies_to}
 use Rattle.farm_history.specs.Rules.{Fits, Legal}
 use Rattle.farm_history.specs.Seen.{outbox}
-use Rattle.farm_history.proofs.Lists.{Each, each-append, each-map, each-filter, each-passes, each-both, each-over, each-none, not_any, any-append, find-not, none-each, filter-all}
+use Rattle.farm_history.specs.Lists.{Each, Differ, without_first}
+use Rattle.farm_history.proofs.Lists.{each-append, each-map, each-filter, each-passes, each-both, each-over, each-none, not_any, any-append, find-not, none-each, filter-all}
 use Rattle.farm_history.proofs.Apart.{job_is_next}
 use Rattle.farm_history.proofs.OneReply.{IsOpen, counted, ask_number}
 use Rattle.farm_history.proofs.Replies.{IsReplyIn, replies_in}
-
--- no two of the list have one number
-abbrev pub Differ : {X : Type 0} → (X → ℕ) → List X → Type 0
-Differ number [] = Unit {0}
-Differ number (x ∷ xs) = (list_any (λ y. number y == number x) xs ≡ false) × Differ number xs
 
 pub differ-append : {X : Type 0} (number : X → ℕ) (xs : List X) (x : X) → Differ number xs → list_any (λ y. number y == number x) xs ≡ false → Differ number (xs ++ x ∷ [])
 differ-append number [] x differ h = (refl, tt)
@@ -62,11 +58,6 @@ find-own {X} number (x ∷ xs) differ = (own, each-map _ _ xs later (each-both _
 
     later : (z : X) → (find (λ y. number y == number z) xs ≡ Some z) × ((number x == number z) ≡ false) → find (λ y. number y == number z) (x ∷ xs) ≡ Some z
     later z h = rw h.1 h.0
-
--- the list without the first that passes the test
-pub without_first : {X : Type 0} → (X → Bool) → List X → List X
-without_first q [] = []
-without_first q (x ∷ xs) = cond (q x) xs (x ∷ without_first q xs)
 
 -- where numbers differ, to take out the first that passes is to take out its number
 pub without_first-number : {X : Type 0} (number : X → ℕ) (q : X → Bool) (xs : List X) (x : X) → Differ number xs → find q xs ≡ Some x → without_first q xs ≡ filter (λ y. not (number y == number x)) xs

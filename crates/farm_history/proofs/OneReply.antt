@@ -13,7 +13,8 @@ use Rattle.farm_history.specs.Plans.{Plan, same_conn, key_of, is_dirty_command}
 use Rattle.farm_history.specs.Past.{Numbered, number_in, numbers, with_ask, without_conn, without_number, open_asks}
 use Rattle.farm_history.specs.Rules.{Tests, answer_of_waiting, answer_by, tests_of, ask_rule, Fits, Legal}
 use Rattle.farm_history.specs.Laws.{asked_here, asked, is_left_after, is_replied, IsOnlyReply, IsNewNumber, LawOneReply}
-use Rattle.farm_history.proofs.Lists.{Each, each-append, each-map, each-filter, each-passes, each-both}
+use Rattle.farm_history.specs.Lists.{Each}
+use Rattle.farm_history.proofs.Lists.{each-append, each-map, each-filter, each-passes, each-both}
 use Rattle.farm_history.proofs.Apart.{ask_dirty, ask_render}
 use Rattle.farm_history.proofs.Replies.{IsReplyIn, collected}
 

@@ -10,7 +10,8 @@ use Rattle.farm_history.specs.Past.{flights, waiting, waits, flies, Numbered, op
 use Rattle.farm_history.specs.Rules.{Legal}
 use Rattle.farm_history.specs.Laws.{flight_key}
 use Rattle.farm_history.specs.Seen.{is_waiter, waiter_of, asks_on, chain_after, outbox}
-use Rattle.farm_history.proofs.Lists.{same_key-true, same_key-sym, Each, each-all, each-map}
+use Rattle.farm_history.specs.Lists.{Each}
+use Rattle.farm_history.proofs.Lists.{same_key-true, same_key-sym, each-all, each-map}
 use Rattle.farm_history.proofs.Apart.{waits_key, kept}
 use Rattle.farm_history.proofs.Counts.{count-cons}
 use Rattle.farm_history.proofs.Homes.{HasHome, homes}

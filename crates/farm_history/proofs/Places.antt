@@ -7,7 +7,8 @@ use Rattle.farm_history.specs.declared.answers.Finished.TheVariants.{Stored, Put
 use Rattle.farm_history.specs.Entries.{Entry, Claim, Finish}
 use Rattle.farm_history.specs.Plans.{Plan, same_key}
 use Rattle.farm_history.specs.Past.{Flight, flights, flight_in, is_on, stored_on, shown, touches, is_touched_after, is_fresh}
-use Rattle.farm_history.proofs.Lists.{Each, each-append, each-map, each-filter, each-find}
+use Rattle.farm_history.specs.Lists.{Each}
+use Rattle.farm_history.proofs.Lists.{each-append, each-map, each-filter, each-find}
 
 -- each flight was claimed before now
 pub flights_earlier : (h : List Entry) → Each (λ (f : Flight). length f.before < length h) (flights h)

@@ -6,7 +6,8 @@ use Rattle.farm_history.specs.declared.keys.Key.{Key}
 use Rattle.farm_history.specs.declared.queues.Queue.{Queue}
 use Rattle.farm_history.specs.Plans.{Waits, same_key, same_queue, waits_in, without_key, how_many_in, first_in, next}
 use Rattle.farm_history.specs.Seen.{in_queue, by_queue}
-use Rattle.farm_history.proofs.Lists.{Each, each-find, any-append, filter-append, filter-filter, filter-agree, each-all}
+use Rattle.farm_history.specs.Lists.{Each}
+use Rattle.farm_history.proofs.Lists.{each-find, any-append, filter-append, filter-filter, filter-agree, each-all}
 
 -- as many wait in a queue as its list is long
 pub how_many_in_queue : (queue : Queue) (ws : List Waits) → how_many_in ws queue ≡ length (in_queue queue ws)
@@ -34,7 +35,7 @@ by_queue_without k ws =
     split xs ys = filter-append (λ w. not (same_key w.key k)) xs ys
 
 -- the first of a list
-find_first : {X : Type 0} (q : X → Bool) (xs : List X) → find q xs ≡ slice_get (filter q xs) 0
+pub find_first : {X : Type 0} (q : X → Bool) (xs : List X) → find q xs ≡ slice_get (filter q xs) 0
 find_first q [] = refl
 find_first q (x ∷ xs) = go (q x) (find_first q xs)
   where

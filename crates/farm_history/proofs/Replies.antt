@@ -10,7 +10,8 @@ use Rattle.farm_history.specs.Entries.{Entry, Finish}
 use Rattle.farm_history.specs.Past.{is_ended_after, Numbered, is_stopped, open_asks, is_end_of, outcome_of, reply_to, replies_to, ended}
 use Rattle.farm_history.specs.Rules.{collect_from, collect_rule}
 use Rattle.farm_history.specs.Laws.{is_stored_after}
-use Rattle.farm_history.proofs.Lists.{Each, each-map, each-filter, each-passes, each-both, each-join, each-over}
+use Rattle.farm_history.specs.Lists.{Each}
+use Rattle.farm_history.proofs.Lists.{each-map, each-filter, each-passes, each-both, each-join, each-over}
 
 -- a reply to an ask of which P holds and that has its End; a reply Done is of a key that was stored after the ask
 pub record IsReplyIn (P : Numbered → Type 0) (h : List Entry) (r : Reply) : Type 0 where

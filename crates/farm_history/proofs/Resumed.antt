@@ -12,7 +12,8 @@ use Rattle.farm_history.specs.Plans.{Plan, AreApart, same_key, is_servable, is_a
 use Rattle.farm_history.specs.Past.{is_stopped, data_after, version, style_after, flights, claimed_keys, shown, is_touched_after, is_fresh, is_clean, waiting, open_asks}
 use Rattle.farm_history.specs.Rules.{Fits, Legal}
 use Rattle.farm_history.specs.Replays.{changes_after, number_of, Saving, key_before, are_rising, kept_of, kept_version, version_if_fresh, IsSaved, replay_styles, replay_key, replay_keys, replay_change, replay_from, replay, IsCleanAgain, LawResumed}
-use Rattle.farm_history.proofs.Lists.{same_key-true, same_key-self, same_key-sym, Each, each-map, each-both, none-each, find-any, find-passes}
+use Rattle.farm_history.specs.Lists.{Each}
+use Rattle.farm_history.proofs.Lists.{same_key-true, same_key-self, same_key-sym, each-map, each-both, none-each, find-any, find-passes}
 use Rattle.farm_history.proofs.Keyed.{IsServed, shown_served}
 use Rattle.farm_history.proofs.Since.{data_changes, Along, ChangeFits, changes_fit, Passes, IsSince, clean_since, style_fits, style_alone, style_in_table, in_list}
 use Rattle.farm_history.proofs.Redrawn.{IsQuiet, before_again, redrawn_quiet, redrawn_shown, redrawn_other, redrawn_touched, redrawn_untouched, redrawn_data, redrawn_style, again_data, again_style}
@@ -176,27 +177,27 @@ keys_replayed p told s style v (x ∷ xs) done rest g workers room good apart i 
 -- Changes.
 
 -- a change touches no key that it passes
-change_quiet : (p : Plan) (c : Past) (g : List Entry) (k : Key) (place : ℕ) → Passes p k (data_after g) c → is_touched_after p (replay_change p c g) place k ≡ is_touched_after p g place k
+pub change_quiet : (p : Plan) (c : Past) (g : List Entry) (k : Key) (place : ℕ) → Passes p k (data_after g) c → is_touched_after p (replay_change p c g) place k ≡ is_touched_after p g place k
 unfolding is_touched_after
 change_quiet p (Past.Update n) g k place passes = refl
 change_quiet p (Past.Renew n) g k place passes = grind (arith, passes)
 
-change_data : (p : Plan) (c : Past) (g : List Entry) → data_after (replay_change p c g) ≡ data_after g ++ number_of c ∷ []
+pub change_data : (p : Plan) (c : Past) (g : List Entry) → data_after (replay_change p c g) ≡ data_after g ++ number_of c ∷ []
 unfolding data_after
 change_data p (Past.Update n) g = refl
 change_data p (Past.Renew n) g = refl
 
-change_shown : (p : Plan) (c : Past) (g : List Entry) (k : Key) → shown (replay_change p c g) k ≡ shown g k
+pub change_shown : (p : Plan) (c : Past) (g : List Entry) (k : Key) → shown (replay_change p c g) k ≡ shown g k
 unfolding shown
 change_shown p (Past.Update n) g k = refl
 change_shown p (Past.Renew n) g k = refl
 
-change_style : (p : Plan) (c : Past) (g : List Entry) (m : ℕ) → style_after p (replay_change p c g) m ≡ style_after p g m
+pub change_style : (p : Plan) (c : Past) (g : List Entry) (m : ℕ) → style_after p (replay_change p c g) m ≡ style_after p g m
 unfolding style_after
 change_style p (Past.Update n) g m = refl
 change_style p (Past.Renew n) g m = refl
 
-change_legal : (p : Plan) (told : Bool) (c : Past) (g : List Entry) → ChangeFits p (data_after g) c → IsQuiet p told g → IsQuiet p told (replay_change p c g)
+pub change_legal : (p : Plan) (told : Bool) (c : Past) (g : List Entry) → ChangeFits p (data_after g) c → IsQuiet p told g → IsQuiet p told (replay_change p c g)
 unfolding Fits is_stopped flights waiting open_asks
 change_legal p told (Past.Update n) g fits q = record { legal = ((fits.in_table, fits.no_fault, refl), q.legal); running = q.running; grounded = q.grounded; idle = q.idle; answered = q.answered }
 change_legal p told (Past.Renew n) g fits q = record { legal = ((fits.in_table, fits.no_fault, refl, refl), q.legal); running = q.running; grounded = q.grounded; idle = q.idle; answered = q.answered }
@@ -256,19 +257,19 @@ replayed p told s style v done (c ∷ cs) g workers room good apart fits i =
 -- Styles.
 
 -- each style of the list is of the map at its place
-StylesFit : Plan → ℕ → List (Option ℕ) → Type 0
+unfoldable pub StylesFit : Plan → ℕ → List (Option ℕ) → Type 0
 StylesFit p m [] = Unit {0}
 StylesFit p m (None ∷ styles) = StylesFit p (m + 1) styles
 StylesFit p m (Some n ∷ styles) = (is_style_of p n m ≡ true) × StylesFit p (m + 1) styles
 
 -- a history of restyles alone
-record IsBare (p : Plan) (told : Bool) (g : List Entry) : Type 0 where
-  quiet : IsQuiet p told g
-  unclaimed : claimed_keys g ≡ []
-  unseen : (k : Key) → shown g k ≡ None
-  no_data : data_after g ≡ []
+pub record IsBare (p : Plan) (told : Bool) (g : List Entry) : Type 0 where
+  pub quiet : IsQuiet p told g
+  pub unclaimed : claimed_keys g ≡ []
+  pub unseen : (k : Key) → shown g k ≡ None
+  pub no_data : data_after g ≡ []
 
-styles_bare : (p : Plan) (told : Bool) (m : ℕ) (styles : List (Option ℕ)) (g : List Entry) → StylesFit p m styles → IsBare p told g → IsBare p told (replay_styles styles g)
+pub styles_bare : (p : Plan) (told : Bool) (m : ℕ) (styles : List (Option ℕ)) (g : List Entry) → StylesFit p m styles → IsBare p told g → IsBare p told (replay_styles styles g)
 unfolding Fits replay_styles is_stopped flights waiting open_asks claimed_keys shown data_after StylesFit
 styles_bare p told m [] g fits b = b
 styles_bare p told m (None ∷ styles) g fits b = styles_bare p told (m + 1) styles g fits b
@@ -287,26 +288,26 @@ styles_bare p told m (Some n ∷ styles) g fits b =
     })
 
 -- the style of map j after the styles from place m on
-style_from : ℕ → List (Option ℕ) → ℕ → Option ℕ → Option ℕ
+unfoldable pub style_from : ℕ → List (Option ℕ) → ℕ → Option ℕ → Option ℕ
 style_from m [] j o = o
 style_from m (None ∷ styles) j o = style_from (m + 1) styles j o
 style_from m (Some n ∷ styles) j o = style_from (m + 1) styles j (cond (m == j) (Some n) o)
 
-styles_at : (p : Plan) (m : ℕ) (styles : List (Option ℕ)) (g : List Entry) (j : ℕ) → StylesFit p m styles → style_after p (replay_styles styles g) j ≡ style_from m styles j (style_after p g j)
+pub styles_at : (p : Plan) (m : ℕ) (styles : List (Option ℕ)) (g : List Entry) (j : ℕ) → StylesFit p m styles → style_after p (replay_styles styles g) j ≡ style_from m styles j (style_after p g j)
 unfolding replay_styles style_after StylesFit style_from
 styles_at p m [] g j fits = refl
 styles_at p m (None ∷ styles) g j fits = styles_at p (m + 1) styles g j fits
 styles_at p m (Some n ∷ styles) g j fits =
     styles_at p (m + 1) styles (Restyle n (Styled 0) ∷ g) j fits.1 ∙ ap (λ b. style_from (m + 1) styles j (cond b (Some n) (style_after p g j))) (style_alone p n m j fits.0)
 
-style_past : (m : ℕ) (styles : List (Option ℕ)) (j : ℕ) (o : Option ℕ) → j < m → style_from m styles j o ≡ o
+pub style_past : (m : ℕ) (styles : List (Option ℕ)) (j : ℕ) (o : Option ℕ) → j < m → style_from m styles j o ≡ o
 unfolding style_from
 style_past m [] j o lt = refl
 style_past m (None ∷ styles) j o lt = style_past (m + 1) styles j o (omega arith)
 style_past m (Some n ∷ styles) j o lt =
     let other : (m == j) ≡ false = grind (arith, nat_tests) in style_past (m + 1) styles j _ (omega arith) ∙ ap (λ b. cond b (Some n) o) other
 
-style_place : (m : ℕ) (styles : List (Option ℕ)) (i j : ℕ) (o : Option ℕ) → m + i ≡ j → slice_get styles i ≡ Some o → style_from m styles j None ≡ o
+pub style_place : (m : ℕ) (styles : List (Option ℕ)) (i j : ℕ) (o : Option ℕ) → m + i ≡ j → slice_get styles i ≡ Some o → style_from m styles j None ≡ o
 unfolding style_from
 style_place m [] i j o at h = cc
 style_place m (None ∷ styles) zero j o at h = style_past (m + 1) styles j None (omega arith) ∙ cc
@@ -339,7 +340,7 @@ all_not q r (x ∷ xs) f h = let here : q x ≡ true = grind arith in let rest :
 before_other : (a b : Key) → key_before a b ≡ true → same_key b a ≡ false
 before_other a b h = grind (arith, nat_tests)
 
-rising_apart : (xs : List Kept) → are_rising xs ≡ true → AreApart kept_key xs
+pub rising_apart : (xs : List Kept) → are_rising xs ≡ true → AreApart kept_key xs
 rising_apart [] h = tt
 rising_apart (x ∷ xs) h = (all_not (λ y. key_before x.key y.key) (λ y. same_key y.key x.key) xs (λ y b. before_other x.key y.key b) (grind arith), rising_apart xs (grind arith))
 

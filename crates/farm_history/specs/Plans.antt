@@ -59,6 +59,10 @@ abbrev pub AreApart : {X : Type 0} → (X → Key) → List X → Type 0
 AreApart key [] = Unit {0}
 AreApart key (x ∷ xs) = (list_any (λ y. same_key (key y) (key x)) xs ≡ false) × AreApart key xs
 
+-- the key of a key, so that AreApart own_key says of a list of keys that no two are one
+abbrev pub own_key : Key → Key
+own_key k = k
+
 -- the tile of a spot
 abbrev pub tile_of : Spot → Tile
 tile_of spot = record { z = spot.z; x = spot.x; y = spot.y }

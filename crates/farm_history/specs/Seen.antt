@@ -1,5 +1,6 @@
 -- What a farm may keep of its history: marks, drawings under way, and the asks that wait or have ended.
-use Rattle.std.specs.Prelude.{ℕ, Bool, ◌&&◌, not, List, ◌++◌, length, map, filter, Option, Some, None}
+use Rattle.std.specs.Prelude.{ℕ, Bool, false, ◌&&◌, not, ◌||◌, List, ◌++◌, length, map, filter, find, Option, Some, None}
+use Rattle.std.specs.Option.{option_and_then}
 use Rattle.farm_history.specs.declared.keys.Key.{Key}
 use Rattle.farm_history.specs.declared.keys.Mark.{Mark}
 use Rattle.farm_history.specs.declared.queues.Queue.{Queue}
@@ -18,6 +19,19 @@ mark_at p h k (Some before) = Some (record { version = version before; clean = n
 abbrev pub mark_after : Plan → List Entry → Key → Option Mark
 mark_after p h k = mark_at p h k (shown h k)
 
+-- the mark that a table has of a key: that of the first row with the key
+abbrev pub mark_in : {R : Type 0} → (R → Key) → (R → Option Mark) → List R → Key → Option Mark
+mark_in key mark rows k = option_and_then mark (find (λ r. same_key k (key r)) rows)
+
+-- whether there is a mark, and it is clean
+abbrev pub is_clean_mark : Option Mark → Bool
+is_clean_mark None = false
+is_clean_mark (Some m) = m.clean
+
+-- a mark after an entry that touches its key, or does not
+abbrev pub soiled : Bool → Mark → Mark
+soiled touching m = record { version = m.version; clean = not touching && m.clean }
+
 -- a drawing under way, as it is kept: its ticket, its key, the version before its Claim, and whether an entry after its Claim touches the key
 pub record Taken : Type 0 where
   pub ticket : ℕ
@@ -29,9 +43,21 @@ pub record Taken : Type 0 where
 abbrev pub taken_of : Plan → List Entry → Flight → Taken
 taken_of p h f = record { ticket = f.ticket; key = f.key; version = version f.before; touched = is_touched_after p h (length f.before) f.key }
 
+-- a drawing under way after an entry that touches the keys which pass the test
+abbrev pub overtaken_by : (Key → Bool) → Taken → Taken
+overtaken_by touching t = record { ticket = t.ticket; key = t.key; version = t.version; touched = touching t.key || t.touched }
+
 -- the drawings under way, in order
 abbrev pub taken_after : Plan → List Entry → List Taken
 taken_after p h = map (taken_of p h) (flights h)
+
+-- whether an ask has no End yet
+abbrev pub has_no_end : List Entry → Numbered → Bool
+has_no_end h a = not (is_ended_after h (length a.before) a.key)
+
+-- the open asks that wait, of whatever key, in order
+abbrev pub unended : List Entry → List Numbered
+unended h = filter (has_no_end h) (open_asks h)
 
 -- whether an open ask waits for the key: it is on the key and has no End
 abbrev pub is_waiter : List Entry → Key → Numbered → Bool

@@ -4,6 +4,7 @@
 
 mod answers;
 mod asks;
+mod events;
 mod keys;
 mod queues;
 mod saved;
@@ -12,6 +13,7 @@ pub use answers::{
     ClaimAnswer, Collected, Fetched, Finished, Looked, Renewed, Restyled, Tally, Updated,
 };
 pub use asks::{AskAnswer, Cmd, Spot, Why};
+pub use events::Event;
 pub use keys::{Kept, Key, Mark};
 pub use queues::{Conn, Limits, Outcome, Queue, Reply, Waiter};
-pub use saved::Past;
+pub use saved::{Past, Saved};

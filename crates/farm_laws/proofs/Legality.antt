@@ -1,15 +1,15 @@
 -- The worked histories are legal, by computation.
-use Rattle.std.proofs.Common.{◌≡◌, ℕ, zero, suc, Bool, true, false, ◌&&◌, nat_lt, Option, Some, None, List, refl, ap, ◌∙◌, [], ◌∷◌, ◌++◌, cond, filter, append-nil, lit<, lit≤, arith}
+use Rattle.std.proofs.Common.{◌≡◌, ℕ, zero, suc, Bool, true, false, ◌&&◌, nat_lt, Option, Some, None, List, refl, ap, ◌∙◌, [], ◌∷◌, ◌++◌, cond, filter, append-nil, lit<, lit≤, arith, ◌<◌, subst, slice_get, option_map}
 use Rattle.std.proofs.lemmas.Bool.Decides.{nat_tests}
 use Rattle.farm_history.specs.declared.keys.Key.{Key}
-use Rattle.farm_history.specs.Plans.{key_of, map_of, tile_of, is_at_most, greatest_zoom, is_servable, overlaps, is_style_of, next}
+use Rattle.farm_history.specs.Plans.{same_key, key_of, map_of, tile_of, is_at_most, greatest_zoom, is_servable, overlaps, is_style_of, next}
 use Rattle.farm_history.specs.Past.{is_stopped, data_after, style_after, flights, jobs, claimed_keys, shown, is_touched_after, waiting, numbers, open_asks, is_ended_after, replies_to, asks_made, done_asks, stored_drawings}
 use Rattle.farm_history.specs.Rules.{answer_of_waiting, answer_by, Fits, Legal}
 use Rattle.farm_history.specs.Laws.{has_plain_update, IsLocal}
-use Rattle.farm_history.proofs.Lists.{filter-append}
-use Rattle.farm_history.specs.Replays.{replay_styles, replay_keys, replay_from, replay}
+use Rattle.farm_history.proofs.Lists.{filter-append, same_key-true}
+use Rattle.farm_history.specs.Replays.{changes_after, kept_of, kept_version, version_if_fresh, IsSaved, replay_styles, replay_keys, replay_from, replay}
 use Rattle.farm_laws.specs.Mistakes.{gone_though_told}
-use Rattle.farm_laws.specs.Worked.{changing, saved_changes, resumed_changes, reached, bytes_of, low_narrow, narrow, plain, renewed, restyled, updated, asked_twice, expired_while_drawn, asked_often, asked_too_often, asked_just_often, has_each, updated_then_expired, expired_from_above, updated_while_drawn, queues_filled, put_failed, drawing_cut, left_alone, lifted_from_bulk, marked_dirty, restyled_while_drawn, two_drawn, renewed_one, renewed_both}
+use Rattle.farm_laws.specs.Worked.{changing, changed, key, saved_changes, resumed_changes, reached, bytes_of, low_narrow, narrow, plain, renewed, restyled, updated, asked_twice, expired_while_drawn, asked_often, asked_too_often, asked_just_often, has_each, updated_then_expired, expired_from_above, updated_while_drawn, queues_filled, put_failed, drawing_cut, left_alone, lifted_from_bulk, marked_dirty, restyled_while_drawn, two_drawn, renewed_one, renewed_both}
 
 pub asked_twice_legal : Legal plain true asked_twice
 unfolding asked_twice plain Fits is_servable overlaps is_style_of next is_stopped data_after style_after flights jobs claimed_keys shown is_touched_after waiting numbers open_asks is_ended_after replies_to asks_made done_asks stored_drawings answer_by answer_of_waiting
@@ -120,3 +120,51 @@ resumed_changes_is = refl
 pub resumed_changes_legal : Legal changing true resumed_changes
 unfolding changing resumed_changes Fits is_servable overlaps is_style_of next is_stopped data_after style_after flights jobs claimed_keys shown is_touched_after waiting numbers open_asks is_ended_after replies_to asks_made done_asks stored_drawings answer_by answer_of_waiting
 resumed_changes_legal = ((lit< tt, refl, refl, refl), (refl, (refl, (refl, (refl, ((lit< tt, refl, refl), (refl, (refl, (refl, (refl, ((lit< tt, refl), tt)))))))))))
+
+pub changed_legal : Legal changing true changed
+unfolding changing changed Fits is_servable overlaps is_style_of next is_stopped data_after style_after flights jobs claimed_keys shown is_touched_after waiting numbers open_asks is_ended_after replies_to asks_made done_asks stored_drawings answer_by answer_of_waiting
+changed_legal = ((lit< tt, refl, refl, refl), (refl, (refl, (refl, (refl, (refl, (refl, (refl, ((lit< tt, refl, refl), (refl, (refl, (refl, ((lit< tt, refl), tt)))))))))))))
+
+-- Of that history exactly this is saved.
+
+CleanAt : Key → Type 0
+CleanAt k = option_map kept_version (kept_of saved_changes.clean k) ≡ version_if_fresh changing changed k (shown changed k)
+
+clean_high : CleanAt (key 4 8 0)
+unfolding CleanAt changing changed saved_changes is_servable overlaps is_style_of next is_stopped data_after style_after flights jobs claimed_keys shown is_touched_after waiting numbers open_asks is_ended_after replies_to asks_made done_asks stored_drawings answer_by answer_of_waiting
+clean_high = refl
+
+clean_low : CleanAt (key 4 0 8)
+unfolding CleanAt changing changed saved_changes is_servable overlaps is_style_of next is_stopped data_after style_after flights jobs claimed_keys shown is_touched_after waiting numbers open_asks is_ended_after replies_to asks_made done_asks stored_drawings answer_by answer_of_waiting
+clean_low = refl
+
+clean_other : CleanAt (key 4 8 8)
+unfolding CleanAt changing changed saved_changes is_servable overlaps is_style_of next is_stopped data_after style_after flights jobs claimed_keys shown is_touched_after waiting numbers open_asks is_ended_after replies_to asks_made done_asks stored_drawings answer_by answer_of_waiting
+clean_other = refl
+
+clean_none : (k : Key) → same_key (key 4 8 0) k ≡ false → same_key (key 4 0 8) k ≡ false → same_key (key 4 8 8) k ≡ false → CleanAt k
+unfolding CleanAt changing changed saved_changes is_servable overlaps is_style_of next is_stopped data_after style_after flights jobs claimed_keys shown is_touched_after waiting numbers open_asks is_ended_after replies_to asks_made done_asks stored_drawings answer_by answer_of_waiting
+clean_none k high low other = rw (high, low, other) refl
+
+clean_each : (k : Key) → CleanAt k
+clean_each k = at_high (same_key (key 4 8 0) k) refl
+  where
+    at_other : (b : Bool) → same_key (key 4 8 8) k ≡ b → same_key (key 4 8 0) k ≡ false → same_key (key 4 0 8) k ≡ false → CleanAt k
+    at_other true is high low = subst CleanAt (same_key-true (key 4 8 8) k is) clean_other
+    at_other false is high low = clean_none k high low is
+
+    at_low : (b : Bool) → same_key (key 4 0 8) k ≡ b → same_key (key 4 8 0) k ≡ false → CleanAt k
+    at_low true is high = subst CleanAt (same_key-true (key 4 0 8) k is) clean_low
+    at_low false is high = at_other (same_key (key 4 8 8) k) refl high is
+
+    at_high : (b : Bool) → same_key (key 4 8 0) k ≡ b → CleanAt k
+    at_high true is = subst CleanAt (same_key-true (key 4 8 0) k is) clean_high
+    at_high false is = at_low (same_key (key 4 0 8) k) refl is
+
+pub saved_changes_is : IsSaved changing changed saved_changes
+unfolding changing changed saved_changes style_after changes_after CleanAt is_style_of
+saved_changes_is = record { as_many_styles = refl; styles_are = styles; updates_are = refl; clean_are = clean_each; clean_rise = refl }
+  where
+    styles : (m : ℕ) → m < 1 → slice_get (Some 0 ∷ []) m ≡ Some (style_after changing changed m)
+    styles zero lt = refl
+    styles (suc m) lt = absurd (omega (arith, lt))

@@ -359,6 +359,25 @@ changing = record (small_plan wide 2) { updates = 3; restyles = 0 ∷ []; fault 
 unfoldable pub saved_changes : Saving
 saved_changes = record { styles = Some 0 ∷ []; updates = Past.Update 1 ∷ Past.Renew 0 ∷ []; clean = record { key = key 4 0 8; version = 1 } ∷ record { key = key 4 8 8; version = 0 } ∷ [] }
 
+-- A history of which that is saved. A third metatile is drawn and then expired: it is dirty, and is not saved
+unfoldable pub changed : List Entry
+changed = goes_on [] (
+    Restyle 0 (Styled 0)
+    ∷ render 0 (spot 4 8 8) (Queued 0)
+    ∷ Claim 0 (Job 0 (key 4 8 8) 0)
+    ∷ drawn 0 (Stored true)
+    ∷ Update 1 (Updated.Version 1)
+    ∷ render 0 (spot 4 0 8) (Queued 1)
+    ∷ render 0 (spot 4 8 0) (Queued 2)
+    ∷ Claim 0 (Job 1 (key 4 0 8) 1)
+    ∷ Claim 1 (Job 2 (key 4 8 0) 1)
+    ∷ drawn 2 (Stored true)
+    ∷ drawn 1 (Stored true)
+    ∷ Expire (tile 1 1 0) 1
+    ∷ Renew 0 (Renewed.Version 2 0)
+    ∷ []
+    )
+
 -- The replay of it: the style; the metatile of version 0; the first update; the metatile of version 1; the second update
 unfoldable pub resumed_changes : List Entry
 resumed_changes = goes_on [] (
