@@ -1,7 +1,7 @@
 -- Features that are far from the window are passed over.
-use Rattle.std.proofs.Common.{◌≡◌, ℕ, zero, suc, ◌+◌, ◌-◌, ◌*◌, ◌^◌, ◌<◌, ◌≤◌, Bool, true, false, ◌&&◌, List, [], ◌∷◌, length, take, drop, get_or, map, fold, refl, ap, sym, subst, ◌∙◌, arith, Some, None}
-use Rattle.std.specs.Prelude.{nat_le, nat_lt, not, cond, Option, option_map, option_to_list, slice_get, position, IsTrue, All}
-use Rattle.std.specs.List.{list_all, position_or_len}
+use Rattle.std.proofs.Common.{◌≡◌, ℕ, zero, suc, ◌+◌, ◌-◌, ◌*◌, ◌^◌, ◌<◌, ◌≤◌, Bool, true, false, ◌&&◌, List, [], ◌∷◌, length, take, drop, get_or, map, fold, refl, ap, sym, ◌∙◌, arith, Some, None}
+use Rattle.std.specs.Prelude.{nat_le, nat_lt, not, cond, Option, option_map, option_to_list, slice_get, position, IsTrue}
+use Rattle.std.specs.List.{position_or_len}
 use Rattle.std.proofs.Math.Nat.{mul-le-mul_right}
 use Rattle.std.proofs.lemmas.Bool.{le-leb, ltb-false, false_from_ne_true}
 use Rattle.std.proofs.lemmas.List.{take_all, get_or-drop, length-drop}
@@ -12,7 +12,7 @@ use Rattle.plain_drawing.specs.declared.style.Symbolizer.{Symbolizer}
 use Rattle.plain_shapes.specs.declared.shapes.Geometry.TheVariants as shape
 use Rattle.plain_world.specs.World.{IsWindow, centre}
 use Rattle.plain_data.specs.Features.{Feature}
-use Rattle.plain_drawing.specs.Styles.{Rule, Style, is_paint}
+use Rattle.plain_drawing.specs.Styles.{Style, is_paint}
 use Rattle.plain_shapes.specs.Images.{Pixels}
 use Rattle.plain_drawing.specs.Drawing.{covers, feature}
 use Rattle.plain_drawing.specs.inner.Pictures.{with_item}

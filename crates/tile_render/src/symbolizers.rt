@@ -1,5 +1,5 @@
 //! One symbolizer on one item.
-ghost use Rattle.std.specs.Prelude.{◌≡◌, ◌≤◌, ◌^◌, IsTrue, OnOk};
+ghost use Rattle.std.specs.Prelude.{◌≡◌, ◌*◌, ◌≤◌, ◌^◌, IsTrue, OnOk};
 ghost use Rattle.drawing_reach.specs.inner.Spreads.{spread_across, spread_down};
 ghost use Rattle.plain_drawing.specs.declared.style.Symbolizer.TheVariants as paint;
 ghost use Rattle.plain_world.specs.World.{IsWindow};
