@@ -10,7 +10,7 @@ use Rattle.plain_drawing.specs.Styles.{Style, LayerRef, RasterRef, style_has, la
 use Rattle.filter_expr.specs.declared.faults.FilterFault.TheVariants.{Bad, NumberRange, TooDeep, NoMemory}
 use Rattle.filter_expr.specs.Trees.{Tree}
 use Rattle.filter_expr.specs.Lexing.{lexed}
-use Rattle.filter_expr.specs.Reading.{Step, got, failed, whole}
+use Rattle.filter_expr.specs.Reading.{Step, got, failed, whole_filter}
 use Rattle.filter_expr.specs.FilterTexts.{filter_of, verdict}
 use Rattle.filter_expr.proofs.Final.{IsAnswer}
 use Rattle.filter_expr.proofs.Only.{lexed_answer}
@@ -39,7 +39,7 @@ Told r = OnFault HasText r
 
 filter_told : (text : List ℕ) (at : At) → Told (filter_at at (filter_of text))
 unfolding filter_of
-filter_told text at = by (whole (lexed 0 0 text)) (lexed_answer text)
+filter_told text at = by (whole_filter (lexed 0 0 text)) (lexed_answer text)
   where
     by : (r : Step Tree) → IsAnswer (lexed 0 0 text) r → Told (filter_at at (verdict r))
     by (got d ts) h = tt
