@@ -1,7 +1,6 @@
 -- The paths of a plan's keys differ, and each ends in `.meta`.
-use Rattle.std.proofs.Common.{◌≡◌, ℕ, List, ◌++◌, Some, None, Option, refl, sym, ap, ◌∙◌}
-use Rattle.std.specs.Prelude.{codes, slice_get}
-use Rattle.plain_world.specs.declared.world.Meta.{Meta}
+use Rattle.std.proofs.Common.{◌≡◌, ℕ, List, ◌++◌, Option, sym, ap, ◌∙◌}
+use Rattle.std.specs.Prelude.{codes}
 use Rattle.tile_paths.specs.Paths.{path_of}
 use Rattle.tile_paths.proofs.Alike.{one_path, ends_in_meta}
 use Rattle.farm_history.specs.declared.keys.Key.{Key}

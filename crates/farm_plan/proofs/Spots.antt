@@ -1,13 +1,13 @@
 -- A spot that the farm of a plan can serve is a tile of one of its maps, and its key is one of the plan's.
-use Rattle.std.proofs.Common.{◌≡◌, ℕ, ◌+◌, ◌*◌, ◌/◌, ◌%◌, ◌^◌, ◌<◌, ◌≤◌, Bool, true, false, ◌&&◌, cond, nat_lt, List, Option, Some, None, refl, sym, ap, ◌∙◌, subst, arith}
+use Rattle.std.proofs.Common.{◌≡◌, ℕ, ◌≤◌, true, false, List, Option, Some, None, refl, subst, arith}
 use Rattle.std.specs.Prelude.{All, slice_get, option_map, map as map_list}
 use Rattle.std.proofs.lemmas.Bool.Decides.{nat_tests}
 use Rattle.std.proofs.lemmas.Option.{slice_get-map, slice_get_within, get_or_from_slice_get}
 use Rattle.std.proofs.lemmas.List.Elements.{All-get_or}
-use Rattle.plain_world.specs.World.{IsTile, IsMeta, meta_of}
+use Rattle.plain_world.specs.World.{IsMeta, meta_of}
 use Rattle.farm_history.specs.declared.keys.Key.{Key}
 use Rattle.farm_history.specs.declared.asks.Spot.{Spot}
-use Rattle.farm_history.specs.Plans.{tile_of, map_of, key_of, is_servable, is_at_most, greatest_zoom}
+use Rattle.farm_history.specs.Plans.{tile_of, key_of, is_servable, is_at_most}
 use Rattle.farm_history.specs.Replays.{lowest}
 use Rattle.farm_history.proofs.Keyed.{IsServed}
 use Rattle.farm_plan.specs.Plans.{MapPlan, FarmPlan, IsMapPlan, IsPlan}

@@ -1,10 +1,9 @@
 -- The plan of a farm: what it is started with, and which plans are valid.
-use Rattle.std.specs.Prelude.{ℕ, ◌<◌, ◌≤◌, ◌≡◌, IsTrue, List, length, All, slice_get, Option, Some}
-use Rattle.std.specs.List.{list_all}
+use Rattle.std.specs.Prelude.{ℕ, ◌<◌, ◌≤◌, ◌≡◌, List, length, All, slice_get, Some}
 use Rattle.plain_world.specs.World.{IsTileSize}
 use Rattle.plain_data.specs.Features.{Layer}
 use Rattle.plain_data.specs.Data.{Change}
-use Rattle.plain_drawing.specs.Styles.{MapStyle, Style, is_paint}
+use Rattle.plain_drawing.specs.Styles.{MapStyle, KeepsRanges}
 use Rattle.tile_paths.specs.Paths.{IsName}
 use Rattle.farm_history.specs.declared.queues.Limits.{Limits}
 
@@ -66,10 +65,6 @@ pub record IsPlan (plan : FarmPlan) : Type 0 where
   pub few_updates : length plan.updates ≤ 256
   pub few_restyles : length plan.restyles ≤ 256
   pub each_restyle : All (NamesMap plan.maps) plan.restyles
-
--- every symbolizer of the style keeps its ranges
-abbrev pub KeepsRanges : Style → Type 0
-KeepsRanges style = All (λ r. IsTrue (list_all is_paint r.symbolizers)) style.rules
 
 -- every symbolizer of the map style keeps its ranges
 abbrev pub IsRanged : MapStyle → Type 0

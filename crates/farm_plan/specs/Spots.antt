@@ -1,6 +1,6 @@
 -- Spots that a plan's farm can serve, and the keys of its metatiles.
-use Rattle.std.specs.Prelude.{ℕ, ◌<◌, ◌≡◌, slice_get, Some}
-use Rattle.plain_world.specs.World.{IsTile, IsMeta, meta_of}
+use Rattle.std.specs.Prelude.{◌≡◌, slice_get, Some}
+use Rattle.plain_world.specs.World.{IsTile, IsMeta}
 use Rattle.farm_history.specs.declared.keys.Key.{Key}
 use Rattle.farm_history.specs.declared.asks.Spot.{Spot}
 use Rattle.farm_history.specs.Plans.{tile_of, map_of}
