@@ -1,2 +1,5 @@
+pub mod Changes
 pub mod Legality
+pub mod Local
+pub mod Newest
 pub mod Refusals

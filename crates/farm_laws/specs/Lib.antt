@@ -1,2 +1,3 @@
+pub mod Locality
 pub mod Mistakes
 pub mod Worked

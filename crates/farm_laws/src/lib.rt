@@ -8,6 +8,7 @@ ghost use Rattle.std.specs.Prelude.{true, false, ◌≡◌};
 ghost use Rattle.farm_history.specs.Laws.{IsLocal, LawApart, LawNow, LawOneReply, LawSound, has_plain_update};
 ghost use Rattle.farm_history.specs.Replays.{LawResumed, IsSaved, replay};
 ghost use Rattle.farm_history.specs.Rules.{Legal};
+ghost use Rattle.farm_laws.specs.Locality.{LawLocal, LawPassedOver, LawSentNow, LawUpdatesLocal};
 ghost use Rattle.farm_laws.specs.Worked.{changing, changed, saved_changes, resumed_changes, low_narrow, narrow, plain, renewed, restyled, updated, asked_twice, expired_while_drawn, updated_then_expired, expired_from_above, updated_while_drawn, queues_filled, asked_just_often, asked_too_often, put_failed, drawing_cut, left_alone, lifted_from_bulk, marked_dirty, restyled_while_drawn, renewed_one, renewed_both, has_each};
 ghost use Rattle.farm_laws.specs.Mistakes.{IsMistake, stored_clean_though_expired, clean_by_version, dirty_by_update, updated_past_the_table, update_fault_passed_over, queued_while_drawn, claimed_twice, replied_out_of_order, drawn_over_newest_data, expired_on_its_zoom_alone, expired_beside, joined_though_overtaken, dirty_before_low, dropped_though_room, deferred_past_the_limit, more_drawn_than_workers, claimed_after_stop, shown_after_failed_put, done_after_failed_put, stored_though_cut, ended_twice, replied_though_left, left_with_its_items, counted_before_collected, queued_a_second_time, joined_in_bulk, marked_and_clean, clean_in_the_old_style, drawn_in_the_old_style, restyled_past_the_table, clean_though_reached, renewed_out_of_reach, gone_though_told};
 
@@ -36,7 +37,7 @@ pub fn law_one_reply()
 /// Over plans whose drawing is local at the spots that can be served: in each legal history in which every
 /// update that succeeds is made as a renew, over a store that tells its content, every tile sent as clean is
 /// as the plan draws it in its map's style and over the data of that very moment.
-pub fn law_now()
+pub fn law_now_where_local()
     ensures { LawNow }
 {}
 
@@ -46,6 +47,24 @@ pub fn law_now()
 /// is shown.
 pub fn law_resumed()
     ensures { LawResumed }
+{}
+
+/// A tile depends on the features alone that reach it, that is, whose bounding box, widened by 64 pixels on
+/// each side, holds a point of the tile's square. A feature that does not reach it changes none of its bytes,
+/// wherever it stands in its layer; data whose layers have, name by name, the same features that reach it draw
+/// the same tile; and so, in each valid plan, an update that names no feature which reaches a metatile changes
+/// no byte of the metatile's tiles. Styles are those whose symbolizers keep their ranges, as every `MapStyle`.
+pub fn law_local()
+    ensures passed_over { LawPassedOver }
+    ensures alike { LawLocal }
+    ensures updates { LawUpdatesLocal }
+{}
+
+/// For each valid plan: in each legal history in which every update that succeeds is made as a renew, over a
+/// store that tells its content, every tile sent as clean is the plain drawing in its map's style and over the
+/// data of that very moment.
+pub fn law_now()
+    ensures { LawSentNow }
 {}
 
 /// Worked histories of small farms are legal, among them one that has all that the laws speak of: a tile

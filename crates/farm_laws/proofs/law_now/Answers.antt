@@ -1,6 +1,6 @@
--- The law is proved with the definitions.
-use Rattle.farm_history.proofs.Nows.{now}
+-- The law is proved with the drawing of a plan.
+use Rattle.farm_laws.proofs.Newest.{sent_now}
 use Rattle.farm_laws.proofs.law_now.Goals as goal
 
 pub returns : goal.returns
-returns c = now
+returns c = sent_now
