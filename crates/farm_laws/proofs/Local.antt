@@ -11,7 +11,7 @@ use Rattle.plain_world.specs.declared.world.Point.{Point}
 use Rattle.plain_world.specs.declared.world.Tile.{Tile}
 use Rattle.plain_world.specs.World.{side_at, tile_square, meta_square, meta_of, window_of, InSquare, IsTile, IsTileSize}
 use Rattle.plain_world.proofs.Windows.{world_wide}
-use Rattle.plain_shapes.specs.Canvas.{Pixels}
+use Rattle.plain_shapes.specs.Images.{Pixels}
 use Rattle.plain_shapes.specs.Ppm.{ppm}
 use Rattle.plain_data.specs.Features.{Feature, Layer}
 use Rattle.plain_data.specs.Data.{Change, updated}
@@ -20,7 +20,7 @@ use Rattle.plain_drawing.specs.Styles.{Style, LayerRef, MapStyle, KeepsRanges}
 use Rattle.plain_drawing.specs.Grids.{Grid}
 use Rattle.plain_drawing.specs.Rules.{denominator_of, is_active}
 use Rattle.plain_drawing.specs.Drawing.{tile_of, feature, features_of, grid_or_features, items_of, style_named}
-use Rattle.plain_drawing.specs.Pictures.{with_item, with_style, with_layer, with_map}
+use Rattle.plain_drawing.specs.inner.Pictures.{with_item, with_style, with_layer, with_map}
 use Rattle.plain_drawing.proofs.Steps.{one_colour, drawn_tile}
 use Rattle.drawing_reach.proofs.Edges.{by_edges}
 use Rattle.drawing_reach.proofs.Unreached.{unreached}

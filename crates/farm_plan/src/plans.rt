@@ -20,7 +20,7 @@ pub struct MapPlan {
 
 impl Model for MapPlan {
     ghost use Rattle.farm_plan.specs.Plans.{MapPlan};
-    ghost use Rattle.plain_filters.specs.FilterCodes.{filter_code};
+    ghost use Rattle.plain_filters.specs.inner.FilterCodes.{filter_code};
     ghost use Rattle.std.specs.Coded.{codes};
 
     ghost Value = { MapPlan };
@@ -39,7 +39,7 @@ pub struct Restyle {
 
 impl Model for Restyle {
     ghost use Rattle.farm_plan.specs.Plans.{Restyle};
-    ghost use Rattle.plain_filters.specs.FilterCodes.{filter_code};
+    ghost use Rattle.plain_filters.specs.inner.FilterCodes.{filter_code};
     ghost use Rattle.std.specs.Coded.{codes};
 
     ghost Value = { Restyle };
@@ -66,7 +66,7 @@ pub struct FarmPlan {
 
 impl Model for FarmPlan {
     ghost use Rattle.farm_plan.specs.Plans.{FarmPlan};
-    ghost use Rattle.plain_filters.specs.FilterCodes.{filter_code};
+    ghost use Rattle.plain_filters.specs.inner.FilterCodes.{filter_code};
     ghost use Rattle.std.specs.Coded.{codes};
 
     ghost Value = { FarmPlan };
