@@ -18,7 +18,7 @@ use Rattle.farm_call.specs.Promises.{Did, RefusedFile, UnreadFile, IsValid}
 
 module _ (files files' : FilesAt) (out out' : SinkAt) where
   pub does_ok : (c : Command) → Does c files files' out out' (Ok tt)
-      → (t : FilesTold) → files.told ≡ Some t → (before : List ℕ) → out.taken ≡ Some before → Did c t.content before out'.taken
+      → (t : FilesTold) → files.told ≡ Some t → (before : List ℕ) → out.told ≡ Some before → Did c t.content before out'.told
   does_ok (Render style data_name size tile) run t e before taken = render.rendered (picture style data_name size tile) files files' out out' run t e before taken
   does_ok (Meta file) run t e before taken = meta.listed file files files' out out' run t e before taken
   does_ok other run t e before taken = absurd (let g = run.ends in cc)

@@ -5,7 +5,7 @@ use Rattle.std.specs.declared.alloc.Global.{Global}
 use Rattle.farm_base.specs.Outside.{FilesTold, Rose}
 use Rattle.farm_words.specs.declared.command.Command.{Command}
 use Rattle.farm_words.specs.declared.command.Command.TheVariants.{Render, Meta}
-use Rattle.call_ends.specs.Ends.{FilesAt, SinkAt, sink_at}
+use Rattle.call_ends.specs.Ends.{FilesAt, SinkAt}
 use Rattle.call_ends.specs.declared.stops.Stop.{Stop}
 use Rattle.call_ends.specs.declared.stops.Stop.TheVariants as stop
 use Rattle.call_ends.proofs.Statuses.{made_done}
@@ -21,7 +21,7 @@ use Rattle.farm_call.specs.Words.{IsBuilt}
 use Rattle.farm_call.specs.Runs.{picture, Does}
 use Rattle.farm_call.specs.Promises.{RefusedFile}
 use Rattle.farm_call.proofs.Done.{does_files_rose, does_out_rose, does_no_words}
-use Rattle.farm_call.proofs.Parts.{whole}
+use Rattle.farm_call.proofs.Parts.{holding, whole}
 
 -- what a command that reached its end put
 render_says : (r : renders.Render) (files files' : FilesAt) (out out' : SinkAt) (t : FilesTold) → files.told ≡ Some t → renders.Renders r files files' out out' (Ok tt)
@@ -29,7 +29,7 @@ render_says : (r : renders.Render) (files files' : FilesAt) (out out' : SinkAt) 
 render_says r files files' out out' t e run =
     let made = made_done run.drawn out out' run.put in (
       made.0.items,
-      rendered r files files' (sink_at (Some []) 0) (sink_at (Some made.0.items) 0)
+      rendered r files files' (holding []) (holding made.0.items)
           (record { drawn = Ok made.0; pictured = subst (λ (o : Result (Vec ℕ Global) Stop). renders.Pictures r files files' o) made.1 run.pictured; put = whole made.0 }) t e [] refl,
     )
 
@@ -38,7 +38,7 @@ meta_says : (file : List ℕ) (files files' : FilesAt) (out out' : SinkAt) (t : 
 meta_says file files files' out out' t e run =
     let made = made_done run.text out out' run.put in (
       made.0.items,
-      listed file files files' (sink_at (Some []) 0) (sink_at (Some made.0.items) 0)
+      listed file files files' (holding []) (holding made.0.items)
           (record { listing = run.listing; read = run.read; text = Ok made.0; written = subst (λ (o : Result (Vec ℕ Global) Stop). Writes run.listing o) made.1 run.written; put = whole made.0 }) t e [] refl,
     )
 

@@ -20,8 +20,8 @@ use Rattle.farm_call.proofs.Refusals.{EndsRefused, refused_built, does_refusing}
 
 -- ---- by the way a command ends
 
-runs_ok : (words : List (List ℕ)) (t : FilesTold) (files files' : FilesAt) (out out' : SinkAt) (before : List ℕ) → files.told ≡ Some t → out.taken ≡ Some before
-    → Runs words files files' out out' (Ok tt) → Done words t.content before out'.taken
+runs_ok : (words : List (List ℕ)) (t : FilesTold) (files files' : FilesAt) (out out' : SinkAt) (before : List ℕ) → files.told ≡ Some t → out.told ≡ Some before
+    → Runs words files files' out out' (Ok tt) → Done words t.content before out'.told
 runs_ok words t files files' out out' before e taken (inl run) = (run.0, run.1, does_ok files files' out out' run.0 run.3 t e before taken)
 runs_ok words t files files' out out' before e taken (inr (inl none)) = absurd (let g = none.1.ends in cc)
 runs_ok words t files files' out out' before e taken (inr (inr wants)) = absurd (let g = wants.ends in cc)
@@ -62,14 +62,14 @@ runs_same words files files' out out' s other (inr (inr wants)) = wants.out_same
 cut_of : (words : List (List ℕ)) (c : Command) → AsksFor words c → (held : List ℕ → Option (List ℕ)) (before : List ℕ) (after : Option (List ℕ)) → Part c held before after → PartDone words held before after
 cut_of words c asks held before after p = record { text = p.text; whole = (c, asks, p.did); len = p.front.len; put = p.front.put }
 
-same_cut : (out out' : SinkAt) (before : List ℕ) → out.taken ≡ Some before → out' ≡ out → out'.taken ≡ Some before
-same_cut out out' before taken same = ap (λ (at : SinkAt). at.taken) same ∙ taken
+same_cut : (out out' : SinkAt) (before : List ℕ) → out.told ≡ Some before → out' ≡ out → out'.told ≡ Some before
+same_cut out out' before taken same = ap (λ (at : SinkAt). at.told) same ∙ taken
 
-runs_cut : (words : List (List ℕ)) (t : FilesTold) (files files' : FilesAt) (out out' : SinkAt) (end : Result (Unit {0}) Stop) (before : List ℕ) → files.told ≡ Some t → out.taken ≡ Some before
-    → Runs words files files' out out' end → Cut words t.content before out'.taken
+runs_cut : (words : List (List ℕ)) (t : FilesTold) (files files' : FilesAt) (out out' : SinkAt) (end : Result (Unit {0}) Stop) (before : List ℕ) → files.told ≡ Some t → out.told ≡ Some before
+    → Runs words files files' out out' end → Cut words t.content before out'.told
 runs_cut words t files files' out out' end before e taken (inl run) =
     elim (does_part run.0 files files' out out' end t before e taken run.3) [
-      | inl p ↦ inl (cut_of words run.0 run.1 t.content before out'.taken p)
+      | inl p ↦ inl (cut_of words run.0 run.1 t.content before out'.told p)
       | inr same ↦ inr (same_cut out out' before taken same)
     ]
 runs_cut words t files files' out out' end before e taken (inr (inl none)) = inr (same_cut out out' before taken none.1.out_same)
@@ -116,15 +116,15 @@ same_failed t u files' g k = let both : Some u ≡ Some t = sym g ∙ k in let s
 
 module _ (words : List (List ℕ)) (files files' : FilesAt) (out out' err err' : SinkAt) (result : ℕ) (ends : EndsWith (Runs words files files' out out') err err' result) where
   -- with 0, exactly what the words ask for was put
-  pub done : result ≡ 0 → (t : FilesTold) → files.told ≡ Some t → (before : List ℕ) → out.taken ≡ Some before → Done words t.content before out'.taken
+  pub done : result ≡ 0 → (t : FilesTold) → files.told ≡ Some t → (before : List ℕ) → out.told ≡ Some before → Done words t.content before out'.told
   done zero t e before taken = runs_ok words t files files' out out' before e taken (status.with_0 (Runs words files files' out out') err err' result ends zero)
 
   -- and err is as it was
-  pub silent : result ≡ 0 → err'.taken ≡ err.taken
+  pub silent : result ≡ 0 → err'.told ≡ err.told
   silent zero = status.silent_0 (Runs words files files' out out') err err' result ends zero
 
   -- with 1, the line of the first fault of the files stands on err
-  pub refusal : result ≡ 1 → (t : FilesTold) → files.told ≡ Some t → Refusal words t.content err.taken err'.taken
+  pub refusal : result ≡ 1 → (t : FilesTold) → files.told ≡ Some t → Refusal words t.content err.told err'.told
   refusal one t e =
       let end = status.with_1 (Runs words files files' out out') err err' result ends one in
       (end.0, runs_refused words t files files' out out' end.0 e end.1, end.2)
@@ -136,11 +136,11 @@ module _ (words : List (List ℕ)) (files files' : FilesAt) (out out' err err' :
       runs_words words files files' out out' end.0
 
   -- and the usage line stands on err
-  pub usage_line : result ≡ 2 → Stands err.taken err'.taken usage
+  pub usage_line : result ≡ 2 → Stands err.told err'.told usage
   usage_line two = (status.with_2 (Runs words files files' out out') err err' result ends two).1
 
   -- with 5, the line of want of memory stands on err
-  pub want_line : result ≡ 5 → Stands err.taken err'.taken want_of_memory
+  pub want_line : result ≡ 5 → Stands err.told err'.told want_of_memory
   want_line five = status.with_5 (Runs words files files' out out') err err' result ends five
 
   -- the status of an end, or 4 where err failed
@@ -158,7 +158,7 @@ module _ (words : List (List ℕ)) (files files' : FilesAt) (out out' err err' :
       ]
 
   -- with 3, the read of the file that is next in order failed, and its line stands on err
-  pub unread : result ≡ 3 → (t : FilesTold) → files.told ≡ Some t → Unread words t files'.told err.taken err'.taken
+  pub unread : result ≡ 3 → (t : FilesTold) → files.told ≡ Some t → Unread words t files'.told err.told err'.told
   unread three t e =
       let end = status.with_3 (Runs words files files' out out') err err' result ends three in
       (end.0, runs_unread words t files files' out out' end.0 e end.1, end.2)
@@ -179,22 +179,22 @@ module _ (words : List (List ℕ)) (files files' : FilesAt) (out out' err err' :
       ]
 
   -- with 4, the count of out rose; or that of err, and nothing was put on out
-  pub sinks_rose : result ≡ 4 → Rose out.faults out'.faults ⊎ (Rose err.faults err'.faults × (out'.taken ≡ out.taken))
+  pub sinks_rose : result ≡ 4 → Rose out.faults out'.faults ⊎ (Rose err.faults err'.faults × (out'.told ≡ out.told))
   sinks_rose four =
       elim (status.with_4 (Runs words files files' out out') err err' result ends four) [
         | inl run ↦ inl (runs_out_rose words files files' out out' run)
-        | inr rose ↦ inr (rose.0, ap (λ (at : SinkAt). at.taken) (runs_same words files files' out out' rose.1 rose.2 rose.3))
+        | inr rose ↦ inr (rose.0, ap (λ (at : SinkAt). at.told) (runs_same words files files' out out' rose.1 rose.2 rose.3))
       ]
 
   -- with 4, a front of what the words ask for was put, or nothing; so it is with every status
-  pub cut : (t : FilesTold) → files.told ≡ Some t → (before : List ℕ) → out.taken ≡ Some before → Cut words t.content before out'.taken
+  pub cut : (t : FilesTold) → files.told ≡ Some t → (before : List ℕ) → out.told ≡ Some before → Cut words t.content before out'.told
   cut t e before taken = runs_cut words t files files' out out' ends.end before e taken ends.ran
 
   -- with another status than 0 and 4, nothing was put on out
-  pub nothing_put : result ≢ 0 → result ≢ 4 → out'.taken ≡ out.taken
+  pub nothing_put : result ≢ 0 → result ≢ 4 → out'.told ≡ out.told
   nothing_put no0 no4 =
       let end = status.with_other (Runs words files files' out out') err err' result ends no0 no4 in
-      ap (λ (at : SinkAt). at.taken) (runs_same words files files' out out' end.0 end.1 end.2)
+      ap (λ (at : SinkAt). at.told) (runs_same words files files' out out' end.0 end.1 end.2)
 
   -- where the words ask for a command, its files are valid and no count rises, the status is 0, or 5 for want of memory
   pub complete : (c : Command) → AsksFor words c → (t : FilesTold) → files.told ≡ Some t → IsValid c t.content

@@ -3,7 +3,7 @@ ghost use Rattle.std.specs.Prelude.{◌≡◌, ◌≢◌, ◌⊎◌, ℕ, List, 
 ghost use Rattle.farm_base.specs.Outside.{FilesTold, Rose};
 ghost use Rattle.farm_words.specs.declared.command.Command as words_command;
 ghost use Rattle.call_ends.specs.Stops.{usage, want_of_memory};
-ghost use Rattle.call_ends.specs.Ends.{files_at, sink_at, EndsWith};
+ghost use Rattle.call_ends.specs.Ends.{EndsWith};
 ghost use Rattle.call_ends.specs.Promises.{Stands};
 ghost use Rattle.farm_call.specs.Words.{AsksFor, AsksNothing};
 ghost use Rattle.farm_call.specs.Runs.{IsSound, Does, Runs};
@@ -32,32 +32,32 @@ pub fn farm_main<F: Files, O: Sink, E: Sink>(
     err: &mut E,
 ) -> u8
     ensures ends { EndsWith (Runs (map string_bytes words.now)
-        (files_at (F.told files.old) (F.faults files.old)) (files_at (F.told files.new) (F.faults files.new))
-        (sink_at (O.taken out.old) (O.faults out.old)) (sink_at (O.taken out.new) (O.faults out.new)))
-        (sink_at (E.taken err.old) (E.faults err.old)) (sink_at (E.taken err.new) (E.faults err.new)) result }
-    ensures done { result ≡ 0 → (t : FilesTold) → F.told files.old ≡ Some t → (before : List ℕ) → O.taken out.old ≡ Some before
-        → Done (map string_bytes words.now) t.content before (O.taken out.new) }
-    ensures silent { result ≡ 0 → E.taken err.new ≡ E.taken err.old }
-    ensures refused { result ≡ 1 → (t : FilesTold) → F.told files.old ≡ Some t
-        → Refusal (map string_bytes words.now) t.content (E.taken err.old) (E.taken err.new) }
-    ensures refusing { (c : words_command.Command) → (line : List ℕ) → AsksFor (map string_bytes words.now) c → (t : FilesTold) → F.told files.old ≡ Some t → RefusedFile c t.content line
-        → ¬ (Rose (F.faults files.old) (F.faults files.new)) → ¬ (Rose (O.faults out.old) (O.faults out.new)) → ¬ (Rose (E.faults err.old) (E.faults err.new))
+        (F.state files.old) (F.state files.new)
+        (O.state out.old) (O.state out.new))
+        (E.state err.old) (E.state err.new) result }
+    ensures done { result ≡ 0 → (t : FilesTold) → (F.state files.old).told ≡ Some t → (before : List ℕ) → (O.state out.old).told ≡ Some before
+        → Done (map string_bytes words.now) t.content before (O.state out.new).told }
+    ensures silent { result ≡ 0 → (E.state err.new).told ≡ (E.state err.old).told }
+    ensures refused { result ≡ 1 → (t : FilesTold) → (F.state files.old).told ≡ Some t
+        → Refusal (map string_bytes words.now) t.content (E.state err.old).told (E.state err.new).told }
+    ensures refusing { (c : words_command.Command) → (line : List ℕ) → AsksFor (map string_bytes words.now) c → (t : FilesTold) → (F.state files.old).told ≡ Some t → RefusedFile c t.content line
+        → ¬ (Rose (F.state files.old).faults (F.state files.new).faults) → ¬ (Rose (O.state out.old).faults (O.state out.new).faults) → ¬ (Rose (E.state err.old).faults (E.state err.new).faults)
         → (result ≡ 1) ⊎ (result ≡ 5) }
     ensures words { result ≡ 2 → AsksNothing (map string_bytes words.now) }
-    ensures usage_line { result ≡ 2 → Stands (E.taken err.old) (E.taken err.new) usage }
-    ensures no_words { AsksNothing (map string_bytes words.now) → (result ≡ 2) ⊎ ((result ≡ 5) ⊎ ((result ≡ 4) × Rose (E.faults err.old) (E.faults err.new))) }
-    ensures unread { result ≡ 3 → (t : FilesTold) → F.told files.old ≡ Some t
-        → Unread (map string_bytes words.now) t (F.told files.new) (E.taken err.old) (E.taken err.new) }
-    ensures one_failed { (t : FilesTold) → (u : FilesTold) → F.told files.old ≡ Some t → F.told files.new ≡ Some u → u.failed ≢ t.failed
-        → (result ≡ 3) ⊎ ((result ≡ 5) ⊎ ((result ≡ 4) × Rose (E.faults err.old) (E.faults err.new))) }
-    ensures read_failed { result ≡ 3 → Rose (F.faults files.old) (F.faults files.new) }
-    ensures put_failed { result ≡ 4 → Rose (O.faults out.old) (O.faults out.new) ⊎ (Rose (E.faults err.old) (E.faults err.new) × (O.taken out.new ≡ O.taken out.old)) }
-    ensures cut { (t : FilesTold) → F.told files.old ≡ Some t → (before : List ℕ) → O.taken out.old ≡ Some before
-        → Cut (map string_bytes words.now) t.content before (O.taken out.new) }
-    ensures want_line { result ≡ 5 → Stands (E.taken err.old) (E.taken err.new) want_of_memory }
-    ensures nothing_put { result ≢ 0 → result ≢ 4 → O.taken out.new ≡ O.taken out.old }
-    ensures complete { (c : words_command.Command) → AsksFor (map string_bytes words.now) c → (t : FilesTold) → F.told files.old ≡ Some t → IsValid c t.content
-        → ¬ (Rose (F.faults files.old) (F.faults files.new)) → ¬ (Rose (O.faults out.old) (O.faults out.new)) → ¬ (Rose (E.faults err.old) (E.faults err.new))
+    ensures usage_line { result ≡ 2 → Stands (E.state err.old).told (E.state err.new).told usage }
+    ensures no_words { AsksNothing (map string_bytes words.now) → (result ≡ 2) ⊎ ((result ≡ 5) ⊎ ((result ≡ 4) × Rose (E.state err.old).faults (E.state err.new).faults)) }
+    ensures unread { result ≡ 3 → (t : FilesTold) → (F.state files.old).told ≡ Some t
+        → Unread (map string_bytes words.now) t (F.state files.new).told (E.state err.old).told (E.state err.new).told }
+    ensures one_failed { (t : FilesTold) → (u : FilesTold) → (F.state files.old).told ≡ Some t → (F.state files.new).told ≡ Some u → u.failed ≢ t.failed
+        → (result ≡ 3) ⊎ ((result ≡ 5) ⊎ ((result ≡ 4) × Rose (E.state err.old).faults (E.state err.new).faults)) }
+    ensures read_failed { result ≡ 3 → Rose (F.state files.old).faults (F.state files.new).faults }
+    ensures put_failed { result ≡ 4 → Rose (O.state out.old).faults (O.state out.new).faults ⊎ (Rose (E.state err.old).faults (E.state err.new).faults × ((O.state out.new).told ≡ (O.state out.old).told)) }
+    ensures cut { (t : FilesTold) → (F.state files.old).told ≡ Some t → (before : List ℕ) → (O.state out.old).told ≡ Some before
+        → Cut (map string_bytes words.now) t.content before (O.state out.new).told }
+    ensures want_line { result ≡ 5 → Stands (E.state err.old).told (E.state err.new).told want_of_memory }
+    ensures nothing_put { result ≢ 0 → result ≢ 4 → (O.state out.new).told ≡ (O.state out.old).told }
+    ensures complete { (c : words_command.Command) → AsksFor (map string_bytes words.now) c → (t : FilesTold) → (F.state files.old).told ≡ Some t → IsValid c t.content
+        → ¬ (Rose (F.state files.old).faults (F.state files.new).faults) → ¬ (Rose (O.state out.old).faults (O.state out.new).faults) → ¬ (Rose (E.state err.old).faults (E.state err.new).faults)
         → (result ≡ 0) ⊎ (result ≡ 5) }
 {
     let end = command(alloc, words, files, out);
@@ -71,8 +71,8 @@ fn command<F: Files, O: Sink>(
     files: &mut F,
     out: &mut O,
 ) -> Result<(), Stop>
-    ensures { Runs (map string_bytes words.now) (files_at (F.told files.old) (F.faults files.old)) (files_at (F.told files.new) (F.faults files.new))
-        (sink_at (O.taken out.old) (O.faults out.old)) (sink_at (O.taken out.new) (O.faults out.new)) result }
+    ensures { Runs (map string_bytes words.now) (F.state files.old) (F.state files.new)
+        (O.state out.old) (O.state out.new) result }
 {
     match read_words(alloc, words) {
         Ok(command) => run(alloc, command, files, out),
@@ -89,8 +89,8 @@ fn run<F: Files, O: Sink>(
     out: &mut O,
 ) -> Result<(), Stop>
     requires { IsSound command }
-    ensures { Does command (files_at (F.told files.old) (F.faults files.old)) (files_at (F.told files.new) (F.faults files.new))
-        (sink_at (O.taken out.old) (O.faults out.old)) (sink_at (O.taken out.new) (O.faults out.new)) result }
+    ensures { Does command (F.state files.old) (F.state files.new)
+        (O.state out.old) (O.state out.new) result }
 {
     match command {
         Command::Render(style, data, size, tile) => {

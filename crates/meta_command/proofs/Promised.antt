@@ -23,7 +23,7 @@ writes_ok (Err s) v h = absurd (cc)
 
 -- the lines of what the file holds were put
 pub listed : (name : List ℕ) (files files' : FilesAt) (out out' : SinkAt) → Lists name files files' out out' (Ok tt)
-    → (t : FilesTold) → files.told ≡ Some t → (before : List ℕ) → out.taken ≡ Some before → Listed name t.content before out'.taken
+    → (t : FilesTold) → files.told ≡ Some t → (before : List ℕ) → out.told ≡ Some before → Listed name t.content before out'.told
 listed name files files' out out' run t e before taken =
     let made = made_done run.text out out' run.put in
     let text = writes_ok run.listing made.0 (subst (λ (o : Result (Vec ℕ Global) Stop). Writes run.listing o) made.1 run.written) in

@@ -4,7 +4,7 @@ ghost use Rattle.farm_base.specs.Outside.{FilesTold, Rose};
 ghost use Rattle.reading.specs.Steps.{Gives};
 ghost use Rattle.meta_container.specs.Reading.{listing_found};
 ghost use Rattle.call_ends.specs.Stops.{refusing};
-ghost use Rattle.call_ends.specs.Ends.{files_at, sink_at, Checks};
+ghost use Rattle.call_ends.specs.Ends.{Checks};
 ghost use Rattle.call_ends.specs.declared.stops.Stop as stop_type;
 ghost use Rattle.call_ends.specs.declared.stops.Stop.TheVariants as stop;
 ghost use Rattle.meta_command.specs.Lines.{fault_text};
@@ -28,15 +28,15 @@ pub fn meta<F: Files, O: Sink>(
     files: &mut F,
     out: &mut O,
 ) -> Result<(), Stop>
-    ensures lists { Lists file.now (files_at (F.told files.old) (F.faults files.old)) (files_at (F.told files.new) (F.faults files.new))
-        (sink_at (O.taken out.old) (O.faults out.old)) (sink_at (O.taken out.new) (O.faults out.new)) result }
-    ensures listed { result ≡ Ok tt → (t : FilesTold) → F.told files.old ≡ Some t → (before : List ℕ) → O.taken out.old ≡ Some before
-        → Listed file.now t.content before (O.taken out.new) }
-    ensures refused { (line : List ℕ) → result ≡ Err (stop.Refused line) → (t : FilesTold) → F.told files.old ≡ Some t → Refused file.now t.content line }
-    ensures unread { (line : List ℕ) → result ≡ Err (stop.Unreadable line) → (t : FilesTold) → F.told files.old ≡ Some t → Unread file.now line t (F.told files.new) }
-    ensures nothing_put { (s : stop_type.Stop) → s ≢ stop.SinkFailed → result ≡ Err s → O.taken out.new ≡ O.taken out.old }
-    ensures complete { (t : FilesTold) → F.told files.old ≡ Some t → IsValid file.now t.content → ¬ (Rose (F.faults files.old) (F.faults files.new))
-        → ¬ (Rose (O.faults out.old) (O.faults out.new)) → (result ≡ Ok tt) ⊎ (result ≡ Err stop.NoMemory) }
+    ensures lists { Lists file.now (F.state files.old) (F.state files.new)
+        (O.state out.old) (O.state out.new) result }
+    ensures listed { result ≡ Ok tt → (t : FilesTold) → (F.state files.old).told ≡ Some t → (before : List ℕ) → (O.state out.old).told ≡ Some before
+        → Listed file.now t.content before (O.state out.new).told }
+    ensures refused { (line : List ℕ) → result ≡ Err (stop.Refused line) → (t : FilesTold) → (F.state files.old).told ≡ Some t → Refused file.now t.content line }
+    ensures unread { (line : List ℕ) → result ≡ Err (stop.Unreadable line) → (t : FilesTold) → (F.state files.old).told ≡ Some t → Unread file.now line t (F.state files.new).told }
+    ensures nothing_put { (s : stop_type.Stop) → s ≢ stop.SinkFailed → result ≡ Err s → (O.state out.new).told ≡ (O.state out.old).told }
+    ensures complete { (t : FilesTold) → (F.state files.old).told ≡ Some t → IsValid file.now t.content → ¬ (Rose (F.state files.old).faults (F.state files.new).faults)
+        → ¬ (Rose (O.state out.old).faults (O.state out.new).faults) → (result ≡ Ok tt) ⊎ (result ≡ Err stop.NoMemory) }
 {
     let listing = read_listing(alloc, files, file);
     let text = written(alloc, listing);
@@ -48,7 +48,7 @@ pub fn meta<F: Files, O: Sink>(
 
 // Reads a container and checks it.
 fn read_listing<F: Files>(alloc: Global, files: &mut F, name: &str) -> Result<Listing, Stop>
-    ensures { Checks (λ x. x) listing_found fault_text (files_at (F.told files.old) (F.faults files.old)) (files_at (F.told files.new) (F.faults files.new)) name.now result }
+    ensures { Checks (λ x. x) listing_found fault_text (F.state files.old) (F.state files.new) name.now result }
 {
     match files.read(alloc, name) {
         Ok(bytes) => checked(alloc, name, bytes.as_slice()),

@@ -137,7 +137,7 @@ pub wanting_room : (before : List Grid) (rs : List RasterRef) (r : RasterRef) (o
     → Checks (λ (x : Grid). x) (raster_in r) raster_text old new r.file grid → GridsAfter before rs old new (Err stop.NoMemory)
 wanting_room before [] r old new grid some is checked = absurd (omega arith)
 wanting_room before (x ∷ xs) r old new grid some is checked =
-    (new, Err stop.NoMemory, record { read = own.read; told = own.told; counted = own.counted; gives = λ h. absurd (h refl) }, (refl, refl))
+    (new, Err stop.NoMemory, record { read = own.read; reads = own.reads; gives = λ h. absurd (h refl) }, (refl, refl))
   where
     own : Checks (λ (y : Grid). y) (raster_in x) raster_text old new x.file grid
     own = subst (λ (q : RasterRef). Checks (λ (y : Grid). y) (raster_in q) raster_text old new q.file grid) is checked

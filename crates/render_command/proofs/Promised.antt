@@ -99,7 +99,7 @@ after_ok r t old middle new (Err s) v e first next = absurd (let h = next.0 in c
 
 -- exactly the tile of what the files hold was put
 pub rendered : (r : Render) (files files' : FilesAt) (out out' : SinkAt) → Renders r files files' out out' (Ok tt)
-    → (t : FilesTold) → files.told ≡ Some t → (before : List ℕ) → out.taken ≡ Some before → Rendered r t.content before out'.taken
+    → (t : FilesTold) → files.told ≡ Some t → (before : List ℕ) → out.told ≡ Some before → Rendered r t.content before out'.told
 rendered r files files' out out' run t e before taken =
     let made = made_done run.drawn out out' run.put in
     let pictured = subst (λ (o : Result (Vec ℕ Global) Stop). Pictures r files files' o) made.1 run.pictured in

@@ -3,7 +3,6 @@ ghost use Rattle.std.specs.Prelude.{Ok};
 ghost use Rattle.reading.specs.Steps.{Gives};
 ghost use Rattle.plain_world.specs.World.{IsTile, IsTileSize};
 ghost use Rattle.plain_drawing.specs.Drawing.{tile_of};
-ghost use Rattle.call_ends.specs.Ends.{files_at, sink_at};
 ghost use Rattle.call_ends.specs.declared.stops.Stop.TheVariants as stop;
 ghost use Rattle.render_command.specs.Renders.{Pictures, Renders, request};
 
@@ -29,8 +28,8 @@ pub fn render<F: Files, O: Sink>(
 ) -> Result<(), Stop>
     requires size { IsTileSize asked.size }
     requires tile { IsTile asked.tile }
-    ensures { Renders (request asked.entry) (files_at (F.told files.old) (F.faults files.old)) (files_at (F.told files.new) (F.faults files.new))
-        (sink_at (O.taken out.old) (O.faults out.old)) (sink_at (O.taken out.new) (O.faults out.new)) result }
+    ensures { Renders (request asked.entry) (F.state files.old) (F.state files.new)
+        (O.state out.old) (O.state out.new) result }
 {
     match picture(alloc, asked, files) {
         Ok(tile) => put(out, tile.as_slice()),
@@ -42,7 +41,7 @@ pub fn render<F: Files, O: Sink>(
 fn picture<F: Files>(alloc: Global, asked: RenderWords, files: &mut F) -> Result<Vec<u8>, Stop>
     requires size { IsTileSize asked.size }
     requires tile { IsTile asked.tile }
-    ensures { Pictures (request asked.entry) (files_at (F.told files.old) (F.faults files.old)) (files_at (F.told files.new) (F.faults files.new)) result }
+    ensures { Pictures (request asked.entry) (F.state files.old) (F.state files.new) result }
 {
     match bound_style(alloc, files, asked.style) {
         Ok(style) => match data_layers(alloc, files, asked.data_file) {

@@ -4,7 +4,7 @@ ghost use Rattle.reading.specs.Steps.{Gives};
 ghost use Rattle.geo_json.specs.DataTexts.{dataset_in};
 ghost use Rattle.fault_texts.specs.DataFaults.{data_text};
 ghost use Rattle.call_ends.specs.Stops.{refusing};
-ghost use Rattle.call_ends.specs.Ends.{files_at, Checks};
+ghost use Rattle.call_ends.specs.Ends.{Checks};
 ghost use Rattle.call_ends.specs.declared.stops.Stop.TheVariants as stop;
 
 use call_ends::{Stop, refused, unreadable};
@@ -16,7 +16,7 @@ use std::alloc::Global;
 
 /// Reads a data file and checks it.
 pub fn data_layers<F: Files>(alloc: Global, files: &mut F, name: &str) -> Result<Dataset, Stop>
-    ensures { Checks (λ x. x) dataset_in data_text (files_at (F.told files.old) (F.faults files.old)) (files_at (F.told files.new) (F.faults files.new)) name.now result }
+    ensures { Checks (λ x. x) dataset_in data_text (F.state files.old) (F.state files.new) name.now result }
 {
     match files.read(alloc, name) {
         Ok(bytes) => dataset(alloc, name, bytes.as_slice()),

@@ -4,7 +4,7 @@ ghost use Rattle.plain_shapes.specs.Ppm.{pixel_bytes};
 ghost use Rattle.plain_image.specs.declared.reading.PpmFault.TheVariants as ppm;
 ghost use Rattle.reading.specs.Steps.{Gives, seen};
 ghost use Rattle.call_ends.specs.Stops.{refusing};
-ghost use Rattle.call_ends.specs.Ends.{files_at, Checks};
+ghost use Rattle.call_ends.specs.Ends.{Checks};
 ghost use Rattle.call_ends.specs.declared.stops.Stop.TheVariants as stop;
 ghost use Rattle.render_command.specs.Rasters.{raster_in, raster_text, with_image, GridsAfter};
 ghost use Rattle.render_command.specs.declared.rasters.RasterFault.TheVariants as fault;
@@ -46,7 +46,7 @@ pub fn grids_after<F: Files>(
     rasters: &[RasterRef],
     mut grids: Vec<Grid>,
 ) -> Result<Vec<Grid>, Stop>
-    ensures { GridsAfter grids.items rasters.now (files_at (F.told files.old) (F.faults files.old)) (files_at (F.told files.new) (F.faults files.new))
+    ensures { GridsAfter grids.items rasters.now (F.state files.old) (F.state files.new)
         (seen (λ v. v.items) result) }
 {
     match rasters {
@@ -63,7 +63,7 @@ pub fn grids_after<F: Files>(
 
 // Reads a raster's file and checks it.
 fn raster_file<F: Files>(alloc: Global, files: &mut F, raster: &RasterRef) -> Result<Grid, Stop>
-    ensures { Checks (λ x. x) (raster_in raster.now) raster_text (files_at (F.told files.old) (F.faults files.old)) (files_at (F.told files.new) (F.faults files.new)) raster.now.file result }
+    ensures { Checks (λ x. x) (raster_in raster.now) raster_text (F.state files.old) (F.state files.new) raster.now.file result }
 {
     let name = raster.file.as_str();
     match files.read(alloc, name) {

@@ -4,7 +4,7 @@ ghost use Rattle.reading.specs.Steps.{Gives};
 ghost use Rattle.style_objects.specs.Tables.{style_in};
 ghost use Rattle.fault_texts.specs.StyleFaults.{style_text};
 ghost use Rattle.call_ends.specs.Stops.{refusing};
-ghost use Rattle.call_ends.specs.Ends.{files_at, Checks};
+ghost use Rattle.call_ends.specs.Ends.{Checks};
 ghost use Rattle.call_ends.specs.declared.stops.Stop.TheVariants as stop;
 ghost use Rattle.render_command.specs.Styles.{StyleRead, Binds};
 
@@ -19,7 +19,7 @@ use style_objects::read_style;
 /// Reads a style's file and then the files of its rasters, in order, and gives the style with the grids of
 /// its rasters. It ends at the first file that is refused or cannot be read.
 pub fn bound_style<F: Files>(alloc: Global, files: &mut F, name: &str) -> Result<MapStyle, Stop>
-    ensures { StyleRead name.now (files_at (F.told files.old) (F.faults files.old)) (files_at (F.told files.new) (F.faults files.new)) result }
+    ensures { StyleRead name.now (F.state files.old) (F.state files.new) result }
 {
     match style_file(alloc, files, name) {
         Ok(style) => bound(alloc, files, style),
@@ -29,7 +29,7 @@ pub fn bound_style<F: Files>(alloc: Global, files: &mut F, name: &str) -> Result
 
 // The style with the grids that its raster files say.
 fn bound<F: Files>(alloc: Global, files: &mut F, style: MapStyle) -> Result<MapStyle, Stop>
-    ensures { Binds style (files_at (F.told files.old) (F.faults files.old)) (files_at (F.told files.new) (F.faults files.new)) result }
+    ensures { Binds style (F.state files.old) (F.state files.new) result }
 {
     match grids_after(alloc, files, style.rasters.as_slice(), Vec::new(alloc)) {
         Ok(grids) => Ok(style.bind(grids)),
@@ -39,7 +39,7 @@ fn bound<F: Files>(alloc: Global, files: &mut F, style: MapStyle) -> Result<MapS
 
 // Reads a style's file and checks it.
 fn style_file<F: Files>(alloc: Global, files: &mut F, name: &str) -> Result<MapStyle, Stop>
-    ensures { Checks (λ x. x) style_in style_text (files_at (F.told files.old) (F.faults files.old)) (files_at (F.told files.new) (F.faults files.new)) name.now result }
+    ensures { Checks (λ x. x) style_in style_text (F.state files.old) (F.state files.new) name.now result }
 {
     match files.read(alloc, name) {
         Ok(bytes) => style(alloc, name, bytes.as_slice()),
