@@ -3,7 +3,7 @@ ghost use Rattle.std.specs.Prelude.{◌≡◌, ◌≤◌, ◌*◌, IfOk, IsTrue,
 ghost use Rattle.std.specs.List.{list_all};
 ghost use Rattle.meta_container.specs.Container.{is_stored, bytes_of};
 
-use crate::calls::{Faults, NONE, call};
+use crate::call::{Ended, Faults, NONE, call};
 use farm_base::{Bytes, NoMemory};
 use meta_container::encode;
 use plain_world::Meta;
@@ -71,6 +71,16 @@ fn front(bytes: &[u8], len: usize) -> &[u8] {
     bytes.get(..len).unwrap_or(bytes)
 }
 
+/// `meta` of this file over a container at `M`.
+fn meta(alloc: Global, name: &str, bytes: &[u8], faults: Faults) -> Result<Ended, Fail> {
+    call(
+        alloc,
+        ["meta", name].as_slice(),
+        [("M", bytes)].as_slice(),
+        faults,
+    )
+}
+
 #[test]
 fn lines_of_whole_containers(rt: HostRuntime) -> Result<(), Fail> {
     let alloc = rt.alloc();
@@ -87,10 +97,7 @@ fn lines_of_whole_containers(rt: HostRuntime) -> Result<(), Fail> {
             "1 0 0\n0 532 1\n1 533 2\n8 535 3\n9 538 4\n",
         ),
     ] {
-        let ended = call(alloc, &["meta", "M"], "M", bytes, NONE)?;
-        assert_eq!(rt; ended.status, 0);
-        assert!(rt; ended.out.bytes() == text.as_bytes());
-        assert!(rt; ended.err.bytes().is_empty());
+        meta(alloc, "M", bytes, NONE)?.put(&rt, text.as_bytes());
     }
     Ok(())
 }
@@ -101,12 +108,9 @@ fn lines_of_sixteen_tiles(rt: HostRuntime) -> Result<(), Fail> {
     let tiles = tiles(alloc, 16)?;
     let bytes = encode(alloc, Meta { z: 2, x: 0, y: 0 }, tiles.as_slice())?;
     assert_eq!(rt; bytes.len(), 13028);
-    let ended = call(alloc, &["meta", "M"], "M", bytes.as_slice(), NONE)?;
-    assert_eq!(rt; ended.status, 0);
     let text =
         "2 0 0\n0 532 781\n1 1313 781\n2 2094 781\n3 2875 781\n8 3656 781\n9 4437 781\n10 5218 781\n11 5999 781\n16 6780 781\n17 7561 781\n18 8342 781\n19 9123 781\n24 9904 781\n25 10685 781\n26 11466 781\n27 12247 781\n";
-    assert!(rt; ended.out.bytes() == text.as_bytes());
-    assert!(rt; ended.err.bytes().is_empty());
+    meta(alloc, "M", bytes.as_slice(), NONE)?.put(&rt, text.as_bytes());
     Ok(())
 }
 
@@ -129,10 +133,7 @@ fn broken_containers_are_refused_by_name(rt: HostRuntime) -> Result<(), Fail> {
         (wild.as_slice(), "tilefarm: M: meta 6\n"),
         (front(whole, 1312), "tilefarm: M: meta 6\n"),
     ] {
-        let ended = call(alloc, &["meta", "M"], "M", bytes, NONE)?;
-        assert_eq!(rt; ended.status, 1);
-        assert!(rt; ended.err.bytes() == line.as_bytes());
-        assert!(rt; ended.out.bytes().is_empty());
+        meta(alloc, "M", bytes, NONE)?.says(&rt, 1, line);
     }
     Ok(())
 }
@@ -144,37 +145,25 @@ fn a_container_whose_read_or_put_fails(rt: HostRuntime) -> Result<(), Fail> {
     let world = world.as_slice();
     let unread = Faults {
         reads: &[0],
-        out: &[],
-        err: &[],
+        ..NONE
     };
     for (name, faults, line) in [
         ("N", NONE, "tilefarm: N: cannot be read\n"),
         ("M", unread, "tilefarm: M: cannot be read\n"),
     ] {
-        let ended = call(alloc, &["meta", name], "M", world, faults)?;
-        assert_eq!(rt; ended.status, 3);
-        assert!(rt; ended.err.bytes() == line.as_bytes());
-        assert!(rt; ended.out.bytes().is_empty());
+        meta(alloc, name, world, faults)?.says(&rt, 3, line);
     }
 
     // A put on out that fails leaves a front of the lines, and err stays empty.
-    let unput = Faults {
-        reads: &[],
-        out: &[0],
-        err: &[],
-    };
-    let ended = call(alloc, &["meta", "M"], "M", world, unput)?;
+    let unput = Faults { out: &[0], ..NONE };
+    let ended = meta(alloc, "M", world, unput)?;
     assert_eq!(rt; ended.status, 4);
     assert!(rt; ended.out.bytes() == b"0 0 0\n0 ".as_slice());
     assert!(rt; ended.err.bytes().is_empty());
 
     // A put on err that fails turns a refusal into 4.
-    let untold = Faults {
-        reads: &[],
-        out: &[],
-        err: &[0],
-    };
-    let ended = call(alloc, &["meta", "M"], "M", b"METZ", untold)?;
+    let untold = Faults { err: &[0], ..NONE };
+    let ended = meta(alloc, "M", b"METZ", untold)?;
     assert_eq!(rt; ended.status, 4);
     assert!(rt; b"tilefarm: M: meta 3\n".starts_with(ended.err.bytes()));
     assert!(rt; ended.out.bytes().is_empty());

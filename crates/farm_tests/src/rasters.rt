@@ -1,5 +1,5 @@
 //! Raster files under a map, and the faults of these files.
-use crate::call::render;
+use crate::call::{Faults, NONE, render};
 use std::alloc::Global;
 use std::test::Fail;
 
@@ -40,15 +40,9 @@ fn a_raster_lies_under_the_map(rt: HostRuntime) -> Result<(), Fail> {
         (WHOLE, [255, 0, 0], [0, 0, 255]),
         (HALF, [255, 128, 128], [128, 128, 255]),
     ] {
-        let ended = render(
-            alloc,
-            [("S", style), ("R", RED_BLUE), ("D", DATA)].as_slice(),
-            &[],
-        )?;
-        assert_eq!(rt; ended.status, 0);
+        let files = [("S", style), ("R", RED_BLUE), ("D", DATA)];
         let tile = halves(alloc, left, right)?;
-        assert!(rt; ended.out.bytes() == tile.as_slice());
-        assert!(rt; ended.err.bytes().is_empty());
+        render(alloc, files.as_slice(), NONE)?.put(&rt, tile.as_slice());
     }
     Ok(())
 }
@@ -60,15 +54,12 @@ fn raster_files_that_are_refused(rt: HostRuntime) -> Result<(), Fail> {
     for _ in 0..1025u32 {
         wide.extend_from_slice(&[0, 0, 0])?;
     }
+    let wide = wide.as_slice();
     for (first, second, line) in [
-        (wide.as_slice(), RED_BLUE, "tilefarm: R: grid 1\n"),
-        (RED_BLUE, wide.as_slice(), "tilefarm: Q: grid 1\n"),
-        (
-            b"P6".as_slice(),
-            wide.as_slice(),
-            "tilefarm: R: ppm 1 at 2\n",
-        ),
-        (wide.as_slice(), b"P6".as_slice(), "tilefarm: R: grid 1\n"),
+        (wide, RED_BLUE, "tilefarm: R: grid 1\n"),
+        (RED_BLUE, wide, "tilefarm: Q: grid 1\n"),
+        (b"P6".as_slice(), wide, "tilefarm: R: ppm 1 at 2\n"),
+        (wide, b"P6".as_slice(), "tilefarm: R: grid 1\n"),
         (
             RED_BLUE,
             b"P6 2 1 255\n\x00".as_slice(),
@@ -81,14 +72,8 @@ fn raster_files_that_are_refused(rt: HostRuntime) -> Result<(), Fail> {
         ),
     ] {
         // The data are refused too, but come after the raster files.
-        let ended = render(
-            alloc,
-            [("S", TWO), ("R", first), ("Q", second), ("D", b"{")].as_slice(),
-            &[],
-        )?;
-        assert_eq!(rt; ended.status, 1);
-        assert!(rt; ended.err.bytes() == line.as_bytes(), "at {line}");
-        assert!(rt; ended.out.bytes().is_empty());
+        let files = [("S", TWO), ("R", first), ("Q", second), ("D", b"{")];
+        render(alloc, files.as_slice(), NONE)?.says(&rt, 1, line);
     }
     Ok(())
 }
@@ -96,25 +81,19 @@ fn raster_files_that_are_refused(rt: HostRuntime) -> Result<(), Fail> {
 #[test]
 fn files_that_cannot_be_read(rt: HostRuntime) -> Result<(), Fail> {
     let alloc = rt.alloc();
-    for (failing, line) in [
+    let files = [("S", TWO), ("R", RED_BLUE), ("Q", RED_BLUE), ("D", DATA)];
+    for (reads, line) in [
         ([0].as_slice(), "tilefarm: S: cannot be read\n"),
         ([1].as_slice(), "tilefarm: R: cannot be read\n"),
         ([2].as_slice(), "tilefarm: Q: cannot be read\n"),
         ([3].as_slice(), "tilefarm: D: cannot be read\n"),
     ] {
-        let ended = render(
-            alloc,
-            [("S", TWO), ("R", RED_BLUE), ("Q", RED_BLUE), ("D", DATA)].as_slice(),
-            failing,
-        )?;
-        assert_eq!(rt; ended.status, 3);
-        assert!(rt; ended.err.bytes() == line.as_bytes(), "at {line}");
-        assert!(rt; ended.out.bytes().is_empty());
+        let faults = Faults { reads, ..NONE };
+        render(alloc, files.as_slice(), faults)?.says(&rt, 3, line);
     }
 
     // A raster file that is missing, though the first is there; the data are missing too.
-    let ended = render(alloc, [("S", TWO), ("R", RED_BLUE)].as_slice(), &[])?;
-    assert_eq!(rt; ended.status, 3);
-    assert!(rt; ended.err.bytes() == b"tilefarm: Q: cannot be read\n".as_slice());
+    let files = [("S", TWO), ("R", RED_BLUE)];
+    render(alloc, files.as_slice(), NONE)?.says(&rt, 3, "tilefarm: Q: cannot be read\n");
     Ok(())
 }

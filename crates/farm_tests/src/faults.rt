@@ -1,6 +1,5 @@
 //! The texts of the faults of styles and of data, as `docs/styles.md` and `docs/data.md` have them.
-use crate::call::render;
-use std::alloc::{AllocError, Global};
+use crate::call::{NONE, render};
 use std::test::Fail;
 
 const STYLE: &str = r#"{"styles":[],"layers":[]}"#;
@@ -58,14 +57,8 @@ fn faults_of_styles_by_their_place(rt: HostRuntime) -> Result<(), Fail> {
             "tilefarm: S: style 8 at raster 0 0 0\n",
         ),
     ] {
-        let ended = render(
-            alloc,
-            [("S", style.as_bytes()), ("D", DATA.as_bytes())].as_slice(),
-            &[],
-        )?;
-        assert_eq!(rt; ended.status, 1, "at {style}");
-        assert!(rt; ended.err.bytes() == line.as_bytes(), "at {style}");
-        assert!(rt; ended.out.bytes().is_empty());
+        let files = [("S", style.as_bytes()), ("D", DATA.as_bytes())];
+        render(alloc, files.as_slice(), NONE)?.says(&rt, 1, line);
     }
     Ok(())
 }
@@ -101,69 +94,8 @@ fn faults_of_data_by_their_place(rt: HostRuntime) -> Result<(), Fail> {
             "tilefarm: D: dataset 5 at 1\n",
         ),
     ] {
-        let ended = render(
-            alloc,
-            [("S", STYLE.as_bytes()), ("D", data.as_bytes())].as_slice(),
-            &[],
-        )?;
-        assert_eq!(rt; ended.status, 1, "at {data}");
-        assert!(rt; ended.err.bytes() == line.as_bytes(), "at {data}");
-        assert!(rt; ended.out.bytes().is_empty());
-    }
-    Ok(())
-}
-
-// So many copies of a piece with a comma between, each `#` in it replaced by the copy's number.
-fn copies(alloc: Global, piece: &str, count: u32) -> Result<String, AllocError> {
-    let mut all = String::new(alloc);
-    for number in 0..count {
-        if number > 0 {
-            all.push_str(",")?;
-        }
-        match piece.split_once('#') {
-            Some((before, after)) => {
-                all.push_str(format!(in alloc; "{before}{number}{after}")?.as_str())?;
-            }
-            None => all.push_str(piece)?,
-        }
-    }
-    Ok(all)
-}
-
-#[test]
-fn data_past_their_limits(rt: HostRuntime) -> Result<(), Fail> {
-    let alloc = rt.alloc();
-    for (frame, piece, count, line) in [
-        (
-            r#"{"layers":[{"name":"a","features":[{"id":1,"geometry":{"points":[%]}}]}]}"#,
-            "[5,6]",
-            65537,
-            "tilefarm: D: dataset 3 at 0 0 geometry 3\n",
-        ),
-        (
-            r#"{"layers":[{"name":"a","features":[{"id":1,"geometry":{"points":[[5,6]]},"attrs":{%}}]}]}"#,
-            r#""a#":1"#,
-            65,
-            "tilefarm: D: dataset 3 at 0 0 geometry 4\n",
-        ),
-        (
-            r#"{"layers":[{"name":"b","features":[]},{"name":"a","features":[%]}]}"#,
-            "5",
-            1000001,
-            "tilefarm: D: dataset 6 at 1\n",
-        ),
-    ] {
-        let (before, after) = frame.split_once('%').ok_or("a frame without its place")?;
-        let many = copies(alloc, piece, count)?;
-        let data = format!(in alloc; "{before}{many}{after}")?;
-        let ended = render(
-            alloc,
-            [("S", STYLE.as_bytes()), ("D", data.as_bytes())].as_slice(),
-            &[],
-        )?;
-        assert_eq!(rt; ended.status, 1, "at {line}");
-        assert!(rt; ended.err.bytes() == line.as_bytes(), "at {line}");
-        assert!(rt; ended.out.bytes().is_empty());
+        let files = [("S", STYLE.as_bytes()), ("D", data.as_bytes())];
+        render(alloc, files.as_slice(), NONE)?.says(&rt, 1, line);
     }
     Ok(())
 }

@@ -1,5 +1,5 @@
 //! Words that ask for nothing that there is, and words that only clap can tell.
-use crate::calls::{NONE, USAGE, call};
+use crate::call::{NONE, USAGE, call};
 use std::test::Fail;
 
 #[test]
@@ -17,6 +17,12 @@ fn words_that_are_refused(rt: HostRuntime) -> Result<(), Fail> {
         "render S D 16 0 0",
         "render S D 16 0 0 0 0",
         "render S D 16  0 0",
+        "render S D 17 0 0 0",
+        "render S D 016 0 0 0",
+        "render S D 16 0 0 1",
+        "render S D 16 19 0 0",
+        "render S D 16 +1 0 0",
+        "render S D 16 0 0 4294967296",
         "script a b",
         "serve a",
         "load 7 200",
@@ -25,14 +31,9 @@ fn words_that_are_refused(rt: HostRuntime) -> Result<(), Fail> {
         for word in words.split(' ') {
             all.push(word)?;
         }
-        let ended = call(alloc, all.as_slice(), "M", b"", NONE)?;
-        assert_eq!(rt; ended.status, 2, "at {words}");
-        assert!(rt; ended.err.bytes() == USAGE.as_bytes());
-        assert!(rt; ended.out.bytes().is_empty());
+        call(alloc, all.as_slice(), &[], NONE)?.says(&rt, 2, USAGE);
     }
-    let ended = call(alloc, &[], "M", b"", NONE)?;
-    assert_eq!(rt; ended.status, 2);
-    assert!(rt; ended.err.bytes() == USAGE.as_bytes());
+    call(alloc, &[], &[], NONE)?.says(&rt, 2, USAGE);
     Ok(())
 }
 
@@ -45,11 +46,9 @@ fn dashes_and_empty_words_as_values(rt: HostRuntime) -> Result<(), Fail> {
         (["--", "meta", "M"].as_slice(), "M"),
         (["meta", "--", "--help"].as_slice(), "--help"),
     ] {
-        let ended = call(alloc, words, name, b"METZ", NONE)?;
-        assert_eq!(rt; ended.status, 1, "at {words:?}");
+        let ended = call(alloc, words, [(name, b"METZ".as_slice())].as_slice(), NONE)?;
         let line = format!(in alloc; "tilefarm: {name}: meta 3\n")?;
-        assert!(rt; ended.err.bytes() == line.as_bytes());
-        assert!(rt; ended.out.bytes().is_empty());
+        ended.says(&rt, 1, line.as_str());
     }
     Ok(())
 }

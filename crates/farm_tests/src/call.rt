@@ -1,0 +1,79 @@
+//! One call of the program over named contents.
+use farm_base::{Bytes, MemFiles, MemSink, Text};
+use farm_call::farm_main;
+use std::alloc::Global;
+use std::process::Abort;
+use std::test::Fail;
+
+pub const USAGE: &str =
+    "usage: tilefarm render STYLE DATA T Z X Y | script CONFIG SCRIPT | serve CONFIG | load SEED N | meta FILE\n";
+
+/// How one call ended.
+#[derive(Drop)]
+pub struct Ended {
+    pub status: u8,
+    pub out: MemSink,
+    pub err: MemSink,
+}
+
+impl Ended {
+    /// The call ended with this status and this line on err, and put nothing on out.
+    pub fn says(&self, rt: &impl Abort, status: u8, line: &str) {
+        assert_eq!(rt; self.status, status, "for {line}");
+        assert!(rt; self.err.bytes() == line.as_bytes(), "for {line}");
+        assert!(rt; self.out.bytes().is_empty(), "for {line}");
+    }
+
+    /// The call ended with 0, put exactly this on out, and nothing on err.
+    pub fn put(&self, rt: &impl Abort, text: &[u8]) {
+        assert_eq!(rt; self.status, 0);
+        assert!(rt; self.out.bytes() == text);
+        assert!(rt; self.err.bytes().is_empty());
+    }
+}
+
+/// What is to fail: reads, puts on out and puts on err by their numbers.
+#[derive(Clone, Copy)]
+pub struct Faults<'a> {
+    pub reads: &'a [u64],
+    pub out: &'a [u64],
+    pub err: &'a [u64],
+}
+
+pub const NONE: Faults<'static> = Faults {
+    reads: &[],
+    out: &[],
+    err: &[],
+};
+
+/// Calls with these words over these files.
+pub fn call(
+    alloc: Global,
+    words: &[&str],
+    held: &[(&str, &[u8])],
+    faults: Faults,
+) -> Result<Ended, Fail> {
+    let mut all = Vec::new(alloc);
+    for word in words {
+        all.push(String::from_str(alloc, *word)?)?;
+    }
+    let mut files = Vec::new(alloc);
+    for (name, bytes) in held {
+        files.push((Text::of(alloc, name)?, Bytes::of(alloc, bytes)?))?;
+    }
+    let mut files = MemFiles::new(alloc, files, Vec::from_slice(alloc, faults.reads)?)?;
+    let mut out = MemSink::new(alloc, 1000, Vec::from_slice(alloc, faults.out)?)?;
+    let mut err = MemSink::new(alloc, 1000, Vec::from_slice(alloc, faults.err)?)?;
+    let status = farm_main(alloc, all.as_slice(), &mut files, &mut out, &mut err);
+    Ok(Ended { status, out, err })
+}
+
+/// Calls `render S D 16 0 0 0` over these files.
+pub fn render(alloc: Global, held: &[(&str, &[u8])], faults: Faults) -> Result<Ended, Fail> {
+    call(
+        alloc,
+        ["render", "S", "D", "16", "0", "0", "0"].as_slice(),
+        held,
+        faults,
+    )
+}
