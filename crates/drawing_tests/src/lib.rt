@@ -1,24 +1,8 @@
-//! Whole drawings of texts of styles and data, against pictures and numbers that were worked out outside: by
-//! hand, and by a script of its own that tests each pixel's centre by the rules of `docs/drawing.md`.
+//! Drawings that no command reaches: a metatile's tiles in their places, one of very many points, and a map
+//! whose grids are not bound. The tiles that a command draws are those of the program `drawn_cases`.
 #![tactic(auto)]
 
 #[cfg(test)]
-mod cases;
-#[cfg(test)]
 mod drawings;
 #[cfg(test)]
-mod fills;
-#[cfg(test)]
-mod grids;
-#[cfg(test)]
-mod images;
-#[cfg(test)]
-mod lines;
-#[cfg(test)]
-mod marks;
-#[cfg(test)]
 mod metatiles;
-#[cfg(test)]
-mod mixes;
-#[cfg(test)]
-mod rules;

@@ -1,13 +1,13 @@
-//! Metatiles against their tiles, at the ends of the world, and with very many points.
+//! The tiles of a metatile in their places, also of a ring of very many points, and a map without its grids.
 ghost use Rattle.std.specs.Prelude.{◌<◌, ◌^◌};
 ghost use Rattle.plain_data.specs.Data.{IsLayer};
 
-use crate::drawings::{data, is_all, is_boxed, map, place};
+use crate::drawings::{data, is_boxed, map};
 use data_versions::{Dataset, Layer, Snapshot};
 use farm_base::{Listed, Text};
 use geo_model::{Feature, make_feature};
 use plain_shapes::{Geometry, Path};
-use plain_world::{Meta, Point};
+use plain_world::{Meta, Point, Tile};
 use std::alloc::Global;
 use std::test::Fail;
 use tile_render::{draw_meta, draw_tile};
@@ -31,55 +31,6 @@ fn four_tiles_of_one_window(rt: HostRuntime) -> Result<(), Fail> {
     let bounds = [[8, 8, 16, 16], [8, 0, 16, 8], [0, 8, 8, 16], [0, 0, 8, 8]];
     for (tile, bounds) in drawn.tiles.iter().zip(bounds) {
         assert!(rt; is_boxed(tile.as_slice(), b"P6\n16 16\n255\n", 16, bounds));
-    }
-    Ok(())
-}
-
-// Four squares of 2048 units in the corners of the world.
-const CORNERS: &str =
-    r#"{"units":"world","layers":[{"name":"land","features":[{"id":1,"geometry":{"polygon":[[[0,0],[2048,0],[2048,2048],[0,2048]]]}},{"id":2,"geometry":{"polygon":[[[1073739776,0],[1073741824,0],[1073741824,2048],[1073739776,2048]]]}},{"id":3,"geometry":{"polygon":[[[0,1073739776],[2048,1073739776],[2048,1073741824],[0,1073741824]]]}},{"id":4,"geometry":{"polygon":[[[1073739776,1073739776],[1073741824,1073739776],[1073741824,1073741824],[1073739776,1073741824]]]}}]}]}"#;
-
-#[test]
-fn the_corners_of_the_world(rt: HostRuntime) -> Result<(), Fail> {
-    let alloc = rt.alloc();
-    let style = map(alloc, RED)?;
-    let snapshot = data(alloc, CORNERS)?;
-
-    // A tile of zoom 18 is 4096 units wide, so each shows half of its columns and rows in red.
-    for (x, y, bounds) in [
-        (0, 0, [0, 0, 256, 256]),
-        (262143, 0, [256, 0, 512, 256]),
-        (0, 262143, [0, 256, 256, 512]),
-        (262143, 262143, [256, 256, 512, 512]),
-    ] {
-        let tile = draw_tile(alloc, &style, 512, place(18, x, y)?, &snapshot)?;
-        assert!(rt;
-            is_boxed(tile.as_slice(), b"P6\n512 512\n255\n", 512, bounds),
-            "at {x} {y}"
-        );
-    }
-    Ok(())
-}
-
-// At zoom 18 a pixel of a tile of 512 has 8 units: a mark of width 0.24 is less than one unit wide to each side,
-// one of width 0.25 is one unit wide, and the centres up to 16 units above and below its own are in it.
-#[test]
-fn a_mark_of_less_than_a_unit_covers_nothing(rt: HostRuntime) -> Result<(), Fail> {
-    let alloc = rt.alloc();
-    let snapshot = data(
-        alloc,
-        r#"{"units":"world","layers":[{"name":"land","features":[{"id":1,"geometry":{"points":[[2052,2052]]}}]}]}"#,
-    )?;
-    for (width, bounds) in [("0.24", [0, 0, 0, 0]), ("0.25", [256, 254, 257, 259])] {
-        let text = format!(in alloc;
-            "{{\"styles\":[{{\"name\":\"s\",\"rules\":[{{\"symbolizers\":[{{\"symbolizer\":\"MarkersSymbolizer\",\"fill\":\"red\",\"width\":\"{width}\",\"height\":\"4\"}}]}}]}}],\"layers\":[{{\"name\":\"l\",\"source\":\"land\",\"styles\":[\"s\"]}}]}}"
-        )?;
-        let style = map(alloc, text.as_str())?;
-        let tile = draw_tile(alloc, &style, 512, place(18, 0, 0)?, &snapshot)?;
-        assert!(rt;
-            is_boxed(tile.as_slice(), b"P6\n512 512\n255\n", 512, bounds),
-            "at {width}"
-        );
     }
     Ok(())
 }
@@ -150,12 +101,32 @@ fn a_ring_of_65536_points(rt: HostRuntime) -> Result<(), Fail> {
     assert_eq!(rt; drawn.tiles.len(), 64);
     let mut place = 0u32;
     for tile in &drawn.tiles {
-        let red = place / 8 < 4 && place % 8 < 4;
+        let east = if place / 8 < 4 && place % 8 < 4 {
+            512
+        } else {
+            0
+        };
+        let bounds = [0, 0, east, 512];
         assert!(rt;
-            is_all(tile.as_slice(), b"P6\n512 512\n255\n", 512, red),
+            is_boxed(tile.as_slice(), b"P6\n512 512\n255\n", 512, bounds),
             "at {place}"
         );
         place = place.saturating_add(1);
     }
+    Ok(())
+}
+
+// A map of a grid, and over it a fill of the features of its source.
+const SKY: &str =
+    r#"{"rasters":[{"name":"land","file":"sky.ppm","west":0,"north":0,"pixel":536870912}],"styles":[{"name":"s","rules":[{"symbolizers":[{"symbolizer":"RasterSymbolizer"},{"symbolizer":"PolygonSymbolizer","fill":"red"}]}]}],"layers":[{"name":"l","source":"land","styles":["s"]}]}"#;
+
+// Without a bound grid the source is a layer of the data, on which a RasterSymbolizer covers nothing.
+#[test]
+fn without_its_grid_a_source_is_data(rt: HostRuntime) -> Result<(), Fail> {
+    let alloc = rt.alloc();
+    let style = map(alloc, SKY)?;
+    let snapshot = data(alloc, SQUARE)?;
+    let tile = draw_tile(alloc, &style, 16, Tile { z: 0, x: 0, y: 0 }, &snapshot)?;
+    assert!(rt; is_boxed(tile.as_slice(), b"P6\n16 16\n255\n", 16, [4, 4, 12, 12]));
     Ok(())
 }
