@@ -283,9 +283,7 @@ def reckon(sign, a, b):
         if b == 0:
             return None
         quotient = abs(a) // abs(b) * (1 if (a < 0) == (b < 0) else -1)
-        if within(quotient) is None:
-            return None
-        return quotient if sign == "/" else a - quotient * b
+        return within(quotient) if sign == "/" else a - quotient * b
     return within(a + b if sign == "+" else a - b if sign == "-" else a * b)
 
 
@@ -500,6 +498,8 @@ def layers_of(values, styles):
         for name in item.list("styles"):
             if not isinstance(name, str):
                 item.refuse(2)
+            if not is_name(name):
+                item.refuse(4)
             if name not in styles:
                 item.refuse(5)
             layer["styles"].append(name)

@@ -4,7 +4,6 @@ use farm_base::{Attr, Value};
 use geo_json::{DataFault, read_data, read_update};
 use geo_model::{GeoFault, Geometry, Path};
 use std::alloc::{AllocError, Global};
-use std::test::Fail;
 
 fn geometry_number(fault: GeoFault) -> u32 {
     match fault {
@@ -17,7 +16,8 @@ fn geometry_number(fault: GeoFault) -> u32 {
     }
 }
 
-fn fault_told(alloc: Global, fault: DataFault) -> Result<String, AllocError> {
+/// The text of a fault of data or an update.
+pub fn fault_told(alloc: Global, fault: DataFault) -> Result<String, AllocError> {
     match fault {
         DataFault::NotJson => String::from_str(alloc, "dataset 1"),
         DataFault::Shape(part, item) => format!(in alloc; "dataset 2 at {part} {item}"),
@@ -32,7 +32,11 @@ fn fault_told(alloc: Global, fault: DataFault) -> Result<String, AllocError> {
     }
 }
 
+// Of more than a hundred points their count.
 fn tell_path(alloc: Global, told: &mut String, path: &Path) -> Result<(), AllocError> {
+    if path.points.len() > 100 {
+        return told.push_str(format!(in alloc; " {}", path.points.len())?.as_str());
+    }
     for point in path.points.iter() {
         told.push_str(format!(in alloc; " {},{}", point.x, point.y)?.as_str())?;
     }
@@ -122,17 +126,17 @@ fn all_told(alloc: Global, update: &Update) -> Result<String, AllocError> {
 }
 
 /// The fault of data, or a line for each layer and feature.
-pub fn data_told(alloc: Global, text: &[u8]) -> Result<String, Fail> {
+pub fn data_told(alloc: Global, text: &[u8]) -> Result<String, AllocError> {
     match read_data(alloc, text) {
-        Ok(data) => Ok(dataset_told(alloc, &data)?),
-        Err(fault) => Ok(fault_told(alloc, fault)?),
+        Ok(data) => dataset_told(alloc, &data),
+        Err(fault) => fault_told(alloc, fault),
     }
 }
 
 /// The fault of an update, or a line for each change and put.
-pub fn update_told(alloc: Global, text: &[u8]) -> Result<String, Fail> {
+pub fn update_told(alloc: Global, text: &[u8]) -> Result<String, AllocError> {
     match read_update(alloc, text) {
-        Ok(update) => Ok(all_told(alloc, &update)?),
-        Err(fault) => Ok(fault_told(alloc, fault)?),
+        Ok(update) => all_told(alloc, &update),
+        Err(fault) => fault_told(alloc, fault),
     }
 }

@@ -1,7 +1,6 @@
 //! What a style text is read as, in lines.
 use filter_expr::FilterFault;
 use std::alloc::{AllocError, Global};
-use std::test::Fail;
 use style_objects::{
     At, FilterMode, LayerRef, LineCap, MapStyle, Part, RasterRef, Rule, Style, StyleFault,
     Symbolizer, read_style,
@@ -169,9 +168,9 @@ fn map_told(alloc: Global, style: &MapStyle) -> Result<String, AllocError> {
 }
 
 /// The fault, or a line for each object in reading order.
-pub fn style_told(alloc: Global, text: &[u8]) -> Result<String, Fail> {
+pub fn style_told(alloc: Global, text: &[u8]) -> Result<String, AllocError> {
     match read_style(alloc, text) {
-        Ok(style) => Ok(map_told(alloc, &style)?),
-        Err(fault) => Ok(fault_told(alloc, fault)?),
+        Ok(style) => map_told(alloc, &style),
+        Err(fault) => fault_told(alloc, fault),
     }
 }

@@ -1,0 +1,137 @@
+//! Reads the texts of styles, data, updates and filters that stand in files, and writes of each one line: its
+//! first fault, or what was read, object by object. What is wanted of it was computed by another program,
+//! which was written from the formats alone, and agrees with what the tables want of each text.
+#![tactic(auto)]
+
+mod change_told;
+mod data_told;
+mod filter_told;
+mod rows;
+mod style_told;
+
+use crate::change_told::change_told;
+use crate::data_told::{data_told, update_told};
+use crate::filter_told::{again_told, filter_told, value_told, written_told};
+use crate::rows::{Frame, frame, row};
+use crate::style_told::style_told;
+use data_versions::Snapshot;
+use farm_base::{DiskFiles, Files, OutSink, Sink};
+use geo_json::read_data;
+use std::alloc::Global;
+use std::process::ExitCode;
+use std::str;
+
+fn main(rt: HostRuntime) -> ExitCode {
+    match run(rt) {
+        Some(()) => ExitCode::SUCCESS,
+        None => ExitCode::FAILURE,
+    }
+}
+
+// None where the cases cannot be read, a put on out fails, or memory runs out.
+fn run(rt: HostRuntime) -> Option<()> {
+    let alloc = rt.alloc();
+    let mut files = DiskFiles::new(rt);
+    let mut out = OutSink::new(rt.stdout());
+    let old = files.read(alloc, "old.data").ok()?;
+    let old = Snapshot::first(alloc, read_data(alloc, old.as_slice()).ok()?).ok()?;
+    let cases = files.read(alloc, "cases").ok()?;
+    for line in str::from_utf8(cases.as_slice()).ok()?.lines() {
+        case(alloc, line, &old, &mut files, &mut out)?;
+    }
+    Some(())
+}
+
+// A line names a kind of text, the form of a file, and the file.
+fn case<F: Files, O: Sink>(
+    alloc: Global,
+    line: &str,
+    old: &Snapshot,
+    files: &mut F,
+    out: &mut O,
+) -> Option<()> {
+    let (kind, rest) = line.split_once(' ')?;
+    let (form, name) = rest.split_once(' ')?;
+    let bytes = files.read(alloc, name).ok()?;
+    match form {
+        "rows" => table(alloc, kind, bytes.as_slice(), old, out),
+        "beginnings" => beginnings(alloc, kind, bytes.as_slice(), old, out),
+        "whole" => put(alloc, &told(alloc, kind, bytes.as_slice(), old)?, out),
+        _ => None,
+    }
+}
+
+fn table<O: Sink>(
+    alloc: Global,
+    kind: &str,
+    bytes: &[u8],
+    old: &Snapshot,
+    out: &mut O,
+) -> Option<()> {
+    let mut around = Frame {
+        before: "",
+        after: "",
+    };
+    for line in str::from_utf8(bytes).ok()?.lines() {
+        if let Some(next) = frame(line) {
+            around = next;
+        } else if let Some(text) = row(alloc, &around, line).ok()? {
+            put(alloc, &told(alloc, kind, text.as_bytes(), old)?, out)?;
+        }
+    }
+    Some(())
+}
+
+// What the proper beginnings of a text are told by, once where they are told alike.
+fn beginnings<O: Sink>(
+    alloc: Global,
+    kind: &str,
+    bytes: &[u8],
+    old: &Snapshot,
+    out: &mut O,
+) -> Option<()> {
+    let mut last = String::new(alloc);
+    for length in 0..bytes.len() {
+        let next = told(alloc, kind, &bytes[..length], old)?;
+        if next.as_str() != last.as_str() {
+            put(alloc, &next, out)?;
+        }
+        last = next;
+    }
+    Some(())
+}
+
+// What a text of the kind is read as, in lines. A text that is no UTF-8 is no filter.
+fn told(alloc: Global, kind: &str, text: &[u8], old: &Snapshot) -> Option<String> {
+    match kind {
+        "style" => style_told(alloc, text).ok(),
+        "data" => data_told(alloc, text).ok(),
+        "update" => update_told(alloc, text).ok(),
+        "change" => change_told(alloc, old, text).ok(),
+        "filter" => filter_told(alloc, str::from_utf8(text).ok()?).ok(),
+        "written" => written_told(alloc, str::from_utf8(text).ok()?).ok(),
+        "again" => again_told(alloc, str::from_utf8(text).ok()?).ok(),
+        "value" => valued(alloc, str::from_utf8(text).ok()?, old),
+        _ => None,
+    }
+}
+
+// The value of a filter of the first feature of the layer `land`.
+fn valued(alloc: Global, text: &str, old: &Snapshot) -> Option<String> {
+    let land = old.layer("land")?;
+    let feature = land.get(0)?;
+    value_told(alloc, text, feature.attrs()).ok()
+}
+
+// Puts the lines as one.
+fn put<O: Sink>(alloc: Global, told: &String, out: &mut O) -> Option<()> {
+    let mut all = String::new(alloc);
+    for line in told.as_str().lines() {
+        if !all.is_empty() {
+            all.push_str("; ").ok()?;
+        }
+        all.push_str(line).ok()?;
+    }
+    all.push_str("\n").ok()?;
+    out.put(all.as_str().as_bytes()).ok()
+}
