@@ -1,0 +1,88 @@
+-- Configurations as plain records, and what their values keep.
+use Rattle.std.specs.Prelude.{ℕ, ◌≤◌, ◌==◌, ◌&&◌, ◌||◌, Bool, not, nat_le, nat_lt, IsTrue, List, [], length, Option, position}
+use Rattle.std.specs.List.{list_all, list_any}
+use Rattle.std.specs.Str.{bytes_eq}
+use Rattle.farm_base.specs.Earlier.{each_after}
+use Rattle.tile_paths.specs.Paths.{is_name_byte}
+use Rattle.farm_history.specs.declared.queues.Limits.{Limits}
+use Rattle.farm_config.specs.Limits.{most_maps, most_zoom, most_files, most_workers, most_waiting, most_dirty}
+use Rattle.farm_config.specs.declared.config.RestyleEntry.{RestyleEntry}
+
+-- a map: its name, the name of its style's file, the size of its tiles in pixels and its greatest zoom
+pub record MapEntry : Type 0 where
+  pub name : List ℕ
+  pub style : List ℕ
+  pub tile : ℕ
+  pub max_zoom : ℕ
+
+-- a whole configuration
+pub record Config : Type 0 where
+  pub maps : List MapEntry
+  pub dataset : List ℕ
+  pub updates : List (List ℕ)
+  pub expiries : List (List ℕ)
+  pub workers : ℕ
+  pub limits : Limits
+  pub renderd : Option (List ℕ)
+  pub tiles : Option (List ℕ)
+  pub control : Option (List ℕ)
+  pub restyles : List RestyleEntry
+  pub resume : Bool
+
+-- a map's name: 1 to 40 bytes of `a` to `z`, `0` to `9`, `_` and `-`
+abbrev pub is_map_name : List ℕ → Bool
+is_map_name name = nat_le 1 (length name) && nat_le (length name) 40 && list_all is_name_byte name
+
+-- a tile is 16, 32, 64, 128, 256 or 512 pixels wide and high
+abbrev pub is_tile_size : ℕ → Bool
+is_tile_size n = n == 16 || n == 32 || n == 64 || n == 128 || n == 256 || n == 512
+
+-- the greatest limits of the queues, which are also the defaults
+abbrev pub greatest_limits : Limits
+greatest_limits = record { prio = most_waiting; request = most_waiting; low = most_waiting; dirty = most_dirty; bulk = most_waiting }
+
+-- from 1 to the greatest
+abbrev pub is_limit_to : ℕ → ℕ → Bool
+is_limit_to most n = nat_le 1 n && nat_le n most
+
+-- limits of which each is from 1 to its greatest
+abbrev pub are_limits : Limits → Bool
+are_limits l =
+    is_limit_to most_waiting l.prio && is_limit_to most_waiting l.request && is_limit_to most_waiting l.low && is_limit_to most_dirty l.dirty
+    && is_limit_to most_waiting l.bulk
+
+-- a map of this name is among them
+abbrev pub map_has : List ℕ → List MapEntry → Bool
+map_has name maps = list_any (λ m. bytes_eq m.name name) maps
+
+-- the place of the map of this name
+unfoldable pub map_place : List ℕ → List MapEntry → Option ℕ
+map_place name maps = position (λ m. bytes_eq m.name name) maps
+
+-- no earlier map has the name
+abbrev pub map_apart : List MapEntry → MapEntry → Bool
+map_apart before m = not (map_has m.name before)
+
+-- the restyle's map is one of so many
+abbrev pub restyle_known : ℕ → RestyleEntry → Bool
+restyle_known maps r = nat_lt r.map maps
+
+-- what every map of a configuration keeps
+pub record IsMapEntry (name : List ℕ) (tile max_zoom : ℕ) : Type 0 where
+  pub name_fits : IsTrue (is_map_name name)
+  pub tile_fits : IsTrue (is_tile_size tile)
+  pub zoom_fits : max_zoom ≤ most_zoom
+
+-- what every configuration keeps: 1 to 16 maps of distinct names, 1 to 16 workers, limits within theirs, at most 256 updates, expiry lists and
+-- restyles, and each restyle of a map that is there
+pub record IsConfig (maps : List MapEntry) (updates expiries : List (List ℕ)) (workers : ℕ) (limits : Limits) (restyles : List RestyleEntry) : Type 0 where
+  pub some_maps : 1 ≤ length maps
+  pub few_maps : length maps ≤ most_maps
+  pub maps_apart : IsTrue (each_after map_apart [] maps)
+  pub few_updates : length updates ≤ most_files
+  pub few_expiries : length expiries ≤ most_files
+  pub some_workers : 1 ≤ workers
+  pub few_workers : workers ≤ most_workers
+  pub limits_fit : IsTrue (are_limits limits)
+  pub few_restyles : length restyles ≤ most_files
+  pub restyles_known : IsTrue (list_all (restyle_known (length maps)) restyles)

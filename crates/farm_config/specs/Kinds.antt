@@ -1,0 +1,36 @@
+-- The kinds of values in a configuration. Each is read under the number of its key: a value of the wrong
+-- kind or a wrong text is Shape of it, a number outside its range is Range of it.
+use Rattle.std.specs.Prelude.{ℕ, Bool, if◌then◌else◌, List, Option, Some, Result, Ok, Err}
+use Rattle.std.specs.Option.{ok_or}
+use Rattle.serde_json.specs.Data.{Data}
+use Rattle.serde_json.specs.Find.{as_bool}
+use Rattle.reading.specs.Steps.{◌>>=◌}
+use Rattle.reading.specs.Values.{text, whole}
+use Rattle.farm_config.specs.Addresses.{is_address}
+use Rattle.farm_config.specs.Configs.{is_map_name, is_tile_size}
+use Rattle.farm_config.specs.declared.fault.ConfigFault.{ConfigFault}
+use Rattle.farm_config.specs.declared.fault.ConfigFault.TheVariants.{Shape, Range}
+
+-- the name of a file: any text
+unfoldable pub a_file : ℕ → Data → Result (List ℕ) ConfigFault
+a_file key d = text (Shape key) d
+
+-- the name of a map
+unfoldable pub a_map_name : ℕ → Data → Result (List ℕ) ConfigFault
+a_map_name key d = text (Shape key) d >>= λ s. if is_map_name s then Ok s else Err (Shape key)
+
+-- a whole number within two bounds
+unfoldable pub a_number : ℕ → ℕ → ℕ → Data → Result ℕ ConfigFault
+a_number key low high d = whole (Shape key) (Range key) low high d
+
+-- the size of a tile
+unfoldable pub a_tile_size : ℕ → Data → Result ℕ ConfigFault
+a_tile_size key d = whole (Shape key) (Range key) 16 512 d >>= λ n. if is_tile_size n then Ok n else Err (Range key)
+
+-- an address
+unfoldable pub an_address : ℕ → Data → Result (Option (List ℕ)) ConfigFault
+an_address key d = text (Shape key) d >>= λ s. if is_address s then Ok (Some s) else Err (Shape key)
+
+-- true or false
+unfoldable pub a_truth : ℕ → Data → Result Bool ConfigFault
+a_truth key d = ok_or (as_bool d) (Shape key)

@@ -1,0 +1,5 @@
+pub mod Addresses
+pub mod Configs
+pub mod Kinds
+pub mod Limits
+pub mod Tables

@@ -1,0 +1,57 @@
+//! The addresses at which a farm listens.
+ghost use Rattle.std.specs.Prelude.{◌≡◌, ◌<◌, option_map};
+ghost use Rattle.farm_config.specs.Addresses as spec;
+
+use crate::limits::MOST_PATH_BYTES;
+use line_words::{cut, number_below};
+
+/// What stands behind a number below `bound` and the byte `end`.
+fn after_number(text: &str, end: char, bound: u32) -> Option<&str>
+    requires { end < 128 }
+    ensures { option_map (λ s. s.now) result ≡ spec.after_number bound end text.entry.now }
+{
+    match cut(text, end) {
+        Some((number, rest)) if number_below(number, bound).is_some() => Some(rest),
+        _ => None,
+    }
+}
+
+fn after_octet(text: &str, end: char) -> Option<&str>
+    requires { end < 128 }
+    ensures { option_map (λ s. s.now) result ≡ spec.after_octet end text.entry.now }
+{
+    after_number(text, end, 256)
+}
+
+/// The port of `a.b.c.d:port`.
+#[tactic(auto, unfolding(crate::specs::Addresses::port_of))]
+fn port(endpoint: &str) -> Option<u32>
+    ensures { result ≡ spec.port_of endpoint.now }
+{
+    let rest = after_octet(endpoint, '.')?;
+    let rest = after_octet(rest, '.')?;
+    let rest = after_octet(rest, '.')?;
+    let port = after_octet(rest, ':')?;
+    number_below(port, 65536)
+}
+
+fn is_address_of(kind: &str, rest: &str) -> bool
+    ensures { result ≡ spec.is_address_of kind.now rest.now }
+{
+    match kind {
+        "tcp" => port(rest).is_some(),
+        "unix" => 1 <= rest.len() && rest.len() <= MOST_PATH_BYTES,
+        _ => false,
+    }
+}
+
+/// Whether the text is an address: `tcp:a.b.c.d:port`, or `unix:` and a path of 1 to 100 bytes.
+#[tactic(auto, unfolding(crate::specs::Addresses::is_address))]
+pub fn is_address(text: &str) -> bool
+    ensures { result ≡ spec.is_address text.now }
+{
+    match cut(text, ':') {
+        Some((kind, rest)) => is_address_of(kind, rest),
+        None => false,
+    }
+}

@@ -1,0 +1,117 @@
+-- The lines of a script. Words are separated by one space; numbers are decimal without leading zeros. Each
+-- reader is given the fault of its line.
+use Rattle.std.specs.Prelude.{ℕ, ◌^◌, nat_le, if◌then◌else◌, List, length, codes, Option, Some, None, Result, Ok, Err}
+use Rattle.std.specs.Option.{ok_or}
+use Rattle.std.specs.Str.{bytes_eq}
+use Rattle.line_words.specs.Cuts.{cut_at}
+use Rattle.line_words.specs.Numbers.{number_in}
+use Rattle.reading.specs.Steps.{◌>>=◌, check}
+use Rattle.farm_history.specs.declared.asks.Cmd.{Cmd}
+use Rattle.farm_history.specs.declared.asks.Cmd.TheVariants as cmd
+use Rattle.script_lines.specs.declared.script.ScriptFault.{ScriptFault}
+use Rattle.script_lines.specs.declared.script.ScriptLine.{ScriptLine}
+use Rattle.script_lines.specs.declared.script.ScriptLine.TheVariants.{Ask, Claim, Finish, Cut, Update, Expire, Fetch, Look, Collect, Leave, Tally, Stop, Restyle, Renew}
+
+-- the first word, and the words behind the space after it
+abbrev pub word_of : ScriptFault → List ℕ → Result (List ℕ × List ℕ) ScriptFault
+word_of fault text = ok_or (cut_at 32 text) fault
+
+-- a number of 32 bits
+abbrev pub number_of : ScriptFault → List ℕ → Result ℕ ScriptFault
+number_of fault word = ok_or (number_in (2 ^ 32) word) fault
+
+-- a ticket, a number of 64 bits
+abbrev pub ticket_of : ScriptFault → List ℕ → Result ℕ ScriptFault
+ticket_of fault word = ok_or (number_in (2 ^ 64) word) fault
+
+-- the command of a word
+abbrev pub cmd_of : List ℕ → Option Cmd
+cmd_of word =
+    if bytes_eq word (codes "render") then Some cmd.Render else
+    if bytes_eq word (codes "prio") then Some cmd.Prio else
+    if bytes_eq word (codes "low") then Some cmd.Low else
+    if bytes_eq word (codes "bulk") then Some cmd.Bulk else
+    if bytes_eq word (codes "dirty") then Some cmd.Dirty else None
+
+-- the name of a map, which need not be one of the farm: any word of at least one byte
+abbrev pub map_of : ScriptFault → List ℕ → Result (List ℕ) ScriptFault
+map_of fault word = check (nat_le 1 (length word)) fault >>= λ u. Ok word
+
+-- the three numbers of a tile: Z X Y
+unfoldable pub tile_of : ScriptFault → List ℕ → Result (ℕ × ℕ × ℕ) ScriptFault
+tile_of fault text = do
+  first ← word_of fault text
+  second ← word_of fault first.1
+  z ← number_of fault first.0
+  x ← number_of fault second.0
+  y ← number_of fault second.1
+  Ok (z, x, y)
+
+-- a tile of a map: MAP Z X Y
+unfoldable pub place_of : ScriptFault → List ℕ → Result (List ℕ × (ℕ × ℕ × ℕ)) ScriptFault
+place_of fault text = do
+  first ← word_of fault text
+  map ← map_of fault first.0
+  tile ← tile_of fault first.1
+  Ok (map, tile)
+
+-- ask C CMD MAP Z X Y
+unfoldable pub ask_of : ScriptFault → List ℕ → Result ScriptLine ScriptFault
+ask_of fault text = do
+  first ← word_of fault text
+  second ← word_of fault first.1
+  conn ← number_of fault first.0
+  command ← ok_or (cmd_of second.0) fault
+  place ← place_of fault second.1
+  Ok (Ask conn command place.0 place.1.0 place.1.1 place.1.2)
+
+-- fetch MAP Z X Y
+unfoldable pub fetch_of : ScriptFault → List ℕ → Result ScriptLine ScriptFault
+fetch_of fault text = place_of fault text >>= λ place. Ok (Fetch place.0 place.1.0 place.1.1 place.1.2)
+
+-- look MAP Z X Y
+unfoldable pub look_of : ScriptFault → List ℕ → Result ScriptLine ScriptFault
+look_of fault text = place_of fault text >>= λ place. Ok (Look place.0 place.1.0 place.1.1 place.1.2)
+
+-- expire Z X Y
+unfoldable pub expire_of : ScriptFault → List ℕ → Result ScriptLine ScriptFault
+expire_of fault text = tile_of fault text >>= λ tile. Ok (Expire tile.0 tile.1 tile.2)
+
+-- a line whose one word behind its name is a number
+abbrev pub numbered : (ℕ → ScriptLine) → ScriptFault → List ℕ → Result ScriptLine ScriptFault
+numbered line fault word = number_of fault word >>= λ n. Ok (line n)
+
+-- a line whose one word behind its name is a ticket
+abbrev pub ticketed : (ℕ → ScriptLine) → ScriptFault → List ℕ → Result ScriptLine ScriptFault
+ticketed line fault word = ticket_of fault word >>= λ n. Ok (line n)
+
+-- the line of this name with these words behind it; there is no line of another name
+unfoldable pub line_named : ScriptFault → List ℕ → List ℕ → Result ScriptLine ScriptFault
+line_named fault name rest =
+    if bytes_eq name (codes "ask") then ask_of fault rest else
+    if bytes_eq name (codes "claim") then numbered Claim fault rest else
+    if bytes_eq name (codes "finish") then ticketed Finish fault rest else
+    if bytes_eq name (codes "cut") then ticketed Cut fault rest else
+    if bytes_eq name (codes "update") then numbered Update fault rest else
+    if bytes_eq name (codes "restyle") then numbered Restyle fault rest else
+    if bytes_eq name (codes "renew") then numbered Renew fault rest else
+    if bytes_eq name (codes "expire") then expire_of fault rest else
+    if bytes_eq name (codes "fetch") then fetch_of fault rest else
+    if bytes_eq name (codes "look") then look_of fault rest else
+    if bytes_eq name (codes "collect") then numbered Collect fault rest else
+    if bytes_eq name (codes "leave") then numbered Leave fault rest else Err fault
+
+-- the line that is one word
+unfoldable pub line_alone : ScriptFault → List ℕ → Result ScriptLine ScriptFault
+line_alone fault word =
+    if bytes_eq word (codes "tally") then Ok Tally else
+    if bytes_eq word (codes "stop") then Ok Stop else Err fault
+
+-- a line that is cut at its first space, if it has one
+abbrev pub line_cut : ScriptFault → List ℕ → Option (List ℕ × List ℕ) → Result ScriptLine ScriptFault
+line_cut fault line None = line_alone fault line
+line_cut fault line (Some p) = line_named fault p.0 p.1
+
+-- a line
+unfoldable pub line_of : ScriptFault → List ℕ → Result ScriptLine ScriptFault
+line_of fault line = line_cut fault line (cut_at 32 line)
