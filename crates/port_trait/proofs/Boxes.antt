@@ -1,5 +1,5 @@
 -- Where a connection stands in an outbox.
-use Rattle.std.proofs.Common.{◌≡◌, ◌<◌, ◌+◌, ◌==◌, ℕ, Bool, true, false, List, [], ◌∷◌, ◌++◌, length, take, drop, get_or, Some, None, refl, ap, sym, ◌∙◌, zero, suc, cond, nat_lt, rules, tests, arith}
+use Rattle.std.proofs.Common.{Option, ◌≡◌, ◌<◌, ◌+◌, ◌==◌, ℕ, Bool, true, false, List, [], ◌∷◌, ◌++◌, length, take, drop, get_or, Some, None, refl, ap, sym, ◌∙◌, zero, suc, cond, nat_lt, rules, tests, arith}
 use Rattle.std.specs.List.{position, position_or_len}
 use Rattle.std.specs.Option.{is_some}
 use Rattle.std.proofs.lemmas.Bool.Decides.{nat_tests}
@@ -70,3 +70,8 @@ found box c =
 -- a connection that is there has a place
 pub placed : (box : List (ℕ × List ℕ)) (c : ℕ) (r : List ℕ) → rest_at box c ≡ Some r → position (is_of c) box ≡ None → ⊥
 placed box c r e none = search (tests, sym (ap is_some none) ∙ found box c ∙ ap is_some e)
+
+-- what is there has a rest
+pub has_of : (o : Option (List ℕ)) → is_some o ≡ true → (r : List ℕ) × (o ≡ Some r)
+has_of None h = search (tests, h)
+has_of (Some r) h = (r, refl)

@@ -1,5 +1,5 @@
 //! The bytes of a front that were answered and not yet taken.
-ghost use Rattle.std.specs.Prelude.{◌≡◌, ◌≤◌, ◌<◌, ◌+◌, ◌++◌, ◌∷◌, [], ◌==◌, ℕ, List, None, Some, length, map, take, drop, position, OnOk, OnErr};
+ghost use Rattle.std.specs.Prelude.{◌≡◌, ◌≤◌, ◌<◌, ◌+◌, ◌++◌, ◌∷◌, [], ◌==◌, ℕ, true, List, None, Some, length, map, take, drop, position, OnOk, OnErr};
 ghost use Rattle.std.specs.Option.{is_some};
 ghost use Rattle.port_trait.specs.Boxes.{rest_at, put_rest, without, HasRest, Answered, Offered, handed};
 ghost use Rattle.port_trait.specs.Told.{IsOpen, SendCounts};
@@ -169,7 +169,8 @@ impl Outbox {
 
     /// Whether the connection is there.
     pub fn has(&self, conn: u32) -> bool
-        ensures { result ≡ is_some (rest_at self.now conn) }
+        ensures exact { result ≡ is_some (rest_at self.now conn) }
+        ensures there { result ≡ true → HasRest self.now conn }
     {
         place_of(self.items.as_slice(), conn).is_some()
     }
