@@ -75,3 +75,7 @@ placed box c r e none = search (tests, sym (ap is_some none) ∙ found box c ∙
 pub has_of : (o : Option (List ℕ)) → is_some o ≡ true → (r : List ℕ) × (o ≡ Some r)
 has_of None h = search (tests, h)
 has_of (Some r) h = (r, refl)
+
+pub none_of : (o : Option (List ℕ)) → is_some o ≡ false → o ≡ None
+none_of None h = refl
+none_of (Some r) h = search (tests, h)

@@ -57,3 +57,14 @@ Offered box c result new was is =
 -- a pair as the rest that a front hands back
 abbrev pub handed : ℕ → ℕ × List ℕ → Rest
 handed front pair = record { front = front; conn = pair.0; bytes = pair.1 }
+
+-- no connection stands in it twice
+abbrev pub StandsOnce : List (ℕ × List ℕ) → Type 0
+StandsOnce [] = Unit {0}
+StandsOnce (p ∷ ps) = (rest_at ps p.0 ≡ None) × StandsOnce ps
+
+-- Another rest for a connection, a connection less, and one more that was not there leave each
+-- connection standing once.
+abbrev pub ConnectionsStandOnce : Type 0
+ConnectionsStandOnce = (box : List (ℕ × List ℕ)) (c : ℕ) (rest : List ℕ) → StandsOnce box
+    → StandsOnce (put_rest box c rest) × StandsOnce (without box c) × (rest_at box c ≡ None → StandsOnce (box ++ (c, []) ∷ []))

@@ -5,10 +5,12 @@
 
 mod ends;
 mod events;
+mod laws;
 mod outbox;
 mod ports;
 
 pub use ends::{FrontDone, FrontEnd, Rest};
 pub use events::{PortEvent, PortFault, PortItem, SendFault};
+pub use laws::law_connections_stand_once;
 pub use outbox::{BoxFault, Outbox};
 pub use ports::{Ports, ThreePorts};

@@ -1,5 +1,5 @@
 //! The bytes of a front that were answered and not yet taken.
-ghost use Rattle.std.specs.Prelude.{◌≡◌, ◌≤◌, ◌<◌, ◌+◌, ◌++◌, ◌∷◌, [], ◌==◌, ℕ, true, List, None, Some, length, map, take, drop, position, OnOk, OnErr};
+ghost use Rattle.std.specs.Prelude.{◌≡◌, ◌≤◌, ◌<◌, ◌+◌, ◌++◌, ◌∷◌, [], ◌==◌, ℕ, true, false, List, None, Some, length, map, take, drop, position, OnOk, OnErr};
 ghost use Rattle.std.specs.Option.{is_some};
 ghost use Rattle.port_trait.specs.Boxes.{rest_at, put_rest, without, HasRest, Answered, Offered, handed};
 ghost use Rattle.port_trait.specs.Told.{IsOpen, SendCounts};
@@ -120,7 +120,8 @@ impl Pending {
 }
 
 /// The bytes of a front that were answered and not yet taken, which contracts see as a list of pairs: a
-/// connection and its rest, of at most 1,048,576 bytes. A connection stands in it once.
+/// connection and its rest, of at most 1,048,576 bytes. A connection is added only where it is not
+/// there, so it stands in the list once.
 #[derive(Debug, Drop)]
 pub struct Outbox {
     items: Vec<Pending>,
@@ -171,6 +172,7 @@ impl Outbox {
     pub fn has(&self, conn: u32) -> bool
         ensures exact { result ≡ is_some (rest_at self.now conn) }
         ensures there { result ≡ true → HasRest self.now conn }
+        ensures absent { result ≡ false → rest_at self.now conn ≡ None }
     {
         place_of(self.items.as_slice(), conn).is_some()
     }

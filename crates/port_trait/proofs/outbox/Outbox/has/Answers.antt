@@ -2,7 +2,7 @@ use Rattle.std.proofs.Common.{◌≡◌, ap, sym, ◌∙◌}
 use Rattle.std.specs.List.{position}
 use Rattle.std.specs.Option.{is_some}
 use Rattle.port_trait.specs.Boxes.{rest_at}
-use Rattle.port_trait.proofs.Boxes.{found, has_of, is_of}
+use Rattle.port_trait.proofs.Boxes.{found, has_of, none_of, is_of}
 use Rattle.port_trait.proofs.outbox.Outbox.has.Goals as goal
 
 is : (c : goal.After-is_some) → c.is_some.result ≡ is_some (rest_at c.args.self.now c.args.conn)
@@ -16,3 +16,6 @@ returns-clause-exact c = is c
 
 pub returns-clause-there : goal.returns-clause-there
 returns-clause-there c = λ h. has_of (rest_at c.args.self.now c.args.conn) (sym (is c) ∙ h)
+
+pub returns-clause-absent : goal.returns-clause-absent
+returns-clause-absent c = λ h. none_of (rest_at c.args.self.now c.args.conn) (sym (is c) ∙ h)
