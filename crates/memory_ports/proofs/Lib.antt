@@ -1,0 +1,4 @@
+pub mod Changes
+pub mod Hearing
+pub mod Overs
+pub mod Telling

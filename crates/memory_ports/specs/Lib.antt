@@ -1,0 +1,4 @@
+pub mod Held
+pub mod Playing
+pub mod Scripts
+pub mod inner
