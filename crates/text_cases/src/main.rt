@@ -12,7 +12,7 @@ mod style_told;
 use crate::change_told::change_told;
 use crate::data_told::{data_told, update_told};
 use crate::filter_told::{again_told, filter_told, value_told, written_told};
-use crate::rows::{Frame, frame, row};
+use crate::rows::{Frame, frame_of, row};
 use crate::style_told::style_told;
 use data_versions::Snapshot;
 use farm_base::{DiskFiles, Files, OutSink, Sink};
@@ -73,7 +73,7 @@ fn table<O: Sink>(
         after: "",
     };
     for line in str::from_utf8(bytes).ok()?.lines() {
-        if let Some(next) = frame(line) {
+        if let Some(next) = frame_of(line) {
             around = next;
         } else if let Some(text) = row(alloc, &around, line).ok()? {
             put(alloc, &told(alloc, kind, text.as_bytes(), old)?, out)?;

@@ -11,7 +11,7 @@ pub struct Frame<'a> {
 }
 
 /// The frame of a line, if it says one.
-pub fn frame(line: &str) -> Option<Frame<'_>> {
+pub fn frame_of(line: &str) -> Option<Frame<'_>> {
     let around = line.strip_prefix("in ")?;
     let (before, after) = around.split_once('%')?;
     Some(Frame { before, after })
