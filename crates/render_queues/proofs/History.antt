@@ -1,0 +1,92 @@
+-- The tables beside a history: what waits, who waits for it, and the replies.
+use Rattle.std.proofs.Common.{◌≡◌, ℕ, Bool, true, false, not, ◌&&◌, ◌||◌, cond, ◌==◌, nat_lt, List, [], ◌∷◌, ◌++◌, length, map, filter, find, slice_get, Option, Some, None, refl, sym, ap, ap₂, subst, ◌∙◌, arith}
+use Rattle.std.specs.Prelude.{option_map}
+use Rattle.std.specs.Option.{option_or}
+use Rattle.std.specs.List.{list_any}
+use Rattle.std.proofs.lemmas.Bool.Decides.{nat_tests}
+use Rattle.std.proofs.lemmas.List.{length-map}
+use Rattle.farm_history.specs.declared.keys.Key.{Key}
+use Rattle.farm_history.specs.declared.answers.Finished.{Finished}
+use Rattle.farm_history.specs.declared.queues.Limits.{Limits}
+use Rattle.farm_history.specs.declared.queues.Queue.{Queue}
+use Rattle.farm_history.specs.declared.queues.Reply.{Reply}
+use Rattle.farm_history.specs.declared.queues.Waiter.{Waiter}
+use Rattle.farm_history.specs.Entries.{Entry}
+use Rattle.farm_history.specs.Lists.{Each}
+use Rattle.farm_history.specs.Plans.{Waits, same_key, same_queue, is_in, waits_in, has_room, limit_of, first_in, next}
+use Rattle.farm_history.specs.Past.{Numbered, outcome_of}
+use Rattle.farm_history.specs.Seen.{in_queue, unended, waiter_of, chain_after}
+use Rattle.farm_history.proofs.Lists.{each-passes}
+use Rattle.farm_history.proofs.Queued.{find_first, how_many_in_queue}
+use Rattle.farm_history.proofs.Unended.{chain_joined}
+use Rattle.render_queues.specs.declared.asks.Asked.{Asked}
+use Rattle.render_queues.specs.declared.lines.Lines.{Lines}
+use Rattle.render_queues.specs.OneQueue.{is_below}
+use Rattle.render_queues.specs.Tables.{Tables, line_of, first_of, next_of, chain_of}
+use Rattle.render_queues.specs.Laws.{LawNext}
+
+-- queues that are the same are equal
+pub same_queue-true : (a b : Queue) → same_queue a b ≡ true → a ≡ b
+same_queue-true Queue.Prio Queue.Prio h = refl
+same_queue-true Queue.Request Queue.Request h = refl
+same_queue-true Queue.Low Queue.Low h = refl
+same_queue-true Queue.Dirty Queue.Dirty h = refl
+same_queue-true Queue.Bulk Queue.Bulk h = refl
+same_queue-true Queue.Prio Queue.Request h = cc
+same_queue-true Queue.Prio Queue.Low h = cc
+same_queue-true Queue.Prio Queue.Dirty h = cc
+same_queue-true Queue.Prio Queue.Bulk h = cc
+same_queue-true Queue.Request Queue.Prio h = cc
+same_queue-true Queue.Request Queue.Low h = cc
+same_queue-true Queue.Request Queue.Dirty h = cc
+same_queue-true Queue.Request Queue.Bulk h = cc
+same_queue-true Queue.Low Queue.Prio h = cc
+same_queue-true Queue.Low Queue.Request h = cc
+same_queue-true Queue.Low Queue.Dirty h = cc
+same_queue-true Queue.Low Queue.Bulk h = cc
+same_queue-true Queue.Dirty Queue.Prio h = cc
+same_queue-true Queue.Dirty Queue.Request h = cc
+same_queue-true Queue.Dirty Queue.Low h = cc
+same_queue-true Queue.Dirty Queue.Bulk h = cc
+same_queue-true Queue.Bulk Queue.Prio h = cc
+same_queue-true Queue.Bulk Queue.Request h = cc
+same_queue-true Queue.Bulk Queue.Low h = cc
+same_queue-true Queue.Bulk Queue.Dirty h = cc
+
+-- the first key of a queue's list, with the queue, is the first of the list
+first_same : (queue : Queue) (ws : List Waits) → Each (λ w. same_queue w.queue queue ≡ true) ws →
+    option_map (λ key. let w : Waits = record { queue = queue; key = key } in w) (slice_get (map (λ w. w.key) ws) 0) ≡ slice_get ws 0
+first_same queue [] each = refl
+first_same queue (w ∷ ws) each = ap (λ q. let v : Waits = record { queue = q; key = w.key } in Some v) (sym (same_queue-true w.queue queue each.0))
+
+-- the first of a queue
+first_joined : (ls : Lines) (ws : List Waits) (queue : Queue) → (line_of ls queue).keys ≡ map (λ w. w.key) (in_queue queue ws) → first_of ls queue ≡ first_in ws queue
+first_joined ls ws queue are =
+    ap (λ ks. option_map (λ key. let w : Waits = record { queue = queue; key = key } in w) (slice_get ks 0)) are
+    ∙ (first_same queue (in_queue queue ws) (each-passes (λ w. same_queue w.queue queue) ws) ∙ sym (find_first (λ w. same_queue w.queue queue) ws))
+
+-- what is taken next
+pub next_joined : LawNext
+unfolding next
+next_joined ls ws are =
+    ap₂ option_or (first_joined ls ws Queue.Prio (are Queue.Prio)) (ap₂ option_or (first_joined ls ws Queue.Request (are Queue.Request)) (ap₂ option_or (first_joined ls ws Queue.Low (are Queue.Low))
+    (ap₂ option_or (first_joined ls ws Queue.Dirty (are Queue.Dirty)) (first_joined ls ws Queue.Bulk (are Queue.Bulk)))))
+
+-- whether a queue is below its limit
+pub room_joined : (limits : Limits) (ls : Lines) (ws : List Waits) (queue : Queue) → (line_of ls queue).limit ≡ limit_of limits queue → (line_of ls queue).keys ≡ map (λ w. w.key) (in_queue queue ws) →
+    is_below (line_of ls queue) ≡ has_room limits queue ws
+room_joined limits ls ws queue limit are =
+    ap₂ nat_lt (ap length are ∙ (length-map (in_queue queue ws) (λ w. w.key) ∙ sym (how_many_in_queue queue ws))) limit
+
+-- whether a key is among those of a list
+pub keys_in : {X : Type 0} (key : X → Key) (k : Key) (xs : List X) → is_in k (map key xs) ≡ list_any (λ x. same_key (key x) k) xs
+keys_in key k [] = refl
+keys_in key k (x ∷ xs) = ap (λ b. same_key (key x) k || b) (keys_in key k xs)
+
+-- an ask that waits, as the tables keep it
+abbrev pub asked_of : Numbered → Asked
+asked_of a = record { key = a.key; waiter = waiter_of a }
+
+-- the chain of a key
+pub chain_is : (t : Tables) (h : List Entry) (k : Key) → t.asks ≡ map asked_of (unended h) → chain_of t k ≡ chain_after h k
+chain_is t h k are = chain_joined asked_of (λ a. a.key) (λ a. a.waiter) t.asks h k (λ a. refl) (λ a. refl) are
