@@ -1,1 +1,1 @@
-mod Ancestors
+pub mod Ancestors
