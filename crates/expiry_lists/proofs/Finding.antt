@@ -1,0 +1,180 @@
+-- What is shown, against what each key's node has.
+use Rattle.std.proofs.Common.{◌≡◌, ℕ, ◌≤◌, Bool, true, false, not, ◌&&◌, ◌||◌, cond, List, [], ◌∷◌, length, find, Option, Some, None, option_map, is_some, refl, sym, ap, ◌∙◌, subst, arith}
+use Rattle.std.specs.List.{AllByRecursion, IsDistinct, list_any}
+use Rattle.std.specs.Map.{lookup, set_value, keys_of}
+use Rattle.indexmap.specs.IndexMap.{insert_entry}
+use Rattle.farm_history.specs.declared.keys.Key.{Key}
+use Rattle.farm_history.specs.declared.keys.Mark.{Mark}
+use Rattle.farm_history.specs.Plans.{same_key, AreApart}
+use Rattle.farm_history.proofs.Lists.{same_key-true, same_key-self, same_key-sym, Each, each-map}
+use Rattle.expiry_lists.specs.declared.nodes.Node.{Node}
+use Rattle.expiry_lists.specs.Marks.{Shown, shown_key, mark_of, touched_by, soil_mark, soil_marks, clean_marks}
+use Rattle.expiry_lists.specs.inner.Nodes.{node_of, node_mark, is_clean, has_node, is_clean_at, shown_before, shown_of}
+use Rattle.expiry_lists.specs.inner.Walks.{Soils}
+use Rattle.expiry_lists.proofs.Soiling.{NoneOf, soils_none, soils_here, soils_other}
+
+-- no two of the table have one key
+abbrev pub Distinct : List (Key × Node) → Type 0
+Distinct es = IsDistinct same_key (keys_of es)
+
+-- what no key of the list is has no node
+pub absent : (k : Key) (es : List (Key × Node)) → AllByRecursion (λ y. same_key k y ≡ false) (keys_of es) → node_of es k ≡ None
+absent k [] none = refl
+absent k (e ∷ es) none = rw none.0 (absent k es none.1)
+
+-- what has a node is not the key that no key of the list is
+there_apart : (k q : Key) (es : List (Key × Node)) → AllByRecursion (λ y. same_key k y ≡ false) (keys_of es) → has_node es q ≡ true → same_key q k ≡ false
+there_apart k q es none there = go (same_key q k) refl
+  where
+    go : (b : Bool) → same_key q k ≡ b → same_key q k ≡ false
+    go true same =
+        let own : q ≡ k = same_key-true q k same in
+        let gone : has_node es q ≡ false = ap (λ (x : Key). has_node es x) own ∙ ap is_some (absent k es none) in
+        let never : true ≡ false = sym there ∙ gone in
+        cc
+    go false other = other
+
+pub marked_there : (o : Option Node) (m : Mark) → node_mark o ≡ Some m → is_some o ≡ true
+marked_there None m is = cc
+marked_there (Some n) m is = refl
+
+-- each that is shown is the mark of its key's node
+abbrev pub Marked : List (Key × Node) → Shown → Type 0
+Marked es s = node_mark (node_of es s.key) ≡ Some s.mark
+
+module _ (e : Key × Node) (es : List (Key × Node)) (none : AllByRecursion (λ y. same_key e.0 y ≡ false) (keys_of es)) where
+  later : (s : Shown) → Marked es s → Marked (e ∷ es) s
+  later s is = let apart : same_key s.key e.0 ≡ false = there_apart e.0 s.key es none (marked_there (node_of es s.key) s.mark is) in rw apart is
+
+  with_first : (o : Option Mark) → e.1.mark ≡ o → Each (Marked (e ∷ es)) (shown_of es) → Each (Marked (e ∷ es)) (shown_before e.0 o (shown_of es))
+  with_first None is rest = rest
+  with_first (Some m) is rest = (rw (same_key-self e.0) is, rest)
+
+pub all_marked : (es : List (Key × Node)) → Distinct es → Each (Marked es) (shown_of es)
+unfolding IsDistinct
+all_marked [] apart = tt
+all_marked (e ∷ es) apart = with_first e es apart.0 e.1.mark refl (each-map (Marked es) (Marked (e ∷ es)) (shown_of es) (later e es apart.0) (all_marked es apart.1))
+
+-- the mark that is found among what is shown is that of the key's node
+found_before : (k key : Key) (o : Option Mark) (rest : List Shown) → mark_of (shown_before key o rest) k ≡ cond (same_key k key && is_some o) o (mark_of rest k)
+found_before k key None rest = go (same_key k key)
+  where
+    go : (b : Bool) → mark_of rest k ≡ cond (b && false) None (mark_of rest k)
+    go true = refl
+    go false = refl
+found_before k key (Some m) rest = go (same_key k key)
+  where
+    go : (b : Bool) → option_map (λ (s : Shown). s.mark) (cond b (Some (record { key = key; mark = m })) (find (λ s. same_key k s.key) rest)) ≡ cond (b && true) (Some m) (mark_of rest k)
+    go true = refl
+    go false = refl
+
+pub mark_found : (es : List (Key × Node)) → Distinct es → (k : Key) → mark_of (shown_of es) k ≡ node_mark (node_of es k)
+unfolding IsDistinct
+mark_found [] apart k = refl
+mark_found (e ∷ es) apart k = found_before k e.0 e.1.mark (shown_of es) ∙ go (mark_found es apart.1 k) (same_key k e.0) refl e.1.mark refl
+  where
+    go : mark_of (shown_of es) k ≡ node_mark (node_of es k) → (b : Bool) → same_key k e.0 ≡ b → (o : Option Mark) → e.1.mark ≡ o → cond (b && is_some o) o (mark_of (shown_of es) k) ≡ node_mark (cond b (Some e.1) (node_of es k))
+    go ih false other o is = ih
+    go ih true same (Some m) is = sym is
+    go ih true same None is =
+        let own : k ≡ e.0 = same_key-true k e.0 same in
+        ih ∙ (ap (λ (x : Key). node_mark (node_of es x)) own ∙ (ap node_mark (absent e.0 es apart.0) ∙ sym is))
+
+-- a later key of the list is none of what is shown before it
+shown_apart : (k : Key) (es : List (Key × Node)) → AllByRecursion (λ y. same_key k y ≡ false) (keys_of es) → Each (λ (s : Shown). same_key k s.key ≡ false) (shown_of es)
+shown_apart k [] none = tt
+shown_apart k (e ∷ es) none = go e.1.mark (shown_apart k es none.1)
+  where
+    go : (o : Option Mark) → Each (λ (s : Shown). same_key k s.key ≡ false) (shown_of es) → Each (λ (s : Shown). same_key k s.key ≡ false) (shown_before e.0 o (shown_of es))
+    go None rest = rest
+    go (Some m) rest = (none.0, rest)
+
+-- keys apart
+none_any : (k : Key) (ss : List Shown) → Each (λ (s : Shown). same_key k s.key ≡ false) ss → list_any (λ s. same_key s.key k) ss ≡ false
+none_any k [] none = refl
+none_any k (s ∷ ss) none = rw (same_key-sym s.key k, none.0) (none_any k ss none.1)
+
+pub apart_shown : (es : List (Key × Node)) → Distinct es → AreApart shown_key (shown_of es)
+unfolding IsDistinct
+apart_shown [] apart = tt
+apart_shown (e ∷ es) apart = go e.1.mark (apart_shown es apart.1)
+  where
+    go : (o : Option Mark) → AreApart shown_key (shown_of es) → AreApart shown_key (shown_before e.0 o (shown_of es))
+    go None rest = rest
+    go (Some m) rest = (none_any e.0 (shown_of es) (shown_apart e.0 es apart.0), rest)
+
+-- no more are shown than have nodes
+pub length-shown_of : (es : List (Key × Node)) → length (shown_of es) ≤ length es
+length-shown_of [] = omega arith
+length-shown_of (e ∷ es) = go e.1.mark (length-shown_of es)
+  where
+    go : (o : Option Mark) → length (shown_of es) ≤ length es → length (shown_before e.0 o (shown_of es)) ≤ length (e ∷ es)
+    go None ih = omega arith
+    go (Some m) ih = omega arith
+
+-- A write that keeps the mark shows the same;
+pub set-same_mark : (es : List (Key × Node)) (key : Key) (n w : Node) → node_of es key ≡ Some n → w.mark ≡ n.mark → shown_of (set_value (same_key key) es w) ≡ shown_of es
+set-same_mark [] key n w found same = refl
+set-same_mark (e ∷ es) key n w found same = go (λ is. set-same_mark es key n w is same) (same_key key e.0) found
+  where
+    go : (node_of es key ≡ Some n → shown_of (set_value (same_key key) es w) ≡ shown_of es) → (b : Bool) → cond b (Some e.1) (node_of es key) ≡ Some n → shown_of (cond b ((e.0, w) ∷ es) (e ∷ set_value (same_key key) es w)) ≡ shown_before e.0 e.1.mark (shown_of es)
+    go ih true is = let own : e.1 ≡ n = cc in ap (λ o. shown_before e.0 o (shown_of es)) (same ∙ sym (ap (λ (x : Node). x.mark) own))
+    go ih false is = ap (shown_before e.0 e.1.mark) (ih is)
+
+-- a new key that is not shown shows the same;
+pub insert-unmarked : (es : List (Key × Node)) (key : Key) (w : Node) → node_of es key ≡ None → w.mark ≡ None → shown_of (insert_entry same_key es key w) ≡ shown_of es
+insert-unmarked [] key w new none = ap (λ o. shown_before key o []) none
+insert-unmarked (e ∷ es) key w new none = go (λ is. insert-unmarked es key w is none) (same_key key e.0) new
+  where
+    go : (node_of es key ≡ None → shown_of (insert_entry same_key es key w) ≡ shown_of es) → (b : Bool) → cond b (Some e.1) (node_of es key) ≡ None → shown_of (cond b ((e.0, w) ∷ es) (e ∷ insert_entry same_key es key w)) ≡ shown_before e.0 e.1.mark (shown_of es)
+    go ih true is = cc
+    go ih false is = ap (shown_before e.0 e.1.mark) (ih is)
+
+-- and a write of the mark made dirty is the expiry of that key alone
+weight_of : Option Mark → ℕ
+weight_of o = cond (is_clean o) 1 0
+
+pub set-soils : (es : List (Key × Node)) → Distinct es → (key : Key) (n w : Node) → node_of es key ≡ Some n → w.mark ≡ option_map (touched_by true) n.mark →
+    Soils (same_key key) (shown_of es) (shown_of (set_value (same_key key) es w)) (cond (is_clean n.mark) 1 0)
+unfolding IsDistinct
+set-soils [] apart key n w found same = cc
+set-soils (e ∷ es) apart key n w found same = go (λ is. set-soils es apart.1 key n w is same) (same_key key e.0) refl found
+  where
+    go : (node_of es key ≡ Some n → Soils (same_key key) (shown_of es) (shown_of (set_value (same_key key) es w)) (cond (is_clean n.mark) 1 0)) →
+        (b : Bool) → same_key key e.0 ≡ b → cond b (Some e.1) (node_of es key) ≡ Some n →
+        Soils (same_key key) (shown_before e.0 e.1.mark (shown_of es)) (shown_of (cond b ((e.0, w) ∷ es) (e ∷ set_value (same_key key) es w))) (cond (is_clean n.mark) 1 0)
+    go ih true here is =
+        let own : n ≡ e.1 = cc in
+        let marks : n.mark ≡ e.1.mark = ap (λ (x : Node). x.mark) own in
+        rw same (rw marks (first e.1.mark))
+      where
+        key_is : key ≡ e.0
+        key_is = same_key-true key e.0 here
+
+        none : NoneOf (same_key key) (shown_of es)
+        none = each-map _ _ (shown_of es) (λ s apart' clean. subst (λ (x : Key). same_key x s.key ≡ false) (sym key_is) apart') (shown_apart e.0 es apart.0)
+
+        first : (o : Option Mark) → Soils (same_key key) (shown_before e.0 o (shown_of es)) (shown_before e.0 (option_map (touched_by true) o) (shown_of es)) (cond (is_clean o) 1 0)
+        first None = soils_none (same_key key) (shown_of es) none
+        first (Some m) = soils_here (same_key key) (record { key = e.0; mark = m }) here (soils_none (same_key key) (shown_of es) none)
+    go ih false other is = rest e.1.mark (ih is)
+      where
+        rest : (o : Option Mark) → Soils (same_key key) (shown_of es) (shown_of (set_value (same_key key) es w)) (cond (is_clean n.mark) 1 0) →
+            Soils (same_key key) (shown_before e.0 o (shown_of es)) (shown_before e.0 o (shown_of (set_value (same_key key) es w))) (cond (is_clean n.mark) 1 0)
+        rest None ih = ih
+        rest (Some m) ih = soils_other (same_key key) (record { key = e.0; mark = m }) other ih
+
+-- where the key has no node, there is nothing to expire
+pub absent_soils : (es : List (Key × Node)) → Distinct es → (key : Key) → node_of es key ≡ None → Soils (same_key key) (shown_of es) (shown_of es) 0
+absent_soils es apart key gone = soils_none (same_key key) (shown_of es) (each-map (Marked es) _ (shown_of es) other (all_marked es apart))
+  where
+    other : (s : Shown) → Marked es s → s.mark.clean ≡ true → same_key key s.key ≡ false
+    other s is clean = go (same_key key s.key) refl
+      where
+        go : (b : Bool) → same_key key s.key ≡ b → same_key key s.key ≡ false
+        go true same =
+            let own : key ≡ s.key = same_key-true key s.key same in
+            let here : node_mark (node_of es key) ≡ Some s.mark = ap (λ (x : Key). node_mark (node_of es x)) own ∙ is in
+            let nothing : node_mark (node_of es key) ≡ None = ap node_mark gone in
+            cc
+        go false apart' = apart'

@@ -1,0 +1,13 @@
+pub mod Above
+pub mod BoxLaws
+pub mod Finding
+pub mod Live
+pub mod Marking
+pub mod Over
+pub mod Quarters
+pub mod Saving
+pub mod Showing
+pub mod Soiling
+pub mod Tiles
+pub mod Walked
+pub mod Writing

@@ -1,0 +1,356 @@
+-- Which keys an expiry of a tile, of a map or of a rectangle meets.
+use Rattle.std.proofs.Common.{◌≡◌, ℕ, zero, suc, [], ◌∷◌, ◌++◌, take, get_or, length, ◌+◌, ◌-◌, ◌*◌, ◌/◌, ◌%◌, ◌^◌, ◌<◌, ◌≤◌, Bool, true, false, ◌&&◌, ◌||◌, ◌==◌, nat_le, if◌then◌else◌, List, refl, sym, ap, ◌∙◌, subst, inl, inr, ◌⊎◌, arith}
+use Rattle.std.proofs.lemmas.Bool.{cases_lt, cases_Bool, eqb-true, eq-eqb, ne_eqb, false_from_ne_true, or_left, or_right, and_from, and_parts}
+use Rattle.std.proofs.lemmas.List.{take_more}
+use Rattle.std.proofs.lemmas.Bool.Decides.{nat_tests}
+use Rattle.std.proofs.lemmas.Nat.{pow_pos, pow_below, pow-add, shr-shr, shr_le, div_below, shr_below}
+use Rattle.plain_world.specs.declared.world.Square.{Square}
+use Rattle.plain_world.specs.declared.world.Tile.{Tile}
+use Rattle.plain_world.specs.declared.world.Meta.{Meta}
+use Rattle.plain_world.specs.World.{IsMeta, IsTile, meta_square, tile_square, squares_meet}
+use Rattle.plain_world.proofs.Squares.{ancestor, squares_turned}
+use Rattle.farm_history.specs.declared.keys.Key.{Key}
+use Rattle.farm_history.specs.Plans.{same_key, overlaps}
+use Rattle.farm_history.proofs.Lists.{Each, each-map, each-all, any-append, same_key-true, same_key-self}
+use Rattle.expiry_lists.specs.declared.nodes.Node.{Node}
+use Rattle.expiry_lists.specs.declared.boxes.Rectangle.{Rectangle}
+use Rattle.expiry_lists.specs.Boxes.{holds_some}
+use Rattle.expiry_lists.specs.Marks.{Shown, is_of_map, is_picked, is_in_box}
+use Rattle.expiry_lists.specs.inner.Nodes.{node_of, is_live, shown_of, IsTree}
+use Rattle.expiry_lists.specs.inner.Tiles.{world_key, is_flat, key_over, is_of_maps}
+use Rattle.expiry_lists.specs.inner.Walks.{child, is_under, is_above, IsNode, Walks}
+use Rattle.expiry_lists.proofs.Soiling.{AgreeOn, NoneOf}
+use Rattle.expiry_lists.proofs.Finding.{Distinct, Marked, all_marked, marked_there}
+use Rattle.expiry_lists.proofs.Live.{OnGrid, node_on_grid, under_deep, none_under}
+use Rattle.expiry_lists.proofs.Walked.{walks_then, walks_agree, walks_none}
+use Rattle.expiry_lists.proofs.BoxLaws.{over_holds}
+use Rattle.expiry_lists.proofs.Over.{Below, node_square, meta_square-node, above_below, below_under, under_below, below_over, around_meets}
+
+-- tests that agree on metatiles agree on what the table shows
+pub agree_metas : (es : List (Key × Node)) → Distinct es → IsTree es → (p q : Key → Bool) → ((k : Key) → IsMeta k.meta → p k ≡ q k) → AgreeOn p q (shown_of es)
+agree_metas es apart tree p q same = each-map (Marked es) _ (shown_of es) (λ s is clean. same s.key (tree.metas s.key (marked_there (node_of es s.key) s.mark is))) (all_marked es apart)
+
+pub none_metas : (es : List (Key × Node)) → Distinct es → IsTree es → (p : Key → Bool) → ((k : Key) → IsMeta k.meta → p k ≡ false) → NoneOf p (shown_of es)
+none_metas es apart tree p none = each-map (Marked es) _ (shown_of es) (λ s is clean. none s.key (tree.metas s.key (marked_there (node_of es s.key) s.mark is))) (all_marked es apart)
+
+-- The root of a map.
+pub root_node : (map : ℕ) → IsNode (world_key map 3)
+root_node map = record { deep = omega arith; meta = record { z_fits = omega arith; x_fits = omega arith; y_fits = omega arith; x_eights = omega arith; y_eights = omega arith } }
+
+none_past : (x z : ℕ) → x < 2 ^ z → x / 2 ^ z ≡ 0
+none_past x z fits = let few : x / 2 ^ z < 1 = div_below x (2 ^ z) 1 (pow_pos z) (omega (arith, fits)) in omega (arith, few)
+
+eighth_fits : (x z : ℕ) → 3 ≤ z → x < 2 ^ z → x / 8 < 2 ^ (z - 3)
+eighth_fits x z deep fits =
+    let d : 3 + (z - 3) ≡ z = omega arith in
+    let p : 2 ^ 3 * 2 ^ (z - 3) ≡ 2 ^ z = sym (pow-add 2 3 (z - 3)) ∙ ap (λ n. 2 ^ n) d in
+    omega (arith, p)
+
+-- each metatile of a map from zoom 3 on lies below it
+pub root_below : (k : Key) → 3 ≤ k.meta.z → IsMeta k.meta → Below (k.meta.z - 3) (world_key k.map 3) k
+root_below k deep meta = record {
+  same_map = refl;
+  zoom = omega (arith, deep);
+  column = none_past (k.meta.x / 8) (k.meta.z - 3) (eighth_fits k.meta.x k.meta.z deep meta.x_fits);
+  row = none_past (k.meta.y / 8) (k.meta.z - 3) (eighth_fits k.meta.y k.meta.z deep meta.y_fits);
+}
+
+pub meta_on_grid : (k : Key) → 3 ≤ k.meta.z → IsMeta k.meta → OnGrid k
+meta_on_grid k deep meta = record { deep = deep; x_eights = meta.x_eights; y_eights = meta.y_eights }
+
+pub root_under : (n : ℕ) (map : ℕ) (k : Key) → map ≡ k.map → 3 ≤ k.meta.z → k.meta.z - 3 ≤ n → IsMeta k.meta → is_under n (world_key map 3) k ≡ true
+root_under n map k maps deep few meta =
+    subst (λ m. is_under n (world_key m 3) k ≡ true) (sym maps)
+    (below_under n (world_key k.map 3) k (k.meta.z - 3) (node_on_grid (world_key k.map 3) (root_node k.map)) (meta_on_grid k deep meta) few (root_below k deep meta))
+
+-- The keys of zooms 0 to 2.
+pub flat_is : (k : Key) → k.meta.z < 3 → IsMeta k.meta → world_key k.map k.meta.z ≡ k
+flat_is k small meta =
+    let p : 2 ^ k.meta.z < 2 ^ 3 = pow_below k.meta.z 3 small in
+    let x : 0 ≡ k.meta.x = omega (arith, p, meta.x_fits, meta.x_eights) in
+    let y : 0 ≡ k.meta.y = omega (arith, p, meta.y_fits, meta.y_eights) in
+    λ i. record { map = k.map; meta = record { z = k.meta.z; x = x i; y = y i } }
+
+world_same : (map z : ℕ) (k : Key) → world_key map z ≡ k → same_key (world_key map z) k ≡ true
+world_same map z k own = ap (same_key (world_key map z)) (sym own) ∙ same_key-self (world_key map z)
+
+flat_there : (map : ℕ) (k : Key) → map ≡ k.map → k.meta.z < 3 → IsMeta k.meta → is_flat map k ≡ true
+flat_there map k maps small meta = go k.meta.z refl
+  where
+    own : (z : ℕ) → z ≡ k.meta.z → same_key (world_key map z) k ≡ true
+    own z is = world_same map z k (ap (λ m. world_key m z) maps ∙ (ap (world_key k.map) is ∙ flat_is k small meta))
+
+    go : (z : ℕ) → z ≡ k.meta.z → is_flat map k ≡ true
+    go zero is = or_left _ (same_key (world_key map 2) k) (or_left _ (same_key (world_key map 1) k) (own 0 is))
+    go (suc zero) is = or_left _ (same_key (world_key map 2) k) (or_right (same_key (world_key map 0) k) _ (own 1 is))
+    go (suc (suc zero)) is = or_right (same_key (world_key map 0) k || same_key (world_key map 1) k) _ (own 2 is)
+    go (suc (suc (suc z))) is = absurd (omega (arith, is, small))
+
+flat_deep : (map : ℕ) (k : Key) → 3 ≤ k.meta.z → is_flat map k ≡ false
+flat_deep map k deep = grind (arith, nat_tests)
+
+flat_other : (map : ℕ) (k : Key) → (map == k.map) ≡ false → is_flat map k ≡ false
+flat_other map k other = grind (arith, nat_tests)
+
+-- A map: its keys of zooms 0 to 2 and those below its root.
+pub map_agrees : (map : ℕ) (k : Key) → IsMeta k.meta → (is_flat map k || is_under 15 (world_key map 3) k) ≡ is_of_map map k
+map_agrees map k meta = go (map == k.map) refl
+  where
+    deeper : (map == k.map) ≡ true → (k.meta.z < 3) ⊎ (3 ≤ k.meta.z) → (is_flat map k || is_under 15 (world_key map 3) k) ≡ true
+    deeper same (inl small) = or_left (is_flat map k) _ (flat_there map k (eqb-true map k.map same) small meta)
+    deeper same (inr deep) = or_right (is_flat map k) _ (root_under 15 map k (eqb-true map k.map same) deep (omega (arith, meta.z_fits)) meta)
+
+    apart : (map == k.map) ≡ false → is_under 15 (world_key map 3) k ≡ false
+    apart other = false_from_ne_true (is_under 15 (world_key map 3) k) (λ under.
+        let same : (map == k.map) ≡ true = eq-eqb map k.map (under_deep 15 (world_key map 3) k under).0 in
+        let never : true ≡ false = sym same ∙ other in
+        cc)
+
+    go : (b : Bool) → (map == k.map) ≡ b → (is_flat map k || is_under 15 (world_key map 3) k) ≡ b
+    go true same = deeper same (cases_lt k.meta.z 3)
+    go false other = rw (flat_other map k other, apart other) refl
+
+-- A rectangle at a zoom of 3 or later,
+pub box_agrees : (map z : ℕ) (b : Rectangle) (k : Key) → 3 ≤ z → IsMeta k.meta → (is_under (z - 3) (world_key map 3) k && is_picked z b k) ≡ is_in_box map z b k
+box_agrees map z b k deep meta = go (k.meta.z == z) refl (map == k.map) refl
+  where
+    apart : (map == k.map) ≡ false → is_under (z - 3) (world_key map 3) k ≡ false
+    apart other = false_from_ne_true (is_under (z - 3) (world_key map 3) k) (λ under.
+        let same : (map == k.map) ≡ true = eq-eqb map k.map (under_deep (z - 3) (world_key map 3) k under).0 in
+        let never : true ≡ false = sym same ∙ other in
+        cc)
+
+    both : (x y : Bool) → (x && (false && y)) ≡ false
+    both true y = refl
+    both false y = refl
+
+    go : (c : Bool) → (k.meta.z == z) ≡ c → (m : Bool) → (map == k.map) ≡ m → (is_under (z - 3) (world_key map 3) k && (c && holds_some b (meta_square k.meta))) ≡ (m && (c && holds_some b (meta_square k.meta)))
+    go false other m is = both (is_under (z - 3) (world_key map 3) k) (holds_some b (meta_square k.meta)) ∙ sym (both m (holds_some b (meta_square k.meta)))
+    go true same false other = rw (apart other) refl
+    go true same true own =
+        let zoom : k.meta.z ≡ z = eqb-true k.meta.z z same in
+        rw (root_under (z - 3) map k (eqb-true map k.map own) (omega (arith, zoom, deep)) (omega (arith, zoom)) meta) refl
+
+-- and at one before: the one key of that zoom, where the world holds a point of the rectangle.
+pub flat_box : (map z : ℕ) (b : Rectangle) (k : Key) → z < 3 → IsMeta k.meta → (same_key (world_key map z) k && holds_some b (meta_square (world_key map z).meta)) ≡ is_in_box map z b k
+flat_box map z b k small meta = go (k.meta.z == z) refl (map == k.map) refl
+  where
+    go : (c : Bool) → (k.meta.z == z) ≡ c → (m : Bool) → (map == k.map) ≡ m → (same_key (world_key map z) k && holds_some b (meta_square (world_key map z).meta)) ≡ (m && (c && holds_some b (meta_square k.meta)))
+    go true same true own =
+        let zoom : k.meta.z ≡ z = eqb-true k.meta.z z same in
+        let key : world_key map z ≡ k = ap (λ m. world_key m z) (eqb-true map k.map own) ∙ (ap (world_key k.map) (sym zoom) ∙ flat_is k (omega (arith, zoom, small)) meta) in
+        rw (world_same map z k key) (ap (λ (x : Key). holds_some b (meta_square x.meta)) key)
+    go true same false other = let no : same_key (world_key map z) k ≡ false = grind (arith, nat_tests) in rw no refl
+    go false other m is = let no : same_key (world_key map z) k ≡ false = grind (arith, nat_tests) in rw no (nothing m)
+      where
+        nothing : (x : Bool) → false ≡ (x && false)
+        nothing true = refl
+        nothing false = refl
+
+-- A tile: its square is met by the world's,
+world_meets : (t : Tile) → IsTile t → squares_meet (tile_square t) (record { z = 0; x = 0; y = 0 }) ≡ true
+world_meets t tile =
+    let w : Square = record { z = 0; x = 0; y = 0 } in
+    let zoom : t.z ≡ 0 + t.z = omega arith in
+    let x : (t.x / 2 ^ t.z == 0) ≡ true = eq-eqb (t.x / 2 ^ t.z) 0 (none_past t.x t.z tile.x_fits) in
+    let y : (t.y / 2 ^ t.z == 0) ≡ true = eq-eqb (t.y / 2 ^ t.z) 0 (none_past t.y t.z tile.y_fits) in
+    squares_turned (tile_square t) w ∙ (sym (ancestor w (tile_square t) t.z zoom tile.z_fits) ∙ rw (x, y) refl)
+
+-- and a square of zoom 15 or before meets it where it meets the one of zoom 15 that holds it.
+deep_tile : (t : Tile) (s : Square) → IsTile t → 15 < t.z → s.z ≤ 15 → squares_meet (record { z = 15; x = t.x / 2 ^ (t.z - 15); y = t.y / 2 ^ (t.z - 15) }) s ≡ squares_meet (tile_square t) s
+deep_tile t s tile deep high =
+    let up : Square = record { z = 15; x = t.x / 2 ^ (t.z - 15); y = t.y / 2 ^ (t.z - 15) } in
+    let steps : (t.z - 15) + (15 - s.z) ≡ t.z - s.z = omega arith in
+    let x : t.x / 2 ^ (t.z - 15) / 2 ^ (15 - s.z) ≡ t.x / 2 ^ (t.z - s.z) = shr-shr t.x (t.z - 15) (15 - s.z) ∙ ap (λ n. t.x / 2 ^ n) steps in
+    let y : t.y / 2 ^ (t.z - 15) / 2 ^ (15 - s.z) ≡ t.y / 2 ^ (t.z - s.z) = shr-shr t.y (t.z - 15) (15 - s.z) ∙ ap (λ n. t.y / 2 ^ n) steps in
+    let a : (up.x / 2 ^ (15 - s.z) == s.x) && (up.y / 2 ^ (15 - s.z) == s.y) ≡ squares_meet s up = ancestor s up (15 - s.z) (omega (arith, high)) (omega arith) in
+    let b : (t.x / 2 ^ (t.z - s.z) == s.x) && (t.y / 2 ^ (t.z - s.z) == s.y) ≡ squares_meet s (tile_square t) = ancestor s (tile_square t) (t.z - s.z) (omega (arith, high, deep)) tile.z_fits in
+    let same : (up.x / 2 ^ (15 - s.z) == s.x) && (up.y / 2 ^ (15 - s.z) == s.y) ≡ ((t.x / 2 ^ (t.z - s.z) == s.x) && (t.y / 2 ^ (t.z - s.z) == s.y)) =
+      ap (λ n. (n == s.x) && (up.y / 2 ^ (15 - s.z) == s.y)) x ∙ ap (λ n. (t.x / 2 ^ (t.z - s.z) == s.x) && (n == s.y)) y in
+    squares_turned up s ∙ (sym a ∙ (same ∙ (b ∙ squares_turned s (tile_square t))))
+
+-- the key over a tile
+eight_fits : (x z : ℕ) → x < 2 ^ z → x * 8 < 2 ^ (z + 3)
+eight_fits x z fits = let p : 2 ^ (z + 3) ≡ 2 ^ z * 2 ^ 3 = pow-add 2 z 3 in omega (arith, p)
+
+pub high_node : (map : ℕ) (t : Tile) → IsTile t → t.z ≤ 15 → IsNode (record { map = map; meta = record { z = t.z + 3; x = t.x * 8; y = t.y * 8 } })
+high_node map t tile high = record {
+  deep = omega arith;
+  meta = record { z_fits = omega (arith, high); x_fits = eight_fits t.x t.z tile.x_fits; y_fits = eight_fits t.y t.z tile.y_fits; x_eights = omega arith; y_eights = omega arith };
+}
+
+pub deep_fits : (x z : ℕ) → 15 < z → x < 2 ^ z → x / 2 ^ (z - 15) * 8 < 2 ^ 18
+deep_fits x z deep fits =
+    let zoom : 15 + (z - 15) ≡ z = omega arith in
+    let few : x / 2 ^ (z - 15) < 2 ^ 15 = shr_below x 15 (z - 15) (subst (λ n. x < 2 ^ n) (sym zoom) fits) in
+    omega (arith, few)
+
+pub deep_node : (map : ℕ) (t : Tile) → IsTile t → 15 < t.z → IsNode (record { map = map; meta = record { z = 18; x = t.x / 2 ^ (t.z - 15) * 8; y = t.y / 2 ^ (t.z - 15) * 8 } })
+deep_node map t tile deep = record {
+  deep = omega arith;
+  meta = record { z_fits = omega arith; x_fits = deep_fits t.x t.z deep tile.x_fits; y_fits = deep_fits t.y t.z deep tile.y_fits; x_eights = omega arith; y_eights = omega arith };
+}
+
+-- its square meets what the tile's does
+key_over_meets : (map : ℕ) (t : Tile) (k : Key) → IsTile t → 3 ≤ k.meta.z → IsMeta k.meta → squares_meet (node_square (key_over map t)) (node_square k) ≡ squares_meet (tile_square t) (node_square k)
+key_over_meets map t k tile deep meta = go (cases_lt 15 t.z)
+  where
+    go : (15 < t.z) ⊎ (t.z ≤ 15) → squares_meet (node_square (key_over map t)) (node_square k) ≡ squares_meet (tile_square t) (node_square k)
+    go (inl late) =
+        let test : nat_le t.z 15 ≡ false = grind (arith, nat_tests) in
+        let x : t.x / 2 ^ (t.z - 15) * 8 / 8 ≡ t.x / 2 ^ (t.z - 15) = omega arith in
+        let y : t.y / 2 ^ (t.z - 15) * 8 / 8 ≡ t.y / 2 ^ (t.z - 15) = omega arith in
+        let here : node_square (key_over map t) ≡ record { z = 15; x = t.x / 2 ^ (t.z - 15); y = t.y / 2 ^ (t.z - 15) } =
+          ap (λ b. node_square (if b then record { map = map; meta = record { z = t.z + 3; x = t.x * 8; y = t.y * 8 } } else record { map = map; meta = record { z = 18; x = t.x / 2 ^ (t.z - 15) * 8; y = t.y / 2 ^ (t.z - 15) * 8 } })) test
+          ∙ (λ i. record { z = 15; x = x i; y = y i }) in
+        ap (λ s. squares_meet s (node_square k)) here ∙ deep_tile t (node_square k) tile late (omega (arith, meta.z_fits))
+    go (inr early) =
+        let test : nat_le t.z 15 ≡ true = grind (arith, nat_tests) in
+        let z : t.z + 3 - 3 ≡ t.z = omega arith in
+        let x : t.x * 8 / 8 ≡ t.x = omega arith in
+        let y : t.y * 8 / 8 ≡ t.y = omega arith in
+        let here : node_square (key_over map t) ≡ tile_square t =
+          ap (λ b. node_square (if b then record { map = map; meta = record { z = t.z + 3; x = t.x * 8; y = t.y * 8 } } else record { map = map; meta = record { z = 18; x = t.x / 2 ^ (t.z - 15) * 8; y = t.y / 2 ^ (t.z - 15) * 8 } })) test
+          ∙ (λ i. record { z = z i; x = x i; y = y i }) in
+        ap (λ s. squares_meet s (node_square k)) here
+
+key_if : Bool → ℕ → Tile → Key
+key_if b map t = if b then record { map = map; meta = record { z = t.z + 3; x = t.x * 8; y = t.y * 8 } }
+    else record { map = map; meta = record { z = 18; x = t.x / 2 ^ (t.z - 15) * 8; y = t.y / 2 ^ (t.z - 15) * 8 } }
+
+key_if-map : (b : Bool) (map : ℕ) (t : Tile) → (key_if b map t).map ≡ map
+unfolding key_if
+key_if-map true map t = refl
+key_if-map false map t = refl
+
+key_over-map : (map : ℕ) (t : Tile) → (key_over map t).map ≡ map
+unfolding key_if
+key_over-map map t = key_if-map (nat_le t.z 15) map t
+
+-- So the keys of zooms 0 to 2, those above the key and those below it are the map's keys that the tile overlaps.
+pub tile_agrees : (map : ℕ) (t : Tile) (top k : Key) → top ≡ key_over map t → IsNode top → IsTile t → IsMeta k.meta →
+    ((is_flat map k || is_above (top.meta.z - 3) top k) || is_under (18 - top.meta.z) top k) ≡ (is_of_map map k && overlaps t k)
+unfolding overlaps
+tile_agrees map t top k is node tile meta = go (map == k.map) refl
+  where
+    top_map : top.map ≡ map
+    top_map = ap (λ (x : Key). x.map) is ∙ key_over-map map t
+
+    apart : (map == k.map) ≡ false → (top.map ≡ k.map → ⊥)
+    apart other own = let same : (map == k.map) ≡ true = eq-eqb map k.map (sym top_map ∙ own) in let never : true ≡ false = sym same ∙ other in cc
+
+    none_up : (map == k.map) ≡ false → is_above (top.meta.z - 3) top k ≡ false
+    none_up other = false_from_ne_true (is_above (top.meta.z - 3) top k) (λ above. apart other (sym (above_below (top.meta.z - 3) top k (omega (arith, node.deep)) above).3.same_map))
+
+    none_down : (map == k.map) ≡ false → is_under (18 - top.meta.z) top k ≡ false
+    none_down other = false_from_ne_true (is_under (18 - top.meta.z) top k) (λ under. apart other (under_deep (18 - top.meta.z) top k under).0)
+
+    split : (map == k.map) ≡ true → (k.meta.z < 3) ⊎ (3 ≤ k.meta.z) → ((is_flat map k || is_above (top.meta.z - 3) top k) || is_under (18 - top.meta.z) top k) ≡ overlaps t k
+    split same (inl small) =
+        let test : nat_le 3 k.meta.z ≡ false = grind (arith, nat_tests) in
+        or_left _ (is_under (18 - top.meta.z) top k) (or_left (is_flat map k) (is_above (top.meta.z - 3) top k) (flat_there map k (eqb-true map k.map same) small meta))
+        ∙ sym (ap (λ b. squares_meet (tile_square t) (if b then record { z = k.meta.z - 3; x = k.meta.x / 8; y = k.meta.y / 8 } else record { z = 0; x = 0; y = 0 })) test ∙ world_meets t tile)
+    split same (inr deep) =
+        let own : top.map ≡ k.map = top_map ∙ eqb-true map k.map same in
+        ap (λ b. (b || is_above (top.meta.z - 3) top k) || is_under (18 - top.meta.z) top k) (flat_deep map k deep)
+        ∙ (around_meets top k node deep meta own
+        ∙ (ap (λ (x : Key). squares_meet (node_square x) (node_square k)) is
+        ∙ (key_over_meets map t k tile deep meta ∙ ap (squares_meet (tile_square t)) (sym (meta_square-node k deep)))))
+
+    go : (b : Bool) → (map == k.map) ≡ b → ((is_flat map k || is_above (top.meta.z - 3) top k) || is_under (18 - top.meta.z) top k) ≡ (b && overlaps t k)
+    go true same = split same (cases_lt k.meta.z 3)
+    go false other = rw (flat_other map k other, none_up other, none_down other) refl
+
+-- No map, and one map after others.
+pub walks_no_map : (t : Tile) (es : List (Key × Node)) → IsTree es → Walks (λ k. is_of_maps [] k && overlaps t k) es es 0
+walks_no_map t es tree = walks_none (λ k. is_of_maps [] k && overlaps t k) es (each-all _ (shown_of es) (λ s clean. refl)) tree
+
+one_more : (x y o : Bool) → ((x && o) || (y && o)) ≡ ((x || (y || false)) && o)
+one_more true true true = refl
+one_more true true false = refl
+one_more true false true = refl
+one_more true false false = refl
+one_more false true true = refl
+one_more false true false = refl
+one_more false false true = refl
+one_more false false false = refl
+
+pub walks_map : {a b c : List (Key × Node)} {m n : ℕ} (t : Tile) (maps : List ℕ) (i map : ℕ) → i < length maps → map ≡ get_or maps i 0 →
+    Walks (λ k. is_of_maps (take i maps) k && overlaps t k) a b m → Walks (λ k. is_of_map map k && overlaps t k) b c n → Walks (λ k. is_of_maps (take (i + 1) maps) k && overlaps t k) a c (m + n)
+walks_map {a} {b} {c} {m} {n} t maps i map within is first second =
+    walks_agree (λ k. is_of_maps (take (i + 1) maps) k && overlaps t k) (each-all _ (shown_of a) (λ s clean. same s.key)) (walks_then first second)
+  where
+    more : (k : Key) → is_of_maps (take (i + 1) maps) k ≡ (is_of_maps (take i maps) k || ((map == k.map) || false))
+    more k =
+        ap (λ xs. is_of_maps xs k) (take_more maps i 0 within ∙ ap (λ x. take i maps ++ x ∷ []) (sym is))
+        ∙ any-append (λ x. x == k.map) (take i maps) (map ∷ [])
+
+    same : (k : Key) → ((is_of_maps (take i maps) k && overlaps t k) || (is_of_map map k && overlaps t k)) ≡ (is_of_maps (take (i + 1) maps) k && overlaps t k)
+    same k = one_more (is_of_maps (take i maps) k) (map == k.map) (overlaps t k) ∙ sym (ap (λ x. x && overlaps t k) (more k))
+
+-- The walk into a rectangle.
+abbrev pub in_box : ℕ → ℕ → Rectangle → Key → Key → Bool
+in_box n z b top k = is_under n top k && is_picked z b k
+
+both_false : (x y : Bool) → x ≡ false → (x && y) ≡ false
+both_false x y is = rw is refl
+
+-- passes over a node that is not live,
+pub box_not_live : (es : List (Key × Node)) → Distinct es → IsTree es → (n z : ℕ) (b : Rectangle) (top : Key) → IsNode top → is_live es top ≡ false → Walks (in_box n z b top) es es 0
+box_not_live es apart tree n z b top node still =
+    walks_none (in_box n z b top) es (each-map _ _ (shown_of es) (λ s none clean. both_false _ (is_picked z b s.key) (none clean)) (none_under es apart tree n top (node_on_grid top node) still)) tree
+
+-- and over one whose square holds no point of the rectangle,
+pub box_missed : (es : List (Key × Node)) → Distinct es → IsTree es → (n z : ℕ) (b : Rectangle) (top : Key) → IsNode top → holds_some b (meta_square top.meta) ≡ false → Walks (in_box n z b top) es es 0
+box_missed es apart tree n z b top node missed = walks_none (in_box n z b top) es (none_metas es apart tree (in_box n z b top) none) tree
+  where
+    none : (k : Key) → IsMeta k.meta → in_box n z b top k ≡ false
+    none k meta = false_from_ne_true (in_box n z b top k) (λ h.
+        let parts = and_parts (is_under n top k) (is_picked z b k) h in
+        let picked = and_parts (k.meta.z == z) (holds_some b (meta_square k.meta)) parts.1 in
+        let found = under_below n top k (node_on_grid top node) parts.0 in
+        let deep : 3 ≤ k.meta.z = omega (arith, node.deep, found.2.zoom) in
+        let low : holds_some b (node_square k) ≡ true = sym (ap (holds_some b) (meta_square-node k deep)) ∙ picked.1 in
+        let high : holds_some b (node_square top) ≡ true = over_holds b (node_square top) (node_square k) (omega (arith, meta.z_fits)) (below_over found.0 top k node.deep found.2) low in
+        let never : true ≡ false = sym high ∙ (sym (ap (holds_some b) (meta_square-node top node.deep)) ∙ missed) in
+        cc)
+
+-- takes a key of the zoom asked for,
+pub box_own : {es new : List (Key × Node)} {count : ℕ} (n z : ℕ) (b : Rectangle) (top : Key) → top.meta.z ≡ z → 0 ≡ n → holds_some b (meta_square top.meta) ≡ true →
+    Walks (same_key top) es new count → Walks (in_box n z b top) es new count
+unfolding is_under
+box_own {es} {new} {count} n z b top zoom depth holds w =
+    subst (λ d. Walks (in_box d z b top) es new count) depth (walks_agree (in_box 0 z b top) (each-all _ (shown_of es) (λ s clean. go s.key (same_key top s.key) refl)) w)
+  where
+    go : (k : Key) (x : Bool) → same_key top k ≡ x → x ≡ (x && is_picked z b k)
+    go k false other = refl
+    go k true same =
+        let own : top ≡ k = same_key-true top k same in
+        let picked : is_picked z b top ≡ true = and_from (top.meta.z == z) (holds_some b (meta_square top.meta)) (eq-eqb top.meta.z z zoom) holds in
+        sym (ap (is_picked z b) (sym own) ∙ picked)
+
+-- and goes into the four quarters of one above.
+pub box_quarter : {es new : List (Key × Node)} {count : ℕ} (z : ℕ) (b : Rectangle) (top r : Key) (j : ℕ) → r ≡ child j top → Walks (in_box (z - r.meta.z) z b r) es new count → Walks (in_box (z - top.meta.z - 1) z b (child j top)) es new count
+box_quarter {es} {new} {count} z b top r j is w =
+    let depth : z - (top.meta.z + 1) ≡ z - top.meta.z - 1 = omega arith in
+    subst (λ d. Walks (in_box d z b (child j top)) es new count) depth (subst (λ (x : Key). Walks (in_box (z - x.meta.z) z b x) es new count) is w)
+
+four_parts : (p q r s own picked : Bool) → (own ≡ true → picked ≡ false) → ((((p && picked) || (q && picked)) || (r && picked)) || (s && picked)) ≡ (((((p || q) || r) || s) || own) && picked)
+four_parts p q r s own true none = grind (arith, none)
+four_parts p q r s own false none = grind arith
+
+pub box_quarters : {es new : List (Key × Node)} {count : ℕ} (z : ℕ) (b : Rectangle) (top : Key) → top.meta.z < z →
+    Walks (λ k. ((in_box (z - top.meta.z - 1) z b (child 0 top) k || in_box (z - top.meta.z - 1) z b (child 1 top) k) || in_box (z - top.meta.z - 1) z b (child 2 top) k) || in_box (z - top.meta.z - 1) z b (child 3 top) k) es new count →
+    Walks (in_box (z - top.meta.z) z b top) es new count
+unfolding is_under
+box_quarters {es} {new} {count} z b top above w =
+    let depth : suc (z - top.meta.z - 1) ≡ z - top.meta.z = omega (arith, above) in
+    subst (λ d. Walks (in_box d z b top) es new count) depth (walks_agree (in_box (suc (z - top.meta.z - 1)) z b top) (each-all _ (shown_of es) (λ s clean. same s.key)) w)
+  where
+    apart : (k : Key) → same_key top k ≡ true → is_picked z b k ≡ false
+    apart k same =
+        let own : top.meta.z ≡ k.meta.z = ap (λ (x : Key). x.meta.z) (same_key-true top k same) in
+        both_false (k.meta.z == z) (holds_some b (meta_square k.meta)) (ne_eqb k.meta.z z (λ is. omega (arith, own, is, above)))
+
+    same : (k : Key) → (((in_box (z - top.meta.z - 1) z b (child 0 top) k || in_box (z - top.meta.z - 1) z b (child 1 top) k) || in_box (z - top.meta.z - 1) z b (child 2 top) k) || in_box (z - top.meta.z - 1) z b (child 3 top) k) ≡ in_box (suc (z - top.meta.z - 1)) z b top k
+    same k = four_parts _ _ _ _ (same_key top k) (is_picked z b k) (apart k)

@@ -1,0 +1,4 @@
+use Rattle.expiry_lists.proofs.waking.+wake.Given as goal
+
+abbrev pub decreases-wake : goal.decreases-wake
+decreases-wake l = l.key.meta.z

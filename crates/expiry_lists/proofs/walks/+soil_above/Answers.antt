@@ -1,0 +1,24 @@
+use Rattle.std.proofs.Common.{◌≡◌, ℕ, suc, ◌+◌, ◌-◌, ◌<◌, ◌≤◌, ◌^◌, false, ◌||◌, length, refl, sym, ap, ◌∙◌, subst, arith, Fits, w64}
+use Rattle.farm_history.specs.declared.keys.Key.{Key}
+use Rattle.farm_history.specs.Plans.{same_key}
+use Rattle.expiry_lists.specs.inner.Nodes.{parent}
+use Rattle.expiry_lists.specs.inner.Walks.{is_above, Walks}
+use Rattle.expiry_lists.proofs.Soiling.{NoneOf}
+use Rattle.expiry_lists.proofs.Walked.{walks_then, walks_none, walks_few}
+use Rattle.expiry_lists.proofs.Above.{above_walks, none_above}
+use Rattle.expiry_lists.proofs.walks.+soil_above.Goals as goal
+
+pub returns-then-low-eq-ROOT_ZOOM-clause-walks : goal.returns-then-low-eq-ROOT_ZOOM-clause-walks
+returns-then-low-eq-ROOT_ZOOM-clause-walks t c =
+    let depth : 0 ≡ c.args.low.meta.z - 3 = omega (arith, c.if-low-eq-ROOT_ZOOM.true) in
+    let old = c.args.nodes.now.entries in
+    subst (λ n. Walks (is_above n c.args.low) old old 0) depth (none_above old c.args.low c.requires.tree)
+
+pub overflow_add-result : goal.overflow_add-result
+overflow_add-result t c =
+    let few = walks_few (walks_then c.soil_above-above.ensures.walks c.soil_one.ensures.walks) in
+    omega (arith, few, c.len-count.ensures.small, c.len-count.ensures.len)
+
+pub returns-clause-walks : goal.returns-clause-walks
+returns-clause-walks t c =
+    above_walks c.args.low c.parent-up.result c.parent-up.ensures.value (omega (arith, c.requires.node.deep, c.if-low-eq-ROOT_ZOOM.false)) c.soil_above-above.ensures.walks c.soil_one.ensures.walks

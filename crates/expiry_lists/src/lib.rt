@@ -1,0 +1,15 @@
+//! Marks of what is shown of metatiles, kept in quadtrees, and expiry lists.
+#![tactic(auto)]
+
+mod boxes;
+mod keeping;
+mod marks;
+mod nodes;
+#[cfg(test)]
+mod tests;
+mod waking;
+mod walks;
+
+pub use boxes::Rectangle;
+pub use farm_history::{Kept, Key, Mark};
+pub use marks::Marks;

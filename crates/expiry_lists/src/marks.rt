@@ -1,0 +1,194 @@
+//! Marks: what is shown of metatiles, and whether it is clean.
+ghost use Rattle.std.specs.Prelude.{◌≡◌, ◌≤◌, ◌<◌, ◌+◌, ◌==◌, ℕ, [], Some, None, IsSome, IfOk, OnOk, option_map, if◌then◌else◌, true, false, vec_len, vec_capacity};
+ghost use Rattle.std.specs.List.{list_any};
+ghost use Rattle.farm_history.specs.declared.keys.Key.{Key};
+ghost use Rattle.farm_history.specs.Plans.{same_key, overlaps, AreApart};
+ghost use Rattle.farm_history.specs.Replays.{are_rising, kept_of, kept_version};
+ghost use Rattle.plain_world.specs.World.{IsMeta, IsTile};
+ghost use Rattle.expiry_lists.specs.Boxes.{rectangle};
+ghost use Rattle.expiry_lists.specs.Marks.{shown_key, mark_of, soil_marks, clean_marks, is_of_map, is_in_box, clean_version};
+
+use crate::boxes::Rectangle;
+use crate::keeping::{clean_entries, sort_by_key};
+use crate::nodes::{Nodes, mark_at, soil_one};
+use crate::waking::{put_mark, wake};
+use crate::walks::{soil_map, soil_map_box, soil_maps};
+use farm_base::NoMemory;
+use farm_history::{Kept, Key, Mark};
+use indexmap::IndexMap;
+use plain_world::Tile;
+use std::alloc::Global;
+use std::marker::Model;
+
+/// What is shown of metatiles, each with its data version and whether it is clean, in a quadtree for each map.
+#[derive(Drop)]
+pub struct Marks {
+    nodes: Nodes,
+    /// The maps that have nodes.
+    maps: Vec<u32>,
+}
+
+impl Model for Marks {
+    ghost use Rattle.std.specs.Prelude.{◌/◌, ◌-◌, min, vec_len, vec_capacity};
+    ghost use Rattle.indexmap.specs.IndexMap.{spare};
+    ghost use Rattle.expiry_lists.specs.Marks.{MarksSeen};
+    ghost use Rattle.expiry_lists.specs.inner.Nodes.{shown_of};
+    ghost use Rattle.expiry_lists.specs.inner.Keeping.{IsKept};
+
+    ghost Value = { MarksSeen };
+
+    ghost view = { λ m. record { shown = shown_of m.nodes.entries; room = min (spare m.nodes / 16) (vec_capacity m.maps - vec_len m.maps) } };
+
+    ghost invariant = { λ m. IsKept m.maps.items m.nodes.entries };
+}
+
+/// How many nodes a key may need.
+const PATH: usize = 16;
+
+impl Marks {
+    /// Nothing is shown.
+    pub fn new(alloc: Global) -> Marks
+        ensures { result.shown ≡ [] }
+    {
+        Marks {
+            nodes: IndexMap::new(alloc),
+            maps: Vec::new(alloc),
+        }
+    }
+
+    /// Makes room to show one key more.
+    pub fn reserve_one(&mut self) -> Result<(), NoMemory>
+        ensures shown { self.new.shown ≡ self.old.shown }
+        ensures room { self.old.room ≤ self.new.room }
+        ensures reserved { OnOk result (1 ≤ self.new.room) }
+    {
+        self.nodes.reserve(PATH)?;
+        self.maps.reserve(1)?;
+        Ok(())
+    }
+
+    /// The mark of a key; `None` exactly where it is not shown.
+    pub fn of(&self, key: Key) -> Option<Mark>
+        ensures { result ≡ mark_of self.now.shown key }
+    {
+        let _count = self.nodes.len();
+        mark_at(&self.nodes, key)
+    }
+
+    /// Shows a key with that version, clean or dirty, in place of what was shown of it. It takes no memory: a
+    /// key that is not shown yet takes a place of those reserved.
+    pub fn show(&mut self, key: Key, version: u64, clean: bool)
+        requires meta { IsMeta key.meta }
+        requires place { mark_of self.old.shown key ≡ None → 1 ≤ self.old.room }
+        ensures marks { (k : Key) → mark_of self.new.shown k ≡ (if same_key key k
+            then Some (record { version = version; clean = clean }) else mark_of self.old.shown k) }
+        ensures room { self.old.room ≤ self.new.room + 1 }
+        ensures free { IsSome (mark_of self.old.shown key) → self.new.room ≡ self.old.room }
+    {
+        let _count = self.nodes.len();
+        add_map(&mut self.maps, key.map);
+        wake(&mut self.nodes, key, clean);
+        put_mark(&mut self.nodes, key, Some(Mark { version, clean }));
+    }
+
+    /// Shows nothing of a key.
+    pub fn hide(&mut self, key: Key)
+        ensures marks { (k : Key) → mark_of self.new.shown k
+            ≡ (if same_key key k then None else mark_of self.old.shown k) }
+        ensures room { self.new.room ≡ self.old.room }
+    {
+        put_mark(&mut self.nodes, key, None);
+    }
+
+    /// Makes dirty what overlaps the tile, on every map and zoom, and counts what was clean of it.
+    pub fn expire(&mut self, t: Tile) -> u64
+        requires { IsTile t }
+        ensures shown { self.new.shown ≡ soil_marks (overlaps t) self.old.shown }
+        ensures count { result ≡ clean_marks (overlaps t) self.old.shown }
+        ensures apart { AreApart shown_key self.old.shown }
+        ensures room { self.new.room ≡ self.old.room }
+    {
+        let _count = self.nodes.len();
+        soil_maps(&mut self.nodes, &self.maps, t)
+    }
+
+    /// Makes dirty what is shown of the map, and counts what was clean of it.
+    pub fn expire_map(&mut self, map: u32) -> u64
+        ensures shown { self.new.shown ≡ soil_marks (is_of_map map) self.old.shown }
+        ensures count { result ≡ clean_marks (is_of_map map) self.old.shown }
+        ensures apart { AreApart shown_key self.old.shown }
+        ensures room { self.new.room ≡ self.old.room }
+    {
+        let _count = self.nodes.len();
+        soil_map(&mut self.nodes, map)
+    }
+
+    /// Makes dirty what is shown of the map at zoom `z` where the metatile's square holds a point of the
+    /// rectangle, whose edges belong to it, and counts what was clean of it.
+    pub fn expire_box(&mut self, map: u32, z: u32, west: u32, north: u32, east: u32, south: u32) -> u64
+        requires zoom { z ≤ 18 }
+        requires across { west ≤ east }
+        requires down { north ≤ south }
+        ensures shown { let b = rectangle west north east south in
+            self.new.shown ≡ soil_marks (is_in_box map z b) self.old.shown }
+        ensures count { let b = rectangle west north east south in
+            result ≡ clean_marks (is_in_box map z b) self.old.shown }
+        ensures apart { AreApart shown_key self.old.shown }
+        ensures room { self.new.room ≡ self.old.room }
+    {
+        let _count = self.nodes.len();
+        let b = Rectangle {
+            west,
+            north,
+            east,
+            south,
+        };
+        soil_map_box(&mut self.nodes, map, z, b)
+    }
+
+    /// Makes a key dirty, where it is shown.
+    pub fn expire_one(&mut self, key: Key)
+        ensures shown { self.new.shown ≡ soil_marks (same_key key) self.old.shown }
+        ensures apart { AreApart shown_key self.old.shown }
+        ensures room { self.new.room ≡ self.old.room }
+    {
+        let _count = self.nodes.len();
+        let _count = soil_one(&mut self.nodes, key);
+    }
+
+    /// What is clean, with its versions, by map, zoom, column and row.
+    pub fn kept(&self, alloc: Global) -> Result<Vec<Kept>, NoMemory>
+        ensures clean { IfOk result (λ v. (k : Key) → option_map kept_version (kept_of v.items k)
+            ≡ clean_version (mark_of self.now.shown k)) }
+        ensures rising { IfOk result (λ v. are_rising v.items ≡ true) }
+        ensures apart { AreApart shown_key self.now.shown }
+    {
+        let _count = self.nodes.len();
+        let mut kept = clean_entries(alloc, &self.nodes)?;
+        sort_by_key(&mut kept);
+        Ok(kept)
+    }
+}
+
+/// Whether the map is in the list.
+fn lists(maps: &[u32], map: u32) -> bool
+    ensures { result ≡ list_any (λ m. m == map) maps.now }
+{
+    maps.iter().any(|m| *m == map)
+}
+
+/// Adds a map to the list, where it is not there.
+fn add_map(maps: &mut Vec<u32>, map: u32)
+    requires { list_any (λ m. m == map) maps.old.items ≡ false
+        → vec_len maps.old < vec_capacity maps.old }
+    ensures added { list_any (λ m. m == map) maps.new.items ≡ true }
+    ensures others { (m : ℕ) → list_any (λ n. n == m) maps.old.items ≡ true
+        → list_any (λ n. n == m) maps.new.items ≡ true }
+    ensures room { vec_capacity maps.new ≡ vec_capacity maps.old }
+    ensures len { vec_len maps.new ≤ vec_len maps.old + 1 }
+    ensures free { list_any (λ m. m == map) maps.old.items ≡ true → maps.new ≡ maps.old }
+{
+    if !lists(maps, map) {
+        maps.push_reserved(map);
+    }
+}

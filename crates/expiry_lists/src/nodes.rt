@@ -1,0 +1,101 @@
+//! The table of nodes that marks are kept in: one look-up or write each.
+ghost use Rattle.std.specs.Prelude.{◌≡◌, ◌≢◌, ◌<◌, ◌||◌, Option, Some, None, option_map, true, false, if◌then◌else◌};
+ghost use Rattle.indexmap.specs.IndexMap.{spare};
+ghost use Rattle.farm_history.specs.Plans.{same_key};
+ghost use Rattle.expiry_lists.specs.Marks.{touched_by};
+ghost use Rattle.farm_history.specs.declared.keys.Key.{Key};
+ghost use Rattle.expiry_lists.specs.inner.Nodes.{is_live, is_clean, node_of, node_mark, parent, IsTree};
+ghost use Rattle.expiry_lists.specs.inner.Walks.{Walks};
+
+use farm_history::{Key, Mark};
+use indexmap::IndexMap;
+
+/// What is kept of a key: its mark where it is shown, and whether it or a key below it may be clean.
+#[derive(Clone, Copy, Debug, PartialEq, Eq)]
+pub struct Node {
+    pub mark: Option<Mark>,
+    pub live: bool,
+}
+
+/// The nodes by their keys.
+pub type Nodes = IndexMap<Key, Node>;
+
+/// Whether the key or one below it may be clean.
+pub fn is_live(nodes: &Nodes, key: Key) -> bool
+    ensures { result ≡ is_live nodes.now.entries key }
+{
+    nodes.get(&key).is_some_and(|node| node.live)
+}
+
+/// The mark of a key.
+pub fn mark_at(nodes: &Nodes, key: Key) -> Option<Mark>
+    ensures { result ≡ node_mark (node_of nodes.now.entries key) }
+{
+    nodes.get(&key)?.mark
+}
+
+/// Makes the mark of a key dirty, and counts what was clean: 0 or 1.
+pub fn soil_one(nodes: &mut Nodes, key: Key) -> u64
+    requires { IsTree nodes.old.entries }
+    ensures walks { Walks (same_key key) nodes.old.entries nodes.new.entries result }
+    ensures room { spare nodes.new ≡ spare nodes.old }
+{
+    let _count = nodes.len();
+    let Some(node) = nodes.get_mut(&key) else {
+        return 0;
+    };
+    let was = *node;
+    *node = was.soiled();
+    was.clean_count()
+}
+
+/// Makes the mark of a key dirty and its node not live, and counts what was clean: 0 or 1.
+pub fn settle(nodes: &mut Nodes, key: Key) -> u64
+    requires tree { IsTree nodes.old.entries }
+    requires quiet_below { (k : Key) → 3 < k.meta.z → is_live nodes.old.entries k ≡ true
+        → parent k ≢ key }
+    ensures walks { Walks (same_key key) nodes.old.entries nodes.new.entries result }
+    ensures quiet { is_live nodes.new.entries key ≡ false }
+    ensures room { spare nodes.new ≡ spare nodes.old }
+{
+    let _count = nodes.len();
+    let Some(node) = nodes.get_mut(&key) else {
+        return 0;
+    };
+    let was = *node;
+    *node = Node {
+        live: false,
+        ..was.soiled()
+    };
+    was.clean_count()
+}
+
+impl Node {
+    /// The node with its mark, if any, dirty.
+    fn soiled(self) -> Node
+        ensures { result ≡ record self { mark = option_map (touched_by true) self.mark } }
+    {
+        let mark = self.mark.map(|mark| Mark { clean: false, ..mark });
+        Node { mark, ..self }
+    }
+
+    /// The node, live where it was or where that is asked for.
+    pub fn woken(self, live: bool) -> Node
+        ensures { result ≡ record self { live = self.live || live } }
+    {
+        Node {
+            live: self.live || live,
+            ..self
+        }
+    }
+
+    /// 1 where the mark is clean, else 0.
+    fn clean_count(self) -> u64
+        ensures { result ≡ (if is_clean self.mark then 1 else 0) }
+    {
+        match self.mark {
+            Some(mark) if mark.clean => 1,
+            _ => 0,
+        }
+    }
+}

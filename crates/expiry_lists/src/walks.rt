@@ -1,0 +1,230 @@
+//! Walks over the quadtree of a map: down from a key over the live nodes, and up to the root.
+ghost use Rattle.std.specs.Prelude.{◌≡◌, ◌<◌, ◌≤◌, ◌-◌, ◌&&◌, ◌||◌, ◌==◌, false};
+ghost use Rattle.indexmap.specs.IndexMap.{spare};
+ghost use Rattle.farm_history.specs.Plans.{overlaps};
+ghost use Rattle.plain_world.specs.World.{IsTile, IsMeta};
+ghost use Rattle.expiry_lists.specs.Marks.{is_of_map, is_picked, is_in_box};
+ghost use Rattle.expiry_lists.specs.inner.Nodes.{is_live, parent, IsTree};
+ghost use Rattle.expiry_lists.specs.inner.Tiles.{world_key, is_flat, key_over, is_of_maps};
+ghost use Rattle.expiry_lists.specs.inner.Walks.{child, is_under, is_above, IsNode, Walks};
+
+use crate::boxes::{Rectangle, holds_some};
+use crate::nodes::{Nodes, is_live, settle, soil_one};
+use farm_history::Key;
+use merc_fixed::meta_square;
+use plain_world::{Meta, Tile};
+
+/// The zoom of the metatiles that have the whole world for their square and are above no others.
+pub const ROOT_ZOOM: u32 = 3;
+
+/// The last zoom.
+const LAST_ZOOM: u32 = 18;
+
+/// The key of quarter `j` of the key's square, by rows.
+fn child(key: Key, j: u32) -> Key
+    requires node { IsNode key }
+    requires quarter { j < 4 }
+    requires above { key.meta.z < 18 }
+    ensures value { result ≡ child j key }
+    ensures node { IsNode result }
+{
+    Key {
+        map: key.map,
+        meta: Meta {
+            z: key.meta.z + 1,
+            x: key.meta.x * 2 + 8 * (j % 2),
+            y: key.meta.y * 2 + 8 * (j / 2),
+        },
+    }
+}
+
+/// The key whose square the key's square is a quarter of.
+pub fn parent(key: Key) -> Key
+    requires node { IsNode key }
+    requires below { 3 < key.meta.z }
+    ensures value { result ≡ parent key }
+    ensures node { IsNode result }
+{
+    Key {
+        map: key.map,
+        meta: Meta {
+            z: key.meta.z - 1,
+            x: key.meta.x / 16 * 8,
+            y: key.meta.y / 16 * 8,
+        },
+    }
+}
+
+/// Makes the key and all below it dirty, and counts what was clean. It goes down over live nodes alone,
+/// and leaves none live.
+pub fn soil_below(nodes: &mut Nodes, top: Key) -> u64
+    requires node { IsNode top }
+    requires tree { IsTree nodes.old.entries }
+    ensures walks { Walks (is_under (18 - top.meta.z) top) nodes.old.entries nodes.new.entries result }
+    ensures quiet { is_live nodes.new.entries top ≡ false }
+    ensures room { spare nodes.new ≡ spare nodes.old }
+{
+    let _count = nodes.len();
+    if top.meta.z == LAST_ZOOM {
+        return settle(nodes, top);
+    }
+    if !is_live(nodes, top) {
+        return 0;
+    }
+    let first = soil_below(nodes, child(top, 0));
+    let second = soil_below(nodes, child(top, 1));
+    let third = soil_below(nodes, child(top, 2));
+    let fourth = soil_below(nodes, child(top, 3));
+    let own = settle(nodes, top);
+    first + second + third + fourth + own
+}
+
+/// Makes all keys above the key dirty, and counts what was clean.
+pub fn soil_above(nodes: &mut Nodes, low: Key) -> u64
+    requires node { IsNode low }
+    requires tree { IsTree nodes.old.entries }
+    ensures walks { Walks (is_above (low.meta.z - 3) low) nodes.old.entries nodes.new.entries result }
+    ensures room { spare nodes.new ≡ spare nodes.old }
+{
+    let _count = nodes.len();
+    if low.meta.z == ROOT_ZOOM {
+        return 0;
+    }
+    let up = parent(low);
+    let above = soil_above(nodes, up);
+    above + soil_one(nodes, up)
+}
+
+/// Makes dirty the keys of zoom `z` at or below the key whose squares hold a point of the rectangle, and
+/// counts what was clean. It goes down over live nodes alone whose squares hold a point of it.
+pub fn soil_box(nodes: &mut Nodes, top: Key, z: u32, b: Rectangle) -> u64
+    requires node { IsNode top }
+    requires above { top.meta.z ≤ z }
+    requires zoom { z ≤ 18 }
+    requires tree { IsTree nodes.old.entries }
+    ensures walks { Walks (λ k. is_under (z - top.meta.z) top k && is_picked z b k)
+        nodes.old.entries nodes.new.entries result }
+    ensures room { spare nodes.new ≡ spare nodes.old }
+{
+    let _count = nodes.len();
+    if !is_live(nodes, top) {
+        return 0;
+    }
+    if !holds_some(b, meta_square(top.meta)) {
+        return 0;
+    }
+    if top.meta.z == z {
+        return soil_one(nodes, top);
+    }
+    let first = soil_box(nodes, child(top, 0), z, b);
+    let second = soil_box(nodes, child(top, 1), z, b);
+    let third = soil_box(nodes, child(top, 2), z, b);
+    let fourth = soil_box(nodes, child(top, 3), z, b);
+    first + second + third + fourth
+}
+
+/// The map's key of that zoom, up to 3, whose square is the whole world.
+fn world_key(map: u32, z: u32) -> Key
+    ensures { result ≡ world_key map z }
+{
+    let meta = Meta { z, x: 0, y: 0 };
+    Key { map, meta }
+}
+
+/// The map's key whose square is the tile's, or the smallest that holds it.
+fn key_over(map: u32, t: Tile) -> Key
+    requires { IsTile t }
+    ensures value { result ≡ key_over map t }
+    ensures node { IsNode result }
+{
+    let meta = if t.z <= 15 {
+        Meta {
+            z: t.z + 3,
+            x: t.x * 8,
+            y: t.y * 8,
+        }
+    } else {
+        Meta {
+            z: 18,
+            x: (t.x >> (t.z - 15)) * 8,
+            y: (t.y >> (t.z - 15)) * 8,
+        }
+    };
+    Key { map, meta }
+}
+
+/// Makes the map's keys of zooms 0, 1 and 2 dirty, and counts what was clean.
+fn soil_flat(nodes: &mut Nodes, map: u32) -> u64
+    requires { IsTree nodes.old.entries }
+    ensures walks { Walks (is_flat map) nodes.old.entries nodes.new.entries result }
+    ensures room { spare nodes.new ≡ spare nodes.old }
+{
+    let _count = nodes.len();
+    let first = soil_one(nodes, world_key(map, 0));
+    let second = soil_one(nodes, world_key(map, 1));
+    let third = soil_one(nodes, world_key(map, 2));
+    first + second + third
+}
+
+/// Makes the map's keys dirty whose squares overlap the tile's, and counts what was clean.
+fn soil_tile(nodes: &mut Nodes, map: u32, t: Tile) -> u64
+    requires tile { IsTile t }
+    requires tree { IsTree nodes.old.entries }
+    ensures walks { Walks (λ k. is_of_map map k && overlaps t k) nodes.old.entries nodes.new.entries result }
+    ensures room { spare nodes.new ≡ spare nodes.old }
+{
+    let _count = nodes.len();
+    let top = key_over(map, t);
+    let flat = soil_flat(nodes, map);
+    let above = soil_above(nodes, top);
+    let below = soil_below(nodes, top);
+    flat + above + below
+}
+
+/// Makes the keys of these maps dirty whose squares overlap the tile's, and counts what was clean.
+pub fn soil_maps(nodes: &mut Nodes, maps: &[u32], t: Tile) -> u64
+    requires tile { IsTile t }
+    requires tree { IsTree nodes.old.entries }
+    ensures walks { Walks (λ k. is_of_maps maps.now k && overlaps t k)
+        nodes.old.entries nodes.new.entries result }
+    ensures room { spare nodes.new ≡ spare nodes.old }
+{
+    let _count = nodes.len();
+    let mut count = 0;
+    for map in maps {
+        count += soil_tile(nodes, *map, t);
+    }
+    count
+}
+
+/// Makes the map's keys dirty, and counts what was clean.
+pub fn soil_map(nodes: &mut Nodes, map: u32) -> u64
+    requires { IsTree nodes.old.entries }
+    ensures walks { Walks (is_of_map map) nodes.old.entries nodes.new.entries result }
+    ensures room { spare nodes.new ≡ spare nodes.old }
+{
+    let _count = nodes.len();
+    let flat = soil_flat(nodes, map);
+    let below = soil_below(nodes, world_key(map, ROOT_ZOOM));
+    flat + below
+}
+
+/// Makes the map's keys of that zoom dirty whose squares hold a point of the rectangle, and counts what was
+/// clean.
+pub fn soil_map_box(nodes: &mut Nodes, map: u32, z: u32, b: Rectangle) -> u64
+    requires zoom { z ≤ 18 }
+    requires tree { IsTree nodes.old.entries }
+    ensures walks { Walks (is_in_box map z b) nodes.old.entries nodes.new.entries result }
+    ensures room { spare nodes.new ≡ spare nodes.old }
+{
+    let _count = nodes.len();
+    if z >= ROOT_ZOOM {
+        return soil_box(nodes, world_key(map, ROOT_ZOOM), z, b);
+    }
+    let key = world_key(map, z);
+    if holds_some(b, meta_square(key.meta)) {
+        soil_one(nodes, key)
+    } else {
+        0
+    }
+}
