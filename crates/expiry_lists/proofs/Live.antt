@@ -55,9 +55,9 @@ under_live es tree zero top k grid under live = ap (is_live es) (same_key-true t
 under_live es tree (suc n) top k grid under live =
     under_cases n top k
     (λ j quarter below.
-      let ih : is_live es (child j top) ≡ true = under_live es tree n (child j top) k (child_on_grid top j grid) below live in
-      let up : is_live es (parent (child j top)) ≡ true = tree.rises (child j top) (omega (arith, grid.deep)) ih in
-      sym (ap (is_live es) (parent-child top j grid.x_eights grid.y_eights quarter)) ∙ up)
+    let ih : is_live es (child j top) ≡ true = under_live es tree n (child j top) k (child_on_grid top j grid) below live in
+    let up : is_live es (parent (child j top)) ≡ true = tree.rises (child j top) (omega (arith, grid.deep)) ih in
+    sym (ap (is_live es) (parent-child top j grid.x_eights grid.y_eights quarter)) ∙ up)
     (λ same. ap (is_live es) (same_key-true top k same) ∙ live)
     under
 

@@ -64,12 +64,16 @@ under_below (suc n) top k grid under =
     (λ same. (0, omega arith, same_below top k (same_key-true top k same))) under
   where
     step : (j : ℕ) → j < 4 → (d : ℕ) × (d ≤ n) × Below d (child j top) k → (d : ℕ) × (d ≤ suc n) × Below d top k
-    step j quarter (d, few, b) = (suc d, omega (arith, few), record {
-      same_map = b.same_map;
-      zoom = omega (arith, b.zoom);
-      column = halved (k.meta.x / 8) d ∙ omega (arith, b.column, grid.x_eights);
-      row = halved (k.meta.y / 8) d ∙ omega (arith, b.row, grid.y_eights, quarter);
-    })
+    step j quarter (d, few, b) = (
+      suc d,
+      omega (arith, few),
+      record {
+        same_map = b.same_map;
+        zoom = omega (arith, b.zoom);
+        column = halved (k.meta.x / 8) d ∙ omega (arith, b.column, grid.x_eights);
+        row = halved (k.meta.y / 8) d ∙ omega (arith, b.row, grid.y_eights, quarter);
+      },
+    )
 
 -- and all that lies at most n zooms below is met.
 same_from_eights : (a b : Key) → OnGrid a → OnGrid b → Below 0 a b → a ≡ b
@@ -134,24 +138,32 @@ above_below (suc n) low k deep above =
     step : (d : ℕ) × (0 < d) × (d ≤ n) × Below d k (parent low) → (d : ℕ) × (0 < d) × (d ≤ suc n) × Below d k low
     step (d, some, few, b) =
         let x : low.meta.x / 16 * 8 / 8 ≡ low.meta.x / 8 / 2 = omega arith in
-        let y : low.meta.y / 16 * 8 / 8 ≡ low.meta.y / 8 / 2 = omega arith in
-        (suc d, omega arith, omega (arith, few), record {
-          same_map = b.same_map;
-          zoom = omega (arith, b.zoom, deep);
-          column = halved_first (low.meta.x / 8) d ∙ (ap (λ m. m / 2 ^ d) (sym x) ∙ b.column);
-          row = halved_first (low.meta.y / 8) d ∙ (ap (λ m. m / 2 ^ d) (sym y) ∙ b.row);
-        })
+        let y : low.meta.y / 16 * 8 / 8 ≡ low.meta.y / 8 / 2 = omega arith in (
+          suc d,
+          omega arith,
+          omega (arith, few),
+          record {
+            same_map = b.same_map;
+            zoom = omega (arith, b.zoom, deep);
+            column = halved_first (low.meta.x / 8) d ∙ (ap (λ m. m / 2 ^ d) (sym x) ∙ b.column);
+            row = halved_first (low.meta.y / 8) d ∙ (ap (λ m. m / 2 ^ d) (sym y) ∙ b.row);
+          },
+        )
 
     one : parent low ≡ k → (d : ℕ) × (0 < d) × (d ≤ suc n) × Below d k low
     one own =
         let x : low.meta.x / 8 / 2 ^ 1 ≡ k.meta.x / 8 = omega (arith, ap (λ (m : Key). m.meta.x) own) in
-        let y : low.meta.y / 8 / 2 ^ 1 ≡ k.meta.y / 8 = omega (arith, ap (λ (m : Key). m.meta.y) own) in
-        (1, omega arith, omega arith, record {
-          same_map = sym (ap (λ (m : Key). m.map) own);
-          zoom = omega (arith, ap (λ (m : Key). m.meta.z) own, deep);
-          column = x;
-          row = y;
-        })
+        let y : low.meta.y / 8 / 2 ^ 1 ≡ k.meta.y / 8 = omega (arith, ap (λ (m : Key). m.meta.y) own) in (
+          1,
+          omega arith,
+          omega arith,
+          record {
+            same_map = sym (ap (λ (m : Key). m.map) own);
+            zoom = omega (arith, ap (λ (m : Key). m.meta.z) own, deep);
+            column = x;
+            row = y;
+          },
+        )
 
 -- and all that lies at most n zooms above is met.
 pub below_above : (n : ℕ) (low k : Key) (d : ℕ) → n + 3 ≤ low.meta.z → OnGrid k → 0 < d → d ≤ n → Below d k low → is_above n low k ≡ true

@@ -177,9 +177,10 @@ climbs_from : (xs : List Kept) → IsDistinct same_key (kept_keys xs) → ((k : 
 unfolding Climbs IsDistinct
 climbs_from [] apart sorted = tt
 climbs_from (x ∷ []) apart sorted = tt
-climbs_from (x ∷ (y ∷ ys)) apart sorted =
-    (key_before-total x.key y.key (sorted 0 x (omega arith)) apart.0.0,
-      climbs_from (y ∷ ys) apart.1 (λ k d within. let h = sorted (suc k) d (omega (arith, within)) in rw add-one (rw add-one at h)))
+climbs_from (x ∷ (y ∷ ys)) apart sorted = (
+  key_before-total x.key y.key (sorted 0 x (omega arith)) apart.0.0,
+  climbs_from (y ∷ ys) apart.1 (λ k d within. let h = sorted (suc k) d (omega (arith, within)) in rw add-one (rw add-one at h)),
+)
 
 pub sorted_rises : (xs : List Kept) → IsDistinct same_key (kept_keys xs) → ((k : ℕ) (d : Kept) → k + 1 < length xs → key_before (get_or xs (k + 1) d).key (get_or xs k d).key ≡ false) → are_rising xs ≡ true
 sorted_rises xs apart sorted = rising_from xs (climbs_from xs apart sorted)

@@ -166,7 +166,7 @@ deep_tile t s tile deep high =
     let a : (up.x / 2 ^ (15 - s.z) == s.x) && (up.y / 2 ^ (15 - s.z) == s.y) ≡ squares_meet s up = ancestor s up (15 - s.z) (omega (arith, high)) (omega arith) in
     let b : (t.x / 2 ^ (t.z - s.z) == s.x) && (t.y / 2 ^ (t.z - s.z) == s.y) ≡ squares_meet s (tile_square t) = ancestor s (tile_square t) (t.z - s.z) (omega (arith, high, deep)) tile.z_fits in
     let same : (up.x / 2 ^ (15 - s.z) == s.x) && (up.y / 2 ^ (15 - s.z) == s.y) ≡ ((t.x / 2 ^ (t.z - s.z) == s.x) && (t.y / 2 ^ (t.z - s.z) == s.y)) =
-      ap (λ n. (n == s.x) && (up.y / 2 ^ (15 - s.z) == s.y)) x ∙ ap (λ n. (t.x / 2 ^ (t.z - s.z) == s.x) && (n == s.y)) y in
+    ap (λ n. (n == s.x) && (up.y / 2 ^ (15 - s.z) == s.y)) x ∙ ap (λ n. (t.x / 2 ^ (t.z - s.z) == s.x) && (n == s.y)) y in
     squares_turned up s ∙ (sym a ∙ (same ∙ (b ∙ squares_turned s (tile_square t))))
 
 -- the key over a tile
@@ -201,8 +201,8 @@ key_over_meets map t k tile deep meta = go (cases_lt 15 t.z)
         let x : t.x / 2 ^ (t.z - 15) * 8 / 8 ≡ t.x / 2 ^ (t.z - 15) = omega arith in
         let y : t.y / 2 ^ (t.z - 15) * 8 / 8 ≡ t.y / 2 ^ (t.z - 15) = omega arith in
         let here : node_square (key_over map t) ≡ record { z = 15; x = t.x / 2 ^ (t.z - 15); y = t.y / 2 ^ (t.z - 15) } =
-          ap (λ b. node_square (if b then record { map = map; meta = record { z = t.z + 3; x = t.x * 8; y = t.y * 8 } } else record { map = map; meta = record { z = 18; x = t.x / 2 ^ (t.z - 15) * 8; y = t.y / 2 ^ (t.z - 15) * 8 } })) test
-          ∙ (λ i. record { z = 15; x = x i; y = y i }) in
+        ap (λ b. node_square (if b then record { map = map; meta = record { z = t.z + 3; x = t.x * 8; y = t.y * 8 } } else record { map = map; meta = record { z = 18; x = t.x / 2 ^ (t.z - 15) * 8; y = t.y / 2 ^ (t.z - 15) * 8 } })) test
+        ∙ (λ i. record { z = 15; x = x i; y = y i }) in
         ap (λ s. squares_meet s (node_square k)) here ∙ deep_tile t (node_square k) tile late (omega (arith, meta.z_fits))
     go (inr early) =
         let test : nat_le t.z 15 ≡ true = grind (arith, nat_tests) in
@@ -210,8 +210,8 @@ key_over_meets map t k tile deep meta = go (cases_lt 15 t.z)
         let x : t.x * 8 / 8 ≡ t.x = omega arith in
         let y : t.y * 8 / 8 ≡ t.y = omega arith in
         let here : node_square (key_over map t) ≡ tile_square t =
-          ap (λ b. node_square (if b then record { map = map; meta = record { z = t.z + 3; x = t.x * 8; y = t.y * 8 } } else record { map = map; meta = record { z = 18; x = t.x / 2 ^ (t.z - 15) * 8; y = t.y / 2 ^ (t.z - 15) * 8 } })) test
-          ∙ (λ i. record { z = z i; x = x i; y = y i }) in
+        ap (λ b. node_square (if b then record { map = map; meta = record { z = t.z + 3; x = t.x * 8; y = t.y * 8 } } else record { map = map; meta = record { z = 18; x = t.x / 2 ^ (t.z - 15) * 8; y = t.y / 2 ^ (t.z - 15) * 8 } })) test
+        ∙ (λ i. record { z = z i; x = x i; y = y i }) in
         ap (λ s. squares_meet s (node_square k)) here
 
 key_if : Bool → ℕ → Tile → Key

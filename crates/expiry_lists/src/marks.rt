@@ -125,7 +125,15 @@ impl Marks {
 
     /// Makes dirty what is shown of the map at zoom `z` where the metatile's square holds a point of the
     /// rectangle, whose edges belong to it, and counts what was clean of it.
-    pub fn expire_box(&mut self, map: u32, z: u32, west: u32, north: u32, east: u32, south: u32) -> u64
+    pub fn expire_box(
+        &mut self,
+        map: u32,
+        z: u32,
+        west: u32,
+        north: u32,
+        east: u32,
+        south: u32,
+    ) -> u64
         requires zoom { z ≤ 18 }
         requires across { west ≤ east }
         requires down { north ≤ south }

@@ -75,7 +75,10 @@ impl Node {
     fn soiled(self) -> Node
         ensures { result ≡ record self { mark = option_map (touched_by true) self.mark } }
     {
-        let mark = self.mark.map(|mark| Mark { clean: false, ..mark });
+        let mark = self.mark.map(|mark| Mark {
+            clean: false,
+            ..mark
+        });
         Node { mark, ..self }
     }
 

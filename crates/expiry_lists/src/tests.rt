@@ -40,7 +40,9 @@ fn dirty(version: u64) -> Option<Mark> {
 }
 
 #[test]
-fn a_tile_expires_what_lies_above_and_below_it_and_no_neighbour(rt: HostRuntime) -> Result<(), Fail> {
+fn a_tile_expires_what_lies_above_and_below_it_and_no_neighbour(
+    rt: HostRuntime,
+) -> Result<(), Fail> {
     let mut marks = Marks::new(rt.alloc());
     show(&mut marks, key(0, 0, 0, 0), 7, true)?;
     show(&mut marks, key(0, 4, 8, 8), 7, true)?;
@@ -58,7 +60,14 @@ fn the_last_tile_of_the_last_zoom_expires_the_whole_world(rt: HostRuntime) -> Re
     let mut marks = Marks::new(rt.alloc());
     show(&mut marks, key(0, 0, 0, 0), 0, true)?;
     show(&mut marks, key(3, 18, 262136, 262136), 4, true)?;
-    assert_eq!(rt; marks.expire(Tile { z: 18, x: 262143, y: 262143 }), 2);
+    assert_eq!(rt;
+        marks.expire(Tile {
+            z: 18,
+            x: 262143,
+            y: 262143
+        }),
+        2
+    );
     assert_eq!(rt; marks.of(key(3, 18, 262136, 262136)), dirty(4));
     Ok(())
 }
@@ -82,7 +91,9 @@ fn a_map_a_rectangle_and_a_key_expire_alone(rt: HostRuntime) -> Result<(), Fail>
 }
 
 #[test]
-fn what_is_hidden_has_no_mark_and_what_is_clean_is_kept_in_order(rt: HostRuntime) -> Result<(), Fail> {
+fn what_is_hidden_has_no_mark_and_what_is_clean_is_kept_in_order(
+    rt: HostRuntime,
+) -> Result<(), Fail> {
     let alloc = rt.alloc();
     let mut marks = Marks::new(alloc);
     show(&mut marks, key(1, 0, 0, 0), 3, true)?;

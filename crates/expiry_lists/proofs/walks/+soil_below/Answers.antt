@@ -36,10 +36,10 @@ settle-own-requires-clause-quiet_below t c =
     let after_3 = c.soil_below-fourth.ensures.walks.quieter in
     quiet_below fourth c.soil_below-fourth.ensures.walks.tree top
     (four (λ j. is_live fourth (child j top) ≡ false)
-      (still_quiet third fourth after_3 (child 0 top) (still_quiet second third after_2 (child 0 top) (still_quiet first second after_1 (child 0 top) quiet_0)))
-      (still_quiet third fourth after_3 (child 1 top) (still_quiet second third after_2 (child 1 top) quiet_1))
-      (still_quiet third fourth after_3 (child 2 top) quiet_2)
-      quiet_3)
+    (still_quiet third fourth after_3 (child 0 top) (still_quiet second third after_2 (child 0 top) (still_quiet first second after_1 (child 0 top) quiet_0)))
+    (still_quiet third fourth after_3 (child 1 top) (still_quiet second third after_2 (child 1 top) quiet_1))
+    (still_quiet third fourth after_3 (child 2 top) quiet_2)
+    quiet_3)
 
 module _ (t : ℕ) (c : After-settle-own t) where
   two : Walks (λ k. is_under (17 - c.args.top.meta.z) (child 0 c.args.top) k || is_under (17 - c.args.top.meta.z) (child 1 c.args.top) k) c.args.nodes.now.entries c.soil_below-second.new.nodes.entries (c.soil_below-first.result + c.soil_below-second.result)

@@ -22,25 +22,25 @@ pub returns-then-z-ge-ROOT_ZOOM-clause-walks : goal.returns-then-z-ge-ROOT_ZOOM-
 returns-then-z-ge-ROOT_ZOOM-clause-walks c =
     walks_agree (is_in_box c.args.map c.args.z c.args.b)
     (agree_metas c.args.nodes.now.entries c.len-count.ensures.unique c.requires.tree _ (is_in_box c.args.map c.args.z c.args.b)
-      (λ k meta. box_agrees c.args.map c.args.z c.args.b k (omega (arith, c.if-z-ge-ROOT_ZOOM.true)) meta))
+    (λ k meta. box_agrees c.args.map c.args.z c.args.b k (omega (arith, c.if-z-ge-ROOT_ZOOM.true)) meta))
     (subst (λ (x : Key). Walks (in_box (c.args.z - x.meta.z) c.args.z c.args.b x) c.args.nodes.now.entries c.soil_box.new.nodes.entries c.soil_box.result) c.world_key.ensures c.soil_box.ensures.walks)
 
 pub returns-then-holds_some-clause-walks : goal.returns-then-holds_some-clause-walks
 returns-then-holds_some-clause-walks c =
     let key = world_key c.args.map c.args.z in
     let holds : holds_some c.args.b (meta_square key.meta) ≡ true =
-      sym (ap (λ (k : Key). holds_some c.args.b (meta_square k.meta)) c.world_key-key.ensures) ∙ (sym (ap (holds_some c.args.b) c.meta_square.ensures.value) ∙ (sym c.holds_some.ensures.value ∙ c.if-holds_some.true)) in
+    sym (ap (λ (k : Key). holds_some c.args.b (meta_square k.meta)) c.world_key-key.ensures) ∙ (sym (ap (holds_some c.args.b) c.meta_square.ensures.value) ∙ (sym c.holds_some.ensures.value ∙ c.if-holds_some.true)) in
     walks_agree (is_in_box c.args.map c.args.z c.args.b)
     (agree_metas c.args.nodes.now.entries c.len-count.ensures.unique c.requires.tree (same_key key) (is_in_box c.args.map c.args.z c.args.b)
-      (λ k meta. and_true (same_key key k) _ holds ∙ flat_box c.args.map c.args.z c.args.b k (omega (arith, c.if-z-ge-ROOT_ZOOM.false)) meta))
+    (λ k meta. and_true (same_key key k) _ holds ∙ flat_box c.args.map c.args.z c.args.b k (omega (arith, c.if-z-ge-ROOT_ZOOM.false)) meta))
     (walks_of c.world_key-key.result key c.world_key-key.ensures c.soil_one.ensures.walks)
 
 pub returns-else-holds_some-clause-walks : goal.returns-else-holds_some-clause-walks
 returns-else-holds_some-clause-walks c =
     let key = world_key c.args.map c.args.z in
     let misses : holds_some c.args.b (meta_square key.meta) ≡ false =
-      sym (ap (λ (k : Key). holds_some c.args.b (meta_square k.meta)) c.world_key-key.ensures) ∙ (sym (ap (holds_some c.args.b) c.meta_square.ensures.value) ∙ (sym c.holds_some.ensures.value ∙ c.if-holds_some.false)) in
+    sym (ap (λ (k : Key). holds_some c.args.b (meta_square k.meta)) c.world_key-key.ensures) ∙ (sym (ap (holds_some c.args.b) c.meta_square.ensures.value) ∙ (sym c.holds_some.ensures.value ∙ c.if-holds_some.false)) in
     walks_none (is_in_box c.args.map c.args.z c.args.b) c.args.nodes.now.entries
     (none_metas c.args.nodes.now.entries c.len-count.ensures.unique c.requires.tree (is_in_box c.args.map c.args.z c.args.b)
-      (λ k meta. sym (flat_box c.args.map c.args.z c.args.b k (omega (arith, c.if-z-ge-ROOT_ZOOM.false)) meta) ∙ and_false (same_key key k) _ misses))
+    (λ k meta. sym (flat_box c.args.map c.args.z c.args.b k (omega (arith, c.if-z-ge-ROOT_ZOOM.false)) meta) ∙ and_false (same_key key k) _ misses))
     c.requires.tree

@@ -27,5 +27,5 @@ pub returns-clause-walks : goal.returns-clause-walks
 returns-clause-walks c =
     walks_agree (λ k. is_of_map c.args.map k && overlaps c.args.t k)
     (agree_metas c.args.nodes.now.entries c.len-count.ensures.unique c.requires.tree _ (λ k. is_of_map c.args.map k && overlaps c.args.t k)
-      (λ k meta. tile_agrees c.args.map c.args.t c.key_over-top.result k c.key_over-top.ensures.value c.key_over-top.ensures.node c.requires.tile meta))
+    (λ k meta. tile_agrees c.args.map c.args.t c.key_over-top.result k c.key_over-top.ensures.value c.key_over-top.ensures.node c.requires.tile meta))
     (three c)

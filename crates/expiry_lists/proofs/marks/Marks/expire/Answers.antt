@@ -15,7 +15,7 @@ soiled : (c : After-soil_maps) → Soils (overlaps c.args.t) (shown_of c.self.in
 soiled c =
     let es = c.self.inside.nodes.entries in
     let listed : Soils (λ k. is_of_maps c.self.inside.maps.items k && overlaps c.args.t k) (shown_of es) (shown_of c.soil_maps.new.nodes.entries) c.soil_maps.result =
-      subst (λ (ms : List ℕ). Soils (λ k. is_of_maps ms k && overlaps c.args.t k) (shown_of es) (shown_of c.soil_maps.new.nodes.entries) c.soil_maps.result) c.deref.ensures.value c.soil_maps.ensures.walks.soils in
+    subst (λ (ms : List ℕ). Soils (λ k. is_of_maps ms k && overlaps c.args.t k) (shown_of es) (shown_of c.soil_maps.new.nodes.entries) c.soil_maps.result) c.deref.ensures.value c.soil_maps.ensures.walks.soils in
     soils_agree (overlaps c.args.t) (all_listed c.self.inside.maps.items es c.len-count.ensures.unique c.self.invariant (overlaps c.args.t)) listed
 
 pub returns-clause-shown : goal.returns-clause-shown
