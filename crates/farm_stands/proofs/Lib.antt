@@ -1,0 +1,15 @@
+pub mod Storing
+pub mod Counting
+pub mod Lining
+pub mod Queueing
+pub mod Marking
+pub mod Stepping
+pub mod Asking
+pub mod Claiming
+pub mod Finishing
+pub mod Changing
+pub mod Reading
+pub mod Replying
+pub mod Starting
+pub mod Resuming
+pub mod Telling

@@ -1,0 +1,5 @@
+pub mod Seen
+pub mod Stands
+pub mod Jobs
+pub mod Reads
+pub mod inner

@@ -1,0 +1,2 @@
+-- What serves inner contracts alone: what each event makes of a farm's parts.
+pub mod Events
