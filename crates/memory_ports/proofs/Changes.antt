@@ -1,12 +1,10 @@
 -- One connection of a list changes, or all do.
-use Rattle.std.proofs.Common.{◌≡◌, ◌<◌, ◌+◌, ◌==◌, ◌&&◌, ℕ, Bool, true, false, List, [], ◌∷◌, ◌++◌, length, map, take, drop, get_or, set, zero, suc, Option, Some, None, option_map, Result, Ok, Err, OnOk, refl, ap, sym, ◌∙◌, cond, arith, rules, tests}
+use Rattle.std.proofs.Common.{◌≡◌, ◌<◌, ◌+◌, ◌==◌, ℕ, Bool, true, false, List, [], ◌∷◌, ◌++◌, length, map, take, drop, get_or, set, zero, suc, Option, Some, None, option_map, Result, Ok, Err, OnOk, refl, ap, sym, ◌∙◌, cond, arith, tests}
 use Rattle.std.proofs.lemmas.Bool.Decides.{nat_tests}
-use Rattle.std.proofs.lemmas.Option.{slice_get-get_or, slice_get_within}
-use Rattle.std.proofs.lemmas.List.Quantifiers.{position-Some}
-use Rattle.std.specs.List.{slice_get, position}
+use Rattle.std.specs.List.{slice_get}
 use Rattle.port_trait.specs.Told.{put}
 use Rattle.memory_ports.specs.Held.{PeerHeld, change, up_of}
-use Rattle.memory_ports.specs.Playing.{fresh, is_alive, is_alive_at, alive_of, is_due, marked}
+use Rattle.memory_ports.specs.Playing.{fresh, is_alive_at}
 
 pub set_is_change : (f : PeerHeld → PeerHeld) (ps : List PeerHeld) (i : ℕ) (d y : PeerHeld) → i < length ps → y ≡ f (get_or ps i d) → set ps i y ≡ change f i ps
 set_is_change f [] i d y small is = absurd (omega (arith, small))

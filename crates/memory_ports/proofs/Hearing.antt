@@ -1,19 +1,18 @@
 -- What ports in memory tell after an event.
-use Rattle.std.proofs.Common.{◌≡◌, ◌+◌, ◌<◌, ◌≤◌, ◌^◌, ◌==◌, ◌⊎◌, inl, inr, ◌&&◌, not, nat_lt, ℕ, Bool, true, false, List, [], ◌∷◌, ◌++◌, length, get_or, map, Option, Some, None, option_map, refl, ap, sym, ◌∙◌, subst, cond, zero, suc, arith, rules, tests}
+use Rattle.std.proofs.Common.{◌≡◌, ◌+◌, ◌^◌, inl, inr, ◌&&◌, not, nat_lt, ℕ, Bool, true, false, List, [], ◌∷◌, ◌++◌, length, get_or, map, Option, Some, None, refl, ap, sym, ◌∙◌, subst, cond, arith, tests}
 use Rattle.std.proofs.lemmas.Bool.{false≢true}
 use Rattle.std.proofs.lemmas.Bool.Decides.{nat_tests}
 use Rattle.std.proofs.lemmas.Option.{slice_get-get_or, slice_get_past}
 use Rattle.std.proofs.lemmas.List.Quantifiers.{position-Some}
 use Rattle.std.specs.List.{slice_get, position, count_by}
-use Rattle.farm_base.specs.Outside.{Counted}
 use Rattle.port_trait.specs.declared.events.PortEvent.{PortEvent}
 use Rattle.port_trait.specs.declared.events.PortEvent.TheVariants as event
 use Rattle.port_trait.specs.declared.events.PortItem.TheVariants as item
-use Rattle.port_trait.specs.Told.{PortsTold, put, MayCome, heard, Hears, EventCounts}
+use Rattle.port_trait.specs.Told.{MayCome, heard, Hears, EventCounts}
 use Rattle.memory_ports.specs.declared.steps.PortStep.{PortStep}
 use Rattle.memory_ports.specs.declared.steps.PortStep.TheVariants as step
-use Rattle.memory_ports.specs.Held.{PeerHeld, PortsHeld, change, closed, with_end, logged, taken_of, up_of, ended_of, told_of, is_fault}
-use Rattle.memory_ports.specs.Playing.{fresh, marked, is_alive, alive_of, is_alive_at, is_due, writable_told, is_live, BeginsLive, Readies, readied, moved, stepped, Play, plain, play_step, play_due, play, PlayedBy, Plays, IsOver}
+use Rattle.memory_ports.specs.Held.{PeerHeld, PortsHeld, taken_of, up_of, ended_of, told_of, is_fault}
+use Rattle.memory_ports.specs.Playing.{fresh, marked, is_alive, alive_of, is_due, writable_told, is_live, BeginsLive, Readies, moved, stepped, Play, plain, play_step, play_due, play, PlayedBy, Plays, IsOver}
 use Rattle.memory_ports.proofs.Changes.{field_mapped}
 use Rattle.memory_ports.proofs.Telling.{told_closed, told_ended, told_added, told_kept, told_ready, faults_rise, faults_stay}
 

@@ -1,12 +1,12 @@
 -- Steps that are passed over.
-use Rattle.std.proofs.Common.{◌≡◌, ◌<◌, ◌≤◌, ◌+◌, ◌&&◌, ◌||◌, ℕ, Bool, true, false, List, [], ◌∷◌, ◌++◌, length, drop, get_or, set, zero, suc, refl, ap, sym, ◌∙◌, subst, append_assoc, arith, rules, tests}
+use Rattle.std.proofs.Common.{◌≡◌, ◌<◌, ◌+◌, ◌&&◌, ◌||◌, ℕ, Bool, true, false, List, [], ◌∷◌, ◌++◌, length, drop, get_or, set, zero, suc, refl, ap, sym, ◌∙◌, subst, append_assoc, arith, tests}
 use Rattle.std.proofs.lemmas.List.{drop_more}
 use Rattle.std.proofs.lemmas.List.Folds.{list_all-append, list_any-append}
 use Rattle.std.specs.List.{list_all, list_any}
 use Rattle.memory_ports.specs.declared.steps.PortStep.{PortStep}
 use Rattle.memory_ports.specs.declared.steps.PortStep.TheVariants as step
 use Rattle.memory_ports.specs.Held.{PeerHeld}
-use Rattle.memory_ports.specs.Playing.{is_live, is_passable, Passed, Passes, BeginsLive}
+use Rattle.memory_ports.specs.Playing.{is_passable, Passed}
 use Rattle.memory_ports.specs.Scripts.{is_await, has_piece, is_valid, is_piece, is_alive_in}
 
 pub passed_none : (peers : List PeerHeld) (ss : List PortStep) → Passed peers ss ss false

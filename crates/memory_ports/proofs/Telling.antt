@@ -1,5 +1,5 @@
 -- What ports in memory tell after one of their connections changed.
-use Rattle.std.proofs.Common.{◌≡◌, ◌+◌, ◌<◌, ◌≤◌, ◌-◌, ◌^◌, min, ℕ, Bool, true, false, List, [], ◌∷◌, ◌++◌, length, take, map, Option, Some, None, option_map, Result, Ok, Err, refl, ap, sym, ◌∙◌, subst, cond, zero, suc, arith, rules, tests}
+use Rattle.std.proofs.Common.{◌≡◌, ◌+◌, ◌≤◌, ℕ, Bool, true, false, List, [], ◌∷◌, ◌++◌, length, take, map, Option, Some, None, option_map, Result, Ok, Err, refl, ap, sym, ◌∙◌, subst, cond, zero, suc, arith, tests}
 use Rattle.std.proofs.Math.Path.{fun_ext}
 use Rattle.std.proofs.lemmas.List.{length-append, length-map}
 use Rattle.std.proofs.lemmas.List.Sums.{sum_by-append}
@@ -14,8 +14,8 @@ use Rattle.port_trait.specs.declared.events.PortFault.TheVariants as fault
 use Rattle.port_trait.specs.Told as told
 use Rattle.port_trait.specs.Told.{PortsTold, put, SendCounts, ListenCounts}
 use Rattle.memory_ports.specs.declared.steps.PortStep.{PortStep}
-use Rattle.memory_ports.specs.Held.{PeerHeld, PortsHeld, change, closed, with_end, with_taken, logged, taken_of, up_of, ended_of, told_of, is_fault, SendsHeld, ListensHeld}
-use Rattle.memory_ports.specs.Playing.{marked, fresh, readied, moved, Readies}
+use Rattle.memory_ports.specs.Held.{PeerHeld, PortsHeld, change, closed, with_end, with_taken, taken_of, up_of, ended_of, told_of, is_fault, SendsHeld, ListensHeld}
+use Rattle.memory_ports.specs.Playing.{marked, fresh, moved, Readies}
 use Rattle.memory_ports.proofs.Changes.{field_put, field_kept, field_added, field_mapped, length-change}
 
 abbrev pub told_as : List PortItem → ℕ → (ℕ → List ℕ) → (ℕ → Bool) → (ℕ → Bool) → PortsTold

@@ -1,5 +1,5 @@
 -- Ports in memory as contracts see them, and what a listen, a send and a close do.
-use Rattle.std.specs.Prelude.{◌≡◌, ◌+◌, ◌&&◌, not, nat_lt, min, ℕ, Bool, true, false, List, [], ◌∷◌, ◌++◌, length, take, zero, suc, Option, Some, None, Result, Ok, Err}
+use Rattle.std.specs.Prelude.{◌≡◌, nat_lt, min, ℕ, Bool, true, false, List, [], ◌∷◌, ◌++◌, length, take, zero, suc, Option, Some, None, Result, Ok, Err}
 use Rattle.std.specs.List.{count_by, slice_get}
 use Rattle.farm_base.specs.Outside.{Outside}
 use Rattle.farm_base.specs.InMemory.{is_to_fail, next_count}
