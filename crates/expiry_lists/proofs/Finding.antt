@@ -6,7 +6,8 @@ use Rattle.indexmap.specs.IndexMap.{insert_entry}
 use Rattle.farm_history.specs.declared.keys.Key.{Key}
 use Rattle.farm_history.specs.declared.keys.Mark.{Mark}
 use Rattle.farm_history.specs.Plans.{same_key, AreApart}
-use Rattle.farm_history.proofs.Lists.{same_key-true, same_key-self, same_key-sym, Each, each-map}
+use Rattle.farm_history.specs.Lists.{Each}
+use Rattle.farm_history.proofs.Lists.{same_key-true, same_key-self, same_key-sym, each-map}
 use Rattle.expiry_lists.specs.declared.nodes.Node.{Node}
 use Rattle.expiry_lists.specs.Marks.{Shown, shown_key, mark_of, touched_by, soil_mark, soil_marks, clean_marks}
 use Rattle.expiry_lists.specs.inner.Nodes.{node_of, node_mark, is_clean, has_node, is_clean_at, shown_before, shown_of}

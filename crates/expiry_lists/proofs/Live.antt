@@ -4,7 +4,8 @@ use Rattle.std.proofs.lemmas.Bool.{or_cases}
 use Rattle.farm_history.specs.declared.keys.Key.{Key}
 use Rattle.farm_history.specs.declared.keys.Mark.{Mark}
 use Rattle.farm_history.specs.Plans.{same_key}
-use Rattle.farm_history.proofs.Lists.{Each, each-map, same_key-true}
+use Rattle.farm_history.specs.Lists.{Each}
+use Rattle.farm_history.proofs.Lists.{each-map, same_key-true}
 use Rattle.expiry_lists.specs.declared.nodes.Node.{Node}
 use Rattle.expiry_lists.specs.Marks.{Shown}
 use Rattle.expiry_lists.specs.inner.Nodes.{parent, node_of, node_live, node_mark, is_clean, has_node, is_live, shown_of, IsTree, Quieter}

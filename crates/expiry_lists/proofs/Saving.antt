@@ -13,7 +13,8 @@ use Rattle.farm_history.specs.declared.keys.Mark.{Mark}
 use Rattle.farm_history.specs.declared.keys.Kept.{Kept}
 use Rattle.farm_history.specs.Plans.{same_key}
 use Rattle.farm_history.specs.Replays.{key_before, are_rising, kept_of, kept_version}
-use Rattle.farm_history.proofs.Lists.{Each, each-find, find-passes, same_key-true, same_key-self, same_key-sym}
+use Rattle.farm_history.specs.Lists.{Each}
+use Rattle.farm_history.proofs.Lists.{each-find, find-passes, same_key-true, same_key-self, same_key-sym}
 use Rattle.expiry_lists.specs.declared.nodes.Node.{Node}
 use Rattle.expiry_lists.specs.Marks.{mark_of, clean_version}
 use Rattle.expiry_lists.specs.inner.Nodes.{node_of, node_mark, shown_of}

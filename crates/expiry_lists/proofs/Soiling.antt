@@ -3,7 +3,7 @@ use Rattle.std.proofs.Common.{◌≡◌, ℕ, ◌+◌, ◌≤◌, Bool, true, fa
 use Rattle.std.proofs.lemmas.Bool.Decides.{nat_tests}
 use Rattle.farm_history.specs.declared.keys.Key.{Key}
 use Rattle.farm_history.specs.declared.keys.Mark.{Mark}
-use Rattle.farm_history.proofs.Lists.{Each}
+use Rattle.farm_history.specs.Lists.{Each}
 use Rattle.farm_history.proofs.Counts.{count-cons}
 use Rattle.expiry_lists.specs.Marks.{Shown, touched_by, soil_mark, soil_marks, clean_marks}
 use Rattle.expiry_lists.specs.inner.Walks.{Soils}

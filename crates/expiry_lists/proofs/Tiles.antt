@@ -11,7 +11,8 @@ use Rattle.plain_world.specs.World.{IsMeta, IsTile, meta_square, tile_square, sq
 use Rattle.plain_world.proofs.Squares.{ancestor, squares_turned}
 use Rattle.farm_history.specs.declared.keys.Key.{Key}
 use Rattle.farm_history.specs.Plans.{same_key, overlaps}
-use Rattle.farm_history.proofs.Lists.{Each, each-map, each-all, any-append, same_key-true, same_key-self}
+use Rattle.farm_history.specs.Lists.{Each}
+use Rattle.farm_history.proofs.Lists.{each-map, each-all, any-append, same_key-true, same_key-self}
 use Rattle.expiry_lists.specs.declared.nodes.Node.{Node}
 use Rattle.expiry_lists.specs.declared.boxes.Rectangle.{Rectangle}
 use Rattle.expiry_lists.specs.Boxes.{holds_some}
