@@ -3,6 +3,7 @@
 #![tactic(auto)]
 
 mod call;
+mod program;
 
 pub use call::farm_main;
-pub use call_ends::{Stop, report};
+pub use program::program;

@@ -1,0 +1,3 @@
+pub mod Pixels
+pub mod Rasters
+pub mod Reading
