@@ -1,3 +1,3 @@
+pub mod Fitting
 pub mod Pixels
-pub mod Rasters
 pub mod Reading

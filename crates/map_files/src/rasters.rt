@@ -73,7 +73,7 @@ impl Load for RasterFiles {
 }
 
 // Reads a raster's file and checks it.
-#[tactic(auto, using(crate::proofs::Rasters::raster_stops))]
+#[tactic(auto, using(crate::proofs::Fitting::raster_stops))]
 fn raster_file<F: Files>(alloc: Global, files: &mut F, raster: &RasterRef) -> Result<Grid, Stop>
     ensures { Follows (raster_course raster.now) (F.state files.old) (F.state files.new) result }
 {

@@ -3,7 +3,7 @@ use Rattle.plain_image.specs.declared.reading.PpmFault.TheVariants as ppm
 use Rattle.input_files.proofs.Judged.{told_by}
 use Rattle.map_files.specs.Rasters.{raster_text}
 use Rattle.map_files.specs.declared.rasters.RasterFault.TheVariants as fault
-use Rattle.map_files.proofs.Rasters.{raster_checked}
+use Rattle.map_files.proofs.Fitting.{raster_checked}
 use Rattle.map_files.proofs.rasters.raster_file.Goals as goal
 
 pub returns : goal.returns

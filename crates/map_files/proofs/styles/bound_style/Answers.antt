@@ -1,4 +1,4 @@
-use Rattle.map_files.proofs.Rasters.{grids_bound}
+use Rattle.map_files.proofs.Fitting.{grids_bound}
 use Rattle.map_files.proofs.styles.bound_style.Goals as goal
 
 pub bind-requires : goal.bind-requires
