@@ -44,9 +44,7 @@ judged_could name (Ok h) g could = ap Ok (sym could)
 judged_could name (Err f) g could = absurd could
 
 raster_fits : (r : RasterRef) (g : Grid) → Could (raster_course r) g → grid_matches r g ≡ true
-unfolding raster_course
-
-unfolding file
+unfolding raster_course file
 raster_fits r g could = after_matches r (ppm_of could.0) g (judged_could r.file (raster_in r could.0) g could.1)
 
 both : (a b : Bool) → a ≡ true → b ≡ true → (a && b) ≡ true

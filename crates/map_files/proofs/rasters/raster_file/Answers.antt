@@ -8,6 +8,6 @@ use Rattle.map_files.proofs.rasters.raster_file.Goals as goal
 
 pub returns : goal.returns
 returns g c =
-    let name : c.as_str.result.now ≡ c.args.raster.now.file = search rules in
+    let name : c.as_str-name.result.now ≡ c.args.raster.now.file = search rules in
     raster_checked _ _ _ _ _ _ _ _ name c.in_ok-bytes.ensures c.as_slice.ensures.value
     (told_by raster_text (fault.Ppm ppm.NoMemory) _ _ refl c.read_raster.ensures) c.checked.ensures
