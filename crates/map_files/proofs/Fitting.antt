@@ -58,8 +58,8 @@ grids_fit (r ∷ rs) all could =
     ap (grids_match (r ∷ rs)) rest.2 ∙ both (grid_matches r first.0) (grids_match rs rest.0) (raster_fits r first.0 first.1) (grids_fit rs rest.0 rest.1)
 
 -- the grids that were read fit their rasters
-pub grids_bound : (rs : List RasterRef) (old new : FilesAt) (all : List Grid) → Follows (each raster_course rs) old new (Ok all) → grids_match rs all ≡ true
-grids_bound rs old new all h = grids_fit rs all (followed_could (each raster_course rs) old new all h)
+pub grids_bound : (rs items : List RasterRef) (old new : FilesAt) (all : List Grid) → items ≡ rs → Follows (each raster_course items) old new (Ok all) → grids_match rs all ≡ true
+grids_bound rs items old new all is h = ap (λ (x : List RasterRef). grids_match x all) (sym is) ∙ grids_fit items all (followed_could (each raster_course items) old new all h)
 
 -- a raster's file is read by its name
 pub raster_checked : (r : RasterRef) (name bytes slice : List ℕ) (old new : FilesAt) (read : Result Grid RasterFault) (result : Result Grid Stop) → name ≡ r.file

@@ -15,7 +15,7 @@ use style_objects::read_style;
 
 /// Reads a style's file and then the files of its rasters, in order, and gives the style with the grids of
 /// its rasters. It ends at the first file that is refused or cannot be read.
-#[tactic(auto, using(input_files::proofs::Courses::follows_then, input_files::proofs::Courses::follows_stop), unfolding(crate::specs::Courses::style_course))]
+#[tactic(auto, using(crate::proofs::Bound::style_unread))]
 pub fn bound_style<F: Files>(alloc: Global, files: &mut F, name: &str) -> Result<MapStyle, Stop>
     ensures { Follows (style_course name.now) (F.state files.old) (F.state files.new) result }
 {
