@@ -1,3 +1,3 @@
 pub mod Asked
-pub mod Program
+pub mod Reported
 pub mod Told

@@ -2,8 +2,8 @@
 //! in.
 #![tactic(auto)]
 
+mod arguments;
 mod call;
-mod program;
 
+pub use arguments::program;
 pub use call::farm_main;
-pub use program::program;

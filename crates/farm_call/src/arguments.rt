@@ -13,7 +13,7 @@ use std::rt::Env;
 
 /// `farm_main` with the words behind the program's name, over these files and sinks. Words that cannot be
 /// had, since one is not UTF-8, are refused like wrong ones, unless memory ran out.
-#[tactic(auto, using(crate::proofs::Program::usage_told, crate::proofs::Program::want_told, crate::proofs::Program::nothing_told))]
+#[tactic(auto, using(crate::proofs::Reported::usage_told, crate::proofs::Reported::want_told, crate::proofs::Reported::nothing_told))]
 pub fn program<R: Env + Alloc<A = Global>, F: Files, O: Sink, E: Sink>(
     rt: &R,
     files: &mut F,
