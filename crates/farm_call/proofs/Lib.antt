@@ -1,5 +1,3 @@
 pub mod Asked
-pub mod Done
-pub mod Parts
-pub mod Refusals
-pub mod Statuses
+pub mod Reported
+pub mod Told

@@ -1,3 +1,2 @@
-pub mod Promises
-pub mod Runs
 pub mod Words
+pub mod inner

@@ -4,6 +4,9 @@ use Rattle.farm_words.specs.Forms.{Spells}
 use Rattle.farm_words.specs.Values.{values_of}
 use Rattle.farm_words.specs.declared.command.Command.{Command}
 use Rattle.farm_words.specs.declared.command.Command.TheVariants.{Render, Meta}
+use Rattle.input_files.specs.Course.{Course}
+use Rattle.render_command.specs.Courses.{render_course}
+use Rattle.meta_command.specs.Courses.{meta_course}
 
 -- The words ask for the command: the values that clap reads of them spell it. Where no word is empty or
 -- begins with `-`, the values are the words themselves.
@@ -12,12 +15,12 @@ pub record AsksFor (words : List (List ℕ)) (command : Command) : Type 0 where
   pub read : values_of words ≡ Some values
   pub spelled : Spells command values
 
--- the commands that there are so far
-abbrev pub IsBuilt : Command → Type 0
-IsBuilt (Render style data_name size tile) = Unit {0}
-IsBuilt (Meta file) = Unit {0}
-IsBuilt other = ⊥
+-- the course by which a command's text is made; the other commands are not built yet
+abbrev pub IsCourse : Command → Course (List ℕ) → Type 0
+IsCourse (Render style data_name size tile) course = course ≡ render_course style data_name size tile
+IsCourse (Meta file) course = course ≡ meta_course file
+IsCourse other course = ⊥
 
--- the words ask for no command that there is
-abbrev pub AsksNothing : List (List ℕ) → Type 0
-AsksNothing words = (command : Command) → IsBuilt command → ¬ (AsksFor words command)
+-- the words ask for the text that this course makes
+abbrev pub Asks : List (List ℕ) → Course (List ℕ) → Type 0
+Asks words course = (command : Command) × AsksFor words command × IsCourse command course

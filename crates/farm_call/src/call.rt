@@ -1,13 +1,13 @@
 //! The top call.
-ghost use Rattle.std.specs.Prelude.{◌≡◌, ◌≢◌, ◌⊎◌, ℕ, List, Some, map, string_bytes};
-ghost use Rattle.farm_base.specs.Outside.{FilesTold, Rose};
-ghost use Rattle.farm_words.specs.declared.command.Command as words_command;
+ghost use Rattle.std.specs.Prelude.{◌≡◌, ◌≢◌, ◌⊎◌, ℕ, List, Some, IfSome, map, string_bytes};
+ghost use Rattle.farm_base.specs.Outside.{Rose};
 ghost use Rattle.call_ends.specs.Stops.{usage, want_of_memory};
-ghost use Rattle.call_ends.specs.Ends.{EndsWith};
 ghost use Rattle.call_ends.specs.Promises.{Stands};
-ghost use Rattle.farm_call.specs.Words.{AsksFor, AsksNothing};
-ghost use Rattle.farm_call.specs.Runs.{IsSound, Does, Runs};
-ghost use Rattle.farm_call.specs.Promises.{RefusedFile, IsValid, Done, Cut, Refusal, Unread};
+ghost use Rattle.input_files.specs.Course.{Course, RefusedBy, IsValid};
+ghost use Rattle.input_files.specs.Calls.{Done, Cut, Refusal, Missed, FrontOfLine, EndsAt};
+ghost use Rattle.input_files.specs.inner.Runs.{Runs};
+ghost use Rattle.farm_call.specs.Words.{Asks};
+ghost use Rattle.farm_call.specs.inner.Runs.{IsSound, Does};
 
 use call_ends::{Stop, report};
 use farm_base::{Files, Sink};
@@ -31,34 +31,64 @@ pub fn farm_main<F: Files, O: Sink, E: Sink>(
     out: &mut O,
     err: &mut E,
 ) -> u8
-    ensures ends { EndsWith (Runs (map string_bytes words.now)
-        (F.state files.old) (F.state files.new)
-        (O.state out.old) (O.state out.new))
-        (E.state err.old) (E.state err.new) result }
-    ensures done { result ≡ 0 → (t : FilesTold) → (F.state files.old).told ≡ Some t → (before : List ℕ) → (O.state out.old).told ≡ Some before
-        → Done (map string_bytes words.now) t.content before (O.state out.new).told }
-    ensures silent { result ≡ 0 → (E.state err.new).told ≡ (E.state err.old).told }
-    ensures refused { result ≡ 1 → (t : FilesTold) → (F.state files.old).told ≡ Some t
-        → Refusal (map string_bytes words.now) t.content (E.state err.old).told (E.state err.new).told }
-    ensures refusing { (c : words_command.Command) → (line : List ℕ) → AsksFor (map string_bytes words.now) c → (t : FilesTold) → (F.state files.old).told ≡ Some t → RefusedFile c t.content line
-        → ¬ (Rose (F.state files.old).faults (F.state files.new).faults) → ¬ (Rose (O.state out.old).faults (O.state out.new).faults) → ¬ (Rose (E.state err.old).faults (E.state err.new).faults)
-        → (result ≡ 1) ⊎ (result ≡ 5) }
-    ensures words { result ≡ 2 → AsksNothing (map string_bytes words.now) }
+    // 0: the files lead the course that is asked for to a text, and this text was put, and nothing else.
+    ensures done { result ≡ 0 → IfSome (F.state files.old).told (λ t.
+        IfSome (O.state out.old).told (λ before.
+        Done (Asks (map string_bytes words.now)) t.content before (O.state out.new).told)) }
+    // 1: the files lead the course to this line, that of their first fault, and it stands on err.
+    ensures refused { result ≡ 1 → IfSome (F.state files.old).told (λ t. (line : List ℕ)
+        × Refusal (Asks (map string_bytes words.now)) t.content line
+        × Stands (E.state err.old).told (E.state err.new).told line) }
+    // Files with no fault give 0, where no read and no put on out fails, unless memory is wanting.
+    ensures complete { IfSome (F.state files.old).told (λ t. (c : Course (List ℕ))
+        → Asks (map string_bytes words.now) c → IsValid t.content c
+        → ¬ (Rose (F.state files.old).faults (F.state files.new).faults)
+        → ¬ (Rose (O.state out.old).faults (O.state out.new).faults)
+        → (result ≡ 0) ⊎ EndsAt 5 (E.state err.old).faults (E.state err.new).faults result) }
+
+    // A first fault of the files gives 1, where no read fails, unless memory is wanting.
+    ensures refusing { IfSome (F.state files.old).told (λ t. (c : Course (List ℕ)) → (line : List ℕ)
+        → Asks (map string_bytes words.now) c → RefusedBy t.content c line
+        → ¬ (Rose (F.state files.old).faults (F.state files.new).faults)
+        → (result ≡ 1) ⊎ EndsAt 5 (E.state err.old).faults (E.state err.new).faults result) }
+    // 2: the words ask for nothing, and the usage line stands on err.
+    ensures words { result ≡ 2 → (c : Course (List ℕ)) → ¬ (Asks (map string_bytes words.now) c) }
     ensures usage_line { result ≡ 2 → Stands (E.state err.old).told (E.state err.new).told usage }
-    ensures no_words { AsksNothing (map string_bytes words.now) → (result ≡ 2) ⊎ ((result ≡ 5) ⊎ ((result ≡ 4) × Rose (E.state err.old).faults (E.state err.new).faults)) }
-    ensures unread { result ≡ 3 → (t : FilesTold) → (F.state files.old).told ≡ Some t
-        → Unread (map string_bytes words.now) t (F.state files.new).told (E.state err.old).told (E.state err.new).told }
-    ensures one_failed { (t : FilesTold) → (u : FilesTold) → (F.state files.old).told ≡ Some t → (F.state files.new).told ≡ Some u → u.failed ≢ t.failed
-        → (result ≡ 3) ⊎ ((result ≡ 5) ⊎ ((result ≡ 4) × Rose (E.state err.old).faults (E.state err.new).faults)) }
+    // Words that ask for nothing give 2, unless memory is wanting.
+    ensures no_words { ((c : Course (List ℕ)) → ¬ (Asks (map string_bytes words.now) c))
+        → (result ≡ 2) ⊎ EndsAt 5 (E.state err.old).faults (E.state err.new).faults result }
+    // 3: the files lead to a read, that read failed and no other call, and its line stands on err.
+    ensures unread { result ≡ 3 → IfSome (F.state files.old).told (λ t. (line : List ℕ)
+        × Missed (Asks (map string_bytes words.now)) t (F.state files.new).told line
+        × Stands (E.state err.old).told (E.state err.new).told line) }
     ensures read_failed { result ≡ 3 → Rose (F.state files.old).faults (F.state files.new).faults }
-    ensures put_failed { result ≡ 4 → Rose (O.state out.old).faults (O.state out.new).faults ⊎ (Rose (E.state err.old).faults (E.state err.new).faults × ((O.state out.new).told ≡ (O.state out.old).told)) }
-    ensures cut { (t : FilesTold) → (F.state files.old).told ≡ Some t → (before : List ℕ) → (O.state out.old).told ≡ Some before
-        → Cut (map string_bytes words.now) t.content before (O.state out.new).told }
-    ensures want_line { result ≡ 5 → Stands (E.state err.old).told (E.state err.new).told want_of_memory }
-    ensures nothing_put { result ≢ 0 → result ≢ 4 → (O.state out.new).told ≡ (O.state out.old).told }
-    ensures complete { (c : words_command.Command) → AsksFor (map string_bytes words.now) c → (t : FilesTold) → (F.state files.old).told ≡ Some t → IsValid c t.content
-        → ¬ (Rose (F.state files.old).faults (F.state files.new).faults) → ¬ (Rose (O.state out.old).faults (O.state out.new).faults) → ¬ (Rose (E.state err.old).faults (E.state err.new).faults)
-        → (result ≡ 0) ⊎ (result ≡ 5) }
+    // A read that failed gives 3, unless memory is wanting.
+    ensures one_failed { IfSome (F.state files.old).told (λ t. IfSome (F.state files.new).told (λ u.
+        u.failed ≢ t.failed
+        → (result ≡ 3) ⊎ EndsAt 5 (E.state err.old).faults (E.state err.new).faults result)) }
+    // 4: a put failed, on out or on err.
+    ensures put_failed { result ≡ 4 → Rose (O.state out.old).faults (O.state out.new).faults
+        ⊎ (Rose (E.state err.old).faults (E.state err.new).faults
+        × ((O.state out.new).told ≡ (O.state out.old).told)) }
+    // A put that failed gives 4.
+    ensures noticed { ((O.state out.new).faults ≢ (O.state out.old).faults)
+        ⊎ ((E.state err.new).faults ≢ (E.state err.old).faults) → result ≡ 4 }
+    // 5: the line of want of memory stands on err.
+    ensures want_line { result ≡ 5
+        → Stands (E.state err.old).told (E.state err.new).told want_of_memory }
+
+    // Out has what it had, and behind it a front of the text that is asked for: all of it with 0,
+    // and nothing with another status than 0 and 4.
+    ensures cut { IfSome (F.state files.old).told (λ t. IfSome (O.state out.old).told (λ before.
+        Cut (Asks (map string_bytes words.now)) t.content before (O.state out.new).told
+        ⊎ ((O.state out.new).told ≡ Some before))) }
+    ensures nothing_put { result ≢ 0 → result ≢ 4
+        → (O.state out.new).told ≡ (O.state out.old).told }
+    // Err has what it had, and behind it a front of a line that may stand there: none of it with 0.
+    ensures err_front { IfSome (F.state files.old).told (λ t.
+        FrontOfLine (Asks (map string_bytes words.now)) t (F.state files.new).told
+        (E.state err.old).told (E.state err.new).told) }
+    ensures silent { result ≡ 0 → (E.state err.new).told ≡ (E.state err.old).told }
 {
     let end = command(alloc, words, files, out);
     report(err, &end)
@@ -71,7 +101,7 @@ fn command<F: Files, O: Sink>(
     files: &mut F,
     out: &mut O,
 ) -> Result<(), Stop>
-    ensures { Runs (map string_bytes words.now) (F.state files.old) (F.state files.new)
+    ensures { Runs (Asks (map string_bytes words.now)) (F.state files.old) (F.state files.new)
         (O.state out.old) (O.state out.new) result }
 {
     match read_words(alloc, words) {

@@ -2,7 +2,8 @@
 //! in.
 #![tactic(auto)]
 
+mod arguments;
 mod call;
 
+pub use arguments::program;
 pub use call::farm_main;
-pub use call_ends::{Stop, report};

@@ -1,9 +1,7 @@
--- The lines that tell what a container holds, and the texts of its faults.
-use Rattle.std.specs.Prelude.{ℕ, List, ◌++◌, Option, Some, codes}
+-- The lines that tell what a container holds.
+use Rattle.std.specs.Prelude.{ℕ, List, ◌++◌, codes}
 use Rattle.std.specs.List.{flat_map}
 use Rattle.std.specs.Fmt.{decimal}
-use Rattle.farm_base.specs.declared.faults.MetaFault.{MetaFault}
-use Rattle.farm_base.specs.declared.faults.MetaFault.TheVariants.{Short, Magic, Compressed, Count, Place, Index}
 use Rattle.plain_world.specs.declared.world.Meta.{Meta}
 use Rattle.meta_container.specs.declared.container.Entry.{Entry}
 use Rattle.meta_container.specs.declared.container.Listing.{Listing}
@@ -23,12 +21,3 @@ entry_line entry = three entry.place entry.offset entry.size
 -- what a container holds: the line of its metatile, and those of its tiles in order
 abbrev pub listing_text : Listing → List ℕ
 listing_text listing = meta_line listing.meta ++ flat_map entry_line listing.entries.items
-
--- the text of a fault: its number
-abbrev pub fault_text : MetaFault → Option (List ℕ)
-fault_text (Short len) = Some (codes "meta 1")
-fault_text Magic = Some (codes "meta 2")
-fault_text Compressed = Some (codes "meta 3")
-fault_text (Count count) = Some (codes "meta 4")
-fault_text (Place x y z) = Some (codes "meta 5")
-fault_text (Index place) = Some (codes "meta 6")

@@ -1,19 +1,16 @@
 //! A container is read and checked, and its lines are put.
-ghost use Rattle.std.specs.Prelude.{◌≡◌, ◌≢◌, ◌⊎◌, ℕ, List, Some, Ok, Err};
-ghost use Rattle.farm_base.specs.Outside.{FilesTold, Rose};
-ghost use Rattle.reading.specs.Steps.{Gives};
+ghost use Rattle.reading.specs.Steps.{seen};
 ghost use Rattle.meta_container.specs.Reading.{listing_found};
-ghost use Rattle.call_ends.specs.Stops.{refusing};
-ghost use Rattle.call_ends.specs.Ends.{Checks};
-ghost use Rattle.call_ends.specs.declared.stops.Stop as stop_type;
-ghost use Rattle.call_ends.specs.declared.stops.Stop.TheVariants as stop;
-ghost use Rattle.meta_command.specs.Lines.{fault_text};
-ghost use Rattle.meta_command.specs.Lists.{Writes, Lists};
-ghost use Rattle.meta_command.specs.Promises.{Listed, Refused, Unread, IsValid};
+ghost use Rattle.fault_texts.specs.MetaFaults.{meta_text};
+ghost use Rattle.input_files.specs.Course.{file};
+ghost use Rattle.input_files.specs.inner.Follows.{Follows};
+ghost use Rattle.input_files.specs.inner.Runs.{Writes};
+ghost use Rattle.meta_command.specs.Courses.{meta_course};
 
 use crate::lines::listing_text;
-use call_ends::{Stop, put, refused, unreadable};
-use farm_base::{FileFault, Files, MetaFault, Sink};
+use call_ends::{Stop, put};
+use farm_base::{Files, Sink};
+use input_files::{checked, read_file};
 use meta_container::{Listing, listing};
 use std::alloc::Global;
 
@@ -28,64 +25,26 @@ pub fn meta<F: Files, O: Sink>(
     files: &mut F,
     out: &mut O,
 ) -> Result<(), Stop>
-    ensures lists { Lists file.now (F.state files.old) (F.state files.new)
-        (O.state out.old) (O.state out.new) result }
-    ensures listed { result ≡ Ok tt → (t : FilesTold) → (F.state files.old).told ≡ Some t → (before : List ℕ) → (O.state out.old).told ≡ Some before
-        → Listed file.now t.content before (O.state out.new).told }
-    ensures refused { (line : List ℕ) → result ≡ Err (stop.Refused line) → (t : FilesTold) → (F.state files.old).told ≡ Some t → Refused file.now t.content line }
-    ensures unread { (line : List ℕ) → result ≡ Err (stop.Unreadable line) → (t : FilesTold) → (F.state files.old).told ≡ Some t → Unread file.now line t (F.state files.new).told }
-    ensures nothing_put { (s : stop_type.Stop) → s ≢ stop.SinkFailed → result ≡ Err s → (O.state out.new).told ≡ (O.state out.old).told }
-    ensures complete { (t : FilesTold) → (F.state files.old).told ≡ Some t → IsValid file.now t.content → ¬ (Rose (F.state files.old).faults (F.state files.new).faults)
-        → ¬ (Rose (O.state out.old).faults (O.state out.new).faults) → (result ≡ Ok tt) ⊎ (result ≡ Err stop.NoMemory) }
+    ensures { Writes (meta_course file.now) (F.state files.old) (F.state files.new) (O.state out.old) (O.state out.new) result }
 {
-    let listing = read_listing(alloc, files, file);
-    let text = written(alloc, listing);
-    match text {
-        Ok(text) => put(out, text.as_slice()),
-        Err(stop) => Err(stop),
-    }
+    let text = text_of(alloc, file, files)?;
+    put(out, text.as_slice())
+}
+
+// The lines of the container that the file holds.
+#[tactic(auto, using(input_files::proofs::Courses::follows_then, input_files::proofs::Courses::follows_stop, input_files::proofs::Courses::follows_wanting), unfolding(crate::specs::Courses::meta_course))]
+fn text_of<F: Files>(alloc: Global, name: &str, files: &mut F) -> Result<Vec<u8>, Stop>
+    ensures { Follows (meta_course name.now) (F.state files.old) (F.state files.new) (seen (λ v. v.items) result) }
+{
+    let listing = read_listing(alloc, files, name)?;
+    Ok(listing_text(alloc, &listing)?)
 }
 
 // Reads a container and checks it.
+#[tactic(auto, using(input_files::proofs::Judged::file_stops))]
 fn read_listing<F: Files>(alloc: Global, files: &mut F, name: &str) -> Result<Listing, Stop>
-    ensures { Checks (λ x. x) listing_found fault_text (F.state files.old) (F.state files.new) name.now result }
+    ensures { Follows (file listing_found meta_text name.now) (F.state files.old) (F.state files.new) result }
 {
-    match files.read(alloc, name) {
-        Ok(bytes) => checked(alloc, name, bytes.as_slice()),
-        Err(FileFault::Failed) => Err(unreadable(alloc, name)),
-        Err(FileFault::NoMemory) => Err(Stop::NoMemory),
-    }
-}
-
-fn checked(alloc: Global, name: &str, bytes: &[u8]) -> Result<Listing, Stop>
-    ensures { Gives stop.NoMemory (λ x. x) (refusing fault_text name.now (listing_found bytes.now)) result }
-{
-    match listing(bytes) {
-        Ok(listing) => Ok(listing),
-        Err(fault) => Err(refused(alloc, name, fault_text(fault))),
-    }
-}
-
-// A fault by its number.
-fn fault_text(fault: MetaFault) -> &'static str
-    ensures { Some result.now ≡ fault_text fault }
-{
-    match fault {
-        MetaFault::Short(_) => "meta 1",
-        MetaFault::Magic => "meta 2",
-        MetaFault::Compressed => "meta 3",
-        MetaFault::Count(_) => "meta 4",
-        MetaFault::Place(_, _, _) => "meta 5",
-        MetaFault::Index(_) => "meta 6",
-    }
-}
-
-// The text of a listing that was read.
-fn written(alloc: Global, listing: Result<Listing, Stop>) -> Result<Vec<u8>, Stop>
-    ensures { Writes listing result }
-{
-    match listing {
-        Ok(listing) => Ok(listing_text(alloc, &listing)?),
-        Err(stop) => Err(stop),
-    }
+    let bytes = read_file(alloc, files, name)?;
+    checked(alloc, name, listing(bytes.as_slice()))
 }

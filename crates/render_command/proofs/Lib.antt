@@ -1,6 +1,1 @@
-pub mod Apart
-pub mod Grids
-pub mod Kept
-pub mod Pixels
-pub mod Promised
-pub mod Reading
+pub mod Pictures

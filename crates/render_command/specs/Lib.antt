@@ -1,4 +1,1 @@
-pub mod Promises
-pub mod Rasters
-pub mod Renders
-pub mod Styles
+pub mod Courses

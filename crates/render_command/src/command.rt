@@ -1,17 +1,17 @@
 //! The files are read in order, and the tile is drawn and put.
-ghost use Rattle.std.specs.Prelude.{Ok};
-ghost use Rattle.reading.specs.Steps.{Gives};
+ghost use Rattle.reading.specs.Steps.{seen};
 ghost use Rattle.plain_world.specs.World.{IsTile, IsTileSize};
 ghost use Rattle.plain_drawing.specs.Drawing.{tile_of};
-ghost use Rattle.call_ends.specs.declared.stops.Stop.TheVariants as stop;
-ghost use Rattle.render_command.specs.Renders.{Pictures, Renders, request};
+ghost use Rattle.input_files.specs.Course.{made};
+ghost use Rattle.input_files.specs.inner.Follows.{Follows, Says};
+ghost use Rattle.input_files.specs.inner.Runs.{Writes};
+ghost use Rattle.render_command.specs.Courses.{render_course};
 
 use crate::asked::RenderWords;
-use crate::layers::data_layers;
-use crate::styles::bound_style;
 use call_ends::{Stop, put};
 use data_versions::{Dataset, Snapshot};
 use farm_base::{Files, Sink};
+use map_files::{bound_style, data_layers};
 use plain_drawing::MapStyle;
 use plain_world::Tile;
 use std::alloc::Global;
@@ -28,30 +28,27 @@ pub fn render<F: Files, O: Sink>(
 ) -> Result<(), Stop>
     requires size { IsTileSize asked.size }
     requires tile { IsTile asked.tile }
-    ensures { Renders (request asked.entry) (F.state files.old) (F.state files.new)
-        (O.state out.old) (O.state out.new) result }
+    ensures { Writes (render_course asked.entry.style.now asked.entry.data_file.now asked.entry.size asked.entry.tile)
+        (F.state files.old) (F.state files.new) (O.state out.old) (O.state out.new) result }
 {
-    match picture(alloc, asked, files) {
-        Ok(tile) => put(out, tile.as_slice()),
-        Err(stop) => Err(stop),
-    }
+    let tile = picture(alloc, asked, files)?;
+    put(out, tile.as_slice())
 }
 
 // The text of the tile that the files say.
+#[tactic(auto, using(input_files::proofs::Courses::follows_then, input_files::proofs::Courses::follows_stop), unfolding(crate::specs::Courses::render_course))]
 fn picture<F: Files>(alloc: Global, asked: RenderWords, files: &mut F) -> Result<Vec<u8>, Stop>
     requires size { IsTileSize asked.size }
     requires tile { IsTile asked.tile }
-    ensures { Pictures (request asked.entry) (F.state files.old) (F.state files.new) result }
+    ensures { Follows (render_course asked.entry.style.now asked.entry.data_file.now asked.entry.size asked.entry.tile)
+        (F.state files.old) (F.state files.new) (seen (λ v. v.items) result) }
 {
-    match bound_style(alloc, files, asked.style) {
-        Ok(style) => match data_layers(alloc, files, asked.data_file) {
-            Ok(dataset) => drawn(alloc, &style, asked.size, asked.tile, dataset),
-            Err(stop) => Err(stop),
-        },
-        Err(stop) => Err(stop),
-    }
+    let style = bound_style(alloc, files, asked.style)?;
+    let dataset = data_layers(alloc, files, asked.data_file)?;
+    drawn(alloc, &style, asked.size, asked.tile, dataset)
 }
 
+// The text of the tile over these data.
 fn drawn(
     alloc: Global,
     style: &MapStyle,
@@ -61,7 +58,7 @@ fn drawn(
 ) -> Result<Vec<u8>, Stop>
     requires size { IsTileSize size }
     requires tile { IsTile tile }
-    ensures { Gives stop.NoMemory (λ v. v.items) (Ok (tile_of style.now size tile dataset)) result }
+    ensures { Says (made (tile_of style.now size tile dataset)) (seen (λ v. v.items) result) }
 {
     let snapshot = Snapshot::first(alloc, dataset)?;
     Ok(draw_tile(alloc, style, size, tile, &snapshot)?)

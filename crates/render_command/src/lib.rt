@@ -3,11 +3,6 @@
 
 mod asked;
 mod command;
-mod layers;
-mod rasters;
-mod styles;
 
 pub use asked::RenderWords;
 pub use command::render;
-pub use rasters::RasterFault;
-pub use styles::bound_style;

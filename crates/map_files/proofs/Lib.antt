@@ -1,0 +1,4 @@
+pub mod Bound
+pub mod Fitting
+pub mod Pixels
+pub mod Reading

@@ -1,0 +1,19 @@
+-- The courses of the files of a map.
+use Rattle.std.specs.Prelude.{ℕ, List}
+use Rattle.plain_drawing.specs.Grids.{Grid}
+use Rattle.plain_drawing.specs.Styles.{RasterRef, MapStyle}
+use Rattle.style_objects.specs.Tables.{style_in}
+use Rattle.fault_texts.specs.StyleFaults.{style_text}
+use Rattle.input_files.specs.Course.{Course, made, ◌>>=◌, file, each}
+use Rattle.map_files.specs.Rasters.{raster_in, raster_text}
+
+-- a raster's file says the grid of the raster
+unfoldable pub raster_course : RasterRef → Course Grid
+raster_course r = file (raster_in r) raster_text r.file
+
+-- a style's file says a style, and then the files of its rasters, in order, say the style's grids
+unfoldable pub style_course : List ℕ → Course MapStyle
+style_course name = do
+  style ← file style_in style_text name
+  grids ← each raster_course style.rasters
+  made (record style { grids = grids })

@@ -1,0 +1,13 @@
+//! The program with words that are refused: status 2, and nothing on standard output.
+#![tactic(auto)]
+
+use farm_base::{DiskFiles, OutSink};
+use farm_call::program;
+use std::process::ExitCode;
+
+fn main(rt: HostRuntime) -> ExitCode {
+    let mut files = DiskFiles::new(rt);
+    let mut out = OutSink::new(rt.stdout());
+    let mut err = OutSink::new(rt.stderr());
+    ExitCode::from(program(&rt, &mut files, &mut out, &mut err))
+}
