@@ -31,7 +31,7 @@ unfolding style_course
 style_bound name style bound rasters old middle new grids is has first second =
     follows_then (file style_in style_text name) (λ its. each raster_course its.rasters >>= with_grids its) old middle new style (Ok bound) first
     (follows_then (each raster_course style.rasters) (with_grids style) middle new new grids (Ok bound)
-        (subst (λ (rs : List RasterRef). Follows (each raster_course rs) middle new (Ok grids)) is second) (inl (ap Ok has), refl))
+    (subst (λ (rs : List RasterRef). Follows (each raster_course rs) middle new (Ok grids)) is second) (inl (ap Ok has), refl))
 
 -- a raster's file came to an early end
 pub style_stops : (name : List ℕ) (style : MapStyle) (rasters : List RasterRef) (old middle new : FilesAt) (s : Stop) → rasters ≡ style.rasters
@@ -41,4 +41,4 @@ unfolding style_course
 style_stops name style rasters old middle new s is first second =
     follows_then (file style_in style_text name) (λ its. each raster_course its.rasters >>= with_grids its) old middle new style (ended {A = MapStyle} s) first
     (follows_stop (List Grid) MapStyle (each raster_course style.rasters) (with_grids style) middle new s
-        (subst (λ (rs : List RasterRef). Follows (each raster_course rs) middle new (ended {A = List Grid} s)) is second))
+    (subst (λ (rs : List RasterRef). Follows (each raster_course rs) middle new (ended {A = List Grid} s)) is second))
