@@ -61,10 +61,20 @@ pub fn call(
     for (name, bytes) in held {
         files.push((Text::of(alloc, name)?, Bytes::of(alloc, bytes)?))?;
     }
+    call_over(alloc, all.as_slice(), files, faults)
+}
+
+/// Calls with these words over files that are handed over.
+pub fn call_over(
+    alloc: Global,
+    words: &[String],
+    files: Vec<(Text, Bytes)>,
+    faults: Faults,
+) -> Result<Ended, Fail> {
     let mut files = MemFiles::new(alloc, files, Vec::from_slice(alloc, faults.reads)?)?;
     let mut out = MemSink::new(alloc, 1000, Vec::from_slice(alloc, faults.out)?)?;
     let mut err = MemSink::new(alloc, 1000, Vec::from_slice(alloc, faults.err)?)?;
-    let status = farm_main(alloc, all.as_slice(), &mut files, &mut out, &mut err);
+    let status = farm_main(alloc, words, &mut files, &mut out, &mut err);
     Ok(Ended { status, out, err })
 }
 

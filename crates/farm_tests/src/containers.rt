@@ -3,8 +3,8 @@ ghost use Rattle.std.specs.Prelude.{◌≡◌, ◌≤◌, ◌*◌, IfOk, IsTrue,
 ghost use Rattle.std.specs.List.{list_all};
 ghost use Rattle.meta_container.specs.Container.{is_stored, bytes_of};
 
-use crate::call::{Ended, Faults, NONE, call};
-use farm_base::{Bytes, NoMemory};
+use crate::call::{Ended, Faults, NONE, call_over};
+use farm_base::{Bytes, NoMemory, Text};
 use meta_container::encode;
 use plain_world::Meta;
 use std::alloc::Global;
@@ -73,12 +73,12 @@ fn front(bytes: &[u8], len: usize) -> &[u8] {
 
 /// `meta` of this file over a container at `M`.
 fn meta(alloc: Global, name: &str, bytes: &[u8], faults: Faults) -> Result<Ended, Fail> {
-    call(
-        alloc,
-        ["meta", name].as_slice(),
-        [("M", bytes)].as_slice(),
-        faults,
-    )
+    let mut words = Vec::new(alloc);
+    words.push(String::from_str(alloc, "meta")?)?;
+    words.push(String::from_str(alloc, name)?)?;
+    let mut files = Vec::new(alloc);
+    files.push((Text::of(alloc, "M")?, Bytes::of(alloc, bytes)?))?;
+    call_over(alloc, words.as_slice(), files, faults)
 }
 
 #[test]
