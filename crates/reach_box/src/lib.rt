@@ -1,0 +1,124 @@
+//! What a feature reaches: its bounding box, widened by 64 pixels on each side. Within it lies all that any
+//! symbolizer paints of the feature, so a change of the feature changes no tile outside.
+#![tactic(auto)]
+
+ghost use Rattle.std.specs.Prelude.{◌≡◌, ℕ, ◌+◌, ◌-◌, ◌<◌, ◌≤◌, ◌^◌, ◌↔◌, IsTrue, min};
+ghost use Rattle.plain_world.specs.World.{IsSquare, IsTileSize, side_at};
+ghost use Rattle.plain_world.specs.declared.world.Square.{Square};
+ghost use Rattle.plain_data.specs.Reach.{Reaches, feature_reaches, margin_of};
+ghost use Rattle.expiry_lists.specs.Boxes.{holds_some, rectangle};
+ghost use Rattle.reach_box.specs.Boxes.{IsBox, box_reaches, is_near, reach_of};
+
+#[cfg(test)]
+mod tests;
+
+use geo_model::{Bounds, Feature};
+use plain_world::Square;
+
+/// The world's side in units.
+const WORLD: u64 = 1 << 30;
+
+/// The side of a square of that zoom, in units.
+fn side_at(z: u32) -> u64
+    requires { z ≤ 18 }
+    ensures value { result ≡ side_at z }
+    ensures some { 1 ≤ result }
+    ensures small { result ≤ 2 ^ 30 }
+{
+    1 << (30 - z)
+}
+
+/// 64 pixels at that zoom, in units.
+fn margin_of(size: u32, z: u32) -> u64
+    requires size { IsTileSize size }
+    requires zoom { z ≤ 18 }
+    ensures value { result ≡ margin_of size z }
+    ensures small { result ≤ 2 ^ 36 }
+{
+    64 * side_at(z) / u64::from(size)
+}
+
+/// Whether the stretch from `least` to `greatest`, widened by the margin on both sides, holds a number of the
+/// stretch of so many units that stands at that place.
+fn is_near(least: u32, greatest: u32, place: u32, units: u64, margin: u64) -> bool
+    requires place { place < 2 ^ 18 }
+    requires units { units ≤ 2 ^ 30 }
+    requires margin { margin ≤ 2 ^ 36 }
+    ensures { result ≡ is_near least greatest place units margin }
+{
+    let from = u64::from(place) * units;
+    u64::from(least) < from + units + margin && from <= u64::from(greatest) + margin
+}
+
+/// Whether the bounding box reaches the square, for tiles of `size` by `size` pixels at zoom `z`.
+pub fn box_reaches(b: Bounds, size: u32, z: u32, s: Square) -> bool
+    requires size { IsTileSize size }
+    requires zoom { z ≤ 18 }
+    requires square { IsSquare s }
+    ensures { result ≡ box_reaches b size z s }
+{
+    let margin = margin_of(size, z);
+    let side = side_at(s.z);
+    is_near(b.west, b.east, s.x, side, margin) && is_near(b.north, b.south, s.y, side, margin)
+}
+
+/// Whether the feature reaches the square, for tiles of `size` by `size` pixels at zoom `z`: whether some point
+/// of the square lies in the feature's bounding box, widened by 64 pixels on each side, borders included.
+/// Takes no memory.
+pub fn reaches(f: &Feature, size: u32, z: u32, s: Square) -> bool
+    requires size { IsTileSize size }
+    requires zoom { z ≤ 18 }
+    requires square { IsSquare s }
+    ensures test { result ≡ feature_reaches f.now size z s }
+    ensures meaning { IsTrue result ↔ Reaches f.now size z s }
+{
+    let _shape = f.geometry();
+    box_reaches(box_of(f), size, z, s)
+}
+
+/// The feature's bounding box, which reaches what the feature reaches. Takes no memory.
+pub fn box_of(f: &Feature) -> Bounds
+    ensures sound { IsBox result }
+    ensures reach { (size z : ℕ) (s : Square)
+        → box_reaches result size z s ≡ feature_reaches f.now size z s }
+{
+    let _shape = f.geometry();
+    f.bbox()
+}
+
+/// What a bounding box reaches of the world, for tiles of `size` by `size` pixels at zoom `z`: a square holds
+/// a point of this rectangle exactly where the box reaches it. Takes no memory.
+pub fn reach(b: Bounds, size: u32, z: u32) -> Bounds
+    requires sound { IsBox b }
+    requires size { IsTileSize size }
+    requires zoom { z ≤ 18 }
+    ensures value { result ≡ reach_of b size z }
+    ensures across { result.west ≤ result.east }
+    ensures down { result.north ≤ result.south }
+    ensures squares { (s : Square) → IsSquare s
+        → holds_some (rectangle result.west result.north result.east result.south) s
+        ≡ box_reaches b size z s }
+{
+    let margin = margin_of(size, z);
+    Bounds {
+        west: before(b.west, margin),
+        north: before(b.north, margin),
+        east: after(b.east, margin),
+        south: after(b.south, margin),
+    }
+}
+
+/// The number less the margin, or 0.
+fn before(n: u32, margin: u64) -> u32
+    ensures { result ≡ n - margin }
+{
+    u64::from(n).saturating_sub(margin) as u32
+}
+
+/// The number and the margin, or the world's side where that is less.
+fn after(n: u32, margin: u64) -> u32
+    requires { margin ≤ 2 ^ 36 }
+    ensures { result ≡ min (n + margin) (2 ^ 30) }
+{
+    (u64::from(n) + margin).min(WORLD) as u32
+}
