@@ -1,0 +1,4 @@
+pub mod Back
+pub mod Loops
+pub mod Puts
+pub mod Sound

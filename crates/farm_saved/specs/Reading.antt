@@ -1,0 +1,106 @@
+-- What the bytes of a saved text say, field by field: the value, or the first fault. A line is a step; each
+-- field leaves the bytes behind it to the next. Where a field is cut short the fault has the length of all bytes.
+use Rattle.std.specs.Prelude.{ℕ, zero, suc, ◌-◌, ◌==◌, ◌&&◌, ◌%◌, ◌^◌, Bool, true, nat_le, nat_lt, if◌then◌else◌, List, [], ◌∷◌, ◌++◌, length, take, drop, codes, Option, Some, None, Result, Ok, Err, slice_get}
+use Rattle.std.specs.Str.{bytes_eq}
+use Rattle.byteorder.specs.Endian.{little_number}
+use Rattle.reading.specs.Steps.{◌>>=◌, check}
+use Rattle.plain_world.specs.declared.world.Meta.{Meta}
+use Rattle.farm_history.specs.declared.keys.Key.{Key}
+use Rattle.farm_history.specs.declared.keys.Kept.{Kept}
+use Rattle.farm_history.specs.declared.saved.Past.{Past}
+use Rattle.farm_history.specs.Replays.{Saving, key_before}
+use Rattle.farm_saved.specs.declared.fault.SavedFault.{SavedFault}
+use Rattle.farm_saved.specs.declared.fault.SavedFault.TheVariants.{Short, Magic, Kind, Order, Extra}
+
+-- the bytes at the front
+abbrev pub magic : List ℕ
+magic = codes "FSV1"
+
+-- all saved texts begin with these bytes
+unfoldable pub opened : SavedFault → List ℕ → Result (List ℕ) SavedFault
+opened short bytes = check (nat_le 4 (length bytes)) short >>= λ u. check (bytes_eq (take 4 bytes) magic) Magic >>= λ u. Ok (drop 4 bytes)
+
+-- a number of so many bytes, and the bytes behind it
+unfoldable pub number_in : SavedFault → ℕ → List ℕ → Result (ℕ × List ℕ) SavedFault
+number_in short n bytes = if nat_le n (length bytes) then Ok (little_number n bytes, drop n bytes) else Err short
+
+-- so many items one after another, behind those that were read before; each is read with those before it
+unfoldable pub many : {A : Type 0} → (List A → List ℕ → Result (A × List ℕ) SavedFault) → ℕ → List A → List ℕ → Result (List A × List ℕ) SavedFault
+many read zero before bytes = Ok (before, bytes)
+many read (suc n) before bytes = read before bytes >>= λ item. many read n (before ++ item.0 ∷ []) item.1
+
+-- the style that a map's number says
+abbrev pub style_of : ℕ → Option ℕ
+style_of zero = None
+style_of (suc n) = Some n
+
+-- a map
+unfoldable pub style_in : SavedFault → List (Option ℕ) → List ℕ → Result (Option ℕ × List ℕ) SavedFault
+style_in short before bytes = number_in short 4 bytes >>= λ number. Ok (style_of number.0, number.1)
+
+-- the update of a kind
+abbrev pub past_of : ℕ → ℕ → Past
+past_of kind n = if kind == 0 then Past.Update n else Past.Renew n
+
+-- an update: its kind, which is 0 or 1, and its number
+unfoldable pub past_in : SavedFault → List Past → List ℕ → Result (Past × List ℕ) SavedFault
+past_in short before bytes = do
+  kind ← number_in short 4 bytes
+  u ← check (nat_le kind.0 1) (Kind (length before))
+  number ← number_in short 4 kind.1
+  Ok (past_of kind.0 number.0, number.1)
+
+-- a metatile
+abbrev pub is_meta : Meta → Bool
+is_meta m = nat_le m.z 18 && nat_lt m.x (2 ^ m.z) && nat_lt m.y (2 ^ m.z) && m.x % 8 == 0 && m.y % 8 == 0
+
+-- the key comes behind that of the entry before it, if there is one
+abbrev pub is_behind : Option Kept → Key → Bool
+is_behind None k = true
+is_behind (Some last) k = key_before last.key k
+
+-- the last of a list
+abbrev pub last_of : List Kept → Option Kept
+last_of kept = slice_get kept (length kept - 1)
+
+-- an entry may stand behind those before it: it is of a metatile, its version is at most the number of updates, and its key comes behind theirs
+unfoldable pub is_kept : ℕ → List Kept → Kept → Bool
+is_kept updates before k = is_meta k.key.meta && nat_le k.version updates && is_behind (last_of before) k.key
+
+-- the fields of a clean entry: map, zoom, column, row and version
+unfoldable pub fields_in : SavedFault → List ℕ → Result (Kept × List ℕ) SavedFault
+fields_in short bytes = do
+  map ← number_in short 4 bytes
+  z ← number_in short 4 map.1
+  x ← number_in short 4 z.1
+  y ← number_in short 4 x.1
+  version ← number_in short 8 y.1
+  Ok (record { key = record { map = map.0; meta = record { z = z.0; x = x.0; y = y.0 } }; version = version.0 }, version.1)
+
+-- a clean entry of a farm with so many updates, which is judged after all its fields
+unfoldable pub entry_in : SavedFault → ℕ → List Kept → List ℕ → Result (Kept × List ℕ) SavedFault
+entry_in short updates before bytes = do
+  entry ← fields_in short bytes
+  u ← check (is_kept updates before entry.0) (Order (length before))
+  Ok entry
+
+-- nothing is left of so many bytes
+unfoldable pub ended : ℕ → List ℕ → Result (Unit {0}) SavedFault
+ended all rest = check (length rest == 0) (Extra (all - length rest))
+
+-- the whole text
+unfoldable pub text_in : SavedFault → ℕ → List ℕ → Result Saving SavedFault
+text_in short all bytes = do
+  start ← opened short bytes
+  maps ← number_in short 4 start
+  styles ← many (style_in short) maps.0 [] maps.1
+  pasts ← number_in short 8 styles.1
+  updates ← many (past_in short) pasts.0 [] pasts.1
+  entries ← number_in short 8 updates.1
+  clean ← many (entry_in short (length updates.0)) entries.0 [] entries.1
+  u ← ended all clean.1
+  Ok (record { styles = styles.0; updates = updates.0; clean = clean.0 })
+
+-- what the bytes of a saved text say
+unfoldable pub saved_in : List ℕ → Result Saving SavedFault
+saved_in bytes = text_in (Short (length bytes)) (length bytes) bytes

@@ -1,0 +1,58 @@
+//! From a text to what is saved.
+ghost use Rattle.std.specs.Prelude.{◌≡◌, ◌<◌, ◌≤◌, ◌+◌, ◌*◌, ◌-◌, ◌^◌, length, IfOk};
+ghost use Rattle.reading.specs.Steps.{Gives};
+ghost use Rattle.farm_saved.specs.Reading as spec;
+ghost use Rattle.farm_saved.specs.Savings.{IsSaving};
+ghost use Rattle.farm_saved.specs.declared.fault.SavedFault.TheVariants as fault;
+
+use crate::fault::SavedFault;
+use crate::fields::{long_number, number, opened};
+use crate::lists::{clean, styles, updates};
+use farm_history::Saved;
+use std::alloc::Global;
+
+/// Whether nothing is left of so many bytes.
+#[tactic(auto, unfolding(crate::specs::Reading::ended))]
+fn ended(all: u64, rest: &[u8]) -> Result<(), SavedFault>
+    requires { length rest.now ≤ all }
+    ensures { result ≡ spec.ended all rest.now }
+{
+    if rest.is_empty() {
+        return Ok(());
+    }
+    Err(SavedFault::Extra(all - rest.len() as u64))
+}
+
+/// The whole text.
+#[tactic(auto, unfolding(crate::specs::Reading::saved_in, crate::specs::Reading::text_in))]
+fn saved(alloc: Global, bytes: &[u8]) -> Result<Saved, SavedFault>
+    ensures value { Gives fault.NoMemory (λ s. s) (spec.saved_in bytes.now) result }
+    ensures sound { IfOk result (λ s. IsSaving s) }
+    ensures room { IfOk result (λ s. 8 * length s.updates + 24 * length s.clean ≤ length bytes.now) }
+{
+    let all = bytes.len() as u64;
+    let short = SavedFault::Short(all);
+    let rest = opened(bytes, short)?;
+    let (count, rest) = number(rest, short)?;
+    let (styles, rest) = styles(alloc, count, rest, short)?;
+    let (count, rest) = long_number(rest, short)?;
+    let (updates, rest) = updates(alloc, count, rest, short)?;
+    let (count, rest) = long_number(rest, short)?;
+    let (clean, rest) = clean(alloc, updates.len() as u64, count, rest, short)?;
+    ended(all, rest)?;
+    Ok(Saved {
+        styles,
+        updates,
+        clean,
+    })
+}
+
+/// Reads a saved text: what is saved, which is sound, or the first fault in reading order. Its updates
+/// and four times its clean entries are together fewer than `2^62 - 16`.
+pub fn read_saved(alloc: Global, bytes: &[u8]) -> Result<Saved, SavedFault>
+    ensures value { Gives fault.NoMemory (λ s. s) (spec.saved_in bytes.now) result }
+    ensures sound { IfOk result (λ s. IsSaving s) }
+    ensures few { IfOk result (λ s. length s.updates + 4 * length s.clean < 2 ^ 62 - 16) }
+{
+    saved(alloc, bytes)
+}
