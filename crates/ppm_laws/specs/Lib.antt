@@ -1,0 +1,2 @@
+pub mod PpmGrammar
+pub mod Laws
