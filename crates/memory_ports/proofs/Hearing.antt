@@ -12,7 +12,7 @@ use Rattle.port_trait.specs.Told.{MayCome, heard, Hears, EventCounts}
 use Rattle.memory_ports.specs.declared.steps.PortStep.{PortStep}
 use Rattle.memory_ports.specs.declared.steps.PortStep.TheVariants as step
 use Rattle.memory_ports.specs.Held.{PeerHeld, PortsHeld, taken_of, up_of, ended_of, told_of, is_fault}
-use Rattle.memory_ports.specs.Playing.{fresh, marked, is_alive, alive_of, is_due, writable_told, is_live, BeginsLive, Readies, moved, stepped, Play, plain, play_step, play_due, play, PlayedBy, Plays, IsOver}
+use Rattle.memory_ports.specs.Playing.{fresh, is_marked, marked, is_alive, alive_of, is_due, writable_told, is_live, BeginsLive, Readies, moved, stepped, Play, plain, play_step, play_due, play, PlayedBy, Plays, IsOver}
 use Rattle.memory_ports.proofs.Changes.{field_mapped}
 use Rattle.memory_ports.proofs.Telling.{told_closed, told_ended, told_added, told_kept, told_ready, faults_rise, faults_stay}
 
@@ -156,7 +156,7 @@ begins_moved h steps false live = live
 pub ready_live : (old ready : PortsHeld) → Readies old ready → BeginsLive ready.peers ready.steps
 ready_live old ready r =
     subst (λ (h : PortsHeld). BeginsLive h.peers h.steps) (sym r.is)
-    (begins_readied (moved r.steps r.reached old) (moved r.steps r.reached old).ready (begins_moved old r.steps r.reached r.passes.begins))
+    (begins_readied (moved r.steps r.reached old) (is_marked (moved r.steps r.reached old)) (begins_moved old r.steps r.reached r.passes.begins))
 
 log_readied : (h : PortsHeld) (b : Bool) → (cond b h (record h { peers = map marked h.peers; ready = true })).log ≡ h.log
 log_readied h true = refl
@@ -169,7 +169,7 @@ log_moved h steps false = refl
 log_ready : (old ready : PortsHeld) → Readies old ready → ready.log ≡ old.log
 log_ready old ready r =
     ap (λ (h : PortsHeld). h.log) r.is
-    ∙ log_readied (moved r.steps r.reached old) (moved r.steps r.reached old).ready
+    ∙ log_readied (moved r.steps r.reached old) (is_marked (moved r.steps r.reached old))
     ∙ log_moved old r.steps r.reached
 
 played : (p : Play) (h new : PortsHeld) (e : PortEvent) (room : List ℕ) → Tells p h → PlayedBy p h e new room

@@ -15,7 +15,7 @@ use Rattle.port_trait.specs.Told as told
 use Rattle.port_trait.specs.Told.{PortsTold, put, SendCounts, ListenCounts}
 use Rattle.memory_ports.specs.declared.steps.PortStep.{PortStep}
 use Rattle.memory_ports.specs.Held.{PeerHeld, PortsHeld, change, closed, with_end, with_taken, taken_of, up_of, ended_of, told_of, is_fault, SendsHeld, ListensHeld}
-use Rattle.memory_ports.specs.Playing.{marked, fresh, moved, Readies}
+use Rattle.memory_ports.specs.Playing.{is_marked, marked, fresh, moved, Readies}
 use Rattle.memory_ports.proofs.Changes.{field_put, field_kept, field_added, field_mapped, length-change}
 
 abbrev pub told_as : List PortItem → ℕ → (ℕ → List ℕ) → (ℕ → Bool) → (ℕ → Bool) → PortsTold
@@ -104,9 +104,9 @@ told_mapped : (log : List PortItem) (ps : List PeerHeld)
 told_mapped log ps = told_is log _ _ _ _ _ _ _ _
     (length-map ps marked) (field_mapped taken_of marked (λ p. refl) ps) (field_mapped up_of marked (λ p. refl) ps) (field_mapped ended_of marked (λ p. refl) ps)
 
-told_readied : (h : PortsHeld) (b : Bool) → h.ready ≡ b → told_of (cond b h (record h { peers = map marked h.peers; ready = true })) ≡ told_of h
-told_readied h true e = refl
-told_readied h false e = told_mapped h.log h.peers
+told_readied : (h : PortsHeld) (b : Bool) → told_of (cond b h (record h { peers = map marked h.peers; ready = true })) ≡ told_of h
+told_readied h true = refl
+told_readied h false = told_mapped h.log h.peers
 
 told_moved : (steps : List PortStep) (reached : Bool) (h : PortsHeld) → told_of (moved steps reached h) ≡ told_of h
 told_moved steps true h = refl
@@ -114,7 +114,7 @@ told_moved steps false h = refl
 
 -- ports that are made ready tell what they told
 pub told_ready : (old ready : PortsHeld) → Readies old ready → told_of ready ≡ told_of old
-told_ready old ready r = ap told_of r.is ∙ told_readied (moved r.steps r.reached old) (moved r.steps r.reached old).ready refl ∙ told_moved r.steps r.reached old
+told_ready old ready r = ap told_of r.is ∙ told_readied (moved r.steps r.reached old) (is_marked (moved r.steps r.reached old)) ∙ told_moved r.steps r.reached old
 
 -- one more line in the count of failures
 pub faults_more : (log : List PortItem) (line : PortItem) → count_by is_fault (log ++ line ∷ []) ≡ count_by is_fault log + cond (is_fault line) 1 0

@@ -1,5 +1,5 @@
 -- What the next event of ports in memory is.
-use Rattle.std.specs.Prelude.{◌≡◌, ◌+◌, ◌^◌, ◌⊎◌, ◌&&◌, not, nat_lt, cond, ℕ, Bool, true, false, List, [], ◌∷◌, ◌++◌, length, map, Option, Some, None, position}
+use Rattle.std.specs.Prelude.{◌≡◌, ◌+◌, ◌^◌, ◌⊎◌, ◌&&◌, ◌||◌, not, nat_lt, cond, ℕ, Bool, true, false, List, [], ◌∷◌, ◌++◌, length, map, Option, Some, None, position}
 use Rattle.std.specs.List.{list_all, list_any, slice_get}
 use Rattle.port_trait.specs.declared.events.PortEvent.{PortEvent}
 use Rattle.port_trait.specs.declared.events.PortEvent.TheVariants as event
@@ -72,9 +72,18 @@ abbrev pub moved : List PortStep → Bool → PortsHeld → PortsHeld
 moved steps true h = record h { steps = steps; used = 0; ready = false }
 moved steps false h = record h { steps = steps }
 
--- once before each step it is seen who is to hear Writable
+-- no step is left
+abbrev pub is_through : List PortStep → Bool
+is_through [] = true
+is_through (s ∷ rest) = false
+
+-- it was seen who is to hear Writable before the first step, or there is no step
+abbrev pub is_marked : PortsHeld → Bool
+is_marked h = h.ready || is_through h.steps
+
+-- once before each step it is seen who is to hear Writable; past the last step nobody is
 abbrev pub readied : PortsHeld → PortsHeld
-readied h = cond h.ready h (record h { peers = map marked h.peers; ready = true })
+readied h = cond (is_marked h) h (record h { peers = map marked h.peers; ready = true })
 
 -- ports that are ready for the next event
 pub record Readies (old ready : PortsHeld) : Type 0 where

@@ -195,11 +195,11 @@ impl MemPorts {
         self.script.pass(self.peers.as_slice(), &self.counts);
     }
 
-    /// Sees once before each step who is to hear Writable.
+    /// Sees once before each step who is to hear Writable; past the last step nobody is.
     fn mark(&mut self)
         ensures { self.new ≡ readied self.old }
     {
-        if !self.script.is_ready() {
+        if !self.script.is_ready() && !self.script.is_through() {
             peers::mark_all(self.peers.as_mut_slice());
             self.script.get_ready();
         }

@@ -1,7 +1,7 @@
 //! A script under way: the steps that are left.
 ghost use Rattle.std.specs.Prelude.{◌≡◌, ◌<◌, ◌+◌, ◌-◌, ◌^◌, ◌∷◌, ◌||◌, [], true, false, length, drop, IfNone, IfSome};
 ghost use Rattle.std.specs.List.{list_all};
-ghost use Rattle.memory_ports.specs.Playing.{is_alive_at, is_live, BeginsLive, Passes};
+ghost use Rattle.memory_ports.specs.Playing.{is_alive_at, is_live, is_through, BeginsLive, Passes};
 ghost use Rattle.memory_ports.specs.Scripts.{has_piece};
 ghost use Rattle.memory_ports.specs.inner.Moving.{GoneIf, Passings, PassesScript};
 
@@ -110,6 +110,13 @@ impl Script {
         ensures { result ≡ self.now.ready }
     {
         self.ready
+    }
+
+    /// Whether no step is left.
+    pub fn is_through(&self) -> bool
+        ensures { result ≡ is_through self.now.steps }
+    {
+        self.steps.as_slice().get(self.place).is_none()
     }
 
     /// Passes over the steps that are not played.
