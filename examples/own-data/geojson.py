@@ -57,6 +57,15 @@ def without_repeats(points):
     return [p for i, p in enumerate(points) if i == 0 or p != points[i - 1]]
 
 
+def long_enough(parts, fewest, left):
+    """The parts of at least so many points."""
+    kept = [part for part in parts if len(part) >= fewest]
+    if kept:  # where none is kept the whole geometry is told
+        for _ in range(len(parts) - len(kept)):
+            left.out("part of a geometry with fewer than %d points" % fewest)
+    return kept
+
+
 def line_of(positions):
     return without_repeats([centimetres(p) for p in positions])
 
@@ -79,11 +88,11 @@ def geometry_of(geometry, left):
         made = {"points": [centimetres(p) for p in parts]}
     elif kind in ("LineString", "MultiLineString"):
         lines = [line_of(l) for l in ([parts] if kind == "LineString" else parts)]
-        made = {"lines": [l for l in lines if len(l) >= 2]}
+        made = {"lines": long_enough(lines, 2, left)}
     elif kind in ("Polygon", "MultiPolygon"):
         polygons = [parts] if kind == "Polygon" else parts
         rings = [ring_of(r) for polygon in polygons for r in polygon]
-        made = {"polygon": [r for r in rings if len(r) >= 3]}
+        made = {"polygon": long_enough(rings, 3, left)}
     else:
         left.out("geometry of the kind %s" % kind)
         return None
