@@ -5,7 +5,8 @@ use std::net::{Net, SocketAddr, SocketAddrV4};
 use std::os::unix::fs::FileTypeExt;
 use std::{fs, io, rt};
 
-/// Listens at `tcp:a.b.c.d:port` or at `unix:` and a path.
+/// Listens at `tcp:a.b.c.d:port` or at `unix:` and a path, which is not empty: the system takes an empty
+/// one for a name of its own choice.
 pub fn listen<R: Net + rt::Files>(rt: &R, address: &str) -> io::Result<Listener> {
     if let Some(place) = address.strip_prefix("tcp:") {
         let Ok(place) = place.parse::<SocketAddrV4>() else {
@@ -14,6 +15,9 @@ pub fn listen<R: Net + rt::Files>(rt: &R, address: &str) -> io::Result<Listener>
         return Ok(Listener::Tcp(TcpListener::bind(rt, SocketAddr::V4(place))?));
     }
     if let Some(path) = address.strip_prefix("unix:") {
+        if path.is_empty() {
+            return Err(io::Error::from(io::ErrorKind::InvalidInput));
+        }
         clear(rt, path)?;
         return Ok(Listener::Unix(UnixListener::bind(rt, path)?));
     }
