@@ -1,8 +1,12 @@
 -- What holds of saved texts.
-use Rattle.std.specs.Prelude.{◌≡◌, ◌^◌, ◌<◌, length, All, Ok}
+use Rattle.std.specs.Prelude.{◌≡◌, ◌^◌, ◌<◌, Bool, List, length, All, Ok}
 use Rattle.farm_history.specs.declared.keys.Kept.{Kept}
 use Rattle.farm_history.specs.declared.saved.Past.{Past}
-use Rattle.farm_history.specs.Replays.{Saving, number_of}
+use Rattle.farm_history.specs.Entries.{Entry}
+use Rattle.farm_history.specs.Rules.{Legal}
+use Rattle.farm_history.specs.Replays.{Saving, number_of, IsSaved, IsResumed, replay}
+use Rattle.farm_plan.specs.Plans.{FarmPlan, IsPlan}
+use Rattle.farm_plan.specs.Drawings.{plan_of}
 use Rattle.farm_saved.specs.Savings.{IsSaving}
 use Rattle.farm_saved.specs.Writing.{saved_bytes}
 use Rattle.farm_saved.specs.Reading.{saved_in}
@@ -24,3 +28,9 @@ pub record HasNumbers (s : Saving) : Type 0 where
 -- What is saved, if it is sound, is what its text says.
 abbrev pub ReadsBack : Type 0
 ReadsBack = (s : Saving) → IsSaving s → HasNumbers s → saved_in (saved_bytes s) ≡ Ok s
+
+-- In every valid plan, the replay of what is saved after a legal history resumes it.
+abbrev pub Resumes : Type 0
+Resumes =
+    (plan : FarmPlan) (told : Bool) (h : List Entry) (s : Saving)
+    → IsPlan plan → Legal (plan_of plan) told h → IsSaved (plan_of plan) h s → IsResumed (plan_of plan) h (replay (plan_of plan) s)

@@ -11,7 +11,7 @@ mod writing;
 
 pub use farm_history::{Kept, Past, Saved};
 pub use fault::SavedFault;
-pub use laws::law_reads_back;
+pub use laws::{law_reads_back, law_resumed};
 pub use reading_text::read_saved;
 pub use writing::write_saved;
 
