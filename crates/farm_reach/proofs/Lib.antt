@@ -1,0 +1,5 @@
+pub mod Adding
+pub mod Naming
+pub mod Soiled
+pub mod Reached
+pub mod Valid

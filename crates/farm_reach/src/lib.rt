@@ -1,0 +1,9 @@
+//! What an update of a farm reaches: the bounding boxes of the features that it names, and the marks of the
+//! metatiles that these reach.
+#![tactic(auto)]
+
+mod boxes;
+mod soils;
+
+pub use boxes::{boxes_reach, named_boxes};
+pub use soils::soil_maps;
