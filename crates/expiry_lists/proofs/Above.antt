@@ -1,10 +1,9 @@
 -- Walks up to the root.
-use Rattle.std.proofs.Common.{◌≡◌, ℕ, zero, suc, ◌+◌, ◌-◌, ◌<◌, ◌≤◌, Bool, true, false, ◌||◌, List, refl, sym, ap, ◌∙◌, subst, arith}
+use Rattle.std.proofs.Common.{◌≡◌, ℕ, suc, ◌+◌, ◌-◌, ◌<◌, ◌||◌, List, refl, subst, arith}
 use Rattle.farm_history.specs.declared.keys.Key.{Key}
 use Rattle.farm_history.specs.Plans.{same_key}
 use Rattle.farm_history.proofs.Lists.{each-all}
 use Rattle.expiry_lists.specs.declared.nodes.Node.{Node}
-use Rattle.expiry_lists.specs.Marks.{Shown}
 use Rattle.expiry_lists.specs.inner.Nodes.{parent, shown_of, IsTree}
 use Rattle.expiry_lists.specs.inner.Walks.{is_above, Walks}
 use Rattle.expiry_lists.proofs.Walked.{walks_then, walks_none}

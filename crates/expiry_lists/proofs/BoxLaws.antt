@@ -1,15 +1,15 @@
 -- A square holds a point of a rectangle exactly where their edges say so, and then a square over it does.
-use Rattle.std.proofs.Common.{◌≡◌, ℕ, ◌+◌, ◌-◌, ◌*◌, ◌/◌, ◌%◌, ◌^◌, ◌<◌, ◌≤◌, max, Bool, true, ◌&&◌, nat_lt, nat_le, IsTrue, ◌↔◌, refl, sym, ap, ◌∙◌, subst, arith}
+use Rattle.std.proofs.Common.{◌≡◌, ℕ, ◌+◌, ◌-◌, ◌*◌, ◌/◌, ◌%◌, ◌^◌, ◌<◌, ◌≤◌, max, true, sym, ap, ◌∙◌, arith}
 use Rattle.std.proofs.lemmas.Bool.{and_from, and_parts}
 use Rattle.std.proofs.lemmas.Bool.Decides.{nat_tests}
 use Rattle.std.proofs.lemmas.Nat.{pow_pos, pow-add, div-add-mod', mod_below}
 use Rattle.std.proofs.Math.Nat.{mul-le-mul_right}
 use Rattle.plain_world.specs.declared.world.Point.{Point}
 use Rattle.plain_world.specs.declared.world.Square.{Square}
-use Rattle.plain_world.specs.World.{side_at, InSquare}
+use Rattle.plain_world.specs.World.{side_at}
 use Rattle.plain_world.specs.Ancestors.{IsOver}
 use Rattle.expiry_lists.specs.declared.boxes.Rectangle.{Rectangle}
-use Rattle.expiry_lists.specs.Boxes.{InBox, Holds, spans, holds_some}
+use Rattle.expiry_lists.specs.Boxes.{Holds, spans, holds_some}
 
 -- a number in both
 spans_from : (first last from units p : ℕ) → from ≤ p → p < from + units → first ≤ p → p ≤ last → spans first last from units ≡ true

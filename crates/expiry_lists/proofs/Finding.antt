@@ -1,7 +1,7 @@
 -- What is shown, against what each key's node has.
-use Rattle.std.proofs.Common.{◌≡◌, ℕ, ◌≤◌, Bool, true, false, not, ◌&&◌, ◌||◌, cond, List, [], ◌∷◌, length, find, Option, Some, None, option_map, is_some, refl, sym, ap, ◌∙◌, subst, arith}
+use Rattle.std.proofs.Common.{◌≡◌, ℕ, ◌≤◌, Bool, true, false, ◌&&◌, cond, List, [], ◌∷◌, length, find, Option, Some, None, option_map, is_some, refl, sym, ap, ◌∙◌, subst, arith}
 use Rattle.std.specs.List.{AllByRecursion, IsDistinct, list_any}
-use Rattle.std.specs.Map.{lookup, set_value, keys_of}
+use Rattle.std.specs.Map.{set_value, keys_of}
 use Rattle.indexmap.specs.IndexMap.{insert_entry}
 use Rattle.farm_history.specs.declared.keys.Key.{Key}
 use Rattle.farm_history.specs.declared.keys.Mark.{Mark}
@@ -9,8 +9,8 @@ use Rattle.farm_history.specs.Plans.{same_key, AreApart}
 use Rattle.farm_history.specs.Lists.{Each}
 use Rattle.farm_history.proofs.Lists.{same_key-true, same_key-self, same_key-sym, each-map}
 use Rattle.expiry_lists.specs.declared.nodes.Node.{Node}
-use Rattle.expiry_lists.specs.Marks.{Shown, shown_key, mark_of, touched_by, soil_mark, soil_marks, clean_marks}
-use Rattle.expiry_lists.specs.inner.Nodes.{node_of, node_mark, is_clean, has_node, is_clean_at, shown_before, shown_of}
+use Rattle.expiry_lists.specs.Marks.{Shown, shown_key, mark_of, touched_by}
+use Rattle.expiry_lists.specs.inner.Nodes.{node_of, node_mark, is_clean, has_node, shown_before, shown_of}
 use Rattle.expiry_lists.specs.inner.Walks.{Soils}
 use Rattle.expiry_lists.proofs.Soiling.{NoneOf, soils_none, soils_here, soils_other}
 

@@ -1,6 +1,7 @@
 pub mod Above
 pub mod BoxLaws
 pub mod Finding
+pub mod Lines
 pub mod Live
 pub mod Marking
 pub mod Over
@@ -8,6 +9,7 @@ pub mod Quarters
 pub mod Saving
 pub mod Showing
 pub mod Soiling
+pub mod Texts
 pub mod Tiles
 pub mod Walked
 pub mod Writing

@@ -1,18 +1,15 @@
 -- What lies below a node that is not live is not clean, so a walk may pass it over.
-use Rattle.std.proofs.Common.{◌≡◌, ◌≢◌, ℕ, zero, suc, ◌+◌, ◌-◌, ◌%◌, ◌<◌, ◌≤◌, Bool, true, false, ◌&&◌, ◌||◌, List, Option, Some, None, is_some, refl, sym, ap, ◌∙◌, subst, inl, inr, arith}
+use Rattle.std.proofs.Common.{◌≡◌, ◌≢◌, ℕ, zero, suc, ◌+◌, ◌-◌, ◌%◌, ◌<◌, ◌≤◌, Bool, true, false, ◌||◌, List, Option, Some, None, is_some, refl, sym, ap, ◌∙◌, subst, inl, inr, arith}
 use Rattle.std.proofs.lemmas.Bool.{or_cases}
 use Rattle.farm_history.specs.declared.keys.Key.{Key}
-use Rattle.farm_history.specs.declared.keys.Mark.{Mark}
 use Rattle.farm_history.specs.Plans.{same_key}
-use Rattle.farm_history.specs.Lists.{Each}
 use Rattle.farm_history.proofs.Lists.{each-map, same_key-true}
 use Rattle.expiry_lists.specs.declared.nodes.Node.{Node}
 use Rattle.expiry_lists.specs.Marks.{Shown}
-use Rattle.expiry_lists.specs.inner.Nodes.{parent, node_of, node_live, node_mark, is_clean, has_node, is_live, shown_of, IsTree, Quieter}
+use Rattle.expiry_lists.specs.inner.Nodes.{parent, node_of, node_live, is_clean, is_live, shown_of, IsTree, Quieter}
 use Rattle.expiry_lists.specs.inner.Walks.{child, is_under, IsNode, Walks}
 use Rattle.expiry_lists.proofs.Soiling.{NoneOf}
 use Rattle.expiry_lists.proofs.Finding.{Distinct, Marked, all_marked}
-use Rattle.expiry_lists.proofs.Walked.{walks_then}
 use Rattle.expiry_lists.proofs.Quarters.{parent-child, child-parent}
 
 -- a key of a square of the grid, from zoom 3 on

@@ -1,17 +1,17 @@
 -- Marks that are given to keys with a node, and nodes that are made for keys.
-use Rattle.std.proofs.Common.{◌≡◌, ℕ, ◌+◌, ◌-◌, ◌<◌, ◌≤◌, Bool, true, false, not, ◌&&◌, ◌||◌, cond, List, Option, Some, None, is_some, IsSome, refl, sym, ap, ◌∙◌, subst, inl, inr, ◌⊎◌, arith}
+use Rattle.std.proofs.Common.{◌≡◌, ◌<◌, ◌≤◌, Bool, true, false, not, ◌&&◌, ◌||◌, cond, List, Option, Some, None, is_some, IsSome, refl, sym, ap, ◌∙◌, subst, inl, inr, ◌⊎◌}
 use Rattle.std.specs.List.{IsDistinct}
-use Rattle.std.specs.Map.{set_value, keys_of}
+use Rattle.std.specs.Map.{set_value}
 use Rattle.std.proofs.lemmas.Map.{keys-set_value}
 use Rattle.std.proofs.lemmas.Bool.{or_cases, or_left, or_right, and_parts}
 use Rattle.farm_history.specs.declared.keys.Key.{Key}
 use Rattle.farm_history.specs.declared.keys.Mark.{Mark}
 use Rattle.farm_history.specs.Plans.{same_key}
-use Rattle.farm_history.proofs.Lists.{same_key-true, same_key-self}
+use Rattle.farm_history.proofs.Lists.{same_key-true}
 use Rattle.plain_world.specs.World.{IsMeta}
 use Rattle.indexmap.specs.IndexMap.{insert_entry}
 use Rattle.expiry_lists.specs.declared.nodes.Node.{Node}
-use Rattle.expiry_lists.specs.Marks.{Shown, mark_of}
+use Rattle.expiry_lists.specs.Marks.{mark_of}
 use Rattle.expiry_lists.specs.inner.Nodes.{parent, node_of, node_live, node_mark, is_clean, has_node, is_live, shown_of, IsTree, Writes}
 use Rattle.expiry_lists.specs.inner.Waking.{Wakes}
 use Rattle.expiry_lists.proofs.Finding.{Distinct, mark_found, set-same_mark, insert-unmarked}

@@ -1,10 +1,9 @@
 -- The walks against the quadtree of squares: what a walk down or up meets is what lies below or above.
-use Rattle.std.proofs.Common.{◌≡◌, ℕ, zero, suc, ◌+◌, ◌-◌, ◌*◌, ◌/◌, ◌%◌, ◌^◌, ◌<◌, ◌≤◌, Bool, true, false, ◌||◌, ◌==◌, nat_le, if◌then◌else◌, refl, sym, ap, ◌∙◌, subst, inl, inr, ◌⊎◌, ◌↔◌, arith}
+use Rattle.std.proofs.Common.{◌≡◌, ℕ, zero, suc, ◌+◌, ◌-◌, ◌*◌, ◌/◌, ◌%◌, ◌^◌, ◌<◌, ◌≤◌, Bool, true, false, ◌||◌, nat_le, refl, sym, ap, ◌∙◌, inl, inr, ◌⊎◌, arith}
 use Rattle.std.proofs.lemmas.Bool.{or_cases, or_left, or_right, cases_lt}
 use Rattle.std.proofs.lemmas.Bool.Decides.{nat_tests}
 use Rattle.std.proofs.lemmas.Nat.{shr-shr}
 use Rattle.plain_world.specs.declared.world.Square.{Square}
-use Rattle.plain_world.specs.declared.world.Meta.{Meta}
 use Rattle.plain_world.specs.World.{IsMeta, meta_square, squares_meet}
 use Rattle.plain_world.specs.Ancestors.{IsOver}
 use Rattle.merc_fixed.proofs.Ancestors.{meet_over, meet_under}
@@ -13,7 +12,7 @@ use Rattle.farm_history.specs.Plans.{same_key}
 use Rattle.farm_history.proofs.Lists.{same_key-true, same_key-self}
 use Rattle.expiry_lists.specs.inner.Nodes.{parent}
 use Rattle.expiry_lists.specs.inner.Walks.{child, is_under, is_above, IsNode}
-use Rattle.expiry_lists.proofs.Live.{OnGrid, node_on_grid, child_on_grid, under_cases, under_deep, four}
+use Rattle.expiry_lists.proofs.Live.{OnGrid, node_on_grid, child_on_grid, under_cases, four}
 
 -- the square of a key of zoom 3 or later
 abbrev pub node_square : Key → Square

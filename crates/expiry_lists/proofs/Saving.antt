@@ -1,5 +1,5 @@
 -- The clean entries, in the order of their keys.
-use Rattle.std.proofs.Common.{◌≡◌, ℕ, zero, suc, ◌+◌, ◌<◌, ◌≤◌, Bool, true, false, not, ◌&&◌, ◌||◌, cond, ◌==◌, nat_lt, List, [], ◌∷◌, length, get_or, map, find, filter_map, Option, Some, None, option_map, IsPermutation, All, if◌then◌else◌, Ordering, Less, Equal, Greater, is_lt, nat_cmp, refl, sym, ap, ◌∙◌, subst, arith, add-one}
+use Rattle.std.proofs.Common.{◌≡◌, ℕ, suc, ◌+◌, ◌<◌, Bool, true, false, ◌&&◌, ◌||◌, cond, ◌==◌, nat_lt, List, [], ◌∷◌, length, get_or, map, Option, Some, None, option_map, IsPermutation, All, if◌then◌else◌, Ordering, Less, Equal, Greater, is_lt, nat_cmp, refl, sym, ap, ◌∙◌, arith, add-one}
 use Rattle.std.specs.List.{AllByRecursion, IsDistinct, list_all, cons_option}
 use Rattle.std.specs.Map.{keys_of}
 use Rattle.std.specs.Ordering.{ordering_then}

@@ -1,22 +1,20 @@
 -- Which keys an expiry of a tile, of a map or of a rectangle meets.
-use Rattle.std.proofs.Common.{◌≡◌, ℕ, zero, suc, [], ◌∷◌, ◌++◌, take, get_or, length, ◌+◌, ◌-◌, ◌*◌, ◌/◌, ◌%◌, ◌^◌, ◌<◌, ◌≤◌, Bool, true, false, ◌&&◌, ◌||◌, ◌==◌, nat_le, if◌then◌else◌, List, refl, sym, ap, ◌∙◌, subst, inl, inr, ◌⊎◌, arith}
-use Rattle.std.proofs.lemmas.Bool.{cases_lt, cases_Bool, eqb-true, eq-eqb, ne_eqb, false_from_ne_true, or_left, or_right, and_from, and_parts}
+use Rattle.std.proofs.Common.{◌≡◌, ℕ, zero, suc, [], ◌∷◌, ◌++◌, take, get_or, length, ◌+◌, ◌-◌, ◌*◌, ◌/◌, ◌^◌, ◌<◌, ◌≤◌, Bool, true, false, ◌&&◌, ◌||◌, ◌==◌, nat_le, if◌then◌else◌, List, refl, sym, ap, ◌∙◌, subst, inl, inr, ◌⊎◌, arith}
+use Rattle.std.proofs.lemmas.Bool.{cases_lt, eqb-true, eq-eqb, ne_eqb, false_from_ne_true, or_left, or_right, and_from, and_parts}
 use Rattle.std.proofs.lemmas.List.{take_more}
 use Rattle.std.proofs.lemmas.Bool.Decides.{nat_tests}
-use Rattle.std.proofs.lemmas.Nat.{pow_pos, pow_below, pow-add, shr-shr, shr_le, div_below, shr_below}
+use Rattle.std.proofs.lemmas.Nat.{pow_pos, pow_below, pow-add, shr-shr, div_below, shr_below}
 use Rattle.plain_world.specs.declared.world.Square.{Square}
 use Rattle.plain_world.specs.declared.world.Tile.{Tile}
-use Rattle.plain_world.specs.declared.world.Meta.{Meta}
 use Rattle.plain_world.specs.World.{IsMeta, IsTile, meta_square, tile_square, squares_meet}
 use Rattle.plain_world.proofs.Squares.{ancestor, squares_turned}
 use Rattle.farm_history.specs.declared.keys.Key.{Key}
 use Rattle.farm_history.specs.Plans.{same_key, overlaps}
-use Rattle.farm_history.specs.Lists.{Each}
 use Rattle.farm_history.proofs.Lists.{each-map, each-all, any-append, same_key-true, same_key-self}
 use Rattle.expiry_lists.specs.declared.nodes.Node.{Node}
 use Rattle.expiry_lists.specs.declared.boxes.Rectangle.{Rectangle}
 use Rattle.expiry_lists.specs.Boxes.{holds_some}
-use Rattle.expiry_lists.specs.Marks.{Shown, is_of_map, is_picked, is_in_box}
+use Rattle.expiry_lists.specs.Marks.{is_of_map, is_picked, is_in_box}
 use Rattle.expiry_lists.specs.inner.Nodes.{node_of, is_live, shown_of, IsTree}
 use Rattle.expiry_lists.specs.inner.Tiles.{world_key, is_flat, key_over, is_of_maps}
 use Rattle.expiry_lists.specs.inner.Walks.{child, is_under, is_above, IsNode, Walks}

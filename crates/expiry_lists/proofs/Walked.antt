@@ -1,17 +1,17 @@
 -- Expiries of the table, one after another, and the one of a single key.
-use Rattle.std.proofs.Common.{◌≡◌, ◌≢◌, ℕ, ◌+◌, ◌<◌, ◌≤◌, ◌^◌, Bool, true, false, not, ◌&&◌, ◌||◌, cond, List, [], ◌∷◌, length, Option, Some, None, option_map, is_some, refl, sym, ap, ◌∙◌, subst, arith}
+use Rattle.std.proofs.Common.{◌≡◌, ◌≢◌, ℕ, ◌+◌, ◌<◌, ◌≤◌, Bool, true, false, ◌||◌, cond, List, length, Option, Some, None, option_map, is_some, refl, sym, ap, ◌∙◌, subst, arith}
 use Rattle.std.specs.Map.{set_value}
 use Rattle.farm_history.specs.declared.keys.Key.{Key}
 use Rattle.farm_history.specs.declared.keys.Mark.{Mark}
 use Rattle.farm_history.specs.Plans.{same_key}
-use Rattle.farm_history.proofs.Lists.{same_key-true, same_key-self}
+use Rattle.farm_history.proofs.Lists.{same_key-true}
 use Rattle.expiry_lists.specs.declared.nodes.Node.{Node}
-use Rattle.expiry_lists.specs.Marks.{Shown, touched_by}
-use Rattle.expiry_lists.specs.inner.Nodes.{parent, node_of, node_live, node_mark, is_clean, has_node, is_live, shown_of, IsTree, Quieter}
-use Rattle.expiry_lists.specs.inner.Walks.{Soils, Walks}
+use Rattle.expiry_lists.specs.Marks.{touched_by}
+use Rattle.expiry_lists.specs.inner.Nodes.{parent, node_of, node_live, is_clean, has_node, is_live, shown_of, IsTree}
+use Rattle.expiry_lists.specs.inner.Walks.{Walks}
 use Rattle.expiry_lists.proofs.Soiling.{AgreeOn, NoneOf, soils_then, soils_agree, soils_none, clean_marks-le}
 use Rattle.expiry_lists.proofs.Finding.{Distinct, set-soils, absent_soils, length-shown_of}
-use Rattle.expiry_lists.proofs.Writing.{Fits, set-writes, still_there, written_tree, written_quieter, as_live_fits, quiet_fits}
+use Rattle.expiry_lists.proofs.Writing.{Fits, set-writes, written_tree, written_quieter, as_live_fits, quiet_fits}
 
 pub walks_then : {p q : Key → Bool} {a b c : List (Key × Node)} {m n : ℕ} → Walks p a b m → Walks q b c n → Walks (λ k. p k || q k) a c (m + n)
 walks_then first second = record {

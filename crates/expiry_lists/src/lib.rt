@@ -2,7 +2,9 @@
 #![tactic(auto)]
 
 mod boxes;
+mod faults;
 mod keeping;
+mod lists;
 mod marks;
 mod nodes;
 #[cfg(test)]
@@ -12,4 +14,6 @@ mod walks;
 
 pub use boxes::Rectangle;
 pub use farm_history::{Kept, Key, Mark};
+pub use faults::ListFault;
+pub use lists::{TileList, read_list};
 pub use marks::Marks;

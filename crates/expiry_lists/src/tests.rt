@@ -2,7 +2,7 @@
 ghost use Rattle.std.specs.Prelude.{◌≡◌};
 ghost use Rattle.plain_world.specs.World.{IsMeta};
 
-use crate::{Kept, Key, Mark, Marks};
+use crate::{Kept, Key, Mark, Marks, read_list};
 use farm_base::NoMemory;
 use plain_world::{Meta, Tile};
 use std::test::Fail;
@@ -117,5 +117,12 @@ fn what_is_hidden_has_no_mark_and_what_is_clean_is_kept_in_order(
         version: 3,
     };
     assert_eq!(rt; kept.as_slice(), [first, second, third].as_slice());
+    Ok(())
+}
+
+#[test]
+fn a_list_of_two_tiles(rt: HostRuntime) -> Result<(), Fail> {
+    let tiles = read_list(rt.alloc(), b"5/3/3\n\n0/0/0")?;
+    assert_eq!(rt; tiles.len(), 2);
     Ok(())
 }

@@ -1,5 +1,5 @@
 -- What Marks keep true of their tables.
-use Rattle.std.specs.Prelude.{ℕ, ◌≡◌, Bool, true, List, filter_map, Option, Some, None, if◌then◌else◌}
+use Rattle.std.specs.Prelude.{ℕ, ◌≡◌, true, List, filter_map, Option, Some, None, if◌then◌else◌}
 use Rattle.farm_history.specs.declared.keys.Key.{Key}
 use Rattle.farm_history.specs.declared.keys.Mark.{Mark}
 use Rattle.farm_history.specs.declared.keys.Kept.{Kept}

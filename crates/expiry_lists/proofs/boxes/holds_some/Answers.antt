@@ -1,4 +1,4 @@
-use Rattle.std.proofs.Common.{◌≡◌, ◌+◌, ◌*◌, ◌≤◌, ◌^◌, IsTrue, sym, ◌∙◌, arith, rules}
+use Rattle.std.proofs.Common.{◌≡◌, ◌+◌, ◌*◌, ◌≤◌, ◌^◌, sym, ◌∙◌, arith, rules}
 use Rattle.plain_world.specs.World.{side_at}
 use Rattle.plain_world.proofs.Windows.{columns_fit}
 use Rattle.expiry_lists.specs.Boxes.{holds_some}

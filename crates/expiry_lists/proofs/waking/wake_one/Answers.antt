@@ -1,4 +1,4 @@
-use Rattle.std.proofs.Common.{◌≡◌, None, refl, sym, ap, ◌∙◌, subst, rules}
+use Rattle.std.proofs.Common.{◌≡◌, None, refl, sym, subst, rules}
 use Rattle.std.specs.Map.{set_value}
 use Rattle.farm_history.specs.Plans.{same_key}
 use Rattle.indexmap.specs.IndexMap.{insert_entry}

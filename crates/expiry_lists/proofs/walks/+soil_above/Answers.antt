@@ -1,10 +1,6 @@
-use Rattle.std.proofs.Common.{◌≡◌, ℕ, suc, ◌+◌, ◌-◌, ◌<◌, ◌≤◌, ◌^◌, false, ◌||◌, length, refl, sym, ap, ◌∙◌, subst, arith, Fits, w64}
-use Rattle.farm_history.specs.declared.keys.Key.{Key}
-use Rattle.farm_history.specs.Plans.{same_key}
-use Rattle.expiry_lists.specs.inner.Nodes.{parent}
+use Rattle.std.proofs.Common.{◌≡◌, ◌-◌, subst, arith}
 use Rattle.expiry_lists.specs.inner.Walks.{is_above, Walks}
-use Rattle.expiry_lists.proofs.Soiling.{NoneOf}
-use Rattle.expiry_lists.proofs.Walked.{walks_then, walks_none, walks_few}
+use Rattle.expiry_lists.proofs.Walked.{walks_then, walks_few}
 use Rattle.expiry_lists.proofs.Above.{above_walks, none_above}
 use Rattle.expiry_lists.proofs.walks.+soil_above.Goals as goal
 

@@ -1,5 +1,4 @@
-use Rattle.std.proofs.Common.{◌≡◌, ℕ, ◌+◌, ◌-◌, ◌<◌, ◌≤◌, false, ◌||◌, length, sym, ap, ◌∙◌, subst, arith}
-use Rattle.farm_history.specs.declared.keys.Key.{Key}
+use Rattle.std.proofs.Common.{◌≡◌, ℕ, ◌+◌, ◌-◌, ◌<◌, false, ◌||◌, sym, ap, ◌∙◌, subst, arith}
 use Rattle.expiry_lists.specs.inner.Nodes.{is_live}
 use Rattle.expiry_lists.specs.inner.Walks.{child, is_under, Walks}
 use Rattle.expiry_lists.proofs.Walked.{walks_then, walks_none, walks_few}

@@ -1,4 +1,4 @@
-use Rattle.std.proofs.Common.{◌≡◌, ℕ, ◌+◌, ◌-◌, ◌<◌, ◌||◌, false, true, sym, ap, ◌∙◌, arith}
+use Rattle.std.proofs.Common.{ℕ, ◌+◌, ◌-◌, ◌||◌, sym, ap, ◌∙◌, arith}
 use Rattle.expiry_lists.specs.Boxes.{holds_some}
 use Rattle.expiry_lists.specs.inner.Walks.{child, Walks}
 use Rattle.expiry_lists.proofs.Walked.{walks_then, walks_few}

@@ -1,5 +1,4 @@
-use Rattle.std.proofs.Common.{◌≡◌, ◌+◌, ◌||◌, ap, subst, arith}
-use Rattle.farm_history.specs.declared.keys.Key.{Key}
+use Rattle.std.proofs.Common.{◌+◌, ◌||◌, arith}
 use Rattle.farm_history.specs.Plans.{same_key}
 use Rattle.expiry_lists.specs.inner.Tiles.{world_key, is_flat}
 use Rattle.expiry_lists.specs.inner.Walks.{Walks}

@@ -1,4 +1,4 @@
-use Rattle.std.proofs.Common.{◌≡◌, ◌+◌, ◌-◌, ◌||◌, subst, arith}
+use Rattle.std.proofs.Common.{◌+◌, ◌-◌, ◌||◌, subst, arith}
 use Rattle.farm_history.specs.declared.keys.Key.{Key}
 use Rattle.expiry_lists.specs.Marks.{is_of_map}
 use Rattle.expiry_lists.specs.inner.Tiles.{world_key, is_flat}

@@ -1,7 +1,4 @@
-use Rattle.std.proofs.Common.{◌≡◌, ◌+◌, ◌&&◌, take, length, sym, ap, ◌∙◌, subst, arith, rules}
-use Rattle.farm_history.specs.Plans.{overlaps}
-use Rattle.expiry_lists.specs.inner.Tiles.{is_of_maps}
-use Rattle.expiry_lists.specs.inner.Walks.{Walks}
+use Rattle.std.proofs.Common.{◌∙◌, arith, rules}
 use Rattle.expiry_lists.proofs.Walked.{walks_few}
 use Rattle.expiry_lists.proofs.Tiles.{walks_map, walks_no_map}
 use Rattle.expiry_lists.proofs.walks.soil_maps.Goals as goal

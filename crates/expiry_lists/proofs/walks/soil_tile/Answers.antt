@@ -1,5 +1,4 @@
-use Rattle.std.proofs.Common.{◌≡◌, ◌+◌, ◌-◌, ◌&&◌, ◌||◌, arith}
-use Rattle.farm_history.specs.declared.keys.Key.{Key}
+use Rattle.std.proofs.Common.{◌+◌, ◌-◌, ◌&&◌, ◌||◌, arith}
 use Rattle.farm_history.specs.Plans.{overlaps}
 use Rattle.expiry_lists.specs.Marks.{is_of_map}
 use Rattle.expiry_lists.specs.inner.Tiles.{is_flat}

@@ -1,4 +1,4 @@
-use Rattle.std.proofs.Common.{◌&&◌, ap, ◌∙◌, subst, sym, List, ℕ}
+use Rattle.std.proofs.Common.{◌&&◌, ap, ◌∙◌, subst, List, ℕ}
 use Rattle.farm_history.specs.Plans.{AreApart, overlaps}
 use Rattle.expiry_lists.specs.Marks.{MarksSeen, shown_key, soil_marks, clean_marks}
 use Rattle.expiry_lists.specs.inner.Nodes.{shown_of}

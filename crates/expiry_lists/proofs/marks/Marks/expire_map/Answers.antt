@@ -1,4 +1,4 @@
-use Rattle.std.proofs.Common.{ap, subst}
+use Rattle.std.proofs.Common.{subst}
 use Rattle.farm_history.specs.Plans.{AreApart}
 use Rattle.expiry_lists.specs.Marks.{MarksSeen, shown_key}
 use Rattle.expiry_lists.proofs.Finding.{apart_shown}

@@ -1,5 +1,4 @@
 use Rattle.std.proofs.Common.{IsPermutation, option_map, ap, ◌∙◌, subst}
-use Rattle.farm_history.specs.declared.keys.Kept.{Kept}
 use Rattle.farm_history.specs.Plans.{AreApart}
 use Rattle.farm_history.specs.Replays.{kept_version}
 use Rattle.expiry_lists.specs.Marks.{MarksSeen, shown_key, mark_of, clean_version}

@@ -1,15 +1,7 @@
-use Rattle.std.proofs.Common.{◌≡◌, ℕ, ◌+◌, ◌-◌, ◌/◌, ◌<◌, ◌≤◌, min, Bool, true, false, ◌==◌, Option, Some, None, IsSome, is_some, length, vec_len, vec_capacity, sym, ap, ◌∙◌, subst, inl, inr, arith, rules}
-use Rattle.std.specs.List.{list_any}
+use Rattle.std.proofs.Common.{◌≡◌, ◌-◌, ◌/◌, min, true, false, vec_len, vec_capacity, ap, ◌∙◌}
 use Rattle.indexmap.specs.IndexMap.{spare}
-use Rattle.farm_history.specs.declared.keys.Key.{Key}
-use Rattle.farm_history.specs.declared.keys.Mark.{Mark}
-use Rattle.expiry_lists.specs.declared.nodes.Node.{Node}
-use Rattle.expiry_lists.specs.Marks.{MarksSeen, mark_of}
-use Rattle.expiry_lists.specs.inner.Keeping.{IsKept}
-use Rattle.expiry_lists.specs.inner.Nodes.{has_node, node_of, node_mark, shown_of}
-use Rattle.expiry_lists.specs.inner.Waking.{path_len}
-use Rattle.expiry_lists.specs.inner.Tiles.{is_of_maps}
-use Rattle.expiry_lists.proofs.Finding.{mark_found}
+use Rattle.expiry_lists.specs.Marks.{MarksSeen}
+use Rattle.expiry_lists.specs.inner.Nodes.{has_node}
 use Rattle.expiry_lists.proofs.Showing.{place_for, shown_has, unlisted_gone, room_for_path, room_for_map, kept_after}
 use Rattle.expiry_lists.proofs.marks.Marks.show.Goals as goal
 

@@ -1,0 +1,122 @@
+//! Expiry lists: the tiles of a text, one a line.
+ghost use Rattle.std.specs.Prelude.{◌≡◌, ◌≤◌, length, All, IfOk, IfSome};
+ghost use Rattle.reading.specs.Steps.{Gives, seen};
+ghost use Rattle.plain_world.specs.World.{IsTile};
+ghost use Rattle.expiry_lists.specs.Lists as spec;
+ghost use Rattle.expiry_lists.specs.declared.faults.ListFault.TheVariants as fault;
+
+use crate::faults::ListFault;
+use line_words::{cut, first_line, small_number};
+use plain_world::Tile;
+use std::alloc::Global;
+use std::marker::Model;
+use std::str;
+
+/// How many lines a list may have, the empty ones included.
+const MOST_LINES: u32 = 1_000_000;
+
+/// The tiles of an expiry list, in order, at most 1,000,000. Contracts see it as the list of them.
+#[derive(Debug, Drop)]
+pub struct TileList {
+    pub tiles: Vec<Tile>,
+}
+
+impl Model for TileList {
+    ghost use Rattle.std.specs.Prelude.{List};
+    ghost use Rattle.plain_world.specs.declared.world.Tile.{Tile};
+    ghost use Rattle.expiry_lists.specs.Tiles.{AreListed};
+
+    ghost Value = { List Tile };
+
+    ghost view = { λ l. l.tiles.items };
+
+    ghost invariant = { λ l. AreListed l.tiles.items };
+}
+
+/// The words of a line.
+#[tactic(auto, unfolding(crate::specs::Lists::text_of), using(crate::proofs::Texts::text_known, crate::proofs::Texts::text_unknown))]
+fn text(line: &[u8], fault: ListFault) -> Result<&str, ListFault>
+    ensures { seen (λ s. s.now) result ≡ spec.text_of fault line.entry.now }
+{
+    match str::from_utf8(line) {
+        Ok(text) => Ok(text),
+        Err(_) => Err(fault),
+    }
+}
+
+/// What stands before the first slash and behind it.
+fn word(text: &str, fault: ListFault) -> Result<(&str, &str), ListFault>
+    ensures { seen (λ p. (p.0.now, p.1.now)) result ≡ spec.word_of fault text.entry.now }
+{
+    cut(text, '/').ok_or(fault)
+}
+
+fn number(word: &str, fault: ListFault) -> Result<u32, ListFault>
+    ensures { result ≡ spec.number_of fault word.now }
+{
+    small_number(word).ok_or(fault)
+}
+
+/// The tile of these numbers, if there is one.
+fn tile_at(z: u32, x: u32, y: u32) -> Option<Tile>
+    ensures value { result ≡ spec.tile_at z x y }
+    ensures valid { IfSome result IsTile }
+{
+    if z <= 18 && x < 1 << z && y < 1 << z {
+        Some(Tile { z, x, y })
+    } else {
+        None
+    }
+}
+
+/// The tile of a line `z/x/y`.
+#[tactic(auto, unfolding(crate::specs::Lists::tile_of))]
+fn tile(text: &str, fault: ListFault) -> Result<Tile, ListFault>
+    ensures value { result ≡ spec.tile_of fault text.now }
+    ensures valid { IfOk result IsTile }
+{
+    let (z, rest) = word(text, fault)?;
+    let (x, y) = word(rest, fault)?;
+    let z = number(z, fault)?;
+    let x = number(x, fault)?;
+    let y = number(y, fault)?;
+    tile_at(z, x, y).ok_or(fault)
+}
+
+/// The tile of a line; nothing where the line is empty.
+#[tactic(auto, unfolding(crate::specs::Lists::line_read))]
+fn read_line(line: &[u8], fault: ListFault) -> Result<Option<Tile>, ListFault>
+    ensures value { result ≡ spec.line_read fault line.now }
+    ensures valid { IfOk result (λ o. IfSome o IsTile) }
+{
+    if line.is_empty() {
+        return Ok(None);
+    }
+    let text = text(line, fault)?;
+    Ok(Some(tile(text, fault)?))
+}
+
+/// Reads an expiry list: its tiles in order, or the first line that is none. Each line is `z/x/y`, three
+/// decimal numbers without leading zeros that name a tile of zoom 0 to 18. Lines end with a newline, which
+/// the last may lack; one carriage return before it is dropped. Empty lines are skipped, and counted.
+#[tactic(auto, using(crate::proofs::Lines::list_more, crate::proofs::Lines::list_refused, crate::proofs::Lines::list_done, crate::proofs::Lines::list_long))]
+pub fn read_list(alloc: Global, bytes: &[u8]) -> Result<Vec<Tile>, ListFault>
+    ensures value { Gives fault.NoMemory (λ v. v.items) (spec.list_in bytes.now) result }
+    ensures valid { IfOk result (λ v. All IsTile v.items) }
+    ensures few { IfOk result (λ v. length v.items ≤ 1000000) }
+{
+    let mut tiles = Vec::new(alloc);
+    let mut rest = bytes;
+    let mut number = 0;
+    while let Some((line, behind)) = first_line(rest) {
+        if number == MOST_LINES {
+            return Err(ListFault::Line(number + 1));
+        }
+        number += 1;
+        if let Some(tile) = read_line(line, ListFault::Line(number))? {
+            tiles.push(tile)?;
+        }
+        rest = behind;
+    }
+    Ok(tiles)
+}

@@ -1,0 +1,5 @@
+pub mod DrawTurns
+pub mod Features
+pub mod Shapes
+pub mod Sound
+pub mod Turns

@@ -1,0 +1,140 @@
+//! The style.
+ghost use Rattle.std.specs.Prelude.{◌≡◌, ◌<◌, ◌≤◌, IfOk, IsTrue, codes, pos};
+ghost use Rattle.plain_filters.specs.Filters.{tree_of, compare_tree, name_tree, number_tree};
+ghost use Rattle.plain_filters.specs.declared.expr.CompareSign.TheVariants as sign;
+ghost use Rattle.plain_drawing.specs.Styles.{is_text_to};
+ghost use Rattle.work_gen.specs.Work as spec;
+
+use farm_base::{NoMemory, Text};
+use plain_drawing::{FilterMode, LayerRef, MapStyle, Rule, Style, Symbolizer};
+use plain_filters::{CompareSign, Expr};
+use plain_shapes::{Colour, LineCap};
+use std::alloc::Global;
+
+/// The whole of an opacity, in thousandths.
+const OPAQUE: u32 = 1000;
+
+fn colour(number: u8) -> Colour
+    requires { number < 12 }
+    ensures { result ≡ spec.colour_of number }
+{
+    Colour {
+        r: 20 * number,
+        g: 255 - 20 * number,
+        b: 128,
+    }
+}
+
+/// What a rule paints: land is filled, roads are two pixels wide with round ends, spots six pixels wide
+/// and high.
+fn paint(number: u8) -> Symbolizer
+    requires { number < 12 }
+    ensures { result ≡ spec.paint_of number }
+{
+    let colour = colour(number);
+    match number / 4 {
+        0 => Symbolizer::Polygon {
+            fill: colour,
+            fill_opacity: OPAQUE,
+        },
+        1 => Symbolizer::Line {
+            stroke: colour,
+            stroke_width: 200,
+            stroke_opacity: OPAQUE,
+            stroke_linecap: LineCap::Round,
+        },
+        _ => Symbolizer::Markers {
+            fill: colour,
+            width: 600,
+            height: 600,
+            opacity: OPAQUE,
+        },
+    }
+}
+
+/// The filter `[kind] = kind`.
+fn filter(alloc: Global, kind: u8) -> Result<Expr, NoMemory>
+    ensures { IfOk result (λ e. tree_of e ≡ compare_tree (name_tree (codes "kind")) sign.Equal (number_tree (pos kind))) }
+{
+    let name = Box::new(alloc, Expr::Name(Text::of(alloc, "kind")?))?;
+    let number = Box::new(alloc, Expr::Number(i64::from(kind)))?;
+    Ok(Expr::Compare(name, CompareSign::Equal, number))
+}
+
+#[tactic(auto, unfolding(crate::specs::Work::rule_of), using(crate::proofs::Sound::paint_passes))]
+fn rule(alloc: Global, number: u8) -> Result<Rule, NoMemory>
+    requires { number < 12 }
+    ensures { IfOk result (λ r. r ≡ spec.rule_of number) }
+{
+    let mut symbolizers = Vec::new(alloc);
+    symbolizers.push(paint(number))?;
+    Ok(Rule {
+        filter: Some(filter(alloc, number % 4)?),
+        else_filter: false,
+        min_scale_denominator: 0,
+        max_scale_denominator: None,
+        symbolizers,
+    })
+}
+
+/// A style of four rules, the first of this number.
+#[tactic(auto, unfolding(crate::specs::Work::style_of))]
+fn style(alloc: Global, name: &str, first: u8) -> Result<Style, NoMemory>
+    requires first { first ≤ 8 }
+    requires fits { IsTrue (is_text_to 64 name.now) }
+    ensures { IfOk result (λ s. s ≡ spec.style_of name.now first) }
+{
+    let mut rules = Vec::new(alloc);
+    rules.push(rule(alloc, first)?)?;
+    rules.push(rule(alloc, first + 1)?)?;
+    rules.push(rule(alloc, first + 2)?)?;
+    rules.push(rule(alloc, first + 3)?)?;
+    Ok(Style {
+        name: Text::of(alloc, name)?,
+        filter_mode: FilterMode::All,
+        rules,
+    })
+}
+
+/// A layer that the style of its name draws at all scales.
+#[tactic(auto, unfolding(crate::specs::Work::layer_of))]
+fn layer(alloc: Global, name: &str) -> Result<LayerRef, NoMemory>
+    requires { IsTrue (is_text_to 64 name.now) }
+    ensures { IfOk result (λ l. l ≡ spec.layer_of name.now) }
+{
+    let mut styles = Vec::new(alloc);
+    styles.push(Text::of(alloc, name)?)?;
+    Ok(LayerRef {
+        name: Text::of(alloc, name)?,
+        source: Text::of(alloc, name)?,
+        minimum_scale_denominator: 0,
+        maximum_scale_denominator: None,
+        styles,
+    })
+}
+
+/// A white map of three layers, each in the style of its name.
+#[tactic(auto, unfolding(crate::specs::Work::map_style, crate::specs::Work::style_of, crate::specs::Work::layer_of))]
+pub fn map_style(alloc: Global) -> Result<MapStyle, NoMemory>
+    ensures { IfOk result (λ s. s ≡ spec.map_style) }
+{
+    let mut styles = Vec::new(alloc);
+    styles.push(style(alloc, "land", 0)?)?;
+    styles.push(style(alloc, "roads", 4)?)?;
+    styles.push(style(alloc, "spots", 8)?)?;
+    let mut layers = Vec::new(alloc);
+    layers.push(layer(alloc, "land")?)?;
+    layers.push(layer(alloc, "roads")?)?;
+    layers.push(layer(alloc, "spots")?)?;
+    Ok(MapStyle {
+        background_color: Colour {
+            r: 255,
+            g: 255,
+            b: 255,
+        },
+        styles,
+        layers,
+        rasters: Vec::new(alloc),
+        grids: Vec::new(alloc),
+    })
+}
