@@ -2,6 +2,7 @@
 ghost use Rattle.std.specs.Prelude.{◌≡◌, ◌≤◌, ◌<◌, length, position, replicate, slice_get, option_map, Some, None, IfOk};
 ghost use Rattle.std.specs.Option.{option_copied};
 ghost use Rattle.std.specs.Str.{bytes_eq};
+ghost use Rattle.plain_data.specs.Data.{IsDataset};
 ghost use Rattle.farm_plan.specs.Plans.{IsPlan};
 ghost use Rattle.std.specs.Vec.{vec_capacity};
 ghost use Rattle.farm_plan.specs.Drawings.{key_path, styled_as};
@@ -38,6 +39,7 @@ pub struct Setup {
 }
 
 impl Model for Setup {
+    ghost use Rattle.plain_data.specs.Data.{IsDataset};
     ghost use Rattle.farm_plan.specs.Plans.{FarmPlan};
     ghost use Rattle.plain_filters.specs.inner.FilterCodes.{filter_code};
     ghost use Rattle.std.specs.Coded.{codes};
@@ -54,6 +56,8 @@ impl Model for Setup {
       limits = s.limits;
       restyles = s.restyles.items;
     } };
+
+    ghost invariant = { λ s. IsDataset s.first };
 }
 
 impl Setup {
@@ -69,6 +73,7 @@ impl Setup {
             limits,
             restyles,
         } = plan;
+        let _layers = dataset.layers();
         let first = Snapshot::first(alloc, dataset)?;
         Ok(Setup {
             maps,
@@ -78,6 +83,21 @@ impl Setup {
             limits,
             restyles,
         })
+    }
+
+    /// What is true of the data to begin with: at most 64 layers of names of their own, and in each at most
+    /// 1,000,000 features of ids of their own.
+    pub fn law_dataset(&self)
+        ensures { IsDataset self.now.dataset }
+    {
+        let _first = &self.first;
+    }
+
+    /// The maps, by their places.
+    pub fn maps(&self) -> &[MapPlan]
+        ensures { result.now ≡ self.now.maps }
+    {
+        self.maps.as_slice()
     }
 
     /// The map at the place.

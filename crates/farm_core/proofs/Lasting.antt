@@ -1,0 +1,95 @@
+-- What no event changes of a farm.
+use Rattle.std.proofs.Common.{◌≡◌, ◌≢◌, ℕ, ◌-◌, Bool, true, false, ◌==◌, List, ◌++◌, length, Option, Some, None, refl, ap, ◌∙◌, arith, length-append}
+use Rattle.std.specs.Prelude.{Result, Ok, Err, option_map, codes, MatchOption}
+use Rattle.std.specs.List.{ends_with}
+use Rattle.std.proofs.Math.Seq.{drop-append_seam}
+use Rattle.farm_base.specs.Outside.{Outside}
+use Rattle.plain_world.specs.declared.world.Meta.{Meta}
+use Rattle.tile_store.specs.declared.stores.StoreFault.{StoreFault}
+use Rattle.tile_store.specs.declared.stores.StoreFault.TheVariants.{Failed, NoMemory}
+use Rattle.tile_store.specs.Stores.{StoreTold, Puts, Stored, PutFailed, with_failed_get}
+use Rattle.farm_history.specs.declared.keys.Key.{Key}
+use Rattle.farm_history.specs.declared.keys.Mark.{Mark}
+use Rattle.farm_history.specs.declared.answers.Fetched.{Fetched}
+use Rattle.farm_history.specs.declared.answers.Finished.{Finished}
+use Rattle.farm_plan.specs.Plans.{FarmPlan}
+use Rattle.farm_plan.specs.Drawings.{key_path}
+use Rattle.farm_plan.specs.Spots.{IsKeyOf}
+use Rattle.farm_plan.proofs.Keys.{path_ends}
+use Rattle.farm_stands.specs.Seen.{FarmSeen}
+use Rattle.farm_stands.specs.Reads.{ReadsTile}
+use Rattle.farm_core.specs.Answers.{Lasts, at_saved}
+use Rattle.farm_core.specs.inner.Effects.{Fetches, Keeps}
+
+-- what is told of the path of a saved farm
+abbrev saved_in : Option StoreTold → Option (Option (List ℕ))
+saved_in o = option_map (λ (t : StoreTold). t.content (codes "farm.saved")) o
+
+meta_end : (path front : List ℕ) → path ≡ front ++ codes ".meta" → ends_with (λ a b. a == b) path (codes ".meta") ≡ true
+meta_end path front is = ap (λ p. ends_with (λ a b. a == b) p (codes ".meta")) is ∙ go
+  where
+    go : ends_with (λ a b. a == b) (front ++ codes ".meta") (codes ".meta") ≡ true
+    go =
+        let long : length (front ++ codes ".meta") - 5 ≡ length front = omega (arith, length-append front (codes ".meta")) in
+        rw (long, drop-append_seam front (codes ".meta")) refl
+
+-- a metatile's path is not that of a saved farm
+saved_apart : (plan : FarmPlan) (k : Key) → IsKeyOf plan k → codes "farm.saved" ≢ key_path plan k
+saved_apart plan k at same =
+    let ends = path_ends plan k at in
+    let never : false ≡ true = meta_end (codes "farm.saved") ends.0 (same ∙ ends.1) in
+    cc
+
+puts_saved : (old new : Outside StoreTold) (path bytes : List ℕ) (r : Result (Unit {0}) StoreFault) → codes "farm.saved" ≢ path → Puts old new path bytes r → at_saved new ≡ at_saved old
+puts_saved old new path bytes (Ok done) apart p = go old.told new.told p.0
+  where
+    go : (a b : Option StoreTold) → MatchOption a (b ≡ None) (λ before. (now : StoreTold) × (b ≡ Some now) × Stored before now path bytes) → saved_in b ≡ saved_in a
+    go None b e = ap saved_in e
+    go (Some t) b h = ap saved_in h.1 ∙ ap Some (h.2.others (codes "farm.saved") apart)
+puts_saved old new path bytes (Err Failed) apart p = go old.told new.told p.0
+  where
+    go : (a b : Option StoreTold) → MatchOption a (b ≡ None) (λ before. (now : StoreTold) × (b ≡ Some now) × PutFailed before now path) → saved_in b ≡ saved_in a
+    go None b e = ap saved_in e
+    go (Some t) b h = ap saved_in h.1 ∙ ap Some (h.2.others (codes "farm.saved") apart)
+puts_saved old new path bytes (Err NoMemory) apart p = ap at_saved p
+
+reads_saved : (old new : Outside StoreTold) (path : List ℕ) (m : Meta) (place : ℕ) (r : Result (List ℕ) Fetched) → ReadsTile old new path m place r → at_saved new ≡ at_saved old
+reads_saved old new path m place (Ok bytes) h = ap at_saved h.0
+reads_saved old new path m place (Err Fetched.Gone) h = ap at_saved h.0
+reads_saved old new path m place (Err (Fetched.Spoilt fault)) h = ap at_saved h.0
+reads_saved old new path m place (Err Fetched.GetFailed) h = ap saved_in h.0 ∙ go old.told
+  where
+    go : (o : Option StoreTold) → saved_in (option_map (with_failed_get path) o) ≡ saved_in o
+    go None = refl
+    go (Some t) = refl
+reads_saved old new path m place (Err Fetched.NoMemory) h = ap at_saved h
+reads_saved old new path m place (Err (Fetched.Clean v bytes)) h = absurd h
+reads_saved old new path m place (Err (Fetched.Dirty v bytes)) h = absurd h
+reads_saved old new path m place (Err Fetched.Missing) h = absurd h
+reads_saved old new path m place (Err Fetched.Unservable) h = absurd h
+
+module _ {D : Type 0} (state : D → Outside StoreTold) where
+  -- the farm is one that has all of it
+  pub lasts_as : (old mid new : FarmSeen D) → new ≡ mid → mid.plan ≡ old.plan → mid.saved ≡ old.saved → mid.first ≡ old.first → at_saved (state mid.store) ≡ at_saved (state old.store) → Lasts state old new
+  lasts_as old mid new same p s f b = record {
+    plan = ap (λ (x : FarmSeen D). x.plan) same ∙ p;
+    saved = ap (λ (x : FarmSeen D). x.saved) same ∙ s;
+    first = ap (λ (x : FarmSeen D). x.first) same ∙ f;
+    beside = ap (λ (x : FarmSeen D). at_saved (state x.store)) same ∙ b;
+  }
+
+  -- at the end of a drawing
+  pub lasts_kept : (old new : FarmSeen D) (key : Key) (version : ℕ) (touched : Bool) (bytes : List ℕ) (answer : Finished) → IsKeyOf old.plan key → Keeps state old new key version touched bytes answer → Lasts state old new
+  lasts_kept old new key version touched bytes (Finished.Stored clean) at k =
+      lasts_as old _ new k.3 refl refl refl (puts_saved (state old.store) (state new.store) (key_path old.plan key) bytes (Ok tt) (saved_apart old.plan key at) k.1)
+  lasts_kept old new key version touched bytes Finished.PutFailed at k =
+      lasts_as old _ new k.2 refl refl refl (puts_saved (state old.store) (state new.store) (key_path old.plan key) bytes (Err Failed) (saved_apart old.plan key at) k.0)
+  lasts_kept old new key version touched bytes Finished.NoMemory at k = lasts_as old _ new k.2 refl refl refl (ap at_saved k.0)
+
+  -- at a read
+  pub lasts_read : (old new : FarmSeen D) (key : Key) (place : ℕ) (mark : Mark) (answer : Fetched) → Fetches state old new key place mark answer → Lasts state old new
+  lasts_read old new key place mark answer f = lasts_as old _ new f.rest refl refl refl (reads_saved (state old.store) (state new.store) (key_path old.plan key) key.meta place f.read f.reads)
+
+  -- over several parts of an event
+  pub lasts_on : (old mid new : FarmSeen D) → Lasts state old mid → Lasts state mid new → Lasts state old new
+  lasts_on old mid new a b = record { plan = b.plan ∙ a.plan; saved = b.saved ∙ a.saved; first = b.first ∙ a.first; beside = b.beside ∙ a.beside }

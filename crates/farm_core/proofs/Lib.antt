@@ -1,0 +1,12 @@
+pub mod Asked
+pub mod Asking
+pub mod Flown
+pub mod Given
+pub mod Lasting
+pub mod Parts
+pub mod Replied
+pub mod Rooms
+pub mod Savable
+pub mod Standing
+pub mod Starting
+pub mod Told

@@ -1,0 +1,44 @@
+use Rattle.std.proofs.Common.{◌≡◌, true, sym, ap, ◌∙◌, subst}
+use Rattle.plain_world.specs.World.{index_place}
+use Rattle.farm_history.specs.declared.keys.Key.{Key}
+use Rattle.farm_history.specs.Plans.{is_servable, tile_of}
+use Rattle.farm_plan.specs.Plans.{FarmPlan}
+use Rattle.farm_plan.specs.Drawings.{plan_of}
+use Rattle.farm_plan.proofs.Spots.{spot_of}
+use Rattle.expiry_lists.specs.Marks.{mark_of}
+use Rattle.farm_stands.specs.Seen.{FarmSeen}
+use Rattle.farm_core.specs.inner.Effects.{Fetches, turn}
+use Rattle.farm_core.proofs.Told.{fetch_unservable, fetch_missing, fetch_read}
+use Rattle.farm_core.proofs.farm.Farm.fetch.Goals as goal
+
+pub returns-in_default-clause-step : goal.returns-in_default-clause-step
+returns-in_default-clause-step g c = λ told h s.
+    let turned = c.self.view_is ∙ c.count_turn.ensures.turned in
+    let plan = c.setup.ensures ∙ ap {A = FarmSeen g.row.D.Denot} (λ f. f.plan) turned in
+    let off = sym (c.in_default.ensures.served ∙ ap (λ (p : FarmPlan). is_servable (plan_of p) c.args.spot) plan) in
+    fetch_unservable g.D.TileStore.state told c.args.self.now c.count_turn.new.self h c.args.spot c.count_turn.ensures.turned off s
+
+pub returns-in_default-of-clause-step : goal.returns-in_default-of-clause-step
+returns-in_default-of-clause-step g c = λ told h s.
+    let turned = c.self.view_is ∙ c.count_turn.ensures.turned in
+    let plan = c.setup.ensures ∙ ap {A = FarmSeen g.row.D.Denot} (λ f. f.plan) turned in
+    let on = sym (c.in-Some.ensures.served ∙ ap (λ (p : FarmPlan). is_servable (plan_of p) c.args.spot) plan) in
+    let key = c.in-Some.ensures.key.0 in
+    let missing = ap (λ (k : Key). mark_of c.args.self.now.marks.shown k) (sym key) ∙ ap {A = FarmSeen g.row.D.Denot} (λ f. mark_of f.marks.shown c.in-Some.key) (sym turned) ∙ sym c.of.ensures ∙ c.in_default-of.is in
+    fetch_missing g.D.TileStore.state told c.args.self.now c.count_turn.new.self h c.args.spot c.count_turn.ensures.turned on missing s
+
+pub read-requires-clause-tile : goal.read-requires-clause-tile
+read-requires-clause-tile g c =
+    let on : is_servable (plan_of c.self.inside.own.plan) c.args.spot ≡ true = ap (λ (p : FarmPlan). is_servable (plan_of p) c.args.spot) (sym c.setup.ensures) ∙ sym c.in-Some.ensures.served in
+    (spot_of c.self.inside.own.plan c.args.spot c.self.invariant.is_plan on).tile
+
+pub returns-clause-step : goal.returns-clause-step
+returns-clause-step g c = λ told h s.
+    let turned = c.self.view_is ∙ c.count_turn.ensures.turned in
+    let plan = c.setup.ensures ∙ ap {A = FarmSeen g.row.D.Denot} (λ f. f.plan) turned in
+    let on = sym (c.in-Some.ensures.served ∙ ap (λ (p : FarmPlan). is_servable (plan_of p) c.args.spot) plan) in
+    let key = c.in-Some.ensures.key.0 in
+    let marked = ap (λ (k : Key). mark_of c.args.self.now.marks.shown k) (sym key) ∙ ap {A = FarmSeen g.row.D.Denot} (λ f. mark_of f.marks.shown c.in-Some.key) (sym turned) ∙ sym c.of.ensures ∙ c.in-Some-of.is in
+    let fetched = subst (λ (f : FarmSeen g.row.D.Denot). Fetches g.D.TileStore.state f c.read.new.self c.in-Some.key (index_place (tile_of c.args.spot)) c.in-Some-of.mark c.read.result) c.count_turn.ensures.turned c.read.ensures in
+    fetch_read g.D.TileStore.state told c.args.self.now c.read.new.self h c.args.spot c.in-Some-of.mark c.read.result on marked
+    (subst (λ (k : Key). Fetches g.D.TileStore.state (turn c.args.self.now) c.read.new.self k (index_place (tile_of c.args.spot)) c.in-Some-of.mark c.read.result) key fetched) s

@@ -1,0 +1,9 @@
+use Rattle.std.proofs.Common.{ap, ◌∙◌}
+use Rattle.farm_stands.specs.Seen.{FarmSeen}
+use Rattle.farm_stands.specs.inner.Events.{tally_of}
+use Rattle.farm_core.proofs.Told.{tally_told}
+use Rattle.farm_core.proofs.farm.Farm.tally.Goals as goal
+
+pub returns-clause-step : goal.returns-clause-step
+returns-clause-step g c = λ told h s.
+    tally_told g.D.TileStore.state told _ _ h _ c.count_turn.ensures.turned (c.counts.ensures ∙ ap {A = FarmSeen g.row.D.Denot} (λ f. tally_of f.counts) c.count_turn.ensures.turned) s

@@ -1,0 +1,42 @@
+-- How a history names the farm's answers, and what no event changes of a farm.
+use Rattle.std.specs.Prelude.{ℕ, ◌≡◌, Bool, true, false, List, Option, option_map, codes}
+use Rattle.farm_base.specs.Outside.{Outside}
+use Rattle.tile_store.specs.Stores.{StoreTold}
+use Rattle.farm_history.specs.declared.answers.ClaimAnswer.{ClaimAnswer}
+use Rattle.farm_core.specs.declared.claims.Claimed.{Claimed}
+use Rattle.farm_core.specs.declared.finishes.Drawn.{Drawn}
+use Rattle.farm_stands.specs.Seen.{FarmSeen}
+use Rattle.farm_stands.specs.Jobs.{JobSeen, job_key, job_text}
+
+-- the answer to a claim: of a job its ticket, its key and the data version
+abbrev pub claim_answer : Claimed → ClaimAnswer
+claim_answer (Claimed.Job job) = ClaimAnswer.Job job.ticket (job_key job) job.version
+claim_answer Claimed.Idle = ClaimAnswer.Idle
+claim_answer Claimed.Crowded = ClaimAnswer.Crowded
+claim_answer Claimed.Stopped = ClaimAnswer.Stopped
+
+-- where the answer is a job, what holds of it
+abbrev pub IfJob : Claimed → (JobSeen → Type 0) → Type 0
+IfJob (Claimed.Job job) holds = holds job
+IfJob _ holds = Unit {0}
+
+-- whether something was drawn
+abbrev pub is_drawn : Drawn → Bool
+is_drawn (Drawn.Bytes bytes) = true
+is_drawn Drawn.NoMemory = false
+
+-- what was drawn is the job's container
+abbrev pub IsDrawingOf : JobSeen → Drawn → Type 0
+IsDrawingOf job (Drawn.Bytes bytes) = bytes.items ≡ job_text job
+IsDrawingOf job Drawn.NoMemory = Unit {0}
+
+-- what the store tells that it holds at the path of a saved farm
+abbrev pub at_saved : Outside StoreTold → Option (Option (List ℕ))
+at_saved store = option_map (λ t. t.content (codes "farm.saved")) store.told
+
+-- what no event changes: the plan, what the farm was resumed from, the store as it was at the start, and what the store tells at the path of a saved farm
+pub record Lasts {D : Type 0} (state : D → Outside StoreTold) (old new : FarmSeen D) : Type 0 where
+  pub plan : new.plan ≡ old.plan
+  pub saved : new.saved ≡ old.saved
+  pub first : new.first ≡ old.first
+  pub beside : at_saved (state new.store) ≡ at_saved (state old.store)

@@ -1,0 +1,6 @@
+-- Words that serve inner contracts alone.
+pub mod Asks
+pub mod Effects
+pub mod Rooms
+pub mod Saves
+pub mod Starts

@@ -1,0 +1,358 @@
+//! Asks: a connection asks for a metatile, or marks it dirty.
+ghost use Rattle.std.specs.Prelude.{◌≡◌, ◌<◌, ◌≤◌, ◌+◌, ◌^◌, Bool, List, ◌∷◌, ◌||◌, nat_le, is_some, IfSome, if◌then◌else◌};
+ghost use Rattle.farm_history.specs.Plans.{is_dirty_command, is_in, is_lifting, is_servable, key_of, own_queue, same_queue};
+ghost use Rattle.farm_history.specs.declared.queues.Queue.{Queue};
+ghost use Rattle.farm_history.specs.Rules.{answer_of_waiting};
+ghost use Rattle.farm_history.specs.Seen.{is_clean_mark};
+ghost use Rattle.render_queues.specs.Tables.{open_count, open_of};
+ghost use Rattle.farm_core.specs.inner.Asks.{Dirtied, Dirties, Needs, answer_at, noted_tables, rendered_at, rendered_counts};
+ghost use Rattle.farm_history.specs.Entries.{Ask, Entry};
+ghost use Rattle.farm_history.specs.Past.{number_in};
+ghost use Rattle.farm_plan.specs.Drawings.{plan_of};
+ghost use Rattle.farm_core.specs.Answers.{Lasts};
+ghost use Rattle.farm_stands.specs.Stands.{StandsFor};
+ghost use Rattle.farm_plan.specs.Spots.{IsKeyOf};
+ghost use Rattle.farm_stands.specs.inner.Events.{asked_tables, marked_tables, waits_at};
+
+use crate::farm::Farm;
+use farm_jobs::{is_overtaken, serve, touch_key};
+use farm_plan::{AskAnswer, Cmd, Conn, Key, Mark, Queue, Spot, Waiter, Why};
+use render_queues::{Queues, Standing};
+use tile_store::TileStore;
+
+/// How many asks of one connection may be open.
+const MOST_OF_ONE: u32 = 64;
+
+/// How many asks may be open in all.
+const MOST: u32 = 4096;
+
+/// The queue of a command.
+fn own_queue(cmd: Cmd) -> Queue
+    ensures { result ≡ own_queue cmd }
+{
+    match cmd {
+        Cmd::Prio => Queue::Prio,
+        Cmd::Render => Queue::Request,
+        Cmd::Low => Queue::Low,
+        Cmd::Dirty => Queue::Dirty,
+        Cmd::Bulk => Queue::Bulk,
+    }
+}
+
+/// Whether the command lifts a metatile out of the dirty or bulk queue.
+fn is_lifting(cmd: Cmd) -> bool
+    ensures { result ≡ is_lifting cmd }
+{
+    match cmd {
+        Cmd::Prio | Cmd::Render | Cmd::Low => true,
+        Cmd::Dirty | Cmd::Bulk => false,
+    }
+}
+
+/// Whether the command marks a metatile dirty.
+fn is_dirty_command(cmd: Cmd) -> bool
+    ensures { result ≡ is_dirty_command cmd }
+{
+    match cmd {
+        Cmd::Dirty => true,
+        Cmd::Prio | Cmd::Render | Cmd::Low | Cmd::Bulk => false,
+    }
+}
+
+/// Whether there is a mark, and it is clean.
+fn is_clean(mark: Option<Mark>) -> bool
+    ensures { result ≡ is_clean_mark mark }
+{
+    match mark {
+        Some(mark) => mark.clean,
+        None => false,
+    }
+}
+
+/// Whether it is the dirty queue.
+fn is_dirty(queue: Queue) -> bool
+    ensures { result ≡ same_queue queue Queue.Dirty }
+{
+    match queue {
+        Queue::Dirty => true,
+        Queue::Prio | Queue::Request | Queue::Low | Queue::Bulk => false,
+    }
+}
+
+/// Whether it is the bulk queue.
+fn is_bulk(queue: Queue) -> bool
+    ensures { result ≡ same_queue queue Queue.Bulk }
+{
+    match queue {
+        Queue::Bulk => true,
+        Queue::Prio | Queue::Request | Queue::Low | Queue::Dirty => false,
+    }
+}
+
+/// Where a metatile stands: whether it is being drawn, whether it waits, and whether in the dirty or in the
+/// bulk queue.
+#[derive(Clone, Copy, Drop)]
+struct Place {
+    flies: bool,
+    waits: bool,
+    in_dirty: bool,
+    in_bulk: bool,
+}
+
+/// Where the metatile stands.
+fn place_of(queues: &Queues, key: Key) -> Place
+    ensures flies { result.flies ≡ is_in key queues.now.taken }
+    ensures waits { result.waits ≡ waits_at queues.now key }
+    ensures in_dirty { result.in_dirty ≡ is_in key queues.now.lines.dirty.keys }
+    ensures in_bulk { result.in_bulk ≡ is_in key queues.now.lines.bulk.keys }
+{
+    queues.law_sound();
+    match queues.find(key) {
+        Some(Standing::Taken) => Place {
+            flies: true,
+            waits: false,
+            in_dirty: false,
+            in_bulk: false,
+        },
+        Some(Standing::Waits(queue)) => Place {
+            flies: false,
+            waits: true,
+            in_dirty: is_dirty(queue),
+            in_bulk: is_bulk(queue),
+        },
+        None => Place {
+            flies: false,
+            waits: false,
+            in_dirty: false,
+            in_bulk: false,
+        },
+    }
+}
+
+/// What an ask is answered whose metatile is not being drawn; `n` is its number.
+#[tactic(auto, unfolding(farm_history::specs::Rules::answer_of_waiting))]
+fn answer_of_waiting(
+    liftable: bool,
+    in_dirty: bool,
+    waits: bool,
+    own_room: bool,
+    dirty_room: bool,
+    n: u64,
+) -> AskAnswer
+    ensures { result ≡ answer_of_waiting liftable in_dirty waits own_room dirty_room n }
+{
+    if liftable && own_room {
+        AskAnswer::Lifted(n)
+    } else if in_dirty {
+        AskAnswer::NotDone(Why::InDirty)
+    } else if waits {
+        AskAnswer::Joined(n)
+    } else if own_room {
+        AskAnswer::Queued(n)
+    } else if dirty_room {
+        AskAnswer::NotDone(Why::Deferred)
+    } else {
+        AskAnswer::NotDone(Why::Dropped)
+    }
+}
+
+/// Does to the tables what the answer to an ask for a key says.
+fn note_answer(queues: &mut Queues, own: Queue, key: Key, conn: Conn, answer: AskAnswer)
+    requires { Needs queues.old own key answer }
+    ensures { queues.new ≡ asked_tables queues.old own key conn answer }
+{
+    match answer {
+        AskAnswer::Queued(n) => {
+            queues.place(key, own, Some(Waiter { conn, ask: n }));
+        }
+        AskAnswer::Joined(n) => queues.join(key, Waiter { conn, ask: n }),
+        AskAnswer::Lifted(n) => {
+            queues.lift(key, own, Waiter { conn, ask: n });
+        }
+        AskAnswer::NotDone(Why::Deferred) => {
+            queues.place(key, Queue::Dirty, None);
+        }
+        _ => {}
+    }
+}
+
+/// Puts a metatile that stands nowhere in the dirty queue, where that has room.
+fn place_dirty(queues: &mut Queues, key: Key)
+    ensures { queues.new ≡ marked_tables queues.old key }
+{
+    let place = place_of(queues, key);
+    if place.waits || place.flies {
+        return;
+    }
+    queues.place(key, Queue::Dirty, None);
+}
+
+/// One more, where that is said.
+pub(crate) fn one_more(n: u64, more: bool) -> u64
+    requires { n < 2 ^ 63 }
+    ensures { result ≡ (if more then n + 1 else n) }
+{
+    if more { n + 1 } else { n }
+}
+
+/// Whether the answer gives the ask a number.
+fn is_numbered(answer: AskAnswer) -> bool
+    ensures { result ≡ is_some (number_in answer) }
+{
+    match answer {
+        AskAnswer::Queued(_) | AskAnswer::Joined(_) | AskAnswer::Lifted(_) => true,
+        _ => false,
+    }
+}
+
+impl<D> Farm<D> {
+    /// Whether the connection, or all together, have as many open asks as may be.
+    fn has_backlog(&self, conn: Conn) -> bool
+        ensures { result ≡ (nat_le 64 (open_of self.now.queues conn) || nat_le 4096 (open_count self.now.queues)) }
+    {
+        MOST_OF_ONE <= self.queues.asks_of(conn) || MOST <= self.queues.asks()
+    }
+
+    /// What an ask for a metatile with a render command is answered, before any stop.
+    fn answer(&self, conn: Conn, cmd: Cmd, key: Key) -> AskAnswer
+        ensures { result ≡ answer_at self.now conn cmd key }
+    {
+        if is_clean(self.marks.of(key)) {
+            return AskAnswer::Done;
+        }
+        if self.has_backlog(conn) {
+            return AskAnswer::NotDone(Why::Backlog);
+        }
+        if is_overtaken(self.taken.as_slice(), key) {
+            return AskAnswer::NotDone(Why::Overtaken);
+        }
+        let place = place_of(&self.queues, key);
+        if place.flies {
+            return AskAnswer::Joined(self.numbers);
+        }
+        let liftable = is_lifting(cmd) && (place.in_dirty || place.in_bulk);
+        let own_room = self.queues.has_room(own_queue(cmd));
+        let dirty_room = self.queues.has_room(Queue::Dirty);
+        answer_of_waiting(
+            liftable,
+            place.in_dirty,
+            place.waits,
+            own_room,
+            dirty_room,
+            self.numbers,
+        )
+    }
+}
+
+impl<D> Farm<D> {
+    /// Does what the answer to an ask with a render command says.
+    fn note(&mut self, conn: Conn, cmd: Cmd, key: Key, answer: AskAnswer)
+        requires key { IsKeyOf self.old.plan key }
+        requires needs { Needs self.old.queues (own_queue cmd) key answer }
+        ensures { self.new ≡ record self.old { queues = asked_tables self.old.queues (own_queue cmd) key conn answer } }
+    {
+        note_answer(&mut self.queues, own_queue(cmd), key, conn, answer);
+    }
+
+    /// Counts an ask with a render command.
+    fn count_ask(&mut self, answer: AskAnswer)
+        requires numbers { self.old.counts.numbers < self.old.counts.turns }
+        requires asks { self.old.counts.asks < self.old.counts.turns }
+        requires done { self.old.counts.done < self.old.counts.turns }
+        requires turns { self.old.counts.turns ≤ 2 ^ 63 }
+        ensures { self.new ≡ record self.old { counts = rendered_counts answer self.old.counts } }
+    {
+        self.numbers = one_more(self.numbers, is_numbered(answer));
+        self.asks += 1;
+        self.done = one_more(self.done, answer == AskAnswer::Done);
+    }
+
+    /// Touches a metatile, and puts it in the dirty queue where it stands nowhere.
+    fn mark_dirty(&mut self, key: Key)
+        requires { IsKeyOf self.old.plan key }
+        ensures { Dirties key self.old self.new }
+    {
+        touch_key(self.taken.as_mut_slice(), key);
+        self.marks.expire_one(key);
+        place_dirty(&mut self.queues, key);
+    }
+}
+
+impl<D> Farm<D> {
+    /// The metatile of the spot, where it can be served.
+    fn spot_key(&self, spot: Spot) -> Option<Key>
+        ensures served { is_some result ≡ is_servable (plan_of self.now.plan) spot }
+        ensures key { IfSome result (λ key. (key ≡ key_of spot) × IsKeyOf self.now.plan key) }
+    {
+        serve(self.own.setup(), spot)
+    }
+
+    /// What an ask with a render command is answered.
+    fn rendered(&self, conn: Conn, cmd: Cmd, served: Option<Key>) -> AskAnswer
+        ensures answer { result ≡ rendered_at self.now conn cmd served }
+        ensures needs { IfSome served (λ key. Needs self.now.queues (own_queue cmd) key result) }
+    {
+        self.queues.law_sound();
+        if self.stopped {
+            return AskAnswer::NotDone(Why::Stopping);
+        }
+        match served {
+            Some(key) => self.answer(conn, cmd, key),
+            None => AskAnswer::NotDone(Why::Unservable),
+        }
+    }
+
+    /// Does what the answer to an ask with a render command says, where the spot can be served.
+    fn note_served(&mut self, conn: Conn, cmd: Cmd, served: Option<Key>, answer: AskAnswer)
+        requires { IfSome served (λ key. IsKeyOf self.old.plan key × Needs self.old.queues (own_queue cmd) key answer) }
+        ensures { self.new ≡ record self.old { queues = noted_tables self.old.queues (own_queue cmd) conn served answer } }
+    {
+        if let Some(key) = served {
+            self.note(conn, cmd, key, answer);
+        }
+    }
+
+    /// Touches a metatile that is to be dirty, before a stop.
+    fn mark(&mut self, served: Option<Key>)
+        requires { IfSome served (IsKeyOf self.old.plan) }
+        ensures { Dirtied self.old self.new served }
+    {
+        if self.stopped {
+            return;
+        }
+        if let Some(key) = served {
+            self.mark_dirty(key);
+        }
+    }
+}
+
+impl<D: TileStore> Farm<D> {
+    /// A connection asks for the metatile of a spot. With a render command the answer is the first that holds:
+    /// after a stop NotDone(Stopping); where the spot cannot be served NotDone(Unservable); Done where its
+    /// metatile is clean; NotDone(Backlog) where the connection has 64 open asks, or 4,096 are open in all; where
+    /// it is being drawn Joined, but NotDone(Overtaken) where it was touched since that claim; where it waits in
+    /// the dirty or bulk queue and the command's own queue, prio, request or low, is below its limit Lifted into
+    /// that; NotDone(InDirty) where it waits in the dirty queue; Joined where it waits elsewhere; Queued where the
+    /// command's own queue is below its limit; NotDone(Deferred) where the dirty queue is, into which it goes; else
+    /// NotDone(Dropped). The numbers of Queued, Joined and Lifted count from 0, and their replies come by
+    /// `collect`.
+    ///
+    /// With `Cmd::Dirty` the answer is Silent: before a stop, a servable metatile is touched, and goes to the
+    /// dirty queue where it neither waits nor is being drawn. Takes no memory.
+    pub fn ask(&mut self, conn: Conn, cmd: Cmd, spot: Spot) -> AskAnswer
+        requires { self.old.counts.turns < 2 ^ 63 }
+        ensures step { (told : Bool) (h : List Entry) → StandsFor D.state told self.old h → StandsFor D.state told self.new (Ask conn cmd spot result ∷ h) }
+        ensures kept { Lasts D.state self.old self.new }
+    {
+        self.count_turn();
+        let served = self.spot_key(spot);
+        if is_dirty_command(cmd) {
+            self.mark(served);
+            return AskAnswer::Silent;
+        }
+        let answer = self.rendered(conn, cmd, served);
+        self.count_ask(answer);
+        self.note_served(conn, cmd, served, answer);
+        answer
+    }
+}

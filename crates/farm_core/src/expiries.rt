@@ -1,0 +1,85 @@
+//! Expiries and changes of style: what they touch.
+ghost use Rattle.std.specs.Prelude.{◌≡◌, ◌<◌, ◌^◌, Bool, List, ◌∷◌, length, slice_get, slice_set, option_map, Some, IfSome};
+ghost use Rattle.farm_history.specs.Entries.{Entry, Expire, Restyle};
+ghost use Rattle.farm_core.specs.Answers.{Lasts};
+ghost use Rattle.farm_stands.specs.Stands.{StandsFor};
+ghost use Rattle.plain_world.specs.World.{IsTile};
+ghost use Rattle.farm_history.specs.Plans.{overlaps};
+ghost use Rattle.expiry_lists.specs.Marks.{is_of_map};
+ghost use Rattle.farm_core.specs.inner.Effects.{Soils};
+
+use crate::farm::Farm;
+use farm_jobs::{touch_map, touch_tile};
+use farm_plan::Restyled;
+use plain_world::Tile;
+use tile_store::TileStore;
+
+impl<D> Farm<D> {
+    /// Touches what the tile overlaps, and counts what was clean of it.
+    fn soil_tile(&mut self, tile: Tile) -> u64
+        requires { IsTile tile }
+        ensures { Soils (overlaps tile) self.old self.new result }
+    {
+        touch_tile(self.taken.as_mut_slice(), tile);
+        self.marks.expire(tile)
+    }
+
+    /// Touches what is of the map, and counts what was clean of it.
+    fn soil_map(&mut self, map: u32) -> u64
+        ensures { Soils (is_of_map map) self.old self.new result }
+    {
+        touch_map(self.taken.as_mut_slice(), map);
+        self.marks.expire_map(map)
+    }
+}
+
+impl<D> Farm<D> {
+    /// Gives the map the style of the number.
+    fn give_style(&mut self, map: u32, number: u32)
+        requires { map < length self.old.plan.maps }
+        ensures { self.new ≡ record self.old { styled = slice_set self.old.styled map (Some number) } }
+    {
+        self.styled[map as usize] = Some(number);
+    }
+
+    /// The map of the style of the number, where the table has one.
+    fn styled_map(&self, number: u32) -> Option<u32>
+        ensures map { result ≡ option_map (λ r. r.map) (slice_get self.now.plan.restyles number) }
+        ensures in_table { IfSome result (λ map. map < length self.now.plan.maps) }
+    {
+        let restyle = self.own.setup().restyle(number)?;
+        Some(restyle.map)
+    }
+}
+
+impl<D: TileStore> Farm<D> {
+    /// Expires a tile: everything that it overlaps, on every map and zoom, is dirty from now on. Answers how many
+    /// metatiles were clean before. Takes no memory.
+    pub fn expire(&mut self, t: Tile) -> u64
+        requires turns { self.old.counts.turns < 2 ^ 63 }
+        requires tile { IsTile t }
+        ensures step { (told : Bool) (h : List Entry) → StandsFor D.state told self.old h → StandsFor D.state told self.new (Expire t result ∷ h) }
+        ensures kept { Lasts D.state self.old self.new }
+    {
+        self.count_turn();
+        self.soil_tile(t)
+    }
+
+    /// Gives a map the style of the number, which is of that map; all of the map is touched. Answers Styled with
+    /// how many of its metatiles were clean, and NoRestyle exactly where the table has no style of that number.
+    /// The map's name, tile size and greatest zoom stay. Takes no memory.
+    pub fn restyle(&mut self, number: u32) -> Restyled
+        requires { self.old.counts.turns < 2 ^ 63 }
+        ensures step { (told : Bool) (h : List Entry) → StandsFor D.state told self.old h → StandsFor D.state told self.new (Restyle number result ∷ h) }
+        ensures kept { Lasts D.state self.old self.new }
+    {
+        self.count_turn();
+        match self.styled_map(number) {
+            Some(map) => {
+                self.give_style(map, number);
+                Restyled::Styled(self.soil_map(map))
+            }
+            None => Restyled::NoRestyle,
+        }
+    }
+}

@@ -1,0 +1,165 @@
+//! Tiles that are read, and metatiles that are looked at.
+ghost use Rattle.std.specs.Prelude.{◌≡◌, ◌<◌, ◌^◌, Bool, List, ◌∷◌};
+ghost use Rattle.farm_history.specs.Entries.{Entry, Fetch, Look};
+ghost use Rattle.farm_core.specs.Answers.{Lasts};
+ghost use Rattle.farm_stands.specs.Stands.{StandsFor};
+ghost use Rattle.plain_world.specs.World.{IsTile, meta_of, index_place};
+ghost use Rattle.farm_plan.specs.Spots.{IsKeyOf};
+ghost use Rattle.farm_core.specs.inner.Effects.{Fetches, refused_by};
+ghost use Rattle.farm_stands.specs.Reads.{ReadsTile, fetched_by};
+ghost use Rattle.farm_stands.specs.inner.Events.{look_at, looked_by};
+
+use crate::farm::Farm;
+use farm_base::{Bytes, MetaFault};
+use farm_jobs::serve;
+use farm_plan::{Fetched, Key, Looked, Mark, Spot};
+use merc_fixed::index_place;
+use meta_container::entry_in;
+use plain_world::{Meta, Tile};
+use std::alloc::Global;
+use tile_store::{StoreFault, TileStore};
+
+/// How many bytes of a container stand before its tiles.
+const HEAD: u32 = 532;
+
+/// What a fetch is answered where the store refused a read.
+fn refused(fault: StoreFault) -> Fetched
+    ensures { result ≡ refused_by fault }
+{
+    match fault {
+        StoreFault::Failed => Fetched::GetFailed,
+        StoreFault::NoMemory => Fetched::NoMemory,
+    }
+}
+
+/// Reads the head of the container at the path, and by it the tile's part.
+fn read_tile<D: TileStore>(
+    alloc: Global,
+    store: &mut D,
+    path: &str,
+    meta: Meta,
+    tile: Tile,
+) -> Result<Bytes, Fetched>
+    requires tile { IsTile tile }
+    requires place { meta_of tile ≡ meta }
+    ensures { ReadsTile (D.state store.old) (D.state store.new) path.now meta (index_place tile) result }
+{
+    let head = match store.get_part(alloc, path, 0, HEAD) {
+        Ok(Some(head)) => head,
+        Ok(None) => return Err(Fetched::Gone),
+        Err(fault) => return Err(refused(fault)),
+    };
+    let entry = match entry_in(head.as_slice(), meta, tile) {
+        Ok(entry) => entry,
+        Err(fault) => return Err(Fetched::Spoilt(fault)),
+    };
+    match store.get_part(alloc, path, entry.offset as u64, entry.size) {
+        Ok(Some(part)) => {
+            if part.len() < entry.size as usize {
+                Err(Fetched::Spoilt(MetaFault::Index(index_place(tile))))
+            } else {
+                Ok(Bytes::from_vec(part))
+            }
+        }
+        Ok(None) => Err(Fetched::Gone),
+        Err(fault) => Err(refused(fault)),
+    }
+}
+
+/// What a fetch of a tile with that mark is answered.
+fn fetched_by(mark: Mark, read: Result<Bytes, Fetched>) -> Fetched
+    ensures { result ≡ fetched_by mark read }
+{
+    match read {
+        Ok(bytes) => {
+            if mark.clean {
+                Fetched::Clean(mark.version, bytes)
+            } else {
+                Fetched::Dirty(mark.version, bytes)
+            }
+        }
+        Err(answer) => answer,
+    }
+}
+
+/// How a metatile with that mark stands.
+fn looked_by(mark: Option<Mark>) -> Looked
+    ensures { result ≡ looked_by mark }
+{
+    match mark {
+        None => Looked::Missing,
+        Some(mark) => {
+            if mark.clean {
+                Looked::Clean(mark.version)
+            } else {
+                Looked::Dirty(mark.version)
+            }
+        }
+    }
+}
+
+impl<D> Farm<D> {
+    /// How the spot's metatile stands.
+    fn standing(&self, spot: Spot) -> Looked
+        ensures { result ≡ look_at self.now spot }
+    {
+        match serve(self.own.setup(), spot) {
+            Some(key) => looked_by(self.marks.of(key)),
+            None => Looked::Unservable,
+        }
+    }
+}
+
+impl<D: TileStore> Farm<D> {
+    /// Reads a tile of a metatile with that mark.
+    fn read(&mut self, alloc: Global, key: Key, tile: Tile, mark: Mark) -> Fetched
+        requires key { IsKeyOf self.old.plan key }
+        requires tile { IsTile tile }
+        requires place { meta_of tile ≡ key.meta }
+        ensures { Fetches D.state self.old self.new key (index_place tile) mark result }
+    {
+        let path = self.own.setup().path(key);
+        let read = read_tile(alloc, &mut self.store, path.as_str(), key.meta, tile);
+        fetched_by(mark, read)
+    }
+}
+
+impl<D: TileStore> Farm<D> {
+    /// How a spot's metatile stands: Unservable where its map is not given or not in the plan, its zoom is past
+    /// the map's greatest, or its column or row past the zoom's; Missing where it is not shown; else Clean or
+    /// Dirty with the data version of what is shown. Takes no memory.
+    pub fn look(&mut self, spot: Spot) -> Looked
+        requires { self.old.counts.turns < 2 ^ 63 }
+        ensures step { (told : Bool) (h : List Entry) → StandsFor D.state told self.old h → StandsFor D.state told self.new (Look spot result ∷ h) }
+        ensures kept { Lasts D.state self.old self.new }
+    {
+        self.count_turn();
+        self.standing(spot)
+    }
+
+    /// The bytes of a spot's tile, as the store holds them, with how its metatile stands. It reads the head of
+    /// the metatile's container and, by it, the tile's part. Unservable and Missing as `look`; GetFailed where a
+    /// read Failed; NoMemory where one found none; Gone where one found nothing; Spoilt where the head is none,
+    /// with its first fault, or where the part is cut off. Over a store that tells what it holds neither Gone
+    /// nor Spoilt comes, and the bytes are the plain drawing in the style and over the data of the claim of what
+    /// is shown.
+    pub fn fetch(&mut self, alloc: Global, spot: Spot) -> Fetched
+        requires { self.old.counts.turns < 2 ^ 63 }
+        ensures step { (told : Bool) (h : List Entry) → StandsFor D.state told self.old h → StandsFor D.state told self.new (Fetch spot result ∷ h) }
+        ensures kept { Lasts D.state self.old self.new }
+    {
+        self.count_turn();
+        let Some(key) = serve(self.own.setup(), spot) else {
+            return Fetched::Unservable;
+        };
+        let Some(mark) = self.marks.of(key) else {
+            return Fetched::Missing;
+        };
+        let tile = Tile {
+            z: spot.z,
+            x: spot.x,
+            y: spot.y,
+        };
+        self.read(alloc, key, tile, mark)
+    }
+}

@@ -1,0 +1,134 @@
+//! Replies that are collected, connections that leave, counts and the stop.
+ghost use Rattle.farm_history.specs.Past.{is_done};
+ghost use Rattle.std.specs.Prelude.{◌≡◌, ◌<◌, ◌≤◌, ◌^◌, Bool, true, List, ◌∷◌, None};
+ghost use Rattle.farm_history.specs.Entries.{Entry, Collect, Leave, Stop, Tally as Counted};
+ghost use Rattle.farm_core.specs.Answers.{Lasts};
+ghost use Rattle.farm_stands.specs.Stands.{StandsFor};
+ghost use Rattle.render_queues.specs.Tables.{after_leave, open_of};
+ghost use Rattle.farm_core.specs.inner.Effects.{Collects, TakesFirst};
+ghost use Rattle.farm_stands.specs.inner.Events.{collected_by, tally_of};
+
+use crate::asks::one_more;
+use crate::farm::Farm;
+use farm_plan::{Collected, Conn, Outcome, Reply, Tally};
+use render_queues::Queues;
+use tile_store::TileStore;
+
+/// Takes the front's first reply out.
+fn take_first(queues: &mut Queues, front: u32) -> Option<Reply>
+    ensures { TakesFirst queues.old queues.new front result }
+{
+    queues.collect(front)
+}
+
+/// Whether the reply says Done.
+fn is_done(reply: Reply) -> bool
+    ensures { result ≡ is_done reply.outcome }
+{
+    match reply.outcome {
+        Outcome::Done => true,
+        Outcome::NotDone | Outcome::Cut => false,
+    }
+}
+
+impl<D> Farm<D> {
+    /// Takes the front's first reply; a reply Done is counted.
+    fn take_reply(&mut self, front: u32) -> Option<Reply>
+        requires done { self.old.counts.done < self.old.counts.turns }
+        requires turns { self.old.counts.turns ≤ 2 ^ 63 }
+        ensures { Collects self.old self.new front result }
+    {
+        let reply = take_first(&mut self.queues, front)?;
+        self.done = one_more(self.done, is_done(reply));
+        Some(reply)
+    }
+
+    /// What a front without a reply is answered.
+    fn no_reply(&self) -> Collected
+        ensures { result ≡ collected_by None self.now.counts.stopped }
+    {
+        if self.stopped {
+            Collected::Stopped
+        } else {
+            Collected::Empty
+        }
+    }
+}
+
+impl<D> Farm<D> {
+    /// Drops the connection's open asks, and counts them.
+    fn drop_asks(&mut self, conn: Conn) -> u32
+        ensures count { result ≡ open_of self.old.queues conn }
+        ensures farm { self.new ≡ record self.old { queues = after_leave self.old.queues conn } }
+    {
+        self.queues.leave(conn)
+    }
+
+    /// Notes the stop.
+    fn note_stop(&mut self)
+        ensures { self.new ≡ record self.old { counts = record self.old.counts { stopped = true } } }
+    {
+        self.stopped = true;
+    }
+
+    /// The farm's counts.
+    fn counts(&self) -> Tally
+        ensures { result ≡ tally_of self.now.counts }
+    {
+        Tally {
+            asks: self.asks,
+            done: self.done,
+            stored: self.stored,
+            version: self.version,
+        }
+    }
+}
+
+impl<D: TileStore> Farm<D> {
+    /// A front, by its number, takes the first of its replies: in the order in which the drawings ended, and
+    /// those of one drawing in the order of the asks. Without one Stopped after a stop, else Empty. Takes no
+    /// memory.
+    pub fn collect(&mut self, front: u32) -> Collected
+        requires { self.old.counts.turns < 2 ^ 63 }
+        ensures step { (told : Bool) (h : List Entry) → StandsFor D.state told self.old h → StandsFor D.state told self.new (Collect front result ∷ h) }
+        ensures kept { Lasts D.state self.old self.new }
+    {
+        self.count_turn();
+        match self.take_reply(front) {
+            Some(reply) => Collected::Reply(reply),
+            None => self.no_reply(),
+        }
+    }
+
+    /// Forgets the open asks of the connection, and answers how many there were; what waits for them stays.
+    /// Takes no memory.
+    pub fn leave(&mut self, conn: Conn) -> u32
+        requires { self.old.counts.turns < 2 ^ 63 }
+        ensures step { (told : Bool) (h : List Entry) → StandsFor D.state told self.old h → StandsFor D.state told self.new (Leave conn result ∷ h) }
+        ensures kept { Lasts D.state self.old self.new }
+    {
+        self.count_turn();
+        self.drop_asks(conn)
+    }
+
+    /// Stops the farm for good: asks are NotDone, claims Stopped. Drawings under way may still end, and what
+    /// waits stays. Takes no memory.
+    pub fn stop(&mut self)
+        requires { self.old.counts.turns < 2 ^ 63 }
+        ensures step { (told : Bool) (h : List Entry) → StandsFor D.state told self.old h → StandsFor D.state told self.new (Stop ∷ h) }
+        ensures kept { Lasts D.state self.old self.new }
+    {
+        self.count_turn();
+        self.note_stop();
+    }
+
+    /// The farm's counts. Takes no memory.
+    pub fn tally(&mut self) -> Tally
+        requires { self.old.counts.turns < 2 ^ 63 }
+        ensures step { (told : Bool) (h : List Entry) → StandsFor D.state told self.old h → StandsFor D.state told self.new (Counted result ∷ h) }
+        ensures kept { Lasts D.state self.old self.new }
+    {
+        self.count_turn();
+        self.counts()
+    }
+}
