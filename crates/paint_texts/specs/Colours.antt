@@ -1,7 +1,7 @@
 -- Colours of style texts, as CSS writes them and Mapnik reads them.
-use Rattle.std.specs.Prelude.{ℕ, ◌+◌, ◌-◌, ◌*◌, ◌==◌, ◌&&◌, Bool, List, [], ◌∷◌, take, drop, codes, nat_le, if◌then◌else◌, Option, Some, None, find, option_map, option_and_then}
+use Rattle.std.specs.Prelude.{◌≡◌, ◌≤◌, ◌⊎◌, ℕ, ◌+◌, ◌-◌, ◌*◌, ◌==◌, ◌&&◌, Bool, true, List, [], ◌∷◌, ◌++◌, length, take, drop, codes, nat_le, if◌then◌else◌, Option, Some, None, find, option_map, option_and_then}
 use Rattle.std.specs.Option.{option_or}
-use Rattle.std.specs.List.{prefix_len}
+use Rattle.std.specs.List.{Contains, list_all, prefix_len}
 use Rattle.std.specs.Str.{bytes_eq}
 use Rattle.plain_shapes.specs.declared.colour.Colour.{Colour}
 use Rattle.farm_base.specs.Digits.{is_digit}
@@ -28,6 +28,54 @@ abbrev pub hex : ℕ → Option ℕ
 hex c = if is_digit c then Some (c - 48) else
     if nat_le 97 c && nat_le c 102 then Some (c - 87) else
     if nat_le 65 c && nat_le c 70 then Some (c - 55) else None
+
+-- ---- the grammar
+
+-- two hexadecimal digits of a channel of this value
+abbrev pub IsChannel : ℕ → ℕ → ℕ → Type 0
+IsChannel high low n = (x : ℕ) × (y : ℕ) × (hex high ≡ Some x) × (hex low ≡ Some y) × (n ≡ 16 * x + y)
+
+-- a hash and three hexadecimal digits, each of them doubled
+abbrev pub IsShortHash : List ℕ → Colour → Type 0
+IsShortHash text c = (r : ℕ) × (g : ℕ) × (b : ℕ) × (text ≡ codes "#" ++ r ∷ g ∷ b ∷ []) × IsChannel r r c.r × IsChannel g g c.g × IsChannel b b c.b
+
+-- a hash and six hexadecimal digits
+abbrev pub IsLongHash : List ℕ → Colour → Type 0
+IsLongHash text c =
+    (r : ℕ) × (s : ℕ) × (g : ℕ) × (h : ℕ) × (b : ℕ) × (d : ℕ) × (text ≡ codes "#" ++ r ∷ s ∷ g ∷ h ∷ b ∷ d ∷ []) × IsChannel r s c.r × IsChannel g h c.g × IsChannel b d c.b
+
+-- the byte of a space
+abbrev pub is_space : ℕ → Bool
+is_space c = c == 32
+
+-- one to three digits of a number up to 255, with spaces round them
+pub record IsPart (text : List ℕ) (n : ℕ) : Type 0 where
+  pub before : List ℕ
+  pub digits : List ℕ
+  pub behind : List ℕ
+  pub spelled : text ≡ before ++ digits ++ behind
+  pub spaces_before : list_all is_space before ≡ true
+  pub are_digits : list_all is_digit digits ≡ true
+  pub spaces_behind : list_all is_space behind ≡ true
+  pub some : 1 ≤ length digits
+  pub few : length digits ≤ 3
+  pub value : n ≡ number digits
+  pub fits : n ≤ 255
+
+-- `rgb(`, three numbers with commas between them, and `)`
+abbrev pub IsMixed : List ℕ → Colour → Type 0
+IsMixed text c =
+    (r : List ℕ) × (g : List ℕ) × (b : List ℕ) × (text ≡ codes "rgb(" ++ r ++ codes "," ++ g ++ codes "," ++ b ++ codes ")") × IsPart r c.r × IsPart g c.g × IsPart b c.b
+
+-- one of the sixteen names
+abbrev pub IsNamed : List ℕ → Colour → Type 0
+IsNamed text c = Contains colour_names (text, c)
+
+-- a text of this colour
+abbrev pub IsColour : List ℕ → Colour → Type 0
+IsColour text c = IsShortHash text c ⊎ (IsLongHash text c ⊎ (IsMixed text c ⊎ IsNamed text c))
+
+-- ---- the colour of a text, as a function
 
 -- a channel by the values of its two hexadecimal digits
 abbrev pub two_digits : Option ℕ → Option ℕ → Option ℕ
@@ -56,10 +104,6 @@ behind sign (c ∷ rest) = if c == sign then Some rest else None
 -- the colour of a hash and the three or six digits behind it
 unfoldable pub hashed : List ℕ → Option Colour
 hashed text = option_and_then channels (behind 35 text)
-
--- the byte of a space
-abbrev pub is_space : ℕ → Bool
-is_space c = c == 32
 
 -- the text without the spaces at its front
 abbrev pub trimmed : List ℕ → List ℕ

@@ -1,7 +1,8 @@
 //! Colours.
-ghost use Rattle.std.specs.Prelude.{◌≡◌, ◌+◌, ◌*◌, ◌≤◌, true, length, take, option_map, IfSome};
+ghost use Rattle.std.specs.Prelude.{◌≡◌, ◌↔◌, ◌+◌, ◌*◌, ◌≤◌, true, length, take, option_map, IfSome, Some};
 ghost use Rattle.std.specs.List.{list_all, prefix_len};
 ghost use Rattle.farm_base.specs.Digits.{is_digit};
+ghost use Rattle.plain_shapes.specs.declared.colour.Colour.{Colour};
 ghost use Rattle.paint_texts.specs.Colours as spec;
 
 use crate::digits::{front_len, number};
@@ -11,8 +12,15 @@ use plain_shapes::Colour;
 /// case; `rgb(r,g,b)` with numbers from 0 to 255, spaces round the numbers ignored; or one of the
 /// sixteen names of HTML 4 in lower case. `None` exactly where the text is none of these. They are
 /// Mapnik's colour texts, without its further names and its alpha.
-#[tactic(auto, unfolding(crate::specs::Colours::colour_of))]
 pub fn colour(text: &str) -> Option<Colour>
+    ensures value { result ≡ spec.colour_of text.now }
+    ensures exact { (c : Colour) → (result ≡ Some c) ↔ spec.IsColour text.now c }
+{
+    read(text)
+}
+
+#[tactic(auto, unfolding(crate::specs::Colours::colour_of))]
+fn read(text: &str) -> Option<Colour>
     ensures { result ≡ spec.colour_of text.now }
 {
     let bytes = text.as_bytes();
