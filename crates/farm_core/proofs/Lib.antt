@@ -4,6 +4,7 @@ pub mod Flown
 pub mod Given
 pub mod Lasting
 pub mod Parts
+pub mod Renewing
 pub mod Replied
 pub mod Rooms
 pub mod Savable

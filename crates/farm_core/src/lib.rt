@@ -7,6 +7,7 @@ mod expiries;
 mod farm;
 mod fetches;
 mod finishes;
+mod renews;
 mod replies;
 mod saves;
 mod starts;

@@ -12,4 +12,6 @@ pub use crossing::{cross_job, cross_share, cross_taken};
 pub use jobs::Job;
 pub use serving::serve;
 pub use shares::{Setup, Share, make_shares};
-pub use taken::{Taken, drop_taken, is_overtaken, taken_of, touch_key, touch_map, touch_tile};
+pub use taken::{
+    Taken, drop_taken, is_overtaken, overtaken, taken_of, touch_key, touch_map, touch_tile,
+};

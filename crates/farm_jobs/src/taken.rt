@@ -62,7 +62,7 @@ pub fn drop_taken(taken: &mut Vec<Taken>, ticket: u64)
 }
 
 /// The drawing, which something touches where that is said.
-fn overtaken(one: Taken, meets: bool) -> Taken
+pub fn overtaken(one: Taken, meets: bool) -> Taken
     ensures { result ≡ record { ticket = one.ticket; key = one.key; version = one.version; touched = meets || one.touched } }
 {
     Taken {

@@ -1,0 +1,103 @@
+//! Renews: updates that expire what they reach.
+ghost use Rattle.std.specs.Prelude.{◌≡◌, ◌≢◌, ◌<◌, ◌^◌, Bool, List, ◌∷◌, All, length, map as map_list, slice_get, IfErr, IfOk, Err};
+ghost use Rattle.farm_base.specs.declared.faults.ApplyFault.{ApplyFault};
+ghost use Rattle.plain_data.specs.Data.{IsDataset, IsLayer, updated};
+ghost use Rattle.reach_box.specs.Boxes.{IsBox};
+ghost use Rattle.farm_history.specs.Entries.{Entry, Renew};
+ghost use Rattle.farm_history.specs.Lists.{Each};
+ghost use Rattle.farm_history.specs.Seen.{overtaken_by};
+ghost use Rattle.farm_plan.specs.Plans.{IsPlan};
+ghost use Rattle.farm_plan.specs.Drawings.{named, update_of};
+ghost use Rattle.farm_plan.specs.Spots.{IsKeyOf};
+ghost use Rattle.farm_reach.specs.Boxes.{AreBoxesOf, boxes_reach_map};
+ghost use Rattle.farm_stands.specs.Stands.{StandsFor};
+ghost use Rattle.farm_core.specs.Answers.{Lasts};
+ghost use Rattle.farm_core.specs.inner.Renews.{Names, Reaches, Renews};
+
+use crate::farm::Farm;
+use farm_base::{ApplyFault, NoMemory};
+use farm_jobs::{Setup, Taken, overtaken};
+use farm_plan::{Key, Past, Renewed};
+use farm_reach::{boxes_reach, named_boxes, soil_maps};
+use geo_model::Bounds;
+use std::alloc::Global;
+use tile_store::TileStore;
+
+/// Whether some of the boxes reaches the metatile, for the tiles of its map.
+fn is_reached(setup: &Setup, boxes: &[Bounds], key: Key) -> bool
+    requires plan { IsPlan setup.now }
+    requires key { IsKeyOf setup.now key }
+    ensures { result ≡ boxes_reach_map boxes.now (slice_get setup.now.maps key.map) key.meta }
+{
+    let size = setup.tile_size(key.map);
+    boxes_reach(boxes, size, key.meta)
+}
+
+/// Notes that the metatiles that some of the boxes reaches were touched.
+fn touch_reached(taken: &mut [Taken], setup: &Setup, boxes: &[Bounds])
+    requires plan { IsPlan setup.now }
+    requires keys { Each (λ t. IsKeyOf setup.now t.key) taken.old }
+    ensures { taken.new ≡ map_list (overtaken_by (λ k. boxes_reach_map boxes.now (slice_get setup.now.maps k.map) k.meta)) taken.old }
+{
+    for one in taken.iter_mut() {
+        *one = overtaken(*one, is_reached(setup, boxes, one.key));
+    }
+}
+
+impl<D> Farm<D> {
+    /// The boxes of the features that the update of the number names.
+    fn named(&self, alloc: Global, number: u32) -> Result<Vec<Bounds>, NoMemory>
+        requires { number < length self.now.plan.updates }
+        ensures { IfOk result (λ boxes. Names self.now number boxes.items) }
+    {
+        self.own.setup().law_dataset();
+        let update = self.own.setup().update(number).unwrap();
+        named_boxes(alloc, self.own.snapshot(), update)
+    }
+
+    /// Touches what the boxes reach, and counts what was clean of it.
+    fn soil_reached(&mut self, boxes: &[Bounds]) -> u64
+        requires { Each IsBox boxes.now }
+        ensures { Reaches boxes.now self.old self.new result }
+    {
+        touch_reached(self.taken.as_mut_slice(), self.own.setup(), boxes);
+        soil_maps(&mut self.marks, self.own.setup().maps(), boxes)
+    }
+
+    /// Applies the update of the number, notes it as a renew, and touches what it reaches; tells how many
+    /// metatiles of that were clean. After a refusal all is as before.
+    pub(crate) fn renew_data(&mut self, alloc: Global, number: u32) -> Result<u64, ApplyFault>
+        requires known { number < length self.old.plan.updates }
+        requires more { self.old.counts.version < self.old.counts.turns }
+        ensures done { IfOk result (Renews self.old self.new number) }
+        ensures refused { IfErr result (λ e. e ≢ ApplyFault.NoMemory → updated (update_of self.old.plan number) self.old.data_now ≡ Err e) }
+        ensures same { IfErr result (λ e. self.new ≡ self.old) }
+    {
+        let Ok(boxes) = self.named(alloc, number) else {
+            return Err(ApplyFault::NoMemory);
+        };
+        self.advance(alloc, number, Past::Renew(number))?;
+        Ok(self.soil_reached(boxes.as_slice()))
+    }
+}
+
+impl<D: TileStore> Farm<D> {
+    /// Applies the update of the number as `update` does, and expires every metatile that a feature reaches
+    /// which the update names: an old one whose id it removes or puts, or one that it puts. Version tells the
+    /// new version, and how many of those metatiles were clean before. NoUpdate and Refused come as in
+    /// `update`, and then nothing has changed.
+    pub fn renew(&mut self, alloc: Global, number: u32) -> Renewed
+        requires { self.old.counts.turns < 2 ^ 63 }
+        ensures step { (told : Bool) (h : List Entry) → StandsFor D.state told self.old h → StandsFor D.state told self.new (Renew number result ∷ h) }
+        ensures kept { Lasts D.state self.old self.new }
+    {
+        self.count_turn();
+        if !self.has_update(number) {
+            return Renewed::NoUpdate;
+        }
+        match self.renew_data(alloc, number) {
+            Ok(count) => Renewed::Version(self.version(), count),
+            Err(fault) => Renewed::Refused(fault),
+        }
+    }
+}
