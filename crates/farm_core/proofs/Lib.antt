@@ -8,6 +8,7 @@ pub mod Renewing
 pub mod Replied
 pub mod Rooms
 pub mod Savable
+pub mod Sendable
 pub mod Standing
 pub mod Starting
 pub mod Told

@@ -3,6 +3,7 @@
 
 mod asks;
 mod claims;
+mod crossing;
 mod expiries;
 mod farm;
 mod fetches;
@@ -14,6 +15,7 @@ mod starts;
 mod updates;
 
 pub use claims::Claimed;
+pub use crossing::cross_farm;
 pub use farm::Farm;
 pub use farm_jobs::Job;
 pub use finishes::Drawn;
