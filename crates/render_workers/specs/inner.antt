@@ -1,0 +1,2 @@
+-- Words that serve a worker's single rounds.
+pub mod Nexts
