@@ -1,0 +1,5 @@
+use Rattle.farm_shared.proofs.Given.{claims_given}
+use Rattle.farm_shared.proofs.shared.SharedFarm.claim.Goals as goal
+
+pub returns-clause-job : goal.returns-clause-job
+returns-clause-job g c = rw (← c.self.view_is) (claims_given g.D.TileStore.state c.self.inside.cell _ c.seat.inside.seat c.turn.new.seat c.turn.result c.turn.ensures.same.0 c.turn.ensures.turn)

@@ -1,0 +1,2 @@
+-- Words that serve the calls under the lock alone.
+pub mod Turns

@@ -1,0 +1,25 @@
+//! Who is to be woken when something happened.
+use crossbeam_utils::sync::Unparker;
+use farm_base::{Bell, Bells};
+
+/// The sleeping workers and the three fronts. It is made of references alone, so every thread may have one of
+/// its own.
+#[derive(Clone, Copy)]
+pub struct Alarms<'a, B> {
+    /// Wakes the workers.
+    pub workers: &'a [Unparker],
+    /// Wakes the fronts.
+    pub bells: &'a Bells<B>,
+}
+
+impl<'a, B: Bell> Alarms<'a, B> {
+    /// Wakes all. It promises nothing: who is woken looks for work whatever woke it. Takes no memory.
+    pub fn ring_all(&self) {
+        for worker in self.workers {
+            worker.unpark();
+        }
+        self.bells.renderd.ring();
+        self.bells.tiles.ring();
+        self.bells.control.ring();
+    }
+}

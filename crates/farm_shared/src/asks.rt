@@ -1,0 +1,138 @@
+//! What fronts ask: asks, replies and the leaving of connections.
+ghost use Rattle.std.specs.Prelude.{◌≡◌, ◌+◌, IfOk, MatchResult};
+ghost use Rattle.farm_history.specs.Entries.{Ask, Collect, Leave};
+ghost use Rattle.farm_shared.specs.Shared.{Adds, OwnReply};
+ghost use Rattle.turn_cell.specs.Held.{IsSeatOf, Knows, SameSeat, worn_out};
+
+use crate::shared::{Seat, SharedFarm};
+use crate::turned::Turned;
+use farm_plan::{AskAnswer, Cmd, Collected, Conn, Spot};
+use std::sync::Wait;
+use tile_store::TileStore;
+use turn_cell::{Call, Worn};
+
+/// An ask, as a turn.
+#[derive(Drop)]
+struct AskTurn {
+    conn: Conn,
+    cmd: Cmd,
+    spot: Spot,
+}
+
+impl<D: TileStore> Call<Turned<D>> for AskTurn {
+    ghost use Rattle.std.specs.Prelude.{◌≡◌, ◌+◌, ⊤};
+    ghost use Rattle.farm_history.specs.Entries.{Ask};
+
+    type Answer = AskAnswer;
+
+    ghost entry = { λ c answer. Ask c.conn c.cmd c.spot answer };
+
+    ghost need = { λ c n _ _. n ≡ c.conn.front + 1 };
+
+    ghost promise = { λ _ _ _ _. ⊤ };
+
+    fn run(self, value: &mut Turned<D>) -> AskAnswer {
+        value.farm.ask(self.conn, self.cmd, self.spot)
+    }
+}
+
+/// A Collect, as a turn.
+#[derive(Drop)]
+struct CollectTurn {
+    front: u32,
+}
+
+impl<D: TileStore> Call<Turned<D>> for CollectTurn {
+    ghost use Rattle.std.specs.Prelude.{◌≡◌, ◌+◌};
+    ghost use Rattle.farm_history.specs.Entries.{Collect};
+    ghost use Rattle.farm_shared.specs.inner.Turns.{GivesReply};
+
+    type Answer = Collected;
+
+    ghost entry = { λ c answer. Collect c.front answer };
+
+    ghost need = { λ c n _ _. n ≡ c.front + 1 };
+
+    ghost promise = { λ c answer log _. GivesReply c.front answer log };
+
+    fn run(self, value: &mut Turned<D>) -> Collected {
+        value.farm.collect(self.front)
+    }
+}
+
+/// A Leave, as a turn.
+#[derive(Drop)]
+struct LeaveTurn {
+    conn: Conn,
+}
+
+impl<D: TileStore> Call<Turned<D>> for LeaveTurn {
+    ghost use Rattle.std.specs.Prelude.{◌≡◌, ◌+◌, ⊤};
+    ghost use Rattle.farm_history.specs.Entries.{Leave};
+
+    type Answer = u32;
+
+    ghost entry = { λ c answer. Leave c.conn answer };
+
+    ghost need = { λ c n _ _. n ≡ c.conn.front + 1 };
+
+    ghost promise = { λ _ _ _ _. ⊤ };
+
+    fn run(self, value: &mut Turned<D>) -> u32 {
+        value.farm.leave(self.conn)
+    }
+}
+
+impl<D: TileStore> SharedFarm<D> {
+    /// A connection asks for the metatile of a spot, as `Farm::ask`. The seat is that of the connection's front: its
+    /// number is one more than the front's. Takes no memory.
+    pub fn ask<R: Wait>(
+        &self,
+        rt: &R,
+        seat: &mut Seat<D>,
+        conn: Conn,
+        cmd: Cmd,
+        spot: Spot,
+    ) -> Result<AskAnswer, Worn>
+        requires seat { IsSeatOf self.now seat.old }
+        requires front { seat.old.number ≡ conn.front + 1 }
+        ensures seat { IsSeatOf self.now seat.new }
+        ensures same { SameSeat seat.old seat.new }
+        ensures known { Knows seat.new }
+        ensures turn { MatchResult result (λ answer. Adds (Ask conn cmd spot answer) seat.old seat.new) (λ _. seat.new ≡ worn_out seat.old) }
+    {
+        self.cell
+            .turn(rt, &mut seat.seat, AskTurn { conn, cmd, spot })
+    }
+
+    /// A front takes the first of its replies, as `Farm::collect`, through its own seat. A reply is that of an ask
+    /// among the seat's own entries. Takes no memory.
+    pub fn collect<R: Wait>(
+        &self,
+        rt: &R,
+        seat: &mut Seat<D>,
+        front: u32,
+    ) -> Result<Collected, Worn>
+        requires seat { IsSeatOf self.now seat.old }
+        requires front { seat.old.number ≡ front + 1 }
+        ensures seat { IsSeatOf self.now seat.new }
+        ensures same { SameSeat seat.old seat.new }
+        ensures known { Knows seat.new }
+        ensures turn { MatchResult result (λ answer. Adds (Collect front answer) seat.old seat.new) (λ _. seat.new ≡ worn_out seat.old) }
+        ensures own { IfOk result (λ answer. OwnReply front seat.old.mine answer) }
+    {
+        self.cell.turn(rt, &mut seat.seat, CollectTurn { front })
+    }
+
+    /// Forgets the open asks of a connection, as `Farm::leave`, through the seat of its front. Takes no memory.
+    pub fn leave<R: Wait>(&self, rt: &R, seat: &mut Seat<D>, conn: Conn) -> Result<u32, Worn>
+        requires seat { IsSeatOf self.now seat.old }
+        requires front { seat.old.number ≡ conn.front + 1 }
+        ensures seat { IsSeatOf self.now seat.new }
+        ensures same { SameSeat seat.old seat.new }
+        ensures known { Knows seat.new }
+        ensures turn { MatchResult result (λ answer. Adds (Leave conn answer) seat.old seat.new) (λ _. seat.new ≡ worn_out seat.old) }
+    {
+        self.cell.turn(rt, &mut seat.seat, LeaveTurn { conn })
+    }
+}

@@ -1,0 +1,173 @@
+//! The shared farm and its seats.
+ghost use Rattle.std.specs.Prelude.{◌≡◌, ◌<◌, ◌^◌, Bool, true, [], length, map, position, IfErr, IfOk, IsOkAnd};
+ghost use Rattle.std.specs.Str.{bytes_eq};
+ghost use Rattle.farm_stands.specs.Stands.{StandsFor};
+ghost use Rattle.farm_shared.specs.inner.Turns.{AreNames};
+ghost use Rattle.farm_core.specs.Begins.{origin};
+ghost use Rattle.farm_shared.specs.Shared.{IsClosed, MayTell, lasting_of};
+ghost use Rattle.turn_cell.specs.Held.{IsSeatOf, IsWhole, Knows, first_of, joining, split_left, split_right};
+ghost use Rattle.turn_cell.specs.Turns.{StartsWith};
+
+use crate::closed::Closed;
+use crate::turned::Turned;
+use farm_base::{NoMemory, Text};
+use farm_core::Farm;
+use std::alloc::Global;
+use std::marker::Model;
+use std::snapshot::Snapshot;
+use tile_store::TileStore;
+use turn_cell::TurnCell;
+
+/// How many turns a shared farm has at most.
+const LIMIT: u64 = 1 << 62;
+
+/// The right to take turns of one shared farm, and what is known of its history. It has no bytes.
+#[derive(Drop)]
+pub struct Seat<D: TileStore> {
+    pub(crate) seat: turn_cell::Seat<Turned<D>>,
+}
+
+impl<D: TileStore> Model for Seat<D> {
+    ghost use Rattle.turn_cell.specs.Held.{Held};
+    ghost use Rattle.farm_history.specs.Entries.{Entry};
+    ghost use Rattle.farm_shared.specs.declared.turned.Turned.{Turned};
+    ghost use Rattle.plain_filters.specs.inner.FilterCodes.{filter_code};
+    ghost use Rattle.std.specs.Coded.{codes};
+
+    ghost Value = { Held (Turned D) Entry };
+
+    ghost coded = { Prim.hlevel (codes, filter_code) };
+
+    ghost view = { λ s. s.seat };
+}
+
+/// The names of a farm's maps, by their places.
+#[derive(Drop)]
+pub(crate) struct Names {
+    texts: Vec<Text>,
+}
+
+/// A farm that threads share by reference. Each call is one turn, through a seat of this farm: the call's event
+/// on the farm, with the farm's answer. `Worn` comes only where all of `2^62` turns were drawn, and then the
+/// call was not run.
+#[derive(Drop)]
+pub struct SharedFarm<D: TileStore> {
+    pub(crate) cell: TurnCell<Turned<D>>,
+    names: Names,
+}
+
+impl<D: TileStore> Model for SharedFarm<D> {
+    ghost use Rattle.turn_cell.specs.Held.{Made};
+    ghost use Rattle.farm_shared.specs.inner.Turns.{AreNames};
+    ghost use Rattle.farm_shared.specs.declared.turned.Turned.{Turned};
+    ghost use Rattle.plain_filters.specs.inner.FilterCodes.{filter_code};
+    ghost use Rattle.std.specs.Coded.{codes};
+
+    ghost Value = { Made (Turned D) };
+
+    ghost coded = { Prim.hlevel (codes, filter_code) };
+
+    ghost view = { λ f. f.cell };
+
+    ghost invariant = { λ f. AreNames f.cell.about.first.value.farm.plan.maps f.names.texts.items };
+}
+
+/// The names of the farm's maps, in order.
+fn names_of<D: TileStore>(alloc: Global, farm: &Farm<D>) -> Result<Vec<Text>, NoMemory>
+    ensures { IfOk result (λ texts. AreNames farm.now.plan.maps texts.items) }
+{
+    let mut names = Vec::new(alloc);
+    for place in 0..farm.maps() {
+        names.push(Text::of(alloc, farm.map_name(place))?)?;
+    }
+    Ok(names)
+}
+
+/// The place of the name.
+fn place_in(names: &[Text], name: &[u8]) -> Option<usize>
+    ensures { result ≡ position (λ n. bytes_eq n name.now) names.now }
+{
+    names.iter().position(|n| n.as_str().as_bytes() == name)
+}
+
+impl<D: TileStore> SharedFarm<D> {
+    /// Shares a farm, and gives its first seat, which has the number 0. Where memory is wanting the farm comes
+    /// back.
+    ///
+    /// The farm is as it was started or resumed, but for what was put beside the metatiles: it stands for
+    /// nothing, or for the replay of what it was resumed from.
+    pub fn new(alloc: Global, farm: Farm<D>) -> Result<(SharedFarm<D>, Seat<D>), Farm<D>>
+        requires stands { (told : Bool) → MayTell D.state (lasting_of D.state farm) told
+            → StandsFor D.state told farm (origin farm.plan farm.saved) }
+        requires short { length (origin farm.plan farm.saved) < 2 ^ 62 }
+        ensures farm { IfOk result (λ made. (made.0.about.limit ≡ 2 ^ 62) × (made.0.about.first.value.farm ≡ farm)) }
+        ensures seat { IfOk result (λ made. IsSeatOf made.0 made.1 × (made.1 ≡ first_of made.0)) }
+        ensures err { IfErr result (λ back. back ≡ farm) }
+    {
+        let Ok(texts) = names_of(alloc, &farm) else {
+            return Err(farm);
+        };
+        match TurnCell::new(alloc, Turned { farm }, LIMIT) {
+            Ok((cell, seat)) => Ok((
+                SharedFarm {
+                    cell,
+                    names: Names { texts },
+                },
+                Seat { seat },
+            )),
+            Err(Turned { farm }) => Err(farm),
+        }
+    }
+
+    /// The place of the map of the name; nothing exactly where the plan has none of that name. It is no turn,
+    /// and takes no memory.
+    pub fn map_of(&self, name: &[u8]) -> Option<u32>
+        ensures { result ≡ position (λ m. bytes_eq m.name name.now) self.now.about.first.value.farm.plan.maps }
+    {
+        let place = place_in(self.names.texts.as_slice(), name)?;
+        Some(place as u32)
+    }
+
+    /// A new seat, split from the first. Its number is the number of splits, this one included. No memory is
+    /// taken, so it is always given.
+    pub fn split(&self, first: &mut Seat<D>) -> Result<Seat<D>, NoMemory>
+        requires seat { IsSeatOf self.now first.old }
+        requires first { first.old.first ≡ true }
+        ensures first { first.new ≡ split_left first.old }
+        ensures new { IsOkAnd result (λ seat. seat ≡ split_right first.old) }
+        ensures known { Knows first.new × IfOk result Knows }
+    {
+        let seat = self.cell.split(&mut first.seat)?;
+        Ok(Seat { seat })
+    }
+
+    /// Ends a seat, which is joined into the first.
+    pub fn join(&self, into: &mut Seat<D>, ended: Seat<D>)
+        requires into { IsSeatOf self.now into.old }
+        requires first { into.old.first ≡ true }
+        requires ended { IsSeatOf self.now ended }
+        ensures joined { into.new ≡ joining into.old ended }
+        ensures seen { StartsWith into.new.seen into.old.seen
+            × StartsWith into.new.seen ended.seen }
+        ensures known { Knows into.new }
+    {
+        let Seat { seat } = ended;
+        self.cell.join(&mut into.seat, seat);
+    }
+
+    /// Ends the sharing, by the first seat, into which every other seat was joined. What is left is the farm,
+    /// which stands for its whole history.
+    pub fn close(self, seat: Seat<D>) -> Closed<D>
+        requires seat { IsSeatOf self seat }
+        requires first { IsWhole seat }
+        ensures history { result.1 ≡ seat.seen }
+        ensures farm { IsClosed D.state self.about.limit self.about.first.value.farm seat result.0 }
+        ensures known { Knows seat }
+    {
+        let last = Snapshot::of(&seat);
+        let SharedFarm { cell, names: _ } = self;
+        let Seat { seat } = seat;
+        let Turned { farm } = cell.close(seat).into_value();
+        Closed { farm, last }
+    }
+}
