@@ -10,6 +10,7 @@ use Rattle.farm_history.specs.Entries.{Entry, Claim}
 use Rattle.farm_history.specs.Plans.{Waits, next}
 use Rattle.farm_history.specs.Past.{is_stopped, flights, jobs, version, waiting}
 use Rattle.farm_history.specs.Rules.{Fits, job_of}
+use Rattle.farm_history.proofs.Flying.{ends_ticket}
 use Rattle.farm_plan.specs.Plans.{MapPlan, FarmPlan}
 use Rattle.farm_plan.specs.Drawings.{plan_of, styled_as, meta_in}
 use Rattle.meta_container.specs.Container.{container_of}
@@ -17,7 +18,7 @@ use Rattle.plain_drawing.specs.Metatiles.{tiles_of}
 use Rattle.farm_stands.specs.Seen.{FarmSeen}
 use Rattle.farm_stands.specs.Jobs.{JobSeen, IsValidJob, Carries, IsFlight, job_key, job_style, job_text}
 use Rattle.farm_stands.specs.Stands.{StandsFor}
-use Rattle.farm_stands.proofs.Claiming.{job_flies}
+use Rattle.farm_stands.proofs.Claiming.{job_flies, job_still_flies}
 
 ticket_by : (b c : Bool) (o : Option Waits) (n v t w : ℕ) (k : Key) → ClaimAnswer.Job t k w ≡ cond b ClaimAnswer.Stopped (cond c ClaimAnswer.Crowded (job_of o n v)) → t ≡ n
 ticket_by true c o n v t w k e = cc
@@ -34,6 +35,10 @@ claimed_flies state old new h worker job a b same carries =
   where
     ticket : job.ticket ≡ jobs h
     ticket = ticket_by (is_stopped h) (length (flights h) == (plan_of new.plan).workers) (next (waiting (plan_of new.plan) h)) (jobs h) (version h) job.ticket job.version (job_key job) b.legal.0
+
+-- and stays one over an event that does not end it
+pub still : (old new : FarmPlan) (e : Entry) (g : List Entry) (job : JobSeen) → new ≡ old → ends_ticket e job.ticket ≡ false → IsFlight old g job → IsFlight new (e ∷ g) job
+still old new e g job same other f = subst (λ (p : FarmPlan). IsFlight p (e ∷ g) job) (sym same) (job_still_flies old e g job other f)
 
 -- the container of its tiles is that of the job's text
 pub drawn_text : (job : JobSeen) (style : MapStyle) → IsValidJob job → Some style ≡ job_style job → container_of job.meta (tiles_of style job.tile job.meta job.data_now) ≡ job_text job

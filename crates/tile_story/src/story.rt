@@ -169,6 +169,25 @@ fn draw<D: TileStore>(alloc: Global, farm: &mut Farm<D>) -> Option<Finished>
     Some(farm.finish(alloc, job, drawn))
 }
 
+// Draws what waits first, which is expired meanwhile; a newcomer does not join that drawing.
+fn draw_late<D: TileStore>(rt: &impl Abort, alloc: Global, farm: &mut Farm<D>) -> Option<Finished>
+    requires runs { IsRunning D.state farm.old }
+    requires few { farm.old.counts.turns < 100 }
+    ensures runs { IsRunning D.state farm.new }
+    ensures turns { farm.new.counts.turns ≤ farm.old.counts.turns + 4 }
+{
+    let Claimed::Job(job) = farm.claim(0) else {
+        return None;
+    };
+    let touched = farm.expire(TILE);
+    let again = farm.ask(CONN, Cmd::Render, SPOT);
+    let drawn = drawn(alloc, &job);
+    let finished = farm.finish(alloc, job, drawn);
+    assert_eq!(rt; touched, 0);
+    assert_eq!(rt; again, AskAnswer::NotDone(Why::Overtaken));
+    Some(finished)
+}
+
 fn is_clean(fetched: &Fetched) -> bool {
     match fetched {
         Fetched::Clean(_, _) => true,
@@ -219,16 +238,73 @@ fn is_expired<D: TileStore>(rt: &impl Abort, alloc: Global, farm: &mut Farm<D>)
     assert_eq!(rt; ask(farm, Cmd::Prio), AskAnswer::Lifted(1));
 }
 
-#[test]
-fn one_tile(rt: HostRuntime) -> Result<(), Fail> {
-    let alloc = rt.alloc();
+// Expired while it was drawn, it is dirty and waits; a request lifts it.
+fn is_overtaken<D: TileStore>(rt: &impl Abort, alloc: Global, farm: &mut Farm<D>)
+    requires runs { IsRunning D.state farm.old }
+    requires few { farm.old.counts.turns ≤ 40 }
+    ensures runs { IsRunning D.state farm.new }
+{
+    assert_eq!(rt; ask(farm, Cmd::Render), AskAnswer::Queued(0));
+    assert_eq!(rt; draw_late(rt, alloc, farm), Some(Finished::Stored(false)));
+    assert_eq!(rt; look(farm), Looked::Dirty(0));
+    assert_eq!(rt; ask(farm, Cmd::Low), AskAnswer::Lifted(1));
+}
+
+// Its put failed: nothing of it is shown, and its waiter is told.
+fn is_lost<D: TileStore>(rt: &impl Abort, alloc: Global, farm: &mut Farm<D>)
+    requires runs { IsRunning D.state farm.old }
+    requires few { farm.old.counts.turns ≤ 40 }
+    ensures runs { IsRunning D.state farm.new }
+{
+    assert_eq!(rt; ask(farm, Cmd::Render), AskAnswer::Queued(0));
+    assert_eq!(rt; draw(alloc, farm), Some(Finished::PutFailed));
+    assert_eq!(rt; look(farm), Looked::Missing);
+    let reply = Reply {
+        conn: CONN,
+        ask: 0,
+        outcome: Outcome::NotDone,
+    };
+    assert_eq!(rt; collect(farm), Collected::Reply(reply));
+}
+
+// The farm of the plan, over the store.
+fn over<D: TileStore + Drop>(alloc: Global, store: D) -> Result<Farm<D>, Fail>
+    ensures runs { IfOk result (IsRunning D.state) }
+    ensures turns { IfOk result (λ f. f.counts.turns ≡ 0) }
+{
     let Some(plan) = plan(alloc)? else {
         return Err(Fail::from("a short name"));
     };
+    match begin(alloc, plan, store) {
+        Ok(farm) => Ok(farm),
+        Err(_) => Err(Fail::from("no memory")),
+    }
+}
+
+#[test]
+fn one_overtaken_drawing(rt: HostRuntime) -> Result<(), Fail> {
+    let alloc = rt.alloc();
     let store = MemStore::new(alloc, Vec::new(alloc), Vec::new(alloc), Vec::new(alloc))?;
-    let Ok(mut farm) = begin(alloc, plan, store) else {
-        return Err(Fail::from("no memory"));
-    };
+    let mut farm = over(alloc, store)?;
+    is_overtaken(&rt, alloc, &mut farm);
+    Ok(())
+}
+
+#[test]
+fn one_failed_put(rt: HostRuntime) -> Result<(), Fail> {
+    let alloc = rt.alloc();
+    let failing = vec![in alloc; 0u64]?;
+    let store = MemStore::new(alloc, Vec::new(alloc), failing, Vec::new(alloc))?;
+    let mut farm = over(alloc, store)?;
+    is_lost(&rt, alloc, &mut farm);
+    Ok(())
+}
+
+#[test]
+fn one_tile(rt: HostRuntime) -> Result<(), Fail> {
+    let alloc = rt.alloc();
+    let store = MemStore::new(alloc, Vec::new(alloc), Vec::new(alloc), Vec::new(alloc))?;
+    let mut farm = over(alloc, store)?;
     is_drawn(&rt, alloc, &mut farm);
     is_expired(&rt, alloc, &mut farm);
     Ok(())
