@@ -1,5 +1,6 @@
 #!/usr/bin/env python3
-"""What texts of styles, data, updates and filters are read as, written a second time, from the formats alone.
+"""What texts of styles, data, updates, filters, configurations, scripts and expiry lists are read as, written a second
+time, from the formats alone.
 
 It is no part of the product. The wanted output of the crate `text_cases` is made by it, from the repository's top by
 
@@ -19,6 +20,7 @@ Each text gives one line: its first fault, or what was read, object by object. I
 """
 
 import os
+import re
 import sys
 
 import tilefarm
@@ -234,6 +236,174 @@ def filter_value_told(data, old):
     return [value_told(value), "holds" if tilefarm.holds(value) else "does not hold"]
 
 
+# --- Configurations ---------------------------------------------------------------------------------------------
+
+
+def whole_within(value, least, most, key):
+    """The whole number; one outside its range is Range of the key, anything else Shape."""
+    if not isinstance(value, int) or isinstance(value, bool):
+        raise Refused("config 2 at %d" % key)
+    if not least <= value <= most:
+        raise Refused("config 3 at %d" % key)
+    return value
+
+
+def string_at(value, key):
+    if not isinstance(value, str):
+        raise Refused("config 2 at %d" % key)
+    return value
+
+
+def keys_within(value, names, key):
+    if not isinstance(value, dict) or set(value) - set(names):
+        raise Refused("config 2 at %d" % key)
+
+
+def listed(value, key):
+    """The items of a list, of which the one past 256 is Range."""
+    if not isinstance(value, list):
+        raise Refused("config 2 at %d" % key)
+    for place, item in enumerate(value):
+        if place == 256:
+            raise Refused("config 3 at %d" % key)
+        yield item
+
+
+def map_of(entry, before):
+    if len(before) == 16:
+        raise Refused("config 3 at 1")
+    keys_within(entry, ("name", "style", "tile", "maxzoom"), 1)
+    name = string_at(entry.get("name"), 1)
+    if not re.fullmatch("[a-z0-9_-]{1,40}", name):
+        raise Refused("config 2 at 1")
+    style = string_at(entry.get("style"), 1)
+    tile = whole_within(entry.get("tile"), 16, 512, 1)
+    if tile not in (16, 32, 64, 128, 256, 512):
+        raise Refused("config 3 at 1")
+    zoom = whole_within(entry.get("maxzoom", 18), 0, 18, 1)
+    if name in [m[0] for m in before]:
+        raise Refused("config 4 at %d" % len(before))
+    return name, tile, zoom, style
+
+
+def is_address(text):
+    number = lambda digits, most: re.fullmatch("0|[1-9][0-9]{0,4}", digits) and int(digits) <= most
+    if text.startswith("unix:"):
+        return 1 <= len(text[5:].encode()) <= 100
+    parts = re.fullmatch(r"tcp:([0-9]+)\.([0-9]+)\.([0-9]+)\.([0-9]+):([0-9]+)", text, re.ASCII)
+    return parts and all(number(part, 255) for part in parts.groups()[:4]) and number(parts[5], 65535)
+
+
+def config_told(data):
+    try:
+        value = tilefarm.json_of(data)
+    except ValueError:
+        raise Refused("config 1")
+    lists, addresses = ("updates", "expiries"), ("renderd", "tiles", "control")
+    keys_within(value, ("maps", "data", "workers", "limits", "restyles", "resume") + lists + addresses, 0)
+    if not isinstance(value.get("maps"), list):
+        raise Refused("config 2 at 1")
+    maps = []
+    for entry in value["maps"]:
+        maps.append(map_of(entry, maps))
+    if not maps:
+        raise Refused("config 3 at 1")
+    files = ["data " + string_at(value.get("data"), 2)]
+    for key, (name, kind) in enumerate(zip(lists, ("update ", "expiry ")), 3):
+        files += [kind + string_at(file, key) for file in listed(value.get(name, []), key)]
+    workers = whole_within(value.get("workers", 2), 1, 16, 5)
+    queues = ("prio", 32), ("request", 32), ("low", 32), ("dirty", 1000), ("bulk", 32)
+    keys_within(value.get("limits", {}), [name for name, _ in queues], 6)
+    limits = [whole_within(value.get("limits", {}).get(name, most), 1, most, 6) for name, most in queues]
+    for key, name in enumerate(addresses, 7):
+        if name in value:
+            if not is_address(string_at(value[name], key)):
+                raise Refused("config 2 at %d" % key)
+            files.append("%s %s" % (name, value[name]))
+    names = [m[0] for m in maps]
+    for entry in listed(value.get("restyles", []), 10):
+        keys_within(entry, ("map", "style"), 10)
+        if string_at(entry.get("map"), 10) not in names:
+            raise Refused("config 2 at 10")
+        files.append("restyle %d by %s" % (names.index(entry["map"]), string_at(entry.get("style"), 10)))
+    resume = value.get("resume", False)
+    if not isinstance(resume, bool):
+        raise Refused("config 2 at 11")
+    told = "workers %d limits %s resume %s" % (workers, " ".join(map(str, limits)), str(resume).lower())
+    return [told] + ["map %s %d to %d in %s" % m for m in maps] + files
+
+
+# --- Scripts and expiry lists -----------------------------------------------------------------------------------
+
+
+def lines_of(data):
+    """The lines of a text, of which a table writes newlines as `;` and carriage returns as `~`."""
+    parts = data.replace(b";", b"\n").replace(b"~", b"\r").split(b"\n")
+    last = [parts[-1]] if parts[-1] else []
+    return [part[:-1] if part.endswith(b"\r") else part for part in parts[:-1]] + last
+
+
+def number(word, most=2**32 - 1):
+    if not re.fullmatch("0|[1-9][0-9]*", word, re.ASCII) or int(word) > most:
+        raise ValueError(word)
+    return int(word)
+
+
+def place(words):
+    if len(words) != 4 or not words[0]:
+        raise ValueError(words)
+    return "%s %d %d %d" % ((words[0],) + tuple(number(word) for word in words[1:]))
+
+
+def script_line(words):
+    name, words = words[0], words[1:]
+    if name == "ask" and len(words) == 6 and words[1] in ("render", "prio", "low", "bulk", "dirty"):
+        return "%d asks %s %s" % (number(words[0]), words[1], place(words[2:]))
+    if name in ("fetch", "look"):
+        return ("fetched " if name == "fetch" else "looked at ") + place(words)
+    if name == "expire" and len(words) == 3:
+        return "expired %d %d %d" % tuple(number(word) for word in words)
+    told = {"claim": "%d claims", "collect": "%d collects", "leave": "%d is left"}
+    told.update({"update": "update %d", "restyle": "restyle %d", "renew": "renew %d"})
+    if name in told and len(words) == 1:
+        return told[name] % number(words[0])
+    if name in ("finish", "cut") and len(words) == 1:
+        return "%d is %s" % (number(words[0], 2**64 - 1), {"finish": "finished", "cut": "cut"}[name])
+    if name in ("tally", "stop") and not words:
+        return name
+    raise ValueError(name)
+
+
+def each_line(data, kind, is_skipped, read):
+    made = []
+    for at, line in enumerate(lines_of(data), 1):
+        try:
+            if at > MANY:
+                raise ValueError(at)
+            if not is_skipped(line):
+                made.append(read(line.decode("utf-8")))
+        except ValueError:
+            raise Refused("%s 1 at line %d" % (kind, at))
+    return made
+
+
+def script_told(data):
+    made = each_line(data, "script", lambda line: line[:1] in (b"", b"#"), lambda line: script_line(line.split(" ")))
+    return ["lines %d" % len(made)] + made
+
+
+def tile_told(line):
+    z, x, y = (number(word) for word in line.split("/"))
+    if z > 18 or x >= 2**z or y >= 2**z:
+        raise ValueError(line)
+    return "tile %d %d %d" % (z, x, y)
+
+
+def list_told(data):
+    made = each_line(data, "list", lambda line: not line, tile_told)
+    return ["tiles %d" % len(made)] + made
+
+
 # --- Cases ------------------------------------------------------------------------------------------------------
 
 
@@ -241,6 +411,7 @@ def told(kind, data, old):
     """What a text is read as, as lines; one line where it is refused."""
     plain = {"style": style_told, "data": data_told, "update": update_told}
     plain.update({"filter": filter_told, "written": written_told, "again": again_told})
+    plain.update({"config": config_told, "script": script_told, "list": list_told})
     try:
         if kind in plain:
             return plain[kind](data)

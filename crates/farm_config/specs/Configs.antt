@@ -59,9 +59,9 @@ map_has name maps = list_any (λ m. bytes_eq m.name name) maps
 unfoldable pub map_place : List ℕ → List MapEntry → Option ℕ
 map_place name maps = position (λ m. bytes_eq m.name name) maps
 
--- no earlier map has the name
-abbrev pub map_apart : List MapEntry → MapEntry → Bool
-map_apart before m = not (map_has m.name before)
+-- a map keeps its ranges, and no earlier one has its name
+abbrev pub map_fits : List MapEntry → MapEntry → Bool
+map_fits before m = is_map_name m.name && is_tile_size m.tile && nat_le m.max_zoom most_zoom && not (map_has m.name before)
 
 -- the restyle's map is one of so many
 abbrev pub restyle_known : ℕ → RestyleEntry → Bool
@@ -73,12 +73,12 @@ pub record IsMapEntry (name : List ℕ) (tile max_zoom : ℕ) : Type 0 where
   pub tile_fits : IsTrue (is_tile_size tile)
   pub zoom_fits : max_zoom ≤ most_zoom
 
--- what every configuration keeps: 1 to 16 maps of distinct names, 1 to 16 workers, limits within theirs, at most 256 updates, expiry lists and
+-- what every configuration keeps: 1 to 16 maps that keep their ranges and have distinct names, 1 to 16 workers, limits within theirs, at most 256 updates, expiry lists and
 -- restyles, and each restyle of a map that is there
 pub record IsConfig (maps : List MapEntry) (updates expiries : List (List ℕ)) (workers : ℕ) (limits : Limits) (restyles : List RestyleEntry) : Type 0 where
   pub some_maps : 1 ≤ length maps
   pub few_maps : length maps ≤ most_maps
-  pub maps_apart : IsTrue (each_after map_apart [] maps)
+  pub maps_fit : IsTrue (each_after map_fits [] maps)
   pub few_updates : length updates ≤ most_files
   pub few_expiries : length expiries ≤ most_files
   pub some_workers : 1 ≤ workers

@@ -41,7 +41,7 @@ pub fn map_place(name: &str, maps: &[MapEntry]) -> Option<usize>
 fn map(alloc: Global, before: &[MapEntry], object: &Value) -> Result<MapEntry, ConfigFault>
     ensures value { Gives fault.NoMemory (λ x. x) (spec.map_after before.now (view object.now)) result }
     ensures place { IfOk result (λ m. IsTrue (nat_lt (length before.now) most_maps)) }
-    ensures apart { IfOk result (λ m. IsTrue (plain.map_apart before.now m)) }
+    ensures fit { IfOk result (λ m. IsTrue (plain.map_fits before.now m)) }
 {
     if before.len() >= MOST_MAPS {
         return Err(ConfigFault::Range(1));
@@ -82,7 +82,7 @@ impl ReadItem for MapItems {
 
     ghost reads = { λ r before d. spec.map_after before d };
 
-    ghost keeps = { λ r before m. nat_lt (length before) most_maps && plain.map_apart before m };
+    ghost keeps = { λ r before m. nat_lt (length before) most_maps && plain.map_fits before m };
 
     fn read(
         &self,
@@ -98,7 +98,7 @@ fn map_list(alloc: Global, items: &[Value]) -> Result<Vec<MapEntry>, ConfigFault
     requires { length items.now < 2 ^ 64 }
     ensures value { Gives fault.NoMemory (λ v. v.items) (list_of spec.map_after (items_view items.now)) result }
     ensures few { IfOk result (λ v. length v.items ≤ most_maps) }
-    ensures apart { IfOk result (λ v. IsTrue (each_after plain.map_apart [] v.items)) }
+    ensures fit { IfOk result (λ v. IsTrue (each_after plain.map_fits [] v.items)) }
 {
     let maps = read_list(alloc, &MapItems {}, items)?;
     Ok(maps)
@@ -110,7 +110,7 @@ pub fn maps(alloc: Global, found: Option<&Value>) -> Result<Vec<MapEntry>, Confi
     ensures value { Gives fault.NoMemory (λ v. v.items) (needed (fault.Shape 1) spec.maps_of (option_map (λ v. view v.now) found.entry)) result }
     ensures some { IfOk result (λ v. 1 ≤ length v.items) }
     ensures few { IfOk result (λ v. length v.items ≤ most_maps) }
-    ensures apart { IfOk result (λ v. IsTrue (each_after plain.map_apart [] v.items)) }
+    ensures fit { IfOk result (λ v. IsTrue (each_after plain.map_fits [] v.items)) }
 {
     let items = list(found, ConfigFault::Shape(1))?;
     let maps = map_list(alloc, items)?;

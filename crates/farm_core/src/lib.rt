@@ -1,4 +1,5 @@
-//! The farm: thirteen events over one value, each list of calls a legal history.
+//! The farm: thirteen events over one value, each list of calls a legal history. What it is started with, is
+//! asked and answers are the types of `farm_plan`, passed on.
 #![tactic(auto)]
 
 mod asks;
@@ -17,8 +18,10 @@ mod updates;
 pub use claims::Claimed;
 pub use crossing::cross_farm;
 pub use farm::Farm;
+pub use farm_history::Saved;
 pub use farm_jobs::Job;
+pub use farm_plan::{
+    AskAnswer, Cmd, Collected, Conn, FarmPlan, Fetched, Finished, Kept, Limits, Looked, MapPlan,
+    Outcome, Past, Renewed, Reply, Restyle, Restyled, Spot, Tally, Updated, Why,
+};
 pub use finishes::Drawn;
-
-#[cfg(test)]
-mod tests;

@@ -1,17 +1,21 @@
-//! Reads the texts of styles, data, updates and filters that stand in files, and writes of each one line: its
-//! first fault, or what was read, object by object. What is wanted of it was computed by another program,
+//! Reads the texts of styles, data, updates, filters, configurations, scripts and expiry lists that stand in
+//! files, and writes of each one line: its first fault, or what was read, object by object. What is wanted of it was computed by another program,
 //! which was written from the formats alone, and agrees with what the tables want of each text.
 #![tactic(auto)]
 
 mod change_told;
+mod config_told;
 mod data_told;
 mod filter_told;
+mod lines_told;
 mod rows;
 mod style_told;
 
 use crate::change_told::change_told;
+use crate::config_told::config_told;
 use crate::data_told::{data_told, update_told};
 use crate::filter_told::{again_told, filter_told, value_told, written_told};
+use crate::lines_told::{list_told, script_told};
 use crate::rows::{Frame, frame_of, row};
 use crate::style_told::style_told;
 use data_versions::Snapshot;
@@ -108,6 +112,9 @@ fn told(alloc: Global, kind: &str, text: &[u8], old: &Snapshot) -> Option<String
         "data" => data_told(alloc, text).ok(),
         "update" => update_told(alloc, text).ok(),
         "change" => change_told(alloc, old, text).ok(),
+        "config" => config_told(alloc, text).ok(),
+        "script" => script_told(alloc, text).ok(),
+        "list" => list_told(alloc, text).ok(),
         "filter" => filter_told(alloc, str::from_utf8(text).ok()?).ok(),
         "written" => written_told(alloc, str::from_utf8(text).ok()?).ok(),
         "again" => again_told(alloc, str::from_utf8(text).ok()?).ok(),

@@ -1,0 +1,12 @@
+pub mod Tables
+pub mod Rests
+pub mod Sitting
+pub mod Heards
+pub mod Worlds
+pub mod Gots
+pub mod Tries
+pub mod Lefts
+pub mod Woken
+pub mod Opens
+pub mod Goings
+pub mod Seating

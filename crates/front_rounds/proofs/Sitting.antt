@@ -1,0 +1,238 @@
+-- One session, as something happens to it.
+use Rattle.std.proofs.Common.{◌≡◌, ◌<◌, ◌≤◌, ◌+◌, ℕ, Bool, true, false, ◌||◌, List, [], ◌∷◌, ◌++◌, length, drop, Option, Some, None, option_map, refl, sym, ap, subst, ◌∙◌, arith, nat_lt, length-append}
+use Rattle.std.proofs.lemmas.Bool.{ltb-false, lt-ltb, le-ltb}
+use Rattle.std.proofs.lemmas.Bool.Decides.{nat_tests}
+use Rattle.std.proofs.lemmas.List.{drop-append-le, length-drop}
+use Rattle.port_trait.specs.Told.{PortsTold, IsOpen}
+use Rattle.port_trait.specs.Boxes.{rest_at, HasRest, held, rest_of}
+use Rattle.front_rounds.specs.declared.fates.Fate.{Fate}
+use Rattle.front_rounds.specs.declared.fates.Fate.TheVariants.{Stays, Leaves}
+use Rattle.front_rounds.specs.declared.fates.Reason.TheVariants as reason
+use Rattle.front_rounds.specs.declared.sessions.Session.{Session}
+use Rattle.front_rounds.specs.Rules.{Rules, Move, Does, asked, text, any_starves}
+use Rattle.front_rounds.specs.Parts.{Part, must, is_open, Calm}
+use Rattle.front_rounds.specs.Front.{keeps, does}
+use Rattle.front_rounds.specs.inner.Sessions.{is_up, asks_all, woken}
+use Rattle.front_rounds.specs.inner.Stands.{IsAtRest, FateFits, Keeping, Counts, Sits}
+
+pub clash : {X : Type 0} → true ≡ false → X
+clash h = cc
+
+pub or_none : (b c : Bool) → b ≡ false → c ≡ false → (b || c) ≡ false
+or_none true c h k = clash h
+or_none false c h k = k
+
+pub or_false : (b : Bool) → (b || false) ≡ b
+or_false true = refl
+or_false false = refl
+
+pub or_assoc : (a b c : Bool) → (a || (b || c)) ≡ ((a || b) || c)
+or_assoc true b c = refl
+or_assoc false b c = refl
+
+pub or_more : (a b b' : Bool) → (b ≡ true → b' ≡ true) → (a || b) ≡ true → (a || b') ≡ true
+or_more true b b' f h = refl
+or_more false b b' f h = f h
+
+pub or_less : (a b b' : Bool) → (b ≡ true → b' ≡ true) → (b || a) ≡ true → (b' || a) ≡ true
+or_less a true b' f h = ap (λ b. b || a) (f refl)
+or_less true false true f h = refl
+or_less true false false f h = refl
+or_less false false b' f h = clash (sym h)
+
+pub or_right : (a b : Bool) → b ≡ true → (a || b) ≡ true
+or_right true b h = refl
+or_right false b h = h
+
+pub or_left : (a b : Bool) → a ≡ true → (a || b) ≡ true
+or_left true b h = refl
+or_left false b h = clash (sym h)
+
+pub or_cases : (a b : Bool) → (a || b) ≡ true → (a ≡ false → b ≡ true)
+or_cases true b h e = clash e
+or_cases false b h e = h
+
+pub or_parts : (a b : Bool) → (a || b) ≡ false → (a ≡ false) × (b ≡ false)
+or_parts true b h = clash h
+or_parts false b h = (refl, h)
+
+-- what is told of one connection stays
+pub open_map : (o : Option PortsTold) (f : PortsTold → PortsTold) (c : ℕ) → ((t : PortsTold) → (f t).is_open c ≡ t.is_open c) → IsOpen c o → IsOpen c (option_map f o)
+open_map None f c h i = tt
+open_map (Some t) f c h i = h t ∙ i
+
+pub not_less : (n : ℕ) → nat_lt n n ≡ false
+not_less n = le-ltb n n (omega arith)
+
+pub grew_by : (n k : ℕ) → nat_lt n (n + k) ≡ nat_lt 0 k
+grew_by n k = grind (arith, nat_tests)
+
+pub none_said : (said : List ℕ) → nat_lt 0 (length said) ≡ false → said ≡ []
+none_said [] h = refl
+none_said (b ∷ said) h = clash (sym (lt-ltb 0 (length (b ∷ said)) (omega arith)) ∙ h)
+
+pub no_bytes : (bytes : List ℕ) → length bytes ≡ 0 → bytes ≡ []
+no_bytes [] h = refl
+no_bytes (b ∷ bytes) h = absurd (omega (arith, h))
+
+module _ {A W : Type 0} (R : Rules A W) where
+  -- a connection as a round begins
+  abbrev pub rolled : List ℕ → Bool → Bool → Bool → Part A → Part A
+  rolled given ended lost called p = record {
+    given = given;
+    moves = p.moves;
+    took = p.took;
+    had = p.took;
+    was = length (text R p.moves);
+    ended = ended;
+    lost = lost;
+    called = called;
+    cut = false;
+    starved = false;
+    tried = false;
+    failed = false;
+    sent_whole = false;
+  }
+
+  -- after these requests
+  abbrev pub moved_by : List A → Part A → Part A
+  moved_by acts p = record p { moves = does acts ++ p.moves; cut = p.cut; starved = any_starves R (does acts) || p.starved }
+
+  pub text_grows : (acts : List A) (ms : List (Move A)) → length (text R ms) ≤ length (text R (does acts ++ ms))
+  text_grows [] ms = omega arith
+  text_grows (a ∷ acts) ms =
+      let more = text_grows acts ms in
+      let e = length-append (text R (does acts ++ ms)) (R.says (does acts ++ ms) (Does a)) in
+      omega (arith, more, e)
+
+  -- the rest grows by what is said
+  pub due_grows : (took : ℕ) (before said now : List ℕ) → took ≤ length before → now ≡ before ++ said → drop took now ≡ drop took before ++ said
+  due_grows took before said now l e = ap (drop took) e ∙ drop-append-le took before said l
+
+  -- a rest within its limit
+  pub within : (took : ℕ) (before said now : List ℕ) → took ≤ length before → now ≡ before ++ said → length (drop took before ++ said) ≤ 1048576
+      → length now ≤ took + 1048576
+  within took before said now l e h =
+      let a = length-append (drop took before) said in
+      let b = length-drop took before in
+      let c = ap length e ∙ length-append before said in
+      omega (arith, a, b, c, h, l)
+
+  pub beyond : (took : ℕ) (before said now : List ℕ) → took ≤ length before → now ≡ before ++ said → 1048576 < length (drop took before ++ said)
+      → took + 1048576 < length now
+  beyond took before said now l e h =
+      let a = length-append (drop took before) said in
+      let b = length-drop took before in
+      let c = ap length e ∙ length-append before said in
+      omega (arith, a, b, c, h, l)
+
+module _ {A W T : Type 0} (R : Rules A W) (K : List ℕ → List (Move A) → T → Type 0) where
+  -- a session by its fate
+  pub sits_as : (told : Option PortsTold) (box : List (ℕ × List ℕ)) (p : Part A) (s : Session T) (f : Fate) → s.fate ≡ f
+      → HasRest box s.conn → (is_up f ≡ true → IsOpen s.conn told) → is_open p ≡ is_up f → Counts R p
+      → (keeps f ≡ true → Keeping R K p s (held box s.conn)) → FateFits R p f → (asks_all f ≡ true → R.wanted p.given (asked R p.moves))
+      → Sits R K told box p s
+  sits_as told box p s f e rest op up counts keep fits all = record {
+    rest_there = rest;
+    opening = λ u. op (sym (ap is_up e) ∙ u);
+    up = up ∙ sym (ap is_up e);
+    counts = counts;
+    keeping = λ k. keep (sym (ap keeps e) ∙ k);
+    fate_fits = subst (FateFits R p) (sym e) fits;
+    asked_all = λ a. all (sym (ap asks_all e) ∙ a);
+  }
+
+  -- where nothing of the session changes
+  pub others : (told told' : Option PortsTold) (box box' : List (ℕ × List ℕ)) (p : Part A) (s : Session T) → Sits R K told box p s
+      → rest_at box' s.conn ≡ rest_at box s.conn → (IsOpen s.conn told → IsOpen s.conn told') → Sits R K told' box' p s
+  others told told' box box' p s h e o = record {
+    rest_there = (h.rest_there.0, e ∙ h.rest_there.1);
+    opening = λ u. o (h.opening u);
+    up = h.up;
+    counts = h.counts;
+    keeping = λ k. subst (λ (r : Option (List ℕ)). Keeping R K p s (rest_of r)) (sym e) (h.keeping k);
+    fate_fits = h.fate_fits;
+    asked_all = h.asked_all;
+  }
+
+  pub calm_of : (told : Option PortsTold) (box : List (ℕ × List ℕ)) (p : Part A) (s : Session T) → Sits R K told box p s → IsAtRest s → Calm R p
+  calm_of told box p s h r = subst (FateFits R p) r.0 h.fate_fits
+
+  pub kept_of : (told : Option PortsTold) (box : List (ℕ × List ℕ)) (p : Part A) (s : Session T) → Sits R K told box p s → IsAtRest s
+      → Keeping R K p s (held box s.conn)
+  kept_of told box p s h r = h.keeping (ap keeps r.0)
+
+  -- the rest of a session at rest is within its limit
+  small_of : (told : Option PortsTold) (box : List (ℕ × List ℕ)) (p : Part A) (s : Session T) → Sits R K told box p s → IsAtRest s
+      → length (text R p.moves) ≤ p.took + 1048576
+  small_of told box p s h r =
+      let full = ltb-false (p.had + 1048576) (length (text R p.moves)) (calm_of told box p s h r).full in
+      let more = h.counts.more in
+      omega (arith, full, more)
+
+  rolled_counts : (given : List ℕ) (ended lost called : Bool) (p : Part A) → Counts R p → Counts R (rolled R given ended lost called p)
+  rolled_counts given ended lost called p n = record { low = n.low; before = omega arith; more = omega arith; untaken = λ _. refl }
+
+  rolled_calm : (told : Option PortsTold) (box : List (ℕ × List ℕ)) (p : Part A) (s : Session T) (called : Bool) → Sits R K told box p s → IsAtRest s
+      → Calm R (rolled R p.given false false called p)
+  rolled_calm told box p s called h r = record {
+    ended = refl;
+    lost = refl;
+    cut = refl;
+    full = le-ltb (p.took + 1048576) (length (text R p.moves)) (small_of told box p s h r);
+    read = (calm_of told box p s h r).read;
+    sent = refl;
+    sends = refl;
+    memory = refl;
+  }
+
+  -- a round begins whose event is of others
+  pub roll_quiet : (told told' : Option PortsTold) (box : List (ℕ × List ℕ)) (p : Part A) (s : Session T) → Sits R K told box p s → IsAtRest s
+      → (IsOpen s.conn told → IsOpen s.conn told') → Sits R K told' box (rolled R p.given false false false p) s
+  roll_quiet told told' box p s h r o =
+      let k = kept_of told box p s h r in
+      let quiet : must R (rolled R p.given false false false p) ≡ false =
+      or_none (nat_lt (length (text R p.moves)) (length (text R p.moves))) (R.refuses p.given) (not_less (length (text R p.moves))) (calm_of told box p s h r).read in
+      sits_as told' box (rolled R p.given false false false p) s Stays r.0 h.rest_there (λ _. o (h.opening (ap is_up r.0))) refl
+      (rolled_counts p.given false false false p h.counts)
+      (λ _. record {
+        rest_is = k.rest_is;
+        asked_all = k.asked_all;
+        whole = k.whole;
+        knows = k.knows;
+        owed = λ e. clash (sym e ∙ r.1);
+        offered = λ _ m t. clash (sym m ∙ quiet);
+      })
+      (rolled_calm told box p s false h r) (λ _. k.asked_all)
+
+  -- a round begins whose event has it offered its bytes
+  pub roll_called : (told told' : Option PortsTold) (box : List (ℕ × List ℕ)) (p : Part A) (s : Session T) → Sits R K told box p s → IsAtRest s
+      → (IsOpen s.conn told → IsOpen s.conn told') → Sits R K told' box (rolled R p.given false false true p) (woken s)
+  roll_called told told' box p s h r o =
+      let k = kept_of told box p s h r in
+      sits_as told' box (rolled R p.given false false true p) (woken s) Stays r.0 h.rest_there (λ _. o (h.opening (ap is_up r.0))) refl
+      (rolled_counts p.given false false true p h.counts)
+      (λ _. record {
+        rest_is = k.rest_is;
+        asked_all = k.asked_all;
+        whole = k.whole;
+        knows = k.knows;
+        owed = λ e. (refl, refl);
+        offered = λ e. clash e;
+      })
+      (rolled_calm told box p s true h r) (λ _. k.asked_all)
+
+  -- a round begins with its Ended, or its Lost
+  pub roll_ended : (told told' : Option PortsTold) (box : List (ℕ × List ℕ)) (p : Part A) (s : Session T) → Sits R K told box p s → IsAtRest s
+      → (IsOpen s.conn told → IsOpen s.conn told') → Sits R K told' box (rolled R p.given true false false p) (record s { fate = Leaves reason.Ended })
+  roll_ended told told' box p s h r o =
+      let k = kept_of told box p s h r in
+      sits_as told' box (rolled R p.given true false false p) (record s { fate = Leaves reason.Ended }) (Leaves reason.Ended) refl h.rest_there
+      (λ _. o (h.opening (ap is_up r.0))) refl (rolled_counts p.given true false false p h.counts) (λ e. clash (sym e)) refl (λ _. k.asked_all)
+
+  pub roll_lost : (told told' : Option PortsTold) (box : List (ℕ × List ℕ)) (p : Part A) (s : Session T) → Sits R K told box p s → IsAtRest s
+      → Sits R K told' box (rolled R p.given false true false p) (record s { fate = Leaves reason.Lost })
+  roll_lost told told' box p s h r =
+      let k = kept_of told box p s h r in
+      sits_as told' box (rolled R p.given false true false p) (record s { fate = Leaves reason.Lost }) (Leaves reason.Lost) refl h.rest_there
+      (λ e. clash (sym e)) refl (rolled_counts p.given false true false p h.counts) (λ e. clash (sym e)) refl (λ _. k.asked_all)

@@ -1,0 +1,8 @@
+use Rattle.std.proofs.Common.{◌∙◌, sym, ap, false}
+use Rattle.front_rounds.specs.declared.fates.Fate.{Fate}
+use Rattle.front_rounds.specs.inner.Stages.{Gives_it}
+use Rattle.front_rounds.proofs.offering.offer_one.Goals as goal
+
+pub returns : goal.returns
+returns g c = Gives_it c.if-not-session.false (sym c.is_kept.ensures ∙ c.if-not-is_kept.false) c.give-gave.result c.is_done-done.result c.give-gave.ensures c.is_done-done.ensures
+    (ap (λ (f : Fate). record c.args.session.now { owes = false; fate = f }) c.fate_of_offer-session.ensures)

@@ -1,0 +1,115 @@
+-- What a front gives of its own: how it hears a piece of bytes and how it takes a reply, each on one connection.
+use Rattle.std.specs.Prelude.{◌≡◌, ℕ, Bool, true, false, List, [], ◌∷◌, ◌++◌, Result, Ok, Err}
+use Rattle.farm_history.specs.declared.queues.Reply.{Reply}
+use Rattle.farm_history.specs.Entries.{Entry}
+use Rattle.front_rounds.specs.declared.farm.Worn.{Worn}
+use Rattle.front_rounds.specs.declared.fates.Fate.{Fate}
+use Rattle.front_rounds.specs.declared.fates.Fate.TheVariants.{Stays, Leaves}
+use Rattle.front_rounds.specs.declared.fates.Reason.TheVariants as reason
+use Rattle.front_rounds.specs.Rules.{Rules, Move, Does, Gets, asked, text, each_whole, any_starves, BeginsWanted}
+
+-- the bytes of a connection are still kept and answered: it stays, or is left once they were offered
+abbrev pub keeps : Fate → Bool
+keeps Stays = true
+keeps (Leaves reason.Unread) = true
+keeps (Leaves reason.Ended) = false
+keeps (Leaves reason.Lost) = false
+keeps (Leaves reason.Cut) = false
+keeps (Leaves reason.Full) = false
+keeps (Leaves reason.SentWhole) = false
+keeps (Leaves reason.SendFailed) = false
+keeps (Leaves reason.NoMemory) = false
+keeps (Leaves reason.Starved) = false
+
+-- a worn turn ends the connection's part, of which nothing more is said
+abbrev pub fate_of : Result Fate Worn → Fate
+fate_of (Ok fate) = fate
+fate_of (Err w) = Leaves reason.Starved
+
+-- the requests that were done, as moves; the newest first, as moves are
+abbrev pub does : {A : Type 0} → List A → List (Move A)
+does [] = []
+does (a ∷ acts) = Does a ∷ does acts
+
+module _ {A W : Type 0} (R : Rules A W) where
+  -- each of these requests fits what came before it
+  abbrev pub EachFits : List A → List (Move A) → Type 0
+  EachFits [] ms = Unit {0}
+  EachFits (a ∷ acts) ms = (R.fits (does acts ++ ms) (Does a) ≡ true) × EachFits acts ms
+
+  -- the entries of these requests, behind others
+  abbrev pub with_acts : ℕ → List A → List Entry → List Entry
+  with_acts c [] mine = mine
+  with_acts c (a ∷ acts) mine = with_acts c acts mine ++ R.entries c a
+
+  -- after hearing, a connection stays or is left for one of three reasons
+  abbrev pub HeardWhy : List ℕ → List (Move A) → Fate → Type 0
+  HeardWhy given new Stays = (R.refuses given ≡ false) × (any_starves R new ≡ false)
+  HeardWhy given new (Leaves reason.Unread) = (R.refuses given ≡ true) × (any_starves R new ≡ false)
+  HeardWhy given new (Leaves reason.NoMemory) = any_starves R new ≡ true
+  HeardWhy given new (Leaves reason.Starved) = Unit {0}
+  HeardWhy given new (Leaves reason.Ended) = ⊥
+  HeardWhy given new (Leaves reason.Lost) = ⊥
+  HeardWhy given new (Leaves reason.Cut) = ⊥
+  HeardWhy given new (Leaves reason.Full) = ⊥
+  HeardWhy given new (Leaves reason.SentWhole) = ⊥
+  HeardWhy given new (Leaves reason.SendFailed) = ⊥
+
+  abbrev pub RepliedWhy : Move A → Fate → Type 0
+  RepliedWhy m Stays = R.starves m ≡ false
+  RepliedWhy m (Leaves reason.NoMemory) = R.starves m ≡ true
+  RepliedWhy m (Leaves reason.Starved) = Unit {0}
+  RepliedWhy m (Leaves reason.Unread) = ⊥
+  RepliedWhy m (Leaves reason.Ended) = ⊥
+  RepliedWhy m (Leaves reason.Lost) = ⊥
+  RepliedWhy m (Leaves reason.Cut) = ⊥
+  RepliedWhy m (Leaves reason.Full) = ⊥
+  RepliedWhy m (Leaves reason.SentWhole) = ⊥
+  RepliedWhy m (Leaves reason.SendFailed) = ⊥
+
+  -- A reply to a connection whose front doesn't hear it any more stands alone: nothing is wrong with that.
+  abbrev pub MayStandAlone : Type 0
+  MayStandAlone = (reply : Reply) (ms : List (Move A)) → R.fits ms (Gets reply []) ≡ true
+
+module _ {A W T : Type 0} (R : Rules A W) (K : List ℕ → List (Move A) → T → Type 0) where
+  -- a new session
+  pub record Begins (talk : T) : Type 0 where
+    pub knows : K [] [] talk
+    pub wanted : R.wanted [] []
+    pub read : R.refuses [] ≡ false
+
+  -- What hearing a piece does, where the bytes given came before and the moves ms were made: some requests are done,
+  -- the newest first in acts; the bytes that are answered to them are said.
+  pub record Heard (c : ℕ) (piece : List ℕ) (mine mine' : List Entry) (talk' : T) (said : List ℕ) (fate : Fate) (given : List ℕ) (ms : List (Move A)) : Type 0 where
+    pub acts : List A
+    pub mine_is : mine' ≡ with_acts R c acts mine
+    pub begins : BeginsWanted R (given ++ piece) (asked R (does acts ++ ms))
+    pub fits : EachFits R acts ms
+    pub why : HeardWhy R (given ++ piece) (does acts) fate
+    pub said_is : keeps fate ≡ true → text R (does acts ++ ms) ≡ text R ms ++ said
+    pub asked_is : keeps fate ≡ true → R.wanted (given ++ piece) (asked R (does acts ++ ms))
+    pub whole : keeps fate ≡ true → each_whole R (does acts ++ ms) ≡ true
+    pub knows : keeps fate ≡ true → K (given ++ piece) (does acts ++ ms) talk'
+
+  abbrev pub Hears : ℕ → List ℕ → List Entry → List Entry → T → T → List ℕ → Fate → Type 0
+  Hears c piece mine mine' talk talk' said fate =
+      (given : List ℕ) (ms : List (Move A)) → K given ms talk → R.wanted given (asked R ms) → each_whole R ms ≡ true → R.refuses given ≡ false
+      → Heard c piece mine mine' talk' said fate given ms
+
+  -- what a reply does: some entries stand directly behind its Collect
+  pub record Replied (reply : Reply) (mine mine' : List Entry) (talk' : T) (said : List ℕ) (fate : Fate) (given : List ℕ) (ms : List (Move A)) : Type 0 where
+    pub behind : List Entry
+    pub mine_is : mine' ≡ mine ++ behind
+    pub fits : R.fits ms (Gets reply behind) ≡ true
+    pub why : RepliedWhy R (Gets reply behind) fate
+    pub said_is : keeps fate ≡ true → R.says ms (Gets reply behind) ≡ said
+    pub whole : keeps fate ≡ true → R.whole ms (Gets reply behind) ≡ true
+    pub knows : keeps fate ≡ true → K given (Gets reply behind ∷ ms) talk'
+
+  abbrev pub Replies : Reply → List Entry → List Entry → T → T → List ℕ → Fate → Type 0
+  Replies reply mine mine' talk talk' said fate =
+      (given : List ℕ) (ms : List (Move A)) → K given ms talk → Replied reply mine mine' talk' said fate given ms
+
+  -- whether all is answered that will be
+  abbrev pub Ends : T → Bool → Type 0
+  Ends talk result = (given : List ℕ) (ms : List (Move A)) → K given ms talk → result ≡ R.ends ms

@@ -1,0 +1,223 @@
+-- What stands of one connection after a front's steps.
+use Rattle.std.specs.Prelude.{◌≡◌, ℕ, ◌+◌, ◌==◌, Bool, true, false, not, ◌&&◌, ◌||◌, cond, List, [], ◌∷◌, ◌++◌, length, drop, Option, Some, None, Result, Ok, Err, nat_lt, nat_le}
+use Rattle.port_trait.specs.declared.events.PortEvent.{PortEvent}
+use Rattle.port_trait.specs.declared.events.PortEvent.TheVariants as event
+use Rattle.port_trait.specs.declared.events.SendFault.{SendFault}
+use Rattle.port_trait.specs.declared.events.SendFault.TheVariants as send_fault
+use Rattle.port_trait.specs.Told.{PortsTold, heard, sent, closed}
+use Rattle.farm_history.specs.declared.queues.Outcome.TheVariants as outcome
+use Rattle.front_rounds.specs.declared.fates.Reason.{Reason}
+use Rattle.front_rounds.specs.declared.fates.Reason.TheVariants as reason
+use Rattle.front_rounds.specs.Rules.{Rules, Move, Does, Gets, text}
+use Rattle.front_rounds.specs.Steps.{Step, Came, Did, Got, Through, Tried, Left}
+
+pub record Part (A : Type 0) : Type 0 where
+  -- the bytes that came, the moves that were made, and how many bytes of the answers were taken
+  pub given : List ℕ
+  pub moves : List (Move A)
+  pub took : ℕ
+  -- as the newest round began: how many bytes had been taken, and how many had been answered
+  pub had : ℕ
+  pub was : ℕ
+  -- the newest round's event was its Ended, or its Lost
+  pub ended : Bool
+  pub lost : Bool
+  -- the newest round has it offered its bytes: by its Writable, by Woken, Finished, or a Collect answered Stopped
+  pub called : Bool
+  -- in the newest round: a reply of it was Cut; an entry of it was answered with want of memory
+  pub cut : Bool
+  pub starved : Bool
+  -- in the newest round: its bytes were offered; the send failed; the last of its answers was sent whole
+  pub tried : Bool
+  pub failed : Bool
+  pub sent_whole : Bool
+
+abbrev pub opens : PortEvent → ℕ → Bool
+opens (event.Opened d) c = d == c
+opens (event.Bytes d) c = false
+opens (event.Writable d) c = false
+opens (event.Ended d) c = false
+opens (event.Lost d) c = false
+opens event.Woken c = false
+opens event.Finished c = false
+opens event.Broken c = false
+opens event.NoMemory c = false
+
+abbrev pub ends_at : PortEvent → ℕ → Bool
+ends_at (event.Ended d) c = d == c
+ends_at (event.Opened d) c = false
+ends_at (event.Bytes d) c = false
+ends_at (event.Writable d) c = false
+ends_at (event.Lost d) c = false
+ends_at event.Woken c = false
+ends_at event.Finished c = false
+ends_at event.Broken c = false
+ends_at event.NoMemory c = false
+
+abbrev pub loses : PortEvent → ℕ → Bool
+loses (event.Lost d) c = d == c
+loses (event.Opened d) c = false
+loses (event.Bytes d) c = false
+loses (event.Writable d) c = false
+loses (event.Ended d) c = false
+loses event.Woken c = false
+loses event.Finished c = false
+loses event.Broken c = false
+loses event.NoMemory c = false
+
+-- the event has every connection offered its bytes, or this one
+abbrev pub calls : PortEvent → ℕ → Bool
+calls (event.Writable d) c = d == c
+calls event.Woken c = true
+calls event.Finished c = true
+calls (event.Opened d) c = false
+calls (event.Bytes d) c = false
+calls (event.Ended d) c = false
+calls (event.Lost d) c = false
+calls event.Broken c = false
+calls event.NoMemory c = false
+
+abbrev pub with_bytes : PortEvent → List ℕ → ℕ → List ℕ → List ℕ
+with_bytes (event.Bytes d) piece c given = cond (d == c) (given ++ piece) given
+with_bytes (event.Opened d) piece c given = given
+with_bytes (event.Writable d) piece c given = given
+with_bytes (event.Ended d) piece c given = given
+with_bytes (event.Lost d) piece c given = given
+with_bytes event.Woken piece c given = given
+with_bytes event.Finished piece c given = given
+with_bytes event.Broken piece c given = given
+with_bytes event.NoMemory piece c given = given
+
+abbrev pub is_cut : {A : Type 0} → Move A → Bool
+is_cut (Does a) = false
+is_cut (Gets r behind) = elim r.outcome [ outcome.Cut ↦ true | outcome.Done ↦ false | outcome.NotDone ↦ false ]
+
+-- a send that took so many bytes, or failed
+abbrev pub answer_of : Option ℕ → Result ℕ SendFault
+answer_of (Some n) = Ok n
+answer_of None = Err send_fault.Failed
+
+-- how many bytes a send took
+abbrev pub taken_by : Option ℕ → ℕ
+taken_by (Some n) = n
+taken_by None = 0
+
+abbrev pub is_failed : Option ℕ → Bool
+is_failed (Some n) = false
+is_failed None = true
+
+-- nothing has happened on it
+abbrev pub blank : {A : Type 0} → Part A
+blank = record { given = []; moves = []; took = 0; had = 0; was = 0; ended = false; lost = false; called = false; cut = false; starved = false; tried = false; failed = false; sent_whole = false }
+
+-- it is open in the ports, as long as it is there
+abbrev pub is_open : {A : Type 0} → Part A → Bool
+is_open p = not (p.lost || p.failed)
+
+-- a connection that was refused at its Opened is closed
+abbrev pub shut_out : PortEvent → Bool → PortsTold → PortsTold
+shut_out (event.Opened c) false t = closed c t
+shut_out (event.Opened c) true t = t
+shut_out (event.Bytes c) kept t = t
+shut_out (event.Writable c) kept t = t
+shut_out (event.Ended c) kept t = t
+shut_out (event.Lost c) kept t = t
+shut_out event.Woken kept t = t
+shut_out event.Finished kept t = t
+shut_out event.Broken kept t = t
+shut_out event.NoMemory kept t = t
+
+module _ {A W : Type 0} (R : Rules A W) where
+  -- the bytes that were answered and not taken
+  abbrev pub due : Part A → List ℕ
+  due p = drop p.took (text R p.moves)
+
+  -- a round begins with this event
+  abbrev pub came : PortEvent → List ℕ → ℕ → Part A → Part A
+  came e piece c p = record {
+    given = with_bytes e piece c p.given;
+    moves = p.moves;
+    took = p.took;
+    had = p.took;
+    was = length (text R p.moves);
+    ended = ends_at e c;
+    lost = loses e c;
+    called = calls e c;
+    cut = false;
+    starved = false;
+    tried = false;
+    failed = false;
+    sent_whole = false;
+  }
+
+  -- a move is made
+  abbrev pub moved : Move A → Part A → Part A
+  moved m p = record p { moves = m ∷ p.moves; cut = is_cut m || p.cut; starved = R.starves m || p.starved }
+
+  -- its bytes are offered
+  abbrev pub with_try : Option ℕ → Part A → Part A
+  with_try taken p = record p { took = p.took + taken_by taken; tried = true; failed = is_failed taken; sent_whole = R.ends p.moves && nat_le (length (text R p.moves)) (p.took + taken_by taken) }
+
+  -- after one more step
+  abbrev pub after : Step A → ℕ → Part A → Part A
+  after (Came e piece kept) c p = came e piece c (cond (opens e c && kept) blank p)
+  after (Did d a) c p = cond (d == c) (moved (Does a) p) p
+  after (Got r behind) c p = cond (r.conn.number == c) (moved (Gets r behind) p) p
+  after (Through stopped) c p = cond stopped (record p { called = true }) p
+  after (Tried d taken) c p = cond (d == c) (with_try taken p) p
+  after (Left d asks why) c p = p
+
+  -- what stands of the connection: all begins anew where its Opened made a session
+  abbrev pub part : List (Step A) → ℕ → Part A
+  part [] c = blank
+  part (s ∷ ss) c = after s c (part ss c)
+
+  -- What the ports tell after the steps, where they told this before. A connection that is left is closed, unless
+  -- it was lost or a send on it failed.
+  abbrev pub told_after : List (Step A) → PortsTold → PortsTold
+  told_after [] t = t
+  told_after (Came e piece kept ∷ ss) t = shut_out e kept (heard e piece (told_after ss t))
+  told_after (Did c a ∷ ss) t = told_after ss t
+  told_after (Got r behind ∷ ss) t = told_after ss t
+  told_after (Through stopped ∷ ss) t = told_after ss t
+  told_after (Tried c taken ∷ ss) t = sent c (due (part ss c)) (answer_of taken) (told_after ss t)
+  told_after (Left c asks why ∷ ss) t = cond (is_open (part ss c)) (closed c (told_after ss t)) (told_after ss t)
+
+  -- bytes were answered to it in the newest round
+  abbrev pub grew : Part A → Bool
+  grew p = nat_lt p.was (length (text R p.moves))
+
+  -- there is a reason to offer it its bytes in the newest round
+  abbrev pub must : Part A → Bool
+  must p = p.called || (grew p || R.refuses p.given)
+
+  -- with what was answered in the newest round its rest passed 1,048,576 bytes
+  abbrev pub is_full : Part A → Bool
+  is_full p = nat_lt (p.had + 1048576) (length (text R p.moves))
+
+  -- where there is a reason and nothing was offered, nothing was due
+  abbrev pub Offered : Part A → Type 0
+  Offered p = must p ≡ true → p.tried ≡ false → due p ≡ []
+
+  -- the cause for which a connection is left is there
+  abbrev pub Caused : Part A → Reason → Type 0
+  Caused p reason.Ended = p.ended ≡ true
+  Caused p reason.Lost = p.lost ≡ true
+  Caused p reason.Cut = p.cut ≡ true
+  Caused p reason.Full = is_full p ≡ true
+  Caused p reason.Unread = R.refuses p.given ≡ true
+  Caused p reason.SentWhole = p.sent_whole ≡ true
+  Caused p reason.SendFailed = p.failed ≡ true
+  Caused p reason.NoMemory = p.starved ≡ true
+  Caused p reason.Starved = Unit {0}
+
+  -- nothing in the newest round closes it
+  pub record Calm (p : Part A) : Type 0 where
+    pub ended : p.ended ≡ false
+    pub lost : p.lost ≡ false
+    pub cut : p.cut ≡ false
+    pub full : is_full p ≡ false
+    pub read : R.refuses p.given ≡ false
+    pub sent : p.sent_whole ≡ false
+    pub sends : p.failed ≡ false
+    pub memory : p.starved ≡ false

@@ -1,0 +1,104 @@
+-- Which step a front may make after those before it: its rounds, and what holds of each connection in them.
+use Rattle.std.specs.Prelude.{◌≡◌, ℕ, ◌<◌, ◌≤◌, Bool, true, false, List, [], ◌∷◌, ◌++◌, length, Option, IfSome}
+use Rattle.port_trait.specs.declared.events.PortEvent.{PortEvent}
+use Rattle.port_trait.specs.declared.events.PortEvent.TheVariants as event
+use Rattle.front_rounds.specs.declared.fates.Reason.{Reason}
+use Rattle.front_rounds.specs.declared.fates.Reason.TheVariants as reason
+use Rattle.front_rounds.specs.Rules.{Rules, Does, Gets, asked, each_whole, BeginsWanted}
+use Rattle.front_rounds.specs.Steps.{Step, Came, Did, Got, Through, Tried, Left, Hearing, phase, Gathers, IsThrough, MayBegin, Offers, there, has}
+use Rattle.front_rounds.specs.Parts.{Part, part, due, must, Offered, Caused, Calm}
+
+-- Want of memory of the ports, and their end as a whole, begin no round.
+abbrev pub BeginsRound : PortEvent → Type 0
+BeginsRound (event.Opened c) = Unit {0}
+BeginsRound (event.Bytes c) = Unit {0}
+BeginsRound (event.Writable c) = Unit {0}
+BeginsRound (event.Ended c) = Unit {0}
+BeginsRound (event.Lost c) = Unit {0}
+BeginsRound event.Woken = Unit {0}
+BeginsRound event.Finished = Unit {0}
+BeginsRound event.Broken = ⊥
+BeginsRound event.NoMemory = ⊥
+
+module _ {A W : Type 0} (R : Rules A W) where
+  -- What holds of a connection that is there as a round ends: all that its bytes ask was asked and has all its
+  -- entries; nothing closes it; and it was offered its bytes where there was a reason.
+  pub record Kept (p : Part A) : Type 0 where
+    pub asked_all : R.wanted p.given (asked R p.moves)
+    pub whole : each_whole R p.moves ≡ true
+    pub calm : Calm R p
+    pub offered : Offered R p
+
+  -- so is every connection that is there
+  abbrev pub AllKept : List (Step A) → Type 0
+  AllKept ss = (c : ℕ) → has (there ss) c ≡ true → Kept (part R ss c)
+
+  -- a connection that is left for what stood in its bytes alone was offered its bytes once
+  abbrev pub LastTry : Part A → Reason → Type 0
+  LastTry p reason.Unread = Offered R p
+  LastTry p reason.Ended = Unit {0}
+  LastTry p reason.Lost = Unit {0}
+  LastTry p reason.Cut = Unit {0}
+  LastTry p reason.Full = Unit {0}
+  LastTry p reason.SentWhole = Unit {0}
+  LastTry p reason.SendFailed = Unit {0}
+  LastTry p reason.NoMemory = Unit {0}
+  LastTry p reason.Starved = Unit {0}
+
+  -- of a connection that is left, all that its bytes ask was asked, unless its rest was full or memory was wanting
+  abbrev pub AskedAll : Part A → Reason → Type 0
+  AskedAll p reason.Full = Unit {0}
+  AskedAll p reason.NoMemory = Unit {0}
+  AskedAll p reason.Starved = Unit {0}
+  AskedAll p reason.Ended = R.wanted p.given (asked R p.moves)
+  AskedAll p reason.Lost = R.wanted p.given (asked R p.moves)
+  AskedAll p reason.Cut = R.wanted p.given (asked R p.moves)
+  AskedAll p reason.Unread = R.wanted p.given (asked R p.moves)
+  AskedAll p reason.SentWhole = R.wanted p.given (asked R p.moves)
+  AskedAll p reason.SendFailed = R.wanted p.given (asked R p.moves)
+
+  -- A request that was done: it became whole by the round's event, it is the next of those that stand in the bytes,
+  -- and it has entries that fit.
+  pub record DidFits (ss : List (Step A)) (c : ℕ) (a : A) : Type 0 where
+    pub heard : phase ss ≡ Hearing (event.Bytes c)
+    pub fits : R.fits (part R ss c).moves (Does a) ≡ true
+    pub begins : BeginsWanted R (part R ss c).given (asked R (part R ss c).moves ++ R.want a ∷ [])
+
+  -- A try to send: after the last Collect, to a connection that is there, for a reason, once in a round, and of
+  -- more than 0 bytes, of which no more are taken than there are.
+  pub record TryFits (ss : List (Step A)) (c : ℕ) (taken : Option ℕ) : Type 0 where
+    pub time : Offers (phase ss)
+    pub is_there : has (there ss) c ≡ true
+    pub reason : must R (part R ss c) ≡ true
+    pub once : (part R ss c).tried ≡ false
+    pub some : 0 < length (due R (part R ss c))
+    pub most : IfSome taken (λ n. n ≤ length (due R (part R ss c)))
+
+  -- A connection that is left: after the last Collect, while it is there, and with its cause.
+  pub record LeftFits (ss : List (Step A)) (c : ℕ) (why : Reason) : Type 0 where
+    pub time : IsThrough (phase ss)
+    pub is_there : has (there ss) c ≡ true
+    pub caused : Caused R (part R ss c) why
+    pub last_try : LastTry (part R ss c) why
+    pub asked_all : AskedAll (part R ss c) why
+
+  -- A round begins: the one before it is whole. An Opened makes a session only where fewer than 1,024 are there.
+  pub record CameFits (ss : List (Step A)) (e : PortEvent) (kept : Bool) : Type 0 where
+    pub time : MayBegin (phase ss)
+    pub begins : BeginsRound e
+    pub before : AllKept ss
+    pub room : kept ≡ true → length (there ss) < 1024
+
+  -- the step may be made after those before it
+  abbrev pub StepFits : Step A → List (Step A) → Type 0
+  StepFits (Came e piece kept) ss = CameFits ss e kept
+  StepFits (Did c a) ss = DidFits ss c a
+  StepFits (Got r behind) ss = Gathers (phase ss) × (R.fits (part R ss r.conn.number).moves (Gets r behind) ≡ true)
+  StepFits (Through stopped) ss = Gathers (phase ss)
+  StepFits (Tried c taken) ss = TryFits ss c taken
+  StepFits (Left c asks why) ss = LeftFits ss c why
+
+  -- each step may be made after those before it
+  abbrev pub Sound : List (Step A) → Type 0
+  Sound [] = Unit {0}
+  Sound (s ∷ ss) = StepFits s ss × Sound ss

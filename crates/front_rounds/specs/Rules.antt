@@ -1,0 +1,60 @@
+-- What a front makes of a connection: what the bytes that came ask for, the entries that this has, and the
+-- bytes that are answered. Lists of things that happened have the newest first; lists of bytes, of requests
+-- and of entries have the oldest first.
+use Rattle.std.specs.Prelude.{◌≡◌, ℕ, Bool, true, false, ◌&&◌, ◌||◌, ◌⊎◌, List, [], ◌∷◌, ◌++◌}
+use Rattle.farm_history.specs.declared.queues.Reply.{Reply}
+use Rattle.farm_history.specs.Entries.{Entry}
+
+-- What happens on a connection: a request was done, with the answers that it got; or a reply to one of its
+-- asks was collected, with the entries directly behind that Collect.
+pub data Move (A : Type 0) : Type 0 where
+  Does : A → Move A
+  Gets : Reply → List Entry → Move A
+
+-- What a front makes of a connection. W is a request; A is a request that was done, with its answers.
+pub record Rules (A W : Type 0) : Type 1 where
+  -- the front's number
+  pub number : ℕ
+  -- these are the requests that stand in the bytes of a connection, in order
+  pub wanted : List ℕ → List W → Type 0
+  -- the bytes end the connection: by an unknown version, or a line that is too long
+  pub refuses : List ℕ → Bool
+  -- the request that was done, and its entries on the connection of this number, in order
+  pub want : A → W
+  pub entries : ℕ → A → List Entry
+  -- after these moves on its connection this one may be made: its entries are some of those that it has
+  pub fits : List (Move A) → Move A → Bool
+  -- and all of them are there
+  pub whole : List (Move A) → Move A → Bool
+  -- the bytes that are answered to it
+  pub says : List (Move A) → Move A → List ℕ
+  -- an entry of it was answered with want of memory
+  pub starves : Move A → Bool
+  -- with these moves all is answered that will be: the connection ends when it was sent whole
+  pub ends : List (Move A) → Bool
+
+module _ {A W : Type 0} (R : Rules A W) where
+  -- what was asked by the moves, in order
+  abbrev pub asked : List (Move A) → List W
+  asked [] = []
+  asked (Does a ∷ ms) = asked ms ++ R.want a ∷ []
+  asked (Gets r behind ∷ ms) = asked ms
+
+  -- the bytes that were answered, in order
+  abbrev pub text : List (Move A) → List ℕ
+  text [] = []
+  text (m ∷ ms) = text ms ++ R.says ms m
+
+  -- every move has all its entries
+  abbrev pub each_whole : List (Move A) → Bool
+  each_whole [] = true
+  each_whole (m ∷ ms) = R.whole ms m && each_whole ms
+
+  -- some move found no memory
+  abbrev pub any_starves : List (Move A) → Bool
+  any_starves [] = false
+  any_starves (m ∷ ms) = R.starves m || any_starves ms
+
+  -- these are the first of the requests that stand in the bytes
+  abbrev pub BeginsWanted : List ℕ → List W → Type 0
+  BeginsWanted given ws = (ws ≡ []) ⊎ ((more : List W) × R.wanted given (ws ++ more))

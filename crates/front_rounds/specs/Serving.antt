@@ -1,0 +1,89 @@
+-- What a front leaves: its own entries, what its ports tell, and what it hands back.
+use Rattle.std.specs.Prelude.{◌≡◌, ℕ, ◌-◌, ◌^◌, Bool, true, false, List, [], ◌∷◌, ◌++◌, map, min, Option, option_map}
+use Rattle.port_trait.specs.declared.events.PortEvent.{PortEvent}
+use Rattle.port_trait.specs.declared.events.PortEvent.TheVariants as event
+use Rattle.port_trait.specs.declared.ends.FrontEnd.{FrontEnd}
+use Rattle.port_trait.specs.declared.ends.FrontEnd.TheVariants as ended
+use Rattle.port_trait.specs.declared.ends.Rest.{Rest}
+use Rattle.port_trait.specs.Told.{PortsTold, heard}
+use Rattle.farm_history.specs.Entries.{Entry, Stop}
+use Rattle.front_rounds.specs.Rules.{Rules}
+use Rattle.front_rounds.specs.Steps.{Step, Phase, Fresh, Hearing, Collecting, Offering, Leaving, phase, MayBegin, there, own, starved_in}
+use Rattle.front_rounds.specs.Parts.{part, due, told_after}
+use Rattle.front_rounds.specs.Rounds.{Sound, AllKept}
+
+-- the newest round has this event, and its last Collect was answered so
+abbrev pub EndsAt : PortEvent → Bool → Phase → Type 0
+EndsAt e stopped (Offering f was) = (f ≡ e) × (was ≡ stopped)
+EndsAt e stopped (Leaving f was) = (f ≡ e) × (was ≡ stopped)
+EndsAt e stopped Fresh = ⊥
+EndsAt e stopped (Hearing f) = ⊥
+EndsAt e stopped (Collecting f) = ⊥
+
+-- the last Collect of the newest round was answered Stopped
+abbrev pub StopsAt : Phase → Type 0
+StopsAt (Offering f was) = was ≡ true
+StopsAt (Leaving f was) = was ≡ true
+StopsAt Fresh = ⊥
+StopsAt (Hearing f) = ⊥
+StopsAt (Collecting f) = ⊥
+
+-- the ports broke as a whole, or not: it is the last line of their record, and no round
+abbrev pub with_break : Bool → PortsTold → PortsTold
+with_break true t = heard event.Broken [] t
+with_break false t = t
+
+-- a front whose ports broke ends Broken, but where its Stop was worn
+abbrev pub BreakFits : FrontEnd → Bool → Type 0
+BreakFits ended.Broken broke = broke ≡ true
+BreakFits ended.Finished broke = broke ≡ false
+BreakFits ended.Stopped broke = broke ≡ false
+BreakFits ended.NoMemory broke = broke ≡ false
+BreakFits ended.Worn broke = Unit {0}
+
+-- a rest by its connection and its bytes
+abbrev pub pair_of : Rest → ℕ × List ℕ
+pair_of r = (r.conn, r.bytes)
+
+module _ {A W : Type 0} (R : Rules A W) where
+  -- the rests are those of the connections that are there, in the order in which they were opened: all bytes that
+  -- were answered and not taken
+  abbrev pub rests_of : List (Step A) → List (ℕ × List ℕ)
+  rests_of ss = map (λ c. (c, due R (part R ss c))) (there ss)
+
+  -- Why the front ended. Only a worn turn leaves a round that is cut short; only then the rests and the count are free.
+  abbrev pub EndFits : FrontEnd → List (Step A) → List Entry → Bool → Type 0
+  EndFits ended.Finished ss stop worn = AllKept R ss × EndsAt event.Finished false (phase ss) × (stop ≡ [])
+  EndFits ended.Stopped ss stop worn = AllKept R ss × StopsAt (phase ss) × (stop ≡ Stop ∷ [])
+  EndFits ended.Broken ss stop worn = AllKept R ss × MayBegin (phase ss) × (stop ≡ Stop ∷ [])
+  EndFits ended.NoMemory ss stop worn = AllKept R ss × MayBegin (phase ss) × (stop ≡ Stop ∷ [])
+  EndFits ended.Worn ss stop worn = (worn ≡ true) × (stop ≡ [])
+
+  abbrev pub RestsFit : FrontEnd → List (Step A) → List (ℕ × List ℕ) → Type 0
+  RestsFit ended.Worn ss rests = Unit {0}
+  RestsFit ended.Finished ss rests = rests ≡ rests_of ss
+  RestsFit ended.Stopped ss rests = rests ≡ rests_of ss
+  RestsFit ended.Broken ss rests = rests ≡ rests_of ss
+  RestsFit ended.NoMemory ss rests = rests ≡ rests_of ss
+
+  abbrev pub CountFits : FrontEnd → List (Step A) → ℕ → Type 0
+  CountFits ended.Worn ss n = Unit {0}
+  CountFits ended.Finished ss n = n ≡ min (starved_in ss) (2 ^ 64 - 1)
+  CountFits ended.Stopped ss n = n ≡ min (starved_in ss) (2 ^ 64 - 1)
+  CountFits ended.Broken ss n = n ≡ min (starved_in ss) (2 ^ 64 - 1)
+  CountFits ended.NoMemory ss n = n ≡ min (starved_in ss) (2 ^ 64 - 1)
+
+  -- **What a front leaves.** Its own entries are those of its steps, and then at most the Stop of its end. What its
+  -- ports tell is what the steps make of what they told, and then at most that they broke. Each step may be made after those before it. The end has its
+  -- cause, and the rests and the count of the starved are those of the steps.
+  pub record Serves (start told : Option PortsTold) (mine : List Entry) (end : FrontEnd) (rests : List (ℕ × List ℕ)) (starved : ℕ) (worn : Bool) : Type 0 where
+    pub steps : List (Step A)
+    pub broke : Bool
+    pub stop : List Entry
+    pub entries : mine ≡ own R steps ++ stop
+    pub telling : told ≡ option_map (λ t. with_break broke (told_after R steps t)) start
+    pub sound : Sound R steps
+    pub end_fits : EndFits end steps stop worn
+    pub break_fits : BreakFits end broke
+    pub rests_fit : RestsFit end steps rests
+    pub count_fits : CountFits end steps starved

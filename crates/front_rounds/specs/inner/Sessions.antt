@@ -1,0 +1,98 @@
+-- Sessions in a list: their connections, and what their fates mean.
+use Rattle.std.specs.Prelude.{◌≡◌, ℕ, ◌<◌, Bool, true, false, ◌||◌, List, [], ◌∷◌, length, map, nat_lt, get_or}
+use Rattle.front_rounds.specs.declared.fates.Fate.{Fate}
+use Rattle.front_rounds.specs.declared.fates.Fate.TheVariants.{Stays, Leaves}
+use Rattle.front_rounds.specs.declared.fates.Reason.{Reason}
+use Rattle.front_rounds.specs.declared.fates.Reason.TheVariants as reason
+use Rattle.front_rounds.specs.declared.sessions.Session.{Session}
+use Rattle.front_rounds.specs.Steps.{has}
+
+abbrev pub conns : {T : Type 0} → List (Session T) → List ℕ
+conns ss = map (λ s. s.conn) ss
+
+-- the connections of an outbox
+abbrev pub keys : List (ℕ × List ℕ) → List ℕ
+keys box = map (λ (p : ℕ × List ℕ). p.0) box
+
+-- no connection stands in the list twice
+abbrev pub Apart : List ℕ → Type 0
+Apart [] = Unit {0}
+Apart (c ∷ cs) = (has cs c ≡ false) × Apart cs
+
+-- this session stands at this place
+abbrev pub StandsAt : {T : Type 0} → List (Session T) → ℕ → Session T → Type 0
+StandsAt ss i s = (i < length ss) × (get_or ss i s ≡ s)
+
+-- the session at this place has this connection
+abbrev pub HasConn : {T : Type 0} → List (Session T) → ℕ → ℕ → Type 0
+HasConn {T} ss i c = (s : Session T) × (StandsAt ss i s) × (s.conn ≡ c)
+
+-- its connection is still open in the ports
+abbrev pub is_up : Fate → Bool
+is_up (Leaves reason.Lost) = false
+is_up (Leaves reason.SendFailed) = false
+is_up Stays = true
+is_up (Leaves reason.Unread) = true
+is_up (Leaves reason.Ended) = true
+is_up (Leaves reason.Cut) = true
+is_up (Leaves reason.Full) = true
+is_up (Leaves reason.SentWhole) = true
+is_up (Leaves reason.NoMemory) = true
+is_up (Leaves reason.Starved) = true
+
+-- all that its bytes ask was asked
+abbrev pub asks_all : Fate → Bool
+asks_all (Leaves reason.Full) = false
+asks_all (Leaves reason.NoMemory) = false
+asks_all (Leaves reason.Starved) = false
+asks_all Stays = true
+asks_all (Leaves reason.Unread) = true
+asks_all (Leaves reason.Ended) = true
+asks_all (Leaves reason.Lost) = true
+asks_all (Leaves reason.Cut) = true
+asks_all (Leaves reason.SentWhole) = true
+asks_all (Leaves reason.SendFailed) = true
+
+abbrev pub stays : Fate → Bool
+stays Stays = true
+stays (Leaves why) = false
+
+abbrev pub is_unread : Fate → Bool
+is_unread (Leaves reason.Unread) = true
+is_unread Stays = false
+is_unread (Leaves reason.Ended) = false
+is_unread (Leaves reason.Lost) = false
+is_unread (Leaves reason.Cut) = false
+is_unread (Leaves reason.Full) = false
+is_unread (Leaves reason.SentWhole) = false
+is_unread (Leaves reason.SendFailed) = false
+is_unread (Leaves reason.NoMemory) = false
+is_unread (Leaves reason.Starved) = false
+
+-- of an earlier fate and a later one: the later, if it is an end
+abbrev pub worse : Fate → Fate → Fate
+worse old Stays = old
+worse old (Leaves why) = Leaves why
+
+-- it owes an offer: it did so before, something was said, or its bytes end it
+abbrev pub owing : Bool → List ℕ → Fate → Bool
+owing owes said fate = owes || (nat_lt 0 (length said) || is_unread fate)
+
+-- the session owes an offer
+abbrev pub woken : {T : Type 0} → Session T → Session T
+woken s = record s { owes = true }
+
+-- a session of a connection that was just opened
+abbrev pub newcomer : {T : Type 0} → ℕ → T → Session T
+newcomer c talk = record { conn = c; talk = talk; fate = Stays; owes = false }
+
+abbrev pub leaves : Fate → Bool
+leaves Stays = false
+leaves (Leaves why) = true
+
+-- the session at this place has this connection, and leaves for this reason
+abbrev pub IsLeaving : {T : Type 0} → List (Session T) → ℕ → ℕ → Reason → Type 0
+IsLeaving {T} ss i c why = (s : Session T) × (StandsAt ss i s) × (s.conn ≡ c) × (s.fate ≡ Leaves why)
+
+abbrev pub StaysOn : {T : Type 0} → Session T → Type 0
+StaysOn s = s.fate ≡ Stays

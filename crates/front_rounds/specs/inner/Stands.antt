@@ -1,0 +1,74 @@
+-- What a front's sessions, its outbox, its own entries and its ports have to do with its steps.
+use Rattle.std.specs.Prelude.{◌≡◌, ℕ, ◌-◌, ◌^◌, ◌≤◌, true, false, List, length, min, Option, option_map}
+use Rattle.farm_history.specs.Lists.{Each}
+use Rattle.farm_history.specs.Entries.{Entry}
+use Rattle.port_trait.specs.Told.{PortsTold, IsOpen}
+use Rattle.port_trait.specs.Boxes.{HasRest, held}
+use Rattle.front_rounds.specs.declared.fates.Fate.{Fate}
+use Rattle.front_rounds.specs.declared.fates.Fate.TheVariants.{Stays, Leaves}
+use Rattle.front_rounds.specs.declared.sessions.Session.{Session}
+use Rattle.front_rounds.specs.declared.sessions.Desk.{Desk}
+use Rattle.front_rounds.specs.Rules.{Rules, Move, asked, text, each_whole}
+use Rattle.front_rounds.specs.Steps.{Step, there, own, starved_in}
+use Rattle.front_rounds.specs.Parts.{Part, part, due, must, Offered, Caused, Calm, is_open, told_after}
+use Rattle.front_rounds.specs.Rounds.{Sound}
+use Rattle.front_rounds.specs.Front.{keeps}
+use Rattle.front_rounds.specs.inner.Sessions.{conns, keys, Apart, is_up, asks_all}
+
+-- all that the steps are told by
+pub record World (T : Type 0) : Type 0 where
+  pub told : Option PortsTold
+  pub mine : List Entry
+  pub sessions : List (Session T)
+  pub box : List (ℕ × List ℕ)
+  pub starved : ℕ
+
+abbrev pub world : {T : Type 0} → Option PortsTold → List Entry → Desk T → World T
+world told mine desk = record { told = told; mine = mine; sessions = desk.sessions.items; box = desk.outbox; starved = desk.starved }
+
+-- nothing is left to do for the session: it stays, and owes nothing
+abbrev pub IsAtRest : {T : Type 0} → Session T → Type 0
+IsAtRest s = (s.fate ≡ Stays) × (s.owes ≡ false)
+
+module _ {A W : Type 0} (R : Rules A W) where
+  abbrev pub FateFits : Part A → Fate → Type 0
+  FateFits p Stays = Calm R p
+  FateFits p (Leaves why) = Caused R p why
+
+  -- the numbers of a connection: no more were taken than answered, as the round began and since
+  pub record Counts (p : Part A) : Type 0 where
+    pub low : p.took ≤ length (text R p.moves)
+    pub before : p.was ≤ length (text R p.moves)
+    pub more : p.had ≤ p.took
+    pub untaken : p.tried ≡ false → p.took ≡ p.had
+
+module _ {A W T : Type 0} (R : Rules A W) (K : List ℕ → List (Move A) → T → Type 0) where
+  -- a session whose bytes are kept, with its rest
+  pub record Keeping (p : Part A) (s : Session T) (rest : List ℕ) : Type 0 where
+    pub rest_is : rest ≡ due R p
+    pub asked_all : R.wanted p.given (asked R p.moves)
+    pub whole : each_whole R p.moves ≡ true
+    pub knows : K p.given p.moves s.talk
+    pub owed : s.owes ≡ true → (p.tried ≡ false) × (must R p ≡ true)
+    pub offered : s.owes ≡ false → Offered R p
+
+  -- a session
+  pub record Sits (told : Option PortsTold) (box : List (ℕ × List ℕ)) (p : Part A) (s : Session T) : Type 0 where
+    pub rest_there : HasRest box s.conn
+    pub opening : is_up s.fate ≡ true → IsOpen s.conn told
+    pub up : is_open p ≡ is_up s.fate
+    pub counts : Counts R p
+    pub keeping : keeps s.fate ≡ true → Keeping p s (held box s.conn)
+    pub fate_fits : FateFits R p s.fate
+    pub asked_all : asks_all s.fate ≡ true → R.wanted p.given (asked R p.moves)
+
+  -- the sessions and all else after the steps
+  pub record Stands (start : Option PortsTold) (ss : List (Step A)) (w : World T) : Type 0 where
+    pub entries : w.mine ≡ own R ss
+    pub telling : w.told ≡ option_map (told_after R ss) start
+    pub conns_are : conns w.sessions ≡ there ss
+    pub keys_are : keys w.box ≡ there ss
+    pub sound : Sound R ss
+    pub counted : w.starved ≡ min (starved_in ss) (2 ^ 64 - 1)
+    pub apart : Apart (conns w.sessions)
+    pub each : Each (λ (s : Session T). Sits w.told w.box (part R ss s.conn) s) w.sessions

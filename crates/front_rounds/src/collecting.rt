@@ -1,0 +1,152 @@
+//! Replies are collected until none comes.
+ghost use Rattle.std.specs.Prelude.{◌≡◌, ◌+◌, [], true, false, ℕ, List, Option, MatchResult, OnErr};
+ghost use Rattle.front_rounds.specs.Calls.{SameSeat};
+ghost use Rattle.front_rounds.specs.Steps.{Step};
+ghost use Rattle.front_rounds.specs.inner.Sessions.{worse};
+ghost use Rattle.front_rounds.specs.inner.Stands.{world};
+ghost use Rattle.front_rounds.specs.inner.Stages.{RepliesOne, AnswersWorn, Collects, CollectsOne, CanOffer, CutShort};
+ghost use Rattle.port_trait.specs.Boxes.{HasRest};
+ghost use Rattle.port_trait.specs.Told.{PortsTold};
+ghost use Rattle.port_trait.specs.declared.events.PortEvent.{PortEvent};
+
+use crate::farm::{Farm, Worn};
+use crate::fates::{Fate, Reason};
+use crate::front::Front;
+use crate::hearing::{is_kept, owes_after, settle, wake_desk};
+use crate::sessions::{Desk, Session, place_of};
+use farm_history::{Collected, Outcome, Reply};
+use port_trait::Outbox;
+use std::alloc::Global;
+use std::sync::Wait;
+
+/// Of an earlier fate and a later one: the later, if it is an end.
+fn worse_of(old: Fate, new: Fate) -> Fate
+    ensures { result ≡ worse old new }
+{
+    match new {
+        Fate::Stays => old,
+        Fate::Leaves(why) => Fate::Leaves(why),
+    }
+}
+
+/// A reply comes for one session.
+fn reply_one<R: Wait, M: Farm, F: Front<M>>(
+    rt: &R,
+    alloc: Global,
+    front: &F,
+    farm: &M,
+    seat: &mut M::Seat,
+    session: &mut Session<F::Talk>,
+    outbox: &mut Outbox,
+    said: &mut Vec<u8>,
+    reply: Reply,
+) -> Result<(), Worn>
+    requires seat { (M.seats farm.now).is_seat seat.old }
+    requires number { (M.seats farm.now).number seat.old ≡ (F.rules front.now farm.now).number + 1 }
+    requires rest { HasRest outbox.old session.old.conn }
+    ensures seat { SameSeat (M.seats farm.now) seat.old seat.new }
+    ensures worn { OnErr result ((M.seats farm.now).worn seat.new ≡ true) }
+    ensures replied { MatchResult result
+        (λ _. RepliesOne (F.rules front.now farm.now) F.knows reply ((M.seats farm.now).mine seat.old) ((M.seats farm.now).mine seat.new) session.old session.new outbox.old outbox.new)
+        (λ _. AnswersWorn (F.rules front.now farm.now) F.knows reply ((M.seats farm.now).mine seat.old) ((M.seats farm.now).mine seat.new) session.old) }
+{
+    if !is_kept(session.fate) {
+        return Ok(());
+    }
+    if reply.outcome == Outcome::Cut {
+        session.fate = Fate::Leaves(Reason::Cut);
+        return Ok(());
+    }
+    said.clear();
+    let Ok(fate) = front.reply(rt, alloc, farm, seat, &mut session.talk, reply, said) else {
+        return Err(Worn);
+    };
+    session.owes = owes_after(session.owes, said.as_slice(), Fate::Stays);
+    let fate = worse_of(session.fate, fate);
+    session.fate = settle(outbox, session.conn, said.as_slice(), fate);
+    Ok(())
+}
+
+/// One Collect, with all that its reply makes.
+fn collect_one<R: Wait, M: Farm, F: Front<M>>(
+    rt: &R,
+    alloc: Global,
+    front: &F,
+    farm: &M,
+    seat: &mut M::Seat,
+    desk: &mut Desk<F::Talk>,
+) -> Result<Collected, Worn>
+    requires seat { (M.seats farm.now).is_seat seat.old }
+    requires number { (M.seats farm.now).number seat.old ≡ (F.rules front.now farm.now).number + 1 }
+    requires ready { (e : PortEvent) × ((start told : Option PortsTold) × ((ss : List (Step F.Act)) × Collects (F.rules front.now farm.now) F.knows e start ss (world told ((M.seats farm.now).mine seat.old) desk.old))) }
+    ensures seat { SameSeat (M.seats farm.now) seat.old seat.new }
+    ensures worn { OnErr result ((M.seats farm.now).worn seat.new ≡ true) }
+    ensures goes { (e : PortEvent) (start told : Option PortsTold) (ss : List (Step F.Act))
+        → Collects (F.rules front.now farm.now) F.knows e start ss (world told ((M.seats farm.now).mine seat.old) desk.old)
+        → MatchResult result
+        (λ x. CollectsOne (F.rules front.now farm.now) F.knows e start (world told ((M.seats farm.now).mine seat.new) desk.new) x)
+        (λ _. CutShort (F.rules front.now farm.now) F.knows start told ((M.seats farm.now).mine seat.new)) }
+{
+    let Ok(collected) = farm.collect(rt, seat, front.number(farm)) else {
+        return Err(Worn);
+    };
+    match collected {
+        Collected::Reply(reply) => {
+            let Some(place) = place_of(desk.sessions.as_slice(), reply.conn.number) else {
+                return Ok(collected);
+            };
+            let Ok(()) = reply_one(
+                rt,
+                alloc,
+                front,
+                farm,
+                seat,
+                &mut desk.sessions[place],
+                &mut desk.outbox,
+                &mut desk.said,
+                reply,
+            ) else {
+                return Err(Worn);
+            };
+            Ok(collected)
+        }
+        Collected::Stopped => {
+            wake_desk(desk);
+            Ok(collected)
+        }
+        Collected::Empty => Ok(collected),
+    }
+}
+
+/// Collects until no reply comes, and answers whether the farm was stopped.
+pub fn collect_all<R: Wait, M: Farm, F: Front<M>>(
+    rt: &R,
+    alloc: Global,
+    front: &F,
+    farm: &M,
+    seat: &mut M::Seat,
+    desk: &mut Desk<F::Talk>,
+) -> Result<bool, Worn>
+    requires seat { (M.seats farm.now).is_seat seat.old }
+    requires number { (M.seats farm.now).number seat.old ≡ (F.rules front.now farm.now).number + 1 }
+    requires ready { (e : PortEvent) × ((start told : Option PortsTold) × ((ss : List (Step F.Act)) × Collects (F.rules front.now farm.now) F.knows e start ss (world told ((M.seats farm.now).mine seat.old) desk.old))) }
+    ensures seat { SameSeat (M.seats farm.now) seat.old seat.new }
+    ensures worn { OnErr result ((M.seats farm.now).worn seat.new ≡ true) }
+    ensures goes { (e : PortEvent) (start told : Option PortsTold) (ss : List (Step F.Act))
+        → Collects (F.rules front.now farm.now) F.knows e start ss (world told ((M.seats farm.now).mine seat.old) desk.old)
+        → MatchResult result
+        (λ stopped. CanOffer (F.rules front.now farm.now) F.knows e stopped start (world told ((M.seats farm.now).mine seat.new) desk.new))
+        (λ _. CutShort (F.rules front.now farm.now) F.knows start told ((M.seats farm.now).mine seat.new)) }
+{
+    for _ in rt.forever() {
+        let Ok(collected) = collect_one(rt, alloc, front, farm, seat, desk) else {
+            return Err(Worn);
+        };
+        match collected {
+            Collected::Reply(_) => {}
+            Collected::Stopped => return Ok(true),
+            Collected::Empty => return Ok(false),
+        }
+    }
+    unreachable!()
+}

@@ -1,0 +1,312 @@
+//! A round begins: its event, and the requests that become whole by it.
+ghost use Rattle.std.specs.Prelude.{◌≡◌, ◌+◌, ◌-◌, ◌^◌, ◌++◌, ◌∷◌, [], true, false, ℕ, List, Option, None, MatchResult, OnErr, OnOk, cond, min, map, nat_lt, length, option_map};
+ghost use Rattle.farm_history.specs.Entries.{Entry};
+ghost use Rattle.front_rounds.specs.Calls.{SameSeat};
+ghost use Rattle.front_rounds.specs.Rounds.{BeginsRound};
+ghost use Rattle.front_rounds.specs.Front.{keeps};
+ghost use Rattle.front_rounds.specs.inner.Sessions.{owing, woken, keys, conns, newcomer};
+ghost use Rattle.front_rounds.specs.inner.Stands.{world};
+ghost use Rattle.front_rounds.specs.inner.Stages.{Settles, HearsOne, HearsWorn, Comes, HasBegun, CutShort, Admits, MarksAt, marked};
+ghost use Rattle.port_trait.specs.Boxes.{HasRest, rest_at};
+ghost use Rattle.port_trait.specs.Told.{PortsTold, IsOpen, closed};
+ghost use Rattle.port_trait.specs.declared.events.PortEvent.TheVariants as event;
+
+use crate::farm::{Farm, Worn};
+use crate::fates::{Fate, Reason};
+use crate::front::Front;
+use crate::sessions::{Desk, Session, place_of};
+use farm_base::NoMemory;
+use port_trait::{BoxFault, Outbox, PortEvent, Ports};
+use std::alloc::Global;
+use std::sync::Wait;
+
+/// The most sessions of a front.
+const SESSIONS: usize = 1_024;
+
+/// Whether the bytes of a session are still kept and answered.
+pub fn is_kept(fate: Fate) -> bool
+    ensures { result ≡ keeps fate }
+{
+    matches!(fate, Fate::Stays | Fate::Leaves(Reason::Unread))
+}
+
+/// Whether a session owes an offer, after something was said, or nothing.
+pub fn owes_after(owes: bool, said: &[u8], fate: Fate) -> bool
+    ensures { result ≡ owing owes said.now fate }
+{
+    owes || !said.is_empty() || matches!(fate, Fate::Leaves(Reason::Unread))
+}
+
+/// Puts what was said behind the rest of a connection whose bytes are kept.
+pub fn settle(outbox: &mut Outbox, conn: u32, said: &[u8], fate: Fate) -> Fate
+    requires { HasRest outbox.old conn }
+    ensures { Settles conn said.now fate result outbox.old outbox.new }
+{
+    if !is_kept(fate) {
+        return fate;
+    }
+    match outbox.answer(conn, said) {
+        Ok(()) => fate,
+        Err(BoxFault::Full) => Fate::Leaves(Reason::Full),
+        Err(BoxFault::NoMemory) => Fate::Leaves(Reason::Starved),
+    }
+}
+
+/// A piece is heard on one session.
+fn hear_one<R: Wait, M: Farm, F: Front<M>>(
+    rt: &R,
+    alloc: Global,
+    front: &F,
+    farm: &M,
+    seat: &mut M::Seat,
+    session: &mut Session<F::Talk>,
+    outbox: &mut Outbox,
+    said: &mut Vec<u8>,
+    piece: &[u8],
+) -> Result<(), Worn>
+    requires seat { (M.seats farm.now).is_seat seat.old }
+    requires number { (M.seats farm.now).number seat.old ≡ (F.rules front.now farm.now).number + 1 }
+    requires rest { HasRest outbox.old session.old.conn }
+    ensures seat { SameSeat (M.seats farm.now) seat.old seat.new }
+    ensures worn { OnErr result ((M.seats farm.now).worn seat.new ≡ true) }
+    ensures heard { MatchResult result
+        (λ _. HearsOne (F.rules front.now farm.now) F.knows piece.now ((M.seats farm.now).mine seat.old) ((M.seats farm.now).mine seat.new) session.old session.new outbox.old outbox.new)
+        (λ _. HearsWorn (F.rules front.now farm.now) F.knows session.old.conn piece.now ((M.seats farm.now).mine seat.old) ((M.seats farm.now).mine seat.new) session.old.talk) }
+{
+    said.clear();
+    let Ok(fate) = front.hear(
+        rt,
+        alloc,
+        farm,
+        seat,
+        session.conn,
+        &mut session.talk,
+        piece,
+        said,
+    ) else {
+        return Err(Worn);
+    };
+    session.owes = owes_after(session.owes, said.as_slice(), fate);
+    session.fate = settle(outbox, session.conn, said.as_slice(), fate);
+    Ok(())
+}
+
+/// A piece came on a connection.
+fn hear<R: Wait, M: Farm, F: Front<M>>(
+    rt: &R,
+    alloc: Global,
+    front: &F,
+    farm: &M,
+    seat: &mut M::Seat,
+    desk: &mut Desk<F::Talk>,
+    conn: u32,
+    piece: &[u8],
+) -> Result<(), Worn>
+    requires seat { (M.seats farm.now).is_seat seat.old }
+    requires number { (M.seats farm.now).number seat.old ≡ (F.rules front.now farm.now).number + 1 }
+    requires ready { (start told was : Option PortsTold) × Comes (F.rules front.now farm.now) F.knows (event.Bytes conn) piece.now start told (world was ((M.seats farm.now).mine seat.old) desk.old) }
+    ensures seat { SameSeat (M.seats farm.now) seat.old seat.new }
+    ensures worn { OnErr result ((M.seats farm.now).worn seat.new ≡ true) }
+    ensures goes { (start told was : Option PortsTold)
+        → Comes (F.rules front.now farm.now) F.knows (event.Bytes conn) piece.now start told (world was ((M.seats farm.now).mine seat.old) desk.old)
+        → MatchResult result
+        (λ _. HasBegun (F.rules front.now farm.now) F.knows (event.Bytes conn) start (world told ((M.seats farm.now).mine seat.new) desk.new))
+        (λ _. CutShort (F.rules front.now farm.now) F.knows start told ((M.seats farm.now).mine seat.new)) }
+{
+    let Some(place) = place_of(desk.sessions.as_slice(), conn) else {
+        return Ok(());
+    };
+    hear_one(
+        rt,
+        alloc,
+        front,
+        farm,
+        seat,
+        &mut desk.sessions[place],
+        &mut desk.outbox,
+        &mut desk.said,
+        piece,
+    )
+}
+
+/// Makes a session of a connection that is not there, if there is memory for it.
+fn add<T: Drop>(alloc: Global, desk: &mut Desk<T>, conn: u32, talk: T) -> Result<(), NoMemory>
+    requires { rest_at desk.old.outbox conn ≡ None }
+    ensures done { OnOk result ((desk.new.sessions.items ≡ desk.old.sessions.items ++ newcomer conn talk ∷ []) × (desk.new.outbox ≡ desk.old.outbox ++ (conn, []) ∷ []) × (desk.new.starved ≡ desk.old.starved)) }
+    ensures refused { OnErr result ((desk.new.sessions.items ≡ desk.old.sessions.items) × (desk.new.outbox ≡ desk.old.outbox) × (desk.new.starved ≡ desk.old.starved)) }
+{
+    desk.sessions.reserve(1)?;
+    desk.outbox.begin(alloc, conn)?;
+    desk.sessions
+        .push(Session {
+            conn,
+            talk,
+            fate: Fate::Stays,
+            owes: false,
+        })
+        .unwrap();
+    Ok(())
+}
+
+/// Makes a session of a connection, unless it is there, or 1,024 are, or memory is wanting; answers
+/// whether it did.
+fn admit<M: Farm, F: Front<M>>(
+    alloc: Global,
+    front: &F,
+    farm: &M,
+    desk: &mut Desk<F::Talk>,
+    conn: u32,
+) -> bool
+    requires { keys desk.old.outbox ≡ conns desk.old.sessions.items }
+    ensures { Admits (F.rules front.now farm.now) F.knows conn desk.old desk.new result }
+{
+    if desk.sessions.len() >= SESSIONS {
+        return false;
+    }
+    match place_of(desk.sessions.as_slice(), conn) {
+        Some(_) => false,
+        None => match add(alloc, desk, conn, front.begin(alloc, farm)) {
+            Ok(()) => true,
+            Err(NoMemory) => false,
+        },
+    }
+}
+
+/// The count of the starved after a connection was refused.
+fn refused_after(starved: u64, there: usize) -> u64
+    ensures { result ≡ cond (nat_lt there 1024) (min (starved + 1) (2 ^ 64 - 1)) starved }
+{
+    if there < SESSIONS {
+        starved.saturating_add(1)
+    } else {
+        starved
+    }
+}
+
+/// Closes a connection that got no session.
+fn refuse<T, P: Ports>(desk: &mut Desk<T>, ports: &mut P, conn: u32)
+    requires { IsOpen conn (P.state ports.old).told }
+    ensures told { (P.state ports.new).told ≡ option_map (closed conn) (P.state ports.old).told }
+    ensures sessions { desk.new.sessions.items ≡ desk.old.sessions.items }
+    ensures outbox { desk.new.outbox ≡ desk.old.outbox }
+    ensures starved { desk.new.starved ≡ cond (nat_lt (length desk.old.sessions.items) 1024) (min (desk.old.starved + 1) (2 ^ 64 - 1)) desk.old.starved }
+{
+    ports.close(conn);
+    desk.starved = refused_after(desk.starved, desk.sessions.len());
+}
+
+/// A connection was opened: it gets a session, or is closed.
+fn open<M: Farm, F: Front<M>, P: Ports>(
+    alloc: Global,
+    front: &F,
+    farm: &M,
+    desk: &mut Desk<F::Talk>,
+    ports: &mut P,
+    piece: &[u8],
+    conn: u32,
+)
+    requires ready { (start was : Option PortsTold) × ((mine : List Entry) × Comes (F.rules front.now farm.now) F.knows (event.Opened conn) piece.now start (P.state ports.old).told (world was mine desk.old)) }
+    ensures goes { (start was : Option PortsTold) (mine : List Entry)
+        → Comes (F.rules front.now farm.now) F.knows (event.Opened conn) piece.now start (P.state ports.old).told (world was mine desk.old)
+        → HasBegun (F.rules front.now farm.now) F.knows (event.Opened conn) start (world (P.state ports.new).told mine desk.new) }
+{
+    match admit(alloc, front, farm, desk, conn) {
+        true => {}
+        false => refuse(desk, ports, conn),
+    }
+}
+
+/// The session as its Writable, its Ended or its Lost leaves it.
+fn mark<T>(session: &mut Session<T>, event: PortEvent)
+    ensures { session.new ≡ marked event session.old }
+{
+    match event {
+        PortEvent::Writable(_) => session.owes = true,
+        PortEvent::Ended(_) => session.fate = Fate::Leaves(Reason::Ended),
+        PortEvent::Lost(_) => session.fate = Fate::Leaves(Reason::Lost),
+        _ => {}
+    }
+}
+
+/// The session of a connection as its Writable, its Ended or its Lost leaves it.
+fn mark_at<T>(desk: &mut Desk<T>, event: PortEvent, conn: u32)
+    ensures { MarksAt event conn desk.old desk.new }
+{
+    let Some(place) = place_of(desk.sessions.as_slice(), conn) else {
+        return;
+    };
+    mark(&mut desk.sessions[place], event);
+}
+
+/// An event came that begins a round.
+pub fn take_event<R: Wait, M: Farm, F: Front<M>, P: Ports>(
+    rt: &R,
+    alloc: Global,
+    front: &F,
+    farm: &M,
+    seat: &mut M::Seat,
+    desk: &mut Desk<F::Talk>,
+    ports: &mut P,
+    piece: &[u8],
+    event: PortEvent,
+) -> Result<(), Worn>
+    requires seat { (M.seats farm.now).is_seat seat.old }
+    requires number { (M.seats farm.now).number seat.old ≡ (F.rules front.now farm.now).number + 1 }
+    requires begins { BeginsRound event }
+    requires ready { (start was : Option PortsTold) × Comes (F.rules front.now farm.now) F.knows event piece.now start (P.state ports.old).told (world was ((M.seats farm.now).mine seat.old) desk.old) }
+    ensures seat { SameSeat (M.seats farm.now) seat.old seat.new }
+    ensures worn { OnErr result ((M.seats farm.now).worn seat.new ≡ true) }
+    ensures goes { (start was : Option PortsTold)
+        → Comes (F.rules front.now farm.now) F.knows event piece.now start (P.state ports.old).told (world was ((M.seats farm.now).mine seat.old) desk.old)
+        → MatchResult result
+        (λ _. HasBegun (F.rules front.now farm.now) F.knows event start (world (P.state ports.new).told ((M.seats farm.now).mine seat.new) desk.new))
+        (λ _. CutShort (F.rules front.now farm.now) F.knows start (P.state ports.new).told ((M.seats farm.now).mine seat.new)) }
+{
+    match event {
+        PortEvent::Opened(conn) => {
+            open(alloc, front, farm, desk, ports, piece, conn);
+            Ok(())
+        }
+        PortEvent::Bytes(conn) => hear(rt, alloc, front, farm, seat, desk, conn, piece),
+        PortEvent::Writable(conn) => {
+            mark_at(desk, event, conn);
+            Ok(())
+        }
+        PortEvent::Ended(conn) => {
+            mark_at(desk, event, conn);
+            Ok(())
+        }
+        PortEvent::Lost(conn) => {
+            mark_at(desk, event, conn);
+            Ok(())
+        }
+        PortEvent::Woken => {
+            wake_desk(desk);
+            Ok(())
+        }
+        PortEvent::Finished => {
+            wake_desk(desk);
+            Ok(())
+        }
+        PortEvent::Broken => unreachable!(),
+        PortEvent::NoMemory => unreachable!(),
+    }
+}
+
+/// Every session owes an offer.
+fn wake_all<T>(sessions: &mut [Session<T>])
+    ensures { sessions.new ≡ map woken sessions.old }
+{
+    for session in sessions.iter_mut() {
+        session.owes = true;
+    }
+}
+
+/// Every session of the desk owes an offer.
+pub fn wake_desk<T>(desk: &mut Desk<T>)
+    ensures sessions { desk.new.sessions.items ≡ map woken desk.old.sessions.items }
+    ensures outbox { desk.new.outbox ≡ desk.old.outbox }
+    ensures starved { desk.new.starved ≡ desk.old.starved }
+{
+    wake_all(desk.sessions.as_mut_slice());
+}

@@ -1,0 +1,19 @@
+//! What the three fronts share: sessions, the bytes that were answered and not yet taken, rounds and
+//! ends. A front is a trait of five calls, with its rules; `serve` is written and proved once, for any
+//! front, any farm and any ports.
+#![tactic(auto)]
+
+mod closing;
+mod collecting;
+mod farm;
+mod fates;
+mod front;
+mod hearing;
+mod offering;
+mod rounds;
+mod sessions;
+
+pub use farm::{Farm, Worn};
+pub use fates::{Fate, Reason};
+pub use front::Front;
+pub use rounds::serve;

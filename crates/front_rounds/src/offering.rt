@@ -1,0 +1,123 @@
+//! Bytes are offered to the connections that have a reason to get them.
+ghost use Rattle.std.specs.Prelude.{◌≡◌, ◌+◌, [], true, false, ℕ, List, Option, length, nat_eq};
+ghost use Rattle.farm_history.specs.Lists.{Each};
+ghost use Rattle.front_rounds.specs.inner.Sessions.{is_up};
+ghost use Rattle.front_rounds.specs.inner.Stands.{world};
+ghost use Rattle.front_rounds.specs.inner.Stages.{Gives, OffersOne, CanOffer, CanLeave, fate_after, part_or_all};
+ghost use Rattle.farm_history.specs.Entries.{Entry};
+ghost use Rattle.port_trait.specs.Boxes.{HasRest, held};
+ghost use Rattle.port_trait.specs.Told.{PortsTold, IsOpen};
+ghost use Rattle.port_trait.specs.declared.events.PortEvent.{PortEvent};
+ghost use Rattle.std.specs.Prelude.{Bool};
+
+use crate::farm::Farm;
+use crate::fates::{Fate, Reason};
+use crate::front::Front;
+use crate::hearing::is_kept;
+use crate::sessions::{Desk, Session};
+use port_trait::{Outbox, Ports, SendFault};
+
+/// What an offer of a connection's rest did.
+#[derive(Clone, Copy, Debug, PartialEq, Eq)]
+pub enum Gave {
+    /// Nothing was due.
+    Nothing,
+    /// Some bytes are left.
+    Part,
+    /// All bytes were taken.
+    All,
+    /// The send failed.
+    Failed,
+    /// Want of memory; nothing was taken.
+    NoMemory,
+}
+
+/// Offers the connection its rest.
+fn give<P: Ports>(outbox: &mut Outbox, conn: u32, ports: &mut P) -> Gave
+    requires rest { HasRest outbox.old conn }
+    requires open { IsOpen conn (P.state ports.old).told }
+    ensures { Gives conn (held outbox.old conn) outbox.old outbox.new (P.state ports.old).told (P.state ports.new).told result }
+{
+    if outbox.rest(conn).is_empty() {
+        return Gave::Nothing;
+    }
+    match outbox.offer(conn, ports) {
+        Ok(()) => gave_by(outbox, conn),
+        Err(SendFault::Failed) => Gave::Failed,
+        Err(SendFault::NoMemory) => Gave::NoMemory,
+    }
+}
+
+/// Whether all is taken.
+fn gave_by(outbox: &Outbox, conn: u32) -> Gave
+    requires { HasRest outbox.now conn }
+    ensures { result ≡ part_or_all (held outbox.now conn) }
+{
+    if outbox.rest(conn).is_empty() {
+        Gave::All
+    } else {
+        Gave::Part
+    }
+}
+
+/// The fate of a session after an offer.
+fn fate_of_offer(gave: Gave, done: bool, fate: Fate) -> Fate
+    ensures { result ≡ fate_after gave done fate }
+{
+    match gave {
+        Gave::Nothing | Gave::Part => fate,
+        Gave::All => {
+            if done {
+                Fate::Leaves(Reason::SentWhole)
+            } else {
+                fate
+            }
+        }
+        Gave::Failed => Fate::Leaves(Reason::SendFailed),
+        Gave::NoMemory => Fate::Leaves(Reason::Starved),
+    }
+}
+
+/// Offers one session its bytes, if it owes that.
+fn offer_one<M: Farm, F: Front<M>, P: Ports>(
+    front: &F,
+    farm: &M,
+    session: &mut Session<F::Talk>,
+    outbox: &mut Outbox,
+    ports: &mut P,
+)
+    requires rest { HasRest outbox.old session.old.conn }
+    requires open { is_up session.old.fate ≡ true → IsOpen session.old.conn (P.state ports.old).told }
+    ensures { OffersOne (F.rules front.now farm.now) F.knows session.old session.new outbox.old outbox.new (P.state ports.old).told (P.state ports.new).told }
+{
+    if !session.owes || !is_kept(session.fate) {
+        return;
+    }
+    session.owes = false;
+    let gave = give(outbox, session.conn, ports);
+    let done = front.is_done(farm, &session.talk);
+    session.fate = fate_of_offer(gave, done, session.fate);
+}
+
+/// Offers every session its bytes that owes that.
+pub fn offer_all<M: Farm, F: Front<M>, P: Ports>(
+    front: &F,
+    farm: &M,
+    desk: &mut Desk<F::Talk>,
+    ports: &mut P,
+)
+    requires ready { (e : PortEvent) × ((stopped : Bool) × ((start : Option PortsTold) × ((mine : List Entry) × CanOffer (F.rules front.now farm.now) F.knows e stopped start (world (P.state ports.old).told mine desk.old)))) }
+    ensures goes { (e : PortEvent) (stopped : Bool) (start : Option PortsTold) (mine : List Entry)
+        → CanOffer (F.rules front.now farm.now) F.knows e stopped start (world (P.state ports.old).told mine desk.old)
+        → CanLeave (F.rules front.now farm.now) F.knows e stopped start (world (P.state ports.new).told mine desk.new) }
+{
+    for place in 0..desk.sessions.len() {
+        offer_one(
+            front,
+            farm,
+            &mut desk.sessions[place],
+            &mut desk.outbox,
+            ports,
+        );
+    }
+}

@@ -1,0 +1,219 @@
+//! Rounds, one after another, until the front ends.
+ghost use Rattle.std.specs.Prelude.{◌≡◌, ◌+◌, [], true, false, ℕ, List, Option, Some, map, MatchResult, OnErr};
+ghost use Rattle.farm_history.specs.Entries.{Entry};
+ghost use Rattle.front_rounds.specs.Calls.{SameSeat};
+ghost use Rattle.front_rounds.specs.Serving.{Serves, pair_of};
+ghost use Rattle.front_rounds.specs.inner.Stands.{world};
+ghost use Rattle.front_rounds.specs.inner.Stages.{Comes, CanGo, Goes, CutShort, EndsEarly, StopsAfter, end_of};
+ghost use Rattle.front_rounds.specs.Rounds.{BeginsRound};
+ghost use Rattle.port_trait.specs.Told.{PortsTold};
+
+use crate::closing::close_all;
+use crate::collecting::collect_all;
+use crate::farm::{Farm, Worn};
+use crate::front::Front;
+use crate::hearing::take_event;
+use crate::offering::offer_all;
+use crate::sessions::Desk;
+use port_trait::{FrontDone, FrontEnd, PortEvent, Ports};
+use std::alloc::Global;
+use std::sync::Wait;
+
+/// How the front ends after a round, if it does.
+fn end_after(event: PortEvent, stopped: bool) -> Option<FrontEnd>
+    ensures { result ≡ end_of event stopped }
+{
+    if stopped {
+        return Some(FrontEnd::Stopped);
+    }
+    match event {
+        PortEvent::Finished => Some(FrontEnd::Finished),
+        _ => None,
+    }
+}
+
+/// How the front ends at an event that begins no round.
+fn early_end(event: PortEvent) -> Option<FrontEnd>
+    ensures { EndsEarly event result }
+{
+    match event {
+        PortEvent::Broken => Some(FrontEnd::Broken),
+        PortEvent::NoMemory => Some(FrontEnd::NoMemory),
+        _ => None,
+    }
+}
+
+/// A round, from its event on.
+fn play<R: Wait, M: Farm, F: Front<M>, P: Ports>(
+    rt: &R,
+    alloc: Global,
+    front: &F,
+    farm: &M,
+    seat: &mut M::Seat,
+    desk: &mut Desk<F::Talk>,
+    ports: &mut P,
+    piece: &[u8],
+    event: PortEvent,
+) -> Result<Option<FrontEnd>, Worn>
+    requires seat { (M.seats farm.now).is_seat seat.old }
+    requires number { (M.seats farm.now).number seat.old ≡ (F.rules front.now farm.now).number + 1 }
+    requires begins { BeginsRound event }
+    requires ready { (start was : Option PortsTold) × Comes (F.rules front.now farm.now) F.knows event piece.now start (P.state ports.old).told (world was ((M.seats farm.now).mine seat.old) desk.old) }
+    ensures seat { SameSeat (M.seats farm.now) seat.old seat.new }
+    ensures worn { OnErr result ((M.seats farm.now).worn seat.new ≡ true) }
+    ensures goes { (start was : Option PortsTold)
+        → Comes (F.rules front.now farm.now) F.knows event piece.now start (P.state ports.old).told (world was ((M.seats farm.now).mine seat.old) desk.old)
+        → MatchResult result
+        (λ end. Goes (F.rules front.now farm.now) F.knows start (world (P.state ports.new).told ((M.seats farm.now).mine seat.new) desk.new) end)
+        (λ _. CutShort (F.rules front.now farm.now) F.knows start (P.state ports.new).told ((M.seats farm.now).mine seat.new)) }
+{
+    let Ok(()) = take_event(rt, alloc, front, farm, seat, desk, ports, piece, event) else {
+        return Err(Worn);
+    };
+    let Ok(stopped) = collect_all(rt, alloc, front, farm, seat, desk) else {
+        return Err(Worn);
+    };
+    offer_all(front, farm, desk, ports);
+    let Ok(()) = close_all(rt, front, farm, seat, desk, ports) else {
+        return Err(Worn);
+    };
+    Ok(end_after(event, stopped))
+}
+
+/// One event, and the round that begins with it.
+fn round<R: Wait, M: Farm, F: Front<M>, P: Ports>(
+    rt: &R,
+    alloc: Global,
+    front: &F,
+    farm: &M,
+    seat: &mut M::Seat,
+    desk: &mut Desk<F::Talk>,
+    ports: &mut P,
+    room: &mut Vec<u8>,
+) -> Result<Option<FrontEnd>, Worn>
+    requires seat { (M.seats farm.now).is_seat seat.old }
+    requires number { (M.seats farm.now).number seat.old ≡ (F.rules front.now farm.now).number + 1 }
+    requires ready { (start : Option PortsTold) × CanGo (F.rules front.now farm.now) F.knows start (world (P.state ports.old).told ((M.seats farm.now).mine seat.old) desk.old) }
+    ensures seat { SameSeat (M.seats farm.now) seat.old seat.new }
+    ensures worn { OnErr result ((M.seats farm.now).worn seat.new ≡ true) }
+    ensures goes { (start : Option PortsTold)
+        → CanGo (F.rules front.now farm.now) F.knows start (world (P.state ports.old).told ((M.seats farm.now).mine seat.old) desk.old)
+        → MatchResult result
+        (λ end. Goes (F.rules front.now farm.now) F.knows start (world (P.state ports.new).told ((M.seats farm.now).mine seat.new) desk.new) end)
+        (λ _. CutShort (F.rules front.now farm.now) F.knows start (P.state ports.new).told ((M.seats farm.now).mine seat.new)) }
+{
+    let event = ports.next(room);
+    match early_end(event) {
+        Some(end) => Ok(Some(end)),
+        None => play(
+            rt,
+            alloc,
+            front,
+            farm,
+            seat,
+            desk,
+            ports,
+            room.as_slice(),
+            event,
+        ),
+    }
+}
+
+/// Rounds until the front ends.
+fn run<R: Wait, M: Farm, F: Front<M>, P: Ports>(
+    rt: &R,
+    alloc: Global,
+    front: &F,
+    farm: &M,
+    seat: &mut M::Seat,
+    desk: &mut Desk<F::Talk>,
+    ports: &mut P,
+) -> Result<FrontEnd, Worn>
+    requires seat { (M.seats farm.now).is_seat seat.old }
+    requires number { (M.seats farm.now).number seat.old ≡ (F.rules front.now farm.now).number + 1 }
+    requires ready { (start : Option PortsTold) × CanGo (F.rules front.now farm.now) F.knows start (world (P.state ports.old).told ((M.seats farm.now).mine seat.old) desk.old) }
+    ensures seat { SameSeat (M.seats farm.now) seat.old seat.new }
+    ensures worn { OnErr result ((M.seats farm.now).worn seat.new ≡ true) }
+    ensures goes { (start : Option PortsTold)
+        → CanGo (F.rules front.now farm.now) F.knows start (world (P.state ports.old).told ((M.seats farm.now).mine seat.old) desk.old)
+        → MatchResult result
+        (λ end. Goes (F.rules front.now farm.now) F.knows start (world (P.state ports.new).told ((M.seats farm.now).mine seat.new) desk.new) (Some end))
+        (λ _. CutShort (F.rules front.now farm.now) F.knows start (P.state ports.new).told ((M.seats farm.now).mine seat.new)) }
+{
+    let mut room = Vec::new(alloc);
+    for _ in rt.forever() {
+        let Ok(end) = round(rt, alloc, front, farm, seat, desk, ports, &mut room) else {
+            return Err(Worn);
+        };
+        if let Some(end) = end {
+            return Ok(end);
+        }
+    }
+    unreachable!()
+}
+
+/// A front that ends otherwise than Finished stops the farm.
+fn stop_after<R: Wait, M: Farm>(rt: &R, farm: &M, seat: &mut M::Seat, end: FrontEnd) -> FrontEnd
+    requires { (M.seats farm.now).is_seat seat.old }
+    ensures seat { SameSeat (M.seats farm.now) seat.old seat.new }
+    ensures stops { StopsAfter end result ((M.seats farm.now).mine seat.old) ((M.seats farm.now).mine seat.new) ((M.seats farm.now).worn seat.new) }
+{
+    if end == FrontEnd::Finished {
+        return FrontEnd::Finished;
+    }
+    match farm.stop(rt, seat) {
+        Ok(()) => end,
+        Err(Worn) => FrontEnd::Worn,
+    }
+}
+
+/// All rounds, and the front's end.
+fn serve_at<R: Wait, M: Farm, F: Front<M>, P: Ports>(
+    rt: &R,
+    alloc: Global,
+    front: &F,
+    farm: &M,
+    seat: &mut M::Seat,
+    desk: &mut Desk<F::Talk>,
+    ports: &mut P,
+) -> FrontEnd
+    requires seat { (M.seats farm.now).is_seat seat.old }
+    requires number { (M.seats farm.now).number seat.old ≡ (F.rules front.now farm.now).number + 1 }
+    requires ready { CanGo (F.rules front.now farm.now) F.knows (P.state ports.old).told (world (P.state ports.old).told ((M.seats farm.now).mine seat.old) desk.old) }
+    ensures seat { SameSeat (M.seats farm.now) seat.old seat.new }
+    ensures served { Serves (F.rules front.now farm.now) (P.state ports.old).told (P.state ports.new).told ((M.seats farm.now).mine seat.new) result desk.new.outbox desk.new.starved ((M.seats farm.now).worn seat.new) }
+{
+    match run(rt, alloc, front, farm, seat, desk, ports) {
+        Ok(end) => stop_after(rt, farm, seat, end),
+        Err(Worn) => FrontEnd::Worn,
+    }
+}
+
+/// Serves the connections of the ports until the front ends. It ends Finished where its ports finished,
+/// Stopped where the farm was stopped, Broken where its ports broke, NoMemory where they found no
+/// memory, and Worn where the farm's limit of turns was drawn. Where it ends otherwise than Finished or
+/// Worn it stops the farm.
+pub fn serve<R: Wait, M: Farm, F: Front<M>, P: Ports>(
+    rt: &R,
+    alloc: Global,
+    front: &F,
+    farm: &M,
+    seat: &mut M::Seat,
+    ports: &mut P,
+) -> FrontDone
+    requires seat { (M.seats farm.now).is_seat seat.old }
+    requires number { (M.seats farm.now).number seat.old ≡ (F.rules front.now farm.now).number + 1 }
+    requires fresh { (M.seats farm.now).mine seat.old ≡ [] }
+    ensures seat { SameSeat (M.seats farm.now) seat.old seat.new }
+    ensures served { Serves (F.rules front.now farm.now) (P.state ports.old).told (P.state ports.new).told ((M.seats farm.now).mine seat.new) result.end (map pair_of result.rests.items) result.starved ((M.seats farm.now).worn seat.new) }
+{
+    let number = front.number(farm);
+    let mut desk = Desk::new(alloc);
+    let end = serve_at(rt, alloc, front, farm, seat, &mut desk, ports);
+    let rests = desk.outbox.into_rests(number);
+    FrontDone {
+        end,
+        rests,
+        starved: desk.starved,
+    }
+}

@@ -1,0 +1,6 @@
+//! The drawing of a job: its metatile's container, as a worker hands it back.
+#![tactic(auto)]
+
+mod drawings;
+
+pub use drawings::draw_job;

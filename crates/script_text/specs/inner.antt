@@ -1,0 +1,4 @@
+-- Words that serve inner contracts alone.
+pub mod Hands
+pub mod Progress
+pub mod Steps

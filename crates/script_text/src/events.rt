@@ -1,0 +1,192 @@
+//! The lines that ask one event of a farm and leave what is in hand alone.
+ghost use Rattle.std.specs.Prelude.{◌≡◌, ◌<◌, ◌^◌, Bool, List, IfOk};
+ghost use Rattle.plain_world.specs.World.{IsTile};
+ghost use Rattle.farm_history.specs.Entries.{Entry};
+ghost use Rattle.farm_stands.specs.Stands.{StandsFor};
+ghost use Rattle.farm_core.specs.Answers.{Lasts};
+ghost use Rattle.script_lines.specs.declared.script.ScriptLine.TheVariants as line;
+ghost use Rattle.script_text.specs.ScriptTexts.{conn_of, spot_of};
+ghost use Rattle.script_text.specs.inner.Steps.{Enters};
+
+use crate::said::{LineAnswer, fetch_said, said};
+use farm_base::{NoMemory, Text};
+use farm_core::Farm;
+use farm_plan::{Cmd, Conn, Spot};
+use plain_world::Tile;
+use script_answers::{
+    ask_line, collect_line, expire_line, leave_line, look_line, renew_line, restyle_line,
+    tally_line, update_line,
+};
+use std::alloc::Global;
+use tile_store::TileStore;
+
+/// A connection of front 0.
+fn conn_at(number: u32) -> Conn
+    ensures { result ≡ conn_of number }
+{
+    Conn { front: 0, number }
+}
+
+/// A spot by the name of its map, which need not be one of the farm.
+fn spot_at<D>(farm: &Farm<D>, map: &Text, place: (u32, u32, u32)) -> Spot
+    ensures { result ≡ spot_of farm.now.plan map.now place.0 place.1 place.2 }
+{
+    let map = farm.map_of(map.as_str().as_bytes());
+    let (z, x, y) = place;
+    Spot { map, z, x, y }
+}
+
+/// `ask C CMD MAP Z X Y`.
+pub(crate) fn ask<D: TileStore>(
+    alloc: Global,
+    farm: &mut Farm<D>,
+    number: u32,
+    cmd: Cmd,
+    map: &Text,
+    place: (u32, u32, u32),
+) -> Result<LineAnswer, NoMemory>
+    requires { farm.old.counts.turns < 2 ^ 63 }
+    ensures step { (told : Bool) (g : List Entry) → StandsFor D.state told farm.old g → Enters D.state told farm.new farm.old.plan (line.Ask number cmd map.now place.0 place.1 place.2) g result }
+    ensures kept { Lasts D.state farm.old farm.new }
+{
+    let spot = spot_at(farm, map, place);
+    let answer = farm.ask(conn_at(number), cmd, spot);
+    said(ask_line(alloc, answer))
+}
+
+/// `update N`.
+pub(crate) fn update<D: TileStore>(
+    alloc: Global,
+    farm: &mut Farm<D>,
+    number: u32,
+) -> Result<LineAnswer, NoMemory>
+    requires { farm.old.counts.turns < 2 ^ 63 }
+    ensures step { (told : Bool) (g : List Entry) → StandsFor D.state told farm.old g → Enters D.state told farm.new farm.old.plan (line.Update number) g result }
+    ensures kept { Lasts D.state farm.old farm.new }
+{
+    let answer = farm.update(alloc, number);
+    said(update_line(alloc, answer))
+}
+
+/// `restyle N`.
+pub(crate) fn restyle<D: TileStore>(
+    alloc: Global,
+    farm: &mut Farm<D>,
+    number: u32,
+) -> Result<LineAnswer, NoMemory>
+    requires { farm.old.counts.turns < 2 ^ 63 }
+    ensures step { (told : Bool) (g : List Entry) → StandsFor D.state told farm.old g → Enters D.state told farm.new farm.old.plan (line.Restyle number) g result }
+    ensures kept { Lasts D.state farm.old farm.new }
+{
+    let answer = farm.restyle(number);
+    said(restyle_line(alloc, answer))
+}
+
+/// `renew N`.
+pub(crate) fn renew<D: TileStore>(
+    alloc: Global,
+    farm: &mut Farm<D>,
+    number: u32,
+) -> Result<LineAnswer, NoMemory>
+    requires { farm.old.counts.turns < 2 ^ 63 }
+    ensures step { (told : Bool) (g : List Entry) → StandsFor D.state told farm.old g → Enters D.state told farm.new farm.old.plan (line.Renew number) g result }
+    ensures kept { Lasts D.state farm.old farm.new }
+{
+    let answer = farm.renew(alloc, number);
+    said(renew_line(alloc, answer))
+}
+
+/// `expire Z X Y`, of a tile.
+pub(crate) fn expire<D: TileStore>(
+    alloc: Global,
+    farm: &mut Farm<D>,
+    t: Tile,
+) -> Result<LineAnswer, NoMemory>
+    requires turns { farm.old.counts.turns < 2 ^ 63 }
+    requires tile { IsTile t }
+    ensures step { (told : Bool) (g : List Entry) → StandsFor D.state told farm.old g → Enters D.state told farm.new farm.old.plan (line.Expire t.z t.x t.y) g result }
+    ensures kept { Lasts D.state farm.old farm.new }
+{
+    let count = farm.expire(t);
+    said(expire_line(alloc, count))
+}
+
+/// `fetch MAP Z X Y`.
+pub(crate) fn fetch<D: TileStore>(
+    alloc: Global,
+    farm: &mut Farm<D>,
+    map: &Text,
+    place: (u32, u32, u32),
+) -> Result<LineAnswer, NoMemory>
+    requires { farm.old.counts.turns < 2 ^ 63 }
+    ensures step { (told : Bool) (g : List Entry) → StandsFor D.state told farm.old g → Enters D.state told farm.new farm.old.plan (line.Fetch map.now place.0 place.1 place.2) g result }
+    ensures kept { Lasts D.state farm.old farm.new }
+{
+    let spot = spot_at(farm, map, place);
+    let answer = farm.fetch(alloc, spot);
+    fetch_said(alloc, answer)
+}
+
+/// `look MAP Z X Y`.
+pub(crate) fn look<D: TileStore>(
+    alloc: Global,
+    farm: &mut Farm<D>,
+    map: &Text,
+    place: (u32, u32, u32),
+) -> Result<LineAnswer, NoMemory>
+    requires { farm.old.counts.turns < 2 ^ 63 }
+    ensures step { (told : Bool) (g : List Entry) → StandsFor D.state told farm.old g → Enters D.state told farm.new farm.old.plan (line.Look map.now place.0 place.1 place.2) g result }
+    ensures kept { Lasts D.state farm.old farm.new }
+{
+    let spot = spot_at(farm, map, place);
+    let answer = farm.look(spot);
+    said(look_line(alloc, answer))
+}
+
+/// `collect F`.
+pub(crate) fn collect<D: TileStore>(
+    alloc: Global,
+    farm: &mut Farm<D>,
+    front: u32,
+) -> Result<LineAnswer, NoMemory>
+    requires { farm.old.counts.turns < 2 ^ 63 }
+    ensures step { (told : Bool) (g : List Entry) → StandsFor D.state told farm.old g → Enters D.state told farm.new farm.old.plan (line.Collect front) g result }
+    ensures kept { Lasts D.state farm.old farm.new }
+{
+    let answer = farm.collect(front);
+    said(collect_line(alloc, answer))
+}
+
+/// `leave C`.
+pub(crate) fn leave<D: TileStore>(
+    alloc: Global,
+    farm: &mut Farm<D>,
+    number: u32,
+) -> Result<LineAnswer, NoMemory>
+    requires { farm.old.counts.turns < 2 ^ 63 }
+    ensures step { (told : Bool) (g : List Entry) → StandsFor D.state told farm.old g → Enters D.state told farm.new farm.old.plan (line.Leave number) g result }
+    ensures kept { Lasts D.state farm.old farm.new }
+{
+    let count = farm.leave(conn_at(number));
+    said(leave_line(alloc, count))
+}
+
+/// `tally`.
+pub(crate) fn tally<D: TileStore>(alloc: Global, farm: &mut Farm<D>) -> Result<LineAnswer, NoMemory>
+    requires { farm.old.counts.turns < 2 ^ 63 }
+    ensures step { (told : Bool) (g : List Entry) → StandsFor D.state told farm.old g → Enters D.state told farm.new farm.old.plan line.Tally g result }
+    ensures kept { Lasts D.state farm.old farm.new }
+{
+    let totals = farm.tally();
+    said(tally_line(alloc, totals))
+}
+
+/// `stop`.
+pub(crate) fn stop<D: TileStore>(alloc: Global, farm: &mut Farm<D>) -> Result<LineAnswer, NoMemory>
+    requires { farm.old.counts.turns < 2 ^ 63 }
+    ensures step { (told : Bool) (g : List Entry) → StandsFor D.state told farm.old g → Enters D.state told farm.new farm.old.plan line.Stop g result }
+    ensures kept { Lasts D.state farm.old farm.new }
+{
+    farm.stop();
+    said(Text::of(alloc, "stopping\n"))
+}

@@ -1,0 +1,13 @@
+//! Scripts on one thread: each line is asked of a farm, and answered, before the next.
+#![tactic(auto)]
+
+mod answers;
+mod ends;
+mod events;
+mod hands;
+mod runs;
+mod said;
+
+pub use ends::ScriptEnd;
+pub use runs::{ScriptRun, run, run_noting};
+pub use script_lines::{Script, ScriptFault, ScriptLine, read_script};
