@@ -1,5 +1,5 @@
 -- Rounds put together.
-use Rattle.std.proofs.Common.{◌≡◌, ℕ, Bool, true, List, [], ◌∷◌, ◌++◌, map, inl, inr, ◌⊎◌, refl, sym, ap, ◌∙◌, subst, append_assoc, append-nil}
+use Rattle.std.proofs.Common.{◌≡◌, ℕ, Bool, true, List, [], ◌∷◌, ◌++◌, inl, inr, ◌⊎◌, refl, sym, ap, ◌∙◌, subst, append_assoc, append-nil}
 use Rattle.farm_history.specs.declared.answers.ClaimAnswer.{ClaimAnswer}
 use Rattle.farm_history.specs.declared.answers.ClaimAnswer.TheVariants.{Job}
 use Rattle.farm_history.specs.declared.answers.Finished.{Finished}
@@ -13,7 +13,7 @@ use Rattle.turn_cell.specs.Held.{Made, Held, IsSeatOf, SameSeat, worn_out}
 use Rattle.farm_shared.specs.Seats.{plain}
 use Rattle.farm_shared.specs.Shared.{Adds}
 use Rattle.render_workers.specs.declared.worker.WorkEnd.{WorkEnd}
-use Rattle.render_workers.specs.Rounds.{Round, Drew, FoundNone, FoundMany, entries_of, EndsWith, Gains, WorkOf, Worked}
+use Rattle.render_workers.specs.Rounds.{Round, Drew, FoundNone, FoundMany, entries_of, EndsWith, Gains, Worked}
 use Rattle.render_workers.specs.declared.worker.Next.{Next}
 use Rattle.render_workers.specs.inner.Nexts.{IsWorking, IsWornOut}
 
@@ -62,17 +62,19 @@ module _ {T : Type 0} where
 
   pub drew : (w : ℕ) (v u x : Held T Entry) (a : Claimed) (job : JobSeen) (d : Bool) (answer : Finished) → a ≡ Claimed.Job job → Adds (Claim w (claim_answer a)) v u → Adds (Finish job.ticket d answer) u x →
       (r : Round) × Gains (entries_of w r) v x
-  drew w v u x a job d answer is claim finish =
-      (Drew job.ticket (job_key job) job.version d answer,
-        gains_both (Claim w (Job job.ticket (job_key job) job.version) ∷ []) (Finish job.ticket d answer ∷ []) v u x
-        (gains_one (Claim w (Job job.ticket (job_key job) job.version)) v u (subst (λ b. Adds (Claim w (claim_answer b)) v u) is claim)) (gains_one (Finish job.ticket d answer) u x finish))
+  drew w v u x a job d answer is claim finish = (
+    Drew job.ticket (job_key job) job.version d answer,
+    gains_both (Claim w (Job job.ticket (job_key job) job.version) ∷ []) (Finish job.ticket d answer ∷ []) v u x
+        (gains_one (Claim w (Job job.ticket (job_key job) job.version)) v u (subst (λ b. Adds (Claim w (claim_answer b)) v u) is claim)) (gains_one (Finish job.ticket d answer) u x finish),
+  )
 
   pub drew_worn : (w : ℕ) (v u x : Held T Entry) (a : Claimed) (job : JobSeen) → a ≡ Claimed.Job job → Adds (Claim w (claim_answer a)) v u → x ≡ worn_out u →
       (last : List Entry) × Gains last v x × EndsWith w WorkEnd.Worn last
-  drew_worn w v u x a job is claim worn =
-      (Claim w (Job job.ticket (job_key job) job.version) ∷ [],
-        ap (λ (h : Held T Entry). plain h.mine) worn ∙ gains_one (Claim w (Job job.ticket (job_key job) job.version)) v u (subst (λ b. Adds (Claim w (claim_answer b)) v u) is claim),
-        inr (job.ticket, job_key job, job.version, refl))
+  drew_worn w v u x a job is claim worn = (
+    Claim w (Job job.ticket (job_key job) job.version) ∷ [],
+    ap (λ (h : Held T Entry). plain h.mine) worn ∙ gains_one (Claim w (Job job.ticket (job_key job) job.version)) v u (subst (λ b. Adds (Claim w (claim_answer b)) v u) is claim),
+    inr (job.ticket, job_key job, job.version, refl),
+  )
 
   -- A worker's rounds.
 
