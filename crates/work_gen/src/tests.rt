@@ -1,5 +1,5 @@
-//! Generated work by example. The draws come from a generator outside of this repository, written after
-//! PCG's paper.
+//! Generated work by example. The draws that are wanted come from a second generator, in Python, by the
+//! published rules of PCG32; this crate gave none of them.
 use crate::{plan, steps};
 use farm_base::Value;
 use geo_model::Feature;
