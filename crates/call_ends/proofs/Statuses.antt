@@ -58,6 +58,9 @@ ends_0 (Err stop.Words) h = absurd (omega arith)
 ends_0 (Err (stop.Unreadable line)) h = absurd (omega arith)
 ends_0 (Err stop.SinkFailed) h = absurd (omega arith)
 ends_0 (Err stop.NoMemory) h = absurd (omega arith)
+ends_0 (Err stop.StoreFailed) h = absurd (omega arith)
+ends_0 (Err stop.PortsFailed) h = absurd (omega arith)
+ends_0 (Err stop.TurnsUsedUp) h = absurd (omega arith)
 
 ends_1 : (end : Result (Unit {0}) Stop) → 1 ≡ status_of end → (line : List ℕ) × (end ≡ Err (stop.Refused line))
 ends_1 (Ok u) h = absurd (omega arith)
@@ -66,6 +69,9 @@ ends_1 (Err stop.Words) h = absurd (omega arith)
 ends_1 (Err (stop.Unreadable line)) h = absurd (omega arith)
 ends_1 (Err stop.SinkFailed) h = absurd (omega arith)
 ends_1 (Err stop.NoMemory) h = absurd (omega arith)
+ends_1 (Err stop.StoreFailed) h = absurd (omega arith)
+ends_1 (Err stop.PortsFailed) h = absurd (omega arith)
+ends_1 (Err stop.TurnsUsedUp) h = absurd (omega arith)
 
 ends_2 : (end : Result (Unit {0}) Stop) → 2 ≡ status_of end → end ≡ Err stop.Words
 ends_2 (Ok u) h = absurd (omega arith)
@@ -74,6 +80,9 @@ ends_2 (Err stop.Words) h = refl
 ends_2 (Err (stop.Unreadable line)) h = absurd (omega arith)
 ends_2 (Err stop.SinkFailed) h = absurd (omega arith)
 ends_2 (Err stop.NoMemory) h = absurd (omega arith)
+ends_2 (Err stop.StoreFailed) h = absurd (omega arith)
+ends_2 (Err stop.PortsFailed) h = absurd (omega arith)
+ends_2 (Err stop.TurnsUsedUp) h = absurd (omega arith)
 
 ends_3 : (end : Result (Unit {0}) Stop) → 3 ≡ status_of end → (line : List ℕ) × (end ≡ Err (stop.Unreadable line))
 ends_3 (Ok u) h = absurd (omega arith)
@@ -82,6 +91,9 @@ ends_3 (Err stop.Words) h = absurd (omega arith)
 ends_3 (Err (stop.Unreadable line)) h = (line, refl)
 ends_3 (Err stop.SinkFailed) h = absurd (omega arith)
 ends_3 (Err stop.NoMemory) h = absurd (omega arith)
+ends_3 (Err stop.StoreFailed) h = absurd (omega arith)
+ends_3 (Err stop.PortsFailed) h = absurd (omega arith)
+ends_3 (Err stop.TurnsUsedUp) h = absurd (omega arith)
 
 ends_4 : (end : Result (Unit {0}) Stop) → 4 ≡ status_of end → end ≡ Err stop.SinkFailed
 ends_4 (Ok u) h = absurd (omega arith)
@@ -90,6 +102,9 @@ ends_4 (Err stop.Words) h = absurd (omega arith)
 ends_4 (Err (stop.Unreadable line)) h = absurd (omega arith)
 ends_4 (Err stop.SinkFailed) h = refl
 ends_4 (Err stop.NoMemory) h = absurd (omega arith)
+ends_4 (Err stop.StoreFailed) h = absurd (omega arith)
+ends_4 (Err stop.PortsFailed) h = absurd (omega arith)
+ends_4 (Err stop.TurnsUsedUp) h = absurd (omega arith)
 
 ends_5 : (end : Result (Unit {0}) Stop) → 5 ≡ status_of end → end ≡ Err stop.NoMemory
 ends_5 (Ok u) h = absurd (omega arith)
@@ -98,6 +113,42 @@ ends_5 (Err stop.Words) h = absurd (omega arith)
 ends_5 (Err (stop.Unreadable line)) h = absurd (omega arith)
 ends_5 (Err stop.SinkFailed) h = absurd (omega arith)
 ends_5 (Err stop.NoMemory) h = refl
+ends_5 (Err stop.StoreFailed) h = absurd (omega arith)
+ends_5 (Err stop.PortsFailed) h = absurd (omega arith)
+ends_5 (Err stop.TurnsUsedUp) h = absurd (omega arith)
+
+ends_6 : (end : Result (Unit {0}) Stop) → 6 ≡ status_of end → end ≡ Err stop.StoreFailed
+ends_6 (Ok u) h = absurd (omega arith)
+ends_6 (Err (stop.Refused line)) h = absurd (omega arith)
+ends_6 (Err stop.Words) h = absurd (omega arith)
+ends_6 (Err (stop.Unreadable line)) h = absurd (omega arith)
+ends_6 (Err stop.SinkFailed) h = absurd (omega arith)
+ends_6 (Err stop.NoMemory) h = absurd (omega arith)
+ends_6 (Err stop.StoreFailed) h = refl
+ends_6 (Err stop.PortsFailed) h = absurd (omega arith)
+ends_6 (Err stop.TurnsUsedUp) h = absurd (omega arith)
+
+ends_7 : (end : Result (Unit {0}) Stop) → 7 ≡ status_of end → end ≡ Err stop.PortsFailed
+ends_7 (Ok u) h = absurd (omega arith)
+ends_7 (Err (stop.Refused line)) h = absurd (omega arith)
+ends_7 (Err stop.Words) h = absurd (omega arith)
+ends_7 (Err (stop.Unreadable line)) h = absurd (omega arith)
+ends_7 (Err stop.SinkFailed) h = absurd (omega arith)
+ends_7 (Err stop.NoMemory) h = absurd (omega arith)
+ends_7 (Err stop.StoreFailed) h = absurd (omega arith)
+ends_7 (Err stop.PortsFailed) h = refl
+ends_7 (Err stop.TurnsUsedUp) h = absurd (omega arith)
+
+ends_8 : (end : Result (Unit {0}) Stop) → 8 ≡ status_of end → end ≡ Err stop.TurnsUsedUp
+ends_8 (Ok u) h = absurd (omega arith)
+ends_8 (Err (stop.Refused line)) h = absurd (omega arith)
+ends_8 (Err stop.Words) h = absurd (omega arith)
+ends_8 (Err (stop.Unreadable line)) h = absurd (omega arith)
+ends_8 (Err stop.SinkFailed) h = absurd (omega arith)
+ends_8 (Err stop.NoMemory) h = absurd (omega arith)
+ends_8 (Err stop.StoreFailed) h = absurd (omega arith)
+ends_8 (Err stop.PortsFailed) h = absurd (omega arith)
+ends_8 (Err stop.TurnsUsedUp) h = refl
 
 early : (end : Result (Unit {0}) Stop) → 0 ≢ status_of end → 4 ≢ status_of end → (s : Stop) × (s ≢ stop.SinkFailed) × (end ≡ Err s)
 early (Ok u) no0 no4 = absurd (no0 refl)
@@ -119,6 +170,9 @@ failed_4 (Err (stop.Refused line)) (Err g) before now calm h c = inr (c.1, stop.
 failed_4 (Err stop.Words) (Err g) before now calm h c = inr (c.1, stop.Words, (λ q. cc), refl)
 failed_4 (Err (stop.Unreadable line)) (Err g) before now calm h c = inr (c.1, stop.Unreadable line, (λ q. cc), refl)
 failed_4 (Err stop.NoMemory) (Err g) before now calm h c = inr (c.1, stop.NoMemory, (λ q. cc), refl)
+failed_4 (Err stop.StoreFailed) (Err g) before now calm h c = inr (c.1, stop.StoreFailed, (λ q. cc), refl)
+failed_4 (Err stop.PortsFailed) (Err g) before now calm h c = inr (c.1, stop.PortsFailed, (λ q. cc), refl)
+failed_4 (Err stop.TurnsUsedUp) (Err g) before now calm h c = inr (c.1, stop.TurnsUsedUp, (λ q. cc), refl)
 
 kept_or_4 : (put : Result (Unit {0}) SinkFault) (status before now : ℕ) → PutCounts before now put → (told_status status put ≡ status) ⊎ ((told_status status put ≡ 4) × Rose before now)
 kept_or_4 (Ok u) status before now c = inl refl
@@ -172,6 +226,27 @@ module _ (runs : Result (Unit {0}) Stop → Type 0) (err err' : SinkAt) (result 
       let told = quiet ends.end ends.reports.put 5 (omega arith) (sym five ∙ ends.reports.status_is) in
       let end = ends_5 ends.end told.1 in
       subst (λ (l : List ℕ). Stands err.told err'.told l) (ap line_of end) (stands err err' (line_of ends.end) ends.reports.put told.0 ends.reports.puts)
+
+  -- with 6 the store failed, and the line that says so stands on err
+  pub with_6 : result ≡ 6 → runs (Err stop.StoreFailed) × Stands err.told err'.told (line_of (Err stop.StoreFailed))
+  with_6 six =
+      let told = quiet ends.end ends.reports.put 6 (omega arith) (sym six ∙ ends.reports.status_is) in
+      let end = ends_6 ends.end told.1 in
+      (subst runs end ends.ran, subst (λ (l : List ℕ). Stands err.told err'.told l) (ap line_of end) (stands err err' (line_of ends.end) ends.reports.put told.0 ends.reports.puts))
+
+  -- with 7 the ports failed, and the line that says so stands on err
+  pub with_7 : result ≡ 7 → runs (Err stop.PortsFailed) × Stands err.told err'.told (line_of (Err stop.PortsFailed))
+  with_7 seven =
+      let told = quiet ends.end ends.reports.put 7 (omega arith) (sym seven ∙ ends.reports.status_is) in
+      let end = ends_7 ends.end told.1 in
+      (subst runs end ends.ran, subst (λ (l : List ℕ). Stands err.told err'.told l) (ap line_of end) (stands err err' (line_of ends.end) ends.reports.put told.0 ends.reports.puts))
+
+  -- with 8 turns were used up, and the line that says so stands on err
+  pub with_8 : result ≡ 8 → runs (Err stop.TurnsUsedUp) × Stands err.told err'.told (line_of (Err stop.TurnsUsedUp))
+  with_8 eight =
+      let told = quiet ends.end ends.reports.put 8 (omega arith) (sym eight ∙ ends.reports.status_is) in
+      let end = ends_8 ends.end told.1 in
+      (subst runs end ends.ran, subst (λ (l : List ℕ). Stands err.told err'.told l) (ap line_of end) (stands err err' (line_of ends.end) ends.reports.put told.0 ends.reports.puts))
 
   -- with another status than 0 and 4 the command ended early, and for no put
   pub with_other : result ≢ 0 → result ≢ 4 → (s : Stop) × (s ≢ stop.SinkFailed) × runs (Err s)
