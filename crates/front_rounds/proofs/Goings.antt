@@ -1,5 +1,5 @@
 -- From stage to stage, and from round to round.
-use Rattle.std.proofs.Common.{◌≡◌, ℕ, Bool, true, false, cond, List, [], ◌∷◌, ◌++◌, map, Option, Some, None, option_map, refl, sym, ap, subst, ◌∙◌, inl, inr}
+use Rattle.std.proofs.Common.{◌≡◌, ℕ, Bool, true, false, cond, List, [], ◌∷◌, ◌++◌, map, ◌≤◌, Option, Some, None, option_map, IfSome, arith, refl, sym, ap, subst, ◌∙◌, inl, inr}
 use Rattle.std.proofs.lemmas.List.{append-nil}
 use Rattle.farm_history.specs.Lists.{Each}
 use Rattle.farm_history.specs.Entries.{Entry, Stop}
@@ -7,27 +7,33 @@ use Rattle.port_trait.specs.declared.events.PortEvent.{PortEvent}
 use Rattle.port_trait.specs.declared.events.PortEvent.TheVariants as event
 use Rattle.port_trait.specs.declared.ends.FrontEnd.{FrontEnd}
 use Rattle.port_trait.specs.declared.ends.FrontEnd.TheVariants as ended
-use Rattle.port_trait.specs.Told.{PortsTold, Hears, heard}
+use Rattle.port_trait.specs.Told.{PortsTold, Hears, heard, EventCounts}
+use Rattle.farm_base.specs.Outside.{Counted}
 use Rattle.port_trait.specs.Boxes.{rest_at, rest_of, handed}
 use Rattle.front_rounds.specs.declared.sessions.Session.{Session}
 use Rattle.front_rounds.specs.Rules.{Rules, Move}
-use Rattle.front_rounds.specs.Steps.{Step, Phase, Fresh, Hearing, Collecting, Offering, Leaving, phase, MayBegin, has, own}
-use Rattle.front_rounds.specs.Parts.{part, due, told_after}
+use Rattle.front_rounds.specs.Steps.{Step, Phase, Fresh, Hearing, Collecting, Offering, Leaving, phase, goes_on, MayBegin, there, has, own}
+use Rattle.front_rounds.specs.Parts.{part, due, told_after, EachMayCome}
 use Rattle.front_rounds.specs.Rounds.{BeginsRound}
-use Rattle.front_rounds.specs.Serving.{EndsAt, StopsAt, Serves, rests_of, pair_of}
+use Rattle.port_trait.specs.declared.ends.Rest.{Rest}
+use Rattle.front_rounds.specs.Serving.{EndsAt, StopsAt, Serves, EndFits, BreakFits, RestsFit, with_break, rests_of}
 use Rattle.front_rounds.specs.inner.Sessions.{conns, keys, Apart}
 use Rattle.front_rounds.specs.inner.Stands.{World, IsAtRest, Sits, Stands}
 use Rattle.front_rounds.specs.inner.Stages.{HasBegun, Collects, CanGo, IsOver, Goes, CutShort, EndsEarly, end_of, StopsAfter}
 use Rattle.front_rounds.specs.Front.{keeps}
 use Rattle.front_rounds.proofs.Tables.{other, same, each_weaker, each_both, not_first}
+use Rattle.front_rounds.proofs.Sitting.{clash}
 use Rattle.front_rounds.proofs.Worlds.{all_kept, told_more}
 
-may_begin : (e : PortEvent) (stopped : Bool) (ph : Phase) → EndsAt e stopped ph → MayBegin ph
-may_begin e stopped (Offering f x) h = tt
-may_begin e stopped (Leaving f x) h = tt
-may_begin e stopped Fresh h = absurd h
-may_begin e stopped (Hearing f) h = absurd h
-may_begin e stopped (Collecting f) h = absurd h
+same_round : (e f : PortEvent) (stopped x : Bool) → f ≡ e → x ≡ stopped → goes_on f x ≡ goes_on e stopped
+same_round e f stopped x h k = ap (λ d. goes_on d x) h ∙ ap (goes_on e) k
+
+may_begin : (e : PortEvent) (stopped : Bool) (ph : Phase) → goes_on e stopped ≡ true → EndsAt e stopped ph → MayBegin ph
+may_begin e stopped (Offering f x) g h = same_round e f stopped x h.0 h.1 ∙ g
+may_begin e stopped (Leaving f x) g h = same_round e f stopped x h.0 h.1 ∙ g
+may_begin e stopped Fresh g h = absurd h
+may_begin e stopped (Hearing f) g h = absurd h
+may_begin e stopped (Collecting f) g h = absurd h
 
 stops_at : (e : PortEvent) (ph : Phase) → EndsAt e true ph → StopsAt ph
 stops_at e (Offering f x) h = h.1
@@ -55,20 +61,20 @@ module _ {A W T : Type 0} (R : Rules A W) (K : List ℕ → List (Move A) → T 
   pub to_collect : (e : PortEvent) (start : Option PortsTold) (w : World T) → (h : HasBegun R K e start w) → Collects R K e start h.steps w
   to_collect e start w h = record { stands = h.stands; time = h.time }
 
-  goes_on : (e : PortEvent) (stopped : Bool) (start : Option PortsTold) (w : World T) → IsOver R K e stopped start w → CanGo R K start w
-  goes_on e stopped start w h = record { steps = h.steps; can = record { stands = h.stands; rested = h.rested; time = may_begin e stopped (phase h.steps) h.time } }
+  rolls_on : (e : PortEvent) (stopped : Bool) (start : Option PortsTold) (w : World T) → goes_on e stopped ≡ true → IsOver R K e stopped start w → CanGo R K start w
+  rolls_on e stopped start w g h = record { steps = h.steps; can = record { stands = h.stands; rested = h.rested; time = may_begin e stopped (phase h.steps) g h.time } }
 
   pub goes_by : (e : PortEvent) (stopped : Bool) (start : Option PortsTold) (w : World T) → IsOver R K e stopped start w → Goes R K start w (end_of e stopped)
   goes_by e true start w h = (e, h)
   goes_by event.Finished false start w h = h
-  goes_by event.Broken false start w h = goes_on event.Broken false start w h
-  goes_by event.NoMemory false start w h = goes_on event.NoMemory false start w h
-  goes_by (event.Opened c) false start w h = goes_on (event.Opened c) false start w h
-  goes_by (event.Bytes c) false start w h = goes_on (event.Bytes c) false start w h
-  goes_by (event.Writable c) false start w h = goes_on (event.Writable c) false start w h
-  goes_by (event.Ended c) false start w h = goes_on (event.Ended c) false start w h
-  goes_by (event.Lost c) false start w h = goes_on (event.Lost c) false start w h
-  goes_by event.Woken false start w h = goes_on event.Woken false start w h
+  goes_by event.Broken false start w h = rolls_on event.Broken false start w refl h
+  goes_by event.NoMemory false start w h = rolls_on event.NoMemory false start w refl h
+  goes_by (event.Opened c) false start w h = rolls_on (event.Opened c) false start w refl h
+  goes_by (event.Bytes c) false start w h = rolls_on (event.Bytes c) false start w refl h
+  goes_by (event.Writable c) false start w h = rolls_on (event.Writable c) false start w refl h
+  goes_by (event.Ended c) false start w h = rolls_on (event.Ended c) false start w refl h
+  goes_by (event.Lost c) false start w h = rolls_on (event.Lost c) false start w refl h
+  goes_by event.Woken false start w h = rolls_on event.Woken false start w refl h
 
   -- an event that begins no round
   early_by : (e : PortEvent) (piece : List ℕ) (start told' : Option PortsTold) (w : World T) (o : Option FrontEnd) (end : FrontEnd) → o ≡ Some end → EndsEarly e o
@@ -89,6 +95,10 @@ module _ {A W T : Type 0} (R : Rules A W) (K : List ℕ → List (Move A) → T 
       → CanGo R K start w → Hears e piece w.told told' → Goes R K start (record w { told = told' }) (Some end)
   early_goes e piece start told' w o end q h g k = subst (λ (x : Option FrontEnd). Goes R K start (record w { told = told' }) x) q (early_by e piece start told' w o end q h g k)
 
+  none_came : (told : Option PortsTold) → IfSome told (EachMayCome R [])
+  none_came None = tt
+  none_came (Some t) = tt
+
   -- nobody is there as a front begins
   pub begins : (told : Option PortsTold) (w : World T) → w.told ≡ told → w.mine ≡ [] → w.sessions ≡ [] → w.box ≡ [] → w.starved ≡ 0 → CanGo R K told w
   begins told w t m s b n = record {
@@ -97,6 +107,7 @@ module _ {A W T : Type 0} (R : Rules A W) (K : List ℕ → List (Move A) → T 
       stands = record {
         entries = m;
         telling = t ∙ sym (told_same told);
+        coming = none_came told;
         conns_are = ap conns s;
         keys_are = ap keys b;
         sound = tt;
@@ -140,17 +151,28 @@ module _ {A W T : Type 0} (R : Rules A W) (K : List ℕ → List (Move A) → T 
       let e : p.1 ≡ due R (part R ss p.0) = some_is p.1 (due R (part R ss p.0)) (sym (ap (λ b. cond b (Some p.1) (rest_at ps p.0)) (same p.0)) ∙ r.0) in
       ap (λ d. (p.0, d) ∷ ps) e ∙ ap (λ qs. (p.0, due R (part R ss p.0)) ∷ qs) (rests_are ps ss a.1 (rests_tail p ps ss (keys ps) a.0 r.1))
 
-  whole_rests : (start : Option PortsTold) (ss : List (Step A)) (w : World T) → Stands R K start ss w → Each IsAtRest w.sessions → w.box ≡ rests_of R ss
+  handed_rests : (ss : List (Step A)) (cs : List ℕ) → map (handed R.number) (map (λ c. (c, due R (part R ss c))) cs)
+      ≡ map (λ c. record { front = R.number; conn = c; bytes = due R (part R ss c) }) cs
+  handed_rests ss [] = refl
+  handed_rests ss (c ∷ cs) = ap (λ rs. record { front = R.number; conn = c; bytes = due R (part R ss c) } ∷ rs) (handed_rests ss cs)
+
+  whole_rests : (start : Option PortsTold) (ss : List (Step A)) (w : World T) → Stands R K start ss w → Each IsAtRest w.sessions → map (handed R.number) w.box ≡ rests_of R ss
   whole_rests start ss w st r =
       let key : keys w.box ≡ conns w.sessions = st.keys_are ∙ sym st.conns_are in
       let all = each_weaker (λ (s : Session T). Sits R K w.told w.box (part R ss s.conn) s × IsAtRest s) (λ (s : Session T). rest_at w.box s.conn ≡ Some (due R (part R ss s.conn))) w.sessions
       (λ s b. rest_due w.told w.box ss s b.0 b.1) (each_both (λ (s : Session T). Sits R K w.told w.box (part R ss s.conn) s) IsAtRest w.sessions st.each r) in
-      rests_are w.box ss (subst Apart (sym key) st.apart) (subst (RestsAt w.box ss) (sym key) (rests_at w.box ss w.sessions all))
-      ∙ ap (map (λ c. (c, due R (part R ss c)))) st.keys_are
+      ap (map (handed R.number))
+      (rests_are w.box ss (subst Apart (sym key) st.apart) (subst (RestsAt w.box ss) (sym key) (rests_at w.box ss w.sessions all))
+      ∙ ap (map (λ c. (c, due R (part R ss c)))) st.keys_are)
+      ∙ handed_rests ss (there ss)
+
+  each_handed : (n : ℕ) (box : List (ℕ × List ℕ)) → Each (λ (r : Rest). r.front ≡ n) (map (handed n) box)
+  each_handed n [] = tt
+  each_handed n (p ∷ ps) = (refl, each_handed n ps)
 
   -- a front that met a worn turn
-  pub serves_worn : (start told : Option PortsTold) (mine : List Entry) (box : List (ℕ × List ℕ)) (starved : ℕ) (worn : Bool) → CutShort R K start told mine → worn ≡ true
-      → Serves R start told mine ended.Worn box starved worn
+  pub serves_worn : (start told : Option PortsTold) (mine : List Entry) (box : List (ℕ × List ℕ)) (starved : ℕ) (worn : Bool) → CutShort R K start told mine starved → worn ≡ true
+      → Serves R start told mine ended.Worn (map (handed R.number) box) starved worn
   serves_worn start told mine box starved worn h e = record {
     steps = h.steps;
     broke = false;
@@ -160,84 +182,62 @@ module _ {A W T : Type 0} (R : Rules A W) (K : List ℕ → List (Move A) → T 
     sound = h.sound;
     end_fits = (e, refl);
     break_fits = tt;
-    rests_fit = tt;
-    count_fits = tt;
+    break_time = λ q. clash (sym q);
+    rests_fit = each_handed R.number box;
+    counted = h.counted;
   }
 
-  cut_of : (start : Option PortsTold) (ss : List (Step A)) (w : World T) → Stands R K start ss w → CutShort R K start w.told w.mine
-  cut_of start ss w st = record { steps = ss; entries = st.entries; telling = st.telling; sound = st.sound }
+  cut_of : (start : Option PortsTold) (ss : List (Step A)) (w : World T) → Stands R K start ss w → CutShort R K start w.told w.mine w.starved
+  cut_of start ss w st = record { steps = ss; entries = st.entries; telling = st.telling; coming = st.coming; sound = st.sound; counted = st.counted }
+
+  -- a front that ends where a round may begin, or where one is over
+  serves_by : (start told' : Option PortsTold) (ss : List (Step A)) (w : World T) (mine' stop : List Entry) (end : FrontEnd) (broke worn : Bool) → Stands R K start ss w → Each IsAtRest w.sessions
+      → mine' ≡ w.mine ++ stop → told' ≡ option_map (λ t. with_break broke (told_after R ss t)) start → EndFits R end ss stop worn → BreakFits end broke
+      → (broke ≡ true → MayBegin (phase ss)) → RestsFit R end ss (map (handed R.number) w.box) → Serves R start told' mine' end (map (handed R.number) w.box) w.starved worn
+  serves_by start told' ss w mine' stop end broke worn st r m t e b q f = record {
+    steps = ss;
+    broke = broke;
+    stop = stop;
+    entries = m ∙ ap (λ es. es ++ stop) st.entries;
+    telling = t;
+    sound = st.sound;
+    end_fits = e;
+    break_fits = b;
+    break_time = λ k. (all_kept R K start ss w st r, q k);
+    rests_fit = f;
+    counted = st.counted;
+  }
+
+  -- the end of a front
+  abbrev Ended : Option PortsTold → World T → List Entry → FrontEnd → Bool → Type 0
+  Ended start w mine' end' worn = Serves R start w.told mine' end' (map (handed R.number) w.box) w.starved worn
 
   serves_finished : (start : Option PortsTold) (w : World T) (mine' : List Entry) (worn : Bool) → IsOver R K event.Finished false start w → mine' ≡ w.mine
-      → Serves R start w.told mine' ended.Finished w.box w.starved worn
+      → Ended start w mine' ended.Finished worn
   serves_finished start w mine' worn h m =
-      let st = h.stands in
-      record {
-        steps = h.steps;
-        broke = false;
-        stop = [];
-        entries = m ∙ st.entries ∙ sym (append-nil (own R h.steps));
-        telling = st.telling;
-        sound = st.sound;
-        end_fits = (all_kept R K start h.steps w st h.rested, h.time, refl);
-        rests_fit = whole_rests start h.steps w st h.rested;
-        break_fits = refl;
-        count_fits = st.counted;
-      }
+      serves_by start w.told h.steps w mine' [] ended.Finished false worn h.stands h.rested (m ∙ sym (append-nil w.mine)) h.stands.telling
+      (all_kept R K start h.steps w h.stands h.rested, h.time, refl) refl (λ q. clash (sym q)) (whole_rests start h.steps w h.stands h.rested)
 
   serves_stopped : (e : PortEvent) (start : Option PortsTold) (w : World T) (mine' : List Entry) (worn : Bool) → IsOver R K e true start w → mine' ≡ w.mine ++ Stop ∷ []
-      → Serves R start w.told mine' ended.Stopped w.box w.starved worn
+      → Ended start w mine' ended.Stopped worn
   serves_stopped e start w mine' worn h m =
-      let st = h.stands in
-      record {
-        steps = h.steps;
-        broke = false;
-        stop = Stop ∷ [];
-        entries = m ∙ ap (λ es. es ++ Stop ∷ []) st.entries;
-        telling = st.telling;
-        sound = st.sound;
-        end_fits = (all_kept R K start h.steps w st h.rested, stops_at e (phase h.steps) h.time, refl);
-        rests_fit = whole_rests start h.steps w st h.rested;
-        break_fits = refl;
-        count_fits = st.counted;
-      }
+      serves_by start w.told h.steps w mine' (Stop ∷ []) ended.Stopped false worn h.stands h.rested m h.stands.telling
+      (all_kept R K start h.steps w h.stands h.rested, stops_at e (phase h.steps) h.time, refl) refl (λ q. clash (sym q)) (whole_rests start h.steps w h.stands h.rested)
 
   serves_memory : (start : Option PortsTold) (w : World T) (mine' : List Entry) (worn : Bool) → CanGo R K start w → mine' ≡ w.mine ++ Stop ∷ []
-      → Serves R start w.told mine' ended.NoMemory w.box w.starved worn
+      → Ended start w mine' ended.NoMemory worn
   serves_memory start w mine' worn h m =
       let st = h.can.stands in
-      record {
-        steps = h.steps;
-        broke = false;
-        stop = Stop ∷ [];
-        entries = m ∙ ap (λ es. es ++ Stop ∷ []) st.entries;
-        telling = st.telling;
-        sound = st.sound;
-        end_fits = (all_kept R K start h.steps w st h.can.rested, h.can.time, refl);
-        rests_fit = whole_rests start h.steps w st h.can.rested;
-        break_fits = refl;
-        count_fits = st.counted;
-      }
+      serves_by start w.told h.steps w mine' (Stop ∷ []) ended.NoMemory false worn st h.can.rested m st.telling
+      (all_kept R K start h.steps w st h.can.rested, h.can.time, refl) refl (λ q. clash (sym q)) (whole_rests start h.steps w st h.can.rested)
 
   serves_broken : (start told' : Option PortsTold) (w : World T) (mine' : List Entry) (worn : Bool) → CanGo R K start w → told' ≡ option_map (heard event.Broken []) w.told
-      → mine' ≡ w.mine ++ Stop ∷ [] → Serves R start told' mine' ended.Broken w.box w.starved worn
+      → mine' ≡ w.mine ++ Stop ∷ [] → Serves R start told' mine' ended.Broken (map (handed R.number) w.box) w.starved worn
   serves_broken start told' w mine' worn h t m =
       let st = h.can.stands in
-      record {
-        steps = h.steps;
-        broke = true;
-        stop = Stop ∷ [];
-        entries = m ∙ ap (λ es. es ++ Stop ∷ []) st.entries;
-        telling = told_more start w.told told' (heard event.Broken []) (told_after R h.steps) st.telling t;
-        sound = st.sound;
-        end_fits = (all_kept R K start h.steps w st h.can.rested, h.can.time, refl);
-        rests_fit = whole_rests start h.steps w st h.can.rested;
-        break_fits = refl;
-        count_fits = st.counted;
-      }
-
-  -- a worn stop at the end of a front
-  abbrev Ended : Option PortsTold → World T → List Entry → FrontEnd → Bool → Type 0
-  Ended start w mine' end' worn = Serves R start w.told mine' end' w.box w.starved worn
+      serves_by start told' h.steps w mine' (Stop ∷ []) ended.Broken true worn st h.can.rested m
+      (told_more start w.told told' (heard event.Broken []) (told_after R h.steps) st.telling t)
+      (all_kept R K start h.steps w st h.can.rested, h.can.time, refl) refl (λ _. h.can.time) (whole_rests start h.steps w st h.can.rested)
 
   stop_worn : (start : Option PortsTold) (ss : List (Step A)) (w : World T) (mine' : List Entry) (end' : FrontEnd) (worn : Bool) → Stands R K start ss w → end' ≡ ended.Worn → mine' ≡ w.mine → worn ≡ true
       → Ended start w mine' end' worn
@@ -248,20 +248,9 @@ module _ {A W T : Type 0} (R : Rules A W) (K : List ℕ → List (Move A) → T 
       → Ended start w w.mine ended.Worn worn
   broken_worn start w told worn h t n =
       let st = h.can.stands in
-      record {
-        steps = h.steps;
-        broke = true;
-        stop = [];
-        entries = st.entries ∙ sym (append-nil (own R h.steps));
-        telling = told_more start told w.told (heard event.Broken []) (told_after R h.steps) st.telling t;
-        sound = st.sound;
-        end_fits = (n, refl);
-        break_fits = tt;
-        rests_fit = tt;
-        count_fits = tt;
-      }
+      serves_by start w.told h.steps (record w { told = told }) w.mine [] ended.Worn true worn st h.can.rested (sym (append-nil w.mine))
+      (told_more start told w.told (heard event.Broken []) (told_after R h.steps) st.telling t) (n, refl) tt (λ _. h.can.time) (each_handed R.number w.box)
 
-  -- the end of a front
   pub serves_end : (start : Option PortsTold) (w : World T) (mine' : List Entry) (end end' : FrontEnd) (worn : Bool) → Goes R K start w (Some end) → StopsAfter end end' w.mine mine' worn
       → Ended start w mine' end' worn
   serves_end start w mine' ended.Finished end' worn h (e, m) = subst (λ x. Ended start w mine' x worn) (sym e) (serves_finished start w mine' worn h m)
@@ -276,7 +265,32 @@ module _ {A W T : Type 0} (R : Rules A W) (K : List ℕ → List (Move A) → T 
       (broken_worn start w told worn h t n))
   serves_end start w mine' ended.Worn end' worn h s = absurd h
 
-  -- the rests that are handed back, as pairs
-  pub handed_pairs : (n : ℕ) (box : List (ℕ × List ℕ)) → map pair_of (map (handed n) box) ≡ box
-  handed_pairs n [] = refl
-  handed_pairs n (p ∷ ps) = ap (λ qs. p ∷ qs) (handed_pairs n ps)
+-- the ports' count of faults
+pub counts_grow : (e : PortEvent) (n m : ℕ) → EventCounts n m e → n ≤ m
+counts_grow (event.Lost c) n m h = h.0
+counts_grow event.Broken n m h = h.0
+counts_grow (event.Opened c) n m h = omega (arith, h)
+counts_grow (event.Bytes c) n m h = omega (arith, h)
+counts_grow (event.Writable c) n m h = omega (arith, h)
+counts_grow (event.Ended c) n m h = omega (arith, h)
+counts_grow event.Woken n m h = omega (arith, h)
+counts_grow event.Finished n m h = omega (arith, h)
+counts_grow event.NoMemory n m h = omega (arith, h)
+
+-- an event that ends a front as broken is Broken, and counts
+pub counts_broken : (e : PortEvent) (n m : ℕ) (end : FrontEnd) → EventCounts n m e → EndsEarly e (Some end) → end ≡ ended.Broken → Counted n m
+counts_broken event.Broken n m end h s b = h
+counts_broken event.NoMemory n m end h s b = let r : ◌≡◌ {A = Option FrontEnd} (Some ended.Broken) (Some ended.NoMemory) = sym (ap Some b) ∙ s in cc
+counts_broken (event.Lost c) n m end h s b = h
+counts_broken (event.Opened c) n m end h s b = cc
+counts_broken (event.Bytes c) n m end h s b = cc
+counts_broken (event.Writable c) n m end h s b = cc
+counts_broken (event.Ended c) n m end h s b = cc
+counts_broken event.Woken n m end h s b = cc
+counts_broken event.Finished n m end h s b = cc
+
+-- a count that rose goes on to have risen since before
+pub counts_before : (n m k : ℕ) → n ≤ m → Counted m k → Counted n k
+counts_before n m k l h = let a = h.0 in
+    let b = h.1 in
+    (omega (arith, l, a), omega (arith, l, b))

@@ -17,15 +17,15 @@ use Rattle.front_rounds.specs.declared.fates.Reason.TheVariants as reason
 use Rattle.front_rounds.specs.declared.sessions.Session.{Session}
 use Rattle.front_rounds.specs.Rules.{Rules, Move, Does, Gets, text, each_whole}
 use Rattle.front_rounds.specs.Steps.{Step, Came, Did, Got, Through, Tried, Left, Phase, Fresh, Hearing, Collecting, Offering, Leaving, phase, collecting, offering, leaving, Gathers, Offers, IsThrough, has}
-use Rattle.front_rounds.specs.Parts.{Part, part, moved, must, is_full, is_cut, is_open}
+use Rattle.front_rounds.specs.Parts.{Part, part, moved, must, is_full, is_cut, is_excused, is_open, Running}
 use Rattle.front_rounds.specs.Rounds.{Sound}
 use Rattle.front_rounds.specs.Front.{keeps, RepliedWhy, MayStandAlone}
-use Rattle.front_rounds.specs.inner.Sessions.{conns, keys, Apart, StandsAt, is_up, worse, owing, woken}
+use Rattle.front_rounds.specs.inner.Sessions.{conns, keys, Apart, StandsAt, is_up, asks_all, worse, owing, woken}
 use Rattle.front_rounds.specs.inner.Stands.{World, FateFits, Keeping, Counts, Sits}
 use Rattle.front_rounds.specs.inner.Stages.{IsAt, IsOffering, Settles, Passes, Holds, Overflows, Starves, AnswersOne, AnswersWorn, RepliesOne, Passed, Cuts, Answers, Collects, CanOffer, CutShort}
 use Rattle.front_rounds.proofs.Tables.{other, same, conns_set, conns_woken, each_set, each_none, each_woken, each_at}
 use Rattle.front_rounds.proofs.Rests.{at_put}
-use Rattle.front_rounds.proofs.Sitting.{clash, or_none, or_more, or_less, or_left, or_right, or_parts, none_said, within, beyond, due_grows, sits_as, others}
+use Rattle.front_rounds.proofs.Sitting.{clash, and_both, or_none, or_more, or_less, or_left, or_right, or_parts, none_said, within, beyond, due_grows, sits_as, others}
 use Rattle.front_rounds.proofs.Heards.{holds_rest}
 use Rattle.front_rounds.proofs.Worlds.{settles_keys, settles_other}
 
@@ -79,6 +79,18 @@ not_left Fresh h k = h
 not_left (Offering f x) h k = h
 not_left (Leaving f x) h k = h
 
+pub keeps_asks : (f : Fate) → keeps f ≡ true → asks_all f ≡ true
+keeps_asks Stays k = refl
+keeps_asks (Leaves reason.Unread) k = refl
+keeps_asks (Leaves reason.Ended) k = clash (sym k)
+keeps_asks (Leaves reason.Lost) k = clash (sym k)
+keeps_asks (Leaves reason.Cut) k = clash (sym k)
+keeps_asks (Leaves reason.Full) k = clash (sym k)
+keeps_asks (Leaves reason.SentWhole) k = clash (sym k)
+keeps_asks (Leaves reason.SendFailed) k = clash (sym k)
+keeps_asks (Leaves reason.NoMemory) k = clash (sym k)
+keeps_asks (Leaves reason.Starved) k = clash (sym k)
+
 pub keeps_up : (f : Fate) → keeps f ≡ true → is_up f ≡ true
 keeps_up Stays k = refl
 keeps_up (Leaves reason.Unread) k = refl
@@ -92,14 +104,18 @@ keeps_up (Leaves reason.NoMemory) k = refl
 keeps_up (Leaves reason.Starved) k = refl
 
 module _ {A W : Type 0} (R : Rules A W) where
-  same_tried : (b : Bool) (m : Move A) (p : Part A) → p.tried ≡ false → (cond b (moved R m p) p).tried ≡ false
+  -- nothing was offered to it in the newest round
+  abbrev pub Untried : Part A → Type 0
+  Untried p = (p.tried ≡ false) × (p.failed ≡ false) × (p.sent_whole ≡ false)
+
+  same_tried : (b : Bool) (m : Move A) (p : Part A) → Untried p → Untried (cond b (moved R m p) p)
   same_tried true m p h = h
   same_tried false m p h = h
 
   -- before the last Collect nothing was offered
-  pub untried : (ss : List (Step A)) (c : ℕ) → Sound R ss → Gathers (phase ss) → (part R ss c).tried ≡ false
+  pub untried : (ss : List (Step A)) (c : ℕ) → Sound R ss → Gathers (phase ss) → Untried (part R ss c)
   untried [] c s g = absurd g
-  untried (Came e piece kept ∷ ss) c s g = refl
+  untried (Came e piece kept ∷ ss) c s g = (refl, refl, refl)
   untried (Did d a ∷ ss) c s g = same_tried (d == c) (Does a) (part R ss c) (untried ss c s.1 g)
   untried (Got r behind ∷ ss) c s g = same_tried (r.conn.number == c) (Gets r behind) (part R ss c) (untried ss c s.1 (gathered (phase ss) g))
   untried (Through stopped ∷ ss) c s g = absurd (not_through stopped (phase ss) g)
@@ -126,6 +142,9 @@ module _ {A W T : Type 0} (R : Rules A W) (K : List ℕ → List (Move A) → T 
       let l = ltb-true (p.had + 1048576) (length (text R p.moves)) h in
       lt-ltb (p.had + 1048576) (length (text R (Gets r behind ∷ p.moves))) (omega (arith, g, l))
 
+  running_got : (r : Reply) (behind : List Entry) (p : Part A) → Running p → Running (got r behind p)
+  running_got r behind p h = record { ended = h.ended; lost = h.lost; sends = h.sends; sent = h.sent }
+
   -- a cause stays
   caused_more : (r : Reply) (behind : List Entry) (p : Part A) (f : Fate) → keeps f ≡ false → FateFits R p f → FateFits R (got r behind p) f
   caused_more r behind p Stays k h = clash k
@@ -137,14 +156,37 @@ module _ {A W T : Type 0} (R : Rules A W) (K : List ℕ → List (Move A) → T 
   caused_more r behind p (Leaves reason.SentWhole) k h = h
   caused_more r behind p (Leaves reason.SendFailed) k h = h
   caused_more r behind p (Leaves reason.NoMemory) k h = or_right (R.starves (Gets r behind)) p.starved h
-  caused_more r behind p (Leaves reason.Starved) k h = tt
+  caused_more r behind p (Leaves reason.Starved) k h = running_got r behind p h
+
+  -- a reply that is passed over may lack entries
+  excused_by : (r : Reply) (p : Part A) (f : Fate) → keeps f ≡ false → asks_all f ≡ true → FateFits R p f → Untried R p → is_excused (Gets r []) p ≡ true
+  excused_by r p Stays k a h u = clash k
+  excused_by r p (Leaves reason.Unread) k a h u = clash k
+  excused_by r p (Leaves reason.Ended) k a h u = or_left p.ended (p.lost || (p.cut || is_cut {A = A} (Gets r []))) h
+  excused_by r p (Leaves reason.Lost) k a h u =
+      or_right p.ended (p.lost || (p.cut || is_cut {A = A} (Gets r []))) (or_left p.lost (p.cut || is_cut {A = A} (Gets r [])) h)
+  excused_by r p (Leaves reason.Cut) k a h u =
+      or_right p.ended (p.lost || (p.cut || is_cut {A = A} (Gets r [])))
+      (or_right p.lost (p.cut || is_cut {A = A} (Gets r [])) (or_left p.cut (is_cut {A = A} (Gets r [])) h))
+  excused_by r p (Leaves reason.Full) k a h u = clash (sym a)
+  excused_by r p (Leaves reason.SentWhole) k a h u = clash (sym h ∙ u.2)
+  excused_by r p (Leaves reason.SendFailed) k a h u = clash (sym h ∙ u.1)
+  excused_by r p (Leaves reason.NoMemory) k a h u = clash (sym a)
+  excused_by r p (Leaves reason.Starved) k a h u = clash (sym a)
+
+  -- all entries are there that must be
+  complete_got : (r : Reply) (behind : List Entry) (p : Part A) → (is_excused (Gets r behind) p || R.whole p.moves (Gets r behind)) ≡ true → p.complete ≡ true
+      → (got r behind p).complete ≡ true
+  complete_got r behind p e c = and_both (is_excused (Gets r behind) p || R.whole p.moves (Gets r behind)) p.complete e c
 
   -- a reply is passed over
   passed_sits : (told : Option PortsTold) (box : List (ℕ × List ℕ)) (p : Part A) (s : Session T) (r : Reply) → Sits R K told box p s → keeps s.fate ≡ false
-      → Sits R K told box (got r [] p) s
-  passed_sits told box p s r h k =
+      → Untried R p → Sits R K told box (got r [] p) s
+  passed_sits told box p s r h k u =
       sits_as R K told box (got r [] p) s s.fate refl h.rest_there h.opening h.up (counts_got r [] p h.counts) (λ e. clash (sym e ∙ k))
-      (caused_more r [] p s.fate k h.fate_fits) h.asked_all
+      (caused_more r [] p s.fate k h.fate_fits)
+      (λ a. let all = h.asked_all a in
+      (all.0, complete_got r [] p (or_left (is_excused (Gets r []) p) (R.whole p.moves (Gets r [])) (excused_by r p s.fate k a h.fate_fits u)) all.1))
 
   cut_is : (r : Reply) (behind : List Entry) → r.outcome ≡ outcome.Cut → is_cut {A = A} (Gets r behind) ≡ true
   cut_is r behind e = ap (λ (o : Outcome). elim o as (λ _. Bool) [ outcome.Cut ↦ true | outcome.Done ↦ false | outcome.NotDone ↦ false ]) e
@@ -154,12 +196,21 @@ module _ {A W T : Type 0} (R : Rules A W) (K : List ℕ → List (Move A) → T 
   cut_by outcome.Done n = refl
   cut_by outcome.NotDone n = refl
 
+  cut_excuses : (r : Reply) (p : Part A) → is_cut {A = A} (Gets r []) ≡ true → is_excused (Gets r []) p ≡ true
+  cut_excuses r p h =
+      or_right p.ended (p.lost || (p.cut || is_cut {A = A} (Gets r [])))
+      (or_right p.lost (p.cut || is_cut {A = A} (Gets r [])) (or_right p.cut (is_cut {A = A} (Gets r [])) h))
+
   -- a reply ends the session
   cut_sits : (told : Option PortsTold) (box : List (ℕ × List ℕ)) (p : Part A) (s : Session T) (r : Reply) → Sits R K told box p s → keeps s.fate ≡ true
       → r.outcome ≡ outcome.Cut → Sits R K told box (got r [] p) (record s { fate = Leaves reason.Cut })
   cut_sits told box p s r h k e =
       sits_as R K told box (got r [] p) (record s { fate = Leaves reason.Cut }) (Leaves reason.Cut) refl h.rest_there (λ _. h.opening (keeps_up s.fate k))
-      (h.up ∙ keeps_up s.fate k) (counts_got r [] p h.counts) (λ q. clash (sym q)) (or_left (is_cut {A = A} (Gets r [])) p.cut (cut_is r [] e)) (λ _. (h.keeping k).asked_all)
+      (h.up ∙ keeps_up s.fate k) (counts_got r [] p h.counts) (λ q. clash (sym q)) (or_left (is_cut {A = A} (Gets r [])) p.cut (cut_is r [] e))
+      (λ _. (
+        (h.keeping k).asked_all,
+        complete_got r [] p (or_left (is_excused (Gets r []) p) (R.whole p.moves (Gets r [])) (cut_excuses r p (cut_is r [] e))) (h.asked_all (keeps_asks s.fate k)).1,
+      ))
 
   -- all that is known as a reply was answered
   record Say (told : Option PortsTold) (box : List (ℕ × List ℕ)) (p : Part A) (r : Reply) (behind : List Entry) (s s' : Session T) (said : List ℕ) (f : Fate) : Type 0 where
@@ -169,6 +220,7 @@ module _ {A W T : Type 0} (R : Rules A W) (K : List ℕ → List (Move A) → T 
     counts : Counts R p
     untried : p.tried ≡ false
     keep : Keeping R K p s (held box s'.conn)
+    complete : p.complete ≡ true
     fits : FateFits R p s.fate
     why : RepliedWhy R (Gets r behind) f
     said_is : keeps f ≡ true → R.says p.moves (Gets r behind) ≡ said
@@ -216,6 +268,7 @@ module _ {A W T : Type 0} (R : Rules A W) (K : List ℕ → List (Move A) → T 
         asked_all = k.asked_all;
         whole = ap (λ b. b && each_whole R p.moves) (h.whole refl) ∙ k.whole;
         knows = h.knows refl;
+        running = running_got r behind p k.running;
         owed = λ o. (h.untried, owes_by r behind p said s.owes (h.said_is refl) h.counts (λ q. (k.owed q).1) (sym h.owes ∙ o));
         offered = λ o m t.
             let parts = or_parts s.owes (nat_lt 0 (length said) || false) (sym h.owes ∙ o) in
@@ -233,7 +286,7 @@ module _ {A W T : Type 0} (R : Rules A W) (K : List ℕ → List (Move A) → T 
       (λ q. clash (sym q)) (or_left (R.starves (Gets r behind)) p.starved h.why) (λ q. clash (sym q))
   said_passes told box p r behind s s' said (Leaves reason.Starved) h k n e =
       sits_as R K told box (got r behind p) s' (Leaves reason.Starved) e h.has (λ _. h.op) h.opened (counts_got r behind p h.counts)
-      (λ q. clash (sym q)) tt (λ q. clash (sym q))
+      (λ q. clash (sym q)) (running_got r behind p h.keep.running) (λ q. clash (sym q))
   said_passes told box p r behind s s' said (Leaves reason.Unread) h k n e = absurd h.why
   said_passes told box p r behind s s' said (Leaves reason.Ended) h k n e = absurd h.why
   said_passes told box p r behind s s' said (Leaves reason.Lost) h k n e = absurd h.why
@@ -290,7 +343,8 @@ module _ {A W T : Type 0} (R : Rules A W) (K : List ℕ → List (Move A) → T 
       sits_as R K told box' (got r behind p) s' s.fate e (held box s'.conn ++ said, at_put box s'.conn (held box s'.conn ++ said) h.has) (λ _. h.op)
       (h.opened ∙ sym (keeps_up s.fate k)) (counts_got r behind p h.counts)
       (λ _. keeping_got told box box' p r behind s s' said h (holds_rest R K box s'.conn (held box s'.conn ++ said) h.has))
-      (fits_got told box p r behind s s' said s.fate h k h.fits short) (λ _. h.keep.asked_all)
+      (fits_got told box p r behind s s' said s.fate h k h.fits short)
+      (λ _. (h.keep.asked_all, complete_got r behind p (or_right (is_excused (Gets r behind) p) (R.whole p.moves (Gets r behind)) (h.whole refl)) h.complete))
 
   said_full : (told : Option PortsTold) (box : List (ℕ × List ℕ)) (p : Part A) (r : Reply) (behind : List Entry) (s s' : Session T) (said : List ℕ)
       → Say told box p r behind s s' said Stays → s'.fate ≡ Leaves reason.Full → 1048576 < length (held box s'.conn ++ said) → Sits R K told box (got r behind p) s'
@@ -305,7 +359,7 @@ module _ {A W T : Type 0} (R : Rules A W) (K : List ℕ → List (Move A) → T 
       → Say told box p r behind s s' said f → s'.fate ≡ Leaves reason.Starved → Sits R K told box (got r behind p) s'
   said_starves told box p r behind s s' said f h e =
       sits_as R K told box (got r behind p) s' (Leaves reason.Starved) e h.has (λ _. h.op) h.opened (counts_got r behind p h.counts)
-      (λ q. clash (sym q)) tt (λ q. clash (sym q))
+      (λ q. clash (sym q)) (running_got r behind p h.keep.running) (λ q. clash (sym q))
 
   said_by : (told : Option PortsTold) (box box' : List (ℕ × List ℕ)) (p : Part A) (r : Reply) (behind : List Entry) (s s' : Session T) (said : List ℕ) (f f' : Fate)
       → Say told box p r behind s s' said f → keeps s.fate ≡ true → s'.fate ≡ f' → Settles s'.conn said (worse s.fate f) f' box box' → Sits R K told box' (got r behind p) s'
@@ -336,6 +390,7 @@ module _ {A W T : Type 0} (R : Rules A W) (K : List ℕ → List (Move A) → T 
         counts = sits.counts;
         untried = u;
         keep = subst (λ c. Keeping R K p s (held box c)) (sym h.conn) (sits.keeping k);
+        complete = (sits.asked_all (keeps_asks s.fate k)).1;
         fits = sits.fate_fits;
         why = rp.why;
         said_is = rp.said_is;
@@ -359,6 +414,7 @@ module _ {A W T : Type 0} (R : Rules A W) (K : List ℕ → List (Move A) → T 
     stands = record {
       entries = m ∙ append_assoc w.mine (Collect R.number (collected.Reply r) ∷ []) behind ∙ ap (λ es. es ++ Collect R.number (collected.Reply r) ∷ behind) h.stands.entries;
       telling = sym t ∙ h.stands.telling;
+      coming = h.stands.coming;
       conns_are = c ∙ h.stands.conns_are;
       keys_are = k ∙ h.stands.keys_are;
       sound = ((gathers_at e (phase ss) h.time, f), h.stands.sound);
@@ -413,7 +469,7 @@ module _ {A W T : Type 0} (R : Rules A W) (K : List ℕ → List (Move A) → T 
       got_at e start ss w r [] mine' i s s' box' h (me ∙ m ∙ sym (append-nil (w.mine ++ Collect R.number (collected.Reply r) ∷ []))) at sc (ap (λ (x : Session T). x.conn) se)
       (alone r (part R ss s.conn).moves) (ap keys be) (λ d n. ap (λ (x : List (ℕ × List ℕ)). rest_at x d) be)
       (subst (λ (x : Session T). Sits R K w.told box' (got r [] (part R ss s.conn)) x) (sym se)
-      (subst (λ (x : List (ℕ × List ℕ)). Sits R K w.told x (got r [] (part R ss s.conn)) s) (sym be) (passed_sits w.told w.box (part R ss s.conn) s r sits k)))
+      (subst (λ (x : List (ℕ × List ℕ)). Sits R K w.told x (got r [] (part R ss s.conn)) s) (sym be) (passed_sits w.told w.box (part R ss s.conn) s r sits k (untried R ss s.conn h.stands.sound (gathers_at e (phase ss) h.time)))))
   got_one e start ss w r mine1 mine' i s s' box' alone h m at sc (Cuts k oe me se be) =
       let sits = each_at (λ (x : Session T). Sits R K w.told w.box (part R ss x.conn) x) w.sessions i s at h.stands.each in
       got_at e start ss w r [] mine' i s s' box' h (me ∙ m ∙ sym (append-nil (w.mine ++ Collect R.number (collected.Reply r) ∷ []))) at sc (ap (λ (x : Session T). x.conn) se)
@@ -428,16 +484,17 @@ module _ {A W T : Type 0} (R : Rules A W) (K : List ℕ → List (Move A) → T 
       got_at e start ss w r rp.behind mine' i s s' box' h (rp.mine_is ∙ ap (λ es. es ++ rp.behind) m) at sc a.conn rp.fits
       (settles_keys s.conn a.said (worse s.fate a.fate) s'.fate w.box box' a.settles)
       (λ d ne. settles_other s.conn a.said (worse s.fate a.fate) s'.fate w.box box' d a.settles ne)
-      (answered_sits w.told w.box box' p s s' r mine1 mine' sits (untried R ss s.conn h.stands.sound (gathers_at e (phase ss) h.time)) k n a)
+      (answered_sits w.told w.box box' p s s' r mine1 mine' sits (untried R ss s.conn h.stands.sound (gathers_at e (phase ss) h.time)).0 k n a)
 
   -- a turn was worn at the Collect, or while its reply was answered
   pub collect_worn : (e : PortEvent) (start : Option PortsTold) (ss : List (Step A)) (w : World T) (mine' : List Entry) → Collects R K e start ss w → mine' ≡ w.mine
-      → CutShort R K start w.told mine'
-  collect_worn e start ss w mine' h m = record { steps = ss; entries = m ∙ h.stands.entries; telling = h.stands.telling; sound = h.stands.sound }
+      → CutShort R K start w.told mine' w.starved
+  collect_worn e start ss w mine' h m =
+      record { steps = ss; entries = m ∙ h.stands.entries; telling = h.stands.telling; coming = h.stands.coming; sound = h.stands.sound; counted = h.stands.counted }
 
   pub got_worn : (e : PortEvent) (start : Option PortsTold) (ss : List (Step A)) (w : World T) (r : Reply) (mine1 mine' : List Entry) (i : ℕ) (s : Session T)
       → Collects R K e start ss w → mine1 ≡ w.mine ++ Collect R.number (collected.Reply r) ∷ [] → StandsAt w.sessions i s → s.conn ≡ r.conn.number
-      → AnswersWorn R K r mine1 mine' s → CutShort R K start w.told mine'
+      → AnswersWorn R K r mine1 mine' s → CutShort R K start w.told mine' w.starved
   got_worn e start ss w r mine1 mine' i s h m at sc a =
       let p = part R ss s.conn in
       let sits = each_at (λ (x : Session T). Sits R K w.told w.box (part R ss x.conn) x) w.sessions i s at h.stands.each in
@@ -447,6 +504,8 @@ module _ {A W T : Type 0} (R : Rules A W) (K : List ℕ → List (Move A) → T 
         entries = rp.mine_is ∙ ap (λ es. es ++ rp.behind) m ∙ append_assoc w.mine (Collect R.number (collected.Reply r) ∷ []) rp.behind
             ∙ ap (λ es. es ++ Collect R.number (collected.Reply r) ∷ rp.behind) h.stands.entries;
         telling = h.stands.telling;
+        coming = h.stands.coming;
+        counted = h.stands.counted;
         sound = ((gathers_at e (phase ss) h.time, subst (λ c. R.fits (part R ss c).moves (Gets r rp.behind) ≡ true) sc rp.fits), h.stands.sound);
       }
 
@@ -458,6 +517,7 @@ module _ {A W T : Type 0} (R : Rules A W) (K : List ℕ → List (Move A) → T 
     stands = record {
       entries = m ∙ ap (λ es. es ++ Collect R.number collected.Empty ∷ []) h.stands.entries;
       telling = h.stands.telling;
+      coming = h.stands.coming;
       conns_are = h.stands.conns_are;
       keys_are = h.stands.keys_are;
       sound = (gathers_at e (phase ss) h.time, h.stands.sound);
@@ -478,7 +538,7 @@ module _ {A W T : Type 0} (R : Rules A W) (K : List ℕ → List (Move A) → T 
   called_fits p (Leaves reason.SentWhole) h = h
   called_fits p (Leaves reason.SendFailed) h = h
   called_fits p (Leaves reason.NoMemory) h = h
-  called_fits p (Leaves reason.Starved) h = h
+  called_fits p (Leaves reason.Starved) h = record { ended = h.ended; lost = h.lost; sends = h.sends; sent = h.sent }
 
   called_sits : (told : Option PortsTold) (box : List (ℕ × List ℕ)) (p : Part A) (s : Session T) → Sits R K told box p s → p.tried ≡ false
       → Sits R K told box (record p { called = true }) (woken s)
@@ -486,7 +546,7 @@ module _ {A W T : Type 0} (R : Rules A W) (K : List ℕ → List (Move A) → T 
       sits_as R K told box (record p { called = true }) (woken s) s.fate refl h.rest_there h.opening h.up
       (record { low = h.counts.low; before = h.counts.before; more = h.counts.more; untaken = h.counts.untaken })
       (λ e. let k = h.keeping e in
-      record { rest_is = k.rest_is; asked_all = k.asked_all; whole = k.whole; knows = k.knows; owed = λ _. (u, refl); offered = λ q. clash q })
+      record { rest_is = k.rest_is; asked_all = k.asked_all; whole = k.whole; knows = k.knows; running = record { ended = k.running.ended; lost = k.running.lost; sends = k.running.sends; sent = k.running.sent }; owed = λ _. (u, refl); offered = λ q. clash q })
       (called_fits p s.fate h.fate_fits) h.asked_all
 
   pub through_stopped : (e : PortEvent) (start : Option PortsTold) (ss : List (Step A)) (w : World T) (mine' : List Entry) → Collects R K e start ss w
@@ -496,13 +556,14 @@ module _ {A W T : Type 0} (R : Rules A W) (K : List ℕ → List (Move A) → T 
     stands = record {
       entries = m ∙ ap (λ es. es ++ Collect R.number collected.Stopped ∷ []) h.stands.entries;
       telling = h.stands.telling;
+      coming = h.stands.coming;
       conns_are = conns_woken w.sessions ∙ h.stands.conns_are;
       keys_are = h.stands.keys_are;
       sound = (gathers_at e (phase ss) h.time, h.stands.sound);
       counted = h.stands.counted;
       apart = subst Apart (sym (conns_woken w.sessions)) h.stands.apart;
       each = each_woken (λ (s : Session T). Sits R K w.told w.box (part R ss s.conn) s) (λ (s : Session T). Sits R K w.told w.box (part R (Through true ∷ ss) s.conn) s) w.sessions
-          (λ x q. called_sits w.told w.box (part R ss x.conn) x q (untried R ss x.conn h.stands.sound (gathers_at e (phase ss) h.time))) h.stands.each;
+          (λ x q. called_sits w.told w.box (part R ss x.conn) x q (untried R ss x.conn h.stands.sound (gathers_at e (phase ss) h.time)).0) h.stands.each;
     };
     time = offering_at e true (phase ss) h.time;
   }

@@ -15,7 +15,7 @@ use Rattle.front_rounds.specs.inner.Sessions.{is_up, is_unread, owing}
 use Rattle.front_rounds.specs.inner.Stands.{IsAtRest, Keeping, Counts, Sits}
 use Rattle.front_rounds.specs.inner.Stages.{Settles, Passes, Holds, Overflows, Starves, HearsOne}
 use Rattle.front_rounds.proofs.Rests.{at_put}
-use Rattle.front_rounds.proofs.Sitting.{clash, or_none, or_left, grew_by, rolled, moved_by, text_grows, due_grows, within, beyond, sits_as, calm_of, kept_of}
+use Rattle.front_rounds.proofs.Sitting.{clash, or_none, or_left, grew_by, rolled, moved_by, whole_acts, text_grows, due_grows, within, beyond, sits_as, calm_of, kept_of}
 
 module _ {A W T : Type 0} (R : Rules A W) (K : List ℕ → List (Move A) → T → Type 0) where
   -- all that is known as a piece was heard
@@ -58,6 +58,7 @@ module _ {A W T : Type 0} (R : Rules A W) (K : List ℕ → List (Move A) → T 
         asked_all = h.asked_is k;
         whole = h.whole k;
         knows = h.knows k;
+        running = record { ended = refl; lost = refl; sends = refl; sent = refl };
         owed = λ o. (refl, must_is ∙ sym h.owes ∙ o);
         offered = λ o m t. clash (sym m ∙ must_is ∙ sym h.owes ∙ o);
       }
@@ -71,7 +72,7 @@ module _ {A W T : Type 0} (R : Rules A W) (K : List ℕ → List (Move A) → T 
       (λ q. clash (sym q)) (or_left (any_starves R (does acts)) false h.why) (λ q. clash (sym q))
   heard_passes told box p acts given s' said (Leaves reason.Starved) h k e =
       sits_as R K told box (after_it p acts given) s' (Leaves reason.Starved) e h.has (λ _. h.op) refl (counts_then p acts given h.counts)
-      (λ q. clash (sym q)) tt (λ q. clash (sym q))
+      (λ q. clash (sym q)) (record { ended = refl; lost = refl; sends = refl; sent = refl }) (λ q. clash (sym q))
   heard_passes told box p acts given s' said (Leaves reason.Ended) h k e = absurd h.why
   heard_passes told box p acts given s' said (Leaves reason.Lost) h k e = absurd h.why
   heard_passes told box p acts given s' said (Leaves reason.Cut) h k e = absurd h.why
@@ -103,13 +104,13 @@ module _ {A W T : Type 0} (R : Rules A W) (K : List ℕ → List (Move A) → T 
         sends = refl;
         memory = or_none (any_starves R (does acts)) false h.why.1 refl;
       })
-      (λ _. h.asked_is refl)
+      (λ _. (h.asked_is refl, sym (whole_acts R acts p.moves) ∙ h.whole refl))
   heard_holds told box p acts given s' said (Leaves reason.Unread) h k e l =
       let box' = put_rest box s'.conn (held box s'.conn ++ said) in
       sits_as R K told box' (after_it p acts given) s' (Leaves reason.Unread) e (held box s'.conn ++ said, at_put box s'.conn (held box s'.conn ++ said) h.has) (λ _. h.op) refl
       (counts_then p acts given h.counts)
       (λ _. keeping_then told box box' p acts given s' said (Leaves reason.Unread) h refl h.why.0 (holds_rest box s'.conn (held box s'.conn ++ said) h.has))
-      h.why.0 (λ _. h.asked_is refl)
+      h.why.0 (λ _. (h.asked_is refl, sym (whole_acts R acts p.moves) ∙ h.whole refl))
   heard_holds told box p acts given s' said (Leaves reason.NoMemory) h k e l = clash (sym k)
   heard_holds told box p acts given s' said (Leaves reason.Starved) h k e l = clash (sym k)
   heard_holds told box p acts given s' said (Leaves reason.Ended) h k e l = clash (sym k)
@@ -132,7 +133,7 @@ module _ {A W T : Type 0} (R : Rules A W) (K : List ℕ → List (Move A) → T 
       → Hear told box box p acts given s' said f → s'.fate ≡ Leaves reason.Starved → Sits R K told box (after_it p acts given) s'
   heard_starves told box p acts given s' said f h e =
       sits_as R K told box (after_it p acts given) s' (Leaves reason.Starved) e h.has (λ _. h.op) refl (counts_then p acts given h.counts)
-      (λ q. clash (sym q)) tt (λ q. clash (sym q))
+      (λ q. clash (sym q)) (record { ended = refl; lost = refl; sends = refl; sent = refl }) (λ q. clash (sym q))
 
   heard_by : (told : Option PortsTold) (box box' : List (ℕ × List ℕ)) (p : Part A) (acts : List A) (given : List ℕ) (s' : Session T) (said : List ℕ) (f f' : Fate)
       → ((b : List (ℕ × List ℕ)) → Hear told box b p acts given s' said f) → s'.fate ≡ f' → Settles s'.conn said f f' box box'

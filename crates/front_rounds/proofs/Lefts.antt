@@ -110,6 +110,7 @@ module _ {A W T : Type 0} (R : Rules A W) (K : List ℕ → List (Move A) → T 
         stands = record {
           entries = m ∙ ap (λ es. es ++ Leave (record { front = R.number; number = s.conn }) asks ∷ []) st.entries;
           telling = shut_told start w.told told' s.conn (told_after R h.steps) (is_open p) st.telling (λ u. sh.0 (sym up ∙ u)) (λ u. sh.1 (sym up ∙ u));
+          coming = st.coming;
           conns_are = conns_less w.sessions i s at st.apart ∙ ap (λ cs. remove cs s.conn) st.conns_are;
           keys_are = keys_without w.box s.conn ∙ ap (λ cs. remove cs s.conn) st.keys_are;
           sound = (
@@ -132,8 +133,9 @@ module _ {A W T : Type 0} (R : Rules A W) (K : List ℕ → List (Move A) → T 
         offered = each_less OwesNone OwesNone w.sessions i s at st.apart h.offered (λ x ne q. q);
       }
 
-  pub leave_worn : (e : PortEvent) (stopped : Bool) (start : Option PortsTold) (w : World T) (mine' : List Entry) → CanLeave R K e stopped start w → mine' ≡ w.mine → CutShort R K start w.told mine'
-  leave_worn e stopped start w mine' h m = record { steps = h.steps; entries = m ∙ h.stands.entries; telling = h.stands.telling; sound = h.stands.sound }
+  pub leave_worn : (e : PortEvent) (stopped : Bool) (start : Option PortsTold) (w : World T) (mine' : List Entry) → CanLeave R K e stopped start w → mine' ≡ w.mine → CutShort R K start w.told mine' w.starved
+  leave_worn e stopped start w mine' h m =
+      record { steps = h.steps; entries = m ∙ h.stands.entries; telling = h.stands.telling; coming = h.stands.coming; sound = h.stands.sound; counted = h.stands.counted }
 
   pub rest_of_leave : (e : PortEvent) (stopped : Bool) (start : Option PortsTold) (w : World T) (i : ℕ) (s : Session T) → CanLeave R K e stopped start w → StandsAt w.sessions i s → HasRest w.box s.conn
   rest_of_leave e stopped start w i s h at = (each_at (λ (x : Session T). Sits R K w.told w.box (part R h.steps x.conn) x) w.sessions i s at h.stands.each).rest_there

@@ -18,7 +18,7 @@ use Rattle.front_rounds.specs.inner.Stages.{Comes, HasBegun, Admits}
 use Rattle.front_rounds.proofs.Tables.{other, same, conns_snoc, each_weaker, each_none, each_snoc, apart_snoc}
 use Rattle.front_rounds.proofs.Rests.{keys_snoc, kept_snoc, at_snoc, none_keyed}
 use Rattle.front_rounds.proofs.Sitting.{clash, or_none, rolled, sits_as, others, roll_quiet}
-use Rattle.front_rounds.proofs.Worlds.{told_more, all_kept, resting, Resting}
+use Rattle.front_rounds.proofs.Worlds.{told_more, came_may, all_kept, resting, Resting}
 use Rattle.front_rounds.proofs.Lefts.{min_more}
 
 pub just_open : (o : Option PortsTold) (c : ℕ) (piece : List ℕ) → IsOpen c (option_map (heard (event.Opened c) piece) o)
@@ -68,6 +68,7 @@ module _ {A W T : Type 0} (R : Rules A W) (K : List ℕ → List (Move A) → T 
           entries = st.entries;
           telling = told_more start told told' (closed c) (λ v. heard (event.Opened c) piece (told_after R m.steps v))
               (told_more start w.told told (heard (event.Opened c) piece) (told_after R m.steps) st.telling m.heard.1) t;
+          coming = came_may R start w.told (event.Opened c) piece false m.steps st.telling m.heard.0 st.coming;
           conns_are = st.conns_are;
           keys_are = st.keys_are;
           sound = (record { time = m.can.time; begins = tt; before = all_kept R K start m.steps w st m.can.rested; room = λ h. clash (sym h) }, st.sound);
@@ -95,11 +96,12 @@ module _ {A W T : Type 0} (R : Rules A W) (K : List ℕ → List (Move A) → T 
         asked_all = b.wanted;
         whole = refl;
         knows = b.knows;
+        running = record { ended = refl; lost = refl; sends = refl; sent = refl };
         owed = λ e. clash (sym e);
         offered = λ _ m t. clash (sym m ∙ or_none (nat_lt 0 0) (R.refuses []) refl b.read);
       })
       (record { ended = refl; lost = refl; cut = refl; full = le-ltb (0 + 1048576) 0 (omega arith); read = b.read; sent = refl; sends = refl; memory = refl })
-      (λ _. b.wanted)
+      (λ _. (b.wanted, refl))
 
   -- it got one
   pub admitted : (c : ℕ) (piece : List ℕ) (start told : Option PortsTold) (w : World T) (talk : T) → (m : Comes R K (event.Opened c) piece start told w) → Begins R K talk
@@ -117,6 +119,7 @@ module _ {A W T : Type 0} (R : Rules A W) (K : List ℕ → List (Move A) → T 
         stands = record {
           entries = st.entries;
           telling = told_more start w.told told (heard (event.Opened c) piece) (told_after R m.steps) st.telling m.heard.1;
+          coming = came_may R start w.told (event.Opened c) piece true m.steps st.telling m.heard.0 st.coming;
           conns_are = conns_snoc w.sessions (newcomer c talk) ∙ ap (λ cs. cs ++ c ∷ []) st.conns_are;
           keys_are = keys_snoc w.box c ∙ ap (λ cs. cs ++ c ∷ []) st.keys_are;
           sound = (record { time = m.can.time; begins = tt; before = all_kept R K start m.steps w st m.can.rested; room = λ _. omega (arith, l, count, size) }, st.sound);

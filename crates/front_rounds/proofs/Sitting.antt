@@ -1,5 +1,5 @@
 -- One session, as something happens to it.
-use Rattle.std.proofs.Common.{◌≡◌, ◌<◌, ◌≤◌, ◌+◌, ℕ, Bool, true, false, ◌||◌, List, [], ◌∷◌, ◌++◌, length, drop, Option, Some, None, option_map, refl, sym, ap, subst, ◌∙◌, arith, nat_lt, length-append}
+use Rattle.std.proofs.Common.{◌≡◌, ◌<◌, ◌≤◌, ◌+◌, ℕ, Bool, true, false, ◌&&◌, ◌||◌, List, [], ◌∷◌, ◌++◌, length, drop, Option, Some, None, option_map, refl, sym, ap, subst, ◌∙◌, arith, nat_lt, length-append}
 use Rattle.std.proofs.lemmas.Bool.{ltb-false, lt-ltb, le-ltb}
 use Rattle.std.proofs.lemmas.Bool.Decides.{nat_tests}
 use Rattle.std.proofs.lemmas.List.{drop-append-le, length-drop}
@@ -9,8 +9,9 @@ use Rattle.front_rounds.specs.declared.fates.Fate.{Fate}
 use Rattle.front_rounds.specs.declared.fates.Fate.TheVariants.{Stays, Leaves}
 use Rattle.front_rounds.specs.declared.fates.Reason.TheVariants as reason
 use Rattle.front_rounds.specs.declared.sessions.Session.{Session}
-use Rattle.front_rounds.specs.Rules.{Rules, Move, Does, asked, text, any_starves}
+use Rattle.front_rounds.specs.Rules.{Rules, Move, Does, text, each_whole, any_starves}
 use Rattle.front_rounds.specs.Parts.{Part, must, is_open, Calm}
+use Rattle.front_rounds.specs.Rounds.{HasAll}
 use Rattle.front_rounds.specs.Front.{keeps, does}
 use Rattle.front_rounds.specs.inner.Sessions.{is_up, asks_all, woken}
 use Rattle.front_rounds.specs.inner.Stands.{IsAtRest, FateFits, Keeping, Counts, Sits}
@@ -47,6 +48,14 @@ or_right false b h = h
 pub or_left : (a b : Bool) → a ≡ true → (a || b) ≡ true
 or_left true b h = refl
 or_left false b h = clash (sym h)
+
+pub and_both : (a b : Bool) → a ≡ true → b ≡ true → (a && b) ≡ true
+and_both true b h k = k
+and_both false b h k = clash (sym h)
+
+pub and_assoc : (a b c : Bool) → (a && (b && c)) ≡ ((a && b) && c)
+and_assoc true b c = refl
+and_assoc false b c = refl
 
 pub or_cases : (a b : Bool) → (a || b) ≡ true → (a ≡ false → b ≡ true)
 or_cases true b h e = clash e
@@ -92,11 +101,22 @@ module _ {A W : Type 0} (R : Rules A W) where
     tried = false;
     failed = false;
     sent_whole = false;
+    complete = each_whole R p.moves;
   }
+
+  -- these requests have all their entries
+  abbrev pub wholes : List A → List (Move A) → Bool
+  wholes [] ms = true
+  wholes (a ∷ acts) ms = R.whole (does acts ++ ms) (Does a) && wholes acts ms
+
+  pub whole_acts : (acts : List A) (ms : List (Move A)) → each_whole R (does acts ++ ms) ≡ (wholes acts ms && each_whole R ms)
+  whole_acts [] ms = refl
+  whole_acts (a ∷ acts) ms =
+      ap (λ b. R.whole (does acts ++ ms) (Does a) && b) (whole_acts acts ms) ∙ and_assoc (R.whole (does acts ++ ms) (Does a)) (wholes acts ms) (each_whole R ms)
 
   -- after these requests
   abbrev pub moved_by : List A → Part A → Part A
-  moved_by acts p = record p { moves = does acts ++ p.moves; cut = p.cut; starved = any_starves R (does acts) || p.starved }
+  moved_by acts p = record p { moves = does acts ++ p.moves; cut = p.cut; starved = any_starves R (does acts) || p.starved; complete = wholes acts p.moves && p.complete }
 
   pub text_grows : (acts : List A) (ms : List (Move A)) → length (text R ms) ≤ length (text R (does acts ++ ms))
   text_grows [] ms = omega arith
@@ -130,7 +150,7 @@ module _ {A W T : Type 0} (R : Rules A W) (K : List ℕ → List (Move A) → T 
   -- a session by its fate
   pub sits_as : (told : Option PortsTold) (box : List (ℕ × List ℕ)) (p : Part A) (s : Session T) (f : Fate) → s.fate ≡ f
       → HasRest box s.conn → (is_up f ≡ true → IsOpen s.conn told) → is_open p ≡ is_up f → Counts R p
-      → (keeps f ≡ true → Keeping R K p s (held box s.conn)) → FateFits R p f → (asks_all f ≡ true → R.wanted p.given (asked R p.moves))
+      → (keeps f ≡ true → Keeping R K p s (held box s.conn)) → FateFits R p f → (asks_all f ≡ true → HasAll R p)
       → Sits R K told box p s
   sits_as told box p s f e rest op up counts keep fits all = record {
     rest_there = rest;
@@ -200,10 +220,11 @@ module _ {A W T : Type 0} (R : Rules A W) (K : List ℕ → List (Move A) → T 
         asked_all = k.asked_all;
         whole = k.whole;
         knows = k.knows;
+        running = record { ended = refl; lost = refl; sends = refl; sent = refl };
         owed = λ e. clash (sym e ∙ r.1);
         offered = λ _ m t. clash (sym m ∙ quiet);
       })
-      (rolled_calm told box p s false h r) (λ _. k.asked_all)
+      (rolled_calm told box p s false h r) (λ _. (k.asked_all, k.whole))
 
   -- a round begins whose event has it offered its bytes
   pub roll_called : (told told' : Option PortsTold) (box : List (ℕ × List ℕ)) (p : Part A) (s : Session T) → Sits R K told box p s → IsAtRest s
@@ -217,10 +238,11 @@ module _ {A W T : Type 0} (R : Rules A W) (K : List ℕ → List (Move A) → T 
         asked_all = k.asked_all;
         whole = k.whole;
         knows = k.knows;
+        running = record { ended = refl; lost = refl; sends = refl; sent = refl };
         owed = λ e. (refl, refl);
         offered = λ e. clash e;
       })
-      (rolled_calm told box p s true h r) (λ _. k.asked_all)
+      (rolled_calm told box p s true h r) (λ _. (k.asked_all, k.whole))
 
   -- a round begins with its Ended, or its Lost
   pub roll_ended : (told told' : Option PortsTold) (box : List (ℕ × List ℕ)) (p : Part A) (s : Session T) → Sits R K told box p s → IsAtRest s
@@ -228,11 +250,11 @@ module _ {A W T : Type 0} (R : Rules A W) (K : List ℕ → List (Move A) → T 
   roll_ended told told' box p s h r o =
       let k = kept_of told box p s h r in
       sits_as told' box (rolled R p.given true false false p) (record s { fate = Leaves reason.Ended }) (Leaves reason.Ended) refl h.rest_there
-      (λ _. o (h.opening (ap is_up r.0))) refl (rolled_counts p.given true false false p h.counts) (λ e. clash (sym e)) refl (λ _. k.asked_all)
+      (λ _. o (h.opening (ap is_up r.0))) refl (rolled_counts p.given true false false p h.counts) (λ e. clash (sym e)) refl (λ _. (k.asked_all, k.whole))
 
   pub roll_lost : (told told' : Option PortsTold) (box : List (ℕ × List ℕ)) (p : Part A) (s : Session T) → Sits R K told box p s → IsAtRest s
       → Sits R K told' box (rolled R p.given false true false p) (record s { fate = Leaves reason.Lost })
   roll_lost told told' box p s h r =
       let k = kept_of told box p s h r in
       sits_as told' box (rolled R p.given false true false p) (record s { fate = Leaves reason.Lost }) (Leaves reason.Lost) refl h.rest_there
-      (λ e. clash (sym e)) refl (rolled_counts p.given false true false p h.counts) (λ e. clash (sym e)) refl (λ _. k.asked_all)
+      (λ e. clash (sym e)) refl (rolled_counts p.given false true false p h.counts) (λ e. clash (sym e)) refl (λ _. (k.asked_all, k.whole))

@@ -23,10 +23,10 @@ use Rattle.front_rounds.specs.inner.Stands.{World, FateFits, Counts, Sits}
 use Rattle.front_rounds.specs.inner.Stages.{IsOffering, OwesNone, OffersOne, Idle, Gives_it, Gives, fate_after, part_or_all, CanOffer, CanLeave}
 use Rattle.front_rounds.proofs.Tables.{other, same, has_at, conns_set, each_set, each_at, each_snoc}
 use Rattle.front_rounds.proofs.Rests.{at_put, other_put, keys_put}
-use Rattle.front_rounds.proofs.Sitting.{clash, no_bytes, sits_as, others}
+use Rattle.front_rounds.proofs.Sitting.{clash, and_both, no_bytes, sits_as, others}
 use Rattle.front_rounds.proofs.Heards.{holds_rest}
 use Rattle.front_rounds.proofs.Worlds.{told_more, open_by}
-use Rattle.front_rounds.proofs.Gots.{keeps_up}
+use Rattle.front_rounds.proofs.Gots.{keeps_up, keeps_asks}
 
 offers_at : (e : PortEvent) (stopped : Bool) (ph : Phase) → IsOffering e stopped ph → Offers ph
 offers_at e stopped (Offering f x) h = tt
@@ -49,10 +49,6 @@ and_false false b h = refl
 lost_up : (b : Bool) → not (b || true) ≡ false
 lost_up true = refl
 lost_up false = refl
-
-and_both : (a b : Bool) → a ≡ true → b ≡ true → (a && b) ≡ true
-and_both true b h k = k
-and_both false b h k = clash (sym h)
 
 unlost : (a b : Bool) → not (a || b) ≡ true → not (a || false) ≡ true
 unlost true b h = h
@@ -91,6 +87,7 @@ module _ {A W T : Type 0} (R : Rules A W) (K : List ℕ → List (Move A) → T 
         asked_all = kept.asked_all;
         whole = kept.whole;
         knows = kept.knows;
+        running = kept.running;
         owed = λ e. clash (sym e);
         offered = λ _ m t. sym kept.rest_is ∙ no_bytes (held box s.conn) z;
       })
@@ -126,6 +123,7 @@ module _ {A W T : Type 0} (R : Rules A W) (K : List ℕ → List (Move A) → T 
         asked_all = kept.asked_all;
         whole = kept.whole;
         knows = kept.knows;
+        running = record { ended = kept.running.ended; lost = kept.running.lost; sends = refl; sent = e };
         owed = λ q. clash (sym q);
         offered = λ _ m t. clash t;
       })
@@ -142,19 +140,19 @@ module _ {A W T : Type 0} (R : Rules A W) (K : List ℕ → List (Move A) → T 
       (drop n (held box s.conn), at_put box s.conn (drop n (held box s.conn)) h.rest_there)
       (λ _. o (h.opening (keeps_up s.fate k))) (unlost p.lost p.failed (h.up ∙ keeps_up s.fate k))
       (counts_try n p h.counts (subst (λ (xs : List ℕ). n ≤ length xs) kept.rest_is l))
-      (λ q. clash (sym q)) e (λ _. kept.asked_all)
+      (λ q. clash (sym q)) e (λ _. (kept.asked_all, (h.asked_all (keeps_asks s.fate k)).1))
 
   failed_sits : (told' : Option PortsTold) (told : Option PortsTold) (box : List (ℕ × List ℕ)) (p : Part A) (s : Session T) → Sits R K told box p s → keeps s.fate ≡ true
       → Sits R K told' box (with_try R None p) (given s (Leaves reason.SendFailed))
   failed_sits told' told box p s h k =
       sits_as R K told' box (with_try R None p) (given s (Leaves reason.SendFailed)) (Leaves reason.SendFailed) refl h.rest_there
-      (λ q. clash (sym q)) (lost_up p.lost) (counts_fail p h.counts) (λ q. clash (sym q)) refl (λ _. (h.keeping k).asked_all)
+      (λ q. clash (sym q)) (lost_up p.lost) (counts_fail p h.counts) (λ q. clash (sym q)) refl (λ _. ((h.keeping k).asked_all, (h.asked_all (keeps_asks s.fate k)).1))
 
   lacked_sits : (told : Option PortsTold) (box : List (ℕ × List ℕ)) (p : Part A) (s : Session T) → Sits R K told box p s → keeps s.fate ≡ true
       → Sits R K told box p (given s (Leaves reason.Starved))
   lacked_sits told box p s h k =
       sits_as R K told box p (given s (Leaves reason.Starved)) (Leaves reason.Starved) refl h.rest_there
-      (λ _. h.opening (keeps_up s.fate k)) (h.up ∙ keeps_up s.fate k) h.counts (λ q. clash (sym q)) tt (λ q. clash (sym q))
+      (λ _. h.opening (keeps_up s.fate k)) (h.up ∙ keeps_up s.fate k) h.counts (λ q. clash (sym q)) (h.keeping k).running (λ q. clash (sym q))
 
   flip : (x c : ℕ) → (x ≡ c → ⊥) → c ≡ x → ⊥
   flip x c n e = n (sym e)
@@ -170,6 +168,7 @@ module _ {A W T : Type 0} (R : Rules A W) (K : List ℕ → List (Move A) → T 
         stands = record {
           entries = st.entries;
           telling = st.telling;
+          coming = st.coming;
           conns_are = conns_set w.sessions i s s' at sc ∙ st.conns_are;
           keys_are = st.keys_are;
           sound = st.sound;
@@ -200,6 +199,7 @@ module _ {A W T : Type 0} (R : Rules A W) (K : List ℕ → List (Move A) → T 
         stands = record {
           entries = st.entries;
           telling = told_more start w.told told' (sent s.conn (due R (part R h.steps s.conn)) (answer_of taken)) (told_after R h.steps) st.telling t;
+          coming = st.coming;
           conns_are = cs ∙ st.conns_are;
           keys_are = k ∙ st.keys_are;
           sound = (record { time = offers_at e stopped (phase h.steps) h.time; is_there = ap (λ cs. has cs s.conn) (sym st.conns_are) ∙ has_at w.sessions i s at; reason = m; once = u; some = z; most = l }, st.sound);

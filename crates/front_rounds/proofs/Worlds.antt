@@ -1,17 +1,17 @@
 -- A step more: what all sessions and all else make of it.
-use Rattle.std.proofs.Common.{◌≡◌, ◌==◌, ◌-◌, ◌^◌, ℕ, true, false, cond, List, [], ◌∷◌, ◌++◌, length, map, min, set, Option, Some, None, option_map, refl, sym, ap, subst, ◌∙◌, append_assoc, inl, inr, ◌⊎◌}
+use Rattle.std.proofs.Common.{◌≡◌, ◌==◌, ◌-◌, ◌^◌, ℕ, true, false, Bool, ◌&&◌, ◌||◌, IfSome, cond, List, [], ◌∷◌, ◌++◌, length, map, min, set, Option, Some, None, option_map, refl, sym, ap, subst, ◌∙◌, append_assoc, inl, inr, ◌⊎◌}
 use Rattle.farm_history.specs.Lists.{Each}
 use Rattle.farm_history.specs.Entries.{Entry}
 use Rattle.port_trait.specs.declared.events.PortEvent.{PortEvent}
 use Rattle.port_trait.specs.declared.events.PortEvent.TheVariants as event
-use Rattle.port_trait.specs.Told.{PortsTold, IsOpen, heard}
+use Rattle.port_trait.specs.Told.{PortsTold, MayCome, IsOpen, heard}
 use Rattle.port_trait.specs.Boxes.{rest_at, HasRest, held}
 use Rattle.front_rounds.specs.declared.fates.Fate.{Fate}
 use Rattle.front_rounds.specs.declared.sessions.Session.{Session}
 use Rattle.front_rounds.specs.declared.sessions.Desk.{Desk}
 use Rattle.front_rounds.specs.Rules.{Rules, Move, Does, asked, BeginsWanted, any_starves}
 use Rattle.front_rounds.specs.Steps.{Step, Came, Did, phase, Phase, Hearing, there, has, own, starved_in, opened, with_refused}
-use Rattle.front_rounds.specs.Parts.{Part, part, came, moved, told_after, shut_out}
+use Rattle.front_rounds.specs.Parts.{Part, part, came, moved, told_after, EachMayCome, shut_out}
 use Rattle.front_rounds.specs.Rounds.{Sound, AllKept, Kept, BeginsRound}
 use Rattle.front_rounds.specs.Front.{does, with_acts, EachFits}
 use Rattle.front_rounds.specs.inner.Sessions.{conns, keys, Apart, StandsAt, woken}
@@ -19,7 +19,7 @@ use Rattle.front_rounds.specs.inner.Stands.{World, world, IsAtRest, Sits, Stands
 use Rattle.front_rounds.specs.inner.Stages.{IsAt, Settles, Passes, Holds, Overflows, Starves, HearsOne, HearsWorn, Comes, HasBegun, CutShort, marked, MarksAt, Absent, Marks}
 use Rattle.front_rounds.proofs.Tables.{same, other, conns_set, conns_woken, each_set, each_none, each_weaker, each_both, each_woken, each_conn, each_at}
 use Rattle.front_rounds.proofs.Rests.{other_put, keys_put}
-use Rattle.front_rounds.proofs.Sitting.{clash, or_assoc, open_map, rolled, moved_by, others, calm_of, kept_of, roll_quiet, roll_called, roll_ended, roll_lost}
+use Rattle.front_rounds.proofs.Sitting.{clash, or_assoc, and_assoc, open_map, rolled, wholes, moved_by, others, calm_of, kept_of, roll_quiet, roll_called, roll_ended, roll_lost}
 use Rattle.front_rounds.proofs.Heards.{heard_of, heard_sits}
 
 map_map : (o : Option PortsTold) (f g : PortsTold → PortsTold) → option_map f (option_map g o) ≡ option_map (λ t. f (g t)) o
@@ -151,7 +151,10 @@ module _ {A W : Type 0} (R : Rules A W) where
 
   moved_once : (a : A) (acts : List A) (p : Part A) → moved R (Does a) (moved_by R acts p) ≡ moved_by R (a ∷ acts) p
   moved_once a acts p =
-      ap (λ b. record p { moves = Does a ∷ (does acts ++ p.moves); cut = p.cut; starved = b }) (or_assoc (R.starves (Does a)) (any_starves R (does acts)) p.starved)
+      ap (λ b. record p { moves = Does a ∷ (does acts ++ p.moves); starved = b; complete = R.whole (does acts ++ p.moves) (Does a) && (wholes R acts p.moves && p.complete) })
+      (or_assoc (R.starves (Does a)) (any_starves R (does acts)) p.starved)
+      ∙ ap (λ b. record p { moves = Does a ∷ (does acts ++ p.moves); starved = any_starves R (does (a ∷ acts)) || p.starved; complete = b })
+      (and_assoc (R.whole (does acts ++ p.moves) (Does a)) (wholes R acts p.moves) p.complete)
 
   part_dids : (c : ℕ) (acts : List A) (ss : List (Step A)) → part R (dids c acts ++ ss) c ≡ moved_by R acts (part R ss c)
   part_dids c [] ss = refl
@@ -163,6 +166,17 @@ module _ {A W : Type 0} (R : Rules A W) where
   part_others c [] ss d n = refl
   part_others c (a ∷ acts) ss d n =
       ap (λ b. cond b (moved R (Does a) (part R (dids c acts ++ ss) d)) (part R (dids c acts ++ ss) d)) (other c d n) ∙ part_others c acts ss d n
+
+  -- what ports may do
+  pub came_may : (start told : Option PortsTold) (e : PortEvent) (piece : List ℕ) (kept : Bool) (ss : List (Step A)) → told ≡ option_map (told_after R ss) start
+      → IfSome told (MayCome e) → IfSome start (EachMayCome R ss) → IfSome start (EachMayCome R (Came e piece kept ∷ ss))
+  came_may None told e piece kept ss h m c = tt
+  came_may (Some t) told e piece kept ss h m c = (subst (λ (o : Option PortsTold). IfSome o (MayCome e)) h m, c)
+
+  dids_may : (start : Option PortsTold) (c : ℕ) (acts : List A) (ss : List (Step A)) → IfSome start (EachMayCome R ss) → IfSome start (EachMayCome R (dids c acts ++ ss))
+  dids_may None c acts ss h = tt
+  dids_may (Some t) c [] ss h = h
+  dids_may (Some t) c (a ∷ acts) ss h = dids_may (Some t) c acts ss h
 
   none_snoc : (ws : List W) (w : W) → ws ++ w ∷ [] ≡ [] → ⊥
   none_snoc [] w h = cc
@@ -211,6 +225,7 @@ module _ {A W T : Type 0} (R : Rules A W) (K : List ℕ → List (Move A) → T 
         telling = told_more start w.told told (heard e piece) (told_after R m.steps) st.telling m.heard.1
             ∙ map_same start (λ t. heard e piece (told_after R m.steps t)) (told_after R (Came e piece false ∷ m.steps))
             (λ t. sym (plain_shut e p (heard e piece (told_after R m.steps t))));
+        coming = came_may R start w.told e piece false m.steps st.telling m.heard.0 st.coming;
         conns_are = c ∙ st.conns_are ∙ sym there_is;
         keys_are = st.keys_are ∙ sym there_is;
         sound = (record { time = m.can.time; begins = b; before = all_kept start m.steps w st m.can.rested; room = λ h. clash (sym h) }, st.sound);
@@ -269,6 +284,7 @@ module _ {A W T : Type 0} (R : Rules A W) (K : List ℕ → List (Move A) → T 
           entries = hd.mine_is ∙ ap (with_acts R s.conn hd.acts) st.entries ∙ sym (own_dids R s.conn hd.acts ss);
           telling = told_more start w.told told (heard (event.Bytes c) piece) (told_after R m.steps) st.telling m.heard.1
               ∙ map_same start (told_after R ss) (told_after R (dids R s.conn hd.acts ++ ss)) (λ t. sym (told_dids R s.conn hd.acts ss t));
+          coming = dids_may R start s.conn hd.acts ss (came_may R start w.told (event.Bytes c) piece false m.steps st.telling m.heard.0 st.coming);
           conns_are = conns_set w.sessions i s s' at h.conn ∙ st.conns_are ∙ sym (there_dids R s.conn hd.acts ss);
           keys_are = settles_keys s.conn h.said h.fate s'.fate w.box box' h.settles ∙ st.keys_are ∙ sym (there_dids R s.conn hd.acts ss);
           sound = sound_dids R s.conn hd.acts ss (ap (λ d. Hearing (event.Bytes d)) (sym sc))
@@ -294,7 +310,7 @@ module _ {A W T : Type 0} (R : Rules A W) (K : List ℕ → List (Move A) → T 
   -- a turn was worn while a piece was heard
   pub bytes_worn : (c : ℕ) (piece : List ℕ) (start told : Option PortsTold) (w : World T) (i : ℕ) (s : Session T) (mine' : List Entry)
       → (m : Comes R K (event.Bytes c) piece start told w) → StandsAt w.sessions i s → s.conn ≡ c → HearsWorn R K s.conn piece w.mine mine' s.talk
-      → CutShort R K start told mine'
+      → CutShort R K start told mine' w.starved
   bytes_worn c piece start told w i s mine' m at sc h =
       let st = m.can.stands in
       let p = part R m.steps s.conn in
@@ -308,6 +324,8 @@ module _ {A W T : Type 0} (R : Rules A W) (K : List ℕ → List (Move A) → T 
         entries = hd.mine_is ∙ ap (with_acts R s.conn hd.acts) st.entries ∙ sym (own_dids R s.conn hd.acts ss);
         telling = told_more start w.told told (heard (event.Bytes c) piece) (told_after R m.steps) st.telling m.heard.1
             ∙ map_same start (told_after R ss) (told_after R (dids R s.conn hd.acts ++ ss)) (λ t. sym (told_dids R s.conn hd.acts ss t));
+        coming = dids_may R start s.conn hd.acts ss (came_may R start w.told (event.Bytes c) piece false m.steps st.telling m.heard.0 st.coming);
+        counted = st.counted ∙ ap (λ n. min n (2 ^ 64 - 1)) (sym (starved_dids R s.conn hd.acts ss));
         sound = sound_dids R s.conn hd.acts ss (ap (λ d. Hearing (event.Bytes d)) (sym sc))
             (record { time = m.can.time; begins = tt; before = all_kept start m.steps w st m.can.rested; room = λ h. clash (sym h) }, st.sound)
             (subst (λ (q : Part A). EachFits R hd.acts q.moves) (sym part_is) hd.fits)

@@ -4,11 +4,11 @@ use Rattle.port_trait.specs.declared.events.PortEvent.{PortEvent}
 use Rattle.port_trait.specs.declared.events.PortEvent.TheVariants as event
 use Rattle.port_trait.specs.declared.events.SendFault.{SendFault}
 use Rattle.port_trait.specs.declared.events.SendFault.TheVariants as send_fault
-use Rattle.port_trait.specs.Told.{PortsTold, heard, sent, closed}
+use Rattle.port_trait.specs.Told.{PortsTold, MayCome, heard, sent, closed}
 use Rattle.farm_history.specs.declared.queues.Outcome.TheVariants as outcome
 use Rattle.front_rounds.specs.declared.fates.Reason.{Reason}
 use Rattle.front_rounds.specs.declared.fates.Reason.TheVariants as reason
-use Rattle.front_rounds.specs.Rules.{Rules, Move, Does, Gets, text}
+use Rattle.front_rounds.specs.Rules.{Rules, Move, Does, Gets, text, each_whole}
 use Rattle.front_rounds.specs.Steps.{Step, Came, Did, Got, Through, Tried, Left}
 
 pub record Part (A : Type 0) : Type 0 where
@@ -31,6 +31,8 @@ pub record Part (A : Type 0) : Type 0 where
   pub tried : Bool
   pub failed : Bool
   pub sent_whole : Bool
+  -- each move has all its entries, but for the replies that may lack them
+  pub complete : Bool
 
 abbrev pub opens : PortEvent → ℕ → Bool
 opens (event.Opened d) c = d == c
@@ -108,7 +110,20 @@ is_failed None = true
 
 -- nothing has happened on it
 abbrev pub blank : {A : Type 0} → Part A
-blank = record { given = []; moves = []; took = 0; had = 0; was = 0; ended = false; lost = false; called = false; cut = false; starved = false; tried = false; failed = false; sent_whole = false }
+blank = record { given = []; moves = []; took = 0; had = 0; was = 0; ended = false; lost = false; called = false; cut = false; starved = false; tried = false; failed = false; sent_whole = false; complete = true }
+
+module _ {A : Type 0} where
+  -- A reply may lack entries in the round of its connection's Ended or Lost, where it is Cut, and after one that was Cut.
+  abbrev pub is_excused : Move A → Part A → Bool
+  is_excused (Does a) p = false
+  is_excused (Gets r behind) p = p.ended || (p.lost || (p.cut || is_cut {A = A} (Gets r behind)))
+
+  -- nothing of the ports has ended it: no Ended, no Lost, no failed send, and its answers were not sent whole
+  pub record Running (p : Part A) : Type 0 where
+    pub ended : p.ended ≡ false
+    pub lost : p.lost ≡ false
+    pub sends : p.failed ≡ false
+    pub sent : p.sent_whole ≡ false
 
 -- it is open in the ports, as long as it is there
 abbrev pub is_open : {A : Type 0} → Part A → Bool
@@ -148,11 +163,17 @@ module _ {A W : Type 0} (R : Rules A W) where
     tried = false;
     failed = false;
     sent_whole = false;
+    complete = each_whole R p.moves;
   }
 
   -- a move is made
   abbrev pub moved : Move A → Part A → Part A
-  moved m p = record p { moves = m ∷ p.moves; cut = is_cut m || p.cut; starved = R.starves m || p.starved }
+  moved m p = record p {
+    moves = m ∷ p.moves;
+    cut = is_cut m || p.cut;
+    starved = R.starves m || p.starved;
+    complete = (is_excused m p || R.whole p.moves m) && p.complete;
+  }
 
   -- its bytes are offered
   abbrev pub with_try : Option ℕ → Part A → Part A
@@ -183,6 +204,16 @@ module _ {A W : Type 0} (R : Rules A W) where
   told_after (Tried c taken ∷ ss) t = sent c (due (part ss c)) (answer_of taken) (told_after ss t)
   told_after (Left c asks why ∷ ss) t = cond (is_open (part ss c)) (closed c (told_after ss t)) (told_after ss t)
 
+  -- each event came as ports that told this may give it
+  abbrev pub EachMayCome : List (Step A) → PortsTold → Type 0
+  EachMayCome [] t = Unit {0}
+  EachMayCome (Came e piece kept ∷ ss) t = MayCome e (told_after ss t) × EachMayCome ss t
+  EachMayCome (Did c a ∷ ss) t = EachMayCome ss t
+  EachMayCome (Got r behind ∷ ss) t = EachMayCome ss t
+  EachMayCome (Through stopped ∷ ss) t = EachMayCome ss t
+  EachMayCome (Tried c taken ∷ ss) t = EachMayCome ss t
+  EachMayCome (Left c asks why ∷ ss) t = EachMayCome ss t
+
   -- bytes were answered to it in the newest round
   abbrev pub grew : Part A → Bool
   grew p = nat_lt p.was (length (text R p.moves))
@@ -209,7 +240,7 @@ module _ {A W : Type 0} (R : Rules A W) where
   Caused p reason.SentWhole = p.sent_whole ≡ true
   Caused p reason.SendFailed = p.failed ≡ true
   Caused p reason.NoMemory = p.starved ≡ true
-  Caused p reason.Starved = Unit {0}
+  Caused p reason.Starved = Running p
 
   -- nothing in the newest round closes it
   pub record Calm (p : Part A) : Type 0 where

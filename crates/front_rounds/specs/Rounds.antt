@@ -45,17 +45,21 @@ module _ {A W : Type 0} (R : Rules A W) where
   LastTry p reason.NoMemory = Unit {0}
   LastTry p reason.Starved = Unit {0}
 
-  -- of a connection that is left, all that its bytes ask was asked, unless its rest was full or memory was wanting
+  -- all that its bytes ask was asked, and each move has all its entries but for the replies that may lack them
+  abbrev pub HasAll : Part A → Type 0
+  HasAll p = R.wanted p.given (asked R p.moves) × (p.complete ≡ true)
+
+  -- so it is of a connection that is left, unless its rest was full or memory was wanting
   abbrev pub AskedAll : Part A → Reason → Type 0
   AskedAll p reason.Full = Unit {0}
   AskedAll p reason.NoMemory = Unit {0}
   AskedAll p reason.Starved = Unit {0}
-  AskedAll p reason.Ended = R.wanted p.given (asked R p.moves)
-  AskedAll p reason.Lost = R.wanted p.given (asked R p.moves)
-  AskedAll p reason.Cut = R.wanted p.given (asked R p.moves)
-  AskedAll p reason.Unread = R.wanted p.given (asked R p.moves)
-  AskedAll p reason.SentWhole = R.wanted p.given (asked R p.moves)
-  AskedAll p reason.SendFailed = R.wanted p.given (asked R p.moves)
+  AskedAll p reason.Ended = HasAll p
+  AskedAll p reason.Lost = HasAll p
+  AskedAll p reason.Cut = HasAll p
+  AskedAll p reason.Unread = HasAll p
+  AskedAll p reason.SentWhole = HasAll p
+  AskedAll p reason.SendFailed = HasAll p
 
   -- A request that was done: it became whole by the round's event, it is the next of those that stand in the bytes,
   -- and it has entries that fit.
@@ -82,7 +86,7 @@ module _ {A W : Type 0} (R : Rules A W) where
     pub last_try : LastTry (part R ss c) why
     pub asked_all : AskedAll (part R ss c) why
 
-  -- A round begins: the one before it is whole. An Opened makes a session only where fewer than 1,024 are there.
+  -- A round begins: the one before it is whole, and the front goes on after it. An Opened makes a session only where fewer than 1,024 are there.
   pub record CameFits (ss : List (Step A)) (e : PortEvent) (kept : Bool) : Type 0 where
     pub time : MayBegin (phase ss)
     pub begins : BeginsRound e

@@ -7,6 +7,7 @@ use Rattle.port_trait.specs.declared.ends.FrontEnd.TheVariants as ended
 use Rattle.port_trait.specs.declared.ends.Rest.{Rest}
 use Rattle.port_trait.specs.Told.{PortsTold, heard}
 use Rattle.farm_history.specs.Entries.{Entry, Stop}
+use Rattle.farm_history.specs.Lists.{Each}
 use Rattle.front_rounds.specs.Rules.{Rules}
 use Rattle.front_rounds.specs.Steps.{Step, Phase, Fresh, Hearing, Collecting, Offering, Leaving, phase, MayBegin, there, own, starved_in}
 use Rattle.front_rounds.specs.Parts.{part, due, told_after}
@@ -41,17 +42,13 @@ BreakFits ended.Stopped broke = broke ≡ false
 BreakFits ended.NoMemory broke = broke ≡ false
 BreakFits ended.Worn broke = Unit {0}
 
--- a rest by its connection and its bytes
-abbrev pub pair_of : Rest → ℕ × List ℕ
-pair_of r = (r.conn, r.bytes)
-
 module _ {A W : Type 0} (R : Rules A W) where
   -- the rests are those of the connections that are there, in the order in which they were opened: all bytes that
   -- were answered and not taken
-  abbrev pub rests_of : List (Step A) → List (ℕ × List ℕ)
-  rests_of ss = map (λ c. (c, due R (part R ss c))) (there ss)
+  abbrev pub rests_of : List (Step A) → List Rest
+  rests_of ss = map (λ c. record { front = R.number; conn = c; bytes = due R (part R ss c) }) (there ss)
 
-  -- Why the front ended. Only a worn turn leaves a round that is cut short; only then the rests and the count are free.
+  -- Why the front ended. Only a worn turn leaves a round that is cut short.
   abbrev pub EndFits : FrontEnd → List (Step A) → List Entry → Bool → Type 0
   EndFits ended.Finished ss stop worn = AllKept R ss × EndsAt event.Finished false (phase ss) × (stop ≡ [])
   EndFits ended.Stopped ss stop worn = AllKept R ss × StopsAt (phase ss) × (stop ≡ Stop ∷ [])
@@ -59,24 +56,18 @@ module _ {A W : Type 0} (R : Rules A W) where
   EndFits ended.NoMemory ss stop worn = AllKept R ss × MayBegin (phase ss) × (stop ≡ Stop ∷ [])
   EndFits ended.Worn ss stop worn = (worn ≡ true) × (stop ≡ [])
 
-  abbrev pub RestsFit : FrontEnd → List (Step A) → List (ℕ × List ℕ) → Type 0
-  RestsFit ended.Worn ss rests = Unit {0}
+  -- where a turn was worn, what the rests are is free, but for the front's number in them
+  abbrev pub RestsFit : FrontEnd → List (Step A) → List Rest → Type 0
+  RestsFit ended.Worn ss rests = Each (λ (r : Rest). r.front ≡ R.number) rests
   RestsFit ended.Finished ss rests = rests ≡ rests_of ss
   RestsFit ended.Stopped ss rests = rests ≡ rests_of ss
   RestsFit ended.Broken ss rests = rests ≡ rests_of ss
   RestsFit ended.NoMemory ss rests = rests ≡ rests_of ss
 
-  abbrev pub CountFits : FrontEnd → List (Step A) → ℕ → Type 0
-  CountFits ended.Worn ss n = Unit {0}
-  CountFits ended.Finished ss n = n ≡ min (starved_in ss) (2 ^ 64 - 1)
-  CountFits ended.Stopped ss n = n ≡ min (starved_in ss) (2 ^ 64 - 1)
-  CountFits ended.Broken ss n = n ≡ min (starved_in ss) (2 ^ 64 - 1)
-  CountFits ended.NoMemory ss n = n ≡ min (starved_in ss) (2 ^ 64 - 1)
-
   -- **What a front leaves.** Its own entries are those of its steps, and then at most the Stop of its end. What its
   -- ports tell is what the steps make of what they told, and then at most that they broke. Each step may be made after those before it. The end has its
-  -- cause, and the rests and the count of the starved are those of the steps.
-  pub record Serves (start told : Option PortsTold) (mine : List Entry) (end : FrontEnd) (rests : List (ℕ × List ℕ)) (starved : ℕ) (worn : Bool) : Type 0 where
+  -- cause; the ports break only where no round is under way; and the rests and the count of the starved are those of the steps.
+  pub record Serves (start told : Option PortsTold) (mine : List Entry) (end : FrontEnd) (rests : List Rest) (starved : ℕ) (worn : Bool) : Type 0 where
     pub steps : List (Step A)
     pub broke : Bool
     pub stop : List Entry
@@ -85,5 +76,6 @@ module _ {A W : Type 0} (R : Rules A W) where
     pub sound : Sound R steps
     pub end_fits : EndFits end steps stop worn
     pub break_fits : BreakFits end broke
+    pub break_time : broke ≡ true → AllKept R steps × MayBegin (phase steps)
     pub rests_fit : RestsFit end steps rests
-    pub count_fits : CountFits end steps starved
+    pub counted : starved ≡ min (starved_in steps) (2 ^ 64 - 1)

@@ -1,5 +1,5 @@
 -- What a front does, step by step, and what its steps put into the history. The newest step comes first.
-use Rattle.std.specs.Prelude.{ℕ, ◌+◌, ◌==◌, Bool, true, false, cond, List, [], ◌∷◌, ◌++◌, length, Option, nat_lt}
+use Rattle.std.specs.Prelude.{◌≡◌, ℕ, ◌+◌, ◌==◌, Bool, true, false, cond, List, [], ◌∷◌, ◌++◌, length, Option, nat_lt}
 use Rattle.port_trait.specs.declared.events.PortEvent.{PortEvent}
 use Rattle.port_trait.specs.declared.events.PortEvent.TheVariants as event
 use Rattle.farm_history.specs.declared.queues.Reply.{Reply}
@@ -82,11 +82,25 @@ IsThrough Fresh = ⊥
 IsThrough (Hearing e) = ⊥
 IsThrough (Collecting e) = ⊥
 
--- no round is under way but one whose last Collect is over
+-- the front goes on after a round of this event: not where its last Collect was answered Stopped, nor where the
+-- ports finished
+abbrev pub goes_on : PortEvent → Bool → Bool
+goes_on e true = false
+goes_on event.Finished false = false
+goes_on (event.Opened c) false = true
+goes_on (event.Bytes c) false = true
+goes_on (event.Writable c) false = true
+goes_on (event.Ended c) false = true
+goes_on (event.Lost c) false = true
+goes_on event.Woken false = true
+goes_on event.Broken false = true
+goes_on event.NoMemory false = true
+
+-- no round is under way but one whose last Collect is over, and the front goes on after it
 abbrev pub MayBegin : Phase → Type 0
 MayBegin Fresh = Unit {0}
-MayBegin (Offering e stopped) = Unit {0}
-MayBegin (Leaving e stopped) = Unit {0}
+MayBegin (Offering e stopped) = goes_on e stopped ≡ true
+MayBegin (Leaving e stopped) = goes_on e stopped ≡ true
 MayBegin (Hearing e) = ⊥
 MayBegin (Collecting e) = ⊥
 

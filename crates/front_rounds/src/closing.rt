@@ -62,7 +62,8 @@ fn is_open(why: Reason) -> bool
 /// Closes the connection, if it is still open.
 fn shut<P: Ports>(ports: &mut P, conn: u32, why: Reason)
     requires { is_up (fate.Leaves why) ≡ true → IsOpen conn (P.state ports.old).told }
-    ensures { Shuts conn why (P.state ports.old).told (P.state ports.new).told }
+    ensures told { Shuts conn why (P.state ports.old).told (P.state ports.new).told }
+    ensures count { (P.state ports.new).faults ≡ (P.state ports.old).faults }
 {
     if is_open(why) {
         ports.close(conn);
@@ -97,12 +98,13 @@ fn close_one<R: Wait, M: Farm, F: Front<M>, P: Ports>(
     requires ready { (e : PortEvent) × ((stopped : Bool) × ((start : Option PortsTold) × CanLeave (F.rules front.now farm.now) F.knows e stopped start (world (P.state ports.old).told ((M.seats farm.now).mine seat.old) desk.old))) }
     ensures seat { SameSeat (M.seats farm.now) seat.old seat.new }
     ensures worn { OnErr result ((M.seats farm.now).worn seat.new ≡ true) }
+    ensures count { (P.state ports.new).faults ≡ (P.state ports.old).faults }
     ensures fewer { OnOk result (length desk.new.sessions.items + 1 ≡ length desk.old.sessions.items) }
     ensures goes { (e : PortEvent) (stopped : Bool) (start : Option PortsTold)
         → CanLeave (F.rules front.now farm.now) F.knows e stopped start (world (P.state ports.old).told ((M.seats farm.now).mine seat.old) desk.old)
         → MatchResult result
         (λ _. CanLeave (F.rules front.now farm.now) F.knows e stopped start (world (P.state ports.new).told ((M.seats farm.now).mine seat.new) desk.new))
-        (λ _. CutShort (F.rules front.now farm.now) F.knows start (P.state ports.new).told ((M.seats farm.now).mine seat.new)) }
+        (λ _. CutShort (F.rules front.now farm.now) F.knows start (P.state ports.new).told ((M.seats farm.now).mine seat.new) desk.new.starved) }
 {
     let number = front.number(farm);
     let Ok(_asks) = farm.leave(
@@ -136,11 +138,12 @@ pub fn close_all<R: Wait, M: Farm, F: Front<M>, P: Ports>(
     requires ready { (e : PortEvent) × ((stopped : Bool) × ((start : Option PortsTold) × CanLeave (F.rules front.now farm.now) F.knows e stopped start (world (P.state ports.old).told ((M.seats farm.now).mine seat.old) desk.old))) }
     ensures seat { SameSeat (M.seats farm.now) seat.old seat.new }
     ensures worn { OnErr result ((M.seats farm.now).worn seat.new ≡ true) }
+    ensures count { (P.state ports.new).faults ≡ (P.state ports.old).faults }
     ensures goes { (e : PortEvent) (stopped : Bool) (start : Option PortsTold)
         → CanLeave (F.rules front.now farm.now) F.knows e stopped start (world (P.state ports.old).told ((M.seats farm.now).mine seat.old) desk.old)
         → MatchResult result
         (λ _. IsOver (F.rules front.now farm.now) F.knows e stopped start (world (P.state ports.new).told ((M.seats farm.now).mine seat.new) desk.new))
-        (λ _. CutShort (F.rules front.now farm.now) F.knows start (P.state ports.new).told ((M.seats farm.now).mine seat.new)) }
+        (λ _. CutShort (F.rules front.now farm.now) F.knows start (P.state ports.new).told ((M.seats farm.now).mine seat.new) desk.new.starved) }
 {
     while let Some((place, conn, why)) = leaving(desk.sessions.as_slice()) {
         let Ok(()) = close_one(rt, front, farm, seat, desk, ports, place, conn, why) else {

@@ -85,7 +85,7 @@ fn collect_one<R: Wait, M: Farm, F: Front<M>>(
         → Collects (F.rules front.now farm.now) F.knows e start ss (world told ((M.seats farm.now).mine seat.old) desk.old)
         → MatchResult result
         (λ x. CollectsOne (F.rules front.now farm.now) F.knows e start (world told ((M.seats farm.now).mine seat.new) desk.new) x)
-        (λ _. CutShort (F.rules front.now farm.now) F.knows start told ((M.seats farm.now).mine seat.new)) }
+        (λ _. CutShort (F.rules front.now farm.now) F.knows start told ((M.seats farm.now).mine seat.new) desk.new.starved) }
 {
     let Ok(collected) = farm.collect(rt, seat, front.number(farm)) else {
         return Err(Worn);
@@ -136,7 +136,7 @@ pub fn collect_all<R: Wait, M: Farm, F: Front<M>>(
         → Collects (F.rules front.now farm.now) F.knows e start ss (world told ((M.seats farm.now).mine seat.old) desk.old)
         → MatchResult result
         (λ stopped. CanOffer (F.rules front.now farm.now) F.knows e stopped start (world told ((M.seats farm.now).mine seat.new) desk.new))
-        (λ _. CutShort (F.rules front.now farm.now) F.knows start told ((M.seats farm.now).mine seat.new)) }
+        (λ _. CutShort (F.rules front.now farm.now) F.knows start told ((M.seats farm.now).mine seat.new) desk.new.starved) }
 {
     for _ in rt.forever() {
         let Ok(collected) = collect_one(rt, alloc, front, farm, seat, desk) else {

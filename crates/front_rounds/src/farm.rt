@@ -2,6 +2,7 @@
 ghost use Rattle.std.specs.Prelude.{◌≡◌, ◌+◌, ℕ, List, Option};
 ghost use Rattle.farm_history.specs.Entries as entry;
 ghost use Rattle.front_rounds.specs.Calls.{Seats, Turns};
+ghost use Rattle.plain_world.specs.World.{IsTile};
 
 use farm_history::{
     AskAnswer, Cmd, Collected, Conn, Fetched, Looked, Renewed, Restyled, Spot, Tally, Updated,
@@ -94,7 +95,8 @@ pub trait Farm {
         ensures { Turns (seats self.now) (entry.Restyle number) seat.old seat.new result };
 
     fn expire<R: Wait>(&self, rt: &R, seat: &mut Self::Seat, tile: Tile) -> Result<u64, Worn>
-        requires { (seats self.now).is_seat seat.old }
+        requires seat { (seats self.now).is_seat seat.old }
+        requires tile { IsTile tile }
         ensures { Turns (seats self.now) (entry.Expire tile) seat.old seat.new result };
 
     fn tally<R: Wait>(&self, rt: &R, seat: &mut Self::Seat) -> Result<Tally, Worn>

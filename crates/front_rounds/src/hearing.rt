@@ -111,7 +111,7 @@ fn hear<R: Wait, M: Farm, F: Front<M>>(
         → Comes (F.rules front.now farm.now) F.knows (event.Bytes conn) piece.now start told (world was ((M.seats farm.now).mine seat.old) desk.old)
         → MatchResult result
         (λ _. HasBegun (F.rules front.now farm.now) F.knows (event.Bytes conn) start (world told ((M.seats farm.now).mine seat.new) desk.new))
-        (λ _. CutShort (F.rules front.now farm.now) F.knows start told ((M.seats farm.now).mine seat.new)) }
+        (λ _. CutShort (F.rules front.now farm.now) F.knows start told ((M.seats farm.now).mine seat.new) desk.new.starved) }
 {
     let Some(place) = place_of(desk.sessions.as_slice(), conn) else {
         return Ok(());
@@ -187,6 +187,7 @@ fn refused_after(starved: u64, there: usize) -> u64
 fn refuse<T, P: Ports>(desk: &mut Desk<T>, ports: &mut P, conn: u32)
     requires { IsOpen conn (P.state ports.old).told }
     ensures told { (P.state ports.new).told ≡ option_map (closed conn) (P.state ports.old).told }
+    ensures count { (P.state ports.new).faults ≡ (P.state ports.old).faults }
     ensures sessions { desk.new.sessions.items ≡ desk.old.sessions.items }
     ensures outbox { desk.new.outbox ≡ desk.old.outbox }
     ensures starved { desk.new.starved ≡ cond (nat_lt (length desk.old.sessions.items) 1024) (min (desk.old.starved + 1) (2 ^ 64 - 1)) desk.old.starved }
@@ -209,6 +210,7 @@ fn open<M: Farm, F: Front<M>, P: Ports>(
     ensures goes { (start was : Option PortsTold) (mine : List Entry)
         → Comes (F.rules front.now farm.now) F.knows (event.Opened conn) piece.now start (P.state ports.old).told (world was mine desk.old)
         → HasBegun (F.rules front.now farm.now) F.knows (event.Opened conn) start (world (P.state ports.new).told mine desk.new) }
+    ensures count { (P.state ports.new).faults ≡ (P.state ports.old).faults }
 {
     match admit(alloc, front, farm, desk, conn) {
         true => {}
@@ -256,11 +258,12 @@ pub fn take_event<R: Wait, M: Farm, F: Front<M>, P: Ports>(
     requires ready { (start was : Option PortsTold) × Comes (F.rules front.now farm.now) F.knows event piece.now start (P.state ports.old).told (world was ((M.seats farm.now).mine seat.old) desk.old) }
     ensures seat { SameSeat (M.seats farm.now) seat.old seat.new }
     ensures worn { OnErr result ((M.seats farm.now).worn seat.new ≡ true) }
+    ensures count { (P.state ports.new).faults ≡ (P.state ports.old).faults }
     ensures goes { (start was : Option PortsTold)
         → Comes (F.rules front.now farm.now) F.knows event piece.now start (P.state ports.old).told (world was ((M.seats farm.now).mine seat.old) desk.old)
         → MatchResult result
         (λ _. HasBegun (F.rules front.now farm.now) F.knows event start (world (P.state ports.new).told ((M.seats farm.now).mine seat.new) desk.new))
-        (λ _. CutShort (F.rules front.now farm.now) F.knows start (P.state ports.new).told ((M.seats farm.now).mine seat.new)) }
+        (λ _. CutShort (F.rules front.now farm.now) F.knows start (P.state ports.new).told ((M.seats farm.now).mine seat.new) desk.new.starved) }
 {
     match event {
         PortEvent::Opened(conn) => {

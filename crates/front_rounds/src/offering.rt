@@ -1,5 +1,5 @@
 //! Bytes are offered to the connections that have a reason to get them.
-ghost use Rattle.std.specs.Prelude.{◌≡◌, ◌+◌, [], true, false, ℕ, List, Option, length, nat_eq};
+ghost use Rattle.std.specs.Prelude.{◌≡◌, ◌≤◌, ◌+◌, [], true, false, ℕ, List, Option, length, nat_eq};
 ghost use Rattle.farm_history.specs.Lists.{Each};
 ghost use Rattle.front_rounds.specs.inner.Sessions.{is_up};
 ghost use Rattle.front_rounds.specs.inner.Stands.{world};
@@ -36,7 +36,8 @@ pub enum Gave {
 fn give<P: Ports>(outbox: &mut Outbox, conn: u32, ports: &mut P) -> Gave
     requires rest { HasRest outbox.old conn }
     requires open { IsOpen conn (P.state ports.old).told }
-    ensures { Gives conn (held outbox.old conn) outbox.old outbox.new (P.state ports.old).told (P.state ports.new).told result }
+    ensures gives { Gives conn (held outbox.old conn) outbox.old outbox.new (P.state ports.old).told (P.state ports.new).told result }
+    ensures count { (P.state ports.old).faults ≤ (P.state ports.new).faults }
 {
     if outbox.rest(conn).is_empty() {
         return Gave::Nothing;
@@ -88,7 +89,8 @@ fn offer_one<M: Farm, F: Front<M>, P: Ports>(
 )
     requires rest { HasRest outbox.old session.old.conn }
     requires open { is_up session.old.fate ≡ true → IsOpen session.old.conn (P.state ports.old).told }
-    ensures { OffersOne (F.rules front.now farm.now) F.knows session.old session.new outbox.old outbox.new (P.state ports.old).told (P.state ports.new).told }
+    ensures offers { OffersOne (F.rules front.now farm.now) F.knows session.old session.new outbox.old outbox.new (P.state ports.old).told (P.state ports.new).told }
+    ensures count { (P.state ports.old).faults ≤ (P.state ports.new).faults }
 {
     if !session.owes || !is_kept(session.fate) {
         return;
@@ -110,6 +112,7 @@ pub fn offer_all<M: Farm, F: Front<M>, P: Ports>(
     ensures goes { (e : PortEvent) (stopped : Bool) (start : Option PortsTold) (mine : List Entry)
         → CanOffer (F.rules front.now farm.now) F.knows e stopped start (world (P.state ports.old).told mine desk.old)
         → CanLeave (F.rules front.now farm.now) F.knows e stopped start (world (P.state ports.new).told mine desk.new) }
+    ensures count { (P.state ports.old).faults ≤ (P.state ports.new).faults }
 {
     for place in 0..desk.sessions.len() {
         offer_one(

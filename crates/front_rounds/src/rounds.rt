@@ -1,8 +1,11 @@
 //! Rounds, one after another, until the front ends.
-ghost use Rattle.std.specs.Prelude.{◌≡◌, ◌+◌, [], true, false, ℕ, List, Option, Some, map, MatchResult, OnErr};
+ghost use Rattle.std.specs.Prelude.{◌≡◌, ◌≢◌, ◌≤◌, ◌+◌, [], true, false, ℕ, List, Option, Some, map, MatchResult, OnErr, IfOk};
 ghost use Rattle.farm_history.specs.Entries.{Entry};
 ghost use Rattle.front_rounds.specs.Calls.{SameSeat};
-ghost use Rattle.front_rounds.specs.Serving.{Serves, pair_of};
+ghost use Rattle.front_rounds.specs.Serving.{Serves};
+ghost use Rattle.farm_base.specs.Outside.{Counted};
+ghost use Rattle.port_trait.specs.Boxes.{handed};
+ghost use Rattle.port_trait.specs.declared.ends.FrontEnd.TheVariants as ended;
 ghost use Rattle.front_rounds.specs.inner.Stands.{world};
 ghost use Rattle.front_rounds.specs.inner.Stages.{Comes, CanGo, Goes, CutShort, EndsEarly, StopsAfter, end_of};
 ghost use Rattle.front_rounds.specs.Rounds.{BeginsRound};
@@ -21,7 +24,8 @@ use std::sync::Wait;
 
 /// How the front ends after a round, if it does.
 fn end_after(event: PortEvent, stopped: bool) -> Option<FrontEnd>
-    ensures { result ≡ end_of event stopped }
+    ensures end { result ≡ end_of event stopped }
+    ensures unbroken { result ≢ Some ended.Broken }
 {
     if stopped {
         return Some(FrontEnd::Stopped);
@@ -61,11 +65,13 @@ fn play<R: Wait, M: Farm, F: Front<M>, P: Ports>(
     requires ready { (start was : Option PortsTold) × Comes (F.rules front.now farm.now) F.knows event piece.now start (P.state ports.old).told (world was ((M.seats farm.now).mine seat.old) desk.old) }
     ensures seat { SameSeat (M.seats farm.now) seat.old seat.new }
     ensures worn { OnErr result ((M.seats farm.now).worn seat.new ≡ true) }
+    ensures count { (P.state ports.old).faults ≤ (P.state ports.new).faults }
+    ensures unbroken { IfOk result (λ end. end ≢ Some ended.Broken) }
     ensures goes { (start was : Option PortsTold)
         → Comes (F.rules front.now farm.now) F.knows event piece.now start (P.state ports.old).told (world was ((M.seats farm.now).mine seat.old) desk.old)
         → MatchResult result
         (λ end. Goes (F.rules front.now farm.now) F.knows start (world (P.state ports.new).told ((M.seats farm.now).mine seat.new) desk.new) end)
-        (λ _. CutShort (F.rules front.now farm.now) F.knows start (P.state ports.new).told ((M.seats farm.now).mine seat.new)) }
+        (λ _. CutShort (F.rules front.now farm.now) F.knows start (P.state ports.new).told ((M.seats farm.now).mine seat.new) desk.new.starved) }
 {
     let Ok(()) = take_event(rt, alloc, front, farm, seat, desk, ports, piece, event) else {
         return Err(Worn);
@@ -96,11 +102,13 @@ fn round<R: Wait, M: Farm, F: Front<M>, P: Ports>(
     requires ready { (start : Option PortsTold) × CanGo (F.rules front.now farm.now) F.knows start (world (P.state ports.old).told ((M.seats farm.now).mine seat.old) desk.old) }
     ensures seat { SameSeat (M.seats farm.now) seat.old seat.new }
     ensures worn { OnErr result ((M.seats farm.now).worn seat.new ≡ true) }
+    ensures count { (P.state ports.old).faults ≤ (P.state ports.new).faults }
+    ensures broken { IfOk result (λ end. end ≡ Some ended.Broken → Counted (P.state ports.old).faults (P.state ports.new).faults) }
     ensures goes { (start : Option PortsTold)
         → CanGo (F.rules front.now farm.now) F.knows start (world (P.state ports.old).told ((M.seats farm.now).mine seat.old) desk.old)
         → MatchResult result
         (λ end. Goes (F.rules front.now farm.now) F.knows start (world (P.state ports.new).told ((M.seats farm.now).mine seat.new) desk.new) end)
-        (λ _. CutShort (F.rules front.now farm.now) F.knows start (P.state ports.new).told ((M.seats farm.now).mine seat.new)) }
+        (λ _. CutShort (F.rules front.now farm.now) F.knows start (P.state ports.new).told ((M.seats farm.now).mine seat.new) desk.new.starved) }
 {
     let event = ports.next(room);
     match early_end(event) {
@@ -134,11 +142,12 @@ fn run<R: Wait, M: Farm, F: Front<M>, P: Ports>(
     requires ready { (start : Option PortsTold) × CanGo (F.rules front.now farm.now) F.knows start (world (P.state ports.old).told ((M.seats farm.now).mine seat.old) desk.old) }
     ensures seat { SameSeat (M.seats farm.now) seat.old seat.new }
     ensures worn { OnErr result ((M.seats farm.now).worn seat.new ≡ true) }
+    ensures broken { IfOk result (λ end. end ≡ ended.Broken → Counted (P.state ports.old).faults (P.state ports.new).faults) }
     ensures goes { (start : Option PortsTold)
         → CanGo (F.rules front.now farm.now) F.knows start (world (P.state ports.old).told ((M.seats farm.now).mine seat.old) desk.old)
         → MatchResult result
         (λ end. Goes (F.rules front.now farm.now) F.knows start (world (P.state ports.new).told ((M.seats farm.now).mine seat.new) desk.new) (Some end))
-        (λ _. CutShort (F.rules front.now farm.now) F.knows start (P.state ports.new).told ((M.seats farm.now).mine seat.new)) }
+        (λ _. CutShort (F.rules front.now farm.now) F.knows start (P.state ports.new).told ((M.seats farm.now).mine seat.new) desk.new.starved) }
 {
     let mut room = Vec::new(alloc);
     for _ in rt.forever() {
@@ -157,6 +166,7 @@ fn stop_after<R: Wait, M: Farm>(rt: &R, farm: &M, seat: &mut M::Seat, end: Front
     requires { (M.seats farm.now).is_seat seat.old }
     ensures seat { SameSeat (M.seats farm.now) seat.old seat.new }
     ensures stops { StopsAfter end result ((M.seats farm.now).mine seat.old) ((M.seats farm.now).mine seat.new) ((M.seats farm.now).worn seat.new) }
+    ensures broken { result ≡ ended.Broken → end ≡ ended.Broken }
 {
     if end == FrontEnd::Finished {
         return FrontEnd::Finished;
@@ -181,7 +191,8 @@ fn serve_at<R: Wait, M: Farm, F: Front<M>, P: Ports>(
     requires number { (M.seats farm.now).number seat.old ≡ (F.rules front.now farm.now).number + 1 }
     requires ready { CanGo (F.rules front.now farm.now) F.knows (P.state ports.old).told (world (P.state ports.old).told ((M.seats farm.now).mine seat.old) desk.old) }
     ensures seat { SameSeat (M.seats farm.now) seat.old seat.new }
-    ensures served { Serves (F.rules front.now farm.now) (P.state ports.old).told (P.state ports.new).told ((M.seats farm.now).mine seat.new) result desk.new.outbox desk.new.starved ((M.seats farm.now).worn seat.new) }
+    ensures served { Serves (F.rules front.now farm.now) (P.state ports.old).told (P.state ports.new).told ((M.seats farm.now).mine seat.new) result (map (handed (F.rules front.now farm.now).number) desk.new.outbox) desk.new.starved ((M.seats farm.now).worn seat.new) }
+    ensures broken { result ≡ ended.Broken → Counted (P.state ports.old).faults (P.state ports.new).faults }
 {
     match run(rt, alloc, front, farm, seat, desk, ports) {
         Ok(end) => stop_after(rt, farm, seat, end),
@@ -192,7 +203,7 @@ fn serve_at<R: Wait, M: Farm, F: Front<M>, P: Ports>(
 /// Serves the connections of the ports until the front ends. It ends Finished where its ports finished,
 /// Stopped where the farm was stopped, Broken where its ports broke, NoMemory where they found no
 /// memory, and Worn where the farm's limit of turns was drawn. Where it ends otherwise than Finished or
-/// Worn it stops the farm.
+/// Worn it stops the farm. Broken comes only where the ports' count of faults rose in this call.
 pub fn serve<R: Wait, M: Farm, F: Front<M>, P: Ports>(
     rt: &R,
     alloc: Global,
@@ -205,7 +216,8 @@ pub fn serve<R: Wait, M: Farm, F: Front<M>, P: Ports>(
     requires number { (M.seats farm.now).number seat.old ≡ (F.rules front.now farm.now).number + 1 }
     requires fresh { (M.seats farm.now).mine seat.old ≡ [] }
     ensures seat { SameSeat (M.seats farm.now) seat.old seat.new }
-    ensures served { Serves (F.rules front.now farm.now) (P.state ports.old).told (P.state ports.new).told ((M.seats farm.now).mine seat.new) result.end (map pair_of result.rests.items) result.starved ((M.seats farm.now).worn seat.new) }
+    ensures served { Serves (F.rules front.now farm.now) (P.state ports.old).told (P.state ports.new).told ((M.seats farm.now).mine seat.new) result.end result.rests.items result.starved ((M.seats farm.now).worn seat.new) }
+    ensures broken { result.end ≡ ended.Broken → Counted (P.state ports.old).faults (P.state ports.new).faults }
 {
     let number = front.number(farm);
     let mut desk = Desk::new(alloc);

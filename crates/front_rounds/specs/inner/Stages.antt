@@ -1,5 +1,5 @@
 -- The stages of a round: what each does to the steps and to all that is told by them.
-use Rattle.std.specs.Prelude.{◌≡◌, ℕ, ◌<◌, ◌≤◌, Bool, true, false, ◌⊎◌, List, [], ◌∷◌, ◌++◌, length, drop, set, Option, Some, None, option_map, Ok, Err}
+use Rattle.std.specs.Prelude.{◌≡◌, ℕ, ◌<◌, ◌≤◌, Bool, true, false, ◌⊎◌, List, [], ◌∷◌, ◌++◌, length, drop, set, Option, Some, None, option_map, IfSome, Ok, Err, ◌-◌, ◌^◌, min}
 use Rattle.farm_history.specs.Lists.{Each}
 use Rattle.farm_history.specs.Entries.{Entry, Stop}
 use Rattle.farm_history.specs.declared.queues.Reply.{Reply}
@@ -22,8 +22,8 @@ use Rattle.front_rounds.specs.declared.sessions.Desk.{Desk}
 use Rattle.front_rounds.specs.declared.offering.Gave.{Gave}
 use Rattle.front_rounds.specs.declared.offering.Gave.TheVariants as gave
 use Rattle.front_rounds.specs.Rules.{Rules, Move}
-use Rattle.front_rounds.specs.Steps.{Step, has, Phase, Fresh, Hearing, Collecting, Offering, Leaving, phase, MayBegin, own}
-use Rattle.front_rounds.specs.Parts.{told_after}
+use Rattle.front_rounds.specs.Steps.{Step, has, Phase, Fresh, Hearing, Collecting, Offering, Leaving, phase, MayBegin, own, starved_in}
+use Rattle.front_rounds.specs.Parts.{told_after, EachMayCome}
 use Rattle.front_rounds.specs.Rounds.{Sound}
 use Rattle.front_rounds.specs.Serving.{EndsAt}
 use Rattle.front_rounds.specs.Front.{keeps, Hears, Replies, Begins}
@@ -171,11 +171,13 @@ module _ {A W T : Type 0} (R : Rules A W) (K : List ℕ → List (Move A) → T 
         → s' ≡ record s { owes = false; fate = fate_after g done s.fate } → OffersOne s s' box box' told told'
 
   -- A round that is cut short by a worn turn: its steps so far.
-  pub record CutShort (start told : Option PortsTold) (mine : List Entry) : Type 0 where
+  pub record CutShort (start told : Option PortsTold) (mine : List Entry) (starved : ℕ) : Type 0 where
     pub steps : List (Step A)
     pub entries : mine ≡ own R steps
     pub telling : told ≡ option_map (told_after R steps) start
+    pub coming : IfSome start (EachMayCome R steps)
     pub sound : Sound R steps
+    pub counted : starved ≡ min (starved_in steps) (2 ^ 64 - 1)
 
   -- a round may begin
   pub record CanBegin (start : Option PortsTold) (ss : List (Step A)) (w : World T) : Type 0 where

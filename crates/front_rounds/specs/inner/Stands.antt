@@ -1,5 +1,5 @@
 -- What a front's sessions, its outbox, its own entries and its ports have to do with its steps.
-use Rattle.std.specs.Prelude.{◌≡◌, ℕ, ◌-◌, ◌^◌, ◌≤◌, true, false, List, length, min, Option, option_map}
+use Rattle.std.specs.Prelude.{◌≡◌, ℕ, ◌-◌, ◌^◌, ◌≤◌, true, false, List, length, min, Option, option_map, IfSome}
 use Rattle.farm_history.specs.Lists.{Each}
 use Rattle.farm_history.specs.Entries.{Entry}
 use Rattle.port_trait.specs.Told.{PortsTold, IsOpen}
@@ -10,8 +10,8 @@ use Rattle.front_rounds.specs.declared.sessions.Session.{Session}
 use Rattle.front_rounds.specs.declared.sessions.Desk.{Desk}
 use Rattle.front_rounds.specs.Rules.{Rules, Move, asked, text, each_whole}
 use Rattle.front_rounds.specs.Steps.{Step, there, own, starved_in}
-use Rattle.front_rounds.specs.Parts.{Part, part, due, must, Offered, Caused, Calm, is_open, told_after}
-use Rattle.front_rounds.specs.Rounds.{Sound}
+use Rattle.front_rounds.specs.Parts.{Part, part, due, must, Offered, Caused, Calm, Running, is_open, told_after, EachMayCome}
+use Rattle.front_rounds.specs.Rounds.{Sound, HasAll}
 use Rattle.front_rounds.specs.Front.{keeps}
 use Rattle.front_rounds.specs.inner.Sessions.{conns, keys, Apart, is_up, asks_all}
 
@@ -49,6 +49,7 @@ module _ {A W T : Type 0} (R : Rules A W) (K : List ℕ → List (Move A) → T 
     pub asked_all : R.wanted p.given (asked R p.moves)
     pub whole : each_whole R p.moves ≡ true
     pub knows : K p.given p.moves s.talk
+    pub running : Running p
     pub owed : s.owes ≡ true → (p.tried ≡ false) × (must R p ≡ true)
     pub offered : s.owes ≡ false → Offered R p
 
@@ -60,12 +61,13 @@ module _ {A W T : Type 0} (R : Rules A W) (K : List ℕ → List (Move A) → T 
     pub counts : Counts R p
     pub keeping : keeps s.fate ≡ true → Keeping p s (held box s.conn)
     pub fate_fits : FateFits R p s.fate
-    pub asked_all : asks_all s.fate ≡ true → R.wanted p.given (asked R p.moves)
+    pub asked_all : asks_all s.fate ≡ true → HasAll R p
 
   -- the sessions and all else after the steps
   pub record Stands (start : Option PortsTold) (ss : List (Step A)) (w : World T) : Type 0 where
     pub entries : w.mine ≡ own R ss
     pub telling : w.told ≡ option_map (told_after R ss) start
+    pub coming : IfSome start (EachMayCome R ss)
     pub conns_are : conns w.sessions ≡ there ss
     pub keys_are : keys w.box ≡ there ss
     pub sound : Sound R ss

@@ -1,4 +1,4 @@
-use Rattle.std.proofs.Common.{Bool, Option, length}
+use Rattle.std.proofs.Common.{◌≡◌, Bool, Option, length}
 use Rattle.port_trait.specs.Told.{PortsTold}
 use Rattle.port_trait.specs.declared.events.PortEvent.{PortEvent}
 use Rattle.front_rounds.specs.Calls.{SameSeat}
@@ -9,6 +9,7 @@ use Rattle.front_rounds.proofs.closing.close_all.Given as goal
 abbrev pub invariant-loop-place : goal.invariant-loop-place
 invariant-loop-place g l = record {
   seat : SameSeat (g.M.Farm.seats l.farm) l.fn.seat l.seat;
+  count : (g.P.Ports.state l.ports).faults ≡ (g.P.Ports.state l.fn.ports).faults;
   goes : (e : PortEvent) (stopped : Bool) (start : Option PortsTold)
       → CanLeave (g.F.Front.rules l.front l.farm) g.F.Front.knows e stopped start (world (g.P.Ports.state l.fn.ports).told ((g.M.Farm.seats l.farm).mine l.fn.seat) l.fn.desk)
       → CanLeave (g.F.Front.rules l.front l.farm) g.F.Front.knows e stopped start (world (g.P.Ports.state l.ports).told ((g.M.Farm.seats l.farm).mine l.seat) l.desk);

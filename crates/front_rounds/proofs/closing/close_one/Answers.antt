@@ -11,4 +11,4 @@ returns-clause-goes g c = λ e stopped start h.
     (world (g.P.Ports.state c.args.ports.now).told mine c.args.desk.now) c.args.place c.args.conn c.in-Ok._asks c.args.why ((g.M.Farm.seats c.args.farm.now).mine c.leave.new.seat)
     c.remove.new.self.items c.forget.new.self c.starved_after-desk.result h c.requires.leaving
     (c.in-Ok.ensures.takes ∙ ap (λ n. mine ++ Leave (record { front = n; number = c.args.conn }) c.in-Ok._asks ∷ []) c.number-number.ensures)
-    c.shut.ensures c.starved_after-desk.ensures c.forget.ensures c.remove.ensures.by_index.2
+    c.shut.ensures.told c.starved_after-desk.ensures c.forget.ensures c.remove.ensures.by_index.2

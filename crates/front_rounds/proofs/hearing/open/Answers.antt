@@ -1,4 +1,4 @@
-use Rattle.std.proofs.Common.{subst}
+use Rattle.std.proofs.Common.{refl, subst}
 use Rattle.front_rounds.specs.inner.Stages.{Admits}
 use Rattle.front_rounds.proofs.Opens.{opened_yes, opened_no}
 use Rattle.front_rounds.proofs.hearing.open.Goals as goal
@@ -8,6 +8,7 @@ returns-in-true g c = record {
   goes = λ start was mine m.
       opened_yes (g.F.Front.rules c.args.front.now c.args.farm.now) g.F.Front.knows c.args.conn c.args.piece.now start (g.P.Ports.state c.args.ports.now).told was mine c.args.desk.now c.admit.new.desk m
       (subst (Admits (g.F.Front.rules c.args.front.now c.args.farm.now) g.F.Front.knows c.args.conn c.args.desk.now c.admit.new.desk) c.in-true.is c.admit.ensures);
+  count = refl;
 }
 
 pub returns-in-false : goal.returns-in-false
@@ -17,4 +18,5 @@ returns-in-false g c = record {
       c.args.desk.now c.admit.new.desk c.refuse.new.desk m
       (subst (Admits (g.F.Front.rules c.args.front.now c.args.farm.now) g.F.Front.knows c.args.conn c.args.desk.now c.admit.new.desk) c.in-false.is c.admit.ensures)
       c.refuse.ensures.told c.refuse.ensures.sessions c.refuse.ensures.outbox c.refuse.ensures.starved;
+  count = c.refuse.ensures.count;
 }

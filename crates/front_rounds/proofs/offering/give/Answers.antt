@@ -11,8 +11,8 @@ gave_by-requires g c =
     subst (λ (xs : List ℕ). 0 < length xs) (sym (ap rest_of c.rest.ensures)) (positive (length c.rest.result.now) (sym c.if-is_empty.false ∙ c.is_empty.ensures)) in
     (offered_rest c.args.conn c.args.outbox.now c.offer.new.self _ _ c.requires.rest z c.in-Ok.ensures.offered).0
 
-pub returns-in-Ok : goal.returns-in-Ok
-returns-in-Ok g c =
+pub returns-in-Ok-clause-gives : goal.returns-in-Ok-clause-gives
+returns-in-Ok-clause-gives g c =
     let z : 0 < length (held c.args.outbox.now c.args.conn) =
     subst (λ (xs : List ℕ). 0 < length xs) (sym (ap rest_of c.rest.ensures)) (positive (length c.rest.result.now) (sym c.if-is_empty.false ∙ c.is_empty.ensures)) in
     subst (λ (x : Gave). Gives c.args.conn (held c.args.outbox.now c.args.conn) c.args.outbox.now c.offer.new.self (g.P.Ports.state c.args.ports.now).told (g.P.Ports.state c.offer.new.ports).told x) (sym c.gave_by.ensures)

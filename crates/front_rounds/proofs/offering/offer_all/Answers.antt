@@ -5,7 +5,7 @@ use Rattle.front_rounds.proofs.Tries.{offered_one, owes_none, owes_more, can_lea
 use Rattle.front_rounds.proofs.offering.offer_all.Goals as goal
 
 pub loop-place-init : goal.loop-place-init
-loop-place-init g c = record { goes = λ e stopped start mine h. h; none = tt; many = refl }
+loop-place-init g c = record { goes = λ e stopped start mine h. h; count = omega arith; none = tt; many = refl }
 
 pub offer_one-requires-clause-rest : goal.offer_one-requires-clause-rest
 offer_one-requires-clause-rest g c =
@@ -30,9 +30,12 @@ loop-place-preserved g c =
     record {
       goes = λ e stopped start mine h. offered_one (g.F.Front.rules c.args.front.now c.args.farm.now) g.F.Front.knows e stopped start (g.P.Ports.state c.offer_one.new.ports).told
           (world (g.P.Ports.state c.loop-place.ports).told mine c.loop-place.desk) c.loop-place.place c.index_mut.result.now c.offer_one.new.session c.offer_one.new.outbox
-          (c.loop-place.invariant.goes e stopped start mine h) (small, sym c.index_mut.ensures.value) c.offer_one.ensures;
+          (c.loop-place.invariant.goes e stopped start mine h) (small, sym c.index_mut.ensures.value) c.offer_one.ensures.offers;
+      count = let a = c.loop-place.invariant.count in
+          let b = c.offer_one.ensures.count in
+          omega (arith, a, b);
       none = owes_more c.loop-place.desk.sessions.items c.loop-place.place c.offer_one.new.session small
-          (owes_none (g.F.Front.rules c.args.front.now c.args.farm.now) g.F.Front.knows c.index_mut.result.now c.offer_one.new.session c.loop-place.desk.outbox c.offer_one.new.outbox _ _ c.offer_one.ensures) c.loop-place.invariant.none;
+          (owes_none (g.F.Front.rules c.args.front.now c.args.farm.now) g.F.Front.knows c.index_mut.result.now c.offer_one.new.session c.loop-place.desk.outbox c.offer_one.new.outbox _ _ c.offer_one.ensures.offers) c.loop-place.invariant.none;
       many = length-set c.loop-place.desk.sessions.items c.loop-place.place c.offer_one.new.session ∙ many;
     }
 
@@ -43,4 +46,5 @@ returns g c =
     record {
       goes = λ e stopped start mine h. can_leave (g.F.Front.rules c.args.front.now c.args.farm.now) g.F.Front.knows e stopped start
           (world (g.P.Ports.state c.loop-place.ports).told mine c.loop-place.desk) c.loop-place.place (c.loop-place.invariant.goes e stopped start mine h) all c.loop-place.invariant.none;
+      count = c.loop-place.invariant.count;
     }

@@ -1,4 +1,4 @@
-use Rattle.std.proofs.Common.{◌≡◌, Bool, List, length, take, Option}
+use Rattle.std.proofs.Common.{◌≡◌, ◌≤◌, Bool, List, length, take, Option}
 use Rattle.farm_history.specs.Lists.{Each}
 use Rattle.farm_history.specs.Entries.{Entry}
 use Rattle.port_trait.specs.Told.{PortsTold}
@@ -12,6 +12,7 @@ invariant-loop-place g l = record {
   goes : (e : PortEvent) (stopped : Bool) (start : Option PortsTold) (mine : List Entry)
       → CanOffer (g.F.Front.rules l.front l.farm) g.F.Front.knows e stopped start (world (g.P.Ports.state l.fn.ports).told mine l.fn.desk)
       → CanOffer (g.F.Front.rules l.front l.farm) g.F.Front.knows e stopped start (world (g.P.Ports.state l.ports).told mine l.desk);
+  count : (g.P.Ports.state l.fn.ports).faults ≤ (g.P.Ports.state l.ports).faults;
   none : Each OwesNone (take l.place l.desk.sessions.items);
   many : length l.desk.sessions.items ≡ length l.fn.desk.sessions.items;
 }

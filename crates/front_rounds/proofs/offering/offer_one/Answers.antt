@@ -3,6 +3,6 @@ use Rattle.front_rounds.specs.declared.fates.Fate.{Fate}
 use Rattle.front_rounds.specs.inner.Stages.{Gives_it}
 use Rattle.front_rounds.proofs.offering.offer_one.Goals as goal
 
-pub returns : goal.returns
-returns g c = Gives_it c.if-not-session.false (sym c.is_kept.ensures ∙ c.if-not-is_kept.false) c.give-gave.result c.is_done-done.result c.give-gave.ensures c.is_done-done.ensures
+pub returns-clause-offers : goal.returns-clause-offers
+returns-clause-offers g c = Gives_it c.if-not-session.false (sym c.is_kept.ensures ∙ c.if-not-is_kept.false) c.give-gave.result c.is_done-done.result c.give-gave.ensures.gives c.is_done-done.ensures
     (ap (λ (f : Fate). record c.args.session.now { owes = false; fate = f }) c.fate_of_offer-session.ensures)

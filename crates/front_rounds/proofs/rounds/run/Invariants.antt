@@ -1,4 +1,4 @@
-use Rattle.std.proofs.Common.{Option}
+use Rattle.std.proofs.Common.{◌≤◌, Option}
 use Rattle.port_trait.specs.Told.{PortsTold}
 use Rattle.front_rounds.specs.Calls.{SameSeat}
 use Rattle.front_rounds.specs.inner.Stands.{world}
@@ -8,6 +8,7 @@ use Rattle.front_rounds.proofs.rounds.run.Given as goal
 abbrev pub invariant-loop : goal.invariant-loop
 invariant-loop g l = record {
   seat : SameSeat (g.M.Farm.seats l.farm) l.fn.seat l.seat;
+  count : (g.P.Ports.state l.fn.ports).faults ≤ (g.P.Ports.state l.ports).faults;
   goes : (start : Option PortsTold)
       → CanGo (g.F.Front.rules l.front l.farm) g.F.Front.knows start (world (g.P.Ports.state l.fn.ports).told ((g.M.Farm.seats l.farm).mine l.fn.seat) l.fn.desk)
       → CanGo (g.F.Front.rules l.front l.farm) g.F.Front.knows start (world (g.P.Ports.state l.ports).told ((g.M.Farm.seats l.farm).mine l.seat) l.desk);

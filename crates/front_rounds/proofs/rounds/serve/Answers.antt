@@ -1,7 +1,9 @@
-use Rattle.std.proofs.Common.{◌∙◌, List, ℕ, map, refl, sym, ap, subst}
-use Rattle.front_rounds.specs.Serving.{Serves, pair_of}
+use Rattle.std.proofs.Common.{◌∙◌, List, map, refl, sym, ap, subst}
+use Rattle.port_trait.specs.declared.ends.Rest.{Rest}
+use Rattle.port_trait.specs.Boxes.{handed}
+use Rattle.front_rounds.specs.Serving.{Serves}
 use Rattle.front_rounds.specs.inner.Stands.{world}
-use Rattle.front_rounds.proofs.Goings.{begins, handed_pairs}
+use Rattle.front_rounds.proofs.Goings.{begins}
 use Rattle.front_rounds.proofs.rounds.serve.Goals as goal
 
 pub serve_at-end-requires-clause-ready : goal.serve_at-end-requires-clause-ready
@@ -12,7 +14,7 @@ serve_at-end-requires-clause-ready g c =
 
 pub returns-clause-served : goal.returns-clause-served
 returns-clause-served g c =
-    subst (λ (ps : List (ℕ × List ℕ)). Serves (g.F.Front.rules c.args.front.now c.args.farm.now) (g.P.Ports.state c.args.ports.now).told (g.P.Ports.state c.serve_at-end.new.ports).told
-    ((g.M.Farm.seats c.args.farm.now).mine c.serve_at-end.new.seat) c.serve_at-end.result ps c.serve_at-end.new.desk.starved ((g.M.Farm.seats c.args.farm.now).worn c.serve_at-end.new.seat))
-    (sym (ap (map pair_of) c.into_rests-rests.ensures ∙ handed_pairs (g.F.Front.rules c.args.front.now c.args.farm.now) g.F.Front.knows c.number-number.result c.serve_at-end.new.desk.outbox))
+    subst (λ (rs : List Rest). Serves (g.F.Front.rules c.args.front.now c.args.farm.now) (g.P.Ports.state c.args.ports.now).told (g.P.Ports.state c.serve_at-end.new.ports).told
+    ((g.M.Farm.seats c.args.farm.now).mine c.serve_at-end.new.seat) c.serve_at-end.result rs c.serve_at-end.new.desk.starved ((g.M.Farm.seats c.args.farm.now).worn c.serve_at-end.new.seat))
+    (sym (c.into_rests-rests.ensures ∙ ap (λ n. map (handed n) c.serve_at-end.new.desk.outbox) c.number-number.ensures))
     c.serve_at-end.ensures.served
