@@ -1,0 +1,2 @@
+pub mod HeadTexts
+pub mod TargetTexts

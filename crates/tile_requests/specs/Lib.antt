@@ -1,0 +1,4 @@
+pub mod Targets
+pub mod Heads
+pub mod Requests
+pub mod Laws
