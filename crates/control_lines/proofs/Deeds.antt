@@ -13,7 +13,7 @@ use Rattle.front_rounds.specs.Front.{keeps, does, EachFits, with_acts, Heard, He
 use Rattle.control_lines.specs.declared.acts.Line.{Line}
 use Rattle.control_lines.specs.declared.acts.Line.TheVariants as line
 use Rattle.control_lines.specs.declared.acts.Act.{Act}
-use Rattle.control_lines.specs.declared.reading.Talk.{Talk}
+use Rattle.control_lines.specs.declared.hearing.Talk.{Talk}
 use Rattle.control_lines.specs.Lines.{Reading, read_on, read_all, begun, wants, line_in}
 use Rattle.control_lines.specs.Control.{rules_of, line_done, entries_of, text_of, act_fits, act_whole, act_starves}
 use Rattle.control_lines.specs.inner.Doing.{Says, Said, Lacks, Answers, Gives, Wants, Starves, DoneWhy, Did, LongWhy, as_done, Heeds, Knows}

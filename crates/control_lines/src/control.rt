@@ -1,6 +1,6 @@
 //! The control front, as one of the three.
 use crate::acts::{Act, Line};
-use crate::reading::{Talk, hear_piece};
+use crate::hearing::{Talk, hear_piece};
 use expiry_lists::TileList;
 use farm_history::Reply;
 use front_rounds::{Farm, Fate, Front, Worn};

@@ -7,8 +7,8 @@ mod answers;
 mod control;
 mod doing;
 mod expiring;
+mod hearing;
 mod lines;
-mod reading;
 
 pub use acts::{Act, Line};
 pub use control::Control;

@@ -10,7 +10,7 @@ use Rattle.front_rounds.specs.Rules.{Move, asked, text, each_whole, any_starves}
 use Rattle.front_rounds.specs.Front.{keeps, does, EachFits, with_acts}
 use Rattle.control_lines.specs.declared.acts.Line.{Line}
 use Rattle.control_lines.specs.declared.acts.Act.{Act}
-use Rattle.control_lines.specs.declared.reading.Talk.{Talk}
+use Rattle.control_lines.specs.declared.hearing.Talk.{Talk}
 use Rattle.control_lines.specs.Lines.{read_on, read_all, begun, wants}
 use Rattle.control_lines.specs.Control.{rules_of, text_of, act_starves, total_of, expiries}
 

@@ -3,7 +3,7 @@ use Rattle.front_rounds.specs.declared.fates.Fate.TheVariants.{Leaves}
 use Rattle.control_lines.specs.declared.acts.Line.TheVariants as line
 use Rattle.control_lines.specs.inner.Doing.{Did}
 use Rattle.control_lines.proofs.Deeds.{done_same, too_long}
-use Rattle.control_lines.proofs.reading.too_long.Goals as goal
+use Rattle.control_lines.proofs.hearing.too_long.Goals as goal
 
 pub returns-in-Leaves-clause-did : goal.returns-in-Leaves-clause-did
 returns-in-Leaves-clause-did c = λ front lists conn mine.

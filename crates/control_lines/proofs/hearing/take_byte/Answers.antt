@@ -3,7 +3,7 @@ use Rattle.front_rounds.specs.Front.{fate_of}
 use Rattle.control_lines.specs.Lines.{line_in}
 use Rattle.control_lines.specs.inner.Doing.{Did, Heeds}
 use Rattle.control_lines.proofs.Deeds.{heeds_line, heeds_kept, heeds_end}
-use Rattle.control_lines.proofs.reading.take_byte.Goals as goal
+use Rattle.control_lines.proofs.hearing.take_byte.Goals as goal
 
 pub returns-then-byte-eq10-clause-heeds : goal.returns-then-byte-eq10-clause-heeds
 returns-then-byte-eq10-clause-heeds g c = λ front conn.

@@ -2,7 +2,7 @@ use Rattle.std.proofs.Common.{ℕ, take}
 use Rattle.front_rounds.specs.declared.fates.Fate.TheVariants.{Stays}
 use Rattle.front_rounds.specs.Calls.{SameSeat}
 use Rattle.control_lines.specs.inner.Doing.{Heeds}
-use Rattle.control_lines.proofs.reading.hear_piece.Given as goal
+use Rattle.control_lines.proofs.hearing.hear_piece.Given as goal
 
 abbrev pub invariant-loop-byte : goal.invariant-loop-byte
 invariant-loop-byte g l = record {

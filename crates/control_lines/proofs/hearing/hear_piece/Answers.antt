@@ -5,7 +5,7 @@ use Rattle.front_rounds.specs.declared.fates.Reason.TheVariants as reason
 use Rattle.front_rounds.proofs.Seating.{same_trans}
 use Rattle.control_lines.specs.inner.Doing.{Heeds}
 use Rattle.control_lines.proofs.Deeds.{heeds_none, heeds_on, heeds_stop}
-use Rattle.control_lines.proofs.reading.hear_piece.Goals as goal
+use Rattle.control_lines.proofs.hearing.hear_piece.Goals as goal
 
 pub loop-byte-init : goal.loop-byte-init
 loop-byte-init g c = record {
