@@ -10,8 +10,6 @@ mod desk;
 mod pack;
 mod slot;
 mod snapshot;
-#[cfg(test)]
-mod tests;
 mod updates;
 
 pub use dataset::{Change, Dataset, Layer, Update};

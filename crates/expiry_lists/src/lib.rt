@@ -7,8 +7,6 @@ mod keeping;
 mod lists;
 mod marks;
 mod nodes;
-#[cfg(test)]
-mod tests;
 mod waking;
 mod walks;
 

@@ -14,6 +14,3 @@ pub use fault::SavedFault;
 pub use laws::{law_reads_back, law_resumed};
 pub use reading_text::read_saved;
 pub use writing::write_saved;
-
-#[cfg(test)]
-mod tests;

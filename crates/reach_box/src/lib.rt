@@ -9,9 +9,6 @@ ghost use Rattle.plain_data.specs.Reach.{Reaches, feature_reaches, margin_of};
 ghost use Rattle.expiry_lists.specs.Boxes.{holds_some, rectangle};
 ghost use Rattle.reach_box.specs.Boxes.{IsBox, box_reaches, is_near, reach_of};
 
-#[cfg(test)]
-mod tests;
-
 use geo_model::{Bounds, Feature};
 use plain_world::Square;
 

@@ -11,8 +11,6 @@ mod lines;
 mod queues;
 mod replies;
 mod standing;
-#[cfg(test)]
-mod tests;
 
 pub use asks::Asked;
 pub use farm_history::{Conn, Key, Limits, Outcome, Queue, Reply, Waiter};

@@ -11,6 +11,3 @@ pub use laws::{law_any_pieces, law_messages_are_found, law_written_is_read_back}
 pub use messages::{Found, MESSAGE_BYTES, Request, TEXT_BYTES};
 pub use reading::next;
 pub use writing::write;
-
-#[cfg(test)]
-mod tests;

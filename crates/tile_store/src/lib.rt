@@ -9,6 +9,3 @@ mod stores;
 pub use files::FileStore;
 pub use memory::MemStore;
 pub use stores::{StoreFault, TileStore};
-
-#[cfg(test)]
-mod tests;

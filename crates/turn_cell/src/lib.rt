@@ -11,6 +11,3 @@ mod view;
 pub use call::{Call, StandsFor, Worn};
 pub use cell::{ClosedCell, Seat, TurnCell};
 pub use view::Terms;
-
-#[cfg(test)]
-mod tests;

@@ -1,8 +1,8 @@
 //! Saved texts by example.
 ghost use Rattle.std.specs.Prelude.{◌<◌};
 
-use crate::{Kept, Past, SavedFault, read_saved, write_saved};
 use farm_history::Key;
+use farm_saved::{Kept, Past, SavedFault, read_saved, write_saved};
 use plain_world::Meta;
 use std::alloc::Global;
 use std::process::Abort;

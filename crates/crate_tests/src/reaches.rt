@@ -1,8 +1,8 @@
 //! The edge of a reach.
-use crate::reaches;
 use farm_base::NoMemory;
 use geo_model::{Feature, Geometry, Path, Point, make_feature};
 use plain_world::Square;
+use reach_box::reaches;
 use std::alloc::Global;
 use std::test::Fail;
 

@@ -2,10 +2,10 @@
 ghost use Rattle.std.specs.Prelude.{◌≡◌, ◌+◌, ◌*◌, true, length, IfSome};
 ghost use Rattle.turn_cell.specs.Held.{IsSeatOf, IsWhole, SameSeat};
 
-use crate::{Call, ClosedCell, Seat, StandsFor, TurnCell};
 use std::alloc::Global;
 use std::sync::Wait;
 use std::thread::{Threads, join};
+use turn_cell::{Call, ClosedCell, Seat, StandsFor, TurnCell};
 
 /// How often it was added to.
 #[derive(Drop)]

@@ -2,7 +2,7 @@
 ghost use Rattle.std.specs.Prelude.{◌≡◌};
 ghost use Rattle.plain_world.specs.World.{IsMeta};
 
-use crate::{Kept, Key, Mark, Marks, read_list};
+use expiry_lists::{Key, Mark, Marks};
 use farm_base::NoMemory;
 use plain_world::{Meta, Tile};
 use std::test::Fail;
@@ -56,23 +56,6 @@ fn a_tile_expires_what_lies_above_and_below_it_and_no_neighbour(
 }
 
 #[test]
-fn the_last_tile_of_the_last_zoom_expires_the_whole_world(rt: HostRuntime) -> Result<(), Fail> {
-    let mut marks = Marks::new(rt.alloc());
-    show(&mut marks, key(0, 0, 0, 0), 0, true)?;
-    show(&mut marks, key(3, 18, 262136, 262136), 4, true)?;
-    assert_eq!(rt;
-        marks.expire(Tile {
-            z: 18,
-            x: 262143,
-            y: 262143
-        }),
-        2
-    );
-    assert_eq!(rt; marks.of(key(3, 18, 262136, 262136)), dirty(4));
-    Ok(())
-}
-
-#[test]
 fn a_map_a_rectangle_and_a_key_expire_alone(rt: HostRuntime) -> Result<(), Fail> {
     let mut marks = Marks::new(rt.alloc());
     for map in 0..2 {
@@ -87,42 +70,5 @@ fn a_map_a_rectangle_and_a_key_expire_alone(rt: HostRuntime) -> Result<(), Fail>
     marks.expire_one(key(1, 4, 8, 0));
     assert_eq!(rt; marks.expire_map(1), 1);
     assert_eq!(rt; marks.expire_map(2), 0);
-    Ok(())
-}
-
-#[test]
-fn what_is_hidden_has_no_mark_and_what_is_clean_is_kept_in_order(
-    rt: HostRuntime,
-) -> Result<(), Fail> {
-    let alloc = rt.alloc();
-    let mut marks = Marks::new(alloc);
-    show(&mut marks, key(1, 0, 0, 0), 3, true)?;
-    show(&mut marks, key(0, 5, 8, 0), 4, true)?;
-    show(&mut marks, key(0, 5, 0, 8), 5, true)?;
-    show(&mut marks, key(0, 5, 0, 0), 6, false)?;
-    show(&mut marks, key(0, 5, 8, 8), 6, true)?;
-    marks.hide(key(0, 5, 8, 8));
-    assert_eq!(rt; marks.of(key(0, 5, 8, 8)), None);
-    let kept = marks.kept(alloc)?;
-    let first = Kept {
-        key: key(0, 5, 0, 8),
-        version: 5,
-    };
-    let second = Kept {
-        key: key(0, 5, 8, 0),
-        version: 4,
-    };
-    let third = Kept {
-        key: key(1, 0, 0, 0),
-        version: 3,
-    };
-    assert_eq!(rt; kept.as_slice(), [first, second, third].as_slice());
-    Ok(())
-}
-
-#[test]
-fn a_list_of_two_tiles(rt: HostRuntime) -> Result<(), Fail> {
-    let tiles = read_list(rt.alloc(), b"5/3/3\n\n0/0/0")?;
-    assert_eq!(rt; tiles.len(), 2);
     Ok(())
 }

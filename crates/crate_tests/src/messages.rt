@@ -1,8 +1,8 @@
 //! The messages of mod_tile's `protocol.h`, byte by byte.
 ghost use Rattle.std.specs.Prelude.{◌≡◌};
 
-use crate::{Found, Request, next, write};
 use arrayvec::ArrayVec;
+use renderd_protocol::{Found, Request, next, write};
 use std::process::Abort;
 use std::test::Fail;
 
@@ -74,29 +74,10 @@ fn messages_of_each_version(rt: HostRuntime) -> Result<(), Fail> {
 }
 
 #[test]
-fn fields_of_any_bytes(rt: HostRuntime) -> Result<(), Fail> {
-    // mod_tile's padding is not zero.
-    let mut padded = RENDER;
-    padded[61] = b'i';
-    padded[62] = b'm';
-    padded[63] = b'a';
-    reads(&rt, &padded, request(2, 1, 0, 0, 0, [b"default", b"", b""]));
-
-    // A name of 41 bytes without a NUL is cut to 40, and bytes past a NUL count for nothing.
-    let mut full = RENDER;
-    for place in 20..61 {
-        full[place] = b'a';
-    }
-    reads(&rt, &full, request(2, 1, 0, 0, 0, [&[b'a'; 40], b"", b""]));
-    let mut ended = RENDER;
-    ended[28] = b'z';
-    reads(&rt, &ended, request(2, 1, 0, 0, 0, [b"default", b"", b""]));
-
-    // A version that there is not is named from the fourth byte on.
+fn a_version_that_there_is_not(rt: HostRuntime) {
+    // It is named from the fourth byte on.
     assert_eq!(rt; next(&[9, 0, 0]), Found::NeedMore);
     assert_eq!(rt; next(&[9, 0, 0, 0]), Found::BadVersion(9));
-    assert_eq!(rt; next(&[0, 0, 0, 0, 7]), Found::BadVersion(0));
-    Ok(())
 }
 
 /// An answer is the request with another command, and zeros for the padding.

@@ -1,0 +1,14 @@
+//! Tests of single crates by their public calls. They stand here and not beside what they call, since a crate
+//! with tests of its own is proved twice.
+#![tactic(auto)]
+
+#[cfg(test)]
+mod marks;
+#[cfg(test)]
+mod messages;
+#[cfg(test)]
+mod reaches;
+#[cfg(test)]
+mod saved;
+#[cfg(test)]
+mod stores;

@@ -1,0 +1,68 @@
+//! The two stores by their trait.
+use std::alloc::Global;
+use std::fs;
+use std::process::Abort;
+use std::test::Fail;
+use tile_store::{FileStore, MemStore, StoreFault, TileStore};
+
+/// What a get gave, as a slice.
+fn slice(found: &Result<Option<Vec<u8>>, StoreFault>) -> Result<Option<&[u8]>, StoreFault> {
+    match found {
+        Ok(Some(bytes)) => Ok(Some(bytes.as_slice())),
+        Ok(None) => Ok(None),
+        Err(fault) => Err(*fault),
+    }
+}
+
+fn gets<S: TileStore>(rt: &impl Abort, store: &mut S, alloc: Global, path: &str, wanted: &[u8]) {
+    assert!(rt;
+        slice(&store.get(alloc, path)) == Ok(Some(wanted)),
+        "get of {path}"
+    );
+}
+
+fn gets_part<S: TileStore>(
+    rt: &impl Abort,
+    store: &mut S,
+    alloc: Global,
+    offset: u64,
+    len: u32,
+    wanted: &[u8],
+) {
+    let found = store.get_part(alloc, "map/0/0/0/0/0/0.meta", offset, len);
+    assert!(rt; slice(&found) == Ok(Some(wanted)), "{len} from {offset}");
+}
+
+/// What every store does with paths, whole contents and parts.
+fn holds<S: TileStore>(rt: &impl Abort, store: &mut S, alloc: Global) {
+    let path = "map/0/0/0/0/0/0.meta";
+    assert!(rt; slice(&store.get(alloc, path)) == Ok(None));
+    assert!(rt; slice(&store.get_part(alloc, path, 0, 9)) == Ok(None));
+    assert_eq!(rt; store.put(alloc, path, b"abcdef"), Ok(()));
+    assert_eq!(rt; store.put(alloc, "farm.saved", b""), Ok(()));
+    gets(rt, store, alloc, path, b"abcdef");
+    gets(rt, store, alloc, "farm.saved", b"");
+    gets_part(rt, store, alloc, 0, 6, b"abcdef");
+    gets_part(rt, store, alloc, 2, 3, b"cde");
+    gets_part(rt, store, alloc, 4, 4_294_967_295, b"ef");
+    gets_part(rt, store, alloc, 6, 1, b"");
+    gets_part(rt, store, alloc, 18_446_744_073_709_551_615, 1, b"");
+    gets_part(rt, store, alloc, 1, 0, b"");
+    assert_eq!(rt; store.put(alloc, path, b"xy"), Ok(()));
+    gets(rt, store, alloc, path, b"xy");
+    gets(rt, store, alloc, "farm.saved", b"");
+    assert_eq!(rt; store.faults(), 0);
+}
+
+#[test]
+fn memory_and_files_hold(rt: HostRuntime) -> Result<(), Fail> {
+    let alloc = rt.alloc();
+    let mut memory = MemStore::new(alloc, Vec::new(alloc), Vec::new(alloc), Vec::new(alloc))?;
+    holds(&rt, &mut memory, alloc);
+    let _left_by_an_earlier_run = fs::remove_dir_all(&rt, "tiles");
+    let mut files = FileStore::new(rt.clone()?);
+    holds(&rt, &mut files, alloc);
+    gets(&rt, &mut files, alloc, "map/0/0/0/0/0/0.meta", b"xy");
+    fs::remove_dir_all(&rt, "tiles")?;
+    Ok(())
+}
