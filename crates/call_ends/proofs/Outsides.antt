@@ -1,5 +1,5 @@
 -- What a read and a put say of what was told, and of the counts.
-use Rattle.std.proofs.Common.{◌≡◌, ℕ, ◌≤◌, List, ◌++◌, length, take, refl, ap, subst, ◌∙◌}
+use Rattle.std.proofs.Common.{◌≡◌, ℕ, ◌≤◌, List, ◌++◌, length, take, ap, subst, ◌∙◌}
 use Rattle.std.specs.Prelude.{Option, Some, Result, Ok, Err, Vec, IfSome, option_map}
 use Rattle.std.specs.declared.alloc.Global.{Global}
 use Rattle.farm_base.specs.Outside.{Outside, FilesTold, failed_read, with_failed, Counted, Reads, Puts}

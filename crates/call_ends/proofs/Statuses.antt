@@ -1,5 +1,5 @@
 -- How the status tells the end of a command.
-use Rattle.std.proofs.Common.{◌≡◌, ◌≢◌, ℕ, ◌⊎◌, inl, inr, List, [], ◌++◌, refl, sym, ap, subst, ◌∙◌, arith}
+use Rattle.std.proofs.Common.{◌≡◌, ◌≢◌, ℕ, zero, suc, ◌⊎◌, inl, inr, List, [], ◌++◌, refl, sym, ap, subst, ◌∙◌, arith}
 use Rattle.std.specs.Prelude.{Option, Some, Result, Ok, Err, Vec}
 use Rattle.std.specs.declared.alloc.Global.{Global}
 use Rattle.farm_base.specs.Outside.{Puts, Rose}
@@ -51,53 +51,32 @@ quiet : (end : Result (Unit {0}) Stop) (put : Result (Unit {0}) SinkFault) (k : 
 quiet end (Ok u) k not h = (refl, h)
 quiet end (Err f) k not h = absurd (not h)
 
-ends_0 : (end : Result (Unit {0}) Stop) → 0 ≡ status_of end → end ≡ Ok tt
-ends_0 (Ok u) h = refl
-ends_0 (Err (stop.Refused line)) h = absurd (omega arith)
-ends_0 (Err stop.Words) h = absurd (omega arith)
-ends_0 (Err (stop.Unreadable line)) h = absurd (omega arith)
-ends_0 (Err stop.SinkFailed) h = absurd (omega arith)
-ends_0 (Err stop.NoMemory) h = absurd (omega arith)
+-- the end that a status tells
+abbrev EndsAs : ℕ → Result (Unit {0}) Stop → Type 0
+EndsAs zero end = end ≡ Ok tt
+EndsAs (suc zero) end = (line : List ℕ) × (end ≡ Err (stop.Refused line))
+EndsAs (suc (suc zero)) end = end ≡ Err stop.Words
+EndsAs (suc (suc (suc zero))) end = (line : List ℕ) × (end ≡ Err (stop.Unreadable line))
+EndsAs (suc (suc (suc (suc zero)))) end = end ≡ Err stop.SinkFailed
+EndsAs (suc (suc (suc (suc (suc zero))))) end = end ≡ Err stop.NoMemory
+EndsAs (suc (suc (suc (suc (suc (suc zero)))))) end = end ≡ Err stop.StoreFailed
+EndsAs (suc (suc (suc (suc (suc (suc (suc zero))))))) end = end ≡ Err stop.PortsFailed
+EndsAs (suc (suc (suc (suc (suc (suc (suc (suc zero)))))))) end = end ≡ Err stop.TurnsUsedUp
+EndsAs other end = Unit {0}
 
-ends_1 : (end : Result (Unit {0}) Stop) → 1 ≡ status_of end → (line : List ℕ) × (end ≡ Err (stop.Refused line))
-ends_1 (Ok u) h = absurd (omega arith)
-ends_1 (Err (stop.Refused line)) h = (line, refl)
-ends_1 (Err stop.Words) h = absurd (omega arith)
-ends_1 (Err (stop.Unreadable line)) h = absurd (omega arith)
-ends_1 (Err stop.SinkFailed) h = absurd (omega arith)
-ends_1 (Err stop.NoMemory) h = absurd (omega arith)
+as_told : (end : Result (Unit {0}) Stop) → EndsAs (status_of end) end
+as_told (Ok u) = refl
+as_told (Err (stop.Refused line)) = (line, refl)
+as_told (Err stop.Words) = refl
+as_told (Err (stop.Unreadable line)) = (line, refl)
+as_told (Err stop.SinkFailed) = refl
+as_told (Err stop.NoMemory) = refl
+as_told (Err stop.StoreFailed) = refl
+as_told (Err stop.PortsFailed) = refl
+as_told (Err stop.TurnsUsedUp) = refl
 
-ends_2 : (end : Result (Unit {0}) Stop) → 2 ≡ status_of end → end ≡ Err stop.Words
-ends_2 (Ok u) h = absurd (omega arith)
-ends_2 (Err (stop.Refused line)) h = absurd (omega arith)
-ends_2 (Err stop.Words) h = refl
-ends_2 (Err (stop.Unreadable line)) h = absurd (omega arith)
-ends_2 (Err stop.SinkFailed) h = absurd (omega arith)
-ends_2 (Err stop.NoMemory) h = absurd (omega arith)
-
-ends_3 : (end : Result (Unit {0}) Stop) → 3 ≡ status_of end → (line : List ℕ) × (end ≡ Err (stop.Unreadable line))
-ends_3 (Ok u) h = absurd (omega arith)
-ends_3 (Err (stop.Refused line)) h = absurd (omega arith)
-ends_3 (Err stop.Words) h = absurd (omega arith)
-ends_3 (Err (stop.Unreadable line)) h = (line, refl)
-ends_3 (Err stop.SinkFailed) h = absurd (omega arith)
-ends_3 (Err stop.NoMemory) h = absurd (omega arith)
-
-ends_4 : (end : Result (Unit {0}) Stop) → 4 ≡ status_of end → end ≡ Err stop.SinkFailed
-ends_4 (Ok u) h = absurd (omega arith)
-ends_4 (Err (stop.Refused line)) h = absurd (omega arith)
-ends_4 (Err stop.Words) h = absurd (omega arith)
-ends_4 (Err (stop.Unreadable line)) h = absurd (omega arith)
-ends_4 (Err stop.SinkFailed) h = refl
-ends_4 (Err stop.NoMemory) h = absurd (omega arith)
-
-ends_5 : (end : Result (Unit {0}) Stop) → 5 ≡ status_of end → end ≡ Err stop.NoMemory
-ends_5 (Ok u) h = absurd (omega arith)
-ends_5 (Err (stop.Refused line)) h = absurd (omega arith)
-ends_5 (Err stop.Words) h = absurd (omega arith)
-ends_5 (Err (stop.Unreadable line)) h = absurd (omega arith)
-ends_5 (Err stop.SinkFailed) h = absurd (omega arith)
-ends_5 (Err stop.NoMemory) h = refl
+ends_as : (status : ℕ) (end : Result (Unit {0}) Stop) → status ≡ status_of end → EndsAs status end
+ends_as status end h = subst (λ (n : ℕ). EndsAs n end) (sym h) (as_told end)
 
 early : (end : Result (Unit {0}) Stop) → 0 ≢ status_of end → 4 ≢ status_of end → (s : Stop) × (s ≢ stop.SinkFailed) × (end ≡ Err s)
 early (Ok u) no0 no4 = absurd (no0 refl)
@@ -112,13 +91,16 @@ Fails runs before now = Rose before now × (s : Stop) × (s ≢ stop.SinkFailed)
 
 failed_4 : (end : Result (Unit {0}) Stop) (put : Result (Unit {0}) SinkFault) (before now : ℕ) → (line_of end ≡ [] → put ≡ Ok tt)
     → 4 ≡ told_status (status_of end) put → PutCounts before now put → (end ≡ Err stop.SinkFailed) ⊎ Fails (λ s. end ≡ Err s) before now
-failed_4 end (Ok u) before now calm h c = inl (ends_4 end h)
+failed_4 end (Ok u) before now calm h c = inl (ends_as 4 end h)
 failed_4 (Ok v) (Err g) before now calm h c = absurd (let e = calm refl in cc)
 failed_4 (Err stop.SinkFailed) (Err g) before now calm h c = inl refl
 failed_4 (Err (stop.Refused line)) (Err g) before now calm h c = inr (c.1, stop.Refused line, (λ q. cc), refl)
 failed_4 (Err stop.Words) (Err g) before now calm h c = inr (c.1, stop.Words, (λ q. cc), refl)
 failed_4 (Err (stop.Unreadable line)) (Err g) before now calm h c = inr (c.1, stop.Unreadable line, (λ q. cc), refl)
 failed_4 (Err stop.NoMemory) (Err g) before now calm h c = inr (c.1, stop.NoMemory, (λ q. cc), refl)
+failed_4 (Err stop.StoreFailed) (Err g) before now calm h c = inr (c.1, stop.StoreFailed, (λ q. cc), refl)
+failed_4 (Err stop.PortsFailed) (Err g) before now calm h c = inr (c.1, stop.PortsFailed, (λ q. cc), refl)
+failed_4 (Err stop.TurnsUsedUp) (Err g) before now calm h c = inr (c.1, stop.TurnsUsedUp, (λ q. cc), refl)
 
 kept_or_4 : (put : Result (Unit {0}) SinkFault) (status before now : ℕ) → PutCounts before now put → (told_status status put ≡ status) ⊎ ((told_status status put ≡ 4) × Rose before now)
 kept_or_4 (Ok u) status before now c = inl refl
@@ -127,35 +109,35 @@ kept_or_4 (Err g) status before now c = inr (refl, c.1)
 module _ (runs : Result (Unit {0}) Stop → Type 0) (err err' : SinkAt) (result : ℕ) (ends : EndsWith runs err err' result) where
   -- with 0 the command reached its end
   pub with_0 : result ≡ 0 → runs (Ok tt)
-  with_0 zero =
-      let told = quiet ends.end ends.reports.put 0 (omega arith) (sym zero ∙ ends.reports.status_is) in
-      subst runs (ends_0 ends.end told.1) ends.ran
+  with_0 is =
+      let told = quiet ends.end ends.reports.put 0 (omega arith) (sym is ∙ ends.reports.status_is) in
+      subst runs (ends_as 0 ends.end told.1) ends.ran
 
   -- and err is as it was
   pub silent_0 : result ≡ 0 → err'.told ≡ err.told
-  silent_0 zero =
-      let told = quiet ends.end ends.reports.put 0 (omega arith) (sym zero ∙ ends.reports.status_is) in
-      ap (λ (at : SinkAt). at.told) (ends.reports.quiet (ap line_of (ends_0 ends.end told.1))).1
+  silent_0 is =
+      let told = quiet ends.end ends.reports.put 0 (omega arith) (sym is ∙ ends.reports.status_is) in
+      ap (λ (at : SinkAt). at.told) (ends.reports.quiet (ap line_of (ends_as 0 ends.end told.1))).1
 
   -- with 1 a file was refused, and the line stands on err
   pub with_1 : result ≡ 1 → (line : List ℕ) × runs (Err (stop.Refused line)) × Stands err.told err'.told line
   with_1 one =
       let told = quiet ends.end ends.reports.put 1 (omega arith) (sym one ∙ ends.reports.status_is) in
-      let end = ends_1 ends.end told.1 in
+      let end = ends_as 1 ends.end told.1 in
       (end.0, subst runs end.1 ends.ran, subst (λ (l : List ℕ). Stands err.told err'.told l) (ap line_of end.1) (stands err err' (line_of ends.end) ends.reports.put told.0 ends.reports.puts))
 
   -- with 2 the words were refused, and the usage line stands on err
   pub with_2 : result ≡ 2 → runs (Err stop.Words) × Stands err.told err'.told (line_of (Err stop.Words))
   with_2 two =
       let told = quiet ends.end ends.reports.put 2 (omega arith) (sym two ∙ ends.reports.status_is) in
-      let end = ends_2 ends.end told.1 in
+      let end = ends_as 2 ends.end told.1 in
       (subst runs end ends.ran, subst (λ (l : List ℕ). Stands err.told err'.told l) (ap line_of end) (stands err err' (line_of ends.end) ends.reports.put told.0 ends.reports.puts))
 
   -- with 3 a read failed, and the line stands on err
   pub with_3 : result ≡ 3 → (line : List ℕ) × runs (Err (stop.Unreadable line)) × Stands err.told err'.told line
   with_3 three =
       let told = quiet ends.end ends.reports.put 3 (omega arith) (sym three ∙ ends.reports.status_is) in
-      let end = ends_3 ends.end told.1 in
+      let end = ends_as 3 ends.end told.1 in
       (end.0, subst runs end.1 ends.ran, subst (λ (l : List ℕ). Stands err.told err'.told l) (ap line_of end.1) (stands err err' (line_of ends.end) ends.reports.put told.0 ends.reports.puts))
 
   -- with 4 the command's put failed; or it ended early, for no put, and the put of its line failed
@@ -170,8 +152,29 @@ module _ (runs : Result (Unit {0}) Stop → Type 0) (err err' : SinkAt) (result 
   pub with_5 : result ≡ 5 → Stands err.told err'.told (line_of (Err stop.NoMemory))
   with_5 five =
       let told = quiet ends.end ends.reports.put 5 (omega arith) (sym five ∙ ends.reports.status_is) in
-      let end = ends_5 ends.end told.1 in
+      let end = ends_as 5 ends.end told.1 in
       subst (λ (l : List ℕ). Stands err.told err'.told l) (ap line_of end) (stands err err' (line_of ends.end) ends.reports.put told.0 ends.reports.puts)
+
+  -- with 6 the store failed, and the line that says so stands on err
+  pub with_6 : result ≡ 6 → runs (Err stop.StoreFailed) × Stands err.told err'.told (line_of (Err stop.StoreFailed))
+  with_6 six =
+      let told = quiet ends.end ends.reports.put 6 (omega arith) (sym six ∙ ends.reports.status_is) in
+      let end = ends_as 6 ends.end told.1 in
+      (subst runs end ends.ran, subst (λ (l : List ℕ). Stands err.told err'.told l) (ap line_of end) (stands err err' (line_of ends.end) ends.reports.put told.0 ends.reports.puts))
+
+  -- with 7 the ports failed, and the line that says so stands on err
+  pub with_7 : result ≡ 7 → runs (Err stop.PortsFailed) × Stands err.told err'.told (line_of (Err stop.PortsFailed))
+  with_7 seven =
+      let told = quiet ends.end ends.reports.put 7 (omega arith) (sym seven ∙ ends.reports.status_is) in
+      let end = ends_as 7 ends.end told.1 in
+      (subst runs end ends.ran, subst (λ (l : List ℕ). Stands err.told err'.told l) (ap line_of end) (stands err err' (line_of ends.end) ends.reports.put told.0 ends.reports.puts))
+
+  -- with 8 turns were used up, and the line that says so stands on err
+  pub with_8 : result ≡ 8 → runs (Err stop.TurnsUsedUp) × Stands err.told err'.told (line_of (Err stop.TurnsUsedUp))
+  with_8 eight =
+      let told = quiet ends.end ends.reports.put 8 (omega arith) (sym eight ∙ ends.reports.status_is) in
+      let end = ends_as 8 ends.end told.1 in
+      (subst runs end ends.ran, subst (λ (l : List ℕ). Stands err.told err'.told l) (ap line_of end) (stands err err' (line_of ends.end) ends.reports.put told.0 ends.reports.puts))
 
   -- with another status than 0 and 4 the command ended early, and for no put
   pub with_other : result ≢ 0 → result ≢ 4 → (s : Stop) × (s ≢ stop.SinkFailed) × runs (Err s)

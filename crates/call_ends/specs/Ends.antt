@@ -1,12 +1,9 @@
--- How a command ends: what is read and put, and what is reported.
-use Rattle.std.specs.Prelude.{◌≡◌, ℕ, List, [], Option, Result, Ok, Err, Vec}
+-- How a command ends: what is put, and what is reported.
+use Rattle.std.specs.Prelude.{◌≡◌, ℕ, List, [], Result, Ok, Err, Vec}
 use Rattle.std.specs.declared.alloc.Global.{Global}
-use Rattle.farm_base.specs.Outside.{Outside, FilesTold, Reads, Puts}
-use Rattle.farm_base.specs.declared.files.FileFault.{FileFault}
-use Rattle.farm_base.specs.declared.files.FileFault.TheVariants as file
+use Rattle.farm_base.specs.Outside.{Outside, FilesTold, Puts}
 use Rattle.farm_base.specs.declared.sinks.SinkFault.{SinkFault}
-use Rattle.reading.specs.Steps.{Gives}
-use Rattle.call_ends.specs.Stops.{status_of, line_of, unreadable_line, refusing}
+use Rattle.call_ends.specs.Stops.{status_of, line_of}
 use Rattle.call_ends.specs.declared.stops.Stop.{Stop}
 use Rattle.call_ends.specs.declared.stops.Stop.TheVariants as stop
 
@@ -17,21 +14,6 @@ FilesAt = Outside FilesTold
 -- a sink at a moment
 abbrev pub SinkAt : Type 0
 SinkAt = Outside (List ℕ)
-
--- ---- a file
-
--- what a read says: the meaning of the bytes, or why there is none
-abbrev pub said : {A F : Type 0} → (List ℕ → Result A F) → (F → Option (List ℕ)) → List ℕ → Result (Vec ℕ Global) FileFault → Result A Stop
-said meaning text name (Ok bytes) = refusing text name (meaning bytes.items)
-said meaning text name (Err file.Failed) = Err (stop.Unreadable (unreadable_line name))
-said meaning text name (Err file.NoMemory) = Err stop.NoMemory
-
--- A file is read and then checked: the answer is what its bytes say, its first fault, that it cannot
--- be read, or want of memory.
-pub record Checks {A B F : Type 0} (view : B → A) (meaning : List ℕ → Result A F) (text : F → Option (List ℕ)) (old new : FilesAt) (name : List ℕ) (result : Result B Stop) : Type 0 where
-  pub read : Result (Vec ℕ Global) FileFault
-  pub reads : Reads old new name read
-  pub gives : Gives stop.NoMemory view (said meaning text name read) result
 
 -- ---- out and err
 

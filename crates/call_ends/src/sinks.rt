@@ -29,6 +29,9 @@ fn status_of(end: &Result<(), Stop>) -> u8
         Err(Stop::Unreadable(_)) => 3,
         Err(Stop::SinkFailed) => 4,
         Err(Stop::NoMemory) => 5,
+        Err(Stop::StoreFailed) => 6,
+        Err(Stop::PortsFailed) => 7,
+        Err(Stop::TurnsUsedUp) => 8,
     }
 }
 
@@ -42,6 +45,9 @@ fn line_of(end: &Result<(), Stop>) -> &str
         Err(Stop::Unreadable(line)) => line.as_str(),
         Err(Stop::SinkFailed) => "",
         Err(Stop::NoMemory) => "tilefarm: out of memory\n",
+        Err(Stop::StoreFailed) => "tilefarm: the store failed\n",
+        Err(Stop::PortsFailed) => "tilefarm: the ports failed\n",
+        Err(Stop::TurnsUsedUp) => "tilefarm: turns used up\n",
     }
 }
 

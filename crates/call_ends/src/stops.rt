@@ -19,6 +19,12 @@ pub enum Stop {
     SinkFailed,
     /// Want of memory.
     NoMemory,
+    /// A put or a get of the store failed.
+    StoreFailed,
+    /// A port could not be listened on, or broke.
+    PortsFailed,
+    /// The turns of the farm's lock were used up.
+    TurnsUsedUp,
 }
 
 impl From<NoMemory> for Stop {

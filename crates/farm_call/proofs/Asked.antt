@@ -1,5 +1,5 @@
 -- What the words ask for, by what was read of them.
-use Rattle.std.proofs.Common.{◌≡◌, ℕ, List, inl, inr, refl, sym, subst, ◌∙◌}
+use Rattle.std.proofs.Common.{◌≡◌, ℕ, List, inl, inr, refl, sym, ap, subst, ◌∙◌}
 use Rattle.std.specs.Prelude.{Option, Some, None, Result, Ok, Err}
 use Rattle.farm_words.specs.Forms.{Spells, Answers, IsRefused}
 use Rattle.farm_words.specs.Values.{values_of}
@@ -12,7 +12,10 @@ use Rattle.call_ends.specs.Ends.{FilesAt, SinkAt, Refuses}
 use Rattle.call_ends.specs.declared.stops.Stop.{Stop}
 use Rattle.input_files.specs.Course.{Course}
 use Rattle.input_files.specs.inner.Runs.{Writes, Wants, Runs}
-use Rattle.render_command.specs.Courses.{render_course}
+use Rattle.filter_expr.specs.FilterTexts.{filter_of}
+use Rattle.style_objects.specs.FilterReadings.{FilterReading}
+use Rattle.style_objects.proofs.ByGrammar.{one_reading, reads_grammar}
+use Rattle.render_command.specs.Courses.{render_course, render_course_by}
 use Rattle.meta_command.specs.Courses.{meta_course}
 use Rattle.farm_call.specs.Words.{AsksFor, IsCourse, Asks}
 use Rattle.farm_call.specs.inner.Runs.{IsSound, Does}
@@ -25,7 +28,8 @@ asked_one words c d a b =
     spell_one c d b.values (subst (λ (vs : List (List ℕ)). Spells c vs) same a.spelled) b.spelled
 
 course_one : (command : Command) (c d : Course (List ℕ)) → IsCourse command c → IsCourse command d → c ≡ d
-course_one (Render style data_name size tile) c d a b = a ∙ sym b
+course_one (Render style data_name size tile) c d a b =
+    a.2 ∙ ap (λ (says : FilterReading). render_course_by says style data_name size tile) (one_reading a.0 b.0 a.1 b.1) ∙ sym b.2
 course_one (Meta file) c d a b = a ∙ sym b
 course_one other c d a b = absurd a
 
@@ -62,7 +66,7 @@ other_asked words command absent asks c asked =
 runs_asked : (words : List (List ℕ)) (files files' : FilesAt) (out out' : SinkAt) (end : Result (Unit {0}) Stop) (c : Command) → AsksFor words c
     → Does c files files' out out' end → Runs (Asks words) files files' out out' end
 runs_asked words files files' out out' end (Render style data_name size tile) asks does =
-    inl (render_course style data_name size tile, (Render style data_name size tile, asks, refl), does)
+    inl (render_course style data_name size tile, (Render style data_name size tile, asks, (filter_of, reads_grammar, refl)), does)
 runs_asked words files files' out out' end (Meta file) asks does = inl (meta_course file, (Meta file, asks, refl), does)
 runs_asked words files files' out out' end other asks does = inr (inl (other_asked words other (λ c h. h) asks, does))
 

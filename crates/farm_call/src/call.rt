@@ -73,6 +73,9 @@ pub fn farm_main<F: Files, O: Sink, E: Sink>(
     // A put that failed gives 4.
     ensures noticed { ((O.state out.new).faults ≢ (O.state out.old).faults)
         ⊎ ((E.state err.new).faults ≢ (E.state err.old).faults) → result ≡ 4 }
+    // A put on out that failed leaves err as it was.
+    ensures out_failed { (O.state out.new).faults ≢ (O.state out.old).faults
+        → E.state err.new ≡ E.state err.old }
     // 5: the line of want of memory stands on err.
     ensures want_line { result ≡ 5
         → Stands (E.state err.old).told (E.state err.new).told want_of_memory }

@@ -24,7 +24,7 @@ use Rattle.style_objects.specs.declared.keys.Object.TheVariants as object
 use Rattle.style_objects.specs.Keys.{keys_of, opened_as}
 use Rattle.style_objects.specs.Kinds.{in_grammar, a_colour, a_scale, a_bound, an_opacity, a_width, a_text_to, any_text, a_mode, a_cap, a_number, filter_at, a_filter, is_true, an_else, list_or_none}
 use Rattle.style_objects.specs.Places.{at_map, at_style, at_rule, at_symbolizer, at_layer, at_raster}
-use Rattle.style_objects.specs.Tables.{white, gray, black, polygon_of, line_symbolizer_of, markers_of, raster_symbolizer_of, symbolizer_named, symbolizer_of, symbolizer_after, filters_of, rule_of, rule_after, style_of, style_after, style_name_of, layer_of, layer_after, raster_of, raster_after, map_of, style_in}
+use Rattle.style_objects.specs.Tables.{white, gray, black, polygon_of, line_symbolizer_of, markers_of, raster_symbolizer_of, symbolizer_named, symbolizer_of, symbolizer_after, filters_of, rule_of, rule_after, style_of, style_after, style_name_of, layer_of, layer_after, raster_of, raster_after, map_of, style_by, style_in}
 use Rattle.fault_texts.specs.StyleFaults.{style_text}
 use Rattle.fault_texts.specs.Told.{StylesAreTold}
 use Rattle.fault_texts.proofs.Steps.{OnFault, of_fault, step, either, checks, has, needs, may, opens, few, wholes, lists}
@@ -96,7 +96,7 @@ number_told : (low : ℕ) (at : At) (d : Data) → Told (a_number low at d)
 unfolding a_number
 number_told low at d = wholes HasText (fault.Shape at) (fault.Range at) low (2 ^ 30) d refl refl
 
-filter_at_told : (at : At) (d : Data) → Told (a_filter at d)
+filter_at_told : (at : At) (d : Data) → Told (a_filter filter_of at d)
 unfolding a_filter
 filter_at_told at d = step HasText _ _ (string_told at d) (λ s. filter_told s at)
 
@@ -159,13 +159,13 @@ symbolizer_told : (at : At) (d : Data) → Told (symbolizer_of at d)
 unfolding symbolizer_of
 symbolizer_told at d = step HasText _ _ (needs HasText (fault.Shape at) (text (fault.Shape at)) (get (codes "symbolizer") d) refl (string_told at)) (λ name. named_told name at d)
 
-filters_told : (at : At) (d : Data) → Told (filters_of at d)
+filters_told : (at : At) (d : Data) → Told (filters_of filter_of at d)
 unfolding filters_of
 filters_told at d =
-    step HasText _ _ (may HasText None (a_filter at) (get (codes "Filter") d) (filter_at_told at)) (λ filter.
+    step HasText _ _ (may HasText None (a_filter filter_of at) (get (codes "Filter") d) (filter_at_told at)) (λ filter.
     step HasText _ _ (may HasText false (an_else (is_some filter) at) (get (codes "ElseFilter") d) (else_told (is_some filter) at)) (λ else_filter. tt))
 
-rule_told : (style rule : ℕ) (d : Data) → Told (rule_of style rule d)
+rule_told : (style rule : ℕ) (d : Data) → Told (rule_of filter_of style rule d)
 unfolding rule_of
 rule_told style rule d =
     step HasText _ _ (opened_told object.Rule (at_rule style rule) d) (λ u.
@@ -176,7 +176,7 @@ rule_told style rule d =
     step HasText _ _ (has HasText found (fault.Shape (at_rule style rule)) refl) (λ items.
     step HasText _ _ (lists HasText (symbolizer_after style rule) [] items (λ before e. symbolizer_told (at_symbolizer style rule (length before)) e)) (λ symbolizers. tt)))))))
 
-style_told : (style : ℕ) (before : List Style) (d : Data) → Told (style_of style before d)
+style_told : (style : ℕ) (before : List Style) (d : Data) → Told (style_of filter_of style before d)
 unfolding style_of
 style_told style before d =
     step HasText _ _ (opened_told object.Style (at_style style) d) (λ u.
@@ -185,7 +185,7 @@ style_told style before d =
     step HasText _ _ (may HasText mode.All (a_mode (at_style style)) (get (codes "filter-mode") d) (mode_told (at_style style))) (λ filter_mode.
     step HasText _ _ (has HasText found (fault.Shape (at_style style)) refl) (λ items.
     step HasText _ _ (checks HasText (not (style_has name before)) (fault.Double (at_style style)) refl) (λ v.
-    step HasText _ _ (lists HasText (rule_after style) [] items (λ before e. rule_told style (length before) e)) (λ rules. tt)))))))
+    step HasText _ _ (lists HasText (rule_after filter_of style) [] items (λ before e. rule_told style (length before) e)) (λ rules. tt)))))))
 
 style_name_told : (styles : List Style) (at : At) (before : List (List ℕ)) (d : Data) → Told (style_name_of styles at before d)
 unfolding style_name_of
@@ -216,7 +216,7 @@ raster_told raster before d =
     step HasText _ _ (needs HasText (fault.Shape (at_raster raster)) (a_number 1 (at_raster raster)) (get (codes "pixel") d) refl (number_told 1 (at_raster raster))) (λ pixel.
     step HasText _ _ (checks HasText (not (raster_has name before)) (fault.Double (at_raster raster)) refl) (λ v. tt)))))))
 
-map_told : (d : Data) → Told (map_of d)
+map_told : (d : Data) → Told (map_of filter_of d)
 unfolding map_of
 map_told d =
     step HasText _ _ (opened_told object.Map at_map d) (λ u.
@@ -228,11 +228,11 @@ map_told d =
     step HasText _ _ (has HasText found_layers (fault.Shape at_map) refl) (λ layer_items.
     step HasText _ _ (rasters_told at_map found_rasters (get (codes "rasters") d)) (λ raster_items.
     step HasText _ _ (lists HasText raster_after [] raster_items (λ before e. raster_told (length before) before e)) (λ rasters.
-    step HasText _ _ (lists HasText style_after [] style_items (λ before e. style_told (length before) before e)) (λ styles.
+    step HasText _ _ (lists HasText (style_after filter_of) [] style_items (λ before e. style_told (length before) before e)) (λ styles.
     step HasText _ _ (lists HasText (layer_after styles) [] layer_items (λ before e. layer_told styles (length before) before e)) (λ layers. tt)))))))))))
 
 in_told : (bytes : List ℕ) → Told (style_in bytes)
-unfolding style_in
+unfolding style_by
 in_told bytes = step HasText _ _ (has HasText (json_of bytes) fault.NotJson refl) map_told
 
 pub styles_are_told : StylesAreTold

@@ -24,6 +24,7 @@ use Rattle.front_rounds.specs.Front.{keeps}
 use Rattle.front_rounds.proofs.Tables.{other, same, each_weaker, each_both, not_first}
 use Rattle.front_rounds.proofs.Sitting.{clash}
 use Rattle.front_rounds.proofs.Worlds.{all_kept, told_more}
+use Rattle.front_rounds.proofs.Telling.{tells}
 
 same_round : (e f : PortEvent) (stopped x : Bool) → f ≡ e → x ≡ stopped → goes_on f x ≡ goes_on e stopped
 same_round e f stopped x h k = ap (λ d. goes_on d x) h ∙ ap (goes_on e) k
@@ -180,6 +181,7 @@ module _ {A W T : Type 0} (R : Rules A W) (K : List ℕ → List (Move A) → T 
     entries = h.entries ∙ sym (append-nil (own R h.steps));
     telling = h.telling;
     sound = h.sound;
+    tells = tells R start h.steps h.sound h.coming;
     end_fits = (e, refl);
     break_fits = tt;
     break_time = λ q. clash (sym q);
@@ -201,6 +203,7 @@ module _ {A W T : Type 0} (R : Rules A W) (K : List ℕ → List (Move A) → T 
     entries = m ∙ ap (λ es. es ++ stop) st.entries;
     telling = t;
     sound = st.sound;
+    tells = tells R start ss st.sound st.coming;
     end_fits = e;
     break_fits = b;
     break_time = λ k. (all_kept R K start ss w st r, q k);

@@ -8,5 +8,6 @@ pub mod Tries
 pub mod Lefts
 pub mod Woken
 pub mod Opens
+pub mod Telling
 pub mod Goings
 pub mod Seating

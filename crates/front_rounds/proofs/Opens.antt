@@ -122,7 +122,7 @@ module _ {A W T : Type 0} (R : Rules A W) (K : List ℕ → List (Move A) → T 
           coming = came_may R start w.told (event.Opened c) piece true m.steps st.telling m.heard.0 st.coming;
           conns_are = conns_snoc w.sessions (newcomer c talk) ∙ ap (λ cs. cs ++ c ∷ []) st.conns_are;
           keys_are = keys_snoc w.box c ∙ ap (λ cs. cs ++ c ∷ []) st.keys_are;
-          sound = (record { time = m.can.time; begins = tt; before = all_kept R K start m.steps w st m.can.rested; room = λ _. omega (arith, l, count, size) }, st.sound);
+          sound = (record { time = m.can.time; begins = tt; before = all_kept R K start m.steps w st m.can.rested; room = λ _. (omega (arith, l, count, size), ap (λ cs. has cs c) (sym st.conns_are) ∙ n) }, st.sound);
           counted = st.counted;
           apart = subst Apart (sym (conns_snoc w.sessions (newcomer c talk))) (apart_snoc (conns w.sessions) c st.apart n);
           each = each_snoc (λ (x : Session T). Sits R K told box' (part R ss x.conn) x) w.sessions (newcomer c talk)

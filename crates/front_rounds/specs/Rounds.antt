@@ -20,6 +20,18 @@ BeginsRound event.Finished = Unit {0}
 BeginsRound event.Broken = ⊥
 BeginsRound event.NoMemory = ⊥
 
+-- the event opens a connection that is not among these
+abbrev pub OpensNew : PortEvent → List ℕ → Type 0
+OpensNew (event.Opened c) cs = has cs c ≡ false
+OpensNew (event.Bytes c) cs = ⊥
+OpensNew (event.Writable c) cs = ⊥
+OpensNew (event.Ended c) cs = ⊥
+OpensNew (event.Lost c) cs = ⊥
+OpensNew event.Woken cs = ⊥
+OpensNew event.Finished cs = ⊥
+OpensNew event.Broken cs = ⊥
+OpensNew event.NoMemory cs = ⊥
+
 module _ {A W : Type 0} (R : Rules A W) where
   -- What holds of a connection that is there as a round ends: all that its bytes ask was asked and has all its
   -- entries; nothing closes it; and it was offered its bytes where there was a reason.
@@ -86,12 +98,13 @@ module _ {A W : Type 0} (R : Rules A W) where
     pub last_try : LastTry (part R ss c) why
     pub asked_all : AskedAll (part R ss c) why
 
-  -- A round begins: the one before it is whole, and the front goes on after it. An Opened makes a session only where fewer than 1,024 are there.
+  -- A round begins: the one before it is whole, and the front goes on after it. An Opened makes a session only where
+  -- fewer than 1,024 are there and its connection is not.
   pub record CameFits (ss : List (Step A)) (e : PortEvent) (kept : Bool) : Type 0 where
     pub time : MayBegin (phase ss)
     pub begins : BeginsRound e
     pub before : AllKept ss
-    pub room : kept ≡ true → length (there ss) < 1024
+    pub room : kept ≡ true → (length (there ss) < 1024) × OpensNew e (there ss)
 
   -- the step may be made after those before it
   abbrev pub StepFits : Step A → List (Step A) → Type 0

@@ -1,5 +1,5 @@
 -- What a front leaves: its own entries, what its ports tell, and what it hands back.
-use Rattle.std.specs.Prelude.{◌≡◌, ℕ, ◌-◌, ◌^◌, Bool, true, false, List, [], ◌∷◌, ◌++◌, map, min, Option, option_map}
+use Rattle.std.specs.Prelude.{◌≡◌, ℕ, ◌-◌, ◌^◌, Bool, true, false, ◌&&◌, List, [], ◌∷◌, ◌++◌, map, min, take, Option, option_map, IfSome}
 use Rattle.port_trait.specs.declared.events.PortEvent.{PortEvent}
 use Rattle.port_trait.specs.declared.events.PortEvent.TheVariants as event
 use Rattle.port_trait.specs.declared.ends.FrontEnd.{FrontEnd}
@@ -8,9 +8,9 @@ use Rattle.port_trait.specs.declared.ends.Rest.{Rest}
 use Rattle.port_trait.specs.Told.{PortsTold, heard}
 use Rattle.farm_history.specs.Entries.{Entry, Stop}
 use Rattle.farm_history.specs.Lists.{Each}
-use Rattle.front_rounds.specs.Rules.{Rules}
-use Rattle.front_rounds.specs.Steps.{Step, Phase, Fresh, Hearing, Collecting, Offering, Leaving, phase, MayBegin, there, own, starved_in}
-use Rattle.front_rounds.specs.Parts.{part, due, told_after}
+use Rattle.front_rounds.specs.Rules.{Rules, text}
+use Rattle.front_rounds.specs.Steps.{Step, Phase, Fresh, Hearing, Collecting, Offering, Leaving, phase, MayBegin, there, has, own, starved_in}
+use Rattle.front_rounds.specs.Parts.{part, due, is_open, told_after}
 use Rattle.front_rounds.specs.Rounds.{Sound, AllKept}
 
 -- the newest round has this event, and its last Collect was answered so
@@ -64,6 +64,13 @@ module _ {A W : Type 0} (R : Rules A W) where
   RestsFit ended.Broken ss rests = rests ≡ rests_of ss
   RestsFit ended.NoMemory ss rests = rests ≡ rests_of ss
 
+  -- What ports that told t before tell of a connection after the steps. The bytes taken since are a beginning of its
+  -- answers. It is open exactly where it is there and has not failed, if it was not open before.
+  abbrev pub TellsOf : List (Step A) → PortsTold → ℕ → Type 0
+  TellsOf ss t c =
+      ((told_after R ss t).taken c ≡ t.taken c ++ take (part R ss c).took (text R (part R ss c).moves))
+      × (t.is_open c ≡ false → (told_after R ss t).is_open c ≡ (has (there ss) c && is_open (part R ss c)))
+
   -- **What a front leaves.** Its own entries are those of its steps, and then at most the Stop of its end. What its
   -- ports tell is what the steps make of what they told, and then at most that they broke. Each step may be made after those before it. The end has its
   -- cause; the ports break only where no round is under way; and the rests and the count of the starved are those of the steps.
@@ -74,6 +81,7 @@ module _ {A W : Type 0} (R : Rules A W) where
     pub entries : mine ≡ own R steps ++ stop
     pub telling : told ≡ option_map (λ t. with_break broke (told_after R steps t)) start
     pub sound : Sound R steps
+    pub tells : IfSome start (λ t. (c : ℕ) → TellsOf steps t c)
     pub end_fits : EndFits end steps stop worn
     pub break_fits : BreakFits end broke
     pub break_time : broke ≡ true → AllKept R steps × MayBegin (phase steps)

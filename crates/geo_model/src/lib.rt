@@ -6,8 +6,6 @@ mod checks;
 mod copies;
 mod faults;
 mod feature;
-#[cfg(test)]
-mod tests;
 
 pub use bounds::Bounds;
 pub use faults::GeoFault;

@@ -219,19 +219,23 @@ module _ (asks : Course (List ℕ) → Type 0) (one : (c d : Course (List ℕ)) 
   four_of (inl four) = four
   four_of (inr four) = four.0
 
-  out_noticed : out'.faults ≢ out.faults → Ran asks files files' out out' ends.end → result ≡ 4
-  out_noticed other (runs.done c asked text is told calm put) = absurd (other (put_stays out out' text put))
-  out_noticed other (runs.cut c asked text is told calm put) = four_of (status_at (Err stop.SinkFailed) is)
-  out_noticed other (runs.refuses c asked its is told calm same) = absurd (other (ap (λ (at : SinkAt). at.faults) same))
-  out_noticed other (runs.misses c asked name is told rose same) = absurd (other (ap (λ (at : SinkAt). at.faults) same))
-  out_noticed other (runs.words none is kept same) = absurd (other (ap (λ (at : SinkAt). at.faults) same))
-  out_noticed other (runs.wants is told calm same) = absurd (other (ap (λ (at : SinkAt). at.faults) same))
+  -- where the count of out changed, the command's own put failed
+  sink_failed : out'.faults ≢ out.faults → Ran asks files files' out out' ends.end → ends.end ≡ Err stop.SinkFailed
+  sink_failed other (runs.done c asked text is told calm put) = absurd (other (put_stays out out' text put))
+  sink_failed other (runs.cut c asked text is told calm put) = is
+  sink_failed other (runs.refuses c asked its is told calm same) = absurd (other (ap (λ (at : SinkAt). at.faults) same))
+  sink_failed other (runs.misses c asked name is told rose same) = absurd (other (ap (λ (at : SinkAt). at.faults) same))
+  sink_failed other (runs.words none is kept same) = absurd (other (ap (λ (at : SinkAt). at.faults) same))
+  sink_failed other (runs.wants is told calm same) = absurd (other (ap (λ (at : SinkAt). at.faults) same))
 
   pub noticed : (out'.faults ≢ out.faults) ⊎ (err'.faults ≢ err.faults) → result ≡ 4
-  noticed (inl other) = out_noticed other (ran asks files files' out out' ends.end ends.ran)
+  noticed (inl other) = four_of (status_at (Err stop.SinkFailed) (sink_failed other (ran asks files files' out out' ends.end ends.ran)))
   noticed (inr other) =
       failed_4 ends.reports.put (status_of ends.end) result err.faults err'.faults ends.reports.status_is
       (put_counts err err' (line_of ends.end) ends.reports.put ends.reports.puts) other
+
+  pub out_failed : out'.faults ≢ out.faults → err' ≡ err
+  out_failed other = (ends.reports.quiet (ap line_of (sink_failed other (ran asks files files' out out' ends.end ends.ran)))).1
 
   -- ---- 5
 

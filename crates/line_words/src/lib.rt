@@ -9,6 +9,3 @@ mod numbers;
 pub use cuts::{cut, first_line};
 pub use laws::law_numbers;
 pub use numbers::{number, number_below, small_number};
-
-#[cfg(test)]
-mod tests;

@@ -10,7 +10,7 @@ use Rattle.call_ends.specs.declared.stops.Stop.{Stop}
 use Rattle.input_files.specs.Course.{Course, made, ◌>>=◌, file, each}
 use Rattle.input_files.specs.inner.Follows.{Follows}
 use Rattle.input_files.proofs.Courses.{ended, follows_then, follows_stop}
-use Rattle.map_files.specs.Courses.{raster_course, style_course}
+use Rattle.map_files.specs.Courses.{raster_course, style_course, style_course_by}
 
 -- the style with these grids
 abbrev with_grids : MapStyle → List Grid → Course MapStyle
@@ -19,7 +19,7 @@ with_grids style grids = made (record style { grids = grids })
 -- the style's file came to an early end
 pub style_unread : (name : List ℕ) (old new : FilesAt) (s : Stop) → Follows (file style_in style_text name) old new (ended {A = MapStyle} s)
     → Follows (style_course name) old new (ended {A = MapStyle} s)
-unfolding style_course
+unfolding style_course_by
 style_unread name old new s h =
     follows_stop MapStyle MapStyle (file style_in style_text name) (λ its. each raster_course its.rasters >>= with_grids its) old new s h
 
@@ -27,7 +27,7 @@ style_unread name old new s h =
 pub style_bound : (name : List ℕ) (style bound : MapStyle) (rasters : List RasterRef) (old middle new : FilesAt) (grids : List Grid) → rasters ≡ style.rasters
     → bound ≡ record style { grids = grids } → Follows (file style_in style_text name) old middle (Ok style)
     → Follows (each raster_course rasters) middle new (Ok grids) → Follows (style_course name) old new (Ok bound)
-unfolding style_course
+unfolding style_course_by
 style_bound name style bound rasters old middle new grids is has first second =
     follows_then (file style_in style_text name) (λ its. each raster_course its.rasters >>= with_grids its) old middle new style (Ok bound) first
     (follows_then (each raster_course style.rasters) (with_grids style) middle new new grids (Ok bound)
@@ -37,7 +37,7 @@ style_bound name style bound rasters old middle new grids is has first second =
 pub style_stops : (name : List ℕ) (style : MapStyle) (rasters : List RasterRef) (old middle new : FilesAt) (s : Stop) → rasters ≡ style.rasters
     → Follows (file style_in style_text name) old middle (Ok style) → Follows (each raster_course rasters) middle new (ended {A = List Grid} s)
     → Follows (style_course name) old new (ended {A = MapStyle} s)
-unfolding style_course
+unfolding style_course_by
 style_stops name style rasters old middle new s is first second =
     follows_then (file style_in style_text name) (λ its. each raster_course its.rasters >>= with_grids its) old middle new style (ended {A = MapStyle} s) first
     (follows_stop (List Grid) MapStyle (each raster_course style.rasters) (with_grids style) middle new s

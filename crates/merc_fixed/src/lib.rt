@@ -3,8 +3,6 @@
 
 mod coordinates;
 mod squares;
-#[cfg(test)]
-mod tests;
 mod tiles;
 mod windows;
 

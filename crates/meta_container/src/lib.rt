@@ -11,6 +11,3 @@ pub use farm_base::MetaFault;
 pub use laws::{law_drawn_container, law_tiles_come_back};
 pub use reading::{entry_in, listing, tile_in};
 pub use writing::encode;
-
-#[cfg(test)]
-mod tests;

@@ -12,6 +12,3 @@ pub use image::Image;
 pub use mask::Mask;
 pub use ppm::read_ppm;
 pub use reading::PpmFault;
-
-#[cfg(test)]
-mod tests;

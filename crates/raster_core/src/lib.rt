@@ -8,6 +8,3 @@ mod reach;
 mod sweep;
 
 pub use fill::fill_mask;
-
-#[cfg(test)]
-mod tests;

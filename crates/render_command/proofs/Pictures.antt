@@ -13,7 +13,7 @@ use Rattle.input_files.specs.Course.{Course, made, ◌>>=◌, file}
 use Rattle.input_files.specs.inner.Follows.{Follows, Says}
 use Rattle.input_files.proofs.Courses.{follows_then}
 use Rattle.map_files.specs.Courses.{style_course}
-use Rattle.render_command.specs.Courses.{render_course}
+use Rattle.render_command.specs.Courses.{render_course, render_course_by}
 
 -- the tile over the layers that a data file says
 abbrev over_data : List ℕ → ℕ → Tile → MapStyle → Course (List ℕ)
@@ -23,7 +23,7 @@ over_data data_name size tile style = file dataset_in data_text data_name >>= λ
 pub picture_drawn : (style_name data_name : List ℕ) (size : ℕ) (tile : Tile) (old middle new : FilesAt) (style : MapStyle) (layers : List Layer) (result : Result (List ℕ) Stop)
     → Follows (style_course style_name) old middle (Ok style) → Follows (file dataset_in data_text data_name) middle new (Ok layers)
     → Says (made (tile_of style size tile layers)) result → Follows (render_course style_name data_name size tile) old new result
-unfolding render_course
+unfolding render_course_by
 picture_drawn style_name data_name size tile old middle new style layers result first second drawn =
     follows_then (style_course style_name) (over_data data_name size tile) old middle new style result first
     (follows_then (file dataset_in data_text data_name) (λ its. made (tile_of style size tile its)) middle new new layers result second (drawn new))

@@ -2,14 +2,20 @@
 use Rattle.std.specs.Prelude.{ℕ, List}
 use Rattle.plain_world.specs.declared.world.Tile.{Tile}
 use Rattle.plain_drawing.specs.Drawing.{tile_of}
+use Rattle.filter_expr.specs.FilterTexts.{filter_of}
 use Rattle.geo_json.specs.DataTexts.{dataset_in}
+use Rattle.style_objects.specs.FilterReadings.{FilterReading}
 use Rattle.fault_texts.specs.DataFaults.{data_text}
 use Rattle.input_files.specs.Course.{Course, made, ◌>>=◌, file}
-use Rattle.map_files.specs.Courses.{style_course}
+use Rattle.map_files.specs.Courses.{style_course_by}
 
--- the style with its rasters is read and then the data, and the tile of these is made
-unfoldable pub render_course : List ℕ → List ℕ → ℕ → Tile → Course (List ℕ)
-render_course style_name data_name size tile = do
-  style ← style_course style_name
+-- the style with its rasters is read, where filters are read so, and then the data, and the tile of these is made
+unfoldable pub render_course_by : FilterReading → List ℕ → List ℕ → ℕ → Tile → Course (List ℕ)
+render_course_by says style_name data_name size tile = do
+  style ← style_course_by says style_name
   layers ← file dataset_in data_text data_name
   made (tile_of style size tile layers)
+
+-- the same, where filters are read by the function that reads their tokens
+abbrev pub render_course : List ℕ → List ℕ → ℕ → Tile → Course (List ℕ)
+render_course style_name data_name size tile = render_course_by filter_of style_name data_name size tile

@@ -36,7 +36,7 @@ pub fn render<F: Files, O: Sink>(
 }
 
 // The text of the tile that the files say.
-#[tactic(auto, using(input_files::proofs::Courses::follows_then, input_files::proofs::Courses::follows_stop), unfolding(crate::specs::Courses::render_course))]
+#[tactic(auto, using(input_files::proofs::Courses::follows_then, input_files::proofs::Courses::follows_stop), unfolding(crate::specs::Courses::render_course_by))]
 fn picture<F: Files>(alloc: Global, asked: RenderWords, files: &mut F) -> Result<Vec<u8>, Stop>
     requires size { IsTileSize asked.size }
     requires tile { IsTile asked.tile }

@@ -14,6 +14,3 @@ mod outlines;
 pub use lines::stroke_lines;
 pub use outlines::stroke_rings;
 pub use plain_shapes::LineCap as Cap;
-
-#[cfg(test)]
-mod tests;

@@ -1,1 +1,2 @@
+pub mod ByGrammar
 pub mod Opening

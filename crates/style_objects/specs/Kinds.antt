@@ -14,12 +14,12 @@ use Rattle.plain_drawing.specs.Styles.{is_text_to, is_width}
 use Rattle.paint_texts.specs.Colours.{colour_of}
 use Rattle.paint_texts.specs.Decimals.{hundredths_of, thousandths_of}
 use Rattle.filter_expr.specs.declared.faults.FilterFault.{FilterFault}
-use Rattle.filter_expr.specs.FilterTexts.{filter_of}
 use Rattle.reading.specs.Steps.{◌>>=◌, check}
 use Rattle.reading.specs.Values.{text, whole, or_value}
 use Rattle.style_objects.specs.declared.fault.At.{At}
 use Rattle.style_objects.specs.declared.fault.StyleFault.{StyleFault}
 use Rattle.style_objects.specs.declared.fault.StyleFault.TheVariants as fault
+use Rattle.style_objects.specs.FilterReadings.{FilterReading}
 
 -- a text that some grammar gives a value
 abbrev pub in_grammar : {A : Type 0} → (List ℕ → Option A) → At → Data → Result A StyleFault
@@ -79,9 +79,9 @@ abbrev pub filter_at : At → Result FilterTree FilterFault → Result (Option F
 filter_at at (Ok tree) = Ok (Some tree)
 filter_at at (Err f) = Err (fault.Filter at f)
 
--- a filter, as its text says it
-unfoldable pub a_filter : At → Data → Result (Option FilterTree) StyleFault
-a_filter at d = text (fault.Shape at) d >>= λ s. filter_at at (filter_of s)
+-- a filter, as its text is read
+unfoldable pub a_filter : FilterReading → At → Data → Result (Option FilterTree) StyleFault
+a_filter says at d = text (fault.Shape at) d >>= λ s. filter_at at (says s)
 
 -- the JSON value true
 abbrev pub is_true : Data → Bool

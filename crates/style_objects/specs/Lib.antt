@@ -1,4 +1,6 @@
+pub mod FilterReadings
 pub mod Keys
 pub mod Kinds
 pub mod Places
 pub mod Tables
+pub mod Laws

@@ -1,5 +1,6 @@
 -- What a style text says, object by object and key by key in reading order: the value, or the first fault
--- with the object that it stands in. A line is a step; the first step that has a fault ends the reading.
+-- with the object that it stands in. A line is a step; the first step that has a fault ends the reading. What
+-- filter texts are is told by a reading of them, `says`.
 use Rattle.std.specs.Prelude.{ℕ, Bool, false, not, if◌then◌else◌, List, [], length, codes, Option, None, is_some, Result, Ok, Err}
 use Rattle.std.specs.Option.{ok_or}
 use Rattle.std.specs.Str.{bytes_eq}
@@ -11,6 +12,7 @@ use Rattle.plain_drawing.specs.declared.style.FilterMode.TheVariants as mode
 use Rattle.plain_drawing.specs.declared.style.Symbolizer.{Symbolizer}
 use Rattle.plain_drawing.specs.declared.style.Symbolizer.TheVariants as paint
 use Rattle.plain_filters.specs.Filters.{FilterTree}
+use Rattle.filter_expr.specs.FilterTexts.{filter_of}
 use Rattle.plain_drawing.specs.Styles.{Rule, Style, LayerRef, RasterRef, MapStyle, style_has, layer_has, raster_has}
 use Rattle.paint_texts.specs.Colours.{rgb}
 use Rattle.reading.specs.Json.{json_of}
@@ -21,6 +23,7 @@ use Rattle.style_objects.specs.declared.fault.At.{At}
 use Rattle.style_objects.specs.declared.fault.StyleFault.{StyleFault}
 use Rattle.style_objects.specs.declared.fault.StyleFault.TheVariants as fault
 use Rattle.style_objects.specs.declared.keys.Object.TheVariants as object
+use Rattle.style_objects.specs.FilterReadings.{FilterReading}
 use Rattle.style_objects.specs.Keys.{opened_as}
 use Rattle.style_objects.specs.Kinds.{a_colour, a_scale, a_bound, an_opacity, a_width, a_text_to, any_text, a_mode, a_cap, a_number, a_filter, an_else, list_or_none}
 use Rattle.style_objects.specs.Places.{at_map, at_style, at_rule, at_symbolizer, at_layer, at_raster}
@@ -94,18 +97,18 @@ abbrev pub symbolizer_after : ℕ → ℕ → List Symbolizer → Data → Resul
 symbolizer_after style rule before d = symbolizer_of (at_symbolizer style rule (length before)) d
 
 -- a rule's Filter and ElseFilter, of which it has one at most
-unfoldable pub filters_of : At → Data → Result (Option FilterTree × Bool) StyleFault
-filters_of at d = do
-  filter ← or_value None (a_filter at) (get (codes "Filter") d)
+unfoldable pub filters_of : FilterReading → At → Data → Result (Option FilterTree × Bool) StyleFault
+filters_of says at d = do
+  filter ← or_value None (a_filter says at) (get (codes "Filter") d)
   else_filter ← or_value false (an_else (is_some filter) at) (get (codes "ElseFilter") d)
   Ok (filter, else_filter)
 
 -- a rule: its own keys, then its symbolizers
-unfoldable pub rule_of : ℕ → ℕ → Data → Result Rule StyleFault
-rule_of style rule d = do
+unfoldable pub rule_of : FilterReading → ℕ → ℕ → Data → Result Rule StyleFault
+rule_of says style rule d = do
   u ← opened_as object.Rule (at_rule style rule) d
   found ← within most_symbolizers (fault.Range (at_rule style rule)) (get (codes "symbolizers") d)
-  filters ← filters_of (at_rule style rule) d
+  filters ← filters_of says (at_rule style rule) d
   least ← or_value 0 (a_scale (at_rule style rule)) (get (codes "MinScaleDenominator") d)
   greatest ← or_value None (a_bound (at_rule style rule)) (get (codes "MaxScaleDenominator") d)
   items ← ok_or found (fault.Shape (at_rule style rule))
@@ -113,24 +116,24 @@ rule_of style rule d = do
   Ok (record { filter = filters.0; else_filter = filters.1; min_scale_denominator = least; max_scale_denominator = greatest; symbolizers = symbolizers })
 
 -- a rule of a style, at the place behind those that were read before it
-abbrev pub rule_after : ℕ → List Rule → Data → Result Rule StyleFault
-rule_after style before d = rule_of style (length before) d
+abbrev pub rule_after : FilterReading → ℕ → List Rule → Data → Result Rule StyleFault
+rule_after says style before d = rule_of says style (length before) d
 
 -- a style: its own keys, then Double where an earlier style has its name, then its rules
-unfoldable pub style_of : ℕ → List Style → Data → Result Style StyleFault
-style_of style before d = do
+unfoldable pub style_of : FilterReading → ℕ → List Style → Data → Result Style StyleFault
+style_of says style before d = do
   u ← opened_as object.Style (at_style style) d
   found ← within most_rules (fault.Range (at_style style)) (get (codes "rules") d)
   name ← needed (fault.Shape (at_style style)) (a_text_to most_name_bytes (at_style style)) (get (codes "name") d)
   filter_mode ← or_value mode.All (a_mode (at_style style)) (get (codes "filter-mode") d)
   items ← ok_or found (fault.Shape (at_style style))
   v ← check (not (style_has name before)) (fault.Double (at_style style))
-  rules ← list_of (rule_after style) items
+  rules ← list_of (rule_after says style) items
   Ok (record { name = name; filter_mode = filter_mode; rules = rules })
 
 -- a style of the map, at the place behind those that were read before it
-abbrev pub style_after : List Style → Data → Result Style StyleFault
-style_after before d = style_of (length before) before d
+abbrev pub style_after : FilterReading → List Style → Data → Result Style StyleFault
+style_after says before d = style_of says (length before) before d
 
 -- a name in a layer's list: a text, of 1 to 64 bytes, that some style has
 unfoldable pub style_name_of : List Style → At → List (List ℕ) → Data → Result (List ℕ) StyleFault
@@ -173,8 +176,8 @@ abbrev pub raster_after : List RasterRef → Data → Result RasterRef StyleFaul
 raster_after before d = raster_of (length before) before d
 
 -- the map: its own keys, then its rasters, its styles and its layers
-unfoldable pub map_of : Data → Result MapStyle StyleFault
-map_of d = do
+unfoldable pub map_of : FilterReading → Data → Result MapStyle StyleFault
+map_of says d = do
   u ← opened_as object.Map at_map d
   found_styles ← within most_styles (fault.Range at_map) (get (codes "styles") d)
   found_layers ← within most_map_layers (fault.Range at_map) (get (codes "layers") d)
@@ -184,10 +187,15 @@ map_of d = do
   layer_items ← ok_or found_layers (fault.Shape at_map)
   raster_items ← list_or_none at_map found_rasters (get (codes "rasters") d)
   rasters ← list_of raster_after raster_items
-  styles ← list_of style_after style_items
+  styles ← list_of (style_after says) style_items
   layers ← list_of (layer_after styles) layer_items
   Ok (record { background_color = background; styles = styles; layers = layers; rasters = rasters; grids = [] })
 
--- what the bytes of a style say
-unfoldable pub style_in : List ℕ → Result MapStyle StyleFault
-style_in bytes = ok_or (json_of bytes) fault.NotJson >>= map_of
+-- what the bytes of a style say, where filters are read so
+unfoldable pub style_by : FilterReading → List ℕ → Result MapStyle StyleFault
+style_by says bytes = ok_or (json_of bytes) fault.NotJson >>= map_of says
+
+-- The same, where filters are read by the function that reads their tokens one after another. By the grammar of
+-- filters there is one reading, and this is it (`law_styles_by_grammar`).
+abbrev pub style_in : List ℕ → Result MapStyle StyleFault
+style_in bytes = style_by filter_of bytes

@@ -3,6 +3,7 @@ ghost use Rattle.std.specs.Prelude.{◌≡◌, ◌≤◌, ◌&&◌, ◌^◌, not
 ghost use Rattle.serde_json.specs.Find.{get};
 ghost use Rattle.serde_json.specs.View.{view, items_view};
 ghost use Rattle.plain_filters.specs.Filters.{tree_of};
+ghost use Rattle.filter_expr.specs.FilterTexts.{filter_of};
 ghost use Rattle.plain_drawing.specs.Styles.{is_text_to, is_width, is_opacity};
 ghost use Rattle.reading.specs.Steps.{seen, Gives};
 ghost use Rattle.reading.specs.Values.{needed, or_value};
@@ -242,7 +243,7 @@ pub fn number_at(object: &Value, key: &str, low: u32, at: At) -> Result<u32, Sty
 
 #[tactic(auto, unfolding(crate::specs::Kinds::a_filter))]
 fn a_filter(alloc: Global, value: &Value, at: At) -> Result<Option<Expr>, StyleFault>
-    ensures { Gives fault.NoMemory (option_map tree_of) (spec.a_filter at (view value.now)) result }
+    ensures { Gives fault.NoMemory (option_map tree_of) (spec.a_filter filter_of at (view value.now)) result }
 {
     match parse(alloc, text(value, StyleFault::Shape(at))?) {
         Ok(expr) => Ok(Some(expr)),
@@ -258,7 +259,7 @@ pub fn filter_or_none(
     key: &str,
     at: At,
 ) -> Result<Option<Expr>, StyleFault>
-    ensures { Gives fault.NoMemory (option_map tree_of) (or_value None (spec.a_filter at) (get key.now (view object.now))) result }
+    ensures { Gives fault.NoMemory (option_map tree_of) (or_value None (spec.a_filter filter_of at) (get key.now (view object.now))) result }
 {
     match object.get(key) {
         Some(value) => a_filter(alloc, value, at),

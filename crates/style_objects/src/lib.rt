@@ -4,6 +4,7 @@
 mod fault;
 mod keys;
 mod kinds;
+mod laws;
 mod layers;
 mod map_style;
 mod rasters;
@@ -12,6 +13,7 @@ mod style_list;
 mod symbolizers;
 
 pub use fault::{At, Part, StyleFault};
+pub use laws::law_styles_by_grammar;
 pub use map_style::read_style;
 pub use plain_drawing::{FilterMode, Grid, LayerRef, MapStyle, RasterRef, Rule, Style, Symbolizer};
 pub use plain_shapes::LineCap;

@@ -1,7 +1,9 @@
 //! The map, and the whole text.
 ghost use Rattle.std.specs.Prelude.{◌≡◌};
 ghost use Rattle.serde_json.specs.View.{view};
+ghost use Rattle.filter_expr.specs.FilterTexts.{filter_of};
 ghost use Rattle.reading.specs.Steps.{Gives};
+ghost use Rattle.style_objects.specs.FilterReadings.{FilterReading, SaysGrammar};
 ghost use Rattle.style_objects.specs.Tables as spec;
 ghost use Rattle.style_objects.specs.declared.fault.StyleFault.TheVariants as fault;
 
@@ -25,7 +27,7 @@ const WHITE: Colour = Colour {
 
 #[tactic(auto, unfolding(crate::specs::Tables::map_of))]
 fn map_style(alloc: Global, object: &Value) -> Result<MapStyle, StyleFault>
-    ensures { Gives fault.NoMemory (λ x. x) (spec.map_of (view object.now)) result }
+    ensures { Gives fault.NoMemory (λ x. x) (spec.map_of filter_of (view object.now)) result }
 {
     let at = At::map();
     open(object, Object::Map, at)?;
@@ -55,8 +57,20 @@ fn map_style(alloc: Global, object: &Value) -> Result<MapStyle, StyleFault>
 /// each in order; a style before its rules, a rule before its symbolizers. Of each object: Shape where
 /// it is no object; Unsupported for an unknown key; Range where a list in it passes its limit; then its
 /// keys in the order of the table in `docs/styles.md`.
-#[tactic(auto, unfolding(crate::specs::Tables::style_in))]
 pub fn read_style(alloc: Global, bytes: &[u8]) -> Result<MapStyle, StyleFault>
+    // The answer is what the text says, where filters are what the grammar of filters says,
+    ensures grammar { (says : FilterReading) → SaysGrammar says
+        → Gives fault.NoMemory (λ x. x) (spec.style_by says bytes.now) result }
+
+    // which a function says too.
+    ensures value { Gives fault.NoMemory (λ x. x) (spec.style_in bytes.now) result }
+{
+    read(alloc, bytes)
+}
+
+// The style that the text says, where filters are read by the function that reads their tokens.
+#[tactic(auto, unfolding(crate::specs::Tables::style_by))]
+fn read(alloc: Global, bytes: &[u8]) -> Result<MapStyle, StyleFault>
     ensures { Gives fault.NoMemory (λ x. x) (spec.style_in bytes.now) result }
 {
     let value = read_json(alloc, bytes, StyleFault::NotJson)?;

@@ -2,6 +2,7 @@
 ghost use Rattle.std.specs.Prelude.{◌≡◌, ◌≤◌, ◌&&◌, length, true, not, option_map, is_some, IsTrue, IfOk};
 ghost use Rattle.serde_json.specs.View.{view, items_view};
 ghost use Rattle.plain_filters.specs.Filters.{tree_of};
+ghost use Rattle.filter_expr.specs.FilterTexts.{filter_of};
 ghost use Rattle.reading.specs.Lists.{list_of};
 ghost use Rattle.reading.specs.Steps.{Gives};
 ghost use Rattle.style_objects.specs.Tables as spec;
@@ -21,7 +22,7 @@ use std::alloc::Global;
 // A rule's filter, and whether it is an ElseFilter rule.
 #[tactic(auto, using(crate::proofs::Opening::some_tree), unfolding(crate::specs::Tables::filters_of))]
 fn filters(alloc: Global, object: &Value, at: At) -> Result<(Option<Expr>, bool), StyleFault>
-    ensures value { Gives fault.NoMemory (λ p. (option_map tree_of p.0, p.1)) (spec.filters_of at (view object.now)) result }
+    ensures value { Gives fault.NoMemory (λ p. (option_map tree_of p.0, p.1)) (spec.filters_of filter_of at (view object.now)) result }
     ensures one { IfOk result (λ p. IsTrue (not (p.1 && is_some (option_map tree_of p.0)))) }
 {
     let filter = filter_or_none(alloc, object, "Filter", at)?;
@@ -31,7 +32,7 @@ fn filters(alloc: Global, object: &Value, at: At) -> Result<(Option<Expr>, bool)
 
 #[tactic(auto, unfolding(crate::specs::Tables::rule_of))]
 fn rule(alloc: Global, style: u32, place: u32, object: &Value) -> Result<Rule, StyleFault>
-    ensures { Gives fault.NoMemory (λ x. x) (spec.rule_of style place (view object.now)) result }
+    ensures { Gives fault.NoMemory (λ x. x) (spec.rule_of filter_of style place (view object.now)) result }
 {
     let at = At::rule(style, place);
     open(object, Object::Rule, at)?;
@@ -67,7 +68,7 @@ impl ReadItem for RuleItems {
 
     ghost limit = { λ r. most_rules };
 
-    ghost reads = { λ r before d. spec.rule_after r.style before d };
+    ghost reads = { λ r before d. spec.rule_after filter_of r.style before d };
 
     ghost keeps = { λ r before x. true };
 
@@ -78,7 +79,7 @@ impl ReadItem for RuleItems {
 
 pub fn rules(alloc: Global, style: u32, items: &[Value]) -> Result<Vec<Rule>, StyleFault>
     requires { length items.now ≤ most_rules }
-    ensures value { Gives fault.NoMemory (λ v. v.items) (list_of (spec.rule_after style) (items_view items.now)) result }
+    ensures value { Gives fault.NoMemory (λ v. v.items) (list_of (spec.rule_after filter_of style) (items_view items.now)) result }
     ensures count { IfOk result (λ v. length v.items ≤ most_rules) }
 {
     read_list(alloc, &RuleItems { style }, items)

@@ -61,6 +61,10 @@ pub returns-clause-noticed : goal.returns-clause-noticed
 returns-clause-noticed g c = calls.noticed _ (asks_one (map string_bytes c.args.words.now)) _ _ _ _ _ _ _
     (record { end = c.command-end.result; ran = c.command-end.ensures; reports = c.report.ensures })
 
+pub returns-clause-out_failed : goal.returns-clause-out_failed
+returns-clause-out_failed g c = calls.out_failed _ (asks_one (map string_bytes c.args.words.now)) _ _ _ _ _ _ _
+    (record { end = c.command-end.result; ran = c.command-end.ensures; reports = c.report.ensures })
+
 pub returns-clause-want_line : goal.returns-clause-want_line
 returns-clause-want_line g c = calls.want_line _ (asks_one (map string_bytes c.args.words.now)) _ _ _ _ _ _ _
     (record { end = c.command-end.result; ran = c.command-end.ensures; reports = c.report.ensures })

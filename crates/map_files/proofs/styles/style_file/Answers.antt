@@ -7,4 +7,4 @@ use Rattle.map_files.proofs.styles.style_file.Goals as goal
 pub returns : goal.returns
 returns g c =
     file_checked _ _ _ _ _ _ _ _ _ c.in_ok-bytes.ensures c.as_slice.ensures.value
-    (told_by style_text fault.NoMemory _ _ refl c.read_style.ensures) c.checked.ensures
+    (told_by style_text fault.NoMemory _ _ refl c.read_style.ensures.value) c.checked.ensures

@@ -1,0 +1,436 @@
+-- Requests that are done one after another.
+use Rattle.std.proofs.Common.{◌≡◌, ◌<◌, ◌+◌, ℕ, Bool, true, false, ◌&&◌, ◌||◌, cond, nat_lt, List, [], ◌∷◌, ◌++◌, length, take, drop, get_or, refl, sym, ap, subst, ◌∙◌, append_assoc, inr}
+use Rattle.std.proofs.lemmas.Bool.{ne_eqb}
+use Rattle.std.proofs.lemmas.Grind.{take_at_read}
+use Rattle.std.proofs.lemmas.List.{append-nil, take-append-drop}
+use Rattle.plain_world.specs.declared.world.Tile.{Tile}
+use Rattle.farm_history.specs.Entries.{Entry}
+use Rattle.front_rounds.specs.declared.fates.Fate.{Fate}
+use Rattle.front_rounds.specs.declared.fates.Fate.TheVariants.{Stays, Leaves}
+use Rattle.front_rounds.specs.declared.fates.Reason.TheVariants as reason
+use Rattle.front_rounds.specs.Rules.{Rules, Move, asked, text, each_whole, any_starves}
+use Rattle.front_rounds.specs.Front.{keeps, does, EachFits, with_acts, Heard, HeardWhy}
+use Rattle.control_lines.specs.declared.acts.Line.{Line}
+use Rattle.control_lines.specs.declared.acts.Line.TheVariants as line
+use Rattle.control_lines.specs.declared.acts.Act.{Act}
+use Rattle.control_lines.specs.declared.hearing.Talk.{Talk}
+use Rattle.control_lines.specs.Lines.{Reading, read_on, read_all, begun, wants, line_in}
+use Rattle.control_lines.specs.Control.{rules_of, line_done, entries_of, text_of, act_fits, act_whole, act_starves}
+use Rattle.control_lines.specs.inner.Doing.{Says, Said, Lacks, Answers, Gives, Wants, Starves, DoneWhy, Did, LongWhy, as_done, Heeds, Knows}
+use Rattle.control_lines.proofs.Streams.{read_both, read_more, read_shut, wants_more, wants_begin}
+
+clash : {X : Type 0} → true ≡ false → X
+clash h = cc
+
+or_none : (b c : Bool) → b ≡ false → c ≡ false → (b || c) ≡ false
+or_none true c h k = clash h
+or_none false c h k = k
+
+or_left : (b c : Bool) → b ≡ true → (b || c) ≡ true
+or_left true c h = refl
+or_left false c h = clash (sym h)
+
+or_end : (b c d : Bool) → ((b || c) || d) ≡ (b || (c || d))
+or_end true c d = refl
+or_end false c d = refl
+
+and_both : (a b : Bool) → a ≡ true → b ≡ true → (a && b) ≡ true
+and_both true b h k = k
+and_both false b h k = clash (sym h)
+
+done_keeps : (fate : Fate) → keeps fate ≡ true → keeps (as_done fate) ≡ true
+done_keeps Stays k = refl
+done_keeps (Leaves reason.Unread) k = refl
+done_keeps (Leaves reason.NoMemory) k = k
+done_keeps (Leaves reason.Starved) k = k
+done_keeps (Leaves reason.Ended) k = k
+done_keeps (Leaves reason.Lost) k = k
+done_keeps (Leaves reason.Cut) k = k
+done_keeps (Leaves reason.Full) k = k
+done_keeps (Leaves reason.SentWhole) k = k
+done_keeps (Leaves reason.SendFailed) k = k
+
+module _ (number : ℕ) (lists : List (List Tile)) (c : ℕ) where
+  abbrev R : Rules Act Line
+  R = rules_of number lists
+
+  -- requests behind others
+  asked_both : (acts before : List Act) → asked R (does (acts ++ before)) ≡ asked R (does before) ++ asked R (does acts)
+  asked_both [] before = sym (append-nil (asked R (does before)))
+  asked_both (a ∷ acts) before =
+      ap (λ ls. ls ++ line_done a ∷ []) (asked_both acts before) ∙ append_assoc (asked R (does before)) (asked R (does acts)) (line_done a ∷ [])
+
+  text_both : (acts before : List Act) → text R (does (acts ++ before)) ≡ text R (does before) ++ text R (does acts)
+  text_both [] before = sym (append-nil (text R (does before)))
+  text_both (a ∷ acts) before =
+      ap (λ ls. ls ++ text_of lists a) (text_both acts before) ∙ append_assoc (text R (does before)) (text R (does acts)) (text_of lists a)
+
+  entries_both : (acts before : List Act) (mine : List Entry) → with_acts R c (acts ++ before) mine ≡ with_acts R c acts (with_acts R c before mine)
+  entries_both [] before mine = refl
+  entries_both (a ∷ acts) before mine = ap (λ es. es ++ entries_of lists a) (entries_both acts before mine)
+
+  fits_both : (acts before : List Act) → EachFits R acts [] → EachFits R before [] → EachFits R (acts ++ before) []
+  fits_both [] before f g = g
+  fits_both (a ∷ acts) before f g = (f.0, fits_both acts before f.1 g)
+
+  starves_both : (acts before : List Act) → any_starves R (does (acts ++ before)) ≡ (any_starves R (does acts) || any_starves R (does before))
+  starves_both [] before = refl
+  starves_both (a ∷ acts) before =
+      ap (λ b. act_starves a || b) (starves_both acts before) ∙ sym (or_end (act_starves a) (any_starves R (does acts)) (any_starves R (does before)))
+
+  whole_both : (acts before : List Act) → each_whole R (does acts) ≡ true → each_whole R (does before) ≡ true → each_whole R (does (acts ++ before)) ≡ true
+  whole_both [] before f g = g
+  whole_both (a ∷ acts) before f g = and_both (act_whole lists a) (each_whole R (does (acts ++ before))) (first (act_whole lists a) _ f) (whole_both acts before (second (act_whole lists a) _ f) g)
+    where
+      first : (x y : Bool) → (x && y) ≡ true → x ≡ true
+      first true y h = refl
+      first false y h = clash (sym h)
+
+      second : (x y : Bool) → (x && y) ≡ true → y ≡ true
+      second true y h = h
+      second false y h = clash (sym h)
+
+  -- nothing is asked
+  pub did_none : (mine : List Entry) (said : List ℕ) → Did number lists c [] mine mine said said Stays
+  did_none mine said = record {
+    acts = [];
+    mine_is = refl;
+    begins = ([], refl);
+    fits = tt;
+    why = refl;
+    said_is = λ _. sym (append-nil said);
+    asked_is = λ _. refl;
+    whole = λ _. refl;
+  }
+
+  -- a turn was worn, and nothing was done
+  pub did_worn : (lines : List Line) (mine mine' : List Entry) (said said' : List ℕ) → mine' ≡ mine → Did number lists c lines mine mine' said said' (Leaves reason.Starved)
+  did_worn lines mine mine' said said' m = record {
+    acts = [];
+    mine_is = m;
+    begins = (lines, refl);
+    fits = tt;
+    why = tt;
+    said_is = λ k. clash (sym k);
+    asked_is = λ k. clash (sym k);
+    whole = λ k. clash (sym k);
+  }
+
+  -- a request was done, of which a turn was worn or the answer found no memory
+  pub did_part : (a : Act) (mine mine' : List Entry) (said said' : List ℕ) → act_fits lists a ≡ true → mine' ≡ mine ++ entries_of lists a
+      → Did number lists c (line_done a ∷ []) mine mine' said said' (Leaves reason.Starved)
+  did_part a mine mine' said said' f m = record {
+    acts = a ∷ [];
+    mine_is = m;
+    begins = ([], refl);
+    fits = (f, tt);
+    why = tt;
+    said_is = λ k. clash (sym k);
+    asked_is = λ k. clash (sym k);
+    whole = λ k. clash (sym k);
+  }
+
+  did_starved : (a : Act) (mine mine' : List Entry) (said said' : List ℕ) → act_fits lists a ≡ true → mine' ≡ mine ++ entries_of lists a → act_starves a ≡ true
+      → Did number lists c (line_done a ∷ []) mine mine' said said' (Leaves reason.NoMemory)
+  did_starved a mine mine' said said' f m s = record {
+    acts = a ∷ [];
+    mine_is = m;
+    begins = ([], refl);
+    fits = (f, tt);
+    why = or_left (act_starves a) false s;
+    said_is = λ k. clash (sym k);
+    asked_is = λ k. clash (sym k);
+    whole = λ k. clash (sym k);
+  }
+
+  did_whole : (a : Act) (mine mine' : List Entry) (said said' : List ℕ) → act_fits lists a ≡ true → act_whole lists a ≡ true → mine' ≡ mine ++ entries_of lists a → act_starves a ≡ false
+      → said' ≡ said ++ text_of lists a → Did number lists c (line_done a ∷ []) mine mine' said said' Stays
+  did_whole a mine mine' said said' f w m s e = record {
+    acts = a ∷ [];
+    mine_is = m;
+    begins = ([], refl);
+    fits = (f, tt);
+    why = or_none (act_starves a) false s refl;
+    said_is = λ _. e;
+    asked_is = λ _. refl;
+    whole = λ _. and_both (act_whole lists a) true w refl;
+  }
+
+  -- a request was done
+  pub did_one : (a : Act) (mine mine' : List Entry) (said said' : List ℕ) (fate : Fate) → act_fits lists a ≡ true → act_whole lists a ≡ true → mine' ≡ mine ++ entries_of lists a
+      → Answers lists a said said' fate → Did number lists c (line_done a ∷ []) mine mine' said said' fate
+  did_one a mine mine' said said' fate f w m (Gives q s e) = subst (Did number lists c (line_done a ∷ []) mine mine' said said') (sym q) (did_whole a mine mine' said said' f w m s e)
+  did_one a mine mine' said said' fate f w m (Wants q) = subst (Did number lists c (line_done a ∷ []) mine mine' said said') (sym q) (did_part a mine mine' said said' f m)
+  did_one a mine mine' said said' fate f w m (Starves q s) = subst (Did number lists c (line_done a ∷ []) mine mine' said said') (sym q) (did_starved a mine mine' said said' f m s)
+
+  why_both : (acts before : List Act) (fate : Fate) → any_starves R (does before) ≡ false → DoneWhy number lists c acts fate → DoneWhy number lists c (acts ++ before) fate
+  why_both acts before Stays n w = starves_both acts before ∙ or_none (any_starves R (does acts)) (any_starves R (does before)) w n
+  why_both acts before (Leaves reason.Unread) n w = absurd w
+  why_both acts before (Leaves reason.NoMemory) n w = starves_both acts before ∙ or_left (any_starves R (does acts)) (any_starves R (does before)) w
+  why_both acts before (Leaves reason.Starved) n w = tt
+  why_both acts before (Leaves reason.Ended) n w = absurd w
+  why_both acts before (Leaves reason.Lost) n w = absurd w
+  why_both acts before (Leaves reason.Cut) n w = absurd w
+  why_both acts before (Leaves reason.Full) n w = absurd w
+  why_both acts before (Leaves reason.SentWhole) n w = absurd w
+  why_both acts before (Leaves reason.SendFailed) n w = absurd w
+
+  -- requests behind requests
+  pub did_then : (xs ys : List Line) (mine mid mine' : List Entry) (said saying said' : List ℕ) (fate : Fate) → Did number lists c xs mine mid said saying Stays
+      → Did number lists c ys mid mine' saying said' fate → Did number lists c (xs ++ ys) mine mine' said said' fate
+  did_then xs ys mine mid mine' said saying said' fate h k = record {
+    acts = k.acts ++ h.acts;
+    mine_is = k.mine_is ∙ ap (with_acts R c k.acts) h.mine_is ∙ sym (entries_both k.acts h.acts mine);
+    begins = (
+      k.begins.0,
+      ap (λ ls. ls ++ ys) (h.asked_is refl) ∙ ap (λ ls. asked R (does h.acts) ++ ls) k.begins.1 ∙ sym (append_assoc (asked R (does h.acts)) (asked R (does k.acts)) k.begins.0)
+          ∙ ap (λ ls. ls ++ k.begins.0) (sym (asked_both k.acts h.acts)),
+    );
+    fits = fits_both k.acts h.acts k.fits h.fits;
+    why = why_both k.acts h.acts fate h.why k.why;
+    said_is = λ e. k.said_is e ∙ ap (λ xs. xs ++ text R (does k.acts)) (h.said_is refl) ∙ append_assoc said (text R (does h.acts)) (text R (does k.acts))
+        ∙ ap (λ xs. said ++ xs) (sym (text_both k.acts h.acts));
+    asked_is = λ e. ap (λ ls. ls ++ ys) (h.asked_is refl) ∙ ap (λ ls. asked R (does h.acts) ++ ls) (k.asked_is e) ∙ sym (asked_both k.acts h.acts);
+    whole = λ e. whole_both k.acts h.acts (k.whole e) (h.whole refl);
+  }
+
+  -- more requests that are not done
+  did_cut : (xs ys : List Line) (mine mine' : List Entry) (said said' : List ℕ) (fate : Fate) → keeps fate ≡ false → Did number lists c xs mine mine' said said' fate
+      → Did number lists c (xs ++ ys) mine mine' said said' fate
+  did_cut xs ys mine mine' said said' fate n h = record {
+    acts = h.acts;
+    mine_is = h.mine_is;
+    begins = (h.begins.0 ++ ys, ap (λ ls. ls ++ ys) h.begins.1 ∙ append_assoc (asked R (does h.acts)) h.begins.0 ys);
+    fits = h.fits;
+    why = h.why;
+    said_is = λ k. clash (sym k ∙ n);
+    asked_is = λ k. clash (sym k ∙ n);
+    whole = λ k. clash (sym k ∙ n);
+  }
+
+  -- how a request leaves a session
+  pub done_same : (lines : List Line) (mine mine' : List Entry) (said said' : List ℕ) (fate : Fate) → Did number lists c lines mine mine' said said' fate
+      → Did number lists c lines mine mine' said said' (as_done fate)
+  done_same lines mine mine' said said' Stays h = h
+  done_same lines mine mine' said said' (Leaves reason.Unread) h = absurd h.why
+  done_same lines mine mine' said said' (Leaves reason.NoMemory) h = h
+  done_same lines mine mine' said said' (Leaves reason.Starved) h = h
+  done_same lines mine mine' said said' (Leaves reason.Ended) h = h
+  done_same lines mine mine' said said' (Leaves reason.Lost) h = h
+  done_same lines mine mine' said said' (Leaves reason.Cut) h = h
+  done_same lines mine mine' said said' (Leaves reason.Full) h = h
+  done_same lines mine mine' said said' (Leaves reason.SentWhole) h = h
+  done_same lines mine mine' said said' (Leaves reason.SendFailed) h = h
+
+  pub not_long : (acts : List Act) (fate : Fate) → DoneWhy number lists c acts fate → LongWhy false fate
+  not_long acts Stays h = refl
+  not_long acts (Leaves reason.Unread) h = absurd h
+  not_long acts (Leaves reason.NoMemory) h = tt
+  not_long acts (Leaves reason.Starved) h = tt
+  not_long acts (Leaves reason.Ended) h = absurd h
+  not_long acts (Leaves reason.Lost) h = absurd h
+  not_long acts (Leaves reason.Cut) h = absurd h
+  not_long acts (Leaves reason.Full) h = absurd h
+  not_long acts (Leaves reason.SentWhole) h = absurd h
+  not_long acts (Leaves reason.SendFailed) h = absurd h
+
+  pub too_long : (acts : List Act) (fate : Fate) → (fate ≡ Stays → ⊥) → DoneWhy number lists c acts fate → LongWhy true fate
+  too_long acts Stays n h = absurd (n refl)
+  too_long acts (Leaves reason.Unread) n h = absurd h
+  too_long acts (Leaves reason.NoMemory) n h = tt
+  too_long acts (Leaves reason.Starved) n h = tt
+  too_long acts (Leaves reason.Ended) n h = absurd h
+  too_long acts (Leaves reason.Lost) n h = absurd h
+  too_long acts (Leaves reason.Cut) n h = absurd h
+  too_long acts (Leaves reason.Full) n h = absurd h
+  too_long acts (Leaves reason.SentWhole) n h = absurd h
+  too_long acts (Leaves reason.SendFailed) n h = absurd h
+
+  -- ---- bytes
+
+  pub heeds_none : (part : List ℕ) (mine : List Entry) (said : List ℕ) → Heeds number lists c part [] mine mine part said said Stays
+  heeds_none part mine said = record { did = did_none mine said; why = refl; part_is = λ _. refl }
+
+  -- bytes behind bytes
+  pub heeds_then : (part mid part' xs ys : List ℕ) (mine min2 mine' : List Entry) (said saying said' : List ℕ) (fate : Fate) → Heeds number lists c part xs mine min2 mid said saying Stays
+      → Heeds number lists c mid ys min2 mine' part' saying said' fate → Heeds number lists c part (xs ++ ys) mine mine' part' said said' fate
+  heeds_then part mid part' xs ys mine min2 mine' said saying said' fate h k =
+      let r = read_on (begun part) xs in
+      let s = read_on (begun mid) ys in
+      let is : read_on (begun part) (xs ++ ys) ≡ read_on r ys = read_both (begun part) xs ys in
+      let lines : wants (read_on (begun part) (xs ++ ys)) ≡ wants r ++ wants s =
+      ap wants is ∙ wants_more r ys h.why ∙ ap (λ p. wants r ++ wants (read_on (begun p) ys)) (sym (h.part_is refl)) in
+      let rest = is ∙ read_more r ys h.why in
+      record {
+        did = subst (λ ls. Did number lists c ls mine mine' said said' (as_done fate)) (sym lines) (did_then (wants r) (wants s) mine min2 mine' said saying said' (as_done fate) h.did k.did);
+        why = subst (λ b. LongWhy b fate) (sym (ap (λ (v : Reading). v.long) rest ∙ ap (λ p. (read_on (begun p) ys).long) (sym (h.part_is refl)))) k.why;
+        part_is = λ e. k.part_is e ∙ sym (ap (λ (v : Reading). v.part) rest ∙ ap (λ p. (read_on (begun p) ys).part) (sym (h.part_is refl)));
+      }
+
+  heeds_cut : (part part' xs ys : List ℕ) (mine mine' : List Entry) (said said' : List ℕ) (fate : Fate) → keeps (as_done fate) ≡ false → keeps fate ≡ false → ((b : Bool) → LongWhy b fate)
+      → Heeds number lists c part xs mine mine' part' said said' fate → Heeds number lists c part (xs ++ ys) mine mine' part' said said' fate
+  heeds_cut part part' xs ys mine mine' said said' fate n m w h =
+      let r = read_on (begun part) xs in
+      let more = wants_begin r ys in
+      record {
+        did = subst (λ ls. Did number lists c ls mine mine' said said' (as_done fate)) (sym (ap wants (read_both (begun part) xs ys) ∙ more.1)) (did_cut (wants r) more.0 mine mine' said said' (as_done fate) n h.did);
+        why = w (read_on (begun part) (xs ++ ys)).long;
+        part_is = λ k. clash (sym k ∙ m);
+      }
+
+  heeds_long : (part part' xs ys : List ℕ) (mine mine' : List Entry) (said said' : List ℕ) → Heeds number lists c part xs mine mine' part' said said' (Leaves reason.Unread)
+      → Heeds number lists c part (xs ++ ys) mine mine' part' said said' (Leaves reason.Unread)
+  heeds_long part part' xs ys mine mine' said said' h =
+      let r = read_on (begun part) xs in
+      let is : read_on (begun part) (xs ++ ys) ≡ r = read_both (begun part) xs ys ∙ read_shut r ys h.why in
+      record {
+        did = subst (λ (v : Reading). Did number lists c (wants v) mine mine' said said' Stays) (sym is) h.did;
+        why = ap (λ (v : Reading). v.long) is ∙ h.why;
+        part_is = λ k. h.part_is k ∙ sym (ap (λ (v : Reading). v.part) is);
+      }
+
+  -- the bytes behind those at which a session was ended are not read
+  pub heeds_rest : (part part' xs ys : List ℕ) (mine mine' : List Entry) (said said' : List ℕ) (fate : Fate) → (fate ≡ Stays → ⊥) → Heeds number lists c part xs mine mine' part' said said' fate
+      → Heeds number lists c part (xs ++ ys) mine mine' part' said said' fate
+  heeds_rest part part' xs ys mine mine' said said' Stays n h = absurd (n refl)
+  heeds_rest part part' xs ys mine mine' said said' (Leaves reason.Unread) n h = heeds_long part part' xs ys mine mine' said said' h
+  heeds_rest part part' xs ys mine mine' said said' (Leaves reason.NoMemory) n h = heeds_cut part part' xs ys mine mine' said said' (Leaves reason.NoMemory) refl refl (λ b. tt) h
+  heeds_rest part part' xs ys mine mine' said said' (Leaves reason.Starved) n h = heeds_cut part part' xs ys mine mine' said said' (Leaves reason.Starved) refl refl (λ b. tt) h
+  heeds_rest part part' xs ys mine mine' said said' (Leaves reason.Ended) n h = absurd h.why
+  heeds_rest part part' xs ys mine mine' said said' (Leaves reason.Lost) n h = absurd h.why
+  heeds_rest part part' xs ys mine mine' said said' (Leaves reason.Cut) n h = absurd h.why
+  heeds_rest part part' xs ys mine mine' said said' (Leaves reason.Full) n h = absurd h.why
+  heeds_rest part part' xs ys mine mine' said said' (Leaves reason.SentWhole) n h = absurd h.why
+  heeds_rest part part' xs ys mine mine' said said' (Leaves reason.SendFailed) n h = absurd h.why
+
+  -- one byte behind a part of a line
+  pub heeds_line : (part : List ℕ) (b : ℕ) (mine mine' : List Entry) (said said' : List ℕ) (fate : Fate) → b ≡ 10 → Did number lists c (line_in part ∷ []) mine mine' said said' fate
+      → Heeds number lists c part (b ∷ []) mine mine' [] said said' fate
+  heeds_line part b mine mine' said said' fate e h =
+      subst (λ x. Heeds number lists c part (x ∷ []) mine mine' [] said said' fate) (sym e)
+      (record { did = done_same (line_in part ∷ []) mine mine' said said' fate h; why = not_long h.acts fate h.why; part_is = λ _. refl })
+
+  byte_long : (part : List ℕ) (b : ℕ) → (b ≡ 10 → ⊥) → nat_lt (length part) 64 ≡ false → read_on (begun part) (b ∷ []) ≡ record { lines = []; part = part; long = true }
+  byte_long part b n l =
+      ap (λ v. cond v (record { lines = part ∷ []; part = []; long = false }) (cond (nat_lt (length part) 64) (record { lines = []; part = part ++ b ∷ []; long = false }) (record { lines = []; part = part; long = true })))
+      (ne_eqb b 10 n)
+      ∙ ap (λ v. cond v (record { lines = []; part = part ++ b ∷ []; long = false }) (record { lines = []; part = part; long = true })) l
+
+  byte_more : (part : List ℕ) (b : ℕ) → (b ≡ 10 → ⊥) → nat_lt (length part) 64 ≡ true → read_on (begun part) (b ∷ []) ≡ begun (part ++ b ∷ [])
+  byte_more part b n l =
+      ap (λ v. cond v (record { lines = part ∷ []; part = []; long = false }) (cond (nat_lt (length part) 64) (begun (part ++ b ∷ [])) (record { lines = []; part = part; long = true })))
+      (ne_eqb b 10 n)
+      ∙ ap (λ v. cond v (begun (part ++ b ∷ [])) (record { lines = []; part = part; long = true })) l
+
+  pub heeds_end : (part : List ℕ) (b : ℕ) (mine : List Entry) (said said' : List ℕ) (fate : Fate) → (b ≡ 10 → ⊥) → nat_lt (length part) 64 ≡ false
+      → Did number lists c (line.Bad ∷ []) mine mine said said' (as_done fate) → LongWhy true fate → Heeds number lists c part (b ∷ []) mine mine part said said' fate
+  heeds_end part b mine said said' fate n l h w =
+      let is = byte_long part b n l in
+      record {
+        did = subst (λ (v : Reading). Did number lists c (wants v) mine mine said said' (as_done fate)) (sym is) h;
+        why = subst (λ (v : Reading). LongWhy v.long fate) (sym is) w;
+        part_is = λ _. sym (ap (λ (v : Reading). v.part) is);
+      }
+
+  heeds_byte : (part : List ℕ) (b : ℕ) (mine : List Entry) (said : List ℕ) → (b ≡ 10 → ⊥) → nat_lt (length part) 64 ≡ true → Heeds number lists c part (b ∷ []) mine mine (part ++ b ∷ []) said said Stays
+  heeds_byte part b mine said n l =
+      let is = byte_more part b n l in
+      record {
+        did = subst (λ (v : Reading). Did number lists c (wants v) mine mine said said Stays) (sym is) (did_none mine said);
+        why = ap (λ (v : Reading). v.long) is;
+        part_is = λ _. sym (ap (λ (v : Reading). v.part) is);
+      }
+
+  pub heeds_lost : (part part' bytes : List ℕ) (mine : List Entry) (said said' : List ℕ) → Heeds number lists c part bytes mine mine part' said said' (Leaves reason.Starved)
+  heeds_lost part part' bytes mine said said' =
+      record { did = did_worn (wants (read_on (begun part) bytes)) mine mine said said' refl; why = tt; part_is = λ k. clash (sym k) }
+
+  pub heeds_kept : (part part' : List ℕ) (b : ℕ) (mine : List Entry) (said : List ℕ) (fate : Fate) → (b ≡ 10 → ⊥) → nat_lt (length part) 64 ≡ true → Says (b ∷ []) part part' fate
+      → Heeds number lists c part (b ∷ []) mine mine part' said said fate
+  heeds_kept part part' b mine said fate n l (Said q e) =
+      subst (Heeds number lists c part (b ∷ []) mine mine part' said said) (sym q)
+      (subst (λ p. Heeds number lists c part (b ∷ []) mine mine p said said Stays) (sym e) (heeds_byte part b mine said n l))
+  heeds_kept part part' b mine said fate n l (Lacks q) =
+      subst (Heeds number lists c part (b ∷ []) mine mine part' said said) (sym q) (heeds_lost part part' (b ∷ []) mine said said)
+
+  -- one byte more of a piece
+  pub heeds_on : (part mid part' piece : List ℕ) (i d : ℕ) (mine min2 mine' : List Entry) (said saying said' : List ℕ) (fate : Fate) → i < length piece
+      → Heeds number lists c part (take i piece) mine min2 mid said saying Stays → Heeds number lists c mid (get_or piece i d ∷ []) min2 mine' part' saying said' fate
+      → Heeds number lists c part (take (i + 1) piece) mine mine' part' said said' fate
+  heeds_on part mid part' piece i d mine min2 mine' said saying said' fate l h k =
+      subst (λ xs. Heeds number lists c part xs mine mine' part' said said' fate) (sym (take_at_read piece i d l).1)
+      (heeds_then part mid part' (take i piece) (get_or piece i d ∷ []) mine min2 mine' said saying said' fate h k)
+
+  -- the last byte that is read of a piece
+  pub heeds_stop : (part mid part' piece : List ℕ) (i d : ℕ) (mine min2 mine' : List Entry) (said saying said' : List ℕ) (fate : Fate) → i < length piece → (fate ≡ Stays → ⊥)
+      → Heeds number lists c part (take i piece) mine min2 mid said saying Stays → Heeds number lists c mid (get_or piece i d ∷ []) min2 mine' part' saying said' fate
+      → Heeds number lists c part piece mine mine' part' said said' fate
+  heeds_stop part mid part' piece i d mine min2 mine' said saying said' fate l n h k =
+      subst (λ xs. Heeds number lists c part xs mine mine' part' said said' fate) (take-append-drop (i + 1) piece)
+      (heeds_rest part part' (take (i + 1) piece) (drop (i + 1) piece) mine mine' said said' fate n (heeds_on part mid part' piece i d mine min2 mine' said saying said' fate l h k))
+
+  -- ---- as the front is asked
+
+  asked_front : (acts : List Act) (ms : List (Move Act)) → asked R (does acts ++ ms) ≡ asked R ms ++ asked R (does acts)
+  asked_front [] ms = sym (append-nil (asked R ms))
+  asked_front (a ∷ acts) ms = ap (λ ls. ls ++ line_done a ∷ []) (asked_front acts ms) ∙ append_assoc (asked R ms) (asked R (does acts)) (line_done a ∷ [])
+
+  text_front : (acts : List Act) (ms : List (Move Act)) → text R (does acts ++ ms) ≡ text R ms ++ text R (does acts)
+  text_front [] ms = sym (append-nil (text R ms))
+  text_front (a ∷ acts) ms = ap (λ ls. ls ++ text_of lists a) (text_front acts ms) ∙ append_assoc (text R ms) (text R (does acts)) (text_of lists a)
+
+  fits_front : (acts : List Act) (ms : List (Move Act)) → EachFits R acts [] → EachFits R acts ms
+  fits_front [] ms f = tt
+  fits_front (a ∷ acts) ms f = (f.0, fits_front acts ms f.1)
+
+  whole_front : (acts : List Act) (ms : List (Move Act)) → each_whole R (does acts) ≡ true → each_whole R ms ≡ true → each_whole R (does acts ++ ms) ≡ true
+  whole_front [] ms f g = g
+  whole_front (a ∷ acts) ms f g = and_both (act_whole lists a) (each_whole R (does acts ++ ms)) (first (act_whole lists a) _ f) (whole_front acts ms (second (act_whole lists a) _ f) g)
+    where
+      first : (x y : Bool) → (x && y) ≡ true → x ≡ true
+      first true y h = refl
+      first false y h = clash (sym h)
+
+      second : (x y : Bool) → (x && y) ≡ true → y ≡ true
+      second true y h = h
+      second false y h = clash (sym h)
+
+  why_front : (long : Bool) (given : List ℕ) (acts : List Act) (fate : Fate) → (read_all given).long ≡ long → DoneWhy number lists c acts (as_done fate) → LongWhy long fate → HeardWhy R given (does acts) fate
+  why_front long given acts Stays e d l = (e ∙ l, d)
+  why_front long given acts (Leaves reason.Unread) e d l = (e ∙ l, d)
+  why_front long given acts (Leaves reason.NoMemory) e d l = d
+  why_front long given acts (Leaves reason.Starved) e d l = tt
+  why_front long given acts (Leaves reason.Ended) e d l = absurd d
+  why_front long given acts (Leaves reason.Lost) e d l = absurd d
+  why_front long given acts (Leaves reason.Cut) e d l = absurd d
+  why_front long given acts (Leaves reason.Full) e d l = absurd d
+  why_front long given acts (Leaves reason.SentWhole) e d l = absurd d
+  why_front long given acts (Leaves reason.SendFailed) e d l = absurd d
+
+  pub heard_by : (piece : List ℕ) (mine mine' : List Entry) (talk talk' : Talk) (said : List ℕ) (fate : Fate) (given : List ℕ) (ms : List (Move Act))
+      → Heeds number lists c talk.part.items piece mine mine' talk'.part.items [] said fate → Knows given ms talk → wants (read_all given) ≡ asked R ms → each_whole R ms ≡ true
+      → (read_all given).long ≡ false → Heard R Knows c piece mine mine' talk' said fate given ms
+  heard_by piece mine mine' talk talk' said fate given ms h k w v l =
+      let r = read_all given in
+      let s = read_on (begun talk.part.items) piece in
+      let is : read_all (given ++ piece) ≡ read_on r piece = read_both (begun []) given piece in
+      let lines : wants (read_all (given ++ piece)) ≡ asked R ms ++ wants s =
+      ap wants is ∙ wants_more r piece l ∙ ap (λ p. wants r ++ wants (read_on (begun p) piece)) (sym k) ∙ ap (λ ls. ls ++ wants s) w in
+      let rest = is ∙ read_more r piece l in
+      let long : (read_all (given ++ piece)).long ≡ s.long = ap (λ (v : Reading). v.long) rest ∙ ap (λ p. (read_on (begun p) piece).long) (sym k) in
+      let part : (read_all (given ++ piece)).part ≡ s.part = ap (λ (v : Reading). v.part) rest ∙ ap (λ p. (read_on (begun p) piece).part) (sym k) in
+      record {
+        acts = h.did.acts;
+        mine_is = h.did.mine_is;
+        begins = inr (
+          h.did.begins.0,
+          lines ∙ ap (λ ls. asked R ms ++ ls) h.did.begins.1 ∙ sym (append_assoc (asked R ms) (asked R (does h.did.acts)) h.did.begins.0)
+              ∙ ap (λ ls. ls ++ h.did.begins.0) (sym (asked_front h.did.acts ms)),
+        );
+        fits = fits_front h.did.acts ms h.did.fits;
+        why = why_front s.long (given ++ piece) h.did.acts fate long h.did.why h.why;
+        said_is = λ e. text_front h.did.acts ms ∙ ap (λ xs. text R ms ++ xs) (sym (h.did.said_is (done_keeps fate e)));
+        asked_is = λ e. lines ∙ ap (λ ls. asked R ms ++ ls) (h.did.asked_is (done_keeps fate e)) ∙ sym (asked_front h.did.acts ms);
+        whole = λ e. whole_front h.did.acts ms (h.did.whole (done_keeps fate e)) v;
+        knows = λ e. h.part_is e ∙ sym part;
+      }

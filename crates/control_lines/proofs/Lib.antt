@@ -1,0 +1,5 @@
+pub mod Texts
+pub mod Streams
+pub mod Deeds
+pub mod Saying
+pub mod Sorts

@@ -1,0 +1,13 @@
+use Rattle.std.proofs.Common.{refl, ◌∷◌, []}
+use Rattle.control_lines.specs.declared.acts.Line.TheVariants as line
+use Rattle.control_lines.specs.declared.acts.Act.TheVariants as act
+use Rattle.control_lines.specs.Control as spec
+use Rattle.control_lines.proofs.Deeds.{did_one, did_worn}
+use Rattle.control_lines.proofs.Saying.{says_answer}
+use Rattle.control_lines.proofs.doing.do_stats.Goals as goal
+
+pub returns-in_default-clause-did : goal.returns-in_default-clause-did
+returns-in_default-clause-did g c = λ front lists conn. did_worn front lists conn (line.Stats ∷ []) _ _ _ _ c.in_default.ensures.takes.0
+
+pub returns-clause-did : goal.returns-clause-did
+returns-clause-did g c = λ front lists conn. did_one front lists conn (act.Counts c.in-Ok.totals) _ _ _ _ c.say_tally.result refl refl c.in-Ok.ensures.takes (says_answer lists (act.Counts c.in-Ok.totals) (spec.tally_text c.in-Ok.totals) _ _ c.say_tally.result refl refl c.say_tally.ensures)

@@ -1,0 +1,3 @@
+pub mod Lines
+pub mod Control
+pub mod inner

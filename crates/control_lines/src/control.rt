@@ -1,0 +1,83 @@
+//! The control front, as one of the three.
+use crate::acts::{Act, Line};
+use crate::hearing::{Talk, hear_piece};
+use expiry_lists::TileList;
+use farm_history::Reply;
+use front_rounds::{Farm, Fate, Front, Worn};
+use std::alloc::Global;
+use std::sync::Wait;
+
+/// The control front of this number, with the tile lists of its `expire N`.
+pub struct Control<'a> {
+    pub front: u32,
+    pub lists: &'a [TileList],
+}
+
+impl<'a, M: Farm> Front<M> for Control<'a> {
+    ghost use Rattle.std.specs.Prelude.{refl};
+    ghost use Rattle.control_lines.specs.Control.{rules_of};
+    ghost use Rattle.control_lines.specs.inner.Doing.{Knows};
+
+    type Talk = Talk;
+
+    type Want = Line;
+
+    type Act = Act;
+
+    ghost rules = { λ control _. rules_of control.front control.lists.now };
+
+    ghost knows = { Knows };
+
+    ghost alone = { λ _ _ _ _. refl };
+
+    fn number(&self, _farm: &M) -> u32 {
+        self.front
+    }
+
+    fn begin(&self, alloc: Global, _farm: &M) -> Talk {
+        Talk {
+            part: Vec::new(alloc),
+        }
+    }
+
+    fn hear<R: Wait>(
+        &self,
+        rt: &R,
+        alloc: Global,
+        farm: &M,
+        seat: &mut M::Seat,
+        _conn: u32,
+        talk: &mut Talk,
+        piece: &[u8],
+        said: &mut Vec<u8>,
+    ) -> Result<Fate, Worn> {
+        hear_piece(
+            rt,
+            alloc,
+            farm,
+            seat,
+            self.lists,
+            &mut talk.part,
+            piece,
+            said,
+        )
+    }
+
+    /// No ask is made, so no reply is for this front.
+    fn reply<R: Wait>(
+        &self,
+        _rt: &R,
+        _alloc: Global,
+        _farm: &M,
+        _seat: &mut M::Seat,
+        _talk: &mut Talk,
+        _reply: Reply,
+        _said: &mut Vec<u8>,
+    ) -> Result<Fate, Worn> {
+        Ok(Fate::Stays)
+    }
+
+    fn is_done(&self, _farm: &M, _talk: &Talk) -> bool {
+        false
+    }
+}

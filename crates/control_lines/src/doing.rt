@@ -1,0 +1,186 @@
+//! What is done at a line.
+ghost use Rattle.std.specs.Prelude.{◌≡◌, ◌∷◌, [], ℕ, List, All, true, OnErr, IfSome, option_copied, slice_get};
+ghost use Rattle.plain_world.specs.World.{IsTile};
+ghost use Rattle.plain_world.specs.declared.world.Tile.{Tile};
+ghost use Rattle.farm_history.specs.Entries.{Entry};
+ghost use Rattle.front_rounds.specs.Calls.{SameSeat};
+ghost use Rattle.front_rounds.specs.Front.{fate_of};
+ghost use Rattle.control_lines.specs.inner.Doing.{Did};
+ghost use Rattle.control_lines.specs.declared.acts.Line.TheVariants as line_is;
+
+use crate::acts::Line;
+use crate::answers::{say, say_expired, say_renew, say_restyle, say_tally, say_update};
+use crate::expiring::expire_all;
+use expiry_lists::TileList;
+use front_rounds::{Farm, Fate, Worn};
+use plain_world::Tile;
+use std::alloc::Global;
+use std::sync::Wait;
+
+fn do_update<R: Wait, M: Farm>(
+    rt: &R,
+    alloc: Global,
+    farm: &M,
+    seat: &mut M::Seat,
+    number: u32,
+    said: &mut Vec<u8>,
+) -> Result<Fate, Worn>
+    requires { (M.seats farm.now).is_seat seat.old }
+    ensures seat { SameSeat (M.seats farm.now) seat.old seat.new }
+    ensures worn { OnErr result ((M.seats farm.now).worn seat.new ≡ true) }
+    ensures did { (front : ℕ) (lists : List (List Tile)) (c : ℕ)
+        → Did front lists c (line_is.Update number ∷ []) ((M.seats farm.now).mine seat.old) ((M.seats farm.now).mine seat.new) said.old.items said.new.items (fate_of result) }
+{
+    let Ok(answer) = farm.update(rt, alloc, seat, number) else {
+        return Err(Worn);
+    };
+    Ok(say_update(alloc, answer, said))
+}
+
+fn do_restyle<R: Wait, M: Farm>(
+    rt: &R,
+    alloc: Global,
+    farm: &M,
+    seat: &mut M::Seat,
+    number: u32,
+    said: &mut Vec<u8>,
+) -> Result<Fate, Worn>
+    requires { (M.seats farm.now).is_seat seat.old }
+    ensures seat { SameSeat (M.seats farm.now) seat.old seat.new }
+    ensures worn { OnErr result ((M.seats farm.now).worn seat.new ≡ true) }
+    ensures did { (front : ℕ) (lists : List (List Tile)) (c : ℕ)
+        → Did front lists c (line_is.Restyle number ∷ []) ((M.seats farm.now).mine seat.old) ((M.seats farm.now).mine seat.new) said.old.items said.new.items (fate_of result) }
+{
+    let Ok(answer) = farm.restyle(rt, seat, number) else {
+        return Err(Worn);
+    };
+    Ok(say_restyle(alloc, answer, said))
+}
+
+fn do_renew<R: Wait, M: Farm>(
+    rt: &R,
+    alloc: Global,
+    farm: &M,
+    seat: &mut M::Seat,
+    number: u32,
+    said: &mut Vec<u8>,
+) -> Result<Fate, Worn>
+    requires { (M.seats farm.now).is_seat seat.old }
+    ensures seat { SameSeat (M.seats farm.now) seat.old seat.new }
+    ensures worn { OnErr result ((M.seats farm.now).worn seat.new ≡ true) }
+    ensures did { (front : ℕ) (lists : List (List Tile)) (c : ℕ)
+        → Did front lists c (line_is.Renew number ∷ []) ((M.seats farm.now).mine seat.old) ((M.seats farm.now).mine seat.new) said.old.items said.new.items (fate_of result) }
+{
+    let Ok(answer) = farm.renew(rt, alloc, seat, number) else {
+        return Err(Worn);
+    };
+    Ok(say_renew(alloc, answer, said))
+}
+
+/// The tiles of the list of this number.
+fn list_at(lists: &[TileList], number: u32) -> Option<&[Tile]>
+    ensures value { option_copied result ≡ slice_get lists.entry.now number }
+    ensures tiles { IfSome result (λ tiles. All IsTile tiles.now) }
+{
+    match lists.get(number as usize) {
+        Some(list) => Some(list.tiles.as_slice()),
+        None => None,
+    }
+}
+
+/// One Expire for each tile of the list, if there is one of that number.
+fn do_expire<R: Wait, M: Farm>(
+    rt: &R,
+    alloc: Global,
+    farm: &M,
+    seat: &mut M::Seat,
+    lists: &[TileList],
+    number: u32,
+    said: &mut Vec<u8>,
+) -> Result<Fate, Worn>
+    requires { (M.seats farm.now).is_seat seat.old }
+    ensures seat { SameSeat (M.seats farm.now) seat.old seat.new }
+    ensures worn { OnErr result ((M.seats farm.now).worn seat.new ≡ true) }
+    ensures did { (front : ℕ) (c : ℕ)
+        → Did front lists.now c (line_is.Expire number ∷ []) ((M.seats farm.now).mine seat.old) ((M.seats farm.now).mine seat.new) said.old.items said.new.items (fate_of result) }
+{
+    let Some(tiles) = list_at(lists, number) else {
+        return Ok(say(said, "no list\n"));
+    };
+    let Ok(total) = expire_all(rt, farm, seat, tiles) else {
+        return Err(Worn);
+    };
+    Ok(say_expired(alloc, total, said))
+}
+
+fn do_stats<R: Wait, M: Farm>(
+    rt: &R,
+    alloc: Global,
+    farm: &M,
+    seat: &mut M::Seat,
+    said: &mut Vec<u8>,
+) -> Result<Fate, Worn>
+    requires { (M.seats farm.now).is_seat seat.old }
+    ensures seat { SameSeat (M.seats farm.now) seat.old seat.new }
+    ensures worn { OnErr result ((M.seats farm.now).worn seat.new ≡ true) }
+    ensures did { (front : ℕ) (lists : List (List Tile)) (c : ℕ)
+        → Did front lists c (line_is.Stats ∷ []) ((M.seats farm.now).mine seat.old) ((M.seats farm.now).mine seat.new) said.old.items said.new.items (fate_of result) }
+{
+    let Ok(totals) = farm.tally(rt, seat) else {
+        return Err(Worn);
+    };
+    Ok(say_tally(alloc, totals, said))
+}
+
+fn do_stop<R: Wait, M: Farm>(
+    rt: &R,
+    farm: &M,
+    seat: &mut M::Seat,
+    said: &mut Vec<u8>,
+) -> Result<Fate, Worn>
+    requires { (M.seats farm.now).is_seat seat.old }
+    ensures seat { SameSeat (M.seats farm.now) seat.old seat.new }
+    ensures worn { OnErr result ((M.seats farm.now).worn seat.new ≡ true) }
+    ensures did { (front : ℕ) (lists : List (List Tile)) (c : ℕ)
+        → Did front lists c (line_is.Stop ∷ []) ((M.seats farm.now).mine seat.old) ((M.seats farm.now).mine seat.new) said.old.items said.new.items (fate_of result) }
+{
+    let Ok(()) = farm.stop(rt, seat) else {
+        return Err(Worn);
+    };
+    Ok(say(said, "stopping\n"))
+}
+
+/// A line that is none.
+pub fn do_bad(said: &mut Vec<u8>) -> Fate
+    ensures { (front : ℕ) (lists : List (List Tile)) (c : ℕ) (mine : List Entry)
+        → Did front lists c (line_is.Bad ∷ []) mine mine said.old.items said.new.items result }
+{
+    say(said, "bad line\n")
+}
+
+/// Does what a line asks for, and says the answer.
+pub fn do_line<R: Wait, M: Farm>(
+    rt: &R,
+    alloc: Global,
+    farm: &M,
+    seat: &mut M::Seat,
+    lists: &[TileList],
+    line: Line,
+    said: &mut Vec<u8>,
+) -> Result<Fate, Worn>
+    requires { (M.seats farm.now).is_seat seat.old }
+    ensures seat { SameSeat (M.seats farm.now) seat.old seat.new }
+    ensures worn { OnErr result ((M.seats farm.now).worn seat.new ≡ true) }
+    ensures did { (front : ℕ) (c : ℕ)
+        → Did front lists.now c (line ∷ []) ((M.seats farm.now).mine seat.old) ((M.seats farm.now).mine seat.new) said.old.items said.new.items (fate_of result) }
+{
+    match line {
+        Line::Update(number) => do_update(rt, alloc, farm, seat, number, said),
+        Line::Restyle(number) => do_restyle(rt, alloc, farm, seat, number, said),
+        Line::Renew(number) => do_renew(rt, alloc, farm, seat, number, said),
+        Line::Expire(number) => do_expire(rt, alloc, farm, seat, lists, number, said),
+        Line::Stats => do_stats(rt, alloc, farm, seat, said),
+        Line::Stop => do_stop(rt, farm, seat, said),
+        Line::Bad => Ok(do_bad(said)),
+    }
+}

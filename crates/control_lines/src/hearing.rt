@@ -1,0 +1,110 @@
+//! Bytes are read, and the lines that become whole by them are done.
+ghost use Rattle.std.specs.Prelude.{◌≡◌, ◌∷◌, [], ℕ, List, true, OnErr, length, nat_lt};
+ghost use Rattle.front_rounds.specs.Calls.{SameSeat};
+ghost use Rattle.front_rounds.specs.Front.{fate_of};
+ghost use Rattle.plain_world.specs.declared.world.Tile.{Tile};
+ghost use Rattle.farm_history.specs.Entries.{Entry};
+ghost use Rattle.control_lines.specs.declared.acts.Line.TheVariants as line_is;
+ghost use Rattle.control_lines.specs.inner.Doing.{Did, LongWhy, Says, as_done, Heeds};
+
+use crate::doing::{do_bad, do_line};
+use crate::lines::line_in;
+use expiry_lists::TileList;
+use front_rounds::{Farm, Fate, Reason, Worn};
+use std::alloc::Global;
+use std::sync::Wait;
+
+/// The most bytes of a line, without its newline.
+const LONGEST: usize = 64;
+
+/// What is kept of a session: the part of the line that has not ended.
+#[derive(Drop)]
+pub struct Talk {
+    pub part: Vec<u8>,
+}
+
+/// A line that is too long is answered, and its connection is read no more.
+fn too_long(said: &mut Vec<u8>) -> Fate
+    ensures did { (front : ℕ) (lists : List (List Tile)) (c : ℕ) (mine : List Entry)
+        → Did front lists c (line_is.Bad ∷ []) mine mine said.old.items said.new.items (as_done result) }
+    ensures long { LongWhy true result }
+{
+    match do_bad(said) {
+        Fate::Stays => Fate::Leaves(Reason::Unread),
+        Fate::Leaves(why) => Fate::Leaves(why),
+    }
+}
+
+/// Whether a line that begins so may have another byte.
+fn is_short(part: &Vec<u8>) -> bool
+    ensures { result ≡ nat_lt (length part.now.items) 64 }
+{
+    part.as_slice().len() < LONGEST
+}
+
+/// Puts a byte behind a part of a line, if there is memory for it.
+fn keep(part: &mut Vec<u8>, byte: u8) -> Fate
+    ensures { Says (byte ∷ []) part.old.items part.new.items result }
+{
+    match part.push(byte) {
+        Ok(()) => Fate::Stays,
+        Err(_) => Fate::Leaves(Reason::Starved),
+    }
+}
+
+/// One byte behind a part of a line.
+fn take_byte<R: Wait, M: Farm>(
+    rt: &R,
+    alloc: Global,
+    farm: &M,
+    seat: &mut M::Seat,
+    lists: &[TileList],
+    part: &mut Vec<u8>,
+    byte: u8,
+    said: &mut Vec<u8>,
+) -> Result<Fate, Worn>
+    requires { (M.seats farm.now).is_seat seat.old }
+    ensures seat { SameSeat (M.seats farm.now) seat.old seat.new }
+    ensures worn { OnErr result ((M.seats farm.now).worn seat.new ≡ true) }
+    ensures heeds { (front : ℕ) (c : ℕ)
+        → Heeds front lists.now c part.old.items (byte ∷ []) ((M.seats farm.now).mine seat.old) ((M.seats farm.now).mine seat.new) part.new.items said.old.items said.new.items (fate_of result) }
+{
+    if byte == b'\n' {
+        let line = line_in(part.as_slice());
+        part.clear();
+        return do_line(rt, alloc, farm, seat, lists, line, said);
+    }
+    if is_short(part) {
+        return Ok(keep(part, byte));
+    }
+    Ok(too_long(said))
+}
+
+/// A piece of bytes behind a part of a line.
+pub fn hear_piece<R: Wait, M: Farm>(
+    rt: &R,
+    alloc: Global,
+    farm: &M,
+    seat: &mut M::Seat,
+    lists: &[TileList],
+    part: &mut Vec<u8>,
+    piece: &[u8],
+    said: &mut Vec<u8>,
+) -> Result<Fate, Worn>
+    requires { (M.seats farm.now).is_seat seat.old }
+    ensures seat { SameSeat (M.seats farm.now) seat.old seat.new }
+    ensures worn { OnErr result ((M.seats farm.now).worn seat.new ≡ true) }
+    ensures heeds { (front : ℕ) (c : ℕ)
+        → Heeds front lists.now c part.old.items piece.now ((M.seats farm.now).mine seat.old) ((M.seats farm.now).mine seat.new) part.new.items said.old.items said.new.items (fate_of result) }
+{
+    for byte in piece {
+        let Ok(fate) = take_byte(rt, alloc, farm, seat, lists, part, *byte, said) else {
+            return Err(Worn);
+        };
+        match fate {
+            Fate::Stays => {}
+            Fate::Leaves(why) => return Ok(Fate::Leaves(why)),
+        }
+    }
+    Ok(Fate::Stays)
+}

@@ -1,0 +1,77 @@
+//! What a line says.
+ghost use Rattle.std.specs.Prelude.{◌≡◌, option_map};
+ghost use Rattle.std.specs.Str.Lines.{strip_carriage_return};
+ghost use Rattle.control_lines.specs.Lines as spec;
+
+use crate::acts::Line;
+use line_words::{cut, small_number};
+use std::str;
+
+/// The line of this name with these words behind it.
+#[tactic(auto, unfolding(crate::specs::Lines::line_named))]
+fn named(name: &str, words: &str) -> Line
+    ensures { result ≡ spec.line_named name.now words.now }
+{
+    let Some(number) = small_number(words) else {
+        return Line::Bad;
+    };
+    match name {
+        "update" => Line::Update(number),
+        "restyle" => Line::Restyle(number),
+        "renew" => Line::Renew(number),
+        "expire" => Line::Expire(number),
+        _ => Line::Bad,
+    }
+}
+
+/// The line that is one word.
+#[tactic(auto, unfolding(crate::specs::Lines::line_alone))]
+fn alone(word: &str) -> Line
+    ensures { result ≡ spec.line_alone word.now }
+{
+    match word {
+        "stats" => Line::Stats,
+        "stop" => Line::Stop,
+        _ => Line::Bad,
+    }
+}
+
+#[tactic(auto, unfolding(crate::specs::Lines::line_of))]
+fn line_of(text: &str) -> Line
+    ensures { result ≡ spec.line_of text.now }
+{
+    match cut(text, ' ') {
+        Some((name, words)) => named(name, words),
+        None => alone(text),
+    }
+}
+
+#[tactic(auto, unfolding(crate::specs::Lines::text_of), using(crate::proofs::Texts::text_known, crate::proofs::Texts::text_unknown))]
+fn text(bytes: &[u8]) -> Option<&str>
+    ensures { option_map (λ s. s.now) result ≡ spec.text_of bytes.entry.now }
+{
+    match str::from_utf8(bytes) {
+        Ok(text) => Some(text),
+        Err(_) => None,
+    }
+}
+
+/// The line without the carriage return at its end, if it has one.
+fn without_return(line: &[u8]) -> &[u8]
+    ensures { result.now ≡ strip_carriage_return line.entry.now }
+{
+    match line {
+        [front @ .., b'\r'] => front,
+        _ => line,
+    }
+}
+
+/// What a line says, whose newline is not among the bytes.
+pub fn line_in(bytes: &[u8]) -> Line
+    ensures { result ≡ spec.line_in bytes.now }
+{
+    match text(without_return(bytes)) {
+        Some(text) => line_of(text),
+        None => Line::Bad,
+    }
+}

@@ -1,0 +1,4 @@
+pub mod Maps
+pub mod Plans
+pub mod Steps
+pub mod Whole

@@ -1,0 +1,247 @@
+-- What a configuration's files say is a plan that a farm may be started with.
+use Rattle.std.proofs.Common.{◌≡◌, ℕ, zero, suc, ◌<◌, ◌≤◌, inl, inr, Bool, true, false, not, ◌&&◌, ◌||◌, ◌==◌, List, [], ◌∷◌, ◌++◌, length, All, refl, sym, ap, subst, ◌∙◌, arith}
+use Rattle.std.specs.Prelude.{Some, slice_get, nat_le}
+use Rattle.std.specs.List.{list_all}
+use Rattle.std.specs.Str.{bytes_eq}
+use Rattle.std.proofs.lemmas.Bool.Decides.{nat_tests}
+use Rattle.std.proofs.lemmas.List.Elements.{All-cons, All-nil}
+use Rattle.std.proofs.lemmas.Slice.Eq.{bytes_eq-Decides}
+use Rattle.plain_world.specs.World.{IsTileSize}
+use Rattle.farm_base.specs.Earlier.{each_after}
+use Rattle.tile_paths.specs.Paths.{IsName, is_name_byte}
+use Rattle.farm_history.specs.declared.queues.Limits.{Limits}
+use Rattle.farm_history.proofs.Lists.{any-append}
+use Rattle.geo_json.specs.DataTexts.{dataset_in}
+use Rattle.fault_texts.specs.DataFaults.{data_text}
+use Rattle.farm_config.specs.Configs.{MapEntry, Config, is_map_name, is_tile_size, is_limit_to, are_limits, map_has, map_fits, restyle_known, IsConfig}
+use Rattle.farm_config.specs.declared.config.RestyleEntry.{RestyleEntry}
+use Rattle.farm_plan.specs.Plans.{MapPlan, Restyle, IsMapPlan, HasNamesApart, IsFrom1, AreLimits, NamesMap, IsPlan}
+use Rattle.input_files.specs.Course.{Course, made, ◌>>=◌, file, each}
+use Rattle.input_files.proofs.Courses.{Could, could_parts}
+use Rattle.map_files.specs.Courses.{style_course}
+use Rattle.farm_files.specs.Courses.{map_course, restyle_course, update_course, list_course, inputs_course, map_course_by, restyle_course_by, inputs_course_by}
+use Rattle.farm_files.specs.Inputs.{FarmInputs}
+use Rattle.farm_files.proofs.Steps.{with_maps, with_restyles, with_layers, with_updates, inputs_with}
+
+-- ---- tests
+
+and_left : (a b : Bool) → (a && b) ≡ true → a ≡ true
+and_left true b h = refl
+and_left false b h = absurd (cc)
+
+and_right : (a b : Bool) → (a && b) ≡ true → b ≡ true
+and_right true b h = h
+and_right false b h = absurd (cc)
+
+not_true : (b : Bool) → not b ≡ true → b ≡ false
+not_true true h = absurd (cc)
+not_true false h = refl
+
+or_left : (a b : Bool) → (a || b) ≡ false → a ≡ false
+or_left true b h = absurd (cc)
+or_left false b h = refl
+
+or_right : (a b : Bool) → (a || b) ≡ false → b ≡ false
+or_right true b h = absurd (cc)
+or_right false b h = h
+
+-- ---- lists that were made one by one
+
+-- as many things are made as there are files
+each_length : {A V : Type 0} (course : A → Course V) (xs : List A) (ys : List V) → Could (each course xs) ys → length ys ≡ length xs
+each_length course [] ys h = ap length h
+each_length course (x ∷ xs) ys h =
+    let one = could_parts (course x) (λ y. each course xs >>= λ zs. made (y ∷ zs)) ys h in
+    let rest = could_parts (each course xs) (λ zs. made (one.0 ∷ zs)) ys one.2 in
+    ap length rest.2 ∙ ap (λ (n : ℕ). suc n) (each_length course xs rest.0 rest.1)
+
+-- what a map of the plan has of its entry
+abbrev IsOf : MapEntry → MapPlan → Type 0
+IsOf m p = (p.name ≡ m.name) × (p.tile ≡ m.tile) × (p.max_zoom ≡ m.max_zoom)
+
+abbrev AreOf : List MapEntry → List MapPlan → Type 0
+AreOf [] [] = Unit {0}
+AreOf [] (p ∷ ps) = ⊥
+AreOf (m ∷ ms) [] = ⊥
+AreOf (m ∷ ms) (p ∷ ps) = IsOf m p × AreOf ms ps
+
+map_of : (m : MapEntry) (p : MapPlan) → Could (map_course m) p → IsOf m p
+unfolding map_course_by
+map_of m p h =
+    let is = (could_parts (style_course m.style) (λ style. made (record { name = m.name; style = style; tile = m.tile; max_zoom = m.max_zoom })) p h).2 in
+    (ap (λ (q : MapPlan). q.name) is, ap (λ (q : MapPlan). q.tile) is, ap (λ (q : MapPlan). q.max_zoom) is)
+
+maps_of : (ms : List MapEntry) (ps : List MapPlan) → Could (each map_course ms) ps → AreOf ms ps
+maps_of [] ps h = subst (λ (qs : List MapPlan). AreOf [] qs) (sym h) tt
+maps_of (m ∷ ms) ps h =
+    let one = could_parts (map_course m) (λ y. each map_course ms >>= λ zs. made (y ∷ zs)) ps h in
+    let rest = could_parts (each map_course ms) (λ zs. made (one.0 ∷ zs)) ps one.2 in
+    subst (λ (qs : List MapPlan). AreOf (m ∷ ms) qs) (sym rest.2) (map_of m one.0 one.1, maps_of ms rest.0 rest.1)
+
+-- ---- maps that fit
+
+size_of : (n : ℕ) → is_tile_size n ≡ true → IsTileSize n
+size_of n h = go (n == 16) (n == 32) (n == 64) (n == 128) (n == 256) (n == 512) refl refl refl refl refl refl h
+  where
+    go : (a b c d e f : Bool) → (n == 16) ≡ a → (n == 32) ≡ b → (n == 64) ≡ c → (n == 128) ≡ d → (n == 256) ≡ e → (n == 512) ≡ f → (a || b || c || d || e || f) ≡ true → IsTileSize n
+    go true b c d e f ha hb hc hd he hf t = inl (let is : n ≡ 16 = grind (arith, nat_tests) in is)
+    go false true c d e f ha hb hc hd he hf t = inr (inl (let is : n ≡ 32 = grind (arith, nat_tests) in is))
+    go false false true d e f ha hb hc hd he hf t = inr (inr (inl (let is : n ≡ 64 = grind (arith, nat_tests) in is)))
+    go false false false true e f ha hb hc hd he hf t = inr (inr (inr (inl (let is : n ≡ 128 = grind (arith, nat_tests) in is))))
+    go false false false false true f ha hb hc hd he hf t = inr (inr (inr (inr (inl (let is : n ≡ 256 = grind (arith, nat_tests) in is)))))
+    go false false false false false true ha hb hc hd he hf t = inr (inr (inr (inr (inr (let is : n ≡ 512 = grind (arith, nat_tests) in is)))))
+    go false false false false false false ha hb hc hd he hf t = absurd (cc)
+
+-- the four tests of a map behind others
+record Fits (before : List MapEntry) (m : MapEntry) : Type 0 where
+  named : is_map_name m.name ≡ true
+  sized : is_tile_size m.tile ≡ true
+  zooms : nat_le m.max_zoom 18 ≡ true
+  apart : map_has m.name before ≡ false
+
+fits_of : (before : List MapEntry) (m : MapEntry) → map_fits before m ≡ true → Fits before m
+fits_of before m h =
+    let three = and_left (is_map_name m.name && is_tile_size m.tile && nat_le m.max_zoom 18) (not (map_has m.name before)) h in
+    let two = and_left (is_map_name m.name && is_tile_size m.tile) (nat_le m.max_zoom 18) three in
+    record {
+      named = and_left (is_map_name m.name) (is_tile_size m.tile) two;
+      sized = and_right (is_map_name m.name) (is_tile_size m.tile) two;
+      zooms = and_right (is_map_name m.name && is_tile_size m.tile) (nat_le m.max_zoom 18) three;
+      apart = not_true (map_has m.name before) (and_right (is_map_name m.name && is_tile_size m.tile && nat_le m.max_zoom 18) (not (map_has m.name before)) h);
+    }
+
+name_of : (name : List ℕ) → is_map_name name ≡ true → IsName name
+name_of name h =
+    let two = and_left (nat_le 1 (length name) && nat_le (length name) 40) (list_all is_name_byte name) h in
+    let low = and_left (nat_le 1 (length name)) (nat_le (length name) 40) two in
+    let high = and_right (nat_le 1 (length name)) (nat_le (length name) 40) two in
+    record {
+      some = grind (arith, nat_tests);
+      short = grind (arith, nat_tests);
+      plain = and_right (nat_le 1 (length name) && nat_le (length name) 40) (list_all is_name_byte name) h;
+    }
+
+one_map : (before : List MapEntry) (m : MapEntry) (p : MapPlan) → map_fits before m ≡ true → IsOf m p → IsMapPlan p
+one_map before m p h is =
+    let fits = fits_of before m h in
+    let zooms = fits.zooms in
+    let at : m.max_zoom ≤ 18 = grind (arith, nat_tests) in
+    record {
+      named = subst IsName (sym is.0) (name_of m.name fits.named);
+      sized = subst IsTileSize (sym is.1) (size_of m.tile fits.sized);
+      zooms = subst (λ (n : ℕ). n ≤ 18) (sym is.2) at;
+    }
+
+each_map : (before ms : List MapEntry) (ps : List MapPlan) → each_after map_fits before ms ≡ true → AreOf ms ps → All IsMapPlan ps
+each_map before [] [] h are = All-nil IsMapPlan
+each_map before [] (p ∷ ps) h are = absurd are
+each_map before (m ∷ ms) [] h are = absurd are
+each_map before (m ∷ ms) (p ∷ ps) h are =
+    All-cons IsMapPlan p ps (one_map before m p (and_left (map_fits before m) (each_after map_fits (before ++ m ∷ []) ms) h) are.0)
+    (each_map (before ++ m ∷ []) ms ps (and_right (map_fits before m) (each_after map_fits (before ++ m ∷ []) ms) h) are.1)
+
+-- ---- names apart
+
+-- a map of the list has the name of none before the list
+no_earlier : (before ms : List MapEntry) (ps : List MapPlan) (i : ℕ) (b : MapPlan) → each_after map_fits before ms ≡ true → AreOf ms ps → slice_get ps i ≡ Some b → map_has b.name before ≡ false
+no_earlier before [] [] i b h are at = absurd (let e = at in cc)
+no_earlier before [] (p ∷ ps) i b h are at = absurd are
+no_earlier before (m ∷ ms) [] i b h are at = absurd are
+no_earlier before (m ∷ ms) (p ∷ ps) zero b h are at =
+    let same : p ≡ b = cc in
+    let fits = fits_of before m (and_left (map_fits before m) (each_after map_fits (before ++ m ∷ []) ms) h) in
+    ap (λ (n : List ℕ). map_has n before) (ap (λ (q : MapPlan). q.name) (sym same) ∙ are.0.0) ∙ fits.apart
+no_earlier before (m ∷ ms) (p ∷ ps) (suc i) b h are at =
+    let later = no_earlier (before ++ m ∷ []) ms ps i b (and_right (map_fits before m) (each_after map_fits (before ++ m ∷ []) ms) h) are.1 at in
+    or_left (map_has b.name before) (map_has b.name (m ∷ [])) (sym (any-append (λ (x : MapEntry). bytes_eq x.name b.name) before (m ∷ [])) ∙ later)
+
+-- and of no other
+other_than : (before ms : List MapEntry) (m : MapEntry) (p : MapPlan) (ps : List MapPlan) (i : ℕ) (b : MapPlan) → each_after map_fits (before ++ m ∷ []) ms ≡ true → IsOf m p → AreOf ms ps
+    → slice_get ps i ≡ Some b → p.name ≡ b.name → ⊥
+other_than before ms m p ps i b h is are at same =
+    let none = no_earlier (before ++ m ∷ []) ms ps i b h are at in
+    let last = or_right (map_has b.name before) (map_has b.name (m ∷ [])) (sym (any-append (λ (x : MapEntry). bytes_eq x.name b.name) before (m ∷ [])) ∙ none) in
+    let differs = or_left (bytes_eq m.name b.name) false last in
+    let equal : bytes_eq m.name b.name ≡ true = (bytes_eq-Decides m.name b.name).1 (sym is.0 ∙ same) in
+    cc
+
+names_apart : (before ms : List MapEntry) (ps : List MapPlan) → each_after map_fits before ms ≡ true → AreOf ms ps → HasNamesApart ps
+names_apart before [] [] h are i j a b at to same = absurd (let e = at in cc)
+names_apart before [] (p ∷ ps) h are i j a b at to same = absurd are
+names_apart before (m ∷ ms) [] h are i j a b at to same = absurd are
+names_apart before (m ∷ ms) (p ∷ ps) h are zero zero a b at to same = refl
+names_apart before (m ∷ ms) (p ∷ ps) h are zero (suc j) a b at to same =
+    let is : p ≡ a = cc in
+    absurd (other_than before ms m p ps j b (and_right (map_fits before m) (each_after map_fits (before ++ m ∷ []) ms) h) are.0 are.1 to (ap (λ (q : MapPlan). q.name) is ∙ same))
+names_apart before (m ∷ ms) (p ∷ ps) h are (suc i) zero a b at to same =
+    let is : p ≡ b = cc in
+    absurd (other_than before ms m p ps i a (and_right (map_fits before m) (each_after map_fits (before ++ m ∷ []) ms) h) are.0 are.1 at (ap (λ (q : MapPlan). q.name) is ∙ sym same))
+names_apart before (m ∷ ms) (p ∷ ps) h are (suc i) (suc j) a b at to same =
+    ap (λ (n : ℕ). suc n) (names_apart (before ++ m ∷ []) ms ps (and_right (map_fits before m) (each_after map_fits (before ++ m ∷ []) ms) h) are.1 i j a b at to same)
+
+-- ---- limits and restyles
+
+from_1 : (n most : ℕ) → is_limit_to most n ≡ true → IsFrom1 n most
+from_1 n most h =
+    let low = and_left (nat_le 1 n) (nat_le n most) h in
+    let high = and_right (nat_le 1 n) (nat_le n most) h in
+    record { some = grind (arith, nat_tests); few = grind (arith, nat_tests) }
+
+limits_of : (l : Limits) → are_limits l ≡ true → AreLimits l
+limits_of l h =
+    let a = is_limit_to 32 l.prio in
+    let b = is_limit_to 32 l.request in
+    let c = is_limit_to 32 l.low in
+    let d = is_limit_to 1000 l.dirty in
+    let e = is_limit_to 32 l.bulk in
+    let h4 = and_left (a && b && c && d) e h in
+    let h3 = and_left (a && b && c) d h4 in
+    let h2 = and_left (a && b) c h3 in
+    record {
+      prio = from_1 l.prio 32 (and_left a b h2);
+      request = from_1 l.request 32 (and_right a b h2);
+      low = from_1 l.low 32 (and_right (a && b) c h3);
+      dirty = from_1 l.dirty 1000 (and_right (a && b && c) d h4);
+      bulk = from_1 l.bulk 32 (and_right (a && b && c && d) e h);
+    }
+
+restyle_of : (r : RestyleEntry) (p : Restyle) → Could (restyle_course r) p → p.map ≡ r.map
+unfolding restyle_course_by
+restyle_of r p h = ap (λ (q : Restyle). q.map) (could_parts (style_course r.style) (λ style. made (record { map = r.map; style = style })) p h).2
+
+restyles_of : (maps : List MapPlan) (rs : List RestyleEntry) (ps : List Restyle) → list_all (restyle_known (length maps)) rs ≡ true → Could (each restyle_course rs) ps → All (NamesMap maps) ps
+restyles_of maps [] ps known h = subst (λ (qs : List Restyle). All (NamesMap maps) qs) (sym h) (All-nil (NamesMap maps))
+restyles_of maps (r ∷ rs) ps known h =
+    let one = could_parts (restyle_course r) (λ y. each restyle_course rs >>= λ zs. made (y ∷ zs)) ps h in
+    let rest = could_parts (each restyle_course rs) (λ zs. made (one.0 ∷ zs)) ps one.2 in
+    let below = and_left (restyle_known (length maps) r) (list_all (restyle_known (length maps)) rs) known in
+    let is = restyle_of r one.0 one.1 in
+    let names : one.0.map < length maps = grind (arith, nat_tests) in
+    subst (λ (qs : List Restyle). All (NamesMap maps) qs) (sym rest.2)
+    (All-cons (NamesMap maps) one.0 rest.0 names (restyles_of maps rs rest.0 (and_right (restyle_known (length maps) r) (list_all (restyle_known (length maps)) rs) known) rest.1))
+
+-- ---- the plan
+
+-- the plan of a valid configuration's files may be started with
+pub plan_valid : (config : Config) (inputs : FarmInputs) → IsConfig config.maps config.updates config.expiries config.workers config.limits config.restyles → Could (inputs_course config) inputs → IsPlan inputs.plan
+unfolding inputs_course_by
+plan_valid config inputs valid h =
+    let maps = could_parts (each map_course config.maps) (with_maps config) inputs h in
+    let restyles = could_parts (each restyle_course config.restyles) (with_restyles config maps.0) inputs maps.2 in
+    let layers = could_parts (file dataset_in data_text config.dataset) (with_layers config maps.0 restyles.0) inputs restyles.2 in
+    let updates = could_parts (each update_course config.updates) (with_updates config maps.0 restyles.0 layers.0) inputs layers.2 in
+    let lists = could_parts (each list_course config.expiries) (λ ls. made (inputs_with config maps.0 restyles.0 layers.0 updates.0 ls)) inputs updates.2 in
+    let are = maps_of config.maps maps.0 maps.1 in
+    let many = each_length map_course config.maps maps.0 maps.1 in
+    let some = valid.some_maps in
+    let few = valid.few_maps in
+    subst (λ (i : FarmInputs). IsPlan i.plan) (sym lists.2) (record {
+      count_maps = record { some = omega (arith, many, some); few = omega (arith, many, few) };
+      each_map = each_map [] config.maps maps.0 valid.maps_fit are;
+      apart = names_apart [] config.maps maps.0 valid.maps_fit are;
+      count_workers = record { some = valid.some_workers; few = valid.few_workers };
+      limited = limits_of config.limits valid.limits_fit;
+      few_updates = omega (arith, each_length update_course config.updates updates.0 updates.1, valid.few_updates);
+      few_restyles = omega (arith, each_length restyle_course config.restyles restyles.0 restyles.1, valid.few_restyles);
+      each_restyle = restyles_of maps.0 config.restyles restyles.0 (subst (λ (n : ℕ). list_all (restyle_known n) config.restyles ≡ true) (sym many) valid.restyles_known) restyles.1;
+    })

@@ -1,0 +1,86 @@
+-- The courses of the files of a farm.
+use Rattle.std.specs.Prelude.{ℕ, List}
+use Rattle.plain_world.specs.declared.world.Tile.{Tile}
+use Rattle.plain_data.specs.Data.{Change}
+use Rattle.filter_expr.specs.FilterTexts.{filter_of}
+use Rattle.style_objects.specs.FilterReadings.{FilterReading}
+use Rattle.geo_json.specs.DataTexts.{dataset_in}
+use Rattle.geo_json.specs.UpdateTexts.{update_in}
+use Rattle.expiry_lists.specs.Lists.{list_in}
+use Rattle.farm_config.specs.Configs.{MapEntry, Config}
+use Rattle.farm_config.specs.Tables.{config_in}
+use Rattle.farm_config.specs.declared.config.RestyleEntry.{RestyleEntry}
+use Rattle.script_lines.specs.Scripts.{script_in}
+use Rattle.fault_texts.specs.ConfigFaults.{config_text}
+use Rattle.fault_texts.specs.DataFaults.{data_text}
+use Rattle.fault_texts.specs.LineFaults.{list_text, script_text}
+use Rattle.farm_plan.specs.Plans.{MapPlan, Restyle}
+use Rattle.input_files.specs.Course.{Course, made, ◌>>=◌, file, each}
+use Rattle.map_files.specs.Courses.{style_course_by}
+use Rattle.farm_files.specs.Addresses.{addressed_in}
+use Rattle.farm_files.specs.Inputs.{FarmInputs, Scripted, Served}
+
+-- ---- the files that a configuration names, where filters are read so
+
+-- a map's style says the map, with its name, tile size and greatest zoom
+unfoldable pub map_course_by : FilterReading → MapEntry → Course MapPlan
+map_course_by says m = style_course_by says m.style >>= λ style. made (record { name = m.name; style = style; tile = m.tile; max_zoom = m.max_zoom })
+
+-- a restyle's style says the restyle
+unfoldable pub restyle_course_by : FilterReading → RestyleEntry → Course Restyle
+restyle_course_by says r = style_course_by says r.style >>= λ style. made (record { map = r.map; style = style })
+
+-- an update
+abbrev pub update_course : List ℕ → Course (List Change)
+update_course name = file update_in data_text name
+
+-- an expiry list
+abbrev pub list_course : List ℕ → Course (List Tile)
+list_course name = file list_in list_text name
+
+-- all files that a configuration names, in order, say a farm
+unfoldable pub inputs_course_by : FilterReading → Config → Course FarmInputs
+inputs_course_by says config = do
+  maps ← each (map_course_by says) config.maps
+  restyles ← each (restyle_course_by says) config.restyles
+  layers ← file dataset_in data_text config.dataset
+  updates ← each update_course config.updates
+  lists ← each list_course config.expiries
+  made (record {
+    plan = record { maps = maps; dataset = layers; updates = updates; workers = config.workers; limits = config.limits; restyles = restyles };
+    lists = lists;
+  })
+
+-- ---- the files of commands, where filters are read so
+
+-- a configuration, the files that it names, and a script
+unfoldable pub script_course_by : FilterReading → List ℕ → List ℕ → Course Scripted
+script_course_by says config_name script_name = do
+  config ← file config_in config_text config_name
+  inputs ← inputs_course_by says config
+  script ← file script_in script_text script_name
+  made (record { inputs = inputs; script = script })
+
+-- a configuration with its addresses, and the files that it names
+unfoldable pub serve_course_by : FilterReading → List ℕ → Course Served
+serve_course_by says config_name = do
+  config ← file addressed_in config_text config_name
+  inputs ← inputs_course_by says config
+  made (record { config = config; inputs = inputs })
+
+-- ---- the same, where filters are read by the function that reads their tokens
+
+abbrev pub map_course : MapEntry → Course MapPlan
+map_course m = map_course_by filter_of m
+
+abbrev pub restyle_course : RestyleEntry → Course Restyle
+restyle_course r = restyle_course_by filter_of r
+
+abbrev pub inputs_course : Config → Course FarmInputs
+inputs_course config = inputs_course_by filter_of config
+
+abbrev pub script_course : List ℕ → List ℕ → Course Scripted
+script_course config_name script_name = script_course_by filter_of config_name script_name
+
+abbrev pub serve_course : List ℕ → Course Served
+serve_course config_name = serve_course_by filter_of config_name

@@ -1,0 +1,97 @@
+//! The files of the commands that run a farm.
+ghost use Rattle.std.specs.Prelude.{◌≡◌, IfOk};
+ghost use Rattle.script_lines.specs.Scripts.{script_in};
+ghost use Rattle.fault_texts.specs.LineFaults.{script_text};
+ghost use Rattle.input_files.specs.Course.{file};
+ghost use Rattle.input_files.specs.inner.Follows.{Follows};
+ghost use Rattle.farm_plan.specs.Plans.{IsPlan};
+ghost use Rattle.farm_files.specs.Courses.{script_course, serve_course};
+
+use crate::configs::{addressed_file, config_file};
+use crate::inputs::{FarmInputs, farm_inputs};
+use call_ends::Stop;
+use farm_base::Files;
+use farm_config::Config;
+use input_files::{checked, read_file};
+use script_lines::{Script, read_script};
+use std::alloc::Global;
+use std::marker::Model;
+
+/// What the files of a script say: the farm that it runs on, and its lines.
+#[derive(Drop)]
+pub struct Scripted {
+    pub inputs: FarmInputs,
+    pub script: Script,
+}
+
+impl Model for Scripted {
+    ghost use Rattle.farm_files.specs.Inputs.{Scripted};
+    ghost use Rattle.plain_filters.specs.inner.FilterCodes.{filter_code};
+    ghost use Rattle.std.specs.Coded.{codes};
+
+    ghost Value = { Scripted };
+
+    ghost coded = { Prim.hlevel (codes, filter_code) };
+
+    ghost view = { λ s. record { inputs = s.inputs; script = s.script } };
+}
+
+/// What the files of a farm that listens say: its configuration, and what the files of this say.
+#[derive(Drop)]
+pub struct Served {
+    pub config: Config,
+    pub inputs: FarmInputs,
+}
+
+impl Model for Served {
+    ghost use Rattle.farm_files.specs.Inputs.{Served};
+    ghost use Rattle.plain_filters.specs.inner.FilterCodes.{filter_code};
+    ghost use Rattle.std.specs.Coded.{codes};
+
+    ghost Value = { Served };
+
+    ghost coded = { Prim.hlevel (codes, filter_code) };
+
+    ghost view = { λ s. record { config = s.config; inputs = s.inputs } };
+}
+
+/// Reads a script's file and checks it.
+#[tactic(auto, using(input_files::proofs::Judged::file_stops))]
+fn script_file<F: Files>(alloc: Global, files: &mut F, name: &str) -> Result<Script, Stop>
+    ensures { Follows (file script_in script_text name.now) (F.state files.old) (F.state files.new) result }
+{
+    let bytes = read_file(alloc, files, name)?;
+    checked(alloc, name, read_script(alloc, bytes.as_slice()))
+}
+
+/// Reads a configuration, the files that it names, and a script, in this order. The addresses count for
+/// nothing. It ends at the first file that is refused or cannot be read.
+pub fn script_files<F: Files>(
+    alloc: Global,
+    files: &mut F,
+    config_name: &str,
+    script_name: &str,
+) -> Result<Scripted, Stop>
+    ensures follows { Follows (script_course config_name.now script_name.now) (F.state files.old) (F.state files.new) result }
+    ensures valid { IfOk result (λ s. IsPlan s.inputs.plan) }
+{
+    let config = config_file(alloc, files, config_name)?;
+    let inputs = farm_inputs(alloc, files, &config)?;
+    let script = script_file(alloc, files, script_name)?;
+    Ok(Scripted { inputs, script })
+}
+
+/// Reads a configuration with all three addresses, and the files that it names. It ends at the first file
+/// that is refused or cannot be read.
+pub fn serve_files<F: Files>(
+    alloc: Global,
+    files: &mut F,
+    config_name: &str,
+) -> Result<Served, Stop>
+    ensures follows { Follows (serve_course config_name.now) (F.state files.old) (F.state files.new) result }
+    ensures valid { IfOk result (λ s. IsPlan s.inputs.plan) }
+{
+    let config = addressed_file(alloc, files, config_name)?;
+    let inputs = farm_inputs(alloc, files, &config)?;
+    Ok(Served { config, inputs })
+}

@@ -1,0 +1,154 @@
+-- Each fault that a script or an expiry list may be refused for has a text.
+use Rattle.std.specs.Prelude.{ℕ, ◌+◌, ◌^◌, ◌==◌, nat_le, if◌then◌else◌, List, [], ◌∷◌, ◌++◌, length, codes, Option, Some, None, option_to_list, is_some, Result, Ok, Err, IsTrue, refl}
+use Rattle.std.specs.Option.{ok_or}
+use Rattle.std.specs.Str.{bytes_eq, is_utf8}
+use Rattle.std.specs.Str.Lines.{lines}
+use Rattle.line_words.specs.Cuts.{cut_at}
+use Rattle.line_words.specs.Numbers.{number_in}
+use Rattle.reading.specs.Steps.{◌>>=◌}
+use Rattle.plain_world.specs.declared.world.Tile.{Tile}
+use Rattle.expiry_lists.specs.Lists as list
+use Rattle.expiry_lists.specs.declared.faults.ListFault.{ListFault}
+use Rattle.expiry_lists.specs.declared.faults.ListFault.TheVariants.{Line}
+use Rattle.script_lines.specs.Lines.{cmd_of, tile_of, place_of, ask_of, fetch_of, look_of, expire_of, line_named, line_alone, line_cut, line_of}
+use Rattle.script_lines.specs.Scripts.{is_skipped, text_of, line_read, lines_after, script_in}
+use Rattle.script_lines.specs.declared.script.ScriptFault.{ScriptFault}
+use Rattle.script_lines.specs.declared.script.ScriptFault.TheVariants as script
+use Rattle.script_lines.specs.declared.script.ScriptLine.{ScriptLine}
+use Rattle.script_lines.specs.declared.script.ScriptLine.TheVariants as script_line
+use Rattle.fault_texts.specs.LineFaults.{script_text, list_text}
+use Rattle.fault_texts.specs.Told.{ScriptsAreTold, ListsAreTold}
+use Rattle.fault_texts.proofs.Steps.{OnFault, of_fault, step, either, checks, has}
+
+-- ---- expiry lists
+
+abbrev ListText : ListFault → Type 0
+ListText e = IsTrue (is_some (list_text e))
+
+abbrev ListTold : {A : Type 0} → Result A ListFault → Type 0
+ListTold r = OnFault ListText r
+
+tile_told : (fault : ListFault) → ListText fault → (text : List ℕ) → ListTold (list.tile_of fault text)
+unfolding list.tile_of
+tile_told fault h text =
+    step ListText _ _ (has ListText (cut_at 47 text) fault h) (λ first.
+    step ListText _ _ (has ListText (cut_at 47 first.1) fault h) (λ second.
+    step ListText _ _ (has ListText (number_in (2 ^ 32) first.0) fault h) (λ z.
+    step ListText _ _ (has ListText (number_in (2 ^ 32) second.0) fault h) (λ x.
+    step ListText _ _ (has ListText (number_in (2 ^ 32) second.1) fault h) (λ y.
+    has ListText (list.tile_at z x y) fault h)))))
+
+list_line_told : (fault : ListFault) → ListText fault → (line : List ℕ) → ListTold (list.line_read fault line)
+unfolding list.line_read list.text_of
+list_line_told fault h [] = tt
+list_line_told fault h (b ∷ bs) =
+    step ListText _ _ (step ListText _ _ (checks ListText (is_utf8 (b ∷ bs)) fault h) (λ u. tt)) (λ text.
+    step ListText _ _ (tile_told fault h text) (λ t. tt))
+
+list_lines_told : (number : ℕ) (before : List Tile) (rest : List (List ℕ)) → ListTold (list.lines_after number before rest)
+unfolding list.lines_after
+list_lines_told number before [] = tt
+list_lines_told number before (line ∷ rest) =
+    step ListText _ _ (checks ListText (nat_le number 1000000) (Line number) refl) (λ u.
+    step ListText _ _ (list_line_told (Line number) refl line) (λ t. list_lines_told (number + 1) (before ++ option_to_list t) rest))
+
+list_told : (bytes : List ℕ) → ListTold (list.list_in bytes)
+unfolding list.list_in
+list_told bytes = list_lines_told 1 [] (lines bytes)
+
+pub lists_are_told : ListsAreTold
+lists_are_told bytes e q = of_fault ListText (list.list_in bytes) e (list_told bytes) q
+
+-- ---- scripts
+
+abbrev HasText : ScriptFault → Type 0
+HasText e = IsTrue (is_some (script_text e))
+
+abbrev Told : {A : Type 0} → Result A ScriptFault → Type 0
+Told r = OnFault HasText r
+
+numbers_told : (fault : ScriptFault) → HasText fault → (text : List ℕ) → Told (tile_of fault text)
+unfolding tile_of
+numbers_told fault h text =
+    step HasText _ _ (has HasText (cut_at 32 text) fault h) (λ first.
+    step HasText _ _ (has HasText (cut_at 32 first.1) fault h) (λ second.
+    step HasText _ _ (has HasText (number_in (2 ^ 32) first.0) fault h) (λ z.
+    step HasText _ _ (has HasText (number_in (2 ^ 32) second.0) fault h) (λ x.
+    step HasText _ _ (has HasText (number_in (2 ^ 32) second.1) fault h) (λ y. tt)))))
+
+place_told : (fault : ScriptFault) → HasText fault → (text : List ℕ) → Told (place_of fault text)
+unfolding place_of
+place_told fault h text =
+    step HasText _ _ (has HasText (cut_at 32 text) fault h) (λ first.
+    step HasText _ _ (step HasText _ _ (checks HasText (nat_le 1 (length first.0)) fault h) (λ u. tt)) (λ map.
+    step HasText _ _ (numbers_told fault h first.1) (λ tile. tt)))
+
+ask_told : (fault : ScriptFault) → HasText fault → (text : List ℕ) → Told (ask_of fault text)
+unfolding ask_of
+ask_told fault h text =
+    step HasText _ _ (has HasText (cut_at 32 text) fault h) (λ first.
+    step HasText _ _ (has HasText (cut_at 32 first.1) fault h) (λ second.
+    step HasText _ _ (has HasText (number_in (2 ^ 32) first.0) fault h) (λ conn.
+    step HasText _ _ (has HasText (cmd_of second.0) fault h) (λ command.
+    step HasText _ _ (place_told fault h second.1) (λ place. tt)))))
+
+fetch_told : (fault : ScriptFault) → HasText fault → (text : List ℕ) → Told (fetch_of fault text)
+unfolding fetch_of
+fetch_told fault h text = step HasText _ _ (place_told fault h text) (λ place. tt)
+
+look_told : (fault : ScriptFault) → HasText fault → (text : List ℕ) → Told (look_of fault text)
+unfolding look_of
+look_told fault h text = step HasText _ _ (place_told fault h text) (λ place. tt)
+
+expire_told : (fault : ScriptFault) → HasText fault → (text : List ℕ) → Told (expire_of fault text)
+unfolding expire_of
+expire_told fault h text = step HasText _ _ (numbers_told fault h text) (λ tile. tt)
+
+-- a line of one number below a bound
+number_told : (line : ℕ → ScriptLine) (bound : ℕ) (fault : ScriptFault) → HasText fault → (word : List ℕ) → Told (ok_or (number_in bound word) fault >>= λ n. Ok (line n))
+number_told line bound fault h word = step HasText _ _ (has HasText (number_in bound word) fault h) (λ n. tt)
+
+named_told : (fault : ScriptFault) → HasText fault → (name rest : List ℕ) → Told (line_named fault name rest)
+unfolding line_named
+named_told fault h name rest =
+    either HasText (bytes_eq name (codes "ask")) _ _ (ask_told fault h rest) (
+    either HasText (bytes_eq name (codes "claim")) _ _ (number_told script_line.Claim (2 ^ 32) fault h rest) (
+    either HasText (bytes_eq name (codes "finish")) _ _ (number_told script_line.Finish (2 ^ 64) fault h rest) (
+    either HasText (bytes_eq name (codes "cut")) _ _ (number_told script_line.Cut (2 ^ 64) fault h rest) (
+    either HasText (bytes_eq name (codes "update")) _ _ (number_told script_line.Update (2 ^ 32) fault h rest) (
+    either HasText (bytes_eq name (codes "restyle")) _ _ (number_told script_line.Restyle (2 ^ 32) fault h rest) (
+    either HasText (bytes_eq name (codes "renew")) _ _ (number_told script_line.Renew (2 ^ 32) fault h rest) (
+    either HasText (bytes_eq name (codes "expire")) _ _ (expire_told fault h rest) (
+    either HasText (bytes_eq name (codes "fetch")) _ _ (fetch_told fault h rest) (
+    either HasText (bytes_eq name (codes "look")) _ _ (look_told fault h rest) (
+    either HasText (bytes_eq name (codes "collect")) _ _ (number_told script_line.Collect (2 ^ 32) fault h rest) (
+    either HasText (bytes_eq name (codes "leave")) _ _ (number_told script_line.Leave (2 ^ 32) fault h rest) h)))))))))))
+
+alone_told : (fault : ScriptFault) → HasText fault → (word : List ℕ) → Told (line_alone fault word)
+unfolding line_alone
+alone_told fault h word = either HasText (bytes_eq word (codes "tally")) _ _ tt (either HasText (bytes_eq word (codes "stop")) _ _ tt h)
+
+cut_told : (fault : ScriptFault) → HasText fault → (line : List ℕ) (at : Option (List ℕ × List ℕ)) → Told (line_cut fault line at)
+cut_told fault h line None = alone_told fault h line
+cut_told fault h line (Some p) = named_told fault h p.0 p.1
+
+line_told : (fault : ScriptFault) → HasText fault → (line : List ℕ) → Told (line_read fault line)
+unfolding line_read text_of line_of
+line_told fault h line =
+    either HasText (is_skipped line) _ _ tt (
+    step HasText _ _ (step HasText _ _ (checks HasText (is_utf8 line) fault h) (λ u. tt)) (λ text.
+    step HasText _ _ (cut_told fault h text (cut_at 32 text)) (λ l. tt)))
+
+lines_told : (number : ℕ) (before : List ScriptLine) (rest : List (List ℕ)) → Told (lines_after number before rest)
+unfolding lines_after
+lines_told number before [] = tt
+lines_told number before (line ∷ rest) =
+    step HasText _ _ (checks HasText (nat_le number 1000000) (script.Line number) refl) (λ u.
+    step HasText _ _ (line_told (script.Line number) refl line) (λ l. lines_told (number + 1) (before ++ option_to_list l) rest))
+
+script_told : (bytes : List ℕ) → Told (script_in bytes)
+unfolding script_in
+script_told bytes = lines_told 1 [] (lines bytes)
+
+pub scripts_are_told : ScriptsAreTold
+scripts_are_told bytes e q = of_fault HasText (script_in bytes) e (script_told bytes) q
