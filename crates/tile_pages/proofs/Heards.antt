@@ -1,0 +1,161 @@
+-- Hearing a piece, by cases.
+use Rattle.std.proofs.Common.{◌≡◌, ℕ, ◌<◌, ◌≤◌, List, [], ◌∷◌, ◌++◌, length, Bool, true, false, ◌||◌, Option, inl, inr, refl, sym, ap, subst, ◌∙◌, arith, append-nil}
+use Rattle.farm_history.specs.Entries.{Entry}
+use Rattle.farm_history.specs.declared.queues.Conn.{Conn}
+use Rattle.front_rounds.specs.declared.fates.Fate.{Fate}
+use Rattle.front_rounds.specs.declared.fates.Fate.TheVariants.{Stays, Leaves}
+use Rattle.front_rounds.specs.declared.fates.Reason.TheVariants as reason
+use Rattle.front_rounds.specs.Rules.{Move, Does, asked, text, each_whole, BeginsWanted}
+use Rattle.front_rounds.specs.Front.{HeardWhy, Heard, Hears}
+use Rattle.tile_requests.specs.Heads.{shown, IsOpen}
+use Rattle.tile_pages.specs.declared.acts.Wish.{Wish}
+use Rattle.tile_pages.specs.declared.acts.Act.{Act}
+use Rattle.tile_pages.specs.declared.talks.Talk.{Talk}
+use Rattle.tile_pages.specs.Talks.{is_reading, is_answered, waits_in}
+use Rattle.tile_pages.specs.Tiles.{Asks, Wants, want, entries_of, whole_act, is_answer, starves_act, ends, wishes, rules_of, Knows}
+use Rattle.tile_pages.specs.Steps.{WhyOf, IsIdle, DidWish, DoesWish}
+use Rattle.tile_pages.proofs.Wishes.{asked_is, asks_stay, open_all, shown_twice, or_false, both, reading_unanswered}
+
+module _ (front : ℕ) (maps : List ℕ → Option ℕ) where
+  -- the one wish that was asked, and what the bytes ask
+  wants_one : (given : List ℕ) (ms : List (Move Act)) (w : Wish) → wishes ms ≡ w ∷ [] → Asks maps (shown given) w → Wants maps given (asked (rules_of front maps) ms)
+  wants_one given ms w e asks = subst (λ (ws : List Wish). Wants maps given ws) (sym (asked_is front maps ms ∙ e)) asks
+
+  one_wanted : (given : List ℕ) (ms : List (Move Act)) (w : Wish) → wishes ms ≡ w ∷ [] → Wants maps given (asked (rules_of front maps) ms) → Asks maps (shown given) w
+  one_wanted given ms w e wants = let P : List Wish → Type 0 = λ ws. Wants maps given ws in subst P (asked_is front maps ms ∙ e) wants
+
+  -- all that is wanted is a beginning of it
+  all_begins : (given : List ℕ) (ws : List Wish) → Wants maps given ws → BeginsWanted (rules_of front maps) given ws
+  all_begins given ws wants = inr ([], subst (λ (vs : List Wish). Wants maps given vs) (sym (append-nil ws)) wants)
+
+  says_nothing : (ms : List (Move Act)) (said : List ℕ) → said ≡ [] → text (rules_of front maps) ms ≡ text (rules_of front maps) ms ++ said
+  says_nothing ms said e = sym (ap (λ (l : List ℕ). text (rules_of front maps) ms ++ l) e ∙ append-nil (text (rules_of front maps) ms))
+
+  -- a connection whose request was done has its bytes passed over
+  pub hears_idle : (c : ℕ) (piece : List ℕ) (mine : List Entry) (talk : Talk) (said : List ℕ) → is_reading talk.stage ≡ false → said ≡ []
+      → Hears (rules_of front maps) Knows c piece mine mine talk talk said Stays
+  hears_idle c piece mine talk said idle empty given ms knows wants whole unread =
+      let one = knows.once idle in
+      let stays : Wants maps (given ++ piece) (asked (rules_of front maps) ms) =
+      wants_one (given ++ piece) ms one.0 one.1 (asks_stay maps given piece one.0 (one_wanted given ms one.0 one.1 wants)) in
+      record {
+        acts = [];
+        mine_is = refl;
+        begins = all_begins (given ++ piece) (asked (rules_of front maps) ms) stays;
+        fits = tt;
+        why = (refl, refl);
+        said_is = λ k. says_nothing ms said empty;
+        asked_is = λ k. stays;
+        whole = λ k. whole;
+        knows = λ k. record { head = λ e. absurd (no_both (is_reading talk.stage) e idle); once = knows.once; waits = knows.waits; ends = knows.ends };
+      }
+    where
+      no_both : (b : Bool) → b ≡ true → b ≡ false → ⊥
+      no_both b e f = cc
+
+  -- nothing was done, for want of memory or as all turns are drawn
+  pub hears_starved : (c : ℕ) (piece : List ℕ) (mine mine' : List Entry) (talk talk' : Talk) (said : List ℕ) (fate : Fate) → is_reading talk.stage ≡ true
+      → IsIdle mine mine' fate → Hears (rules_of front maps) Knows c piece mine mine' talk talk' said fate
+  hears_starved c piece mine mine' talk talk' said fate reads idle given ms knows wants whole unread =
+      subst (λ (f : Fate). Heard (rules_of front maps) Knows c piece mine mine' talk' said f given ms) (sym idle.1)
+      (record {
+        acts = [];
+        mine_is = idle.0;
+        begins = inl (asked_is front maps ms ∙ (knows.head reads).2);
+        fits = tt;
+        why = tt;
+        said_is = λ k. absurd (no_keep k);
+        asked_is = λ k. absurd (no_keep k);
+        whole = λ k. absurd (no_keep k);
+        knows = λ k. absurd (no_keep k);
+      })
+    where
+      no_keep : false ≡ true → ⊥
+      no_keep e = cc
+
+  -- more bytes are waited for
+  pub hears_open : (c : ℕ) (piece : List ℕ) (mine : List Entry) (talk talk' : Talk) (said : List ℕ) → said ≡ [] → is_reading talk.stage ≡ true → talk'.stage ≡ talk.stage
+      → (length talk.head.items ≤ 8192 → talk'.head.items ≡ shown (talk.head.items ++ piece)) → IsOpen (shown talk'.head.items)
+      → Hears (rules_of front maps) Knows c piece mine mine talk talk' said Stays
+  hears_open c piece mine talk talk' said empty reads same kept is given ms knows wants whole unread =
+      let head = knows.head reads in
+      let short : length given < 8192 = head.1 in
+      let kept_is : talk'.head.items ≡ shown (given ++ piece) =
+      subst (λ (h : List ℕ). length h ≤ 8192 → talk'.head.items ≡ shown (h ++ piece)) head.0 kept (omega arith) in
+      let opens : IsOpen (shown (given ++ piece)) = subst (λ (b : List ℕ). IsOpen b) (ap shown kept_is ∙ shown_twice (given ++ piece)) is in
+      let all = open_all (given ++ piece) opens in
+      let none = asked_is front maps ms ∙ head.2 in
+      let still : Wants maps (given ++ piece) (asked (rules_of front maps) ms) = subst (λ (ws : List Wish). Wants maps (given ++ piece) ws) (sym none) opens in
+      record {
+        acts = [];
+        mine_is = refl;
+        begins = all_begins (given ++ piece) (asked (rules_of front maps) ms) still;
+        fits = tt;
+        why = (refl, refl);
+        said_is = λ k. says_nothing ms said empty;
+        asked_is = λ k. still;
+        whole = λ k. whole;
+        knows = λ k. record {
+          head = λ e. (kept_is ∙ all.1, all.0, head.2);
+          once = λ e. absurd (no_both (is_reading talk.stage) reads (ap is_reading (sym same) ∙ e));
+          waits = knows.waits ∙ ap waits_in (sym same);
+          ends = knows.ends ∙ ap is_answered (sym same);
+        };
+      }
+    where
+      no_both : (b : Bool) → b ≡ true → b ≡ false → ⊥
+      no_both b e f = cc
+
+  -- why a session goes on or is left, of one act alone
+  why_heard : (given : List ℕ) (a : Act) (fate : Fate) → WhyOf (starves_act a) fate → HeardWhy (rules_of front maps) given (Does a ∷ []) fate
+  why_heard given a Stays e = (refl, or_false (starves_act a) ∙ e)
+  why_heard given a (Leaves reason.NoMemory) e = or_false (starves_act a) ∙ e
+  why_heard given a (Leaves reason.Starved) e = tt
+  why_heard given a (Leaves reason.Ended) e = e
+  why_heard given a (Leaves reason.Lost) e = e
+  why_heard given a (Leaves reason.Cut) e = e
+  why_heard given a (Leaves reason.Full) e = e
+  why_heard given a (Leaves reason.Unread) e = absurd e
+  why_heard given a (Leaves reason.SentWhole) e = e
+  why_heard given a (Leaves reason.SendFailed) e = e
+
+  -- the wish that became whole was done
+  hears_act : (c : Conn) (piece : List ℕ) (w : Wish) (mine mine' : List Entry) (talk talk' : Talk) (said : List ℕ) (fate : Fate) (a : Act) → c.front ≡ front
+      → is_reading talk.stage ≡ true → (length talk.head.items ≤ 8192 → talk'.head.items ≡ shown (talk.head.items ++ piece))
+      → Asks maps (shown talk'.head.items) w → DidWish c w mine mine' talk'.stage said fate a
+      → Hears (rules_of front maps) Knows c.number piece mine mine' talk talk' said fate
+  hears_act c piece w mine mine' talk talk' said fate a own reads kept asks did given ms knows wants whole unread =
+      let head = knows.head reads in
+      let short : length given < 8192 = head.1 in
+      let kept_is : talk'.head.items ≡ shown (given ++ piece) =
+      subst (λ (h : List ℕ). length h ≤ 8192 → talk'.head.items ≡ shown (h ++ piece)) head.0 kept (omega arith) in
+      let asks_now : Asks maps (shown (given ++ piece)) w = subst (λ (b : List ℕ). Asks maps b w) (ap shown kept_is ∙ shown_twice (given ++ piece)) asks in
+      let once : wishes (Does a ∷ ms) ≡ w ∷ [] = ap (λ (ws : List Wish). ws ++ want a ∷ []) head.2 ∙ ap (λ (v : Wish). v ∷ []) did.want_is in
+      let wanted : Wants maps (given ++ piece) (asked (rules_of front maps) (Does a ∷ ms)) = wants_one (given ++ piece) (Does a ∷ ms) w once asks_now in
+      let unanswered : ends ms ≡ false = knows.ends ∙ reading_unanswered talk.stage reads in
+      record {
+        acts = a ∷ [];
+        mine_is = did.mine_is ∙ ap (λ (n : ℕ). mine ++ entries_of (record { front = n; number = c.number }) a) own;
+        begins = all_begins (given ++ piece) (asked (rules_of front maps) (Does a ∷ ms)) wanted;
+        fits = (did.fits, tt);
+        why = why_heard (given ++ piece) a fate did.why;
+        said_is = λ k. ap (λ (t : List ℕ). text (rules_of front maps) ms ++ t) (sym (did.said_is k));
+        asked_is = λ k. wanted;
+        whole = λ k. both (whole_act a) (each_whole (rules_of front maps) ms) (did.whole k) whole;
+        knows = λ k. record {
+          head = λ e. absurd (no_both (is_reading talk'.stage) e (did.read k));
+          once = λ e. (w, once);
+          waits = did.waits k;
+          ends = ap (λ (b : Bool). is_answer a || b) unanswered ∙ or_false (is_answer a) ∙ did.ends k;
+        };
+      }
+    where
+      no_both : (b : Bool) → b ≡ true → b ≡ false → ⊥
+      no_both b e f = cc
+
+  pub hears_wish : (c : Conn) (piece : List ℕ) (w : Wish) (mine mine' : List Entry) (talk talk' : Talk) (said : List ℕ) (fate : Fate) → c.front ≡ front
+      → is_reading talk.stage ≡ true → (length talk.head.items ≤ 8192 → talk'.head.items ≡ shown (talk.head.items ++ piece))
+      → Asks maps (shown talk'.head.items) w → DoesWish c w mine mine' talk'.stage said fate
+      → Hears (rules_of front maps) Knows c.number piece mine mine' talk talk' said fate
+  hears_wish c piece w mine mine' talk talk' said fate own reads kept asks (inl idle) = hears_starved c.number piece mine mine' talk talk' said fate reads idle
+  hears_wish c piece w mine mine' talk talk' said fate own reads kept asks (inr (a, did)) = hears_act c piece w mine mine' talk talk' said fate a own reads kept asks did

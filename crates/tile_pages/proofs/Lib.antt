@@ -1,0 +1,5 @@
+pub mod Wishes
+pub mod Says
+pub mod Heards
+pub mod Replieds
+pub mod OwnEntries

@@ -1,0 +1,3 @@
+pub mod Talks
+pub mod Tiles
+pub mod Steps

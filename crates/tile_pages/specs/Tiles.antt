@@ -1,0 +1,262 @@
+-- What the tile front makes of a connection: which request stands in its bytes, which entries this has, and what is
+-- answered to it.
+use Rattle.std.specs.Prelude.{◌≡◌, ℕ, ◌<◌, ◌==◌, Bool, true, false, cond, not, ◌&&◌, ◌||◌, List, [], ◌∷◌, ◌++◌, length, Option, Some, None, option_map}
+use Rattle.std.specs.Option.{is_some, is_none}
+use Rattle.farm_history.specs.declared.queues.Conn.{Conn}
+use Rattle.farm_history.specs.declared.asks.Spot.{Spot}
+use Rattle.farm_history.specs.declared.asks.Cmd.TheVariants as cmd
+use Rattle.farm_history.specs.declared.asks.AskAnswer.{AskAnswer}
+use Rattle.farm_history.specs.declared.asks.AskAnswer.TheVariants as answer
+use Rattle.farm_history.specs.declared.answers.Fetched.{Fetched}
+use Rattle.farm_history.specs.declared.answers.Fetched.TheVariants as fetched
+use Rattle.farm_history.specs.Entries.{Entry, Ask, Fetch, Look}
+use Rattle.front_rounds.specs.Rules.{Rules, Move, Does, Gets}
+use Rattle.front_rounds.specs.Parts.{is_cut}
+use Rattle.tile_requests.specs.declared.targets.Kind.{Kind}
+use Rattle.tile_requests.specs.declared.targets.Kind.TheVariants as kind
+use Rattle.tile_requests.specs.Targets.{Place}
+use Rattle.tile_requests.specs.Heads.{shown, IsOpen, IsBad}
+use Rattle.tile_requests.specs.Requests.{IsNotGet, GetsNone, Gets as GetsPlace}
+use Rattle.tile_answers.specs.declared.faults.Fault.TheVariants as fault
+use Rattle.tile_answers.specs.Answers.{fault_answer, tile_answer, status_answer, dirty_answer}
+use Rattle.tile_pages.specs.declared.acts.Wish.{Wish}
+use Rattle.tile_pages.specs.declared.acts.Wish.TheVariants as wish
+use Rattle.tile_pages.specs.declared.acts.Act.{Act}
+use Rattle.tile_pages.specs.declared.acts.Act.TheVariants as act
+use Rattle.tile_pages.specs.declared.talks.Talk.{Talk}
+use Rattle.tile_pages.specs.Talks.{is_reading, is_answered, waits_in, spot_at}
+
+-- ---- what the bytes ask
+
+-- the spot of a place, where these are the farm's maps by their names
+abbrev pub spot_of : (List ℕ → Option ℕ) → Place → Spot
+spot_of maps p = record { map = maps p.name; z = p.z; x = p.x; y = p.y }
+
+-- a head that gets this of a spot
+abbrev pub GetsSpot : (List ℕ → Option ℕ) → List ℕ → Kind → Spot → Type 0
+GetsSpot maps bytes k s = (p : Place) × GetsPlace bytes k p × (s ≡ spot_of maps p)
+
+-- what a target asks of a spot
+abbrev pub wish_of : Kind → Spot → Wish
+wish_of kind.Tile s = wish.Tile s
+wish_of kind.Status s = wish.Status s
+wish_of kind.Dirty s = wish.Dirty s
+
+-- the bytes ask this
+abbrev pub Asks : (List ℕ → Option ℕ) → List ℕ → Wish → Type 0
+Asks maps bytes wish.Bad = IsBad bytes
+Asks maps bytes wish.NotGet = IsNotGet bytes
+Asks maps bytes wish.NoTarget = GetsNone bytes
+Asks maps bytes (wish.Tile s) = GetsSpot maps bytes kind.Tile s
+Asks maps bytes (wish.Status s) = GetsSpot maps bytes kind.Status s
+Asks maps bytes (wish.Dirty s) = GetsSpot maps bytes kind.Dirty s
+
+-- a connection has one request: none stands in its bytes while more are waited for
+abbrev pub Wants : (List ℕ → Option ℕ) → List ℕ → List Wish → Type 0
+Wants maps given [] = IsOpen (shown given)
+Wants maps given (w ∷ []) = Asks maps (shown given) w
+Wants maps given (w ∷ v ∷ ws) = ⊥
+
+-- ---- what is done
+
+-- the wish that was done
+abbrev pub want : Act → Wish
+want (act.Refused w) = w
+want (act.Asked s a) = wish.Tile s
+want (act.Served s a f) = wish.Tile s
+want (act.Seen s l) = wish.Status s
+want (act.Marked s a) = wish.Dirty s
+
+-- its entries, on a connection of the front of that number
+abbrev pub entries_of : Conn → Act → List Entry
+entries_of c (act.Refused w) = []
+entries_of c (act.Asked s a) = Ask c cmd.Render s a ∷ []
+entries_of c (act.Served s a f) = Ask c cmd.Render s a ∷ Fetch s f ∷ []
+entries_of c (act.Seen s l) = Look s l ∷ []
+entries_of c (act.Marked s a) = Ask c cmd.Dirty s a ∷ []
+
+-- the number of an ask that waits
+abbrev pub number_in : AskAnswer → Option ℕ
+number_in (answer.Queued n) = Some n
+number_in (answer.Joined n) = Some n
+number_in (answer.Lifted n) = Some n
+number_in answer.Done = None
+number_in (answer.NotDone why) = None
+number_in answer.Silent = None
+
+-- the ask that waits after the moves: its number and its spot
+abbrev pub waits_by : Act → Option (ℕ × Spot)
+waits_by (act.Asked s a) = option_map (λ n. (n, s)) (number_in a)
+waits_by (act.Refused w) = None
+waits_by (act.Served s a f) = None
+waits_by (act.Seen s l) = None
+waits_by (act.Marked s a) = None
+
+-- the ask that waits, unless it is that one
+abbrev pub unless : ℕ → Option (ℕ × Spot) → Option (ℕ × Spot)
+unless n None = None
+unless n (Some p) = cond (p.0 == n) None (Some p)
+
+abbrev pub waiting : List (Move Act) → Option (ℕ × Spot)
+waiting [] = None
+waiting (Does a ∷ ms) = waits_by a
+waiting (Gets r behind ∷ ms) = unless r.ask (waiting ms)
+
+-- ---- which entries stand behind a Collect
+
+abbrev pub same_map : Option ℕ → Option ℕ → Bool
+same_map None None = true
+same_map None (Some n) = false
+same_map (Some m) None = false
+same_map (Some m) (Some n) = m == n
+
+abbrev pub same_spot : Spot → Spot → Bool
+same_spot s t = same_map s.map t.map && (s.z == t.z && (s.x == t.x && s.y == t.y))
+
+-- the entry is the Fetch of that spot
+abbrev pub is_fetch : Spot → Entry → Bool
+is_fetch s (Fetch t f) = same_spot s t
+is_fetch s e = false
+
+-- none, or the Fetch of the spot that waited
+abbrev pub fits_behind : Option Spot → List Entry → Bool
+fits_behind o [] = true
+fits_behind None (e ∷ es) = false
+fits_behind (Some s) (e ∷ []) = is_fetch s e
+fits_behind (Some s) (e ∷ d ∷ es) = false
+
+abbrev pub is_empty : List Entry → Bool
+is_empty [] = true
+is_empty (e ∷ es) = false
+
+-- ---- what is answered
+
+abbrev pub is_no_memory : Fetched → Bool
+is_no_memory fetched.NoMemory = true
+is_no_memory (fetched.Clean v b) = false
+is_no_memory (fetched.Dirty v b) = false
+is_no_memory fetched.Missing = false
+is_no_memory fetched.Unservable = false
+is_no_memory fetched.Gone = false
+is_no_memory (fetched.Spoilt why) = false
+is_no_memory fetched.GetFailed = false
+
+-- the answer to a wish of which nothing is asked
+abbrev pub refusal : Wish → List ℕ
+refusal wish.Bad = fault_answer fault.BadRequest
+refusal wish.NotGet = fault_answer fault.NotAllowed
+refusal wish.NoTarget = fault_answer fault.NotFound
+refusal (wish.Tile s) = []
+refusal (wish.Status s) = []
+refusal (wish.Dirty s) = []
+
+abbrev pub is_refusal : Wish → Bool
+is_refusal wish.Bad = true
+is_refusal wish.NotGet = true
+is_refusal wish.NoTarget = true
+is_refusal (wish.Tile s) = false
+is_refusal (wish.Status s) = false
+is_refusal (wish.Dirty s) = false
+
+-- the answer to what was done: none where the tile is still to be fetched
+abbrev pub answer_of : Act → List ℕ
+answer_of (act.Refused w) = refusal w
+answer_of (act.Asked s a) = []
+answer_of (act.Served s a f) = tile_answer f
+answer_of (act.Seen s l) = status_answer l
+answer_of (act.Marked s a) = dirty_answer
+
+-- the answer by the Fetch behind a Collect
+abbrev pub answer_behind : List Entry → List ℕ
+answer_behind (Fetch s f ∷ es) = tile_answer f
+answer_behind es = []
+
+abbrev pub starves_behind : List Entry → Bool
+starves_behind (Fetch s f ∷ es) = is_no_memory f
+starves_behind es = false
+
+-- ---- the rules
+
+-- a Fetch at once belongs to an ask that does not wait
+abbrev pub fits_act : Act → Bool
+fits_act (act.Refused w) = is_refusal w
+fits_act (act.Served s a f) = is_none (number_in a)
+fits_act (act.Asked s a) = true
+fits_act (act.Seen s l) = true
+fits_act (act.Marked s a) = true
+
+abbrev pub fits : List (Move Act) → Move Act → Bool
+fits ms (Does a) = fits_act a
+fits ms (Gets r behind) = fits_behind (spot_at r.ask (waiting ms)) behind
+
+-- an ask without its Fetch is whole where it waits
+abbrev pub whole_act : Act → Bool
+whole_act (act.Asked s a) = is_some (number_in a)
+whole_act (act.Refused w) = true
+whole_act (act.Served s a f) = true
+whole_act (act.Seen s l) = true
+whole_act (act.Marked s a) = true
+
+-- a reply for which a tile waits has its Fetch, but where it is Cut
+abbrev pub whole : List (Move Act) → Move Act → Bool
+whole ms (Does a) = whole_act a
+whole ms (Gets r behind) = is_none (spot_at r.ask (waiting ms)) || (not (is_empty behind) || is_cut {A = Act} (Gets r behind))
+
+abbrev pub says : List (Move Act) → Move Act → List ℕ
+says ms (Does a) = answer_of a
+says ms (Gets r behind) = answer_behind behind
+
+abbrev pub starves_act : Act → Bool
+starves_act (act.Served s a f) = is_no_memory f
+starves_act (act.Refused w) = false
+starves_act (act.Asked s a) = false
+starves_act (act.Seen s l) = false
+starves_act (act.Marked s a) = false
+
+abbrev pub starves : Move Act → Bool
+starves (Does a) = starves_act a
+starves (Gets r behind) = starves_behind behind
+
+-- the request was answered
+abbrev pub is_answer : Act → Bool
+is_answer (act.Asked s a) = false
+is_answer (act.Refused w) = true
+is_answer (act.Served s a f) = true
+is_answer (act.Seen s l) = true
+is_answer (act.Marked s a) = true
+
+abbrev pub ends : List (Move Act) → Bool
+ends [] = false
+ends (Does a ∷ ms) = is_answer a || ends ms
+ends (Gets r behind ∷ ms) = not (is_empty behind) || ends ms
+
+-- what the tile front of that number makes of a connection, where these are the farm's maps by their names
+abbrev pub rules_of : ℕ → (List ℕ → Option ℕ) → Rules Act Wish
+rules_of front maps = record {
+  number = front;
+  wanted = Wants maps;
+  refuses = λ given. false;
+  want = want;
+  entries = λ c a. entries_of (record { front = front; number = c }) a;
+  fits = fits;
+  whole = whole;
+  says = says;
+  starves = starves;
+  ends = ends;
+}
+
+-- ---- what is kept of a session
+
+-- what was asked, in order
+abbrev pub wishes : List (Move Act) → List Wish
+wishes [] = []
+wishes (Does a ∷ ms) = wishes ms ++ want a ∷ []
+wishes (Gets r behind ∷ ms) = wishes ms
+
+-- While the head is read, all bytes are kept, and nothing was asked; then one wish was. The ask that waits is kept,
+-- and whether all was answered.
+pub record Knows (given : List ℕ) (ms : List (Move Act)) (talk : Talk) : Type 0 where
+  pub head : is_reading talk.stage ≡ true → (talk.head.items ≡ given) × (length given < 8192) × (wishes ms ≡ [])
+  pub once : is_reading talk.stage ≡ false → (w : Wish) × (wishes ms ≡ w ∷ [])
+  pub waits : waiting ms ≡ waits_in talk.stage
+  pub ends : ends ms ≡ is_answered talk.stage
