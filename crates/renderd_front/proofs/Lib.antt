@@ -1,0 +1,5 @@
+pub mod Making
+pub mod Streaming
+pub mod Takes
+pub mod Hearings
+pub mod Sorts

@@ -1,0 +1,2 @@
+pub mod Renderd
+pub mod inner

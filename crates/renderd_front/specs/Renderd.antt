@@ -1,0 +1,134 @@
+-- What the renderd front makes of a connection: which asks stand in its bytes, and what is answered to them.
+use Rattle.std.specs.Prelude.{◌≡◌, ℕ, Bool, true, false, ◌==◌, cond, List, [], ◌∷◌, ◌++◌, codes, find, Option, Some, None}
+use Rattle.std.specs.Option.{is_some}
+use Rattle.renderd_protocol.specs.declared.messages.Request.{Request}
+use Rattle.renderd_protocol.specs.declared.messages.Found.{Found}
+use Rattle.renderd_protocol.specs.declared.messages.Found.TheVariants.{Message, NeedMore, BadVersion}
+use Rattle.renderd_protocol.specs.Messages.{found_in, wire_of}
+use Rattle.renderd_protocol.specs.Stream.{taken}
+use Rattle.farm_history.specs.declared.queues.Conn.{Conn}
+use Rattle.farm_history.specs.declared.queues.Outcome.{Outcome}
+use Rattle.farm_history.specs.declared.queues.Outcome.TheVariants as outcome
+use Rattle.farm_history.specs.declared.asks.Spot.{Spot}
+use Rattle.farm_history.specs.declared.asks.Cmd.{Cmd}
+use Rattle.farm_history.specs.declared.asks.Cmd.TheVariants as cmd
+use Rattle.farm_history.specs.declared.asks.AskAnswer.{AskAnswer}
+use Rattle.farm_history.specs.declared.asks.AskAnswer.TheVariants as answer
+use Rattle.farm_history.specs.Entries.{Entry, Ask}
+use Rattle.farm_history.specs.Lists.{without_first}
+use Rattle.front_rounds.specs.Rules.{Rules, Move, Does, Gets}
+use Rattle.renderd_front.specs.declared.asked.Asked.{Asked}
+
+-- Which asks stand in the bytes.
+
+-- the commands that are asked: renderd's numbers 1, 5, 7, 6 and 2
+abbrev pub command_of : ℕ → Option Cmd
+command_of n = cond (n == 1) (Some cmd.Render) (cond (n == 5) (Some cmd.Prio) (cond (n == 7) (Some cmd.Low) (cond (n == 6) (Some cmd.Bulk) (cond (n == 2) (Some cmd.Dirty) None))))
+
+-- the requests that are asked: those with another command are skipped
+abbrev pub asks_in : List Request → List Request
+asks_in [] = []
+asks_in (r ∷ rs) = cond (is_some (command_of r.cmd)) (r ∷ asks_in rs) (asks_in rs)
+
+-- an unknown version stands next
+abbrev pub is_bad : Found → Bool
+is_bad (BadVersion version) = true
+is_bad (Message request len) = false
+is_bad NeedMore = false
+
+-- version 1 names the map `default`
+abbrev pub name_of : Request → List ℕ
+name_of r = cond (r.ver == 1) (codes "default") r.name.items
+
+-- what is asked for, at a farm with these maps
+abbrev pub spot_of : (List ℕ → Option ℕ) → Request → Spot
+spot_of maps r = record { map = maps (name_of r); z = r.z; x = r.x; y = r.y }
+
+-- the entry of an ask
+abbrev pub asks_by : Conn → Option Cmd → Spot → AskAnswer → List Entry
+asks_by conn (Some command) spot a = Ask conn command spot a ∷ []
+asks_by conn None spot a = []
+
+-- What is answered at once.
+
+-- the command of the answer: 3 for Done, 4 for every NotDone, none for Dirty and for an ask that waits
+abbrev pub answer_command : AskAnswer → Option ℕ
+answer_command answer.Done = Some 3
+answer_command (answer.NotDone why) = Some 4
+answer_command (answer.Queued n) = None
+answer_command (answer.Joined n) = None
+answer_command (answer.Lifted n) = None
+answer_command answer.Silent = None
+
+-- an answer repeats its request, with a command of its own
+abbrev pub said_to : Option ℕ → Request → List ℕ
+said_to (Some command) r = wire_of r command
+said_to None r = []
+
+-- What is answered to a reply.
+
+-- the number of an ask that waits
+abbrev pub number_in : AskAnswer → Option ℕ
+number_in (answer.Queued n) = Some n
+number_in (answer.Joined n) = Some n
+number_in (answer.Lifted n) = Some n
+number_in answer.Done = None
+number_in (answer.NotDone why) = None
+number_in answer.Silent = None
+
+-- the requests that wait, each with the number of its ask
+abbrev pub with_wait : Option ℕ → Request → List (ℕ × Request) → List (ℕ × Request)
+with_wait (Some n) r ws = ws ++ (n, r) ∷ []
+with_wait None r ws = ws
+
+-- the ask of this number
+abbrev pub is_wait : ℕ → ℕ × Request → Bool
+is_wait n w = w.0 == n
+
+-- the requests that wait after these moves
+abbrev pub waiting : List (Move Asked) → List (ℕ × Request)
+waiting [] = []
+waiting (Does a ∷ ms) = with_wait (number_in a.answer) a.request (waiting ms)
+waiting (Gets r behind ∷ ms) = without_first (is_wait r.ask) (waiting ms)
+
+-- the command of the answer to a reply: 3 for Done, 4 for NotDone, none for Cut
+abbrev pub outcome_command : Outcome → Option ℕ
+outcome_command outcome.Done = Some 3
+outcome_command outcome.NotDone = Some 4
+outcome_command outcome.Cut = None
+
+-- nothing is answered where no request waits for the reply
+abbrev pub said_for : Option ℕ → Option (ℕ × Request) → List ℕ
+said_for command (Some w) = said_to command w.1
+said_for command None = []
+
+-- The front.
+
+abbrev pub is_empty : List Entry → Bool
+is_empty [] = true
+is_empty (e ∷ es) = false
+
+abbrev pub says : List (Move Asked) → Move Asked → List ℕ
+says ms (Does a) = said_to (answer_command a.answer) a.request
+says ms (Gets r behind) = said_for (outcome_command r.outcome) (find (is_wait r.ask) (waiting ms))
+
+-- an ask is one entry; nothing stands behind the Collect of a reply
+abbrev pub fits : List (Move Asked) → Move Asked → Bool
+fits ms (Does a) = true
+fits ms (Gets r behind) = is_empty behind
+
+-- What the renderd front makes of a connection, where it has this number and the farm has these maps. An unknown version ends the
+-- connection; nothing else does, and no entry of it says that memory is wanting.
+abbrev pub rules_of : ℕ → (List ℕ → Option ℕ) → Rules Asked Request
+rules_of front maps = record {
+  number = front;
+  wanted = λ given ws. asks_in (taken given).requests ≡ ws;
+  refuses = λ given. is_bad (found_in (taken given).rest);
+  want = λ a. a.request;
+  entries = λ c a. asks_by (record { front = front; number = c }) (command_of a.request.cmd) (spot_of maps a.request) a.answer;
+  fits = fits;
+  whole = λ ms m. true;
+  says = says;
+  starves = λ m. false;
+  ends = λ ms. false;
+}

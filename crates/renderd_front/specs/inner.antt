@@ -1,0 +1,2 @@
+-- Inner words, which serve the contracts of inner functions alone.
+pub mod Reads
