@@ -1,0 +1,145 @@
+//! The door.
+ghost use Rattle.std.specs.Prelude.{◌≡◌};
+ghost use Rattle.farm_door.specs.Doors.{from_front};
+
+use crossbeam_utils::sync::Unparker;
+use farm_base::Bell;
+use farm_history::{
+    AskAnswer, Cmd, Collected, Conn, Event, Fetched, Looked, Renewed, Restyled, Spot, Tally,
+    Updated,
+};
+use farm_shared::{Alarms, Seat, SharedFarm};
+use front_rounds::{Farm, Worn};
+use plain_world::Tile;
+use std::alloc::Global;
+use std::collections::LinkedList;
+use std::sync::Wait;
+use tile_store::TileStore;
+
+/// What stays of a seat over its turns: whether it is the first, how often it was split, and what was
+/// joined into it. No value of it is made.
+pub struct Place {
+    pub first: bool,
+    pub splits: u64,
+    pub joined: LinkedList<(u64, LinkedList<(u64, Event)>)>,
+}
+
+/// The shared farm, with those who are woken when something happened. Each call is the farm's own; after
+/// an ask the workers are woken, and after a stop all.
+pub struct Door<'a, D: TileStore, B> {
+    pub farm: &'a SharedFarm<D>,
+    pub alarms: &'a Alarms<'a, B>,
+}
+
+// A derive would ask that `D` and `B` be `Drop`.
+impl<'a, D: TileStore, B> Drop for Door<'a, D, B> {
+    fn drop(self) {
+        let Self { farm: _, alarms: _ } = self;
+    }
+}
+
+/// Wakes the workers. It promises nothing.
+fn wake_all(workers: &[Unparker]) {
+    for worker in workers {
+        worker.unpark();
+    }
+}
+
+/// The answer of a turn, with the fronts' word for a worn farm.
+fn for_front<T>(answer: Result<T, farm_shared::Worn>) -> Result<T, Worn>
+    ensures { result ≡ from_front answer }
+{
+    match answer {
+        Ok(answer) => Ok(answer),
+        Err(_worn) => Err(Worn),
+    }
+}
+
+impl<'a, D: TileStore, B: Bell> Farm for Door<'a, D, B> {
+    ghost use Rattle.farm_door.specs.Doors.{maps_of, seats_of};
+
+    type Seat = Seat<D>;
+
+    type Place = Place;
+
+    ghost seats = { λ door. seats_of door.farm.now };
+
+    ghost map_at = { λ door. maps_of door.farm.now };
+
+    fn map_of(&self, name: &[u8]) -> Option<u32> {
+        self.farm.map_of(name)
+    }
+
+    fn ask<R: Wait>(
+        &self,
+        rt: &R,
+        seat: &mut Seat<D>,
+        conn: Conn,
+        cmd: Cmd,
+        spot: Spot,
+    ) -> Result<AskAnswer, Worn> {
+        let answer = for_front(self.farm.ask(rt, seat, conn, cmd, spot));
+        wake_all(self.alarms.workers);
+        answer
+    }
+
+    fn collect<R: Wait>(&self, rt: &R, seat: &mut Seat<D>, front: u32) -> Result<Collected, Worn> {
+        for_front(self.farm.collect(rt, seat, front))
+    }
+
+    fn leave<R: Wait>(&self, rt: &R, seat: &mut Seat<D>, conn: Conn) -> Result<u32, Worn> {
+        for_front(self.farm.leave(rt, seat, conn))
+    }
+
+    fn fetch<R: Wait>(
+        &self,
+        rt: &R,
+        alloc: Global,
+        seat: &mut Seat<D>,
+        spot: Spot,
+    ) -> Result<Fetched, Worn> {
+        for_front(self.farm.fetch(rt, seat, alloc, spot))
+    }
+
+    fn look<R: Wait>(&self, rt: &R, seat: &mut Seat<D>, spot: Spot) -> Result<Looked, Worn> {
+        for_front(self.farm.look(rt, seat, spot))
+    }
+
+    fn update<R: Wait>(
+        &self,
+        rt: &R,
+        alloc: Global,
+        seat: &mut Seat<D>,
+        number: u32,
+    ) -> Result<Updated, Worn> {
+        for_front(self.farm.update(rt, seat, alloc, number))
+    }
+
+    fn renew<R: Wait>(
+        &self,
+        rt: &R,
+        alloc: Global,
+        seat: &mut Seat<D>,
+        number: u32,
+    ) -> Result<Renewed, Worn> {
+        for_front(self.farm.renew(rt, seat, alloc, number))
+    }
+
+    fn restyle<R: Wait>(&self, rt: &R, seat: &mut Seat<D>, number: u32) -> Result<Restyled, Worn> {
+        for_front(self.farm.restyle(rt, seat, number))
+    }
+
+    fn expire<R: Wait>(&self, rt: &R, seat: &mut Seat<D>, tile: Tile) -> Result<u64, Worn> {
+        for_front(self.farm.expire(rt, seat, tile))
+    }
+
+    fn tally<R: Wait>(&self, rt: &R, seat: &mut Seat<D>) -> Result<Tally, Worn> {
+        for_front(self.farm.tally(rt, seat))
+    }
+
+    fn stop<R: Wait>(&self, rt: &R, seat: &mut Seat<D>) -> Result<(), Worn> {
+        let answer = for_front(self.farm.stop(rt, seat));
+        self.alarms.ring_all();
+        answer
+    }
+}
