@@ -47,10 +47,10 @@ room_begun own spares taken queues styled spares_room taken_room valid p = recor
   taken_fit = p.tables.taken_fit;
 }
 
-abbrev no_style : Option ℕ
+abbrev pub no_style : Option ℕ
 no_style = None
 
-none_styled : (n m : ℕ) → m < n → slice_get (replicate n no_style) m ≡ Some no_style
+pub none_styled : (n m : ℕ) → m < n → slice_get (replicate n no_style) m ≡ Some no_style
 none_styled n m lt =
     let within : m < length (replicate n no_style) = omega (arith, lt, length-replicate n no_style) in
     slice_get-get_or (replicate n no_style) m no_style within ∙ ap (λ o. Some o) (get_or-replicate n m no_style no_style lt)

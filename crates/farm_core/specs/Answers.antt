@@ -1,12 +1,19 @@
 -- How a history names the farm's answers, and what no event changes of a farm.
-use Rattle.std.specs.Prelude.{ℕ, ◌≡◌, Bool, true, false, List, Option, option_map, codes}
+use Rattle.std.specs.Prelude.{ℕ, ◌≡◌, Bool, true, false, List, Option, Some, None, Result, option_map, codes}
 use Rattle.farm_base.specs.Outside.{Outside}
 use Rattle.tile_store.specs.Stores.{StoreTold}
+use Rattle.plain_world.specs.World.{index_place}
 use Rattle.farm_history.specs.declared.answers.ClaimAnswer.{ClaimAnswer}
+use Rattle.farm_history.specs.declared.answers.Fetched.{Fetched}
+use Rattle.farm_history.specs.declared.asks.Spot.{Spot}
+use Rattle.farm_history.specs.declared.keys.Mark.{Mark}
+use Rattle.farm_history.specs.Plans.{key_of, tile_of}
+use Rattle.farm_plan.specs.Drawings.{key_path}
 use Rattle.farm_core.specs.declared.claims.Claimed.{Claimed}
 use Rattle.farm_core.specs.declared.finishes.Drawn.{Drawn}
 use Rattle.farm_stands.specs.Seen.{FarmSeen}
 use Rattle.farm_stands.specs.Jobs.{JobSeen, job_key, job_text}
+use Rattle.farm_stands.specs.Reads.{ReadsTile, fetched_by}
 
 -- the answer to a claim: of a job its ticket, its key and the data version
 abbrev pub claim_answer : Claimed → ClaimAnswer
@@ -40,3 +47,10 @@ pub record Lasts {D : Type 0} (state : D → Outside StoreTold) (old new : FarmS
   pub saved : new.saved ≡ old.saved
   pub first : new.first ≡ old.first
   pub beside : at_saved (state new.store) ≡ at_saved (state old.store)
+
+-- What a fetch of the spot read and is answered, by whether the spot can be served and by the mark of its metatile. With a mark the tile at the spot's place was read, of the container at the metatile's path, from the store as it was; without, nothing was read, and the store is as it was
+abbrev pub Reads : {D : Type 0} → (D → Outside StoreTold) → FarmSeen D → FarmSeen D → Spot → Fetched → Bool → Option Mark → Type 0
+Reads state old new spot answer false mark = (answer ≡ Fetched.Unservable) × (new.store ≡ old.store)
+Reads state old new spot answer true None = (answer ≡ Fetched.Missing) × (new.store ≡ old.store)
+Reads state old new spot answer true (Some mark) =
+    (read : Result (List ℕ) Fetched) × ReadsTile (state old.store) (state new.store) (key_path old.plan (key_of spot)) (key_of spot).meta (index_place (tile_of spot)) read × (answer ≡ fetched_by mark read)

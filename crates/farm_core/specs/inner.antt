@@ -2,6 +2,7 @@
 pub mod Asks
 pub mod Effects
 pub mod Renews
+pub mod Replays
 pub mod Rooms
 pub mod Saves
 pub mod Starts

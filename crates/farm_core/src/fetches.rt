@@ -1,7 +1,10 @@
 //! Tiles that are read, and metatiles that are looked at.
 ghost use Rattle.std.specs.Prelude.{◌≡◌, ◌<◌, ◌^◌, Bool, List, ◌∷◌};
 ghost use Rattle.farm_history.specs.Entries.{Entry, Fetch, Look};
-ghost use Rattle.farm_core.specs.Answers.{Lasts};
+ghost use Rattle.farm_history.specs.Plans.{is_servable, key_of};
+ghost use Rattle.farm_plan.specs.Drawings.{plan_of};
+ghost use Rattle.expiry_lists.specs.Marks.{mark_of};
+ghost use Rattle.farm_core.specs.Answers.{Lasts, Reads};
 ghost use Rattle.farm_stands.specs.Stands.{StandsFor};
 ghost use Rattle.plain_world.specs.World.{IsTile, meta_of, index_place};
 ghost use Rattle.farm_plan.specs.Spots.{IsKeyOf};
@@ -140,13 +143,14 @@ impl<D: TileStore> Farm<D> {
     /// The bytes of a spot's tile, as the store holds them, with how its metatile stands. It reads the head of
     /// the metatile's container and, by it, the tile's part. Unservable and Missing as `look`; GetFailed where a
     /// read Failed; NoMemory where one found none; Gone where one found nothing; Spoilt where the head is none,
-    /// with its first fault, or where the part is cut off. Over a store that tells what it holds neither Gone
-    /// nor Spoilt comes, and the bytes are the plain drawing in the style and over the data of the claim of what
-    /// is shown.
+    /// with its first fault, or where the part is cut off: each exactly as what the store holds says. Where the
+    /// store has told what it holds since the start neither Gone nor Spoilt comes, and the bytes are the plain
+    /// drawing in the style and over the data of the claim of what is shown.
     pub fn fetch(&mut self, alloc: Global, spot: Spot) -> Fetched
         requires { self.old.counts.turns < 2 ^ 63 }
         ensures step { (told : Bool) (h : List Entry) → StandsFor D.state told self.old h → StandsFor D.state told self.new (Fetch spot result ∷ h) }
         ensures kept { Lasts D.state self.old self.new }
+        ensures reads { Reads D.state self.old self.new spot result (is_servable (plan_of self.old.plan) spot) (mark_of self.old.marks.shown (key_of spot)) }
     {
         self.count_turn();
         let Some(key) = serve(self.own.setup(), spot) else {

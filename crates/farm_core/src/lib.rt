@@ -11,6 +11,7 @@ mod fetches;
 mod finishes;
 mod renews;
 mod replies;
+mod resumes;
 mod saves;
 mod starts;
 mod updates;
@@ -25,3 +26,4 @@ pub use farm_plan::{
     Outcome, Past, Renewed, Reply, Restyle, Restyled, Spot, Tally, Updated, Why,
 };
 pub use finishes::Drawn;
+pub use resume_faults::ResumeFault;

@@ -17,18 +17,18 @@ use tile_store::TileStore;
 
 /// The tables of a farm that begins: no map has been given a style, nothing is drawn, and nothing waits.
 #[derive(Drop)]
-struct Tables {
-    styled: Vec<Option<u32>>,
-    taken: Vec<Taken>,
-    queues: Queues,
+pub(crate) struct Tables {
+    pub(crate) styled: Vec<Option<u32>>,
+    pub(crate) taken: Vec<Taken>,
+    pub(crate) queues: Queues,
 }
 
 /// What a farm that begins has beside its store.
 #[derive(Drop)]
-struct Parts {
-    own: Share,
-    spares: Vec<Share>,
-    tables: Tables,
+pub(crate) struct Parts {
+    pub(crate) own: Share,
+    pub(crate) spares: Vec<Share>,
+    pub(crate) tables: Tables,
 }
 
 /// No style for each of so many maps.
@@ -74,7 +74,7 @@ fn first_shares(alloc: Global, plan: FarmPlan) -> Result<(Share, Vec<Share>), No
 }
 
 /// The parts of a farm of the plan.
-fn first_parts(alloc: Global, plan: FarmPlan) -> Result<Parts, NoMemory>
+pub(crate) fn first_parts(alloc: Global, plan: FarmPlan) -> Result<Parts, NoMemory>
     ensures { IfOk result (λ p. AreParts plan p.own p.spares.items (vec_capacity p.spares) p.tables.styled.items p.tables.taken.items p.tables.queues (vec_capacity p.tables.taken)) }
 {
     let tables = first_tables(alloc, plan.maps.len(), plan.limits, plan.workers)?;
@@ -87,7 +87,7 @@ fn first_parts(alloc: Global, plan: FarmPlan) -> Result<Parts, NoMemory>
 }
 
 /// The farm of these parts over the store.
-fn begin<D>(alloc: Global, parts: Parts, store: D) -> Farm<D>
+pub(crate) fn begin<D>(alloc: Global, parts: Parts, store: D) -> Farm<D>
     requires plan { IsPlan parts.own.plan }
     requires parts { AreParts parts.own.plan parts.own parts.spares.items (vec_capacity parts.spares) parts.tables.styled.items parts.tables.taken.items parts.tables.queues (vec_capacity parts.tables.taken) }
     ensures { IsStarted parts.own.plan store result }

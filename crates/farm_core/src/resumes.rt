@@ -1,0 +1,233 @@
+//! How a farm begins anew from what was saved of it.
+ghost use Rattle.std.specs.Prelude.{◌≡◌, ◌≢◌, ◌<◌, ◌+◌, ◌-◌, ◌*◌, ◌^◌, List, true, Some, None, Err, length, IfErr, IfOk, OnOk};
+ghost use Rattle.std.specs.Vec.{vec_capacity};
+ghost use Rattle.farm_base.specs.declared.faults.ApplyFault.{ApplyFault};
+ghost use Rattle.plain_world.specs.World.{IsMeta};
+ghost use Rattle.plain_data.specs.Data.{updated};
+ghost use Rattle.farm_history.specs.Entries.{Entry};
+ghost use Rattle.farm_history.specs.Lists.{Each};
+ghost use Rattle.farm_history.specs.Replays.{are_rising, number_of, replay, replay_from, replay_keys};
+ghost use Rattle.farm_plan.specs.Plans.{IsPlan};
+ghost use Rattle.farm_plan.specs.Drawings.{plan_of, update_of};
+ghost use Rattle.farm_saved.specs.Savings.{IsSaving};
+ghost use Rattle.resume_faults.specs.declared.faults.ResumeFault.{ResumeFault};
+ghost use Rattle.farm_core.specs.inner.Starts.{AreParts};
+ghost use Rattle.resume_faults.specs.Faults.{apply_fault, resume_fault, shape_fault};
+ghost use Rattle.farm_core.specs.Begins.{Begins, BeginsWell};
+ghost use Rattle.farm_core.specs.inner.Replays.{CanReplay, IsAnew, IsFresh, IsReplaying, RefusesAt, ReplaysAt, ReplaysChange, ReplaysVersion, Stays, how_many_of};
+
+use crate::farm::Farm;
+use crate::starts::{Parts, begin, first_parts};
+use farm_base::{ApplyFault, NoMemory};
+use farm_history::Saved;
+use farm_plan::{FarmPlan, Kept, Past};
+use resume_faults::{ResumeFault, check, copied, refused_at, styles_given};
+use std::alloc::Global;
+use tile_store::TileStore;
+
+/// What a farm that begins anew has beside its store.
+#[derive(Drop)]
+struct Again {
+    parts: Parts,
+    styled: Vec<Option<u32>>,
+    saved: Saved,
+}
+
+/// The parts of a farm of the plan, where what was saved is of such a plan. Err is the first fault, but for
+/// those of the updates themselves, or want of memory.
+fn parts_again(alloc: Global, plan: FarmPlan, saved: &Saved) -> Result<Again, ResumeFault>
+    requires { length saved.now.styles + length saved.now.updates < 2 ^ 64 }
+    ensures parts { IfOk result (λ a. AreParts plan a.parts.own a.parts.spares.items (vec_capacity a.parts.spares) a.parts.tables.styled.items a.parts.tables.taken.items a.parts.tables.queues (vec_capacity a.parts.tables.taken)) }
+    ensures styled { IfOk result (λ a. a.styled.items ≡ saved.now.styles) }
+    ensures saved { IfOk result (λ a. a.saved ≡ saved.now) }
+    ensures fits { IfOk result (λ a. shape_fault plan saved.now ≡ None) }
+    ensures refused { IfErr result (λ e. e ≢ ResumeFault.NoMemory → shape_fault plan saved.now ≡ Some e) }
+{
+    let parts = first_parts(alloc, plan)?;
+    check(parts.own.setup(), saved)?;
+    let styled = Vec::from_slice(alloc, saved.styles.as_slice())?;
+    let saved = copied(alloc, saved)?;
+    Ok(Again {
+        parts,
+        styled,
+        saved,
+    })
+}
+
+/// The farm of these parts over the store, whose maps have been given the styles that were saved.
+fn begin_again<D>(alloc: Global, again: Again, store: D) -> Farm<D>
+    requires plan { IsPlan again.parts.own.plan }
+    requires parts { AreParts again.parts.own.plan again.parts.own again.parts.spares.items (vec_capacity again.parts.spares) again.parts.tables.styled.items again.parts.tables.taken.items again.parts.tables.queues (vec_capacity again.parts.tables.taken) }
+    requires styled { again.styled.items ≡ again.saved.styles }
+    requires maps { length again.saved.styles ≡ length again.parts.own.plan.maps }
+    ensures { IsAnew again.parts.own.plan again.saved store result }
+{
+    let Again {
+        parts,
+        styled,
+        saved,
+    } = again;
+    let turns = styles_given(styled.as_slice());
+    let mut farm = begin(alloc, parts, store);
+    farm.styled = styled;
+    farm.turns = turns;
+    farm.saved = Some(saved);
+    farm
+}
+
+impl<D> Farm<D> {
+    /// Shows a clean metatile again, where it is of that version.
+    fn replay_at(&mut self, version: u64, kept: Kept) -> Result<(), NoMemory>
+        requires meta { IsMeta kept.key.meta }
+        requires turns { self.old.counts.turns < 2 ^ 63 }
+        ensures done { OnOk result (ReplaysAt version self.old self.new kept) }
+        ensures stays { Stays self.old self.new }
+    {
+        if kept.version != version {
+            return Ok(());
+        }
+        self.marks.reserve_one()?;
+        self.marks.show(kept.key, self.version, true);
+        self.turns += 4;
+        self.numbers += 1;
+        self.jobs += 1;
+        self.asks += 1;
+        self.done += 1;
+        self.stored += 1;
+        Ok(())
+    }
+
+    /// Makes an update again.
+    fn replay_change(&mut self, alloc: Global, past: Past) -> Result<(), ApplyFault>
+        requires known { number_of past < length self.old.plan.updates }
+        requires turns { self.old.counts.turns < 2 ^ 63 }
+        ensures done { OnOk result (ReplaysChange self.old self.new past) }
+        ensures refused { IfErr result (λ e. e ≢ ApplyFault.NoMemory → updated (update_of self.old.plan (number_of past)) self.old.data_now ≡ Err e) }
+        ensures stays { Stays self.old self.new }
+    {
+        self.count_turn();
+        match past {
+            Past::Update(number) => self.advance(alloc, number, past),
+            Past::Renew(number) => {
+                let _clean = self.renew_data(alloc, number)?;
+                Ok(())
+            }
+        }
+    }
+}
+
+impl<D: TileStore> Farm<D> {
+    /// Shows the clean metatiles of that version again, in order.
+    fn replay_keys(&mut self, version: u64, clean: &[Kept]) -> Result<(), NoMemory>
+        requires version { version ≡ self.old.counts.version }
+        requires keys { Each (CanReplay self.old.plan) clean.now }
+        requires rise { are_rising clean.now ≡ true }
+        requires fresh { IsFresh version 0 clean.now self.old.marks.shown }
+        requires turns { self.old.counts.turns + 4 * how_many_of version clean.now < 2 ^ 63 }
+        ensures replayed { OnOk result ((g : List Entry) → IsReplaying D.state self.old g → IsReplaying D.state self.new (replay_keys version clean.now g)) }
+        ensures fresh { OnOk result (IsFresh (version + 1) 0 clean.now self.new.marks.shown) }
+        ensures turns { OnOk result (self.new.counts.turns ≡ self.old.counts.turns + 4 * how_many_of version clean.now) }
+        ensures same { OnOk result ((self.new.counts.version ≡ self.old.counts.version) × (self.new.data_now ≡ self.old.data_now)) }
+        ensures stays { Stays self.old self.new }
+    {
+        for kept in clean {
+            self.replay_at(version, *kept)?;
+        }
+        Ok(())
+    }
+}
+
+impl<D: TileStore> Farm<D> {
+    /// Shows the clean metatiles of a version again, and then makes the update again that ended it.
+    fn replay_version(
+        &mut self,
+        alloc: Global,
+        version: u64,
+        past: Past,
+        clean: &[Kept],
+    ) -> Result<(), ResumeFault>
+        requires version { version ≡ self.old.counts.version }
+        requires keys { Each (CanReplay self.old.plan) clean.now }
+        requires rise { are_rising clean.now ≡ true }
+        requires fresh { IsFresh version 0 clean.now self.old.marks.shown }
+        requires known { number_of past < length self.old.plan.updates }
+        requires turns { self.old.counts.turns + 4 * how_many_of version clean.now < 2 ^ 62 }
+        ensures done { OnOk result (ReplaysVersion D.state self.old self.new version past clean.now) }
+        ensures refused { IfErr result (RefusesAt self.old version past) }
+        ensures stays { Stays self.old self.new }
+    {
+        self.replay_keys(version, clean)?;
+        match self.replay_change(alloc, past) {
+            Ok(()) => Ok(()),
+            Err(fault) => Err(refused_at(version, fault)),
+        }
+    }
+
+    /// Replays what was saved: for each version in turn its clean metatiles, and then the update that ended it.
+    fn replay(&mut self, alloc: Global, updates: &[Past], clean: &[Kept]) -> Result<(), ResumeFault>
+        requires version { self.old.counts.version ≡ 0 }
+        requires known { Each (λ c. number_of c < length self.old.plan.updates) updates.now }
+        requires keys { Each (CanReplay self.old.plan) clean.now }
+        requires rise { are_rising clean.now ≡ true }
+        requires fresh { IsFresh 0 0 clean.now self.old.marks.shown }
+        requires turns { self.old.counts.turns + length updates.now + 4 * length clean.now < 2 ^ 62 }
+        ensures replayed { OnOk result ((g : List Entry) → IsReplaying D.state self.old g → IsReplaying D.state self.new (replay_from (plan_of self.old.plan) clean.now 0 updates.now g)) }
+        ensures fits { OnOk result (apply_fault self.old.plan self.old.data_now 0 updates.now ≡ None) }
+        ensures refused { IfErr result (λ e. e ≢ ResumeFault.NoMemory → apply_fault self.old.plan self.old.data_now 0 updates.now ≡ Some e) }
+        ensures stays { Stays self.old self.new }
+    {
+        for (place, past) in updates.iter().enumerate() {
+            self.replay_version(alloc, place as u64, *past, clean)?;
+        }
+        let version = self.version;
+        self.replay_keys(version, clean)?;
+        Ok(())
+    }
+
+    /// Replays what was saved, which is of such a plan but for the faults of its updates.
+    fn replay_saved(&mut self, alloc: Global, saved: &Saved) -> Result<(), ResumeFault>
+        requires plan { IsPlan self.old.plan }
+        requires anew { IsAnew self.old.plan saved.now self.old.store self.old }
+        requires saved { IsSaving saved.now }
+        requires shape { shape_fault self.old.plan saved.now ≡ None }
+        requires short { length saved.now.updates + 4 * length saved.now.clean < 2 ^ 62 - 16 }
+        ensures begins { OnOk result (Begins D.state self.old.plan (Some saved.now) self.old.store self.new) }
+        ensures fits { OnOk result (resume_fault self.old.plan saved.now ≡ None) }
+        ensures refused { IfErr result (λ e. e ≢ ResumeFault.NoMemory → resume_fault self.old.plan saved.now ≡ Some e) }
+        ensures store { self.new.store ≡ self.old.store }
+    {
+        self.replay(alloc, saved.updates.as_slice(), saved.clean.as_slice())
+    }
+
+    /// A farm of the plan over the store that begins where another was saved: its maps have their last styles,
+    /// the updates are made again, and the clean metatiles are shown again, without a drawing. It stands for the
+    /// replay of what was saved; that the store holds what is shown is for the caller to know. Like `start` it
+    /// takes all the memory that later calls need which take none, and keeps for good the plan, the store as it
+    /// is now, and what was saved. Err is the first fault of what was saved, or want of memory, and hands the
+    /// store back.
+    pub fn resume(
+        alloc: Global,
+        plan: FarmPlan,
+        store: D,
+        saved: &Saved,
+    ) -> Result<Farm<D>, (D, ResumeFault)>
+        requires plan { IsPlan plan }
+        requires saved { IsSaving saved.now }
+        requires short { length saved.now.updates + 4 * length saved.now.clean < 2 ^ 62 - 16 }
+        ensures begins { IfOk result (Begins D.state plan (Some saved.now) store) }
+        ensures well { IfOk result (λ f. BeginsWell (replay (plan_of plan) saved.now)) }
+        ensures fits { IfOk result (λ f. resume_fault plan saved.now ≡ None) }
+        ensures refused { IfErr result (λ e. e.1 ≢ ResumeFault.NoMemory → resume_fault plan saved.now ≡ Some e.1) }
+        ensures store { IfErr result (λ e. e.0 ≡ store) }
+    {
+        let again = match parts_again(alloc, plan, saved) {
+            Ok(again) => again,
+            Err(fault) => return Err((store, fault)),
+        };
+        let mut farm = begin_again(alloc, again, store);
+        match farm.replay_saved(alloc, saved) {
+            Ok(()) => Ok(farm),
+            Err(fault) => Err((farm.into_store(), fault)),
+        }
+    }
+}
