@@ -64,7 +64,7 @@ module _ {D : Type 0} (state : D → Outside StoreTold) where
 
   pub reply_given : (made : Made (Turned D)) (front : ℕ) (answer : Collected) (v w : Held (Turned D) Entry) → v.number ≡ front + 1 → w.number ≡ v.number → by w.number w.seen ≡ w.mine →
       Took (λ t log. IsAfter state t.farm log) (λ t. lasting_of state t.farm) made.about (Collect front answer) (λ log _. GivesReply front answer log) v w → OwnReply front v.mine answer
-  reply_given made front answer v w is same known t low = go answer (t.promised low)
+  reply_given made front answer v w is same known t other = go answer (t.promised other)
     where
       e : ℕ × Entry
       e = (v.number, Collect front answer)

@@ -1,5 +1,5 @@
 -- A reply to a front is to an ask among the entries of its own seat.
-use Rattle.std.proofs.Common.{◌≡◌, ℕ, suc, ◌+◌, ◌<◌, ◌≤◌, Bool, true, false, ◌&&◌, ◌||◌, cond, ◌==◌, nat_lt, List, [], ◌∷◌, ◌++◌, length, filter, Option, Some, None, refl, sym, ap, ◌∙◌, subst, arith}
+use Rattle.std.proofs.Common.{◌≡◌, ◌≢◌, ℕ, suc, ◌+◌, ◌<◌, ◌≤◌, Bool, true, false, ◌&&◌, ◌||◌, cond, ◌==◌, nat_lt, List, [], ◌∷◌, ◌++◌, length, filter, Option, Some, None, refl, sym, ap, ◌∙◌, subst, arith}
 use Rattle.std.proofs.lemmas.Bool.Decides.{nat_tests}
 use Rattle.farm_history.specs.declared.keys.Key.{Key}
 use Rattle.farm_history.specs.declared.queues.Conn.{Conn}
@@ -122,9 +122,9 @@ owns_more n m s a g h own (Ask conn command spot answer) fits front is ih =
 owns_more n m s a g h own (Leave c count) fits front is ih = leaves m a h own c count (s == n) (ih is)
 owns_more n m s a g h own e fits front is ih = passes m a h own e (s == n) (λ g'. refl) (λ g' place c. refl) (ih is)
 
-owns : (n m : ℕ) (a : Numbered) (o : List Entry) (g : List (ℕ × Entry)) → BeginsWell o → Seated g → a.conn.front + 1 ≡ n → a.conn.front < replay_front → asked (plain g ++ o) m ≡ Some a → Owns m a (plain g ++ o) (own_of n g)
-owns n m a o [] begun seated front low is = let at = begun.asks m a is in absurd (omega arith)
-owns n m a o (x ∷ g) begun seated front low is = owns_more n m x.0 a g (plain g ++ o) (own_of n g) x.1 seated.0 front is (owns n m a o g begun seated.1 front low)
+owns : (n m : ℕ) (a : Numbered) (o : List Entry) (g : List (ℕ × Entry)) → BeginsWell o → Seated g → a.conn.front + 1 ≡ n → a.conn.front ≢ replay_front → asked (plain g ++ o) m ≡ Some a → Owns m a (plain g ++ o) (own_of n g)
+owns n m a o [] begun seated front other is = absurd (other (begun.asks m a is))
+owns n m a o (x ∷ g) begun seated front other is = owns_more n m x.0 a g (plain g ++ o) (own_of n g) x.1 seated.0 front is (owns n m a o g begun seated.1 front other)
 
 -- what was not replied in the whole was not replied among the own entries
 unreplied_more : (m : ℕ) (h own : List Entry) (e : Entry) (b : Bool) → is_replied (e ∷ h) m ≡ false → (is_replied h m ≡ false → is_replied own m ≡ false) → is_replied (cond b (e ∷ own) own) m ≡ false
@@ -151,13 +151,13 @@ reply_front h front r is = go (ended h front) (is_stopped h) (replies_in At _ h 
     go [] false all same = cc
     go (x ∷ xs) stopped all same = let first : r ≡ x = cc in rw first (ap (λ (c : Conn). c.front) all.0.conn_is ∙ all.0.holds)
 
-pub own_reply : (p : Plan) (told : Bool) (o : List Entry) (g : List (ℕ × Entry)) (front : ℕ) (r : Reply) → BeginsWell o → Seated g → front < replay_front → Legal p told (Collect front (Collected.Reply r) ∷ (plain g ++ o)) → IsOnlyReply (own_of (front + 1) g) r
+pub own_reply : (p : Plan) (told : Bool) (o : List Entry) (g : List (ℕ × Entry)) (front : ℕ) (r : Reply) → BeginsWell o → Seated g → front ≢ replay_front → Legal p told (Collect front (Collected.Reply r) ∷ (plain g ++ o)) → IsOnlyReply (own_of (front + 1) g) r
 unfolding Fits
-own_reply p told o g front r begun seated low legal =
+own_reply p told o g front r begun seated other legal =
     let only = (one_reply p told (Collect front (Collected.Reply r) ∷ (plain g ++ o)) legal).0 in
     let at : r.conn.front ≡ front = reply_front (plain g ++ o) front r legal.0 in
     let asker : r.conn.front ≡ only.ask.conn.front = ap (λ (c : Conn). c.front) only.same_asker in
-    let own = owns (front + 1) r.ask only.ask o g begun seated (omega arith) (omega arith) only.is_asked in
+    let own = owns (front + 1) r.ask only.ask o g begun seated (omega arith) (λ e. other (sym at ∙ (asker ∙ e))) only.is_asked in
     record {
       ask = own.ask;
       is_asked = own.is_asked;

@@ -158,7 +158,7 @@ module _ {D : Type 0} (state : D → Outside StoreTold) where
 
   pub replied : (f g : FarmSeen D) (front : ℕ) (answer : Collected) (log : List (ℕ × Entry)) → IsAfter state f log → f.plan ≡ g.plan →
       ((told : Bool) (h : List Entry) → StandsFor state told f h → StandsFor state told g (Collect front answer ∷ h)) → GivesReply front answer log
-  replied f g front (Collected.Reply r) log after same steps low =
-      own_reply (plan_of g.plan) false (origin f.plan f.saved) (reverse log) front r after.begun after.seated low (steps false (past (lasting_of state f) log) (stands_untold f log after)).legal
-  replied f g front Collected.Stopped log after same steps low = tt
-  replied f g front Collected.Empty log after same steps low = tt
+  replied f g front (Collected.Reply r) log after same steps other =
+      own_reply (plan_of g.plan) false (origin f.plan f.saved) (reverse log) front r after.begun after.seated other (steps false (past (lasting_of state f) log) (stands_untold f log after)).legal
+  replied f g front Collected.Stopped log after same steps other = tt
+  replied f g front Collected.Empty log after same steps other = tt

@@ -1,5 +1,5 @@
 -- What a shared farm stands for, and what its calls say of a seat.
-use Rattle.std.specs.Prelude.{ℕ, ◌<◌, ◌≤◌, ◌≡◌, Bool, true, false, List, [], ◌∷◌, ◌++◌, length, reverse}
+use Rattle.std.specs.Prelude.{ℕ, ◌≤◌, ◌≡◌, ◌≢◌, Bool, true, false, List, [], ◌∷◌, ◌++◌, length, reverse}
 use Rattle.farm_base.specs.Outside.{Outside}
 use Rattle.tile_store.specs.Stores.{StoreTold}
 use Rattle.farm_history.specs.declared.queues.Reply.{Reply}
@@ -68,9 +68,9 @@ abbrev pub IfReply : Collected → (Reply → Type 0) → Type 0
 IfReply (Collected.Reply r) holds = holds r
 IfReply _ holds = Unit {0}
 
--- A reply that a running farm's front is given is to an ask among its own entries: it is of the asker's connection, none of them gave that reply before, and none is a Leave of the connection after the ask
+-- A reply that a front is given, other than the front of a replay, is to an ask among its own entries: it is of the asker's connection, none of them gave that reply before, and none is a Leave of the connection after the ask
 abbrev pub OwnReply : ℕ → List (ℕ × Entry) → Collected → Type 0
-OwnReply front mine answer = front < replay_front → IfReply answer (λ r. IsOnlyReply (plain (reverse mine)) r)
+OwnReply front mine answer = front ≢ replay_front → IfReply answer (λ r. IsOnlyReply (plain (reverse mine)) r)
 
 -- What is left of a cell: a farm that stands for the whole history, and has what the first farm had for good. Where the closing seat has the mark of a worn cell, the history is no shorter than the limit
 pub record IsClosed {D T : Type 0} (state : D → Outside StoreTold) (limit : ℕ) (first : FarmSeen D) (v : Held T Entry) (farm : FarmSeen D) : Type 0 where

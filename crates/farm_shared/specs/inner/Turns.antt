@@ -1,5 +1,5 @@
 -- What the calls under the lock need and promise.
-use Rattle.std.specs.Prelude.{ℕ, ◌+◌, ◌<◌, ◌≡◌, ◌^◌, Bool, false, ◌==◌, if◌then◌else◌, List, [], ◌∷◌, length, map, reverse}
+use Rattle.std.specs.Prelude.{ℕ, ◌+◌, ◌<◌, ◌≡◌, ◌≢◌, ◌^◌, Bool, false, ◌==◌, if◌then◌else◌, List, [], ◌∷◌, length, map, reverse}
 use Rattle.std.specs.List.{list_any}
 use Rattle.farm_history.specs.declared.answers.Collected.{Collected}
 use Rattle.farm_history.specs.Entries.{Entry}
@@ -26,9 +26,9 @@ own_of n (x ∷ xs) = if x.0 == n then x.1 ∷ own_of n xs else own_of n xs
 abbrev pub GivesJob : {D : Type 0} → ℕ → Claimed → List (ℕ × Entry) → LastingPart D → Type 0
 GivesJob worker answer log part = IfJob answer (λ job. IsValidJob job × (job.worker ≡ worker) × Carries part.plan (past part log) job × (is_ended job.ticket (reverse log) ≡ false))
 
--- of a reply that a front is given: it is the only one to an ask among the entries of its seat
+-- of a reply that a front is given, other than that of a replay: it is the only one to an ask among the entries of its seat
 abbrev pub GivesReply : ℕ → Collected → List (ℕ × Entry) → Type 0
-GivesReply front answer log = front < replay_front → IfReply answer (λ r. IsOnlyReply (own_of (front + 1) (reverse log)) r)
+GivesReply front answer log = front ≢ replay_front → IfReply answer (λ r. IsOnlyReply (own_of (front + 1) (reverse log)) r)
 
 -- the names of the maps, in order, which a place of 32 bits can count
 abbrev pub AreNames : List MapPlan → List (List ℕ) → Type 0
