@@ -8,6 +8,7 @@ use std::alloc::Global;
 use std::sync::Wait;
 
 /// The control front of this number, with the tile lists of its `expire N`.
+#[derive(Drop)]
 pub struct Control<'a> {
     pub front: u32,
     pub lists: &'a [TileList],
