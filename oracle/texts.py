@@ -1,6 +1,6 @@
 #!/usr/bin/env python3
-"""What texts of styles, data, updates, filters, configurations, scripts and expiry lists are read as, written a second
-time, from the formats alone.
+"""What texts of styles, data, updates, filters, configurations, scripts, expiry lists and paths are read as, written a
+second time, from the formats alone.
 
 It is no part of the product. The wanted output of the crate `text_cases` is made by it, from the repository's top by
 
@@ -404,6 +404,33 @@ def list_told(data):
     return ["tiles %d" % len(made)] + made
 
 
+# --- Paths of metatiles -----------------------------------------------------------------------------------------
+
+
+def path_of(name, z, x, y):
+    parts = []
+    for _ in range(5):
+        parts.append(x % 16 * 16 + y % 16)
+        x, y = x // 16, y // 16
+    return "%s/%d/%s.meta" % (name, z, "/".join(str(part) for part in reversed(parts)))
+
+
+def metatile_told(data):
+    """A path is one where the place that its numbers tell has it for its path."""
+    text = data.decode()
+    found = re.fullmatch("([a-z0-9_-]{1,40})/([0-9]{1,2})" + 5 * "/([0-9]{1,3})" + r"\.meta", text)
+    if not found:
+        return ["no path"]
+    z, *parts = (int(part) for part in found.groups()[1:])
+    x = y = 0
+    for part in parts:
+        x, y = x * 16 + part // 16, y * 16 + part % 16
+    x, y = x // 8 * 8, y // 8 * 8
+    if z > 18 or x >= 2**z or y >= 2**z or path_of(found[1], z, x, y) != text:
+        return ["no path"]
+    return ["path %s %d %d %d" % (found[1], z, x, y)]
+
+
 # --- Cases ------------------------------------------------------------------------------------------------------
 
 
@@ -412,6 +439,7 @@ def told(kind, data, old):
     plain = {"style": style_told, "data": data_told, "update": update_told}
     plain.update({"filter": filter_told, "written": written_told, "again": again_told})
     plain.update({"config": config_told, "script": script_told, "list": list_told})
+    plain.update({"path": metatile_told})
     try:
         if kind in plain:
             return plain[kind](data)

@@ -1,4 +1,4 @@
-//! Reads the texts of styles, data, updates, filters, configurations, scripts and expiry lists that stand in
+//! Reads the texts of styles, data, updates, filters, configurations, scripts, expiry lists and paths that stand in
 //! files, and writes of each one line: its first fault, or what was read, object by object. What is wanted of it was computed by another program,
 //! which was written from the formats alone, and agrees with what the tables want of each text.
 #![tactic(auto)]
@@ -8,6 +8,7 @@ mod config_told;
 mod data_told;
 mod filter_told;
 mod lines_told;
+mod path_told;
 mod rows;
 mod style_told;
 
@@ -16,6 +17,7 @@ use crate::config_told::config_told;
 use crate::data_told::{data_told, update_told};
 use crate::filter_told::{again_told, filter_told, value_told, written_told};
 use crate::lines_told::{list_told, script_told};
+use crate::path_told::path_told;
 use crate::rows::{Frame, frame_of, row};
 use crate::style_told::style_told;
 use data_versions::Snapshot;
@@ -115,6 +117,7 @@ fn told(alloc: Global, kind: &str, text: &[u8], old: &Snapshot) -> Option<String
         "config" => config_told(alloc, text).ok(),
         "script" => script_told(alloc, text).ok(),
         "list" => list_told(alloc, text).ok(),
+        "path" => path_told(alloc, str::from_utf8(text).ok()?).ok(),
         "filter" => filter_told(alloc, str::from_utf8(text).ok()?).ok(),
         "written" => written_told(alloc, str::from_utf8(text).ok()?).ok(),
         "again" => again_told(alloc, str::from_utf8(text).ok()?).ok(),

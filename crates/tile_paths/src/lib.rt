@@ -10,6 +10,3 @@ pub use laws::law_one_path;
 pub use names::is_name;
 pub use reading::read_path;
 pub use writing::path;
-
-#[cfg(test)]
-mod tests;
