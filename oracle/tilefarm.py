@@ -874,9 +874,18 @@ def listing_of(data):
     return "".join(line + "\n" for line in lines).encode()
 
 
+def values_of(words):
+    """The words without the first `--`. Before it none but `-` begins with a dash."""
+    at = words.index("--") if "--" in words else len(words)
+    if any(word.startswith("-") and word != "-" for word in words[:at]):
+        raise Ended(2, USAGE)
+    return words[:at] + words[at + 1 :]
+
+
 def run(folder, words):
     """What a command puts on out and on err, and its status."""
     try:
+        words = values_of(words)
         if len(words) == 7 and words[0] == "render":
             return render(folder, *words[1:]), b"", 0
         if len(words) == 2 and words[0] == "meta":

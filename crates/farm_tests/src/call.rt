@@ -61,29 +61,9 @@ pub fn call(
     for (name, bytes) in held {
         files.push((Text::of(alloc, name)?, Bytes::of(alloc, bytes)?))?;
     }
-    call_over(alloc, all.as_slice(), files, faults)
-}
-
-/// Calls with these words over files that are handed over.
-pub fn call_over(
-    alloc: Global,
-    words: &[String],
-    files: Vec<(Text, Bytes)>,
-    faults: Faults,
-) -> Result<Ended, Fail> {
     let mut files = MemFiles::new(alloc, files, Vec::from_slice(alloc, faults.reads)?)?;
     let mut out = MemSink::new(alloc, 1000, Vec::from_slice(alloc, faults.out)?)?;
     let mut err = MemSink::new(alloc, 1000, Vec::from_slice(alloc, faults.err)?)?;
-    let status = farm_main(alloc, words, &mut files, &mut out, &mut err);
+    let status = farm_main(alloc, all.as_slice(), &mut files, &mut out, &mut err);
     Ok(Ended { status, out, err })
-}
-
-/// Calls `render S D 16 0 0 0` over these files.
-pub fn render(alloc: Global, held: &[(&str, &[u8])], faults: Faults) -> Result<Ended, Fail> {
-    call(
-        alloc,
-        ["render", "S", "D", "16", "0", "0", "0"].as_slice(),
-        held,
-        faults,
-    )
 }

