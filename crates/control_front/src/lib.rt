@@ -1,0 +1,6 @@
+//! The control front of a shared farm.
+#![tactic(auto)]
+
+mod serving;
+
+pub use serving::serve;

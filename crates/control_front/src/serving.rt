@@ -1,0 +1,45 @@
+//! The front's call.
+ghost use Rattle.std.specs.Prelude.{◌≡◌, ◌+◌, []};
+ghost use Rattle.farm_base.specs.Outside.{Counted};
+ghost use Rattle.port_trait.specs.declared.ends.FrontEnd.TheVariants as ended;
+ghost use Rattle.front_rounds.specs.Serving.{Serves};
+ghost use Rattle.turn_cell.specs.Held.{IsSeatOf, Knows, SameSeat};
+ghost use Rattle.farm_shared.specs.Seats.{plain};
+ghost use Rattle.control_lines.specs.Control.{rules_of};
+
+use control_lines::Control;
+use expiry_lists::TileList;
+use farm_base::Bell;
+use farm_door::Door;
+use farm_shared::{Alarms, Seat, SharedFarm};
+use port_trait::{FrontDone, Ports};
+use std::alloc::Global;
+use std::sync::Wait;
+use tile_store::TileStore;
+
+/// Serves control lines until the front ends, as the front of that number: the lines of each connection
+/// are done in order, each is answered once, and what is owed is sent. The lists are those of `expire N`.
+/// It may wait.
+pub fn serve<R: Wait, D: TileStore, B: Bell, P: Ports>(
+    rt: &R,
+    alloc: Global,
+    front: u32,
+    farm: &SharedFarm<D>,
+    seat: &mut Seat<D>,
+    ports: &mut P,
+    alarms: &Alarms<'_, B>,
+    lists: &[TileList],
+) -> FrontDone
+    requires seat { IsSeatOf farm.now seat.old }
+    requires known { Knows seat.old }
+    requires number { seat.old.number ≡ front + 1 }
+    requires fresh { seat.old.mine ≡ [] }
+    ensures seat { IsSeatOf farm.now seat.new }
+    ensures same { SameSeat seat.old seat.new }
+    ensures known { Knows seat.new }
+    ensures served { Serves (rules_of front lists.now) (P.state ports.old).told (P.state ports.new).told (plain seat.new.mine) result.end result.rests.items result.starved seat.new.worn }
+    ensures broken { result.end ≡ ended.Broken → Counted (P.state ports.old).faults (P.state ports.new).faults }
+{
+    let door = Door { farm, alarms };
+    front_rounds::serve(rt, alloc, &Control { front, lists }, &door, seat, ports)
+}
