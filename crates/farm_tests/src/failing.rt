@@ -23,21 +23,6 @@ fn render(alloc: Global, faults: Faults) -> Result<Ended, Fail> {
 }
 
 #[test]
-fn reads_that_fail(rt: HostRuntime) -> Result<(), Fail> {
-    let alloc = rt.alloc();
-    for (reads, line) in [
-        ([0].as_slice(), "tilefarm: S: cannot be read\n"),
-        ([1].as_slice(), "tilefarm: R: cannot be read\n"),
-        ([2].as_slice(), "tilefarm: Q: cannot be read\n"),
-        ([3].as_slice(), "tilefarm: D: cannot be read\n"),
-    ] {
-        let faults = Faults { reads, ..NONE };
-        render(alloc, faults)?.says(&rt, 3, line);
-    }
-    Ok(())
-}
-
-#[test]
 fn puts_that_fail(rt: HostRuntime) -> Result<(), Fail> {
     let alloc = rt.alloc();
     // A put on err that is to fail asks nothing of a success.
