@@ -77,15 +77,16 @@ fn first_shares(alloc: Global, plan: FarmPlan) -> Result<(Share, Vec<Share>), No
 fn first_parts(alloc: Global, plan: FarmPlan) -> Result<Parts, NoMemory>
     ensures { IfOk result (λ p. AreParts plan p.own p.spares.items (vec_capacity p.spares) p.tables.styled.items p.tables.taken.items p.tables.queues (vec_capacity p.tables.taken)) }
 {
-    let Ok(tables) = first_tables(alloc, plan.maps.len(), plan.limits, plan.workers) else {
-        return Err(NoMemory);
-    };
+    let (maps, limits, workers) = (plan.maps.len(), plan.limits, plan.workers);
     match first_shares(alloc, plan) {
-        Ok((own, spares)) => Ok(Parts {
-            own,
-            spares,
-            tables,
-        }),
+        Ok((own, spares)) => match first_tables(alloc, maps, limits, workers) {
+            Ok(tables) => Ok(Parts {
+                own,
+                spares,
+                tables,
+            }),
+            Err(fault) => Err(fault),
+        },
         Err(fault) => Err(fault),
     }
 }
