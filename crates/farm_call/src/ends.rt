@@ -29,6 +29,8 @@ impl<D: TileStore + Drop> FarmEnd<D> {
     pub fn into_status(self) -> u8
         ensures { result ≡ self.status }
     {
-        self.status
+        let status = self.status;
+        drop(self);
+        status
     }
 }
