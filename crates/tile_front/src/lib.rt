@@ -1,0 +1,6 @@
+//! The tile front of a shared farm.
+#![tactic(auto)]
+
+mod serving;
+
+pub use serving::serve;

@@ -1,0 +1,44 @@
+//! The front's call.
+ghost use Rattle.std.specs.Prelude.{◌≡◌, ◌+◌, []};
+ghost use Rattle.farm_base.specs.Outside.{Counted};
+ghost use Rattle.port_trait.specs.declared.ends.FrontEnd.TheVariants as ended;
+ghost use Rattle.front_rounds.specs.Serving.{Serves};
+ghost use Rattle.turn_cell.specs.Held.{IsSeatOf, Knows, SameSeat};
+ghost use Rattle.farm_shared.specs.Seats.{plain};
+ghost use Rattle.farm_door.specs.Doors.{maps_of};
+ghost use Rattle.tile_pages.specs.Tiles.{rules_of};
+
+use farm_base::Bell;
+use farm_door::Door;
+use farm_shared::{Alarms, Seat, SharedFarm};
+use port_trait::{FrontDone, Ports};
+use std::alloc::Global;
+use std::sync::Wait;
+use tile_pages::Tiles;
+use tile_store::TileStore;
+
+/// Serves tiles over HTTP until the front ends, as the front of that number; it may wait. A connection has
+/// one request: `GET` of `/NAME/Z/X/Y.ppm`, or of the same with `/status` or `/dirty` behind it. It is
+/// closed when its answer was sent whole.
+pub fn serve<R: Wait, D: TileStore, B: Bell, P: Ports>(
+    rt: &R,
+    alloc: Global,
+    front: u32,
+    farm: &SharedFarm<D>,
+    seat: &mut Seat<D>,
+    ports: &mut P,
+    alarms: &Alarms<'_, B>,
+) -> FrontDone
+    requires seat { IsSeatOf farm.now seat.old }
+    requires known { Knows seat.old }
+    requires number { seat.old.number ≡ front + 1 }
+    requires fresh { seat.old.mine ≡ [] }
+    ensures seat { IsSeatOf farm.now seat.new }
+    ensures same { SameSeat seat.old seat.new }
+    ensures known { Knows seat.new }
+    ensures served { Serves (rules_of front (maps_of farm.now)) (P.state ports.old).told (P.state ports.new).told (plain seat.new.mine) result.end result.rests.items result.starved seat.new.worn }
+    ensures broken { result.end ≡ ended.Broken → Counted (P.state ports.old).faults (P.state ports.new).faults }
+{
+    let door = Door { farm, alarms };
+    front_rounds::serve(rt, alloc, &Tiles { front }, &door, seat, ports)
+}
