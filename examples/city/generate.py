@@ -1,5 +1,6 @@
-# Writes data.json and relief.ppm, the example's data and its shaded relief: `python3 generate.py` in this
-# folder. Nothing is drawn at random, so that every run writes the same bytes. The program does not need it.
+# Writes data.json, later.json and relief.ppm, the example's data, a later change of them and its shaded relief:
+# `python3 generate.py` in this folder. Nothing is drawn at random, so that every run writes the same bytes. The
+# program does not need it.
 import json
 
 # The tile 14/8600/5738 in centimetres of EPSG:3857; (u, v) goes over it from 0 to 1000, v to the south.
@@ -95,6 +96,23 @@ def write_data():
         file.write('{"units":"cm","layers":[\n' + ",\n".join(texts) + "\n]}\n")
 
 
+# A lake where the park's meadow was, a road along it, the viewpoint moved there, the trees felled: an update.
+def write_later():
+    lake = [(760, 760), (860, 720), (970, 780), (1000, 880), (900, 960), (790, 900)]
+    shore = [(660, 855), (740, 740), (860, 690), (1000, 750), (1040, 880)]
+    changes = [
+        ("water", [], {"polygon": [[point(u, v) for u, v in lake]]}, {"water": "lake"}),
+        ("roads", [], {"lines": [[point(u, v) for u, v in shore]]}, {"highway": "residential"}),
+        ("spots", [11, 12], {"points": [point(880, 690)]}, {"kind": "viewpoint"}),
+    ]
+    texts = []
+    for name, removed, geometry, attrs in changes:
+        put = [{"id": len(layers[name]) + 1, "geometry": geometry, "attrs": attrs}]
+        texts.append(' {"layer":%s,"remove":%s,"put":%s}' % tuple(json.dumps(v, separators=(",", ":")) for v in (name, removed, put)))
+    with open("later.json", "w") as file:
+        file.write('{"units":"cm","changes":[\n' + ",\n".join(texts) + "\n]}\n")
+
+
 # A hill in the north west, lit from there: 64 by 64 grey pixels, each of 1,024 world units, over the tile.
 def height(u, v):
     hill = max(0, 900 - (u - 18) ** 2 - (v - 12) ** 2)
@@ -113,5 +131,5 @@ def write_relief():
         file.write(b"P6\n64 64\n255\n" + bytes(shades))
 
 
-for draw in [land, buildings, water, roads, spots, write_data, write_relief]:
+for draw in [land, buildings, water, roads, spots, write_data, write_later, write_relief]:
     draw()

@@ -1,0 +1,146 @@
+#!/usr/bin/env bash
+# How fast a running farm answers, over loopback, with a client on the same machine.
+#
+#   benchmarks/serve.sh [quick]        (with `quick` a tenth of everything)
+#
+# starts `tilefarm serve` in a folder of its own, with sixteen maps over 10,000 features that all lie in one metatile of
+# zoom 14, and measures: clean metatiles answered Done on one connection of renderd's protocol; clean tiles of 256
+# pixels over HTTP, one connection each; metatiles of 10,000 features drawn with 1, 2 and 4 workers; how long one ask
+# takes; what 1,000 idle connections cost; and the farm's memory before and after all these asks. The client is
+# benchmarks/serve_client.c, compiled by cc. With TILEFARM another program is measured.
+set -eu
+top="$(cd "$(dirname "${BASH_SOURCE[0]}")/.." && pwd)"
+program="${TILEFARM:-$top/tilefarm}"
+part=1
+[ "${1:-}" = quick ] && part=10
+folder="$(mktemp -d)"
+farm=
+idle=
+ended() {
+    for number in $farm $idle; do kill "$number" 2>/dev/null || true; done
+    rm -rf "$folder"
+}
+trap ended EXIT
+cc -O2 -Wall -pthread -o "$folder/client" "$top/benchmarks/serve_client.c"
+"$program" >/dev/null 2>&1 || true # builds the program where it is not built yet
+ulimit -n "$(ulimit -H -n)" 2>/dev/null || true
+
+# The files of a farm with so many workers: sixteen maps, and `default`.
+python3 - "$folder" <<'PYTHON'
+import json, os, random, sys
+
+folder, middle, draw = sys.argv[1], 2**29, random.Random(7)
+layers = {"land": [], "roads": [], "spots": []}
+for number in range(10000):
+    x, y, s = middle + draw.randrange(520192), middle + draw.randrange(520192), 1 + draw.randrange(4096)
+    name, geometry = (
+        ("land", {"polygon": [[[x, y], [x + s, y], [x + s, y + s], [x, y + s]]]}),
+        ("roads", {"lines": [[[x, y], [x + s, y + s]]]}),
+        ("spots", {"points": [[x, y]]}),
+    )[number % 3]
+    layers[name].append({"id": number, "geometry": geometry, "attrs": {"kind": number % 4}})
+paints = (
+    ("land", lambda c: {"symbolizer": "PolygonSymbolizer", "fill": c}),
+    ("roads", lambda c: {"symbolizer": "LineSymbolizer", "stroke": c, "stroke-width": "2", "stroke-linecap": "round"}),
+    ("spots", lambda c: {"symbolizer": "MarkersSymbolizer", "fill": c, "width": "6", "height": "6"}),
+)
+colours = ("red", "green", "blue", "purple")
+rules = lambda paint: [{"Filter": "[kind] = %d" % k, "symbolizers": [paint(c)]} for k, c in enumerate(colours)]
+style = {
+    "styles": [{"name": name, "rules": rules(paint)} for name, paint in paints],
+    "layers": [{"name": name, "source": name, "styles": [name]} for name, _ in paints],
+}
+def write(name, value):
+    with open(os.path.join(folder, name), "w") as out:
+        out.write(value if isinstance(value, str) else json.dumps(value))
+
+
+write("data.json", {"units": "world", "layers": [{"name": n, "features": f} for n, f in layers.items()]})
+write("style.json", style)
+write("all.list", "14/8192/8192\n")
+for workers in (1, 2, 4):
+    names = ["m%d" % number for number in range(15)] + ["default"]
+    write("farm%d.json" % workers, {
+        "maps": [{"name": name, "style": "style.json", "tile": 256} for name in names],
+        "data": "data.json", "expiries": ["all.list"], "workers": workers,
+        "renderd": "unix:%s/renderd.sock" % folder, "tiles": "unix:%s/tiles.sock" % folder,
+        "control": "unix:%s/control.sock" % folder,
+    })
+PYTHON
+
+client() { "$folder/client" "$@"; }
+control() { "$top/examples/clients/control" "unix:$folder/control.sock" "$@"; }
+memory() { awk '/^VmRSS/ { print $2 }' "/proc/$farm/status"; }
+rate() { awk '{ printf "%.0f", $1 / $2 }'; }
+row() { printf '%-64s %14s  %s\n' "$1" "$2" "$3"; }
+
+# Starts a farm with so many workers, with the tiles at $tiles; waits until it listens.
+start() {
+    python3 - "$folder/farm$1.json" "$tiles" <<'PYTHON'
+import json, sys
+config = json.load(open(sys.argv[1]))
+config["tiles"] = sys.argv[2]
+json.dump(config, open(sys.argv[1], "w"))
+PYTHON
+    (cd "$folder" && exec "$program" serve "farm$1.json" >out 2>err) &
+    farm=$!
+    for _ in $(seq 600); do
+        control stats >/dev/null 2>&1 && return
+        kill -0 "$farm" 2>/dev/null || break
+        sleep 0.1
+    done
+    echo "serve.sh: the farm does not listen: $(cat "$folder/err")" >&2
+    exit 1
+}
+
+stop() {
+    control stop >/dev/null
+    wait "$farm" || { echo "serve.sh: the farm ended with status $?: $(cat "$folder/err")" >&2; exit 1; }
+    farm=
+}
+
+renderd="unix:$folder/renderd.sock"
+port="$(python3 -c 'import socket; s = socket.socket(); s.bind(("127.0.0.1", 0)); print(s.getsockname()[1])')"
+tiles="tcp:127.0.0.1:$port"
+machine="$(sed -n 's/^model name[^:]*: //p' /proc/cpuinfo | head -n 1)"
+echo "$(date +%F), $(nproc) processors, $machine, load $(cut -d' ' -f1 /proc/loadavg)"
+
+start 4
+tile='14 8192 8192'
+client done "$renderd" 1 1 $tile >/dev/null
+before="$(memory)"
+told() { client done "$renderd" "$1" "$2" $tile | rate; }
+row "clean metatiles answered Done, 256 at a time" "$(told $((400000 / part)) 256)" "a second"
+row "clean metatiles answered Done, one at a time" "$(told $((50000 / part)) 1)" "a second"
+for threads in 1 4 16; do
+    row "clean 256-pixel tiles over HTTP, a connection each, $threads clients" \
+        "$(client tiles "$tiles" $((16000 / part)) "$threads" $tile | rate)" "a second"
+done
+waits() { client wait "$renderd" $((20000 / part)) $tile; }
+row "one ask for a clean metatile: least, middle, 99 of 100, longest" "$(waits)" "microseconds"
+"$folder/client" idle "$renderd" 1000 >"$folder/idle" &
+idle=$!
+for _ in $(seq 100); do [ -s "$folder/idle" ] && break; sleep 0.1; done
+row "the same beside 1,000 idle connections" "$(waits)" "microseconds"
+row "Done beside them, 256 at a time" "$(told $((200000 / part)) 256)" "a second"
+row "memory with them" "$(memory)" "KiB"
+kill "$idle"
+wait "$idle" 2>/dev/null || true
+idle=
+after="$(memory)"
+row "memory before all these asks, and after" "$before $after" "KiB"
+told $((1000000 / part)) 256 >/dev/null
+row "memory after $((1000000 / part)) asks more" "$(memory)" "KiB"
+row "asks in all" "$(control stats | cut -d' ' -f2)" ""
+stop
+
+drawn() { client draw "$renderd" 15 $tile "$1" | awk '{ printf "%.1f", $1 / $2 }'; }
+for workers in 1 2 4; do
+    rm -rf "$folder/tiles"
+    start "$workers"
+    row "metatiles over 10,000 features, zooms 11 to 14, $workers workers" "$(drawn 3)" "a second"
+    control 'expire 0' >/dev/null
+    row "the same of zoom 14 alone, drawn again" "$(drawn 0)" "a second"
+    row "memory at the end" "$(memory)" "KiB"
+    stop
+done

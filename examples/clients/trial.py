@@ -1,0 +1,250 @@
+"""A farm in a folder of its own, for trying clients on: its files, its start and its end; a report of what was seen."""
+
+import json
+import os
+import resource
+import shutil
+import signal
+import socket
+import subprocess
+import sys
+import tempfile
+import time
+
+import farmclient
+
+TOP = os.path.dirname(os.path.dirname(os.path.dirname(os.path.abspath(__file__))))
+PROGRAM = os.environ.get("TILEFARM", os.path.join(TOP, "tilefarm"))
+MIDDLE = 2**29  # the column and row of world units where tile 14/8192/8192 begins
+TILE = 2**16  # and how many of them a tile of zoom 14 is wide
+HERE = (14, 8192, 8192)  # a tile with land; a road comes with update 0
+BESIDE = (14, 8193, 8195)  # another tile of the same metatile
+APART = (14, 8200, 8192)  # a tile of the next metatile to the east
+
+
+def polygon(number, x, y, side):
+    corners = [[x, y], [x + side, y], [x + side, y + side], [x, y + side]]
+    return {"id": number, "geometry": {"polygon": [corners]}}
+
+
+def road(number, *points):
+    return {"id": number, "geometry": {"lines": [[list(point) for point in points]]}}
+
+
+def style(background, land, roads):
+    paints = (
+        ("land", {"symbolizer": "PolygonSymbolizer", "fill": land}),
+        ("roads", {"symbolizer": "LineSymbolizer", "stroke": roads, "stroke-width": "4", "stroke-linecap": "round"}),
+    )
+    styles = [{"name": name, "rules": [{"symbolizers": [paint]}]} for name, paint in paints]
+    layers = [{"name": name, "source": name, "styles": [name]} for name, _ in paints]
+    return {"background-color": background, "styles": styles, "layers": layers}
+
+
+LAND = [polygon(1, MIDDLE + 10000, MIDDLE + 10000, 20000), polygon(2, MIDDLE + 8 * TILE + 10000, MIDDLE + 10000, 20000)]
+ROAD = road(1, (MIDDLE + 5000, MIDDLE + 5000), (MIDDLE + 40000, MIDDLE + 50000))
+
+
+def data(*roads):
+    layers = [{"name": "land", "features": LAND}, {"name": "roads", "features": list(roads)}]
+    return {"units": "world", "layers": layers}
+
+
+FILES = {
+    "style.json": style("#f2efe9", "#add19e", "#a06b00"),
+    "night.json": style("#202030", "#304030", "#c0a000"),
+    "data.json": data(),
+    "changed.json": data(ROAD),  # what the data are after update 0
+    "road.json": {"units": "world", "changes": [{"layer": "roads", "put": [ROAD]}]},
+    "wrong.json": {"units": "world", "changes": [{"layer": "roads", "remove": [77]}]},
+}
+MAPS = [
+    {"name": "default", "style": "style.json", "tile": 256},
+    {"name": "small", "style": "style.json", "tile": 16, "maxzoom": 3},
+]
+
+
+def free_port():
+    with socket.socket() as made:
+        made.bind(("127.0.0.1", 0))
+        return made.getsockname()[1]
+
+
+class Folder:
+    """A folder under the temporary one with a farm's files."""
+
+    def __init__(self):
+        self.path = tempfile.mkdtemp(prefix="tilefarm-")
+        os.chmod(self.path, 0o755)
+        for name, value in FILES.items():
+            self.write(name, json.dumps(value))
+        self.write("quarter.list", "%d/%d/%d\n" % HERE)
+        self.config = {
+            "maps": MAPS,
+            "data": "data.json",
+            "updates": ["road.json", "wrong.json"],
+            "expiries": ["quarter.list"],
+            "restyles": [{"map": "default", "style": "night.json"}, {"map": "default", "style": "style.json"}],
+            "workers": 2,
+            "renderd": "unix:" + self.name("renderd.sock"),
+            "tiles": "tcp:127.0.0.1:%d" % free_port(),
+            "control": "tcp:127.0.0.1:%d" % free_port(),
+            "resume": True,
+        }
+
+    def name(self, *parts):
+        return os.path.join(self.path, *parts)
+
+    def write(self, name, text):
+        with open(self.name(name), "w") as out:
+            out.write(text)
+
+    def remove(self):
+        shutil.rmtree(self.path, ignore_errors=True)
+
+    def render(self, tile, style="style.json", data="data.json", size=256):
+        """The tile as the command `render` draws it, which knows of no farm."""
+        words = [PROGRAM, "render", style, data, str(size)] + [str(number) for number in tile]
+        done = subprocess.run(words, cwd=self.path, stdout=subprocess.PIPE, timeout=farmclient.SECONDS, check=True)
+        return done.stdout
+
+
+class Farm:
+    """A running `tilefarm serve` in a folder."""
+
+    running = []
+
+    def __init__(self, folder, before=None, **changes):
+        self.folder, self.config = folder, dict(folder.config, **changes)
+        folder.write("farm.json", json.dumps(self.config))
+        self.out, self.err = open(folder.name("out"), "w+"), open(folder.name("err"), "w+")
+        self.process = subprocess.Popen([PROGRAM, "serve", "farm.json"], cwd=folder.path, stdin=subprocess.DEVNULL,
+                                        stdout=self.out, stderr=self.err, preexec_fn=before)  # fmt: skip
+        self.renderd, self.tiles, self.control = (self.config[key] for key in ("renderd", "tiles", "control"))
+        Farm.running.append(self.process)
+
+    def wait(self, seconds=30):
+        """Whether it listens at all three addresses within the time; it has ended, or does not, where not."""
+        end = time.monotonic() + seconds
+        for address in (self.renderd, self.tiles, self.control):
+            while not self.listens(address):
+                if time.monotonic() > end or self.process.poll() is not None:
+                    return False
+                time.sleep(0.05)
+        return True
+
+    @staticmethod
+    def listens(address):
+        try:
+            farmclient.connect(address, 5).close()
+            return True
+        except OSError:
+            return False
+
+    def lines(self, *lines):
+        return farmclient.control(self.control, *lines)
+
+    def stats(self):
+        return self.lines("stats")[0]
+
+    def get(self, tile, more="", name="default"):
+        return farmclient.get(self.tiles, "/%s/%d/%d/%d.ppm%s" % ((name,) + tile + (more,)))
+
+    def status(self, tile, name="default"):
+        page = self.get(tile, "/status", name)
+        return page.body.decode().strip() if page and page.status == 200 else None
+
+    def settled(self, tile, seconds=30):
+        """What the tile's metatile is once it is clean, or after so many seconds."""
+        end = time.monotonic() + seconds
+        while time.monotonic() < end and not (self.status(tile) or "").startswith("clean"):
+            time.sleep(0.05)
+        return self.status(tile)
+
+    def ended(self, seconds=30):
+        """Status, standard output and standard error after its end; it is killed after so many seconds."""
+        try:
+            status = self.process.wait(seconds)
+        except subprocess.TimeoutExpired:
+            self.process.kill()
+            self.process.wait()
+            status = "killed after %d s" % seconds
+        texts = []
+        for file in (self.out, self.err):
+            file.seek(0)
+            texts.append(file.read())
+            file.close()
+        return (status,) + tuple(texts)
+
+    def stop(self):
+        """The answer to `stop`, and its end."""
+        return self.lines("stop")[0], self.ended()
+
+    def kill(self):
+        self.process.kill()
+        return self.ended()
+
+
+def numbers(line):
+    """The numbers of a tally line."""
+    words = line.split(" ")
+    return {word: int(number) for word, number in zip(words[::2], words[1::2])}
+
+
+class Report:
+    """What was tried, line by line, and how many of the checks failed."""
+
+    def __init__(self):
+        self.failed = self.passed = self.skipped = 0
+
+    def part(self, text):
+        print("\n%s" % text, flush=True)
+
+    def check(self, what, seen, wanted):
+        """A check that passes where the two are the same."""
+        self.holds(what, seen == wanted, "%s, not %s" % (short(seen), short(wanted)))
+        return seen == wanted
+
+    def holds(self, what, is_so, seen=""):
+        if is_so:
+            self.passed += 1
+            print("  ok       %s" % what, flush=True)
+        else:
+            self.failed += 1
+            print("  FAILED   %s: %s" % (what, seen), flush=True)
+
+    def skip(self, what, why):
+        self.skipped += 1
+        print("  skipped  %s: %s" % (what, why), flush=True)
+
+    def tell(self, text):
+        print("           %s" % text, flush=True)
+
+    def end(self):
+        print("\n%d passed, %d failed, %d skipped" % (self.passed, self.failed, self.skipped))
+        return 1 if self.failed else 0
+
+
+def short(value):
+    text = repr(value)
+    return text if len(text) <= 160 else text[:150] + ".. (%d)" % len(text)
+
+
+def run(trials, seconds):
+    """Runs trials over a folder and a report, within so many seconds in all, and removes the folder."""
+    most = resource.getrlimit(resource.RLIMIT_NOFILE)[1]
+    resource.setrlimit(resource.RLIMIT_NOFILE, (min(most, 16384) if most > 0 else 16384, most))
+    subprocess.run([PROGRAM], stdout=subprocess.DEVNULL, stderr=subprocess.DEVNULL)  # builds it where it is not built
+    signal.signal(signal.SIGALRM, lambda *_: sys.exit("\nFAILED: not through after %d s" % seconds))
+    signal.alarm(seconds)
+    report, folder = Report(), Folder()
+    try:
+        for trial in trials:
+            trial(folder, report)
+    finally:
+        for process in Farm.running:
+            if process.poll() is None:
+                process.kill()
+                process.wait()
+        folder.remove()
+    return report.end()
