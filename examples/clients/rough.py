@@ -3,7 +3,7 @@
 
     examples/clients/rough.py
 
-An address in use; a store that cannot be written, and one that runs full; rubbish at all three fronts; heads of
+An address in use; a store that cannot be written, and one that runs full; too few open files; rubbish at all fronts; heads of
 requests that are too long or have too many headers; peers that never read, that leave while their tile is drawn, that
 send one byte at a time; 1,024 connections at each front and one more. After each of these a tile is asked for, and it
 is the tile that `render` draws. All happens in a folder of its own and over loopback, within five minutes.
@@ -96,6 +96,27 @@ def stores(folder, report):
     report.check("and it is clean", farm.status((3, 0, 0), "small"), "clean 0")
     client.close()
     report.check("the status at the end is 0", farm.stop()[1][0], 0)
+
+
+def files(folder, report):
+    report.part("more connections than the farm may have files open (here: 128)")
+    farm = Farm(folder, before=few_files, resume=False)
+    if not farm.wait():
+        report.holds("it runs", False, farm.ended(0))
+        return
+    whole(farm, report)
+    held = [farmclient.connect(farm.tiles) for _ in range(200)]
+    time.sleep(1)
+    report.holds("with 200 connections it runs", farm.process.poll() is None, "it has ended")
+    for made in held:
+        made.close()
+    time.sleep(1)
+    whole(farm, report)
+    report.check("the status at the end is 0", farm.stop()[1][0], 0)
+
+
+def few_files():
+    resource.setrlimit(resource.RLIMIT_NOFILE, (128, 128))
 
 
 def small_files():
@@ -239,9 +260,9 @@ def many(farm, report):
             for _ in range(1024):
                 held.append(farmclient.connect(getattr(farm, front), 20))
             made = farmclient.connect(getattr(farm, front), 20)
-            report.check("%s: the 1,025th is closed at once" % front, is_closed(made), True)
+            report.check("%s: the 1,025th is closed at once" % front, is_closed(made, 30), True)
             made.close()
-            report.check("%s: the 1,024th is not" % front, is_closed(held[-1]), False)
+            report.check("%s: the 1,024th is not" % front, is_closed(held[-1], 1), False)
             answer_last(front, held[-1], report)
         except OSError as fault:
             report.holds("%s: %d connections" % (front, len(held)), False, repr(fault))
@@ -252,8 +273,9 @@ def many(farm, report):
         whole(farm, report)
 
 
-def is_closed(made):
-    made.settimeout(2)
+def is_closed(made, seconds):
+    """Whether the farm closes a connection within so many seconds."""
+    made.settimeout(seconds)
     try:
         return made.recv(1) == b""
     except socket.timeout:
@@ -273,7 +295,7 @@ def answer_last(front, made, report):
     report.holds("%s: and it is answered" % front, len(made.recv(4096)) > 0)
 
 
-def limits(farm, report):
+def asks(farm, report):
     report.part("more asks than one connection may have open")
     client = farmclient.Renderd(farm.renderd)
     tiles = [(14, 8000 + 8 * place, 8800) for place in range(30)]
@@ -301,7 +323,7 @@ def running(folder, report):
         return
     report.part("the farm before it")
     whole(farm, report)
-    for rough in (heads, rubbish, unknown_command, never_reads, leaves, limits, many):
+    for rough in (heads, rubbish, unknown_command, never_reads, leaves, asks, many):
         try:
             rough(farm, report)
         except (OSError, AttributeError, TypeError, ValueError) as fault:
@@ -317,4 +339,4 @@ def running(folder, report):
 
 
 if __name__ == "__main__":
-    sys.exit(trial.run([addresses, stores, running], 300))
+    sys.exit(trial.run([addresses, stores, files, running], 300))
