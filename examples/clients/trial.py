@@ -114,11 +114,12 @@ class Farm:
 
     running = []
 
-    def __init__(self, folder, before=None, **changes):
+    def __init__(self, folder, before=None, program=None, **changes):
         self.folder, self.config = folder, dict(folder.config, **changes)
         folder.write("farm.json", json.dumps(self.config))
         self.out, self.err = open(folder.name("out"), "w+"), open(folder.name("err"), "w+")
-        self.process = subprocess.Popen([PROGRAM, "serve", "farm.json"], cwd=folder.path, stdin=subprocess.DEVNULL,
+        words = (program or [PROGRAM, "serve"]) + ["farm.json"]
+        self.process = subprocess.Popen(words, cwd=folder.path, stdin=subprocess.DEVNULL,
                                         stdout=self.out, stderr=self.err, preexec_fn=before)  # fmt: skip
         self.renderd, self.tiles, self.control = (self.config[key] for key in ("renderd", "tiles", "control"))
         Farm.running.append(self.process)
@@ -154,12 +155,12 @@ class Farm:
         page = self.get(tile, "/status", name)
         return page.body.decode().strip() if page and page.status == 200 else None
 
-    def settled(self, tile, seconds=30):
+    def settled(self, tile, seconds=30, name="default"):
         """What the tile's metatile is once it is clean, or after so many seconds."""
         end = time.monotonic() + seconds
-        while time.monotonic() < end and not (self.status(tile) or "").startswith("clean"):
+        while time.monotonic() < end and not (self.status(tile, name) or "").startswith("clean"):
             time.sleep(0.05)
-        return self.status(tile)
+        return self.status(tile, name)
 
     def ended(self, seconds=30):
         """Status, standard output and standard error after its end; it is killed after so many seconds."""
