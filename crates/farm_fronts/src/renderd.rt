@@ -1,0 +1,39 @@
+//! The renderd front.
+use farm_base::Bell;
+use farm_shared::{Alarms, Seat, SharedFarm};
+use farm_threads::Serving;
+use port_trait::{FrontDone, Ports};
+use std::alloc::Global;
+use std::sync::Wait;
+use tile_store::TileStore;
+
+/// The front for renderd's protocol, which has the number 0.
+#[derive(Clone, Copy, Debug, PartialEq, Eq)]
+pub struct RenderdFront;
+
+impl Serving for RenderdFront {
+    ghost use Rattle.front_leaves.specs.Fronts.{renderd_leaves};
+    ghost use Rattle.front_leaves.proofs.Laws.{renderd_kinds, marked, unbegun};
+
+    ghost number = { λ _. 0 };
+
+    ghost leaves = { λ _ maps. renderd_leaves maps };
+
+    fn serve<R: Wait, D: TileStore, P: Ports, B: Bell>(
+        &self,
+        rt: &R,
+        alloc: Global,
+        farm: &SharedFarm<D>,
+        seat: &mut Seat<D>,
+        ports: &mut P,
+        alarms: &Alarms<'_, B>,
+    ) -> FrontDone {
+        session_front::serve(rt, alloc, 0, farm, seat, ports, alarms)
+    }
+
+    ghost kinds = { λ _ maps shown after es done worn left. renderd_kinds maps shown after es done worn left };
+
+    ghost marked = { λ _ maps shown after es done worn left. marked _ shown after es done worn left };
+
+    ghost unbegun = { λ _ maps shown es done worn is. unbegun _ shown es done worn is };
+}

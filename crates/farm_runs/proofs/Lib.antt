@@ -1,0 +1,6 @@
+pub mod Settling
+pub mod Owners
+pub mod Gathering
+pub mod Stopping
+pub mod Keeping
+pub mod Calls

@@ -1,0 +1,161 @@
+//! A run from the farm that it begins with to what is left of it.
+ghost use Rattle.std.specs.Prelude.{◌≡◌, ◌≤◌, ◌<◌, ◌^◌, ◌+◌, Bool, [], length, IfErr, IfOk};
+ghost use Rattle.std.specs.Vec.{vec_capacity, vec_len};
+ghost use Rattle.farm_stands.specs.Stands.{StandsFor};
+ghost use Rattle.farm_core.specs.Begins.{origin};
+ghost use Rattle.farm_shared.specs.Shared.{MayTell, lasting_of};
+ghost use Rattle.farm_threads.specs.Actors.{maps_in, maps_of, three};
+ghost use Rattle.turn_cell.specs.Held.{IsSeatOf, first_of};
+ghost use Rattle.farm_runs.specs.Promise.{RunsWell};
+ghost use Rattle.farm_runs.specs.inner.Chain.{IsSet};
+
+use crate::ending::close_run;
+use crate::seating::{Naps, naps_for, seat_crew, seat_posts};
+use crossbeam_utils::sync::Parker;
+use farm_base::{Bell, Gate};
+use farm_core::Farm;
+use farm_plan::Tally;
+use farm_shared::{Closed, Seat, SharedFarm};
+use farm_threads::{Actor, Cast, Desk, Fronts, Muster, Posts, Serving, Stage, run};
+use port_trait::{FrontDone, Ports, ThreePorts};
+use std::alloc::Global;
+use std::rt::Clock;
+use std::sync::Wait;
+use std::thread::Threads;
+use tile_store::TileStore;
+
+/// What is left of a run.
+#[derive(Drop)]
+pub struct Run<D: TileStore> {
+    /// The farm, with its whole history.
+    pub closed: Closed<D>,
+    /// What the fronts answered.
+    pub fronts: Posts<FrontDone>,
+    /// Whether the farm was stopped by the run's own turn, after the fronts: not only where all turns were drawn.
+    pub stopped: bool,
+    /// The farm's counts, taken last; nothing only where all turns were drawn.
+    pub tally: Option<Tally>,
+    /// Whether a worker ended since all turns were drawn.
+    pub worn: bool,
+}
+
+/// The stage of a run: the seats of the fronts and of the workers are split from the first.
+fn set_stage<D: TileStore>(
+    farm: &SharedFarm<D>,
+    own: Seat<D>,
+    parkers: Vec<Parker>,
+    crew: Vec<Actor<Seat<D>>>,
+) -> Stage<Seat<D>>
+    requires own { own ≡ first_of farm.now }
+    requires seat { IsSeatOf farm.now own }
+    requires few { vec_len parkers ≤ 16 }
+    requires room { vec_len parkers ≤ vec_capacity crew }
+    requires empty { crew.items ≡ [] }
+    ensures { IsSet farm.now (vec_len parkers) result }
+{
+    let mut own = own;
+    let mut crew = crew;
+    let posts = seat_posts(farm, &mut own);
+    seat_crew(farm, &mut own, parkers, &mut crew);
+    Stage {
+        desk: Desk {
+            own,
+            posts: Some(posts),
+        },
+        crew,
+    }
+}
+
+/// A run from its stage to its end.
+fn act<
+    R: Threads + Wait + Clock + Sync,
+    D: TileStore + Send,
+    F: Serving + Sync,
+    G: Serving + Sync,
+    H: Serving + Sync,
+    P: Ports + Send,
+    B: Bell + Send + Sync,
+    T: Gate + Sync,
+>(
+    rt: &R,
+    farm: SharedFarm<D>,
+    cast: &Cast<F, G, H>,
+    stage: Stage<Seat<D>>,
+    ports: &mut ThreePorts<P, B>,
+    gate: &T,
+) -> Run<D>
+    requires set { IsSet farm (length stage.crew.items) stage }
+    requires limit { farm.about.limit ≡ 2 ^ 62 }
+    requires workers { length stage.crew.items ≡ farm.about.first.value.farm.plan.workers }
+    requires renderd { F.number cast.now.fronts.renderd ≡ 0 }
+    requires tiles { G.number cast.now.fronts.tiles ≡ 1 }
+    requires control { H.number cast.now.fronts.control ≡ 2 }
+    ensures { RunsWell D.state farm.about.first.value.farm result.closed.0 result.closed.1
+        (F.leaves cast.now.fronts.renderd (maps_of farm)) (G.leaves cast.now.fronts.tiles (maps_of farm)) (H.leaves cast.now.fronts.control (maps_of farm))
+        (three (P.state ports.old.renderd) (P.state ports.old.tiles) (P.state ports.old.control)) (three (P.state ports.new.renderd) (P.state ports.new.tiles) (P.state ports.new.control))
+        result.fronts (record { worn = result.worn; stopped = result.stopped; tally = result.tally }) }
+{
+    let mut stage = stage;
+    let (fronts, stopped) = run(rt, cast, &farm, &mut stage, ports, gate);
+    let Stage { desk, crew } = stage;
+    let Desk { own, posts: _ } = desk;
+    let (closed, tally, worn) = close_run(rt, farm, own, crew);
+    Run {
+        closed,
+        fronts,
+        stopped,
+        tally,
+        worn,
+    }
+}
+
+/// Runs a farm until its fronts have ended, with so many workers, each actor in a thread of its own, and answers what is
+/// left. Each part of what is promised is a field of `RunsWell`. Where memory is wanting before the threads start, the farm comes
+/// back, and no port was touched. It may wait.
+pub fn run_farm<
+    R: Threads + Wait + Clock + Sync,
+    D: TileStore + Send,
+    F: Serving + Sync + Drop,
+    G: Serving + Sync + Drop,
+    H: Serving + Sync + Drop,
+    P: Ports + Send,
+    B: Bell + Send + Sync,
+    T: Gate + Sync,
+>(
+    rt: &R,
+    alloc: Global,
+    farm: Farm<D>,
+    workers: u32,
+    fronts: Fronts<F, G, H>,
+    ports: &mut ThreePorts<P, B>,
+    gate: &T,
+) -> Result<Run<D>, Farm<D>>
+    requires stands { (told : Bool) → MayTell D.state (lasting_of D.state farm) told → StandsFor D.state told farm (origin farm.plan farm.saved) }
+    requires short { length (origin farm.plan farm.saved) < 2 ^ 62 }
+    requires workers { workers ≡ farm.plan.workers }
+    requires few { workers ≤ 16 }
+    requires renderd { F.number fronts.renderd ≡ 0 }
+    requires tiles { G.number fronts.tiles ≡ 1 }
+    requires control { H.number fronts.control ≡ 2 }
+    ensures ran { IfOk result (λ r. RunsWell D.state farm r.closed.0 r.closed.1
+        (F.leaves fronts.renderd (maps_in farm.plan)) (G.leaves fronts.tiles (maps_in farm.plan)) (H.leaves fronts.control (maps_in farm.plan))
+        (three (P.state ports.old.renderd) (P.state ports.old.tiles) (P.state ports.old.control)) (three (P.state ports.new.renderd) (P.state ports.new.tiles) (P.state ports.new.control))
+        r.fronts (record { worn = r.worn; stopped = r.stopped; tally = r.tally })) }
+    ensures back { IfErr result (λ f. (f ≡ farm) × (ports.new ≡ ports.old)) }
+{
+    let Ok(naps) = naps_for(alloc, workers) else {
+        return Err(farm);
+    };
+    let Ok(crew) = Vec::with_capacity(alloc, workers as usize) else {
+        return Err(farm);
+    };
+    let (shared, own) = SharedFarm::new(alloc, farm)?;
+    let Naps { parkers, sleepers } = naps;
+    let cast = Cast {
+        fronts,
+        muster: Muster::new(workers as u64 + 3, sleepers),
+        alloc,
+    };
+    let stage = set_stage(&shared, own, parkers, crew);
+    Ok(act(rt, shared, &cast, stage, ports, gate))
+}

@@ -1,0 +1,101 @@
+//! The seats of a run.
+ghost use Rattle.std.specs.Prelude.{◌≡◌, ◌≤◌, ◌+◌, true, [], All, length, None, IfOk};
+ghost use Rattle.std.specs.Vec.{vec_capacity, vec_len};
+ghost use Rattle.farm_threads.specs.Actors.{IsPost, IsReady};
+ghost use Rattle.farm_runs.specs.inner.Chain.{IsStart, Numbered};
+ghost use Rattle.turn_cell.specs.Held.{IsSeatOf, Knows, split_left, split_right};
+
+use crossbeam_utils::sync::{Parker, Unparker};
+use farm_base::NoMemory;
+use farm_shared::{Seat, SharedFarm};
+use farm_threads::{Actor, Posts};
+use std::alloc::Global;
+use tile_store::TileStore;
+
+/// What the workers sleep on, and what wakes them.
+#[derive(Drop)]
+pub struct Naps {
+    pub parkers: Vec<Parker>,
+    pub sleepers: Vec<Unparker>,
+}
+
+/// As many of both as there are workers.
+pub fn naps_for(alloc: Global, workers: u32) -> Result<Naps, NoMemory>
+    ensures { IfOk result (λ n. vec_len n.parkers ≡ workers) }
+{
+    let mut parkers = Vec::new(alloc);
+    let mut sleepers = Vec::new(alloc);
+    for _ in 0..workers {
+        let parker = Parker::new(alloc)?;
+        sleepers.push(parker.unparker().clone()?)?;
+        parkers.push(parker)?;
+    }
+    Ok(Naps { parkers, sleepers })
+}
+
+/// A seat split from the first.
+fn take_seat<D: TileStore>(farm: &SharedFarm<D>, own: &mut Seat<D>) -> Seat<D>
+    requires seat { IsSeatOf farm.now own.old }
+    requires first { own.old.first ≡ true }
+    ensures own { own.new ≡ split_left own.old }
+    ensures new { result ≡ split_right own.old }
+    ensures known { Knows result }
+{
+    let Ok(seat) = farm.split(own) else {
+        unreachable!()
+    };
+    seat
+}
+
+/// The seats of the fronts, which are the first to be split.
+pub fn seat_posts<D: TileStore>(farm: &SharedFarm<D>, own: &mut Seat<D>) -> Posts<Seat<D>>
+    requires seat { IsSeatOf farm.now own.old }
+    requires first { own.old.first ≡ true }
+    requires unsplit { own.old.splits ≡ 0 }
+    ensures own { own.new ≡ split_left (split_left (split_left own.old)) }
+    ensures renderd { IsPost farm.now 0 result.renderd }
+    ensures tiles { IsPost farm.now 1 result.tiles }
+    ensures control { IsPost farm.now 2 result.control }
+{
+    let renderd = take_seat(farm, own);
+    let tiles = take_seat(farm, own);
+    let control = take_seat(farm, own);
+    Posts {
+        renderd,
+        tiles,
+        control,
+    }
+}
+
+/// The workers, each with a seat that is split next and with something to sleep on; there is room for all of them.
+pub fn seat_crew<D: TileStore>(
+    farm: &SharedFarm<D>,
+    own: &mut Seat<D>,
+    parkers: Vec<Parker>,
+    crew: &mut Vec<Actor<Seat<D>>>,
+)
+    requires own { IsStart farm.now 0 own.old }
+    requires few { vec_len parkers ≤ 16 }
+    requires room { vec_len parkers ≤ vec_capacity crew.old }
+    requires empty { crew.old.items ≡ [] }
+    ensures own { IsStart farm.now (vec_len parkers) own.new }
+    ensures long { length crew.new.items ≡ vec_len parkers }
+    ensures ready { All (λ a. IsReady farm.now a) crew.new.items }
+    ensures numbered { Numbered 0 crew.new.items }
+{
+    let mut parkers = parkers;
+    let mut worker = 0;
+    while let Some(nap) = parkers.pop() {
+        let seat = take_seat(farm, own);
+        let actor = Actor {
+            worker,
+            seat,
+            nap,
+            end: None,
+        };
+        let Ok(()) = crew.push(actor) else {
+            unreachable!()
+        };
+        worker += 1;
+    }
+}
