@@ -7,7 +7,7 @@ ghost use Rattle.farm_setup.specs.inner.Steps.{BeganBy, Tells};
 use call_ends::{Stop, refused};
 use farm_base::{NoMemory, Text};
 use farm_core::{Farm, FarmPlan, ResumeFault};
-use farm_saved::{read_saved};
+use farm_saved::read_saved;
 use fault_texts::FaultText;
 use std::alloc::Global;
 use tile_store::TileStore;
