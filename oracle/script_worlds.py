@@ -28,7 +28,7 @@ SHEETS = {
     '"MarkersSymbolizer","fill":"#f80","width":"4","height":"2.5","opacity":"0.5"}]}]}],"layers":[{"name":"a",'
     '"source":"land","styles":["s"]},{"name":"b","source":"roads","styles":["s"]},{"name":"c","source":"spots",'
     '"styles":["s"]}]}',
-    "relief": '{"rasters":[{"name":"hills","file":"hills.ppm","west":268435456,"north":0,"pixel":134217728}],"styles":'
+    "relief": '{"rasters":[{"name":"hills","file":"hills.grid","west":268435456,"north":0,"pixel":134217728}],"styles":'
     '[{"name":"g","rules":[{"symbolizers":[{"symbolizer":"RasterSymbolizer","opacity":"0.75"}]}]},{"name":"m","rules":'
     '[{"symbolizers":[{"symbolizer":"MarkersSymbolizer","fill":"red","width":"6","height":"6"}]}]}],"layers":[{"name":'
     '"a","source":"hills","styles":["g"]},{"name":"b","source":"spots","styles":["m"]}]}',
@@ -130,7 +130,7 @@ def main(folder):
     r = random.Random(54)
     for name, text in SHEETS.items():
         write(folder, "world_%s.style" % name, text)
-    with open(os.path.join(folder, "hills.ppm"), "wb") as made:
+    with open(os.path.join(folder, "hills.grid"), "wb") as made:
         made.write(b"P6\n4 6\n255\n" + bytes(r.randrange(256) for _ in range(72)))
     for number in range(4):
         write(folder, "world_%d.data" % number, json.dumps(data_file(r)))

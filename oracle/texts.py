@@ -16,7 +16,9 @@ two sources that know nothing of the program. The folder's file `cases` has a li
     KIND whole FILE         FILE is one text
     KIND beginnings FILE    the proper beginnings of FILE, told once where neighbours are told alike
 
-Each text gives one line: its first fault, or what was read, object by object. It needs Python 3 and nothing else.
+Each text gives one line: its first fault, or that it is read; of a filter its tree or its value, of an update the
+layers after it, and of a path its metatile. A table's wants are of all that is read, object by object. It needs Python
+3 and nothing else.
 """
 
 import os
@@ -434,18 +436,25 @@ def metatile_told(data):
 # --- Cases ------------------------------------------------------------------------------------------------------
 
 
+# of these the program writes no more than that they are read: what is read of them is drawn, or run, by the programs
+# that run commands
+BRIEF = ("style", "data", "update", "config", "script", "list")
+
+
 def told(kind, data, old):
-    """What a text is read as, as lines; one line where it is refused."""
+    """What a text is read as, as lines, and what the program writes of it; one line where it is refused."""
     plain = {"style": style_told, "data": data_told, "update": update_told}
     plain.update({"filter": filter_told, "written": written_told, "again": again_told})
     plain.update({"config": config_told, "script": script_told, "list": list_told})
     plain.update({"path": metatile_told})
     try:
         if kind in plain:
-            return plain[kind](data)
-        return {"change": change_told, "value": filter_value_told}[kind](data, old)
+            lines = plain[kind](data)
+        else:
+            lines = {"change": change_told, "value": filter_value_told}[kind](data, old)
     except Refused as fault:
-        return [str(fault)]
+        return [str(fault)], str(fault)
+    return lines, "read" if kind in BRIEF else "; ".join(lines)
 
 
 def rows_of(text):
@@ -471,17 +480,17 @@ def cases(folder):
         kind, form, name = line.split(" ")
         data, last = read(name), None
         if form == "whole":
-            print("; ".join(told(kind, data, old)))
+            print(told(kind, data, old)[1])
         elif form == "beginnings":
             for length in range(len(data)):
-                lines = told(kind, data[:length], old)
-                if lines != last:
-                    print("; ".join(lines))
-                last = lines
+                line = told(kind, data[:length], old)[1]
+                if line != last:
+                    print(line)
+                last = line
         else:
             for wanted, text in rows_of(data.decode()):
-                lines = told(kind, text.encode(), old)
-                print("; ".join(lines))
+                lines, line = told(kind, text.encode(), old)
+                print(line)
                 if name not in known and wanted not in lines:
                     print("%s: %s wanted of %s, not %s" % (name, wanted, text, lines), file=sys.stderr)
                     wrong += 1

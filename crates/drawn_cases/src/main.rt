@@ -8,6 +8,7 @@ use farm_call::farm_main;
 use std::alloc::Global;
 use std::process::ExitCode;
 use std::str;
+use tile_store::MemStore;
 
 fn main(rt: HostRuntime) -> ExitCode {
     match run(rt) {
@@ -34,8 +35,10 @@ fn case<F: Files, O: Sink>(alloc: Global, line: &str, files: &mut F, out: &mut O
         words.push(String::from_str(alloc, word).ok()?).ok()?;
     }
     let mut err = MemSink::new(alloc, 1000, Vec::new(alloc)).ok()?;
-    let status = farm_main(alloc, words.as_slice(), files, out, &mut err);
+    let store = MemStore::new(alloc, Vec::new(alloc), Vec::new(alloc), Vec::new(alloc)).ok()?;
+    let end = farm_main(alloc, words.as_slice(), files, out, &mut err, store);
     out.put(err.bytes()).ok()?;
-    let end = format!(in alloc; "status {status}\n").ok()?;
-    out.put(end.as_bytes()).ok()
+    let status = end.into_status();
+    let last = format!(in alloc; "status {status}\n").ok()?;
+    out.put(last.as_bytes()).ok()
 }

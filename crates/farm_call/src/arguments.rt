@@ -1,39 +1,50 @@
 //! The program over the words of its runtime.
-ghost use Rattle.std.specs.Prelude.{◌≡◌, ◌≢◌};
-ghost use Rattle.call_ends.specs.Stops.{usage, want_of_memory};
+ghost use Rattle.std.specs.Prelude.{◌≡◌, ◌⊎◌, [], Err};
+ghost use Rattle.call_ends.specs.Stops.{status_of, line_of, usage, want_of_memory, store_failed};
+ghost use Rattle.call_ends.specs.Ends.{Reports};
 ghost use Rattle.call_ends.specs.Promises.{Stands};
+ghost use Rattle.farm_call.specs.declared.ends.Left.TheVariants.{Store};
 
 use crate::call::farm_main;
+use crate::ends::{FarmEnd, Left};
 use call_ends::{Stop, report};
 use farm_base::{Files, Sink};
 use std::alloc::Global;
 use std::env;
 use std::io::{self, ErrorKind};
 use std::rt::Env;
+use tile_store::TileStore;
 
-/// `farm_main` with the words behind the program's name, over these files and sinks. Words that cannot be
-/// had, since one is not UTF-8, are refused like wrong ones, unless memory ran out.
-#[tactic(auto, using(crate::proofs::Reported::usage_told, crate::proofs::Reported::want_told, crate::proofs::Reported::nothing_told))]
-pub fn program<R: Env + Alloc<A = Global>, F: Files, O: Sink, E: Sink>(
+/// `farm_main` with the words behind the program's name, over these files and sinks and this store. Words that
+/// cannot be had, since one is not UTF-8, are refused like wrong ones, unless memory ran out.
+#[tactic(auto, using(crate::proofs::Reported::usage_told, crate::proofs::Reported::want_told, crate::proofs::Reported::store_told, crate::proofs::Reported::nothing_told))]
+pub fn program<R: Env + Alloc<A = Global>, F: Files, O: Sink, E: Sink, D: TileStore>(
     rt: &R,
     files: &mut F,
     out: &mut O,
     err: &mut E,
-) -> u8
-    // With 2 the usage line stands on err, with 5 that of want of memory, and with 0 nothing.
-    ensures usage_line { result ≡ 2 → Stands (E.state err.old).told (E.state err.new).told usage }
-    ensures want_line { result ≡ 5
+    store: D,
+) -> FarmEnd<D>
+    // With 2 the usage line stands on err, with 5 that of want of memory, with 6 that of the store, and with
+    // 0 nothing.
+    ensures usage_line { result.status ≡ 2 → Stands (E.state err.old).told (E.state err.new).told usage }
+    ensures want_line { result.status ≡ 5
         → Stands (E.state err.old).told (E.state err.new).told want_of_memory }
-    ensures silent { result ≡ 0 → (E.state err.new).told ≡ (E.state err.old).told }
-    // With another status than 0 and 4 out is as it was.
-    ensures nothing_put { result ≢ 0 → result ≢ 4
-        → (O.state out.new).told ≡ (O.state out.old).told }
+    ensures store_line { result.status ≡ 6
+        → Stands (E.state err.old).told (E.state err.new).told store_failed }
+    ensures silent { result.status ≡ 0 → (E.state err.new).told ≡ (E.state err.old).told }
+    // With 1, 2 and 3 out and the store are as they were.
+    ensures untouched { (result.status ≡ 1) ⊎ ((result.status ≡ 2) ⊎ (result.status ≡ 3))
+        → (O.state out.new ≡ O.state out.old) × (result.left ≡ Store store) }
+    // What is left is the store; no farm was shared, and there are no fronts.
+    ensures left { (s : D) × (result.left ≡ Store s) }
+    ensures no_fronts { result.fronts.items ≡ [] }
 {
     match words(rt) {
-        Ok(words) => farm_main(rt.alloc(), words.as_slice(), files, out, err),
+        Ok(words) => farm_main(rt.alloc(), words.as_slice(), files, out, err, store),
         Err(error) => match error.kind() {
-            ErrorKind::OutOfMemory => report(err, &Err(Stop::NoMemory)),
-            _ => report(err, &Err(Stop::Words)),
+            ErrorKind::OutOfMemory => wordless(rt.alloc(), err, Stop::NoMemory, store),
+            _ => wordless(rt.alloc(), err, Stop::Words, store),
         },
     }
 }
@@ -45,4 +56,18 @@ fn words<R: Env + Alloc<A = Global>>(rt: &R) -> io::Result<Vec<String>> {
         words.push(word)?;
     }
     Ok(words)
+}
+
+// The end of a call whose words cannot be had.
+fn wordless<E: Sink, D: TileStore>(alloc: Global, err: &mut E, stop: Stop, store: D) -> FarmEnd<D>
+    ensures report { Reports (status_of (Err stop)) (line_of (Err stop)) (E.state err.old) (E.state err.new) result.status }
+    ensures left { result.left ≡ Store store }
+    ensures no_fronts { result.fronts.items ≡ [] }
+{
+    let status = report(err, &Err(stop));
+    FarmEnd {
+        status,
+        left: Left::Store(store),
+        fronts: Vec::new(alloc),
+    }
 }

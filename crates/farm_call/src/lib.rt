@@ -1,9 +1,11 @@
-//! The top call: what the words of a command line ask for, done over the files and sinks that are handed
-//! in.
+//! The top call: what the words of a command line ask for, done over the files, sinks and the store that are
+//! handed in.
 #![tactic(auto)]
 
 mod arguments;
 mod call;
+mod ends;
 
 pub use arguments::program;
 pub use call::farm_main;
+pub use ends::{FarmEnd, Left};

@@ -21,13 +21,13 @@ use Rattle.expiry_lists.specs.Marks.{mark_of}
 use Rattle.farm_stands.specs.Seen.{FarmSeen}
 use Rattle.farm_stands.specs.Stands.{HoldsShown}
 use Rattle.farm_stands.proofs.Resuming.{resumed_stands}
-use Rattle.farm_jobs.specs.Shared.{ShareSeen}
 use Rattle.resume_faults.specs.declared.faults.ResumeFault.{ResumeFault}
 use Rattle.resume_faults.specs.declared.faults.ResumeFault.TheVariants.{Number, Kept as NotKept}
 use Rattle.resume_faults.specs.Given.{styles_given}
 use Rattle.resume_faults.specs.Faults.{can_show, apply_fault, shape_fault, resume_fault}
 use Rattle.resume_faults.proofs.Checked.{each_passes, shaped}
 use Rattle.farm_core.specs.Begins.{Begins, BeginsWell}
+use Rattle.farm_core.specs.inner.Starts.{IsStarted}
 use Rattle.farm_core.specs.inner.Replays.{CanReplay, IsAnew, IsFresh, IsReplaying, Stays}
 use Rattle.farm_core.proofs.Anew.{anew_stands}
 use Rattle.farm_core.proofs.Replaying.{to_replays}
@@ -82,17 +82,35 @@ pub ready : {D : Type 0} (p : FarmPlan) (s : Saving) (store : D) (farm : FarmSee
 ready p s store farm updates clean same_updates same_clean valid fits sound short anew =
     subst (λ (us : List Past). IsReady p s farm us clean) (sym same_updates) (subst (λ (xs : List Kept). IsReady p s farm s.updates xs) (sym same_clean) (ready_at p s store farm valid fits sound short anew))
 
--- a farm of the parts that begins anew is one of the plan, over the store, with what was saved
-pub record IsAgain {D : Type 0} (p : FarmPlan) (s : Saving) (store : D) (farm : FarmSeen D) : Type 0 where
-  pub anew : IsAnew p s store farm
+-- a farm that begins is one of the plan, over the store
+pub record IsFirst {D : Type 0} (p : FarmPlan) (store : D) (farm : FarmSeen D) : Type 0 where
   pub plan_is : farm.plan ≡ p
   pub store_is : farm.store ≡ store
+  pub started : IsStarted farm.plan farm.store farm
 
-pub again : {D : Type 0} (p : FarmPlan) (s : Saving) (store : D) (own : ShareSeen) (own_saved : Saving) (farm : FarmSeen D) → own ≡ record { plan = p; data_now = p.dataset } → own_saved ≡ s → IsAnew own.plan own_saved store farm → IsAgain p s store farm
-again {D} p s store own own_saved farm own_is saved_is anew = record { anew = now; plan_is = ap (λ (f : FarmSeen D). f.plan) now.is; store_is = ap (λ (f : FarmSeen D). f.store) now.is }
+pub first : {D : Type 0} (p : FarmPlan) (store : D) (farm : FarmSeen D) → IsStarted p store farm → IsFirst p store farm
+first {D} p store farm s = record { plan_is = plan_is; store_is = store_is; started = subst (λ (q : FarmPlan). IsStarted q farm.store farm) (sym plan_is) (subst (λ (d : D). IsStarted p d farm) (sym store_is) s) }
   where
-    now : IsAnew p s store farm
-    now = subst (λ (x : Saving). IsAnew p x store farm) saved_is (subst (λ (q : FarmPlan). IsAnew q own_saved store farm) (ap (λ (x : ShareSeen). x.plan) own_is) anew)
+    plan_is : farm.plan ≡ p
+    plan_is = ap (λ (f : FarmSeen D). f.plan) s.is
+
+    store_is : farm.store ≡ store
+    store_is = ap (λ (f : FarmSeen D). f.store) s.is
+
+-- a farm that begins anew is one of the plan, over the store
+pub record IsAgain {D : Type 0} (p : FarmPlan) (s : Saving) (store : D) (farm : FarmSeen D) : Type 0 where
+  pub plan_is : farm.plan ≡ p
+  pub store_is : farm.store ≡ store
+  pub anew : IsAnew farm.plan s farm.store farm
+
+pub again : {D : Type 0} (p : FarmPlan) (s : Saving) (store : D) (farm : FarmSeen D) → IsAnew p s store farm → IsAgain p s store farm
+again {D} p s store farm a = record { plan_is = plan_is; store_is = store_is; anew = subst (λ (q : FarmPlan). IsAnew q s farm.store farm) (sym plan_is) (subst (λ (d : D). IsAnew p s d farm) (sym store_is) a) }
+  where
+    plan_is : farm.plan ≡ p
+    plan_is = ap (λ (f : FarmSeen D). f.plan) a.is
+
+    store_is : farm.store ≡ store
+    store_is = ap (λ (f : FarmSeen D). f.store) a.is
 
 -- ---- after the replay
 
@@ -158,3 +176,11 @@ at_once (Some e) b f h = h
 -- a fault of what is not of such a plan is the first
 pub first_fault : (p : FarmPlan) (s : Saving) (f : ResumeFault) → shape_fault p s ≡ Some f → resume_fault p s ≡ Some f
 first_fault p s f h = at_once (shape_fault p s) (apply_fault p p.dataset 0 s.updates) f h
+
+-- what has no fault is of such a plan
+pub no_first_fault : (p : FarmPlan) (s : Saving) → resume_fault p s ≡ None → shape_fault p s ≡ None
+no_first_fault p s h = go (shape_fault p s) refl h
+  where
+    go : (a : Option ResumeFault) → shape_fault p s ≡ a → option_or a (apply_fault p p.dataset 0 s.updates) ≡ None → shape_fault p s ≡ None
+    go None e h = e
+    go (Some f) e h = cc

@@ -105,7 +105,15 @@ impl<D> Farm<D> {
     pub fn into_store(self) -> D
         ensures { result ≡ self.store }
     {
-        self.store
+        let Farm {
+            store,
+            queues,
+            marks,
+            ..
+        } = self;
+        drop(queues);
+        drop(marks);
+        store
     }
 }
 

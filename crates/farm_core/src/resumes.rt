@@ -1,6 +1,5 @@
 //! How a farm begins anew from what was saved of it.
-ghost use Rattle.std.specs.Prelude.{◌≡◌, ◌≢◌, ◌<◌, ◌+◌, ◌-◌, ◌*◌, ◌^◌, List, true, Some, None, Err, length, IfErr, IfOk, OnOk};
-ghost use Rattle.std.specs.Vec.{vec_capacity};
+ghost use Rattle.std.specs.Prelude.{◌≡◌, ◌≢◌, ◌<◌, ◌+◌, ◌-◌, ◌*◌, ◌^◌, List, true, Some, None, Err, length, IfErr, IfOk, OnErr, OnOk};
 ghost use Rattle.farm_base.specs.declared.faults.ApplyFault.{ApplyFault};
 ghost use Rattle.plain_world.specs.World.{IsMeta};
 ghost use Rattle.plain_data.specs.Data.{updated};
@@ -11,13 +10,13 @@ ghost use Rattle.farm_plan.specs.Plans.{IsPlan};
 ghost use Rattle.farm_plan.specs.Drawings.{plan_of, update_of};
 ghost use Rattle.farm_saved.specs.Savings.{IsSaving};
 ghost use Rattle.resume_faults.specs.declared.faults.ResumeFault.{ResumeFault};
-ghost use Rattle.farm_core.specs.inner.Starts.{AreParts};
+ghost use Rattle.farm_core.specs.inner.Starts.{IsStarted};
 ghost use Rattle.resume_faults.specs.Faults.{apply_fault, resume_fault, shape_fault};
 ghost use Rattle.farm_core.specs.Begins.{Begins, BeginsWell};
 ghost use Rattle.farm_core.specs.inner.Replays.{CanReplay, IsAnew, IsFresh, IsReplaying, RefusesAt, ReplaysAt, ReplaysChange, ReplaysVersion, Stays, how_many_of};
 
 use crate::farm::Farm;
-use crate::starts::{Parts, begin, first_parts};
+use crate::starts::first_farm;
 use farm_base::{ApplyFault, NoMemory};
 use farm_history::Saved;
 use farm_plan::{FarmPlan, Kept, Past};
@@ -25,54 +24,31 @@ use resume_faults::{ResumeFault, check, copied, refused_at, styles_given};
 use std::alloc::Global;
 use tile_store::TileStore;
 
-/// What a farm that begins anew has beside its store.
-#[derive(Drop)]
-struct Again {
-    parts: Parts,
-    styled: Vec<Option<u32>>,
-    saved: Saved,
-}
+impl<D> Farm<D> {
+    /// The maps of a farm that begins are given these styles, and it keeps what was saved.
+    fn keep_saved(&mut self, styled: Vec<Option<u32>>, saved: Saved)
+        requires started { IsStarted self.old.plan self.old.store self.old }
+        requires styled { styled.items ≡ saved.styles }
+        requires maps { length saved.styles ≡ length self.old.plan.maps }
+        ensures { IsAnew self.old.plan saved self.old.store self.new }
+    {
+        self.turns = styles_given(styled.as_slice());
+        self.styled = styled;
+        self.saved = Some(saved);
+    }
 
-/// The parts of a farm of the plan, where what was saved is of such a plan. Err is the first fault, but for
-/// those of the updates themselves, or want of memory.
-fn parts_again(alloc: Global, plan: FarmPlan, saved: &Saved) -> Result<Again, ResumeFault>
-    requires { length saved.now.styles + length saved.now.updates < 2 ^ 64 }
-    ensures parts { IfOk result (λ a. AreParts plan a.parts.own a.parts.spares.items (vec_capacity a.parts.spares) a.parts.tables.styled.items a.parts.tables.taken.items a.parts.tables.queues (vec_capacity a.parts.tables.taken)) }
-    ensures styled { IfOk result (λ a. a.styled.items ≡ saved.now.styles) }
-    ensures saved { IfOk result (λ a. a.saved ≡ saved.now) }
-    ensures fits { IfOk result (λ a. shape_fault plan saved.now ≡ None) }
-    ensures refused { IfErr result (λ e. e ≢ ResumeFault.NoMemory → shape_fault plan saved.now ≡ Some e) }
-{
-    let parts = first_parts(alloc, plan)?;
-    check(parts.own.setup(), saved)?;
-    let styled = Vec::from_slice(alloc, saved.styles.as_slice())?;
-    let saved = copied(alloc, saved)?;
-    Ok(Again {
-        parts,
-        styled,
-        saved,
-    })
-}
-
-/// The farm of these parts over the store, whose maps have been given the styles that were saved.
-fn begin_again<D>(alloc: Global, again: Again, store: D) -> Farm<D>
-    requires plan { IsPlan again.parts.own.plan }
-    requires parts { AreParts again.parts.own.plan again.parts.own again.parts.spares.items (vec_capacity again.parts.spares) again.parts.tables.styled.items again.parts.tables.taken.items again.parts.tables.queues (vec_capacity again.parts.tables.taken) }
-    requires styled { again.styled.items ≡ again.saved.styles }
-    requires maps { length again.saved.styles ≡ length again.parts.own.plan.maps }
-    ensures { IsAnew again.parts.own.plan again.saved store result }
-{
-    let Again {
-        parts,
-        styled,
-        saved,
-    } = again;
-    let turns = styles_given(styled.as_slice());
-    let mut farm = begin(alloc, parts, store);
-    farm.styled = styled;
-    farm.turns = turns;
-    farm.saved = Some(saved);
-    farm
+    /// The maps of a farm that begins are given the styles that were saved, and it keeps what was saved.
+    fn give_saved(&mut self, alloc: Global, saved: &Saved) -> Result<(), NoMemory>
+        requires started { IsStarted self.old.plan self.old.store self.old }
+        requires maps { length saved.now.styles ≡ length self.old.plan.maps }
+        ensures anew { OnOk result (IsAnew self.old.plan saved.now self.old.store self.new) }
+        ensures same { OnErr result (self.new ≡ self.old) }
+    {
+        let styled = Vec::from_slice(alloc, saved.styles.as_slice())?;
+        let kept = copied(alloc, saved)?;
+        self.keep_saved(styled, kept);
+        Ok(())
+    }
 }
 
 impl<D> Farm<D> {
@@ -199,6 +175,43 @@ impl<D: TileStore> Farm<D> {
         self.replay(alloc, saved.updates.as_slice(), saved.clean.as_slice())
     }
 
+    /// A farm that begins is brought to where another was saved, which is of such a plan but for the faults of
+    /// its updates.
+    fn take_checked(&mut self, alloc: Global, saved: &Saved) -> Result<(), ResumeFault>
+        requires plan { IsPlan self.old.plan }
+        requires started { IsStarted self.old.plan self.old.store self.old }
+        requires saved { IsSaving saved.now }
+        requires shape { shape_fault self.old.plan saved.now ≡ None }
+        requires short { length saved.now.updates + 4 * length saved.now.clean < 2 ^ 62 - 16 }
+        ensures begins { OnOk result (Begins D.state self.old.plan (Some saved.now) self.old.store self.new) }
+        ensures fits { OnOk result (resume_fault self.old.plan saved.now ≡ None) }
+        ensures refused { IfErr result (λ e. e ≢ ResumeFault.NoMemory → resume_fault self.old.plan saved.now ≡ Some e) }
+        ensures store { self.new.store ≡ self.old.store }
+    {
+        match self.give_saved(alloc, saved) {
+            Ok(()) => self.replay_saved(alloc, saved),
+            Err(_) => Err(ResumeFault::NoMemory),
+        }
+    }
+
+    /// A farm that begins is brought to where another was saved. Err is the first fault of what was saved, or
+    /// want of memory.
+    fn take_up(&mut self, alloc: Global, saved: &Saved) -> Result<(), ResumeFault>
+        requires plan { IsPlan self.old.plan }
+        requires started { IsStarted self.old.plan self.old.store self.old }
+        requires saved { IsSaving saved.now }
+        requires short { length saved.now.updates + 4 * length saved.now.clean < 2 ^ 62 - 16 }
+        ensures begins { OnOk result (Begins D.state self.old.plan (Some saved.now) self.old.store self.new) }
+        ensures fits { OnOk result (resume_fault self.old.plan saved.now ≡ None) }
+        ensures refused { IfErr result (λ e. e ≢ ResumeFault.NoMemory → resume_fault self.old.plan saved.now ≡ Some e) }
+        ensures store { self.new.store ≡ self.old.store }
+    {
+        match check(self.own.setup(), saved) {
+            Ok(()) => self.take_checked(alloc, saved),
+            Err(fault) => Err(fault),
+        }
+    }
+
     /// A farm of the plan over the store that begins where another was saved: its maps have their last styles,
     /// the updates are made again, and the clean metatiles are shown again, without a drawing. It stands for the
     /// replay of what was saved; that the store holds what is shown is for the caller to know. Like `start` it
@@ -220,12 +233,11 @@ impl<D: TileStore> Farm<D> {
         ensures refused { IfErr result (λ e. e.1 ≢ ResumeFault.NoMemory → resume_fault plan saved.now ≡ Some e.1) }
         ensures store { IfErr result (λ e. e.0 ≡ store) }
     {
-        let again = match parts_again(alloc, plan, saved) {
-            Ok(again) => again,
-            Err(fault) => return Err((store, fault)),
+        let mut farm = match first_farm(alloc, plan, store) {
+            Ok(farm) => farm,
+            Err(store) => return Err((store, ResumeFault::NoMemory)),
         };
-        let mut farm = begin_again(alloc, again, store);
-        match farm.replay_saved(alloc, saved) {
+        match farm.take_up(alloc, saved) {
             Ok(()) => Ok(farm),
             Err(fault) => Err((farm.into_store(), fault)),
         }

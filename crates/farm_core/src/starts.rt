@@ -17,18 +17,18 @@ use tile_store::TileStore;
 
 /// The tables of a farm that begins: no map has been given a style, nothing is drawn, and nothing waits.
 #[derive(Drop)]
-pub(crate) struct Tables {
-    pub(crate) styled: Vec<Option<u32>>,
-    pub(crate) taken: Vec<Taken>,
-    pub(crate) queues: Queues,
+struct Tables {
+    styled: Vec<Option<u32>>,
+    taken: Vec<Taken>,
+    queues: Queues,
 }
 
 /// What a farm that begins has beside its store.
 #[derive(Drop)]
-pub(crate) struct Parts {
-    pub(crate) own: Share,
-    pub(crate) spares: Vec<Share>,
-    pub(crate) tables: Tables,
+struct Parts {
+    own: Share,
+    spares: Vec<Share>,
+    tables: Tables,
 }
 
 /// No style for each of so many maps.
@@ -74,20 +74,25 @@ fn first_shares(alloc: Global, plan: FarmPlan) -> Result<(Share, Vec<Share>), No
 }
 
 /// The parts of a farm of the plan.
-pub(crate) fn first_parts(alloc: Global, plan: FarmPlan) -> Result<Parts, NoMemory>
+fn first_parts(alloc: Global, plan: FarmPlan) -> Result<Parts, NoMemory>
     ensures { IfOk result (λ p. AreParts plan p.own p.spares.items (vec_capacity p.spares) p.tables.styled.items p.tables.taken.items p.tables.queues (vec_capacity p.tables.taken)) }
 {
-    let tables = first_tables(alloc, plan.maps.len(), plan.limits, plan.workers)?;
-    let (own, spares) = first_shares(alloc, plan)?;
-    Ok(Parts {
-        own,
-        spares,
-        tables,
-    })
+    let (maps, limits, workers) = (plan.maps.len(), plan.limits, plan.workers);
+    match first_shares(alloc, plan) {
+        Ok((own, spares)) => match first_tables(alloc, maps, limits, workers) {
+            Ok(tables) => Ok(Parts {
+                own,
+                spares,
+                tables,
+            }),
+            Err(fault) => Err(fault),
+        },
+        Err(fault) => Err(fault),
+    }
 }
 
 /// The farm of these parts over the store.
-pub(crate) fn begin<D>(alloc: Global, parts: Parts, store: D) -> Farm<D>
+fn begin<D>(alloc: Global, parts: Parts, store: D) -> Farm<D>
     requires plan { IsPlan parts.own.plan }
     requires parts { AreParts parts.own.plan parts.own parts.spares.items (vec_capacity parts.spares) parts.tables.styled.items parts.tables.taken.items parts.tables.queues (vec_capacity parts.tables.taken) }
     ensures { IsStarted parts.own.plan store result }
@@ -125,6 +130,19 @@ pub(crate) fn begin<D>(alloc: Global, parts: Parts, store: D) -> Farm<D>
     }
 }
 
+/// A farm of the plan over the store, in which nothing has happened yet. Err is want of memory, and hands the
+/// store back.
+pub(crate) fn first_farm<D>(alloc: Global, plan: FarmPlan, store: D) -> Result<Farm<D>, D>
+    requires { IsPlan plan }
+    ensures started { IfOk result (IsStarted plan store) }
+    ensures store { IfErr result (λ s. s ≡ store) }
+{
+    match first_parts(alloc, plan) {
+        Ok(parts) => Ok(begin(alloc, parts, store)),
+        Err(_) => Err(store),
+    }
+}
+
 impl<D: TileStore> Farm<D> {
     /// A farm of the plan over the store, in which nothing has happened yet. It takes all the memory that later
     /// calls need which take none, and keeps the plan for good. Err is want of memory, and hands the store back.
@@ -133,9 +151,6 @@ impl<D: TileStore> Farm<D> {
         ensures begins { IfOk result (Begins D.state plan None store) }
         ensures store { IfErr result (λ s. s ≡ store) }
     {
-        match first_parts(alloc, plan) {
-            Ok(parts) => Ok(begin(alloc, parts, store)),
-            Err(_) => Err(store),
-        }
+        first_farm(alloc, plan, store)
     }
 }

@@ -4,6 +4,7 @@ use farm_call::farm_main;
 use std::alloc::Global;
 use std::process::Abort;
 use std::test::Fail;
+use tile_store::MemStore;
 
 pub const USAGE: &str =
     "usage: tilefarm render STYLE DATA T Z X Y | script CONFIG SCRIPT | serve CONFIG | load SEED N | meta FILE\n";
@@ -64,6 +65,8 @@ pub fn call(
     let mut files = MemFiles::new(alloc, files, Vec::from_slice(alloc, faults.reads)?)?;
     let mut out = MemSink::new(alloc, 1000, Vec::from_slice(alloc, faults.out)?)?;
     let mut err = MemSink::new(alloc, 1000, Vec::from_slice(alloc, faults.err)?)?;
-    let status = farm_main(alloc, all.as_slice(), &mut files, &mut out, &mut err);
+    let store = MemStore::new(alloc, Vec::new(alloc), Vec::new(alloc), Vec::new(alloc))?;
+    let end = farm_main(alloc, all.as_slice(), &mut files, &mut out, &mut err, store);
+    let status = end.into_status();
     Ok(Ended { status, out, err })
 }

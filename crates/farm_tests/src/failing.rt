@@ -23,21 +23,6 @@ fn render(alloc: Global, faults: Faults) -> Result<Ended, Fail> {
 }
 
 #[test]
-fn reads_that_fail(rt: HostRuntime) -> Result<(), Fail> {
-    let alloc = rt.alloc();
-    for (reads, line) in [
-        ([0].as_slice(), "tilefarm: S: cannot be read\n"),
-        ([1].as_slice(), "tilefarm: R: cannot be read\n"),
-        ([2].as_slice(), "tilefarm: Q: cannot be read\n"),
-        ([3].as_slice(), "tilefarm: D: cannot be read\n"),
-    ] {
-        let faults = Faults { reads, ..NONE };
-        render(alloc, faults)?.says(&rt, 3, line);
-    }
-    Ok(())
-}
-
-#[test]
 fn puts_that_fail(rt: HostRuntime) -> Result<(), Fail> {
     let alloc = rt.alloc();
     // A put on err that is to fail asks nothing of a success.
@@ -83,5 +68,70 @@ fn a_container_whose_read_or_put_fails(rt: HostRuntime) -> Result<(), Fail> {
     assert_eq!(rt; ended.status, 4);
     assert!(rt; ended.out.bytes() == b"0 0 0\n0".as_slice());
     assert!(rt; ended.err.bytes().is_empty());
+    Ok(())
+}
+
+// A farm of one map over a square, and its files by the names that stand in them.
+const SQUARE: [(&str, &[u8]); 4] = [
+    (
+        "C",
+        br#"{"maps":[{"name":"default","style":"S","tile":16}],"data":"D"}"#,
+    ),
+    (
+        "S",
+        br#"{"styles":[{"name":"s","rules":[{"symbolizers":[{"symbolizer":"PolygonSymbolizer","fill":"red"}]}]}],"layers":[{"name":"l","source":"land","styles":["s"]}]}"#,
+    ),
+    (
+        "D",
+        br#"{"units":"world","layers":[{"name":"land","features":[{"id":1,"geometry":{"polygon":[[[0,0],[9,0],[9,9]]]}}]}]}"#,
+    ),
+    (
+        "L",
+        b"ask 0 render default 0 0 0\nclaim 0\nfinish 0\ncollect 0\nexpire 0 0 0\nlook default 0 0 0\nfetch default 0 0 0\n",
+    ),
+];
+
+const ANSWERS: &[u8] =
+    b"queued 0\njob 0 default 0 0 0 0\nclean\nreply 0 0 done\nexpired 1\ndirty 0\ndirty 0 781\nP6\n16 16\n255\n";
+
+// `script` over these files.
+fn script(alloc: Global, faults: Faults) -> Result<Ended, Fail> {
+    call(alloc, &["script", "C", "L"], &SQUARE, faults)
+}
+
+#[test]
+fn a_script_whose_reads_or_puts_fail(rt: HostRuntime) -> Result<(), Fail> {
+    let alloc = rt.alloc();
+    for (read, line) in [
+        (0, "tilefarm: C: cannot be read\n"),
+        (1, "tilefarm: S: cannot be read\n"),
+        (2, "tilefarm: D: cannot be read\n"),
+        (3, "tilefarm: L: cannot be read\n"),
+    ] {
+        let faults = Faults {
+            reads: &[read],
+            ..NONE
+        };
+        script(alloc, faults)?.says(&rt, 3, line);
+    }
+
+    // Each put on out in turn: a front of the answers is put, and err stays empty.
+    let whole = script(alloc, NONE)?;
+    assert_eq!(rt; whole.status, 0);
+    assert!(rt; whole.out.bytes().starts_with(ANSWERS));
+    assert_eq!(rt; whole.out.bytes().len(), ANSWERS.len() + 769);
+    for put in 0..9 {
+        let ended = script(
+            alloc,
+            Faults {
+                out: &[put],
+                ..NONE
+            },
+        )?;
+        assert_eq!(rt; ended.status, 4);
+        assert!(rt; whole.out.bytes().starts_with(ended.out.bytes()));
+        assert!(rt; ended.out.bytes().len() < whole.out.bytes().len());
+        assert!(rt; ended.err.bytes().is_empty());
+    }
     Ok(())
 }

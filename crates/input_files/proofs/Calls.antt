@@ -1,119 +1,170 @@
--- What a call promises of each status, of out and of err, whatever course its words ask for.
-use Rattle.std.proofs.Common.{◌≡◌, ◌≢◌, ℕ, ◌⊎◌, inl, inr, List, [], ◌++◌, length, take, refl, sym, ap, subst, ◌∙◌, arith}
-use Rattle.std.specs.Prelude.{Option, Some, Result, Ok, Err}
-use Rattle.std.proofs.lemmas.List.{take_all}
-use Rattle.farm_base.specs.Outside.{Outside, FilesTold, Rose, Puts, failed_read, with_failed}
+-- What a call promises of each status, of err and of the world, whatever course its words ask for and whatever is
+-- worked on.
+use Rattle.std.proofs.Common.{◌≡◌, ◌≢◌, ℕ, ◌⊎◌, inl, inr, List, refl, sym, ap, subst, ◌∙◌}
+use Rattle.std.specs.Prelude.{Option, Some, None, Result, Ok, Err, IfSome}
+use Rattle.farm_base.specs.Outside.{FilesTold, Rose}
 use Rattle.farm_base.specs.declared.sinks.SinkFault.{SinkFault}
-use Rattle.call_ends.specs.Stops.{status_of, line_of, usage, want_of_memory, unreadable_line}
+use Rattle.call_ends.specs.Stops.{status_of, line_of, usage, want_of_memory, store_failed, ports_failed, turns_used_up, unreadable_line}
 use Rattle.call_ends.specs.Ends.{FilesAt, SinkAt, put_end, PutsAll, told_status, EndsWith}
 use Rattle.call_ends.specs.Promises.{Stands}
 use Rattle.call_ends.specs.declared.stops.Stop.{Stop}
 use Rattle.call_ends.specs.declared.stops.Stop.TheVariants as stop
-use Rattle.call_ends.proofs.Outsides.{PutTells, PutCounts, put_tells, put_counts}
+use Rattle.call_ends.proofs.Outsides.{PutCounts, put_counts}
 use Rattle.call_ends.proofs.Statuses as status
-use Rattle.call_ends.proofs.Statuses.{puts_done, puts_failed}
-use Rattle.input_files.specs.Course.{Course, Makes, RefusedBy, ComesTo, IsValid}
-use Rattle.input_files.specs.Calls.{Done, Cut, Refusal, Missed, MayStand, FrontOfLine, EndsAt}
+use Rattle.call_ends.proofs.Statuses.{puts_failed}
+use Rattle.input_files.specs.Course.{Course, Makes, RefusedBy, IsValid}
+use Rattle.input_files.specs.Calls.{Did, Refusal, Missed, Ended, EndsAt}
 use Rattle.input_files.specs.inner.Runs.{Runs}
 use Rattle.input_files.proofs.Courses.{made_apart}
 use Rattle.input_files.proofs.Runs as runs
 use Rattle.input_files.proofs.Runs.{Ran, ran}
 
--- ---- puts
+failed_4 : (put : Result (Unit {0}) SinkFault) (k result before now : ℕ) → result ≡ told_status k put → PutCounts before now put → now ≢ before → result ≡ 4
+failed_4 (Ok u) k result before now is counts other = absurd (other counts)
+failed_4 (Err f) k result before now is counts other = is
 
--- a front of these bytes stands after what there was
-record Front (before bytes : List ℕ) (after : Option (List ℕ)) : Type 0 where
-  pub len : ℕ
-  pub put : after ≡ Some (before ++ take len bytes)
-
-front_put : (before bytes : List ℕ) (after : Option (List ℕ)) (put : Result (Unit {0}) SinkFault) → PutTells before after bytes put → Front before bytes after
-front_put before bytes after (Ok u) h = record { len = length bytes; put = h ∙ ap (λ bs. Some (before ++ bs)) (sym (take_all (length bytes) bytes (omega arith))) }
-front_put before bytes after (Err f) h = record { len = h.0; put = h.2 }
-
-front_of : (out out' : SinkAt) (bytes before : List ℕ) (end : Result (Unit {0}) Stop) → PutsAll out out' bytes end → out.told ≡ Some before → Front before bytes out'.told
-front_of out out' bytes before end h e = front_put before bytes out'.told h.put (put_tells before out out' bytes h.put e h.puts)
+abbrev ended_as : Stop → Result (Unit {0}) Stop
+ended_as s = Err s
 
 stays : (put : Result (Unit {0}) SinkFault) (before now : ℕ) → Ok tt ≡ put_end put → PutCounts before now put → now ≡ before
 stays (Ok u) before now e counts = counts
 stays (Err f) before now e counts = absurd (cc)
 
--- a put that went well leaves the count
-put_stays : (out out' : SinkAt) (bytes : List ℕ) → PutsAll out out' bytes (Ok tt) → out'.faults ≡ out.faults
-put_stays out out' bytes h = stays h.put out.faults out'.faults h.ends (put_counts out out' bytes h.put h.puts)
+-- a put after which the count is another has failed
+pub puts_noticed : (out out' : SinkAt) (bytes : List ℕ) (end : Result (Unit {0}) Stop) → PutsAll out out' bytes end → out'.faults ≢ out.faults → end ≡ Err stop.SinkFailed
+puts_noticed out out' bytes (Ok u) h other = absurd (other (stays h.put out.faults out'.faults h.ends (put_counts out out' bytes h.put h.puts)))
+puts_noticed out out' bytes (Err s) h other = ap ended_as (puts_failed out out' bytes s h).0
 
-failed_4 : (put : Result (Unit {0}) SinkFault) (k result before now : ℕ) → result ≡ told_status k put → PutCounts before now put → now ≢ before → result ≡ 4
-failed_4 (Ok u) k result before now is counts other = absurd (other counts)
-failed_4 (Err f) k result before now is counts other = is
+if_some : {A : Type 0} (o : Option A) (P : A → Type 0) → ((a : A) → o ≡ Some a → P a) → IfSome o P
+if_some (Some a) P h = h a refl
+if_some None P h = tt
 
-module _ (asks : Course (List ℕ) → Type 0) (one : (c d : Course (List ℕ)) → asks c → asks d → c ≡ d)
-    (files files' : FilesAt) (out out' err err' : SinkAt) (result : ℕ) (ends : EndsWith (Runs asks files files' out out') err err' result) where
+-- Why work may end early so. It refuses no words, and reads none of the files of its course; it may be in want of memory.
+-- `hinders` says it of the other ends.
+abbrev pub Whys : {W : Type 0} → (W → SinkAt) → (Stop → W → W → Type 0) → Stop → W → W → Type 0
+Whys out hinders stop.Words w w' = ⊥
+Whys out hinders (stop.Unreadable line) w w' = ⊥
+Whys out hinders stop.SinkFailed w w' = Rose (out w).faults (out w').faults
+Whys out hinders stop.NoMemory w w' = Unit {0}
+Whys out hinders s w w' = hinders s w w'
+
+-- What a call asks of work: why it ends early, and that it ends with SinkFailed wherever a put on out failed.
+pub record IsWork {V W : Type 0} (does : V → W → W → Result (Unit {0}) Stop → Type 0) (out : W → SinkAt) (hinders : Stop → W → W → Type 0) : Type 0 where
+  pub stops : (v : V) (w w' : W) (s : Stop) → does v w w' (Err s) → Whys out hinders s w w'
+  pub noticed : (v : V) (w w' : W) (end : Result (Unit {0}) Stop) → does v w w' end → (out w').faults ≢ (out w).faults → end ≡ Err stop.SinkFailed
+
+module _ {V W : Type 0} (asks : Course V → Type 0) (one : (c d : Course V) → asks c → asks d → c ≡ d) (does : V → W → W → Result (Unit {0}) Stop → Type 0)
+    (out : W → SinkAt) (hinders : Stop → W → W → Type 0) (work : IsWork does out hinders) (files files' : FilesAt) (world world' : W) (err err' : SinkAt) (result : ℕ)
+    (call : EndsWith (Runs asks does files files' world world') err err' result) where
   abbrev Does : Result (Unit {0}) Stop → Type 0
-  Does end = Runs asks files files' out out' end
+  Does end = Runs asks does files files' world world' end
+
+  abbrev Ends : Result (Unit {0}) Stop → Type 0
+  Ends end = Ended asks does files files' world world' end
+
+  -- ---- what was done, by the end
+
+  did : (end : Result (Unit {0}) Stop) (c : Course V) → asks c → (v : V) → ((t : FilesTold) → files.told ≡ Some t → Makes t.content c v × (files'.told ≡ Some t))
+      → files'.faults ≡ files.faults → does v world world' end → Did asks does files files' world world' end
+  did end c asked v told calm worked = record { course = c; asked = asked; value = v; makes = if_some files.told _ told; calm = calm; worked = worked }
+
+  by_stop : (s : Stop) → Whys out hinders s world world' → Did asks does files files' world world' (Err s) → Ends (Err s)
+  by_stop (stop.Refused line) why d = inr d
+  by_stop stop.Words why d = absurd why
+  by_stop (stop.Unreadable line) why d = absurd why
+  by_stop stop.SinkFailed why d = d
+  by_stop stop.NoMemory why d = inl d
+  by_stop stop.StoreFailed why d = d
+  by_stop stop.PortsFailed why d = d
+  by_stop stop.TurnsUsedUp why d = d
+
+  worked_end : (end : Result (Unit {0}) Stop) → Did asks does files files' world world' end → Ends end
+  worked_end (Ok u) d = d
+  worked_end (Err s) d = by_stop s (work.stops d.value world world' s d.worked) d
+
+  ended : (end : Result (Unit {0}) Stop) → Ran asks does files files' world world' end → Ends end
+  ended end (runs.worked c asked v told calm worked) =
+      worked_end end (did end c asked v told calm worked)
+  ended end (runs.refuses c asked line is told calm same) =
+      subst Ends (sym is) (inl (if_some files.told _ (λ t e. (c, asked, (told t e).0)), same))
+  ended end (runs.misses c asked name (inl is) told rose same) =
+      subst Ends (sym is) (
+        if_some files.told _ (λ t e. record { course = c; asked = asked; name = name; comes = (told t e).0; failed = (told t e).1; line_is = refl }),
+        rose,
+        same,
+      )
+  ended end (runs.misses c asked name (inr is) told rose same) = subst Ends (sym is) (inr same)
+  ended end (runs.words none is kept same) = subst Ends (sym is) (none, kept, same)
+  ended end (runs.wants is told calm same) = subst Ends (sym is) (inr same)
+
+  -- the whole call, as it ended
+  pub ends : EndsWith Ends err err' result
+  ends = record { end = call.end; ran = ended call.end (ran asks does files files' world world' call.end call.ran); reports = call.reports }
 
   -- the status of an end, or 4 where err failed
-  status_at : (end : Result (Unit {0}) Stop) → ends.end ≡ end → EndsAt (status_of end) err.faults err'.faults result
+  status_at : (end : Result (Unit {0}) Stop) → call.end ≡ end → EndsAt (status_of end) err.faults err'.faults result
   status_at end is =
-      subst (λ (e : Result (Unit {0}) Stop). EndsAt (status_of e) err.faults err'.faults result) is (status.of_end Does err err' result ends)
+      subst (λ (e : Result (Unit {0}) Stop). EndsAt (status_of e) err.faults err'.faults result) is (status.of_end Does err err' result call)
 
   -- ---- 0
 
-  pub done : result ≡ 0 → (t : FilesTold) → files.told ≡ Some t → (before : List ℕ) → out.told ≡ Some before → Done asks t.content before out'.told
-  done zero t e before had = by_end (ran asks files files' out out' (Ok tt) (status.with_0 Does err err' result ends zero))
-    where
-      by_end : Ran asks files files' out out' (Ok tt) → Done asks t.content before out'.told
-      by_end (runs.done c asked text is told calm put) =
-          record { course = c; asked = asked; text = text; makes = (told t e).0; put = puts_done out out' text before put had }
-      by_end (runs.cut c asked text is told calm put) = absurd (cc)
-      by_end (runs.refuses c asked line is told calm same) = absurd (cc)
-      by_end (runs.misses c asked name (inl is) told rose same) = absurd (cc)
-      by_end (runs.misses c asked name (inr is) told rose same) = absurd (cc)
-      by_end (runs.words none is kept same) = absurd (cc)
-      by_end (runs.wants is told calm same) = absurd (cc)
+  pub done : result ≡ 0 → Did asks does files files' world world' (Ok tt)
+  done zero = status.with_0 Ends err err' result ends zero
 
   pub silent : result ≡ 0 → err'.told ≡ err.told
-  silent zero = status.silent_0 Does err err' result ends zero
+  silent zero = status.silent_0 Ends err err' result ends zero
 
-  pub complete : (t : FilesTold) → files.told ≡ Some t → (c : Course (List ℕ)) → asks c → IsValid t.content c → ¬ (Rose files.faults files'.faults)
-      → ¬ (Rose out.faults out'.faults) → (result ≡ 0) ⊎ EndsAt 5 err.faults err'.faults result
-  complete t e c asked valid calm quiet = by_end (ran asks files files' out out' ends.end ends.ran)
+  pub complete : (t : FilesTold) → files.told ≡ Some t → (c : Course V) → asks c → IsValid t.content c → ¬ (Rose files.faults files'.faults)
+      → ¬ (Rose (out world).faults (out world').faults) → ((s : Stop) → ¬ (hinders s world world')) → (result ≡ 0) ⊎ EndsAt 5 err.faults err'.faults result
+  complete t e c asked valid calm quiet free = by_end (ran asks does files files' world world' call.end call.ran)
     where
-      by_end : Ran asks files files' out out' ends.end → (result ≡ 0) ⊎ EndsAt 5 err.faults err'.faults result
-      by_end (runs.done d also text is told still put) = elim (status_at (Ok tt) is) [ inl zero ↦ inl zero | inr four ↦ inr (inr four) ]
-      by_end (runs.cut d also text is told still put) = absurd (quiet (puts_failed out out' text stop.SinkFailed put).1)
+      by_why : (s : Stop) → call.end ≡ Err s → Whys out hinders s world world' → (result ≡ 0) ⊎ EndsAt 5 err.faults err'.faults result
+      by_why (stop.Refused line) is why = absurd (free (stop.Refused line) why)
+      by_why stop.Words is why = absurd why
+      by_why (stop.Unreadable line) is why = absurd why
+      by_why stop.SinkFailed is why = absurd (quiet why)
+      by_why stop.NoMemory is why = inr (status_at (Err stop.NoMemory) is)
+      by_why stop.StoreFailed is why = absurd (free stop.StoreFailed why)
+      by_why stop.PortsFailed is why = absurd (free stop.PortsFailed why)
+      by_why stop.TurnsUsedUp is why = absurd (free stop.TurnsUsedUp why)
+
+      by_work : (v : V) (end : Result (Unit {0}) Stop) → call.end ≡ end → does v world world' end → (result ≡ 0) ⊎ EndsAt 5 err.faults err'.faults result
+      by_work v (Ok u) is worked = elim (status_at (Ok tt) is) [ inl zero ↦ inl zero | inr four ↦ inr (inr four) ]
+      by_work v (Err s) is worked = by_why s is (work.stops v world world' s worked)
+
+      by_end : Ran asks does files files' world world' call.end → (result ≡ 0) ⊎ EndsAt 5 err.faults err'.faults result
+      by_end (runs.worked d also v told still worked) = by_work v call.end refl worked
       by_end (runs.refuses d also line is told still same) =
-          absurd (made_apart t.content c valid.0 line valid.1 (subst (λ (x : Course (List ℕ)). RefusedBy t.content x line) (one d c also asked) (told t e).0))
+          absurd (made_apart t.content c valid.0 line valid.1 (subst (λ (x : Course V). RefusedBy t.content x line) (one d c also asked) (told t e).0))
       by_end (runs.misses d also name is told rose same) = absurd (calm rose)
       by_end (runs.words none is kept same) = absurd (none c asked)
       by_end (runs.wants is told still same) = inr (status_at (Err stop.NoMemory) is)
 
   -- ---- 1
 
-  pub refused : result ≡ 1 → (t : FilesTold) → files.told ≡ Some t → (line : List ℕ) × Refusal asks t.content line × Stands err.told err'.told line
-  refused first t e =
-      let end = status.with_1 Does err err' result ends first in
-      (end.0, by_end end.0 (ran asks files files' out out' (Err (stop.Refused end.0)) end.1), end.2)
-    where
-      by_end : (line : List ℕ) → Ran asks files files' out out' (Err (stop.Refused line)) → Refusal asks t.content line
-      by_end line (runs.done c asked text is told calm put) = absurd (cc)
-      by_end line (runs.cut c asked text is told calm put) = absurd (cc)
-      by_end line (runs.refuses c asked its is told calm same) =
-          let equal : its ≡ line = cc in
-          (c, asked, subst (λ (l : List ℕ). RefusedBy t.content c l) equal (told t e).0)
-      by_end line (runs.misses c asked name (inl is) told rose same) = absurd (cc)
-      by_end line (runs.misses c asked name (inr is) told rose same) = absurd (cc)
-      by_end line (runs.words none is kept same) = absurd (cc)
-      by_end line (runs.wants is told calm same) = absurd (cc)
+  pub refused : result ≡ 1 → (line : List ℕ) × Stands err.told err'.told line
+      × ((IfSome files.told (λ t. Refusal asks t.content line) × (world' ≡ world)) ⊎ Did asks does files files' world world' (Err (stop.Refused line)))
+  refused first = let end = status.with_1 Ends err err' result ends first in (end.0, end.2, end.1)
 
-  pub refusing : (t : FilesTold) → files.told ≡ Some t → (c : Course (List ℕ)) → (line : List ℕ) → asks c → RefusedBy t.content c line
+  -- where work refuses nothing, it was a file of the course
+  pub refused_file : ((line : List ℕ) → ¬ (hinders (stop.Refused line) world world')) → result ≡ 1 → (t : FilesTold) → files.told ≡ Some t
+      → (line : List ℕ) × Refusal asks t.content line × Stands err.told err'.told line
+  refused_file free first t e =
+      let end = refused first in
+      elim end.2 [
+        | inl file ↦ (end.0, subst (λ (o : Option FilesTold). IfSome o (λ t. Refusal asks t.content end.0)) e file.0, end.1)
+        | inr d ↦ absurd (free end.0 (work.stops d.value world world' (stop.Refused end.0) d.worked))
+      ]
+
+  pub refusing : (t : FilesTold) → files.told ≡ Some t → (c : Course V) → (line : List ℕ) → asks c → RefusedBy t.content c line
       → ¬ (Rose files.faults files'.faults) → (result ≡ 1) ⊎ EndsAt 5 err.faults err'.faults result
-  refusing t e c line asked bad calm = by_end (ran asks files files' out out' ends.end ends.ran)
+  refusing t e c line asked bad calm = by_end (ran asks does files files' world world' call.end call.ran)
     where
-      apart : (d : Course (List ℕ)) → asks d → (text : List ℕ) → Makes t.content d text → ⊥
-      apart d also text makes = made_apart t.content d text line makes (subst (λ (x : Course (List ℕ)). RefusedBy t.content x line) (one c d asked also) bad)
+      apart : (d : Course V) → asks d → (v : V) → Makes t.content d v → ⊥
+      apart d also v makes = made_apart t.content d v line makes (subst (λ (x : Course V). RefusedBy t.content x line) (one c d asked also) bad)
 
-      by_end : Ran asks files files' out out' ends.end → (result ≡ 1) ⊎ EndsAt 5 err.faults err'.faults result
-      by_end (runs.done d also text is told still put) = absurd (apart d also text (told t e).0)
-      by_end (runs.cut d also text is told still put) = absurd (apart d also text (told t e).0)
+      by_end : Ran asks does files files' world world' call.end → (result ≡ 1) ⊎ EndsAt 5 err.faults err'.faults result
+      by_end (runs.worked d also v told still worked) = absurd (apart d also v (told t e).0)
       by_end (runs.refuses d also its is told still same) = elim (status_at (Err (stop.Refused its)) is) [ inl first ↦ inl first | inr four ↦ inr (inr four) ]
       by_end (runs.misses d also name is told rose same) = absurd (calm rose)
       by_end (runs.words none is kept same) = absurd (none c asked)
@@ -121,27 +172,17 @@ module _ (asks : Course (List ℕ) → Type 0) (one : (c d : Course (List ℕ)) 
 
   -- ---- 2
 
-  pub words : result ≡ 2 → (c : Course (List ℕ)) → ¬ (asks c)
-  words two = by_end (ran asks files files' out out' (Err stop.Words) (status.with_2 Does err err' result ends two).0)
-    where
-      by_end : Ran asks files files' out out' (Err stop.Words) → (c : Course (List ℕ)) → ¬ (asks c)
-      by_end (runs.done c asked text is told calm put) = absurd (cc)
-      by_end (runs.cut c asked text is told calm put) = absurd (cc)
-      by_end (runs.refuses c asked its is told calm same) = absurd (cc)
-      by_end (runs.misses c asked name (inl is) told rose same) = absurd (cc)
-      by_end (runs.misses c asked name (inr is) told rose same) = absurd (cc)
-      by_end (runs.words none is kept same) = none
-      by_end (runs.wants is told calm same) = absurd (cc)
+  pub words : result ≡ 2 → (c : Course V) → ¬ (asks c)
+  words two = (status.with_2 Ends err err' result ends two).0.0
 
   pub usage_line : result ≡ 2 → Stands err.told err'.told usage
-  usage_line two = (status.with_2 Does err err' result ends two).1
+  usage_line two = (status.with_2 Ends err err' result ends two).1
 
-  pub no_words : ((c : Course (List ℕ)) → ¬ (asks c)) → (result ≡ 2) ⊎ EndsAt 5 err.faults err'.faults result
-  no_words nothing = by_end (ran asks files files' out out' ends.end ends.ran)
+  pub no_words : ((c : Course V) → ¬ (asks c)) → (result ≡ 2) ⊎ EndsAt 5 err.faults err'.faults result
+  no_words nothing = by_end (ran asks does files files' world world' call.end call.ran)
     where
-      by_end : Ran asks files files' out out' ends.end → (result ≡ 2) ⊎ EndsAt 5 err.faults err'.faults result
-      by_end (runs.done c asked text is told calm put) = absurd (nothing c asked)
-      by_end (runs.cut c asked text is told calm put) = absurd (nothing c asked)
+      by_end : Ran asks does files files' world world' call.end → (result ≡ 2) ⊎ EndsAt 5 err.faults err'.faults result
+      by_end (runs.worked c asked v told calm worked) = absurd (nothing c asked)
       by_end (runs.refuses c asked its is told calm same) = absurd (nothing c asked)
       by_end (runs.misses c asked name is told rose same) = absurd (nothing c asked)
       by_end (runs.words none is kept same) = elim (status_at (Err stop.Words) is) [ inl two ↦ inl two | inr four ↦ inr (inr four) ]
@@ -149,136 +190,83 @@ module _ (asks : Course (List ℕ) → Type 0) (one : (c d : Course (List ℕ)) 
 
   -- ---- 3
 
-  missed_by : (line : List ℕ) → Ran asks files files' out out' (Err (stop.Unreadable line))
-      → Rose files.faults files'.faults × ((t : FilesTold) → files.told ≡ Some t → Missed asks t files'.told line)
-  missed_by line (runs.done c asked text is told calm put) = absurd (cc)
-  missed_by line (runs.cut c asked text is told calm put) = absurd (cc)
-  missed_by line (runs.refuses c asked its is told calm same) = absurd (cc)
-  missed_by line (runs.misses c asked name (inl is) told rose same) =
-      let equal : line ≡ unreadable_line name = cc in
-      (rose, λ t e. record { course = c; asked = asked; name = name; comes = (told t e).0; failed = (told t e).1; line_is = equal })
-  missed_by line (runs.misses c asked name (inr is) told rose same) = absurd (cc)
-  missed_by line (runs.words none is kept same) = absurd (cc)
-  missed_by line (runs.wants is told calm same) = absurd (cc)
-
   pub unread : result ≡ 3 → (t : FilesTold) → files.told ≡ Some t → (line : List ℕ) × Missed asks t files'.told line × Stands err.told err'.told line
   unread three t e =
-      let end = status.with_3 Does err err' result ends three in
-      (end.0, (missed_by end.0 (ran asks files files' out out' (Err (stop.Unreadable end.0)) end.1)).1 t e, end.2)
+      let end = status.with_3 Ends err err' result ends three in
+      (end.0, subst (λ (o : Option FilesTold). IfSome o (λ t. Missed asks t files'.told end.0)) e end.1.0, end.2)
 
   pub read_failed : result ≡ 3 → Rose files.faults files'.faults
-  read_failed three =
-      let end = status.with_3 Does err err' result ends three in
-      (missed_by end.0 (ran asks files files' out out' (Err (stop.Unreadable end.0)) end.1)).0
+  read_failed three = (status.with_3 Ends err err' result ends three).1.1
 
   pub one_failed : (t : FilesTold) → files.told ≡ Some t → (u : FilesTold) → files'.told ≡ Some u → u.failed ≢ t.failed
       → (result ≡ 3) ⊎ EndsAt 5 err.faults err'.faults result
-  one_failed t e u g other = by_end (ran asks files files' out out' ends.end ends.ran)
+  one_failed t e u g other = by_end (ran asks does files files' world world' call.end call.ran)
     where
       kept : files'.told ≡ Some t → ⊥
       kept k = let both : Some u ≡ Some t = sym g ∙ k in let same : u ≡ t = cc in other (ap (λ (x : FilesTold). x.failed) same)
 
-      by_end : Ran asks files files' out out' ends.end → (result ≡ 3) ⊎ EndsAt 5 err.faults err'.faults result
-      by_end (runs.done c asked text is told calm put) = absurd (kept (told t e).1)
-      by_end (runs.cut c asked text is told calm put) = absurd (kept (told t e).1)
+      by_end : Ran asks does files files' world world' call.end → (result ≡ 3) ⊎ EndsAt 5 err.faults err'.faults result
+      by_end (runs.worked c asked v told calm worked) = absurd (kept (told t e).1)
       by_end (runs.refuses c asked its is told calm same) = absurd (kept (told t e).1)
       by_end (runs.misses c asked name (inl is) told rose same) =
           elim (status_at (Err (stop.Unreadable (unreadable_line name))) is) [ inl three ↦ inl three | inr four ↦ inr (inr four) ]
       by_end (runs.misses c asked name (inr is) told rose same) = inr (status_at (Err stop.NoMemory) is)
-      by_end (runs.words none is same same_out) = absurd (kept (ap (λ (at : FilesAt). at.told) same ∙ e))
+      by_end (runs.words none is same same_world) = absurd (kept (ap (λ (at : FilesAt). at.told) same ∙ e))
       by_end (runs.wants is told calm same) = absurd (kept (told t e))
+
+  -- ---- 1, 2 and 3
+
+  -- the world is as it was, where work refuses nothing
+  pub kept : ((line : List ℕ) → ¬ (hinders (stop.Refused line) world world')) → (result ≡ 1) ⊎ ((result ≡ 2) ⊎ (result ≡ 3)) → world' ≡ world
+  kept free (inl first) =
+      let end = refused first in
+      elim end.2 [ inl file ↦ file.1 | inr d ↦ absurd (free end.0 (work.stops d.value world world' (stop.Refused end.0) d.worked)) ]
+  kept free (inr (inl two)) = (status.with_2 Ends err err' result ends two).0.2
+  kept free (inr (inr three)) = (status.with_3 Ends err err' result ends three).1.2
 
   -- ---- 4
 
-  -- where a command ended early and for no put, nothing was put
-  same_out : (s : Stop) → s ≢ stop.SinkFailed → Ran asks files files' out out' (Err s) → out' ≡ out
-  same_out s other (runs.done c asked text is told calm put) = absurd (cc)
-  same_out s other (runs.cut c asked text is told calm put) = absurd (other (cc))
-  same_out s other (runs.refuses c asked its is told calm same) = same
-  same_out s other (runs.misses c asked name is told rose same) = same
-  same_out s other (runs.words none is kept same) = same
-  same_out s other (runs.wants is told calm same) = same
-
-  out_rose : Ran asks files files' out out' (Err stop.SinkFailed) → Rose out.faults out'.faults
-  out_rose (runs.done c asked text is told calm put) = absurd (cc)
-  out_rose (runs.cut c asked text is told calm put) = (puts_failed out out' text stop.SinkFailed put).1
-  out_rose (runs.refuses c asked its is told calm same) = absurd (cc)
-  out_rose (runs.misses c asked name (inl is) told rose same) = absurd (cc)
-  out_rose (runs.misses c asked name (inr is) told rose same) = absurd (cc)
-  out_rose (runs.words none is kept same) = absurd (cc)
-  out_rose (runs.wants is told calm same) = absurd (cc)
-
-  pub put_failed : result ≡ 4 → Rose out.faults out'.faults ⊎ (Rose err.faults err'.faults × (out'.told ≡ out.told))
+  pub put_failed : result ≡ 4 → Rose (out world).faults (out world').faults ⊎ Rose err.faults err'.faults
   put_failed four =
-      elim (status.with_4 Does err err' result ends four) [
-        | inl run ↦ inl (out_rose (ran asks files files' out out' (Err stop.SinkFailed) run))
-        | inr rose ↦ inr (rose.0, ap (λ (at : SinkAt). at.told) (same_out rose.1 rose.2 (ran asks files files' out out' (Err rose.1) rose.3)))
+      elim (status.with_4 Ends err err' result ends four) [
+        | inl d ↦ inl (work.stops d.value world world' stop.SinkFailed d.worked)
+        | inr rose ↦ inr rose.0
       ]
 
   four_of : EndsAt 4 err.faults err'.faults result → result ≡ 4
   four_of (inl four) = four
   four_of (inr four) = four.0
 
-  -- where the count of out changed, the command's own put failed
-  sink_failed : out'.faults ≢ out.faults → Ran asks files files' out out' ends.end → ends.end ≡ Err stop.SinkFailed
-  sink_failed other (runs.done c asked text is told calm put) = absurd (other (put_stays out out' text put))
-  sink_failed other (runs.cut c asked text is told calm put) = is
-  sink_failed other (runs.refuses c asked its is told calm same) = absurd (other (ap (λ (at : SinkAt). at.faults) same))
-  sink_failed other (runs.misses c asked name is told rose same) = absurd (other (ap (λ (at : SinkAt). at.faults) same))
-  sink_failed other (runs.words none is kept same) = absurd (other (ap (λ (at : SinkAt). at.faults) same))
-  sink_failed other (runs.wants is told calm same) = absurd (other (ap (λ (at : SinkAt). at.faults) same))
+  -- where the count of out changed, the work's own put failed
+  sink_failed : (out world').faults ≢ (out world).faults → Ran asks does files files' world world' call.end → call.end ≡ Err stop.SinkFailed
+  sink_failed other (runs.worked c asked v told calm worked) = work.noticed v world world' call.end worked other
+  sink_failed other (runs.refuses c asked its is told calm same) = absurd (other (ap (λ (w : W). (out w).faults) same))
+  sink_failed other (runs.misses c asked name is told rose same) = absurd (other (ap (λ (w : W). (out w).faults) same))
+  sink_failed other (runs.words none is kept same) = absurd (other (ap (λ (w : W). (out w).faults) same))
+  sink_failed other (runs.wants is told calm same) = absurd (other (ap (λ (w : W). (out w).faults) same))
 
-  pub noticed : (out'.faults ≢ out.faults) ⊎ (err'.faults ≢ err.faults) → result ≡ 4
-  noticed (inl other) = four_of (status_at (Err stop.SinkFailed) (sink_failed other (ran asks files files' out out' ends.end ends.ran)))
+  pub noticed : ((out world').faults ≢ (out world).faults) ⊎ (err'.faults ≢ err.faults) → result ≡ 4
+  noticed (inl other) = four_of (status_at (Err stop.SinkFailed) (sink_failed other (ran asks does files files' world world' call.end call.ran)))
   noticed (inr other) =
-      failed_4 ends.reports.put (status_of ends.end) result err.faults err'.faults ends.reports.status_is
-      (put_counts err err' (line_of ends.end) ends.reports.put ends.reports.puts) other
+      failed_4 call.reports.put (status_of call.end) result err.faults err'.faults call.reports.status_is
+      (put_counts err err' (line_of call.end) call.reports.put call.reports.puts) other
 
-  pub out_failed : out'.faults ≢ out.faults → err' ≡ err
-  out_failed other = (ends.reports.quiet (ap line_of (sink_failed other (ran asks files files' out out' ends.end ends.ran)))).1
+  pub out_failed : (out world').faults ≢ (out world).faults → err' ≡ err
+  out_failed other = (call.reports.quiet (ap line_of (sink_failed other (ran asks does files files' world world' call.end call.ran)))).1
 
-  -- ---- 5
+  -- ---- 5 and more
 
   pub want_line : result ≡ 5 → Stands err.told err'.told want_of_memory
-  want_line five = status.with_5 Does err err' result ends five
+  want_line five = status.with_5 Ends err err' result ends five
 
-  -- ---- out and err at any status
+  pub store_lost : result ≡ 6 → Did asks does files files' world world' (Err stop.StoreFailed) × Stands err.told err'.told store_failed
+  store_lost six = status.with_6 Ends err err' result ends six
 
-  pub cut : (t : FilesTold) → files.told ≡ Some t → (before : List ℕ) → out.told ≡ Some before
-      → Cut asks t.content before out'.told ⊎ (out'.told ≡ Some before)
-  cut t e before had = by_end (ran asks files files' out out' ends.end ends.ran)
-    where
-      front : (c : Course (List ℕ)) → asks c → (text : List ℕ) → Makes t.content c text → Front before text out'.told → Cut asks t.content before out'.told
-      front c asked text makes f = record { course = c; asked = asked; text = text; makes = makes; len = f.len; put = f.put }
+  pub lost_at : result ≡ 6 → hinders stop.StoreFailed world world'
+  lost_at six = let d = (store_lost six).0 in work.stops d.value world world' stop.StoreFailed d.worked
 
-      same_told : out' ≡ out → out'.told ≡ Some before
-      same_told same = ap (λ (at : SinkAt). at.told) same ∙ had
+  pub ports_lost : result ≡ 7 → Did asks does files files' world world' (Err stop.PortsFailed) × Stands err.told err'.told ports_failed
+  ports_lost seven = status.with_7 Ends err err' result ends seven
 
-      by_end : Ran asks files files' out out' ends.end → Cut asks t.content before out'.told ⊎ (out'.told ≡ Some before)
-      by_end (runs.done c asked text is told calm put) = inl (front c asked text (told t e).0 (front_of out out' text before (Ok tt) put had))
-      by_end (runs.cut c asked text is told calm put) = inl (front c asked text (told t e).0 (front_of out out' text before (Err stop.SinkFailed) put had))
-      by_end (runs.refuses c asked its is told calm same) = inr (same_told same)
-      by_end (runs.misses c asked name is told rose same) = inr (same_told same)
-      by_end (runs.words none is kept same) = inr (same_told same)
-      by_end (runs.wants is told calm same) = inr (same_told same)
-
-  pub nothing_put : result ≢ 0 → result ≢ 4 → out'.told ≡ out.told
-  nothing_put no0 no4 =
-      let end = status.with_other Does err err' result ends no0 no4 in
-      ap (λ (at : SinkAt). at.told) (same_out end.0 end.1 (ran asks files files' out out' (Err end.0) end.2))
-
-  may_stand : (t : FilesTold) → files.told ≡ Some t → Ran asks files files' out out' ends.end → MayStand asks t files'.told (line_of ends.end)
-  may_stand t e (runs.done c asked text is told calm put) = inl (ap line_of is)
-  may_stand t e (runs.cut c asked text is told calm put) = inl (ap line_of is)
-  may_stand t e (runs.refuses c asked its is told calm same) =
-      inr (inr (inr (inl (c, asked, subst (λ (l : List ℕ). RefusedBy t.content c l) (sym (ap line_of is)) (told t e).0))))
-  may_stand t e (runs.misses c asked name (inl is) told rose same) =
-      inr (inr (inr (inr (record { course = c; asked = asked; name = name; comes = (told t e).0; failed = (told t e).1; line_is = ap line_of is }))))
-  may_stand t e (runs.misses c asked name (inr is) told rose same) = inr (inl (ap line_of is))
-  may_stand t e (runs.words none is kept same) = inr (inr (inl (none, ap line_of is)))
-  may_stand t e (runs.wants is told calm same) = inr (inl (ap line_of is))
-
-  pub err_front : (t : FilesTold) → files.told ≡ Some t → FrontOfLine asks t files'.told err.told err'.told
-  err_front t e had is =
-      let front = front_put had (line_of ends.end) err'.told ends.reports.put (put_tells had err err' (line_of ends.end) ends.reports.put is ends.reports.puts) in
-      (line_of ends.end, may_stand t e (ran asks files files' out out' ends.end ends.ran), front.len, front.put)
+  pub turns_gone : result ≡ 8 → Did asks does files files' world world' (Err stop.TurnsUsedUp) × Stands err.told err'.told turns_used_up
+  turns_gone eight = status.with_8 Ends err err' result ends eight

@@ -1,8 +1,8 @@
 -- What it says of a course that it was followed, and that one end excludes another.
-use Rattle.std.proofs.Common.{◌≡◌, ◌≢◌, ℕ, ◌⊎◌, inl, inr, List, refl, sym, ap, subst, ◌∙◌}
+use Rattle.std.proofs.Common.{◌≡◌, ℕ, ◌⊎◌, inl, inr, List, refl, sym, ap, subst, ◌∙◌}
 use Rattle.std.specs.Prelude.{Option, Some, Result, Ok, Err, Vec, IfSome}
 use Rattle.std.specs.declared.alloc.Global.{Global}
-use Rattle.farm_base.specs.Outside.{Outside, FilesTold, Rose, Reads, failed_read, with_failed}
+use Rattle.farm_base.specs.Outside.{FilesTold, Rose, Reads, failed_read, with_failed}
 use Rattle.farm_base.specs.declared.files.FileFault.{FileFault}
 use Rattle.farm_base.specs.declared.files.FileFault.TheVariants as file
 use Rattle.call_ends.specs.Stops.{unreadable_line}
@@ -11,8 +11,7 @@ use Rattle.call_ends.specs.declared.stops.Stop.{Stop}
 use Rattle.call_ends.specs.declared.stops.Stop.TheVariants as stop
 use Rattle.call_ends.proofs.Outsides.{read_tells}
 use Rattle.input_files.specs.Course.{Course, made, refused, reads, ◌>>=◌, Makes, RefusedBy, ComesTo}
-use Rattle.input_files.specs.inner.Follows as follows
-use Rattle.input_files.specs.inner.Follows.{Ends, After, ReadAnd, Follows}
+use Rattle.input_files.specs.inner.Follows.{After, Follows}
 
 -- ---- one end at most
 

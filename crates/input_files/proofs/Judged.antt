@@ -1,5 +1,5 @@
 -- A file that is read and judged.
-use Rattle.std.proofs.Common.{◌≡◌, ◌≢◌, ℕ, ◌⊎◌, inl, inr, List, refl, sym, ap, subst, ◌∙◌}
+use Rattle.std.proofs.Common.{◌≡◌, ℕ, ◌⊎◌, inl, inr, List, refl, sym, ap, subst, ◌∙◌}
 use Rattle.std.specs.Prelude.{Option, Some, None, Result, Ok, Err, Vec}
 use Rattle.std.specs.declared.alloc.Global.{Global}
 use Rattle.farm_base.specs.declared.files.FileFault.{FileFault}
@@ -10,8 +10,8 @@ use Rattle.call_ends.specs.Stops.{refused_line, unreadable_line}
 use Rattle.call_ends.specs.Ends.{FilesAt}
 use Rattle.call_ends.specs.declared.stops.Stop.{Stop}
 use Rattle.call_ends.specs.declared.stops.Stop.TheVariants as stop
-use Rattle.input_files.specs.Course.{Course, made, refused, reads, ◌>>=◌, text_or_none, judged, file}
-use Rattle.input_files.specs.inner.Follows.{Ends, After, ReadAnd, Follows, Says, Tells}
+use Rattle.input_files.specs.Course.{made, reads, text_or_none, judged, file}
+use Rattle.input_files.specs.inner.Follows.{After, Follows, Says, Tells}
 use Rattle.input_files.proofs.Courses.{ended, follows_wanting, follows_stop}
 
 -- ---- the bytes are judged

@@ -1,52 +1,48 @@
--- What a call promises whose words ask for the text that a course makes.
-use Rattle.std.specs.Prelude.{◌≡◌, ℕ, ◌⊎◌, List, [], ◌++◌, take, Option, Some}
+-- What a call promises whose words ask for a course, and which works on what the course makes.
+use Rattle.std.specs.Prelude.{◌≡◌, ℕ, ◌⊎◌, List, Option, Some, Result, Ok, Err, IfSome}
 use Rattle.farm_base.specs.Outside.{FilesTold, Rose, failed_read, with_failed}
-use Rattle.call_ends.specs.Stops.{usage, want_of_memory, unreadable_line}
+use Rattle.call_ends.specs.Stops.{unreadable_line}
+use Rattle.call_ends.specs.Ends.{FilesAt}
+use Rattle.call_ends.specs.declared.stops.Stop.{Stop}
+use Rattle.call_ends.specs.declared.stops.Stop.TheVariants as stop
 use Rattle.input_files.specs.Course.{Course, Makes, RefusedBy, ComesTo}
 
--- the files lead a course that is asked for to a text, and this text was put after what out had
-pub record Done (asks : Course (List ℕ) → Type 0) (held : List ℕ → Option (List ℕ)) (before : List ℕ) (after : Option (List ℕ)) : Type 0 where
-  pub course : Course (List ℕ)
+-- The files lead a course that is asked for to a value, no read failed, and the value was worked on, to this end. `does`
+-- says what work does to the world, and how it ends.
+pub record Did {V W : Type 0} (asks : Course V → Type 0) (does : V → W → W → Result (Unit {0}) Stop → Type 0) (files files' : FilesAt) (world world' : W) (end : Result (Unit {0}) Stop) : Type 0 where
+  pub course : Course V
   pub asked : asks course
-  pub text : List ℕ
-  pub makes : Makes held course text
-  pub put : after ≡ Some (before ++ text)
-
--- the same, but of the text only a front was put, which may be empty or whole
-pub record Cut (asks : Course (List ℕ) → Type 0) (held : List ℕ → Option (List ℕ)) (before : List ℕ) (after : Option (List ℕ)) : Type 0 where
-  pub course : Course (List ℕ)
-  pub asked : asks course
-  pub text : List ℕ
-  pub makes : Makes held course text
-  pub len : ℕ
-  pub put : after ≡ Some (before ++ take len text)
+  pub value : V
+  pub makes : IfSome files.told (λ t. Makes t.content course value × (files'.told ≡ Some t))
+  pub calm : files'.faults ≡ files.faults
+  pub worked : does value world world' end
 
 -- the files lead a course that is asked for to this line, that of their first fault
-abbrev pub Refusal : (Course (List ℕ) → Type 0) → (List ℕ → Option (List ℕ)) → List ℕ → Type 0
-Refusal asks held line = (course : Course (List ℕ)) × asks course × RefusedBy held course line
+abbrev pub Refusal : {V : Type 0} → (Course V → Type 0) → (List ℕ → Option (List ℕ)) → List ℕ → Type 0
+Refusal {V} asks held line = (course : Course V) × asks course × RefusedBy held course line
 
 -- the files lead a course that is asked for to a read, that read failed and no other call, and this is
 -- its line
-pub record Missed (asks : Course (List ℕ) → Type 0) (before : FilesTold) (after : Option FilesTold) (line : List ℕ) : Type 0 where
-  pub course : Course (List ℕ)
+pub record Missed {V : Type 0} (asks : Course V → Type 0) (before : FilesTold) (after : Option FilesTold) (line : List ℕ) : Type 0 where
+  pub course : Course V
   pub asked : asks course
   pub name : List ℕ
   pub comes : ComesTo before.content course name
   pub failed : after ≡ Some (with_failed (failed_read name) before)
   pub line_is : line ≡ unreadable_line name
 
--- a line that may stand on err: none, that of want of memory, the usage line where the words ask for
--- nothing, or that of the file that is refused or cannot be read
-abbrev pub MayStand : (Course (List ℕ) → Type 0) → FilesTold → Option FilesTold → List ℕ → Type 0
-MayStand asks before after line =
-    (line ≡ [])
-    ⊎ ((line ≡ want_of_memory)
-    ⊎ ((((course : Course (List ℕ)) → ¬ (asks course)) × (line ≡ usage)) ⊎ (Refusal asks before.content line ⊎ Missed asks before after line)))
-
--- err has what it had, and behind it a front of such a line
-abbrev pub FrontOfLine : (Course (List ℕ) → Type 0) → FilesTold → Option FilesTold → Option (List ℕ) → Option (List ℕ) → Type 0
-FrontOfLine asks before after err err' =
-    (had : List ℕ) → err ≡ Some had → (line : List ℕ) × MayStand asks before after line × (len : ℕ) × (err' ≡ Some (had ++ take len line))
+-- What a call has done that ended so, before the line of its end was put on err. Where a file of the course is refused or
+-- cannot be read, or the words ask for nothing, the world is as it was. In want of memory it is so too, or work was begun.
+-- Work may refuse what it reads itself.
+abbrev pub Ended : {V W : Type 0} → (Course V → Type 0) → (V → W → W → Result (Unit {0}) Stop → Type 0) → FilesAt → FilesAt → W → W → Result (Unit {0}) Stop → Type 0
+Ended asks does files files' world world' (Ok done) = Did asks does files files' world world' (Ok done)
+Ended asks does files files' world world' (Err (stop.Refused line)) =
+    (IfSome files.told (λ t. Refusal asks t.content line) × (world' ≡ world)) ⊎ Did asks does files files' world world' (Err (stop.Refused line))
+Ended {V} asks does files files' world world' (Err stop.Words) = ((course : Course V) → ¬ (asks course)) × (files' ≡ files) × (world' ≡ world)
+Ended asks does files files' world world' (Err (stop.Unreadable line)) =
+    IfSome files.told (λ t. Missed asks t files'.told line) × Rose files.faults files'.faults × (world' ≡ world)
+Ended asks does files files' world world' (Err stop.NoMemory) = Did asks does files files' world world' (Err stop.NoMemory) ⊎ (world' ≡ world)
+Ended asks does files files' world world' (Err other) = Did asks does files files' world world' (Err other)
 
 -- this status, or 4 where the count of err rose, since its line could not be put
 abbrev pub EndsAt : ℕ → ℕ → ℕ → ℕ → Type 0

@@ -1,3 +1,4 @@
+pub mod Bytes
 pub mod Painting
 pub mod Cutting
 pub mod Texts

@@ -14,6 +14,7 @@ use Rattle.farm_base.specs.Digits.{is_digit}
 use Rattle.plain_image.specs.PpmText.{and_then, after_in_gap, gap, gap_end, digits, side, gap_side, one_byte, one_blank, greatest, head, colours, picture_behind, ppm_of}
 use Rattle.plain_image.specs.declared.reading.Gap.TheVariants.{Bare, Blank}
 use Rattle.plain_image.specs.declared.reading.PpmFault.TheVariants.{Bad, TooLarge}
+use Rattle.plain_image.proofs.Bytes.{colours_written, length_written}
 
 -- a digit is no blank and begins no comment
 digit_stays : (b : ℕ) → 48 ≤ b → after_in_gap Blank b ≡ None
@@ -96,14 +97,6 @@ greatest_written bytes k body at =
     ∙ ap (λ xs. and_then (one_byte 53 (k + 1 + 1) xs) (λ c. and_then (one_byte 53 c (drop c bytes)) (λ d. one_blank d (drop d bytes)))) b
     ∙ ap (λ xs. and_then (one_byte 53 (k + 1 + 1 + 1) xs) (λ d. one_blank d (drop d bytes))) c
     ∙ ap (one_blank (k + 1 + 1 + 1 + 1)) d
-
-colours_written : (ps : List Colour) → colours (flat_map pixel_bytes ps) ≡ ps
-colours_written [] = refl
-colours_written (p ∷ ps) = ap (λ qs. p ∷ qs) (colours_written ps)
-
-length_written : (ps : List Colour) → length (flat_map pixel_bytes ps) ≡ length ps * 3
-length_written [] = refl
-length_written (p ∷ ps) = omega (arith, length_written ps)
 
 length_from : (k : ℕ) (bytes rest : List ℕ) (b : ℕ) → drop k bytes ≡ b ∷ rest → length bytes ≡ k + 1 + length rest
 length_from k bytes rest b e = omega (arith, length-drop k bytes, ap length e)

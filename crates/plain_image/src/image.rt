@@ -1,4 +1,5 @@
 //! A picture: one colour for each pixel, by rows.
+use crate::colours::Colours;
 use crate::{Mask, pixels};
 use farm_base::NoMemory;
 use plain_shapes::Colour;
@@ -10,7 +11,7 @@ use std::marker::Model;
 pub struct Image {
     cols: u32,
     rows: u32,
-    pixels: Vec<Colour>,
+    pixels: Colours,
 }
 
 impl Model for Image {
@@ -19,9 +20,9 @@ impl Model for Image {
 
     ghost Value = { Pixels };
 
-    ghost view = { λ m. record { cols = m.cols; rows = m.rows; pixels = m.pixels.items } };
+    ghost view = { λ m. record { cols = m.cols; rows = m.rows; pixels = m.pixels } };
 
-    ghost invariant = { λ m. IsRaster m.cols m.rows (length m.pixels.items) };
+    ghost invariant = { λ m. IsRaster m.cols m.rows (length m.pixels) };
 }
 
 impl Image {
@@ -37,7 +38,7 @@ impl Image {
         requires { IsSides cols rows }
         ensures { IfOk result (λ m. m ≡ record { cols = cols; rows = rows; pixels = replicate (rows * cols) c }) }
     {
-        let pixels = vec![in alloc; c; rows as usize * cols as usize]?;
+        let pixels = Colours::filled(alloc, rows, cols, c)?;
         Ok(Image { cols, rows, pixels })
     }
 
@@ -62,7 +63,7 @@ impl Image {
         requires row { j < self.now.rows }
         ensures { slice_get self.now.pixels (j * self.now.cols + i) ≡ Some result }
     {
-        self.pixels[j as usize * self.cols as usize + i as usize]
+        self.pixels.at(j as usize * self.cols as usize + i as usize)
     }
 
     /// Paints the pixels that the mask covers with the colour `c`, in an opacity of 0 to 1,000
@@ -88,7 +89,8 @@ impl Image {
         } }
     {
         let place = j as usize * self.cols as usize + i as usize;
-        self.pixels[place] = pixels::over(c, opacity, self.pixels[place]);
+        let under = self.pixels.at(place);
+        self.pixels.put(place, pixels::over(c, opacity, under));
     }
 
     /// The image of a part of it: `cols` columns from `col` on and `rows` rows from `row` on. The part
@@ -107,7 +109,7 @@ impl Image {
         requires in_rows { row + rows ≤ self.now.rows }
         ensures { IfOk result (λ m. m ≡ cut_of self.now col row cols rows) }
     {
-        let pixels = pixels::cut(alloc, &self.pixels, self.cols, col, row, cols, rows)?;
+        let pixels = self.pixels.cut(alloc, self.cols, col, row, cols, rows)?;
         Ok(Image { cols, rows, pixels })
     }
 
@@ -123,9 +125,9 @@ impl Image {
     }
 
     /// The image of these pixels.
-    pub(crate) fn of_pixels(cols: u32, rows: u32, pixels: Vec<Colour>) -> Image
-        requires { IsRaster cols rows (length pixels.items) }
-        ensures { result ≡ record { cols = cols; rows = rows; pixels = pixels.items } }
+    pub(crate) fn of_pixels(cols: u32, rows: u32, pixels: Colours) -> Image
+        requires { IsRaster cols rows (length pixels) }
+        ensures { result ≡ record { cols = cols; rows = rows; pixels = pixels } }
     {
         Image { cols, rows, pixels }
     }

@@ -1,9 +1,10 @@
 //! Images from PPM texts.
 ghost use Rattle.plain_image.specs.PpmText.{ppm_of, ReadsPpm};
 
+use crate::Image;
+use crate::colours::Colours;
 use crate::parts::head;
 use crate::reading::PpmFault;
-use crate::{Image, pixels};
 use std::alloc::Global;
 
 /// The image that a binary PPM text says (Netpbm's P6). Between `P6` and the numbers stand runs of
@@ -26,6 +27,6 @@ pub fn read_ppm(alloc: Global, bytes: &[u8]) -> Result<Image, PpmFault>
     if there > count * 3 {
         return Err(PpmFault::Bad((head.start + count * 3) as u64));
     }
-    let read = pixels::colours(alloc, &bytes[head.start..], count)?;
+    let read = Colours::of_bytes(alloc, &bytes[head.start..], count)?;
     Ok(Image::of_pixels(head.cols, head.rows, read))
 }

@@ -4,10 +4,12 @@
 use farm_base::{DiskFiles, OutSink};
 use farm_call::program;
 use std::process::ExitCode;
+use tile_store::FileStore;
 
 fn main(rt: HostRuntime) -> ExitCode {
     let mut files = DiskFiles::new(rt);
     let mut out = OutSink::new(rt.stdout());
     let mut err = OutSink::new(rt.stderr());
-    ExitCode::from(program(&rt, &mut files, &mut out, &mut err))
+    let end = program(&rt, &mut files, &mut out, &mut err, FileStore::new(rt));
+    ExitCode::from(end.into_status())
 }

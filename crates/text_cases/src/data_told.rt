@@ -1,8 +1,6 @@
-//! What texts of data and of updates are read as, in lines.
-use data_versions::{Change, Dataset, Feature, Layer, Update};
-use farm_base::{Attr, Value};
+//! Which texts are data and updates, and the first faults of the others.
 use geo_json::{DataFault, read_data, read_update};
-use geo_model::{GeoFault, Geometry, Path};
+use geo_model::GeoFault;
 use std::alloc::{AllocError, Global};
 
 fn geometry_number(fault: GeoFault) -> u32 {
@@ -32,111 +30,18 @@ pub fn fault_told(alloc: Global, fault: DataFault) -> Result<String, AllocError>
     }
 }
 
-// Of more than a hundred points their count.
-fn tell_path(alloc: Global, told: &mut String, path: &Path) -> Result<(), AllocError> {
-    if path.points.len() > 100 {
-        return told.push_str(format!(in alloc; " {}", path.points.len())?.as_str());
-    }
-    for point in path.points.iter() {
-        told.push_str(format!(in alloc; " {},{}", point.x, point.y)?.as_str())?;
-    }
-    Ok(())
-}
-
-fn tell_paths(alloc: Global, told: &mut String, paths: &[Path]) -> Result<(), AllocError> {
-    for path in paths {
-        told.push_str(" /")?;
-        tell_path(alloc, told, path)?;
-    }
-    Ok(())
-}
-
-fn tell_geometry(alloc: Global, told: &mut String, geometry: &Geometry) -> Result<(), AllocError> {
-    match geometry {
-        Geometry::Points(path) => {
-            told.push_str(" points")?;
-            tell_path(alloc, told, path)
-        }
-        Geometry::Lines(paths) => {
-            told.push_str(" lines")?;
-            tell_paths(alloc, told, paths.as_slice())
-        }
-        Geometry::Polygon(paths) => {
-            told.push_str(" polygon")?;
-            tell_paths(alloc, told, paths.as_slice())
-        }
-    }
-}
-
-fn attr_told(alloc: Global, attr: &Attr) -> Result<String, AllocError> {
-    let name = attr.name.as_str();
-    match &attr.value {
-        Value::Null => format!(in alloc; " {name}=null"),
-        Value::Truth(truth) => format!(in alloc; " {name}={truth}"),
-        Value::Whole(number) => format!(in alloc; " {name}={number}"),
-        Value::Text(text) => format!(in alloc; " {name}='{}'", text.as_str()),
-    }
-}
-
-fn feature_told(alloc: Global, feature: &Feature) -> Result<String, AllocError> {
-    let mut told = format!(in alloc; "feature {}", feature.id())?;
-    tell_geometry(alloc, &mut told, feature.geometry())?;
-    for attr in feature.attrs() {
-        told.push_str(attr_told(alloc, attr)?.as_str())?;
-    }
-    told.push_str("\n")?;
-    Ok(told)
-}
-
-fn tell_features(alloc: Global, told: &mut String, features: &[Feature]) -> Result<(), AllocError> {
-    for feature in features {
-        told.push_str(feature_told(alloc, feature)?.as_str())?;
-    }
-    Ok(())
-}
-
-fn tell_layer(alloc: Global, told: &mut String, layer: &Layer) -> Result<(), AllocError> {
-    told.push_str(format!(in alloc; "layer {}\n", layer.name.as_str())?.as_str())?;
-    tell_features(alloc, told, layer.features.as_slice())
-}
-
-fn dataset_told(alloc: Global, data: &Dataset) -> Result<String, AllocError> {
-    let mut told = format!(in alloc; "layers {}\n", data.layers().len())?;
-    for layer in data.layers() {
-        tell_layer(alloc, &mut told, layer)?;
-    }
-    Ok(told)
-}
-
-fn tell_change(alloc: Global, told: &mut String, change: &Change) -> Result<(), AllocError> {
-    told.push_str(format!(in alloc; "change {} removes", change.layer.as_str())?.as_str())?;
-    for id in change.remove.iter() {
-        told.push_str(format!(in alloc; " {id}")?.as_str())?;
-    }
-    told.push_str(format!(in alloc; " puts {}\n", change.put.len())?.as_str())?;
-    tell_features(alloc, told, change.put.as_slice())
-}
-
-fn all_told(alloc: Global, update: &Update) -> Result<String, AllocError> {
-    let mut told = format!(in alloc; "changes {}\n", update.changes().len())?;
-    for change in update.changes() {
-        tell_change(alloc, &mut told, change)?;
-    }
-    Ok(told)
-}
-
-/// The fault of data, or a line for each layer and feature.
+/// The first fault of a text of data, or that it is read.
 pub fn data_told(alloc: Global, text: &[u8]) -> Result<String, AllocError> {
     match read_data(alloc, text) {
-        Ok(data) => dataset_told(alloc, &data),
+        Ok(_) => String::from_str(alloc, "read"),
         Err(fault) => fault_told(alloc, fault),
     }
 }
 
-/// The fault of an update, or a line for each change and put.
+/// The first fault of an update's text, or that it is read.
 pub fn update_told(alloc: Global, text: &[u8]) -> Result<String, AllocError> {
     match read_update(alloc, text) {
-        Ok(update) => all_told(alloc, &update),
+        Ok(_) => String::from_str(alloc, "read"),
         Err(fault) => fault_told(alloc, fault),
     }
 }

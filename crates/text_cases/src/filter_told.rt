@@ -6,72 +6,116 @@ use filter_expr::{
 use filter_texts::write;
 use std::alloc::{AllocError, Global};
 
+/// Letters one after another. Whether memory was wanting is told at the end.
+#[derive(Drop)]
+struct Letters {
+    text: String,
+    is_cut: bool,
+}
+
+impl Letters {
+    fn put(&mut self, text: &str) {
+        if self.text.push_str(text).is_err() {
+            self.is_cut = true;
+        }
+    }
+
+    fn put_number(&mut self, n: i64) {
+        if write!(self.text, "{n}").is_err() {
+            self.is_cut = true;
+        }
+    }
+}
+
 // The tree with its nodes in parentheses, each operator before its parts.
-fn say(out: &mut String, e: &Expr) -> Result<(), AllocError> {
+fn say(out: &mut Letters, e: &Expr) {
     match e {
         Expr::Or(parts) => {
-            out.push_str("(or")?;
+            out.put("(or");
             for part in parts {
-                out.push_str(" ")?;
-                say(out, part)?;
+                out.put(" ");
+                say(out, part);
             }
-            out.push_str(")")
+            out.put(")");
         }
         Expr::And(parts) => {
-            out.push_str("(and")?;
+            out.put("(and");
             for part in parts {
-                out.push_str(" ")?;
-                say(out, part)?;
+                out.put(" ");
+                say(out, part);
             }
-            out.push_str(")")
+            out.put(")");
         }
         Expr::Not(part) => {
-            out.push_str("(not ")?;
-            say(out, part)?;
-            out.push_str(")")
+            out.put("(not ");
+            say(out, part);
+            out.put(")");
         }
         Expr::Compare(a, sign, b) => {
-            out.push_str(compare_text(*sign))?;
-            say(out, a)?;
-            out.push_str(" ")?;
-            say(out, b)?;
-            out.push_str(")")
+            out.put(compare_text(*sign));
+            say(out, a);
+            out.put(" ");
+            say(out, b);
+            out.put(")");
         }
         Expr::Sum(first, parts) => {
-            out.push_str("(sum ")?;
-            say(out, first)?;
+            out.put("(sum ");
+            say(out, first);
             for later in parts {
-                out.push_str(match later.sign {
-                    SumSign::Plus => " + ",
-                    SumSign::Minus => " - ",
-                })?;
-                say(out, &later.part)?;
+                out.put(sum_text(later.sign));
+                say(out, &later.part);
             }
-            out.push_str(")")
+            out.put(")");
         }
         Expr::Product(first, parts) => {
-            out.push_str("(product ")?;
-            say(out, first)?;
+            out.put("(product ");
+            say(out, first);
             for later in parts {
-                out.push_str(match later.sign {
-                    ProductSign::Times => " * ",
-                    ProductSign::Divide => " / ",
-                    ProductSign::Rest => " % ",
-                })?;
-                say(out, &later.part)?;
+                out.put(product_text(later.sign));
+                say(out, &later.part);
             }
-            out.push_str(")")
+            out.put(")");
         }
         Expr::Negate(part) => {
-            out.push_str("(neg ")?;
-            say(out, part)?;
-            out.push_str(")")
+            out.put("(neg ");
+            say(out, part);
+            out.put(")");
         }
-        Expr::Name(name) => write!(out, "[{}]", name.as_str()),
-        Expr::Text(text) => write!(out, "<{}>", text.as_str()),
-        Expr::Number(n) => write!(out, "{n}"),
-        Expr::Truth(b) => write!(out, "{b}"),
-        Expr::Null => out.push_str("null"),
+        leaf => say_leaf(out, leaf),
+    }
+}
+
+fn say_leaf(out: &mut Letters, leaf: &Expr) {
+    match leaf {
+        Expr::Name(name) => {
+            out.put("[");
+            out.put(name.as_str());
+            out.put("]");
+        }
+        Expr::Text(text) => {
+            out.put("<");
+            out.put(text.as_str());
+            out.put(">");
+        }
+        Expr::Number(n) => out.put_number(*n),
+        Expr::Truth(true) => out.put("true"),
+        Expr::Truth(false) => out.put("false"),
+        _ => out.put("null"),
+    }
+}
+
+fn sum_text(sign: SumSign) -> &'static str {
+    match sign {
+        SumSign::Plus => " + ",
+        SumSign::Minus => " - ",
+    }
+}
+
+fn product_text(sign: ProductSign) -> &'static str {
+    match sign {
+        ProductSign::Times => " * ",
+        ProductSign::Divide => " / ",
+        ProductSign::Rest => " % ",
     }
 }
 
@@ -95,14 +139,22 @@ fn refusal_told(alloc: Global, fault: FilterFault) -> Result<String, AllocError>
     }
 }
 
+fn tree_told(alloc: Global, e: &Expr) -> Result<String, AllocError> {
+    let mut told = Letters {
+        text: String::new(alloc),
+        is_cut: false,
+    };
+    say(&mut told, e);
+    if told.is_cut {
+        return String::from_str(alloc, "out of memory");
+    }
+    Ok(told.text)
+}
+
 /// The tree of a filter text, or its fault.
 pub fn filter_told(alloc: Global, text: &str) -> Result<String, AllocError> {
     match parse(alloc, text) {
-        Ok(e) => {
-            let mut told = String::new(alloc);
-            say(&mut told, &e)?;
-            Ok(told)
-        }
+        Ok(e) => tree_told(alloc, &e),
         Err(fault) => refusal_told(alloc, fault),
     }
 }

@@ -1,6 +1,7 @@
 //! Reads the texts of styles, data, updates, filters, configurations, scripts, expiry lists and paths that stand in
-//! files, and writes of each one line: its first fault, or what was read, object by object. What is wanted of it was computed by another program,
-//! which was written from the formats alone, and agrees with what the tables want of each text.
+//! files, and writes of each one line: its first fault, or that it is read; of a filter its tree or its value, and of
+//! an update the layers after it. What is wanted of it was computed by another program, which was written from the
+//! formats alone, and agrees with what the tables want of each text.
 #![tactic(auto)]
 
 mod change_told;
@@ -23,7 +24,7 @@ use crate::style_told::style_told;
 use data_versions::Snapshot;
 use farm_base::{DiskFiles, Files, OutSink, Sink};
 use geo_json::read_data;
-use std::alloc::Global;
+use std::alloc::{AllocError, Global};
 use std::process::ExitCode;
 use std::str;
 
@@ -107,30 +108,47 @@ fn beginnings<O: Sink>(
     Some(())
 }
 
-// What a text of the kind is read as, in lines. A text that is no UTF-8 is no filter.
+// What a text of the kind is read as, in lines; none where memory runs out.
 fn told(alloc: Global, kind: &str, text: &[u8], old: &Snapshot) -> Option<String> {
+    let told = match kind {
+        "style" => style_told(alloc, text),
+        "data" => data_told(alloc, text),
+        "update" => update_told(alloc, text),
+        "change" => change_told(alloc, old, text),
+        "config" => config_told(alloc, text),
+        "script" => script_told(alloc, text),
+        "list" => list_told(alloc, text),
+        _ => letters_told(alloc, kind, str::from_utf8(text).ok()?, old),
+    };
+    told.ok()
+}
+
+// The same of the kinds whose texts are letters.
+fn letters_told(
+    alloc: Global,
+    kind: &str,
+    text: &str,
+    old: &Snapshot,
+) -> Result<String, AllocError> {
     match kind {
-        "style" => style_told(alloc, text).ok(),
-        "data" => data_told(alloc, text).ok(),
-        "update" => update_told(alloc, text).ok(),
-        "change" => change_told(alloc, old, text).ok(),
-        "config" => config_told(alloc, text).ok(),
-        "script" => script_told(alloc, text).ok(),
-        "list" => list_told(alloc, text).ok(),
-        "path" => path_told(alloc, str::from_utf8(text).ok()?).ok(),
-        "filter" => filter_told(alloc, str::from_utf8(text).ok()?).ok(),
-        "written" => written_told(alloc, str::from_utf8(text).ok()?).ok(),
-        "again" => again_told(alloc, str::from_utf8(text).ok()?).ok(),
-        "value" => valued(alloc, str::from_utf8(text).ok()?, old),
-        _ => None,
+        "path" => path_told(alloc, text),
+        "filter" => filter_told(alloc, text),
+        "written" => written_told(alloc, text),
+        "again" => again_told(alloc, text),
+        "value" => valued(alloc, text, old),
+        _ => String::from_str(alloc, "no such kind"),
     }
 }
 
 // The value of a filter of the first feature of the layer `land`.
-fn valued(alloc: Global, text: &str, old: &Snapshot) -> Option<String> {
-    let land = old.layer("land")?;
-    let feature = land.get(0)?;
-    value_told(alloc, text, feature.attrs()).ok()
+fn valued(alloc: Global, text: &str, old: &Snapshot) -> Result<String, AllocError> {
+    let Some(land) = old.layer("land") else {
+        return String::from_str(alloc, "no layer");
+    };
+    match land.get(0) {
+        Some(feature) => value_told(alloc, text, feature.attrs()),
+        None => String::from_str(alloc, "no feature"),
+    }
 }
 
 // Puts the lines as one.

@@ -1,8 +1,8 @@
--- What a command and a call do: a course is followed, and its text is put.
-use Rattle.std.specs.Prelude.{◌≡◌, ℕ, ◌⊎◌, List, Result, Err, Vec}
+-- What a command and a call do: a course is followed, and what it makes is worked on.
+use Rattle.std.specs.Prelude.{◌≡◌, ℕ, ◌⊎◌, List, Result, Ok, Err, Vec}
 use Rattle.std.specs.declared.alloc.Global.{Global}
 use Rattle.reading.specs.Steps.{seen}
-use Rattle.call_ends.specs.Ends.{FilesAt, SinkAt, PutsMade, Refuses}
+use Rattle.call_ends.specs.Ends.{FilesAt, SinkAt, PutsMade}
 use Rattle.call_ends.specs.declared.stops.Stop.{Stop}
 use Rattle.call_ends.specs.declared.stops.Stop.TheVariants as stop
 use Rattle.input_files.specs.Course.{Course}
@@ -14,15 +14,26 @@ pub record Writes (course : Course (List ℕ)) (files files' : FilesAt) (out out
   pub followed : Follows course files files' (seen (λ v. v.items) text)
   pub put : PutsMade out out' text end
 
--- memory was wanting while the words were read: nothing is read or put
-pub record Wants (files files' : FilesAt) (out out' : SinkAt) (end : Result (Unit {0}) Stop) : Type 0 where
-  pub ends : end ≡ Err stop.NoMemory
-  pub files_same : files' ≡ files
-  pub out_same : out' ≡ out
+-- what was made is worked on; where nothing was, nothing is done, and the world is as it was
+abbrev pub Goes : {V W : Type 0} → (V → W → W → Result (Unit {0}) Stop → Type 0) → W → W → Result (Unit {0}) Stop → Result V Stop → Type 0
+Goes does world world' end (Ok value) = does value world world' end
+Goes does world world' end (Err s) = (end ≡ Err s) × (world' ≡ world)
 
--- What a call does whose words ask for the text of such a course: it is followed and its text put. Words
--- that ask for none are refused.
-abbrev pub Runs : (Course (List ℕ) → Type 0) → FilesAt → FilesAt → SinkAt → SinkAt → Result (Unit {0}) Stop → Type 0
-Runs asks files files' out out' end =
-    ((course : Course (List ℕ)) × asks course × Writes course files files' out out' end)
-    ⊎ ((((course : Course (List ℕ)) → ¬ (asks course)) × Refuses files files' out out' end) ⊎ Wants files files' out out' end)
+-- The course is followed, and what it makes is worked on: `does` says what work does to the world, and how it ends.
+pub record Works {V W : Type 0} (does : V → W → W → Result (Unit {0}) Stop → Type 0) (course : Course V) (files files' : FilesAt) (world world' : W) (end : Result (Unit {0}) Stop) : Type 0 where
+  pub made : Result V Stop
+  pub followed : Follows course files files' made
+  pub goes : Goes does world world' end made
+
+-- nothing is read or done: this is the end
+pub record Idles {W : Type 0} (s : Stop) (files files' : FilesAt) (world world' : W) (end : Result (Unit {0}) Stop) : Type 0 where
+  pub ends : end ≡ Err s
+  pub files_same : files' ≡ files
+  pub world_same : world' ≡ world
+
+-- What a call does whose words ask for such a course: it is followed, and what it makes is worked on. Words
+-- that ask for none are refused; and memory may be wanting while the words are read.
+abbrev pub Runs : {V W : Type 0} → (Course V → Type 0) → (V → W → W → Result (Unit {0}) Stop → Type 0) → FilesAt → FilesAt → W → W → Result (Unit {0}) Stop → Type 0
+Runs {V} asks does files files' world world' end =
+    ((course : Course V) × asks course × Works does course files files' world world' end)
+    ⊎ ((((course : Course V) → ¬ (asks course)) × Idles stop.Words files files' world world' end) ⊎ Idles stop.NoMemory files files' world world' end)

@@ -2,77 +2,87 @@ use Rattle.std.specs.Prelude.{map, string_bytes}
 use Rattle.input_files.proofs.Calls as calls
 use Rattle.farm_call.proofs.Asked.{asks_one}
 use Rattle.farm_call.proofs.Told.{if_told}
+use Rattle.farm_call.proofs.Working.{works, complete_over, rose_over, kept_over}
 use Rattle.farm_call.proofs.call.farm_main.Goals as goal
 
+pub returns-clause-ends : goal.returns-clause-ends
+returns-clause-ends g c = calls.ends _ (asks_one (map string_bytes c.args.words.now)) _ _ _ (works g.D.TileStore.state) _ _ _ _ _ _ _
+    (record { end = c.command-done.result.end; ran = c.command-done.ensures.runs; reports = c.report-status.ensures })
+
 pub returns-clause-done : goal.returns-clause-done
-returns-clause-done g c = λ z. if_told _ _ (λ t is. if_told _ _ (λ before taken.
-    calls.done _ (asks_one (map string_bytes c.args.words.now)) _ _ _ _ _ _ _
-    (record { end = c.command-end.result; ran = c.command-end.ensures; reports = c.report.ensures }) z t is before taken))
-
-pub returns-clause-refused : goal.returns-clause-refused
-returns-clause-refused g c = λ z. if_told _ _ (calls.refused _ (asks_one (map string_bytes c.args.words.now)) _ _ _ _ _ _ _
-    (record { end = c.command-end.result; ran = c.command-end.ensures; reports = c.report.ensures }) z)
-
-pub returns-clause-unread : goal.returns-clause-unread
-returns-clause-unread g c = λ z. if_told _ _ (calls.unread _ (asks_one (map string_bytes c.args.words.now)) _ _ _ _ _ _ _
-    (record { end = c.command-end.result; ran = c.command-end.ensures; reports = c.report.ensures }) z)
-
-pub returns-clause-complete : goal.returns-clause-complete
-returns-clause-complete g c = if_told _ _ (calls.complete _ (asks_one (map string_bytes c.args.words.now)) _ _ _ _ _ _ _
-    (record { end = c.command-end.result; ran = c.command-end.ensures; reports = c.report.ensures }))
-
-pub returns-clause-refusing : goal.returns-clause-refusing
-returns-clause-refusing g c = if_told _ _ (calls.refusing _ (asks_one (map string_bytes c.args.words.now)) _ _ _ _ _ _ _
-    (record { end = c.command-end.result; ran = c.command-end.ensures; reports = c.report.ensures }))
-
-pub returns-clause-err_front : goal.returns-clause-err_front
-returns-clause-err_front g c = if_told _ _ (calls.err_front _ (asks_one (map string_bytes c.args.words.now)) _ _ _ _ _ _ _
-    (record { end = c.command-end.result; ran = c.command-end.ensures; reports = c.report.ensures }))
-
-pub returns-clause-one_failed : goal.returns-clause-one_failed
-returns-clause-one_failed g c = if_told _ _ (λ t is. if_told _ _ (calls.one_failed _ (asks_one (map string_bytes c.args.words.now)) _ _ _ _ _ _ _
-    (record { end = c.command-end.result; ran = c.command-end.ensures; reports = c.report.ensures }) t is))
-
-pub returns-clause-cut : goal.returns-clause-cut
-returns-clause-cut g c = if_told _ _ (λ t is. if_told _ _ (calls.cut _ (asks_one (map string_bytes c.args.words.now)) _ _ _ _ _ _ _
-    (record { end = c.command-end.result; ran = c.command-end.ensures; reports = c.report.ensures }) t is))
-
-pub returns-clause-words : goal.returns-clause-words
-returns-clause-words g c = calls.words _ (asks_one (map string_bytes c.args.words.now)) _ _ _ _ _ _ _
-    (record { end = c.command-end.result; ran = c.command-end.ensures; reports = c.report.ensures })
-
-pub returns-clause-usage_line : goal.returns-clause-usage_line
-returns-clause-usage_line g c = calls.usage_line _ (asks_one (map string_bytes c.args.words.now)) _ _ _ _ _ _ _
-    (record { end = c.command-end.result; ran = c.command-end.ensures; reports = c.report.ensures })
-
-pub returns-clause-no_words : goal.returns-clause-no_words
-returns-clause-no_words g c = calls.no_words _ (asks_one (map string_bytes c.args.words.now)) _ _ _ _ _ _ _
-    (record { end = c.command-end.result; ran = c.command-end.ensures; reports = c.report.ensures })
-
-pub returns-clause-read_failed : goal.returns-clause-read_failed
-returns-clause-read_failed g c = calls.read_failed _ (asks_one (map string_bytes c.args.words.now)) _ _ _ _ _ _ _
-    (record { end = c.command-end.result; ran = c.command-end.ensures; reports = c.report.ensures })
-
-pub returns-clause-put_failed : goal.returns-clause-put_failed
-returns-clause-put_failed g c = calls.put_failed _ (asks_one (map string_bytes c.args.words.now)) _ _ _ _ _ _ _
-    (record { end = c.command-end.result; ran = c.command-end.ensures; reports = c.report.ensures })
-
-pub returns-clause-noticed : goal.returns-clause-noticed
-returns-clause-noticed g c = calls.noticed _ (asks_one (map string_bytes c.args.words.now)) _ _ _ _ _ _ _
-    (record { end = c.command-end.result; ran = c.command-end.ensures; reports = c.report.ensures })
-
-pub returns-clause-out_failed : goal.returns-clause-out_failed
-returns-clause-out_failed g c = calls.out_failed _ (asks_one (map string_bytes c.args.words.now)) _ _ _ _ _ _ _
-    (record { end = c.command-end.result; ran = c.command-end.ensures; reports = c.report.ensures })
-
-pub returns-clause-want_line : goal.returns-clause-want_line
-returns-clause-want_line g c = calls.want_line _ (asks_one (map string_bytes c.args.words.now)) _ _ _ _ _ _ _
-    (record { end = c.command-end.result; ran = c.command-end.ensures; reports = c.report.ensures })
-
-pub returns-clause-nothing_put : goal.returns-clause-nothing_put
-returns-clause-nothing_put g c = calls.nothing_put _ (asks_one (map string_bytes c.args.words.now)) _ _ _ _ _ _ _
-    (record { end = c.command-end.result; ran = c.command-end.ensures; reports = c.report.ensures })
+returns-clause-done g c = calls.done _ (asks_one (map string_bytes c.args.words.now)) _ _ _ (works g.D.TileStore.state) _ _ _ _ _ _ _
+    (record { end = c.command-done.result.end; ran = c.command-done.ensures.runs; reports = c.report-status.ensures })
 
 pub returns-clause-silent : goal.returns-clause-silent
-returns-clause-silent g c = calls.silent _ (asks_one (map string_bytes c.args.words.now)) _ _ _ _ _ _ _
-    (record { end = c.command-end.result; ran = c.command-end.ensures; reports = c.report.ensures })
+returns-clause-silent g c = calls.silent _ (asks_one (map string_bytes c.args.words.now)) _ _ _ (works g.D.TileStore.state) _ _ _ _ _ _ _
+    (record { end = c.command-done.result.end; ran = c.command-done.ensures.runs; reports = c.report-status.ensures })
+
+pub returns-clause-store_lost : goal.returns-clause-store_lost
+returns-clause-store_lost g c = calls.store_lost _ (asks_one (map string_bytes c.args.words.now)) _ _ _ (works g.D.TileStore.state) _ _ _ _ _ _ _
+    (record { end = c.command-done.result.end; ran = c.command-done.ensures.runs; reports = c.report-status.ensures })
+
+pub returns-clause-words : goal.returns-clause-words
+returns-clause-words g c = calls.words _ (asks_one (map string_bytes c.args.words.now)) _ _ _ (works g.D.TileStore.state) _ _ _ _ _ _ _
+    (record { end = c.command-done.result.end; ran = c.command-done.ensures.runs; reports = c.report-status.ensures })
+
+pub returns-clause-usage_line : goal.returns-clause-usage_line
+returns-clause-usage_line g c = calls.usage_line _ (asks_one (map string_bytes c.args.words.now)) _ _ _ (works g.D.TileStore.state) _ _ _ _ _ _ _
+    (record { end = c.command-done.result.end; ran = c.command-done.ensures.runs; reports = c.report-status.ensures })
+
+pub returns-clause-no_words : goal.returns-clause-no_words
+returns-clause-no_words g c = calls.no_words _ (asks_one (map string_bytes c.args.words.now)) _ _ _ (works g.D.TileStore.state) _ _ _ _ _ _ _
+    (record { end = c.command-done.result.end; ran = c.command-done.ensures.runs; reports = c.report-status.ensures })
+
+pub returns-clause-read_failed : goal.returns-clause-read_failed
+returns-clause-read_failed g c = calls.read_failed _ (asks_one (map string_bytes c.args.words.now)) _ _ _ (works g.D.TileStore.state) _ _ _ _ _ _ _
+    (record { end = c.command-done.result.end; ran = c.command-done.ensures.runs; reports = c.report-status.ensures })
+
+pub returns-clause-put_failed : goal.returns-clause-put_failed
+returns-clause-put_failed g c = calls.put_failed _ (asks_one (map string_bytes c.args.words.now)) _ _ _ (works g.D.TileStore.state) _ _ _ _ _ _ _
+    (record { end = c.command-done.result.end; ran = c.command-done.ensures.runs; reports = c.report-status.ensures })
+
+pub returns-clause-noticed : goal.returns-clause-noticed
+returns-clause-noticed g c = calls.noticed _ (asks_one (map string_bytes c.args.words.now)) _ _ _ (works g.D.TileStore.state) _ _ _ _ _ _ _
+    (record { end = c.command-done.result.end; ran = c.command-done.ensures.runs; reports = c.report-status.ensures })
+
+pub returns-clause-out_failed : goal.returns-clause-out_failed
+returns-clause-out_failed g c = calls.out_failed _ (asks_one (map string_bytes c.args.words.now)) _ _ _ (works g.D.TileStore.state) _ _ _ _ _ _ _
+    (record { end = c.command-done.result.end; ran = c.command-done.ensures.runs; reports = c.report-status.ensures })
+
+pub returns-clause-want_line : goal.returns-clause-want_line
+returns-clause-want_line g c = calls.want_line _ (asks_one (map string_bytes c.args.words.now)) _ _ _ (works g.D.TileStore.state) _ _ _ _ _ _ _
+    (record { end = c.command-done.result.end; ran = c.command-done.ensures.runs; reports = c.report-status.ensures })
+
+pub returns-clause-refusing : goal.returns-clause-refusing
+returns-clause-refusing g c = if_told _ _ (calls.refusing _ (asks_one (map string_bytes c.args.words.now)) _ _ _ (works g.D.TileStore.state) _ _ _ _ _ _ _
+    (record { end = c.command-done.result.end; ran = c.command-done.ensures.runs; reports = c.report-status.ensures }))
+
+pub returns-clause-refused : goal.returns-clause-refused
+returns-clause-refused g c = λ first. if_told _ _ (calls.refused_file _ (asks_one (map string_bytes c.args.words.now)) _ _ _ (works g.D.TileStore.state) _ _ _ _ _ _ _
+    (record { end = c.command-done.result.end; ran = c.command-done.ensures.runs; reports = c.report-status.ensures }) (λ line none. none) first)
+
+pub returns-clause-unread : goal.returns-clause-unread
+returns-clause-unread g c = λ z. if_told _ _ (calls.unread _ (asks_one (map string_bytes c.args.words.now)) _ _ _ (works g.D.TileStore.state) _ _ _ _ _ _ _
+    (record { end = c.command-done.result.end; ran = c.command-done.ensures.runs; reports = c.report-status.ensures }) z)
+
+pub returns-clause-one_failed : goal.returns-clause-one_failed
+returns-clause-one_failed g c = if_told _ _ (λ t is. if_told _ _ (calls.one_failed _ (asks_one (map string_bytes c.args.words.now)) _ _ _ (works g.D.TileStore.state) _ _ _ _ _ _ _
+    (record { end = c.command-done.result.end; ran = c.command-done.ensures.runs; reports = c.report-status.ensures }) t is))
+
+pub returns-clause-store_rose : goal.returns-clause-store_rose
+returns-clause-store_rose g c = rose_over g.D.TileStore.state (map string_bytes c.args.words.now) _ _ c.args.store _ _ _ _ _
+    (record { end = c.command-done.result.end; ran = c.command-done.ensures.runs; reports = c.report-status.ensures })
+
+pub returns-clause-complete : goal.returns-clause-complete
+returns-clause-complete g c = if_told _ _ (complete_over g.D.TileStore.state (map string_bytes c.args.words.now) _ _ c.args.store _ _ _ _ _
+    (record { end = c.command-done.result.end; ran = c.command-done.ensures.runs; reports = c.report-status.ensures }))
+
+pub returns-clause-left : goal.returns-clause-left
+returns-clause-left g c = c.command-done.ensures.left
+
+pub returns-clause-no_fronts : goal.returns-clause-no_fronts
+returns-clause-no_fronts g c = c.command-done.ensures.no_fronts
+
+pub returns-clause-untouched : goal.returns-clause-untouched
+returns-clause-untouched g c = kept_over g.D.TileStore.state (map string_bytes c.args.words.now) _ _ c.args.store _ _ _ _ _
+    (record { end = c.command-done.result.end; ran = c.command-done.ensures.runs; reports = c.report-status.ensures })

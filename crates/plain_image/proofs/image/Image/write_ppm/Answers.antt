@@ -8,10 +8,10 @@ pub returns : goal.returns
 returns c =
     let own = c.self.invariant in
     let head_is = c.as_str.ensures.value ∙ c.in_ok-head.ensures.ok in
-    let text : IfOk c.bytes_after.result (λ v. v.items ≡ ppm c.self.inside.cols c.self.inside.rows c.self.inside.pixels.items) =
-    rw (← ppm_is c.self.inside.cols c.self.inside.rows c.self.inside.pixels.items c.as_str.result.now head_is, ← c.deref.ensures.value) c.bytes_after.ensures in
+    let text : IfOk c.bytes_after.result (λ v. v.items ≡ ppm c.self.inside.cols c.self.inside.rows c.self.inside.pixels) =
+    rw (← ppm_is c.self.inside.cols c.self.inside.rows c.self.inside.pixels c.as_str.result.now head_is) c.bytes_after.ensures in
     rw (← c.self.view_is) (record {
       text = text;
       reads_back = then_reads (λ v. v.items) c.bytes_after.result _ _ text
-          (ppm_of-ppm c.self.inside.cols c.self.inside.rows c.self.inside.pixels.items own.some_col own.few_cols own.some_row own.few_rows own.count_is);
+          (ppm_of-ppm c.self.inside.cols c.self.inside.rows c.self.inside.pixels own.some_col own.few_cols own.some_row own.few_rows own.count_is);
     })

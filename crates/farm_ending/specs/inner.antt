@@ -1,0 +1,2 @@
+-- Words that serve the steps of an end alone.
+pub mod Puts

@@ -1,0 +1,2 @@
+//! What a farm that was started over a store leaves of it; no code.
+#![tactic(auto)]

@@ -1,0 +1,2 @@
+-- Words that serve the steps of a beginning alone.
+pub mod Steps

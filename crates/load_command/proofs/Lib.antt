@@ -1,0 +1,6 @@
+pub mod Running
+pub mod Stepped
+pub mod Stepping
+pub mod Summing
+pub mod Tiles
+pub mod Weights

@@ -1,0 +1,10 @@
+use Rattle.std.proofs.Common.{◌≡◌, ◌-◌, ◌*◌, length, flat_map}
+use Rattle.plain_shapes.specs.inner.Canvas.{cut_rows}
+use Rattle.plain_shapes.specs.Ppm.{pixel_bytes}
+use Rattle.plain_image.proofs.colours.Colours.cut.Given as goal
+
+abbrev pub invariant-loop-j : goal.invariant-loop-j
+invariant-loop-j l = record {
+  cut : l.bytes.items ≡ flat_map pixel_bytes (cut_rows l.across l.col l.row l.cols (l.j - l.row) l.fn.self);
+  len : length l.bytes.items ≡ (l.j - l.row) * l.cols * 3;
+}

@@ -1,0 +1,3 @@
+pub mod Serves
+pub mod Points
+pub mod inner

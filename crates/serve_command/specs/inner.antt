@@ -1,0 +1,2 @@
+-- Words that serve the steps of the command alone.
+pub mod Steps
