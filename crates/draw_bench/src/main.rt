@@ -3,19 +3,22 @@
 //! `draw_bench` draws the metatile of 256-pixel tiles at the middle of the world, at zoom 12, over 200
 //! made-up features, and prints what was drawn, the same on every run. `draw_bench rates` draws it over
 //! 200, 10,000 and 100,000 features and prints the time of each drawing too, and `draw_bench rates COUNT`
-//! over so many.
+//! over so many. `draw_bench STYLE DATA Z X Y ROUNDS` draws and packs the metatile of that tile so often, in
+//! the style and over the data of two files.
 #![tactic(auto)]
 
 ghost use Rattle.std.specs.Prelude.{IfSome};
 ghost use Rattle.plain_world.specs.World.{IsMeta};
 
 mod data;
+mod rounds;
 mod shapes;
 mod style;
 
 use crate::data::snapshot;
+use crate::rounds::Rounds;
 use crate::style::STYLE;
-use farm_base::Bytes;
+use farm_base::{Bytes, DiskFiles};
 use merc_fixed::{Meta, meta_of, tile};
 use plain_drawing::MapStyle;
 use std::alloc::Global;
@@ -35,8 +38,11 @@ enum Work {
 }
 
 fn main(rt: HostRuntime) -> io::Result<ExitCode> {
+    if let Some(rounds) = read_rounds(&rt)? {
+        return report_rounds(rt, &rounds);
+    }
     let Some(work) = read_work(&rt)? else {
-        eprintln!(&rt; "usage: draw_bench [rates [COUNT]]")?;
+        eprintln!(&rt; "usage: draw_bench [rates [COUNT] | STYLE DATA Z X Y ROUNDS]")?;
         return Ok(ExitCode::from(2));
     };
     let Ok(style) = read_style(rt.alloc(), STYLE.as_bytes()) else {
@@ -49,6 +55,46 @@ fn main(rt: HostRuntime) -> io::Result<ExitCode> {
         eprintln!(&rt; "no memory")?;
         Ok(ExitCode::from(1))
     }
+}
+
+/// The rounds that six words ask for.
+fn read_rounds(rt: &HostRuntime) -> io::Result<Option<Rounds>> {
+    let mut words = env::args(rt)?.skip(1);
+    let (Some(style), Some(data)) = (words.next(), words.next()) else {
+        return Ok(None);
+    };
+    let (z, x, y) = (
+        number(words.next()),
+        number(words.next()),
+        number(words.next()),
+    );
+    let (Some(z), Some(x), Some(y), Some(count)) = (z, x, y, number(words.next())) else {
+        return Ok(None);
+    };
+    Ok(Some(Rounds {
+        style,
+        data,
+        z,
+        x,
+        y,
+        count,
+    }))
+}
+
+/// The number that a word says, if there is one.
+fn number(word: Option<String>) -> Option<u32> {
+    word?.as_str().parse::<u32>().ok()
+}
+
+/// Draws the rounds and prints what was drawn.
+fn report_rounds(rt: HostRuntime, rounds: &Rounds) -> io::Result<ExitCode> {
+    let mut files = DiskFiles::new(rt);
+    let Some(drawn) = rounds.run(rt.alloc(), &mut files) else {
+        eprintln!(&rt; "nothing drawn")?;
+        return Ok(ExitCode::from(1));
+    };
+    println!(rt; "{} bytes, sum {}", drawn.bytes, drawn.sum)?;
+    Ok(ExitCode::SUCCESS)
 }
 
 /// What the words ask for, if they are in order.

@@ -3,15 +3,29 @@ use crossbeam_utils::sync::Unparker;
 use std::rt::Clock;
 use std::sync::atomic::{AtomicU64, Ordering};
 use std::thread::{sleep, yield_now};
-use std::time::Duration;
+use std::time::{Duration, Instant};
 
 /// The count of actors once one of them has given up.
 const GIVEN_UP: u64 = 1 << 63;
 
 /// How often an actor looks at once, and how often after a millisecond each.
-const QUICK_LOOKS: u32 = 1_000;
+const QUICK_LOOKS: u32 = 200;
 
 const SLOW_LOOKS: u32 = 20_000;
+
+/// For how many seconds it looks at most.
+const PATIENCE: u64 = 20;
+
+/// Whether it is late, since that moment; where the clock cannot be read it is not.
+fn is_late<R: Clock>(rt: &R, began: Option<Instant>) -> bool {
+    let Some(began) = began else {
+        return false;
+    };
+    match began.elapsed(rt) {
+        Ok(waited) => waited.as_secs() >= PATIENCE,
+        Err(_) => false,
+    }
+}
 
 /// The actors of a run call at it when they begin. Where no thread is to be had for one of them, actors run one
 /// after another, and would wait for each other for ever; so each waits here for a while until all have begun,
@@ -56,9 +70,10 @@ impl Muster {
 
     /// Waits until all have begun or one has given up, for some twenty seconds at most: the last count seen.
     fn wait<R: Clock>(&self, rt: &R) -> u64 {
+        let began = Instant::now(rt).ok();
         for look in 0..QUICK_LOOKS + SLOW_LOOKS {
             let seen = self.begun.load(Ordering::SeqCst);
-            if seen >= self.all {
+            if seen >= self.all || is_late(rt, began) {
                 return seen;
             }
             if look < QUICK_LOOKS {

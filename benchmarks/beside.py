@@ -1,0 +1,286 @@
+"""Makes the cases, runs them in turn and prints the table: see beside.sh, which calls it.
+
+Shapes are in world units, 2^30 across the world, with y to the south. Mapnik gets the same numbers with y turned
+round, in one projection for data and map, so that it projects nothing."""
+
+import json, math, os, random, resource, statistics, subprocess, sys, time
+
+WORLD = 2**30
+REPEATS = int(os.environ.get("REPEATS", "5"))
+MIDDLE = WORLD // 2
+SHORE = [MIDDLE + 3 * 2**23, MIDDLE + 2**24]
+KEPT = {"GLIBC_TUNABLES": "glibc.malloc.trim_threshold=268435456"}
+
+# ---- shapes: a feature is (kind, "polygon" | "lines" | "points", coordinates)
+
+
+def metatile(z, x, y):
+    """The west and north edge of the metatile and its side, in units, and its pixel."""
+    side = 8 * (WORLD >> z)
+    return x // 8 * side, y // 8 * side, side, side // 2048
+
+
+def around(draw, x, y, radius, count):
+    turns = sorted(draw.random() * 2 * math.pi for _ in range(count))
+    return [[int(x + radius * (0.7 + 0.3 * draw.random()) * math.cos(t)), int(y + radius * (0.7 + 0.3 * draw.random()) * math.sin(t))] for t in turns]
+
+
+def along(draw, x, y, step, count):
+    line, turn = [[int(x), int(y)]], draw.random() * 2 * math.pi
+    for _ in range(count - 1):
+        turn += draw.random() - 0.5
+        x, y = x + step * math.cos(turn), y + step * math.sin(turn)
+        line.append([int(x), int(y)])
+    return line
+
+
+def generated(count):
+    """As many polygons as lines and points, in the square of the metatile of zoom 11."""
+    draw, features = random.Random(2026), {"land": [], "roads": [], "spots": []}
+    for number in range(count):
+        x, y = MIDDLE + draw.randrange(2**22), MIDDLE + draw.randrange(2**22)
+        kind = draw.randrange(5)
+        if number % 3 == 0:
+            features["land"].append((kind, "polygon", [around(draw, x, y, 1024 * (4 + draw.randrange(28)), 4 + draw.randrange(12))]))
+        elif number % 3 == 1:
+            features["roads"].append((kind, "lines", [along(draw, x, y, 12 * 1024, 2 + draw.randrange(14))]))
+        else:
+            features["spots"].append((kind, "points", [[x, y]]))
+    return features
+
+
+def boundless(size):
+    """A random place of the metatile of zoom 14 at the middle, and so many of its pixels."""
+    west, north, side, pixel = metatile(14, 2**13, 2**13)
+    return lambda draw: (west + draw.randrange(side), north + draw.randrange(side), pixel * size)
+
+
+def many(count, kind, make):
+    draw = random.Random(1)
+    return {"all": [(0, kind, make(draw)) for _ in range(count)]}
+
+
+def cities():
+    place = boundless(683)
+    return many(1000, "polygon", lambda draw: [around(draw, *place(draw), 200)])
+
+
+def strokes(count, step, points):
+    place = boundless(step)
+    return lambda: many(count, "lines", lambda draw: [along(draw, *place(draw), points)])
+
+
+def spots(count):
+    place = boundless(1)
+    return lambda: many(1, "points", lambda draw: [list(place(draw)[:2]) for _ in range(count)])
+
+
+def coast():
+    """An island whose east shore lies at SHORE."""
+    draw, ring = random.Random(3), []
+    for k in range(60000):
+        turn = 2 * math.pi * k / 60000
+        far = 2**23 * (1 + 0.1 * math.sin(k / 300) + 0.0001 * draw.random())
+        ring.append([int(SHORE[0] - 2**23 + far * math.cos(turn)), int(SHORE[1] + far * math.sin(turn))])
+    return {"all": [(0, "polygon", [ring])]}
+
+
+def long_line():
+    """A line from west to east that passes SHORE."""
+    draw = random.Random(4)
+    return {"all": [(0, "lines", [[[SHORE[0] + 1000 * (k - 32500), int(SHORE[1] + 2**18 * math.sin((k - 32500) / 50) + draw.randrange(2000))] for k in range(65000)]])]}
+
+
+def wound_line():
+
+    west, north, side, pixel = metatile(14, 2**13, 2**13)
+    line = []
+    for k in range(65000):
+        turn, far = k / 40, side * 0.48 * k / 65000
+        line.append([int(west + side / 2 + far * math.cos(turn)), int(north + side / 2 + far * math.sin(turn))])
+    return {"all": [(0, "lines", [line])]}
+
+
+# ---- styles: for each layer of data some rules (kind or None for the rest, symbolizers)
+
+
+def fill(colour, opacity=1):
+    return {"symbolizer": "PolygonSymbolizer", "fill": colour, "fill-opacity": str(opacity)}
+
+
+def stroke(colour, width, cap="butt", opacity=1):
+    return {"symbolizer": "LineSymbolizer", "stroke": colour, "stroke-width": str(width), "stroke-opacity": str(opacity), "stroke-linecap": cap}
+
+
+def mark(colour, width, height=None, opacity=1):
+    return {"symbolizer": "MarkersSymbolizer", "fill": colour, "width": str(width), "height": str(height or width), "opacity": str(opacity)}
+
+
+TWELVE = {
+    "land": [(0, [fill("#add19e")]), (1, [fill("#b5d0d0"), stroke("#5f9ea0", 1)]), (2, [fill("#d9d0c9", 0.5)]), (None, [fill("#eeeeee"), stroke("#aaaaaa", 2)])],
+    "roads": [(0, [stroke("#e892a2", 6, "round"), stroke("#ffffff", 3, "round")]), (1, [stroke("#f9b29c", 4)]), (2, [stroke("#fcd6a4", 3, "butt", 0.8)]), (None, [stroke("#808080", 1)])],
+    "spots": [(0, [mark("#2e7d32", 6)]), (1, [mark("#0000ff", 8, 4)]), (2, [mark("#800000", 12, 12, 0.5)]), (None, [mark("#808080", 3)])],
+}
+
+
+def one(*symbolizers):
+    return {"all": [(None, list(symbolizers))]}
+
+
+# what is drawn, how, at which zooms, and round which point
+HERE = [MIDDLE, MIDDLE]
+CASES = {
+    "200": (lambda: generated(200), TWELVE, [11, 14], HERE),
+    "10000": (lambda: generated(10000), TWELVE, [11, 12, 13, 14], HERE),
+    "100000": (lambda: generated(100000), TWELVE, [11, 12, 13, 14], HERE),
+    "cities": (cities, one(fill("#336699", 0.5)), [14], HERE),
+    "opaque": (cities, one(fill("#336699")), [14], HERE),
+    "segments": (strokes(50000, 32, 2), one(stroke("#336699", 8, "round")), [14], HERE),
+    "lines": (strokes(5000, 32, 20), one(stroke("#336699", 8, "round")), [14], HERE),
+    "wide": (strokes(1000, 64, 20), one(stroke("#336699", 64, "round")), [14], HERE),
+    "wound": (wound_line, one(stroke("#336699", 32, "round")), [14], HERE),
+    "short": (strokes(50000, 8, 2), one(stroke("#336699", 1)), [14], HERE),
+    "marks": (spots(60000), one(mark("#336699", 6)), [14], HERE),
+    "large_marks": (spots(20000), one(mark("#336699", 32)), [14], HERE),
+    "coast": (coast, one(fill("#336699")), [8, 12, 18], SHORE),
+    "long": (long_line, one(stroke("#336699", 2)), [10, 14, 18], SHORE),
+    "elsewhere": (lambda: generated(100000), TWELVE, [18], HERE),
+    "nothing": (lambda: {"all": []}, one(fill("#336699")), [14], HERE),
+}
+
+# ---- files
+
+
+def ours(features, style):
+    layers = []
+    for name, items in features.items():
+        layers.append({"name": name, "features": [{"id": n, "geometry": {shape: at}, "attrs": {"kind": kind}} for n, (kind, shape, at) in enumerate(items)]})
+    styles, shown = [], []
+    for name, rules in style.items():
+        styles.append({"name": name, "rules": [({"ElseFilter": True} if kind is None else {"Filter": "[kind] = %d" % kind}) | {"symbolizers": they} for kind, they in rules]})
+        shown.append({"name": name, "source": name, "styles": [name]})
+    return {"background-color": "#f2efe9", "styles": styles, "layers": shown}, {"units": "world", "layers": layers}
+
+
+def turned(at):
+    return [at[0], WORLD - at[1]] if isinstance(at[0], int) else [turned(it) for it in at]
+
+
+def of_mapnik(features, style, folder):
+    """Mapnik's map file; the data go into files beside it."""
+    kinds = {"polygon": "Polygon", "lines": "MultiLineString", "points": "MultiPoint"}
+    out = ['<Map background-color="#f2efe9">']
+    for name, rules in style.items():
+        out.append('<Style name="%s">' % name)
+        for kind, they in rules:
+            out.append("<Rule>" + ("<ElseFilter/>" if kind is None else "<Filter>[kind] = %d</Filter>" % kind))
+            for it in they:
+                said = {key: value for key, value in it.items() if key != "symbolizer"}
+                if it["symbolizer"] == "LineSymbolizer":
+                    said["stroke-linejoin"] = "round"
+                if it["symbolizer"] == "MarkersSymbolizer":
+                    said |= {"marker-type": "ellipse", "allow-overlap": "true", "ignore-placement": "true", "stroke-width": "0", "multi-policy": "each"}
+                out.append("<%s %s/>" % (it["symbolizer"], " ".join('%s="%s"' % pair for pair in said.items())))
+            out.append("</Rule>")
+        out.append("</Style>")
+    for name, items in features.items():
+        they = [{"type": "Feature", "properties": {"kind": kind}, "geometry": {"type": kinds[shape], "coordinates": [it + it[:1] for it in turned(at)] if shape == "polygon" else turned(at)}} for kind, shape, at in items]
+        if not they:
+            continue
+        with open("%s/%s.geojson" % (folder, name), "w") as file:
+            json.dump({"type": "FeatureCollection", "features": they}, file)
+        out.append('<Layer name="%s"><StyleName>%s</StyleName><Datasource><Parameter name="type">geojson</Parameter><Parameter name="file">%s/%s.geojson</Parameter><Parameter name="cache-features">true</Parameter></Datasource></Layer>' % (name, name, folder, name))
+    return "\n".join(out + ["</Map>"])
+
+
+# ---- runs
+
+MAPNIK = """
+import sys, time, mapnik
+from mapnik import Box2d, Image, Map, load_map, render
+m = Map(2048, 2048)
+load_map(m, sys.argv[1])
+m.zoom_to_box(Box2d(*map(float, sys.argv[2:6])))
+m.aspect_fix_mode = mapnik.aspect_fix_mode.RESPECT
+image = Image(2048, 2048)
+render(m, image)
+rounds, begin = 0, time.process_time()
+while rounds < 1 or time.process_time() - begin < 0.5:
+    render(m, Image(2048, 2048))
+    rounds += 1
+print((time.process_time() - begin) / rounds)
+"""
+
+
+def processor(words, more={}):
+    """The processor time of a run and its peak memory in KiB."""
+    with open(os.devnull, "w") as nothing:
+        child = subprocess.Popen(words, stdout=nothing, env={**os.environ, **more})
+    _, status, used = os.wait4(child.pid, 0)
+    child.returncode = status
+    if status:
+        sys.exit("beside.py: %s ended with status %d" % (" ".join(words), status))
+    return used.ru_utime + used.ru_stime, used.ru_maxrss
+
+
+def rounds_for(words):
+    first = processor(words + ["1"])[0] - processor(words + ["0"])[0]
+    return max(2, min(100, int(1 / max(first, 0.005))))
+
+
+def a_round(words, rounds, more={}):
+    none, _ = processor(words + ["0"], more)
+    spent, peak = processor(words + [str(rounds)], more)
+    return max(0.0, spent - none) / rounds, peak
+
+
+def measure(program, raw, folder, mapnik, z, point):
+    place = z, point[0] >> (30 - z), point[1] >> (30 - z)
+    west, north, side, _ = metatile(*place)
+    words = [program, folder + "/style.json", folder + "/data.json", *map(str, place)]
+    rounds = rounds_for(words)
+    got = {"mapnik": [], "raw": [], "ours": [], "kept": []}
+    peak = 0
+    for _ in range(REPEATS):
+        if mapnik:
+            box = [west, WORLD - north - side, west + side, WORLD - north]
+            said = subprocess.run([mapnik, "-c", MAPNIK, folder + "/map.xml", *map(str, box)], stdout=subprocess.PIPE, text=True)
+            if said.returncode:
+                sys.exit("beside.py: Mapnik failed")
+            got["mapnik"].append(float(said.stdout))
+        got["raw"].append(a_round([raw], 100)[0])
+        spent, most = a_round(words, rounds)
+        got["ours"].append(spent)
+        peak = max(peak, most)
+        got["kept"].append(a_round(words, rounds, KEPT)[0])
+    return {key: statistics.median(all_of) if all_of else None for key, all_of in got.items()}, peak
+
+
+def ratio(a, b):
+    return "%.2f" % (a / b) if a is not None and b else "-"
+
+
+def main():
+    program, folder, mapnik, *names = sys.argv[1:]
+    if names == ["-l"]:
+        print(*CASES)
+        return
+    row = "%-12s %3s %9s %8s %8s %14s %10s %8s %14s %9s"
+    print(row % ("case", "z", "Mapnik s", "raw s", "ours s", "Mapnik / ours", "ours / raw", "kept s", "Mapnik / kept", "peak KiB"))
+    for name in names or CASES:
+        shapes, style, zooms, point = CASES[name]
+        features = shapes()
+        style_said, data_said = ours(features, style)
+        for file, said in (("style", style_said), ("data", data_said)):
+            with open("%s/%s.json" % (folder, file), "w") as out:
+                json.dump(said, out)
+        with open(folder + "/map.xml", "w") as out:
+            out.write(of_mapnik(features, style, folder))
+        del features, data_said
+        for z in zooms:
+            got, peak = measure(program, folder + "/raw", folder, mapnik, z, point)
+            number = lambda it: "-" if it is None else "%.4f" % it
+            print(row % (name, z, number(got["mapnik"]), number(got["raw"]), number(got["ours"]), ratio(got["mapnik"], got["ours"]), ratio(got["ours"], got["raw"]), number(got["kept"]), ratio(got["mapnik"], got["kept"]), peak), flush=True)
+
+
+main()

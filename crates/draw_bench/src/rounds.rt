@@ -1,0 +1,74 @@
+//! A metatile over the files of a style and of data, drawn and packed again and again.
+ghost use Rattle.plain_world.specs.World.{IsMeta};
+
+use data_versions::Snapshot;
+use farm_base::{Files, NoMemory};
+use geo_json::read_data;
+use merc_fixed::{Meta, meta_of, tile};
+use meta_container::{encode, law_drawn_container};
+use plain_drawing::MapStyle;
+use std::alloc::Global;
+use style_objects::read_style;
+use tile_render::draw_meta;
+
+/// The names of the files, the tile of whose metatile the drawing is, and how often it is drawn.
+#[derive(Drop)]
+pub struct Rounds {
+    pub style: String,
+    pub data: String,
+    pub z: u32,
+    pub x: u32,
+    pub y: u32,
+    pub count: u32,
+}
+
+/// What was drawn: the bytes of all containers together, and the sum of their values.
+#[derive(Clone, Copy)]
+pub struct Drawn {
+    pub bytes: u64,
+    pub sum: u64,
+}
+
+impl Rounds {
+    /// Reads the files and draws; nothing where a file is refused, the tile is none, or memory is wanting.
+    pub fn run<F: Files>(&self, alloc: Global, files: &mut F) -> Option<Drawn> {
+        let style = files.read(alloc, self.style.as_str()).ok()?;
+        let style = read_style(alloc, style.as_slice()).ok()?;
+        let data = files.read(alloc, self.data.as_str()).ok()?;
+        let data = read_data(alloc, data.as_slice()).ok()?;
+        let snapshot = Snapshot::first(alloc, data).ok()?;
+        let meta = meta_of(tile(self.z, self.x, self.y)?);
+        let mut drawn = Drawn { bytes: 0, sum: 0 };
+        for _round in 0..self.count {
+            let container = container(alloc, &style, meta, &snapshot).ok()?;
+            drawn = drawn.and(container.as_slice());
+        }
+        Some(drawn)
+    }
+}
+
+impl Drawn {
+    /// With one container more, of whose bytes only every 64th is summed, so that the sum takes no time.
+    fn and(self, container: &[u8]) -> Drawn {
+        let mut sum = self.sum;
+        for byte in container.iter().step_by(64) {
+            sum = sum.wrapping_add(u64::from(*byte));
+        }
+        let bytes = self.bytes.saturating_add(container.len() as u64);
+        Drawn { bytes, sum }
+    }
+}
+
+/// The container of the metatile's drawing, of 256 pixels a tile.
+fn container(
+    alloc: Global,
+    style: &MapStyle,
+    meta: Meta,
+    snapshot: &Snapshot,
+) -> Result<Vec<u8>, NoMemory>
+    requires { IsMeta meta }
+{
+    law_drawn_container();
+    let drawn = draw_meta(alloc, style, 256, meta, snapshot)?;
+    encode(alloc, drawn.meta, drawn.tiles.as_slice())
+}
