@@ -3,40 +3,62 @@
 //! program, which was written from the formats alone.
 #![tactic(auto)]
 
-use farm_base::{DiskFiles, Files, MemSink, OutSink, Sink};
+use farm_base::{DiskFiles, Files, MemSink, OpenGate, OutSink, Sink};
 use farm_call::farm_main;
+use memory_ports::MemPorts;
 use std::alloc::Global;
 use std::process::ExitCode;
+use std::rt::Clock;
 use std::str;
+use std::sync::Wait;
+use std::thread::Threads;
 use tile_store::MemStore;
 
 fn main(rt: HostRuntime) -> ExitCode {
-    match run(rt) {
+    match run(rt, &rt) {
         Some(()) => ExitCode::SUCCESS,
         None => ExitCode::FAILURE,
     }
 }
 
 // None where the cases cannot be read, a put on out fails, or memory runs out.
-fn run(rt: HostRuntime) -> Option<()> {
+fn run<R: Threads + Wait + Clock + Sync>(rt: HostRuntime, threads: &R) -> Option<()> {
     let alloc = rt.alloc();
     let mut files = DiskFiles::new(rt);
     let mut out = OutSink::new(rt.stdout());
     let cases = files.read(alloc, "cases").ok()?;
     for line in str::from_utf8(cases.as_slice()).ok()?.lines() {
-        case(alloc, line, &mut files, &mut out)?;
+        case(threads, alloc, line, &mut files, &mut out)?;
     }
     Some(())
 }
 
-fn case<F: Files, O: Sink>(alloc: Global, line: &str, files: &mut F, out: &mut O) -> Option<()> {
+fn case<R: Threads + Wait + Clock + Sync, F: Files, O: Sink>(
+    threads: &R,
+    alloc: Global,
+    line: &str,
+    files: &mut F,
+    out: &mut O,
+) -> Option<()> {
     let mut words = Vec::new(alloc);
     for word in line.split(' ') {
         words.push(String::from_str(alloc, word).ok()?).ok()?;
     }
     let mut err = MemSink::new(alloc, 1000, Vec::new(alloc)).ok()?;
     let store = MemStore::new(alloc, Vec::new(alloc), Vec::new(alloc), Vec::new(alloc)).ok()?;
-    let end = farm_main(alloc, words.as_slice(), files, out, &mut err, store);
+    let (one, two, three) = (Vec::new(alloc), Vec::new(alloc), Vec::new(alloc));
+    let mut ports = MemPorts::three(alloc, one, two, three, 0, 0).ok()?;
+    let end = farm_main(
+        threads,
+        alloc,
+        words.as_slice(),
+        files,
+        out,
+        &mut err,
+        store,
+        &mut ports,
+        &OpenGate,
+    );
     out.put(err.bytes()).ok()?;
     let status = end.into_status();
     let last = format!(in alloc; "status {status}\n").ok()?;

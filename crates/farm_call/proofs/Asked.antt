@@ -8,7 +8,7 @@ use Rattle.reading.specs.Steps.{seen}
 use Rattle.farm_words.specs.Forms.{Spells, Answers, IsRefused}
 use Rattle.farm_words.specs.Values.{values_of}
 use Rattle.farm_words.specs.declared.command.Command.{Command}
-use Rattle.farm_words.specs.declared.command.Command.TheVariants.{Render, Script, Load, Meta}
+use Rattle.farm_words.specs.declared.command.Command.TheVariants.{Render, Script, Serve, Load, Meta}
 use Rattle.farm_words.specs.declared.command.WordsFault.{WordsFault}
 use Rattle.farm_words.specs.declared.command.WordsFault.TheVariants as words_fault
 use Rattle.farm_words.proofs.OneCommand.{spell_one}
@@ -19,20 +19,25 @@ use Rattle.input_files.specs.Course.{Course, made, ◌>>=◌}
 use Rattle.input_files.specs.inner.Follows.{Follows}
 use Rattle.input_files.specs.inner.Runs as calls
 use Rattle.input_files.proofs.Courses.{follows_then, follows_stop}
-use Rattle.farm_files.specs.Inputs.{Scripted}
+use Rattle.farm_files.specs.Inputs.{Scripted, Served}
 use Rattle.filter_expr.specs.FilterTexts.{filter_of}
 use Rattle.style_objects.specs.FilterReadings.{FilterReading}
 use Rattle.style_objects.proofs.ByGrammar.{one_reading, reads_grammar}
-use Rattle.farm_files.specs.Courses.{script_course, script_course_by}
+use Rattle.farm_files.specs.Courses.{script_course, script_course_by, serve_course, serve_course_by}
 use Rattle.script_command.specs.Scripts as script
 use Rattle.render_command.specs.Courses.{render_course, render_course_by}
 use Rattle.meta_command.specs.Courses.{meta_course}
 use Rattle.farm_call.specs.Words.{AsksFor, IsCourse, Asks}
 use Rattle.port_trait.specs.declared.ends.FrontDone.{FrontDone}
-use Rattle.farm_call.specs.Works.{Work, Does, puts, scripts, loads, over}
-use Rattle.farm_call.specs.declared.ends.Left.{Left}
-use Rattle.farm_call.specs.declared.ends.Left.TheVariants.{Store}
-use Rattle.farm_call.specs.inner.Runs.{IsSound, Runs}
+use Rattle.farm_call.specs.Works.{Work, Does, puts, scripts, loads, serves, over}
+use Rattle.port_trait.specs.Told.{PortsTold}
+use Rattle.farm_threads.specs.declared.posts.Posts.{Posts}
+use Rattle.serve_command.specs.Serves.{World}
+use Rattle.serve_command.specs.inner.Steps as serve
+use Rattle.serve_command.specs.declared.left.Left.{Left}
+use Rattle.serve_command.specs.declared.left.Left.TheVariants.{Store}
+use Rattle.serve_command.specs.declared.left.Done.{Done}
+use Rattle.farm_call.specs.inner.Runs.{IsSound, LeavesStore, Runs}
 
 -- the words ask for one command at most
 asked_one : (words : List (List ℕ)) (c d : Command) → AsksFor words c → AsksFor words d → c ≡ d
@@ -46,9 +51,10 @@ course_one (Render style data_name size tile) c d a b =
     a.2 ∙ ap (λ (says : FilterReading). render_course_by says style data_name size tile >>= (λ text. made (puts text))) (one_reading a.0 b.0 a.1 b.1) ∙ sym b.2
 course_one (Script config lines) c d a b =
     a.2 ∙ ap (λ (says : FilterReading). script_course_by says config lines >>= (λ s. made (scripts s))) (one_reading a.0 b.0 a.1 b.1) ∙ sym b.2
+course_one (Serve config) c d a b =
+    a.2 ∙ ap (λ (says : FilterReading). serve_course_by says config >>= (λ s. made (serves s))) (one_reading a.0 b.0 a.1 b.1) ∙ sym b.2
 course_one (Load seed n) c d a b = a ∙ sym b
 course_one (Meta file) c d a b = a ∙ sym b
-course_one other c d a b = absurd a
 
 -- and so for one course
 pub asks_one : (words : List (List ℕ)) (c d : Course Work) → Asks words c → Asks words d → c ≡ d
@@ -76,79 +82,112 @@ sound_of values other h = tt
 pub sound_read : (words : List (List ℕ)) (c : Command) → ReadsWords words (Ok c) → IsSound c
 sound_read words c reads = let asks = asks_read words c reads in sound_of asks.values c asks.spelled
 
--- the words ask for a command that there is not yet, and so for no course
-other_asked : (words : List (List ℕ)) (command : Command) → ((c : Course Work) → IsCourse command c → ⊥) → AsksFor words command → (c : Course Work) → ¬ (Asks words c)
-other_asked words command absent asks c asked =
-    absent c (subst (λ (x : Command). IsCourse x c) (asked_one words asked.0 command asked.1 asks) asked.2)
+-- a world is that of its parts
+same_world : {D : Type 0} (new : World D) (store : D) (out : SinkAt) (ports : Posts (Outside PortsTold)) → new.out ≡ out → new.left ≡ Store store → new.fronts ≡ [] → new.ports ≡ ports → new ≡ over out store ports
+same_world {D} new store out ports out_is left_is none ports_are =
+    ap₂ (λ (o : SinkAt) (l : Left D). record new { out = o; left = l }) out_is left_is
+    ∙ ap₂ (λ (fs : List FrontDone) (p : Posts (Outside PortsTold)). record { out = out; left = Store store; fronts = fs; ports = p }) none ports_are
 
-module _ {D : Type 0} (state : D → Outside StoreTold) (words : List (List ℕ)) (files files' : FilesAt) (store store' : D) (out out' : SinkAt) (end : Result (Unit {0}) Stop) where
+module _ {D : Type 0} (state : D → Outside StoreTold) (words : List (List ℕ)) (files files' : FilesAt) (store : D) (out : SinkAt) (ports : Posts (Outside PortsTold)) (new : World D) (end : Result (Unit {0}) Stop) where
   -- a call over these words
   abbrev pub Call : Type 0
-  Call = calls.Runs (Asks words) (Does state) files files' (over out store) (over out' store') end
+  Call = calls.Runs (Asks words) (Does state) files files' (over out store ports) new end
 
   -- a text was made and put
-  text_put : (made_text : Result (Vec ℕ Global) Stop) (course : Course (List ℕ)) → Follows course files files' (seen (λ v. v.items) made_text) → PutsMade out out' made_text end → store' ≡ store
-      → calls.Works (Does state) (course >>= λ text. made (puts text)) files files' (over out store) (over out' store') end
-  text_put (Ok v) course h put same = record {
+  text_put : (made_text : Result (Vec ℕ Global) Stop) (course : Course (List ℕ)) → Follows course files files' (seen (λ v. v.items) made_text) → (store' : D) → store' ≡ store → PutsMade out new.out made_text end → new.left ≡ Store store'
+      → new.fronts ≡ [] → new.ports ≡ ports → calls.Works (Does state) (course >>= λ text. made (puts text)) files files' (over out store ports) new end
+  text_put (Ok v) course h store' same put left_is none ports_are = record {
     made = Ok (puts v.items);
     followed = follows_then course (λ text. made (puts text)) files files' files' v.items (Ok (puts v.items)) h (inl refl, refl);
-    goes = (put, ap Store same, refl);
+    goes = (put, left_is ∙ ap (λ (d : D). Store d) same, (none, ports_are));
   }
-  text_put (Err s) course h put same = record {
+  text_put (Err s) course h store' same put left_is none ports_are = record {
     made = Err s;
     followed = follows_stop (List ℕ) Work course (λ text. made (puts text)) files files' s h;
-    goes = (put.0, ap₂ (λ (o : SinkAt) (d : D). over o d) put.1 same);
+    goes = (put.0, same_world new store out ports put.1 (left_is ∙ ap (λ (d : D). Store d) same) none ports_are);
   }
 
   -- a script's files were read, and it ran
-  script_ran : (read : Result Scripted Stop) (course : Course Scripted) → Follows course files files' read → script.RunsMade state store store' out out' end read
-      → calls.Works (Does state) (course >>= λ s. made (scripts s)) files files' (over out store) (over out' store') end
-  script_ran (Ok s) course h ran = record {
+  script_ran : (read : Result Scripted Stop) (course : Course Scripted) → Follows course files files' read → (store' : D) → script.RunsMade state store store' out new.out end read → new.left ≡ Store store' → new.fronts ≡ [] → new.ports ≡ ports
+      → calls.Works (Does state) (course >>= λ s. made (scripts s)) files files' (over out store ports) new end
+  script_ran (Ok s) course h store' ran left_is none ports_are = record {
     made = Ok (scripts s);
     followed = follows_then course (λ x. made (scripts x)) files files' files' s (Ok (scripts s)) h (inl refl, refl);
-    goes = (store, store', refl, refl, refl, ran);
+    goes = (store, store', refl, left_is, (none, ports_are), ran);
   }
-  script_ran (Err q) course h ran = record {
+  script_ran (Err q) course h store' ran left_is none ports_are = record {
     made = Err q;
     followed = follows_stop Scripted Work course (λ x. made (scripts x)) files files' q h;
-    goes = (ran.0, ap₂ (λ (o : SinkAt) (d : D). over o d) ran.2 ran.1);
+    goes = (ran.0, same_world new store out ports ran.2 (left_is ∙ ap (λ (d : D). Store d) ran.1) none ports_are);
   }
 
-  runs_asked : (c : Command) → AsksFor words c → Runs state c files files' store store' out out' end → Call
+  -- a farm's files were read, and it was served
+  served_ran : (read : Result Served Stop) (course : Course Served) → Follows course files files' read → serve.ServesMade state store (over out store ports) new end read
+      → calls.Works (Does state) (course >>= λ s. made (serves s)) files files' (over out store ports) new end
+  served_ran (Ok s) course h ran = record {
+    made = Ok (serves s);
+    followed = follows_then course (λ x. made (serves x)) files files' files' s (Ok (serves s)) h (inl refl, refl);
+    goes = (store, refl, ran);
+  }
+  served_ran (Err q) course h ran = record { made = Err q; followed = follows_stop Served Work course (λ x. made (serves x)) files files' q h; goes = ran }
+
+  runs_asked : (c : Command) → AsksFor words c → Runs state c files files' store (over out store ports) new end → Call
   runs_asked (Render style data_name size tile) asks ran =
       let course = render_course style data_name size tile in
-      inl (course >>= (λ text. made (puts text)), (Render style data_name size tile, asks, (filter_of, reads_grammar, refl)), text_put ran.0.text course ran.0.followed ran.0.put ran.1)
+      inl (
+        course >>= (λ text. made (puts text)),
+        (Render style data_name size tile, asks, (filter_of, reads_grammar, refl)),
+        text_put ran.ran.0.text course ran.ran.0.followed ran.store' ran.ran.1 ran.ran.0.put ran.left_is ran.no_fronts ran.ports_same,
+      )
   runs_asked (Script config lines) asks ran =
       let course = script_course config lines in
-      inl (course >>= (λ s. made (scripts s)), (Script config lines, asks, (filter_of, reads_grammar, refl)), script_ran ran.made course ran.followed ran.ran)
-  runs_asked (Load seed n) asks ran = inl (made (loads seed n), (Load seed n, asks, refl), record { made = Ok (loads seed n); followed = (inl refl, ran.1); goes = (store, store', refl, refl, refl, ran.0) })
+      inl (
+        course >>= (λ s. made (scripts s)),
+        (Script config lines, asks, (filter_of, reads_grammar, refl)),
+        script_ran ran.ran.made course ran.ran.followed ran.store' ran.ran.ran ran.left_is ran.no_fronts ran.ports_same,
+      )
+  runs_asked (Serve config) asks ran =
+      let course = serve_course config in
+      inl (course >>= (λ s. made (serves s)), (Serve config, asks, (filter_of, reads_grammar, refl)), served_ran ran.made course ran.followed ran.serves)
+  runs_asked (Load seed n) asks ran =
+      inl (
+        made (loads seed n),
+        (Load seed n, asks, refl),
+        record { made = Ok (loads seed n); followed = (inl refl, ran.ran.1); goes = (store, ran.store', refl, ran.left_is, (ran.no_fronts, ran.ports_same), ran.ran.0) },
+      )
   runs_asked (Meta file) asks ran =
       let course = meta_course file in
-      inl (course >>= (λ text. made (puts text)), (Meta file, asks, refl), text_put ran.0.text course ran.0.followed ran.0.put ran.1)
-  runs_asked other asks ran = inr (inl (other_asked words other (λ c h. h) asks, ran))
-
-  -- the same, where the store is left and there are no fronts
-  abbrev pub Whole : Left D → List FrontDone → Result (Unit {0}) Stop → Type 0
-  Whole left fronts how = calls.Runs (Asks words) (Does state) files files' (over out store) (record { out = out'; left = left; fronts = fronts }) how
-
-  pub whole : (left : Left D) (fronts : List FrontDone) (how : Result (Unit {0}) Stop) → how ≡ end → left ≡ Store store' → fronts ≡ [] → Call → Whole left fronts how
-  whole left fronts how how_is left_is none call =
-      subst (λ (h : Result (Unit {0}) Stop). Whole left fronts h) (sym how_is)
-      (subst (λ (l : Left D). Whole l fronts end) (sym left_is)
-      (subst (λ (fs : List FrontDone). Whole (Store store') fs end) (sym none) call))
+      inl (
+        course >>= (λ text. made (puts text)),
+        (Meta file, asks, refl),
+        text_put ran.ran.0.text course ran.ran.0.followed ran.store' ran.ran.1 ran.ran.0.put ran.left_is ran.no_fronts ran.ports_same,
+      )
 
   -- the command that was read is done
-  pub runs_read : (c : Command) → ReadsWords words (Ok c) → Runs state c files files' store store' out out' end → Call
+  pub runs_read : (c : Command) → ReadsWords words (Ok c) → Runs state c files files' store (over out store ports) new end → Call
   runs_read c reads ran = runs_asked c (asks_read words c reads) ran
 
--- words that were refused ask for no course
-pub runs_refused : {D : Type 0} (state : D → Outside StoreTold) (words : List (List ℕ)) (files : FilesAt) (store : D) (out : SinkAt) → ReadsWords words (Err words_fault.Refused)
-    → Call state words files files store store out out (Err stop.Words)
-runs_refused state words files store out reads = inr (inl (none, record { ends = refl; files_same = refl; world_same = refl }))
-  where
-    none : (c : Course Work) → ¬ (Asks words c)
-    none c asks = reads.given asks.1.values asks.1.read asks.0 asks.1.spelled
+  -- the world is as it was, and this is the end
+  idle : (s : Stop) → files' ≡ files → end ≡ Err s → new.out ≡ out → new.left ≡ Store store → new.fronts ≡ [] → new.ports ≡ ports → calls.Idles s files files' (over out store ports) new end
+  idle s same end_is out_is left_is none ports_are = record { ends = end_is; files_same = same; world_same = same_world new store out ports out_is left_is none ports_are }
 
-pub runs_wanting : {D : Type 0} (state : D → Outside StoreTold) (words : List (List ℕ)) (files : FilesAt) (store : D) (out : SinkAt)
-    → Call state words files files store store out out (Err stop.NoMemory)
-runs_wanting state words files store out = inr (inr (record { ends = refl; files_same = refl; world_same = refl }))
+  -- words that were refused ask for no course
+  pub runs_refused : ReadsWords words (Err words_fault.Refused) → files' ≡ files → end ≡ Err stop.Words → new.out ≡ out → new.left ≡ Store store → new.fronts ≡ [] → new.ports ≡ ports → Call
+  runs_refused reads same end_is out_is left_is none ports_are = inr (inl (no_course, idle stop.Words same end_is out_is left_is none ports_are))
+    where
+      no_course : (c : Course Work) → ¬ (Asks words c)
+      no_course c asks = reads.given asks.1.values asks.1.read asks.0 asks.1.spelled
+
+  pub runs_wanting : files' ≡ files → end ≡ Err stop.NoMemory → new.out ≡ out → new.left ≡ Store store → new.fronts ≡ [] → new.ports ≡ ports → Call
+  runs_wanting same end_is out_is left_is none ports_are = inr (inr (idle stop.NoMemory same end_is out_is left_is none ports_are))
+
+-- a command that leaves the store, as it ended
+pub leaves : {D : Type 0} (old : World D) (out : SinkAt) (runs : Result (Unit {0}) Stop → D → Type 0) (store' : D) (end : Result (Unit {0}) Stop) (done : Done D) → done.end ≡ end → done.left ≡ Store store' → done.fronts.items ≡ [] → runs end store'
+    → LeavesStore old (record { out = out; left = done.left; fronts = done.fronts.items; ports = old.ports }) (runs done.end)
+leaves old out runs store' end done end_is left_is none ran = record {
+  store' = store';
+  left_is = left_is;
+  no_fronts = none;
+  ports_same = refl;
+  ran = subst (λ (e : Result (Unit {0}) Stop). runs e store') (sym end_is) ran;
+}

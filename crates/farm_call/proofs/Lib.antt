@@ -5,3 +5,4 @@ pub mod Scripting
 pub mod Told
 pub mod Whys
 pub mod Working
+pub mod Serving

@@ -1,6 +1,6 @@
 -- Why work on a store may end early.
-use Rattle.std.proofs.Common.{◌≡◌, List, true, subst}
-use Rattle.std.specs.Prelude.{is_some}
+use Rattle.std.proofs.Common.{◌≡◌, List, true, sym, subst}
+use Rattle.std.specs.Prelude.{Err, is_some}
 use Rattle.farm_base.specs.Outside.{Outside, Rose}
 use Rattle.tile_store.specs.Stores.{StoreTold}
 use Rattle.farm_history.specs.Entries.{Entry}
@@ -12,8 +12,13 @@ use Rattle.call_ends.specs.declared.stops.Stop.TheVariants as stop
 use Rattle.input_files.proofs.Courses.{ended}
 use Rattle.input_files.proofs.Calls.{Whys}
 use Rattle.farm_left.proofs.Lost.{lost}
-use Rattle.farm_call.specs.Works.{World}
-use Rattle.farm_call.specs.declared.ends.Left.TheVariants.{Store}
+use Rattle.farm_files.specs.Inputs.{Served}
+use Rattle.farm_setup.specs.Beginnings.{Refusal, RefusesFor, IsSavedIn}
+use Rattle.serve_command.specs.Serves.{World}
+use Rattle.serve_command.specs.declared.left.Left.{Left}
+use Rattle.serve_command.specs.declared.left.Left.TheVariants.{Store}
+use Rattle.farm_call.specs.Works.{store_of}
+use Rattle.farm_call.specs.Served.{PortsRose, TurnsAreGone}
 
 -- a put on out failed, or a call of the store, or memory was wanting
 abbrev pub StoreWhys : Type 0 → Type 0 → Stop → Type 0
@@ -36,11 +41,16 @@ store_rose {D} state store store' farm first_is store_is h stands failed =
 module _ {D : Type 0} (state : D → Outside StoreTold) where
   -- a call of the store failed
   abbrev pub Lost : World D → World D → Type 0
-  Lost old new = (store store' : D) × (old.left ≡ Store store) × (new.left ≡ Store store') × Rose (state store).faults (state store').faults
+  Lost old new = Rose (state (store_of old.left)).faults (state (store_of new.left)).faults
 
-  -- why the commands end early, but for a put on out and want of memory: a call of the store failed
+  -- Why work ends early, but for a put on out and want of memory: a call of the store failed, or a port; all turns were drawn; or what is saved is refused, and then out and what the store shows are as they were
   abbrev pub Hinders : Stop → World D → World D → Type 0
+  Hinders (stop.Refused line) old new =
+      (s : Served) × (s.config.resume ≡ true) × (why : Refusal) × IsSavedIn (state (store_of old.left)) s.inputs.plan (Err why) × RefusesFor why line × (new.out ≡ old.out)
+      × (state (store_of new.left) ≡ state (store_of old.left))
   Hinders stop.StoreFailed old new = Lost old new
+  Hinders stop.PortsFailed old new = PortsRose old.ports new.ports
+  Hinders stop.TurnsUsedUp old new = TurnsAreGone new.left
   Hinders other old new = ⊥
 
   pub by_store : (w w' : World D) (store store' : D) → w.left ≡ Store store → w'.left ≡ Store store' → (s : Stop)
@@ -50,6 +60,8 @@ module _ {D : Type 0} (state : D → Outside StoreTold) where
   by_store w w' store store' old new (stop.Unreadable line) why = absurd why
   by_store w w' store store' old new stop.SinkFailed why = why
   by_store w w' store store' old new stop.NoMemory why = tt
-  by_store w w' store store' old new stop.StoreFailed why = (store, store', old, new, why)
+  by_store w w' store store' old new stop.StoreFailed why =
+      subst (λ (l : Left D). Rose (state (store_of l)).faults (state (store_of w'.left)).faults) (sym old)
+      (subst (λ (l : Left D). Rose (state store).faults (state (store_of l)).faults) (sym new) why)
   by_store w w' store store' old new stop.PortsFailed why = absurd why
   by_store w w' store store' old new stop.TurnsUsedUp why = absurd why

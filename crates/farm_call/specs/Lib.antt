@@ -1,3 +1,4 @@
 pub mod Words
 pub mod Works
 pub mod inner
+pub mod Served

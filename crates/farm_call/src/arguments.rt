@@ -3,27 +3,42 @@ ghost use Rattle.std.specs.Prelude.{◌≡◌, ◌⊎◌, [], Err};
 ghost use Rattle.call_ends.specs.Stops.{status_of, line_of, usage, want_of_memory, store_failed};
 ghost use Rattle.call_ends.specs.Ends.{Reports};
 ghost use Rattle.call_ends.specs.Promises.{Stands};
-ghost use Rattle.farm_call.specs.declared.ends.Left.TheVariants.{Store};
+ghost use Rattle.serve_command.specs.declared.left.Left.TheVariants.{Store};
 
 use crate::call::farm_main;
-use crate::ends::{FarmEnd, Left};
+use crate::ends::FarmEnd;
 use call_ends::{Stop, report};
-use farm_base::{Files, Sink};
+use farm_base::{Bell, Files, Gate, Sink};
+use port_trait::{Ports, ThreePorts};
+use serve_command::Left;
 use std::alloc::Global;
 use std::env;
 use std::io::{self, ErrorKind};
-use std::rt::Env;
+use std::rt::{Clock, Env};
+use std::sync::Wait;
+use std::thread::Threads;
 use tile_store::TileStore;
 
 /// `farm_main` with the words behind the program's name, over these files and sinks and this store. Words that
 /// cannot be had, since one is not UTF-8, are refused like wrong ones, unless memory ran out.
 #[tactic(auto, using(crate::proofs::Reported::usage_told, crate::proofs::Reported::want_told, crate::proofs::Reported::store_told, crate::proofs::Reported::nothing_told))]
-pub fn program<R: Env + Alloc<A = Global>, F: Files, O: Sink, E: Sink, D: TileStore>(
+pub fn program<
+    R: Env + Alloc<A = Global> + Threads + Wait + Clock + Sync,
+    F: Files,
+    O: Sink,
+    E: Sink,
+    D: TileStore + Send,
+    P: Ports + Send,
+    B: Bell + Send + Sync,
+    G: Gate + Sync,
+>(
     rt: &R,
     files: &mut F,
     out: &mut O,
     err: &mut E,
     store: D,
+    ports: &mut ThreePorts<P, B>,
+    gate: &G,
 ) -> FarmEnd<D>
     // With 2 the usage line stands on err, with 5 that of want of memory, with 6 that of the store, and with
     // 0 nothing.
@@ -33,15 +48,24 @@ pub fn program<R: Env + Alloc<A = Global>, F: Files, O: Sink, E: Sink, D: TileSt
     ensures store_line { result.status ≡ 6
         → Stands (E.state err.old).told (E.state err.new).told store_failed }
     ensures silent { result.status ≡ 0 → (E.state err.new).told ≡ (E.state err.old).told }
-    // With 1, 2 and 3 out and the store are as they were.
-    ensures untouched { (result.status ≡ 1) ⊎ ((result.status ≡ 2) ⊎ (result.status ≡ 3))
+    // With 2 and 3 out and the store are as they were.
+    ensures untouched { (result.status ≡ 2) ⊎ (result.status ≡ 3)
         → (O.state out.new ≡ O.state out.old) × (result.left ≡ Store store) }
-    // What is left is the store; no farm was shared, and there are no fronts.
-    ensures left { (s : D) × (result.left ≡ Store s) }
-    ensures no_fronts { result.fronts.items ≡ [] }
+    // Where the store is left no farm was shared, and there are no fronts.
+    ensures no_fronts { (s : D) → result.left ≡ Store s → result.fronts.items ≡ [] }
 {
     match words(rt) {
-        Ok(words) => farm_main(rt.alloc(), words.as_slice(), files, out, err, store),
+        Ok(words) => farm_main(
+            rt,
+            rt.alloc(),
+            words.as_slice(),
+            files,
+            out,
+            err,
+            store,
+            ports,
+            gate,
+        ),
         Err(error) => match error.kind() {
             ErrorKind::OutOfMemory => wordless(rt.alloc(), err, Stop::NoMemory, store),
             _ => wordless(rt.alloc(), err, Stop::Words, store),

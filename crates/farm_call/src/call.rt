@@ -1,81 +1,149 @@
 //! The top call.
-ghost use Rattle.std.specs.Prelude.{◌≡◌, ◌≢◌, ◌⊎◌, ℕ, List, [], Ok, Err, IfSome, map, string_bytes};
+ghost use Rattle.std.specs.Prelude.{◌≡◌, ◌≢◌, ◌⊎◌, ℕ, List, [], true, Ok, Err, IfSome, map, string_bytes};
 ghost use Rattle.farm_base.specs.Outside.{Rose};
 ghost use Rattle.call_ends.specs.Stops.{usage, want_of_memory, store_failed};
 ghost use Rattle.call_ends.specs.Ends.{EndsWith};
 ghost use Rattle.call_ends.specs.Promises.{Stands};
 ghost use Rattle.call_ends.specs.declared.stops.Stop.TheVariants.{StoreFailed};
-ghost use Rattle.input_files.specs.Course.{Course, RefusedBy, IsValid};
+ghost use Rattle.input_files.specs.Course.{Course, Makes, RefusedBy, IsValid};
 ghost use Rattle.input_files.specs.Calls.{Did, Refusal, Missed, Ended, EndsAt};
 ghost use Rattle.input_files.specs.inner.Runs as works;
 ghost use Rattle.farm_call.specs.Words.{Asks};
-ghost use Rattle.farm_call.specs.Works.{Work, Does, over};
-ghost use Rattle.farm_call.specs.declared.ends.Left.TheVariants.{Store};
+ghost use Rattle.farm_call.specs.Works.{Work, Does, over, serves, store_of};
+ghost use Rattle.farm_call.specs.Served.{AtEnd, IfServed, PortsRose, RefusesSaved, TurnsAreGone};
+ghost use Rattle.farm_files.specs.Inputs.{Served};
+ghost use Rattle.farm_setup.specs.Beginnings.{IsSavedIn, Refusal as SavedRefusal};
+ghost use Rattle.farm_threads.specs.Actors.{three};
+ghost use Rattle.serve_command.specs.Points.{HeadlineHolds, IsLegal, EntriesAreOwned, FrontsServe, WorkersWork, StopsHaveCauses, CountsAreTold, KeptAt, EndsBy};
+ghost use Rattle.serve_command.specs.declared.left.Left.TheVariants.{Store};
 ghost use Rattle.farm_call.specs.inner.Runs.{IsSound, Runs};
 
-use crate::ends::{FarmEnd, Left};
+use crate::ends::FarmEnd;
 use call_ends::{Stop, report};
-use farm_base::{Files, Sink};
+use farm_base::{Bell, Files, Gate, Sink};
 use farm_words::{Command, WordsFault, read_words};
 use load_command::load;
 use meta_command::meta;
-use port_trait::FrontDone;
+use port_trait::{Ports, ThreePorts};
 use render_command::{RenderWords, render};
 use script_command::script;
+use serve_command::{Done, Left, serve};
 use std::alloc::Global;
+use std::rt::Clock;
+use std::sync::Wait;
+use std::thread::Threads;
 use tile_store::TileStore;
 
-/// Does what the words ask for, over the files, the sinks and the store that are handed in, and answers the
-/// exit status: 0 where the command's work was done to its end, 1 where a file's content is refused, 2 where
-/// the words are, 3 where a file cannot be read, 4 where a put on `out` or `err` failed, 5 for want of memory,
-/// and 6 where the work was done to its end and a call of the store failed in it. With 1, 2, 3, 5 and 6 the
-/// line of the status stands on `err`, and nothing else; with 0 nothing; with 4 nothing, or a front of the line
-/// that could not be put. The store is handed back with what was put into it.
+/// Does what the words ask for, over the files, the sinks, the store and the ports that are handed in, and answers the
+/// exit status: 0 where the command's work was done to its end, 1 where the content of a file, or of what is saved in
+/// the store, is refused, 2 where the words are, 3 where a file cannot be read, 4 where a put on `out` or `err` failed,
+/// 5 for want of memory, 6 where a call of the store failed that the command's end depends on, 7 where a port failed,
+/// and 8 where all turns of a farm were drawn. With 1, 2, 3 and 5 to 8 the line of the status stands on `err`, and
+/// nothing else; with 0 nothing; with 4 nothing, or a front of the line that could not be put. The store is handed back
+/// with what was put into it, in a farm with its history where one was served.
 ///
-/// The words are those after the program's name: `render STYLE DATA T Z X Y`, `script CONFIG SCRIPT`,
-/// `load SEED N` or `meta FILE`. The form `serve CONFIG` of the usage line is refused so far.
-pub fn farm_main<F: Files, O: Sink, E: Sink, D: TileStore>(
+/// The words are those after the program's name: `render STYLE DATA T Z X Y`, `script CONFIG SCRIPT`, `serve CONFIG`,
+/// `load SEED N` or `meta FILE`. With `serve` it may wait; none of the ports has an open connection.
+pub fn farm_main<
+    R: Threads + Wait + Clock + Sync,
+    F: Files,
+    O: Sink,
+    E: Sink,
+    D: TileStore + Send,
+    P: Ports + Send,
+    B: Bell + Send + Sync,
+    G: Gate + Sync,
+>(
+    rt: &R,
     alloc: Global,
     words: &[String],
     files: &mut F,
     out: &mut O,
     err: &mut E,
     store: D,
+    ports: &mut ThreePorts<P, B>,
+    gate: &G,
 ) -> FarmEnd<D>
     // The whole call: what was done until its end, and then the line of this end on err, and the status.
     ensures ends { EndsWith (Ended (Asks (map string_bytes words.now)) (Does D.state)
-        (F.state files.old) (F.state files.new) (over (O.state out.old) store)
-        (record { out = O.state out.new; left = result.left; fronts = result.fronts.items }))
+        (F.state files.old) (F.state files.new) (over (O.state out.old) store (three (P.state ports.old.renderd) (P.state ports.old.tiles) (P.state ports.old.control)))
+        (record { out = O.state out.new; left = result.left; fronts = result.fronts.items; ports = three (P.state ports.new.renderd) (P.state ports.new.tiles) (P.state ports.new.control) }))
         (E.state err.old) (E.state err.new) result.status }
-    // What is left is the store; no farm was shared, and there are no fronts.
-    ensures left { (s : D) × (result.left ≡ Store s) }
-    ensures no_fronts { result.fronts.items ≡ [] }
+    // A farm that was served: whatever clients, workers, updates and expiries did, in any order, every tile sent as clean
+    // is the plain drawing of its style over the data of one version, taken after the last expiry that touches it; no
+    // metatile is drawn twice at once; an expiry during a drawing leaves the tile dirty; and every Done names a tile that was
+    // stored after the request or is clean at it.
+    ensures headline { IfServed (Asks (map string_bytes words.now)) (F.state files.old).told result.left
+        (λ s closed. HeadlineHolds D.state s store closed) }
+    // It is of the plan that the files give, and began by what is saved, if the configuration says so; all that happened is
+    // legal, and the farm that is left stands for it.
+    ensures legal { IfServed (Asks (map string_bytes words.now)) (F.state files.old).told result.left
+        (λ s closed. IsLegal D.state s store closed) }
+    // Each entry is of the call's own seat, which has a Stop and then a Tally, of a front's or of a worker's.
+    ensures owned { IfServed (Asks (map string_bytes words.now)) (F.state files.old).told result.left
+        (λ s closed. EntriesAreOwned D.state s store closed) }
+    // The entries of each front are those of what it did with the bytes of its ports, and what it answered is of the same.
+    ensures served { IfServed (Asks (map string_bytes words.now)) (F.state files.old).told result.left
+        (λ s closed. FrontsServe D.state s store closed (three (P.state ports.old.renderd) (P.state ports.old.tiles) (P.state ports.old.control))
+        (three (P.state ports.new.renderd) (P.state ports.new.tiles) (P.state ports.new.control)) result.fronts.items) }
+    // The entries of each worker are its Claims, each Job with its Finish, and no drawing is under way at the end.
+    ensures worked { IfServed (Asks (map string_bytes words.now)) (F.state files.old).told result.left
+        (λ s closed. WorkersWork D.state s store closed) }
+    // A Stop is that of a control line, or the last entry of a front that ended otherwise than Finished, or stands after all
+    // entries of the fronts.
+    ensures stopped { IfServed (Asks (map string_bytes words.now)) (F.state files.old).told result.left
+        (λ s closed. StopsHaveCauses D.state s store closed result.fronts.items) }
+    // What was put on out is the line of the last entry, which is a Tally.
+    ensures counted { IfServed (Asks (map string_bytes words.now)) (F.state files.old).told result.left
+        (λ s closed. AtEnd (E.state err.old) (E.state err.new) result.status
+        (CountsAreTold D.state s store closed (O.state out.old) (O.state out.new))) }
+    // Where the configuration resumes, the text of what is saved stands in the store after an end in order, and no bytes
+    // after one for want of memory, since ports failed or all turns were drawn.
+    ensures kept { IfServed (Asks (map string_bytes words.now)) (F.state files.old).told result.left
+        (λ s closed. AtEnd (E.state err.old) (E.state err.new) result.status (KeptAt D.state s store closed)) }
+    // The status is 8, 7 or 5 by what the fronts and the call itself met, the first that applies; else by how the saving went;
+    // and 4 where a put failed.
+    ensures ended { IfServed (Asks (map string_bytes words.now)) (F.state files.old).told result.left
+        (λ s closed. AtEnd (E.state err.old) (E.state err.new) result.status
+        (EndsBy D.state s store closed result.fronts.items (O.state out.old) (O.state out.new))) }
+    // Where the store is left no farm was shared, and there are no fronts.
+    ensures no_fronts { (s : D) → result.left ≡ Store s → result.fronts.items ≡ [] }
 
     // 0: the files lead the course that is asked for to work, and it was done to its end.
     ensures done { result.status ≡ 0 → Did (Asks (map string_bytes words.now)) (Does D.state)
-        (F.state files.old) (F.state files.new) (over (O.state out.old) store)
-        (record { out = O.state out.new; left = result.left; fronts = result.fronts.items }) (Ok tt) }
+        (F.state files.old) (F.state files.new) (over (O.state out.old) store (three (P.state ports.old.renderd) (P.state ports.old.tiles) (P.state ports.old.control)))
+        (record { out = O.state out.new; left = result.left; fronts = result.fronts.items; ports = three (P.state ports.new.renderd) (P.state ports.new.tiles) (P.state ports.new.control) }) (Ok tt) }
     ensures silent { result.status ≡ 0 → (E.state err.new).told ≡ (E.state err.old).told }
     // 6: so it was, and a call of the store failed in it; its line stands on err.
     ensures store_lost { result.status ≡ 6 → Did (Asks (map string_bytes words.now)) (Does D.state)
-        (F.state files.old) (F.state files.new) (over (O.state out.old) store)
-        (record { out = O.state out.new; left = result.left; fronts = result.fronts.items }) (Err StoreFailed)
+        (F.state files.old) (F.state files.new) (over (O.state out.old) store (three (P.state ports.old.renderd) (P.state ports.old.tiles) (P.state ports.old.control)))
+        (record { out = O.state out.new; left = result.left; fronts = result.fronts.items; ports = three (P.state ports.new.renderd) (P.state ports.new.tiles) (P.state ports.new.control) }) (Err StoreFailed)
         × Stands (E.state err.old).told (E.state err.new).told store_failed }
-    ensures store_rose { result.status ≡ 6
-        → (s : D) × (result.left ≡ Store s) × Rose (D.state store).faults (D.state s).faults }
-    // Files with no fault give 0, where no read, no put on out and no call of the store fails, unless
-    // memory is wanting.
+    ensures store_rose { result.status ≡ 6 → Rose (D.state store).faults (D.state (store_of result.left)).faults }
+    // 7: a port's count rose. 8: a farm is left, whose history has used up all turns.
+    ensures ports_rose { result.status ≡ 7 → PortsRose (three (P.state ports.old.renderd) (P.state ports.old.tiles) (P.state ports.old.control))
+        (three (P.state ports.new.renderd) (P.state ports.new.tiles) (P.state ports.new.control)) }
+    ensures turns_gone { result.status ≡ 8 → TurnsAreGone result.left }
+    // Files with no fault give 0, where no read, no put on out and no call of the store or of a port fails, not all turns
+    // are drawn, and what is saved, if a farm is to be resumed from it, has no fault, unless memory is wanting.
     ensures complete { IfSome (F.state files.old).told (λ t. (c : Course Work)
         → Asks (map string_bytes words.now) c → IsValid t.content c
         → ¬ (Rose (F.state files.old).faults (F.state files.new).faults)
         → ¬ (Rose (O.state out.old).faults (O.state out.new).faults)
-        → ((s : D) → result.left ≡ Store s → ¬ (Rose (D.state store).faults (D.state s).faults))
+        → ¬ (Rose (D.state store).faults (D.state (store_of result.left)).faults)
+        → ¬ (PortsRose (three (P.state ports.old.renderd) (P.state ports.old.tiles) (P.state ports.old.control))
+        (three (P.state ports.new.renderd) (P.state ports.new.tiles) (P.state ports.new.control)))
+        → ¬ (TurnsAreGone result.left)
+        → ((s : Served) (why : SavedRefusal) → Makes t.content c (serves s) → s.config.resume ≡ true
+        → ¬ (IsSavedIn (D.state store) s.inputs.plan (Err why)))
         → (result.status ≡ 0) ⊎ EndsAt 5 (E.state err.old).faults (E.state err.new).faults result.status) }
 
-    // 1: the files lead the course to this line, that of their first fault, and it stands on err.
-    ensures refused { result.status ≡ 1 → IfSome (F.state files.old).told (λ t. (line : List ℕ)
-        × Refusal (Asks (map string_bytes words.now)) t.content line
-        × Stands (E.state err.old).told (E.state err.new).told line) }
+    // 1: the files lead the course to this line, that of their first fault, or it is that of what is saved in the store; it
+    // stands on err, and out and what the store shows are as they were.
+    ensures refused { result.status ≡ 1 → (line : List ℕ) × Stands (E.state err.old).told (E.state err.new).told line
+        × (IfSome (F.state files.old).told (λ t. Refusal (Asks (map string_bytes words.now)) t.content line)
+        ⊎ RefusesSaved (Asks (map string_bytes words.now)) (F.state files.old).told (D.state store) line)
+        × (O.state out.new ≡ O.state out.old) × (D.state (store_of result.left) ≡ D.state store) }
     // A first fault of the files gives 1, where no read fails, unless memory is wanting.
     ensures refusing { IfSome (F.state files.old).told (λ t. (c : Course Work) → (line : List ℕ)
         → Asks (map string_bytes words.now) c → RefusedBy t.content c line
@@ -98,8 +166,8 @@ pub fn farm_main<F: Files, O: Sink, E: Sink, D: TileStore>(
     ensures one_failed { IfSome (F.state files.old).told (λ t. IfSome (F.state files.new).told (λ u.
         u.failed ≢ t.failed
         → (result.status ≡ 3) ⊎ EndsAt 5 (E.state err.old).faults (E.state err.new).faults result.status)) }
-    // 1, 2 and 3: out and the store are as they were.
-    ensures untouched { (result.status ≡ 1) ⊎ ((result.status ≡ 2) ⊎ (result.status ≡ 3))
+    // 2 and 3: out and the store are as they were.
+    ensures untouched { (result.status ≡ 2) ⊎ (result.status ≡ 3)
         → (O.state out.new ≡ O.state out.old) × (result.left ≡ Store store) }
     // 4: a put failed, on out or on err.
     ensures put_failed { result.status ≡ 4 → Rose (O.state out.old).faults (O.state out.new).faults
@@ -114,21 +182,13 @@ pub fn farm_main<F: Files, O: Sink, E: Sink, D: TileStore>(
     ensures want_line { result.status ≡ 5
         → Stands (E.state err.old).told (E.state err.new).told want_of_memory }
 {
-    let done = command(alloc, words, files, out, store);
+    let done = command(rt, alloc, words, files, out, store, ports, gate);
     let status = report(err, &done.end);
     FarmEnd {
         status,
         left: done.left,
         fronts: done.fronts,
     }
-}
-
-// How the work ended, and what is left.
-#[derive(Drop)]
-struct Done<D: TileStore> {
-    end: Result<(), Stop>,
-    left: Left<D>,
-    fronts: Vec<FrontDone>,
 }
 
 // An end with the store left.
@@ -145,39 +205,58 @@ fn stored<D: TileStore>(alloc: Global, end: Result<(), Stop>, store: D) -> Done<
 }
 
 // Does what the words ask for.
-fn command<F: Files, O: Sink, D: TileStore>(
+fn command<
+    R: Threads + Wait + Clock + Sync,
+    F: Files,
+    O: Sink,
+    D: TileStore + Send,
+    P: Ports + Send,
+    B: Bell + Send + Sync,
+    G: Gate + Sync,
+>(
+    rt: &R,
     alloc: Global,
     words: &[String],
     files: &mut F,
     out: &mut O,
     store: D,
+    ports: &mut ThreePorts<P, B>,
+    gate: &G,
 ) -> Done<D>
-    ensures runs { works.Runs (Asks (map string_bytes words.now)) (Does D.state) (F.state files.old) (F.state files.new)
-        (over (O.state out.old) store) (record { out = O.state out.new; left = result.left; fronts = result.fronts.items }) result.end }
-    ensures left { (s : D) × (result.left ≡ Store s) }
-    ensures no_fronts { result.fronts.items ≡ [] }
+    ensures { works.Runs (Asks (map string_bytes words.now)) (Does D.state) (F.state files.old) (F.state files.new)
+        (over (O.state out.old) store (three (P.state ports.old.renderd) (P.state ports.old.tiles) (P.state ports.old.control)))
+        (record { out = O.state out.new; left = result.left; fronts = result.fronts.items; ports = three (P.state ports.new.renderd) (P.state ports.new.tiles) (P.state ports.new.control) }) result.end }
 {
     match read_words(alloc, words) {
-        Ok(command) => {
-            let (end, store) = run(alloc, command, files, out, store);
-            stored(alloc, end, store)
-        }
+        Ok(command) => run(rt, alloc, command, files, out, store, ports, gate),
         Err(WordsFault::Refused) => stored(alloc, Err(Stop::Words), store),
         Err(WordsFault::NoMemory) => stored(alloc, Err(Stop::NoMemory), store),
     }
 }
 
 // Does the command that the words spell.
-fn run<F: Files, O: Sink, D: TileStore>(
+fn run<
+    R: Threads + Wait + Clock + Sync,
+    F: Files,
+    O: Sink,
+    D: TileStore + Send,
+    P: Ports + Send,
+    B: Bell + Send + Sync,
+    G: Gate + Sync,
+>(
+    rt: &R,
     alloc: Global,
     command: Command,
     files: &mut F,
     out: &mut O,
     store: D,
-) -> (Result<(), Stop>, D)
+    ports: &mut ThreePorts<P, B>,
+    gate: &G,
+) -> Done<D>
     requires { IsSound command }
-    ensures { Runs D.state command (F.state files.old) (F.state files.new) store result.1
-        (O.state out.old) (O.state out.new) result.0 }
+    ensures { Runs D.state command (F.state files.old) (F.state files.new) store
+        (over (O.state out.old) store (three (P.state ports.old.renderd) (P.state ports.old.tiles) (P.state ports.old.control)))
+        (record { out = O.state out.new; left = result.left; fronts = result.fronts.items; ports = three (P.state ports.new.renderd) (P.state ports.new.tiles) (P.state ports.new.control) }) result.end }
 {
     match command {
         Command::Render(style, data, size, tile) => {
@@ -187,13 +266,21 @@ fn run<F: Files, O: Sink, D: TileStore>(
                 size,
                 tile,
             };
-            (render(alloc, asked, files, out), store)
+            let end = render(alloc, asked, files, out);
+            stored(alloc, end, store)
         }
         Command::Script(config, lines) => {
-            script(alloc, config.as_str(), lines.as_str(), files, out, store)
+            let (end, store) = script(alloc, config.as_str(), lines.as_str(), files, out, store);
+            stored(alloc, end, store)
         }
-        Command::Load(seed, features) => load(alloc, seed, features, out, store),
-        Command::Meta(file) => (meta(alloc, file.as_str(), files, out), store),
-        _ => (Err(Stop::Words), store),
+        Command::Serve(config) => serve(rt, alloc, config.as_str(), files, out, store, ports, gate),
+        Command::Load(seed, features) => {
+            let (end, store) = load(alloc, seed, features, out, store);
+            stored(alloc, end, store)
+        }
+        Command::Meta(file) => {
+            let end = meta(alloc, file.as_str(), files, out);
+            stored(alloc, end, store)
+        }
     }
 }

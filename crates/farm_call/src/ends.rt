@@ -1,18 +1,9 @@
 //! How a call ends.
 ghost use Rattle.std.specs.Prelude.{◌≡◌};
 
-use farm_shared::Closed;
 use port_trait::FrontDone;
+use serve_command::Left;
 use tile_store::TileStore;
-
-/// What is left of the store that a call was handed.
-#[derive(Drop)]
-pub enum Left<D: TileStore> {
-    /// The store, with what was put into it.
-    Store(D),
-    /// A farm over it that was shared by threads, with its whole history.
-    Farm(Closed<D>),
-}
 
 /// How a call ended.
 #[derive(Drop)]

@@ -8,4 +8,5 @@ mod ends;
 
 pub use arguments::program;
 pub use call::farm_main;
-pub use ends::{FarmEnd, Left};
+pub use ends::FarmEnd;
+pub use serve_command::Left;

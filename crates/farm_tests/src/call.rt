@@ -1,9 +1,13 @@
 //! One call of the program over named contents.
-use farm_base::{Bytes, MemFiles, MemSink, Text};
+use farm_base::{Bytes, MemFiles, MemSink, OpenGate, Text};
 use farm_call::farm_main;
+use memory_ports::MemPorts;
 use std::alloc::Global;
 use std::process::Abort;
+use std::rt::Clock;
+use std::sync::Wait;
 use std::test::Fail;
+use std::thread::Threads;
 use tile_store::MemStore;
 
 pub const USAGE: &str =
@@ -48,7 +52,8 @@ pub const NONE: Faults<'static> = Faults {
 };
 
 /// Calls with these words over these files.
-pub fn call(
+pub fn call<R: Threads + Wait + Clock + Sync>(
+    rt: &R,
     alloc: Global,
     words: &[&str],
     held: &[(&str, &[u8])],
@@ -66,7 +71,19 @@ pub fn call(
     let mut out = MemSink::new(alloc, 1000, Vec::from_slice(alloc, faults.out)?)?;
     let mut err = MemSink::new(alloc, 1000, Vec::from_slice(alloc, faults.err)?)?;
     let store = MemStore::new(alloc, Vec::new(alloc), Vec::new(alloc), Vec::new(alloc))?;
-    let end = farm_main(alloc, all.as_slice(), &mut files, &mut out, &mut err, store);
+    let (one, two, three) = (Vec::new(alloc), Vec::new(alloc), Vec::new(alloc));
+    let mut ports = MemPorts::three(alloc, one, two, three, 0, 0)?;
+    let end = farm_main(
+        rt,
+        alloc,
+        all.as_slice(),
+        &mut files,
+        &mut out,
+        &mut err,
+        store,
+        &mut ports,
+        &OpenGate,
+    );
     let status = end.into_status();
     Ok(Ended { status, out, err })
 }

@@ -2,7 +2,10 @@
 //! and what it refuses, is shown by the program `drawn_cases`.
 use crate::call::{Ended, Faults, NONE, USAGE, call};
 use std::alloc::Global;
+use std::rt::Clock;
+use std::sync::Wait;
 use std::test::Fail;
+use std::thread::Threads;
 
 // Two rasters.
 const STYLE: &[u8] =
@@ -16,10 +19,14 @@ const RASTER: &[u8] = b"P6 1 1 255\n\xff\x00\x00";
 const NUMBERS: &[u8] = b"META\x40\0\0\0\0\0\0\0\0\0\0\0\0\0\0\0\x14\x02\0\0\x01\0\0\0";
 
 // `render` of a white tile over a style with two rasters.
-fn render(alloc: Global, faults: Faults) -> Result<Ended, Fail> {
+fn render<R: Threads + Wait + Clock + Sync>(
+    rt: &R,
+    alloc: Global,
+    faults: Faults,
+) -> Result<Ended, Fail> {
     let words = ["render", "S", "D", "16", "0", "0", "0"];
     let files = [("S", STYLE), ("R", RASTER), ("Q", RASTER), ("D", DATA)];
-    call(alloc, words.as_slice(), files.as_slice(), faults)
+    call(rt, alloc, words.as_slice(), files.as_slice(), faults)
 }
 
 #[test]
@@ -32,7 +39,7 @@ fn reads_that_fail(rt: HostRuntime) -> Result<(), Fail> {
         ([3].as_slice(), "tilefarm: D: cannot be read\n"),
     ] {
         let faults = Faults { reads, ..NONE };
-        render(alloc, faults)?.says(&rt, 3, line);
+        render(&rt, alloc, faults)?.says(&rt, 3, line);
     }
     Ok(())
 }
@@ -41,20 +48,20 @@ fn reads_that_fail(rt: HostRuntime) -> Result<(), Fail> {
 fn puts_that_fail(rt: HostRuntime) -> Result<(), Fail> {
     let alloc = rt.alloc();
     // A put on err that is to fail asks nothing of a success.
-    let whole = render(alloc, Faults { err: &[0], ..NONE })?;
+    let whole = render(&rt, alloc, Faults { err: &[0], ..NONE })?;
     assert_eq!(rt; whole.status, 0);
     assert_eq!(rt; whole.out.bytes().len(), 781);
     assert!(rt; whole.err.bytes().is_empty());
 
     // A put on out that fails leaves a front of the tile, and err stays empty.
-    let ended = render(alloc, Faults { out: &[0], ..NONE })?;
+    let ended = render(&rt, alloc, Faults { out: &[0], ..NONE })?;
     assert_eq!(rt; ended.status, 4);
     assert!(rt; whole.out.bytes().starts_with(ended.out.bytes()));
     assert!(rt; ended.out.bytes().len() < 781);
     assert!(rt; ended.err.bytes().is_empty());
 
     // A put on err that fails turns a refusal into 4, with a front of its line.
-    let ended = call(alloc, &[], &[], Faults { err: &[0], ..NONE })?;
+    let ended = call(&rt, alloc, &[], &[], Faults { err: &[0], ..NONE })?;
     assert_eq!(rt; ended.status, 4);
     assert!(rt; USAGE.as_bytes().starts_with(ended.err.bytes()));
     assert!(rt; ended.out.bytes().is_empty());
@@ -70,16 +77,16 @@ fn a_container_whose_read_or_put_fails(rt: HostRuntime) -> Result<(), Fail> {
     }
     let files = [("M", bytes.as_slice())];
     let words = ["meta", "M"];
-    call(alloc, words.as_slice(), files.as_slice(), NONE)?.put(&rt, b"0 0 0\n0 532 1\n");
+    call(&rt, alloc, words.as_slice(), files.as_slice(), NONE)?.put(&rt, b"0 0 0\n0 532 1\n");
 
     let unread = Faults {
         reads: &[0],
         ..NONE
     };
-    let ended = call(alloc, words.as_slice(), files.as_slice(), unread)?;
+    let ended = call(&rt, alloc, words.as_slice(), files.as_slice(), unread)?;
     ended.says(&rt, 3, "tilefarm: M: cannot be read\n");
     let unput = Faults { out: &[0], ..NONE };
-    let ended = call(alloc, words.as_slice(), files.as_slice(), unput)?;
+    let ended = call(&rt, alloc, words.as_slice(), files.as_slice(), unput)?;
     assert_eq!(rt; ended.status, 4);
     assert!(rt; ended.out.bytes() == b"0 0 0\n0".as_slice());
     assert!(rt; ended.err.bytes().is_empty());
@@ -110,8 +117,12 @@ const ANSWERS: &[u8] =
     b"queued 0\njob 0 default 0 0 0 0\nclean\nreply 0 0 done\nexpired 1\ndirty 0\ndirty 0 781\nP6\n16 16\n255\n";
 
 // `script` over these files.
-fn script(alloc: Global, faults: Faults) -> Result<Ended, Fail> {
-    call(alloc, &["script", "C", "L"], &SQUARE, faults)
+fn script<R: Threads + Wait + Clock + Sync>(
+    rt: &R,
+    alloc: Global,
+    faults: Faults,
+) -> Result<Ended, Fail> {
+    call(rt, alloc, &["script", "C", "L"], &SQUARE, faults)
 }
 
 #[test]
@@ -127,16 +138,17 @@ fn a_script_whose_reads_or_puts_fail(rt: HostRuntime) -> Result<(), Fail> {
             reads: &[read],
             ..NONE
         };
-        script(alloc, faults)?.says(&rt, 3, line);
+        script(&rt, alloc, faults)?.says(&rt, 3, line);
     }
 
     // Each put on out in turn: a front of the answers is put, and err stays empty.
-    let whole = script(alloc, NONE)?;
+    let whole = script(&rt, alloc, NONE)?;
     assert_eq!(rt; whole.status, 0);
     assert!(rt; whole.out.bytes().starts_with(ANSWERS));
     assert_eq!(rt; whole.out.bytes().len(), ANSWERS.len() + 769);
     for put in 0..9 {
         let ended = script(
+            &rt,
             alloc,
             Faults {
                 out: &[put],

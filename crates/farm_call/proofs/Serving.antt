@@ -1,0 +1,309 @@
+-- How a served farm ends, as a call asks it of work.
+use Rattle.std.proofs.Common.{◌≡◌, ◌≢◌, ℕ, ◌⊎◌, inl, inr, ◌+◌, ◌-◌, ◌≤◌, ◌^◌, min, Bool, true, false, ◌||◌, if◌then◌else◌, List, length, map, refl, sym, ap, subst, ◌∙◌, arith}
+use Rattle.std.specs.Prelude.{Option, Some, None, Result, Ok, Err}
+use Rattle.std.specs.List.{list_any}
+use Rattle.farm_base.specs.Outside.{Outside, Rose, Counted}
+use Rattle.farm_base.specs.Outside as sink
+use Rattle.farm_base.specs.declared.sinks.SinkFault.{SinkFault}
+use Rattle.tile_store.specs.Stores.{StoreTold}
+use Rattle.tile_store.specs.declared.stores.StoreFault.TheVariants as fault
+use Rattle.port_trait.specs.declared.ends.FrontEnd.{FrontEnd}
+use Rattle.port_trait.specs.declared.events.PortFault.{PortFault}
+use Rattle.port_trait.specs.declared.events.PortFault.TheVariants as port_fault
+use Rattle.port_trait.specs.Told.{PortsTold, ListenCounts}
+use Rattle.call_ends.specs.Ends.{SinkAt}
+use Rattle.call_ends.specs.declared.stops.Stop.{Stop}
+use Rattle.call_ends.specs.declared.stops.Stop.TheVariants as stop
+use Rattle.input_files.proofs.Calls.{Whys}
+use Rattle.farm_history.specs.declared.answers.Tally.{Tally as Totals}
+use Rattle.farm_config.specs.Configs.{Config}
+use Rattle.farm_files.specs.Inputs.{Served}
+use Rattle.farm_stands.specs.Stands.{StandsFor, failures}
+use Rattle.script_answers.specs.Answers.{tally_line}
+use Rattle.farm_shared.specs.Shared.{lasting_of, past}
+use Rattle.farm_threads.specs.declared.posts.Posts.{Posts}
+use Rattle.farm_shared.specs.declared.turned.LastingPart.{LastingPart}
+use Rattle.farm_setup.specs.Listens.{Listens, Listening, end_of}
+use Rattle.farm_setup.specs.Beginnings.{CannotBegin, IsSavedIn, Refusal, RefusesFor}
+use Rattle.farm_ending.specs.Endings.{is_worn, is_broken, is_wanting, put_end, TellsCounts}
+use Rattle.farm_ending.specs.Savings.{MaySave}
+use Rattle.serve_command.specs.Serves.{World, HasServed, NotServed, WhyNot, Serves, ServesTo, places, fronts_of, is_worn_out}
+use Rattle.serve_command.specs.Serves as serves
+use Rattle.serve_command.specs.Points.{ClosedFarm}
+use Rattle.serve_command.proofs.Points.{ends_by}
+use Rattle.serve_command.specs.declared.left.Left.{Left}
+use Rattle.serve_command.specs.declared.left.Left.TheVariants.{Store, Farm}
+use Rattle.farm_call.specs.Works.{store_of}
+use Rattle.farm_call.specs.Served.{PortsRose}
+use Rattle.farm_call.proofs.Whys.{Hinders}
+
+-- ---- listening
+
+listen_ok : (address : List ℕ) (a b : Outside PortsTold) → Listens address a b (Ok tt) → b.faults ≡ a.faults
+listen_ok address a b h = by_answer h.answer h.counts h.end_is
+  where
+    by_answer : (answer : Result (Unit {0}) PortFault) → ListenCounts a.faults b.faults answer → Ok tt ≡ end_of answer → b.faults ≡ a.faults
+    by_answer (Ok u) counts is = counts
+    by_answer (Err f) counts is = absurd (cc)
+
+listen_err : (address : List ℕ) (a b : Outside PortsTold) (why : Stop) → Listens address a b (Err why) → ((why ≡ stop.PortsFailed) × Rose a.faults b.faults) ⊎ (why ≡ stop.NoMemory)
+listen_err address a b why h = by_answer h.answer h.counts h.end_is
+  where
+    by_answer : (answer : Result (Unit {0}) PortFault) → ListenCounts a.faults b.faults answer → Err why ≡ end_of answer → ((why ≡ stop.PortsFailed) × Rose a.faults b.faults) ⊎ (why ≡ stop.NoMemory)
+    by_answer (Ok u) counts is = absurd (cc)
+    by_answer (Err port_fault.Failed) counts is = inl (cc, counts.1)
+    by_answer (Err port_fault.NoMemory) counts is = inr (cc)
+
+abbrev fails : Stop → Result (Unit {0}) Stop
+fails why = Err why
+
+module _ (config : Config) (p q : Posts (Outside PortsTold)) where
+  -- why the listening ended early
+  abbrev Fails : Stop → Type 0
+  Fails why = ((why ≡ stop.PortsFailed) × PortsRose p q) ⊎ (why ≡ stop.NoMemory)
+
+  from_one : (why w : Stop) (a b : Outside PortsTold) (address : List ℕ) → (Rose a.faults b.faults → PortsRose p q) → Listens address a b (Err w) → fails why ≡ fails w → Fails why
+  from_one why w a b address rose listens is =
+      let same : why ≡ w = cc in
+      elim (listen_err address a b w listens) [ inl h ↦ inl (same ∙ h.0, rose h.1) | inr none ↦ inr (same ∙ none) ]
+
+  listening_err : (why : Stop) → Listening (places config p q) (Err why) → Fails why
+  listening_err why (Err w, l, a) = from_one why w _ _ _ (λ r. inl r) l a.1
+  listening_err why (Ok u, l, (Err w, m, b)) = from_one why w _ _ _ (λ r. inr (inl r)) m b.1
+  listening_err why (Ok u, l, (Ok v, m, (Err w, n, c))) = from_one why w _ _ _ (λ r. inr (inr r)) n c.1
+  listening_err why (Ok u, l, (Ok v, m, (Ok x, n, is))) = absurd (cc)
+
+  listening_ok : Listening (places config p q) (Ok tt) → (q.renderd.faults ≡ p.renderd.faults) × (q.tiles.faults ≡ p.tiles.faults) × (q.control.faults ≡ p.control.faults)
+  listening_ok (Err w, l, a) = absurd (let e = a.1 in cc)
+  listening_ok (Ok u, l, (Err w, m, b)) = absurd (let e = b.1 in cc)
+  listening_ok (Ok u, l, (Ok v, m, (Err w, n, c))) = absurd (let e = c.1 in cc)
+  listening_ok (Ok u, l, (Ok v, m, (Ok x, n, is))) = (listen_ok _ _ _ l, listen_ok _ _ _ m, listen_ok _ _ _ n)
+
+-- ---- why a run ended
+
+abbrev pick : Bool → Bool → Bool → Result (Unit {0}) Stop
+pick a b c = if a then Err stop.TurnsUsedUp else (if b then Err stop.PortsFailed else (if c then Err stop.NoMemory else Ok tt))
+
+pick_cases : (a b c : Bool) (q : Stop) → pick a b c ≡ Err q → (q ≡ stop.TurnsUsedUp) ⊎ (((q ≡ stop.PortsFailed) × (b ≡ true)) ⊎ (q ≡ stop.NoMemory))
+pick_cases true b c q is = inl (cc)
+pick_cases false true c q is = inr (inl (cc, refl))
+pick_cases false false true q is = inr (inr (cc))
+pick_cases false false false q is = absurd (cc)
+
+broken_end : (end : FrontEnd) → is_broken end ≡ true → end ≡ FrontEnd.Broken
+broken_end FrontEnd.Broken is = refl
+broken_end FrontEnd.Finished is = cc
+broken_end FrontEnd.Stopped is = cc
+broken_end FrontEnd.Worn is = cc
+broken_end FrontEnd.NoMemory is = cc
+
+one_of : (a b : Bool) → (a || b) ≡ true → (a ≡ true) ⊎ (b ≡ true)
+one_of true b is = inl refl
+one_of false b is = inr is
+
+-- a count that rose from a middle one rose from the first
+rose_from : (before more mid now : ℕ) → min (before + more) (2 ^ 64 - 1) ≤ mid → Counted mid now → Rose before now
+rose_from before more mid now least counted = let one = counted.0 in let two = counted.1 in omega (arith, least, one, two)
+
+module _ {D : Type 0} (state : D → Outside StoreTold) (s : Served) (store : D) (old new : World D) (old_left : old.left ≡ Store store) where
+  abbrev Why : Stop → Type 0
+  Why q = Whys (λ w. w.out) (Hinders state) q old new
+
+  abbrev at : Outside StoreTold
+  at = state (store_of old.left)
+
+  at_is : state store ≡ at
+  at_is = ap (λ (l : Left D). state (store_of l)) (sym old_left)
+
+  -- ---- no actor was started
+
+  module _ (store' : D) (new_left : new.left ≡ Store store') where
+    left_is : state store' ≡ state (store_of new.left)
+    left_is = ap (λ (l : Left D). state (store_of l)) (sym new_left)
+
+    lost_here : Rose (state store).faults (state store').faults → Rose at.faults (state (store_of new.left)).faults
+    lost_here rose =
+        subst (λ (o : Outside StoreTold). Rose o.faults (state (store_of new.left)).faults) at_is (subst (λ (o : Outside StoreTold). Rose (state store).faults o.faults) left_is rose)
+
+    unbegun : (why : Stop) → CannotBegin (state store) s.inputs.plan s.config.resume (state store') why → new.out ≡ old.out → Why why
+    unbegun (stop.Refused line) c silent = (
+      s,
+      c.0,
+      c.1,
+      subst (λ (o : Outside StoreTold). IsSavedIn o s.inputs.plan (Err c.1)) at_is c.2,
+      c.3,
+      silent,
+      sym left_is ∙ c.4 ∙ at_is,
+    )
+    unbegun stop.NoMemory c silent = tt
+    unbegun stop.StoreFailed c silent = elim c.1 [ inl got ↦ lost_here got.1.1 | inr put ↦ lost_here put.2.1.1 ]
+    unbegun stop.Words c silent = c
+    unbegun (stop.Unreadable line) c silent = c
+    unbegun stop.SinkFailed c silent = absurd c
+    unbegun stop.PortsFailed c silent = absurd c
+    unbegun stop.TurnsUsedUp c silent = absurd c
+
+    not_served : (q : Stop) → NotServed state s store store' old new (Err q) → Why q
+    not_served q h = subst Why (sym q_is) (by_why h.why_not)
+      where
+        q_is : q ≡ h.why
+        q_is = let e = h.end_is in cc
+
+        by_why : WhyNot state s store store' old.ports new.ports h.why → Why h.why
+        by_why (inl c) = unbegun h.why c.0 h.silent
+        by_why (inr (farm, begun, same, inl listens)) =
+            elim (listening_err s.config old.ports new.ports h.why listens) [ inl f ↦ subst Why (sym f.0) f.1 | inr none ↦ subst Why (sym none) tt ]
+        by_why (inr (farm, begun, same, inr wanting)) = subst Why (sym wanting.1) tt
+
+  -- ---- a farm was served
+
+  module _ (closed : ClosedFarm D) (new_left : new.left ≡ Farm closed) (end : Result (Unit {0}) Stop) (h : HasServed state s store closed old new end) where
+    -- the store's count had not fallen when the farm was closed
+    least : min ((state store).faults + length (failures h.last.plan (past (lasting_of state h.last) closed.1))) (2 ^ 64 - 1) ≤ (state h.last.store).faults
+    least =
+        let stands : StandsFor state false h.last (past (lasting_of state h.last) closed.1) = h.runs.after.each false (λ e. absurd (cc)) in
+        let first : state h.last.first ≡ state store = ap (λ (p : LastingPart D). state p.first) h.runs.kept ∙ h.begun.first_shows in
+        subst (λ (o : Outside StoreTold). min (o.faults + length (failures h.last.plan (past (lasting_of state h.last) closed.1))) (2 ^ 64 - 1) ≤ (state h.last.store).faults) first stands.store_is.counted
+
+    lost_there : Counted (state h.last.store).faults (state closed.0.store).faults → Rose at.faults (state (store_of new.left)).faults
+    lost_there counted =
+        subst (λ (o : Outside StoreTold). Rose o.faults (state (store_of new.left)).faults) at_is
+        (subst (λ (l : Left D). Rose (state store).faults (state (store_of l)).faults) (sym new_left) (rose_from _ _ _ _ least counted))
+
+    -- by how the saving went
+    by_saving : (resume : Bool) (why saved : Result (Unit {0}) Stop) (q : Stop) → MaySave state resume why h.last closed.0 closed.1 saved → saved ≡ Err q
+        → ((q ≡ stop.StoreFailed) × Counted (state h.last.store).faults (state closed.0.store).faults) ⊎ ((q ≡ stop.NoMemory) ⊎ (why ≡ Err q))
+    by_saving true (Ok done) (Ok u) q may is = absurd (cc)
+    by_saving true (Ok done) (Err stop.StoreFailed) q may is = inl (cc, may.went.puts.1)
+    by_saving true (Ok done) (Err stop.NoMemory) q may is = inr (inl (cc))
+    by_saving true (Ok done) (Err stop.PortsFailed) q may is = absurd may.went
+    by_saving true (Ok done) (Err stop.TurnsUsedUp) q may is = absurd may.went
+    by_saving true (Ok done) (Err (stop.Refused line)) q may is = absurd may.went
+    by_saving true (Ok done) (Err stop.Words) q may is = absurd may.went
+    by_saving true (Ok done) (Err (stop.Unreadable line)) q may is = absurd may.went
+    by_saving true (Ok done) (Err stop.SinkFailed) q may is = absurd may.went
+    by_saving false (Ok done) saved q may is = absurd (let e = sym may.1 ∙ is in cc)
+    by_saving resume (Err w) saved q may is = inr (inr (sym may.1 ∙ is))
+
+    -- a front whose ports broke: its count rose
+    broke : list_any is_broken (map serves.end_of (fronts_of h.done)) ≡ true → PortsRose old.ports new.ports
+    broke is =
+        let same = listening_ok s.config old.ports h.listening h.listens in
+        elim (one_of (is_broken h.done.renderd.end) _ is) [
+          | inl r ↦ inl (subst (λ (n : ℕ). Rose n new.ports.renderd.faults) same.0 (h.runs.renderd.left.broken (broken_end _ r)).1)
+          | inr rest ↦
+              elim (one_of (is_broken h.done.tiles.end) _ rest) [
+                | inl t ↦ inr (inl (subst (λ (n : ℕ). Rose n new.ports.tiles.faults) same.1 (h.runs.tiles.left.broken (broken_end _ t)).1))
+                | inr last ↦
+                    elim (one_of (is_broken h.done.control.end) _ last) [
+                      | inl k ↦ inr (inr (subst (λ (n : ℕ). Rose n new.ports.control.faults) same.2 (h.runs.control.left.broken (broken_end _ k)).1))
+                      | inr none ↦ absurd (cc)
+                    ]
+              ]
+        ]
+
+    -- the call ended as the saving did, or in a put on out that failed
+    end_is : (end ≡ h.winds.saved) ⊎ ((end ≡ Err stop.SinkFailed) × Rose old.out.faults new.out.faults)
+    end_is = by_tally h.ends.tally h.winds.told
+      where
+        by_put : (a : Totals) (put : Result (Unit {0}) SinkFault) → sink.Puts old.out new.out (tally_line a) put → end ≡ put_end put h.winds.saved
+            → (end ≡ h.winds.saved) ⊎ ((end ≡ Err stop.SinkFailed) × Rose old.out.faults new.out.faults)
+        by_put a (Ok done) puts is = inl is
+        by_put a (Err f) puts is = inr (is, puts.3.1)
+
+        by_tally : (o : Option Totals) → TellsCounts o old.out new.out h.winds.saved end → (end ≡ h.winds.saved) ⊎ ((end ≡ Err stop.SinkFailed) × Rose old.out.faults new.out.faults)
+        by_tally None line = inl line.1
+        by_tally (Some a) line = by_put a line.0 line.1 line.2
+
+    turns_gone : end ≡ Err stop.TurnsUsedUp → 2 ^ 62 ≤ length closed.1
+    turns_gone is =
+        let e = ends_by state s store closed old new end h in
+        elim e.end_is [ inl same ↦ e.turns_gone (sym same ∙ is) | inr failed ↦ absurd (let f = sym is ∙ failed.0 in cc) ]
+
+    saved_why : (q : Stop) → h.winds.saved ≡ Err q → end ≡ Err q → Why q
+    saved_why q is ended =
+        elim (by_saving s.config.resume _ h.winds.saved q h.winds.saves is) [
+          | inl failed ↦ subst Why (sym failed.0) (lost_there failed.1)
+          | inr (inl none) ↦ subst Why (sym none) tt
+          | inr (inr why) ↦
+              elim (pick_cases (is_worn_out h.ends || list_any is_worn (map serves.end_of (fronts_of h.done))) (list_any is_broken (map serves.end_of (fronts_of h.done))) (list_any is_wanting (map serves.end_of (fronts_of h.done))) q why) [
+                | inl turns ↦ subst Why (sym turns) (closed, new_left, turns_gone (ended ∙ ap fails turns))
+                | inr (inl broken) ↦ subst Why (sym broken.0) (broke broken.1)
+                | inr (inr none) ↦ subst Why (sym none) tt
+              ]
+        ]
+
+    has_served : (q : Stop) → end ≡ Err q → Why q
+    has_served q is =
+        elim end_is [
+          | inl same ↦ saved_why q (sym same ∙ is) is
+          | inr failed ↦ let e : q ≡ stop.SinkFailed = (let f = sym is ∙ failed.0 in cc) in subst Why (sym e) failed.1
+        ]
+
+    -- nothing is refused of a farm that was served
+    not_refused : (line : List ℕ) → end ≡ Err (stop.Refused line) → ⊥
+    not_refused line is =
+        elim end_is [
+          | inl same ↦
+              elim (by_saving s.config.resume _ h.winds.saved (stop.Refused line) h.winds.saves (sym same ∙ is)) [
+                | inl failed ↦ let e = failed.0 in cc
+                | inr (inl none) ↦ cc
+                | inr (inr why) ↦
+                    elim (pick_cases (is_worn_out h.ends || list_any is_worn (map serves.end_of (fronts_of h.done))) (list_any is_broken (map serves.end_of (fronts_of h.done))) (list_any is_wanting (map serves.end_of (fronts_of h.done))) (stop.Refused line) why) [
+                      | inl turns ↦ cc
+                      | inr (inl broken) ↦ let e = broken.0 in cc
+                      | inr (inr none) ↦ cc
+                    ]
+              ]
+          | inr failed ↦ let e = sym is ∙ failed.0 in cc
+        ]
+
+    out_noticed : new.out.faults ≢ old.out.faults → end ≡ Err stop.SinkFailed
+    out_noticed other = by_tally h.ends.tally h.winds.told
+      where
+        by_put : (a : Totals) (put : Result (Unit {0}) SinkFault) → sink.Puts old.out new.out (tally_line a) put → end ≡ put_end put h.winds.saved → end ≡ Err stop.SinkFailed
+        by_put a (Ok done) puts is = absurd (other puts.1)
+        by_put a (Err f) puts is = is
+
+        by_tally : (o : Option Totals) → TellsCounts o old.out new.out h.winds.saved end → end ≡ Err stop.SinkFailed
+        by_tally None line = absurd (other (ap (λ (x : SinkAt). x.faults) line.0))
+        by_tally (Some a) line = by_put a line.0 line.1 line.2
+
+  -- ---- what is saved is refused
+
+  -- the line refuses what is saved; out and what the store shows are as they were
+  abbrev pub IsRefused : List ℕ → Type 0
+  IsRefused line =
+      (s.config.resume ≡ true) × (why : Refusal) × IsSavedIn (state store) s.inputs.plan (Err why) × RefusesFor why line × (new.out ≡ old.out) × (state (store_of new.left) ≡ state store)
+
+  refused_by : (l : Left D) → new.left ≡ l → (line : List ℕ) → ServesTo state s store old new (Err (stop.Refused line)) l → IsRefused line
+  refused_by (Farm closed) is line h = absurd (not_refused closed is (Err (stop.Refused line)) h line refl)
+  refused_by (Store store') is line h = by_why h.why (let e = h.end_is in cc) h.why_not
+    where
+      by_why : (why : Stop) → stop.Refused line ≡ why → WhyNot state s store store' old.ports new.ports why → IsRefused line
+      by_why why same (inl c) =
+          let d : CannotBegin (state store) s.inputs.plan s.config.resume (state store') (stop.Refused line) =
+          subst (CannotBegin (state store) s.inputs.plan s.config.resume (state store')) (sym same) c.0 in
+          (d.0, d.1, d.2, d.3, h.silent, ap (λ (x : Left D). state (store_of x)) is ∙ d.4)
+      by_why why same (inr (farm, begun, at_farm, inl listens)) =
+          elim (listening_err s.config old.ports new.ports why listens) [ inl f ↦ absurd (let e = same ∙ f.0 in cc) | inr none ↦ absurd (let e = same ∙ none in cc) ]
+      by_why why same (inr (farm, begun, at_farm, inr wanting)) = absurd (let e = same ∙ wanting.1 in cc)
+
+  pub serves_refused : (line : List ℕ) → Serves state s store old new (Err (stop.Refused line)) → IsRefused line
+  serves_refused line h = refused_by new.left refl line h
+
+  -- ---- one of both
+
+  stops_by : (l : Left D) → new.left ≡ l → (q : Stop) → ServesTo state s store old new (Err q) l → Why q
+  stops_by (Store store') is q h = not_served store' is q h
+  stops_by (Farm closed) is q h = has_served closed is (Err q) h q refl
+
+  pub serves_stops : (q : Stop) → Serves state s store old new (Err q) → Why q
+  serves_stops q h = stops_by new.left refl q h
+
+  noticed_by : (l : Left D) → new.left ≡ l → (end : Result (Unit {0}) Stop) → ServesTo state s store old new end l → new.out.faults ≢ old.out.faults → end ≡ Err stop.SinkFailed
+  noticed_by (Store store') is end h other = absurd (other (ap (λ (x : SinkAt). x.faults) h.silent))
+  noticed_by (Farm closed) is end h other = out_noticed closed is end h other
+
+  pub serves_noticed : (end : Result (Unit {0}) Stop) → Serves state s store old new end → new.out.faults ≢ old.out.faults → end ≡ Err stop.SinkFailed
+  serves_noticed end h other = noticed_by new.left refl end h other
