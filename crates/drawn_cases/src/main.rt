@@ -33,7 +33,13 @@ fn run<R: Threads + Wait + Clock + Sync>(rt: HostRuntime, threads: &R) -> Option
     Some(())
 }
 
-fn case<F: Files, O: Sink>(rt: &HostRuntime, line: &str, files: &mut F, out: &mut O) -> Option<()> {
+fn case<R: Threads + Wait + Clock + Sync, F: Files, O: Sink>(
+    threads: &R,
+    alloc: Global,
+    line: &str,
+    files: &mut F,
+    out: &mut O,
+) -> Option<()> {
     let mut words = Vec::new(alloc);
     for word in line.split(' ') {
         words.push(String::from_str(alloc, word).ok()?).ok()?;
