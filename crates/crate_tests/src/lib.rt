@@ -3,11 +3,7 @@
 #![tactic(auto)]
 
 #[cfg(test)]
-mod marks;
-#[cfg(test)]
 mod messages;
-#[cfg(test)]
-mod reaches;
 #[cfg(test)]
 mod saved;
 #[cfg(test)]

@@ -10,6 +10,3 @@ mod styles;
 
 pub use plans::plan;
 pub use stepping::{Step, steps};
-
-#[cfg(test)]
-mod tests;
