@@ -107,7 +107,7 @@ fn words_of(alloc: Global, line: &str) -> Option<Vec<String>> {
     Some(words)
 }
 
-// The status of the call alone. The store is made last, so that no way out lets it go: that would be dear to prove.
+// The status of the call alone. The store is made last, and the ports are let go by a call: that a way out lets them go in line would be dear to prove.
 fn status_of<R: Threads + Wait + Clock + Sync, F: Files, O: Sink>(
     threads: &R,
     alloc: Global,
@@ -119,11 +119,18 @@ fn status_of<R: Threads + Wait + Clock + Sync, F: Files, O: Sink>(
 ) -> Option<u8> {
     let Failing { puts, gets } = failing;
     let (one, two, three) = (Vec::new(alloc), Vec::new(alloc), Vec::new(alloc));
-    let mut ports = MemPorts::three(alloc, one, two, three, 0, 0).ok()?;
-    let store = MemStore::new(alloc, Vec::new(alloc), puts, gets).ok()?;
+    let Ok(ports) = MemPorts::three(alloc, one, two, three, 0, 0) else {
+        return None;
+    };
+    let mut ports = ports;
+    let Ok(store) = MemStore::new(alloc, Vec::new(alloc), puts, gets) else {
+        drop(ports);
+        return None;
+    };
     let end = farm_main(
         threads, alloc, words, files, out, err, store, &mut ports, &OpenGate,
     );
+    drop(ports);
     Some(end.into_status())
 }
 
