@@ -45,22 +45,34 @@ fn case<R: Threads + Wait + Clock + Sync, F: Files, O: Sink>(
         words.push(String::from_str(alloc, word).ok()?).ok()?;
     }
     let mut err = MemSink::new(alloc, 1000, Vec::new(alloc)).ok()?;
-    let store = MemStore::new(alloc, Vec::new(alloc), Vec::new(alloc), Vec::new(alloc)).ok()?;
-    let (one, two, three) = (Vec::new(alloc), Vec::new(alloc), Vec::new(alloc));
-    let mut ports = MemPorts::three(alloc, one, two, three, 0, 0).ok()?;
-    let end = farm_main(
-        threads,
-        alloc,
-        words.as_slice(),
-        files,
-        out,
-        &mut err,
-        store,
-        &mut ports,
-        &OpenGate,
-    );
+    let status = status_of(threads, alloc, words.as_slice(), files, out, &mut err)?;
     out.put(err.bytes()).ok()?;
-    let status = end.into_status();
     let last = format!(in alloc; "status {status}\n").ok()?;
     out.put(last.as_bytes()).ok()
+}
+
+// The status of the call alone. The store is made last, and the ports are let go by a call: that a way out lets
+// them go in line would be dear to prove.
+fn status_of<R: Threads + Wait + Clock + Sync, F: Files, O: Sink>(
+    threads: &R,
+    alloc: Global,
+    words: &[String],
+    files: &mut F,
+    out: &mut O,
+    err: &mut MemSink,
+) -> Option<u8> {
+    let (one, two, three) = (Vec::new(alloc), Vec::new(alloc), Vec::new(alloc));
+    let Ok(ports) = MemPorts::three(alloc, one, two, three, 0, 0) else {
+        return None;
+    };
+    let mut ports = ports;
+    let Ok(store) = MemStore::new(alloc, Vec::new(alloc), Vec::new(alloc), Vec::new(alloc)) else {
+        drop(ports);
+        return None;
+    };
+    let end = farm_main(
+        threads, alloc, words, files, out, err, store, &mut ports, &OpenGate,
+    );
+    drop(ports);
+    Some(end.into_status())
 }
