@@ -181,9 +181,9 @@ places_same places slots i small at knows =
     rw next (knows_room places (take i slots) knows)
 
 -- a slot more is copied
-pub copies_more : (pack after start : List Feature) (slots : List (Option Slot)) (i : ℕ) (s : Option Slot) → i < length slots → s ≡ get_or slots i s
-    → pack ≡ start ++ standing (take i slots) → after ≡ pack ++ option_to_list (standing_in s) → after ≡ start ++ standing (take (i + 1) slots)
-copies_more pack after start slots i s small at e more =
+pub copies_more : (builder after start : List Feature) (slots : List (Option Slot)) (i : ℕ) (s : Option Slot) → i < length slots → s ≡ get_or slots i s
+    → builder ≡ start ++ standing (take i slots) → after ≡ builder ++ option_to_list (standing_in s) → after ≡ start ++ standing (take (i + 1) slots)
+copies_more builder after start slots i s small at e more =
     more ∙ ap (λ (fs : List Feature). fs ++ option_to_list (standing_in s)) e ∙ append_assoc start (standing (take i slots)) (option_to_list (standing_in s))
     ∙ ap (λ (fs : List Feature). start ++ fs)
     (sym (standing_more slots i s small ∙ ap (λ (o : Option Slot). standing (take i slots) ++ option_to_list (standing_in o)) (sym at)))
@@ -206,12 +206,12 @@ old_left slots at n xs ys long has =
     let next : drop (length xs) (drop at slots) ≡ drop (at + n) slots = drop-drop (length xs) at slots ∙ ap (λ (m : ℕ). drop (at + m) slots) (sym long) in
     subst (λ (ss : List (Option Slot)). HasOld ss ys) next (old_later (drop at slots) xs ys has)
 
-pub packed_more : (pack after : List Feature) (slots shown : List (Option Slot)) (at n : ℕ) → shown ≡ slots → pack ≡ standing (take at slots)
-    → after ≡ pack ++ standing (take (at + n - at) (drop at shown)) → after ≡ standing (take (at + n) slots)
-packed_more pack after slots shown at n e packed more =
+pub packed_more : (builder after : List Feature) (slots shown : List (Option Slot)) (at n : ℕ) → shown ≡ slots → builder ≡ standing (take at slots)
+    → after ≡ builder ++ standing (take (at + n - at) (drop at shown)) → after ≡ standing (take (at + n) slots)
+packed_more builder after slots shown at n e packed more =
     more ∙ rw (part_size at n, e, packed) (sym (standing_on slots at n))
 
-pub packed_all : (pack after : List Feature) (slots shown : List (Option Slot)) (at : ℕ) → shown ≡ slots → pack ≡ standing (take at slots)
-    → after ≡ pack ++ standing (take (length shown - at) (drop at shown)) → after ≡ standing slots
-packed_all pack after slots shown at e packed more =
+pub packed_all : (builder after : List Feature) (slots shown : List (Option Slot)) (at : ℕ) → shown ≡ slots → builder ≡ standing (take at slots)
+    → after ≡ builder ++ standing (take (length shown - at) (drop at shown)) → after ≡ standing slots
+packed_all builder after slots shown at e packed more =
     more ∙ rw (e, packed, take_rest slots at) (sym (standing_split slots at))

@@ -1,13 +1,13 @@
 //! Data in versions: datasets, updates and snapshots that never change.
 #![tactic(auto)]
 
-mod bench;
+mod builder;
 mod cells;
 mod chunk;
 mod chunked;
 mod dataset;
-mod desk;
-mod pack;
+mod edit;
+mod edited;
 mod slot;
 mod snapshot;
 mod updates;

@@ -7,8 +7,8 @@ ghost use Rattle.plain_data.specs.Data.{ids_of};
 ghost use Rattle.data_versions.specs.inner.Slots.{standing_in, standing, is_old, old_in, HasOld, KnowsPlaces};
 ghost use Rattle.data_versions.specs.inner.Chunks.{joined};
 
+use crate::builder::ChunkBuilder;
 use crate::chunk::Chunk;
-use crate::pack::Pack;
 use farm_base::NoMemory;
 use geo_model::Feature;
 use std::alloc::Global;
@@ -87,11 +87,15 @@ fn are_old(slots: &[Option<Slot<'_>>]) -> bool
 }
 
 /// Adds a copy of the feature that stands in the slot, if there is one.
-fn copy_slot(alloc: Global, slot: &Option<Slot<'_>>, pack: &mut Pack) -> Result<(), NoMemory>
-    ensures { OnOk result (pack.new ≡ pack.old ++ option_to_list (standing_in slot.now)) }
+fn copy_slot(
+    alloc: Global,
+    slot: &Option<Slot<'_>>,
+    builder: &mut ChunkBuilder,
+) -> Result<(), NoMemory>
+    ensures { OnOk result (builder.new ≡ builder.old ++ option_to_list (standing_in slot.now)) }
 {
     match slot {
-        Some(here) => pack.add(alloc, here.feature.copy(alloc)?),
+        Some(here) => builder.add(alloc, here.feature.copy(alloc)?),
         None => Ok(()),
     }
 }
@@ -100,12 +104,12 @@ fn copy_slot(alloc: Global, slot: &Option<Slot<'_>>, pack: &mut Pack) -> Result<
 pub(crate) fn copy_slots(
     alloc: Global,
     slots: &[Option<Slot<'_>>],
-    pack: &mut Pack,
+    builder: &mut ChunkBuilder,
 ) -> Result<(), NoMemory>
-    ensures { OnOk result (pack.new ≡ pack.old ++ standing slots.now) }
+    ensures { OnOk result (builder.new ≡ builder.old ++ standing slots.now) }
 {
     for slot in slots {
-        copy_slot(alloc, slot, pack)?;
+        copy_slot(alloc, slot, builder)?;
     }
     Ok(())
 }
@@ -117,14 +121,14 @@ pub(crate) fn keep_chunk(
     chunk: &Arc<Chunk>,
     may_share: bool,
     slots: &[Option<Slot<'_>>],
-    pack: &mut Pack,
+    builder: &mut ChunkBuilder,
 ) -> Result<(), NoMemory>
     requires old { HasOld slots.now (arc_value chunk.now) }
     requires long { length slots.now ≡ length (arc_value chunk.now) }
-    ensures { OnOk result (pack.new ≡ pack.old ++ standing slots.now) }
+    ensures { OnOk result (builder.new ≡ builder.old ++ standing slots.now) }
 {
     if may_share && are_old(slots) {
-        return pack.share(alloc, chunk);
+        return builder.share(alloc, chunk);
     }
-    copy_slots(alloc, slots, pack)
+    copy_slots(alloc, slots, builder)
 }

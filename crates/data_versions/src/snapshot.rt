@@ -6,9 +6,9 @@ ghost use Rattle.data_versions.specs.Near.{place_of, next_near};
 ghost use Rattle.data_versions.specs.Shared.{shared_layers};
 ghost use Rattle.plain_data.specs.Limits.{most_features};
 
+use crate::builder::ChunkBuilder;
 use crate::chunked::ChunkedLayer;
 use crate::dataset::{Dataset, Layer};
-use crate::pack::Pack;
 use farm_base::NoMemory;
 use geo_model::{Bounds, Feature};
 use std::alloc::Global;
@@ -40,11 +40,11 @@ fn chunk_layer(alloc: Global, layer: Layer) -> Result<ChunkedLayer, NoMemory>
     requires { length layer.features ≤ most_features }
     ensures { IfOk result (λ chunked. chunked ≡ layer) }
 {
-    let mut pack = Pack::new(alloc);
+    let mut builder = ChunkBuilder::new(alloc);
     for feature in layer.features {
-        pack.add(alloc, feature)?;
+        builder.add(alloc, feature)?;
     }
-    ChunkedLayer::of(alloc, layer.name, pack.into_chunks(alloc)?)
+    ChunkedLayer::of(alloc, layer.name, builder.into_chunks(alloc)?)
 }
 
 /// Puts each layer of the data into chunks, and shares it.

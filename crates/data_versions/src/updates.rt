@@ -7,47 +7,52 @@ ghost use Rattle.plain_data.specs.Limits.{most_features};
 
 use crate::chunked::ChunkedLayer;
 use crate::dataset::{Change, Update};
-use crate::desk::{Desk, no_memory};
+use crate::edited::{EditedLayer, no_memory};
 use crate::snapshot::Snapshot;
 use farm_base::{ApplyFault, NoMemory};
 use std::alloc::Global;
 use std::sync::Arc;
 
-/// A desk for each layer.
-fn desks<'a>(alloc: Global, shared: &'a [Arc<ChunkedLayer>]) -> Result<Vec<Desk<'a>>, NoMemory>
+/// An edited layer for each layer.
+fn edited_layers<'a>(
+    alloc: Global,
+    shared: &'a [Arc<ChunkedLayer>],
+) -> Result<Vec<EditedLayer<'a>>, NoMemory>
     requires { All IsLayer (shared_layers shared.now) }
-    ensures { IfOk result (λ desks. desks.items ≡ shared_layers shared.now) }
+    ensures { IfOk result (λ edited_layers. edited_layers.items ≡ shared_layers shared.now) }
 {
-    let mut desks = Vec::with_capacity(alloc, shared.len())?;
+    let mut edited_layers = Vec::with_capacity(alloc, shared.len())?;
     for layer in shared {
-        desks.push(Desk::of(layer))?;
+        edited_layers.push(EditedLayer::of(layer))?;
     }
-    Ok(desks)
+    Ok(edited_layers)
 }
 
 /// The place of the layer of the name.
-fn place_named(desks: &[Desk<'_>], name: &str) -> Option<usize>
-    ensures { result ≡ position (λ l. bytes_eq l.name name.now) desks.now }
+fn place_named(edited_layers: &[EditedLayer<'_>], name: &str) -> Option<usize>
+    ensures { result ≡ position (λ l. bytes_eq l.name name.now) edited_layers.now }
 {
-    desks.iter().position(|desk| desk.is_named(name))
+    edited_layers
+        .iter()
+        .position(|edited| edited.is_named(name))
 }
 
 /// Does the change, which stands at this place of its update.
 #[tactic(auto, using(crate::proofs::Named::named_place, crate::proofs::Named::changed_place, crate::proofs::Named::unnamed))]
 fn change_one<'a>(
     alloc: Global,
-    desks: &mut [Desk<'a>],
+    edited_layers: &mut [EditedLayer<'a>],
     place: u32,
     change: &'a Change,
 ) -> Result<(), ApplyFault>
-    ensures done { OnOk result (desks.new ≡ changed change.now desks.old) }
-    ensures right { OnOk result (change_fault place change.now desks.old ≡ None) }
-    ensures refused { IfErr result (λ e. e ≢ ApplyFault.NoMemory → change_fault place change.now desks.old ≡ Some e) }
+    ensures done { OnOk result (edited_layers.new ≡ changed change.now edited_layers.old) }
+    ensures right { OnOk result (change_fault place change.now edited_layers.old ≡ None) }
+    ensures refused { IfErr result (λ e. e ≢ ApplyFault.NoMemory → change_fault place change.now edited_layers.old ≡ Some e) }
 {
-    match place_named(desks, change.layer.as_str()) {
+    match place_named(edited_layers, change.layer.as_str()) {
         Some(at) => {
-            let desk = &mut desks[at];
-            desk.change(alloc, place, change)
+            let edited = &mut edited_layers[at];
+            edited.change(alloc, place, change)
         }
         None => Err(ApplyFault::NoLayer(place)),
     }
@@ -57,28 +62,31 @@ fn change_one<'a>(
 #[tactic(auto, using(crate::proofs::Named::changed_more, crate::proofs::Named::changed_stops, crate::proofs::Named::changed_end, crate::proofs::Named::names_changed))]
 fn change_all<'a>(
     alloc: Global,
-    desks: &mut [Desk<'a>],
+    edited_layers: &mut [EditedLayer<'a>],
     changes: &'a [Change],
 ) -> Result<(), ApplyFault>
     requires { length changes.now ≤ most_features }
-    ensures done { OnOk result (updated changes.now desks.old ≡ Ok desks.new) }
-    ensures names { OnOk result (names_of desks.new ≡ names_of desks.old) }
-    ensures refused { IfErr result (λ e. e ≢ ApplyFault.NoMemory → updated changes.now desks.old ≡ Err e) }
+    ensures done { OnOk result (updated changes.now edited_layers.old ≡ Ok edited_layers.new) }
+    ensures names { OnOk result (names_of edited_layers.new ≡ names_of edited_layers.old) }
+    ensures refused { IfErr result (λ e. e ≢ ApplyFault.NoMemory → updated changes.now edited_layers.old ≡ Err e) }
 {
     for (place, change) in changes.iter().enumerate() {
-        change_one(alloc, desks, place as u32, change)?;
+        change_one(alloc, edited_layers, place as u32, change)?;
     }
     Ok(())
 }
 
-/// The layers as they are on their desks.
-fn finish(alloc: Global, desks: &[Desk<'_>]) -> Result<Vec<Arc<ChunkedLayer>>, NoMemory>
-    ensures same { IfOk result (λ shared. shared_layers shared.items ≡ desks.now) }
-    ensures valid { OnOk result (All IsLayer desks.now) }
+/// The layers as they are after their edits.
+fn finish(
+    alloc: Global,
+    edited_layers: &[EditedLayer<'_>],
+) -> Result<Vec<Arc<ChunkedLayer>>, NoMemory>
+    ensures same { IfOk result (λ shared. shared_layers shared.items ≡ edited_layers.now) }
+    ensures valid { OnOk result (All IsLayer edited_layers.now) }
 {
-    let mut shared = Vec::with_capacity(alloc, desks.len())?;
-    for desk in desks {
-        shared.push(desk.finish(alloc)?)?;
+    let mut shared = Vec::with_capacity(alloc, edited_layers.len())?;
+    for edited in edited_layers {
+        shared.push(edited.finish(alloc)?)?;
     }
     Ok(shared)
 }
@@ -93,8 +101,8 @@ pub fn apply(alloc: Global, old: &Snapshot, update: &Update) -> Result<Snapshot,
     ensures done { IfOk result (λ next. updated update.now old.now ≡ Ok next) }
     ensures refused { IfErr result (λ e. e ≢ ApplyFault.NoMemory → updated update.now old.now ≡ Err e) }
 {
-    let mut desks = desks(alloc, old.shared()).map_err(no_memory)?;
-    change_all(alloc, desks.as_mut_slice(), update.changes())?;
-    let shared = finish(alloc, desks.as_slice()).map_err(no_memory)?;
+    let mut edited_layers = edited_layers(alloc, old.shared()).map_err(no_memory)?;
+    change_all(alloc, edited_layers.as_mut_slice(), update.changes())?;
+    let shared = finish(alloc, edited_layers.as_slice()).map_err(no_memory)?;
     Snapshot::of(alloc, shared).map_err(no_memory)
 }

@@ -2,7 +2,7 @@
 use Rattle.std.specs.Prelude.{ℕ, List, position, Option, Result, Ok, Err}
 use Rattle.std.specs.Str.{bytes_eq}
 use Rattle.farm_history.specs.Entries.{Entry}
-use Rattle.turn_cell.specs.Held.{Made, Held, IsSeatOf, Knows}
+use Rattle.turn_cell.specs.SeatStates.{Made, SeatState, IsSeatOf, Knows}
 use Rattle.turn_cell.specs.declared.call.Worn.{Worn as CellWorn}
 use Rattle.farm_shared.specs.declared.turned.Turned.{Turned}
 use Rattle.farm_shared.specs.Seats.{plain}
@@ -12,7 +12,7 @@ use Rattle.farm_door.specs.declared.door.Place.{Place}
 
 -- A seat of this farm has seen a history in which its own entries stand and no others of its number. What stays of it over its turns
 -- is all that its joining and the closing want. Its own entries are told without their number.
-abbrev pub seats_of : {D : Type 0} → Made (Turned D) → Seats (Held (Turned D) Entry) Place
+abbrev pub seats_of : {D : Type 0} → Made (Turned D) → Seats (SeatState (Turned D) Entry) Place
 seats_of made = record {
   is_seat = λ s. IsSeatOf made s × Knows s;
   number = λ s. s.number;

@@ -8,7 +8,7 @@ use Rattle.farm_history.specs.Lists.{Each}
 use Rattle.port_trait.specs.declared.ends.FrontDone.{FrontDone}
 use Rattle.port_trait.specs.Told.{PortsTold}
 use Rattle.turn_cell.specs.Turns.{StartsWith}
-use Rattle.turn_cell.specs.Held.{Made, Held, IsSeatOf, SameSeat, joining, split_left, split_right}
+use Rattle.turn_cell.specs.SeatStates.{Made, SeatState, IsSeatOf, SameSeat, joining, split_left, split_right}
 use Rattle.render_workers.specs.declared.worker.WorkEnd.{WorkEnd}
 use Rattle.turn_cell.proofs.Logs.{starts_through}
 use Rattle.farm_threads.specs.declared.posts.Posts.{Posts}
@@ -21,7 +21,7 @@ use Rattle.farm_runs.proofs.Gathering.{each_left, each_right, gathered_first, ga
 
 module _ {T : Type 0} (made : Made T) where
   abbrev Sat : Type 0
-  Sat = Held T Entry
+  Sat = SeatState T Entry
 
   -- Seats that are made.
 

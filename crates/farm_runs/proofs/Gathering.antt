@@ -4,7 +4,7 @@ use Rattle.std.specs.List.{list_any}
 use Rattle.farm_history.specs.Entries.{Entry}
 use Rattle.farm_history.specs.Lists.{Each}
 use Rattle.turn_cell.specs.Turns.{by, HasJoined}
-use Rattle.turn_cell.specs.Held.{Made, Held}
+use Rattle.turn_cell.specs.SeatStates.{Made, SeatState}
 use Rattle.render_workers.specs.declared.worker.WorkEnd.{WorkEnd}
 use Rattle.farm_threads.specs.declared.crew.Actor.{Actor}
 use Rattle.farm_runs.specs.Promise.{is_worn}
@@ -29,36 +29,36 @@ ended_worn (Some WorkEnd.Stopped) is = cc
 ended_worn None is = cc
 
 module _ {T : Type 0} where
-  pub gathered_number : (v : Held T Entry) (crew : List (Actor (Held T Entry))) → (gathered v crew).number ≡ v.number
+  pub gathered_number : (v : SeatState T Entry) (crew : List (Actor (SeatState T Entry))) → (gathered v crew).number ≡ v.number
   gathered_number v [] = refl
   gathered_number v (a ∷ rest) = gathered_number v rest
 
-  pub gathered_mine : (v : Held T Entry) (crew : List (Actor (Held T Entry))) → (gathered v crew).mine ≡ v.mine
+  pub gathered_mine : (v : SeatState T Entry) (crew : List (Actor (SeatState T Entry))) → (gathered v crew).mine ≡ v.mine
   gathered_mine v [] = refl
   gathered_mine v (a ∷ rest) = gathered_mine v rest
 
-  pub gathered_first : (v : Held T Entry) (crew : List (Actor (Held T Entry))) → (gathered v crew).first ≡ v.first
+  pub gathered_first : (v : SeatState T Entry) (crew : List (Actor (SeatState T Entry))) → (gathered v crew).first ≡ v.first
   gathered_first v [] = refl
   gathered_first v (a ∷ rest) = gathered_first v rest
 
-  pub gathered_splits : (v : Held T Entry) (crew : List (Actor (Held T Entry))) → (gathered v crew).splits ≡ v.splits
+  pub gathered_splits : (v : SeatState T Entry) (crew : List (Actor (SeatState T Entry))) → (gathered v crew).splits ≡ v.splits
   gathered_splits v [] = refl
   gathered_splits v (a ∷ rest) = gathered_splits v rest
 
-  pub gathered_joined : (v : Held T Entry) (crew : List (Actor (Held T Entry))) → (gathered v crew).joined ≡ v.joined ++ notes crew
+  pub gathered_joined : (v : SeatState T Entry) (crew : List (Actor (SeatState T Entry))) → (gathered v crew).joined ≡ v.joined ++ notes crew
   gathered_joined v [] = sym (append-nil v.joined)
   gathered_joined v (a ∷ rest) = ap (λ l. l ++ (a.seat.number, a.seat.mine) ∷ []) (gathered_joined v rest) ∙ append_assoc v.joined (notes rest) ((a.seat.number, a.seat.mine) ∷ [])
 
-  pub notes_length : (crew : List (Actor (Held T Entry))) → length (notes crew) ≡ length crew
+  pub notes_length : (crew : List (Actor (SeatState T Entry))) → length (notes crew) ≡ length crew
   notes_length [] = refl
   notes_length (a ∷ rest) = let long = length-append (notes rest) ((a.seat.number, a.seat.mine) ∷ []) in let ih = notes_length rest in omega arith
 
   -- marks are passed on
-  pub gathered_mark : (v : Held T Entry) (crew : List (Actor (Held T Entry))) → v.worn ≡ true → (gathered v crew).worn ≡ true
+  pub gathered_mark : (v : SeatState T Entry) (crew : List (Actor (SeatState T Entry))) → v.worn ≡ true → (gathered v crew).worn ≡ true
   gathered_mark v [] mark = mark
   gathered_mark v (a ∷ rest) mark = ap (λ b. b || a.seat.worn) (gathered_mark v rest mark)
 
-  pub crew_mark : (made : Made T) (v : Held T Entry) (crew : List (Actor (Held T Entry))) → Each (IsSpent made) crew → list_any is_worn (ends_in crew) ≡ true → (gathered v crew).worn ≡ true
+  pub crew_mark : (made : Made T) (v : SeatState T Entry) (crew : List (Actor (SeatState T Entry))) → Each (IsSpent made) crew → list_any is_worn (ends_in crew) ≡ true → (gathered v crew).worn ≡ true
   crew_mark made v [] each any = cc
   crew_mark made v (a ∷ rest) each any = go (is_worn a.end) refl (crew_mark made v rest each.1) any
     where
@@ -71,20 +71,20 @@ module _ {T : Type 0} where
       go false is ih any = ap (λ b. b || a.seat.worn) (ih any)
 
   -- what is noted of each worker is so of it
-  pub each_noted : (log : List (ℕ × Entry)) (crew : List (Actor (Held T Entry))) → Each (λ p. by p.0 log ≡ p.1) (notes crew) → Each (λ a. by a.seat.number log ≡ a.seat.mine) crew
+  pub each_noted : (log : List (ℕ × Entry)) (crew : List (Actor (SeatState T Entry))) → Each (λ p. by p.0 log ≡ p.1) (notes crew) → Each (λ a. by a.seat.number log ≡ a.seat.mine) crew
   each_noted log [] each = tt
   each_noted log (a ∷ rest) each =
       ((each_right _ (notes rest) ((a.seat.number, a.seat.mine) ∷ []) each).0, each_noted log rest (each_left _ (notes rest) ((a.seat.number, a.seat.mine) ∷ []) each))
 
   -- the worker at a place
-  pub record IsAt (Q : Actor (Held T Entry) → Type 0) (w : ℕ) (end : Option WorkEnd) : Type 0 where
-    pub actor : Actor (Held T Entry)
+  pub record IsAt (Q : Actor (SeatState T Entry) → Type 0) (w : ℕ) (end : Option WorkEnd) : Type 0 where
+    pub actor : Actor (SeatState T Entry)
     pub worker : actor.worker ≡ w
     pub number : actor.seat.number ≡ w + 4
     pub end_is : actor.end ≡ end
     pub holds : Q actor
 
-  pub at_place : (Q : Actor (Held T Entry) → Type 0) (k w : ℕ) (end : Option WorkEnd) (crew : List (Actor (Held T Entry))) → Numbered k crew → Each Q crew → slice_get (ends_in crew) w ≡ Some end → IsAt Q (k + w) end
+  pub at_place : (Q : Actor (SeatState T Entry) → Type 0) (k w : ℕ) (end : Option WorkEnd) (crew : List (Actor (SeatState T Entry))) → Numbered k crew → Each Q crew → slice_get (ends_in crew) w ≡ Some end → IsAt Q (k + w) end
   at_place Q k w end [] numbered each is = cc
   at_place Q k zero end (a ∷ rest) numbered each is = record {
     actor = a;
@@ -96,7 +96,7 @@ module _ {T : Type 0} where
   at_place Q k (suc w) end (a ∷ rest) numbered each is = subst (λ n. IsAt Q n end) (let e : (k + 1) + w ≡ k + suc w = omega arith in e) (at_place Q (k + 1) w end rest numbered.2 each.1 is)
 
   -- of a worker's number, that of one of the crew
-  pub at_number : (Q : Actor (Held T Entry) → Type 0) (k w : ℕ) (crew : List (Actor (Held T Entry))) → Numbered k crew → Each Q crew → w < length crew → (end : Option WorkEnd) × IsAt Q (k + w) end
+  pub at_number : (Q : Actor (SeatState T Entry) → Type 0) (k w : ℕ) (crew : List (Actor (SeatState T Entry))) → Numbered k crew → Each Q crew → w < length crew → (end : Option WorkEnd) × IsAt Q (k + w) end
   at_number Q k w [] numbered each lt = absurd (omega arith)
   at_number Q k zero (a ∷ rest) numbered each lt = (a.end, at_place Q k zero a.end (a ∷ rest) numbered each refl)
   at_number Q k (suc w) (a ∷ rest) numbered each lt =

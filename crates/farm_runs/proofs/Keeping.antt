@@ -16,7 +16,7 @@ use Rattle.port_trait.specs.declared.ends.FrontDone.{FrontDone}
 use Rattle.port_trait.specs.Told.{PortsTold}
 use Rattle.turn_cell.specs.Turns.{by, NoneAbove, HasJoined, StartsWith}
 use Rattle.turn_cell.proofs.Logs.{starts_through}
-use Rattle.turn_cell.specs.Held.{Made, Held, SameSeat, Knows, worn_out}
+use Rattle.turn_cell.specs.SeatStates.{Made, SeatState, SameSeat, Knows, worn_out}
 use Rattle.farm_shared.specs.declared.turned.LastingPart.{LastingPart}
 use Rattle.farm_shared.specs.declared.turned.Turned.{Turned}
 use Rattle.farm_shared.specs.Seats.{plain}
@@ -53,7 +53,7 @@ or_right false b is = is
 
 module _ {D : Type 0} (state : D → Outside StoreTold) (made : Made (Turned D)) where
   abbrev Sat : Type 0
-  Sat = Held (Turned D) Entry
+  Sat = SeatState (Turned D) Entry
 
   -- The run's own seat.
 

@@ -2,7 +2,7 @@
 ghost use Rattle.std.specs.Prelude.{◌≡◌, ◌+◌, true, length};
 ghost use Rattle.std.specs.List.{list_any};
 ghost use Rattle.farm_history.specs.Lists.{Each};
-ghost use Rattle.turn_cell.specs.Held.{IsSeatOf, Knows};
+ghost use Rattle.turn_cell.specs.SeatStates.{IsSeatOf, Knows};
 ghost use Rattle.turn_cell.specs.Turns.{StartsWith};
 ghost use Rattle.farm_runs.specs.Promise.{is_worn};
 ghost use Rattle.farm_runs.specs.inner.Chain.{IsEnd, IsSpent, ends_in, gathered};

@@ -5,7 +5,7 @@ ghost use Rattle.farm_stands.specs.Stands.{StandsFor};
 ghost use Rattle.farm_core.specs.Begins.{origin};
 ghost use Rattle.farm_shared.specs.Shared.{MayTell, lasting_of};
 ghost use Rattle.farm_threads.specs.Actors.{maps_in, maps_of, three};
-ghost use Rattle.turn_cell.specs.Held.{IsSeatOf, first_of};
+ghost use Rattle.turn_cell.specs.SeatStates.{IsSeatOf, first_of};
 ghost use Rattle.farm_runs.specs.Promise.{RunsWell};
 ghost use Rattle.farm_runs.specs.inner.Chain.{IsSet};
 

@@ -3,7 +3,7 @@ ghost use Rattle.std.specs.Prelude.{◌≡◌, ◌≤◌, ◌+◌, true, [], All
 ghost use Rattle.std.specs.Vec.{vec_capacity, vec_len};
 ghost use Rattle.farm_threads.specs.Actors.{IsPost, IsReady};
 ghost use Rattle.farm_runs.specs.inner.Chain.{IsStart, Numbered};
-ghost use Rattle.turn_cell.specs.Held.{IsSeatOf, Knows, split_left, split_right};
+ghost use Rattle.turn_cell.specs.SeatStates.{IsSeatOf, Knows, split_left, split_right};
 
 use crossbeam_utils::sync::{Parker, Unparker};
 use farm_base::NoMemory;

@@ -12,7 +12,7 @@ use Rattle.farm_core.specs.declared.claims.Claimed.{Claimed}
 use Rattle.farm_core.specs.Answers.{IfJob, claim_answer}
 use Rattle.turn_cell.specs.Turns.{by}
 use Rattle.turn_cell.proofs.Logs.{by-own}
-use Rattle.turn_cell.specs.Held.{Made, Held, Closes, Took, worn_out}
+use Rattle.turn_cell.specs.SeatStates.{Made, SeatState, Closes, Took, worn_out}
 use Rattle.turn_cell.specs.declared.call.Worn.{Worn}
 use Rattle.farm_shared.specs.declared.turned.LastingPart.{LastingPart}
 use Rattle.farm_shared.specs.declared.turned.Turned.{Turned}
@@ -53,7 +53,7 @@ module _ {D : Type 0} (state : D → Outside StoreTold) where
       turned : reverse seen ≡ claim ∷ reverse log
       turned = ap reverse is ∙ (reverse_more log _ ∙ ap (λ w. (n, Claim w (Job job.ticket (job_key job) job.version)) ∷ reverse log) (sym gives.1))
 
-  pub claim_given : (made : Made (Turned D)) (worker : ℕ) (answer : Claimed) (v w : Held (Turned D) Entry) → w.number ≡ v.number →
+  pub claim_given : (made : Made (Turned D)) (worker : ℕ) (answer : Claimed) (v w : SeatState (Turned D) Entry) → w.number ≡ v.number →
       Took (λ t log. IsAfter state t.farm log) (λ t. lasting_of state t.farm) made.about (Claim worker (claim_answer answer)) (GivesJob worker answer) v w →
       IfJob answer (λ job. IsValidJob job × (job.worker ≡ worker) × HasJob (lasts state made) w.number w.seen job)
   claim_given made worker (Claimed.Job job) v w same t =
@@ -62,7 +62,7 @@ module _ {D : Type 0} (state : D → Outside StoreTold) where
   claim_given made worker Claimed.Crowded v w same t = tt
   claim_given made worker Claimed.Stopped v w same t = tt
 
-  pub reply_given : (made : Made (Turned D)) (front : ℕ) (answer : Collected) (v w : Held (Turned D) Entry) → v.number ≡ front + 1 → w.number ≡ v.number → by w.number w.seen ≡ w.mine →
+  pub reply_given : (made : Made (Turned D)) (front : ℕ) (answer : Collected) (v w : SeatState (Turned D) Entry) → v.number ≡ front + 1 → w.number ≡ v.number → by w.number w.seen ≡ w.mine →
       Took (λ t log. IsAfter state t.farm log) (λ t. lasting_of state t.farm) made.about (Collect front answer) (λ log _. GivesReply front answer log) v w → OwnReply front v.mine answer
   reply_given made front answer v w is same known t other = go answer (t.promised other)
     where
@@ -85,13 +85,13 @@ module _ {D : Type 0} (state : D → Outside StoreTold) where
 
   -- The same, of a turn that may be worn out.
 
-  pub claims_given : (made : Made (Turned D)) (worker : ℕ) (v w : Held (Turned D) Entry) (r : Result Claimed Worn) → w.number ≡ v.number →
+  pub claims_given : (made : Made (Turned D)) (worker : ℕ) (v w : SeatState (Turned D) Entry) (r : Result Claimed Worn) → w.number ≡ v.number →
       MatchResult r (λ answer. Took (λ t log. IsAfter state t.farm log) (λ t. lasting_of state t.farm) made.about (Claim worker (claim_answer answer)) (GivesJob worker answer) v w) (λ _. w ≡ worn_out v) →
       IfOk r (λ answer. IfJob answer (λ job. IsValidJob job × (job.worker ≡ worker) × HasJob (lasts state made) w.number w.seen job))
   claims_given made worker v w (Ok answer) same t = claim_given made worker answer v w same t
   claims_given made worker v w (Err worn) same t = tt
 
-  pub replies_given : (made : Made (Turned D)) (front : ℕ) (v w : Held (Turned D) Entry) (r : Result Collected Worn) → v.number ≡ front + 1 → w.number ≡ v.number → by w.number w.seen ≡ w.mine →
+  pub replies_given : (made : Made (Turned D)) (front : ℕ) (v w : SeatState (Turned D) Entry) (r : Result Collected Worn) → v.number ≡ front + 1 → w.number ≡ v.number → by w.number w.seen ≡ w.mine →
       MatchResult r (λ answer. Took (λ t log. IsAfter state t.farm log) (λ t. lasting_of state t.farm) made.about (Collect front answer) (λ log _. GivesReply front answer log) v w) (λ _. w ≡ worn_out v) →
       IfOk r (λ answer. OwnReply front v.mine answer)
   replies_given made front v w (Ok answer) is same known t = reply_given made front answer v w is same known t
@@ -99,7 +99,7 @@ module _ {D : Type 0} (state : D → Outside StoreTold) where
 
   -- What a closing gives.
 
-  pub closed_given : (made : Made (Turned D)) (v : Held (Turned D) Entry) (x y : Turned D) → Closes (λ t log. IsAfter state t.farm log) (λ t. lasting_of state t.farm) made.about v x → y ≡ x →
+  pub closed_given : (made : Made (Turned D)) (v : SeatState (Turned D) Entry) (x y : Turned D) → Closes (λ t log. IsAfter state t.farm log) (λ t. lasting_of state t.farm) made.about v x → y ≡ x →
       IsClosed state made.about.limit made.about.first.value.farm v y.farm
   closed_given made v x y closes is =
       subst (λ (t : Turned D). IsClosed state made.about.limit made.about.first.value.farm v t.farm) (sym is) (record { after = closes.stands_now; kept = closes.lasts; worn = closes.worn })

@@ -14,7 +14,7 @@ use Rattle.farm_stands.specs.Jobs.{JobSeen, job_key, Carries}
 use Rattle.farm_core.specs.Answers.{at_saved}
 use Rattle.farm_core.specs.Begins.{origin, Tells, BeginsWell}
 use Rattle.turn_cell.specs.Turns.{Follows}
-use Rattle.turn_cell.specs.Held.{Made, Held}
+use Rattle.turn_cell.specs.SeatStates.{Made, SeatState}
 use Rattle.farm_shared.specs.declared.turned.LastingPart.{LastingPart}
 use Rattle.farm_shared.specs.declared.turned.Turned.{Turned}
 use Rattle.farm_shared.specs.Seats.{plain, Seated, is_ended_by}
@@ -48,7 +48,7 @@ pub record IsAfter {D : Type 0} (state : D → Outside StoreTold) (farm : FarmSe
 -- What a call says of its seat.
 
 -- The turn added that entry: the seat has now seen a history that begins with all that it had seen and has no other entry of it, and its own entry at the end
-pub record Adds {T : Type 0} (e : Entry) (v w : Held T Entry) : Type 0 where
+pub record Adds {T : Type 0} (e : Entry) (v w : SeatState T Entry) : Type 0 where
   pub log : List (ℕ × Entry)
   pub follows : Follows v.number v.seen log
   pub seen : w.seen ≡ log ++ (v.number, e) ∷ []
@@ -73,7 +73,7 @@ abbrev pub OwnReply : ℕ → List (ℕ × Entry) → Collected → Type 0
 OwnReply front mine answer = front ≢ replay_front → IfReply answer (λ r. IsOnlyReply (plain (reverse mine)) r)
 
 -- What is left of a cell: a farm that stands for the whole history, and has what the first farm had for good. Where the closing seat has the mark of a worn cell, the history is no shorter than the limit
-pub record IsClosed {D T : Type 0} (state : D → Outside StoreTold) (limit : ℕ) (first : FarmSeen D) (v : Held T Entry) (farm : FarmSeen D) : Type 0 where
+pub record IsClosed {D T : Type 0} (state : D → Outside StoreTold) (limit : ℕ) (first : FarmSeen D) (v : SeatState T Entry) (farm : FarmSeen D) : Type 0 where
   pub after : IsAfter state farm v.seen
   pub kept : lasting_of state farm ≡ lasting_of state first
   pub worn : v.worn ≡ true → limit ≤ length v.seen

@@ -2,7 +2,7 @@
 ghost use Rattle.std.specs.Prelude.{◌≡◌, ◌+◌, IfOk, MatchResult};
 ghost use Rattle.farm_history.specs.Entries.{Ask, Collect, Leave};
 ghost use Rattle.farm_shared.specs.Shared.{Adds, OwnReply};
-ghost use Rattle.turn_cell.specs.Held.{IsSeatOf, Knows, SameSeat, worn_out};
+ghost use Rattle.turn_cell.specs.SeatStates.{IsSeatOf, Knows, SameSeat, worn_out};
 
 use crate::shared::{Seat, SharedFarm};
 use crate::turned::Turned;

@@ -2,7 +2,7 @@
 ghost use Rattle.std.specs.Prelude.{◌≡◌, MatchResult};
 ghost use Rattle.farm_history.specs.Entries.{Expire, Renew, Restyle, Stop, Update};
 ghost use Rattle.farm_shared.specs.Shared.{Adds};
-ghost use Rattle.turn_cell.specs.Held.{IsSeatOf, Knows, SameSeat, worn_out};
+ghost use Rattle.turn_cell.specs.SeatStates.{IsSeatOf, Knows, SameSeat, worn_out};
 ghost use Rattle.plain_world.specs.World.{IsTile};
 
 use crate::shared::{Seat, SharedFarm};

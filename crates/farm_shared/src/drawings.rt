@@ -2,7 +2,7 @@
 ghost use Rattle.std.specs.Prelude.{◌≡◌, IfOk, MatchResult};
 ghost use Rattle.farm_history.specs.Entries.{Claim, Finish};
 ghost use Rattle.farm_shared.specs.Shared.{Adds, HasJob, lasts};
-ghost use Rattle.turn_cell.specs.Held.{IsSeatOf, Knows, SameSeat, worn_out};
+ghost use Rattle.turn_cell.specs.SeatStates.{IsSeatOf, Knows, SameSeat, worn_out};
 ghost use Rattle.farm_core.specs.Answers.{IfJob, IsDrawingOf, claim_answer, is_drawn};
 ghost use Rattle.farm_stands.specs.Jobs.{IsValidJob};
 

@@ -5,7 +5,7 @@ ghost use Rattle.farm_stands.specs.Stands.{StandsFor};
 ghost use Rattle.farm_shared.specs.inner.Turns.{AreNames};
 ghost use Rattle.farm_core.specs.Begins.{origin};
 ghost use Rattle.farm_shared.specs.Shared.{IsClosed, MayTell, lasting_of};
-ghost use Rattle.turn_cell.specs.Held.{IsSeatOf, IsWhole, Knows, first_of, joining, split_left, split_right};
+ghost use Rattle.turn_cell.specs.SeatStates.{IsSeatOf, IsWhole, Knows, first_of, joining, split_left, split_right};
 ghost use Rattle.turn_cell.specs.Turns.{StartsWith};
 
 use crate::closed::Closed;
@@ -28,13 +28,13 @@ pub struct Seat<D: TileStore> {
 }
 
 impl<D: TileStore> Model for Seat<D> {
-    ghost use Rattle.turn_cell.specs.Held.{Held};
+    ghost use Rattle.turn_cell.specs.SeatStates.{SeatState};
     ghost use Rattle.farm_history.specs.Entries.{Entry};
     ghost use Rattle.farm_shared.specs.declared.turned.Turned.{Turned};
     ghost use Rattle.plain_filters.specs.inner.FilterCodes.{filter_code};
     ghost use Rattle.std.specs.Coded.{codes};
 
-    ghost Value = { Held (Turned D) Entry };
+    ghost Value = { SeatState (Turned D) Entry };
 
     ghost coded = { Prim.hlevel (codes, filter_code) };
 
@@ -57,7 +57,7 @@ pub struct SharedFarm<D: TileStore> {
 }
 
 impl<D: TileStore> Model for SharedFarm<D> {
-    ghost use Rattle.turn_cell.specs.Held.{Made};
+    ghost use Rattle.turn_cell.specs.SeatStates.{Made};
     ghost use Rattle.farm_shared.specs.inner.Turns.{AreNames};
     ghost use Rattle.farm_shared.specs.declared.turned.Turned.{Turned};
     ghost use Rattle.plain_filters.specs.inner.FilterCodes.{filter_code};

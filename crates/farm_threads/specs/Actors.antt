@@ -8,7 +8,7 @@ use Rattle.farm_plan.specs.Plans.{FarmPlan}
 use Rattle.port_trait.specs.declared.ends.FrontDone.{FrontDone}
 use Rattle.port_trait.specs.declared.ends.FrontEnd.{FrontEnd}
 use Rattle.port_trait.specs.Told.{PortsTold}
-use Rattle.turn_cell.specs.Held.{Made, Held, IsSeatOf, SameSeat, Knows, joining, worn_out}
+use Rattle.turn_cell.specs.SeatStates.{Made, SeatState, IsSeatOf, SameSeat, Knows, joining, worn_out}
 use Rattle.farm_shared.specs.declared.turned.Turned.{Turned}
 use Rattle.farm_shared.specs.Seats.{plain}
 use Rattle.farm_shared.specs.Shared.{Adds}
@@ -63,31 +63,31 @@ WorkBy w (Some end) es = WorkOf w end es
 -- Seats.
 
 -- the first seat after the seats of the three fronts were joined into it
-abbrev pub with_posts : {T : Type 0} → Held T Entry → Posts (Held T Entry) → Held T Entry
+abbrev pub with_posts : {T : Type 0} → SeatState T Entry → Posts (SeatState T Entry) → SeatState T Entry
 with_posts v posts = joining (joining (joining v posts.renderd) posts.tiles) posts.control
 
 module _ {T : Type 0} (made : Made T) where
   -- the seat of front n before the front begins
-  pub record IsPost (n : ℕ) (v : Held T Entry) : Type 0 where
+  pub record IsPost (n : ℕ) (v : SeatState T Entry) : Type 0 where
     pub seat : IsSeatOf made v
     pub known : Knows v
     pub number : v.number ≡ n + 1
     pub unused : v.mine ≡ []
 
   -- the front has served through the seat: it is a seat as before, and what the front leaves is as it should be
-  pub record HasServed (leaves : Leaving) (v w : Held T Entry) (told told' : Outside PortsTold) (done : FrontDone) : Type 0 where
+  pub record HasServed (leaves : Leaving) (v w : SeatState T Entry) (told told' : Outside PortsTold) (done : FrontDone) : Type 0 where
     pub seat : IsSeatOf made w
     pub same : SameSeat v w
     pub left : leaves told told' (plain w.mine) done w.worn
 
   -- a worker before it begins
-  pub record IsReady (a : Actor (Held T Entry)) : Type 0 where
+  pub record IsReady (a : Actor (SeatState T Entry)) : Type 0 where
     pub seat : IsSeatOf made a.seat
     pub unused : a.seat.mine ≡ []
     pub not_ended : a.end ≡ None
 
   -- the worker has worked: it has its number and its seat, its own entries are those of its rounds, and where it ended worn its seat has the mark
-  pub record HasWorked (a b : Actor (Held T Entry)) : Type 0 where
+  pub record HasWorked (a b : Actor (SeatState T Entry)) : Type 0 where
     pub worker : b.worker ≡ a.worker
     pub seat : IsSeatOf made b.seat
     pub same : SameSeat a.seat b.seat
@@ -97,7 +97,7 @@ module _ {T : Type 0} (made : Made T) where
   -- The end of the fronts.
 
   -- The first seat has joined the seats of the fronts, and has then stopped the farm. True where the Stop was entered, false where all turns were drawn
-  pub record HasEnded (v w : Held T Entry) (posts : Posts (Held T Entry)) (entered : Bool) : Type 0 where
+  pub record HasEnded (v w : SeatState T Entry) (posts : Posts (SeatState T Entry)) (entered : Bool) : Type 0 where
     pub seat : IsSeatOf made w
     pub same : SameSeat (with_posts v posts) w
     pub known : Knows w
@@ -107,20 +107,20 @@ module _ {T : Type 0} (made : Made T) where
   -- A run.
 
   -- the first seat and those of the fronts before a run; the fronts have these numbers
-  pub record AreStanding (n m k : ℕ) (desk : Desk (Held T Entry)) : Type 0 where
+  pub record AreStanding (n m k : ℕ) (desk : Desk (SeatState T Entry)) : Type 0 where
     pub own : IsSeatOf made desk.own
     pub is_first : desk.own.first ≡ true
-    pub posts : Posts (Held T Entry)
+    pub posts : Posts (SeatState T Entry)
     pub are : desk.posts ≡ Some posts
     pub renderd : IsPost n posts.renderd
     pub tiles : IsPost m posts.tiles
     pub control : IsPost k posts.control
 
   -- The fronts have served through their seats, and left what they leave; then these were joined into the first seat, which stopped the farm
-  pub record HaveServed (leaves leaves' leaves'' : Leaving) (old new : Desk (Held T Entry)) (told told' : Posts (Outside PortsTold)) (done : Posts FrontDone) (entered : Bool) : Type 0 where
-    pub began : Posts (Held T Entry)
+  pub record HaveServed (leaves leaves' leaves'' : Leaving) (old new : Desk (SeatState T Entry)) (told told' : Posts (Outside PortsTold)) (done : Posts FrontDone) (entered : Bool) : Type 0 where
+    pub began : Posts (SeatState T Entry)
     pub are : old.posts ≡ Some began
-    pub ended : Posts (Held T Entry)
+    pub ended : Posts (SeatState T Entry)
     pub renderd : HasServed leaves began.renderd ended.renderd told.renderd told'.renderd done.renderd
     pub tiles : HasServed leaves' began.tiles ended.tiles told.tiles told'.tiles done.tiles
     pub control : HasServed leaves'' began.control ended.control told.control told'.control done.control

@@ -2,7 +2,7 @@
 ghost use Rattle.std.specs.Prelude.{◌≡◌, ◌<◌, ℕ, All, length, slice_index_or};
 ghost use Rattle.std.specs.Thread.{IsSend, IsSync};
 ghost use Rattle.farm_history.specs.Entries.{Entry};
-ghost use Rattle.turn_cell.specs.Held.{Held};
+ghost use Rattle.turn_cell.specs.SeatStates.{SeatState};
 ghost use Rattle.farm_shared.specs.declared.turned.Turned.{Turned};
 ghost use Rattle.farm_threads.specs.declared.crew.Actor.{Actor};
 ghost use Rattle.farm_threads.specs.Actors.{HasWorked, IsReady};
@@ -78,7 +78,7 @@ pub fn work_all<
 )
     requires { All (λ a. IsReady farm.now a) crew.old }
     ensures long { length crew.new ≡ length crew.old }
-    ensures each { (i : ℕ) (d : Actor (Held (Turned D) Entry)) → i < length crew.old → HasWorked farm.now (slice_index_or crew.old i d) (slice_index_or crew.new i d) }
+    ensures each { (i : ℕ) (d : Actor (SeatState (Turned D) Entry)) → i < length crew.old → HasWorked farm.now (slice_index_or crew.old i d) (slice_index_or crew.new i d) }
 {
     cross::<D>();
     for_each_mut(

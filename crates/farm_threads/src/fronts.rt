@@ -3,7 +3,7 @@ ghost use Rattle.std.specs.Prelude.{◌≡◌, true, []};
 ghost use Rattle.std.specs.Thread.{IsSend, IsSync};
 ghost use Rattle.farm_threads.specs.Actors.{HasEnded, HasServed, IsPost, IsUnbegun, with_posts, maps_of};
 ghost use Rattle.farm_shared.specs.Seats.{plain};
-ghost use Rattle.turn_cell.specs.Held.{IsSeatOf, Knows, SameSeat};
+ghost use Rattle.turn_cell.specs.SeatStates.{IsSeatOf, Knows, SameSeat};
 
 use crate::muster::Muster;
 use crate::posts::{Cast, Posts};

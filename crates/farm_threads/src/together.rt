@@ -2,7 +2,7 @@
 ghost use Rattle.std.specs.Prelude.{◌≡◌, ◌<◌, ℕ, All, length, slice_index_or};
 ghost use Rattle.std.specs.Thread.{IsSend, IsSync};
 ghost use Rattle.farm_history.specs.Entries.{Entry};
-ghost use Rattle.turn_cell.specs.Held.{Held};
+ghost use Rattle.turn_cell.specs.SeatStates.{SeatState};
 ghost use Rattle.farm_shared.specs.declared.turned.Turned.{Turned};
 ghost use Rattle.farm_threads.specs.declared.crew.Actor.{Actor};
 ghost use Rattle.farm_threads.specs.Actors.{AreStanding, HasWorked, HaveServed, IsReady, maps_of, three};
@@ -93,7 +93,7 @@ pub fn run<
     requires crew { All (λ a. IsReady farm.now a) stage.old.crew.items }
     requires desk { AreStanding farm.now (F.number cast.now.fronts.renderd) (G.number cast.now.fronts.tiles) (H.number cast.now.fronts.control) stage.old.desk }
     ensures long { length stage.new.crew.items ≡ length stage.old.crew.items }
-    ensures crew { (i : ℕ) (d : Actor (Held (Turned D) Entry)) → i < length stage.old.crew.items → HasWorked farm.now (slice_index_or stage.old.crew.items i d) (slice_index_or stage.new.crew.items i d) }
+    ensures crew { (i : ℕ) (d : Actor (SeatState (Turned D) Entry)) → i < length stage.old.crew.items → HasWorked farm.now (slice_index_or stage.old.crew.items i d) (slice_index_or stage.new.crew.items i d) }
     ensures fronts { HaveServed farm.now (F.leaves cast.now.fronts.renderd (maps_of farm.now)) (G.leaves cast.now.fronts.tiles (maps_of farm.now)) (H.leaves cast.now.fronts.control (maps_of farm.now)) stage.old.desk stage.new.desk
         (three (P.state ports.old.renderd) (P.state ports.old.tiles) (P.state ports.old.control)) (three (P.state ports.new.renderd) (P.state ports.new.tiles) (P.state ports.new.control)) result.0 result.1 }
 {
@@ -111,7 +111,7 @@ pub fn run<
         &mut || -> ()
             requires { IsSync R.row × IsSync B.row × IsSync T.row × IsSend D.row × All (λ a. IsReady farm.now a) crew.now.items }
             ensures long { length crew.exit.now.items ≡ length crew.entry.now.items }
-            ensures each { (i : ℕ) (d : Actor (Held (Turned D) Entry)) → i < length crew.entry.now.items → HasWorked farm.entry.now (slice_index_or crew.entry.now.items i d) (slice_index_or crew.exit.now.items i d) }
+            ensures each { (i : ℕ) (d : Actor (SeatState (Turned D) Entry)) → i < length crew.entry.now.items → HasWorked farm.entry.now (slice_index_or crew.entry.now.items i d) (slice_index_or crew.exit.now.items i d) }
         { work_all(rt, alloc, farm, crew.as_mut_slice(), gate, muster, bells) },
         &mut || -> (Posts<FrontDone>, bool)
             requires { IsSync R.row × IsSync B.row × IsSend P.row × IsSend D.row × IsSync F.row × IsSync G.row × IsSync H.row

@@ -1,20 +1,20 @@
 -- No row of the reader leaves more tokens than it was given, and a fault stands at the first that is left.
 use Rattle.std.proofs.Common.{ℕ, zero, suc, ◌≤◌, List, [], ◌∷◌, length, drop, Bool, true, false, if◌then◌else◌, refl, arith}
-use Rattle.filter_expr.specs.declared.tokens.Spot.{Spot}
+use Rattle.filter_expr.specs.declared.tokens.PlacedToken.{PlacedToken}
 use Rattle.filter_expr.specs.declared.faults.FilterFault.{FilterFault}
 use Rattle.filter_expr.specs.declared.faults.FilterFault.TheVariants.{Bad, NumberRange}
-use Rattle.filter_expr.specs.Trees.{Kind, Tree, leaf, comparison, joins, or_chain, and_chain, sum_chain, product_chain, is_leaf, is_huge, is_open, is_close, is_minus, is_not, is_compare, is_end}
+use Rattle.filter_expr.specs.Trees.{Kind, Tree, leaf, comparison, joins, or_chain, and_chain, sum_chain, product_chain, is_leaf, is_out_of_range, is_open, is_close, is_minus, is_not, is_compare, is_end}
 use Rattle.filter_expr.specs.Seen.{Part}
 use Rattle.filter_expr.specs.Reading.{Step, got, failed, Reader, then_read, with_front, turns, later, chain_after, chain_of, Inner, atom_in, unary_in, product_in, sum_in, compare_in, not_in, and_in, or_in, within_depth, closed, ended, whole_filter, starts, first_token, place, sign_of, compared, got_negation, got_negative}
 use Rattle.filter_expr.proofs.Chains.{Leaves, Shortens}
 
-abbrev fault : FilterFault → List Spot → Step Tree
+abbrev fault : FilterFault → List PlacedToken → Step Tree
 fault f ts = failed f ts
 
 refl_le : (n : ℕ) → n ≤ n
 refl_le n = omega arith
 
-pub drop_one : (ts : List Spot) → length (drop 1 ts) ≤ length ts
+pub drop_one : (ts : List PlacedToken) → length (drop 1 ts) ≤ length ts
 drop_one [] = omega arith
 drop_one (s ∷ ts) = omega arith
 
@@ -22,7 +22,7 @@ pub weaken : {A : Type 0} (m n : ℕ) (r : Step A) → m ≤ n → Leaves m r �
 weaken m n (got x ts) h l = omega arith
 weaken m n (failed f ts) h l = (omega (arith, l.0), l.1)
 
-pub then_leaves : {A B : Type 0} (n : ℕ) (r : Step A) (next : A → Reader B) → Leaves n r → ((x : A) (us : List Spot) → length us ≤ n → Leaves n (next x us)) → Leaves n (then_read r next)
+pub then_leaves : {A B : Type 0} (n : ℕ) (r : Step A) (next : A → Reader B) → Leaves n r → ((x : A) (us : List PlacedToken) → length us ≤ n → Leaves n (next x us)) → Leaves n (then_read r next)
 then_leaves n (got x ts) next l h = h x ts l
 then_leaves n (failed f ts) next l h = l
 
@@ -38,7 +38,7 @@ after_leaves : (n : ℕ) (k : Kind) (e : Tree) (r : Step (List Part)) → Leaves
 after_leaves n k e (got x ts) l = l
 after_leaves n k e (failed f ts) l = l
 
-pub turns_leaves : (k : Kind) (part : Reader Tree) → Shortens part → (n : ℕ) (ts : List Spot) → Leaves (length ts) (turns k part n ts)
+pub turns_leaves : (k : Kind) (part : Reader Tree) → Shortens part → (n : ℕ) (ts : List PlacedToken) → Leaves (length ts) (turns k part n ts)
 unfolding turns
 turns_leaves k part short zero ts = refl_le (length ts)
 turns_leaves k part short (suc n) ts =
@@ -54,13 +54,13 @@ chain_shortens k part short = record {
       (λ e us h. after_leaves (length ts) k e (turns k part (length us) us) (weaken (length us) (length ts) (turns k part (length us) us) h (turns_leaves k part short (length us) us)));
 }
 
-closed_leaves : (n : ℕ) (e : Tree) (us : List Spot) → length us ≤ n → Leaves n (closed e us)
+closed_leaves : (n : ℕ) (e : Tree) (us : List PlacedToken) → length us ≤ n → Leaves n (closed e us)
 closed_leaves n e us h =
     let bad : Leaves n (fault (Bad (place us)) us) = (h, refl) in
     let fewer : length (drop 1 us) ≤ n = omega (arith, drop_one us) in
     cond_leaves n (starts is_close us) (got e (drop 1 us)) (failed (Bad (place us)) us) fewer bad
 
-ended_leaves : (n : ℕ) (e : Tree) (us : List Spot) → length us ≤ n → Leaves n (ended e us)
+ended_leaves : (n : ℕ) (e : Tree) (us : List PlacedToken) → length us ≤ n → Leaves n (ended e us)
 ended_leaves n e us h =
     let bad : Leaves n (fault (Bad (place us)) us) = (h, refl) in
     cond_leaves n (starts is_end us) (got e us) (failed (Bad (place us)) us) h bad
@@ -75,10 +75,10 @@ module _ (i : Inner) (short : ShortensIn i) where
   unfolding atom_in
   atom_shortens = record {
     leaves = λ ts. let bad : Leaves (length ts) (fault (Bad (place ts)) ts) = (refl_le (length ts), refl) in
-        let huge : Leaves (length ts) (fault (NumberRange (place ts)) ts) = (refl_le (length ts), refl) in
+        let out_of_range : Leaves (length ts) (fault (NumberRange (place ts)) ts) = (refl_le (length ts), refl) in
         let opened : Step Tree = if starts is_open ts then i.open_from ts else failed (Bad (place ts)) ts in
-        cond_leaves (length ts) (starts is_leaf ts) (got (leaf (first_token ts)) (drop 1 ts)) (if starts is_huge ts then failed (NumberRange (place ts)) ts else opened) (drop_one ts)
-        (cond_leaves (length ts) (starts is_huge ts) (failed (NumberRange (place ts)) ts) opened huge
+        cond_leaves (length ts) (starts is_leaf ts) (got (leaf (first_token ts)) (drop 1 ts)) (if starts is_out_of_range ts then failed (NumberRange (place ts)) ts else opened) (drop_one ts)
+        (cond_leaves (length ts) (starts is_out_of_range ts) (failed (NumberRange (place ts)) ts) opened out_of_range
         (cond_leaves (length ts) (starts is_open ts) (i.open_from ts) (failed (Bad (place ts)) ts) (short.open_from.leaves ts) bad));
   }
 

@@ -43,7 +43,7 @@ number_spells : (us : List ℕ) → IsDigits us → Spells (number_token us) us
 unfolding number_token
 number_spells us d = by (nat_lt (number_of us) (2 ^ 63)) refl
   where
-    by : (b : Bool) → nat_lt (number_of us) (2 ^ 63) ≡ b → Spells (if b then token.Number (pos (number_of us)) else token.Huge) us
+    by : (b : Bool) → nat_lt (number_of us) (2 ^ 63) ≡ b → Spells (if b then token.Number (pos (number_of us)) else token.OutOfRange) us
     by true e = (d, refl, ltb-true (number_of us) (2 ^ 63) e)
     by false e = (d, ltb-false (number_of us) (2 ^ 63) e)
 

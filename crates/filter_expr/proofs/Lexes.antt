@@ -6,7 +6,7 @@ use Rattle.std.proofs.lemmas.Str.{IsCharBoundary-before_ascii, IsCharBoundary-af
 use Rattle.std.proofs.lemmas.List.Sums.{prefix_len-drop_yes, prefix_len-drop_no, prefix_len-drop_all, prefix_len-le-length, prefix_len_stops}
 use Rattle.std.specs.List.{prefix_len}
 use Rattle.std.specs.Str.{IsCharBoundary, IsUtf8}
-use Rattle.filter_expr.specs.declared.tokens.Spot.{Spot}
+use Rattle.filter_expr.specs.declared.tokens.PlacedToken.{PlacedToken}
 use Rattle.filter_expr.specs.declared.tokens.Token.{Token}
 use Rattle.filter_expr.specs.declared.tokens.Token.TheVariants as token
 use Rattle.filter_expr.specs.Trees.{is_unknown}
@@ -130,11 +130,11 @@ escape_other (b ∷ bs) h = by (b == 92) refl
 
 pub number_some : (ds : List ℕ) → number_of ds < 2 ^ 63 → number_token ds ≡ token.Number (pos (number_of ds))
 unfolding number_token
-number_some ds h = ap (λ b. if b then token.Number (pos (number_of ds)) else token.Huge) (lt-ltb (number_of ds) (2 ^ 63) h)
+number_some ds h = ap (λ b. if b then token.Number (pos (number_of ds)) else token.OutOfRange) (lt-ltb (number_of ds) (2 ^ 63) h)
 
-pub number_none : (ds : List ℕ) → 2 ^ 63 ≤ number_of ds → number_token ds ≡ token.Huge
+pub number_none : (ds : List ℕ) → 2 ^ 63 ≤ number_of ds → number_token ds ≡ token.OutOfRange
 unfolding number_token
-number_none ds h = ap (λ b. if b then token.Number (pos (number_of ds)) else token.Huge) (le-ltb (number_of ds) (2 ^ 63) h)
+number_none ds h = ap (λ b. if b then token.Number (pos (number_of ds)) else token.OutOfRange) (le-ltb (number_of ds) (2 ^ 63) h)
 
 -- a text may be cut beside an ASCII byte
 pub ruleset cuts = (IsCharBoundary-before_ascii, IsCharBoundary-after_ascii, lead_after_ascii)
@@ -285,11 +285,11 @@ lexed_skips zero at bs h = ap (λ m. lexed m 0 bs) (sym (add-zero at))
 lexed_skips (suc k) at [] h = absurd (omega (arith, h))
 lexed_skips (suc k) at (b ∷ bs) h = lexed_skips k (suc at) bs (omega (arith, h)) ∙ ap (λ m. lexed m 0 (drop k bs)) (omega arith)
 
-abbrev pub spot_then : Token → ℕ → List Spot → List Spot
-spot_then t at ts = record { token = t; offset = at } ∷ ts
+abbrev pub placed_then : Token → ℕ → List PlacedToken → List PlacedToken
+placed_then t at ts = record { token = t; offset = at } ∷ ts
 
 -- the tokens from a byte on that is no blank
-abbrev pub from_token : ℕ → ℕ → List ℕ → List Spot
+abbrev pub from_token : ℕ → ℕ → List ℕ → List PlacedToken
 from_token at b bs =
     if is_unknown (token_at (b ∷ bs)).0 then record { token = token.Unknown; offset = at } ∷ []
     else record { token = (token_at (b ∷ bs)).0; offset = at } ∷ lexed (suc at) ((token_at (b ∷ bs)).1 - 1) bs
@@ -331,8 +331,8 @@ module _ (bs : List ℕ) (at : ℕ) (h : at < length bs) where
         solid e
         ∙ ap (λ (b : Bool). if b then record { token = token.Unknown; offset = at } ∷ [] else record { token = (token_at (get_or bs at 0 ∷ drop (at + 1) bs)).0; offset = at } ∷ lexed (suc at) ((token_at (get_or bs at 0 ∷ drop (at + 1) bs)).1 - 1) (drop (at + 1) bs))
         (ap (λ (x : Taken). is_unknown x.0) here ∙ u)
-        ∙ ap (λ (x : Taken). spot_then x.0 at (lexed (suc at) (x.1 - 1) (drop (at + 1) bs))) here
-        ∙ ap (λ l. spot_then t at l)
+        ∙ ap (λ (x : Taken). placed_then x.0 at (lexed (suc at) (x.1 - 1) (drop (at + 1) bs))) here
+        ∙ ap (λ l. placed_then t at l)
         (lexed_skips (n - 1) (suc at) (drop (at + 1) bs) (omega (arith, token_most, token_least, length-drop (at + 1) bs))
         ∙ ap (λ l. lexed (suc at + (n - 1)) 0 l) (drop-drop (n - 1) (at + 1) bs)
         ∙ ap (λ m. lexed m 0 (drop (at + 1 + (n - 1)) bs)) (omega (arith, token_least))

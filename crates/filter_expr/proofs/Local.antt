@@ -1,34 +1,34 @@
 -- What the reader answers depends on no token behind the one at which it stops.
 use Rattle.std.proofs.Common.{◌≡◌, ℕ, zero, suc, ◌≤◌, Bool, true, false, if◌then◌else◌, List, [], ◌∷◌, ◌++◌, drop, length, refl, sym, ap, ◌∙◌, subst, arith, append_assoc}
 use Rattle.filter_expr.specs.declared.tokens.Token.{Token}
-use Rattle.filter_expr.specs.declared.tokens.Spot.{Spot}
+use Rattle.filter_expr.specs.declared.tokens.PlacedToken.{PlacedToken}
 use Rattle.filter_expr.specs.declared.faults.FilterFault.{FilterFault}
 use Rattle.filter_expr.specs.declared.faults.FilterFault.TheVariants.{Bad, NumberRange, TooDeep}
-use Rattle.filter_expr.specs.Trees.{Kind, Tree, leaf, negation, negative, comparison, or_chain, and_chain, sum_chain, product_chain, joins, is_leaf, is_huge, is_open, is_minus, is_not, is_compare, is_close, is_end}
+use Rattle.filter_expr.specs.Trees.{Kind, Tree, leaf, negation, negative, comparison, or_chain, and_chain, sum_chain, product_chain, joins, is_leaf, is_out_of_range, is_open, is_minus, is_not, is_compare, is_close, is_end}
 use Rattle.filter_expr.specs.Seen.{Part}
 use Rattle.filter_expr.specs.Reading.{Step, got, failed, Reader, then_read, starts, first_token, place, with_front, later, chained, chain_after, chain_of, Inner, or_in, and_in, not_in, compare_in, sum_in, product_in, unary_in, atom_in, within_depth, compared, got_negation, got_negative, closed, ended, whole_filter, sign_of}
 use Rattle.filter_expr.proofs.Chains.{Shortens, Leaves, later-stop, later-more}
 use Rattle.filter_expr.proofs.Levels.{within_shortens, and_shortens, not_shortens, product_shortens, unary_shortens, ShortensIn}
 use Rattle.filter_expr.proofs.Rows.{wrong}
 
-abbrev pub rest_of : {A : Type 0} → Step A → List Spot
+abbrev pub rest_of : {A : Type 0} → Step A → List PlacedToken
 rest_of (got x ts) = ts
 rest_of (failed f ts) = ts
 
-abbrev pub with_rest : {A : Type 0} → List Spot → Step A → Step A
+abbrev pub with_rest : {A : Type 0} → List PlacedToken → Step A → Step A
 with_rest us (got x ts) = got x us
 with_rest us (failed f ts) = failed f us
 
 -- what was used of the tokens, and that the same comes out where other tokens follow the next one
-pub record At {A : Type 0} (part : Reader A) (ts : List Spot) (r : Step A) : Type 0 where
-  pub used : List Spot
+pub record At {A : Type 0} (part : Reader A) (ts : List PlacedToken) (r : Step A) : Type 0 where
+  pub used : List PlacedToken
   pub split : ts ≡ used ++ rest_of r
-  pub again : (s : Spot) (a b : List Spot) → rest_of r ≡ s ∷ a → part (used ++ s ∷ b) ≡ with_rest (s ∷ b) r
+  pub again : (s : PlacedToken) (a b : List PlacedToken) → rest_of r ≡ s ∷ a → part (used ++ s ∷ b) ≡ with_rest (s ∷ b) r
 
 pub record Local {A : Type 0} (part : Reader A) : Type 0 where
-  pub here : (ts : List Spot) → At part ts (part ts)
+  pub here : (ts : List PlacedToken) → At part ts (part ts)
 
-same_start : (test : Token → Bool) (used a b : List Spot) (s : Spot) → starts test (used ++ s ∷ b) ≡ starts test (used ++ s ∷ a)
+same_start : (test : Token → Bool) (used a b : List PlacedToken) (s : PlacedToken) → starts test (used ++ s ∷ b) ≡ starts test (used ++ s ∷ a)
 same_start test [] a b s = refl
 same_start test (t ∷ used) a b s = refl
 
@@ -40,12 +40,12 @@ local_got x = record { here = λ ts. record { used = []; split = refl; again = �
 local_fail : {A : Type 0} (f : ℕ → FilterFault) → Local {A = A} (λ ts. failed (f (place ts)) ts)
 local_fail f = record { here = λ ts. record { used = []; split = refl; again = λ s a b r. ap (λ us. failed (f (place us)) (s ∷ b)) (sym r) } }
 
-pub then_at : {A B : Type 0} (p : Reader A) (next : A → Reader B) (ts : List Spot) (r : Step A) → At p ts r → ((x : A) (us : List Spot) → r ≡ got x us → At (next x) us (next x us)) →
+pub then_at : {A B : Type 0} (p : Reader A) (next : A → Reader B) (ts : List PlacedToken) (r : Step A) → At p ts r → ((x : A) (us : List PlacedToken) → r ≡ got x us → At (next x) us (next x us)) →
     At (λ vs. then_read (p vs) next) ts (then_read r next)
 then_at p next ts (got x us) h k = by (k x us refl)
   where
-    again_of : (used : List Spot) → us ≡ used ++ rest_of (next x us) → ((s : Spot) (a b : List Spot) → rest_of (next x us) ≡ s ∷ a → next x (used ++ s ∷ b) ≡ with_rest (s ∷ b) (next x us)) →
-        (s : Spot) (a b : List Spot) → rest_of (next x us) ≡ s ∷ a → then_read (p ((h.used ++ used) ++ s ∷ b)) next ≡ with_rest (s ∷ b) (next x us)
+    again_of : (used : List PlacedToken) → us ≡ used ++ rest_of (next x us) → ((s : PlacedToken) (a b : List PlacedToken) → rest_of (next x us) ≡ s ∷ a → next x (used ++ s ∷ b) ≡ with_rest (s ∷ b) (next x us)) →
+        (s : PlacedToken) (a b : List PlacedToken) → rest_of (next x us) ≡ s ∷ a → then_read (p ((h.used ++ used) ++ s ∷ b)) next ≡ with_rest (s ∷ b) (next x us)
     again_of [] split again s a b e =
         ap (λ vs. then_read (p vs) next) (append_assoc h.used [] (s ∷ b))
         ∙ ap (λ q. then_read q next) (h.again s a b (split ∙ e)) ∙ again s a b e
@@ -65,7 +65,7 @@ local_then : {A B : Type 0} (p : Reader A) (next : A → Reader B) → Local p �
 local_then p next h k = record { here = λ ts. then_at p next ts (p ts) (h.here ts) (λ x us _. (k x).here us) }
 
 -- a reader that is another one where the first token is as it is here
-same_at : {A : Type 0} (test : Token → Bool) (c : Bool) (p q : Reader A) (ts : List Spot) → starts test ts ≡ c → ((us : List Spot) → starts test us ≡ c → p us ≡ q us) →
+same_at : {A : Type 0} (test : Token → Bool) (c : Bool) (p q : Reader A) (ts : List PlacedToken) → starts test ts ≡ c → ((us : List PlacedToken) → starts test us ≡ c → p us ≡ q us) →
     At q ts (q ts) → At p ts (p ts)
 same_at test c p q ts e same h = subst (At p ts) (sym (same ts e)) record {
   used = h.used;
@@ -77,7 +77,7 @@ same_at test c p q ts e same h = subst (At p ts) (sym (same ts e)) record {
 local_cond : {A : Type 0} (test : Token → Bool) (p q : Reader A) → Local p → Local q → Local (λ ts. if starts test ts then p ts else q ts)
 local_cond test p q h k = record { here = λ ts. by ts (starts test ts) refl }
   where
-    by : (ts : List Spot) (c : Bool) → starts test ts ≡ c → At (λ us. if starts test us then p us else q us) ts (if starts test ts then p ts else q ts)
+    by : (ts : List PlacedToken) (c : Bool) → starts test ts ≡ c → At (λ us. if starts test us then p us else q us) ts (if starts test ts then p ts else q ts)
     by ts true e = same_at test true (λ us. if starts test us then p us else q us) p ts e (λ us g. ap (λ t. if t then p us else q us) g) (h.here ts)
     by ts false e = same_at test false (λ us. if starts test us then p us else q us) q ts e (λ us g. ap (λ t. if t then p us else q us) g) (k.here ts)
 
@@ -89,10 +89,10 @@ local_one : Local take_one
 unfolding take_one
 local_one = record { here = by }
   where
-    by : (ts : List Spot) → At take_one ts (got (first_token ts) (drop 1 ts))
+    by : (ts : List PlacedToken) → At take_one ts (got (first_token ts) (drop 1 ts))
     by [] = record { used = []; split = refl; again = λ s a b r. absurd (nothing s a r) }
       where
-        nothing : (s : Spot) (a : List Spot) → [] ≡ s ∷ a → ⊥
+        nothing : (s : PlacedToken) (a : List PlacedToken) → [] ≡ s ∷ a → ⊥
         nothing s a r = wrong (ap (starts (λ _. true)) r)
     by (t ∷ ts) = record { used = t ∷ []; split = refl; again = λ s a b r. refl }
 
@@ -109,7 +109,7 @@ after_is : (k : Kind) (e : Tree) (r : Step (List Part)) → chain_after k e r �
 after_is k e (got l us) = refl
 after_is k e (failed f us) = refl
 
-at_same : {A : Type 0} (p q : Reader A) (ts : List Spot) → ((us : List Spot) → p us ≡ q us) → At q ts (q ts) → At p ts (p ts)
+at_same : {A : Type 0} (p q : Reader A) (ts : List PlacedToken) → ((us : List PlacedToken) → p us ≡ q us) → At q ts (q ts) → At p ts (p ts)
 at_same p q ts same h = subst (At p ts) (sym (same ts)) record { used = h.used; split = h.split; again = λ s a b r. same (h.used ++ s ∷ b) ∙ h.again s a b r }
 
 module _ (k : Kind) (part : Reader Tree) (short : Shortens part) (loc : Local part) where
@@ -117,18 +117,18 @@ module _ (k : Kind) (part : Reader Tree) (short : Shortens part) (loc : Local pa
   more_of : Reader (List Part)
   more_of ts = then_read (take_one ts) (λ t us. then_read (part us) (λ e vs. with_front ((t, e) ∷ []) (later k part vs)))
 
-  stop_at : (ts : List Spot) → starts (joins k) ts ≡ false → At (later k part) ts (later k part ts)
+  stop_at : (ts : List PlacedToken) → starts (joins k) ts ≡ false → At (later k part) ts (later k part ts)
   stop_at ts e = same_at (joins k) false (later k part) (λ us. got [] us) ts e (λ us g. later-stop k part us g) ((local_got []).here ts)
 
-  more_at : (t : Spot) (ts : List Spot) → ((us : List Spot) → length us ≤ length ts → At (later k part) us (later k part us)) → At more_of (t ∷ ts) (more_of (t ∷ ts))
+  more_at : (t : PlacedToken) (ts : List PlacedToken) → ((us : List PlacedToken) → length us ≤ length ts → At (later k part) us (later k part us)) → At more_of (t ∷ ts) (more_of (t ∷ ts))
   unfolding more_of take_one
   more_at t ts ih =
       then_at take_one (λ x us. then_read (part us) (λ e vs. with_front ((x, e) ∷ []) (later k part vs))) (t ∷ ts) (got t.token ts) (local_one.here (t ∷ ts)) inner
     where
-      fewer : (us : List Spot) (r : Step Tree) (e : Tree) (vs : List Spot) → Leaves (length us) r → r ≡ got e vs → length vs ≤ length us
+      fewer : (us : List PlacedToken) (r : Step Tree) (e : Tree) (vs : List PlacedToken) → Leaves (length us) r → r ≡ got e vs → length vs ≤ length us
       fewer us r e vs l q = subst (λ (x : Step Tree). Leaves (length us) x) q l
 
-      inner : (x : Token) (us : List Spot) → got t.token ts ≡ got x us → At (λ ws. then_read (part ws) (λ e vs. with_front ((x, e) ∷ []) (later k part vs))) us
+      inner : (x : Token) (us : List PlacedToken) → got t.token ts ≡ got x us → At (λ ws. then_read (part ws) (λ e vs. with_front ((x, e) ∷ []) (later k part vs))) us
           (then_read (part us) (λ e vs. with_front ((x, e) ∷ []) (later k part vs)))
       inner x us q =
           let same : us ≡ ts = cc in
@@ -136,16 +136,16 @@ module _ (k : Kind) (part : Reader Tree) (short : Shortens part) (loc : Local pa
           (λ e vs g. at_same (λ ws. with_front ((x, e) ∷ []) (later k part ws)) (λ ws. then_read (later k part ws) (λ l zs. got (((x, e) ∷ []) ++ l) zs)) vs
           (λ ws. front_is ((x, e) ∷ []) (later k part ws))
           (then_at (later k part) (λ l zs. got (((x, e) ∷ []) ++ l) zs) vs (later k part vs)
-          (ih vs (subst (λ (l : List Spot). length vs ≤ length l) same (fewer us (part us) e vs (short.leaves us) g)))
+          (ih vs (subst (λ (l : List PlacedToken). length vs ≤ length l) same (fewer us (part us) e vs (short.leaves us) g)))
           (λ l zs _. (local_got (((x, e) ∷ []) ++ l)).here zs)))
 
-  later_at : (m : ℕ) (ts : List Spot) → length ts ≤ m → At (later k part) ts (later k part ts)
+  later_at : (m : ℕ) (ts : List PlacedToken) → length ts ≤ m → At (later k part) ts (later k part ts)
   unfolding more_of take_one
   later_at m [] h = stop_at [] refl
   later_at zero (t ∷ ts) h = absurd (omega (arith, h))
   later_at (suc m) (t ∷ ts) h = by (λ us l. later_at m us (omega (arith, l, h))) (joins k t.token) refl
     where
-      by : ((us : List Spot) → length us ≤ length ts → At (later k part) us (later k part us)) → (c : Bool) → joins k t.token ≡ c → At (later k part) (t ∷ ts) (later k part (t ∷ ts))
+      by : ((us : List PlacedToken) → length us ≤ length ts → At (later k part) us (later k part us)) → (c : Bool) → joins k t.token ≡ c → At (later k part) (t ∷ ts) (later k part (t ∷ ts))
       by ih true e = same_at (joins k) true (later k part) more_of (t ∷ ts) e (λ us g. later-more k part us short g) (more_at t ts ih)
       by ih false e = stop_at (t ∷ ts) e
 
@@ -173,9 +173,9 @@ module _ (i : Inner) (short : ShortensIn i) (loc : LocalIn i) where
   atom_local : Local (atom_in i)
   unfolding atom_in take_one
   atom_local =
-      local_cond is_leaf (λ ts. got (leaf (first_token ts)) (drop 1 ts)) (λ ts. if starts is_huge ts then failed (NumberRange (place ts)) ts else (if starts is_open ts then i.open_from ts else failed (Bad (place ts)) ts))
+      local_cond is_leaf (λ ts. got (leaf (first_token ts)) (drop 1 ts)) (λ ts. if starts is_out_of_range ts then failed (NumberRange (place ts)) ts else (if starts is_open ts then i.open_from ts else failed (Bad (place ts)) ts))
       (local_map leaf take_one local_one)
-      (local_cond is_huge (λ ts. failed (NumberRange (place ts)) ts) (λ ts. if starts is_open ts then i.open_from ts else failed (Bad (place ts)) ts) (local_fail NumberRange)
+      (local_cond is_out_of_range (λ ts. failed (NumberRange (place ts)) ts) (λ ts. if starts is_open ts then i.open_from ts else failed (Bad (place ts)) ts) (local_fail NumberRange)
       (local_cond is_open i.open_from (λ ts. failed (Bad (place ts)) ts) loc.open_from (local_fail Bad)))
 
   unary_local : Local (unary_in i)

@@ -1,6 +1,6 @@
 -- What the loop over the later parts of a chain answers, at each of its ends.
 use Rattle.std.proofs.Common.{◌≡◌, ℕ, ◌==◌, sym, ◌∙◌, ap, List, [], ◌∷◌, length, drop, map, Bool, true, false, Some, None, Err, if◌then◌else◌, refl, arith}
-use Rattle.filter_expr.specs.declared.tokens.Spot.{Spot}
+use Rattle.filter_expr.specs.declared.tokens.PlacedToken.{PlacedToken}
 use Rattle.filter_expr.specs.declared.tokens.Token.{Token}
 use Rattle.filter_expr.specs.declared.tokens.Token.TheVariants as token
 use Rattle.filter_expr.specs.declared.faults.FilterFault.{FilterFault}
@@ -15,7 +15,7 @@ wrong : false ≡ true → ⊥
 wrong e = grind arith
 
 -- a sign stands next: which one, and that it joins
-pub sign_joins : (k : Kind) (ts : List Spot) (t : Token) → Some t ≡ next_sign k ts → starts (joins k) ts ≡ true
+pub sign_joins : (k : Kind) (ts : List PlacedToken) (t : Token) → Some t ≡ next_sign k ts → starts (joins k) ts ≡ true
 sign_joins k [] t h = absurd (cc)
 sign_joins k (s ∷ ts) t h = by (joins k s.token) h
   where
@@ -23,7 +23,7 @@ sign_joins k (s ∷ ts) t h = by (joins k s.token) h
     by true e = refl
     by false e = absurd (cc)
 
-pub sign_is : (k : Kind) (ts : List Spot) (t : Token) → Some t ≡ next_sign k ts → first_token ts ≡ t
+pub sign_is : (k : Kind) (ts : List PlacedToken) (t : Token) → Some t ≡ next_sign k ts → first_token ts ≡ t
 sign_is k [] t h = absurd (cc)
 sign_is k (s ∷ ts) t h = by (joins k s.token) h
   where
@@ -31,7 +31,7 @@ sign_is k (s ∷ ts) t h = by (joins k s.token) h
     by true e = cc
     by false e = absurd (cc)
 
-pub no_sign : (k : Kind) (ts : List Spot) → None ≡ next_sign k ts → starts (joins k) ts ≡ false
+pub no_sign : (k : Kind) (ts : List PlacedToken) → None ≡ next_sign k ts → starts (joins k) ts ≡ false
 no_sign k [] h = refl
 no_sign k (s ∷ ts) h = by (joins k s.token) h
   where
@@ -41,20 +41,20 @@ no_sign k (s ∷ ts) h = by (joins k s.token) h
 
 module _ {X : Type 0} (view : X → Tree) (k : Kind) (part : Reader Tree) (short : Shortens part) where
   -- the first part goes wrong
-  pub first_fails : (ts us : List Spot) (f : FilterFault) → Gives view (Err f) us (part ts) → Gives view (Err f) us (chain_of k part ts)
+  pub first_fails : (ts us : List PlacedToken) (f : FilterFault) → Gives view (Err f) us (part ts) → Gives view (Err f) us (chain_of k part ts)
   first_fails ts us (Bad o) h = chain_fails k part ts us (Bad o) h
   first_fails ts us (NumberRange o) h = chain_fails k part ts us (NumberRange o) h
   first_fails ts us (TooDeep o) h = chain_fails k part ts us (TooDeep o) h
   first_fails ts us NoMemory h = tt
 
-  module _ (all after : List Spot) (e : Tree) (first : part all ≡ got e after) (front : List Part) (ts : List Spot)
+  module _ (all after : List PlacedToken) (e : Tree) (first : part all ≡ got e after) (front : List Part) (ts : List PlacedToken)
       (read : with_front front (later k part ts) ≡ later k part after) where
-    fails : (f : FilterFault) (us : List Spot) → starts (joins k) ts ≡ true → part (drop 1 ts) ≡ failed f us → chain_of k part all ≡ failed f us
+    fails : (f : FilterFault) (us : List PlacedToken) → starts (joins k) ts ≡ true → part (drop 1 ts) ≡ failed f us → chain_of k part all ≡ failed f us
     fails f us next here =
         chain_reads k part all after e (failed f us) first (loop_fails k part short front ts (later k part after) read f us next here)
 
     -- a later part goes wrong
-    pub part_fails : starts (joins k) ts ≡ true → (f : FilterFault) (us : List Spot) → Gives view (Err f) us (part (drop 1 ts)) → Gives view (Err f) us (chain_of k part all)
+    pub part_fails : starts (joins k) ts ≡ true → (f : FilterFault) (us : List PlacedToken) → Gives view (Err f) us (part (drop 1 ts)) → Gives view (Err f) us (chain_of k part all)
     part_fails next (Bad o) us h = fails (Bad o) us next h
     part_fails next (NumberRange o) us h = fails (NumberRange o) us next h
     part_fails next (TooDeep o) us h = fails (TooDeep o) us next h
@@ -83,7 +83,7 @@ more_listed k t e f [] h = absurd (h refl)
 more_listed k t e f (x ∷ xs) h = refl
 
 -- both spellings of such a sign are one token
-pub or_first : (ts : List Spot) → starts (joins or_chain) ts ≡ true → first_token ts ≡ token.Or
+pub or_first : (ts : List PlacedToken) → starts (joins or_chain) ts ≡ true → first_token ts ≡ token.Or
 or_first [] h = absurd (wrong h)
 or_first (s ∷ ts) h = by s.token h
   where
@@ -91,7 +91,7 @@ or_first (s ∷ ts) h = by s.token h
     by token.Or e = refl
     by _ e = absurd (wrong e)
 
-pub and_first : (ts : List Spot) → starts (joins and_chain) ts ≡ true → first_token ts ≡ token.And
+pub and_first : (ts : List PlacedToken) → starts (joins and_chain) ts ≡ true → first_token ts ≡ token.And
 and_first [] h = absurd (wrong h)
 and_first (s ∷ ts) h = by s.token h
   where

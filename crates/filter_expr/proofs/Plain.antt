@@ -3,7 +3,7 @@ use Rattle.std.proofs.Common.{◌≡◌, ℕ, List, ◌⊎◌, inl, inr, sym, �
 use Rattle.std.specs.Prelude.{Result, Ok, Err}
 use Rattle.plain_filters.specs.declared.Expr.{Expr}
 use Rattle.plain_filters.specs.Filters.{FilterTree, tree_of}
-use Rattle.filter_expr.specs.declared.tokens.Spot.{Spot}
+use Rattle.filter_expr.specs.declared.tokens.PlacedToken.{PlacedToken}
 use Rattle.filter_expr.specs.declared.faults.FilterFault.{FilterFault}
 use Rattle.filter_expr.specs.declared.faults.FilterFault.TheVariants.{Bad, NumberRange, TooDeep, NoMemory}
 use Rattle.filter_expr.specs.Trees.{Tree}
@@ -54,7 +54,7 @@ err_same : (f g : FilterFault) → ◌≡◌ {A = Result FilterTree FilterFault}
 err_same f g q = cc
 
 -- what the tokens are as a filter is the tree of some filter
-filter_again : (ts : List Spot) (d : Tree) → IsFilter ts d → IsFilter ts (shape (back d))
+filter_again : (ts : List PlacedToken) (d : Tree) → IsFilter ts d → IsFilter ts (shape (back d))
 filter_again ts d a = subst (IsFilter ts) (sym a.is ∙ sym (tree_again a.tree 0 a.stands a.range) ∙ ap (λ x. shape (back x)) a.is) a
 
 pub filter_said : FilterSaid

@@ -2,7 +2,7 @@
 use Rattle.std.proofs.Common.{◌≡◌, ℕ, zero, suc, ◌+◌, ◌≤◌, true, false, List, ◌∷◌, refl, ap, arith}
 use Rattle.filter_expr.specs.declared.tokens.Token.{Token}
 use Rattle.filter_expr.specs.declared.tokens.Token.TheVariants as token
-use Rattle.filter_expr.specs.declared.tokens.Spot.{Spot}
+use Rattle.filter_expr.specs.declared.tokens.PlacedToken.{PlacedToken}
 use Rattle.filter_expr.specs.Trees.{Kind, Tree, joins, is_or, is_and, is_sum_sign, is_product_sign, is_compare, or_chain, and_chain, sum_chain, product_chain}
 use Rattle.filter_expr.specs.Grammar.{kind_strength}
 use Rattle.filter_expr.specs.Reading.{Reader, Inner, starts, or_in, and_in, not_in, compare_in, sum_in, product_in, unary_in, atom_in, within_depth}
@@ -75,15 +75,15 @@ product_signs P p q r _ e = absurd (wrong e)
 -- ---- what may follow
 
 -- nothing goes on with a tree of this strength: no sign of a chain that binds as strongly, and no comparing sign
-pub record Stops (l : ℕ) (rest : List Spot) : Type 0 where
+pub record Stops (l : ℕ) (rest : List PlacedToken) : Type 0 where
   pub chains : (k : Kind) → l ≤ kind_strength k → starts (joins k) rest ≡ false
   pub compares : l ≤ 3 → starts is_compare rest ≡ false
 
-pub stops_up : (l m : ℕ) (rest : List Spot) → l ≤ m → Stops l rest → Stops m rest
+pub stops_up : (l m : ℕ) (rest : List PlacedToken) → l ≤ m → Stops l rest → Stops m rest
 stops_up l m rest h s = record { chains = λ k g. s.chains k (omega (arith, g, h)); compares = λ g. s.compares (omega (arith, g, h)) }
 
 -- a token that is no sign of a chain and no comparing sign stops all
-plain_stops : (s : Spot) (rest : List Spot) → is_or s.token ≡ false → is_and s.token ≡ false → is_sum_sign s.token ≡ false → is_product_sign s.token ≡ false →
+plain_stops : (s : PlacedToken) (rest : List PlacedToken) → is_or s.token ≡ false → is_and s.token ≡ false → is_sum_sign s.token ≡ false → is_product_sign s.token ≡ false →
     is_compare s.token ≡ false → Stops 0 (s ∷ rest)
 plain_stops s rest a b c d e = record { chains = by; compares = λ _. e }
   where
@@ -93,13 +93,13 @@ plain_stops s rest a b c d e = record { chains = by; compares = λ _. e }
     by sum_chain _ = c
     by product_chain _ = d
 
-pub close_stops : (s : Spot) (rest : List Spot) → s.token ≡ token.Close → Stops 0 (s ∷ rest)
+pub close_stops : (s : PlacedToken) (rest : List PlacedToken) → s.token ≡ token.Close → Stops 0 (s ∷ rest)
 close_stops s rest e = plain_stops s rest (ap is_or e) (ap is_and e) (ap is_sum_sign e) (ap is_product_sign e) (ap is_compare e)
 
-pub end_stops : (s : Spot) (rest : List Spot) → s.token ≡ token.End → Stops 0 (s ∷ rest)
+pub end_stops : (s : PlacedToken) (rest : List PlacedToken) → s.token ≡ token.End → Stops 0 (s ∷ rest)
 end_stops s rest e = plain_stops s rest (ap is_or e) (ap is_and e) (ap is_sum_sign e) (ap is_product_sign e) (ap is_compare e)
 
-pub compare_stops : (s : Spot) (rest : List Spot) → is_compare s.token ≡ true → Stops 4 (s ∷ rest)
+pub compare_stops : (s : PlacedToken) (rest : List PlacedToken) → is_compare s.token ≡ true → Stops 4 (s ∷ rest)
 compare_stops s rest e = record { chains = by; compares = λ h. absurd (omega (arith, h)) }
   where
     sum_no : (t : Token) → is_compare t ≡ true → is_sum_sign t ≡ false
@@ -117,7 +117,7 @@ compare_stops s rest e = record { chains = by; compares = λ h. absurd (omega (a
     by product_chain h = product_no s.token e
 
 -- after a sign of a chain each stronger tree stops
-pub sign_stops : (k : Kind) (s : Spot) (rest : List Spot) → joins k s.token ≡ true → Stops (kind_strength k + 1) (s ∷ rest)
+pub sign_stops : (k : Kind) (s : PlacedToken) (rest : List PlacedToken) → joins k s.token ≡ true → Stops (kind_strength k + 1) (s ∷ rest)
 sign_stops or_chain s rest e = record { chains = by; compares = λ _. or_signs (λ t. is_compare t ≡ false) refl s.token e }
   where
     by : (k : Kind) → 1 ≤ kind_strength k → joins k s.token ≡ false

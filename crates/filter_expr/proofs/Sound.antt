@@ -3,10 +3,10 @@ use Rattle.std.proofs.Common.{◌≡◌, ℕ, zero, suc, ◌+◌, ◌≤◌, Boo
 use Rattle.std.proofs.lemmas.List.{append-nil}
 use Rattle.filter_expr.specs.declared.tokens.Token.{Token}
 use Rattle.filter_expr.specs.declared.tokens.Token.TheVariants as token
-use Rattle.filter_expr.specs.declared.tokens.Spot.{Spot}
+use Rattle.filter_expr.specs.declared.tokens.PlacedToken.{PlacedToken}
 use Rattle.filter_expr.specs.declared.faults.FilterFault.{FilterFault}
 use Rattle.filter_expr.specs.declared.faults.FilterFault.TheVariants.{Bad, NumberRange, TooDeep, NoMemory}
-use Rattle.filter_expr.specs.Trees.{Kind, Tree, Terms, leaf, negation, negative, comparison, chain, parens, no_terms, term, or_chain, and_chain, sum_chain, product_chain, joins, is_leaf, is_huge, is_open, is_minus, is_not, is_compare, is_close, bare, bare_terms, nesting, nesting_terms, InRange, TermsInRange}
+use Rattle.filter_expr.specs.Trees.{Kind, Tree, Terms, leaf, negation, negative, comparison, chain, parens, no_terms, term, or_chain, and_chain, sum_chain, product_chain, joins, is_leaf, is_out_of_range, is_open, is_minus, is_not, is_compare, is_close, bare, bare_terms, nesting, nesting_terms, InRange, TermsInRange}
 use Rattle.filter_expr.specs.Seen.{Part, terms_of}
 use Rattle.filter_expr.specs.Grammar.{IsSpelled, AreSpelled, kind_strength, IsMany, Stands, StandTerms}
 use Rattle.filter_expr.specs.Filters.{opens}
@@ -15,13 +15,13 @@ use Rattle.filter_expr.proofs.Complete.{stands_down}
 use Rattle.filter_expr.proofs.Rows.{wrong}
 
 -- a token, wherever it stands
-abbrev spot_of : Token → Spot
-spot_of t = record { token = t; offset = 0 }
+abbrev placed_of : Token → PlacedToken
+placed_of t = record { token = t; offset = 0 }
 
 -- ---- what is said of the tokens that were used
 
 -- they spell a tree within the limits
-pub record Whole (n l : ℕ) (d : Tree) (us : List Spot) : Type 0 where
+pub record Whole (n l : ℕ) (d : Tree) (us : List PlacedToken) : Type 0 where
   pub tree : Tree
   pub stands : Stands l tree
   pub spelled : IsSpelled tree us
@@ -30,8 +30,8 @@ pub record Whole (n l : ℕ) (d : Tree) (us : List Spot) : Type 0 where
   pub deep : nesting tree ≤ n
 
 -- they begin one
-pub record Begun (n l : ℕ) (us : List Spot) : Type 0 where
-  pub more : List Spot
+pub record Begun (n l : ℕ) (us : List PlacedToken) : Type 0 where
+  pub more : List PlacedToken
   pub tree : Tree
   pub stands : Stands l tree
   pub spelled : IsSpelled tree (us ++ more)
@@ -39,26 +39,26 @@ pub record Begun (n l : ℕ) (us : List Spot) : Type 0 where
   pub deep : nesting tree ≤ n
 
 -- with the next token they begin a tree, whatever its numbers and its depth
-pub record Wide (l : ℕ) (us : List Spot) (here : Spot) : Type 0 where
-  pub more : List Spot
+pub record Wide (l : ℕ) (us : List PlacedToken) (here : PlacedToken) : Type 0 where
+  pub more : List PlacedToken
   pub tree : Tree
   pub stands : Stands l tree
   pub spelled : IsSpelled tree (us ++ here ∷ more)
 
-abbrev pub Cause : ℕ → FilterFault → List Spot → List Spot → Type 0
+abbrev pub Cause : ℕ → FilterFault → List PlacedToken → List PlacedToken → Type 0
 Cause l (Bad o) us rest = Unit {0}
 Cause l (NumberRange o) us [] = ⊥
-Cause l (NumberRange o) us (here ∷ after) = IsTrue (is_huge here.token) × Wide l us here
+Cause l (NumberRange o) us (here ∷ after) = IsTrue (is_out_of_range here.token) × Wide l us here
 Cause l (TooDeep o) us [] = ⊥
 Cause l (TooDeep o) us (here ∷ after) = IsTrue (opens here.token) × Wide l us here
 Cause l NoMemory us rest = ⊥
 
-abbrev pub Outcome : ℕ → ℕ → List Spot → Step Tree → Type 0
-Outcome n l ts (got d rest) = (us : List Spot) × (ts ≡ us ++ rest) × Whole n l d us
-Outcome n l ts (failed f rest) = (us : List Spot) × (ts ≡ us ++ rest) × Begun n l us × Cause l f us rest
+abbrev pub Outcome : ℕ → ℕ → List PlacedToken → Step Tree → Type 0
+Outcome n l ts (got d rest) = (us : List PlacedToken) × (ts ≡ us ++ rest) × Whole n l d us
+Outcome n l ts (failed f rest) = (us : List PlacedToken) × (ts ≡ us ++ rest) × Begun n l us × Cause l f us rest
 
 -- a tree that is wide where it stands for a part is wide where that part is one of a greater tree
-cause_by : (l m : ℕ) (f : FilterFault) (us vs rest : List Spot) → ((here : Spot) → Wide l us here → Wide m vs here) → Cause l f us rest → Cause m f vs rest
+cause_by : (l m : ℕ) (f : FilterFault) (us vs rest : List PlacedToken) → ((here : PlacedToken) → Wide l us here → Wide m vs here) → Cause l f us rest → Cause m f vs rest
 cause_by l m (Bad o) us vs rest g c = tt
 cause_by l m (NumberRange o) us vs [] g c = c
 cause_by l m (NumberRange o) us vs (here ∷ after) g c = (c.0, g here c.1)
@@ -66,7 +66,7 @@ cause_by l m (TooDeep o) us vs [] g c = c
 cause_by l m (TooDeep o) us vs (here ∷ after) g c = (c.0, g here c.1)
 cause_by l m NoMemory us vs rest g c = c
 
-outcome_down : (n l m : ℕ) (ts : List Spot) (r : Step Tree) → m ≤ l → Outcome n l ts r → Outcome n m ts r
+outcome_down : (n l m : ℕ) (ts : List PlacedToken) (r : Step Tree) → m ≤ l → Outcome n l ts r → Outcome n m ts r
 outcome_down n l m ts (got d rest) h o =
     (o.0, o.1, record { tree = o.2.tree; stands = stands_down o.2.tree l m h o.2.stands; spelled = o.2.spelled; is = o.2.is; range = o.2.range; deep = o.2.deep })
 outcome_down n l m ts (failed f rest) h o = (
@@ -78,20 +78,20 @@ outcome_down n l m ts (failed f rest) h o = (
 
 -- `null` begins at any place where a tree may stand
 null_begins : (n l : ℕ) → Begun n l []
-null_begins n l = record { more = spot_of token.Null ∷ []; tree = leaf token.Null; stands = refl; spelled = (spot_of token.Null, refl, refl); range = refl; deep = omega arith }
+null_begins n l = record { more = placed_of token.Null ∷ []; tree = leaf token.Null; stands = refl; spelled = (placed_of token.Null, refl, refl); range = refl; deep = omega arith }
 
-outcome_bad : (n l : ℕ) (ts : List Spot) (o : ℕ) → Outcome n l ts (failed (Bad o) ts)
+outcome_bad : (n l : ℕ) (ts : List PlacedToken) (o : ℕ) → Outcome n l ts (failed (Bad o) ts)
 outcome_bad n l ts o = ([], refl, null_begins n l, tt)
 
-outcome_if : (n l : ℕ) (ts : List Spot) (b : Bool) (x y : Step Tree) → (b ≡ true → Outcome n l ts x) → (b ≡ false → Outcome n l ts y) → Outcome n l ts (if b then x else y)
+outcome_if : (n l : ℕ) (ts : List PlacedToken) (b : Bool) (x y : Step Tree) → (b ≡ true → Outcome n l ts x) → (b ≡ false → Outcome n l ts y) → Outcome n l ts (if b then x else y)
 outcome_if n l ts true x y h g = h refl
 outcome_if n l ts false x y h g = g refl
 
 -- the readers from a token on that opens something, and the strengths of what they read
 pub record SoundIn (n : ℕ) (i : Inner) : Type 0 where
-  pub not_from : (ts : List Spot) → starts is_not ts ≡ true → Outcome n 2 ts (i.not_from ts)
-  pub minus_from : (ts : List Spot) → starts is_minus ts ≡ true → Outcome n 6 ts (i.minus_from ts)
-  pub open_from : (ts : List Spot) → starts is_open ts ≡ true → Outcome n 7 ts (i.open_from ts)
+  pub not_from : (ts : List PlacedToken) → starts is_not ts ≡ true → Outcome n 2 ts (i.not_from ts)
+  pub minus_from : (ts : List PlacedToken) → starts is_minus ts ≡ true → Outcome n 6 ts (i.minus_from ts)
+  pub open_from : (ts : List PlacedToken) → starts is_open ts ≡ true → Outcome n 7 ts (i.open_from ts)
 
 -- ---- signs
 
@@ -115,9 +115,9 @@ compare_is : (t : Token) → is_compare t ≡ true → t ≡ token.Compare (sign
 compare_is (token.Compare c) e = refl
 compare_is _ e = absurd (wrong e)
 
-huge_leaf : (t : Token) → is_huge t ≡ true → IsTrue (is_leaf t || is_huge t)
-huge_leaf token.Huge e = refl
-huge_leaf _ e = absurd (wrong e)
+out_of_range_leaf : (t : Token) → is_out_of_range t ≡ true → IsTrue (is_leaf t || is_out_of_range t)
+out_of_range_leaf token.OutOfRange e = refl
+out_of_range_leaf _ e = absurd (wrong e)
 
 either : (a b : Bool) → a ≡ true → IsTrue (a || b)
 either a b e = ap (λ x. x || b) e
@@ -125,24 +125,24 @@ either a b e = ap (λ x. x || b) e
 -- ---- atoms and signs before a tree
 
 module _ (n : ℕ) (i : Inner) (sound : SoundIn n i) where
-  sound_atom : (ts : List Spot) → Outcome n 7 ts (atom_in i ts)
+  sound_atom : (ts : List PlacedToken) → Outcome n 7 ts (atom_in i ts)
   unfolding atom_in
   sound_atom [] = outcome_bad n 7 [] 0
   sound_atom (s ∷ ts) =
       outcome_if n 7 (s ∷ ts) (is_leaf s.token) _ _
-      (λ e. (s ∷ [], refl, record { tree = leaf s.token; stands = either (is_leaf s.token) (is_huge s.token) e; spelled = (s, refl, refl); is = refl; range = e; deep = omega arith }))
-      (λ _. outcome_if n 7 (s ∷ ts) (is_huge s.token) _ _
-      (λ e. ([], refl, null_begins n 7, (e, record { more = []; tree = leaf s.token; stands = huge_leaf s.token e; spelled = (s, refl, refl) })))
+      (λ e. (s ∷ [], refl, record { tree = leaf s.token; stands = either (is_leaf s.token) (is_out_of_range s.token) e; spelled = (s, refl, refl); is = refl; range = e; deep = omega arith }))
+      (λ _. outcome_if n 7 (s ∷ ts) (is_out_of_range s.token) _ _
+      (λ e. ([], refl, null_begins n 7, (e, record { more = []; tree = leaf s.token; stands = out_of_range_leaf s.token e; spelled = (s, refl, refl) })))
       (λ _. outcome_if n 7 (s ∷ ts) (is_open s.token) _ _ (λ e. sound.open_from (s ∷ ts) e) (λ _. outcome_bad n 7 (s ∷ ts) s.offset)))
 
-  sound_unary : (ts : List Spot) → Outcome n 6 ts (unary_in i ts)
+  sound_unary : (ts : List PlacedToken) → Outcome n 6 ts (unary_in i ts)
   unfolding unary_in
   sound_unary ts =
       outcome_if n 6 ts (starts is_minus ts) _ _ (sound.minus_from ts) (λ _. outcome_down n 7 6 ts (atom_in i ts) (omega arith) (sound_atom ts))
 
 -- ---- chains
 
-pub record WholeTerms (n : ℕ) (k : Kind) (xs : List Part) (ws : List Spot) : Type 0 where
+pub record WholeTerms (n : ℕ) (k : Kind) (xs : List Part) (ws : List PlacedToken) : Type 0 where
   pub terms : Terms
   pub stand : StandTerms k terms
   pub spelled : AreSpelled terms ws
@@ -150,8 +150,8 @@ pub record WholeTerms (n : ℕ) (k : Kind) (xs : List Part) (ws : List Spot) : T
   pub range : TermsInRange terms
   pub deep : nesting_terms terms ≤ n
 
-pub record BegunTerms (n : ℕ) (k : Kind) (ws : List Spot) : Type 0 where
-  pub more : List Spot
+pub record BegunTerms (n : ℕ) (k : Kind) (ws : List PlacedToken) : Type 0 where
+  pub more : List PlacedToken
   pub terms : Terms
   pub many : IsMany terms
   pub stand : StandTerms k terms
@@ -159,26 +159,26 @@ pub record BegunTerms (n : ℕ) (k : Kind) (ws : List Spot) : Type 0 where
   pub range : TermsInRange terms
   pub deep : nesting_terms terms ≤ n
 
-pub record WideTerms (k : Kind) (ws : List Spot) (here : Spot) : Type 0 where
-  pub more : List Spot
+pub record WideTerms (k : Kind) (ws : List PlacedToken) (here : PlacedToken) : Type 0 where
+  pub more : List PlacedToken
   pub terms : Terms
   pub many : IsMany terms
   pub stand : StandTerms k terms
   pub spelled : AreSpelled terms (ws ++ here ∷ more)
 
-abbrev pub CauseTerms : Kind → FilterFault → List Spot → List Spot → Type 0
+abbrev pub CauseTerms : Kind → FilterFault → List PlacedToken → List PlacedToken → Type 0
 CauseTerms k (Bad o) us rest = Unit {0}
 CauseTerms k (NumberRange o) us [] = ⊥
-CauseTerms k (NumberRange o) us (here ∷ after) = IsTrue (is_huge here.token) × WideTerms k us here
+CauseTerms k (NumberRange o) us (here ∷ after) = IsTrue (is_out_of_range here.token) × WideTerms k us here
 CauseTerms k (TooDeep o) us [] = ⊥
 CauseTerms k (TooDeep o) us (here ∷ after) = IsTrue (opens here.token) × WideTerms k us here
 CauseTerms k NoMemory us rest = ⊥
 
-abbrev pub OutcomeTerms : ℕ → Kind → List Spot → Step (List Part) → Type 0
-OutcomeTerms n k ts (got xs rest) = (ws : List Spot) × (ts ≡ ws ++ rest) × WholeTerms n k xs ws
-OutcomeTerms n k ts (failed f rest) = (ws : List Spot) × (ts ≡ ws ++ rest) × BegunTerms n k ws × CauseTerms k f ws rest
+abbrev pub OutcomeTerms : ℕ → Kind → List PlacedToken → Step (List Part) → Type 0
+OutcomeTerms n k ts (got xs rest) = (ws : List PlacedToken) × (ts ≡ ws ++ rest) × WholeTerms n k xs ws
+OutcomeTerms n k ts (failed f rest) = (ws : List PlacedToken) × (ts ≡ ws ++ rest) × BegunTerms n k ws × CauseTerms k f ws rest
 
-cause_to_terms : (l : ℕ) (k : Kind) (f : FilterFault) (us vs rest : List Spot) → ((here : Spot) → Wide l us here → WideTerms k vs here) → Cause l f us rest → CauseTerms k f vs rest
+cause_to_terms : (l : ℕ) (k : Kind) (f : FilterFault) (us vs rest : List PlacedToken) → ((here : PlacedToken) → Wide l us here → WideTerms k vs here) → Cause l f us rest → CauseTerms k f vs rest
 cause_to_terms l k (Bad o) us vs rest g c = tt
 cause_to_terms l k (NumberRange o) us vs [] g c = c
 cause_to_terms l k (NumberRange o) us vs (here ∷ after) g c = (c.0, g here c.1)
@@ -186,7 +186,7 @@ cause_to_terms l k (TooDeep o) us vs [] g c = c
 cause_to_terms l k (TooDeep o) us vs (here ∷ after) g c = (c.0, g here c.1)
 cause_to_terms l k NoMemory us vs rest g c = c
 
-cause_in_terms : (k : Kind) (f : FilterFault) (us vs rest : List Spot) → ((here : Spot) → WideTerms k us here → WideTerms k vs here) → CauseTerms k f us rest → CauseTerms k f vs rest
+cause_in_terms : (k : Kind) (f : FilterFault) (us vs rest : List PlacedToken) → ((here : PlacedToken) → WideTerms k us here → WideTerms k vs here) → CauseTerms k f us rest → CauseTerms k f vs rest
 cause_in_terms k (Bad o) us vs rest g c = tt
 cause_in_terms k (NumberRange o) us vs [] g c = c
 cause_in_terms k (NumberRange o) us vs (here ∷ after) g c = (c.0, g here c.1)
@@ -194,7 +194,7 @@ cause_in_terms k (TooDeep o) us vs [] g c = c
 cause_in_terms k (TooDeep o) us vs (here ∷ after) g c = (c.0, g here c.1)
 cause_in_terms k NoMemory us vs rest g c = c
 
-cause_from_terms : (l : ℕ) (k : Kind) (f : FilterFault) (us vs rest : List Spot) → ((here : Spot) → WideTerms k us here → Wide l vs here) → CauseTerms k f us rest → Cause l f vs rest
+cause_from_terms : (l : ℕ) (k : Kind) (f : FilterFault) (us vs rest : List PlacedToken) → ((here : PlacedToken) → WideTerms k us here → Wide l vs here) → CauseTerms k f us rest → Cause l f vs rest
 cause_from_terms l k (Bad o) us vs rest g c = tt
 cause_from_terms l k (NumberRange o) us vs [] g c = c
 cause_from_terms l k (NumberRange o) us vs (here ∷ after) g c = (c.0, g here c.1)
@@ -203,12 +203,12 @@ cause_from_terms l k (TooDeep o) us vs (here ∷ after) g c = (c.0, g here c.1)
 cause_from_terms l k NoMemory us vs rest g c = c
 
 -- an equation of tokens behind more of them
-behind : (ts us rest all : List Spot) → ts ≡ us ++ all → all ≡ rest → ts ≡ us ++ rest
+behind : (ts us rest all : List PlacedToken) → ts ≡ us ++ all → all ≡ rest → ts ≡ us ++ rest
 behind ts us rest all e g = e ∙ ap (λ l. us ++ l) g
 
-module _ (n : ℕ) (k : Kind) (part : Reader Tree) (sound : (ts : List Spot) → Outcome n (kind_strength k + 1) ts (part ts)) where
+module _ (n : ℕ) (k : Kind) (part : Reader Tree) (sound : (ts : List PlacedToken) → Outcome n (kind_strength k + 1) ts (part ts)) where
   -- a sign, the outcome of the part behind it, and that of the parts behind this one
-  one_more : (s : Spot) (ts : List Spot) (next : Reader (List Part)) → joins k s.token ≡ true → ((us : List Spot) → OutcomeTerms n k us (next us)) → (r : Step Tree) →
+  one_more : (s : PlacedToken) (ts : List PlacedToken) (next : Reader (List Part)) → joins k s.token ≡ true → ((us : List PlacedToken) → OutcomeTerms n k us (next us)) → (r : Step Tree) →
       Outcome n (kind_strength k + 1) ts r → OutcomeTerms n k (s ∷ ts) (then_read r (λ e us. with_front ((s.token, e) ∷ []) (next us)))
   one_more s ts next j ih (failed f rest) o = (
     s ∷ o.0,
@@ -268,14 +268,14 @@ module _ (n : ℕ) (k : Kind) (part : Reader Tree) (sound : (ts : List Spot) →
             }) m.3,
       )
 
-  no_more : (ts : List Spot) → OutcomeTerms n k ts (got [] ts)
+  no_more : (ts : List PlacedToken) → OutcomeTerms n k ts (got [] ts)
   no_more ts = ([], refl, record { terms = no_terms; stand = tt; spelled = refl; is = refl; range = tt; deep = omega arith })
 
-  terms_if : (ts : List Spot) (b : Bool) (x y : Step (List Part)) → (b ≡ true → OutcomeTerms n k ts x) → (b ≡ false → OutcomeTerms n k ts y) → OutcomeTerms n k ts (if b then x else y)
+  terms_if : (ts : List PlacedToken) (b : Bool) (x y : Step (List Part)) → (b ≡ true → OutcomeTerms n k ts x) → (b ≡ false → OutcomeTerms n k ts y) → OutcomeTerms n k ts (if b then x else y)
   terms_if ts true x y h g = h refl
   terms_if ts false x y h g = g refl
 
-  sound_turns : (m : ℕ) (ts : List Spot) → OutcomeTerms n k ts (turns k part m ts)
+  sound_turns : (m : ℕ) (ts : List PlacedToken) → OutcomeTerms n k ts (turns k part m ts)
   unfolding turns
   sound_turns zero ts = no_more ts
   sound_turns (suc m) [] = no_more []
@@ -287,7 +287,7 @@ module _ (n : ℕ) (k : Kind) (part : Reader Tree) (sound : (ts : List Spot) →
   many_of x xs (term t d ps) e = tt
 
   -- a chain by the outcome of its first part and that of the later ones
-  whole_chain : (us rest : List Spot) (d : Tree) (w : Whole n (kind_strength k + 1) d us) (xs : List Part) (ws : List Spot) → WholeTerms n k xs ws →
+  whole_chain : (us rest : List PlacedToken) (d : Tree) (w : Whole n (kind_strength k + 1) d us) (xs : List Part) (ws : List PlacedToken) → WholeTerms n k xs ws →
       Whole n (kind_strength k) (chained k d xs) (us ++ ws)
   whole_chain us rest d w [] ws m = record {
     tree = w.tree;
@@ -298,7 +298,7 @@ module _ (n : ℕ) (k : Kind) (part : Reader Tree) (sound : (ts : List Spot) →
     deep = w.deep;
   }
     where
-      none : (ps : Terms) (vs : List Spot) → bare_terms ps ≡ no_terms → AreSpelled ps vs → vs ≡ []
+      none : (ps : Terms) (vs : List PlacedToken) → bare_terms ps ≡ no_terms → AreSpelled ps vs → vs ≡ []
       none no_terms vs e p = p
       none (term t x ps) vs e p = absurd (cc)
   whole_chain us rest d w (x ∷ xs) ws m = record {
@@ -310,11 +310,11 @@ module _ (n : ℕ) (k : Kind) (part : Reader Tree) (sound : (ts : List Spot) →
     deep = omega (arith, w.deep, m.deep);
   }
 
-  sound_chain : (ts : List Spot) → Outcome n (kind_strength k) ts (chain_of k part ts)
+  sound_chain : (ts : List PlacedToken) → Outcome n (kind_strength k) ts (chain_of k part ts)
   unfolding chain_of later
   sound_chain ts = by (part ts) (sound ts)
     where
-      after : (d : Tree) (us : List Spot) (o : (vs : List Spot) × (ts ≡ vs ++ us) × Whole n (kind_strength k + 1) d vs) (r : Step (List Part)) → OutcomeTerms n k us r →
+      after : (d : Tree) (us : List PlacedToken) (o : (vs : List PlacedToken) × (ts ≡ vs ++ us) × Whole n (kind_strength k + 1) d vs) (r : Step (List Part)) → OutcomeTerms n k us r →
           Outcome n (kind_strength k) ts (chain_after k d r)
       after d us o (got xs rest) m =
           (o.0 ++ m.0, o.1 ∙ ap (λ l. o.0 ++ l) m.1 ∙ sym (append_assoc o.0 m.0 rest), whole_chain o.0 rest d o.2 xs m.0 m.2)
@@ -344,8 +344,8 @@ module _ (n : ℕ) (k : Kind) (part : Reader Tree) (sound : (ts : List Spot) →
 
 -- ---- comparisons
 
-module _ (n : ℕ) (part : Reader Tree) (sound : (ts : List Spot) → Outcome n 4 ts (part ts)) where
-  second : (ts : List Spot) (a : Tree) (s : Spot) (vs : List Spot) (o : (us : List Spot) × (ts ≡ us ++ s ∷ vs) × Whole n 4 a us) → is_compare s.token ≡ true → (r : Step Tree) → Outcome n 4 vs r →
+module _ (n : ℕ) (part : Reader Tree) (sound : (ts : List PlacedToken) → Outcome n 4 ts (part ts)) where
+  second : (ts : List PlacedToken) (a : Tree) (s : PlacedToken) (vs : List PlacedToken) (o : (us : List PlacedToken) × (ts ≡ us ++ s ∷ vs) × Whole n 4 a us) → is_compare s.token ≡ true → (r : Step Tree) → Outcome n 4 vs r →
       Outcome n 3 ts (then_read r (λ b ws. got (comparison a (sign_of s.token) b) ws))
   second ts a s vs o j (got b rest) m = (
     o.0 ++ s ∷ m.0,
@@ -379,7 +379,7 @@ module _ (n : ℕ) (part : Reader Tree) (sound : (ts : List Spot) → Outcome n 
         }) m.3,
   )
 
-  after_first : (ts : List Spot) (a : Tree) (us : List Spot) → Outcome n 4 ts (got a us) →
+  after_first : (ts : List PlacedToken) (a : Tree) (us : List PlacedToken) → Outcome n 4 ts (got a us) →
       Outcome n 3 ts (if starts is_compare us then then_read (part (drop 1 us)) (λ b vs. got (comparison a (sign_of (first_token us)) b) vs) else got a us)
   after_first ts a [] o = outcome_down n 4 3 ts (got a []) (omega arith) o
   after_first ts a (s ∷ vs) o =
@@ -388,10 +388,10 @@ module _ (n : ℕ) (part : Reader Tree) (sound : (ts : List Spot) → Outcome n 
 -- ---- what a token opens
 
 -- `not` and the sign of a negative are read alike
-module _ (n l : ℕ) (t : Token) (wrap : Tree → Tree) (made : (e : Tree) (us : List Spot) (s : Spot) → s.token ≡ t → IsSpelled e us → IsSpelled (wrap e) (s ∷ us))
+module _ (n l : ℕ) (t : Token) (wrap : Tree → Tree) (made : (e : Tree) (us : List PlacedToken) (s : PlacedToken) → s.token ≡ t → IsSpelled e us → IsSpelled (wrap e) (s ∷ us))
     (stand : (e : Tree) → Stands l e → Stands l (wrap e)) (range : (e : Tree) → InRange e → InRange (wrap e)) (deep : (e : Tree) → nesting e ≤ n → nesting (wrap e) ≤ suc n)
     (same : (e : Tree) → bare (wrap e) ≡ wrap (bare e)) where
-  wrapped : (s : Spot) (ts : List Spot) → s.token ≡ t → (r : Step Tree) → Outcome n l ts r → Outcome (suc n) l (s ∷ ts) (then_read r (λ e us. got (wrap e) us))
+  wrapped : (s : PlacedToken) (ts : List PlacedToken) → s.token ≡ t → (r : Step Tree) → Outcome n l ts r → Outcome (suc n) l (s ∷ ts) (then_read r (λ e us. got (wrap e) us))
   wrapped s ts q (got d rest) o = (
     s ∷ o.0,
     ap (λ x. s ∷ x) o.1,
@@ -419,47 +419,47 @@ module _ (n l : ℕ) (t : Token) (wrap : Tree → Tree) (made : (e : Tree) (us :
         (λ here w. record { more = w.more; tree = wrap w.tree; stands = stand w.tree w.stands; spelled = made w.tree (o.0 ++ here ∷ w.more) s q w.spelled }) o.3,
   )
 
-in_parens : (e : Tree) (us vs ws : List Spot) (s z : Spot) → s.token ≡ token.Open → z.token ≡ token.Close → IsSpelled e (us ++ vs) → ws ≡ (s ∷ us) ++ (vs ++ z ∷ []) → IsSpelled (parens e) ws
+in_parens : (e : Tree) (us vs ws : List PlacedToken) (s z : PlacedToken) → s.token ≡ token.Open → z.token ≡ token.Close → IsSpelled e (us ++ vs) → ws ≡ (s ∷ us) ++ (vs ++ z ∷ []) → IsSpelled (parens e) ws
 in_parens e us vs ws s z a b p q = (s, us ++ vs, z, q ∙ ap (λ x. s ∷ x) (sym (append_assoc us vs (z ∷ []))), a, b, p)
 
-enclosed : (n : ℕ) (s : Spot) (ts : List Spot) → s.token ≡ token.Open → (r : Step Tree) → Outcome n 0 ts r → Outcome (suc n) 7 (s ∷ ts) (then_read r closed)
+enclosed : (n : ℕ) (s : PlacedToken) (ts : List PlacedToken) → s.token ≡ token.Open → (r : Step Tree) → Outcome n 0 ts r → Outcome (suc n) 7 (s ∷ ts) (then_read r closed)
 enclosed n s ts q (failed f rest) o = (
   s ∷ o.0,
   ap (λ x. s ∷ x) o.1,
   record {
-    more = o.2.more ++ spot_of token.Close ∷ [];
+    more = o.2.more ++ placed_of token.Close ∷ [];
     tree = parens o.2.tree;
     stands = o.2.stands;
-    spelled = in_parens o.2.tree o.0 o.2.more ((s ∷ o.0) ++ (o.2.more ++ spot_of token.Close ∷ [])) s (spot_of token.Close) q refl o.2.spelled refl;
+    spelled = in_parens o.2.tree o.0 o.2.more ((s ∷ o.0) ++ (o.2.more ++ placed_of token.Close ∷ [])) s (placed_of token.Close) q refl o.2.spelled refl;
     range = o.2.range;
     deep = omega (arith, o.2.deep);
   },
   cause_by 0 7 f o.0 (s ∷ o.0) rest
       (λ here w. record {
-        more = w.more ++ spot_of token.Close ∷ [];
+        more = w.more ++ placed_of token.Close ∷ [];
         tree = parens w.tree;
         stands = w.stands;
-        spelled = in_parens w.tree o.0 (here ∷ w.more) ((s ∷ o.0) ++ here ∷ (w.more ++ spot_of token.Close ∷ [])) s (spot_of token.Close) q refl w.spelled refl;
+        spelled = in_parens w.tree o.0 (here ∷ w.more) ((s ∷ o.0) ++ here ∷ (w.more ++ placed_of token.Close ∷ [])) s (placed_of token.Close) q refl w.spelled refl;
       }) o.3,
 )
 enclosed n s ts q (got d rest) o = by rest o
   where
-    unclosed : (us rest : List Spot) (o : ℕ) → ts ≡ us ++ rest → Whole n 0 d us → Outcome (suc n) 7 (s ∷ ts) (failed (Bad o) rest)
+    unclosed : (us rest : List PlacedToken) (o : ℕ) → ts ≡ us ++ rest → Whole n 0 d us → Outcome (suc n) 7 (s ∷ ts) (failed (Bad o) rest)
     unclosed us rest o e w = (
       s ∷ us,
       ap (λ x. s ∷ x) e,
       record {
-        more = spot_of token.Close ∷ [];
+        more = placed_of token.Close ∷ [];
         tree = parens w.tree;
         stands = w.stands;
-        spelled = (s, us, spot_of token.Close, refl, q, refl, w.spelled);
+        spelled = (s, us, placed_of token.Close, refl, q, refl, w.spelled);
         range = w.range;
         deep = omega (arith, w.deep);
       },
       tt,
     )
 
-    by : (rest : List Spot) → (us : List Spot) × (ts ≡ us ++ rest) × Whole n 0 d us → Outcome (suc n) 7 (s ∷ ts) (closed d rest)
+    by : (rest : List PlacedToken) → (us : List PlacedToken) × (ts ≡ us ++ rest) × Whole n 0 d us → Outcome (suc n) 7 (s ∷ ts) (closed d rest)
     by [] o = unclosed o.0 [] 0 o.1 o.2
     by (z ∷ zs) o =
         outcome_if (suc n) 7 (s ∷ ts) (is_close z.token) _ _
@@ -473,15 +473,15 @@ enclosed n s ts q (got d rest) o = by rest o
 -- ---- all rows
 
 module _ (n : ℕ) (i : Inner) (sound : SoundIn n i) where
-  sound_product : (ts : List Spot) → Outcome n 5 ts (product_in i ts)
+  sound_product : (ts : List PlacedToken) → Outcome n 5 ts (product_in i ts)
   unfolding product_in
   sound_product = sound_chain n product_chain (unary_in i) (sound_unary n i sound)
 
-  sound_sum : (ts : List Spot) → Outcome n 4 ts (sum_in i ts)
+  sound_sum : (ts : List PlacedToken) → Outcome n 4 ts (sum_in i ts)
   unfolding sum_in
   sound_sum = sound_chain n sum_chain (product_in i) sound_product
 
-  sound_compare : (ts : List Spot) → Outcome n 3 ts (compare_in i ts)
+  sound_compare : (ts : List PlacedToken) → Outcome n 3 ts (compare_in i ts)
   unfolding compare_in
   sound_compare ts = by (sum_in i ts) (sound_sum ts)
     where
@@ -489,56 +489,56 @@ module _ (n : ℕ) (i : Inner) (sound : SoundIn n i) where
       by (got a us) o = after_first n (sum_in i) sound_sum ts a us o
       by (failed f rest) o = outcome_down n 4 3 ts (failed f rest) (omega arith) o
 
-  pub sound_not : (ts : List Spot) → Outcome n 2 ts (not_in i ts)
+  pub sound_not : (ts : List PlacedToken) → Outcome n 2 ts (not_in i ts)
   unfolding not_in
   sound_not ts = outcome_if n 2 ts (starts is_not ts) _ _ (sound.not_from ts) (λ _. outcome_down n 3 2 ts (compare_in i ts) (omega arith) (sound_compare ts))
 
-  sound_and : (ts : List Spot) → Outcome n 1 ts (and_in i ts)
+  sound_and : (ts : List PlacedToken) → Outcome n 1 ts (and_in i ts)
   unfolding and_in
   sound_and = sound_chain n and_chain (not_in i) sound_not
 
-  pub sound_or : (ts : List Spot) → Outcome n 0 ts (or_in i ts)
+  pub sound_or : (ts : List PlacedToken) → Outcome n 0 ts (or_in i ts)
   unfolding or_in
   sound_or = sound_chain n or_chain (and_in i) sound_and
 
-opened_wide : (l : ℕ) (s : Spot) (ts : List Spot) (e : Tree) (more : List Spot) → IsTrue (opens s.token) → Stands l e → IsSpelled e (s ∷ more) → Outcome 0 l (s ∷ ts) (too_deep (s ∷ ts))
+opened_wide : (l : ℕ) (s : PlacedToken) (ts : List PlacedToken) (e : Tree) (more : List PlacedToken) → IsTrue (opens s.token) → Stands l e → IsSpelled e (s ∷ more) → Outcome 0 l (s ∷ ts) (too_deep (s ∷ ts))
 opened_wide l s ts e more o st p = ([], refl, null_begins 0 l, (o, record { more = more; tree = e; stands = st; spelled = p }))
 
 pub within_sound : (n : ℕ) → SoundIn n (within_depth n)
 unfolding within_depth
 within_sound zero = record { not_from = by_not; minus_from = by_minus; open_from = by_open }
   where
-    null : Spot
-    null = spot_of token.Null
+    null : PlacedToken
+    null = placed_of token.Null
 
-    by_not : (ts : List Spot) → starts is_not ts ≡ true → Outcome 0 2 ts (too_deep ts)
+    by_not : (ts : List PlacedToken) → starts is_not ts ≡ true → Outcome 0 2 ts (too_deep ts)
     by_not [] e = absurd (wrong e)
     by_not (s ∷ ts) e =
         opened_wide 2 s ts (negation (leaf null.token)) (null ∷ []) (ap opens (not_is s.token e)) (omega arith, refl) (s, null ∷ [], refl, not_is s.token e, (null, refl, refl))
 
-    by_minus : (ts : List Spot) → starts is_minus ts ≡ true → Outcome 0 6 ts (too_deep ts)
+    by_minus : (ts : List PlacedToken) → starts is_minus ts ≡ true → Outcome 0 6 ts (too_deep ts)
     by_minus [] e = absurd (wrong e)
     by_minus (s ∷ ts) e =
         opened_wide 6 s ts (negative (leaf null.token)) (null ∷ []) (ap opens (minus_is s.token e)) (omega arith, refl) (s, null ∷ [], refl, minus_is s.token e, (null, refl, refl))
 
-    by_open : (ts : List Spot) → starts is_open ts ≡ true → Outcome 0 7 ts (too_deep ts)
+    by_open : (ts : List PlacedToken) → starts is_open ts ≡ true → Outcome 0 7 ts (too_deep ts)
     by_open [] e = absurd (wrong e)
     by_open (s ∷ ts) e =
-        opened_wide 7 s ts (parens (leaf null.token)) (null ∷ spot_of token.Close ∷ []) (ap opens (open_is s.token e)) refl (s, null ∷ [], spot_of token.Close, refl, open_is s.token e, refl, (null, refl, refl))
+        opened_wide 7 s ts (parens (leaf null.token)) (null ∷ placed_of token.Close ∷ []) (ap opens (open_is s.token e)) refl (s, null ∷ [], placed_of token.Close, refl, open_is s.token e, refl, (null, refl, refl))
 within_sound (suc n) = record { not_from = by_not (within_sound n); minus_from = by_minus (within_sound n); open_from = by_open (within_sound n) }
   where
-    by_not : SoundIn n (within_depth n) → (ts : List Spot) → starts is_not ts ≡ true → Outcome (suc n) 2 ts (then_read (not_in (within_depth n) (drop 1 ts)) got_negation)
+    by_not : SoundIn n (within_depth n) → (ts : List PlacedToken) → starts is_not ts ≡ true → Outcome (suc n) 2 ts (then_read (not_in (within_depth n) (drop 1 ts)) got_negation)
     by_not ih [] e = absurd (wrong e)
     by_not ih (s ∷ ts) e =
         wrapped n 2 token.Not negation (λ d us z q p. (z, us, refl, q, p)) (λ d p. (omega arith, p)) (λ d p. p) (λ d p. omega (arith, p)) (λ d. refl) s ts (not_is s.token e)
         (not_in (within_depth n) ts) (sound_not n (within_depth n) ih ts)
 
-    by_minus : SoundIn n (within_depth n) → (ts : List Spot) → starts is_minus ts ≡ true → Outcome (suc n) 6 ts (then_read (unary_in (within_depth n) (drop 1 ts)) got_negative)
+    by_minus : SoundIn n (within_depth n) → (ts : List PlacedToken) → starts is_minus ts ≡ true → Outcome (suc n) 6 ts (then_read (unary_in (within_depth n) (drop 1 ts)) got_negative)
     by_minus ih [] e = absurd (wrong e)
     by_minus ih (s ∷ ts) e =
         wrapped n 6 token.Minus negative (λ d us z q p. (z, us, refl, q, p)) (λ d p. (omega arith, p)) (λ d p. p) (λ d p. omega (arith, p)) (λ d. refl) s ts (minus_is s.token e)
         (unary_in (within_depth n) ts) (sound_unary n (within_depth n) ih ts)
 
-    by_open : SoundIn n (within_depth n) → (ts : List Spot) → starts is_open ts ≡ true → Outcome (suc n) 7 ts (then_read (or_in (within_depth n) (drop 1 ts)) closed)
+    by_open : SoundIn n (within_depth n) → (ts : List PlacedToken) → starts is_open ts ≡ true → Outcome (suc n) 7 ts (then_read (or_in (within_depth n) (drop 1 ts)) closed)
     by_open ih [] e = absurd (wrong e)
     by_open ih (s ∷ ts) e = enclosed n s ts (open_is s.token e) (or_in (within_depth n) ts) (sound_or n (within_depth n) ih ts)

@@ -275,9 +275,9 @@ token_complete (token.Quoted t) us more s e =
       at = quote_first s.0 s.3 ((s.1 ++ s.0 ∷ []) ++ more) ∙ quoted_found s.0 t s.1 more s.3 s.4 ∙ ap (λ m. taken (token.Quoted t) m) (omega (arith, length-append s.1 (s.0 ∷ [])));
     }
 token_complete (token.Number z) us more s e = digits_found us more (token.Number z) s.0 e
-    (ap (λ (b : Bool). if b then token.Number (pos (number_of us)) else token.Huge) (lt-ltb (number_of us) (2 ^ 63) s.2) ∙ ap token.Number (sym s.1))
-token_complete token.Huge us more s e = digits_found us more token.Huge s.0 e
-    (ap (λ (b : Bool). if b then token.Number (pos (number_of us)) else token.Huge) (le-ltb (number_of us) (2 ^ 63) s.1))
+    (ap (λ (b : Bool). if b then token.Number (pos (number_of us)) else token.OutOfRange) (lt-ltb (number_of us) (2 ^ 63) s.2) ∙ ap token.Number (sym s.1))
+token_complete token.OutOfRange us more s e = digits_found us more token.OutOfRange s.0 e
+    (ap (λ (b : Bool). if b then token.Number (pos (number_of us)) else token.OutOfRange) (le-ltb (number_of us) (2 ^ 63) s.1))
 token_complete token.True us more s e = found_at token.True (codes "true") us more s (word_found (codes "true") more token.True refl refl refl refl) e
 token_complete token.False us more s e = found_at token.False (codes "false") us more s (word_found (codes "false") more token.False refl refl refl refl) e
 token_complete token.Null us more s e = found_at token.Null (codes "null") us more s (word_found (codes "null") more token.Null refl refl refl refl) e

@@ -6,14 +6,14 @@ use Rattle.plain_filters.specs.declared.CompareSign.TheVariants as «compare»
 use Rattle.std.proofs.lemmas.List.{take-append-drop, length-take, length-drop}
 use Rattle.filter_expr.specs.declared.tokens.Token.{Token}
 use Rattle.filter_expr.specs.declared.tokens.Token.TheVariants as token
-use Rattle.filter_expr.specs.declared.tokens.Spot.{Spot}
+use Rattle.filter_expr.specs.declared.tokens.PlacedToken.{PlacedToken}
 use Rattle.filter_expr.specs.Trees.{is_unknown}
 use Rattle.farm_base.specs.Digits.{is_digit}
 use Rattle.filter_expr.specs.Spelling.{is_blank, is_quote, IsDigits, begins_with, Spells, StandsFirst, AreTokens, TokensOf}
 use Rattle.filter_expr.specs.Lexing.{Taken, token_at, lexed}
 use Rattle.filter_expr.proofs.Spelled.{wrong, split_bool, token_complete, both_true, not_equal}
 use Rattle.filter_expr.proofs.Lexemes.{token_good}
-use Rattle.filter_expr.proofs.Lexes.{token_fits, lexed_skips, from_token, spot_then, unknown_is}
+use Rattle.filter_expr.proofs.Lexes.{token_fits, lexed_skips, from_token, placed_then, unknown_is}
 use Rattle.filter_expr.proofs.Final.{Stopped, is_stop}
 
 -- ---- one step of the lexer, at any place
@@ -26,14 +26,14 @@ lexed_solid : (at : ℕ) (b : ℕ) (bs : List ℕ) → is_blank b ≡ false → 
 unfolding lexed
 lexed_solid at b bs e = ap (λ t. if t then lexed (suc at) 0 bs else from_token at b bs) e
 
-from_unknown : (at : ℕ) (b : ℕ) (bs : List ℕ) → is_unknown (token_at (b ∷ bs)).0 ≡ true → from_token at b bs ≡ spot_then token.Unknown at []
-from_unknown at b bs e = ap (λ t. if t then spot_then token.Unknown at [] else spot_then (token_at (b ∷ bs)).0 at (lexed (suc at) ((token_at (b ∷ bs)).1 - 1) bs)) e
+from_unknown : (at : ℕ) (b : ℕ) (bs : List ℕ) → is_unknown (token_at (b ∷ bs)).0 ≡ true → from_token at b bs ≡ placed_then token.Unknown at []
+from_unknown at b bs e = ap (λ t. if t then placed_then token.Unknown at [] else placed_then (token_at (b ∷ bs)).0 at (lexed (suc at) ((token_at (b ∷ bs)).1 - 1) bs)) e
 
 from_known : (at : ℕ) (b : ℕ) (bs : List ℕ) → is_unknown (token_at (b ∷ bs)).0 ≡ false →
-    from_token at b bs ≡ spot_then (token_at (b ∷ bs)).0 at (lexed (at + (token_at (b ∷ bs)).1) 0 (drop (token_at (b ∷ bs)).1 (b ∷ bs)))
+    from_token at b bs ≡ placed_then (token_at (b ∷ bs)).0 at (lexed (at + (token_at (b ∷ bs)).1) 0 (drop (token_at (b ∷ bs)).1 (b ∷ bs)))
 from_known at b bs e =
-    ap (λ t. if t then spot_then token.Unknown at [] else spot_then (token_at (b ∷ bs)).0 at (lexed (suc at) ((token_at (b ∷ bs)).1 - 1) bs)) e
-    ∙ ap (spot_then (token_at (b ∷ bs)).0 at) (skipped (token_at (b ∷ bs)).1 (token_fits b bs).least (token_fits b bs).most)
+    ap (λ t. if t then placed_then token.Unknown at [] else placed_then (token_at (b ∷ bs)).0 at (lexed (suc at) ((token_at (b ∷ bs)).1 - 1) bs)) e
+    ∙ ap (placed_then (token_at (b ∷ bs)).0 at) (skipped (token_at (b ∷ bs)).1 (token_fits b bs).least (token_fits b bs).most)
   where
     skipped : (n : ℕ) → 1 ≤ n → n ≤ length (b ∷ bs) → lexed (suc at) (n - 1) bs ≡ lexed (at + n) 0 (drop n (b ∷ bs))
     skipped zero l m = absurd (omega (arith, l))
@@ -45,7 +45,7 @@ from_known at b bs e =
 -- ---- the lexer's list is one of tokens
 
 -- what is said of the first token, at its place
-abbrev pub Rest : ℕ → List ℕ → List ℕ → Spot → List Spot → Type 0
+abbrev pub Rest : ℕ → List ℕ → List ℕ → PlacedToken → List PlacedToken → Type 0
 Rest at us more s others =
     (StandsFirst s.token us more × AreTokens (at + length us) more others)
     ⊎ ((others ≡ []) × (us ≡ [])
@@ -53,15 +53,15 @@ Rest at us more s others =
     ⊎ ((s.token ≡ token.Unknown) × (more ≢ []) × (begins_with is_blank more ≡ false)
     × ((t : Token) → (vs : List ℕ) → (ws : List ℕ) → more ≡ vs ++ ws → StandsFirst t vs ws → ⊥))))
 
-add_blank : (at : ℕ) (b : ℕ) (bs : List ℕ) (ts : List Spot) → is_blank b ≡ true → AreTokens (suc at) bs ts → AreTokens at (b ∷ bs) ts
+add_blank : (at : ℕ) (b : ℕ) (bs : List ℕ) (ts : List PlacedToken) → is_blank b ≡ true → AreTokens (suc at) bs ts → AreTokens at (b ∷ bs) ts
 add_blank at b bs [] e h = h
 add_blank at b bs (s ∷ ts) e h =
     let place : suc at + length h.0 ≡ at + length (b ∷ h.0) = omega arith in
     (b ∷ h.0, h.1, h.2, ap (λ l. b ∷ l) h.3, ap (λ t. t && list_all is_blank h.0) e ∙ h.4, h.5 ∙ place, subst (λ k. Rest k h.1 h.2 s ts) place h.6)
 
 -- a first token without blanks before it
-at_once : (at : ℕ) (bs us more : List ℕ) (t : Token) (others : List Spot) → bs ≡ us ++ more → Rest at us more (record { token = t; offset = at }) others →
-    AreTokens at bs (spot_then t at others)
+at_once : (at : ℕ) (bs us more : List ℕ) (t : Token) (others : List PlacedToken) → bs ≡ us ++ more → Rest at us more (record { token = t; offset = at }) others →
+    AreTokens at bs (placed_then t at others)
 at_once at bs us more t others e r = ([], us, more, e, refl, sym (add-zero at), subst (λ k. Rest k us more (record { token = t; offset = at }) others) (sym (add-zero at)) r)
 
 some_bytes : (b : ℕ) (bs : List ℕ) → (b ∷ bs) ≢ []
@@ -74,7 +74,7 @@ none_there b bs u t vs ws e s =
     let unknown : is_unknown t ≡ true = sym (ap (λ (r : Taken). is_unknown r.0) (ap token_at e ∙ found)) ∙ u in
     subst (λ x. Spells x vs) (unknown_is t unknown) s.0
 
-end_lexed : (at : ℕ) → lexed at 0 [] ≡ spot_then token.End at []
+end_lexed : (at : ℕ) → lexed at 0 [] ≡ placed_then token.End at []
 unfolding lexed
 end_lexed at = refl
 
@@ -84,7 +84,7 @@ tokens_of zero at (b ∷ bs) h = absurd (omega (arith, h))
 tokens_of (suc m) at (b ∷ bs) h = by (split_bool (is_blank b)) (λ k l g. tokens_of m k l g)
   where
     known : ((k : ℕ) (l : List ℕ) → length l ≤ m → AreTokens k l (lexed k 0 l)) → is_unknown (token_at (b ∷ bs)).0 ≡ false →
-        AreTokens at (b ∷ bs) (spot_then (token_at (b ∷ bs)).0 at (lexed (at + (token_at (b ∷ bs)).1) 0 (drop (token_at (b ∷ bs)).1 (b ∷ bs))))
+        AreTokens at (b ∷ bs) (placed_then (token_at (b ∷ bs)).0 at (lexed (at + (token_at (b ∷ bs)).1) 0 (drop (token_at (b ∷ bs)).1 (b ∷ bs))))
     known ih u =
         let n : ℕ = (token_at (b ∷ bs)).1 in
         let len : length (take n (b ∷ bs)) ≡ n = length-take n (b ∷ bs) ∙ omega (arith, (token_fits b bs).most) in
@@ -148,7 +148,7 @@ pub first_solid : (t : Token) (us : List ℕ) → Spells t us → Solid us
 first_solid (token.Name n) us s = solid_is 91 (n ++ 93 ∷ []) us s.0 refl
 first_solid (token.Quoted t) us s = solid_is s.0 (s.1 ++ s.0 ∷ []) us s.2 (quote_solid s.0 s.3)
 first_solid (token.Number z) us s = digits_solid us s.0
-first_solid token.Huge us s = digits_solid us s.0
+first_solid token.OutOfRange us s = digits_solid us s.0
 first_solid token.True us s = solid_is 116 _ us s refl
 first_solid token.False us s = solid_is 102 _ us s refl
 first_solid token.Null us s = solid_is 110 _ us s refl
@@ -186,17 +186,17 @@ known_token token.Unknown us s = absurd s
 known_token _ us s = refl
 
 -- a token that stands first is the lexer's
-first_lexed : (at : ℕ) (t : Token) (us more : List ℕ) → StandsFirst t us more → lexed at 0 (us ++ more) ≡ spot_then t at (lexed (at + length us) 0 more)
+first_lexed : (at : ℕ) (t : Token) (us more : List ℕ) → StandsFirst t us more → lexed at 0 (us ++ more) ≡ placed_then t at (lexed (at + length us) 0 more)
 first_lexed at t [] more s = absurd ((first_solid t [] s.0).0 refl)
 first_lexed at t (b ∷ us) more s =
     let found : ◌≡◌ {A = Taken} (token_at ((b ∷ us) ++ more)) (t, length (b ∷ us)) = (token_complete t (b ∷ us) more s.0 s.1).at in
     lexed_solid at b (us ++ more) (first_solid t (b ∷ us) s.0).1
     ∙ from_known at b (us ++ more) (ap (λ (r : Taken). is_unknown r.0) found ∙ known_token t (b ∷ us) s.0)
-    ∙ ap (λ (r : Taken). spot_then r.0 at (lexed (at + r.1) 0 (drop r.1 ((b ∷ us) ++ more)))) found
-    ∙ ap (λ l. spot_then t at (lexed (at + length (b ∷ us)) 0 l)) (drop_front (b ∷ us) more)
+    ∙ ap (λ (r : Taken). placed_then r.0 at (lexed (at + r.1) 0 (drop r.1 ((b ∷ us) ++ more)))) found
+    ∙ ap (λ l. placed_then t at (lexed (at + length (b ∷ us)) 0 l)) (drop_front (b ∷ us) more)
 
 unknown_lexed : (at : ℕ) (more : List ℕ) → more ≢ [] → begins_with is_blank more ≡ false → ((t : Token) → (vs : List ℕ) → (ws : List ℕ) → more ≡ vs ++ ws → StandsFirst t vs ws → ⊥) →
-    lexed at 0 more ≡ spot_then token.Unknown at []
+    lexed at 0 more ≡ placed_then token.Unknown at []
 unknown_lexed at [] n e h = absurd (n refl)
 unknown_lexed at (b ∷ bs) n e h = lexed_solid at b bs e ∙ from_unknown at b bs (by (split_bool (is_unknown (token_at (b ∷ bs)).0)))
   where
@@ -205,32 +205,32 @@ unknown_lexed at (b ∷ bs) n e h = lexed_solid at b bs e ∙ from_unknown at b 
     by (inr u) =
         absurd (h (token_at (b ∷ bs)).0 (take (token_at (b ∷ bs)).1 (b ∷ bs)) (drop (token_at (b ∷ bs)).1 (b ∷ bs)) (sym (take-append-drop (token_at (b ∷ bs)).1 (b ∷ bs))) ((token_good b bs).good u))
 
-tokens_are : (ts : List Spot) (at : ℕ) (bs : List ℕ) → AreTokens at bs ts → ts ≡ lexed at 0 bs
+tokens_are : (ts : List PlacedToken) (at : ℕ) (bs : List ℕ) → AreTokens at bs ts → ts ≡ lexed at 0 bs
 tokens_are [] at bs h = absurd h
 tokens_are (s ∷ others) at bs h =
-    ap (λ k. spot_then s.token k others) h.5 ∙ by h.6 (tokens_are others) ∙ sym (ap (lexed at 0) h.3 ∙ gap_passed at h.0 (h.1 ++ h.2) h.4)
+    ap (λ k. placed_then s.token k others) h.5 ∙ by h.6 (tokens_are others) ∙ sym (ap (lexed at 0) h.3 ∙ gap_passed at h.0 (h.1 ++ h.2) h.4)
   where
     stops : (us more : List ℕ) → (others ≡ []) → us ≡ [] →
         ((s.token ≡ token.End) × (more ≡ []))
         ⊎ ((s.token ≡ token.Unknown) × (more ≢ []) × (begins_with is_blank more ≡ false) × ((t : Token) → (vs : List ℕ) → (ws : List ℕ) → more ≡ vs ++ ws → StandsFirst t vs ws → ⊥)) →
-        spot_then s.token (at + length h.0) others ≡ lexed (at + length h.0) 0 (us ++ more)
+        placed_then s.token (at + length h.0) others ≡ lexed (at + length h.0) 0 (us ++ more)
     stops us more o e (inl r) =
-        ap (spot_then s.token (at + length h.0)) o ∙ ap (λ t. spot_then t (at + length h.0) []) r.0 ∙ sym (end_lexed (at + length h.0))
+        ap (placed_then s.token (at + length h.0)) o ∙ ap (λ t. placed_then t (at + length h.0) []) r.0 ∙ sym (end_lexed (at + length h.0))
         ∙ sym (ap (λ l. lexed (at + length h.0) 0 (l ++ more)) e ∙ ap (λ l. lexed (at + length h.0) 0 l) r.1)
     stops us more o e (inr r) =
-        ap (spot_then s.token (at + length h.0)) o ∙ ap (λ t. spot_then t (at + length h.0) []) r.0 ∙ sym (unknown_lexed (at + length h.0) more r.1 r.2 r.3)
+        ap (placed_then s.token (at + length h.0)) o ∙ ap (λ t. placed_then t (at + length h.0) []) r.0 ∙ sym (unknown_lexed (at + length h.0) more r.1 r.2 r.3)
         ∙ sym (ap (λ l. lexed (at + length h.0) 0 (l ++ more)) e)
 
-    by : Rest (at + length h.0) h.1 h.2 s others → ((k : ℕ) (l : List ℕ) → AreTokens k l others → others ≡ lexed k 0 l) → spot_then s.token (at + length h.0) others ≡ lexed (at + length h.0) 0 (h.1 ++ h.2)
-    by (inl r) ih = ap (spot_then s.token (at + length h.0)) (ih (at + length h.0 + length h.1) h.2 r.1) ∙ sym (first_lexed (at + length h.0) s.token h.1 h.2 r.0)
+    by : Rest (at + length h.0) h.1 h.2 s others → ((k : ℕ) (l : List ℕ) → AreTokens k l others → others ≡ lexed k 0 l) → placed_then s.token (at + length h.0) others ≡ lexed (at + length h.0) 0 (h.1 ++ h.2)
+    by (inl r) ih = ap (placed_then s.token (at + length h.0)) (ih (at + length h.0 + length h.1) h.2 r.1) ∙ sym (first_lexed (at + length h.0) s.token h.1 h.2 r.0)
     by (inr r) ih = stops h.1 h.2 r.0 r.1 r.2
 
-pub tokens_unique : (text : List ℕ) (ts : List Spot) → TokensOf text ts → ts ≡ lexed 0 0 text
+pub tokens_unique : (text : List ℕ) (ts : List PlacedToken) → TokensOf text ts → ts ≡ lexed 0 0 text
 tokens_unique text ts h = tokens_are ts 0 text h
 
 -- ---- the last token ends the list, and no other does
 
-pub tokens_stopped : (ts : List Spot) (at : ℕ) (bs : List ℕ) → AreTokens at bs ts → Stopped ts
+pub tokens_stopped : (ts : List PlacedToken) (at : ℕ) (bs : List ℕ) → AreTokens at bs ts → Stopped ts
 tokens_stopped [] at bs h = h
 tokens_stopped (s ∷ others) at bs h = by others h.6 (tokens_stopped others)
   where
@@ -244,7 +244,7 @@ tokens_stopped (s ∷ others) at bs h = by others h.6 (tokens_stopped others)
     last (inl r) = ap is_stop r.0
     last (inr r) = ap is_stop r.0
 
-    by : (ts : List Spot) → Rest (at + length h.0) h.1 h.2 s ts → ((k : ℕ) (l : List ℕ) → AreTokens k l ts → Stopped ts) → Stopped (s ∷ ts)
+    by : (ts : List PlacedToken) → Rest (at + length h.0) h.1 h.2 s ts → ((k : ℕ) (l : List ℕ) → AreTokens k l ts → Stopped ts) → Stopped (s ∷ ts)
     by [] (inl r) ih = absurd (ih (at + length h.0 + length h.1) h.2 r.1)
     by [] (inr r) ih = last r.2
     by (t ∷ ts) (inl r) ih = (known_goes s.token h.1 r.0.0, ih (at + length h.0 + length h.1) h.2 r.1)
@@ -253,7 +253,7 @@ tokens_stopped (s ∷ others) at bs h = by others h.6 (tokens_stopped others)
         no_more : (t ∷ ts) ≡ [] → ⊥
         no_more e = wrong (sym (starts_some e))
           where
-            some : List Spot → Bool
+            some : List PlacedToken → Bool
             some [] = false
             some (x ∷ xs) = true
 

@@ -4,22 +4,22 @@ use Rattle.plain_filters.specs.declared.Expr.{Expr}
 use Rattle.plain_filters.specs.Filters.{FilterTree, tree_of}
 use Rattle.filter_expr.specs.declared.tokens.Token.{Token}
 use Rattle.filter_expr.specs.declared.tokens.Token.TheVariants as token
-use Rattle.filter_expr.specs.declared.tokens.Spot.{Spot}
+use Rattle.filter_expr.specs.declared.tokens.PlacedToken.{PlacedToken}
 use Rattle.filter_expr.specs.declared.faults.FilterFault.{FilterFault}
 use Rattle.filter_expr.specs.declared.faults.FilterFault.TheVariants.{Bad, NumberRange, TooDeep, NoMemory}
-use Rattle.filter_expr.specs.Trees.{Tree, bare, nesting, InRange, is_huge, is_not, is_minus, is_open}
+use Rattle.filter_expr.specs.Trees.{Tree, bare, nesting, InRange, is_out_of_range, is_not, is_minus, is_open}
 use Rattle.filter_expr.specs.Seen.{shape}
 use Rattle.filter_expr.specs.Spelling.{TokensOf}
 use Rattle.filter_expr.specs.Grammar.{IsSpelled, Stands}
 
 -- all these tokens, the end of the text among them, spell the tree
-abbrev pub IsText : Tree → List Spot → Type 0
-IsText e ts = (us : List Spot) × (z : Spot) × (ts ≡ us ++ z ∷ []) × (z.token ≡ token.End) × IsSpelled e us
+abbrev pub IsText : Tree → List PlacedToken → Type 0
+IsText e ts = (us : List PlacedToken) × (z : PlacedToken) × (ts ≡ us ++ z ∷ []) × (z.token ≡ token.End) × IsSpelled e us
 
 -- ---- trees
 
 -- the tokens are a filter within the limits, and without its parentheses it is this tree
-pub record IsFilter (ts : List Spot) (d : Tree) : Type 0 where
+pub record IsFilter (ts : List PlacedToken) (d : Tree) : Type 0 where
   pub tree : Tree
   pub stands : Stands 0 tree
   pub text : IsText tree ts
@@ -30,8 +30,8 @@ pub record IsFilter (ts : List Spot) (d : Tree) : Type 0 where
 -- ---- faults
 
 -- a filter within the limits begins with these tokens
-pub record Begins (us : List Spot) : Type 0 where
-  pub more : List Spot
+pub record Begins (us : List PlacedToken) : Type 0 where
+  pub more : List PlacedToken
   pub tree : Tree
   pub stands : Stands 0 tree
   pub spelled : IsSpelled tree (us ++ more)
@@ -39,8 +39,8 @@ pub record Begins (us : List Spot) : Type 0 where
   pub deep : nesting tree ≤ 64
 
 -- a filter begins with these tokens, whatever its numbers and its depth
-pub record GoesOn (us : List Spot) : Type 0 where
-  pub more : List Spot
+pub record GoesOn (us : List PlacedToken) : Type 0 where
+  pub more : List PlacedToken
   pub tree : Tree
   pub stands : Stands 0 tree
   pub spelled : IsSpelled tree (us ++ more)
@@ -50,7 +50,7 @@ abbrev pub opens : Token → Bool
 opens t = is_not t || is_minus t || is_open t
 
 -- the place of the fault is that of this token; want of memory is no fault of a text
-abbrev pub StandsAt : FilterFault → Spot → Type 0
+abbrev pub StandsAt : FilterFault → PlacedToken → Type 0
 StandsAt (Bad o) s = o ≡ s.offset
 StandsAt (NumberRange o) s = o ≡ s.offset
 StandsAt (TooDeep o) s = o ≡ s.offset
@@ -64,32 +64,32 @@ Passes e (TooDeep o) = 64 < nesting e
 Passes e NoMemory = ⊥
 
 -- the token here can pass the limit: it is a number out of range or may open something, and a filter begins with the tokens up to it
-abbrev pub HasCause : FilterFault → List Spot → Spot → Type 0
+abbrev pub HasCause : FilterFault → List PlacedToken → PlacedToken → Type 0
 HasCause (Bad o) before here = Unit {0}
-HasCause (NumberRange o) before here = IsTrue (is_huge here.token) × GoesOn (before ++ here ∷ [])
+HasCause (NumberRange o) before here = IsTrue (is_out_of_range here.token) × GoesOn (before ++ here ∷ [])
 HasCause (TooDeep o) before here = IsTrue (opens here.token) × GoesOn (before ++ here ∷ [])
 HasCause NoMemory before here = ⊥
 
 -- the fault stands at the first token with which no filter within the limits goes on after what stands before
-pub record IsFault (ts : List Spot) (f : FilterFault) : Type 0 where
-  pub before : List Spot
-  pub here : Spot
-  pub after : List Spot
+pub record IsFault (ts : List PlacedToken) (f : FilterFault) : Type 0 where
+  pub before : List PlacedToken
+  pub here : PlacedToken
+  pub after : List PlacedToken
   pub split : ts ≡ before ++ here ∷ after
   pub place : StandsAt f here
   pub begins : Begins before
   pub cause : HasCause f before here
-  pub none : (e : Tree) (b : List Spot) → Stands 0 e → IsText e (before ++ here ∷ b) → Passes e f
+  pub none : (e : Tree) (b : List PlacedToken) → Stands 0 e → IsText e (before ++ here ∷ b) → Passes e f
 
 -- ---- texts
 
 -- the text is a filter, and this is its tree
 abbrev pub FilterOf : List ℕ → FilterTree → Type 0
-FilterOf text t = (ts : List Spot) × TokensOf text ts × IsFilter ts (shape t)
+FilterOf text t = (ts : List PlacedToken) × TokensOf text ts × IsFilter ts (shape t)
 
 -- the text is no filter within the limits, and this is its first fault
 abbrev pub FaultOf : List ℕ → FilterFault → Type 0
-FaultOf text f = (ts : List Spot) × TokensOf text ts × IsFault ts f
+FaultOf text f = (ts : List PlacedToken) × TokensOf text ts × IsFault ts f
 
 -- ---- answers
 
@@ -121,7 +121,7 @@ AnswersFault f (Err NoMemory) = Unit {0}
 
 -- tokens spell one tree at most that may stand by itself, parentheses aside
 abbrev pub OneTree : Type 0
-OneTree = (d e : Tree) (us : List Spot) → Stands 0 d → Stands 0 e → IsSpelled d us → IsSpelled e us → InRange d → InRange e → bare d ≡ bare e
+OneTree = (d e : Tree) (us : List PlacedToken) → Stands 0 d → Stands 0 e → IsSpelled d us → IsSpelled e us → InRange d → InRange e → bare d ≡ bare e
 
 -- a text has a tree, or a fault
 abbrev pub SomeAnswer : Type 0
@@ -141,8 +141,8 @@ OneFault = (text : List ℕ) (f g : FilterFault) → FaultOf text f → FaultOf 
 
 -- a text has a list of tokens
 abbrev pub SomeTokenList : Type 0
-SomeTokenList = (text : List ℕ) → (ts : List Spot) × TokensOf text ts
+SomeTokenList = (text : List ℕ) → (ts : List PlacedToken) × TokensOf text ts
 
 -- a text has one list of tokens at most
 abbrev pub OneTokenList : Type 0
-OneTokenList = (text : List ℕ) (ts us : List Spot) → TokensOf text ts → TokensOf text us → ts ≡ us
+OneTokenList = (text : List ℕ) (ts us : List PlacedToken) → TokensOf text ts → TokensOf text us → ts ≡ us

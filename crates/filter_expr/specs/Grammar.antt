@@ -1,26 +1,26 @@
 -- The grammar of filters: which tokens spell a tree, and which trees may stand where.
 use Rattle.std.specs.Prelude.{◌≡◌, ℕ, ◌+◌, ◌≤◌, ◌||◌, IsTrue, List, [], ◌∷◌, ◌++◌}
 use Rattle.filter_expr.specs.declared.tokens.Token.TheVariants as token
-use Rattle.filter_expr.specs.declared.tokens.Spot.{Spot}
-use Rattle.filter_expr.specs.Trees.{Kind, Tree, Terms, leaf, negation, negative, comparison, chain, parens, no_terms, term, or_chain, and_chain, sum_chain, product_chain, joins, is_leaf, is_huge}
+use Rattle.filter_expr.specs.declared.tokens.PlacedToken.{PlacedToken}
+use Rattle.filter_expr.specs.Trees.{Kind, Tree, Terms, leaf, negation, negative, comparison, chain, parens, no_terms, term, or_chain, and_chain, sum_chain, product_chain, joins, is_leaf, is_out_of_range}
 
 -- these tokens, wherever they stand in a text, spell the tree
 abbrev mutual
-  pub IsSpelled : Tree → List Spot → Type 0
-  IsSpelled (leaf t) us = (s : Spot) × (us ≡ s ∷ []) × (s.token ≡ t)
-  IsSpelled (negation e) us = (s : Spot) × (vs : List Spot) × (us ≡ s ∷ vs) × (s.token ≡ token.Not) × IsSpelled e vs
-  IsSpelled (negative e) us = (s : Spot) × (vs : List Spot) × (us ≡ s ∷ vs) × (s.token ≡ token.Minus) × IsSpelled e vs
+  pub IsSpelled : Tree → List PlacedToken → Type 0
+  IsSpelled (leaf t) us = (s : PlacedToken) × (us ≡ s ∷ []) × (s.token ≡ t)
+  IsSpelled (negation e) us = (s : PlacedToken) × (vs : List PlacedToken) × (us ≡ s ∷ vs) × (s.token ≡ token.Not) × IsSpelled e vs
+  IsSpelled (negative e) us = (s : PlacedToken) × (vs : List PlacedToken) × (us ≡ s ∷ vs) × (s.token ≡ token.Minus) × IsSpelled e vs
   IsSpelled (comparison a c b) us =
-      (vs : List Spot) × (s : Spot) × (ws : List Spot) × (us ≡ vs ++ s ∷ ws) × (s.token ≡ token.Compare c) × IsSpelled a vs × IsSpelled b ws
-  IsSpelled (chain k e ts) us = (vs : List Spot) × (ws : List Spot) × (us ≡ vs ++ ws) × IsSpelled e vs × AreSpelled ts ws
+      (vs : List PlacedToken) × (s : PlacedToken) × (ws : List PlacedToken) × (us ≡ vs ++ s ∷ ws) × (s.token ≡ token.Compare c) × IsSpelled a vs × IsSpelled b ws
+  IsSpelled (chain k e ts) us = (vs : List PlacedToken) × (ws : List PlacedToken) × (us ≡ vs ++ ws) × IsSpelled e vs × AreSpelled ts ws
   IsSpelled (parens e) us =
-      (s : Spot) × (vs : List Spot) × (z : Spot) × (us ≡ s ∷ (vs ++ z ∷ [])) × (s.token ≡ token.Open) × (z.token ≡ token.Close) × IsSpelled e vs
+      (s : PlacedToken) × (vs : List PlacedToken) × (z : PlacedToken) × (us ≡ s ∷ (vs ++ z ∷ [])) × (s.token ≡ token.Open) × (z.token ≡ token.Close) × IsSpelled e vs
 
   -- the later parts of a chain, each behind its sign
-  pub AreSpelled : Terms → List Spot → Type 0
+  pub AreSpelled : Terms → List PlacedToken → Type 0
   AreSpelled no_terms us = us ≡ []
   AreSpelled (term t e ts) us =
-      (s : Spot) × (vs : List Spot) × (ws : List Spot) × (us ≡ s ∷ (vs ++ ws)) × (s.token ≡ t) × IsSpelled e vs × AreSpelled ts ws
+      (s : PlacedToken) × (vs : List PlacedToken) × (ws : List PlacedToken) × (us ≡ s ∷ (vs ++ ws)) × (s.token ≡ t) × IsSpelled e vs × AreSpelled ts ws
 
 -- ---- binding strengths, from `or`, the weakest: or 0, and 1, not 2, comparison 3, sum 4, product 5, unary minus 6,
 -- and 7 for what stands by itself
@@ -49,7 +49,7 @@ IsMany (term t e ts) = Unit {0}
 -- the tree may stand where at least this strength is asked for: the table of forms
 abbrev mutual
   pub Stands : ℕ → Tree → Type 0
-  Stands n (leaf t) = IsTrue (is_leaf t || is_huge t)
+  Stands n (leaf t) = IsTrue (is_leaf t || is_out_of_range t)
   Stands n (negation e) = (n ≤ 2) × Stands 2 e
   Stands n (negative e) = (n ≤ 6) × Stands 6 e
   Stands n (comparison a c b) = (n ≤ 3) × Stands 4 a × Stands 4 b

@@ -5,7 +5,7 @@ use Rattle.std.specs.Str.{bytes_eq}
 use Rattle.plain_filters.specs.declared.CompareSign.TheVariants as «compare»
 use Rattle.filter_expr.specs.declared.tokens.Token.{Token}
 use Rattle.filter_expr.specs.declared.tokens.Token.TheVariants as token
-use Rattle.filter_expr.specs.declared.tokens.Spot.{Spot}
+use Rattle.filter_expr.specs.declared.tokens.PlacedToken.{PlacedToken}
 use Rattle.filter_expr.specs.declared.lexer.Run.{Run}
 use Rattle.filter_expr.specs.declared.lexer.Run.TheVariants.{Digits, Word, Name, Plain}
 use Rattle.filter_expr.specs.Trees.{is_unknown}
@@ -31,9 +31,9 @@ run_test Word = is_word_byte
 run_test Name = is_name_byte
 run_test Plain = is_plain_byte
 
--- the token of a run of digits: a number, or the huge one from 2^63 on
+-- the token of a run of digits: a number, or one out of range from 2^63 on
 unfoldable pub number_token : List ℕ → Token
-number_token ds = if nat_lt (number_of ds) (2 ^ 63) then token.Number (pos (number_of ds)) else token.Huge
+number_token ds = if nat_lt (number_of ds) (2 ^ 63) then token.Number (pos (number_of ds)) else token.OutOfRange
 
 -- the number at the front of bytes that begin with a digit, and how many digits it has
 unfoldable pub number_token_at : List ℕ → Taken
@@ -138,7 +138,7 @@ token_at (b ∷ bs) =
 
 -- the tokens of bytes that begin at this place, up to the end or to bytes at which no token stands; the second number counts
 -- the bytes that still belong to the token before
-unfoldable pub lexed : ℕ → ℕ → List ℕ → List Spot
+unfoldable pub lexed : ℕ → ℕ → List ℕ → List PlacedToken
 lexed at left [] = record { token = token.End; offset = at } ∷ []
 lexed at (suc left) (b ∷ bs) = lexed (suc at) left bs
 lexed at zero (b ∷ bs) =

@@ -3,22 +3,22 @@
 use Rattle.std.specs.Prelude.{ℕ, zero, suc, Bool, false, if◌then◌else◌, List, [], ◌∷◌, ◌++◌, drop, length, Option, Some, None}
 use Rattle.filter_expr.specs.declared.tokens.Token.{Token}
 use Rattle.filter_expr.specs.declared.tokens.Token.TheVariants as token
-use Rattle.filter_expr.specs.declared.tokens.Spot.{Spot}
+use Rattle.filter_expr.specs.declared.tokens.PlacedToken.{PlacedToken}
 use Rattle.filter_expr.specs.declared.faults.FilterFault.{FilterFault}
 use Rattle.filter_expr.specs.declared.faults.FilterFault.TheVariants.{Bad, NumberRange, TooDeep}
 use Rattle.plain_filters.specs.declared.CompareSign.{CompareSign}
 use Rattle.plain_filters.specs.declared.CompareSign.TheVariants as «compare»
-use Rattle.filter_expr.specs.Trees.{Kind, Tree, leaf, negation, negative, comparison, chain, or_chain, and_chain, sum_chain, product_chain, joins, is_leaf, is_huge, is_open, is_close, is_minus, is_not, is_compare, is_end}
+use Rattle.filter_expr.specs.Trees.{Kind, Tree, leaf, negation, negative, comparison, chain, or_chain, and_chain, sum_chain, product_chain, joins, is_leaf, is_out_of_range, is_open, is_close, is_minus, is_not, is_compare, is_end}
 use Rattle.filter_expr.specs.Seen.{Part, terms_of}
 
 -- what was read and what is left; or a fault, which stands at the first of what is left
 pub data Step (A : Type 0) : Type 0 where
-  got : A → List Spot → Step A
-  failed : FilterFault → List Spot → Step A
+  got : A → List PlacedToken → Step A
+  failed : FilterFault → List PlacedToken → Step A
 
 -- a way to read something from the front of the tokens
 abbrev pub Reader : Type 0 → Type 0
-Reader A = List Spot → Step A
+Reader A = List PlacedToken → Step A
 
 -- reads on where something was read; a fault ends the reading
 abbrev pub then_read : {A B : Type 0} → Step A → (A → Reader B) → Step B
@@ -26,17 +26,17 @@ then_read (got x ts) next = next x ts
 then_read (failed f ts) next = failed f ts
 
 -- there is a first token, and it passes the test
-abbrev pub starts : (Token → Bool) → List Spot → Bool
+abbrev pub starts : (Token → Bool) → List PlacedToken → Bool
 starts test [] = false
 starts test (s ∷ ts) = test s.token
 
 -- the first token, or the end of the text where there is none
-abbrev pub first_token : List Spot → Token
+abbrev pub first_token : List PlacedToken → Token
 first_token [] = token.End
 first_token (s ∷ ts) = s.token
 
 -- where in the text the first token stands, or 0 where there is none
-abbrev pub place : List Spot → ℕ
+abbrev pub place : List PlacedToken → ℕ
 place [] = 0
 place (s ∷ ts) = s.offset
 
@@ -46,12 +46,12 @@ sign_of (token.Compare c) = c
 sign_of _ = compare.Equal
 
 -- the next token, if it is a sign that joins a chain of this kind
-abbrev pub next_sign : Kind → List Spot → Option Token
+abbrev pub next_sign : Kind → List PlacedToken → Option Token
 next_sign k [] = None
 next_sign k (s ∷ ts) = if joins k s.token then Some s.token else None
 
 -- the next token, if it is a sign that compares
-abbrev pub next_compare : List Spot → Option Token
+abbrev pub next_compare : List PlacedToken → Option Token
 next_compare [] = None
 next_compare (s ∷ ts) = if is_compare s.token then Some s.token else None
 
@@ -96,7 +96,7 @@ pub record Inner : Type 0 where
 unfoldable pub atom_in : Inner → Reader Tree
 atom_in i ts =
     if starts is_leaf ts then got (leaf (first_token ts)) (drop 1 ts)
-    else (if starts is_huge ts then failed (NumberRange (place ts)) ts
+    else (if starts is_out_of_range ts then failed (NumberRange (place ts)) ts
     else (if starts is_open ts then i.open_from ts
     else failed (Bad (place ts)) ts))
 

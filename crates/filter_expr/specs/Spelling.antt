@@ -6,7 +6,7 @@ use Rattle.farm_base.specs.Digits.{is_digit, number_after}
 use Rattle.plain_filters.specs.declared.CompareSign.TheVariants as «compare»
 use Rattle.filter_expr.specs.declared.tokens.Token.{Token}
 use Rattle.filter_expr.specs.declared.tokens.Token.TheVariants as token
-use Rattle.filter_expr.specs.declared.tokens.Spot.{Spot}
+use Rattle.filter_expr.specs.declared.tokens.PlacedToken.{PlacedToken}
 
 -- ---- bytes
 
@@ -57,7 +57,7 @@ abbrev pub Spells : Token → List ℕ → Type 0
 Spells (token.Name n) us = (us ≡ 91 ∷ (n ++ 93 ∷ [])) × (n ≢ []) × IsTrue (list_all is_name_byte n)
 Spells (token.Quoted t) us = (q : ℕ) × (vs : List ℕ) × (us ≡ q ∷ (vs ++ q ∷ [])) × IsTrue (is_quote q) × IsQuoting q t vs
 Spells (token.Number z) us = IsDigits us × (z ≡ pos (number_of us)) × (number_of us < 2 ^ 63)
-Spells token.Huge us = IsDigits us × (2 ^ 63 ≤ number_of us)
+Spells token.OutOfRange us = IsDigits us × (2 ^ 63 ≤ number_of us)
 Spells token.True us = us ≡ codes "true"
 Spells token.False us = us ≡ codes "false"
 Spells token.Null us = us ≡ codes "null"
@@ -113,7 +113,7 @@ StandsFirst t us more = Spells t us × EndsBefore us more
 
 -- the bytes, which begin at this place of the text, are these tokens with blanks before, between and behind
 -- them, up to the end or to bytes at which no token stands
-abbrev pub AreTokens : ℕ → List ℕ → List Spot → Type 0
+abbrev pub AreTokens : ℕ → List ℕ → List PlacedToken → Type 0
 AreTokens at bytes [] = ⊥
 AreTokens at bytes (s ∷ others) =
     (gap : List ℕ) × (us : List ℕ) × (more : List ℕ) × (bytes ≡ gap ++ (us ++ more)) × IsTrue (list_all is_blank gap) × (s.offset ≡ at + length gap)
@@ -124,5 +124,5 @@ AreTokens at bytes (s ∷ others) =
     × ((t : Token) → (vs : List ℕ) → (ws : List ℕ) → more ≡ vs ++ ws → StandsFirst t vs ws → ⊥)))))
 
 -- the tokens of a whole text
-abbrev pub TokensOf : List ℕ → List Spot → Type 0
+abbrev pub TokensOf : List ℕ → List PlacedToken → Type 0
 TokensOf text ts = AreTokens 0 text ts

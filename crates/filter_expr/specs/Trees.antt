@@ -91,9 +91,9 @@ is_unknown token.Unknown = true
 is_unknown _ = false
 
 -- the token is a number that passes the greatest one
-abbrev pub is_huge : Token → Bool
-is_huge token.Huge = true
-is_huge _ = false
+abbrev pub is_out_of_range : Token → Bool
+is_out_of_range token.OutOfRange = true
+is_out_of_range _ = false
 
 -- the token is a value by itself: a name, a text, a number in range, a truth value or null
 abbrev pub is_leaf : Token → Bool

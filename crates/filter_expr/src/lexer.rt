@@ -6,7 +6,7 @@ ghost use Rattle.farm_base.specs.Digits.{is_digit};
 ghost use Rattle.filter_expr.specs.Spelling.{is_blank, is_letter, is_quote, is_escaped};
 ghost use Rattle.filter_expr.specs.Lexing.{run_test, number_token, number_token_at, word_token, word_at, name_token_at, quoting_len, unescaped, quoted_at, sign_at, less_at, single, token_at, lexed};
 
-use crate::tokens::{Spot, Spots, Token};
+use crate::tokens::{PlacedToken, Token, TokenStream};
 use farm_base::{NoMemory, Text};
 use plain_filters::CompareSign;
 use std::alloc::Global;
@@ -24,11 +24,11 @@ pub enum Run {
 
 /// The tokens of the text, up to its end or to the first byte at which no token stands.
 #[tactic(auto)]
-pub fn tokens(alloc: Global, text: &str) -> Result<Spots, NoMemory>
+pub fn tokens(alloc: Global, text: &str) -> Result<TokenStream, NoMemory>
     ensures { IfOk result (λ s. s ≡ lexed 0 0 text.now) }
 {
     let bytes = text.as_bytes();
-    let mut spots = VecDeque::new(alloc);
+    let mut stream = VecDeque::new(alloc);
     let mut at = 0;
     'tokens: while at < bytes.len() {
         if is_blank(bytes[at]) {
@@ -37,17 +37,17 @@ pub fn tokens(alloc: Global, text: &str) -> Result<Spots, NoMemory>
         }
         let (token, count) = token_at(alloc, text, at)?;
         let unknown = token.is_unknown();
-        spots.push_back(Spot { token, offset: at })?;
+        stream.push_back(PlacedToken { token, offset: at })?;
         if unknown {
-            return Ok(Spots::of(spots));
+            return Ok(TokenStream::of(stream));
         }
         at += count;
     }
-    spots.push_back(Spot {
+    stream.push_back(PlacedToken {
         token: Token::End,
         offset: at,
     })?;
-    Ok(Spots::of(spots))
+    Ok(TokenStream::of(stream))
 }
 
 /// The token that begins at this byte, which is no blank, and how many bytes it takes.
@@ -156,7 +156,7 @@ fn number_token(digits: &[u8]) -> Token
     for digit in digits {
         value = 10 * value + u128::from(digit.saturating_sub(b'0'));
         if value > 0x7fff_ffff_ffff_ffff {
-            return Token::Huge;
+            return Token::OutOfRange;
         }
     }
     Token::Number(value as i64)

@@ -6,22 +6,26 @@ ghost use Rattle.filter_expr.specs.Reading.{or_in, and_in, not_in, compare_in, s
 ghost use Rattle.filter_expr.specs.inner.Gives.{Gives};
 
 use crate::faults::FilterFault;
-use crate::tokens::Spots;
+use crate::tokens::TokenStream;
 use plain_filters::{Expr, ProductPart, SumPart};
 use std::alloc::Global;
 
 /// An and-part, then any number of `or` or double bars and an and-part.
 #[cycle(parser)]
 #[tactic(auto, unfolding(crate::specs::Reading::or_in))]
-pub fn or_chain(alloc: Global, spots: &mut Spots, depth_left: u32) -> Result<Expr, FilterFault>
-    ensures read { Gives seen result spots.new (or_in (within_depth depth_left) spots.old) }
-    ensures left { length spots.new ≤ length spots.old }
+pub fn or_chain(
+    alloc: Global,
+    stream: &mut TokenStream,
+    depth_left: u32,
+) -> Result<Expr, FilterFault>
+    ensures read { Gives seen result stream.new (or_in (within_depth depth_left) stream.old) }
+    ensures left { length stream.new ≤ length stream.old }
 {
-    let first = and_chain(alloc, spots, depth_left)?;
+    let first = and_chain(alloc, stream, depth_left)?;
     let mut parts = Vec::new(alloc);
-    'ors: while spots.is_or() {
-        spots.skip();
-        let part = and_chain(alloc, spots, depth_left)?;
+    'ors: while stream.is_or() {
+        stream.skip();
+        let part = and_chain(alloc, stream, depth_left)?;
         parts.push(part)?;
     }
     if parts.is_empty() {
@@ -34,15 +38,15 @@ pub fn or_chain(alloc: Global, spots: &mut Spots, depth_left: u32) -> Result<Exp
 /// A not-part, then any number of `and` or `&&` and a not-part.
 #[cycle(parser)]
 #[tactic(auto, unfolding(crate::specs::Reading::and_in))]
-fn and_chain(alloc: Global, spots: &mut Spots, depth_left: u32) -> Result<Expr, FilterFault>
-    ensures read { Gives seen result spots.new (and_in (within_depth depth_left) spots.old) }
-    ensures left { length spots.new ≤ length spots.old }
+fn and_chain(alloc: Global, stream: &mut TokenStream, depth_left: u32) -> Result<Expr, FilterFault>
+    ensures read { Gives seen result stream.new (and_in (within_depth depth_left) stream.old) }
+    ensures left { length stream.new ≤ length stream.old }
 {
-    let first = not_part(alloc, spots, depth_left)?;
+    let first = not_part(alloc, stream, depth_left)?;
     let mut parts = Vec::new(alloc);
-    'ands: while spots.is_and() {
-        spots.skip();
-        let part = not_part(alloc, spots, depth_left)?;
+    'ands: while stream.is_and() {
+        stream.skip();
+        let part = not_part(alloc, stream, depth_left)?;
         parts.push(part)?;
     }
     if parts.is_empty() {
@@ -55,49 +59,49 @@ fn and_chain(alloc: Global, spots: &mut Spots, depth_left: u32) -> Result<Expr, 
 /// `not` or `!` and a not-part, or a comparison.
 #[cycle(parser)]
 #[tactic(auto, using(crate::proofs::SeenLemmas::nodes), unfolding(crate::specs::Reading::not_in, crate::specs::Reading::within_depth))]
-fn not_part(alloc: Global, spots: &mut Spots, depth_left: u32) -> Result<Expr, FilterFault>
-    ensures read { Gives seen result spots.new (not_in (within_depth depth_left) spots.old) }
-    ensures left { length spots.new ≤ length spots.old }
+fn not_part(alloc: Global, stream: &mut TokenStream, depth_left: u32) -> Result<Expr, FilterFault>
+    ensures read { Gives seen result stream.new (not_in (within_depth depth_left) stream.old) }
+    ensures left { length stream.new ≤ length stream.old }
 {
-    if !spots.is_not() {
-        return comparison(alloc, spots, depth_left);
+    if !stream.is_not() {
+        return comparison(alloc, stream, depth_left);
     }
     if depth_left == 0 {
-        return Err(FilterFault::TooDeep(spots.place()));
+        return Err(FilterFault::TooDeep(stream.place()));
     }
-    spots.skip();
-    let part = not_part(alloc, spots, depth_left - 1)?;
+    stream.skip();
+    let part = not_part(alloc, stream, depth_left - 1)?;
     Ok(Expr::Not(Box::new(alloc, part)?))
 }
 
 /// A sum, then at most one comparing sign and a sum.
 #[cycle(parser)]
 #[tactic(auto, using(crate::proofs::SeenLemmas::nodes), unfolding(crate::specs::Reading::compare_in))]
-fn comparison(alloc: Global, spots: &mut Spots, depth_left: u32) -> Result<Expr, FilterFault>
-    ensures read { Gives seen result spots.new (compare_in (within_depth depth_left) spots.old) }
-    ensures left { length spots.new ≤ length spots.old }
+fn comparison(alloc: Global, stream: &mut TokenStream, depth_left: u32) -> Result<Expr, FilterFault>
+    ensures read { Gives seen result stream.new (compare_in (within_depth depth_left) stream.old) }
+    ensures left { length stream.new ≤ length stream.old }
 {
-    let a = sum(alloc, spots, depth_left)?;
-    let Some(sign) = spots.compare_sign() else {
+    let a = sum(alloc, stream, depth_left)?;
+    let Some(sign) = stream.compare_sign() else {
         return Ok(a);
     };
-    spots.skip();
-    let b = sum(alloc, spots, depth_left)?;
+    stream.skip();
+    let b = sum(alloc, stream, depth_left)?;
     Ok(Expr::Compare(Box::new(alloc, a)?, sign, Box::new(alloc, b)?))
 }
 
 /// A product, then any number of `+` or `-` and a product.
 #[cycle(parser)]
 #[tactic(auto, unfolding(crate::specs::Reading::sum_in))]
-fn sum(alloc: Global, spots: &mut Spots, depth_left: u32) -> Result<Expr, FilterFault>
-    ensures read { Gives seen result spots.new (sum_in (within_depth depth_left) spots.old) }
-    ensures left { length spots.new ≤ length spots.old }
+fn sum(alloc: Global, stream: &mut TokenStream, depth_left: u32) -> Result<Expr, FilterFault>
+    ensures read { Gives seen result stream.new (sum_in (within_depth depth_left) stream.old) }
+    ensures left { length stream.new ≤ length stream.old }
 {
-    let first = product(alloc, spots, depth_left)?;
+    let first = product(alloc, stream, depth_left)?;
     let mut parts = Vec::new(alloc);
-    'sums: while let Some(sign) = spots.sum_sign() {
-        spots.skip();
-        let part = product(alloc, spots, depth_left)?;
+    'sums: while let Some(sign) = stream.sum_sign() {
+        stream.skip();
+        let part = product(alloc, stream, depth_left)?;
         parts.push(SumPart { sign, part })?;
     }
     if parts.is_empty() {
@@ -109,15 +113,15 @@ fn sum(alloc: Global, spots: &mut Spots, depth_left: u32) -> Result<Expr, Filter
 /// A unary, then any number of `*`, `/` or `%` and a unary.
 #[cycle(parser)]
 #[tactic(auto, unfolding(crate::specs::Reading::product_in))]
-fn product(alloc: Global, spots: &mut Spots, depth_left: u32) -> Result<Expr, FilterFault>
-    ensures read { Gives seen result spots.new (product_in (within_depth depth_left) spots.old) }
-    ensures left { length spots.new ≤ length spots.old }
+fn product(alloc: Global, stream: &mut TokenStream, depth_left: u32) -> Result<Expr, FilterFault>
+    ensures read { Gives seen result stream.new (product_in (within_depth depth_left) stream.old) }
+    ensures left { length stream.new ≤ length stream.old }
 {
-    let first = unary(alloc, spots, depth_left)?;
+    let first = unary(alloc, stream, depth_left)?;
     let mut parts = Vec::new(alloc);
-    'products: while let Some(sign) = spots.product_sign() {
-        spots.skip();
-        let part = unary(alloc, spots, depth_left)?;
+    'products: while let Some(sign) = stream.product_sign() {
+        stream.skip();
+        let part = unary(alloc, stream, depth_left)?;
         parts.push(ProductPart { sign, part })?;
     }
     if parts.is_empty() {
@@ -129,45 +133,45 @@ fn product(alloc: Global, spots: &mut Spots, depth_left: u32) -> Result<Expr, Fi
 /// `-` and a unary, or an atom.
 #[cycle(parser)]
 #[tactic(auto, using(crate::proofs::SeenLemmas::nodes), unfolding(crate::specs::Reading::unary_in, crate::specs::Reading::within_depth))]
-fn unary(alloc: Global, spots: &mut Spots, depth_left: u32) -> Result<Expr, FilterFault>
-    ensures read { Gives seen result spots.new (unary_in (within_depth depth_left) spots.old) }
-    ensures left { length spots.new ≤ length spots.old }
+fn unary(alloc: Global, stream: &mut TokenStream, depth_left: u32) -> Result<Expr, FilterFault>
+    ensures read { Gives seen result stream.new (unary_in (within_depth depth_left) stream.old) }
+    ensures left { length stream.new ≤ length stream.old }
 {
-    if !spots.is_minus() {
-        return atom(alloc, spots, depth_left);
+    if !stream.is_minus() {
+        return atom(alloc, stream, depth_left);
     }
     if depth_left == 0 {
-        return Err(FilterFault::TooDeep(spots.place()));
+        return Err(FilterFault::TooDeep(stream.place()));
     }
-    spots.skip();
-    let part = unary(alloc, spots, depth_left - 1)?;
+    stream.skip();
+    let part = unary(alloc, stream, depth_left - 1)?;
     Ok(Expr::Negate(Box::new(alloc, part)?))
 }
 
 /// A name, string, number, `true`, `false`, `null`, or a filter in parentheses.
 #[cycle(parser)]
 #[tactic(auto, unfolding(crate::specs::Reading::atom_in, crate::specs::Reading::within_depth))]
-fn atom(alloc: Global, spots: &mut Spots, depth_left: u32) -> Result<Expr, FilterFault>
-    ensures read { Gives seen result spots.new (atom_in (within_depth depth_left) spots.old) }
-    ensures left { length spots.new ≤ length spots.old }
+fn atom(alloc: Global, stream: &mut TokenStream, depth_left: u32) -> Result<Expr, FilterFault>
+    ensures read { Gives seen result stream.new (atom_in (within_depth depth_left) stream.old) }
+    ensures left { length stream.new ≤ length stream.old }
 {
-    if spots.is_leaf() {
-        return Ok(spots.take_leaf());
+    if stream.is_leaf() {
+        return Ok(stream.take_leaf());
     }
-    if spots.is_huge() {
-        return Err(FilterFault::NumberRange(spots.place()));
+    if stream.is_out_of_range() {
+        return Err(FilterFault::NumberRange(stream.place()));
     }
-    if !spots.is_open() {
-        return Err(FilterFault::Bad(spots.place()));
+    if !stream.is_open() {
+        return Err(FilterFault::Bad(stream.place()));
     }
     if depth_left == 0 {
-        return Err(FilterFault::TooDeep(spots.place()));
+        return Err(FilterFault::TooDeep(stream.place()));
     }
-    spots.skip();
-    let inner = or_chain(alloc, spots, depth_left - 1)?;
-    if !spots.is_close() {
-        return Err(FilterFault::Bad(spots.place()));
+    stream.skip();
+    let inner = or_chain(alloc, stream, depth_left - 1)?;
+    if !stream.is_close() {
+        return Err(FilterFault::Bad(stream.place()));
     }
-    spots.skip();
+    stream.skip();
     Ok(inner)
 }

@@ -40,10 +40,10 @@ pub fn parse(alloc: Global, text: &str) -> Result<Expr, FilterFault>
 fn read(alloc: Global, text: &str) -> Result<Expr, FilterFault>
     ensures { Answers seen result (whole_filter (lexed 0 0 text.now)) }
 {
-    let mut spots = tokens(alloc, text)?;
-    let filter = or_chain(alloc, &mut spots, DEPTH)?;
-    if !spots.is_end() {
-        return Err(FilterFault::Bad(spots.place()));
+    let mut stream = tokens(alloc, text)?;
+    let filter = or_chain(alloc, &mut stream, DEPTH)?;
+    if !stream.is_end() {
+        return Err(FilterFault::Bad(stream.place()));
     }
     Ok(filter)
 }

@@ -1,6 +1,6 @@
 //! Tokens of filter texts, and the list of them that is still to be read.
 ghost use Rattle.std.specs.Prelude.{◌≡◌, drop, option_map, IsTrue};
-ghost use Rattle.filter_expr.specs.Trees.{leaf, sum_token, product_token, compare_token, sum_chain, product_chain, is_not, is_minus, is_leaf, is_huge, is_open, is_close, is_or, is_and, is_end, is_unknown};
+ghost use Rattle.filter_expr.specs.Trees.{leaf, sum_token, product_token, compare_token, sum_chain, product_chain, is_not, is_minus, is_leaf, is_out_of_range, is_open, is_close, is_or, is_and, is_end, is_unknown};
 ghost use Rattle.filter_expr.specs.Seen.{seen};
 ghost use Rattle.filter_expr.specs.Reading.{starts, first_token, place, next_sign, next_compare};
 
@@ -16,7 +16,7 @@ pub enum Token {
     Quoted(Text),
     Number(i64),
     /// A number above the greatest one.
-    Huge,
+    OutOfRange,
     True,
     False,
     Null,
@@ -39,38 +39,38 @@ pub enum Token {
 
 /// A token and the place of its first byte in the text.
 #[derive(Debug, Drop)]
-pub struct Spot {
+pub struct PlacedToken {
     pub token: Token,
     pub offset: usize,
 }
 
 /// The tokens that are still to be read, the next one first.
 #[derive(Debug, Drop)]
-pub struct Spots {
-    left: VecDeque<Spot>,
+pub struct TokenStream {
+    left: VecDeque<PlacedToken>,
 }
 
-impl Model for Spots {
+impl Model for TokenStream {
     ghost use Rattle.std.specs.Prelude.{List};
-    ghost use Rattle.filter_expr.specs.declared.tokens.Spot.{Spot};
+    ghost use Rattle.filter_expr.specs.declared.tokens.PlacedToken.{PlacedToken};
 
-    ghost Value = { List Spot };
+    ghost Value = { List PlacedToken };
 
     ghost view = { λ s. s.left.items };
 }
 
-impl Spots {
-    pub fn of(left: VecDeque<Spot>) -> Spots
+impl TokenStream {
+    pub fn of(left: VecDeque<PlacedToken>) -> TokenStream
         ensures { result ≡ left.items }
     {
-        Spots { left }
+        TokenStream { left }
     }
 
     pub fn is_or(&self) -> bool
         ensures { result ≡ starts is_or self.now }
     {
         match self.left.front() {
-            Some(spot) => matches!(spot.token, Token::Or),
+            Some(placed) => matches!(placed.token, Token::Or),
             None => false,
         }
     }
@@ -79,7 +79,7 @@ impl Spots {
         ensures { result ≡ starts is_and self.now }
     {
         match self.left.front() {
-            Some(spot) => matches!(spot.token, Token::And),
+            Some(placed) => matches!(placed.token, Token::And),
             None => false,
         }
     }
@@ -88,7 +88,7 @@ impl Spots {
         ensures { result ≡ starts is_not self.now }
     {
         match self.left.front() {
-            Some(spot) => matches!(spot.token, Token::Not),
+            Some(placed) => matches!(placed.token, Token::Not),
             None => false,
         }
     }
@@ -97,16 +97,16 @@ impl Spots {
         ensures { result ≡ starts is_minus self.now }
     {
         match self.left.front() {
-            Some(spot) => matches!(spot.token, Token::Minus),
+            Some(placed) => matches!(placed.token, Token::Minus),
             None => false,
         }
     }
 
-    pub fn is_huge(&self) -> bool
-        ensures { result ≡ starts is_huge self.now }
+    pub fn is_out_of_range(&self) -> bool
+        ensures { result ≡ starts is_out_of_range self.now }
     {
         match self.left.front() {
-            Some(spot) => matches!(spot.token, Token::Huge),
+            Some(placed) => matches!(placed.token, Token::OutOfRange),
             None => false,
         }
     }
@@ -115,7 +115,7 @@ impl Spots {
         ensures { result ≡ starts is_open self.now }
     {
         match self.left.front() {
-            Some(spot) => matches!(spot.token, Token::Open),
+            Some(placed) => matches!(placed.token, Token::Open),
             None => false,
         }
     }
@@ -124,7 +124,7 @@ impl Spots {
         ensures { result ≡ starts is_close self.now }
     {
         match self.left.front() {
-            Some(spot) => matches!(spot.token, Token::Close),
+            Some(placed) => matches!(placed.token, Token::Close),
             None => false,
         }
     }
@@ -133,7 +133,7 @@ impl Spots {
         ensures { result ≡ starts is_end self.now }
     {
         match self.left.front() {
-            Some(spot) => matches!(spot.token, Token::End),
+            Some(placed) => matches!(placed.token, Token::End),
             None => false,
         }
     }
@@ -143,7 +143,7 @@ impl Spots {
         ensures { result ≡ starts is_leaf self.now }
     {
         match self.left.front() {
-            Some(spot) => spot.token.is_leaf(),
+            Some(placed) => placed.token.is_leaf(),
             None => false,
         }
     }
@@ -153,7 +153,7 @@ impl Spots {
         ensures { option_map compare_token result ≡ next_compare self.now }
     {
         match self.left.front() {
-            Some(spot) => match spot.token {
+            Some(placed) => match placed.token {
                 Token::Compare(sign) => Some(sign),
                 _ => None,
             },
@@ -166,7 +166,7 @@ impl Spots {
         ensures { option_map sum_token result ≡ next_sign sum_chain self.now }
     {
         match self.left.front() {
-            Some(spot) => match spot.token {
+            Some(placed) => match placed.token {
                 Token::Plus => Some(SumSign::Plus),
                 Token::Minus => Some(SumSign::Minus),
                 _ => None,
@@ -180,7 +180,7 @@ impl Spots {
         ensures { option_map product_token result ≡ next_sign product_chain self.now }
     {
         match self.left.front() {
-            Some(spot) => match spot.token {
+            Some(placed) => match placed.token {
                 Token::Times => Some(ProductSign::Times),
                 Token::Divide => Some(ProductSign::Divide),
                 Token::Rest => Some(ProductSign::Rest),
@@ -195,7 +195,7 @@ impl Spots {
         ensures { result ≡ place self.now }
     {
         match self.left.front() {
-            Some(spot) => spot.offset,
+            Some(placed) => placed.offset,
             None => 0,
         }
     }
@@ -214,7 +214,7 @@ impl Spots {
         ensures rest { self.new ≡ drop 1 self.old }
     {
         match self.left.pop_front() {
-            Some(spot) => leaf_of(spot.token),
+            Some(placed) => leaf_of(placed.token),
             None => unreachable!(),
         }
     }

@@ -10,7 +10,7 @@ use Rattle.plain_filters.specs.declared.CompareSign.TheVariants as «compare»
 use Rattle.plain_filters.specs.Filters.{tree_of}
 use Rattle.filter_expr.specs.declared.tokens.Token.{Token}
 use Rattle.filter_expr.specs.declared.tokens.Token.TheVariants as token
-use Rattle.filter_expr.specs.declared.tokens.Spot.{Spot}
+use Rattle.filter_expr.specs.declared.tokens.PlacedToken.{PlacedToken}
 use Rattle.filter_expr.specs.Trees.{Kind, Tree, Terms, leaf, negation, negative, comparison, chain, parens, no_terms, term, or_chain, and_chain, sum_chain, product_chain, joins, is_leaf, bare, bare_terms, nesting, nesting_terms, InRange, TermsInRange}
 use Rattle.filter_expr.specs.Seen.{shape}
 use Rattle.farm_base.specs.Digits.{is_digit, number_after}
@@ -255,15 +255,15 @@ compare_said compare.Greater = refl
 compare_said compare.GreaterEqual = refl
 
 -- each token of the list is spelled somewhere
-abbrev Heard : List Spot → Type 0
+abbrev Heard : List PlacedToken → Type 0
 Heard [] = Unit {0}
 Heard (s ∷ ss) = ((us : List ℕ) × Spells s.token us) × Heard ss
 
-heard_first : (xs ys : List Spot) → Heard (xs ++ ys) → Heard xs
+heard_first : (xs ys : List PlacedToken) → Heard (xs ++ ys) → Heard xs
 heard_first [] ys h = tt
 heard_first (s ∷ xs) ys h = (h.0, heard_first xs ys h.1)
 
-heard_second : (xs ys : List Spot) → Heard (xs ++ ys) → Heard ys
+heard_second : (xs ys : List PlacedToken) → Heard (xs ++ ys) → Heard ys
 heard_second [] ys h = h
 heard_second (s ∷ xs) ys h = heard_second xs ys h.1
 
@@ -275,7 +275,7 @@ guarded_said l e h = by (nat_lt (strength e) l)
     by false = h
 
 mutual
-  shown_said : (e : Tree) (l : ℕ) (us : List Spot) → Stands l e → InRange e → IsSpelled e us → Heard us → AllSaid (tokens_in (shown e))
+  shown_said : (e : Tree) (l : ℕ) (us : List PlacedToken) → Stands l e → InRange e → IsSpelled e us → Heard us → AllSaid (tokens_in (shown e))
   shown_said (leaf t) l us s r p h =
       let heard : Heard (p.0 ∷ []) = subst Heard p.1 h in
       (said t heard.0.0 (subst (λ x. Spells x heard.0.0) p.2 heard.0.1) r, tt)
@@ -299,7 +299,7 @@ mutual
       let heard : Heard (p.0 ∷ (p.1 ++ p.2 ∷ [])) = subst Heard p.3 h in
       shown_said e 0 p.1 s r p.6 (heard_first p.1 (p.2 ∷ []) heard.1)
 
-  terms_said : (ts : Terms) (k : Kind) (us : List Spot) → StandTerms k ts → TermsInRange ts → AreSpelled ts us → Heard us → AllSaid (tokens_of_terms (shown_terms k ts))
+  terms_said : (ts : Terms) (k : Kind) (us : List PlacedToken) → StandTerms k ts → TermsInRange ts → AreSpelled ts us → Heard us → AllSaid (tokens_of_terms (shown_terms k ts))
   terms_said no_terms k us s r p h = tt
   terms_said (term t e ts) k us s r p h =
       let heard : Heard (p.0 ∷ (p.1 ++ p.2)) = subst Heard p.3 h in (
@@ -319,15 +319,15 @@ put_tail : (b : ℕ) (bs : List ℕ) (ts : List Token) → put_tokens (b ∷ bs)
 put_tail b bs [] = sym (append-nil (b ∷ bs))
 put_tail b bs (t ∷ ts) = put_tail b (bs ++ 32 ∷ spelling t) ts ∙ ap (λ l. b ∷ l) (append_assoc bs (32 ∷ spelling t) (tail_of ts))
 
-abbrev spots_after : ℕ → List Token → List Spot
-spots_after at [] = []
-spots_after at (t ∷ ts) = record { token = t; offset = at + 1 } ∷ spots_after (at + 1 + length (spelling t)) ts
+abbrev stream_after : ℕ → List Token → List PlacedToken
+stream_after at [] = []
+stream_after at (t ∷ ts) = record { token = t; offset = at + 1 } ∷ stream_after (at + 1 + length (spelling t)) ts
 
 abbrev end_after : ℕ → List Token → ℕ
 end_after at [] = at
 end_after at (t ∷ ts) = end_after (at + 1 + length (spelling t)) ts
 
-abbrev end_at : ℕ → Spot
+abbrev end_at : ℕ → PlacedToken
 end_at at = record { token = token.End; offset = at }
 
 digits_begin : (us : List ℕ) → IsDigits us → begins_with is_digit us ≡ true
@@ -339,7 +339,7 @@ ends_at_space : (t : Token) → Said t → (more : List ℕ) → EndsBefore (spe
 ends_at_space (token.Name n) s more = bracket_ends (n ++ 93 ∷ []) (32 ∷ more)
 ends_at_space (token.Quoted t) s more = quote_ends 39 (escaped_text t ++ 39 ∷ []) (32 ∷ more) refl
 ends_at_space (token.Number z) s more = end_digits (signed_decimal z) (32 ∷ more) (digits_begin (signed_decimal z) s.0) refl
-ends_at_space token.Huge s more = refl
+ends_at_space token.OutOfRange s more = refl
 ends_at_space token.True s more = refl
 ends_at_space token.False s more = refl
 ends_at_space token.Null s more = refl
@@ -366,31 +366,31 @@ ends_before_tail : (t : Token) → Said t → (ts : List Token) → EndsBefore (
 ends_before_tail t s [] = tt
 ends_before_tail t s (u ∷ ts) = ends_at_space t s (spelling u ++ tail_of ts)
 
-tail_tokens : (ts : List Token) (at : ℕ) → AllSaid ts → AreTokens at (tail_of ts) (spots_after at ts ++ end_at (end_after at ts) ∷ [])
+tail_tokens : (ts : List Token) (at : ℕ) → AllSaid ts → AreTokens at (tail_of ts) (stream_after at ts ++ end_at (end_after at ts) ∷ [])
 tail_tokens [] at h = ([], [], [], refl, refl, sym (add-zero at), inr (refl, refl, inl (refl, refl)))
 tail_tokens (t ∷ ts) at h =
     (32 ∷ [], spelling t, tail_of ts, refl, refl, refl, inl ((h.0, ends_before_tail t h.0 ts), tail_tokens ts (at + 1 + length (spelling t)) h.1))
 
-tokens_mapped : (ts : List Token) (at : ℕ) → map (λ (s : Spot). s.token) (spots_after at ts) ≡ ts
+tokens_mapped : (ts : List Token) (at : ℕ) → map (λ (s : PlacedToken). s.token) (stream_after at ts) ≡ ts
 tokens_mapped [] at = refl
 tokens_mapped (t ∷ ts) at = ap (λ us. t ∷ us) (tokens_mapped ts (at + 1 + length (spelling t)))
 
 -- the tokens of what was written
 record Lexed (ts : List Token) : Type 0 where
-  spots : List Spot
-  last : Spot
-  tokens : TokensOf (put_tokens [] ts) (spots ++ last ∷ [])
+  stream : List PlacedToken
+  last : PlacedToken
+  tokens : TokensOf (put_tokens [] ts) (stream ++ last ∷ [])
   end : last.token ≡ token.End
-  are : map (λ (s : Spot). s.token) spots ≡ ts
+  are : map (λ (s : PlacedToken). s.token) stream ≡ ts
 
 put_first : (us : List ℕ) (ts : List Token) → us ≢ [] → put_tokens us ts ≡ us ++ tail_of ts
 put_first [] ts n = absurd (n refl)
 put_first (b ∷ bs) ts n = put_tail b bs ts
 
 lexed_written : (ts : List Token) → AllSaid ts → Lexed ts
-lexed_written [] h = record { spots = []; last = end_at 0; tokens = tail_tokens [] 0 tt; end = refl; are = refl }
+lexed_written [] h = record { stream = []; last = end_at 0; tokens = tail_tokens [] 0 tt; end = refl; are = refl }
 lexed_written (t ∷ ts) h = record {
-  spots = record { token = t; offset = 0 } ∷ spots_after (length (spelling t)) ts;
+  stream = record { token = t; offset = 0 } ∷ stream_after (length (spelling t)) ts;
   last = end_at (end_after (length (spelling t)) ts);
   tokens = (
     [],
@@ -401,7 +401,7 @@ lexed_written (t ∷ ts) h = record {
     refl,
     inl (
       (h.0, ends_before_tail t h.0 ts),
-      subst (λ k. AreTokens k (tail_of ts) (spots_after (length (spelling t)) ts ++ end_at (end_after (length (spelling t)) ts) ∷ [])) (sym (zero-add (length (spelling t)))) (tail_tokens ts (length (spelling t)) h.1),
+      subst (λ k. AreTokens k (tail_of ts) (stream_after (length (spelling t)) ts ++ end_at (end_after (length (spelling t)) ts) ∷ [])) (sym (zero-add (length (spelling t)))) (tail_tokens ts (length (spelling t)) h.1),
     ),
   );
   end = refl;
@@ -410,25 +410,25 @@ lexed_written (t ∷ ts) h = record {
 
 -- ---- the tokens spell the tree
 
-record Cut (ss : List Spot) (xs ys : List Token) : Type 0 where
-  first : List Spot
-  second : List Spot
+record Cut (ss : List PlacedToken) (xs ys : List Token) : Type 0 where
+  first : List PlacedToken
+  second : List PlacedToken
   split : ss ≡ first ++ second
-  left : map (λ (s : Spot). s.token) first ≡ xs
-  right : map (λ (s : Spot). s.token) second ≡ ys
+  left : map (λ (s : PlacedToken). s.token) first ≡ xs
+  right : map (λ (s : PlacedToken). s.token) second ≡ ys
 
-token_heads : (s : Spot) (ss : List Spot) (t : Token) (ts : List Token) → map (λ (x : Spot). x.token) (s ∷ ss) ≡ t ∷ ts → (s.token ≡ t) × (map (λ (x : Spot). x.token) ss ≡ ts)
+token_heads : (s : PlacedToken) (ss : List PlacedToken) (t : Token) (ts : List Token) → map (λ (x : PlacedToken). x.token) (s ∷ ss) ≡ t ∷ ts → (s.token ≡ t) × (map (λ (x : PlacedToken). x.token) ss ≡ ts)
 token_heads s ss t ts e = (cc, cc)
 
 no_tokens : (t : Token) (ts : List Token) → [] ≡ t ∷ ts → ⊥
 no_tokens t ts e = cc
 
-cut : (ss : List Spot) (xs ys : List Token) → map (λ (s : Spot). s.token) ss ≡ xs ++ ys → Cut ss xs ys
+cut : (ss : List PlacedToken) (xs ys : List Token) → map (λ (s : PlacedToken). s.token) ss ≡ xs ++ ys → Cut ss xs ys
 cut ss [] ys e = record { first = []; second = ss; split = refl; left = refl; right = e }
 cut [] (x ∷ xs) ys e = absurd (no_tokens x (xs ++ ys) e)
 cut (s ∷ ss) (x ∷ xs) ys e = by (token_heads s ss x (xs ++ ys) e) (cut ss xs ys (token_heads s ss x (xs ++ ys) e).1)
   where
-    by : (s.token ≡ x) × (map (λ (z : Spot). z.token) ss ≡ xs ++ ys) → Cut ss xs ys → Cut (s ∷ ss) (x ∷ xs) ys
+    by : (s.token ≡ x) × (map (λ (z : PlacedToken). z.token) ss ≡ xs ++ ys) → Cut ss xs ys → Cut (s ∷ ss) (x ∷ xs) ys
     by h c = record {
       first = s ∷ c.first;
       second = c.second;
@@ -437,54 +437,54 @@ cut (s ∷ ss) (x ∷ xs) ys e = by (token_heads s ss x (xs ++ ys) e) (cut ss xs
       right = c.right;
     }
 
-one_spot : (ss : List Spot) (t : Token) → map (λ (s : Spot). s.token) ss ≡ t ∷ [] → (s : Spot) × (ss ≡ s ∷ []) × (s.token ≡ t)
-one_spot [] t e = absurd (no_tokens t [] e)
-one_spot (s ∷ []) t e = (s, refl, (token_heads s [] t [] e).0)
-one_spot (s ∷ x ∷ ss) t e = absurd (no_tokens x.token (map (λ (z : Spot). z.token) ss) (sym (token_heads s (x ∷ ss) t [] e).1))
+one_placed : (ss : List PlacedToken) (t : Token) → map (λ (s : PlacedToken). s.token) ss ≡ t ∷ [] → (s : PlacedToken) × (ss ≡ s ∷ []) × (s.token ≡ t)
+one_placed [] t e = absurd (no_tokens t [] e)
+one_placed (s ∷ []) t e = (s, refl, (token_heads s [] t [] e).0)
+one_placed (s ∷ x ∷ ss) t e = absurd (no_tokens x.token (map (λ (z : PlacedToken). z.token) ss) (sym (token_heads s (x ∷ ss) t [] e).1))
 
-first_spot : (ss : List Spot) (t : Token) (ts : List Token) → map (λ (s : Spot). s.token) ss ≡ t ∷ ts → (s : Spot) × (vs : List Spot) × (ss ≡ s ∷ vs) × (s.token ≡ t) × (map (λ (x : Spot). x.token) vs ≡ ts)
-first_spot [] t ts e = absurd (no_tokens t ts e)
-first_spot (s ∷ ss) t ts e = (s, ss, refl, (token_heads s ss t ts e).0, (token_heads s ss t ts e).1)
+first_placed : (ss : List PlacedToken) (t : Token) (ts : List Token) → map (λ (s : PlacedToken). s.token) ss ≡ t ∷ ts → (s : PlacedToken) × (vs : List PlacedToken) × (ss ≡ s ∷ vs) × (s.token ≡ t) × (map (λ (x : PlacedToken). x.token) vs ≡ ts)
+first_placed [] t ts e = absurd (no_tokens t ts e)
+first_placed (s ∷ ss) t ts e = (s, ss, refl, (token_heads s ss t ts e).0, (token_heads s ss t ts e).1)
 
 mutual
-  spells_tree : (e : Tree) (ss : List Spot) → map (λ (s : Spot). s.token) ss ≡ tokens_in e → IsSpelled e ss
-  spells_tree (leaf t) ss m = one_spot ss t m
-  spells_tree (negation e) ss m = let f = first_spot ss token.Not (tokens_in e) m in (f.0, f.1, f.2, f.3, spells_tree e f.1 f.4)
-  spells_tree (negative e) ss m = let f = first_spot ss token.Minus (tokens_in e) m in (f.0, f.1, f.2, f.3, spells_tree e f.1 f.4)
+  spells_tree : (e : Tree) (ss : List PlacedToken) → map (λ (s : PlacedToken). s.token) ss ≡ tokens_in e → IsSpelled e ss
+  spells_tree (leaf t) ss m = one_placed ss t m
+  spells_tree (negation e) ss m = let f = first_placed ss token.Not (tokens_in e) m in (f.0, f.1, f.2, f.3, spells_tree e f.1 f.4)
+  spells_tree (negative e) ss m = let f = first_placed ss token.Minus (tokens_in e) m in (f.0, f.1, f.2, f.3, spells_tree e f.1 f.4)
   spells_tree (comparison a c b) ss m =
       let k : Cut ss (tokens_in a) (token.Compare c ∷ tokens_in b) = cut ss (tokens_in a) (token.Compare c ∷ tokens_in b) m in
-      let f = first_spot k.second (token.Compare c) (tokens_in b) k.right in
+      let f = first_placed k.second (token.Compare c) (tokens_in b) k.right in
       (k.first, f.0, f.1, k.split ∙ ap (λ l. k.first ++ l) f.2, f.3, spells_tree a k.first k.left, spells_tree b f.1 f.4)
   spells_tree (chain k e ts) ss m =
       let c : Cut ss (tokens_in e) (tokens_of_terms ts) = cut ss (tokens_in e) (tokens_of_terms ts) m in
       (c.first, c.second, c.split, spells_tree e c.first c.left, spell_terms ts c.second c.right)
   spells_tree (parens e) ss m =
-      let f = first_spot ss token.Open (tokens_in e ++ token.Close ∷ []) m in
+      let f = first_placed ss token.Open (tokens_in e ++ token.Close ∷ []) m in
       let c : Cut f.1 (tokens_in e) (token.Close ∷ []) = cut f.1 (tokens_in e) (token.Close ∷ []) f.4 in
-      let z = one_spot c.second token.Close c.right in
+      let z = one_placed c.second token.Close c.right in
       (f.0, c.first, z.0, f.2 ∙ ap (λ l. f.0 ∷ l) (c.split ∙ ap (λ l. c.first ++ l) z.1), f.3, z.2, spells_tree e c.first c.left)
 
-  spell_terms : (ts : Terms) (ss : List Spot) → map (λ (s : Spot). s.token) ss ≡ tokens_of_terms ts → AreSpelled ts ss
+  spell_terms : (ts : Terms) (ss : List PlacedToken) → map (λ (s : PlacedToken). s.token) ss ≡ tokens_of_terms ts → AreSpelled ts ss
   spell_terms no_terms [] m = refl
-  spell_terms no_terms (s ∷ ss) m = absurd (no_tokens s.token (map (λ (x : Spot). x.token) ss) (sym m))
+  spell_terms no_terms (s ∷ ss) m = absurd (no_tokens s.token (map (λ (x : PlacedToken). x.token) ss) (sym m))
   spell_terms (term t e ts) ss m =
-      let f = first_spot ss t (tokens_in e ++ tokens_of_terms ts) m in
+      let f = first_placed ss t (tokens_in e ++ tokens_of_terms ts) m in
       let c : Cut f.1 (tokens_in e) (tokens_of_terms ts) = cut f.1 (tokens_in e) (tokens_of_terms ts) f.4 in
       (f.0, c.first, c.second, f.2 ∙ ap (λ l. f.0 ∷ l) c.split, f.3, spells_tree e c.first c.left, spell_terms ts c.second c.right)
 
 -- ---- the filter again
 
-no_spots : (s : Spot) (ss : List Spot) → [] ≡ s ∷ ss → ⊥
-no_spots s ss e = cc
+no_placed : (s : PlacedToken) (ss : List PlacedToken) → [] ≡ s ∷ ss → ⊥
+no_placed s ss e = cc
 
 -- the tokens before the end of a text are all spelled in it
-tokens_heard : (us : List Spot) (z : Spot) (at : ℕ) (bs : List ℕ) → AreTokens at bs (us ++ z ∷ []) → Heard us
+tokens_heard : (us : List PlacedToken) (z : PlacedToken) (at : ℕ) (bs : List ℕ) → AreTokens at bs (us ++ z ∷ []) → Heard us
 tokens_heard [] z at bs h = tt
 tokens_heard (s ∷ us) z at bs h = by h.6 (λ k l. tokens_heard us z k l)
   where
-    nothing_after : (xs : List Spot) → xs ++ z ∷ [] ≡ [] → ⊥
-    nothing_after [] e = no_spots z [] (sym e)
-    nothing_after (x ∷ xs) e = no_spots x (xs ++ z ∷ []) (sym e)
+    nothing_after : (xs : List PlacedToken) → xs ++ z ∷ [] ≡ [] → ⊥
+    nothing_after [] e = no_placed z [] (sym e)
+    nothing_after (x ∷ xs) e = no_placed x (xs ++ z ∷ []) (sym e)
 
     by : Rest (at + length h.0) h.1 h.2 s (us ++ z ∷ []) → ((k : ℕ) (l : List ℕ) → AreTokens k l (us ++ z ∷ []) → Heard us) → Heard (s ∷ us)
     by (inl r) ih = ((h.1, r.0.0), ih (at + length h.0 + length h.1) h.2 r.1)
@@ -497,12 +497,12 @@ written_again text t f =
     let same : shown (shape t) ≡ shown a.tree = ap shown (sym a.is) ∙ shown_bare a.tree in
     let saids : AllSaid (tokens_in (shown (shape t))) = subst (λ x. AllSaid (tokens_in x)) (sym same) (shown_said a.tree 0 a.text.0 a.stands a.range a.text.4 heard) in
     let l : Lexed (tokens_in (shown (shape t))) = lexed_written (tokens_in (shown (shape t))) saids in (
-      l.spots ++ l.last ∷ [],
+      l.stream ++ l.last ∷ [],
       l.tokens,
       record {
         tree = shown (shape t);
         stands = subst (Stands 0) (sym same) (stands_down (shown a.tree) (strength (shown a.tree)) 0 (omega arith) (shown_stands a.tree 0 a.stands));
-        text = (l.spots, l.last, refl, l.end, spells_tree (shown (shape t)) l.spots l.are);
+        text = (l.stream, l.last, refl, l.end, spells_tree (shown (shape t)) l.stream l.are);
         range = subst InRange (sym same) (shown_range a.tree a.range);
         deep = subst (λ x. nesting x ≤ 64) (sym same) (omega (arith, shown_nests a.tree 0 a.stands, a.deep));
         is = ap bare same ∙ bare_shown a.tree ∙ a.is;

@@ -22,7 +22,7 @@ abbrev pub spelling : Token → List ℕ
 spelling (token.Name n) = 91 ∷ (n ++ 93 ∷ [])
 spelling (token.Quoted t) = 39 ∷ (escaped_text t ++ 39 ∷ [])
 spelling (token.Number z) = signed_decimal z
-spelling token.Huge = codes "9223372036854775808"
+spelling token.OutOfRange = codes "9223372036854775808"
 spelling token.True = codes "true"
 spelling token.False = codes "false"
 spelling token.Null = codes "null"

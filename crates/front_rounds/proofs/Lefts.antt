@@ -155,13 +155,13 @@ module _ {A W T : Type 0} (R : Rules A W) (K : List ℕ → List (Move A) → T 
         (each_both OwesNone (λ (s : Session T). s.fate ≡ Stays) w.sessions h.offered n);
   }
 
-  -- in terms of what is left of the desk
-  pub left_desk : (e : PortEvent) (stopped : Bool) (start told' : Option PortsTold) (w : World T) (i c asks : ℕ) (why : Reason) (mine' : List Entry) (sessions : List (Session T))
+  -- in terms of what is left of the table
+  pub left_table : (e : PortEvent) (stopped : Bool) (start told' : Option PortsTold) (w : World T) (i c asks : ℕ) (why : Reason) (mine' : List Entry) (sessions : List (Session T))
       (box' : List (ℕ × List ℕ)) (starved' : ℕ) → CanLeave R K e stopped start w → IsLeaving w.sessions i c why
       → mine' ≡ w.mine ++ Leave (record { front = R.number; number = c }) asks ∷ [] → Shuts c why w.told told' → starved' ≡ min (with_starved w.starved why) (2 ^ 64 - 1)
       → box' ≡ without w.box c → sessions ≡ take i w.sessions ++ drop (i + 1) w.sessions
       → CanLeave R K e stopped start (record { told = told'; mine = mine'; sessions = sessions; box = box'; starved = starved' })
-  left_desk e stopped start told' w i c asks why mine' sessions box' starved' h (s, at, sc, f) m sh n b k =
+  left_table e stopped start told' w i c asks why mine' sessions box' starved' h (s, at, sc, f) m sh n b k =
       subst (λ (v : List (Session T)). CanLeave R K e stopped start (record { told = told'; mine = mine'; sessions = v; box = box'; starved = starved' })) (sym (k ∙ ap (λ j. take i w.sessions ++ drop j w.sessions) (one_less i)))
       (subst (λ (v : List (ℕ × List ℕ)). CanLeave R K e stopped start (record { told = told'; mine = mine'; sessions = take i w.sessions ++ drop (suc i) w.sessions; box = v; starved = starved' }))
       (ap (without w.box) sc ∙ sym b)

@@ -7,7 +7,7 @@ use Rattle.port_trait.specs.Told.{PortsTold, IsOpen, MayCome, heard, closed}
 use Rattle.port_trait.specs.Boxes.{rest_at, rest_of}
 use Rattle.front_rounds.specs.declared.fates.Fate.TheVariants.{Stays}
 use Rattle.front_rounds.specs.declared.sessions.Session.{Session}
-use Rattle.front_rounds.specs.declared.sessions.Desk.{Desk}
+use Rattle.front_rounds.specs.declared.sessions.SessionTable.{SessionTable}
 use Rattle.front_rounds.specs.Rules.{Rules, Move}
 use Rattle.front_rounds.specs.Steps.{Step, Came, has, starved_in}
 use Rattle.front_rounds.specs.Parts.{Part, part, came, told_after, blank}
@@ -141,8 +141,8 @@ module _ {A W T : Type 0} (R : Rules A W) (K : List ℕ → List (Move A) → T 
         time = refl;
       }
 
-  -- in terms of the desk
-  pub opened_yes : (c : ℕ) (piece : List ℕ) (start told was : Option PortsTold) (mine : List Entry) (old new : Desk T) → Comes R K (event.Opened c) piece start told (world was mine old)
+  -- in terms of the table
+  pub opened_yes : (c : ℕ) (piece : List ℕ) (start told was : Option PortsTold) (mine : List Entry) (old new : SessionTable T) → Comes R K (event.Opened c) piece start told (world was mine old)
       → Admits R K c old new true → HasBegun R K (event.Opened c) start (world told mine new)
   opened_yes c piece start told was mine old new m (talk, b, l, n, se, be, te) =
       subst (λ (v : List (Session T)). HasBegun R K (event.Opened c) start (record { told = told; mine = mine; sessions = v; box = new.outbox; starved = new.starved })) (sym se)
@@ -150,7 +150,7 @@ module _ {A W T : Type 0} (R : Rules A W) (K : List ℕ → List (Move A) → T 
       (subst (λ (v : ℕ). HasBegun R K (event.Opened c) start (record { told = told; mine = mine; sessions = old.sessions.items ++ newcomer c talk ∷ []; box = old.outbox ++ (c, []) ∷ []; starved = v })) (sym te)
       (admitted c piece start told (world was mine old) talk m b l n)))
 
-  pub opened_no : (c : ℕ) (piece : List ℕ) (start told told' was : Option PortsTold) (mine : List Entry) (old mid new : Desk T) → Comes R K (event.Opened c) piece start told (world was mine old)
+  pub opened_no : (c : ℕ) (piece : List ℕ) (start told told' was : Option PortsTold) (mine : List Entry) (old mid new : SessionTable T) → Comes R K (event.Opened c) piece start told (world was mine old)
       → Admits R K c old mid false → told' ≡ option_map (closed c) told → new.sessions.items ≡ mid.sessions.items → new.outbox ≡ mid.outbox
       → new.starved ≡ cond (nat_lt (length mid.sessions.items) 1024) (min (mid.starved + 1) (2 ^ 64 - 1)) mid.starved
       → HasBegun R K (event.Opened c) start (world told' mine new)

@@ -6,7 +6,7 @@ use Rattle.std.proofs.lemmas.List.{with_items_is}
 use Rattle.farm_history.specs.Entries.{Entry}
 use Rattle.port_trait.specs.Told.{PortsTold}
 use Rattle.front_rounds.specs.declared.sessions.Session.{Session}
-use Rattle.front_rounds.specs.declared.sessions.Desk.{Desk}
+use Rattle.front_rounds.specs.declared.sessions.SessionTable.{SessionTable}
 use Rattle.front_rounds.specs.inner.Sessions.{woken}
 use Rattle.front_rounds.specs.inner.Stands.{World, world}
 
@@ -37,7 +37,7 @@ module _ {T : Type 0} where
   length_woken [] = refl
   length_woken (x ∷ xs) = ap (λ n. suc n) (length_woken xs)
 
-  -- the sessions of a desk, where they were woken in place
+  -- the sessions of a table, where they were woken in place
   pub woken_items : {Z : Type 0} → (v : Vec (Session T) Z) (ws : List (Session T)) → ws ≡ map woken v.items → (with_items v ws).items ≡ map woken v.items
   woken_items v ws e =
       let l = ap length e ∙ length_woken v.items in
@@ -45,7 +45,7 @@ module _ {T : Type 0} where
       with_items_is v ws (omega (arith, l, k)) ∙ e
 
   -- all that the steps are told by, where all sessions were woken
-  pub world_woken : (told : Option PortsTold) (mine : List Entry) (old new : Desk T) → new.sessions.items ≡ map woken old.sessions.items → new.outbox ≡ old.outbox → new.starved ≡ old.starved
+  pub world_woken : (told : Option PortsTold) (mine : List Entry) (old new : SessionTable T) → new.sessions.items ≡ map woken old.sessions.items → new.outbox ≡ old.outbox → new.starved ≡ old.starved
       → world told mine new ≡ record (world told mine old) { sessions = map woken old.sessions.items }
   world_woken told mine old new se be te =
       ap (λ (xs : List (Session T)). world_by told mine xs new.outbox new.starved) se

@@ -8,7 +8,7 @@ use Rattle.port_trait.specs.Told.{PortsTold, MayCome, IsOpen, heard}
 use Rattle.port_trait.specs.Boxes.{rest_at, HasRest, held}
 use Rattle.front_rounds.specs.declared.fates.Fate.{Fate}
 use Rattle.front_rounds.specs.declared.sessions.Session.{Session}
-use Rattle.front_rounds.specs.declared.sessions.Desk.{Desk}
+use Rattle.front_rounds.specs.declared.sessions.SessionTable.{SessionTable}
 use Rattle.front_rounds.specs.Rules.{Rules, Move, Does, asked, BeginsWanted, any_starves}
 use Rattle.front_rounds.specs.Steps.{Step, Came, Did, phase, Phase, Hearing, there, has, own, starved_in, opened, with_refused}
 use Rattle.front_rounds.specs.Parts.{Part, part, came, moved, told_after, EachMayCome, shut_out}
@@ -458,8 +458,8 @@ module _ {A W T : Type 0} (R : Rules A W) (K : List ℕ → List (Move A) → T 
     time = refl;
   }
 
-  -- the mark of a session, in terms of the desk
-  pub mark_world : (e : PortEvent) (c : ℕ) (piece : List ℕ) (start told was : Option PortsTold) (mine : List Entry) (old new : Desk T) → Markable e c → BeginsRound e
+  -- the mark of a session, in terms of the table
+  pub mark_world : (e : PortEvent) (c : ℕ) (piece : List ℕ) (start told was : Option PortsTold) (mine : List Entry) (old new : SessionTable T) → Markable e c → BeginsRound e
       → Comes R K e piece start told (world was mine old) → MarksAt e c old new → HasBegun R K e start (world told mine new)
   mark_world e c piece start told was mine old new k b m (Absent n se be te) =
       subst (λ (v : ℕ). HasBegun R K e start (record { told = told; mine = mine; sessions = new.sessions.items; box = new.outbox; starved = v })) (sym te)

@@ -16,7 +16,7 @@ ghost use Rattle.port_trait.specs.declared.events.PortEvent.{PortEvent};
 use crate::farm::{Farm, Worn};
 use crate::fates::{Fate, Reason};
 use crate::front::Front;
-use crate::sessions::{Desk, Session};
+use crate::sessions::{Session, SessionTable};
 use farm_history::Conn;
 use port_trait::Ports;
 use std::sync::Wait;
@@ -86,7 +86,7 @@ fn close_one<R: Wait, M: Farm, F: Front<M>, P: Ports>(
     front: &F,
     farm: &M,
     seat: &mut M::Seat,
-    desk: &mut Desk<F::Talk>,
+    table: &mut SessionTable<F::Talk>,
     ports: &mut P,
     place: usize,
     conn: u32,
@@ -94,17 +94,17 @@ fn close_one<R: Wait, M: Farm, F: Front<M>, P: Ports>(
 ) -> Result<(), Worn>
     requires seat { (M.seats farm.now).is_seat seat.old }
     requires number { (M.seats farm.now).number seat.old ≡ (F.rules front.now farm.now).number + 1 }
-    requires leaving { IsLeaving desk.old.sessions.items place conn why }
-    requires ready { (e : PortEvent) × ((stopped : Bool) × ((start : Option PortsTold) × CanLeave (F.rules front.now farm.now) F.knows e stopped start (world (P.state ports.old).told ((M.seats farm.now).mine seat.old) desk.old))) }
+    requires leaving { IsLeaving table.old.sessions.items place conn why }
+    requires ready { (e : PortEvent) × ((stopped : Bool) × ((start : Option PortsTold) × CanLeave (F.rules front.now farm.now) F.knows e stopped start (world (P.state ports.old).told ((M.seats farm.now).mine seat.old) table.old))) }
     ensures seat { SameSeat (M.seats farm.now) seat.old seat.new }
     ensures worn { OnErr result ((M.seats farm.now).worn seat.new ≡ true) }
     ensures count { (P.state ports.new).faults ≡ (P.state ports.old).faults }
-    ensures fewer { OnOk result (length desk.new.sessions.items + 1 ≡ length desk.old.sessions.items) }
+    ensures fewer { OnOk result (length table.new.sessions.items + 1 ≡ length table.old.sessions.items) }
     ensures goes { (e : PortEvent) (stopped : Bool) (start : Option PortsTold)
-        → CanLeave (F.rules front.now farm.now) F.knows e stopped start (world (P.state ports.old).told ((M.seats farm.now).mine seat.old) desk.old)
+        → CanLeave (F.rules front.now farm.now) F.knows e stopped start (world (P.state ports.old).told ((M.seats farm.now).mine seat.old) table.old)
         → MatchResult result
-        (λ _. CanLeave (F.rules front.now farm.now) F.knows e stopped start (world (P.state ports.new).told ((M.seats farm.now).mine seat.new) desk.new))
-        (λ _. CutShort (F.rules front.now farm.now) F.knows start (P.state ports.new).told ((M.seats farm.now).mine seat.new) desk.new.starved) }
+        (λ _. CanLeave (F.rules front.now farm.now) F.knows e stopped start (world (P.state ports.new).told ((M.seats farm.now).mine seat.new) table.new))
+        (λ _. CutShort (F.rules front.now farm.now) F.knows start (P.state ports.new).told ((M.seats farm.now).mine seat.new) table.new.starved) }
 {
     let number = front.number(farm);
     let Ok(_asks) = farm.leave(
@@ -118,9 +118,9 @@ fn close_one<R: Wait, M: Farm, F: Front<M>, P: Ports>(
         return Err(Worn);
     };
     shut(ports, conn, why);
-    desk.outbox.forget(conn);
-    desk.starved = starved_after(desk.starved, why);
-    desk.sessions.remove(place);
+    table.outbox.forget(conn);
+    table.starved = starved_after(table.starved, why);
+    table.sessions.remove(place);
     Ok(())
 }
 
@@ -130,23 +130,23 @@ pub fn close_all<R: Wait, M: Farm, F: Front<M>, P: Ports>(
     front: &F,
     farm: &M,
     seat: &mut M::Seat,
-    desk: &mut Desk<F::Talk>,
+    table: &mut SessionTable<F::Talk>,
     ports: &mut P,
 ) -> Result<(), Worn>
     requires seat { (M.seats farm.now).is_seat seat.old }
     requires number { (M.seats farm.now).number seat.old ≡ (F.rules front.now farm.now).number + 1 }
-    requires ready { (e : PortEvent) × ((stopped : Bool) × ((start : Option PortsTold) × CanLeave (F.rules front.now farm.now) F.knows e stopped start (world (P.state ports.old).told ((M.seats farm.now).mine seat.old) desk.old))) }
+    requires ready { (e : PortEvent) × ((stopped : Bool) × ((start : Option PortsTold) × CanLeave (F.rules front.now farm.now) F.knows e stopped start (world (P.state ports.old).told ((M.seats farm.now).mine seat.old) table.old))) }
     ensures seat { SameSeat (M.seats farm.now) seat.old seat.new }
     ensures worn { OnErr result ((M.seats farm.now).worn seat.new ≡ true) }
     ensures count { (P.state ports.new).faults ≡ (P.state ports.old).faults }
     ensures goes { (e : PortEvent) (stopped : Bool) (start : Option PortsTold)
-        → CanLeave (F.rules front.now farm.now) F.knows e stopped start (world (P.state ports.old).told ((M.seats farm.now).mine seat.old) desk.old)
+        → CanLeave (F.rules front.now farm.now) F.knows e stopped start (world (P.state ports.old).told ((M.seats farm.now).mine seat.old) table.old)
         → MatchResult result
-        (λ _. IsOver (F.rules front.now farm.now) F.knows e stopped start (world (P.state ports.new).told ((M.seats farm.now).mine seat.new) desk.new))
-        (λ _. CutShort (F.rules front.now farm.now) F.knows start (P.state ports.new).told ((M.seats farm.now).mine seat.new) desk.new.starved) }
+        (λ _. IsOver (F.rules front.now farm.now) F.knows e stopped start (world (P.state ports.new).told ((M.seats farm.now).mine seat.new) table.new))
+        (λ _. CutShort (F.rules front.now farm.now) F.knows start (P.state ports.new).told ((M.seats farm.now).mine seat.new) table.new.starved) }
 {
-    while let Some((place, conn, why)) = leaving(desk.sessions.as_slice()) {
-        let Ok(()) = close_one(rt, front, farm, seat, desk, ports, place, conn, why) else {
+    while let Some((place, conn, why)) = leaving(table.sessions.as_slice()) {
+        let Ok(()) = close_one(rt, front, farm, seat, table, ports, place, conn, why) else {
             return Err(Worn);
         };
     }

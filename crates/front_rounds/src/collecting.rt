@@ -12,8 +12,8 @@ ghost use Rattle.port_trait.specs.declared.events.PortEvent.{PortEvent};
 use crate::farm::{Farm, Worn};
 use crate::fates::{Fate, Reason};
 use crate::front::Front;
-use crate::hearing::{is_kept, owes_after, settle, wake_desk};
-use crate::sessions::{Desk, Session, place_of};
+use crate::hearing::{is_kept, owes_after, settle, wake_all};
+use crate::sessions::{Session, SessionTable, place_of};
 use farm_history::{Collected, Outcome, Reply};
 use port_trait::Outbox;
 use std::alloc::Global;
@@ -74,25 +74,25 @@ fn collect_one<R: Wait, M: Farm, F: Front<M>>(
     front: &F,
     farm: &M,
     seat: &mut M::Seat,
-    desk: &mut Desk<F::Talk>,
+    table: &mut SessionTable<F::Talk>,
 ) -> Result<Collected, Worn>
     requires seat { (M.seats farm.now).is_seat seat.old }
     requires number { (M.seats farm.now).number seat.old ≡ (F.rules front.now farm.now).number + 1 }
-    requires ready { (e : PortEvent) × ((start told : Option PortsTold) × ((ss : List (Step F.Act)) × Collects (F.rules front.now farm.now) F.knows e start ss (world told ((M.seats farm.now).mine seat.old) desk.old))) }
+    requires ready { (e : PortEvent) × ((start told : Option PortsTold) × ((ss : List (Step F.Act)) × Collects (F.rules front.now farm.now) F.knows e start ss (world told ((M.seats farm.now).mine seat.old) table.old))) }
     ensures seat { SameSeat (M.seats farm.now) seat.old seat.new }
     ensures worn { OnErr result ((M.seats farm.now).worn seat.new ≡ true) }
     ensures goes { (e : PortEvent) (start told : Option PortsTold) (ss : List (Step F.Act))
-        → Collects (F.rules front.now farm.now) F.knows e start ss (world told ((M.seats farm.now).mine seat.old) desk.old)
+        → Collects (F.rules front.now farm.now) F.knows e start ss (world told ((M.seats farm.now).mine seat.old) table.old)
         → MatchResult result
-        (λ x. CollectsOne (F.rules front.now farm.now) F.knows e start (world told ((M.seats farm.now).mine seat.new) desk.new) x)
-        (λ _. CutShort (F.rules front.now farm.now) F.knows start told ((M.seats farm.now).mine seat.new) desk.new.starved) }
+        (λ x. CollectsOne (F.rules front.now farm.now) F.knows e start (world told ((M.seats farm.now).mine seat.new) table.new) x)
+        (λ _. CutShort (F.rules front.now farm.now) F.knows start told ((M.seats farm.now).mine seat.new) table.new.starved) }
 {
     let Ok(collected) = farm.collect(rt, seat, front.number(farm)) else {
         return Err(Worn);
     };
     match collected {
         Collected::Reply(reply) => {
-            let Some(place) = place_of(desk.sessions.as_slice(), reply.conn.number) else {
+            let Some(place) = place_of(table.sessions.as_slice(), reply.conn.number) else {
                 return Ok(collected);
             };
             let Ok(()) = reply_one(
@@ -101,9 +101,9 @@ fn collect_one<R: Wait, M: Farm, F: Front<M>>(
                 front,
                 farm,
                 seat,
-                &mut desk.sessions[place],
-                &mut desk.outbox,
-                &mut desk.said,
+                &mut table.sessions[place],
+                &mut table.outbox,
+                &mut table.said,
                 reply,
             ) else {
                 return Err(Worn);
@@ -111,7 +111,7 @@ fn collect_one<R: Wait, M: Farm, F: Front<M>>(
             Ok(collected)
         }
         Collected::Stopped => {
-            wake_desk(desk);
+            wake_all(table);
             Ok(collected)
         }
         Collected::Empty => Ok(collected),
@@ -125,21 +125,21 @@ pub fn collect_all<R: Wait, M: Farm, F: Front<M>>(
     front: &F,
     farm: &M,
     seat: &mut M::Seat,
-    desk: &mut Desk<F::Talk>,
+    table: &mut SessionTable<F::Talk>,
 ) -> Result<bool, Worn>
     requires seat { (M.seats farm.now).is_seat seat.old }
     requires number { (M.seats farm.now).number seat.old ≡ (F.rules front.now farm.now).number + 1 }
-    requires ready { (e : PortEvent) × ((start told : Option PortsTold) × ((ss : List (Step F.Act)) × Collects (F.rules front.now farm.now) F.knows e start ss (world told ((M.seats farm.now).mine seat.old) desk.old))) }
+    requires ready { (e : PortEvent) × ((start told : Option PortsTold) × ((ss : List (Step F.Act)) × Collects (F.rules front.now farm.now) F.knows e start ss (world told ((M.seats farm.now).mine seat.old) table.old))) }
     ensures seat { SameSeat (M.seats farm.now) seat.old seat.new }
     ensures worn { OnErr result ((M.seats farm.now).worn seat.new ≡ true) }
     ensures goes { (e : PortEvent) (start told : Option PortsTold) (ss : List (Step F.Act))
-        → Collects (F.rules front.now farm.now) F.knows e start ss (world told ((M.seats farm.now).mine seat.old) desk.old)
+        → Collects (F.rules front.now farm.now) F.knows e start ss (world told ((M.seats farm.now).mine seat.old) table.old)
         → MatchResult result
-        (λ stopped. CanOffer (F.rules front.now farm.now) F.knows e stopped start (world told ((M.seats farm.now).mine seat.new) desk.new))
-        (λ _. CutShort (F.rules front.now farm.now) F.knows start told ((M.seats farm.now).mine seat.new) desk.new.starved) }
+        (λ stopped. CanOffer (F.rules front.now farm.now) F.knows e stopped start (world told ((M.seats farm.now).mine seat.new) table.new))
+        (λ _. CutShort (F.rules front.now farm.now) F.knows start told ((M.seats farm.now).mine seat.new) table.new.starved) }
 {
     for _ in rt.forever() {
-        let Ok(collected) = collect_one(rt, alloc, front, farm, seat, desk) else {
+        let Ok(collected) = collect_one(rt, alloc, front, farm, seat, table) else {
             return Err(Worn);
         };
         match collected {

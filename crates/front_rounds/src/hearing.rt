@@ -14,7 +14,7 @@ ghost use Rattle.port_trait.specs.declared.events.PortEvent.TheVariants as event
 use crate::farm::{Farm, Worn};
 use crate::fates::{Fate, Reason};
 use crate::front::Front;
-use crate::sessions::{Desk, Session, place_of};
+use crate::sessions::{Session, SessionTable, place_of};
 use farm_base::NoMemory;
 use port_trait::{BoxFault, Outbox, PortEvent, Ports};
 use std::alloc::Global;
@@ -98,22 +98,22 @@ fn hear<R: Wait, M: Farm, F: Front<M>>(
     front: &F,
     farm: &M,
     seat: &mut M::Seat,
-    desk: &mut Desk<F::Talk>,
+    table: &mut SessionTable<F::Talk>,
     conn: u32,
     piece: &[u8],
 ) -> Result<(), Worn>
     requires seat { (M.seats farm.now).is_seat seat.old }
     requires number { (M.seats farm.now).number seat.old ≡ (F.rules front.now farm.now).number + 1 }
-    requires ready { (start told was : Option PortsTold) × Comes (F.rules front.now farm.now) F.knows (event.Bytes conn) piece.now start told (world was ((M.seats farm.now).mine seat.old) desk.old) }
+    requires ready { (start told was : Option PortsTold) × Comes (F.rules front.now farm.now) F.knows (event.Bytes conn) piece.now start told (world was ((M.seats farm.now).mine seat.old) table.old) }
     ensures seat { SameSeat (M.seats farm.now) seat.old seat.new }
     ensures worn { OnErr result ((M.seats farm.now).worn seat.new ≡ true) }
     ensures goes { (start told was : Option PortsTold)
-        → Comes (F.rules front.now farm.now) F.knows (event.Bytes conn) piece.now start told (world was ((M.seats farm.now).mine seat.old) desk.old)
+        → Comes (F.rules front.now farm.now) F.knows (event.Bytes conn) piece.now start told (world was ((M.seats farm.now).mine seat.old) table.old)
         → MatchResult result
-        (λ _. HasBegun (F.rules front.now farm.now) F.knows (event.Bytes conn) start (world told ((M.seats farm.now).mine seat.new) desk.new))
-        (λ _. CutShort (F.rules front.now farm.now) F.knows start told ((M.seats farm.now).mine seat.new) desk.new.starved) }
+        (λ _. HasBegun (F.rules front.now farm.now) F.knows (event.Bytes conn) start (world told ((M.seats farm.now).mine seat.new) table.new))
+        (λ _. CutShort (F.rules front.now farm.now) F.knows start told ((M.seats farm.now).mine seat.new) table.new.starved) }
 {
-    let Some(place) = place_of(desk.sessions.as_slice(), conn) else {
+    let Some(place) = place_of(table.sessions.as_slice(), conn) else {
         return Ok(());
     };
     hear_one(
@@ -122,22 +122,28 @@ fn hear<R: Wait, M: Farm, F: Front<M>>(
         front,
         farm,
         seat,
-        &mut desk.sessions[place],
-        &mut desk.outbox,
-        &mut desk.said,
+        &mut table.sessions[place],
+        &mut table.outbox,
+        &mut table.said,
         piece,
     )
 }
 
 /// Makes a session of a connection that is not there, if there is memory for it.
-fn add<T: Drop>(alloc: Global, desk: &mut Desk<T>, conn: u32, talk: T) -> Result<(), NoMemory>
-    requires { rest_at desk.old.outbox conn ≡ None }
-    ensures done { OnOk result ((desk.new.sessions.items ≡ desk.old.sessions.items ++ newcomer conn talk ∷ []) × (desk.new.outbox ≡ desk.old.outbox ++ (conn, []) ∷ []) × (desk.new.starved ≡ desk.old.starved)) }
-    ensures refused { OnErr result ((desk.new.sessions.items ≡ desk.old.sessions.items) × (desk.new.outbox ≡ desk.old.outbox) × (desk.new.starved ≡ desk.old.starved)) }
+fn add<T: Drop>(
+    alloc: Global,
+    table: &mut SessionTable<T>,
+    conn: u32,
+    talk: T,
+) -> Result<(), NoMemory>
+    requires { rest_at table.old.outbox conn ≡ None }
+    ensures done { OnOk result ((table.new.sessions.items ≡ table.old.sessions.items ++ newcomer conn talk ∷ []) × (table.new.outbox ≡ table.old.outbox ++ (conn, []) ∷ []) × (table.new.starved ≡ table.old.starved)) }
+    ensures refused { OnErr result ((table.new.sessions.items ≡ table.old.sessions.items) × (table.new.outbox ≡ table.old.outbox) × (table.new.starved ≡ table.old.starved)) }
 {
-    desk.sessions.reserve(1)?;
-    desk.outbox.begin(alloc, conn)?;
-    desk.sessions
+    table.sessions.reserve(1)?;
+    table.outbox.begin(alloc, conn)?;
+    table
+        .sessions
         .push(Session {
             conn,
             talk,
@@ -154,18 +160,18 @@ fn admit<M: Farm, F: Front<M>>(
     alloc: Global,
     front: &F,
     farm: &M,
-    desk: &mut Desk<F::Talk>,
+    table: &mut SessionTable<F::Talk>,
     conn: u32,
 ) -> bool
-    requires { keys desk.old.outbox ≡ conns desk.old.sessions.items }
-    ensures { Admits (F.rules front.now farm.now) F.knows conn desk.old desk.new result }
+    requires { keys table.old.outbox ≡ conns table.old.sessions.items }
+    ensures { Admits (F.rules front.now farm.now) F.knows conn table.old table.new result }
 {
-    if desk.sessions.len() >= SESSIONS {
+    if table.sessions.len() >= SESSIONS {
         return false;
     }
-    match place_of(desk.sessions.as_slice(), conn) {
+    match place_of(table.sessions.as_slice(), conn) {
         Some(_) => false,
-        None => match add(alloc, desk, conn, front.begin(alloc, farm)) {
+        None => match add(alloc, table, conn, front.begin(alloc, farm)) {
             Ok(()) => true,
             Err(NoMemory) => false,
         },
@@ -184,16 +190,16 @@ fn refused_after(starved: u64, there: usize) -> u64
 }
 
 /// Closes a connection that got no session.
-fn refuse<T, P: Ports>(desk: &mut Desk<T>, ports: &mut P, conn: u32)
+fn refuse<T, P: Ports>(table: &mut SessionTable<T>, ports: &mut P, conn: u32)
     requires { IsOpen conn (P.state ports.old).told }
     ensures told { (P.state ports.new).told ≡ option_map (closed conn) (P.state ports.old).told }
     ensures count { (P.state ports.new).faults ≡ (P.state ports.old).faults }
-    ensures sessions { desk.new.sessions.items ≡ desk.old.sessions.items }
-    ensures outbox { desk.new.outbox ≡ desk.old.outbox }
-    ensures starved { desk.new.starved ≡ cond (nat_lt (length desk.old.sessions.items) 1024) (min (desk.old.starved + 1) (2 ^ 64 - 1)) desk.old.starved }
+    ensures sessions { table.new.sessions.items ≡ table.old.sessions.items }
+    ensures outbox { table.new.outbox ≡ table.old.outbox }
+    ensures starved { table.new.starved ≡ cond (nat_lt (length table.old.sessions.items) 1024) (min (table.old.starved + 1) (2 ^ 64 - 1)) table.old.starved }
 {
     ports.close(conn);
-    desk.starved = refused_after(desk.starved, desk.sessions.len());
+    table.starved = refused_after(table.starved, table.sessions.len());
 }
 
 /// A connection was opened: it gets a session, or is closed.
@@ -201,20 +207,20 @@ fn open<M: Farm, F: Front<M>, P: Ports>(
     alloc: Global,
     front: &F,
     farm: &M,
-    desk: &mut Desk<F::Talk>,
+    table: &mut SessionTable<F::Talk>,
     ports: &mut P,
     piece: &[u8],
     conn: u32,
 )
-    requires ready { (start was : Option PortsTold) × ((mine : List Entry) × Comes (F.rules front.now farm.now) F.knows (event.Opened conn) piece.now start (P.state ports.old).told (world was mine desk.old)) }
+    requires ready { (start was : Option PortsTold) × ((mine : List Entry) × Comes (F.rules front.now farm.now) F.knows (event.Opened conn) piece.now start (P.state ports.old).told (world was mine table.old)) }
     ensures goes { (start was : Option PortsTold) (mine : List Entry)
-        → Comes (F.rules front.now farm.now) F.knows (event.Opened conn) piece.now start (P.state ports.old).told (world was mine desk.old)
-        → HasBegun (F.rules front.now farm.now) F.knows (event.Opened conn) start (world (P.state ports.new).told mine desk.new) }
+        → Comes (F.rules front.now farm.now) F.knows (event.Opened conn) piece.now start (P.state ports.old).told (world was mine table.old)
+        → HasBegun (F.rules front.now farm.now) F.knows (event.Opened conn) start (world (P.state ports.new).told mine table.new) }
     ensures count { (P.state ports.new).faults ≡ (P.state ports.old).faults }
 {
-    match admit(alloc, front, farm, desk, conn) {
+    match admit(alloc, front, farm, table, conn) {
         true => {}
-        false => refuse(desk, ports, conn),
+        false => refuse(table, ports, conn),
     }
 }
 
@@ -231,13 +237,13 @@ fn mark<T>(session: &mut Session<T>, event: PortEvent)
 }
 
 /// The session of a connection as its Writable, its Ended or its Lost leaves it.
-fn mark_at<T>(desk: &mut Desk<T>, event: PortEvent, conn: u32)
-    ensures { MarksAt event conn desk.old desk.new }
+fn mark_at<T>(table: &mut SessionTable<T>, event: PortEvent, conn: u32)
+    ensures { MarksAt event conn table.old table.new }
 {
-    let Some(place) = place_of(desk.sessions.as_slice(), conn) else {
+    let Some(place) = place_of(table.sessions.as_slice(), conn) else {
         return;
     };
-    mark(&mut desk.sessions[place], event);
+    mark(&mut table.sessions[place], event);
 }
 
 /// An event came that begins a round.
@@ -247,7 +253,7 @@ pub fn take_event<R: Wait, M: Farm, F: Front<M>, P: Ports>(
     front: &F,
     farm: &M,
     seat: &mut M::Seat,
-    desk: &mut Desk<F::Talk>,
+    table: &mut SessionTable<F::Talk>,
     ports: &mut P,
     piece: &[u8],
     event: PortEvent,
@@ -255,40 +261,40 @@ pub fn take_event<R: Wait, M: Farm, F: Front<M>, P: Ports>(
     requires seat { (M.seats farm.now).is_seat seat.old }
     requires number { (M.seats farm.now).number seat.old ≡ (F.rules front.now farm.now).number + 1 }
     requires begins { BeginsRound event }
-    requires ready { (start was : Option PortsTold) × Comes (F.rules front.now farm.now) F.knows event piece.now start (P.state ports.old).told (world was ((M.seats farm.now).mine seat.old) desk.old) }
+    requires ready { (start was : Option PortsTold) × Comes (F.rules front.now farm.now) F.knows event piece.now start (P.state ports.old).told (world was ((M.seats farm.now).mine seat.old) table.old) }
     ensures seat { SameSeat (M.seats farm.now) seat.old seat.new }
     ensures worn { OnErr result ((M.seats farm.now).worn seat.new ≡ true) }
     ensures count { (P.state ports.new).faults ≡ (P.state ports.old).faults }
     ensures goes { (start was : Option PortsTold)
-        → Comes (F.rules front.now farm.now) F.knows event piece.now start (P.state ports.old).told (world was ((M.seats farm.now).mine seat.old) desk.old)
+        → Comes (F.rules front.now farm.now) F.knows event piece.now start (P.state ports.old).told (world was ((M.seats farm.now).mine seat.old) table.old)
         → MatchResult result
-        (λ _. HasBegun (F.rules front.now farm.now) F.knows event start (world (P.state ports.new).told ((M.seats farm.now).mine seat.new) desk.new))
-        (λ _. CutShort (F.rules front.now farm.now) F.knows start (P.state ports.new).told ((M.seats farm.now).mine seat.new) desk.new.starved) }
+        (λ _. HasBegun (F.rules front.now farm.now) F.knows event start (world (P.state ports.new).told ((M.seats farm.now).mine seat.new) table.new))
+        (λ _. CutShort (F.rules front.now farm.now) F.knows start (P.state ports.new).told ((M.seats farm.now).mine seat.new) table.new.starved) }
 {
     match event {
         PortEvent::Opened(conn) => {
-            open(alloc, front, farm, desk, ports, piece, conn);
+            open(alloc, front, farm, table, ports, piece, conn);
             Ok(())
         }
-        PortEvent::Bytes(conn) => hear(rt, alloc, front, farm, seat, desk, conn, piece),
+        PortEvent::Bytes(conn) => hear(rt, alloc, front, farm, seat, table, conn, piece),
         PortEvent::Writable(conn) => {
-            mark_at(desk, event, conn);
+            mark_at(table, event, conn);
             Ok(())
         }
         PortEvent::Ended(conn) => {
-            mark_at(desk, event, conn);
+            mark_at(table, event, conn);
             Ok(())
         }
         PortEvent::Lost(conn) => {
-            mark_at(desk, event, conn);
+            mark_at(table, event, conn);
             Ok(())
         }
         PortEvent::Woken => {
-            wake_desk(desk);
+            wake_all(table);
             Ok(())
         }
         PortEvent::Finished => {
-            wake_desk(desk);
+            wake_all(table);
             Ok(())
         }
         PortEvent::Broken => unreachable!(),
@@ -305,11 +311,11 @@ fn wake_all<T>(sessions: &mut [Session<T>])
     }
 }
 
-/// Every session of the desk owes an offer.
-pub fn wake_desk<T>(desk: &mut Desk<T>)
-    ensures sessions { desk.new.sessions.items ≡ map woken desk.old.sessions.items }
-    ensures outbox { desk.new.outbox ≡ desk.old.outbox }
-    ensures starved { desk.new.starved ≡ desk.old.starved }
+/// Every session of the table owes an offer.
+pub fn wake_all<T>(table: &mut SessionTable<T>)
+    ensures sessions { table.new.sessions.items ≡ map woken table.old.sessions.items }
+    ensures outbox { table.new.outbox ≡ table.old.outbox }
+    ensures starved { table.new.starved ≡ table.old.starved }
 {
-    wake_all(desk.sessions.as_mut_slice());
+    wake_all(table.sessions.as_mut_slice());
 }

@@ -14,7 +14,7 @@ use crate::farm::Farm;
 use crate::fates::{Fate, Reason};
 use crate::front::Front;
 use crate::hearing::is_kept;
-use crate::sessions::{Desk, Session};
+use crate::sessions::{Session, SessionTable};
 use port_trait::{Outbox, Ports, SendFault};
 
 /// What an offer of a connection's rest did.
@@ -105,21 +105,21 @@ fn offer_one<M: Farm, F: Front<M>, P: Ports>(
 pub fn offer_all<M: Farm, F: Front<M>, P: Ports>(
     front: &F,
     farm: &M,
-    desk: &mut Desk<F::Talk>,
+    table: &mut SessionTable<F::Talk>,
     ports: &mut P,
 )
-    requires ready { (e : PortEvent) × ((stopped : Bool) × ((start : Option PortsTold) × ((mine : List Entry) × CanOffer (F.rules front.now farm.now) F.knows e stopped start (world (P.state ports.old).told mine desk.old)))) }
+    requires ready { (e : PortEvent) × ((stopped : Bool) × ((start : Option PortsTold) × ((mine : List Entry) × CanOffer (F.rules front.now farm.now) F.knows e stopped start (world (P.state ports.old).told mine table.old)))) }
     ensures goes { (e : PortEvent) (stopped : Bool) (start : Option PortsTold) (mine : List Entry)
-        → CanOffer (F.rules front.now farm.now) F.knows e stopped start (world (P.state ports.old).told mine desk.old)
-        → CanLeave (F.rules front.now farm.now) F.knows e stopped start (world (P.state ports.new).told mine desk.new) }
+        → CanOffer (F.rules front.now farm.now) F.knows e stopped start (world (P.state ports.old).told mine table.old)
+        → CanLeave (F.rules front.now farm.now) F.knows e stopped start (world (P.state ports.new).told mine table.new) }
     ensures count { (P.state ports.old).faults ≤ (P.state ports.new).faults }
 {
-    for place in 0..desk.sessions.len() {
+    for place in 0..table.sessions.len() {
         offer_one(
             front,
             farm,
-            &mut desk.sessions[place],
-            &mut desk.outbox,
+            &mut table.sessions[place],
+            &mut table.outbox,
             ports,
         );
     }

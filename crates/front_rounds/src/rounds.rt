@@ -17,7 +17,7 @@ use crate::farm::{Farm, Worn};
 use crate::front::Front;
 use crate::hearing::take_event;
 use crate::offering::offer_all;
-use crate::sessions::Desk;
+use crate::sessions::SessionTable;
 use port_trait::{FrontDone, FrontEnd, PortEvent, Ports};
 use std::alloc::Global;
 use std::sync::Wait;
@@ -54,7 +54,7 @@ fn play<R: Wait, M: Farm, F: Front<M>, P: Ports>(
     front: &F,
     farm: &M,
     seat: &mut M::Seat,
-    desk: &mut Desk<F::Talk>,
+    table: &mut SessionTable<F::Talk>,
     ports: &mut P,
     piece: &[u8],
     event: PortEvent,
@@ -62,25 +62,25 @@ fn play<R: Wait, M: Farm, F: Front<M>, P: Ports>(
     requires seat { (M.seats farm.now).is_seat seat.old }
     requires number { (M.seats farm.now).number seat.old ≡ (F.rules front.now farm.now).number + 1 }
     requires begins { BeginsRound event }
-    requires ready { (start was : Option PortsTold) × Comes (F.rules front.now farm.now) F.knows event piece.now start (P.state ports.old).told (world was ((M.seats farm.now).mine seat.old) desk.old) }
+    requires ready { (start was : Option PortsTold) × Comes (F.rules front.now farm.now) F.knows event piece.now start (P.state ports.old).told (world was ((M.seats farm.now).mine seat.old) table.old) }
     ensures seat { SameSeat (M.seats farm.now) seat.old seat.new }
     ensures worn { OnErr result ((M.seats farm.now).worn seat.new ≡ true) }
     ensures count { (P.state ports.old).faults ≤ (P.state ports.new).faults }
     ensures unbroken { IfOk result (λ end. end ≢ Some ended.Broken) }
     ensures goes { (start was : Option PortsTold)
-        → Comes (F.rules front.now farm.now) F.knows event piece.now start (P.state ports.old).told (world was ((M.seats farm.now).mine seat.old) desk.old)
+        → Comes (F.rules front.now farm.now) F.knows event piece.now start (P.state ports.old).told (world was ((M.seats farm.now).mine seat.old) table.old)
         → MatchResult result
-        (λ end. Goes (F.rules front.now farm.now) F.knows start (world (P.state ports.new).told ((M.seats farm.now).mine seat.new) desk.new) end)
-        (λ _. CutShort (F.rules front.now farm.now) F.knows start (P.state ports.new).told ((M.seats farm.now).mine seat.new) desk.new.starved) }
+        (λ end. Goes (F.rules front.now farm.now) F.knows start (world (P.state ports.new).told ((M.seats farm.now).mine seat.new) table.new) end)
+        (λ _. CutShort (F.rules front.now farm.now) F.knows start (P.state ports.new).told ((M.seats farm.now).mine seat.new) table.new.starved) }
 {
-    let Ok(()) = take_event(rt, alloc, front, farm, seat, desk, ports, piece, event) else {
+    let Ok(()) = take_event(rt, alloc, front, farm, seat, table, ports, piece, event) else {
         return Err(Worn);
     };
-    let Ok(stopped) = collect_all(rt, alloc, front, farm, seat, desk) else {
+    let Ok(stopped) = collect_all(rt, alloc, front, farm, seat, table) else {
         return Err(Worn);
     };
-    offer_all(front, farm, desk, ports);
-    let Ok(()) = close_all(rt, front, farm, seat, desk, ports) else {
+    offer_all(front, farm, table, ports);
+    let Ok(()) = close_all(rt, front, farm, seat, table, ports) else {
         return Err(Worn);
     };
     Ok(end_after(event, stopped))
@@ -93,22 +93,22 @@ fn round<R: Wait, M: Farm, F: Front<M>, P: Ports>(
     front: &F,
     farm: &M,
     seat: &mut M::Seat,
-    desk: &mut Desk<F::Talk>,
+    table: &mut SessionTable<F::Talk>,
     ports: &mut P,
     room: &mut Vec<u8>,
 ) -> Result<Option<FrontEnd>, Worn>
     requires seat { (M.seats farm.now).is_seat seat.old }
     requires number { (M.seats farm.now).number seat.old ≡ (F.rules front.now farm.now).number + 1 }
-    requires ready { (start : Option PortsTold) × CanGo (F.rules front.now farm.now) F.knows start (world (P.state ports.old).told ((M.seats farm.now).mine seat.old) desk.old) }
+    requires ready { (start : Option PortsTold) × CanGo (F.rules front.now farm.now) F.knows start (world (P.state ports.old).told ((M.seats farm.now).mine seat.old) table.old) }
     ensures seat { SameSeat (M.seats farm.now) seat.old seat.new }
     ensures worn { OnErr result ((M.seats farm.now).worn seat.new ≡ true) }
     ensures count { (P.state ports.old).faults ≤ (P.state ports.new).faults }
     ensures broken { IfOk result (λ end. end ≡ Some ended.Broken → Counted (P.state ports.old).faults (P.state ports.new).faults) }
     ensures goes { (start : Option PortsTold)
-        → CanGo (F.rules front.now farm.now) F.knows start (world (P.state ports.old).told ((M.seats farm.now).mine seat.old) desk.old)
+        → CanGo (F.rules front.now farm.now) F.knows start (world (P.state ports.old).told ((M.seats farm.now).mine seat.old) table.old)
         → MatchResult result
-        (λ end. Goes (F.rules front.now farm.now) F.knows start (world (P.state ports.new).told ((M.seats farm.now).mine seat.new) desk.new) end)
-        (λ _. CutShort (F.rules front.now farm.now) F.knows start (P.state ports.new).told ((M.seats farm.now).mine seat.new) desk.new.starved) }
+        (λ end. Goes (F.rules front.now farm.now) F.knows start (world (P.state ports.new).told ((M.seats farm.now).mine seat.new) table.new) end)
+        (λ _. CutShort (F.rules front.now farm.now) F.knows start (P.state ports.new).told ((M.seats farm.now).mine seat.new) table.new.starved) }
 {
     let event = ports.next(room);
     match early_end(event) {
@@ -119,7 +119,7 @@ fn round<R: Wait, M: Farm, F: Front<M>, P: Ports>(
             front,
             farm,
             seat,
-            desk,
+            table,
             ports,
             room.as_slice(),
             event,
@@ -134,24 +134,24 @@ fn run<R: Wait, M: Farm, F: Front<M>, P: Ports>(
     front: &F,
     farm: &M,
     seat: &mut M::Seat,
-    desk: &mut Desk<F::Talk>,
+    table: &mut SessionTable<F::Talk>,
     ports: &mut P,
 ) -> Result<FrontEnd, Worn>
     requires seat { (M.seats farm.now).is_seat seat.old }
     requires number { (M.seats farm.now).number seat.old ≡ (F.rules front.now farm.now).number + 1 }
-    requires ready { (start : Option PortsTold) × CanGo (F.rules front.now farm.now) F.knows start (world (P.state ports.old).told ((M.seats farm.now).mine seat.old) desk.old) }
+    requires ready { (start : Option PortsTold) × CanGo (F.rules front.now farm.now) F.knows start (world (P.state ports.old).told ((M.seats farm.now).mine seat.old) table.old) }
     ensures seat { SameSeat (M.seats farm.now) seat.old seat.new }
     ensures worn { OnErr result ((M.seats farm.now).worn seat.new ≡ true) }
     ensures broken { IfOk result (λ end. end ≡ ended.Broken → Counted (P.state ports.old).faults (P.state ports.new).faults) }
     ensures goes { (start : Option PortsTold)
-        → CanGo (F.rules front.now farm.now) F.knows start (world (P.state ports.old).told ((M.seats farm.now).mine seat.old) desk.old)
+        → CanGo (F.rules front.now farm.now) F.knows start (world (P.state ports.old).told ((M.seats farm.now).mine seat.old) table.old)
         → MatchResult result
-        (λ end. Goes (F.rules front.now farm.now) F.knows start (world (P.state ports.new).told ((M.seats farm.now).mine seat.new) desk.new) (Some end))
-        (λ _. CutShort (F.rules front.now farm.now) F.knows start (P.state ports.new).told ((M.seats farm.now).mine seat.new) desk.new.starved) }
+        (λ end. Goes (F.rules front.now farm.now) F.knows start (world (P.state ports.new).told ((M.seats farm.now).mine seat.new) table.new) (Some end))
+        (λ _. CutShort (F.rules front.now farm.now) F.knows start (P.state ports.new).told ((M.seats farm.now).mine seat.new) table.new.starved) }
 {
     let mut room = Vec::new(alloc);
     for _ in rt.forever() {
-        let Ok(end) = round(rt, alloc, front, farm, seat, desk, ports, &mut room) else {
+        let Ok(end) = round(rt, alloc, front, farm, seat, table, ports, &mut room) else {
             return Err(Worn);
         };
         if let Some(end) = end {
@@ -184,17 +184,17 @@ fn serve_at<R: Wait, M: Farm, F: Front<M>, P: Ports>(
     front: &F,
     farm: &M,
     seat: &mut M::Seat,
-    desk: &mut Desk<F::Talk>,
+    table: &mut SessionTable<F::Talk>,
     ports: &mut P,
 ) -> FrontEnd
     requires seat { (M.seats farm.now).is_seat seat.old }
     requires number { (M.seats farm.now).number seat.old ≡ (F.rules front.now farm.now).number + 1 }
-    requires ready { CanGo (F.rules front.now farm.now) F.knows (P.state ports.old).told (world (P.state ports.old).told ((M.seats farm.now).mine seat.old) desk.old) }
+    requires ready { CanGo (F.rules front.now farm.now) F.knows (P.state ports.old).told (world (P.state ports.old).told ((M.seats farm.now).mine seat.old) table.old) }
     ensures seat { SameSeat (M.seats farm.now) seat.old seat.new }
-    ensures served { Serves (F.rules front.now farm.now) (P.state ports.old).told (P.state ports.new).told ((M.seats farm.now).mine seat.new) result (map (handed (F.rules front.now farm.now).number) desk.new.outbox) desk.new.starved ((M.seats farm.now).worn seat.new) }
+    ensures served { Serves (F.rules front.now farm.now) (P.state ports.old).told (P.state ports.new).told ((M.seats farm.now).mine seat.new) result (map (handed (F.rules front.now farm.now).number) table.new.outbox) table.new.starved ((M.seats farm.now).worn seat.new) }
     ensures broken { result ≡ ended.Broken → Counted (P.state ports.old).faults (P.state ports.new).faults }
 {
-    match run(rt, alloc, front, farm, seat, desk, ports) {
+    match run(rt, alloc, front, farm, seat, table, ports) {
         Ok(end) => stop_after(rt, farm, seat, end),
         Err(Worn) => FrontEnd::Worn,
     }
@@ -220,12 +220,12 @@ pub fn serve<R: Wait, M: Farm, F: Front<M>, P: Ports>(
     ensures broken { result.end ≡ ended.Broken → Counted (P.state ports.old).faults (P.state ports.new).faults }
 {
     let number = front.number(farm);
-    let mut desk = Desk::new(alloc);
-    let end = serve_at(rt, alloc, front, farm, seat, &mut desk, ports);
-    let rests = desk.outbox.into_rests(number);
+    let mut table = SessionTable::new(alloc);
+    let end = serve_at(rt, alloc, front, farm, seat, &mut table, ports);
+    let rests = table.outbox.into_rests(number);
     FrontDone {
         end,
         rests,
-        starved: desk.starved,
+        starved: table.starved,
     }
 }

@@ -21,7 +21,7 @@ pub struct Session<T> {
 
 /// What a front keeps.
 #[derive(Drop)]
-pub struct Desk<T> {
+pub struct SessionTable<T> {
     /// In the order in which they were opened.
     pub sessions: Vec<Session<T>>,
     /// The bytes that were answered and not taken, of each session.
@@ -32,14 +32,14 @@ pub struct Desk<T> {
     pub said: Vec<u8>,
 }
 
-impl<T> Desk<T> {
+impl<T> SessionTable<T> {
     /// Nobody is there.
-    pub fn new(alloc: Global) -> Desk<T>
+    pub fn new(alloc: Global) -> SessionTable<T>
         ensures sessions { result.sessions.items ≡ [] }
         ensures outbox { result.outbox ≡ [] }
         ensures starved { result.starved ≡ 0 }
     {
-        Desk {
+        SessionTable {
             sessions: Vec::new(alloc),
             outbox: Outbox::new(alloc),
             starved: 0,

@@ -6,7 +6,7 @@ use Rattle.farm_history.specs.declared.answers.ClaimAnswer.{ClaimAnswer}
 use Rattle.farm_history.specs.declared.answers.ClaimAnswer.TheVariants.{Job}
 use Rattle.farm_history.specs.declared.answers.Finished.{Finished}
 use Rattle.farm_history.specs.Entries.{Entry, Claim, Finish}
-use Rattle.turn_cell.specs.Held.{Held}
+use Rattle.turn_cell.specs.SeatStates.{SeatState}
 use Rattle.farm_shared.specs.Seats.{plain}
 use Rattle.render_workers.specs.declared.worker.WorkEnd.{WorkEnd}
 
@@ -38,11 +38,11 @@ pub record WorkOf (w : ℕ) (end : WorkEnd) (es : List Entry) : Type 0 where
   pub ended : EndsWith w end last
 
 -- the seat has gained those entries of its own
-abbrev pub Gains : {T : Type 0} → List Entry → Held T Entry → Held T Entry → Type 0
+abbrev pub Gains : {T : Type 0} → List Entry → SeatState T Entry → SeatState T Entry → Type 0
 Gains es v w = plain w.mine ≡ plain v.mine ++ es
 
 -- worker w has worked, and ended so
-pub record Worked {T : Type 0} (w : ℕ) (end : WorkEnd) (old new : Held T Entry) : Type 0 where
+pub record Worked {T : Type 0} (w : ℕ) (end : WorkEnd) (old new : SeatState T Entry) : Type 0 where
   pub entries : List Entry
   pub gains : Gains entries old new
   pub work : WorkOf w end entries

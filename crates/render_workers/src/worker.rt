@@ -1,6 +1,6 @@
 //! A worker.
 ghost use Rattle.std.specs.Prelude.{◌≡◌, true};
-ghost use Rattle.turn_cell.specs.Held.{IsSeatOf, Knows, SameSeat};
+ghost use Rattle.turn_cell.specs.SeatStates.{IsSeatOf, Knows, SameSeat};
 ghost use Rattle.render_workers.specs.Rounds.{Worked};
 ghost use Rattle.render_workers.specs.inner.Nexts.{AddsRound, IsWornOut};
 ghost use Rattle.render_workers.specs.declared.worker.WorkEnd.{WorkEnd};

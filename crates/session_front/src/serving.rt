@@ -3,7 +3,7 @@ ghost use Rattle.std.specs.Prelude.{◌≡◌, ◌+◌, []};
 ghost use Rattle.farm_base.specs.Outside.{Counted};
 ghost use Rattle.port_trait.specs.declared.ends.FrontEnd.TheVariants as ended;
 ghost use Rattle.front_rounds.specs.Serving.{Serves};
-ghost use Rattle.turn_cell.specs.Held.{IsSeatOf, Knows, SameSeat};
+ghost use Rattle.turn_cell.specs.SeatStates.{IsSeatOf, Knows, SameSeat};
 ghost use Rattle.farm_shared.specs.Seats.{plain};
 ghost use Rattle.farm_door.specs.Doors.{maps_of};
 ghost use Rattle.renderd_front.specs.Renderd.{rules_of};

@@ -1,6 +1,6 @@
 //! The counter under a turn cell.
 ghost use Rattle.std.specs.Prelude.{◌≡◌, ◌+◌, ◌<◌, true, length, All, IfSome, vec_len};
-ghost use Rattle.turn_cell.specs.Held.{IsSeatOf};
+ghost use Rattle.turn_cell.specs.SeatStates.{IsSeatOf};
 
 use std::alloc::Global;
 use std::sync::Wait;

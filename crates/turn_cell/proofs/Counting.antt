@@ -4,7 +4,7 @@ use mathlib.Core.Logic.{dite}
 use native.Mathlib.Decide.{ℕ_discrete, dec_le}
 use Rattle.turn_cell.specs.Turns.{by, NoneAbove}
 use Rattle.turn_cell.specs.Cell.{below}
-use Rattle.turn_cell.specs.Held.{Made, Held, first_of, split_left, joining, Knows}
+use Rattle.turn_cell.specs.SeatStates.{Made, SeatState, first_of, split_left, joining, Knows}
 
 below-sum : (f g h : ℕ → ℕ) → ((k : ℕ) → f k ≡ g k + h k) → (n : ℕ) → below f n ≡ below g n + below h n
 below-sum f g h each zero = refl
@@ -48,11 +48,11 @@ module _ {E : Type 0} where
       empty (y ∷ ys) e = absurd (omega arith)
 
 -- two seats were split from a first one, which took no turn, and were joined into it
-pub seen_by_two : {T E : Type 0} (made : Made T) (one two v : Held T E) → v ≡ joining (joining (split_left (split_left (first_of made))) one) two → Knows v → one.number ≡ 1 → two.number ≡ 2
+pub seen_by_two : {T E : Type 0} (made : Made T) (one two v : SeatState T E) → v ≡ joining (joining (split_left (split_left (first_of made))) one) two → Knows v → one.number ≡ 1 → two.number ≡ 2
     → length v.seen ≡ length one.mine + length two.mine
 seen_by_two {T = T} {E = E} made one two v is known n₁ n₂ =
-    let w : Held T E = joining (joining (split_left (split_left (first_of made))) one) two in
-    let k = subst (λ (h : Held T E). Knows h) is known in
+    let w : SeatState T E = joining (joining (split_left (split_left (first_of made))) one) two in
+    let k = subst (λ (h : SeatState T E). Knows h) is known in
     let log : List (ℕ × E) = w.seen in
     let none : by 0 log ≡ [] = k.0 in
     let first : by one.number log ≡ one.mine = k.1 refl 0 (one.number, one.mine) refl in
@@ -60,4 +60,4 @@ seen_by_two {T = T} {E = E} made one two v is known n₁ n₂ =
     let first' : by 1 log ≡ one.mine = ap (λ n. by n log) (sym n₁) ∙ first in
     let second' : by 2 log ≡ two.mine = ap (λ n. by n log) (sym n₂) ∙ second in
     let long : length log ≡ 0 + length (by 0 log) + length (by 1 log) + length (by 2 log) = length-numbers 2 log (k.2 refl) in
-    ap (λ (h : Held T E). length h.seen) is ∙ omega (arith, ap length none, ap length first', ap length second')
+    ap (λ (h : SeatState T E). length h.seen) is ∙ omega (arith, ap length none, ap length first', ap length second')

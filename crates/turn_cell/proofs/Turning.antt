@@ -7,7 +7,7 @@ use Rattle.atomic_table.specs.Table.{rest, Final, Seen}
 use Rattle.turn_cell.specs.Turns.{StartsWith, IsDue, Ran}
 use Rattle.turn_cell.specs.Cell.{Sat, Kept}
 use Rattle.turn_cell.specs.Plays.{holding, counting, leaving, Gets, KnowsHeard, joining_views}
-use Rattle.turn_cell.specs.Held.{held, Took, Closes, IsWhole}
+use Rattle.turn_cell.specs.SeatStates.{seat_state, Took, Closes, IsWhole}
 use Rattle.turn_cell.specs.inner.Words.{IsIdle, with_ticket, Entered}
 use Rattle.turn_cell.specs.declared.view.Terms.{Terms}
 use Rattle.turn_cell.specs.declared.view.View.{View}
@@ -38,7 +38,7 @@ module _ {T E L : Type 0} (stands : T → List (ℕ × E) → Type 0) (lasting :
   pub took : {A : Type 0} (need : ℕ → List (ℕ × E) → L → Type 0) (entry : A → E) (promise : A → List (ℕ × E) → L → Type 0) (answer : A)
       (id id' : TableId) (m drawn out counted left : Sat T E) (ticket : ℕ) (x y : T)
       → need m.0.number m.0.seen (lasting a.first.value) → drawn ≡ with_ticket m ticket → Entered stands lasting a drawn x out → Ran stands lasting need entry promise x y answer
-      → counted ≡ (counting out.0 (entry answer), out.1) → left ≡ (leaving counted.0, []) → Took stands lasting a (entry answer) (promise answer) (held id m.0) (held id' left.0)
+      → counted ≡ (counting out.0 (entry answer), out.1) → left ≡ (leaving counted.0, []) → Took stands lasting a (entry answer) (promise answer) (seat_state id m.0) (seat_state id' left.0)
   took need entry promise answer id id' m drawn out counted left ticket x y needs drew enters ran counts leaves =
       let e = subst (λ (q : Sat T E). Entered stands lasting a q x out) drew enters in
       let log : List (ℕ × E) = e.0 in
@@ -75,7 +75,7 @@ module _ {T E L : Type 0} (stands : T → List (ℕ × E) → Type 0) (lasting :
 
   -- the last value that the slot had
   pub closed : (cell : TableId) (ws : List ℕ) (xs : List (Option T)) (id : ℕ) (m : Sat T E) (last : Option T) → Final (Seen (Kept stands lasting a) id m.0) ws xs
-      → m.0.about ≡ Some a → IsIdle m → IsWhole (held cell m.0) → get_elem? xs 0 ≡ some last → (x : T) × (last ≡ Some x) × Closes stands lasting a (held cell m.0) x
+      → m.0.about ≡ Some a → IsIdle m → IsWhole (seat_state cell m.0) → get_elem? xs 0 ≡ some last → (x : T) × (last ≡ Some x) × Closes stands lasting a (seat_state cell m.0) x
   closed cell ws xs id m last final live idle all-joined taken =
       let t = closes stands lasting a ws xs id m.0 final live all-joined.0 all-joined.1 (none_of_length m.0.tickets idle.1) idle.2 idle.3 in (
         t.0,

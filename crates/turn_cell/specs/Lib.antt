@@ -1,5 +1,5 @@
 pub mod Cell
-pub mod Held
+pub mod SeatStates
 pub mod Plays
 pub mod Turns
 pub mod inner

@@ -1,10 +1,10 @@
 //! The cell, its seats, and what is left when it is closed.
 ghost use Rattle.std.specs.Prelude.{◌≡◌, ◌^◌, ◌≤◌, true, [], IfOk, IfErr, IsOkAnd, MatchResult};
-ghost use Rattle.turn_cell.specs.Held.{IsSeatOf, first_of, SameSeat, worn_out, split_left, split_right, joining, Knows, IsWhole, Took, Closes};
+ghost use Rattle.turn_cell.specs.SeatStates.{IsSeatOf, first_of, SameSeat, worn_out, split_left, split_right, joining, Knows, IsWhole, Took, Closes};
 ghost use Rattle.turn_cell.specs.Turns.{StartsWith};
 
 use crate::call::{Call, StandsFor, Worn};
-use crate::desk::{Core, Place};
+use crate::inner::{Core, Place};
 use crate::view::Terms;
 use farm_base::NoMemory;
 use std::alloc::Global;
@@ -20,7 +20,7 @@ pub struct TurnCell<T: StandsFor> {
 }
 
 impl<T: StandsFor> Model for TurnCell<T> {
-    ghost use Rattle.turn_cell.specs.Held.{Made};
+    ghost use Rattle.turn_cell.specs.SeatStates.{Made};
 
     ghost Value = { Made T };
 
@@ -34,12 +34,12 @@ pub struct Seat<T: StandsFor> {
 }
 
 impl<T: StandsFor> Model for Seat<T> {
-    ghost use Rattle.turn_cell.specs.Held.{Held, held};
+    ghost use Rattle.turn_cell.specs.SeatStates.{SeatState, seat_state};
     ghost use Rattle.turn_cell.specs.inner.Words.{IsSettled};
 
-    ghost Value = { Held T T.Entry };
+    ghost Value = { SeatState T T.Entry };
 
-    ghost view = { λ s. held s.place.table_id s.place.me.0 };
+    ghost view = { λ s. seat_state s.place.table_id s.place.me.0 };
 
     ghost invariant = { λ s. IsSettled s.place.me };
 }

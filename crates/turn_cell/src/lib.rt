@@ -4,7 +4,7 @@
 
 mod call;
 mod cell;
-mod desk;
+mod inner;
 mod rule;
 mod view;
 

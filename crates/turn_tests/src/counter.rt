@@ -1,6 +1,6 @@
 //! A counter under a cell.
 ghost use Rattle.std.specs.Prelude.{◌≡◌, ◌+◌, ◌*◌, true, length, IfSome};
-ghost use Rattle.turn_cell.specs.Held.{IsSeatOf, IsWhole, SameSeat};
+ghost use Rattle.turn_cell.specs.SeatStates.{IsSeatOf, IsWhole, SameSeat};
 
 use std::alloc::Global;
 use std::sync::Wait;

@@ -9,7 +9,7 @@ use Rattle.farm_history.specs.Lists.{Each}
 use Rattle.port_trait.specs.declared.ends.FrontDone.{FrontDone}
 use Rattle.port_trait.specs.Told.{PortsTold}
 use Rattle.turn_cell.specs.Turns.{StartsWith}
-use Rattle.turn_cell.specs.Held.{Made, Held, IsSeatOf, SameSeat, Knows, joining, worn_out}
+use Rattle.turn_cell.specs.SeatStates.{Made, SeatState, IsSeatOf, SameSeat, Knows, joining, worn_out}
 use Rattle.farm_shared.specs.Seats.{plain}
 use Rattle.farm_shared.specs.declared.turned.Turned.{Turned}
 use Rattle.farm_shared.specs.Shared.{Adds, IsClosed}
@@ -21,31 +21,31 @@ use Rattle.farm_threads.specs.Actors.{Leaving, WorkBy, IsReady, HasEnded, AreSta
 
 module _ {T : Type 0} where
   -- the first seat after the workers' seats were joined into it, from the last one on
-  abbrev pub gathered : Held T Entry → List (Actor (Held T Entry)) → Held T Entry
+  abbrev pub gathered : SeatState T Entry → List (Actor (SeatState T Entry)) → SeatState T Entry
   gathered v [] = v
   gathered v (a ∷ rest) = joining (gathered v rest) a.seat
 
   -- what it notes of them
-  abbrev pub notes : List (Actor (Held T Entry)) → List (ℕ × List (ℕ × Entry))
+  abbrev pub notes : List (Actor (SeatState T Entry)) → List (ℕ × List (ℕ × Entry))
   notes [] = []
   notes (a ∷ rest) = notes rest ++ (a.seat.number, a.seat.mine) ∷ []
 
   -- the workers are numbered from k on, and so are their seats
-  abbrev pub Numbered : ℕ → List (Actor (Held T Entry)) → Type 0
+  abbrev pub Numbered : ℕ → List (Actor (SeatState T Entry)) → Type 0
   Numbered k [] = Unit {0}
   Numbered k (a ∷ rest) = (a.worker ≡ k) × (a.seat.number ≡ k + 4) × Numbered (k + 1) rest
 
   -- how each worker ended
-  abbrev pub ends_in : List (Actor (Held T Entry)) → List (Option WorkEnd)
+  abbrev pub ends_in : List (Actor (SeatState T Entry)) → List (Option WorkEnd)
   ends_in crew = map (λ a. a.end) crew
 
   -- the turn of the Tally: entered, or worn
-  abbrev pub IsTally : Option Totals → Held T Entry → Held T Entry → Type 0
+  abbrev pub IsTally : Option Totals → SeatState T Entry → SeatState T Entry → Type 0
   IsTally (Some a) u h = Adds (Tally a) u h
   IsTally None u h = h ≡ worn_out u
 
   -- the first seat of a run before its threads
-  pub record IsStart (made : Made T) (workers : ℕ) (v : Held T Entry) : Type 0 where
+  pub record IsStart (made : Made T) (workers : ℕ) (v : SeatState T Entry) : Type 0 where
     pub seat : IsSeatOf made v
     pub number : v.number ≡ 0
     pub is_first : v.first ≡ true
@@ -54,7 +54,7 @@ module _ {T : Type 0} where
     pub splits : v.splits ≡ 3 + workers
 
   -- the stage of a run: the first seat, those of the fronts, and so many workers with theirs
-  pub record IsSet (made : Made T) (workers : ℕ) (stage : Stage (Held T Entry)) : Type 0 where
+  pub record IsSet (made : Made T) (workers : ℕ) (stage : Stage (SeatState T Entry)) : Type 0 where
     pub own : IsStart made workers stage.desk.own
     pub standing : AreStanding made 0 1 2 stage.desk
     pub long : length stage.crew.items ≡ workers
@@ -62,21 +62,21 @@ module _ {T : Type 0} where
     pub numbered : Numbered 0 stage.crew.items
 
   -- a front's seat when it has ended
-  pub record HasLeft (made : Made T) (n : ℕ) (leaves : Leaving) (told told' : Outside PortsTold) (done : FrontDone) (v : Held T Entry) : Type 0 where
+  pub record HasLeft (made : Made T) (n : ℕ) (leaves : Leaving) (told told' : Outside PortsTold) (done : FrontDone) (v : SeatState T Entry) : Type 0 where
     pub seat : IsSeatOf made v
     pub number : v.number ≡ n
     pub left : leaves told told' (plain v.mine) done v.worn
 
   -- a worker when it has ended
-  pub record IsSpent (made : Made T) (a : Actor (Held T Entry)) : Type 0 where
+  pub record IsSpent (made : Made T) (a : Actor (SeatState T Entry)) : Type 0 where
     pub seat : IsSeatOf made a.seat
     pub work : WorkBy a.worker a.end (plain a.seat.mine)
     pub worn : a.end ≡ Some WorkEnd.Worn → a.seat.worn ≡ true
 
   -- what the threads left: `own` is the first seat then
-  pub record Ran (made : Made T) (leaves leaves' leaves'' : Leaving) (start own : Held T Entry) (crew : List (Actor (Held T Entry))) (told told' : Posts (Outside PortsTold)) (done : Posts FrontDone) (stopped : Bool) : Type 0 where
+  pub record Ran (made : Made T) (leaves leaves' leaves'' : Leaving) (start own : SeatState T Entry) (crew : List (Actor (SeatState T Entry))) (told told' : Posts (Outside PortsTold)) (done : Posts FrontDone) (stopped : Bool) : Type 0 where
     pub start_is : IsStart made (length crew) start
-    pub posts : Posts (Held T Entry)
+    pub posts : Posts (SeatState T Entry)
     pub renderd : HasLeft made 1 leaves told.renderd told'.renderd done.renderd posts.renderd
     pub tiles : HasLeft made 2 leaves' told.tiles told'.tiles done.tiles posts.tiles
     pub control : HasLeft made 3 leaves'' told.control told'.control done.control posts.control
@@ -85,8 +85,8 @@ module _ {T : Type 0} where
     pub numbered : Numbered 0 crew
 
 -- The end of a run: `own` is the first seat after the threads, `h` the same at the closing, which leaves the farm and the history
-pub record IsEnd {D : Type 0} (state : D → Outside StoreTold) (made : Made (Turned D)) (own : Held (Turned D) Entry) (crew : List (Actor (Held (Turned D) Entry))) (tally : Option Totals) (closed : FarmSeen D × List (ℕ × Entry)) : Type 0 where
-  pub h : Held (Turned D) Entry
+pub record IsEnd {D : Type 0} (state : D → Outside StoreTold) (made : Made (Turned D)) (own : SeatState (Turned D) Entry) (crew : List (Actor (SeatState (Turned D) Entry))) (tally : Option Totals) (closed : FarmSeen D × List (ℕ × Entry)) : Type 0 where
+  pub h : SeatState (Turned D) Entry
   pub longer : StartsWith (gathered own crew).seen own.seen
   pub tallies : IsTally tally (gathered own crew) h
   pub same : SameSeat (gathered own crew) h

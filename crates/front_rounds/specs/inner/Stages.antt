@@ -18,7 +18,7 @@ use Rattle.front_rounds.specs.declared.fates.Fate.TheVariants.{Stays, Leaves}
 use Rattle.front_rounds.specs.declared.fates.Reason.{Reason}
 use Rattle.front_rounds.specs.declared.fates.Reason.TheVariants as reason
 use Rattle.front_rounds.specs.declared.sessions.Session.{Session}
-use Rattle.front_rounds.specs.declared.sessions.Desk.{Desk}
+use Rattle.front_rounds.specs.declared.sessions.SessionTable.{SessionTable}
 use Rattle.front_rounds.specs.declared.offering.Gave.{Gave}
 use Rattle.front_rounds.specs.declared.offering.Gave.TheVariants as gave
 use Rattle.front_rounds.specs.Rules.{Rules, Move}
@@ -133,7 +133,7 @@ abbrev pub Shuts : ℕ → Reason → Option PortsTold → Option PortsTold → 
 Shuts c why told told' = (is_up (Leaves why) ≡ true → told' ≡ option_map (closed c) told) × (is_up (Leaves why) ≡ false → told' ≡ told)
 
 -- the session of the connection, if it is there, is marked, and nothing else changes
-pub data MarksAt {T : Type 0} (e : PortEvent) (c : ℕ) (old new : Desk T) : Type 0 where
+pub data MarksAt {T : Type 0} (e : PortEvent) (c : ℕ) (old new : SessionTable T) : Type 0 where
   Absent : has (conns old.sessions.items) c ≡ false → new.sessions.items ≡ old.sessions.items → new.outbox ≡ old.outbox → new.starved ≡ old.starved → MarksAt e c old new
   Marks : (i : ℕ) (s : Session T) → StandsAt old.sessions.items i s → s.conn ≡ c → new.sessions.items ≡ set old.sessions.items i (marked e s)
       → new.outbox ≡ old.outbox → new.starved ≡ old.starved → MarksAt e c old new
@@ -256,7 +256,7 @@ module _ {A W T : Type 0} (R : Rules A W) (K : List ℕ → List (Move A) → T 
   Goes start w (Some ended.Worn) = ⊥
 
   -- a connection that is not there got a session; or nothing changed
-  abbrev pub Admits : ℕ → Desk T → Desk T → Bool → Type 0
+  abbrev pub Admits : ℕ → SessionTable T → SessionTable T → Bool → Type 0
   Admits c old new true = (talk : T) × (Begins R K talk) × (length old.sessions.items < 1024) × (has (conns old.sessions.items) c ≡ false) × (new.sessions.items ≡ old.sessions.items ++ newcomer c talk ∷ [])
       × (new.outbox ≡ old.outbox ++ (c, []) ∷ []) × (new.starved ≡ old.starved)
   Admits c old new false = (new.sessions.items ≡ old.sessions.items) × (new.outbox ≡ old.outbox) × (new.starved ≡ old.starved)

@@ -7,7 +7,7 @@ use Rattle.port_trait.specs.Boxes.{HasRest, held}
 use Rattle.front_rounds.specs.declared.fates.Fate.{Fate}
 use Rattle.front_rounds.specs.declared.fates.Fate.TheVariants.{Stays, Leaves}
 use Rattle.front_rounds.specs.declared.sessions.Session.{Session}
-use Rattle.front_rounds.specs.declared.sessions.Desk.{Desk}
+use Rattle.front_rounds.specs.declared.sessions.SessionTable.{SessionTable}
 use Rattle.front_rounds.specs.Rules.{Rules, Move, asked, text, each_whole}
 use Rattle.front_rounds.specs.Steps.{Step, there, own, starved_in}
 use Rattle.front_rounds.specs.Parts.{Part, part, due, must, Offered, Caused, Calm, Running, is_open, told_after, EachMayCome}
@@ -23,8 +23,8 @@ pub record World (T : Type 0) : Type 0 where
   pub box : List (ℕ × List ℕ)
   pub starved : ℕ
 
-abbrev pub world : {T : Type 0} → Option PortsTold → List Entry → Desk T → World T
-world told mine desk = record { told = told; mine = mine; sessions = desk.sessions.items; box = desk.outbox; starved = desk.starved }
+abbrev pub world : {T : Type 0} → Option PortsTold → List Entry → SessionTable T → World T
+world told mine table = record { told = told; mine = mine; sessions = table.sessions.items; box = table.outbox; starved = table.starved }
 
 -- nothing is left to do for the session: it stays, and owes nothing
 abbrev pub IsAtRest : {T : Type 0} → Session T → Type 0

@@ -1,6 +1,6 @@
--- The features so far are in the pack.
+-- The features so far are in the builder.
 use Rattle.std.proofs.Common.{◌≡◌}
 use Rattle.data_versions.proofs.snapshot.chunk_layer.Given as goal
 
 abbrev pub invariant-loop-feature : goal.invariant-loop-feature
-invariant-loop-feature l = l.pack ≡ l.yielded
+invariant-loop-feature l = l.builder ≡ l.yielded

@@ -5,6 +5,6 @@ use Rattle.data_versions.proofs.updates.change_all.Given as goal
 
 abbrev pub invariant-loop-place : goal.invariant-loop-place
 invariant-loop-place l = record {
-  left : changed_from l.place (drop l.place l.changes) l.desks ≡ changed_from 0 l.changes l.fn.desks;
-  names : names_of l.desks ≡ names_of l.fn.desks;
+  left : changed_from l.place (drop l.place l.changes) l.edited_layers ≡ changed_from 0 l.changes l.fn.edited_layers;
+  names : names_of l.edited_layers ≡ names_of l.fn.edited_layers;
 }

@@ -5,5 +5,5 @@ use Rattle.plain_data.specs.Data.{IsLayer}
 use Rattle.data_versions.specs.Shared.{shared_layers}
 use Rattle.data_versions.proofs.updates.finish.Given as goal
 
-abbrev pub invariant-loop-desk : goal.invariant-loop-desk
-invariant-loop-desk l = record { same : shared_layers l.shared.items ≡ take l.desk-index l.desks; each : All IsLayer (take l.desk-index l.desks) }
+abbrev pub invariant-loop-edited : goal.invariant-loop-edited
+invariant-loop-edited l = record { same : shared_layers l.shared.items ≡ take l.edited-index l.edited_layers; each : All IsLayer (take l.edited-index l.edited_layers) }

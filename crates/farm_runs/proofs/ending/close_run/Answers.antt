@@ -1,7 +1,7 @@
 use Rattle.std.proofs.Common.{sym, ap, subst, ◌∙◌}
 use Rattle.farm_history.specs.Entries.{Tally}
 use Rattle.turn_cell.specs.Turns.{StartsWith}
-use Rattle.turn_cell.specs.Held.{SameSeat, worn_out}
+use Rattle.turn_cell.specs.SeatStates.{SameSeat, worn_out}
 use Rattle.farm_shared.specs.Shared.{Adds}
 use Rattle.farm_runs.specs.inner.Chain.{gathered, IsTally}
 use Rattle.farm_runs.proofs.Calls.{whole}

@@ -1,5 +1,5 @@
 use Rattle.std.proofs.Common.{◌≡◌, ◌||◌, sym, ap, subst, ◌∙◌}
-use Rattle.turn_cell.specs.Held.{IsSeatOf}
+use Rattle.turn_cell.specs.SeatStates.{IsSeatOf}
 use Rattle.farm_runs.specs.Promise.{is_worn}
 use Rattle.farm_runs.proofs.Calls.{gathering_first, gathering_more, last_spent, or_true, or_false}
 use Rattle.farm_runs.proofs.ending.gather.Goals.{then-ended_worn, else-ended_worn}

@@ -1,6 +1,6 @@
 -- The workers that were taken from the crew are gathered, the last one first.
 use Rattle.std.proofs.Common.{◌≡◌, true, vec_len}
-use Rattle.turn_cell.specs.Held.{IsSeatOf, Knows}
+use Rattle.turn_cell.specs.SeatStates.{IsSeatOf, Knows}
 use Rattle.farm_runs.proofs.Calls.{Gathering}
 use Rattle.farm_runs.proofs.ending.gather.Given as goal
 

@@ -4,7 +4,7 @@ use Rattle.filter_expr.proofs.lexer.tokens.Given as goal
 
 abbrev pub invariant-tokens : goal.invariant-tokens
 invariant-tokens l = record {
-  read : l.spots.items ++ lexed l.at 0 (drop l.at l.bytes) ≡ lexed 0 0 l.bytes;
+  read : l.stream.items ++ lexed l.at 0 (drop l.at l.bytes) ≡ lexed 0 0 l.bytes;
   within : l.at ≤ length l.bytes;
 }
 

@@ -32,44 +32,44 @@ decreases-atom l = 8 * l.depth_left + 1
 
 abbrev pub invariant-or_chain-ors : goal.invariant-or_chain-ors
 invariant-or_chain-ors l = record {
-  read : with_front (behind token.Or (map seen l.parts.items)) (later or_chain (and_in (within_depth l.depth_left)) l.spots)
-      ≡ later or_chain (and_in (within_depth l.depth_left)) l.initial.spots;
+  read : with_front (behind token.Or (map seen l.parts.items)) (later or_chain (and_in (within_depth l.depth_left)) l.stream)
+      ≡ later or_chain (and_in (within_depth l.depth_left)) l.initial.stream;
   kept : l.first ≡ l.initial.first;
-  left : length l.spots ≤ length l.initial.spots;
+  left : length l.stream ≤ length l.initial.stream;
 }
 
 abbrev pub decreases-or_chain-ors : goal.decreases-or_chain-ors
-decreases-or_chain-ors l = length l.spots
+decreases-or_chain-ors l = length l.stream
 
 abbrev pub invariant-and_chain-ands : goal.invariant-and_chain-ands
 invariant-and_chain-ands l = record {
-  read : with_front (behind token.And (map seen l.parts.items)) (later and_chain (not_in (within_depth l.depth_left)) l.spots)
-      ≡ later and_chain (not_in (within_depth l.depth_left)) l.initial.spots;
+  read : with_front (behind token.And (map seen l.parts.items)) (later and_chain (not_in (within_depth l.depth_left)) l.stream)
+      ≡ later and_chain (not_in (within_depth l.depth_left)) l.initial.stream;
   kept : l.first ≡ l.initial.first;
-  left : length l.spots ≤ length l.initial.spots;
+  left : length l.stream ≤ length l.initial.stream;
 }
 
 abbrev pub decreases-and_chain-ands : goal.decreases-and_chain-ands
-decreases-and_chain-ands l = length l.spots
+decreases-and_chain-ands l = length l.stream
 
 abbrev pub invariant-sum-sums : goal.invariant-sum-sums
 invariant-sum-sums l = record {
-  read : with_front (map seen_sum l.parts.items) (later sum_chain (product_in (within_depth l.depth_left)) l.spots)
-      ≡ later sum_chain (product_in (within_depth l.depth_left)) l.initial.spots;
+  read : with_front (map seen_sum l.parts.items) (later sum_chain (product_in (within_depth l.depth_left)) l.stream)
+      ≡ later sum_chain (product_in (within_depth l.depth_left)) l.initial.stream;
   kept : l.first ≡ l.initial.first;
-  left : length l.spots ≤ length l.initial.spots;
+  left : length l.stream ≤ length l.initial.stream;
 }
 
 abbrev pub decreases-sum-sums : goal.decreases-sum-sums
-decreases-sum-sums l = length l.spots
+decreases-sum-sums l = length l.stream
 
 abbrev pub invariant-product-products : goal.invariant-product-products
 invariant-product-products l = record {
-  read : with_front (map seen_product l.parts.items) (later product_chain (unary_in (within_depth l.depth_left)) l.spots)
-      ≡ later product_chain (unary_in (within_depth l.depth_left)) l.initial.spots;
+  read : with_front (map seen_product l.parts.items) (later product_chain (unary_in (within_depth l.depth_left)) l.stream)
+      ≡ later product_chain (unary_in (within_depth l.depth_left)) l.initial.stream;
   kept : l.first ≡ l.initial.first;
-  left : length l.spots ≤ length l.initial.spots;
+  left : length l.stream ≤ length l.initial.stream;
 }
 
 abbrev pub decreases-product-products : goal.decreases-product-products
-decreases-product-products l = length l.spots
+decreases-product-products l = length l.stream

@@ -11,9 +11,9 @@ invariant-loop-place g l = record {
   seat : SameSeat (g.M.Farm.seats l.farm) l.fn.seat l.seat;
   count : (g.P.Ports.state l.ports).faults ≡ (g.P.Ports.state l.fn.ports).faults;
   goes : (e : PortEvent) (stopped : Bool) (start : Option PortsTold)
-      → CanLeave (g.F.Front.rules l.front l.farm) g.F.Front.knows e stopped start (world (g.P.Ports.state l.fn.ports).told ((g.M.Farm.seats l.farm).mine l.fn.seat) l.fn.desk)
-      → CanLeave (g.F.Front.rules l.front l.farm) g.F.Front.knows e stopped start (world (g.P.Ports.state l.ports).told ((g.M.Farm.seats l.farm).mine l.seat) l.desk);
+      → CanLeave (g.F.Front.rules l.front l.farm) g.F.Front.knows e stopped start (world (g.P.Ports.state l.fn.ports).told ((g.M.Farm.seats l.farm).mine l.fn.seat) l.fn.table)
+      → CanLeave (g.F.Front.rules l.front l.farm) g.F.Front.knows e stopped start (world (g.P.Ports.state l.ports).told ((g.M.Farm.seats l.farm).mine l.seat) l.table);
 }
 
 abbrev pub decreases-loop-place : goal.decreases-loop-place
-decreases-loop-place g l = length l.desk.sessions.items
+decreases-loop-place g l = length l.table.sessions.items

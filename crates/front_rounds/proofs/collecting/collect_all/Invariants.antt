@@ -11,6 +11,6 @@ abbrev pub invariant-loop : goal.invariant-loop
 invariant-loop g l = record {
   seat : SameSeat (g.M.Farm.seats l.farm) l.fn.seat l.seat;
   goes : (e : PortEvent) (start told : Option PortsTold) (ss : List (Step g.row.F-Act.Denot))
-      → Collects (g.F.Front.rules l.front l.farm) g.F.Front.knows e start ss (world told ((g.M.Farm.seats l.farm).mine l.fn.seat) l.fn.desk)
-      → (more : List (Step g.row.F-Act.Denot)) × Collects (g.F.Front.rules l.front l.farm) g.F.Front.knows e start more (world told ((g.M.Farm.seats l.farm).mine l.seat) l.desk);
+      → Collects (g.F.Front.rules l.front l.farm) g.F.Front.knows e start ss (world told ((g.M.Farm.seats l.farm).mine l.fn.seat) l.fn.table)
+      → (more : List (Step g.row.F-Act.Denot)) × Collects (g.F.Front.rules l.front l.farm) g.F.Front.knows e start more (world told ((g.M.Farm.seats l.farm).mine l.seat) l.table);
 }

@@ -6,7 +6,7 @@ use Rattle.front_rounds.proofs.hearing.mark_at.Goals as goal
 
 pub returns : goal.returns
 returns g c =
-    let at = stands_at c.args.desk.now.sessions.items c.as_slice.result.now c.in-Some.place c.index_mut.result.now c.as_slice.ensures.value c.in-Some.ensures.some.0 c.index_mut.ensures.value in
+    let at = stands_at c.args.table.now.sessions.items c.as_slice.result.now c.in-Some.place c.index_mut.result.now c.as_slice.ensures.value c.in-Some.ensures.some.0 c.index_mut.ensures.value in
     Marks c.in-Some.place c.index_mut.result.now at
-    (conn_at c.args.desk.now.sessions.items c.as_slice.result.now c.in-Some.place c.index_mut.result.now c.args.conn c.as_slice.ensures.value c.in-Some.ensures.some.1 at)
-    (ap (λ (s : Session g.row.T.Denot). set c.args.desk.now.sessions.items c.in-Some.place s) c.mark.ensures) refl refl
+    (conn_at c.args.table.now.sessions.items c.as_slice.result.now c.in-Some.place c.index_mut.result.now c.args.conn c.as_slice.ensures.value c.in-Some.ensures.some.1 at)
+    (ap (λ (s : Session g.row.T.Denot). set c.args.table.now.sessions.items c.in-Some.place s) c.mark.ensures) refl refl

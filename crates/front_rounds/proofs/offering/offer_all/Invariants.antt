@@ -10,9 +10,9 @@ use Rattle.front_rounds.proofs.offering.offer_all.Given as goal
 abbrev pub invariant-loop-place : goal.invariant-loop-place
 invariant-loop-place g l = record {
   goes : (e : PortEvent) (stopped : Bool) (start : Option PortsTold) (mine : List Entry)
-      → CanOffer (g.F.Front.rules l.front l.farm) g.F.Front.knows e stopped start (world (g.P.Ports.state l.fn.ports).told mine l.fn.desk)
-      → CanOffer (g.F.Front.rules l.front l.farm) g.F.Front.knows e stopped start (world (g.P.Ports.state l.ports).told mine l.desk);
+      → CanOffer (g.F.Front.rules l.front l.farm) g.F.Front.knows e stopped start (world (g.P.Ports.state l.fn.ports).told mine l.fn.table)
+      → CanOffer (g.F.Front.rules l.front l.farm) g.F.Front.knows e stopped start (world (g.P.Ports.state l.ports).told mine l.table);
   count : (g.P.Ports.state l.fn.ports).faults ≤ (g.P.Ports.state l.ports).faults;
-  none : Each OwesNone (take l.place l.desk.sessions.items);
-  many : length l.desk.sessions.items ≡ length l.fn.desk.sessions.items;
+  none : Each OwesNone (take l.place l.table.sessions.items);
+  many : length l.table.sessions.items ≡ length l.fn.table.sessions.items;
 }

@@ -55,5 +55,5 @@ returns-clause-goes g c = λ start was m.
     let o = c.in-Ok-collect_all.ensures.goes c.args.event start (g.P.Ports.state c.take_event.new.ports).told h.steps (to_collect (g.F.Front.rules c.args.front.now c.args.farm.now) g.F.Front.knows c.args.event start _ h) in
     let v = c.in-Ok-close_all.ensures.goes c.args.event c.in-Ok-collect_all.stopped start (c.offer_all.ensures.goes c.args.event c.in-Ok-collect_all.stopped start ((g.M.Farm.seats c.args.farm.now).mine c.collect_all.new.seat) o) in
     subst (λ (x : Option FrontEnd). Goes (g.F.Front.rules c.args.front.now c.args.farm.now) g.F.Front.knows start
-    (world (g.P.Ports.state c.close_all.new.ports).told ((g.M.Farm.seats c.args.farm.now).mine c.close_all.new.seat) c.close_all.new.desk) x) (sym c.end_after.ensures.end)
+    (world (g.P.Ports.state c.close_all.new.ports).told ((g.M.Farm.seats c.args.farm.now).mine c.close_all.new.seat) c.close_all.new.table) x) (sym c.end_after.ensures.end)
     (goes_by (g.F.Front.rules c.args.front.now c.args.farm.now) g.F.Front.knows c.args.event c.in-Ok-collect_all.stopped start _ v)

@@ -10,6 +10,6 @@ invariant-loop g l = record {
   seat : SameSeat (g.M.Farm.seats l.farm) l.fn.seat l.seat;
   count : (g.P.Ports.state l.fn.ports).faults ≤ (g.P.Ports.state l.ports).faults;
   goes : (start : Option PortsTold)
-      → CanGo (g.F.Front.rules l.front l.farm) g.F.Front.knows start (world (g.P.Ports.state l.fn.ports).told ((g.M.Farm.seats l.farm).mine l.fn.seat) l.fn.desk)
-      → CanGo (g.F.Front.rules l.front l.farm) g.F.Front.knows start (world (g.P.Ports.state l.ports).told ((g.M.Farm.seats l.farm).mine l.seat) l.desk);
+      → CanGo (g.F.Front.rules l.front l.farm) g.F.Front.knows start (world (g.P.Ports.state l.fn.ports).told ((g.M.Farm.seats l.farm).mine l.fn.seat) l.fn.table)
+      → CanGo (g.F.Front.rules l.front l.farm) g.F.Front.knows start (world (g.P.Ports.state l.ports).told ((g.M.Farm.seats l.farm).mine l.seat) l.table);
 }

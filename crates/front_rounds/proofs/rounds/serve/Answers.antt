@@ -9,12 +9,12 @@ use Rattle.front_rounds.proofs.rounds.serve.Goals as goal
 pub serve_at-end-requires-clause-ready : goal.serve_at-end-requires-clause-ready
 serve_at-end-requires-clause-ready g c =
     begins (g.F.Front.rules c.args.front.now c.args.farm.now) g.F.Front.knows (g.P.Ports.state c.args.ports.now).told
-    (world (g.P.Ports.state c.args.ports.now).told ((g.M.Farm.seats c.args.farm.now).mine c.args.seat.now) c.new-desk.result)
-    refl c.requires.fresh c.new-desk.ensures.sessions c.new-desk.ensures.outbox c.new-desk.ensures.starved
+    (world (g.P.Ports.state c.args.ports.now).told ((g.M.Farm.seats c.args.farm.now).mine c.args.seat.now) c.new-table.result)
+    refl c.requires.fresh c.new-table.ensures.sessions c.new-table.ensures.outbox c.new-table.ensures.starved
 
 pub returns-clause-served : goal.returns-clause-served
 returns-clause-served g c =
     subst (λ (rs : List Rest). Serves (g.F.Front.rules c.args.front.now c.args.farm.now) (g.P.Ports.state c.args.ports.now).told (g.P.Ports.state c.serve_at-end.new.ports).told
-    ((g.M.Farm.seats c.args.farm.now).mine c.serve_at-end.new.seat) c.serve_at-end.result rs c.serve_at-end.new.desk.starved ((g.M.Farm.seats c.args.farm.now).worn c.serve_at-end.new.seat))
-    (sym (c.into_rests-rests.ensures ∙ ap (λ n. map (handed n) c.serve_at-end.new.desk.outbox) c.number-number.ensures))
+    ((g.M.Farm.seats c.args.farm.now).mine c.serve_at-end.new.seat) c.serve_at-end.result rs c.serve_at-end.new.table.starved ((g.M.Farm.seats c.args.farm.now).worn c.serve_at-end.new.seat))
+    (sym (c.into_rests-rests.ensures ∙ ap (λ n. map (handed n) c.serve_at-end.new.table.outbox) c.number-number.ensures))
     c.serve_at-end.ensures.served

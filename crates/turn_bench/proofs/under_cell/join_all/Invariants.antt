@@ -1,5 +1,5 @@
 use Rattle.std.proofs.Common.{◌≡◌, ◌+◌, true, All, vec_len, length}
-use Rattle.turn_cell.specs.Held.{IsSeatOf}
+use Rattle.turn_cell.specs.SeatStates.{IsSeatOf}
 use Rattle.turn_bench.proofs.under_cell.join_all.Given as goal
 
 abbrev pub invariant-loop-seat : goal.invariant-loop-seat

@@ -1,4 +1,4 @@
-use Rattle.turn_cell.specs.Held.{IsSeatOf}
+use Rattle.turn_cell.specs.SeatStates.{IsSeatOf}
 use Rattle.turn_bench.proofs.under_cell.take_turns.Given as goal
 
 abbrev pub invariant-loop : goal.invariant-loop

@@ -1,5 +1,5 @@
 use Rattle.std.proofs.Common.{◌≡◌, ◌+◌, ◌*◌, ap, ◌∙◌, arith, length, subst, IsOkAnd}
-use Rattle.turn_cell.specs.Held.{split_left, split_right, joining}
+use Rattle.turn_cell.specs.SeatStates.{split_left, split_right, joining}
 use Rattle.turn_cell.proofs.Counting.{seen_by_two}
 use Rattle.turn_tests.proofs.counter.count_both.Goals as goal
 

@@ -1,5 +1,5 @@
 use Rattle.std.proofs.Common.{◌≡◌, ◌+◌, length}
-use Rattle.turn_cell.specs.Held.{IsSeatOf, SameSeat}
+use Rattle.turn_cell.specs.SeatStates.{IsSeatOf, SameSeat}
 use Rattle.turn_tests.proofs.counter.take_turns.Given as goal
 
 abbrev pub invariant-loop : goal.invariant-loop
