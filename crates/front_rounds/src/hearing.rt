@@ -303,7 +303,7 @@ pub fn take_event<R: Wait, M: Farm, F: Front<M>, P: Ports>(
 }
 
 /// Every session owes an offer.
-fn wake_all<T>(sessions: &mut [Session<T>])
+fn wake_each<T>(sessions: &mut [Session<T>])
     ensures { sessions.new ≡ map woken sessions.old }
 {
     for session in sessions.iter_mut() {
@@ -317,5 +317,5 @@ pub fn wake_all<T>(table: &mut SessionTable<T>)
     ensures outbox { table.new.outbox ≡ table.old.outbox }
     ensures starved { table.new.starved ≡ table.old.starved }
 {
-    wake_all(table.sessions.as_mut_slice());
+    wake_each(table.sessions.as_mut_slice());
 }
