@@ -6,7 +6,7 @@ use crossbeam_utils::sync::Unparker;
 use farm_base::Bell;
 use farm_history::{
     AskAnswer, Cmd, Collected, Conn, Event, Fetched, Looked, Renewed, Restyled, Spot, Tally,
-    Updated,
+    Updated, Why,
 };
 use farm_shared::{Alarms, Seat, SharedFarm};
 use front_rounds::{Farm, Worn};
@@ -24,8 +24,8 @@ pub struct Place {
     pub joined: LinkedList<(u64, LinkedList<(u64, Event)>)>,
 }
 
-/// The shared farm, with those who are woken when something happened. Each call is the farm's own; after
-/// an ask the workers are woken, and after a stop all.
+/// The shared farm, with those who are woken when something happened. Each call is the farm's own; the
+/// workers are woken after an ask that may have put something in a queue, and all after a stop.
 pub struct Door<'a, D: TileStore, B> {
     pub farm: &'a SharedFarm<D>,
     pub alarms: &'a Alarms<'a, B>,
@@ -38,11 +38,23 @@ impl<'a, D: TileStore, B> Drop for Door<'a, D, B> {
     }
 }
 
-/// Wakes the workers. It promises nothing.
-fn wake_all(workers: &[Unparker]) {
+/// Wakes the workers where the ask may have put a metatile in a queue. What it joined or lifted waited
+/// or was being drawn already, and was woken for then. It promises nothing.
+fn wake_for(answer: Result<AskAnswer, Worn>, workers: &[Unparker]) {
+    if !may_queue(answer) {
+        return;
+    }
     for worker in workers {
         worker.unpark();
     }
+}
+
+/// Whether an ask that was answered so may have put a metatile in a queue.
+fn may_queue(answer: Result<AskAnswer, Worn>) -> bool {
+    matches!(
+        answer,
+        Ok(AskAnswer::Queued(_) | AskAnswer::Silent | AskAnswer::NotDone(Why::Deferred))
+    )
 }
 
 /// The answer of a turn, with the fronts' word for a worn farm.
@@ -79,7 +91,7 @@ impl<'a, D: TileStore, B: Bell> Farm for Door<'a, D, B> {
         spot: Spot,
     ) -> Result<AskAnswer, Worn> {
         let answer = for_front(self.farm.ask(rt, seat, conn, cmd, spot));
-        wake_all(self.alarms.workers);
+        wake_for(answer, self.alarms.workers);
         answer
     }
 
