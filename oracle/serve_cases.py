@@ -310,6 +310,23 @@ for how in ("leaves", "is lost"):
     case.renderd.sent(1, ROW_DONE)
     case.wants(out=tally(2, 1, 2, 0))
 
+# what the first two asked is forgotten, so its replies are not counted
+case = Case("one peer leaves and one is lost while their tile is drawn, and a third waits for it")
+case.say("hold 0 1")
+case.renderd.open(4)
+for conn in (0, 1):
+    case.renderd.piece(conn, message(RENDER, 5, 8, 8), "render_5_8_8.v2")
+case.renderd.ends(0)
+case.renderd.lose(1)
+case.renderd.piece(2, message(RENDER, 5, 8, 8), "render_5_8_8.v2")
+case.renderd.piece(3, ROW, ROW_FILE)
+case.renderd.waits(0, 128)
+case.renderd.closed(0)
+case.renderd.closed(1)
+case.renderd.sent(2, message(DONE, 5, 8, 8))
+case.renderd.sent(3, ROW_DONE)
+case.wants(out=tally(4, 2, 2, 0))
+
 case = Case("an unknown version closes its connection")
 case.renderd.open()
 case.renderd.piece(0, ROW, ROW_FILE)
