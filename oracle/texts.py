@@ -1,6 +1,6 @@
 #!/usr/bin/env python3
-"""What texts of styles, data, updates, filters, configurations, scripts, expiry lists and paths are read as, written a
-second time, from the formats alone.
+"""What texts of styles, data, updates, filters, configurations, scripts, expiry lists, saved farms and paths are read
+as, written a second time, from the formats alone.
 
 It is no part of the product. The wanted output of the crate `text_cases` is made by it, from the repository's top by
 
@@ -15,6 +15,8 @@ two sources that know nothing of the program. The folder's file `cases` has a li
                             that first names it
     KIND whole FILE         FILE is one text
     KIND beginnings FILE    the proper beginnings of FILE, told once where neighbours are told alike
+    KIND changes FILE       FILE with each value of each of its bytes in turn, told once where neighbours are told
+                            alike, behind the byte's place and its value
 
 Each text gives one line: its first fault, or that it is read; of a filter its tree or its value, of an update the
 layers after it, and of a path its metatile. A table's wants are of all that is read, object by object. It needs Python
@@ -433,12 +435,50 @@ def metatile_told(data):
     return ["path %s %d %d %d" % (found[1], z, x, y)]
 
 
+# --- Saved farms ------------------------------------------------------------------------------------------------
+
+
+def saved_told(data):
+    """The maps with their restyles, the updates and the clean metatiles of a saved farm."""
+    place = 0
+
+    def number(size=4):
+        nonlocal place
+        if place + size > len(data):
+            raise Refused("saved 1 of %d" % len(data))
+        place += size
+        return int.from_bytes(data[place - size : place], "little")
+
+    if number() != int.from_bytes(b"FSV1", "little"):
+        raise Refused("saved 2")
+    made, updates, last = [], [], None
+    for _ in range(number()):
+        made.append("map %d" % number())
+    for at in range(number(8)):
+        kind = number()
+        if kind > 1:
+            raise Refused("saved 3 at %d" % at)
+        updates.append("%s %d" % (("update", "renew")[kind], number()))
+    made += updates
+    for at in range(number(8)):
+        key, version = (number(), number(), number(), number()), number(8)
+        z, x, y = key[1:]
+        is_tile = z <= 18 and x < 2**z and y < 2**z and x % 8 == y % 8 == 0
+        if not is_tile or version > len(updates) or last is not None and key <= last:
+            raise Refused("saved 4 at %d" % at)
+        made.append("clean %d %d %d %d version %d" % (key + (version,)))
+        last = key
+    if place < len(data):
+        raise Refused("saved 5 at %d" % place)
+    return made
+
+
 # --- Cases ------------------------------------------------------------------------------------------------------
 
 
 # of these the program writes no more than that they are read: what is read of them is drawn, or run, by the programs
-# that run commands
-BRIEF = ("style", "data", "update", "config", "script", "list")
+# that run commands, and a saved farm is written again byte for byte
+BRIEF = ("style", "data", "update", "config", "script", "list", "saved")
 
 
 def told(kind, data, old):
@@ -446,7 +486,7 @@ def told(kind, data, old):
     plain = {"style": style_told, "data": data_told, "update": update_told}
     plain.update({"filter": filter_told, "written": written_told, "again": again_told})
     plain.update({"config": config_told, "script": script_told, "list": list_told})
-    plain.update({"path": metatile_told})
+    plain.update({"path": metatile_told, "saved": saved_told})
     try:
         if kind in plain:
             lines = plain[kind](data)
@@ -487,6 +527,14 @@ def cases(folder):
                 if line != last:
                     print(line)
                 last = line
+        elif form == "changes":
+            for place in range(len(data)):
+                last = None
+                for byte in range(256):
+                    line = told(kind, data[:place] + bytes([byte]) + data[place + 1 :], old)[1]
+                    if line != last:
+                        print(place, byte, line)
+                    last = line
         else:
             for wanted, text in rows_of(data.decode()):
                 lines, line = told(kind, text.encode(), old)

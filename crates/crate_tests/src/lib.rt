@@ -5,6 +5,4 @@
 #[cfg(test)]
 mod messages;
 #[cfg(test)]
-mod saved;
-#[cfg(test)]
 mod stores;

@@ -1,6 +1,6 @@
-//! Reads the texts of styles, data, updates, filters, configurations, scripts, expiry lists and paths that stand in
-//! files, and writes of each one line: its first fault, or that it is read; of a filter its tree or its value, and of
-//! an update the layers after it. What is wanted of it was computed by another program, which was written from the
+//! Reads the texts of styles, data, updates, filters, configurations, scripts, expiry lists, saved farms and paths that
+//! stand in files, and writes of each one line: its first fault, or that it is read; of a filter its tree or its value,
+//! and of an update the layers after it. What is wanted of it was computed by another program, which was written from the
 //! formats alone, and agrees with what the tables want of each text.
 #![tactic(auto)]
 
@@ -11,6 +11,7 @@ mod filter_told;
 mod lines_told;
 mod path_told;
 mod rows;
+mod saved_told;
 mod style_told;
 
 use crate::change_told::change_told;
@@ -20,6 +21,7 @@ use crate::filter_told::{again_told, filter_told, value_told, written_told};
 use crate::lines_told::{list_told, script_told};
 use crate::path_told::path_told;
 use crate::rows::{Frame, frame_of, row};
+use crate::saved_told::saved_told;
 use crate::style_told::style_told;
 use data_versions::Snapshot;
 use farm_base::{DiskFiles, Files, OutSink, Sink};
@@ -63,6 +65,7 @@ fn case<F: Files, O: Sink>(
     match form {
         "rows" => table(alloc, kind, bytes.as_slice(), old, out),
         "beginnings" => beginnings(alloc, kind, bytes.as_slice(), old, out),
+        "changes" => changes(alloc, kind, bytes.as_slice(), old, out),
         "whole" => put(alloc, &told(alloc, kind, bytes.as_slice(), old)?, out),
         _ => None,
     }
@@ -108,6 +111,36 @@ fn beginnings<O: Sink>(
     Some(())
 }
 
+// What a text is told by with each value of each of its bytes in turn, once where neighbours are told alike, behind the
+// byte's place and its value.
+fn changes<O: Sink>(
+    alloc: Global,
+    kind: &str,
+    bytes: &[u8],
+    old: &Snapshot,
+    out: &mut O,
+) -> Option<()> {
+    for place in 0..bytes.len() {
+        let mut last = String::new(alloc);
+        for byte in 0..=255u8 {
+            let text = with_byte(alloc, bytes, place, byte)?;
+            let next = told(alloc, kind, text.as_slice(), old)?;
+            if next.as_str() != last.as_str() {
+                let line = format!(in alloc; "{place} {byte} {next}").ok()?;
+                put(alloc, &line, out)?;
+            }
+            last = next;
+        }
+    }
+    Some(())
+}
+
+fn with_byte(alloc: Global, bytes: &[u8], place: usize, byte: u8) -> Option<Vec<u8>> {
+    let mut text = Vec::from_slice(alloc, bytes).ok()?;
+    *text.as_mut_slice().get_mut(place)? = byte;
+    Some(text)
+}
+
 // What a text of the kind is read as, in lines; none where memory runs out.
 fn told(alloc: Global, kind: &str, text: &[u8], old: &Snapshot) -> Option<String> {
     let told = match kind {
@@ -118,6 +151,7 @@ fn told(alloc: Global, kind: &str, text: &[u8], old: &Snapshot) -> Option<String
         "config" => config_told(alloc, text),
         "script" => script_told(alloc, text),
         "list" => list_told(alloc, text),
+        "saved" => saved_told(alloc, text),
         _ => letters_told(alloc, kind, str::from_utf8(text).ok()?, old),
     };
     told.ok()
