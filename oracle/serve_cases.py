@@ -849,6 +849,70 @@ for nothing in (None, b""):
     case.tiles.closed(0, WEST)
     case.wants(out=tally(1, 1, 1, 1), saved=SAVED)
 
+
+
+def saved_text(styles, updates, clean):
+    """The text of a saved farm: a map's last restyle and 1, or 0; kinds and numbers of updates; clean metatiles."""
+    long = lambda number: number.to_bytes(8, "little")
+    text = b"FSV1" + numbers(len(styles), *styles) + long(len(updates)) + b"".join(numbers(*update) for update in updates)
+    return text + long(len(clean)) + b"".join(numbers(0, z, x, y) + long(version) for z, x, y, version in clean)
+
+
+assert saved_text([0], [(0, 0)], [(0, 0, 0, 1)]) == SAVED
+
+# Three runs, each from what the one before saved. Its tiles are not in the store here, so how they stand is asked.
+IN_TURN = config("in_turn", resume=True, updates=["west.update"], expiries=["corner.list"],
+                 restyles=[{"map": "default", "style": "blue.style"}])
+FIRST = saved_text([0], [(0, 0)], [(0, 0, 0, 1), (5, 16, 8, 0)])
+SECOND = saved_text([1], [(0, 0)], [(5, 8, 8, 1)])
+
+
+def stands(made, first, *wants):
+    """How three tiles stand."""
+    made.tiles.open(3)
+    for conn, (place, want) in enumerate(zip(("0/0/0", "5/8/8", "5/16/8"), wants), first):
+        made.tiles.piece(conn, get("/default/%s.ppm/status" % place), "get_%s_status" % place.replace("/", "_"))
+        made.tiles.closed(conn, plain(200, "OK", want + "\n"))
+    return sum(len(made.tiles.want[conn][1]) for conn in range(first, first + 3))
+
+
+case = Case("the first of three runs: an update, an expiry and a tile drawn again", IN_TURN)
+case.tiles.open(3)
+for conn, place in enumerate(((0, 0, 0), (5, 8, 8), (5, 16, 8))):
+    case.tiles.piece(conn, get("/default/%d/%d/%d.ppm" % place), "get_%d_%d_%d" % place)
+    case.tiles.closed(conn, tile(picture(*place)))
+case.control.waits(1, 3 * 908)
+case.control.open()
+case.control.piece(0, "update 0\nexpire 0\n", "update_0_expire_0.control")
+case.control.sent(0, b"version 1\nexpired 2\n")
+case.tiles.waits(2, 20)
+case.tiles.open()
+case.tiles.piece(3, get("/default/0/0/0.ppm"), "get_0_0_0")
+case.tiles.closed(3, WEST)
+case.tiles.waits(1, 4 * 908)
+stands(case, 4, "clean 1", "dirty 0", "clean 0")
+case.wants(out=tally(4, 4, 4, 1), saved=FIRST)
+
+case = Case("the second of three runs: what was clean is, and then all is restyled", IN_TURN)
+case.say("saved", file("first.saved", FIRST))
+told = stands(case, 0, "clean 1", "missing", "clean 0")
+case.control.waits(1, told)
+case.control.open()
+case.control.piece(0, "restyle 0\n", "restyle_0.control")
+case.control.sent(0, b"styled 2\n")
+case.tiles.waits(2, 9)
+case.tiles.open()
+case.tiles.piece(3, get("/default/5/8/8.ppm"), "get_5_8_8")
+case.tiles.closed(3, tile(picture(5, 8, 8, 0, 0, 2**29, 2**30, colour=BLUE), version=1))
+case.tiles.waits(1, told + 908)
+stands(case, 4, "dirty 1", "clean 1", "dirty 0")
+case.wants(out=tally(3, 3, 3, 1), saved=SECOND)
+
+case = Case("the third of three runs: what was clean is, and nothing else", IN_TURN)
+case.say("saved", file("second.saved", SECOND))
+stands(case, 0, "missing", "clean 1", "missing")
+case.wants(out=tally(1, 1, 1, 1), saved=SECOND)
+
 for name, content, text in (
         ("short", SAVED[:59], "saved 1"), ("magic", b"FSV2" + SAVED[4:], "saved 2"),
         ("kind", SAVED[:20] + numbers(2) + SAVED[24:], "saved 3"), ("late", SAVED[:52] + numbers(2, 0), "saved 4"),
