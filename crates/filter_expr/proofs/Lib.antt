@@ -1,6 +1,7 @@
 pub mod Back
 pub mod Chains
 pub mod Complete
+pub mod Connectives
 pub mod Final
 pub mod Levels
 pub mod Lexemes

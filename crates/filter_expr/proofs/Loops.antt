@@ -1,5 +1,5 @@
 -- What the loop over the later parts of a chain answers, at each of its ends.
-use Rattle.std.proofs.Common.{◌≡◌, ℕ, ◌==◌, sym, ◌∙◌, ap, List, [], ◌∷◌, length, drop, map, Bool, true, false, Some, None, Err, if◌then◌else◌, refl, arith}
+use Rattle.std.proofs.Common.{◌≡◌, ◌≤◌, sym, ◌∙◌, ap, List, [], ◌∷◌, ◌++◌, length, drop, map, Bool, true, false, not, Option, Some, None, Err, if◌then◌else◌, option_map, is_some, refl, arith}
 use Rattle.filter_expr.specs.declared.tokens.PlacedToken.{PlacedToken}
 use Rattle.filter_expr.specs.declared.tokens.Token.{Token}
 use Rattle.filter_expr.specs.declared.tokens.Token.TheVariants as token
@@ -64,23 +64,11 @@ module _ {X : Type 0} (view : X → Tree) (k : Kind) (part : Reader Tree) (short
     pub chain_ends : starts (joins k) ts ≡ false → chain_of k part all ≡ got (chained k e front) ts
     chain_ends stop = chain_reads k part all after e (got front ts) first (loop_ends k part short front ts (later k part after) read stop)
 
--- a chain of one part is that part, and a chain of more is a chain
-pub one_part : {X : Type 0} (k : Kind) (e : Tree) (f : X → Part) (xs : List X) → length xs ≡ 0 → chained k e (map f xs) ≡ e
-one_part k e f [] h = refl
-one_part k e f (x ∷ xs) h = absurd (omega arith)
+-- a chain with later parts is a chain
 
 pub more_parts : {X : Type 0} (k : Kind) (e : Tree) (f : X → Part) (xs : List X) → (length xs ≡ 0 → ⊥) → chained k e (map f xs) ≡ chain k e (terms_of (map f xs))
 more_parts k e f [] h = absurd (h refl)
 more_parts k e f (x ∷ xs) h = refl
-
-pub one_listed : {X : Type 0} (k : Kind) (t : Token) (e : Tree) (f : X → Tree) (xs : List X) → length xs ≡ 0 → chained k e (behind t (map f xs)) ≡ e
-one_listed k t e f [] h = refl
-one_listed k t e f (x ∷ xs) h = absurd (omega arith)
-
-pub more_listed : {X : Type 0} (k : Kind) (t : Token) (e : Tree) (f : X → Tree) (xs : List X) → (length xs ≡ 0 → ⊥) →
-    chained k e (behind t (map f xs)) ≡ chain k e (terms_of (behind t (map f xs)))
-more_listed k t e f [] h = absurd (h refl)
-more_listed k t e f (x ∷ xs) h = refl
 
 -- both spellings of such a sign are one token
 pub or_first : (ts : List PlacedToken) → starts (joins or_chain) ts ≡ true → first_token ts ≡ token.Or
@@ -99,5 +87,17 @@ and_first (s ∷ ts) h = by s.token h
     by token.And e = refl
     by _ e = absurd (wrong e)
 
-pub not_empty : (n : ℕ) → (n == 0) ≡ false → n ≡ 0 → ⊥
-not_empty n h e = wrong (sym h ∙ ap (λ m. m == 0) e)
+-- no sign was found
+pub none_found : {S : Type 0} (f : S → Token) (o : Option S) (n : Option Token) (b : Bool) → option_map f o ≡ n → is_some o ≡ not b → b ≡ true → None ≡ n
+none_found f None n b e h t = e
+none_found f (Some s) n b e h t = absurd (wrong (sym (h ∙ ap not t)))
+
+-- ---- a list that one item is put behind
+
+pub grown : {A : Type 0} (xs : List A) (x : A) → 1 ≤ length (xs ++ x ∷ [])
+grown [] x = omega arith
+grown (y ∷ ys) x = omega arith
+
+pub grown_more : {A : Type 0} (xs : List A) (x : A) → 1 ≤ length xs → 2 ≤ length (xs ++ x ∷ [])
+grown_more [] x h = absurd (omega (arith, h))
+grown_more (y ∷ ys) x h = omega (arith, grown ys x)

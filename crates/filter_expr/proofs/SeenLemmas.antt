@@ -48,7 +48,7 @@ same_listed : (t : Token) (es : List Expr) → same_terms t (trees_of (map tree_
 same_listed t [] = refl
 same_listed t (e ∷ es) = ap (term t (seen e)) (same_listed t es)
 
-joined_listed : (k : Kind) (t : Token) (es : List Expr) → joined k t (trees_of (map tree_of es)) ≡ listed k t (map seen es)
+pub joined_listed : (k : Kind) (t : Token) (es : List Expr) → joined k t (trees_of (map tree_of es)) ≡ listed k t (map seen es)
 joined_listed k t [] = refl
 joined_listed k t (e ∷ es) = ap (chain k (seen e)) (same_listed t es)
 

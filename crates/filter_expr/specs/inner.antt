@@ -1,4 +1,6 @@
+pub mod Connectives
 pub mod Gives
+pub mod Kinds
 pub mod Parts
 pub mod SeenParts
 pub mod Shown

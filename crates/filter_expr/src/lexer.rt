@@ -6,7 +6,7 @@ ghost use Rattle.farm_base.specs.Digits.{is_digit};
 ghost use Rattle.filter_expr.specs.Spelling.{is_blank, is_letter, is_quote, is_escaped};
 ghost use Rattle.filter_expr.specs.Lexing.{run_test, number_token, number_token_at, word_token, word_at, name_token_at, quoting_len, unescaped, quoted_at, sign_at, less_at, single, token_at, lexed};
 
-use crate::tokens::{PlacedToken, Token, TokenStream};
+use crate::tokens::{PlacedToken, Token, TokenKind, TokenStream};
 use farm_base::{NoMemory, Text};
 use plain_filters::CompareSign;
 use std::alloc::Global;
@@ -36,7 +36,7 @@ pub fn tokens(alloc: Global, text: &str) -> Result<TokenStream, NoMemory>
             continue;
         }
         let (token, count) = token_at(alloc, text, at)?;
-        let unknown = token.is_unknown();
+        let unknown = token.is(TokenKind::Unknown);
         stream.push_back(PlacedToken { token, offset: at })?;
         if unknown {
             return Ok(TokenStream::of(stream));

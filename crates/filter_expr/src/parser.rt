@@ -1,59 +1,83 @@
 //! Reads the tokens of a filter text: one function for each row of the grammar's table, from the
 //! weakest binding to the strongest. Binding strengths are this farm's own.
-ghost use Rattle.std.specs.Prelude.{◌≡◌, ◌≤◌, length};
-ghost use Rattle.filter_expr.specs.Seen.{seen};
-ghost use Rattle.filter_expr.specs.Reading.{or_in, and_in, not_in, compare_in, sum_in, product_in, unary_in, atom_in, within_depth};
+ghost use Rattle.std.specs.Prelude.{◌≡◌, ◌≤◌, length, map};
+ghost use Rattle.plain_filters.specs.Filters.{tree_of, trees_of};
+ghost use Rattle.filter_expr.specs.Seen.{seen, joined};
+ghost use Rattle.filter_expr.specs.Reading.{not_in, compare_in, sum_in, product_in, unary_in, atom_in, within_depth};
+ghost use Rattle.filter_expr.specs.inner.Connectives.{connective_kind, connective_token, chain_kind, chain_in, part_in};
 ghost use Rattle.filter_expr.specs.inner.Gives.{Gives};
 
 use crate::faults::FilterFault;
-use crate::tokens::TokenStream;
+use crate::tokens::{TokenKind, TokenStream};
 use plain_filters::{Expr, ProductPart, SumPart};
 use std::alloc::Global;
 
-/// An and-part, then any number of `or` or double bars and an and-part.
+/// The words that join filters.
+#[derive(Clone, Copy)]
+pub enum Connective {
+    Or,
+    And,
+}
+
+impl Connective {
+    fn token(self) -> TokenKind
+        ensures { result ≡ connective_kind self }
+    {
+        match self {
+            Connective::Or => TokenKind::Or,
+            Connective::And => TokenKind::And,
+        }
+    }
+
+    fn join(self, parts: Vec<Expr>) -> Expr
+        ensures { seen result ≡ joined (chain_kind self) (connective_token self) (trees_of (map tree_of parts.items)) }
+    {
+        match self {
+            Connective::Or => Expr::Or(parts),
+            Connective::And => Expr::And(parts),
+        }
+    }
+}
+
+/// A part, then any number of the connective and a part. Or joins and-parts, and joins not-parts.
 #[cycle(parser)]
-#[tactic(auto, unfolding(crate::specs::Reading::or_in))]
-pub fn or_chain(
+pub fn chain(
     alloc: Global,
     stream: &mut TokenStream,
     depth_left: u32,
+    connective: Connective,
 ) -> Result<Expr, FilterFault>
-    ensures read { Gives seen result stream.new (or_in (within_depth depth_left) stream.old) }
+    ensures read { Gives seen result stream.new (chain_in connective (within_depth depth_left) stream.old) }
     ensures left { length stream.new ≤ length stream.old }
 {
-    let first = and_chain(alloc, stream, depth_left)?;
-    let mut parts = Vec::new(alloc);
-    'ors: while stream.is_or() {
-        stream.skip();
-        let part = and_chain(alloc, stream, depth_left)?;
-        parts.push(part)?;
-    }
-    if parts.is_empty() {
+    let first = chain_part(alloc, stream, depth_left, connective)?;
+    if !stream.next_is(connective.token()) {
         return Ok(first);
     }
-    parts.insert(0, first)?;
-    Ok(Expr::Or(parts))
+    let mut parts = Vec::new(alloc);
+    parts.push(first)?;
+    'parts: while stream.next_is(connective.token()) {
+        stream.skip();
+        let part = chain_part(alloc, stream, depth_left, connective)?;
+        parts.push(part)?;
+    }
+    Ok(connective.join(parts))
 }
 
-/// A not-part, then any number of `and` or `&&` and a not-part.
 #[cycle(parser)]
-#[tactic(auto, unfolding(crate::specs::Reading::and_in))]
-fn and_chain(alloc: Global, stream: &mut TokenStream, depth_left: u32) -> Result<Expr, FilterFault>
-    ensures read { Gives seen result stream.new (and_in (within_depth depth_left) stream.old) }
+fn chain_part(
+    alloc: Global,
+    stream: &mut TokenStream,
+    depth_left: u32,
+    connective: Connective,
+) -> Result<Expr, FilterFault>
+    ensures read { Gives seen result stream.new (part_in connective (within_depth depth_left) stream.old) }
     ensures left { length stream.new ≤ length stream.old }
 {
-    let first = not_part(alloc, stream, depth_left)?;
-    let mut parts = Vec::new(alloc);
-    'ands: while stream.is_and() {
-        stream.skip();
-        let part = not_part(alloc, stream, depth_left)?;
-        parts.push(part)?;
+    match connective {
+        Connective::Or => chain(alloc, stream, depth_left, Connective::And),
+        Connective::And => not_part(alloc, stream, depth_left),
     }
-    if parts.is_empty() {
-        return Ok(first);
-    }
-    parts.insert(0, first)?;
-    Ok(Expr::And(parts))
 }
 
 /// `not` or `!` and a not-part, or a comparison.
@@ -63,7 +87,7 @@ fn not_part(alloc: Global, stream: &mut TokenStream, depth_left: u32) -> Result<
     ensures read { Gives seen result stream.new (not_in (within_depth depth_left) stream.old) }
     ensures left { length stream.new ≤ length stream.old }
 {
-    if !stream.is_not() {
+    if !stream.next_is(TokenKind::Not) {
         return comparison(alloc, stream, depth_left);
     }
     if depth_left == 0 {
@@ -85,9 +109,10 @@ fn comparison(alloc: Global, stream: &mut TokenStream, depth_left: u32) -> Resul
     let Some(sign) = stream.compare_sign() else {
         return Ok(a);
     };
+    let a = Box::new(alloc, a)?;
     stream.skip();
     let b = sum(alloc, stream, depth_left)?;
-    Ok(Expr::Compare(Box::new(alloc, a)?, sign, Box::new(alloc, b)?))
+    Ok(Expr::Compare(a, sign, Box::new(alloc, b)?))
 }
 
 /// A product, then any number of `+` or `-` and a product.
@@ -98,16 +123,17 @@ fn sum(alloc: Global, stream: &mut TokenStream, depth_left: u32) -> Result<Expr,
     ensures left { length stream.new ≤ length stream.old }
 {
     let first = product(alloc, stream, depth_left)?;
+    if stream.sum_sign().is_none() {
+        return Ok(first);
+    }
+    let first = Box::new(alloc, first)?;
     let mut parts = Vec::new(alloc);
     'sums: while let Some(sign) = stream.sum_sign() {
         stream.skip();
         let part = product(alloc, stream, depth_left)?;
         parts.push(SumPart { sign, part })?;
     }
-    if parts.is_empty() {
-        return Ok(first);
-    }
-    Ok(Expr::Sum(Box::new(alloc, first)?, parts))
+    Ok(Expr::Sum(first, parts))
 }
 
 /// A unary, then any number of `*`, `/` or `%` and a unary.
@@ -118,16 +144,17 @@ fn product(alloc: Global, stream: &mut TokenStream, depth_left: u32) -> Result<E
     ensures left { length stream.new ≤ length stream.old }
 {
     let first = unary(alloc, stream, depth_left)?;
+    if stream.product_sign().is_none() {
+        return Ok(first);
+    }
+    let first = Box::new(alloc, first)?;
     let mut parts = Vec::new(alloc);
     'products: while let Some(sign) = stream.product_sign() {
         stream.skip();
         let part = unary(alloc, stream, depth_left)?;
         parts.push(ProductPart { sign, part })?;
     }
-    if parts.is_empty() {
-        return Ok(first);
-    }
-    Ok(Expr::Product(Box::new(alloc, first)?, parts))
+    Ok(Expr::Product(first, parts))
 }
 
 /// `-` and a unary, or an atom.
@@ -137,7 +164,7 @@ fn unary(alloc: Global, stream: &mut TokenStream, depth_left: u32) -> Result<Exp
     ensures read { Gives seen result stream.new (unary_in (within_depth depth_left) stream.old) }
     ensures left { length stream.new ≤ length stream.old }
 {
-    if !stream.is_minus() {
+    if !stream.next_is(TokenKind::Minus) {
         return atom(alloc, stream, depth_left);
     }
     if depth_left == 0 {
@@ -155,21 +182,22 @@ fn atom(alloc: Global, stream: &mut TokenStream, depth_left: u32) -> Result<Expr
     ensures read { Gives seen result stream.new (atom_in (within_depth depth_left) stream.old) }
     ensures left { length stream.new ≤ length stream.old }
 {
-    if stream.is_leaf() {
+    if stream.next_is(TokenKind::Leaf) {
         return Ok(stream.take_leaf());
     }
-    if stream.is_out_of_range() {
+    if stream.next_is(TokenKind::OutOfRange) {
         return Err(FilterFault::NumberRange(stream.place()));
     }
-    if !stream.is_open() {
+    if !stream.next_is(TokenKind::Open) {
         return Err(FilterFault::Bad(stream.place()));
     }
     if depth_left == 0 {
         return Err(FilterFault::TooDeep(stream.place()));
     }
     stream.skip();
-    let inner = or_chain(alloc, stream, depth_left - 1)?;
-    if !stream.is_close() {
+    let inner = chain(alloc, stream, depth_left - 1, Connective::Or)?;
+    if !stream.next_is(TokenKind::Close) {
+        drop(inner);
         return Err(FilterFault::Bad(stream.place()));
     }
     stream.skip();

@@ -10,7 +10,8 @@ ghost use Rattle.plain_filters.specs.Filters.{FilterTree};
 
 use crate::faults::FilterFault;
 use crate::lexer::tokens;
-use crate::parser::or_chain;
+use crate::parser::{Connective, chain};
+use crate::tokens::TokenKind;
 use plain_filters::Expr;
 use std::alloc::Global;
 
@@ -41,8 +42,9 @@ fn read(alloc: Global, text: &str) -> Result<Expr, FilterFault>
     ensures { Answers seen result (whole_filter (lexed 0 0 text.now)) }
 {
     let mut stream = tokens(alloc, text)?;
-    let filter = or_chain(alloc, &mut stream, DEPTH)?;
-    if !stream.is_end() {
+    let filter = chain(alloc, &mut stream, DEPTH, Connective::Or)?;
+    if !stream.next_is(TokenKind::End) {
+        drop(filter);
         return Err(FilterFault::Bad(stream.place()));
     }
     Ok(filter)

@@ -1,6 +1,7 @@
 //! Tokens of filter texts, and the list of them that is still to be read.
 ghost use Rattle.std.specs.Prelude.{◌≡◌, drop, option_map, IsTrue};
-ghost use Rattle.filter_expr.specs.Trees.{leaf, sum_token, product_token, compare_token, sum_chain, product_chain, is_not, is_minus, is_leaf, is_out_of_range, is_open, is_close, is_or, is_and, is_end, is_unknown};
+ghost use Rattle.filter_expr.specs.Trees.{leaf, sum_token, product_token, compare_token, sum_chain, product_chain, is_leaf};
+ghost use Rattle.filter_expr.specs.inner.Kinds.{is_of};
 ghost use Rattle.filter_expr.specs.Seen.{seen};
 ghost use Rattle.filter_expr.specs.Reading.{starts, first_token, place, next_sign, next_compare};
 
@@ -37,6 +38,22 @@ pub enum Token {
     Unknown,
 }
 
+/// What is asked of the next token, where no value of it matters.
+#[derive(Clone, Copy)]
+pub enum TokenKind {
+    /// A filter by itself: a name, a string, a number, `true`, `false` or `null`.
+    Leaf,
+    OutOfRange,
+    And,
+    Or,
+    Not,
+    Minus,
+    Open,
+    Close,
+    End,
+    Unknown,
+}
+
 /// A token and the place of its first byte in the text.
 #[derive(Debug, Drop)]
 pub struct PlacedToken {
@@ -66,84 +83,12 @@ impl TokenStream {
         TokenStream { left }
     }
 
-    pub fn is_or(&self) -> bool
-        ensures { result ≡ starts is_or self.now }
+    /// Whether a token of this kind stands next.
+    pub fn next_is(&self, kind: TokenKind) -> bool
+        ensures { result ≡ starts (is_of kind) self.now }
     {
         match self.left.front() {
-            Some(placed) => matches!(placed.token, Token::Or),
-            None => false,
-        }
-    }
-
-    pub fn is_and(&self) -> bool
-        ensures { result ≡ starts is_and self.now }
-    {
-        match self.left.front() {
-            Some(placed) => matches!(placed.token, Token::And),
-            None => false,
-        }
-    }
-
-    pub fn is_not(&self) -> bool
-        ensures { result ≡ starts is_not self.now }
-    {
-        match self.left.front() {
-            Some(placed) => matches!(placed.token, Token::Not),
-            None => false,
-        }
-    }
-
-    pub fn is_minus(&self) -> bool
-        ensures { result ≡ starts is_minus self.now }
-    {
-        match self.left.front() {
-            Some(placed) => matches!(placed.token, Token::Minus),
-            None => false,
-        }
-    }
-
-    pub fn is_out_of_range(&self) -> bool
-        ensures { result ≡ starts is_out_of_range self.now }
-    {
-        match self.left.front() {
-            Some(placed) => matches!(placed.token, Token::OutOfRange),
-            None => false,
-        }
-    }
-
-    pub fn is_open(&self) -> bool
-        ensures { result ≡ starts is_open self.now }
-    {
-        match self.left.front() {
-            Some(placed) => matches!(placed.token, Token::Open),
-            None => false,
-        }
-    }
-
-    pub fn is_close(&self) -> bool
-        ensures { result ≡ starts is_close self.now }
-    {
-        match self.left.front() {
-            Some(placed) => matches!(placed.token, Token::Close),
-            None => false,
-        }
-    }
-
-    pub fn is_end(&self) -> bool
-        ensures { result ≡ starts is_end self.now }
-    {
-        match self.left.front() {
-            Some(placed) => matches!(placed.token, Token::End),
-            None => false,
-        }
-    }
-
-    /// Whether the next token is a filter by itself.
-    pub fn is_leaf(&self) -> bool
-        ensures { result ≡ starts is_leaf self.now }
-    {
-        match self.left.front() {
-            Some(placed) => placed.token.is_leaf(),
+            Some(placed) => placed.token.is(kind),
             None => false,
         }
     }
@@ -221,10 +166,21 @@ impl TokenStream {
 }
 
 impl Token {
-    pub fn is_unknown(&self) -> bool
-        ensures { result ≡ is_unknown self.now }
+    pub fn is(&self, kind: TokenKind) -> bool
+        ensures { result ≡ is_of kind self.now }
     {
-        matches!(self, Token::Unknown)
+        match kind {
+            TokenKind::Leaf => self.is_leaf(),
+            TokenKind::OutOfRange => matches!(self, Token::OutOfRange),
+            TokenKind::And => matches!(self, Token::And),
+            TokenKind::Or => matches!(self, Token::Or),
+            TokenKind::Not => matches!(self, Token::Not),
+            TokenKind::Minus => matches!(self, Token::Minus),
+            TokenKind::Open => matches!(self, Token::Open),
+            TokenKind::Close => matches!(self, Token::Close),
+            TokenKind::End => matches!(self, Token::End),
+            TokenKind::Unknown => matches!(self, Token::Unknown),
+        }
     }
 
     fn is_leaf(&self) -> bool

@@ -1,62 +1,62 @@
-use Rattle.std.proofs.Common.{◌≡◌, ◌+◌, ◌*◌, ◌≤◌, length, map}
-use Rattle.filter_expr.specs.declared.tokens.Token.TheVariants as token
-use Rattle.filter_expr.specs.Trees.{or_chain, and_chain, sum_chain, product_chain}
-use Rattle.filter_expr.specs.Seen.{seen, behind}
-use Rattle.filter_expr.specs.Reading.{with_front, later, within_depth, and_in, not_in, product_in, unary_in}
+use Rattle.std.proofs.Common.{◌≡◌, ℕ, ◌+◌, ◌*◌, ◌≤◌, length, map, false, None}
+use Rattle.filter_expr.specs.declared.parser.Connective.{Connective}
+use Rattle.filter_expr.specs.declared.parser.Connective.TheVariants as connective
+use Rattle.filter_expr.specs.Trees.{sum_chain, product_chain}
+use Rattle.filter_expr.specs.Seen.{seen}
+use Rattle.filter_expr.specs.Reading.{with_front, later, within_depth, starts, next_sign, product_in, unary_in}
+use Rattle.filter_expr.specs.inner.Connectives.{connective_kind, connective_token, chain_kind, chain_in, part_in}
+use Rattle.filter_expr.specs.inner.Kinds.{is_of}
 use Rattle.filter_expr.specs.inner.SeenParts.{seen_sum, seen_product}
+use Rattle.filter_expr.proofs.Connectives.{resumed}
 use Rattle.filter_expr.proofs.parser.+parser.Given as goal
 
-abbrev pub decreases-or_chain : goal.decreases-or_chain
-decreases-or_chain l = 8 * l.depth_left + 8
+-- how far a chain's row stands above the ones that no word joins
+abbrev rank : Connective → ℕ
+rank connective.Or = 9
+rank connective.And = 7
 
-abbrev pub decreases-and_chain : goal.decreases-and_chain
-decreases-and_chain l = 8 * l.depth_left + 7
+abbrev pub decreases-chain : goal.decreases-chain
+decreases-chain l = 16 * l.depth_left + rank l.connective + 1
+
+abbrev pub decreases-chain_part : goal.decreases-chain_part
+decreases-chain_part l = 16 * l.depth_left + rank l.connective
 
 abbrev pub decreases-not_part : goal.decreases-not_part
-decreases-not_part l = 8 * l.depth_left + 6
+decreases-not_part l = 16 * l.depth_left + 6
 
 abbrev pub decreases-comparison : goal.decreases-comparison
-decreases-comparison l = 8 * l.depth_left + 5
+decreases-comparison l = 16 * l.depth_left + 5
 
 abbrev pub decreases-sum : goal.decreases-sum
-decreases-sum l = 8 * l.depth_left + 4
+decreases-sum l = 16 * l.depth_left + 4
 
 abbrev pub decreases-product : goal.decreases-product
-decreases-product l = 8 * l.depth_left + 3
+decreases-product l = 16 * l.depth_left + 3
 
 abbrev pub decreases-unary : goal.decreases-unary
-decreases-unary l = 8 * l.depth_left + 2
+decreases-unary l = 16 * l.depth_left + 2
 
 abbrev pub decreases-atom : goal.decreases-atom
-decreases-atom l = 8 * l.depth_left + 1
+decreases-atom l = 16 * l.depth_left + 1
 
-abbrev pub invariant-or_chain-ors : goal.invariant-or_chain-ors
-invariant-or_chain-ors l = record {
-  read : with_front (behind token.Or (map seen l.parts.items)) (later or_chain (and_in (within_depth l.depth_left)) l.stream)
-      ≡ later or_chain (and_in (within_depth l.depth_left)) l.initial.stream;
-  kept : l.first ≡ l.initial.first;
-  left : length l.stream ≤ length l.initial.stream;
+abbrev pub invariant-chain-parts : goal.invariant-chain-parts
+invariant-chain-parts l = record {
+  read : resumed (chain_kind l.connective) (connective_token l.connective) (map seen l.parts.items)
+      (later (chain_kind l.connective) (part_in l.connective (within_depth l.depth_left)) l.stream)
+      ≡ chain_in l.connective (within_depth l.depth_left) l.fn.stream;
+  some : 1 ≤ length l.parts.items;
+  many : false ≡ starts (is_of (connective_kind l.connective)) l.stream → 2 ≤ length l.parts.items;
+  left : length l.stream ≤ length l.fn.stream;
 }
 
-abbrev pub decreases-or_chain-ors : goal.decreases-or_chain-ors
-decreases-or_chain-ors l = length l.stream
-
-abbrev pub invariant-and_chain-ands : goal.invariant-and_chain-ands
-invariant-and_chain-ands l = record {
-  read : with_front (behind token.And (map seen l.parts.items)) (later and_chain (not_in (within_depth l.depth_left)) l.stream)
-      ≡ later and_chain (not_in (within_depth l.depth_left)) l.initial.stream;
-  kept : l.first ≡ l.initial.first;
-  left : length l.stream ≤ length l.initial.stream;
-}
-
-abbrev pub decreases-and_chain-ands : goal.decreases-and_chain-ands
-decreases-and_chain-ands l = length l.stream
+abbrev pub decreases-chain-parts : goal.decreases-chain-parts
+decreases-chain-parts l = length l.stream
 
 abbrev pub invariant-sum-sums : goal.invariant-sum-sums
 invariant-sum-sums l = record {
   read : with_front (map seen_sum l.parts.items) (later sum_chain (product_in (within_depth l.depth_left)) l.stream)
       ≡ later sum_chain (product_in (within_depth l.depth_left)) l.initial.stream;
-  kept : l.first ≡ l.initial.first;
+  many : None ≡ next_sign sum_chain l.stream → 1 ≤ length l.parts.items;
   left : length l.stream ≤ length l.initial.stream;
 }
 
@@ -67,7 +67,7 @@ abbrev pub invariant-product-products : goal.invariant-product-products
 invariant-product-products l = record {
   read : with_front (map seen_product l.parts.items) (later product_chain (unary_in (within_depth l.depth_left)) l.stream)
       ≡ later product_chain (unary_in (within_depth l.depth_left)) l.initial.stream;
-  kept : l.first ≡ l.initial.first;
+  many : None ≡ next_sign product_chain l.stream → 1 ≤ length l.parts.items;
   left : length l.stream ≤ length l.initial.stream;
 }
 
