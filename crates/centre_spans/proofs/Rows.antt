@@ -1,17 +1,18 @@
 -- Rows and columns outside a shape's stretches have no member.
 use Rattle.std.proofs.Common.{◌≡◌, ℕ, ◌+◌, ◌*◌, ◌/◌, ◌<◌, ◌≤◌, Bool, true, false, set, refl, ap, sym, subst, ◌∙◌, inl, inr, arith}
-use Rattle.std.specs.Prelude.{nat_le}
+use Rattle.std.specs.Prelude.{nat_le, nat_lt}
 use Rattle.std.proofs.Math.Nat.{mul-le-mul_right}
-use Rattle.std.proofs.lemmas.Bool.{cases_Bool, cases_lt, le-leb, lt-leb, leb-true, leb-false, false_from_ne_true}
+use Rattle.std.proofs.lemmas.Bool.{cases_lt, le-leb, lt-leb, leb-true, leb-false, ltb-true, and_parts, false_from_ne_true}
 use Rattle.plain_world.specs.declared.world.Point.{Point}
 use Rattle.plain_world.specs.declared.world.Window.{Window}
 use Rattle.plain_world.specs.World.{InWorld, IsWindow, centre, centres}
 use Rattle.plain_shapes.specs.Images.{Bits}
 use Rattle.plain_shapes.specs.inner.Canvas.{marked}
 use Rattle.plain_shapes.specs.inner.Canvas.{Reached}
-use Rattle.plain_shapes.proofs.Places.{reached_start, reached_skip, reached_yes, reached_no, reached_end}
+use Rattle.plain_shapes.proofs.Places.{reached_start, reached_skip, reached_yes, reached_end}
 use Rattle.centre_spans.specs.declared.shapes.Stretch.{Stretch}
-use Rattle.centre_spans.specs.Stretches.{InStretch}
+use Rattle.centre_spans.specs.Stretches.{InStretch, in_stretch}
+use Rattle.centre_spans.proofs.Edges.{inside}
 
 -- the centres of a window lie in the world
 pub centre_in : (w : Window) (i j : ℕ) → IsWindow w → i < w.cols → j < w.rows → InWorld (centre w i j)
@@ -78,19 +79,33 @@ row_end m w s j n right start now ok row past le splits covers r =
     fits : (j c rows : ℕ) → j < rows → j * c + c ≤ rows * c
     fits j c rows p = (let k : j + 1 ≤ rows = omega arith in omega (arith, mul-le-mul_right c k))
 
--- one pixel of a row
-pub row_more : (m : Point → Bool) (w : Window) (j i : ℕ) (t : Bool) (start now next : Bits) → i < w.cols → j < w.rows → now.cols ≡ w.cols → t ≡ m (centre w i j)
-    → (t ≡ true → next ≡ record now { bits = set now.bits (j * now.cols + i) true }) → (t ≡ false → next ≡ now)
+-- the stretch of a row has its members, and each centre between the first column and the last one is a member
+pub held_in : (m : Point → Bool) (s : Stretch) (y : ℕ) → ((c : Point) → InWorld c → c.y ≡ y → m c ≡ in_stretch s c.x)
+    → (c : Point) → InWorld c → m c ≡ true → c.y ≡ y → InStretch s c.x
+held_in m s y exact c inside held same =
+    let parts = and_parts (nat_le s.start c.x) (nat_lt c.x s.end) (sym (exact c inside same) ∙ held) in
+    record { from_start = leb-true s.start c.x parts.0; before_end = ltb-true c.x s.end parts.1 }
+
+pub member_at : (m : Point → Bool) (w : Window) (s : Stretch) (j i left right : ℕ) → IsWindow w → i < w.cols → j < w.rows → left ≤ i → i < right
+    → ((i : ℕ) → i < w.cols → nat_le left i ≡ nat_le s.start (w.west + i * w.pixel + w.pixel / 2))
+    → ((i : ℕ) → i < w.cols → nat_le right i ≡ nat_le s.end (w.west + i * w.pixel + w.pixel / 2))
+    → ((c : Point) → InWorld c → c.y ≡ w.north + j * w.pixel + w.pixel / 2 → m c ≡ in_stretch s c.x)
+    → m (centre w i j) ≡ true
+member_at m w s j i left right ok col row low high from to exact =
+    let c : Point = centre w i j in
+    let starts = leb-true s.start c.x (sym (from i col) ∙ le-leb left i low) in
+    let ends = leb-false s.end c.x (sym (to i col) ∙ lt-leb right i high) in
+    exact c (centre_in w i j ok col row) refl ∙ inside s c.x starts ends
+
+-- one pixel of a row, a member
+pub row_more : (m : Point → Bool) (w : Window) (j i : ℕ) (start now next : Bits) → i < w.cols → j < w.rows → w.cols ≡ now.cols → m (centre w i j) ≡ true
+    → next ≡ record now { bits = set now.bits (j * now.cols + i) true }
     → Reached m w (j * w.cols + i) start now → Reached m w (j * w.cols + (i + 1)) start next
-row_more m w j i t start now next col row cols is set_it keep_it r =
+row_more m w j i start now next col row cols member is r =
     let P : Bits → Type 0 = λ b. Reached m w (j * w.cols + (i + 1)) start b in
-    elim (cases_Bool t) [
-      | inl e ↦ (
-          let at : record now { bits = set now.bits (j * w.cols + i) true } ≡ next =
-          ap (λ k. record now { bits = set now.bits (j * k + i) true }) (sym cols) ∙ sym (set_it e) in
-          subst P at (reached_yes m w j i (j * w.cols + i) (j * w.cols + (i + 1)) start now refl (omega arith) col row (sym is ∙ e) r))
-      | inr e ↦ subst P (sym (keep_it e)) (reached_no m w j i (j * w.cols + i) (j * w.cols + (i + 1)) start now refl (omega arith) col row (sym is ∙ e) r)
-    ]
+    let at : record now { bits = set now.bits (j * w.cols + i) true } ≡ next =
+    ap (λ k. record now { bits = set now.bits (j * k + i) true }) cols ∙ sym is in
+    subst P at (reached_yes m w j i (j * w.cols + i) (j * w.cols + (i + 1)) start now refl (omega arith) col row member r)
 
 -- the rows above the first one of the shape
 pub rows_start : (m : Point → Bool) (w : Window) (s : Stretch) (top : ℕ) (old : Bits) → IsWindow w → top ≤ w.rows

@@ -6,8 +6,10 @@ mod marking;
 mod numbers;
 mod shapes;
 mod sides;
+mod stretches;
 
-pub use marking::{mark, set_if};
-pub use numbers::{all, apart, squared};
+pub use marking::{mark, set_run};
+pub use numbers::{apart, root};
 pub use shapes::{Shape, Stretch};
 pub use sides::first_at;
+pub use stretches::{Growing, around, narrowed, no_more, nowhere};

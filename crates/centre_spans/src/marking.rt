@@ -1,6 +1,8 @@
-//! The loop over the centres near a shape.
-ghost use Rattle.std.specs.Prelude.{◌≡◌, ℕ, ◌+◌, ◌*◌, ◌<◌, ◌≤◌, Bool, true, false, slice_set};
-ghost use Rattle.plain_world.specs.World.{IsWindow, centres};
+//! The loop over the rows of a shape.
+ghost use Rattle.std.specs.Prelude.{◌≡◌, ℕ, ◌+◌, ◌*◌, ◌<◌, ◌≤◌, max, Bool, true};
+ghost use Rattle.plain_world.specs.declared.world.Point.{Point};
+ghost use Rattle.plain_world.specs.declared.world.Window.{Window};
+ghost use Rattle.plain_world.specs.World.{IsWindow, centre, centres};
 ghost use Rattle.plain_shapes.specs.Images.{Bits};
 ghost use Rattle.plain_shapes.specs.inner.Canvas.{marked};
 ghost use Rattle.plain_shapes.specs.inner.Canvas.{Reached};
@@ -8,18 +10,19 @@ ghost use Rattle.plain_shapes.specs.inner.Canvas.{Reached};
 use crate::shapes::Shape;
 use crate::sides::first_at;
 use plain_image::Mask;
-use plain_world::{Point, Window};
+use plain_world::Window;
 
-/// Sets the bit in column `i` and row `j` where it is asked for.
-pub fn set_if(asked: bool, i: u32, j: u32, mask: &mut Mask)
-    requires col { i < mask.old.cols }
+/// Sets the bits of row `j` from the column `from` on and before the column `end`.
+pub fn set_run(j: u32, from: u32, end: u32, mask: &mut Mask)
     requires row { j < mask.old.rows }
-    ensures set { asked ≡ true → mask.new ≡ record mask.old { bits = slice_set mask.old.bits (j * mask.old.cols + i) true } }
-    ensures kept { asked ≡ false → mask.new ≡ mask.old }
+    requires end { end ≤ mask.old.cols }
+    ensures reached { (member : Point → Bool) (w : Window) (start : Bits) → w.cols ≡ mask.old.cols → w.rows ≡ mask.old.rows
+        → ((i : ℕ) → from ≤ i → i < end → member (centre w i j) ≡ true)
+        → Reached member w (j * w.cols + from) start mask.old → Reached member w (j * w.cols + max from end) start mask.new }
     ensures cols { mask.new.cols ≡ mask.old.cols }
     ensures rows { mask.new.rows ≡ mask.old.rows }
 {
-    if asked {
+    for i in from..end {
         mask.set(i, j);
     }
 }
@@ -40,10 +43,7 @@ fn mark_row<S: Shape>(shape: &S, w: Window, j: u32, mask: &mut Mask)
     let across = shape.columns(y);
     let left = first_at(w.west, w.pixel, w.cols, across.start);
     let right = first_at(w.west, w.pixel, w.cols, across.end);
-    for i in left..right {
-        let x = w.west + i * w.pixel + w.pixel / 2;
-        set_if(shape.holds(Point { x, y }), i, j, mask);
-    }
+    set_run(j, left, right, mask);
 }
 
 /// Sets the bits whose pixel centre the shape holds, and no other bit changes. Only rows within the

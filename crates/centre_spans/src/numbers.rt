@@ -1,5 +1,5 @@
-//! Whole numbers: distances, squares, and three tests at once.
-ghost use Rattle.std.specs.Prelude.{◌≡◌, ◌+◌, ◌-◌, ◌*◌, ◌^◌, ◌≤◌, ◌&&◌};
+//! Whole numbers: distances and roots.
+ghost use Rattle.std.specs.Prelude.{◌≡◌, ℕ, ◌+◌, ◌-◌, ◌*◌, ◌<◌, ◌≤◌, true, nat_le};
 
 /// How far two numbers are apart.
 pub fn apart(m: u64, n: u64) -> u64
@@ -8,17 +8,53 @@ pub fn apart(m: u64, n: u64) -> u64
     if m < n { n - m } else { m - n }
 }
 
-/// The square of a number.
-pub fn squared(n: u64) -> u128
-    ensures value { result ≡ n * n }
-    ensures small { n ≤ 2 ^ 31 → result ≤ 2 ^ 62 }
+/// The root of a number, rounded down: the numbers up to it are those whose square is at most `n`.
+#[tactic(auto, using(crate::proofs::Roots::root_is))]
+pub fn root(n: u128) -> u64
+    ensures low { result * result ≤ n }
+    ensures is { (d : ℕ) → nat_le d result ≡ nat_le (d * d) n }
 {
-    u128::from(n) * u128::from(n)
+    if n < 1 << 64 {
+        short_root(n as u64)
+    } else {
+        n.isqrt() as u64
+    }
 }
 
-/// Whether all three hold. All are computed first, whatever the first says.
-pub fn all(a: bool, b: bool, c: bool) -> bool
-    ensures { result ≡ a && b && c }
+// The root of a short number, by Newton's steps: from a first guess that is near, each step doubles the digits that
+// are right, and a guess is taken once it is the root. It is after three or four steps.
+#[tactic(auto, using(crate::proofs::Roots::root_is))]
+fn short_root(n: u64) -> u64
+    ensures low { result * result ≤ n }
+    ensures is { (d : ℕ) → nat_le d result ≡ nat_le (d * d) n }
 {
-    a && b && c
+    let mut guess = first_guess(n);
+    for _step in 0..5 {
+        if is_root(guess, n) {
+            return guess;
+        }
+        guess = halfway(guess, n / guess).max(1);
+    }
+    n.isqrt()
+}
+
+// The number in the middle of two.
+fn halfway(m: u64, n: u64) -> u64 {
+    m.min(n) + apart(m, n) / 2
+}
+
+// Where n is m times a power of four, with m from 1 to 4: (m + 2) / 3 times the root of the power, and one more.
+fn first_guess(n: u64) -> u64
+    ensures { 1 ≤ result }
+{
+    let digits = n.max(1).ilog2() / 2;
+    (2 << digits) / 3 + (n >> digits) / 3 + 1
+}
+
+// Whether a number is the root, rounded down.
+fn is_root(guess: u64, n: u64) -> bool
+    ensures low { result ≡ true → guess * guess ≤ n }
+    ensures high { result ≡ true → n < (guess + 1) * (guess + 1) }
+{
+    guess < 1 << 32 && guess * guess <= n && n - guess * guess <= 2 * guess
 }

@@ -1,10 +1,8 @@
-//! What a shape says of itself, so that only the centres near it are tested.
+//! What a shape says of itself, so that no centre is tested.
 ghost use Rattle.std.specs.Prelude.{◌≡◌, ◌≤◌, ◌^◌, Bool, true};
 ghost use Rattle.plain_world.specs.declared.world.Point.{Point};
 ghost use Rattle.plain_world.specs.World.{InWorld};
-ghost use Rattle.centre_spans.specs.Stretches.{InStretch};
-
-use plain_world::Point;
+ghost use Rattle.centre_spans.specs.Stretches.{InStretch, in_stretch};
 
 /// Places along one direction: from `start` on and before `end`, in world units.
 #[derive(Clone, Copy, Debug, PartialEq, Eq)]
@@ -13,7 +11,7 @@ pub struct Stretch {
     pub end: u64,
 }
 
-/// A set of points by a test, and stretches that bound it.
+/// A set of points whose places of each height are one stretch.
 pub trait Shape {
     /// Which points it holds.
     ghost holds: { Self → Point → Bool };
@@ -21,20 +19,14 @@ pub trait Shape {
     /// What its numbers have to keep.
     ghost valid: { Self → Type 0 };
 
-    /// Whether it holds a point of the world.
-    fn holds(&self, c: Point) -> bool
-        requires valid { valid self.now }
-        requires point { InWorld c }
-        ensures { result ≡ holds self.now c };
-
     /// A stretch of heights that has those of all its points.
     fn heights(&self) -> Stretch
         requires { valid self.now }
         ensures { (c : Point) → InWorld c → holds self.now c ≡ true → InStretch result c.y };
 
-    /// A stretch that has all its points of one height.
+    /// The stretch of its points of one height: each point of the world that lies in it, and no other one.
     fn columns(&self, y: u32) -> Stretch
         requires valid { valid self.now }
         requires height { y ≤ 2 ^ 30 }
-        ensures { (c : Point) → InWorld c → holds self.now c ≡ true → c.y ≡ y → InStretch result c.x };
+        ensures { (c : Point) → InWorld c → c.y ≡ y → holds self.now c ≡ in_stretch result c.x };
 }

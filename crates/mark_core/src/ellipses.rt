@@ -1,9 +1,7 @@
 //! The ellipse of a mark.
-ghost use Rattle.std.specs.Prelude.{◌≡◌, ◌+◌, ◌-◌, ◌*◌, ◌≤◌, ◌^◌};
-ghost use Rattle.plain_world.specs.World.{InWorld};
-ghost use Rattle.plain_shapes.specs.Strokes.{in_mark};
+ghost use Rattle.std.specs.Prelude.{◌≡◌, ℕ, ◌+◌, ◌-◌, ◌*◌, ◌≤◌, ◌^◌, ◌&&◌, nat_le};
 
-use centre_spans::{Shape, Stretch, all, apart, squared};
+use centre_spans::{Shape, Stretch, apart, around, nowhere, root};
 use plain_world::Point;
 
 /// The ellipse round `centre` that is `a` wide and `b` high to each side, in world units. Where one of
@@ -15,35 +13,37 @@ pub struct Ellipse {
     pub b: u32,
 }
 
-// x^2 * b^2 + y^2 * a^2
-fn weighed(x: u64, y: u64, a: u64, b: u64) -> u128
-    requires x { x ≤ 2 ^ 31 }
-    requires y { y ≤ 2 ^ 31 }
-    requires a { a ≤ 2 ^ 31 }
-    requires b { b ≤ 2 ^ 31 }
-    ensures { result ≡ x * x * (b * b) + y * y * (a * a) }
+// The square of a number.
+fn squared(n: u64) -> u128
+    ensures value { result ≡ n * n }
+    ensures small { n ≤ 2 ^ 31 → result ≤ 2 ^ 62 }
 {
-    squared(x) * squared(b) + squared(y) * squared(a)
+    u128::from(n) * u128::from(n)
 }
 
-// Whether the ellipse round `p` holds `c`, by `dx^2 * b^2 + dy^2 * a^2 <= a^2 * b^2`.
-#[tactic(auto, using(crate::proofs::Marks::mark_is))]
-fn in_mark(a: u32, b: u32, c: Point, p: Point) -> bool
+// Whether an ellipse reaches the height `y` from its centre at all.
+fn reaches(a: u32, b: u32, y: u64) -> bool
+    ensures { result ≡ (nat_le 1 a && nat_le 1 b && nat_le y b) }
+{
+    a >= 1 && b >= 1 && y <= u64::from(b)
+}
+
+// How far to each side of its centre an ellipse reaches that is `a` wide and `b` high to each side, at the
+// height `y` from its centre: x^2 * b^2 + y^2 * a^2 <= a^2 * b^2, solved for x.
+fn width_at(a: u32, b: u32, y: u64) -> u64
     requires a { a ≤ 2 ^ 31 }
     requires b { b ≤ 2 ^ 31 }
-    requires c { InWorld c }
-    requires p { InWorld p }
-    ensures { result ≡ in_mark a b c p }
+    requires some { 1 ≤ b }
+    requires within { y ≤ b }
+    ensures is { (x : ℕ) → nat_le x result ≡ nat_le (x * x * (b * b) + y * y * (a * a)) (a * a * (b * b)) }
+    ensures little { result ≤ a }
 {
-    let x = apart(u64::from(c.x), u64::from(p.x));
-    let y = apart(u64::from(c.y), u64::from(p.y));
-    let bound = squared(u64::from(a)) * squared(u64::from(b));
-    let within = weighed(x, y, u64::from(a), u64::from(b)) <= bound;
-    all(a >= 1, b >= 1, within)
+    let high = squared(u64::from(b));
+    root(squared(u64::from(a)) * (high - squared(y)) / high)
 }
 
 // The places at most `reach` from `p`.
-fn around(p: u32, reach: u32) -> Stretch
+fn beside(p: u32, reach: u32) -> Stretch
     ensures start { result.start ≡ p - reach }
     ensures end { result.end ≡ p + reach + 1 }
 {
@@ -61,15 +61,16 @@ impl Shape for Ellipse {
 
     ghost valid = { λ s. InWorld s.centre × (s.a ≤ 2 ^ 31) × (s.b ≤ 2 ^ 31) };
 
-    fn holds(&self, c: Point) -> bool {
-        in_mark(self.a, self.b, c, self.centre)
-    }
-
     fn heights(&self) -> Stretch {
-        around(self.centre.y, self.b)
+        beside(self.centre.y, self.b)
     }
 
-    fn columns(&self, _y: u32) -> Stretch {
-        around(self.centre.x, self.a)
+    fn columns(&self, y: u32) -> Stretch {
+        let down = apart(u64::from(y), u64::from(self.centre.y));
+        if reaches(self.a, self.b, down) {
+            around(self.centre.x, width_at(self.a, self.b, down))
+        } else {
+            nowhere()
+        }
     }
 }

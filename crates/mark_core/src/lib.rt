@@ -1,4 +1,4 @@
-//! Marks at points: ellipses, with only the centres in each mark's own box tested.
+//! Marks at points: ellipses, with the stretch of each row computed, and no centre tested.
 #![tactic(auto)]
 
 mod ellipses;

@@ -1,24 +1,25 @@
 -- The rows of an edge, the edges of a ring and the rings of a polygon, one after another.
-use Rattle.std.proofs.Common.{◌≡◌, ℕ, suc, ◌+◌, ◌*◌, ◌/◌, ◌<◌, ◌≤◌, Bool, List, length, get_or, drop, flat_map, ap, sym, ◌∙◌, arith, add-one, drop-cons}
+use Rattle.std.proofs.Common.{◌≡◌, ℕ, suc, ◌+◌, ◌*◌, ◌/◌, ◌<◌, ◌≤◌, false, List, length, get_or, drop, flat_map, ap, sym, ◌∙◌, arith, add-one, drop-cons}
 use Rattle.std.specs.Prelude.{nat_le}
+use Rattle.std.proofs.lemmas.List.{drop_all}
 use Rattle.std.proofs.lemmas.Bool.{le-leb, lt-leb, leb-true, leb-false}
 use Rattle.plain_world.specs.declared.world.Point.{Point}
 use Rattle.plain_world.specs.declared.world.Window.{Window}
 use Rattle.plain_world.specs.World.{centre}
 use Rattle.plain_shapes.specs.Rings.{counts_down, counts, edges_from, ring_edges, in_rings}
 use Rattle.plain_shapes.proofs.Signs.{off_above, off_below}
-use Rattle.raster_core.specs.inner.Toggles.{flip, Toggled, RowsToggled, odd_edges}
+use Rattle.raster_core.specs.inner.Crossings.{flip, Toggled, RowsToggled, odd_edges}
 use Rattle.raster_core.proofs.Toggling.{rows_start, rows_end, odd_cons, odd_append}
 
 -- the rows above an edge's upper end
-pub downward_start : (w : Window) (a b : Point) (top : ℕ) (old : List Bool)
+pub downward_start : (w : Window) (a b : Point) (top : ℕ) (old : List ℕ)
     → ((j : ℕ) → j < w.rows → nat_le top j ≡ nat_le a.y (w.north + j * w.pixel + w.pixel / 2))
     → RowsToggled w (counts_down a b) top old old
 downward_start w a b top old splits = rows_start w (counts_down a b) top old
     (λ j i above row col. off_above a b (centre w i j) (leb-false a.y (centre w i j).y (sym (splits j row) ∙ lt-leb top j above)))
 
 -- the rows from an edge's lower end on
-pub downward_end : (w : Window) (a b : Point) (j bottom : ℕ) (old now : List Bool) → bottom ≤ j
+pub downward_end : (w : Window) (a b : Point) (j bottom : ℕ) (old now : List ℕ) → bottom ≤ j
     → ((j : ℕ) → j < w.rows → nat_le bottom j ≡ nat_le b.y (w.north + j * w.pixel + w.pixel / 2))
     → RowsToggled w (counts_down a b) j old now → Toggled w (counts_down a b) old now
 downward_end w a b n bottom old now past splits r = rows_end w (counts_down a b) n old now r
@@ -40,3 +41,10 @@ rings_step rings i ring lt is c =
     ∙ odd_append (λ e. counts e c) (ring_edges (get_or rings i ring)) (flat_map ring_edges (drop (suc i) rings))
     ∙ ap (λ r. flip (odd_edges (ring_edges r) c) (in_rings (drop (suc i) rings) c)) (sym is)
     ∙ ap (λ k. flip (odd_edges (ring_edges ring) c) (in_rings (drop k rings) c)) (sym (add-one i))
+
+-- no edges are left, and no rings
+pub edges_none : (before : Point) (points : List Point) (i : ℕ) → length points ≤ i → (c : Point) → odd_edges (edges_from before (drop i points)) c ≡ false
+edges_none before points i past c = ap (λ ps. odd_edges (edges_from before ps) c) (drop_all i points past)
+
+pub rings_none : (rings : List (List Point)) (i : ℕ) → length rings ≤ i → (c : Point) → in_rings (drop i rings) c ≡ false
+rings_none rings i past c = ap (λ rs. in_rings rs c) (drop_all i rings past)

@@ -1,5 +1,3 @@
-pub mod Downward
-pub mod Heights
 pub mod Toggling
-pub mod Stretches
-pub mod Sweeping
+pub mod Downward
+pub mod Filling

@@ -1,15 +1,16 @@
 //! Edges: where each of them is crossed, row by row.
-ghost use Rattle.std.specs.Prelude.{◌≡◌, ℕ, ◌+◌, ◌-◌, ◌*◌, ◌/◌, ◌<◌, ◌≤◌, nat_le, length, All};
+ghost use Rattle.std.specs.Prelude.{◌≡◌, ℕ, ◌+◌, ◌-◌, ◌*◌, ◌/◌, ◌<◌, ◌≤◌, nat_le, All, OnOk};
 ghost use Rattle.plain_world.specs.World.{InWorld, IsWindow, centre};
 ghost use Rattle.plain_shapes.specs.Rings.{counts_down, counts, ring_edges, in_rings};
-ghost use Rattle.raster_core.specs.inner.Toggles.{Toggled, RowToggled, odd_edges};
+ghost use Rattle.raster_core.specs.inner.Crossings.{Toggled, RowToggled, odd_edges};
 
 use centre_spans::first_at;
+use farm_base::NoMemory;
 use plain_shapes::Path;
 use plain_world::{Point, Window};
 
 // The least x that does not lie before the edge from `a` down to `b` at the height `y`.
-#[tactic(auto, using(crate::proofs::Heights::up_le))]
+#[tactic(auto, using(centre_spans::proofs::Quotients::up_le))]
 fn place_at(a: Point, b: Point, y: u32) -> u64
     requires upper { a.y ≤ y }
     requires lower { y < b.y }
@@ -38,91 +39,88 @@ fn crossing(a: Point, b: Point, w: Window, j: u32) -> u32
     first_at(w.west, w.pixel, w.cols, place_at(a, b, y))
 }
 
-// Marks the crossing of one row.
-fn cross_row(a: Point, b: Point, w: Window, j: u32, bits: &mut [bool])
+// Adds the crossing of one row.
+fn cross_row(a: Point, b: Point, w: Window, j: u32, places: &mut Vec<u32>) -> Result<(), NoMemory>
     requires a_in { InWorld a }
     requires b_in { InWorld b }
     requires window { IsWindow w }
     requires row { j < w.rows }
     requires upper { a.y ≤ w.north + j * w.pixel + w.pixel / 2 }
     requires lower { w.north + j * w.pixel + w.pixel / 2 < b.y }
-    requires len { length bits.old ≡ w.rows * w.cols }
-    ensures { RowToggled w (counts_down a b) j bits.old bits.new }
+    ensures { OnOk result (RowToggled w (counts_down a b) j places.old.items places.new.items) }
 {
     let k = crossing(a, b, w, j);
     if k < w.cols {
-        let place = j as usize * w.cols as usize + k as usize;
-        bits[place] = !bits[place];
+        places.push(j * w.cols + k)?;
     }
+    Ok(())
 }
 
-// Marks the crossings of an edge that runs from `a` down to `b`.
-fn cross_down(a: Point, b: Point, w: Window, bits: &mut [bool])
+// Adds the crossings of an edge that runs from `a` down to `b`.
+fn cross_down(a: Point, b: Point, w: Window, places: &mut Vec<u32>) -> Result<(), NoMemory>
     requires a_in { InWorld a }
     requires b_in { InWorld b }
     requires down { a.y ≤ b.y }
     requires window { IsWindow w }
-    requires len { length bits.old ≡ w.rows * w.cols }
-    ensures { Toggled w (counts_down a b) bits.old bits.new }
+    ensures { OnOk result (Toggled w (counts_down a b) places.old.items places.new.items) }
 {
     let top = first_at(w.north, w.pixel, w.rows, u64::from(a.y));
     let bottom = first_at(w.north, w.pixel, w.rows, u64::from(b.y));
     for j in top..bottom {
-        cross_row(a, b, w, j, bits);
+        cross_row(a, b, w, j, places)?;
     }
+    Ok(())
 }
 
-// Marks the crossings of an edge.
-fn cross_edge(a: Point, b: Point, w: Window, bits: &mut [bool])
+// Adds the crossings of an edge.
+fn cross_edge(a: Point, b: Point, w: Window, places: &mut Vec<u32>) -> Result<(), NoMemory>
     requires a_in { InWorld a }
     requires b_in { InWorld b }
     requires window { IsWindow w }
-    requires len { length bits.old ≡ w.rows * w.cols }
-    ensures { Toggled w (counts (a, b)) bits.old bits.new }
+    ensures { OnOk result (Toggled w (counts (a, b)) places.old.items places.new.items) }
 {
     if a.y <= b.y {
-        cross_down(a, b, w, bits);
+        cross_down(a, b, w, places)
     } else {
-        cross_down(b, a, w, bits);
+        cross_down(b, a, w, places)
     }
 }
 
-// Marks the crossings of the edges of a ring, which is closed from its last point to its first.
-fn cross_ring(points: &[Point], w: Window, bits: &mut [bool])
+// Adds the crossings of the edges of a ring, which is closed from its last point to its first.
+fn cross_ring(points: &[Point], w: Window, places: &mut Vec<u32>) -> Result<(), NoMemory>
     requires points { All InWorld points.now }
     requires window { IsWindow w }
-    requires len { length bits.old ≡ w.rows * w.cols }
-    ensures { Toggled w (odd_edges (ring_edges points.now)) bits.old bits.new }
+    ensures { OnOk result (Toggled w (odd_edges (ring_edges points.now)) places.old.items places.new.items) }
 {
     let Some(last) = points.last() else {
-        return;
+        return Ok(());
     };
     let mut before = *last;
     for p in points {
-        cross_edge(before, *p, w, bits);
+        cross_edge(before, *p, w, places)?;
         before = *p;
     }
+    Ok(())
 }
 
 // The same of a ring as a path.
-fn cross_path(ring: &Path, w: Window, bits: &mut [bool])
+fn cross_path(ring: &Path, w: Window, places: &mut Vec<u32>) -> Result<(), NoMemory>
     requires points { All InWorld ring.now }
     requires window { IsWindow w }
-    requires len { length bits.old ≡ w.rows * w.cols }
-    ensures { Toggled w (odd_edges (ring_edges ring.now)) bits.old bits.new }
+    ensures { OnOk result (Toggled w (odd_edges (ring_edges ring.now)) places.old.items places.new.items) }
 {
-    cross_ring(&ring.points, w, bits);
+    cross_ring(&ring.points, w, places)
 }
 
-/// Marks where the edges of all rings are crossed: afterwards the parity of the marks from the west up
-/// to a pixel is turned round exactly where the pixel's centre lies in the rings.
-pub fn cross_rings(rings: &[Path], w: Window, bits: &mut [bool])
+/// Adds the places at which the edges of all rings are crossed: how many of them a row has up to a pixel
+/// is turned round, by parity, exactly where the pixel's centre lies in the rings.
+pub fn cross_rings(rings: &[Path], w: Window, places: &mut Vec<u32>) -> Result<(), NoMemory>
     requires rings { All (All InWorld) rings.now }
     requires window { IsWindow w }
-    requires len { length bits.old ≡ w.rows * w.cols }
-    ensures { Toggled w (in_rings rings.now) bits.old bits.new }
+    ensures { OnOk result (Toggled w (in_rings rings.now) places.old.items places.new.items) }
 {
     for ring in rings {
-        cross_path(ring, w, bits);
+        cross_path(ring, w, places)?;
     }
+    Ok(())
 }

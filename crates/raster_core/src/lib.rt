@@ -1,10 +1,10 @@
-//! Polygons by even-odd filling, with scan lines: each edge marks where it is crossed in each of its
-//! rows, and then each row is swept once from the west.
+//! Polygons by even-odd filling: the places where edges are crossed are listed, row by row, and between
+//! them run the pixels of the polygon.
 #![tactic(auto)]
 
 mod edges;
 mod fill;
-mod reach;
-mod sweep;
+mod runs;
 
-pub use fill::fill_mask;
+pub use fill::{crossings, fill_mask};
+pub use runs::{Run, run_at};

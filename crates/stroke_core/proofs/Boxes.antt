@@ -1,5 +1,5 @@
 -- What a body, a disk or a cap holds lies near its points: in boxes, and in a row's span of columns.
-use Rattle.std.proofs.Common.{◌≡◌, ◌==◌, ℕ, ◌+◌, ◌-◌, ◌*◌, ◌≤◌, min, max, true, false, ◌&&◌, refl, ap, sym, ◌∙◌, inl, inr, arith}
+use Rattle.std.proofs.Common.{◌≡◌, ◌==◌, ℕ, ◌+◌, ◌-◌, ◌*◌, ◌≤◌, min, max, true, false, ◌&&◌, refl, ap, ◌∙◌, inl, inr, arith}
 use Rattle.std.specs.Prelude.{nat_le, nat_lt, ◌⊎◌}
 use Rattle.std.proofs.Math.Nat.{mul-le-mul, mul-le-mul_left, mul-le-mul_right}
 use Rattle.std.proofs.lemmas.Bool.{cases_lt, leb-true, and_parts, and_cases, eqb-false}
@@ -252,25 +252,3 @@ block_box half p c h =
     let east = leb-true x half parts.0 in
     let south = leb-true y half parts.1 in
     record { west = omega arith; east = omega arith; north = omega arith; south = omega arith }
-
--- a near point's distance beside the line, without roots
-pub near_sum : (half : ℕ) (a b c : Point) → is_near half a b c ≡ true
-    → gap (beside_plus a b c) (beside_minus a b c) ≤ half * (gap b.x a.x + gap b.y a.y)
-near_sum half a b c h =
-    let d : ℕ = gap (beside_plus a b c) (beside_minus a b c) in
-    let x : ℕ = gap b.x a.x in
-    let y : ℕ = gap b.y a.y in
-    let e = near_within half a b c h in
-    let wide : long_square a b ≤ (x + y) * (x + y) = omega arith in
-    root_le d (half * (x + y)) (omega (arith, mul-le-mul_left (half * half) wide))
-
--- both directions of a segment are near to the same points
-pub near_turned : (half : ℕ) (a b c : Point) → is_near half a b c ≡ is_near half b a c
-near_turned half a b c =
-    let p : ℕ = beside_plus a b c in
-    let m : ℕ = beside_minus a b c in
-    let d : ℕ = gap p m in
-    let l : ℕ = long_square a b in
-    sym (near_is half a b c p m d l (half * half * l) (beside_is a b c p m refl refl) refl (long_is a b (gap b.x a.x) (gap b.y a.y) l refl refl refl) refl)
-    ∙ near_is half b a c m p d l (half * half * l) (beside_is b a c m p (omega arith) (omega arith)) (omega arith)
-    (long_is b a (gap b.x a.x) (gap b.y a.y) l (omega arith) (omega arith) refl) refl

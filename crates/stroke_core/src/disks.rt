@@ -1,7 +1,6 @@
 //! The disks of joins and round caps, and the squares of square caps at a line of one point.
 use crate::bodies::between;
-use crate::membership::{in_block, in_disk};
-use centre_spans::{Shape, Stretch};
+use centre_spans::{Shape, Stretch, apart, around, nowhere, root};
 use plain_world::Point;
 
 /// The disk round a point.
@@ -20,16 +19,17 @@ impl Shape for Disk {
 
     ghost valid = { λ s. InWorld s.p × (s.half ≤ 2 ^ 31) };
 
-    fn holds(&self, c: Point) -> bool {
-        in_disk(self.half, self.p, c)
-    }
-
     fn heights(&self) -> Stretch {
         between(self.p.y, self.p.y, u64::from(self.half))
     }
 
-    fn columns(&self, _y: u32) -> Stretch {
-        between(self.p.x, self.p.x, u64::from(self.half))
+    fn columns(&self, y: u32) -> Stretch {
+        let half = u64::from(self.half);
+        let down = apart(u64::from(y), u64::from(self.p.y));
+        if half < down {
+            return nowhere();
+        }
+        around(self.p.x, root(u128::from(half * half - down * down)))
     }
 }
 
@@ -49,15 +49,16 @@ impl Shape for Block {
 
     ghost valid = { λ s. InWorld s.p × (s.half ≤ 2 ^ 31) };
 
-    fn holds(&self, c: Point) -> bool {
-        in_block(self.half, self.p, c)
-    }
-
     fn heights(&self) -> Stretch {
         between(self.p.y, self.p.y, u64::from(self.half))
     }
 
-    fn columns(&self, _y: u32) -> Stretch {
-        between(self.p.x, self.p.x, u64::from(self.half))
+    fn columns(&self, y: u32) -> Stretch {
+        let half = u64::from(self.half);
+        let down = apart(u64::from(y), u64::from(self.p.y));
+        if half < down {
+            return nowhere();
+        }
+        around(self.p.x, half)
     }
 }

@@ -2,7 +2,7 @@
 ghost use Rattle.std.specs.Prelude.{◌≡◌, ◌++◌, ◌∷◌, [], IfOk, OnOk, if◌then◌else◌};
 ghost use Rattle.plain_shapes.specs.Strokes.{is_same, kept, kept_after};
 
-use crate::membership::is_same;
+use crate::segments::is_same;
 use farm_base::NoMemory;
 use plain_world::Point;
 use std::alloc::Global;

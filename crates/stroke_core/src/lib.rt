@@ -1,5 +1,5 @@
-//! Strokes of lines and outlines of rings, in whole numbers: of each segment, join and cap only the
-//! centres near it are tested.
+//! Strokes of lines and outlines of rings, in whole numbers: of each segment, join and cap the
+//! stretch of each row is computed, and no centre is tested.
 #![tactic(auto)]
 
 mod bodies;
@@ -7,9 +7,9 @@ mod caps;
 mod disks;
 mod kept;
 mod lines;
-mod membership;
 mod numbers;
 mod outlines;
+mod segments;
 
 pub use lines::stroke_lines;
 pub use outlines::stroke_rings;

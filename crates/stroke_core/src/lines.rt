@@ -1,20 +1,63 @@
 //! Strokes of lines.
-ghost use Rattle.std.specs.Prelude.{◌≡◌, ◌≤◌, ◌<◌, ◌^◌, length, All, OnOk, OnErr};
+ghost use Rattle.std.specs.Prelude.{◌≡◌, ◌≤◌, ◌<◌, ◌^◌, not, ◌&&◌, length, All, OnOk, OnErr};
 ghost use Rattle.plain_world.specs.World.{InWorld, IsWindow, centres};
 ghost use Rattle.plain_shapes.specs.inner.Canvas.{marked, SetsSome};
-ghost use Rattle.plain_shapes.specs.Strokes.{on_sides, on_disks, on_dot, on_line, on_stroke};
+ghost use Rattle.plain_shapes.specs.Strokes.{is_same, in_body, before_start, past_end, on_sides, on_disks, on_dot, on_line, on_stroke};
 ghost use Rattle.stroke_core.specs.inner.Parts.{on_ends, on_long, on_parts};
 
 use crate::bodies::Body;
 use crate::caps::{EndCap, StartCap};
 use crate::disks::{Block, Disk};
 use crate::kept::kept;
+use crate::segments::segment_of;
 use centre_spans::mark;
 use farm_base::NoMemory;
 use plain_image::Mask;
 use plain_shapes::{LineCap, Path};
 use plain_world::{Point, Window};
 use std::alloc::Global;
+
+// Sets the bits of the body of the segment from `a` to `b`.
+fn mark_body(half: u32, a: Point, b: Point, w: Window, mask: &mut Mask)
+    requires half { half ≤ 2 ^ 31 }
+    requires a { InWorld a }
+    requires b { InWorld b }
+    requires window { IsWindow w }
+    requires cols { mask.old.cols ≡ w.cols }
+    requires rows { mask.old.rows ≡ w.rows }
+    ensures { mask.new ≡ record mask.old { bits = marked (λ c. not (is_same a b) && in_body half a b c) (centres w) mask.old.bits } }
+{
+    let of = segment_of(half, a, b);
+    mark(&Body { of }, w, mask);
+}
+
+// Sets the bits of the square cap before the start of the segment from `a` to `b`.
+fn mark_start(half: u32, a: Point, b: Point, w: Window, mask: &mut Mask)
+    requires half { half ≤ 2 ^ 31 }
+    requires a { InWorld a }
+    requires b { InWorld b }
+    requires window { IsWindow w }
+    requires cols { mask.old.cols ≡ w.cols }
+    requires rows { mask.old.rows ≡ w.rows }
+    ensures { mask.new ≡ record mask.old { bits = marked (λ c. not (is_same a b) && before_start half a b c) (centres w) mask.old.bits } }
+{
+    let of = segment_of(half, a, b);
+    mark(&StartCap { of }, w, mask);
+}
+
+// Sets the bits of the square cap past the end of the segment from `a` to `b`.
+fn mark_end(half: u32, a: Point, b: Point, w: Window, mask: &mut Mask)
+    requires half { half ≤ 2 ^ 31 }
+    requires a { InWorld a }
+    requires b { InWorld b }
+    requires window { IsWindow w }
+    requires cols { mask.old.cols ≡ w.cols }
+    requires rows { mask.old.rows ≡ w.rows }
+    ensures { mask.new ≡ record mask.old { bits = marked (λ c. not (is_same a b) && past_end half a b c) (centres w) mask.old.bits } }
+{
+    let of = segment_of(half, a, b);
+    mark(&EndCap { of }, w, mask);
+}
 
 /// Sets the bits of the bodies of the segments from `first` along the points.
 pub fn mark_sides(half: u32, first: Point, rest: &[Point], w: Window, mask: &mut Mask)
@@ -28,15 +71,7 @@ pub fn mark_sides(half: u32, first: Point, rest: &[Point], w: Window, mask: &mut
 {
     let mut before = first;
     for p in rest {
-        mark(
-            &Body {
-                half,
-                a: before,
-                b: *p,
-            },
-            w,
-            mask,
-        );
+        mark_body(half, before, *p, w, mask);
         before = *p;
     }
 }
@@ -83,8 +118,8 @@ fn mark_ends(
             mark(&Disk { half, p: z }, w, mask);
         }
         LineCap::Square => {
-            mark(&StartCap { half, a, b }, w, mask);
-            mark(&EndCap { half, a: y, b: z }, w, mask);
+            mark_start(half, a, b, w, mask);
+            mark_end(half, y, z, w, mask);
         }
     }
 }

@@ -1,9 +1,8 @@
-use Rattle.std.proofs.Common.{refl}
 use Rattle.raster_core.proofs.Toggling.{row_toggled, row_same}
 use Rattle.raster_core.proofs.edges.cross_row.Goals as goal
 
-pub returns-then-k-w : goal.returns-then-k-w
-returns-then-k-w c = row_toggled _ _ _ _ _ _ c.if-k-w.true c.requires.row refl c.requires.len c.crossing-k.ensures.splits
+pub returns-in_ok-push : goal.returns-in_ok-push
+returns-in_ok-push c = row_toggled _ _ _ _ _ _ c.if-k-w.true c.requires.row c.crossing-k.ensures.splits c.in_ok-push.ensures.items
 
 pub returns-else-k-w : goal.returns-else-k-w
 returns-else-k-w c = row_same _ _ _ _ _ c.if-k-w.false c.crossing-k.ensures.splits

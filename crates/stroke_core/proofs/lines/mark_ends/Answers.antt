@@ -20,7 +20,7 @@ pub returns-in-Square : goal.returns-in-Square
 returns-in-Square c =
     same_mark (λ p. (not (is_same c.args.a c.args.b) && before_start c.args.half c.args.a c.args.b p) || (not (is_same c.args.y c.args.z) && past_end c.args.half c.args.y c.args.z p))
     (on_ends c.args.half c.args.cap c.args.a c.args.b c.args.y c.args.z)
-    c.args.w c.args.mask.now c.mark-in-Square-2.new.mask
+    c.args.w c.args.mask.now c.mark_end.new.mask
     (λ p. sym (ap (λ cap. on_ends c.args.half cap c.args.a c.args.b c.args.y c.args.z p) c.in-Square.is))
     (both_marks (λ p. not (is_same c.args.a c.args.b) && before_start c.args.half c.args.a c.args.b p) (λ p. not (is_same c.args.y c.args.z) && past_end c.args.half c.args.y c.args.z p)
-    c.args.w c.args.mask.now c.mark-in-Square.new.mask c.mark-in-Square-2.new.mask c.mark-in-Square.ensures c.mark-in-Square-2.ensures)
+    c.args.w c.args.mask.now c.mark_start.new.mask c.mark_end.new.mask c.mark_start.ensures c.mark_end.ensures)

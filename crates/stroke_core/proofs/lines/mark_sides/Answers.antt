@@ -5,8 +5,8 @@ use Rattle.stroke_core.proofs.lines.mark_sides.Goals as goal
 pub loop-p-preserved : goal.loop-p-preserved
 loop-p-preserved c = record {
   within = c.requires.rest c.loop-p.p-index _ c.loop-p-test.true;
-  left = left_more _ _ _ _ c.args.w c.args.mask.now c.loop-p.mask c.mark.new.mask
-      (sides_step c.args.half c.loop-p.before c.args.rest.now c.loop-p.p-index _ c.loop-p-test.true) c.mark.ensures c.loop-p.invariant.left;
+  left = left_more _ _ _ _ c.args.w c.args.mask.now c.loop-p.mask c.mark_body.new.mask
+      (sides_step c.args.half c.loop-p.before c.args.rest.now c.loop-p.p-index _ c.loop-p-test.true) c.mark_body.ensures c.loop-p.invariant.left;
 }
 
 pub returns : goal.returns

@@ -1,23 +1,21 @@
-use Rattle.std.proofs.Common.{◌∙◌, sym}
-use Rattle.stroke_core.proofs.Boxes.{near_turned}
-use Rattle.stroke_core.proofs.Spans.{box_columns, body_held, body_near}
+use Rattle.std.proofs.Common.{◌∙◌}
+use Rattle.std.specs.Prelude.{nat_le}
+use Rattle.plain_shapes.specs.Strokes.{in_body}
+use Rattle.stroke_core.proofs.Rowwise.{along_plus_at, along_minus_at, raised_at, body_row, none_row}
 use Rattle.stroke_core.proofs.bodies.BodyShape.columns.Goals as goal
 
-pub returns-then-self : goal.returns-then-self
-returns-then-self c p inside held same =
-    let s = c.args.self.now in
-    c.narrowed.ensures p.x
-    (box_columns s.half c.from.result s.a s.b p c.between-wide.result c.from.ensures c.between-wide.ensures.start c.between-wide.ensures.end (body_held s.half s.a s.b p held))
-    (c.slanted.ensures p inside same (body_near s.half s.a s.b p held))
+pub returns-then-is_same : goal.returns-then-is_same
+returns-then-is_same c p inside same =
+    let s = c.args.self.now.of in
+    none_row s.a s.b (in_body s.half s.a s.b p) _ c.is_same.result c.is_same.ensures c.if-is_same.true (c.nowhere.ensures p.x)
 
-pub returns-then-self-2 : goal.returns-then-self-2
-returns-then-self-2 c p inside held same =
-    let s = c.args.self.now in
-    c.narrowed-then-self-2.ensures p.x
-    (box_columns s.half c.from.result s.a s.b p c.between-wide.result c.from.ensures c.between-wide.ensures.start c.between-wide.ensures.end (body_held s.half s.a s.b p held))
-    (c.slanted-then-self-2.ensures p inside same (sym (near_turned s.half s.a s.b p) ∙ body_near s.half s.a s.b p held))
-
-pub returns-else-self-2 : goal.returns-else-self-2
-returns-else-self-2 c p inside held same =
-    let s = c.args.self.now in
-    box_columns s.half c.from.result s.a s.b p c.between-wide.result c.from.ensures c.between-wide.ensures.start c.between-wide.ensures.end (body_held s.half s.a s.b p held)
+pub returns : goal.returns
+returns c p inside same =
+    let s = c.args.self.now.of in
+    let plus = along_plus_at s.a s.b p c.args.y c.along-along.result.plus same c.along-along.ensures.plus in
+    let minus = along_minus_at s.a s.b p c.args.y c.along-along.result.minus same c.along-along.ensures.minus in
+    let longer = raised_at c.along-along.result.minus c.raised.result s.long p.x _ c.raised.ensures minus in
+    body_row s p c.is_same.result _ _ _ _ _ c.requires.valid c.is_same.ensures c.if-is_same.false (c.narrowed.ensures p.x) (c.narrowed-ends.ensures p.x)
+    (c.no_more.ensures p.x inside.x_fits ∙ (λ i. nat_le (minus i) (plus i)))
+    (c.no_more-2.ensures p.x inside.x_fits ∙ (λ i. nat_le (plus i) (longer i)))
+    (c.near.ensures p inside same)

@@ -3,4 +3,5 @@ use Rattle.stroke_core.proofs.bodies.BodyShape.heights.Goals as goal
 
 pub returns : goal.returns
 returns c p inside held =
-    box_heights c.args.self.now.half c.from.result c.args.self.now.a c.args.self.now.b p c.between.result c.from.ensures c.between.ensures.start c.between.ensures.end (body_held c.args.self.now.half c.args.self.now.a c.args.self.now.b p held)
+    let s = c.args.self.now.of in
+    box_heights s.half c.from.result s.a s.b p c.between.result c.from.ensures c.between.ensures.start c.between.ensures.end (body_held s.half s.a s.b p held)

@@ -1,7 +1,20 @@
-use Rattle.stroke_core.proofs.Boxes.{disk_box}
-use Rattle.stroke_core.proofs.Spans.{box_columns}
+use Rattle.std.proofs.Common.{◌-◌, ◌*◌, ◌≤◌, ap, ◌∙◌, arith}
+use Rattle.std.specs.Prelude.{nat_le}
+use Rattle.plain_shapes.proofs.Signs.{root_le}
+use Rattle.stroke_core.proofs.Rowwise.{disk_row, disk_off}
 use Rattle.stroke_core.proofs.disks.DiskShape.columns.Goals as goal
 
+pub returns-then-half-down : goal.returns-then-half-down
+returns-then-half-down c p inside same = disk_off c.args.self.now.half c.args.self.now.p p c.args.y c.apart-down.result _ same (omega arith) (omega arith) (c.nowhere.ensures p.x)
+
 pub returns : goal.returns
-returns c p inside held same =
-    box_columns c.args.self.now.half c.from.result c.args.self.now.p c.args.self.now.p p c.between.result c.from.ensures c.between.ensures.start c.between.ensures.end (disk_box c.args.self.now.half c.args.self.now.p p held)
+returns c p inside same =
+    let down = c.apart-down.result in
+    let left = c.from-3.ensures ∙ ap (λ k. k * k - down * down) c.from-half.ensures in
+    disk_row c.args.self.now.half c.args.self.now.p p c.args.y down c.root.result _ same (omega arith) (omega arith)
+    (λ d. c.root.ensures.is d ∙ ap (λ k. nat_le (d * d) k) left) (c.around.ensures p.x)
+
+pub around-requires : goal.around-requires
+around-requires c =
+    let little : c.root.result ≤ c.from-half.result = root_le c.root.result c.from-half.result (omega (arith, c.root.ensures.low)) in
+    omega arith

@@ -1,0 +1,31 @@
+-- Quotients, rounded up and down, against products.
+use Rattle.std.proofs.Common.{◌≡◌, ℕ, ◌+◌, ◌*◌, ◌/◌, ◌%◌, ◌<◌, ◌≤◌, min, sym, ◌∙◌, inl, inr, arith}
+use Rattle.std.specs.Prelude.{nat_le}
+use Rattle.std.proofs.Math.Nat.{mul-le-mul_left, mul-le-mul_right, div-add-mod, mod-lt}
+use Rattle.std.proofs.lemmas.Bool.{cases_lt, le-leb, lt-leb}
+
+-- the quotient rounded up is at most x exactly where the number is at most h times x
+pub up_le : (n h x : ℕ) → 0 < h → nat_le (n / h + min 1 (n % h)) x ≡ nat_le n (h * x)
+up_le n h x some = elim (cases_lt x (n / h + min 1 (n % h))) [
+  | inl p ↦ lt-leb (n / h + min 1 (n % h)) x p ∙ sym (lt-leb n (h * x) (above p))
+  | inr p ↦ le-leb (n / h + min 1 (n % h)) x p ∙ sym (le-leb n (h * x) (within p))
+]
+  where
+    above : x < n / h + min 1 (n % h) → h * x < n
+    above p = elim (cases_lt x (n / h)) [
+      | inl q ↦ (let q' : x + 1 ≤ n / h = omega arith in omega (arith, div-add-mod n h, mul-le-mul_left h q'))
+      | inr q ↦ (let q' : x ≤ n / h = omega arith in omega (arith, div-add-mod n h, mul-le-mul_left h q'))
+    ]
+
+    within : n / h + min 1 (n % h) ≤ x → n ≤ h * x
+    within p = elim (cases_lt (n / h) x) [
+      | inl q ↦ (let q' : n / h + 1 ≤ x = omega arith in omega (arith, div-add-mod n h, mod-lt n some, mul-le-mul_left h q'))
+      | inr q ↦ (let q' : n / h ≤ x = omega arith in omega (arith, div-add-mod n h, mul-le-mul_left h q'))
+    ]
+
+-- x is at most the quotient rounded down exactly where h times x is at most the number
+pub down_le : (n h x : ℕ) → 0 < h → nat_le x (n / h) ≡ nat_le (x * h) n
+down_le n h x some = elim (cases_lt (n / h) x) [
+  | inl p ↦ (let q : n / h + 1 ≤ x = omega arith in lt-leb x (n / h) p ∙ sym (lt-leb (x * h) n (omega (arith, mul-le-mul_right h q, div-add-mod n h, mod-lt n some))))
+  | inr p ↦ le-leb x (n / h) p ∙ sym (le-leb (x * h) n (omega (arith, mul-le-mul_right h p, div-add-mod n h)))
+]

@@ -1,6 +1,0 @@
-use Rattle.std.proofs.Common.{◌≡◌, take}
-use Rattle.raster_core.specs.inner.Reaches.{south_of}
-use Rattle.raster_core.proofs.reach.south_of_points.Given as goal
-
-abbrev pub invariant-loop-p : goal.invariant-loop-p
-invariant-loop-p l = l.south ≡ south_of l.so_far (take l.p-index l.points)
