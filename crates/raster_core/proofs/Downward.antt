@@ -8,7 +8,7 @@ use Rattle.plain_world.specs.declared.world.Window.{Window}
 use Rattle.plain_world.specs.World.{centre}
 use Rattle.plain_shapes.specs.Rings.{counts_down, counts, edges_from, ring_edges, in_rings}
 use Rattle.plain_shapes.proofs.Signs.{off_above, off_below}
-use Rattle.raster_core.specs.inner.Crossings.{flip, Toggled, RowsToggled, odd_edges}
+use Rattle.raster_core.specs.inner.Toggles.{flip, Toggled, RowsToggled, odd_edges}
 use Rattle.raster_core.proofs.Toggling.{rows_start, rows_end, odd_cons, odd_append}
 
 -- the rows above an edge's upper end

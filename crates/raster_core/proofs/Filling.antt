@@ -17,7 +17,8 @@ use Rattle.plain_shapes.specs.Rings.{is_odd}
 use Rattle.plain_shapes.specs.inner.Canvas.{marked, Reached}
 use Rattle.plain_shapes.proofs.Places.{reached_start, reached_skip, reached_end}
 use Rattle.raster_core.specs.declared.runs.Run.{Run}
-use Rattle.raster_core.specs.inner.Crossings.{flip, is_up_to, parity_at, Toggled, Crossings, Done, IsNext}
+use Rattle.raster_core.specs.inner.Toggles.{flip, is_up_to, parity_at, Toggled}
+use Rattle.raster_core.specs.inner.Crossings.{Crossings, Done, IsNext}
 use Rattle.raster_core.proofs.Toggling.{is_odd_suc}
 
 -- one crossing more

@@ -11,7 +11,7 @@ use Rattle.plain_world.specs.declared.world.Point.{Point}
 use Rattle.plain_world.specs.declared.world.Window.{Window}
 use Rattle.plain_world.specs.World.{centre}
 use Rattle.plain_shapes.specs.Rings.{is_odd}
-use Rattle.raster_core.specs.inner.Crossings.{flip, is_up_to, parity_at, AllInside, Toggled, RowToggled, RowsToggled, Remains}
+use Rattle.raster_core.specs.inner.Toggles.{flip, is_up_to, parity_at, AllInside, Toggled, RowToggled, RowsToggled, Remains}
 
 -- one more that counts, or not
 pub is_odd_suc : (n : ℕ) → is_odd (1 + n) ≡ not (is_odd n)

@@ -1,1 +1,2 @@
+pub mod Toggles
 pub mod Crossings

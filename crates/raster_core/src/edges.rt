@@ -2,7 +2,7 @@
 ghost use Rattle.std.specs.Prelude.{◌≡◌, ℕ, ◌+◌, ◌-◌, ◌*◌, ◌/◌, ◌<◌, ◌≤◌, nat_le, All, OnOk};
 ghost use Rattle.plain_world.specs.World.{InWorld, IsWindow, centre};
 ghost use Rattle.plain_shapes.specs.Rings.{counts_down, counts, ring_edges, in_rings};
-ghost use Rattle.raster_core.specs.inner.Crossings.{Toggled, RowToggled, odd_edges};
+ghost use Rattle.raster_core.specs.inner.Toggles.{Toggled, RowToggled, odd_edges};
 
 use centre_spans::first_at;
 use farm_base::NoMemory;

@@ -5,7 +5,8 @@ ghost use Rattle.plain_world.specs.declared.world.Point.{Point};
 ghost use Rattle.plain_world.specs.World.{InWorld, IsWindow, centres};
 ghost use Rattle.plain_shapes.specs.Rings.{in_rings};
 ghost use Rattle.plain_shapes.specs.inner.Canvas.{marked};
-ghost use Rattle.raster_core.specs.inner.Crossings.{AllInside, Crossings};
+ghost use Rattle.raster_core.specs.inner.Toggles.{AllInside};
+ghost use Rattle.raster_core.specs.inner.Crossings.{Crossings};
 
 use crate::edges::cross_rings;
 use crate::runs::run_at;

@@ -3,7 +3,8 @@ ghost use Rattle.std.specs.Prelude.{◌≡◌, ℕ, ◌+◌, ◌<◌, ◌≤◌,
 ghost use Rattle.std.specs.List.Sorted.{IsNonDecreasing};
 ghost use Rattle.plain_world.specs.declared.world.Point.{Point};
 ghost use Rattle.plain_world.specs.World.{IsWindow};
-ghost use Rattle.raster_core.specs.inner.Crossings.{AllInside, Crossings, Done, IsNext};
+ghost use Rattle.raster_core.specs.inner.Toggles.{AllInside};
+ghost use Rattle.raster_core.specs.inner.Crossings.{Crossings, Done, IsNext};
 
 use plain_world::Window;
 

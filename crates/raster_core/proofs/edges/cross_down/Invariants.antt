@@ -1,5 +1,5 @@
 use Rattle.plain_shapes.specs.Rings.{counts_down}
-use Rattle.raster_core.specs.inner.Crossings.{RowsToggled}
+use Rattle.raster_core.specs.inner.Toggles.{RowsToggled}
 use Rattle.raster_core.proofs.edges.cross_down.Given as goal
 
 abbrev pub invariant-loop-j : goal.invariant-loop-j

@@ -1,7 +1,7 @@
 use Rattle.std.proofs.Common.{drop}
 use Rattle.plain_world.specs.World.{InWorld}
 use Rattle.plain_shapes.specs.Rings.{edges_from, ring_edges}
-use Rattle.raster_core.specs.inner.Crossings.{Remains, odd_edges}
+use Rattle.raster_core.specs.inner.Toggles.{Remains, odd_edges}
 use Rattle.raster_core.proofs.edges.cross_ring.Given as goal
 
 abbrev pub invariant-loop-p : goal.invariant-loop-p

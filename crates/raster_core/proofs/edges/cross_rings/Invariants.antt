@@ -1,6 +1,6 @@
 use Rattle.std.proofs.Common.{drop}
 use Rattle.plain_shapes.specs.Rings.{in_rings}
-use Rattle.raster_core.specs.inner.Crossings.{Remains}
+use Rattle.raster_core.specs.inner.Toggles.{Remains}
 use Rattle.raster_core.proofs.edges.cross_rings.Given as goal
 
 abbrev pub invariant-loop-ring : goal.invariant-loop-ring
