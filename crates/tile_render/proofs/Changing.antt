@@ -1,10 +1,10 @@
 -- The pixels of a window changed by their centres, one after another.
-use Rattle.std.proofs.Common.{◌≡◌, ℕ, zero, suc, ◌+◌, ◌-◌, ◌*◌, ◌/◌, ◌%◌, ◌<◌, ◌≤◌, Bool, true, false, List, [], ◌∷◌, length, take, get_or, set, refl, ap, sym, subst, ◌∙◌, inl, inr, arith, Some}
-use Rattle.std.specs.Prelude.{slice_get, if◌then◌else◌}
+use Rattle.std.proofs.Common.{◌≡◌, ℕ, zero, suc, ◌+◌, ◌-◌, ◌*◌, ◌/◌, ◌%◌, ◌<◌, ◌≤◌, Bool, true, false, List, [], ◌∷◌, length, take, drop, get_or, set, refl, ap, sym, ◌∙◌, inl, inr, arith}
+use Rattle.std.specs.Prelude.{if◌then◌else◌}
 use Rattle.std.proofs.Math.Nat.{mul-le-mul_right, div-add-mod, mod-lt}
 use Rattle.std.proofs.lemmas.Bool.{cases_lt, false_from_ne_true}
 use Rattle.std.proofs.lemmas.Nat.{row_fits}
-use Rattle.std.proofs.lemmas.List.{take_all}
+use Rattle.std.proofs.lemmas.List.{take_all, get_or-drop, get_or-take, length-drop, length-take-le}
 use Rattle.plain_world.specs.declared.world.Point.{Point}
 use Rattle.plain_world.specs.declared.world.Window.{Window}
 use Rattle.plain_shapes.specs.declared.colour.Colour.{Colour}
@@ -84,10 +84,26 @@ changed_end f w n start now e r = r.is ∙ ap (λ cs. record start { pixels = at
 
 -- ---- the colour of a member over the pixels of a part
 
-got : (bits : List Bool) (k : ℕ) (t : Bool) → slice_get bits k ≡ Some t → get_or bits k false ≡ t
-got [] k t h = absurd (cc)
-got (b ∷ bs) zero t h = cc
-got (b ∷ bs) (suc k) t h = got bs k t h
+-- a row of the mask, as the code takes it
+pub row_taken : (bits row : List Bool) (cols j : ℕ) → row ≡ bits → take (j * cols + cols - j * cols) (drop (j * cols) row) ≡ take cols (drop (j * cols) bits)
+row_taken bits row cols j is =
+    let size : j * cols + cols - j * cols ≡ cols = omega arith in
+    ap (λ n. take n (drop (j * cols) row)) size ∙ ap (λ bs. take cols (drop (j * cols) bs)) is
+
+pub row_length : (bits : List Bool) (cols rows across down j : ℕ) → length bits ≡ down * across → across ≡ cols → down ≡ rows → j < rows
+    → length (take (j * cols + cols - j * cols) (drop (j * cols) bits)) ≡ cols
+row_length bits cols rows across down j count same_cols same_rows hj =
+    let next : j + 1 ≤ rows = omega arith in
+    let all : length bits ≡ rows * cols = count ∙ ap (λ n. n * across) same_rows ∙ ap (λ n. rows * n) same_cols in
+    ap length (row_taken bits bits cols j refl)
+    ∙ length-take-le cols (drop (j * cols) bits) (omega (arith, length-drop (j * cols) bits, all, mul-le-mul_right cols next))
+
+-- what a row of the mask says of a pixel
+told : (w : Window) (p : Part) (member : Point → Bool) (bits row : List Bool) (i j : ℕ) (t : Bool) → i < p.cols → j < p.rows
+    → row ≡ take p.cols (drop (j * p.cols) bits) → get_or row i false ≡ t → Tells w p member bits → member (centre w (p.col + i) (p.row + j)) ≡ t
+told w p member bits row i j t hi hj is has tells =
+    sym (tells.at j i hj hi) ∙ sym (get_or-drop (j * p.cols) bits i false) ∙ sym (get_or-take p.cols (drop (j * p.cols) bits) i false hi)
+    ∙ ap (λ bs. get_or bs i false) (sym is) ∙ has
 
 -- a pixel outside the part has no member as its centre
 outside : (w : Window) (p : Part) (member : Point → Bool) (colour : Colour) (opacity j i : ℕ) → Holds w p member → i < w.cols → j < w.rows → (InPart p i j → ⊥)
@@ -96,45 +112,41 @@ outside w p member colour opacity j i holds hi hj out x =
     ap (λ t. if t then blend colour opacity x else x) (false_from_ne_true (member (centre w i j)) (λ e. out (holds.at j i hi hj e)))
 
 -- a pixel of the part that the mask covers
-pub pixel_on : (w : Window) (p : Part) (member : Point → Bool) (bits : List Bool) (colour : Colour) (opacity i j across : ℕ) (t : Bool) (start now after : Pixels)
-    → IsPart w p → i < p.cols → j < p.rows → across ≡ p.cols → now.cols ≡ w.cols → slice_get bits (j * across + i) ≡ Some t → t ≡ true
+pub pixel_on : (w : Window) (p : Part) (member : Point → Bool) (bits row : List Bool) (colour : Colour) (opacity i j : ℕ) (start now after : Pixels)
+    → IsPart w p → i < p.cols → j < p.rows → now.cols ≡ w.cols → row ≡ take p.cols (drop (j * p.cols) bits) → get_or row i false ≡ true
     → after ≡ record now {
       pixels = set now.pixels ((p.row + j) * now.cols + (p.col + i)) (blend colour opacity (get_or now.pixels ((p.row + j) * now.cols + (p.col + i)) colour));
     }
     → Tells w p member bits
     → Changed (over_member member colour opacity) w ((p.row + j) * w.cols + (p.col + i)) start now
-    → Changed (over_member member colour opacity) w ((p.row + j) * w.cols + (p.col + i + 1)) start after
-pixel_on w p member bits colour opacity i j across t start now after part hi hj same_across same_cols has on written tells r =
-    let is : member (centre w (p.col + i) (p.row + j)) ≡ true =
-    sym (tells.at j i hj hi) ∙ got bits (j * p.cols + i) true (ap (λ k. slice_get bits (j * k + i)) (sym same_across) ∙ has ∙ ap Some on) in
-    changed_on (over_member member colour opacity) w colour opacity (p.col + i) (p.row + j) ((p.row + j) * w.cols + (p.col + i)) ((p.row + j) * w.cols + (p.col + i + 1)) start now after
+    → Changed (over_member member colour opacity) w ((p.row + j) * w.cols + (p.col + (i + 1))) start after
+pixel_on w p member bits row colour opacity i j start now after part hi hj same_cols is has written tells r =
+    changed_on (over_member member colour opacity) w colour opacity (p.col + i) (p.row + j) ((p.row + j) * w.cols + (p.col + i)) ((p.row + j) * w.cols + (p.col + (i + 1))) start now after
     (omega (arith, part.in_cols)) (omega (arith, part.in_rows)) refl (omega arith)
-    (λ d. ap (λ b. if b then blend colour opacity d else d) is)
+    (λ d. ap (λ b. if b then blend colour opacity d else d) (told w p member bits row i j true hi hj is has tells))
     (written ∙ ap (λ k. record now {
       pixels = set now.pixels ((p.row + j) * k + (p.col + i)) (blend colour opacity (get_or now.pixels ((p.row + j) * k + (p.col + i)) colour));
     }) same_cols) r
 
 -- a pixel of the part that the mask does not cover
-pub pixel_off : (w : Window) (p : Part) (member : Point → Bool) (bits : List Bool) (colour : Colour) (opacity i j across : ℕ) (t : Bool) (start now : Pixels)
-    → IsPart w p → i < p.cols → j < p.rows → across ≡ p.cols → slice_get bits (j * across + i) ≡ Some t → t ≡ false
+pub pixel_off : (w : Window) (p : Part) (member : Point → Bool) (bits row : List Bool) (colour : Colour) (opacity i j : ℕ) (start now : Pixels)
+    → IsPart w p → i < p.cols → j < p.rows → row ≡ take p.cols (drop (j * p.cols) bits) → get_or row i false ≡ false
     → Tells w p member bits
     → Changed (over_member member colour opacity) w ((p.row + j) * w.cols + (p.col + i)) start now
-    → Changed (over_member member colour opacity) w ((p.row + j) * w.cols + (p.col + i + 1)) start now
-pixel_off w p member bits colour opacity i j across t start now part hi hj same_across has off tells r =
-    let row : p.row + j < w.rows = omega (arith, part.in_rows) in
+    → Changed (over_member member colour opacity) w ((p.row + j) * w.cols + (p.col + (i + 1))) start now
+pixel_off w p member bits row colour opacity i j start now part hi hj row_is has tells r =
+    let inside : p.row + j < w.rows = omega (arith, part.in_rows) in
     let col : p.col + i + 1 ≤ w.cols = omega (arith, part.in_cols) in
     let d0 : Point = record { x = 0; y = 0 } in
     let n : ℕ = (p.row + j) * w.cols + (p.col + i) in
-    let is : member (centre w (p.col + i) (p.row + j)) ≡ false =
-    sym (tells.at j i hj hi) ∙ got bits (j * p.cols + i) false (ap (λ k. slice_get bits (j * k + i)) (sym same_across) ∙ has ∙ ap Some off) in
-    let within : n < length (centres w) = omega (arith, length-centres w, row_fits (p.row + j) w.cols w.rows w.cols row (omega arith)) in
-    let e : suc n ≡ (p.row + j) * w.cols + (p.col + i + 1) = omega arith in
+    let within : n < length (centres w) = omega (arith, length-centres w, row_fits (p.row + j) w.cols w.rows w.cols inside (omega arith)) in
+    let e : suc n ≡ (p.row + j) * w.cols + (p.col + (i + 1)) = omega arith in
     record {
       is =
           r.is ∙ ap (λ ps. record start { pixels = ps })
           (sym (at_off (over_member member colour opacity) (centres w) start.pixels n d0 within (λ x.
-          ap (λ c. over_member member colour opacity c x) (get_or-centres w (p.row + j) (p.col + i) d0 (omega arith) row)
-          ∙ ap (λ b. if b then blend colour opacity x else x) is))
+          ap (λ c. over_member member colour opacity c x) (get_or-centres w (p.row + j) (p.col + i) d0 (omega arith) inside)
+          ∙ ap (λ b. if b then blend colour opacity x else x) (told w p member bits row i j false hi hj row_is has tells)))
           ∙ ap (λ q. at_centres (over_member member colour opacity) (take q (centres w)) start.pixels) e);
     }
 
@@ -199,12 +211,3 @@ rows_below w p member bits colour opacity j start now part all tells r =
   where
     below : (j' i : ℕ) → i < w.cols → j' < p.row + p.rows → (p.row + j) * w.cols ≤ j' * w.cols + i → ⊥
     below j' i hi to low = (let k : j' + 1 ≤ p.row + j = omega arith in omega (arith, mul-le-mul_right w.cols k))
-
--- the next pixel's place, as the code counts it
-pub next_place : (w : Window) (p : Part) (member : Point → Bool) (colour : Colour) (opacity j i : ℕ) (start now : Pixels)
-    → Changed (over_member member colour opacity) w ((p.row + j) * w.cols + (p.col + i + 1)) start now
-    → Changed (over_member member colour opacity) w ((p.row + j) * w.cols + (p.col + (i + 1))) start now
-next_place w p member colour opacity j i start now r =
-    let P : ℕ → Type 0 = λ n. Changed (over_member member colour opacity) w n start now in
-    let e : (p.row + j) * w.cols + (p.col + i + 1) ≡ (p.row + j) * w.cols + (p.col + (i + 1)) = omega arith in
-    subst P e r

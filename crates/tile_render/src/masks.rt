@@ -11,37 +11,6 @@ use plain_image::{Image, Mask};
 use plain_shapes::Colour;
 use plain_world::Window;
 
-/// Paints one pixel of the part if the mask covers it.
-fn paint_pixel(
-    w: Window,
-    part: Part,
-    mask: &Mask,
-    i: u32,
-    j: u32,
-    colour: Colour,
-    opacity: u32,
-    image: &mut Image,
-)
-    requires window { IsWindow w }
-    requires part { IsPart w part }
-    requires mask_cols { mask.now.cols ≡ part.cols }
-    requires mask_rows { mask.now.rows ≡ part.rows }
-    requires cols { image.old.cols ≡ w.cols }
-    requires rows { image.old.rows ≡ w.rows }
-    requires opacity { opacity ≤ 1000 }
-    requires col { i < part.cols }
-    requires row { j < part.rows }
-    ensures painted { (member : Point → Bool) (start : Pixels) → Tells w part member mask.now.bits
-        → Changed (over_member member colour opacity) w ((part.row + j) * w.cols + (part.col + i)) start image.old
-        → Changed (over_member member colour opacity) w ((part.row + j) * w.cols + (part.col + i + 1)) start image.new }
-    ensures cols { image.new.cols ≡ image.old.cols }
-    ensures rows { image.new.rows ≡ image.old.rows }
-{
-    if mask.has(i, j) {
-        image.blend(part.col + i, part.row + j, colour, opacity);
-    }
-}
-
 /// Paints the pixels of one row of the part that the mask covers.
 fn paint_row(
     w: Window,
@@ -66,8 +35,12 @@ fn paint_row(
     ensures cols { image.new.cols ≡ image.old.cols }
     ensures rows { image.new.rows ≡ image.old.rows }
 {
-    for i in 0..part.cols {
-        paint_pixel(w, part, mask, i, j, colour, opacity, image);
+    let start = j as usize * part.cols as usize;
+    let covered = &mask.bits()[start..start + part.cols as usize];
+    for (i, is_covered) in covered.iter().enumerate() {
+        if *is_covered {
+            image.blend(part.col + i as u32, part.row + j, colour, opacity);
+        }
     }
 }
 

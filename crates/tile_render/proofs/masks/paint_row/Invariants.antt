@@ -6,9 +6,9 @@ use Rattle.tile_render.proofs.masks.paint_row.Given as goal
 
 abbrev pub invariant-loop-i : goal.invariant-loop-i
 invariant-loop-i l = record {
-  painted : (member : Point → Bool) (start : Pixels) → Tells l.w l.part member l.mask.bits
-      → Changed (over_member member l.colour l.opacity) l.w ((l.part.row + l.j) * l.w.cols) start l.fn.image
-      → Changed (over_member member l.colour l.opacity) l.w ((l.part.row + l.j) * l.w.cols + (l.part.col + l.i)) start l.image;
-  cols : l.image.cols ≡ l.w.cols;
-  rows : l.image.rows ≡ l.w.rows;
+  painted : (member : Point → Bool) (start : Pixels) → Tells l.fn.w l.part member l.mask.bits
+      → Changed (over_member member l.colour l.opacity) l.fn.w ((l.part.row + l.j) * l.fn.w.cols) start l.fn.image
+      → Changed (over_member member l.colour l.opacity) l.fn.w ((l.part.row + l.j) * l.fn.w.cols + (l.part.col + l.i)) start l.image;
+  cols : l.image.cols ≡ l.fn.w.cols;
+  rows : l.image.rows ≡ l.fn.w.rows;
 }
