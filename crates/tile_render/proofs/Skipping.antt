@@ -118,7 +118,7 @@ next_by features from next b (Some k) at is =
 pub next_is : (features : List Feature) (from next : ℕ) (b : Bounds) → Some next ≡ next_near features from b → NextNear features from next b
 next_is features from next b is = next_by features from next b (position (is_near b) (drop from features)) refl (sym is)
 
-none_past : (t : Bool) (n : ℕ) → cond t (Some n) None ≡ None → t ≡ false
+pub none_past : (t : Bool) (n : ℕ) → cond t (Some n) None ≡ None → t ≡ false
 none_past true n h = absurd (cc)
 none_past false n h = refl
 

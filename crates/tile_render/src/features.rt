@@ -1,16 +1,14 @@
 //! What one item meets in a style.
-ghost use Rattle.std.specs.Prelude.{◌≡◌, ◌*◌, ◌^◌, ◌<◌, IsTrue, OnOk, List, fold, flat_map, filter, find};
+ghost use Rattle.std.specs.Prelude.{◌≡◌, ◌*◌, ◌^◌, ◌<◌, IsTrue, OnOk, List, fold};
 ghost use Rattle.std.specs.List.{list_all};
-ghost use Rattle.std.specs.Option.{option_copied, option_to_list};
 ghost use Rattle.plain_world.specs.World.{IsWindow};
 ghost use Rattle.plain_drawing.specs.Styles.{is_paint};
-ghost use Rattle.plain_drawing.specs.Rules.{matches, is_fallback, drawn};
 ghost use Rattle.plain_drawing.specs.Drawing.{item_attrs};
 ghost use Rattle.plain_drawing.specs.inner.Pictures.{with_symbolizer, with_item};
 ghost use Rattle.tile_render.specs.inner.Chosen.{is_chosen, with_rule, with_chosen};
 ghost use Rattle.tile_render.specs.inner.Sources.{item_of};
 
-use crate::rules::{Choice, any_matches, first_match, is_chosen};
+use crate::rules::{Choice, first_match, is_chosen};
 use crate::sources::Piece;
 use crate::symbolizers::draw_symbolizer;
 use farm_base::NoMemory;
@@ -110,29 +108,6 @@ fn draw_chosen(
     Ok(())
 }
 
-/// Draws an item by the first active Filter rule whose filter holds, if there is one.
-fn draw_first(
-    alloc: Global,
-    w: Window,
-    denominator: u64,
-    piece: Piece<'_>,
-    rules: &[Rule],
-    image: &mut Image,
-) -> Result<(), NoMemory>
-    requires window { IsWindow w }
-    requires scale { 100 * denominator < 2 ^ 64 }
-    requires cols { image.old.cols ≡ w.cols }
-    requires rows { image.old.rows ≡ w.rows }
-    ensures drawn { OnOk result (image.new ≡ fold (with_rule w (item_of piece.entry)) image.old (option_to_list (find (matches (item_attrs (item_of piece.entry)) denominator) rules.now))) }
-    ensures cols { image.new.cols ≡ image.old.cols }
-    ensures rows { image.new.rows ≡ image.old.rows }
-{
-    match first_match(rules, piece.attrs(), denominator) {
-        Some(rule) => draw_rule(alloc, w, piece, rule, image),
-        None => Ok(()),
-    }
-}
-
 /// Draws an item by a style: by the Filter rules that are taken, or where none matches by every ElseFilter
 /// rule.
 pub(crate) fn draw_item(
@@ -152,14 +127,17 @@ pub(crate) fn draw_item(
     ensures rows { image.new.rows ≡ image.old.rows }
 {
     let rules = style.rules.as_slice();
-    if any_matches(rules, piece.attrs(), denominator) {
-        match style.filter_mode {
-            FilterMode::All => {
-                draw_chosen(alloc, w, denominator, piece, Choice::Matching, rules, image)
+    match first_match(rules, piece.attrs(), denominator) {
+        Some(place) => {
+            draw_rule(alloc, w, piece, &rules[place], image)?;
+            match style.filter_mode {
+                FilterMode::All => {
+                    let rest = &rules[place + 1..];
+                    draw_chosen(alloc, w, denominator, piece, Choice::Matching, rest, image)
+                }
+                FilterMode::First => Ok(()),
             }
-            FilterMode::First => draw_first(alloc, w, denominator, piece, rules, image),
         }
-    } else {
-        draw_chosen(alloc, w, denominator, piece, Choice::Fallback, rules, image)
+        None => draw_chosen(alloc, w, denominator, piece, Choice::Fallback, rules, image),
     }
 }

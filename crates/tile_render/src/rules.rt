@@ -1,7 +1,5 @@
 //! Which rules of a style draw on an item.
-ghost use Rattle.std.specs.Prelude.{◌≡◌, ◌*◌, ◌^◌, ◌<◌, option_map, find};
-ghost use Rattle.std.specs.Option.{option_copied};
-ghost use Rattle.std.specs.List.{list_any};
+ghost use Rattle.std.specs.Prelude.{◌≡◌, ◌*◌, ◌^◌, ◌<◌, option_map, position};
 ghost use Rattle.plain_filters.specs.Filters.{tree_of};
 ghost use Rattle.plain_drawing.specs.Rules.{at_scale, filter_holds, matches, is_fallback};
 ghost use Rattle.tile_render.specs.inner.Chosen.{is_chosen};
@@ -68,26 +66,12 @@ pub(crate) fn is_chosen(choice: Choice, rule: &Rule, attrs: &[Attr], denominator
     }
 }
 
-/// Whether a Filter rule among them is active and its filter holds of the attributes.
-pub(crate) fn any_matches(rules: &[Rule], attrs: &[Attr], denominator: u64) -> bool
+/// The place of the first active Filter rule among them whose filter holds of the attributes.
+pub(crate) fn first_match(rules: &[Rule], attrs: &[Attr], denominator: u64) -> Option<usize>
     requires { 100 * denominator < 2 ^ 64 }
-    ensures { result ≡ list_any (matches attrs.now denominator) rules.now }
+    ensures { result ≡ position (matches attrs.now denominator) rules.now }
 {
     rules
         .iter()
-        .any(|rule| matches_item(rule, attrs, denominator))
-}
-
-/// The first active Filter rule among them whose filter holds of the attributes.
-pub(crate) fn first_match<'a>(
-    rules: &'a [Rule],
-    attrs: &[Attr],
-    denominator: u64,
-) -> Option<&'a Rule>
-    requires { 100 * denominator < 2 ^ 64 }
-    ensures { option_copied result ≡ find (matches attrs.now denominator) rules.now }
-{
-    rules
-        .iter()
-        .find(|rule| matches_item(rule, attrs, denominator))
+        .position(|rule| matches_item(rule, attrs, denominator))
 }
