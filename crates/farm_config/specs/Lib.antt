@@ -3,3 +3,4 @@ pub mod Configs
 pub mod Kinds
 pub mod Limits
 pub mod Tables
+pub mod inner

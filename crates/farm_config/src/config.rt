@@ -7,7 +7,7 @@ use std::marker::Model;
 /// A map: its name of 1 to 40 bytes of `a` to `z`, `0` to `9`, `_` and `-`, the name of its style's
 /// file, the width and height of its tiles, 16, 32, 64, 128, 256 or 512 pixels, and the greatest zoom
 /// at which they are drawn, at most 18.
-#[derive(Debug, Drop)]
+#[derive(Drop)]
 pub struct MapEntry {
     pub name: ArrayString<40>,
     pub style: Text,
@@ -31,7 +31,7 @@ impl Model for MapEntry {
 }
 
 /// Another style for a map: the map by its place, and the name of the style's file.
-#[derive(Debug, Drop)]
+#[derive(Drop)]
 pub struct RestyleEntry {
     pub map: u32,
     pub style: Text,
@@ -41,7 +41,7 @@ pub struct RestyleEntry {
 /// expiry lists, at most 256 of each, 1 to 16 workers, the limits of the queues, each from 1 to 32 and
 /// that of `dirty` to 1,000, the addresses of the three fronts, at most 256 restyles of maps that are
 /// there, and whether a saved farm is resumed.
-#[derive(Debug, Drop)]
+#[derive(Drop)]
 pub struct Config {
     pub maps: Vec<MapEntry>,
     pub dataset: Text,
