@@ -1,2 +1,3 @@
 pub mod ByGrammar
 pub mod Opening
+pub mod Parts

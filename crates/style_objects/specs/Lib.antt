@@ -4,3 +4,4 @@ pub mod Kinds
 pub mod Places
 pub mod Tables
 pub mod Laws
+pub mod inner
