@@ -6,7 +6,7 @@ use std::marker::Model;
 
 /// A line of a script, with its words in order. A map is told by its name, which need not be one of the
 /// farm; connections are those of front 0.
-#[derive(Debug, Drop)]
+#[derive(Drop)]
 pub enum ScriptLine {
     /// `ask C CMD MAP Z X Y`: a connection asks for a tile of a map.
     Ask(u32, Cmd, Text, u32, u32, u32),
@@ -39,7 +39,7 @@ pub enum ScriptLine {
 }
 
 /// A script: its lines that are not skipped, at most 1,000,000. Contracts see it as the list of them.
-#[derive(Debug, Drop)]
+#[derive(Drop)]
 pub struct Script {
     pub lines: Vec<ScriptLine>,
 }
