@@ -18,12 +18,13 @@ mod style;
 use crate::data::snapshot;
 use crate::rounds::Rounds;
 use crate::style::STYLE;
+use data_versions::Snapshot;
 use farm_base::{Bytes, DiskFiles};
 use merc_fixed::{Meta, meta_of, tile};
 use plain_drawing::MapStyle;
 use std::alloc::Global;
 use std::process::ExitCode;
-use std::rt::{Clock, Env};
+use std::rt::Clock;
 use std::time::{Duration, Instant};
 use std::{env, io};
 use style_objects::read_style;
@@ -49,7 +50,9 @@ fn main(rt: HostRuntime) -> io::Result<ExitCode> {
         eprintln!(&rt; "no style")?;
         return Ok(ExitCode::from(1));
     };
-    if report_each(&rt, rt.alloc(), &style, work)? {
+    let reported = report_each(&rt, rt.alloc(), &style, work);
+    drop(style);
+    if reported? {
         Ok(ExitCode::SUCCESS)
     } else {
         eprintln!(&rt; "no memory")?;
@@ -98,22 +101,27 @@ fn report_rounds(rt: HostRuntime, rounds: &Rounds) -> io::Result<ExitCode> {
 }
 
 /// What the words ask for, if they are in order.
-fn read_work(rt: &(impl Env + Alloc)) -> io::Result<Option<Work>> {
-    let mut words = env::args(rt)?;
-    let _program = words.next();
-    let Some(word) = words.next() else {
-        return Ok(Some(Work::Plain));
+fn read_work(rt: &HostRuntime) -> io::Result<Option<Work>> {
+    let mut words = env::args(rt)?.skip(1);
+    let (first, second) = (words.next(), words.next());
+    let is_last = words.next().is_none();
+    Ok(work_of(first, second, is_last))
+}
+
+/// What two words ask for, behind which others may come.
+fn work_of(first: Option<String>, second: Option<String>, is_last: bool) -> Option<Work> {
+    let Some(word) = first else {
+        return Some(Work::Plain);
     };
     if word.as_str() != "rates" {
-        return Ok(None);
+        return None;
     }
-    let Some(word) = words.next() else {
-        return Ok(Some(Work::Rates));
-    };
-    let is_last = words.next().is_none();
-    match word.as_str().parse::<u32>() {
-        Ok(count) if is_last => Ok(Some(Work::Rate(count))),
-        _ => Ok(None),
+    if second.is_none() {
+        return Some(Work::Rates);
+    }
+    match number(second) {
+        Some(count) if is_last => Some(Work::Rate(count)),
+        _ => None,
     }
 }
 
@@ -143,19 +151,14 @@ fn report<R: Clock + Print>(
     count: u32,
     timed: bool,
 ) -> io::Result<bool> {
-    let Some(meta) = metatile() else {
-        return Ok(false);
-    };
     let Some(snapshot) = snapshot(alloc, "shapes", count) else {
         return Ok(false);
     };
-    let start = Instant::now(rt)?;
-    let Ok(drawn) = draw_meta(alloc, style, 256, meta, &snapshot) else {
+    let drawing = timed_drawing(rt, alloc, style, &snapshot);
+    drop(snapshot);
+    let Some(Drawing { tiles, bytes, took }) = drawing? else {
         return Ok(false);
     };
-    let took = start.elapsed(rt)?;
-    let tiles = drawn.tiles.len();
-    let bytes = bytes_of(drawn.tiles.as_slice());
     if timed {
         let millis = millis_of(took);
         println!(rt; "{count} features: {tiles} tiles, {bytes} bytes, {millis} ms")?;
@@ -163,6 +166,35 @@ fn report<R: Clock + Print>(
         println!(rt; "{count} features: {tiles} tiles, {bytes} bytes")?;
     }
     Ok(true)
+}
+
+/// A drawing: its tiles, their bytes, and the time that it took.
+#[derive(Clone, Copy)]
+struct Drawing {
+    tiles: usize,
+    bytes: u64,
+    took: Duration,
+}
+
+/// Draws the metatile; nothing where memory was wanting.
+fn timed_drawing<R: Clock>(
+    rt: &R,
+    alloc: Global,
+    style: &MapStyle,
+    snapshot: &Snapshot,
+) -> io::Result<Option<Drawing>> {
+    let start = Instant::now(rt)?;
+    let Some((tiles, bytes)) = draw(alloc, style, snapshot) else {
+        return Ok(None);
+    };
+    let took = start.elapsed(rt)?;
+    Ok(Some(Drawing { tiles, bytes, took }))
+}
+
+/// How many tiles are drawn, and how many bytes they have together.
+fn draw(alloc: Global, style: &MapStyle, snapshot: &Snapshot) -> Option<(usize, u64)> {
+    let drawn = draw_meta(alloc, style, 256, metatile()?, snapshot).ok()?;
+    Some((drawn.tiles.len(), bytes_of(drawn.tiles.as_slice())))
 }
 
 /// The metatile at the middle of the world, at zoom 12.

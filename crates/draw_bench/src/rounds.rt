@@ -32,19 +32,39 @@ pub struct Drawn {
 impl Rounds {
     /// Reads the files and draws; nothing where a file is refused, the tile is none, or memory is wanting.
     pub fn run<F: Files>(&self, alloc: Global, files: &mut F) -> Option<Drawn> {
-        let style = files.read(alloc, self.style.as_str()).ok()?;
-        let style = read_style(alloc, style.as_slice()).ok()?;
-        let data = files.read(alloc, self.data.as_str()).ok()?;
-        let data = read_data(alloc, data.as_slice()).ok()?;
-        let snapshot = Snapshot::first(alloc, data).ok()?;
+        let style = style_in(alloc, files, self.style.as_str())?;
+        let Some(snapshot) = snapshot_in(alloc, files, self.data.as_str()) else {
+            drop(style);
+            return None;
+        };
+        let drawn = self.draw(alloc, &style, &snapshot);
+        drop(snapshot);
+        drop(style);
+        drawn
+    }
+
+    fn draw(&self, alloc: Global, style: &MapStyle, snapshot: &Snapshot) -> Option<Drawn> {
         let meta = meta_of(tile(self.z, self.x, self.y)?);
         let mut drawn = Drawn { bytes: 0, sum: 0 };
         for _round in 0..self.count {
-            let container = container(alloc, &style, meta, &snapshot).ok()?;
+            let container = container(alloc, style, meta, snapshot).ok()?;
             drawn = drawn.and(container.as_slice());
         }
         Some(drawn)
     }
+}
+
+/// The style that the file of this name says.
+fn style_in<F: Files>(alloc: Global, files: &mut F, name: &str) -> Option<MapStyle> {
+    let bytes = files.read(alloc, name).ok()?;
+    read_style(alloc, bytes.as_slice()).ok()
+}
+
+/// The data that the file of this name says.
+fn snapshot_in<F: Files>(alloc: Global, files: &mut F, name: &str) -> Option<Snapshot> {
+    let bytes = files.read(alloc, name).ok()?;
+    let data = read_data(alloc, bytes.as_slice()).ok()?;
+    Snapshot::first(alloc, data).ok()
 }
 
 impl Drawn {

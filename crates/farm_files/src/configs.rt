@@ -33,12 +33,15 @@ fn addressed(config: Config) -> Result<Config, ConfigFault>
     ensures { result ≡ addressed_of config }
 {
     if !config.renderd.is_some() {
+        drop(config);
         return Err(ConfigFault::Shape(7));
     }
     if !config.tiles.is_some() {
+        drop(config);
         return Err(ConfigFault::Shape(8));
     }
     if !config.control.is_some() {
+        drop(config);
         return Err(ConfigFault::Shape(9));
     }
     Ok(config)

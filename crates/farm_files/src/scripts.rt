@@ -5,7 +5,7 @@ ghost use Rattle.fault_texts.specs.LineFaults.{script_text};
 ghost use Rattle.input_files.specs.Course.{file};
 ghost use Rattle.input_files.specs.inner.Follows.{Follows};
 ghost use Rattle.farm_plan.specs.Plans.{IsPlan};
-ghost use Rattle.farm_files.specs.Courses.{script_course, serve_course};
+ghost use Rattle.farm_files.specs.Courses.{inputs_course, script_course, serve_course};
 
 use crate::configs::{addressed_file, config_file};
 use crate::inputs::{FarmInputs, farm_inputs};
@@ -64,6 +64,14 @@ fn script_file<F: Files>(alloc: Global, files: &mut F, name: &str) -> Result<Scr
     checked(alloc, name, read_script(alloc, bytes.as_slice()))
 }
 
+/// The files that a configuration names, which is of no use behind them.
+fn named_inputs<F: Files>(alloc: Global, files: &mut F, config: Config) -> Result<FarmInputs, Stop>
+    ensures follows { Follows (inputs_course config) (F.state files.old) (F.state files.new) result }
+    ensures valid { IfOk result (λ i. IsPlan i.plan) }
+{
+    farm_inputs(alloc, files, &config)
+}
+
 /// Reads a configuration, the files that it names, and a script, in this order. The addresses count for
 /// nothing. It ends at the first file that is refused or cannot be read.
 pub fn script_files<F: Files>(
@@ -76,9 +84,14 @@ pub fn script_files<F: Files>(
     ensures valid { IfOk result (λ s. IsPlan s.inputs.plan) }
 {
     let config = config_file(alloc, files, config_name)?;
-    let inputs = farm_inputs(alloc, files, &config)?;
-    let script = script_file(alloc, files, script_name)?;
-    Ok(Scripted { inputs, script })
+    let inputs = named_inputs(alloc, files, config)?;
+    match script_file(alloc, files, script_name) {
+        Ok(script) => Ok(Scripted { inputs, script }),
+        Err(stop) => {
+            drop(inputs);
+            Err(stop)
+        }
+    }
 }
 
 /// Reads a configuration with all three addresses, and the files that it names. It ends at the first file
@@ -92,6 +105,11 @@ pub fn serve_files<F: Files>(
     ensures valid { IfOk result (λ s. IsPlan s.inputs.plan) }
 {
     let config = addressed_file(alloc, files, config_name)?;
-    let inputs = farm_inputs(alloc, files, &config)?;
-    Ok(Served { config, inputs })
+    match farm_inputs(alloc, files, &config) {
+        Ok(inputs) => Ok(Served { config, inputs }),
+        Err(stop) => {
+            drop(config);
+            Err(stop)
+        }
+    }
 }

@@ -1,5 +1,5 @@
 //! The data.
-ghost use Rattle.std.specs.Prelude.{◌≡◌, ◌<◌, ◌≤◌, ◌+◌, ◌*◌, ◌%◌, ◌^◌, ◌∷◌, [], IfOk, None};
+ghost use Rattle.std.specs.Prelude.{◌≡◌, ◌<◌, ◌≤◌, ◌+◌, ◌*◌, ◌%◌, ◌^◌, ◌∷◌, ◌++◌, [], IfOk, OnOk, None};
 ghost use Rattle.work_gen.specs.Work as spec;
 ghost use Rattle.geo_model.specs.Shapes.{shape_fault};
 
@@ -92,16 +92,6 @@ fn feature(alloc: Global, draws: &mut Draws, number: u32) -> Result<Feature, NoM
     }
 }
 
-/// A layer of this name.
-fn layer(alloc: Global, name: &str, features: Vec<Feature>) -> Result<Layer, NoMemory>
-    ensures { IfOk result (λ l. l ≡ record { name = name.now; features = features.items }) }
-{
-    Ok(Layer {
-        name: Text::of(alloc, name)?,
-        features,
-    })
-}
-
 /// The features of the three layers.
 #[derive(Drop)]
 struct ByLayer {
@@ -132,6 +122,19 @@ fn features_by_layer(alloc: Global, seed: u64, count: u32) -> Result<ByLayer, No
     Ok(ByLayer { land, roads, spots })
 }
 
+fn add_layer(
+    alloc: Global,
+    layers: &mut Vec<Layer>,
+    name: &str,
+    features: Vec<Feature>,
+) -> Result<(), NoMemory>
+    ensures { OnOk result (layers.new.items ≡ layers.old.items ++ record { name = name.now; features = features.items } ∷ []) }
+{
+    let name = Text::of(alloc, name)?;
+    layers.push(Layer { name, features })?;
+    Ok(())
+}
+
 /// The three layers of so many features.
 fn three_layers(alloc: Global, seed: u64, count: u32) -> Result<Vec<Layer>, NoMemory>
     requires { count ≤ 100000 }
@@ -139,9 +142,9 @@ fn three_layers(alloc: Global, seed: u64, count: u32) -> Result<Vec<Layer>, NoMe
 {
     let features = features_by_layer(alloc, seed, count)?;
     let mut layers = Vec::new(alloc);
-    layers.push(layer(alloc, "land", features.land)?)?;
-    layers.push(layer(alloc, "roads", features.roads)?)?;
-    layers.push(layer(alloc, "spots", features.spots)?)?;
+    add_layer(alloc, &mut layers, "land", features.land)?;
+    add_layer(alloc, &mut layers, "roads", features.roads)?;
+    add_layer(alloc, &mut layers, "spots", features.spots)?;
     Ok(layers)
 }
 

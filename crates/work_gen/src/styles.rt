@@ -1,5 +1,5 @@
 //! The style.
-ghost use Rattle.std.specs.Prelude.{◌≡◌, ◌<◌, ◌≤◌, IfOk, IsTrue, codes, pos};
+ghost use Rattle.std.specs.Prelude.{◌≡◌, ◌<◌, ◌≤◌, [], ◌∷◌, ◌++◌, IfOk, OnOk, IsTrue, codes, pos};
 ghost use Rattle.plain_filters.specs.Filters.{tree_of, compare_tree, name_tree, number_tree};
 ghost use Rattle.plain_filters.specs.declared.expr.CompareSign.TheVariants as sign;
 ghost use Rattle.plain_drawing.specs.Styles.{is_text_to};
@@ -77,6 +77,14 @@ fn rule(alloc: Global, number: u8) -> Result<Rule, NoMemory>
     })
 }
 
+fn add_rule(alloc: Global, rules: &mut Vec<Rule>, number: u8) -> Result<(), NoMemory>
+    requires { number < 12 }
+    ensures { OnOk result (rules.new.items ≡ rules.old.items ++ spec.rule_of number ∷ []) }
+{
+    rules.push(rule(alloc, number)?)?;
+    Ok(())
+}
+
 /// A style of four rules, the first of this number.
 #[tactic(auto, unfolding(crate::specs::Work::style_of))]
 fn style(alloc: Global, name: &str, first: u8) -> Result<Style, NoMemory>
@@ -85,10 +93,10 @@ fn style(alloc: Global, name: &str, first: u8) -> Result<Style, NoMemory>
     ensures { IfOk result (λ s. s ≡ spec.style_of name.now first) }
 {
     let mut rules = Vec::new(alloc);
-    rules.push(rule(alloc, first)?)?;
-    rules.push(rule(alloc, first + 1)?)?;
-    rules.push(rule(alloc, first + 2)?)?;
-    rules.push(rule(alloc, first + 3)?)?;
+    add_rule(alloc, &mut rules, first)?;
+    add_rule(alloc, &mut rules, first + 1)?;
+    add_rule(alloc, &mut rules, first + 2)?;
+    add_rule(alloc, &mut rules, first + 3)?;
     Ok(Style {
         name: Text::of(alloc, name)?,
         filter_mode: FilterMode::All,
@@ -113,19 +121,35 @@ fn layer(alloc: Global, name: &str) -> Result<LayerRef, NoMemory>
     })
 }
 
-/// A white map of three layers, each in the style of its name.
-#[tactic(auto, unfolding(crate::specs::Work::map_style, crate::specs::Work::style_of, crate::specs::Work::layer_of))]
-pub fn map_style(alloc: Global) -> Result<MapStyle, NoMemory>
-    ensures { IfOk result (λ s. s ≡ spec.map_style) }
+/// The styles of the three layers.
+fn styles(alloc: Global) -> Result<Vec<Style>, NoMemory>
+    ensures { IfOk result (λ v. v.items ≡ spec.style_of spec.land 0 ∷ spec.style_of spec.roads 4 ∷ spec.style_of spec.spots 8 ∷ []) }
 {
     let mut styles = Vec::new(alloc);
     styles.push(style(alloc, "land", 0)?)?;
     styles.push(style(alloc, "roads", 4)?)?;
     styles.push(style(alloc, "spots", 8)?)?;
+    Ok(styles)
+}
+
+/// The three layers.
+fn layers(alloc: Global) -> Result<Vec<LayerRef>, NoMemory>
+    ensures { IfOk result (λ v. v.items ≡ spec.layer_of spec.land ∷ spec.layer_of spec.roads ∷ spec.layer_of spec.spots ∷ []) }
+{
     let mut layers = Vec::new(alloc);
     layers.push(layer(alloc, "land")?)?;
     layers.push(layer(alloc, "roads")?)?;
     layers.push(layer(alloc, "spots")?)?;
+    Ok(layers)
+}
+
+/// A white map of three layers, each in the style of its name.
+#[tactic(auto, unfolding(crate::specs::Work::map_style, crate::specs::Work::style_of, crate::specs::Work::layer_of))]
+pub fn map_style(alloc: Global) -> Result<MapStyle, NoMemory>
+    ensures { IfOk result (λ s. s ≡ spec.map_style) }
+{
+    let styles = styles(alloc)?;
+    let layers = layers(alloc)?;
     Ok(MapStyle {
         background_color: Colour {
             r: 255,

@@ -13,10 +13,8 @@ returns-in_err-inputs-clause-follows g c =
     let p = err_from_is_err_and c.from_residual-in_err-inputs.result c.from_residual-in_err-inputs.ensures.1 in
     rw (p.1, p.2) (script_inputs_stop _ _ _ _ _ _ _ c.in_ok-config.ensures c.in_err-inputs.ensures.follows)
 
-pub returns-in_err-script-clause-follows : goal.returns-in_err-script-clause-follows
-returns-in_err-script-clause-follows g c =
-    let p = err_from_is_err_and c.from_residual-in_err-script.result c.from_residual-in_err-script.ensures.1 in
-    rw (p.1, p.2) (script_unread _ _ _ _ _ _ _ _ _ c.in_ok-config.ensures c.in_ok-inputs.ensures.follows c.in_err-script.ensures)
+pub returns-in-Err-clause-follows : goal.returns-in-Err-clause-follows
+returns-in-Err-clause-follows g c = script_unread _ _ _ _ _ _ _ _ _ c.in_ok-config.ensures c.in_ok-inputs.ensures.follows c.in-Err.ensures
 
-pub returns-clause-follows : goal.returns-clause-follows
-returns-clause-follows g c = script_read _ _ _ _ _ _ _ _ _ _ c.in_ok-config.ensures c.in_ok-inputs.ensures.follows c.in_ok-script.ensures (search rules)
+pub returns-in-Ok-clause-follows : goal.returns-in-Ok-clause-follows
+returns-in-Ok-clause-follows g c = script_read _ _ _ _ _ _ _ _ _ _ c.in_ok-config.ensures c.in_ok-inputs.ensures.follows c.in-Ok.ensures (search rules)
