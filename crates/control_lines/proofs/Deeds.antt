@@ -1,8 +1,9 @@
 -- Requests that are done one after another.
 use Rattle.std.proofs.Common.{◌≡◌, ◌<◌, ◌+◌, ℕ, Bool, true, false, ◌&&◌, ◌||◌, cond, nat_lt, List, [], ◌∷◌, ◌++◌, length, take, drop, get_or, refl, sym, ap, subst, ◌∙◌, append_assoc, inr}
-use Rattle.std.proofs.lemmas.Bool.{ne_eqb}
+use Rattle.std.proofs.lemmas.Bool.{ne_eqb, and_from, or_from, or_left, and_parts}
 use Rattle.std.proofs.lemmas.Grind.{take_at_read}
 use Rattle.std.proofs.lemmas.List.{append-nil, take-append-drop}
+use Rattle.std.proofs.Math.Bool.{or_assoc}
 use Rattle.plain_world.specs.declared.world.Tile.{Tile}
 use Rattle.farm_history.specs.Entries.{Entry}
 use Rattle.front_rounds.specs.declared.fates.Fate.{Fate}
@@ -21,22 +22,6 @@ use Rattle.control_lines.proofs.Streams.{read_both, read_more, read_shut, wants_
 
 clash : {X : Type 0} → true ≡ false → X
 clash h = cc
-
-or_none : (b c : Bool) → b ≡ false → c ≡ false → (b || c) ≡ false
-or_none true c h k = clash h
-or_none false c h k = k
-
-or_left : (b c : Bool) → b ≡ true → (b || c) ≡ true
-or_left true c h = refl
-or_left false c h = clash (sym h)
-
-or_end : (b c d : Bool) → ((b || c) || d) ≡ (b || (c || d))
-or_end true c d = refl
-or_end false c d = refl
-
-and_both : (a b : Bool) → a ≡ true → b ≡ true → (a && b) ≡ true
-and_both true b h k = k
-and_both false b h k = clash (sym h)
 
 done_keeps : (fate : Fate) → keeps fate ≡ true → keeps (as_done fate) ≡ true
 done_keeps Stays k = refl
@@ -76,19 +61,11 @@ module _ (number : ℕ) (lists : List (List Tile)) (c : ℕ) where
   starves_both : (acts before : List Act) → any_starves R (does (acts ++ before)) ≡ (any_starves R (does acts) || any_starves R (does before))
   starves_both [] before = refl
   starves_both (a ∷ acts) before =
-      ap (λ b. act_starves a || b) (starves_both acts before) ∙ sym (or_end (act_starves a) (any_starves R (does acts)) (any_starves R (does before)))
+      ap (λ b. act_starves a || b) (starves_both acts before) ∙ sym (or_assoc (act_starves a) (any_starves R (does acts)) (any_starves R (does before)))
 
   whole_both : (acts before : List Act) → each_whole R (does acts) ≡ true → each_whole R (does before) ≡ true → each_whole R (does (acts ++ before)) ≡ true
   whole_both [] before f g = g
-  whole_both (a ∷ acts) before f g = and_both (act_whole lists a) (each_whole R (does (acts ++ before))) (first (act_whole lists a) _ f) (whole_both acts before (second (act_whole lists a) _ f) g)
-    where
-      first : (x y : Bool) → (x && y) ≡ true → x ≡ true
-      first true y h = refl
-      first false y h = clash (sym h)
-
-      second : (x y : Bool) → (x && y) ≡ true → y ≡ true
-      second true y h = h
-      second false y h = clash (sym h)
+  whole_both (a ∷ acts) before f g = and_from (act_whole lists a) (each_whole R (does (acts ++ before))) (and_parts (act_whole lists a) _ f).0 (whole_both acts before (and_parts (act_whole lists a) _ f).1 g)
 
   -- nothing is asked
   pub did_none : (mine : List Entry) (said : List ℕ) → Did number lists c [] mine mine said said Stays
@@ -150,10 +127,10 @@ module _ (number : ℕ) (lists : List (List Tile)) (c : ℕ) where
     mine_is = m;
     begins = ([], refl);
     fits = (f, tt);
-    why = or_none (act_starves a) false s refl;
+    why = or_from (act_starves a) false s refl;
     said_is = λ _. e;
     asked_is = λ _. refl;
-    whole = λ _. and_both (act_whole lists a) true w refl;
+    whole = λ _. and_from (act_whole lists a) true w refl;
   }
 
   -- a request was done
@@ -163,8 +140,13 @@ module _ (number : ℕ) (lists : List (List Tile)) (c : ℕ) where
   did_one a mine mine' said said' fate f w m (Wants q) = subst (Did number lists c (line_done a ∷ []) mine mine' said said') (sym q) (did_part a mine mine' said said' f m)
   did_one a mine mine' said said' fate f w m (Starves q s) = subst (Did number lists c (line_done a ∷ []) mine mine' said said') (sym q) (did_starved a mine mine' said said' f m s)
 
+  pub did_at : (l : Line) (a : Act) (mine mine' : List Entry) (said said' : List ℕ) (fate : Fate) → l ≡ line_done a → act_fits lists a ≡ true → act_whole lists a ≡ true
+      → mine' ≡ mine ++ entries_of lists a → Answers lists a said said' fate → Did number lists c (l ∷ []) mine mine' said said' fate
+  did_at l a mine mine' said said' fate e f w m s =
+      subst (λ (k : Line). Did number lists c (k ∷ []) mine mine' said said' fate) (sym e) (did_one a mine mine' said said' fate f w m s)
+
   why_both : (acts before : List Act) (fate : Fate) → any_starves R (does before) ≡ false → DoneWhy number lists c acts fate → DoneWhy number lists c (acts ++ before) fate
-  why_both acts before Stays n w = starves_both acts before ∙ or_none (any_starves R (does acts)) (any_starves R (does before)) w n
+  why_both acts before Stays n w = starves_both acts before ∙ or_from (any_starves R (does acts)) (any_starves R (does before)) w n
   why_both acts before (Leaves reason.Unread) n w = absurd w
   why_both acts before (Leaves reason.NoMemory) n w = starves_both acts before ∙ or_left (any_starves R (does acts)) (any_starves R (does before)) w
   why_both acts before (Leaves reason.Starved) n w = tt
@@ -385,15 +367,7 @@ module _ (number : ℕ) (lists : List (List Tile)) (c : ℕ) where
 
   whole_front : (acts : List Act) (ms : List (Move Act)) → each_whole R (does acts) ≡ true → each_whole R ms ≡ true → each_whole R (does acts ++ ms) ≡ true
   whole_front [] ms f g = g
-  whole_front (a ∷ acts) ms f g = and_both (act_whole lists a) (each_whole R (does acts ++ ms)) (first (act_whole lists a) _ f) (whole_front acts ms (second (act_whole lists a) _ f) g)
-    where
-      first : (x y : Bool) → (x && y) ≡ true → x ≡ true
-      first true y h = refl
-      first false y h = clash (sym h)
-
-      second : (x y : Bool) → (x && y) ≡ true → y ≡ true
-      second true y h = h
-      second false y h = clash (sym h)
+  whole_front (a ∷ acts) ms f g = and_from (act_whole lists a) (each_whole R (does acts ++ ms)) (and_parts (act_whole lists a) _ f).0 (whole_front acts ms (and_parts (act_whole lists a) _ f).1 g)
 
   why_front : (long : Bool) (given : List ℕ) (acts : List Act) (fate : Fate) → (read_all given).long ≡ long → DoneWhy number lists c acts (as_done fate) → LongWhy long fate → HeardWhy R given (does acts) fate
   why_front long given acts Stays e d l = (e ∙ l, d)

@@ -2,16 +2,13 @@
 use Rattle.std.proofs.Common.{◌≡◌, ℕ, List, Bool, true, false, Some, None, refl}
 use Rattle.std.specs.Str.{is_utf8, IsUtf8}
 use Rattle.std.proofs.lemmas.Str.{IsUtf8-from_is_utf8, is_utf8-from_IsUtf8}
+use Rattle.std.proofs.lemmas.Bool.{false_from_ne_true}
 use Rattle.control_lines.specs.Lines.{text_of}
 
 pub text_known : (bytes : List ℕ) → IsUtf8 bytes → text_of bytes ≡ Some bytes
 unfolding text_of
 text_known bytes is = rw (is_utf8-from_IsUtf8 bytes is) refl
 
-not_utf8 : (b : Bool) → (b ≡ true → ⊥) → b ≡ false
-not_utf8 true h = absurd (h refl)
-not_utf8 false h = refl
-
 pub text_unknown : (bytes : List ℕ) → (IsUtf8 bytes → ⊥) → text_of bytes ≡ None
 unfolding text_of
-text_unknown bytes other = rw (not_utf8 (is_utf8 bytes) (λ e. other (IsUtf8-from_is_utf8 bytes e))) refl
+text_unknown bytes other = rw (false_from_ne_true (is_utf8 bytes) (λ e. other (IsUtf8-from_is_utf8 bytes e))) refl

@@ -3,7 +3,7 @@ use farm_base::Listed;
 use farm_history::{Renewed, Restyled, Tally, Updated};
 
 /// What a line asks for.
-#[derive(Clone, Copy, Debug, PartialEq, Eq)]
+#[derive(Clone, Copy)]
 pub enum Line {
     /// `update N`: an update of the data.
     Update(u32),

@@ -17,66 +17,6 @@ use plain_world::Tile;
 use std::alloc::Global;
 use std::sync::Wait;
 
-fn do_update<R: Wait, M: Farm>(
-    rt: &R,
-    alloc: Global,
-    farm: &M,
-    seat: &mut M::Seat,
-    number: u32,
-    said: &mut Vec<u8>,
-) -> Result<Fate, Worn>
-    requires { (M.seats farm.now).is_seat seat.old }
-    ensures seat { SameSeat (M.seats farm.now) seat.old seat.new }
-    ensures worn { OnErr result ((M.seats farm.now).worn seat.new ≡ true) }
-    ensures did { (front : ℕ) (lists : List (List Tile)) (c : ℕ)
-        → Did front lists c (line_is.Update number ∷ []) ((M.seats farm.now).mine seat.old) ((M.seats farm.now).mine seat.new) said.old.items said.new.items (fate_of result) }
-{
-    let Ok(answer) = farm.update(rt, alloc, seat, number) else {
-        return Err(Worn);
-    };
-    Ok(say_update(alloc, answer, said))
-}
-
-fn do_restyle<R: Wait, M: Farm>(
-    rt: &R,
-    alloc: Global,
-    farm: &M,
-    seat: &mut M::Seat,
-    number: u32,
-    said: &mut Vec<u8>,
-) -> Result<Fate, Worn>
-    requires { (M.seats farm.now).is_seat seat.old }
-    ensures seat { SameSeat (M.seats farm.now) seat.old seat.new }
-    ensures worn { OnErr result ((M.seats farm.now).worn seat.new ≡ true) }
-    ensures did { (front : ℕ) (lists : List (List Tile)) (c : ℕ)
-        → Did front lists c (line_is.Restyle number ∷ []) ((M.seats farm.now).mine seat.old) ((M.seats farm.now).mine seat.new) said.old.items said.new.items (fate_of result) }
-{
-    let Ok(answer) = farm.restyle(rt, seat, number) else {
-        return Err(Worn);
-    };
-    Ok(say_restyle(alloc, answer, said))
-}
-
-fn do_renew<R: Wait, M: Farm>(
-    rt: &R,
-    alloc: Global,
-    farm: &M,
-    seat: &mut M::Seat,
-    number: u32,
-    said: &mut Vec<u8>,
-) -> Result<Fate, Worn>
-    requires { (M.seats farm.now).is_seat seat.old }
-    ensures seat { SameSeat (M.seats farm.now) seat.old seat.new }
-    ensures worn { OnErr result ((M.seats farm.now).worn seat.new ≡ true) }
-    ensures did { (front : ℕ) (lists : List (List Tile)) (c : ℕ)
-        → Did front lists c (line_is.Renew number ∷ []) ((M.seats farm.now).mine seat.old) ((M.seats farm.now).mine seat.new) said.old.items said.new.items (fate_of result) }
-{
-    let Ok(answer) = farm.renew(rt, alloc, seat, number) else {
-        return Err(Worn);
-    };
-    Ok(say_renew(alloc, answer, said))
-}
-
 /// The tiles of the list of this number.
 fn list_at(lists: &[TileList], number: u32) -> Option<&[Tile]>
     ensures value { option_copied result ≡ slice_get lists.entry.now number }
@@ -102,7 +42,8 @@ fn do_expire<R: Wait, M: Farm>(
     ensures seat { SameSeat (M.seats farm.now) seat.old seat.new }
     ensures worn { OnErr result ((M.seats farm.now).worn seat.new ≡ true) }
     ensures did { (front : ℕ) (c : ℕ)
-        → Did front lists.now c (line_is.Expire number ∷ []) ((M.seats farm.now).mine seat.old) ((M.seats farm.now).mine seat.new) said.old.items said.new.items (fate_of result) }
+        → Did front lists.now c (line_is.Expire number ∷ []) ((M.seats farm.now).mine seat.old)
+        ((M.seats farm.now).mine seat.new) said.old.items said.new.items (fate_of result) }
 {
     let Some(tiles) = list_at(lists, number) else {
         return Ok(say(said, "no list\n"));
@@ -111,43 +52,6 @@ fn do_expire<R: Wait, M: Farm>(
         return Err(Worn);
     };
     Ok(say_expired(alloc, total, said))
-}
-
-fn do_stats<R: Wait, M: Farm>(
-    rt: &R,
-    alloc: Global,
-    farm: &M,
-    seat: &mut M::Seat,
-    said: &mut Vec<u8>,
-) -> Result<Fate, Worn>
-    requires { (M.seats farm.now).is_seat seat.old }
-    ensures seat { SameSeat (M.seats farm.now) seat.old seat.new }
-    ensures worn { OnErr result ((M.seats farm.now).worn seat.new ≡ true) }
-    ensures did { (front : ℕ) (lists : List (List Tile)) (c : ℕ)
-        → Did front lists c (line_is.Stats ∷ []) ((M.seats farm.now).mine seat.old) ((M.seats farm.now).mine seat.new) said.old.items said.new.items (fate_of result) }
-{
-    let Ok(totals) = farm.tally(rt, seat) else {
-        return Err(Worn);
-    };
-    Ok(say_tally(alloc, totals, said))
-}
-
-fn do_stop<R: Wait, M: Farm>(
-    rt: &R,
-    farm: &M,
-    seat: &mut M::Seat,
-    said: &mut Vec<u8>,
-) -> Result<Fate, Worn>
-    requires { (M.seats farm.now).is_seat seat.old }
-    ensures seat { SameSeat (M.seats farm.now) seat.old seat.new }
-    ensures worn { OnErr result ((M.seats farm.now).worn seat.new ≡ true) }
-    ensures did { (front : ℕ) (lists : List (List Tile)) (c : ℕ)
-        → Did front lists c (line_is.Stop ∷ []) ((M.seats farm.now).mine seat.old) ((M.seats farm.now).mine seat.new) said.old.items said.new.items (fate_of result) }
-{
-    let Ok(()) = farm.stop(rt, seat) else {
-        return Err(Worn);
-    };
-    Ok(say(said, "stopping\n"))
 }
 
 /// A line that is none.
@@ -172,15 +76,41 @@ pub fn do_line<R: Wait, M: Farm>(
     ensures seat { SameSeat (M.seats farm.now) seat.old seat.new }
     ensures worn { OnErr result ((M.seats farm.now).worn seat.new ≡ true) }
     ensures did { (front : ℕ) (c : ℕ)
-        → Did front lists.now c (line ∷ []) ((M.seats farm.now).mine seat.old) ((M.seats farm.now).mine seat.new) said.old.items said.new.items (fate_of result) }
+        → Did front lists.now c (line ∷ []) ((M.seats farm.now).mine seat.old)
+        ((M.seats farm.now).mine seat.new) said.old.items said.new.items (fate_of result) }
 {
     match line {
-        Line::Update(number) => do_update(rt, alloc, farm, seat, number, said),
-        Line::Restyle(number) => do_restyle(rt, alloc, farm, seat, number, said),
-        Line::Renew(number) => do_renew(rt, alloc, farm, seat, number, said),
+        Line::Update(number) => {
+            let Ok(answer) = farm.update(rt, alloc, seat, number) else {
+                return Err(Worn);
+            };
+            Ok(say_update(alloc, answer, said))
+        }
+        Line::Restyle(number) => {
+            let Ok(answer) = farm.restyle(rt, seat, number) else {
+                return Err(Worn);
+            };
+            Ok(say_restyle(alloc, answer, said))
+        }
+        Line::Renew(number) => {
+            let Ok(answer) = farm.renew(rt, alloc, seat, number) else {
+                return Err(Worn);
+            };
+            Ok(say_renew(alloc, answer, said))
+        }
         Line::Expire(number) => do_expire(rt, alloc, farm, seat, lists, number, said),
-        Line::Stats => do_stats(rt, alloc, farm, seat, said),
-        Line::Stop => do_stop(rt, farm, seat, said),
+        Line::Stats => {
+            let Ok(totals) = farm.tally(rt, seat) else {
+                return Err(Worn);
+            };
+            Ok(say_tally(alloc, totals, said))
+        }
+        Line::Stop => {
+            let Ok(()) = farm.stop(rt, seat) else {
+                return Err(Worn);
+            };
+            Ok(say(said, "stopping\n"))
+        }
         Line::Bad => Ok(do_bad(said)),
     }
 }

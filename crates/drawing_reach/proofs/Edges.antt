@@ -3,7 +3,7 @@ use Rattle.std.proofs.Common.{◌≡◌, ℕ, ◌+◌, ◌-◌, ◌*◌, ◌<◌
 use Rattle.std.specs.Prelude.{nat_le, nat_lt, IsTrue, ◌↔◌}
 use Rattle.std.specs.List.{list_any}
 use Rattle.std.proofs.lemmas.Nat.{pow_pos}
-use Rattle.std.proofs.lemmas.Bool.{cases_lt, and_parts, le-leb, leb-true, lt-ltb, ltb-true}
+use Rattle.std.proofs.lemmas.Bool.{cases_lt, and_parts, le-leb, leb-true, lt-ltb, ltb-true, and_from}
 use Rattle.plain_world.specs.declared.world.Point.{Point}
 use Rattle.plain_world.specs.declared.world.Square.{Square}
 use Rattle.plain_world.specs.World.{side_at, InSquare}
@@ -13,9 +13,6 @@ use Rattle.drawing_reach.proofs.Members.{picked}
 
 any_more : (t u : Point → Bool) → ((q : Point) → t q ≡ true → u q ≡ true) → (ps : List Point) → list_any t ps ≡ true → list_any u ps ≡ true
 any_more t u f ps e = (let r = picked t ps e in r.2 u (f r.0 r.1))
-
-and_both : (a b : Bool) → a ≡ true → b ≡ true → (a && b) ≡ true
-and_both a b p q = ap (λ t. t && b) p ∙ q
 
 -- one direction: a place of the stretch from `from` to before `to` beside the least and the greatest value of the points
 record Place (f : Point → ℕ) (points : List Point) (margin from to : ℕ) : Type 0 where
@@ -88,7 +85,7 @@ edges_there points margin s p r i =
     (λ q k. lt-ltb q.y ((s.y + 1) * side_at s.z + margin) (let m = leb-true q.y (p.y + margin) k in omega (arith, i.before_south))) points r.from_north in
     let n : north ≡ true = any_more (λ q. nat_le p.y (q.y + margin)) (λ q. nat_le (s.y * side_at s.z) (q.y + margin))
     (λ q k. le-leb (s.y * side_at s.z) (q.y + margin) (let m = leb-true p.y (q.y + margin) k in omega (arith, i.from_north))) points r.to_south in
-    and_both (east && west && south) north (and_both (east && west) south (and_both east west e w) f) n
+    and_from (east && west && south) north (and_from (east && west) south (and_from east west e w) f) n
 
 pub by_edges : (f : Feature) (size z : ℕ) (s : Square) → IsTrue (feature_reaches f size z s) ↔ Reaches f size z s
 by_edges f size z s = (

@@ -5,10 +5,6 @@ use Rattle.std.specs.List.{AllByRecursion, list_any}
 use Rattle.std.proofs.lemmas.Bool.{or_cases, or_left, or_right}
 use Rattle.std.proofs.lemmas.List.Elements.{recursion_from_All}
 
-pub not_true : (b : Bool) → not b ≡ true → b ≡ false
-not_true true h = absurd (cc)
-not_true false h = refl
-
 -- what the element that a test picks shows
 pub any_in : {X : Type 0} (P : X → Type 0) (Q : Type 0) (t : X → Bool) → ((x : X) → P x → t x ≡ true → Q) → (xs : List X) → AllByRecursion P xs → list_any t xs ≡ true → Q
 any_in P Q t each [] all h = absurd (cc)

@@ -2,7 +2,7 @@
 use Rattle.std.proofs.Common.{◌≡◌, ℕ, ◌+◌, ◌-◌, Bool, true, false, not, ◌&&◌, ◌||◌, List, [], ◌∷◌, length, take, ap, sym, ◌∙◌, inl, inr, arith}
 use Rattle.std.specs.Prelude.{if◌then◌else◌, option_map, unwrap_or, All}
 use Rattle.std.specs.List.{AllByRecursion}
-use Rattle.std.proofs.lemmas.Bool.{or_cases, and_parts}
+use Rattle.std.proofs.lemmas.Bool.{or_cases, and_parts, not-true}
 use Rattle.std.proofs.lemmas.List.Elements.{All-from_recursion}
 use Rattle.plain_world.specs.declared.world.Point.{Point}
 use Rattle.plain_shapes.specs.declared.shapes.LineCap.{LineCap}
@@ -15,7 +15,7 @@ use Rattle.stroke_core.proofs.Boxes.{InBox, body_box, start_box, end_box, disk_b
 use Rattle.stroke_core.proofs.Sides.{any_take, parts_kept}
 use Rattle.mark_core.proofs.Marks.{mark_near}
 use Rattle.drawing_reach.specs.inner.Spreads.{Beside}
-use Rattle.drawing_reach.proofs.Members.{not_true, any_in, last_of, last_at, last_has}
+use Rattle.drawing_reach.proofs.Members.{any_in, last_of, last_at, last_has}
 
 -- the box of two points of the rectangle
 beside_box : (b : Bounds) (half : ℕ) (p q c : Point) → InBounds b p → InBounds b q → InBox half p q c → Beside b (half + half) (half + half) c
@@ -27,7 +27,7 @@ beside_wide_box b half p c hp h = record { west = omega arith; east = omega arit
 body_beside : (b : Bounds) (half : ℕ) (p q c : Point) → InBounds b p → InBounds b q → (not (is_same p q) && in_body half p q c) ≡ true → Beside b (half + half) (half + half) c
 body_beside b half p q c hp hq h =
     let parts = and_parts (not (is_same p q)) (in_body half p q c) h in
-    beside_box b half p q c hp hq (body_box half p q c (not_true (is_same p q) parts.0) parts.1)
+    beside_box b half p q c hp hq (body_box half p q c (not-true (is_same p q) parts.0) parts.1)
 
 disk_beside : (b : Bounds) (half : ℕ) (c p : Point) → InBounds b p → in_disk half p c ≡ true → Beside b (half + half) (half + half) c
 disk_beside b half c p hp h = beside_box b half p p c hp hp (disk_box half p c h)
@@ -56,10 +56,10 @@ ends_beside b half with.Round p q y z c hp hz h = elim (or_cases (in_disk half p
 ends_beside b half with.Square p q y z c hp hz h = elim (or_cases (not (is_same p q) && before_start half p q c) (not (is_same y z) && past_end half y z c) h) [
   | inl e ↦ (
       let parts = and_parts (not (is_same p q)) (before_start half p q c) e in
-      beside_wide_box b half p c hp (start_box half p q c (not_true (is_same p q) parts.0) parts.1))
+      beside_wide_box b half p c hp (start_box half p q c (not-true (is_same p q) parts.0) parts.1))
   | inr e ↦ (
       let parts = and_parts (not (is_same y z)) (past_end half y z c) e in
-      beside_wide_box b half z c hz (end_box half y z c (not_true (is_same y z) parts.0) parts.1))
+      beside_wide_box b half z c hz (end_box half y z c (not-true (is_same y z) parts.0) parts.1))
 ]
 
 parts_beside : (b : Bounds) (half : ℕ) (cap : LineCap) (c : Point) (ps : List Point) → AllByRecursion (InBounds b) ps → on_parts half cap ps c ≡ true → Beside b (half + half) (half + half) c

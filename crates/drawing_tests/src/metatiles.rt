@@ -69,7 +69,7 @@ fn ring(alloc: Global) -> Result<Feature, Fail> {
 }
 
 // Data of one layer.
-#[tactic(auto, using(crate::proofs::Layers::alone))]
+#[tactic(auto, using(data_versions::proofs::Named::lone_layer))]
 fn data_of(alloc: Global, layer: Layer) -> Result<Snapshot, Fail>
     requires { IsLayer layer }
 {

@@ -31,7 +31,7 @@ use Rattle.farm_call.specs.Words.{AsksFor, IsCourse, Asks}
 use Rattle.port_trait.specs.declared.ends.FrontDone.{FrontDone}
 use Rattle.farm_call.specs.Works.{Work, Does, puts, scripts, loads, serves, over}
 use Rattle.port_trait.specs.Told.{PortsTold}
-use Rattle.farm_threads.specs.declared.posts.Posts.{Posts}
+use Rattle.farm_threads.specs.declared.each_front.EachFront.{EachFront}
 use Rattle.serve_command.specs.Serves.{World}
 use Rattle.serve_command.specs.inner.Steps as serve
 use Rattle.serve_command.specs.declared.left.Left.{Left}
@@ -83,12 +83,12 @@ pub sound_read : (words : List (List ℕ)) (c : Command) → ReadsWords words (O
 sound_read words c reads = let asks = asks_read words c reads in sound_of asks.values c asks.spelled
 
 -- a world is that of its parts
-same_world : {D : Type 0} (new : World D) (store : D) (out : SinkAt) (ports : Posts (Outside PortsTold)) → new.out ≡ out → new.left ≡ Store store → new.fronts ≡ [] → new.ports ≡ ports → new ≡ over out store ports
+same_world : {D : Type 0} (new : World D) (store : D) (out : SinkAt) (ports : EachFront (Outside PortsTold)) → new.out ≡ out → new.left ≡ Store store → new.fronts ≡ [] → new.ports ≡ ports → new ≡ over out store ports
 same_world {D} new store out ports out_is left_is none ports_are =
     ap₂ (λ (o : SinkAt) (l : Left D). record new { out = o; left = l }) out_is left_is
-    ∙ ap₂ (λ (fs : List FrontDone) (p : Posts (Outside PortsTold)). record { out = out; left = Store store; fronts = fs; ports = p }) none ports_are
+    ∙ ap₂ (λ (fs : List FrontDone) (p : EachFront (Outside PortsTold)). record { out = out; left = Store store; fronts = fs; ports = p }) none ports_are
 
-module _ {D : Type 0} (state : D → Outside StoreTold) (words : List (List ℕ)) (files files' : FilesAt) (store : D) (out : SinkAt) (ports : Posts (Outside PortsTold)) (new : World D) (end : Result (Unit {0}) Stop) where
+module _ {D : Type 0} (state : D → Outside StoreTold) (words : List (List ℕ)) (files files' : FilesAt) (store : D) (out : SinkAt) (ports : EachFront (Outside PortsTold)) (new : World D) (end : Result (Unit {0}) Stop) where
   -- a call over these words
   abbrev pub Call : Type 0
   Call = calls.Runs (Asks words) (Does state) files files' (over out store ports) new end

@@ -2,6 +2,7 @@
 use Rattle.std.proofs.Common.{◌≡◌, ◌≢◌, ℕ, ◌⊎◌, inl, inr, ◌+◌, ◌-◌, ◌≤◌, ◌^◌, min, Bool, true, false, ◌||◌, if◌then◌else◌, List, length, map, refl, sym, ap, subst, ◌∙◌, arith}
 use Rattle.std.specs.Prelude.{Option, Some, None, Result, Ok, Err}
 use Rattle.std.specs.List.{list_any}
+use Rattle.std.proofs.lemmas.Bool.{or_cases}
 use Rattle.farm_base.specs.Outside.{Outside, Rose, Counted}
 use Rattle.farm_base.specs.Outside as sink
 use Rattle.farm_base.specs.declared.sinks.SinkFault.{SinkFault}
@@ -21,7 +22,7 @@ use Rattle.farm_files.specs.Inputs.{Served}
 use Rattle.farm_stands.specs.Stands.{StandsFor, failures}
 use Rattle.script_answers.specs.Answers.{tally_line}
 use Rattle.farm_shared.specs.Shared.{lasting_of, past}
-use Rattle.farm_threads.specs.declared.posts.Posts.{Posts}
+use Rattle.farm_threads.specs.declared.each_front.EachFront.{EachFront}
 use Rattle.farm_shared.specs.declared.turned.LastingPart.{LastingPart}
 use Rattle.farm_setup.specs.Listens.{Listens, Listening, end_of}
 use Rattle.farm_setup.specs.Beginnings.{CannotBegin, IsSavedIn, Refusal, RefusesFor}
@@ -57,7 +58,7 @@ listen_err address a b why h = by_answer h.answer h.counts h.end_is
 abbrev fails : Stop → Result (Unit {0}) Stop
 fails why = Err why
 
-module _ (config : Config) (p q : Posts (Outside PortsTold)) where
+module _ (config : Config) (p q : EachFront (Outside PortsTold)) where
   -- why the listening ended early
   abbrev Fails : Stop → Type 0
   Fails why = ((why ≡ stop.PortsFailed) × PortsRose p q) ⊎ (why ≡ stop.NoMemory)
@@ -96,10 +97,6 @@ broken_end FrontEnd.Finished is = cc
 broken_end FrontEnd.Stopped is = cc
 broken_end FrontEnd.Worn is = cc
 broken_end FrontEnd.NoMemory is = cc
-
-one_of : (a b : Bool) → (a || b) ≡ true → (a ≡ true) ⊎ (b ≡ true)
-one_of true b is = inl refl
-one_of false b is = inr is
 
 -- a count that rose from a middle one rose from the first
 rose_from : (before more mid now : ℕ) → min (before + more) (2 ^ 64 - 1) ≤ mid → Counted mid now → Rose before now
@@ -189,13 +186,13 @@ module _ {D : Type 0} (state : D → Outside StoreTold) (s : Served) (store : D)
     broke : list_any is_broken (map serves.end_of (fronts_of h.done)) ≡ true → PortsRose old.ports new.ports
     broke is =
         let same = listening_ok s.config old.ports h.listening h.listens in
-        elim (one_of (is_broken h.done.renderd.end) _ is) [
+        elim (or_cases (is_broken h.done.renderd.end) _ is) [
           | inl r ↦ inl (subst (λ (n : ℕ). Rose n new.ports.renderd.faults) same.0 (h.runs.renderd.left.broken (broken_end _ r)).1)
           | inr rest ↦
-              elim (one_of (is_broken h.done.tiles.end) _ rest) [
+              elim (or_cases (is_broken h.done.tiles.end) _ rest) [
                 | inl t ↦ inr (inl (subst (λ (n : ℕ). Rose n new.ports.tiles.faults) same.1 (h.runs.tiles.left.broken (broken_end _ t)).1))
                 | inr last ↦
-                    elim (one_of (is_broken h.done.control.end) _ last) [
+                    elim (or_cases (is_broken h.done.control.end) _ last) [
                       | inl k ↦ inr (inr (subst (λ (n : ℕ). Rose n new.ports.control.faults) same.2 (h.runs.control.left.broken (broken_end _ k)).1))
                       | inr none ↦ absurd (cc)
                     ]

@@ -25,7 +25,7 @@ use Rattle.farm_call.specs.Works.{Work, Does, puts, scripts, loads, serves, over
 use Rattle.farm_call.specs.Served.{PortsRose, TurnsAreGone, SaysServed, IfServed, RefusesSaved}
 use Rattle.farm_files.specs.Inputs.{Served}
 use Rattle.port_trait.specs.Told.{PortsTold}
-use Rattle.farm_threads.specs.declared.posts.Posts.{Posts}
+use Rattle.farm_threads.specs.declared.each_front.EachFront.{EachFront}
 use Rattle.farm_setup.specs.Beginnings.{Refusal, RefusesFor, IsSavedIn}
 use Rattle.serve_command.specs.Serves.{World, HasServed, Serves, ServesTo}
 use Rattle.serve_command.specs.Points.{ClosedFarm}
@@ -75,7 +75,7 @@ if_some : {A : Type 0} (o : Option A) (P : A → Type 0) → ((a : A) → o ≡ 
 if_some (Some a) P h = h a refl
 if_some None P h = tt
 
-module _ {D : Type 0} (state : D → Outside StoreTold) (words : List (List ℕ)) (files files' : FilesAt) (store : D) (ports : Posts (Outside PortsTold)) (world' : World D) (out err err' : SinkAt) (result : ℕ)
+module _ {D : Type 0} (state : D → Outside StoreTold) (words : List (List ℕ)) (files files' : FilesAt) (store : D) (ports : EachFront (Outside PortsTold)) (world' : World D) (out err err' : SinkAt) (result : ℕ)
     (call : EndsWith (calls.Runs (Asks words) (Does state) files files' (over out store ports) world') err err' result) where
   abbrev world : World D
   world = over out store ports

@@ -7,7 +7,7 @@ use Rattle.call_ends.specs.Stops.{status_of, line_of}
 use Rattle.call_ends.specs.Ends.{SinkAt, Reports}
 use Rattle.call_ends.specs.declared.stops.Stop.{Stop}
 use Rattle.input_files.specs.Course.{Course, Makes}
-use Rattle.farm_threads.specs.declared.posts.Posts.{Posts}
+use Rattle.farm_threads.specs.declared.each_front.EachFront.{EachFront}
 use Rattle.farm_files.specs.Inputs.{Served}
 use Rattle.farm_setup.specs.Beginnings.{Refusal, RefusesFor, IsSavedIn}
 use Rattle.serve_command.specs.Points.{ClosedFarm}
@@ -16,7 +16,7 @@ use Rattle.serve_command.specs.declared.left.Left.TheVariants.{Farm}
 use Rattle.farm_call.specs.Works.{Work, serves}
 
 -- a port's count of faults rose
-abbrev pub PortsRose : Posts (Outside PortsTold) → Posts (Outside PortsTold) → Type 0
+abbrev pub PortsRose : EachFront (Outside PortsTold) → EachFront (Outside PortsTold) → Type 0
 PortsRose old new = Rose old.renderd.faults new.renderd.faults ⊎ (Rose old.tiles.faults new.tiles.faults ⊎ Rose old.control.faults new.control.faults)
 
 -- a farm is left whose history has used up all turns

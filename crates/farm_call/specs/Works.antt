@@ -5,7 +5,7 @@ use Rattle.tile_store.specs.Stores.{StoreTold}
 use Rattle.port_trait.specs.Told.{PortsTold}
 use Rattle.call_ends.specs.Ends.{SinkAt, PutsAll}
 use Rattle.call_ends.specs.declared.stops.Stop.{Stop}
-use Rattle.farm_threads.specs.declared.posts.Posts.{Posts}
+use Rattle.farm_threads.specs.declared.each_front.EachFront.{EachFront}
 use Rattle.farm_files.specs.Inputs.{Scripted, Served}
 use Rattle.script_command.specs.Scripts.{Scripts}
 use Rattle.load_command.specs.Runs.{Loads}
@@ -21,7 +21,7 @@ pub data Work : Type 0 where
   serves : Served → Work
 
 -- out, the store and what the ports show, and no fronts
-abbrev pub over : {D : Type 0} → SinkAt → D → Posts (Outside PortsTold) → World D
+abbrev pub over : {D : Type 0} → SinkAt → D → EachFront (Outside PortsTold) → World D
 over out store ports = record { out = out; left = Store store; fronts = []; ports = ports }
 
 -- no fronts were started, and no port was touched

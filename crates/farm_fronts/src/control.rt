@@ -9,7 +9,7 @@ use std::sync::Wait;
 use tile_store::TileStore;
 
 /// The front for control lines, which has the number 2, with the tile lists of its `expire N`.
-#[derive(Debug, Drop)]
+#[derive(Drop)]
 pub struct ControlFront {
     pub lists: Vec<TileList>,
 }

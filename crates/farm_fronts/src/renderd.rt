@@ -8,7 +8,7 @@ use std::sync::Wait;
 use tile_store::TileStore;
 
 /// The front for renderd's protocol, which has the number 0.
-#[derive(Clone, Copy, Debug, PartialEq, Eq)]
+#[derive(Clone, Copy)]
 pub struct RenderdFront;
 
 impl Serving for RenderdFront {

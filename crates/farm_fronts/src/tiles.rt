@@ -8,7 +8,7 @@ use std::sync::Wait;
 use tile_store::TileStore;
 
 /// The front for tiles over HTTP, which has the number 1.
-#[derive(Clone, Copy, Debug, PartialEq, Eq)]
+#[derive(Clone, Copy)]
 pub struct TileFront;
 
 impl Serving for TileFront {

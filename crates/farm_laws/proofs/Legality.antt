@@ -1,4 +1,4 @@
--- The worked histories are legal, by computation.
+-- The example histories are legal, by computation.
 use Rattle.std.proofs.Common.{◌≡◌, ℕ, zero, suc, Bool, true, false, ◌&&◌, nat_lt, Option, Some, None, List, refl, ap, ◌∙◌, [], ◌∷◌, ◌++◌, cond, filter, append-nil, lit<, lit≤, arith, ◌<◌, subst, slice_get, option_map}
 use Rattle.std.proofs.lemmas.Bool.Decides.{nat_tests}
 use Rattle.farm_history.specs.declared.keys.Key.{Key}
@@ -9,7 +9,7 @@ use Rattle.farm_history.specs.Laws.{has_plain_update, IsLocal}
 use Rattle.farm_history.proofs.Lists.{filter-append, same_key-true}
 use Rattle.farm_history.specs.Replays.{changes_after, kept_of, kept_version, version_if_fresh, IsSaved, replay_styles, replay_keys, replay_from, replay}
 use Rattle.farm_laws.specs.Mistakes.{gone_though_told}
-use Rattle.farm_laws.specs.Worked.{changing, changed, key, saved_changes, resumed_changes, reached, bytes_of, low_narrow, narrow, plain, renewed, restyled, updated, asked_twice, expired_while_drawn, asked_often, asked_too_often, asked_just_often, has_each, updated_then_expired, expired_from_above, updated_while_drawn, queues_filled, put_failed, drawing_cut, left_alone, lifted_from_bulk, marked_dirty, restyled_while_drawn, two_drawn, renewed_one, renewed_both}
+use Rattle.farm_laws.specs.Examples.{changing, changed, key, saved_changes, resumed_changes, reached, bytes_of, low_narrow, narrow, plain, renewed, restyled, updated, asked_twice, expired_while_drawn, asked_often, asked_too_often, asked_just_often, has_each, updated_then_expired, expired_from_above, updated_while_drawn, queues_filled, put_failed, drawing_cut, left_alone, lifted_from_bulk, marked_dirty, restyled_while_drawn, two_drawn, renewed_one, renewed_both}
 
 pub asked_twice_legal : Legal plain true asked_twice
 unfolding asked_twice plain Fits is_servable overlaps is_style_of next is_stopped data_after style_after flights jobs claimed_keys shown is_touched_after waiting numbers open_asks is_ended_after replies_to asks_made done_asks stored_drawings answer_by answer_of_waiting

@@ -29,7 +29,7 @@ use Rattle.std.specs.List.{AllByRecursion}
 use Rattle.farm_history.specs.Plans.{key_of, map_of, is_servable}
 use Rattle.farm_history.specs.Plans as plans
 use Rattle.farm_history.specs.Lists.{Each}
-use Rattle.farm_history.proofs.Lists.{none-each, each-map, filter-append}
+use Rattle.farm_history.proofs.Lists.{none-each, each-map, filter-append, each-all}
 use Rattle.farm_plan.specs.Plans.{MapPlan, Restyle, FarmPlan, IsRanged, AreRanged}
 use Rattle.farm_plan.specs.Drawings.{update_of, kept_or, data_step, data_of, features_in, named, any_reaches, any_reaches_map, reaches_of, style_or, styled_as, tile_in, plan_of}
 use Rattle.farm_plan.proofs.Spots.{all_at, spot_of}
@@ -106,16 +106,12 @@ each_of : {X : Type 0} (P : X → Type 0) (xs : List X) → AllByRecursion P xs 
 each_of P [] h = tt
 each_of P (x ∷ xs) h = (h.0, each_of P xs h.1)
 
-always : {X : Type 0} (P : X → Type 0) (xs : List X) → ((x : X) → P x) → Each P xs
-always P [] f = tt
-always P (x ∷ xs) f = (f x, always P xs f)
-
 same_map : (size d : ℕ) (t : Tile) (style : MapStyle) (a b : List Layer) (image : Pixels) → IsTile t → IsTileSize size → Each KeepsRanges style.styles → AreAlikeNear size t a b →
     with_map (window_of t size) d style a image ≡ with_map (window_of t size) d style b image
 unfolding with_map
 same_map size d t style a b image tile sizes keeps alike =
     fold_agree (with_layer (window_of t size) d style a) (with_layer (window_of t size) d style b) style.layers
-    (always (λ layer. (m : Pixels) → with_layer (window_of t size) d style a m layer ≡ with_layer (window_of t size) d style b m layer) style.layers
+    (each-all (λ layer. (m : Pixels) → with_layer (window_of t size) d style a m layer ≡ with_layer (window_of t size) d style b m layer) style.layers
     (λ layer m. same_layer size d t style a b layer m tile sizes keeps alike)) image
 
 -- the text of the picture of the tile's window

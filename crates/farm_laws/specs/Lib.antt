@@ -1,3 +1,3 @@
 pub mod Locality
 pub mod Mistakes
-pub mod Worked
+pub mod Examples

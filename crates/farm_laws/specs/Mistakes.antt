@@ -15,7 +15,7 @@ use Rattle.farm_history.specs.declared.answers.Looked.{Looked}
 use Rattle.farm_history.specs.Entries.{Entry, Ask, Claim, Finish, Update, Renew, Restyle, Expire, Fetch, Look, Leave, Stop, Tally}
 use Rattle.farm_history.specs.Plans.{Plan}
 use Rattle.farm_history.specs.Rules.{Fits, Legal}
-use Rattle.farm_laws.specs.Worked.{goes_on, conn, spot, key, tile, render, drawn, reply}
+use Rattle.farm_laws.specs.Examples.{goes_on, conn, spot, key, tile, render, drawn, reply}
 
 -- the history is legal up to its last entry, and that one's answer is not right
 abbrev pub IsMistake : Plan → List Entry → Type 0

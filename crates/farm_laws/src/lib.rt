@@ -9,7 +9,7 @@ ghost use Rattle.farm_history.specs.Laws.{IsLocal, LawApart, LawNow, LawOneReply
 ghost use Rattle.farm_history.specs.Replays.{LawResumed, IsSaved, replay};
 ghost use Rattle.farm_history.specs.Rules.{Legal};
 ghost use Rattle.farm_laws.specs.Locality.{LawLocal, LawPassedOver, LawSentNow, LawUpdatesLocal};
-ghost use Rattle.farm_laws.specs.Worked.{changing, changed, saved_changes, resumed_changes, low_narrow, narrow, plain, renewed, restyled, updated, asked_twice, expired_while_drawn, updated_then_expired, expired_from_above, updated_while_drawn, queues_filled, asked_just_often, asked_too_often, put_failed, drawing_cut, left_alone, lifted_from_bulk, marked_dirty, restyled_while_drawn, renewed_one, renewed_both, has_each};
+ghost use Rattle.farm_laws.specs.Examples.{changing, changed, saved_changes, resumed_changes, low_narrow, narrow, plain, renewed, restyled, updated, asked_twice, expired_while_drawn, updated_then_expired, expired_from_above, updated_while_drawn, queues_filled, asked_just_often, asked_too_often, put_failed, drawing_cut, left_alone, lifted_from_bulk, marked_dirty, restyled_while_drawn, renewed_one, renewed_both, has_each};
 ghost use Rattle.farm_laws.specs.Mistakes.{IsMistake, stored_clean_though_expired, clean_by_version, dirty_by_update, updated_past_the_table, update_fault_passed_over, queued_while_drawn, claimed_twice, replied_out_of_order, drawn_over_newest_data, expired_on_its_zoom_alone, expired_beside, joined_though_overtaken, dirty_before_low, dropped_though_room, deferred_past_the_limit, more_drawn_than_workers, claimed_after_stop, shown_after_failed_put, done_after_failed_put, stored_though_cut, ended_twice, replied_though_left, left_with_its_items, counted_before_collected, queued_a_second_time, joined_in_bulk, marked_and_clean, clean_in_the_old_style, drawn_in_the_old_style, restyled_past_the_table, clean_though_reached, renewed_out_of_reach, gone_though_told};
 
 /// In each legal history: every tile sent as clean is of a drawing that was claimed and then stored, and nothing
@@ -67,11 +67,11 @@ pub fn law_now()
     ensures { LawSentNow }
 {}
 
-/// Worked histories of small farms are legal, among them one that has all that the laws speak of: a tile
-/// sent as clean, a drawing stored as dirty, an ask answered Done and a reply Done. `specs/Worked.antt`
+/// Example histories of small farms are legal, among them one that has all that the laws speak of: a tile
+/// sent as clean, a drawing stored as dirty, an ask answered Done and a reply Done. `specs/Examples.antt`
 /// has them, each with a line on what it shows. Over a store that does not tell its content, a read may find
 /// that what is shown is gone.
-pub fn worked_histories()
+pub fn example_histories()
     ensures speaks { has_each expired_while_drawn ≡ true }
     ensures draws_locally { IsLocal renewed }
     ensures updates_by_renews { has_plain_update renewed_one ≡ false }

@@ -11,9 +11,9 @@ use Rattle.turn_cell.specs.Turns.{StartsWith}
 use Rattle.turn_cell.specs.SeatStates.{Made, SeatState, IsSeatOf, SameSeat, joining, split_left, split_right}
 use Rattle.render_workers.specs.declared.worker.WorkEnd.{WorkEnd}
 use Rattle.turn_cell.proofs.Logs.{starts_through}
-use Rattle.farm_threads.specs.declared.posts.Posts.{Posts}
+use Rattle.farm_threads.specs.declared.each_front.EachFront.{EachFront}
 use Rattle.farm_threads.specs.declared.crew.Actor.{Actor}
-use Rattle.farm_threads.specs.declared.together.Stage.{Stage}
+use Rattle.farm_threads.specs.declared.together.RunSeats.{RunSeats}
 use Rattle.farm_threads.specs.Actors.{Leaving, HasServed, HasWorked, IsPost, IsReady, HaveServed}
 use Rattle.farm_runs.specs.Promise.{is_worn}
 use Rattle.farm_runs.specs.inner.Chain.{gathered, notes, ends_in, Numbered, IsStart, IsSet, HasLeft, IsSpent, Ran}
@@ -82,18 +82,18 @@ module _ {T : Type 0} (made : Made T) where
   same_some x y is = cc
 
   -- the threads have run
-  pub ran : (l l' l'' : Leaving) (old new : Stage Sat) (told told' : Posts (Outside PortsTold)) (done : Posts FrontDone) (stopped : Bool) → IsSet made (length old.crew.items) old → length new.crew.items ≡ length old.crew.items →
-      ((i : ℕ) (d : Actor Sat) → i < length old.crew.items → HasWorked made (slice_index_or old.crew.items i d) (slice_index_or new.crew.items i d)) → HaveServed made l l' l'' old.desk new.desk told told' done stopped →
-      Ran made l l' l'' old.desk.own new.desk.own new.crew.items told told' done stopped
+  pub ran : (l l' l'' : Leaving) (old new : RunSeats Sat) (told told' : EachFront (Outside PortsTold)) (done : EachFront FrontDone) (stopped : Bool) → IsSet made (length old.crew.items) old → length new.crew.items ≡ length old.crew.items →
+      ((i : ℕ) (d : Actor Sat) → i < length old.crew.items → HasWorked made (slice_index_or old.crew.items i d) (slice_index_or new.crew.items i d)) → HaveServed made l l' l'' old.front_seats new.front_seats told told' done stopped →
+      Ran made l l' l'' old.front_seats.own new.front_seats.own new.crew.items told told' done stopped
   ran l l' l'' old new told told' done stopped set long worked served =
       let same : set.standing.posts ≡ served.began = same_some _ _ (sym set.standing.are ∙ served.are) in
       let spent = all_spent 0 old.crew.items new.crew.items long set.numbered worked in
       record {
-        start_is = subst (λ n. IsStart made n old.desk.own) (sym long) set.own;
+        start_is = subst (λ n. IsStart made n old.front_seats.own) (sym long) set.own;
         posts = served.ended;
-        renderd = has_left 0 l served.began.renderd served.ended.renderd told.renderd told'.renderd done.renderd (subst (λ (p : Posts Sat). IsPost made 0 p.renderd) same set.standing.renderd) served.renderd;
-        tiles = has_left 1 l' served.began.tiles served.ended.tiles told.tiles told'.tiles done.tiles (subst (λ (p : Posts Sat). IsPost made 1 p.tiles) same set.standing.tiles) served.tiles;
-        control = has_left 2 l'' served.began.control served.ended.control told.control told'.control done.control (subst (λ (p : Posts Sat). IsPost made 2 p.control) same set.standing.control) served.control;
+        renderd = has_left 0 l served.began.renderd served.ended.renderd told.renderd told'.renderd done.renderd (subst (λ (p : EachFront Sat). IsPost made 0 p.renderd) same set.standing.renderd) served.renderd;
+        tiles = has_left 1 l' served.began.tiles served.ended.tiles told.tiles told'.tiles done.tiles (subst (λ (p : EachFront Sat). IsPost made 1 p.tiles) same set.standing.tiles) served.tiles;
+        control = has_left 2 l'' served.began.control served.ended.control told.control told'.control done.control (subst (λ (p : EachFront Sat). IsPost made 2 p.control) same set.standing.control) served.control;
         ended = served.own;
         spent = spent.0;
         numbered = spent.1;

@@ -3,6 +3,7 @@ use Rattle.std.proofs.Common.{◌≡◌, inl, inr, ℕ, zero, suc, ◌+◌, ◌^
 use Rattle.std.specs.List.{list_any}
 use Rattle.std.proofs.lemmas.Bool.Decides.{nat_tests}
 use Rattle.std.proofs.lemmas.List.{length-map}
+use Rattle.std.proofs.lemmas.Bool.{or_left, or_right}
 use Rattle.farm_base.specs.Outside.{Outside}
 use Rattle.tile_store.specs.Stores.{StoreTold}
 use Rattle.farm_history.specs.declared.answers.Tally.{Tally as Totals}
@@ -24,7 +25,7 @@ use Rattle.farm_shared.specs.Shared.{lasting_of, past, MayTell, Adds, IsClosed}
 use Rattle.render_workers.specs.declared.worker.WorkEnd.{WorkEnd}
 use Rattle.farm_headline.specs.Headline.{Headline}
 use Rattle.farm_headline.proofs.Sentences.{headline}
-use Rattle.farm_threads.specs.declared.posts.Posts.{Posts}
+use Rattle.farm_threads.specs.declared.each_front.EachFront.{EachFront}
 use Rattle.farm_threads.specs.declared.crew.Actor.{Actor}
 use Rattle.farm_threads.specs.Actors.{Leaving, AreOfFront, WorkBy, with_posts}
 use Rattle.farm_runs.specs.Promise.{Ends, own_entries, is_worn, AreSeated, IsServed, AreWorked, IsStop, RunsWell}
@@ -43,13 +44,6 @@ slice_get_long : {X : Type 0} (xs : List X) (n : ℕ) → slice_get xs n ≡ Non
 slice_get_long [] n is = omega arith
 slice_get_long (x ∷ xs) zero is = cc
 slice_get_long (x ∷ xs) (suc n) is = let ih = slice_get_long xs n is in omega arith
-
-or_left : (a b : Bool) → a ≡ true → (a || b) ≡ true
-or_left a b is = ap (λ c. c || b) is
-
-or_right : (a b : Bool) → b ≡ true → (a || b) ≡ true
-or_right true b is = refl
-or_right false b is = is
 
 module _ {D : Type 0} (state : D → Outside StoreTold) (made : Made (Turned D)) where
   abbrev Sat : Type 0
@@ -91,7 +85,7 @@ module _ {D : Type 0} (state : D → Outside StoreTold) (made : Made (Turned D))
   tally_last u h None a zero_is is same = cc
 
   -- What is known at the end: the last seat h, and all before it.
-  pub record Chain (leaves leaves' leaves'' : Leaving) (start own h : Sat) (crew : List (Actor Sat)) (told told' : Posts (Outside PortsTold)) (done : Posts FrontDone) (worn stopped : Bool) (tally : Option Totals) (farm : FarmSeen D) : Type 0 where
+  pub record Chain (leaves leaves' leaves'' : Leaving) (start own h : Sat) (crew : List (Actor Sat)) (told told' : EachFront (Outside PortsTold)) (done : EachFront FrontDone) (worn stopped : Bool) (tally : Option Totals) (farm : FarmSeen D) : Type 0 where
     pub limit : made.about.limit ≡ 2 ^ 62
     pub as_many : length crew ≡ made.about.first.value.farm.plan.workers
     pub ran : Ran made leaves leaves' leaves'' start own crew told told' done stopped
@@ -105,7 +99,7 @@ module _ {D : Type 0} (state : D → Outside StoreTold) (made : Made (Turned D))
     pub known : Knows h
     pub closed : IsClosed state made.about.limit made.about.first.value.farm h farm
 
-  module _ (leaves leaves' leaves'' : Leaving) (start own h : Sat) (crew : List (Actor Sat)) (told told' : Posts (Outside PortsTold)) (done : Posts FrontDone) (worn stopped : Bool) (tally : Option Totals) (farm : FarmSeen D)
+  module _ (leaves leaves' leaves'' : Leaving) (start own h : Sat) (crew : List (Actor Sat)) (told told' : EachFront (Outside PortsTold)) (done : EachFront FrontDone) (worn stopped : Bool) (tally : Option Totals) (farm : FarmSeen D)
       (c : Chain leaves leaves' leaves'' start own h crew told told' done worn stopped tally farm) where
     abbrev ends_are : Ends
     ends_are = record { worn = worn; stopped = stopped; tally = tally }

@@ -15,7 +15,7 @@ use Rattle.farm_shared.specs.Seats.{plain}
 use Rattle.farm_shared.specs.Shared.{lasting_of, past, MayTell, IsAfter}
 use Rattle.render_workers.specs.declared.worker.WorkEnd.{WorkEnd}
 use Rattle.farm_headline.specs.Headline.{Headline}
-use Rattle.farm_threads.specs.declared.posts.Posts.{Posts}
+use Rattle.farm_threads.specs.declared.each_front.EachFront.{EachFront}
 use Rattle.farm_threads.specs.Actors.{Leaving, WorkBy}
 
 -- A history H of a run is a list of pairs, a seat's number and an entry, in the order of the turns. Seat 0 is the run's own, seats 1 to 3 are those of the fronts, and seat w + 4 is that of worker w.
@@ -40,7 +40,7 @@ is_worn (Some WorkEnd.Stopped) = false
 is_worn None = false
 
 -- the end of front n, which is 1, 2 or 3
-abbrev pub end_of : Posts FrontDone → ℕ → FrontEnd
+abbrev pub end_of : EachFront FrontDone → ℕ → FrontEnd
 end_of done n = if n == 1 then done.renderd.end else if n == 2 then done.tiles.end else done.control.end
 
 -- Whose the entries are: the run's own seat has a Stop and then a Tally, each of which is missing only where all turns were drawn; and there are no entries but its own, the fronts' and the workers'
@@ -69,12 +69,12 @@ pub record AreWorked (workers : ℕ) (worn : Bool) (H : List (ℕ × Entry)) (h 
   pub landed : worn ≡ false → flights h ≡ []
 
 -- A Stop of seat n, before those entries of H: it is the control front's, of whose lines or end it then is by that front's own entries; or it is the last entry of another front, which ended otherwise than Finished; or it is the run's own, after all entries of the fronts
-abbrev pub IsStop : Posts FrontDone → ℕ → List (ℕ × Entry) → Type 0
+abbrev pub IsStop : EachFront FrontDone → ℕ → List (ℕ × Entry) → Type 0
 IsStop done n after =
     (n ≡ 3) ⊎ (((1 ≤ n) × (n ≤ 3) × (by n after ≡ []) × (end_of done n ≢ FrontEnd.Finished)) ⊎ ((n ≡ 0) × (by 1 after ≡ []) × (by 2 after ≡ []) × (by 3 after ≡ [])))
 
 -- The whole promise. `first` is the farm that the run began with, `farm` the one that is left, and H what happened between them
-pub record RunsWell {D : Type 0} (state : D → Outside StoreTold) (first farm : FarmSeen D) (H : List (ℕ × Entry)) (leaves leaves' leaves'' : Leaving) (told told' : Posts (Outside PortsTold)) (done : Posts FrontDone) (ends : Ends) : Type 0 where
+pub record RunsWell {D : Type 0} (state : D → Outside StoreTold) (first farm : FarmSeen D) (H : List (ℕ × Entry)) (leaves leaves' leaves'' : Leaving) (told told' : EachFront (Outside PortsTold)) (done : EachFront FrontDone) (ends : Ends) : Type 0 where
   -- the headline holds of all that happened, after what the farm began with
   pub headline : (tells : Bool) → MayTell state (lasting_of state first) tells → Headline first.plan tells (past (lasting_of state first) H)
   -- the farm that is left stands for it, and kept what no event changes

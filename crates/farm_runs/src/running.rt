@@ -16,7 +16,9 @@ use farm_base::{Bell, Gate};
 use farm_core::Farm;
 use farm_plan::Tally;
 use farm_shared::{Closed, Seat, SharedFarm};
-use farm_threads::{Actor, Cast, Desk, Fronts, Muster, Posts, Serving, Stage, run};
+use farm_threads::{
+    Actor, EachFront, FrontSeats, Fronts, RunActors, RunSeats, Serving, StartBarrier, run,
+};
 use port_trait::{FrontDone, Ports, ThreePorts};
 use std::alloc::Global;
 use std::rt::Clock;
@@ -30,7 +32,7 @@ pub struct Run<D: TileStore> {
     /// The farm, with its whole history.
     pub closed: Closed<D>,
     /// What the fronts answered.
-    pub fronts: Posts<FrontDone>,
+    pub fronts: EachFront<FrontDone>,
     /// Whether the farm was stopped by the run's own turn, after the fronts: not only where all turns were drawn.
     pub stopped: bool,
     /// The farm's counts, taken last; nothing only where all turns were drawn.
@@ -39,13 +41,13 @@ pub struct Run<D: TileStore> {
     pub worn: bool,
 }
 
-/// The stage of a run: the seats of the fronts and of the workers are split from the first.
-fn set_stage<D: TileStore>(
+/// The seats of a run: those of the fronts and of the workers are split from the first.
+fn set_seats<D: TileStore>(
     farm: &SharedFarm<D>,
     own: Seat<D>,
     parkers: Vec<Parker>,
     crew: Vec<Actor<Seat<D>>>,
-) -> Stage<Seat<D>>
+) -> RunSeats<Seat<D>>
     requires own { own ≡ first_of farm.now }
     requires seat { IsSeatOf farm.now own }
     requires few { vec_len parkers ≤ 16 }
@@ -57,8 +59,8 @@ fn set_stage<D: TileStore>(
     let mut crew = crew;
     let posts = seat_posts(farm, &mut own);
     seat_crew(farm, &mut own, parkers, &mut crew);
-    Stage {
-        desk: Desk {
+    RunSeats {
+        front_seats: FrontSeats {
             own,
             posts: Some(posts),
         },
@@ -66,7 +68,7 @@ fn set_stage<D: TileStore>(
     }
 }
 
-/// A run from its stage to its end.
+/// A run from its seats to its end.
 fn act<
     R: Threads + Wait + Clock + Sync,
     D: TileStore + Send,
@@ -79,26 +81,30 @@ fn act<
 >(
     rt: &R,
     farm: SharedFarm<D>,
-    cast: &Cast<F, G, H>,
-    stage: Stage<Seat<D>>,
+    actors: &RunActors<F, G, H>,
+    run_seats: RunSeats<Seat<D>>,
     ports: &mut ThreePorts<P, B>,
     gate: &T,
 ) -> Run<D>
-    requires set { IsSet farm (length stage.crew.items) stage }
+    requires set { IsSet farm (length run_seats.crew.items) run_seats }
     requires limit { farm.about.limit ≡ 2 ^ 62 }
-    requires workers { length stage.crew.items ≡ farm.about.first.value.farm.plan.workers }
-    requires renderd { F.number cast.now.fronts.renderd ≡ 0 }
-    requires tiles { G.number cast.now.fronts.tiles ≡ 1 }
-    requires control { H.number cast.now.fronts.control ≡ 2 }
+    requires workers { length run_seats.crew.items ≡ farm.about.first.value.farm.plan.workers }
+    requires renderd { F.number actors.now.fronts.renderd ≡ 0 }
+    requires tiles { G.number actors.now.fronts.tiles ≡ 1 }
+    requires control { H.number actors.now.fronts.control ≡ 2 }
     ensures { RunsWell D.state farm.about.first.value.farm result.closed.0 result.closed.1
-        (F.leaves cast.now.fronts.renderd (maps_of farm)) (G.leaves cast.now.fronts.tiles (maps_of farm)) (H.leaves cast.now.fronts.control (maps_of farm))
-        (three (P.state ports.old.renderd) (P.state ports.old.tiles) (P.state ports.old.control)) (three (P.state ports.new.renderd) (P.state ports.new.tiles) (P.state ports.new.control))
-        result.fronts (record { worn = result.worn; stopped = result.stopped; tally = result.tally }) }
+        (F.leaves actors.now.fronts.renderd (maps_of farm))
+        (G.leaves actors.now.fronts.tiles (maps_of farm))
+        (H.leaves actors.now.fronts.control (maps_of farm))
+        (three (P.state ports.old.renderd) (P.state ports.old.tiles) (P.state ports.old.control))
+        (three (P.state ports.new.renderd) (P.state ports.new.tiles) (P.state ports.new.control))
+        result.fronts
+        (record { worn = result.worn; stopped = result.stopped; tally = result.tally }) }
 {
-    let mut stage = stage;
-    let (fronts, stopped) = run(rt, cast, &farm, &mut stage, ports, gate);
-    let Stage { desk, crew } = stage;
-    let Desk { own, posts: _ } = desk;
+    let mut run_seats = run_seats;
+    let (fronts, stopped) = run(rt, actors, &farm, &mut run_seats, ports, gate);
+    let RunSeats { front_seats, crew } = run_seats;
+    let FrontSeats { own, posts: _ } = front_seats;
     let (closed, tally, worn) = close_run(rt, farm, own, crew);
     Run {
         closed,
@@ -130,7 +136,8 @@ pub fn run_farm<
     ports: &mut ThreePorts<P, B>,
     gate: &T,
 ) -> Result<Run<D>, Farm<D>>
-    requires stands { (told : Bool) → MayTell D.state (lasting_of D.state farm) told → StandsFor D.state told farm (origin farm.plan farm.saved) }
+    requires stands { (told : Bool) → MayTell D.state (lasting_of D.state farm) told
+        → StandsFor D.state told farm (origin farm.plan farm.saved) }
     requires short { length (origin farm.plan farm.saved) < 2 ^ 62 }
     requires workers { workers ≡ farm.plan.workers }
     requires few { workers ≤ 16 }
@@ -138,8 +145,10 @@ pub fn run_farm<
     requires tiles { G.number fronts.tiles ≡ 1 }
     requires control { H.number fronts.control ≡ 2 }
     ensures ran { IfOk result (λ r. RunsWell D.state farm r.closed.0 r.closed.1
-        (F.leaves fronts.renderd (maps_in farm.plan)) (G.leaves fronts.tiles (maps_in farm.plan)) (H.leaves fronts.control (maps_in farm.plan))
-        (three (P.state ports.old.renderd) (P.state ports.old.tiles) (P.state ports.old.control)) (three (P.state ports.new.renderd) (P.state ports.new.tiles) (P.state ports.new.control))
+        (F.leaves fronts.renderd (maps_in farm.plan)) (G.leaves fronts.tiles (maps_in farm.plan))
+        (H.leaves fronts.control (maps_in farm.plan))
+        (three (P.state ports.old.renderd) (P.state ports.old.tiles) (P.state ports.old.control))
+        (three (P.state ports.new.renderd) (P.state ports.new.tiles) (P.state ports.new.control))
         r.fronts (record { worn = r.worn; stopped = r.stopped; tally = r.tally })) }
     ensures back { IfErr result (λ f. (f ≡ farm) × (ports.new ≡ ports.old)) }
 {
@@ -151,11 +160,11 @@ pub fn run_farm<
     };
     let (shared, own) = SharedFarm::new(alloc, farm)?;
     let Naps { parkers, sleepers } = naps;
-    let cast = Cast {
+    let actors = RunActors {
         fronts,
-        muster: Muster::new(workers as u64 + 3, sleepers),
+        barrier: StartBarrier::new(workers as u64 + 3, sleepers),
         alloc,
     };
-    let stage = set_stage(&shared, own, parkers, crew);
-    Ok(act(rt, shared, &cast, stage, ports, gate))
+    let run_seats = set_seats(&shared, own, parkers, crew);
+    Ok(act(rt, shared, &actors, run_seats, ports, gate))
 }

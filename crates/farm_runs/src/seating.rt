@@ -8,7 +8,7 @@ ghost use Rattle.turn_cell.specs.SeatStates.{IsSeatOf, Knows, split_left, split_
 use crossbeam_utils::sync::{Parker, Unparker};
 use farm_base::NoMemory;
 use farm_shared::{Seat, SharedFarm};
-use farm_threads::{Actor, Posts};
+use farm_threads::{Actor, EachFront};
 use std::alloc::Global;
 use tile_store::TileStore;
 
@@ -48,7 +48,7 @@ fn take_seat<D: TileStore>(farm: &SharedFarm<D>, own: &mut Seat<D>) -> Seat<D>
 }
 
 /// The seats of the fronts, which are the first to be split.
-pub fn seat_posts<D: TileStore>(farm: &SharedFarm<D>, own: &mut Seat<D>) -> Posts<Seat<D>>
+pub fn seat_posts<D: TileStore>(farm: &SharedFarm<D>, own: &mut Seat<D>) -> EachFront<Seat<D>>
     requires seat { IsSeatOf farm.now own.old }
     requires first { own.old.first ≡ true }
     requires unsplit { own.old.splits ≡ 0 }
@@ -60,7 +60,7 @@ pub fn seat_posts<D: TileStore>(farm: &SharedFarm<D>, own: &mut Seat<D>) -> Post
     let renderd = take_seat(farm, own);
     let tiles = take_seat(farm, own);
     let control = take_seat(farm, own);
-    Posts {
+    EachFront {
         renderd,
         tiles,
         control,

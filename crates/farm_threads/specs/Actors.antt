@@ -14,9 +14,9 @@ use Rattle.farm_shared.specs.Seats.{plain}
 use Rattle.farm_shared.specs.Shared.{Adds}
 use Rattle.render_workers.specs.declared.worker.WorkEnd.{WorkEnd}
 use Rattle.render_workers.specs.Rounds.{WorkOf}
-use Rattle.farm_threads.specs.declared.posts.Posts.{Posts}
+use Rattle.farm_threads.specs.declared.each_front.EachFront.{EachFront}
 use Rattle.farm_threads.specs.declared.crew.Actor.{Actor}
-use Rattle.farm_threads.specs.declared.together.Desk.{Desk}
+use Rattle.farm_threads.specs.declared.together.FrontSeats.{FrontSeats}
 
 -- Fronts.
 
@@ -63,7 +63,7 @@ WorkBy w (Some end) es = WorkOf w end es
 -- Seats.
 
 -- the first seat after the seats of the three fronts were joined into it
-abbrev pub with_posts : {T : Type 0} → SeatState T Entry → Posts (SeatState T Entry) → SeatState T Entry
+abbrev pub with_posts : {T : Type 0} → SeatState T Entry → EachFront (SeatState T Entry) → SeatState T Entry
 with_posts v posts = joining (joining (joining v posts.renderd) posts.tiles) posts.control
 
 module _ {T : Type 0} (made : Made T) where
@@ -97,7 +97,7 @@ module _ {T : Type 0} (made : Made T) where
   -- The end of the fronts.
 
   -- The first seat has joined the seats of the fronts, and has then stopped the farm. True where the Stop was entered, false where all turns were drawn
-  pub record HasEnded (v w : SeatState T Entry) (posts : Posts (SeatState T Entry)) (entered : Bool) : Type 0 where
+  pub record HasEnded (v w : SeatState T Entry) (posts : EachFront (SeatState T Entry)) (entered : Bool) : Type 0 where
     pub seat : IsSeatOf made w
     pub same : SameSeat (with_posts v posts) w
     pub known : Knows w
@@ -107,25 +107,25 @@ module _ {T : Type 0} (made : Made T) where
   -- A run.
 
   -- the first seat and those of the fronts before a run; the fronts have these numbers
-  pub record AreStanding (n m k : ℕ) (desk : Desk (SeatState T Entry)) : Type 0 where
-    pub own : IsSeatOf made desk.own
-    pub is_first : desk.own.first ≡ true
-    pub posts : Posts (SeatState T Entry)
-    pub are : desk.posts ≡ Some posts
+  pub record AreStanding (n m k : ℕ) (front_seats : FrontSeats (SeatState T Entry)) : Type 0 where
+    pub own : IsSeatOf made front_seats.own
+    pub is_first : front_seats.own.first ≡ true
+    pub posts : EachFront (SeatState T Entry)
+    pub are : front_seats.posts ≡ Some posts
     pub renderd : IsPost n posts.renderd
     pub tiles : IsPost m posts.tiles
     pub control : IsPost k posts.control
 
   -- The fronts have served through their seats, and left what they leave; then these were joined into the first seat, which stopped the farm
-  pub record HaveServed (leaves leaves' leaves'' : Leaving) (old new : Desk (SeatState T Entry)) (told told' : Posts (Outside PortsTold)) (done : Posts FrontDone) (entered : Bool) : Type 0 where
-    pub began : Posts (SeatState T Entry)
+  pub record HaveServed (leaves leaves' leaves'' : Leaving) (old new : FrontSeats (SeatState T Entry)) (told told' : EachFront (Outside PortsTold)) (done : EachFront FrontDone) (entered : Bool) : Type 0 where
+    pub began : EachFront (SeatState T Entry)
     pub are : old.posts ≡ Some began
-    pub ended : Posts (SeatState T Entry)
+    pub ended : EachFront (SeatState T Entry)
     pub renderd : HasServed leaves began.renderd ended.renderd told.renderd told'.renderd done.renderd
     pub tiles : HasServed leaves' began.tiles ended.tiles told.tiles told'.tiles done.tiles
     pub control : HasServed leaves'' began.control ended.control told.control told'.control done.control
     pub own : HasEnded old.own new.own ended entered
 
 -- what three ports show
-abbrev pub three : Outside PortsTold → Outside PortsTold → Outside PortsTold → Posts (Outside PortsTold)
+abbrev pub three : Outside PortsTold → Outside PortsTold → Outside PortsTold → EachFront (Outside PortsTold)
 three p q r = record { renderd = p; tiles = q; control = r }

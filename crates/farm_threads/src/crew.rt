@@ -7,7 +7,7 @@ ghost use Rattle.farm_shared.specs.declared.turned.Turned.{Turned};
 ghost use Rattle.farm_threads.specs.declared.crew.Actor.{Actor};
 ghost use Rattle.farm_threads.specs.Actors.{HasWorked, IsReady};
 
-use crate::muster::Muster;
+use crate::barrier::StartBarrier;
 use crossbeam_utils::sync::Parker;
 use farm_base::{Bell, Bells, Gate};
 use farm_shared::{Alarms, Seat, SharedFarm, cross};
@@ -35,15 +35,15 @@ fn work_post<R: Wait + Clock, D: TileStore, G: Gate, B: Bell>(
     farm: &SharedFarm<D>,
     actor: &mut Actor<Seat<D>>,
     gate: &G,
-    muster: &Muster,
+    barrier: &StartBarrier,
     bells: &Bells<B>,
 )
     requires { IsReady farm.now actor.old }
     ensures { HasWorked farm.now actor.old actor.new }
 {
-    if muster.begin(rt) {
+    if barrier.begin(rt) {
         let alarms = Alarms {
-            workers: muster.sleepers.as_slice(),
+            workers: barrier.sleepers.as_slice(),
             bells,
         };
         let end = work(
@@ -73,18 +73,19 @@ pub fn work_all<
     farm: &SharedFarm<D>,
     crew: &mut [Actor<Seat<D>>],
     gate: &G,
-    muster: &Muster,
+    barrier: &StartBarrier,
     bells: &Bells<B>,
 )
     requires { All (λ a. IsReady farm.now a) crew.old }
     ensures long { length crew.new ≡ length crew.old }
-    ensures each { (i : ℕ) (d : Actor (SeatState (Turned D) Entry)) → i < length crew.old → HasWorked farm.now (slice_index_or crew.old i d) (slice_index_or crew.new i d) }
+    ensures each { (i : ℕ) (d : Actor (SeatState (Turned D) Entry)) → i < length crew.old
+        → HasWorked farm.now (slice_index_or crew.old i d) (slice_index_or crew.new i d) }
 {
     cross::<D>();
     for_each_mut(
         rt,
         crew,
         16,
-        &|_, actor| { work_post(rt, alloc, farm, actor, gate, muster, bells) },
+        &|_, actor| { work_post(rt, alloc, farm, actor, gate, barrier, bells) },
     );
 }

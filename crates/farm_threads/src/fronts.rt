@@ -5,8 +5,8 @@ ghost use Rattle.farm_threads.specs.Actors.{HasEnded, HasServed, IsPost, IsUnbeg
 ghost use Rattle.farm_shared.specs.Seats.{plain};
 ghost use Rattle.turn_cell.specs.SeatStates.{IsSeatOf, Knows, SameSeat};
 
-use crate::muster::Muster;
-use crate::posts::{Cast, Posts};
+use crate::barrier::StartBarrier;
+use crate::each_front::{EachFront, RunActors};
 use crate::serving::Serving;
 use farm_base::{Bell, Bells};
 use farm_shared::{Alarms, Seat, SharedFarm, cross};
@@ -50,17 +50,18 @@ fn serve_post<R: Wait + Clock, D: TileStore, F: Serving, P: Ports, B: Bell>(
     farm: &SharedFarm<D>,
     seat: &mut Seat<D>,
     ports: &mut P,
-    muster: &Muster,
+    barrier: &StartBarrier,
     bells: &Bells<B>,
 ) -> FrontDone
     requires { IsPost farm.now (F.number front.now) seat.old }
-    ensures { HasServed farm.now (F.leaves front.now (maps_of farm.now)) seat.old seat.new (P.state ports.old) (P.state ports.new) result }
+    ensures { HasServed farm.now (F.leaves front.now (maps_of farm.now)) seat.old seat.new
+        (P.state ports.old) (P.state ports.new) result }
 {
     let alarms = Alarms {
-        workers: muster.sleepers.as_slice(),
+        workers: barrier.sleepers.as_slice(),
         bells,
     };
-    let done = if muster.begin(rt) {
+    let done = if barrier.begin(rt) {
         front.serve(rt, alloc, farm, seat, ports, &alarms)
     } else {
         turn_away(rt, alloc, farm, seat)
@@ -80,23 +81,24 @@ fn serve_renderd<
     B: Bell,
 >(
     rt: &R,
-    cast: &Cast<F, G, H>,
+    actors: &RunActors<F, G, H>,
     farm: &SharedFarm<D>,
     seat: &mut Seat<D>,
     ports: &mut P,
     bells: &Bells<B>,
 ) -> FrontDone
-    requires { IsPost farm.now (F.number cast.now.fronts.renderd) seat.old }
-    ensures { HasServed farm.now (F.leaves cast.now.fronts.renderd (maps_of farm.now)) seat.old seat.new (P.state ports.old) (P.state ports.new) result }
+    requires { IsPost farm.now (F.number actors.now.fronts.renderd) seat.old }
+    ensures { HasServed farm.now (F.leaves actors.now.fronts.renderd (maps_of farm.now)) seat.old
+        seat.new (P.state ports.old) (P.state ports.new) result }
 {
     serve_post(
         rt,
-        cast.alloc,
-        &cast.fronts.renderd,
+        actors.alloc,
+        &actors.fronts.renderd,
         farm,
         seat,
         ports,
-        &cast.muster,
+        &actors.barrier,
         bells,
     )
 }
@@ -112,23 +114,24 @@ fn serve_tiles<
     B: Bell,
 >(
     rt: &R,
-    cast: &Cast<F, G, H>,
+    actors: &RunActors<F, G, H>,
     farm: &SharedFarm<D>,
     seat: &mut Seat<D>,
     ports: &mut P,
     bells: &Bells<B>,
 ) -> FrontDone
-    requires { IsPost farm.now (G.number cast.now.fronts.tiles) seat.old }
-    ensures { HasServed farm.now (G.leaves cast.now.fronts.tiles (maps_of farm.now)) seat.old seat.new (P.state ports.old) (P.state ports.new) result }
+    requires { IsPost farm.now (G.number actors.now.fronts.tiles) seat.old }
+    ensures { HasServed farm.now (G.leaves actors.now.fronts.tiles (maps_of farm.now)) seat.old
+        seat.new (P.state ports.old) (P.state ports.new) result }
 {
     serve_post(
         rt,
-        cast.alloc,
-        &cast.fronts.tiles,
+        actors.alloc,
+        &actors.fronts.tiles,
         farm,
         seat,
         ports,
-        &cast.muster,
+        &actors.barrier,
         bells,
     )
 }
@@ -144,23 +147,24 @@ fn serve_control<
     B: Bell,
 >(
     rt: &R,
-    cast: &Cast<F, G, H>,
+    actors: &RunActors<F, G, H>,
     farm: &SharedFarm<D>,
     seat: &mut Seat<D>,
     ports: &mut P,
     bells: &Bells<B>,
 ) -> FrontDone
-    requires { IsPost farm.now (H.number cast.now.fronts.control) seat.old }
-    ensures { HasServed farm.now (H.leaves cast.now.fronts.control (maps_of farm.now)) seat.old seat.new (P.state ports.old) (P.state ports.new) result }
+    requires { IsPost farm.now (H.number actors.now.fronts.control) seat.old }
+    ensures { HasServed farm.now (H.leaves actors.now.fronts.control (maps_of farm.now)) seat.old
+        seat.new (P.state ports.old) (P.state ports.new) result }
 {
     serve_post(
         rt,
-        cast.alloc,
-        &cast.fronts.control,
+        actors.alloc,
+        &actors.fronts.control,
         farm,
         seat,
         ports,
-        &cast.muster,
+        &actors.barrier,
         bells,
     )
 }
@@ -176,20 +180,23 @@ pub fn serve_posts<
     B: Bell + Sync,
 >(
     rt: &R,
-    cast: &Cast<F, G, H>,
+    actors: &RunActors<F, G, H>,
     farm: &SharedFarm<D>,
-    posts: &mut Posts<Seat<D>>,
+    posts: &mut EachFront<Seat<D>>,
     p: &mut P,
     q: &mut P,
     r: &mut P,
     bells: &Bells<B>,
-) -> Posts<FrontDone>
-    requires renderd { IsPost farm.now (F.number cast.now.fronts.renderd) posts.old.renderd }
-    requires tiles { IsPost farm.now (G.number cast.now.fronts.tiles) posts.old.tiles }
-    requires control { IsPost farm.now (H.number cast.now.fronts.control) posts.old.control }
-    ensures renderd { HasServed farm.now (F.leaves cast.now.fronts.renderd (maps_of farm.now)) posts.old.renderd posts.new.renderd (P.state p.old) (P.state p.new) result.renderd }
-    ensures tiles { HasServed farm.now (G.leaves cast.now.fronts.tiles (maps_of farm.now)) posts.old.tiles posts.new.tiles (P.state q.old) (P.state q.new) result.tiles }
-    ensures control { HasServed farm.now (H.leaves cast.now.fronts.control (maps_of farm.now)) posts.old.control posts.new.control (P.state r.old) (P.state r.new) result.control }
+) -> EachFront<FrontDone>
+    requires renderd { IsPost farm.now (F.number actors.now.fronts.renderd) posts.old.renderd }
+    requires tiles { IsPost farm.now (G.number actors.now.fronts.tiles) posts.old.tiles }
+    requires control { IsPost farm.now (H.number actors.now.fronts.control) posts.old.control }
+    ensures renderd { HasServed farm.now (F.leaves actors.now.fronts.renderd (maps_of farm.now))
+        posts.old.renderd posts.new.renderd (P.state p.old) (P.state p.new) result.renderd }
+    ensures tiles { HasServed farm.now (G.leaves actors.now.fronts.tiles (maps_of farm.now))
+        posts.old.tiles posts.new.tiles (P.state q.old) (P.state q.new) result.tiles }
+    ensures control { HasServed farm.now (H.leaves actors.now.fronts.control (maps_of farm.now))
+        posts.old.control posts.new.control (P.state r.old) (P.state r.new) result.control }
 {
     cross::<D>();
     let one = &mut posts.renderd;
@@ -198,30 +205,44 @@ pub fn serve_posts<
     let (renderd, (tiles, control)) = join_mut(
         rt,
         &mut || -> FrontDone
-            requires { IsPost farm.now (F.number cast.now.fronts.renderd) one.now }
-            ensures { HasServed farm.entry.now (F.leaves cast.entry.now.fronts.renderd (maps_of farm.entry.now)) one.entry.now one.exit.now (P.state p.entry.now) (P.state p.exit.now) result }
-        { serve_renderd(rt, cast, farm, one, p, bells) },
+            requires { IsPost farm.now (F.number actors.now.fronts.renderd) one.now }
+            ensures { HasServed farm.entry.now
+                (F.leaves actors.entry.now.fronts.renderd (maps_of farm.entry.now)) one.entry.now
+                one.exit.now (P.state p.entry.now) (P.state p.exit.now) result }
+        { serve_renderd(rt, actors, farm, one, p, bells) },
         &mut || -> (FrontDone, FrontDone)
-            requires { IsSync R.row × IsSync B.row × IsSend P.row × IsSend D.row × IsSync F.row × IsSync G.row × IsSync H.row
-                × IsPost farm.now (G.number cast.now.fronts.tiles) two.now × IsPost farm.now (H.number cast.now.fronts.control) three.now }
-            ensures { HasServed farm.entry.now (G.leaves cast.entry.now.fronts.tiles (maps_of farm.entry.now)) two.entry.now two.exit.now (P.state q.entry.now) (P.state q.exit.now) result.0
-                × HasServed farm.entry.now (H.leaves cast.entry.now.fronts.control (maps_of farm.entry.now)) three.entry.now three.exit.now (P.state r.entry.now) (P.state r.exit.now) result.1 }
+            requires { IsSync R.row × IsSync B.row × IsSend P.row × IsSend D.row × IsSync F.row
+                × IsSync G.row × IsSync H.row
+                × IsPost farm.now (G.number actors.now.fronts.tiles) two.now
+                × IsPost farm.now (H.number actors.now.fronts.control) three.now }
+            ensures { HasServed farm.entry.now
+                (G.leaves actors.entry.now.fronts.tiles (maps_of farm.entry.now)) two.entry.now
+                two.exit.now (P.state q.entry.now) (P.state q.exit.now) result.0
+                × HasServed farm.entry.now
+                (H.leaves actors.entry.now.fronts.control (maps_of farm.entry.now)) three.entry.now
+                three.exit.now (P.state r.entry.now) (P.state r.exit.now) result.1 }
         {
             cross::<D>();
             join_mut(
                 rt,
                 &mut || -> FrontDone
-                    requires { IsPost farm.now (G.number cast.now.fronts.tiles) two.now }
-                    ensures { HasServed farm.entry.now (G.leaves cast.entry.now.fronts.tiles (maps_of farm.entry.now)) two.entry.now two.exit.now (P.state q.entry.now) (P.state q.exit.now) result }
-                { serve_tiles(rt, cast, farm, two, q, bells) },
+                    requires { IsPost farm.now (G.number actors.now.fronts.tiles) two.now }
+                    ensures { HasServed farm.entry.now
+                        (G.leaves actors.entry.now.fronts.tiles (maps_of farm.entry.now))
+                        two.entry.now two.exit.now (P.state q.entry.now)
+                        (P.state q.exit.now) result }
+                { serve_tiles(rt, actors, farm, two, q, bells) },
                 &mut || -> FrontDone
-                    requires { IsPost farm.now (H.number cast.now.fronts.control) three.now }
-                    ensures { HasServed farm.entry.now (H.leaves cast.entry.now.fronts.control (maps_of farm.entry.now)) three.entry.now three.exit.now (P.state r.entry.now) (P.state r.exit.now) result }
-                { serve_control(rt, cast, farm, three, r, bells) },
+                    requires { IsPost farm.now (H.number actors.now.fronts.control) three.now }
+                    ensures { HasServed farm.entry.now
+                        (H.leaves actors.entry.now.fronts.control (maps_of farm.entry.now))
+                        three.entry.now three.exit.now (P.state r.entry.now)
+                        (P.state r.exit.now) result }
+                { serve_control(rt, actors, farm, three, r, bells) },
             )
         },
     );
-    Posts {
+    EachFront {
         renderd,
         tiles,
         control,
@@ -234,7 +255,7 @@ pub fn end_fronts<R: Wait, D: TileStore>(
     rt: &R,
     farm: &SharedFarm<D>,
     own: &mut Seat<D>,
-    posts: Posts<Seat<D>>,
+    posts: EachFront<Seat<D>>,
 ) -> bool
     requires own { IsSeatOf farm.now own.old }
     requires first { own.old.first ≡ true }
@@ -243,7 +264,7 @@ pub fn end_fronts<R: Wait, D: TileStore>(
     requires control { IsSeatOf farm.now posts.control }
     ensures { HasEnded farm.now own.old own.new posts result }
 {
-    let Posts {
+    let EachFront {
         renderd,
         tiles,
         control,

@@ -2,15 +2,15 @@
 //! shared farm. When the fronts have ended the farm is stopped, and then the workers end.
 #![tactic(auto)]
 
+mod barrier;
 mod crew;
+mod each_front;
 mod fronts;
-mod muster;
-mod posts;
 mod serving;
 mod together;
 
+pub use barrier::StartBarrier;
 pub use crew::Actor;
-pub use muster::Muster;
-pub use posts::{Cast, Fronts, Posts};
+pub use each_front::{EachFront, Fronts, RunActors};
 pub use serving::Serving;
-pub use together::{Desk, Stage, run};
+pub use together::{FrontSeats, RunSeats, run};

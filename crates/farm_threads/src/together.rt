@@ -8,8 +8,8 @@ ghost use Rattle.farm_threads.specs.declared.crew.Actor.{Actor};
 ghost use Rattle.farm_threads.specs.Actors.{AreStanding, HasWorked, HaveServed, IsReady, maps_of, three};
 
 use crate::crew::{Actor, work_all};
+use crate::each_front::{EachFront, RunActors};
 use crate::fronts::{end_fronts, serve_posts};
-use crate::posts::{Cast, Posts};
 use crate::serving::Serving;
 use farm_base::{Bell, Bells, Gate};
 use farm_shared::{Alarms, Seat, SharedFarm, cross};
@@ -21,19 +21,19 @@ use tile_store::TileStore;
 
 /// The first seat of a farm, and those of its fronts until they are joined into it.
 #[derive(Drop)]
-pub struct Desk<S> {
+pub struct FrontSeats<S> {
     pub own: S,
-    pub posts: Option<Posts<S>>,
+    pub posts: Option<EachFront<S>>,
 }
 
 /// All seats of a run.
 #[derive(Drop)]
-pub struct Stage<S> {
-    pub desk: Desk<S>,
+pub struct RunSeats<S> {
+    pub front_seats: FrontSeats<S>,
     pub crew: Vec<Actor<S>>,
 }
 
-/// The fronts, through the seats that stand at the desk.
+/// The fronts, through their seats.
 fn serve_slot<
     R: Threads + Wait + Clock + Sync,
     D: TileStore + Send,
@@ -44,26 +44,30 @@ fn serve_slot<
     B: Bell + Sync,
 >(
     rt: &R,
-    cast: &Cast<F, G, H>,
+    actors: &RunActors<F, G, H>,
     farm: &SharedFarm<D>,
-    desk: &mut Desk<Seat<D>>,
+    front_seats: &mut FrontSeats<Seat<D>>,
     p: &mut P,
     q: &mut P,
     r: &mut P,
     bells: &Bells<B>,
-) -> (Posts<FrontDone>, bool)
-    requires { AreStanding farm.now (F.number cast.now.fronts.renderd) (G.number cast.now.fronts.tiles) (H.number cast.now.fronts.control) desk.old }
-    ensures { HaveServed farm.now (F.leaves cast.now.fronts.renderd (maps_of farm.now)) (G.leaves cast.now.fronts.tiles (maps_of farm.now)) (H.leaves cast.now.fronts.control (maps_of farm.now)) desk.old desk.new
-        (three (P.state p.old) (P.state q.old) (P.state r.old)) (three (P.state p.new) (P.state q.new) (P.state r.new)) result.0 result.1 }
+) -> (EachFront<FrontDone>, bool)
+    requires { AreStanding farm.now (F.number actors.now.fronts.renderd)
+        (G.number actors.now.fronts.tiles) (H.number actors.now.fronts.control) front_seats.old }
+    ensures { HaveServed farm.now (F.leaves actors.now.fronts.renderd (maps_of farm.now))
+        (G.leaves actors.now.fronts.tiles (maps_of farm.now))
+        (H.leaves actors.now.fronts.control (maps_of farm.now)) front_seats.old front_seats.new
+        (three (P.state p.old) (P.state q.old) (P.state r.old))
+        (three (P.state p.new) (P.state q.new) (P.state r.new)) result.0 result.1 }
 {
-    let Some(posts) = desk.posts.take() else {
+    let Some(posts) = front_seats.posts.take() else {
         unreachable!()
     };
     let mut posts = posts;
-    let done = serve_posts(rt, cast, farm, &mut posts, p, q, r, bells);
-    let entered = end_fronts(rt, farm, &mut desk.own, posts);
+    let done = serve_posts(rt, actors, farm, &mut posts, p, q, r, bells);
+    let entered = end_fronts(rt, farm, &mut front_seats.own, posts);
     let alarms = Alarms {
-        workers: cast.muster.sleepers.as_slice(),
+        workers: actors.barrier.sleepers.as_slice(),
         bells,
     };
     alarms.ring_all();
@@ -84,41 +88,64 @@ pub fn run<
     T: Gate + Sync,
 >(
     rt: &R,
-    cast: &Cast<F, G, H>,
+    actors: &RunActors<F, G, H>,
     farm: &SharedFarm<D>,
-    stage: &mut Stage<Seat<D>>,
+    run_seats: &mut RunSeats<Seat<D>>,
     ports: &mut ThreePorts<P, B>,
     gate: &T,
-) -> (Posts<FrontDone>, bool)
-    requires crew { All (λ a. IsReady farm.now a) stage.old.crew.items }
-    requires desk { AreStanding farm.now (F.number cast.now.fronts.renderd) (G.number cast.now.fronts.tiles) (H.number cast.now.fronts.control) stage.old.desk }
-    ensures long { length stage.new.crew.items ≡ length stage.old.crew.items }
-    ensures crew { (i : ℕ) (d : Actor (SeatState (Turned D) Entry)) → i < length stage.old.crew.items → HasWorked farm.now (slice_index_or stage.old.crew.items i d) (slice_index_or stage.new.crew.items i d) }
-    ensures fronts { HaveServed farm.now (F.leaves cast.now.fronts.renderd (maps_of farm.now)) (G.leaves cast.now.fronts.tiles (maps_of farm.now)) (H.leaves cast.now.fronts.control (maps_of farm.now)) stage.old.desk stage.new.desk
-        (three (P.state ports.old.renderd) (P.state ports.old.tiles) (P.state ports.old.control)) (three (P.state ports.new.renderd) (P.state ports.new.tiles) (P.state ports.new.control)) result.0 result.1 }
+) -> (EachFront<FrontDone>, bool)
+    requires crew { All (λ a. IsReady farm.now a) run_seats.old.crew.items }
+    requires front_seats { AreStanding farm.now (F.number actors.now.fronts.renderd)
+        (G.number actors.now.fronts.tiles)
+        (H.number actors.now.fronts.control) run_seats.old.front_seats }
+    ensures long { length run_seats.new.crew.items ≡ length run_seats.old.crew.items }
+    ensures crew { (i : ℕ) (d : Actor (SeatState (Turned D) Entry))
+        → i < length run_seats.old.crew.items
+        → HasWorked farm.now (slice_index_or run_seats.old.crew.items i d)
+        (slice_index_or run_seats.new.crew.items i d) }
+    ensures fronts { HaveServed farm.now (F.leaves actors.now.fronts.renderd (maps_of farm.now))
+        (G.leaves actors.now.fronts.tiles (maps_of farm.now))
+        (H.leaves actors.now.fronts.control (maps_of farm.now)) run_seats.old.front_seats
+        run_seats.new.front_seats
+        (three (P.state ports.old.renderd) (P.state ports.old.tiles) (P.state ports.old.control))
+        (three (P.state ports.new.renderd) (P.state ports.new.tiles) (P.state ports.new.control))
+        result.0 result.1 }
 {
     cross::<D>();
     let bells = &ports.bells;
     let p = &mut ports.renderd;
     let q = &mut ports.tiles;
     let r = &mut ports.control;
-    let crew = &mut stage.crew;
-    let desk = &mut stage.desk;
-    let muster = &cast.muster;
-    let alloc = cast.alloc;
+    let crew = &mut run_seats.crew;
+    let front_seats = &mut run_seats.front_seats;
+    let barrier = &actors.barrier;
+    let alloc = actors.alloc;
     let (_, done) = join_mut(
         rt,
         &mut || -> ()
-            requires { IsSync R.row × IsSync B.row × IsSync T.row × IsSend D.row × All (λ a. IsReady farm.now a) crew.now.items }
+            requires { IsSync R.row × IsSync B.row × IsSync T.row × IsSend D.row
+                × All (λ a. IsReady farm.now a) crew.now.items }
             ensures long { length crew.exit.now.items ≡ length crew.entry.now.items }
-            ensures each { (i : ℕ) (d : Actor (SeatState (Turned D) Entry)) → i < length crew.entry.now.items → HasWorked farm.entry.now (slice_index_or crew.entry.now.items i d) (slice_index_or crew.exit.now.items i d) }
-        { work_all(rt, alloc, farm, crew.as_mut_slice(), gate, muster, bells) },
-        &mut || -> (Posts<FrontDone>, bool)
-            requires { IsSync R.row × IsSync B.row × IsSend P.row × IsSend D.row × IsSync F.row × IsSync G.row × IsSync H.row
-                × AreStanding farm.now (F.number cast.now.fronts.renderd) (G.number cast.now.fronts.tiles) (H.number cast.now.fronts.control) desk.now }
-            ensures { HaveServed farm.entry.now (F.leaves cast.entry.now.fronts.renderd (maps_of farm.entry.now)) (G.leaves cast.entry.now.fronts.tiles (maps_of farm.entry.now)) (H.leaves cast.entry.now.fronts.control (maps_of farm.entry.now)) desk.entry.now desk.exit.now
-                (three (P.state p.entry.now) (P.state q.entry.now) (P.state r.entry.now)) (three (P.state p.exit.now) (P.state q.exit.now) (P.state r.exit.now)) result.0 result.1 }
-        { serve_slot(rt, cast, farm, desk, p, q, r, bells) },
+            ensures each { (i : ℕ) (d : Actor (SeatState (Turned D) Entry))
+                → i < length crew.entry.now.items
+                → HasWorked farm.entry.now (slice_index_or crew.entry.now.items i d)
+                (slice_index_or crew.exit.now.items i d) }
+        { work_all(rt, alloc, farm, crew.as_mut_slice(), gate, barrier, bells) },
+        &mut || -> (EachFront<FrontDone>, bool)
+            requires { IsSync R.row × IsSync B.row × IsSend P.row × IsSend D.row × IsSync F.row
+                × IsSync G.row × IsSync H.row
+                × AreStanding farm.now (F.number actors.now.fronts.renderd)
+                (G.number actors.now.fronts.tiles)
+                (H.number actors.now.fronts.control) front_seats.now }
+            ensures { HaveServed farm.entry.now
+                (F.leaves actors.entry.now.fronts.renderd (maps_of farm.entry.now))
+                (G.leaves actors.entry.now.fronts.tiles (maps_of farm.entry.now))
+                (H.leaves actors.entry.now.fronts.control (maps_of farm.entry.now))
+                front_seats.entry.now front_seats.exit.now
+                (three (P.state p.entry.now) (P.state q.entry.now) (P.state r.entry.now))
+                (three (P.state p.exit.now) (P.state q.exit.now) (P.state r.exit.now)) result.0
+                result.1 }
+        { serve_slot(rt, actors, farm, front_seats, p, q, r, bells) },
     );
     done
 }

@@ -14,15 +14,9 @@ mod saved_faults;
 mod style_faults;
 mod told;
 
-pub use config_faults::config_text;
-pub use data_faults::data_text;
 pub use laws::{
     law_configs_are_told, law_data_are_told, law_lines_are_told, law_rasters_are_told,
     law_saved_are_told, law_styles_are_told,
 };
-pub use line_faults::{list_text, script_text};
-pub use meta_faults::meta_text;
 pub use raster_faults::{grid_text, ppm_text};
-pub use saved_faults::saved_text;
-pub use style_faults::style_text;
 pub use told::FaultText;

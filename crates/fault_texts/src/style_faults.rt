@@ -3,26 +3,31 @@ ghost use Rattle.std.specs.Prelude.{◌≡◌, ◌++◌, Some, IfOk, codes};
 ghost use Rattle.std.specs.Fmt.{decimal};
 ghost use Rattle.fault_texts.specs.StyleFaults as spec;
 
+use crate::told::FaultText;
 use farm_base::{NoMemory, Text};
 use filter_expr::FilterFault;
 use std::alloc::Global;
 use style_objects::{At, Part, StyleFault};
 
-/// The text of a style's fault: its number, with the kind and the three places of the object that it
-/// stands in, and the number and offset of a filter's fault.
-pub fn style_text(alloc: Global, fault: StyleFault) -> Result<Text, NoMemory>
-    ensures { IfOk result (λ t. spec.style_text fault ≡ Some t) }
-{
-    match fault {
-        StyleFault::NotJson => Text::of(alloc, "style 1"),
-        StyleFault::Shape(at) => text_at(alloc, "style 2", at),
-        StyleFault::Filter(at, filter) => filter_text_at(alloc, at, filter),
-        StyleFault::Text(at) => text_at(alloc, "style 4", at),
-        StyleFault::NoStyle(at) => text_at(alloc, "style 5", at),
-        StyleFault::Double(at) => text_at(alloc, "style 6", at),
-        StyleFault::Unsupported(at) => text_at(alloc, "style 7", at),
-        StyleFault::Range(at) => text_at(alloc, "style 8", at),
-        StyleFault::NoMemory => Err(NoMemory),
+// The text of a style's fault: its number, with the kind and the three places of the object that it
+// stands in, and the number and offset of a filter's fault.
+impl FaultText for StyleFault {
+    ghost use Rattle.fault_texts.specs.StyleFaults.{style_text};
+
+    ghost text = { style_text };
+
+    fn text(self, alloc: Global) -> Result<Text, NoMemory> {
+        match self {
+            StyleFault::NotJson => Text::of(alloc, "style 1"),
+            StyleFault::Shape(at) => text_at(alloc, "style 2", at),
+            StyleFault::Filter(at, filter) => filter_text_at(alloc, at, filter),
+            StyleFault::Text(at) => text_at(alloc, "style 4", at),
+            StyleFault::NoStyle(at) => text_at(alloc, "style 5", at),
+            StyleFault::Double(at) => text_at(alloc, "style 6", at),
+            StyleFault::Unsupported(at) => text_at(alloc, "style 7", at),
+            StyleFault::Range(at) => text_at(alloc, "style 8", at),
+            StyleFault::NoMemory => Err(NoMemory),
+        }
     }
 }
 
@@ -60,14 +65,16 @@ fn filter_text_at(alloc: Global, at: At, fault: FilterFault) -> Result<Text, NoM
 }
 
 fn offset_text_at(alloc: Global, at: At, filter: &str, offset: usize) -> Result<Text, NoMemory>
-    ensures { IfOk result (λ t. t ≡ codes "style 3" ++ spec.at_text at ++ codes " " ++ filter.now ++ codes " " ++ decimal offset) }
+    ensures { IfOk result (λ t. t ≡ codes "style 3" ++ spec.at_text at ++ codes " " ++ filter.now ++
+        codes " " ++ decimal offset) }
 {
     let style = text_at(alloc, "style 3", at)?;
     offset_text(alloc, style.as_str(), filter, offset)
 }
 
 fn offset_text(alloc: Global, style: &str, filter: &str, offset: usize) -> Result<Text, NoMemory>
-    ensures { IfOk result (λ t. t ≡ style.now ++ codes " " ++ filter.now ++ codes " " ++ decimal offset) }
+    ensures { IfOk result (λ t. t ≡ style.now ++ codes " " ++ filter.now ++ codes " " ++ decimal
+        offset) }
 {
     Ok(Text::from_string(format!(in alloc; "{style} {filter} {offset}")?))
 }

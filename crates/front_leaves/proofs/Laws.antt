@@ -24,6 +24,7 @@ use Rattle.tile_pages.specs.Tiles.{rules_of as tile_rules}
 use Rattle.tile_pages.proofs.OwnEntries as tiles
 use Rattle.farm_threads.specs.Actors.{IsOfFront, AreOfFront, IsUnbegun}
 use Rattle.front_leaves.specs.Fronts.{Leaves, renderd_leaves, tiles_leave, control_leaves}
+use Rattle.farm_history.proofs.Lists.{each-join}
 
 -- Which entries are of no front, as a test.
 
@@ -51,10 +52,6 @@ each_of_front n (e ∷ es) none = go (is_foreign n e) refl (each_of_front n es) 
     go true is rest none = cc
     go false is rest none = (of_front n e is, rest none)
 
-each_append : {X : Type 0} (P : X → Type 0) (xs ys : List X) → Each P xs → Each P ys → Each P (xs ++ ys)
-each_append P [] ys a b = b
-each_append P (x ∷ xs) ys a b = (a.0, each_append P xs ys a.1 b)
-
 -- What is so of every front.
 
 may_stop : {A W : Type 0} (R : Rules A W) (ss : List (Step A)) (stop : List Entry) (worn : Bool) (end : FrontEnd) → EndFits R end ss stop worn → (stop ≡ []) ⊎ ((stop ≡ Stop ∷ []) × (end ≢ FrontEnd.Finished))
@@ -73,11 +70,11 @@ module _ {A W : Type 0} (R : Rules A W) where
     each_own : (ss : List (Step A)) → Sound R ss → Each (IsOfFront n) (own R ss)
     each_own [] sound = tt
     each_own (Came e piece kept ∷ ss) sound = each_own ss sound.1
-    each_own (Did c a ∷ ss) sound = each_append (IsOfFront n) (own R ss) (R.entries c a) (each_own ss sound.1) (acts c a)
-    each_own (Got r behind ∷ ss) sound = each_append (IsOfFront n) (own R ss) _ (each_own ss sound.1) (tt, behinds _ r behind sound.0.1)
-    each_own (Through stopped ∷ ss) sound = each_append (IsOfFront n) (own R ss) _ (each_own ss sound.1) (tt, tt)
+    each_own (Did c a ∷ ss) sound = each-join (IsOfFront n) (own R ss) (R.entries c a) (each_own ss sound.1) (acts c a)
+    each_own (Got r behind ∷ ss) sound = each-join (IsOfFront n) (own R ss) _ (each_own ss sound.1) (tt, behinds _ r behind sound.0.1)
+    each_own (Through stopped ∷ ss) sound = each-join (IsOfFront n) (own R ss) _ (each_own ss sound.1) (tt, tt)
     each_own (Tried c taken ∷ ss) sound = each_own ss sound.1
-    each_own (Left c asks why ∷ ss) sound = each_append (IsOfFront n) (own R ss) _ (each_own ss sound.1) (tt, tt)
+    each_own (Left c asks why ∷ ss) sound = each-join (IsOfFront n) (own R ss) _ (each_own ss sound.1) (tt, tt)
 
     kinds : (shown after : Outside PortsTold) (es : List Entry) (done : FrontDone) (worn : Bool) → Leaves R shown after es done worn → AreOfFront n es done.end
     kinds shown after es done worn left = record {

@@ -8,7 +8,8 @@ use Rattle.std.proofs.lemmas.Bool.Decides.{nat_tests}
 use Rattle.std.proofs.lemmas.List.{map-append}
 use Rattle.std.proofs.lemmas.List.Elements.{All-from_recursion, All-push}
 use Rattle.std.proofs.lemmas.Map.Keys.{IsDistinct-push}
-use Rattle.std.proofs.lemmas.Cmp.{nat_list_eq_equiv}
+use Rattle.std.proofs.lemmas.Cmp.{nat_list_eq_equiv, nat_eq_equiv}
+use Rattle.std.proofs.lemmas.Bool.{and_parts, not-true}
 use Rattle.serde_json.specs.declared.value.Value.{Value}
 use Rattle.serde_json.specs.Events.{items_len}
 use Rattle.serde_json.specs.View.{items_view}
@@ -19,43 +20,25 @@ use Rattle.geo_json.specs.FeatureTexts.{is_new}
 use Rattle.geo_json.specs.DataTexts.{has_layer}
 use Rattle.geo_json.specs.DataTexts as data_texts
 use Rattle.geo_json.specs.UpdateTexts as update_texts
+use Rattle.reading.proofs.Members.{items_len_of}
 
 -- ---- how many values
 
-pub values_len : (vs : List Value) → items_len (items_view vs) ≡ length vs
-values_len [] = refl
-values_len (v ∷ vs) = ap (λ n. suc n) (values_len vs)
-
 pub values_few : (vs : List Value) → nat_le (items_len (items_view vs)) 1000000 ≡ true → length vs ≤ 1000000
-values_few vs few = let short : items_len (items_view vs) ≤ 1000000 = grind (arith, nat_tests) in rw (values_len vs) at short
+values_few vs few = let short : items_len (items_view vs) ≤ 1000000 = grind (arith, nat_tests) in rw (items_len_of vs) at short
 
 -- ---- tests
-
-and_left : (a b : Bool) → (a && b) ≡ true → a ≡ true
-and_left true b h = refl
-and_left false b h = absurd (cc)
-
-and_right : (a b : Bool) → (a && b) ≡ true → b ≡ true
-and_right true b h = h
-and_right false b h = absurd (cc)
-
-not_true : (b : Bool) → not b ≡ true → b ≡ false
-not_true true h = absurd (cc)
-not_true false h = refl
-
-equal_ids : IsEquivalence nat_eq
-equal_ids = record { refl = λ x. grind (arith, nat_tests); symm = λ x y. grind (arith, nat_tests); congr = λ x y z h. grind (arith, nat_tests) }
 
 -- ---- distinct ids
 
 new_each : (front xs : List Feature) → IsDistinct nat_eq (ids_of front) → each_after is_new front xs ≡ true → IsDistinct nat_eq (ids_of (front ++ xs))
 new_each front [] distinct h = subst (λ (fs : List Feature). IsDistinct nat_eq (ids_of fs)) (sym (append-nil front)) distinct
 new_each front (x ∷ xs) distinct h =
-    let new : has_id (ids_of front) x.id ≡ false = not_true (has_id (ids_of front) x.id) (and_left (is_new front x) (each_after is_new (front ++ x ∷ []) xs) h) in
+    let new : has_id (ids_of front) x.id ≡ false = not-true (has_id (ids_of front) x.id) (and_parts (is_new front x) (each_after is_new (front ++ x ∷ []) xs) h).0 in
     let pushed : IsDistinct nat_eq (ids_of (front ++ x ∷ [])) =
-    subst (λ (ids : List ℕ). IsDistinct nat_eq ids) (sym (map-append (λ (g : Feature). g.id) front (x ∷ []))) (IsDistinct-push equal_ids (ids_of front) x.id distinct new) in
+    subst (λ (ids : List ℕ). IsDistinct nat_eq ids) (sym (map-append (λ (g : Feature). g.id) front (x ∷ []))) (IsDistinct-push nat_eq_equiv (ids_of front) x.id distinct new) in
     subst (λ (fs : List Feature). IsDistinct nat_eq (ids_of fs)) (append_assoc front (x ∷ []) xs)
-    (new_each (front ++ x ∷ []) xs pushed (and_right (is_new front x) (each_after is_new (front ++ x ∷ []) xs) h))
+    (new_each (front ++ x ∷ []) xs pushed (and_parts (is_new front x) (each_after is_new (front ++ x ∷ []) xs) h).1)
 
 distinct_ids : (xs : List Feature) → each_after is_new [] xs ≡ true → IsDistinct nat_eq (ids_of xs)
 unfolding IsDistinct
@@ -76,15 +59,15 @@ one_layer front l valid h =
     let new = not (has_layer front l.name) in
     let few = nat_le (length l.features) 1000000 in
     let ids = each_after is_new [] l.features in
-    let h4 = and_left (((room && new) && is_name l.name) && few) ids h in
-    let h3 = and_left ((room && new) && is_name l.name) few h4 in
-    let h2 = and_left (room && new) (is_name l.name) h3 in
-    let small : length front < 64 = grind (arith, nat_tests, and_left room new h2) in
-    let short : length l.features ≤ 1000000 = grind (arith, nat_tests, and_right ((room && new) && is_name l.name) few h4) in
-    let absent : list_any (bytes_eq l.name) (names_of front) ≡ false = name_among front l.name ∙ not_true (has_layer front l.name) (and_right room new h2) in
+    let h4 = (and_parts (((room && new) && is_name l.name) && few) ids h).0 in
+    let h3 = (and_parts ((room && new) && is_name l.name) few h4).0 in
+    let h2 = (and_parts (room && new) (is_name l.name) h3).0 in
+    let small : length front < 64 = grind (arith, nat_tests, (and_parts room new h2).0) in
+    let short : length l.features ≤ 1000000 = grind (arith, nat_tests, (and_parts ((room && new) && is_name l.name) few h4).1) in
+    let absent : list_any (bytes_eq l.name) (names_of front) ≡ false = name_among front l.name ∙ not-true (has_layer front l.name) (and_parts room new h2).1 in
     record {
       few = omega (arith, length-append front (l ∷ []));
-      each = All-push IsLayer front l valid.each (record { named = and_right (room && new) (is_name l.name) h3; few = short; distinct = distinct_ids l.features (and_right (((room && new) && is_name l.name) && few) ids h) });
+      each = All-push IsLayer front l valid.each (record { named = (and_parts (room && new) (is_name l.name) h3).1; few = short; distinct = distinct_ids l.features (and_parts (((room && new) && is_name l.name) && few) ids h).1 });
       distinct = subst (λ (ns : List (List ℕ)). IsDistinct bytes_eq ns) (sym (map-append (λ (m : Layer). m.name) front (l ∷ [])))
           (IsDistinct-push equal_names (names_of front) l.name valid.distinct absent);
     }
@@ -94,8 +77,8 @@ layers_each front [] valid h = subst (λ (ls : List Layer). IsDataset ls) (sym (
 layers_each front (l ∷ xs) valid h =
     subst (λ (ls : List Layer). IsDataset ls) (append_assoc front (l ∷ []) xs)
     (layers_each (front ++ l ∷ []) xs
-    (one_layer front l valid (and_left (data_texts.is_read front l) (each_after data_texts.is_read (front ++ l ∷ []) xs) h))
-    (and_right (data_texts.is_read front l) (each_after data_texts.is_read (front ++ l ∷ []) xs) h))
+    (one_layer front l valid (and_parts (data_texts.is_read front l) (each_after data_texts.is_read (front ++ l ∷ []) xs) h).0)
+    (and_parts (data_texts.is_read front l) (each_after data_texts.is_read (front ++ l ∷ []) xs) h).1)
 
 no_layers : IsDataset []
 unfolding IsDistinct
@@ -111,12 +94,12 @@ one_change : (front : List Change) (c : Change) → IsUpdate front → update_te
 one_change front c valid h =
     let room = nat_lt (length front) 1000000 in
     let few = nat_le (length c.put) 1000000 in
-    let h2 = and_left (room && is_name c.layer) few h in
-    let small : length front < 1000000 = grind (arith, nat_tests, and_left room (is_name c.layer) h2) in
-    let short : length c.put ≤ 1000000 = grind (arith, nat_tests, and_right (room && is_name c.layer) few h) in
+    let h2 = (and_parts (room && is_name c.layer) few h).0 in
+    let small : length front < 1000000 = grind (arith, nat_tests, (and_parts room (is_name c.layer) h2).0) in
+    let short : length c.put ≤ 1000000 = grind (arith, nat_tests, (and_parts (room && is_name c.layer) few h).1) in
     record {
       few = omega (arith, length-append front (c ∷ []));
-      each = All-push IsChange front c valid.each (record { named = and_right room (is_name c.layer) h2; few = short });
+      each = All-push IsChange front c valid.each (record { named = (and_parts room (is_name c.layer) h2).1; few = short });
     }
 
 changes_each : (front xs : List Change) → IsUpdate front → each_after update_texts.is_read front xs ≡ true → IsUpdate (front ++ xs)
@@ -124,8 +107,8 @@ changes_each front [] valid h = subst (λ (cs : List Change). IsUpdate cs) (sym 
 changes_each front (c ∷ xs) valid h =
     subst (λ (cs : List Change). IsUpdate cs) (append_assoc front (c ∷ []) xs)
     (changes_each (front ++ c ∷ []) xs
-    (one_change front c valid (and_left (update_texts.is_read front c) (each_after update_texts.is_read (front ++ c ∷ []) xs) h))
-    (and_right (update_texts.is_read front c) (each_after update_texts.is_read (front ++ c ∷ []) xs) h))
+    (one_change front c valid (and_parts (update_texts.is_read front c) (each_after update_texts.is_read (front ++ c ∷ []) xs) h).0)
+    (and_parts (update_texts.is_read front c) (each_after update_texts.is_read (front ++ c ∷ []) xs) h).1)
 
 -- changes that were read one after another are an update
 pub update_read : (changes : List Change) → each_after update_texts.is_read [] changes ≡ true → IsUpdate changes

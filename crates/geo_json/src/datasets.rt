@@ -53,14 +53,15 @@ fn dataset(alloc: Global, object: &Value) -> Result<Dataset, DataFault>
 
 fn layers(alloc: Global, units: Units, items: &[Value]) -> Result<Vec<Layer>, DataFault>
     requires { length items.now < 2 ^ 64 }
-    ensures value { Gives fault.NoMemory (λ v. v.items) (list_of (spec.layer_after units) (items_view items.now)) result }
+    ensures value { Gives fault.NoMemory (λ v. v.items)
+        (list_of (spec.layer_after units) (items_view items.now)) result }
     ensures valid { IfOk result (λ v. IsTrue (each_after spec.is_read [] v.items)) }
 {
     read_list(alloc, &LayerItems { units }, items)
 }
 
 /// Whether there are at most 1,000,000 values.
-#[tactic(auto, using(crate::proofs::Validity::values_len))]
+#[tactic(auto, using(reading::proofs::Members::items_len_of))]
 pub(crate) fn is_few(items: &[Value]) -> bool
     ensures { result ≡ nat_le (items_len (items_view items.now)) most_features }
 {
@@ -88,7 +89,8 @@ fn open_layer(object: &Value, shape: DataFault) -> Result<(), DataFault>
 /// The layer that the value says, after those before it.
 #[tactic(auto, unfolding(crate::specs::DataTexts::layer_said), using(crate::proofs::Validity::values_few))]
 fn layer(alloc: Global, units: Units, before: &[Layer], object: &Value) -> Result<Layer, DataFault>
-    ensures value { Gives fault.NoMemory (λ l. l) (spec.layer_after units before.now (view object.now)) result }
+    ensures value { Gives fault.NoMemory (λ l. l)
+        (spec.layer_after units before.now (view object.now)) result }
     ensures valid { IfOk result (λ l. IsTrue (spec.is_read before.now l)) }
 {
     if before.len() >= MOST_DATA_LAYERS {

@@ -1,6 +1,7 @@
 -- A whole step, from its parts.
 use Rattle.std.proofs.Common.{◌≡◌, ℕ, ◌+◌, ◌||◌, ◌⊎◌, inl, inr, Bool, true, false, List, [], ◌∷◌, ◌++◌, map, refl, sym, ap, ◌∙◌, append_assoc, arith}
 use Rattle.std.specs.Prelude.{Result, Ok, Err, MatchBool}
+use Rattle.std.proofs.Math.Bool.{or_assoc}
 use Rattle.farm_base.specs.Outside.{Outside}
 use Rattle.farm_base.specs.declared.memory.NoMemory.{NoMemory}
 use Rattle.tile_store.specs.Stores.{StoreTold}
@@ -88,10 +89,6 @@ expires_tiles s g h e = elim (expires_by s g h e) [ inl x ↦ ap clean_tiles x.1
 expires_noted : (s : Step) (g h : List Entry) → Expires s g h → has_failed h ≡ has_failed g
 expires_noted s g h e = elim (expires_by s g h e) [ inl x ↦ ap has_failed x.1 | inr same ↦ ap has_failed same ]
 
-either : (a b c : Bool) → (a || (b || c)) ≡ ((a || b) || c)
-either true b c = refl
-either false b c = refl
-
 -- ---- the events of a step
 
 broke_none : (s : Step) (g : List Entry) → BreaksOff s g g
@@ -170,7 +167,7 @@ module _ {D : Type 0} (state : D → Outside StoreTold) (told : Bool) (s : Step)
           ap has_failed o.0
               ∙ fetch_noted s.spot seen.fetched k.after
               ∙ ap (λ (b : Bool). is_failed_fetch seen.fetched || b) (collects_noted d.after k.after k.held ∙ d.held.2 ∙ ap (λ (b : Bool). lost || b) (expires_noted s g e.after e.held))
-              ∙ either (is_failed_fetch seen.fetched) lost (has_failed g)
+              ∙ sym (or_assoc (is_failed_fetch seen.fetched) lost (has_failed g))
               ∙ ap (λ (b : Bool). b || has_failed g) (sym o.2),
         )
         held_of (Err wanting) h o =

@@ -1,6 +1,7 @@
 -- Each step asks for a tile.
 use Rattle.std.proofs.Common.{◌≡◌, ℕ, zero, suc, ◌+◌, ◌-◌, ◌*◌, ◌^◌, ◌<◌, ◌≤◌, subst, arith}
 use Rattle.std.proofs.Math.Nat.{pow-le-pow_right, mod-lt}
+use Rattle.std.proofs.lemmas.Nat.{pow_pos}
 use Rattle.plain_world.specs.World.{IsTile}
 use Rattle.farm_history.specs.Lists.{Each}
 use Rattle.farm_history.specs.Plans.{tile_of}
@@ -8,9 +9,6 @@ use Rattle.farm_history.proofs.Lists.{each-append}
 use Rattle.work_gen.specs.Draws.{draw}
 use Rattle.work_gen.specs.Work.{step_at, steps_of}
 use Rattle.work_gen.specs.declared.stepping.Step.{Step}
-
-power_some : (n : ℕ) → 0 < 2 ^ n
-power_some n = let p : 2 ^ 0 ≤ 2 ^ n = pow-le-pow_right {n = 2} (omega arith) {i = 0} {j = n} (omega arith) in omega (arith, p)
 
 -- a draw is below its bound
 draw_below : (seed k bound : ℕ) → 0 < bound → draw seed k bound < bound
@@ -30,7 +28,7 @@ unfolding step_at
 step_tile seed n k =
     let at = 4 * n + 3 * k in
     let d = draw_below seed at 4 (omega arith) in
-    let some : (e : ℕ) → 0 < 2 ^ e = power_some in
+    let some : (e : ℕ) → 0 < 2 ^ e = pow_pos in
     let x = draw_below seed (at + 1) (2 ^ (11 + draw seed at 4 - 11)) (some (11 + draw seed at 4 - 11)) in
     let y = draw_below seed (at + 1 + 1) (2 ^ (11 + draw seed at 4 - 11)) (some (11 + draw seed at 4 - 11)) in
     let less : 11 + draw seed at 4 - 11 ≡ draw seed at 4 = omega arith in

@@ -10,7 +10,7 @@ use std::alloc::{AllocError, Global};
 
 /// How many tiles were fetched clean, how many bytes they have, and the sum of these; and whether a call of
 /// the store failed.
-#[derive(Clone, Copy, Debug, PartialEq, Eq)]
+#[derive(Clone, Copy)]
 pub(crate) struct Totals {
     clean: u32,
     bytes: u128,
@@ -77,7 +77,8 @@ impl Totals {
 
     /// The line of work with so many features.
     pub(crate) fn line(self, alloc: Global, features: u32) -> Result<String, AllocError>
-        ensures { (count : ℕ) (h : List Entry) → Tells self count h → IfOk result (λ s. string_bytes s ≡ load_text features h) }
+        ensures { (count : ℕ) (h : List Entry) → Tells self count h
+            → IfOk result (λ s. string_bytes s ≡ load_text features h) }
     {
         let Totals {
             clean,

@@ -4,6 +4,7 @@ use Rattle.std.specs.Prelude.{Result, Ok, Err, if◌then◌else◌, nat_le, ◌&
 use Rattle.std.specs.Str.{bytes_eq}
 use Rattle.std.proofs.lemmas.Bool.Decides.{Decides-eqb}
 use Rattle.std.proofs.lemmas.Slice.Eq.{bytes_eq-Decides}
+use Rattle.std.proofs.lemmas.Bool.{and_from}
 use Rattle.plain_shapes.specs.Images.{Pixels}
 use Rattle.plain_drawing.specs.Grids.{Grid}
 use Rattle.plain_drawing.specs.Styles.{RasterRef, grid_matches, grids_match}
@@ -47,15 +48,12 @@ raster_fits : (r : RasterRef) (g : Grid) → Could (raster_course r) g → grid_
 unfolding raster_course file
 raster_fits r g could = after_matches r (ppm_of could.0) g (judged_could r.file (raster_in r could.0) g could.1)
 
-both : (a b : Bool) → a ≡ true → b ≡ true → (a && b) ≡ true
-both a b ea eb = rw (ea, eb) refl
-
 grids_fit : (rs : List RasterRef) (all : List Grid) → Could (each raster_course rs) all → grids_match rs all ≡ true
 grids_fit [] all could = ap (grids_match []) could
 grids_fit (r ∷ rs) all could =
     let first = could_parts (raster_course r) (λ y. each raster_course rs >>= λ ys. made (y ∷ ys)) all could in
     let rest = could_parts (each raster_course rs) (λ ys. made (first.0 ∷ ys)) all first.2 in
-    ap (grids_match (r ∷ rs)) rest.2 ∙ both (grid_matches r first.0) (grids_match rs rest.0) (raster_fits r first.0 first.1) (grids_fit rs rest.0 rest.1)
+    ap (grids_match (r ∷ rs)) rest.2 ∙ and_from (grid_matches r first.0) (grids_match rs rest.0) (raster_fits r first.0 first.1) (grids_fit rs rest.0 rest.1)
 
 -- the grids that were read fit their rasters
 pub grids_bound : (rs items : List RasterRef) (old new : FilesAt) (all : List Grid) → items ≡ rs → Follows (each raster_course items) old new (Ok all) → grids_match rs all ≡ true

@@ -2,6 +2,7 @@
 use Rattle.std.proofs.Common.{◌≡◌, ◌<◌, ◌+◌, ◌==◌, ℕ, Bool, true, false, List, [], ◌∷◌, ◌++◌, length, map, take, drop, get_or, set, zero, suc, Option, Some, None, option_map, Result, Ok, Err, OnOk, refl, ap, sym, ◌∙◌, cond, arith, tests}
 use Rattle.std.proofs.lemmas.Bool.Decides.{nat_tests}
 use Rattle.std.specs.List.{slice_get}
+use Rattle.std.proofs.lemmas.Bool.{ne_eqb}
 use Rattle.port_trait.specs.Told.{put}
 use Rattle.memory_ports.specs.Held.{PeerHeld, change, up_of}
 use Rattle.memory_ports.specs.Playing.{fresh, is_alive_at}
@@ -39,10 +40,6 @@ pub on_ok : {T E P Q : Type 0} → (r : Result T E) → (P → Q) → OnOk r P �
 on_ok (Ok x) f h = f h
 on_ok (Err e) f h = tt
 
--- a number and its test
-eq_false : (m n : ℕ) → (m ≡ n → ⊥) → (m == n) ≡ false
-eq_false m n h = grind (arith, nat_tests)
-
 eq_suc : (m n : ℕ) → (suc m == suc n) ≡ (m == n)
 eq_suc m n = grind (arith, nat_tests)
 
@@ -56,8 +53,8 @@ module _ {A : Type 0} (g : Option PeerHeld → A) where
       → (d : ℕ) → g (slice_get (change f c ps) d) ≡ put (λ e. g (slice_get ps e)) c x d
   field_put f [] c x h d = none_put (d == c) x h
   field_put f (p ∷ ps) zero x h zero = h
-  field_put f (p ∷ ps) zero x h (suc d) = sym (ap (λ b. cond b x (g (slice_get ps d))) (eq_false (suc d) zero (λ e. omega (arith, e))))
-  field_put f (p ∷ ps) (suc c) x h zero = sym (ap (λ b. cond b x (g (Some p))) (eq_false zero (suc c) (λ e. omega (arith, e))))
+  field_put f (p ∷ ps) zero x h (suc d) = sym (ap (λ b. cond b x (g (slice_get ps d))) (ne_eqb (suc d) zero (λ e. omega (arith, e))))
+  field_put f (p ∷ ps) (suc c) x h zero = sym (ap (λ b. cond b x (g (Some p))) (ne_eqb zero (suc c) (λ e. omega (arith, e))))
   field_put f (p ∷ ps) (suc c) x h (suc d) =
       field_put f ps c x h d ∙ sym (ap (λ b. cond b x (g (slice_get ps d))) (eq_suc d c))
 
@@ -74,8 +71,8 @@ module _ {A : Type 0} (g : Option PeerHeld → A) where
   pub field_added : (x : A) → g (Some fresh) ≡ x → (ps : List PeerHeld) (d : ℕ)
       → g (slice_get (ps ++ fresh ∷ []) d) ≡ put (λ e. g (slice_get ps e)) (length ps) x d
   field_added x h [] zero = h
-  field_added x h [] (suc d) = sym (ap (λ b. cond b x (g None)) (eq_false (suc d) zero (λ e. omega (arith, e))))
-  field_added x h (p ∷ ps) zero = sym (ap (λ b. cond b x (g (Some p))) (eq_false zero (suc (length ps)) (λ e. omega (arith, e))))
+  field_added x h [] (suc d) = sym (ap (λ b. cond b x (g None)) (ne_eqb (suc d) zero (λ e. omega (arith, e))))
+  field_added x h (p ∷ ps) zero = sym (ap (λ b. cond b x (g (Some p))) (ne_eqb zero (suc (length ps)) (λ e. omega (arith, e))))
   field_added x h (p ∷ ps) (suc d) = field_added x h ps d ∙ sym (ap (λ b. cond b x (g (slice_get ps d))) (eq_suc d (length ps)))
 
   -- what does not change of any

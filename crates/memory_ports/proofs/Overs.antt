@@ -3,6 +3,7 @@ use Rattle.std.proofs.Common.{◌≡◌, ◌<◌, ◌+◌, ◌&&◌, ◌||◌, �
 use Rattle.std.proofs.lemmas.List.{drop_more}
 use Rattle.std.proofs.lemmas.List.Folds.{list_all-append, list_any-append}
 use Rattle.std.specs.List.{list_all, list_any}
+use Rattle.std.proofs.lemmas.Bool.{and_from, and_parts}
 use Rattle.memory_ports.specs.declared.steps.PortStep.{PortStep}
 use Rattle.memory_ports.specs.declared.steps.PortStep.TheVariants as step
 use Rattle.memory_ports.specs.Held.{PeerHeld}
@@ -11,10 +12,6 @@ use Rattle.memory_ports.specs.Scripts.{is_await, has_piece, is_valid, is_piece, 
 
 pub passed_none : (peers : List PeerHeld) (ss : List PortStep) → Passed peers ss ss false
 passed_none peers ss = record { skipped = []; split = refl; passable = refl; reached_is = refl }
-
-both : (a b : Bool) → a ≡ true → b ≡ true → (a && b) ≡ true
-both true b h k = k
-both false b h k = search (tests, h)
 
 or_right : (a b : Bool) → (a || (b || false)) ≡ (a || b)
 or_right true b = refl
@@ -28,7 +25,7 @@ passed_more peers old new s reached p pass = record {
   skipped = p.skipped ++ s ∷ [];
   split = p.split ∙ sym (append_assoc p.skipped (s ∷ []) new);
   passable = list_all-append (is_passable peers) p.skipped (s ∷ [])
-      ∙ both (list_all (is_passable peers) p.skipped) (is_passable peers s && true) p.passable (both (is_passable peers s) true pass refl);
+      ∙ and_from (list_all (is_passable peers) p.skipped) (is_passable peers s && true) p.passable (and_from (is_passable peers s) true pass refl);
   reached_is = ap (λ b. b || is_await s) p.reached_is
       ∙ sym (or_right (list_any is_await p.skipped) (is_await s))
       ∙ sym (list_any-append is_await p.skipped (s ∷ []));
@@ -54,20 +51,12 @@ passes_on peers steps from i s reached reaches small is p h =
     (subst (λ l. Passed peers (drop from steps) l reached) (drop_more steps i s small ∙ ap (λ x. x ∷ drop (i + 1) steps) (sym is)) p)
     h.1)
 
-and_left : (a b : Bool) → (a && b) ≡ true → a ≡ true
-and_left true b e = refl
-and_left false b e = search (tests, e)
-
 suc_is : (i : ℕ) → suc i ≡ i + 1
 suc_is i = omega arith
 
-and_right : (a b : Bool) → (a && b) ≡ true → b ≡ true
-and_right true b e = e
-and_right false b e = search (tests, e)
-
 all_dropped_suc : {X : Type 0} (p : X → Bool) (xs : List X) (i : ℕ) → list_all p (drop i xs) ≡ true → list_all p (drop (suc i) xs) ≡ true
 all_dropped_suc p [] i h = refl
-all_dropped_suc p (x ∷ xs) zero h = and_right (p x) (list_all p xs) h
+all_dropped_suc p (x ∷ xs) zero h = (and_parts (p x) (list_all p xs) h).1
 all_dropped_suc p (x ∷ xs) (suc i) h = all_dropped_suc p xs i h
 
 -- what holds of all that is left holds after one more
@@ -88,10 +77,10 @@ pub valid_pieces : (alive : List Bool) (ss : List PortStep) → is_valid alive s
 valid_pieces alive [] h = refl
 valid_pieces alive (step.Open ∷ ss) h = valid_pieces (alive ++ true ∷ []) ss h
 valid_pieces alive (step.Bytes c piece ∷ ss) h =
-    let k = and_right (is_alive_in alive c) (is_piece piece && is_valid alive ss) h in
-    both (is_piece piece) (list_all has_piece ss) (and_left (is_piece piece) (is_valid alive ss) k)
-    (valid_pieces alive ss (and_right (is_piece piece) (is_valid alive ss) k))
-valid_pieces alive (step.End c ∷ ss) h = valid_pieces (set alive c false) ss (and_right (is_alive_in alive c) (is_valid (set alive c false) ss) h)
-valid_pieces alive (step.Lose c ∷ ss) h = valid_pieces (set alive c false) ss (and_right (is_alive_in alive c) (is_valid (set alive c false) ss) h)
+    let k = (and_parts (is_alive_in alive c) (is_piece piece && is_valid alive ss) h).1 in
+    and_from (is_piece piece) (list_all has_piece ss) (and_parts (is_piece piece) (is_valid alive ss) k).0
+    (valid_pieces alive ss (and_parts (is_piece piece) (is_valid alive ss) k).1)
+valid_pieces alive (step.End c ∷ ss) h = valid_pieces (set alive c false) ss (and_parts (is_alive_in alive c) (is_valid (set alive c false) ss) h).1
+valid_pieces alive (step.Lose c ∷ ss) h = valid_pieces (set alive c false) ss (and_parts (is_alive_in alive c) (is_valid (set alive c false) ss) h).1
 valid_pieces alive (step.Await front n ∷ ss) h = valid_pieces alive ss h
 valid_pieces alive (step.Break ∷ ss) h = valid_pieces alive ss h

@@ -8,7 +8,7 @@ use std::alloc::{AllocError, Global};
 use std::marker::Model;
 
 /// A connection.
-#[derive(Debug, Drop)]
+#[derive(Drop)]
 pub struct Peer {
     taken: Vec<u8>,
     up: bool,

@@ -12,7 +12,7 @@ use std::marker::Model;
 
 /// The steps that are left, how often the Await that stands first has answered Woken, and whether it was
 /// seen before the first step who is to hear Writable. Each piece of them has 1 to 4,096 bytes.
-#[derive(Debug, Drop)]
+#[derive(Drop)]
 pub struct Script {
     steps: Vec<PortStep>,
     // the steps before this place are over
@@ -134,7 +134,9 @@ impl Script {
     /// The step that stands first and is played.
     pub fn first(&self, peers: &[Peer]) -> Option<&PortStep>
         requires { BeginsLive peers.now self.now.steps }
-        ensures some { IfSome result (λ s. (self.entry.now.steps ≡ s.now ∷ drop 1 self.entry.now.steps) × (is_live peers.entry.now s.now ≡ true) × (has_piece s.now ≡ true)) }
+        ensures some { IfSome result (λ s.
+            (self.entry.now.steps ≡ s.now ∷ drop 1 self.entry.now.steps)
+            × (is_live peers.entry.now s.now ≡ true) × (has_piece s.now ≡ true)) }
         ensures none { IfNone result (self.entry.now.steps ≡ []) }
     {
         self.steps.get(self.place)

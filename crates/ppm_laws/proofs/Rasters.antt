@@ -10,6 +10,7 @@ use Rattle.plain_image.specs.PpmText.{colours}
 use Rattle.plain_image.specs.declared.reading.PpmFault.{PpmFault}
 use Rattle.plain_image.specs.declared.reading.PpmFault.TheVariants.{Bad, TooLarge, NoMemory}
 use Rattle.ppm_laws.proofs.Parts.{Reader, BadAt, Knows, bad_same, nil_cons}
+use Rattle.plain_image.proofs.Bytes.{colours_written, length_written}
 
 -- how many bytes the pixels of an image of these sides are
 abbrev pub size : ℕ → ℕ → ℕ
@@ -36,14 +37,6 @@ painted_bytes (suc k) [] e = absurd (omega (arith, e))
 painted_bytes (suc k) (r ∷ []) e = absurd (omega (arith, e))
 painted_bytes (suc k) (r ∷ g ∷ []) e = absurd (omega (arith, e))
 painted_bytes (suc k) (r ∷ g ∷ b ∷ t) e = let p = painted_bytes k t (omega (arith, e)) in (ap (λ x. r ∷ g ∷ b ∷ x) p.0, ap suc p.1)
-
-colours_written : (ps : List Colour) → colours (flat_map pixel_bytes ps) ≡ ps
-colours_written [] = refl
-colours_written (p ∷ ps) = ap (λ qs. p ∷ qs) (colours_written ps)
-
-length_written : (ps : List Colour) → length (flat_map pixel_bytes ps) ≡ length ps * 3
-length_written [] = refl
-length_written (p ∷ ps) = omega (arith, length_written ps)
 
 image_of : ℕ → ℕ → List ℕ → Pixels
 image_of cols rows t = record { cols = cols; rows = rows; pixels = colours t }

@@ -1,5 +1,7 @@
 -- What hearing a piece and taking a reply do.
 use Rattle.std.proofs.Common.{◌≡◌, ℕ, ◌≤◌, Bool, true, false, cond, List, [], ◌∷◌, ◌++◌, length, drop, find, if◌then◌else◌, Option, Result, Ok, Err, is_ok, is_err, refl, sym, ap, subst, ◌∙◌, inr, arith, append_assoc, append-nil}
+use Rattle.std.proofs.lemmas.Bool.{false≢true}
+use Rattle.std.proofs.Math.Nat.{le_refl}
 use Rattle.renderd_protocol.specs.declared.messages.Request.{Request}
 use Rattle.renderd_protocol.specs.Messages.{found_in}
 use Rattle.renderd_protocol.specs.Stream.{taken}
@@ -18,17 +20,10 @@ use Rattle.renderd_front.specs.Renderd.{answer_command, asks_in, is_bad, is_wait
 use Rattle.renderd_front.specs.inner.Reads.{asks_of, fate_at, Halts, HasNoneNext, Knows, pairs, Reads, requests_of, said_by, waits_after}
 use Rattle.renderd_front.proofs.Streaming.{asks_in-append, none_next}
 
--- false is not true
-false_true : false ≡ true → ⊥
-false_true h = cc
-
 -- a vector that was extended
 pub extended : {T E : Type 0} (r : Result T E) (b : Bool) (xs ys zs : List ℕ) → b ≡ is_err r → b ≡ false → zs ≡ (if is_ok r then xs else ys) → zs ≡ xs
 extended (Ok x) b xs ys zs is off h = h
 extended (Err e) b xs ys zs is off h = cc
-
-le_refl : (n : ℕ) → n ≤ n
-le_refl n = omega arith
 
 module _ (front : ℕ) (maps : List ℕ → Option ℕ) where
   -- requests that were done, as moves
@@ -91,10 +86,10 @@ module _ (front : ℕ) (maps : List ℕ → Option ℕ) where
       begins = inr (h.more, asked_then h.acts h.more h.asks_are);
       fits = fit h.acts ms;
       why = tt;
-      said_is = λ off. absurd (false_true off);
-      asked_is = λ off. absurd (false_true off);
-      whole = λ off. absurd (false_true off);
-      knows = λ off. absurd (false_true off);
+      said_is = λ off. absurd (false≢true off);
+      asked_is = λ off. absurd (false≢true off);
+      whole = λ off. absurd (false≢true off);
+      knows = λ off. absurd (false≢true off);
     }
 
     -- all whole messages were read
@@ -157,9 +152,9 @@ module _ (front : ℕ) (maps : List ℕ → Option ℕ) where
       mine_is = sym (append-nil mine);
       fits = refl;
       why = tt;
-      said_is = λ off. absurd (false_true off);
-      whole = λ off. absurd (false_true off);
-      knows = λ off. absurd (false_true off);
+      said_is = λ off. absurd (false≢true off);
+      whole = λ off. absurd (false≢true off);
+      knows = λ off. absurd (false≢true off);
     }
 
   -- a new session

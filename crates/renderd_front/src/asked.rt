@@ -3,7 +3,7 @@ use farm_history::AskAnswer;
 use renderd_protocol::Request;
 
 /// A request with what it was answered at once; no value of it is made.
-#[derive(Debug, Drop)]
+#[derive(Drop)]
 pub struct Asked {
     pub request: Request,
     pub answer: AskAnswer,

@@ -15,7 +15,7 @@ use renderd_protocol::{Request, write};
 use std::sync::Wait;
 
 /// Why the reading of a connection is given up.
-#[derive(Clone, Copy, Debug, PartialEq, Eq)]
+#[derive(Clone, Copy)]
 pub enum Halt {
     /// The farm's limit of turns was drawn.
     Worn,
@@ -50,8 +50,10 @@ fn settle(
     answer: AskAnswer,
 ) -> Result<(), NoMemory>
     requires { IsTrue (is_version request.ver) }
-    ensures said { OnOk result (said.new.items ≡ said.old.items ++ said_to (answer_command answer) request) }
-    ensures waits { OnOk result (pairs waits.new.items ≡ with_wait (number_in answer) request (pairs waits.old.items)) }
+    ensures said { OnOk result (said.new.items
+        ≡ said.old.items ++ said_to (answer_command answer) request) }
+    ensures waits { OnOk result (pairs waits.new.items
+        ≡ with_wait (number_in answer) request (pairs waits.old.items)) }
 {
     match answer {
         AskAnswer::Done => say(said, &request, DONE),
@@ -81,8 +83,11 @@ fn ask<R: Wait, M: Farm>(
     ensures seat { SameSeat (M.seats farm.now) seat.old seat.new }
     ensures worn { result ≡ Err Halt.Worn → (M.seats farm.now).worn seat.new ≡ true }
     ensures made { MatchResult result
-        (λ _. Made conn.front (M.map_at farm.now) conn.number (request ∷ []) ((M.seats farm.now).mine seat.old) ((M.seats farm.now).mine seat.new) (pairs waits.old.items) (pairs waits.new.items) said.old.items said.new.items)
-        (λ _. Halts conn.front (M.map_at farm.now) conn.number (request ∷ []) ((M.seats farm.now).mine seat.old) ((M.seats farm.now).mine seat.new)) }
+        (λ _. Made conn.front (M.map_at farm.now) conn.number (request ∷ [])
+        ((M.seats farm.now).mine seat.old) ((M.seats farm.now).mine seat.new)
+        (pairs waits.old.items) (pairs waits.new.items) said.old.items said.new.items)
+        (λ _. Halts conn.front (M.map_at farm.now) conn.number (request ∷ [])
+        ((M.seats farm.now).mine seat.old) ((M.seats farm.now).mine seat.new)) }
 {
     let spot = spot_of(farm, &request);
     let Ok(answer) = farm.ask(rt, seat, conn, cmd, spot) else {
@@ -110,8 +115,11 @@ pub fn ask_if_known<R: Wait, M: Farm>(
     ensures seat { SameSeat (M.seats farm.now) seat.old seat.new }
     ensures worn { result ≡ Err Halt.Worn → (M.seats farm.now).worn seat.new ≡ true }
     ensures made { MatchResult result
-        (λ _. Made conn.front (M.map_at farm.now) conn.number (asks_in (request ∷ [])) ((M.seats farm.now).mine seat.old) ((M.seats farm.now).mine seat.new) (pairs waits.old.items) (pairs waits.new.items) said.old.items said.new.items)
-        (λ _. Halts conn.front (M.map_at farm.now) conn.number (asks_in (request ∷ [])) ((M.seats farm.now).mine seat.old) ((M.seats farm.now).mine seat.new)) }
+        (λ _. Made conn.front (M.map_at farm.now) conn.number (asks_in (request ∷ []))
+        ((M.seats farm.now).mine seat.old) ((M.seats farm.now).mine seat.new)
+        (pairs waits.old.items) (pairs waits.new.items) said.old.items said.new.items)
+        (λ _. Halts conn.front (M.map_at farm.now) conn.number (asks_in (request ∷ []))
+        ((M.seats farm.now).mine seat.old) ((M.seats farm.now).mine seat.new)) }
 {
     match command_of(request.cmd) {
         Some(cmd) => ask(rt, farm, seat, conn, cmd, request, waits, said),

@@ -13,7 +13,7 @@ use std::alloc::Global;
 use std::sync::Wait;
 
 /// The renderd front, by its number.
-#[derive(Clone, Copy, Debug, PartialEq, Eq)]
+#[derive(Clone, Copy)]
 pub struct Renderd {
     pub front: u32,
 }

@@ -2,6 +2,7 @@
 use Rattle.std.proofs.Common.{◌≡◌, ◌⊎◌, ℕ, ◌+◌, ◌≤◌, List, [], ◌++◌, length, take, drop, Bool, true, false, not, cond, nat_lt, nat_le, refl, sym, ap, ◌∙◌, arith, length-append, length-take, length-drop}
 use Rattle.std.proofs.lemmas.Bool.Decides.{nat_tests}
 use Rattle.std.proofs.lemmas.List.{drop-append-le, take-append-le, take-append-drop}
+use Rattle.std.proofs.lemmas.Bool.{le-ltb, ltb-false}
 use Rattle.byteorder.specs.Endian.{little_number}
 use Rattle.byteorder.specs.Numbers.{little_from-append}
 use Rattle.renderd_protocol.specs.declared.messages.Request.{Request}
@@ -73,9 +74,6 @@ pub found_by : (bytes : List ℕ) → nat_lt (length bytes) 4 ≡ false → is_v
 unfolding found_in
 found_by bytes a b c = rw (a, b, c) refl
 
-not_below : (a b : ℕ) → b ≤ a → nat_lt a b ≡ false
-not_below a b h = grind (arith, nat_tests)
-
 -- a whole message is found, whatever follows it
 pub found_message : (m more : List ℕ) → IsMessage m → found_in (m ++ more) ≡ Message (request_in m) (length m)
 found_message m more is =
@@ -85,7 +83,7 @@ found_message m more is =
     let version : is_version (number_at 0 (m ++ more)) ≡ true = ap is_version ver ∙ is.version in
     let whole : message_len (number_at 0 (m ++ more)) ≡ length m = ap message_len ver ∙ sym is.whole in
     let request = request_in-append m more is in
-    let found = found_by (m ++ more) (not_below _ _ (omega arith)) version (not_below _ _ (omega arith)) in
+    let found = found_by (m ++ more) (le-ltb _ _ (omega arith)) version (le-ltb _ _ (omega arith)) in
     cc
 
 -- what a found message says of the three tests
@@ -103,9 +101,6 @@ passed false false c r s n k v h = cc
 passed false true true r s n k v h = cc
 passed false true false r s n k v h = record { enough = refl; version = refl; whole = refl; request = cc; len = cc }
 
-not_more : (a b : ℕ) → nat_lt a b ≡ false → b ≤ a
-not_more a b h = grind (arith, nat_tests)
-
 -- a message that was found: the bytes begin with it
 pub record Head (bytes : List ℕ) (request : Request) (len : ℕ) : Type 0 where
   pub message : List ℕ
@@ -121,8 +116,8 @@ unfolding found_in
 head_of bytes request len h =
     let p = passed (nat_lt (length bytes) 4) (is_version (number_at 0 bytes)) (nat_lt (length bytes) (message_len (number_at 0 bytes)))
     (request_in bytes) request (message_len (number_at 0 bytes)) len (number_at 0 bytes) h in
-    let enough : 4 ≤ length bytes = not_more _ _ p.enough in
-    let whole : message_len (number_at 0 bytes) ≤ length bytes = not_more _ _ p.whole in
+    let enough : 4 ≤ length bytes = ltb-false _ _ p.enough in
+    let whole : message_len (number_at 0 bytes) ≤ length bytes = ltb-false _ _ p.whole in
     let l = len_first (number_at 0 bytes) p.version in
     let m : List ℕ = take len bytes in
     let parts : m ++ drop len bytes ≡ bytes = take-append-drop len bytes in

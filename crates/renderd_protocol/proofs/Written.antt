@@ -4,6 +4,7 @@ use Rattle.std.proofs.Math.Seq.{drop-append_seam}
 use Rattle.std.proofs.lemmas.List.{length-replicate, drop-drop}
 use Rattle.std.proofs.lemmas.Bool.Decides.{nat_tests}
 use Rattle.std.specs.List.{list_all}
+use Rattle.std.proofs.lemmas.Bool.{and_parts}
 use Rattle.byteorder.specs.Endian.{little_bytes}
 use Rattle.byteorder.specs.Numbers.{little_number-reads_back}
 use Rattle.renderd_protocol.specs.declared.messages.Request.{Request}
@@ -12,14 +13,6 @@ use Rattle.renderd_protocol.specs.Messages.{is_version, message_len, number_at, 
 use Rattle.renderd_protocol.specs.Stream.{IsMessage, ReadsBack}
 use Rattle.renderd_protocol.proofs.Heads.{found_message, version_cases}
 
-and_left : (a b : Bool) → (a && b) ≡ true → a ≡ true
-and_left true b h = refl
-and_left false b h = h
-
-and_right : (a b : Bool) → (a && b) ≡ true → b ≡ true
-and_right true b h = h
-and_right false b h = cc
-
 -- the text before a NUL is read whole
 text_before : (k : ℕ) (text more : List ℕ) → length text ≤ k → list_all is_text_byte text ≡ true
     → text_in (take k (text ++ 0 ∷ more)) ≡ text
@@ -27,8 +20,8 @@ text_before zero [] more l h = refl
 text_before (suc k) [] more l h = refl
 text_before zero (b ∷ bs) more l h = absurd (omega arith)
 text_before (suc k) (b ∷ bs) more l h =
-    ap (λ t. cond t (b ∷ text_in (take k (bs ++ 0 ∷ more))) []) (and_left (is_text_byte b) (list_all is_text_byte bs) h)
-    ∙ ap (λ xs. b ∷ xs) (text_before k bs more (omega arith) (and_right (is_text_byte b) (list_all is_text_byte bs) h))
+    ap (λ t. cond t (b ∷ text_in (take k (bs ++ 0 ∷ more))) []) (and_parts (is_text_byte b) (list_all is_text_byte bs) h).0
+    ∙ ap (λ xs. b ∷ xs) (text_before k bs more (omega arith) (and_parts (is_text_byte b) (list_all is_text_byte bs) h).1)
 
 zeros : (n : ℕ) → 0 < n → replicate {A = ℕ} n 0 ≡ 0 ∷ replicate (n - 1) 0
 zeros zero h = absurd (omega arith)

@@ -3,6 +3,7 @@ use Rattle.std.proofs.Common.{◌≡◌, ℕ, ◌+◌, ◌^◌, ◌<◌, ◌≤�
 use Rattle.std.specs.Prelude.{Option, Some, Result, Ok, Err, slice_get}
 use Rattle.std.proofs.lemmas.List.{length-take, take_all}
 use Rattle.std.proofs.lemmas.Option.{slice_get-get_or}
+use Rattle.std.proofs.Math.Bool.{or_assoc}
 use Rattle.farm_base.specs.Outside.{Outside, Puts}
 use Rattle.farm_base.specs.declared.memory.NoMemory.{NoMemory}
 use Rattle.farm_base.specs.declared.sinks.SinkFault.{SinkFault}
@@ -23,10 +24,6 @@ use Rattle.script_text.specs.inner.Steps.{SaidSeen, Answers}
 use Rattle.script_text.proofs.Holding.{no_hand}
 use Rattle.script_text.proofs.Lines.{no_lines, lines_more, lines_grow}
 use Rattle.script_text.proofs.Puts.{puts_nothing, puts_then}
-
-either : (a b c : Bool) → (a || (b || c)) ≡ ((a || b) || c)
-either true b c = refl
-either false b c = refl
 
 module _ {D : Type 0} (state : D → Outside StoreTold) (told : Bool) (plan : FarmPlan) (lines : List ScriptLine) (before : List Entry) where
   -- before the first line
@@ -62,7 +59,7 @@ module _ {D : Type 0} (state : D → Outside StoreTold) (told : Bool) (plan : Fa
         says = lines_more plan lines count l [] (tickets hand) (tickets hand') before goes.after mine.0 goes.text said.text inside is goes.says mine.2;
         held = mine.3;
         put = puts_then out middle out' goes.text said.text (Ok tt) goes.put puts;
-        noted = mine.4 ∙ ap (λ (b : Bool). said.failed || b) goes.noted ∙ either said.failed failed (has_failed before);
+        noted = mine.4 ∙ ap (λ (b : Bool). said.failed || b) goes.noted ∙ sym (or_assoc said.failed failed (has_failed before));
       }
 
   -- its answer was cut

@@ -2,6 +2,7 @@
 use Rattle.std.proofs.Common.{◌≡◌, ℕ, ◌⊎◌, inl, inr, ◌≤◌, ◌+◌, ◌^◌, Bool, true, false, not, ◌||◌, List, [], ◌++◌, length, map, reverse, refl, sym, ap, ap₂, subst, ◌∙◌}
 use Rattle.std.specs.Prelude.{Option, Some, None, Result, Ok, Err, IfSome, option_map, is_none}
 use Rattle.std.specs.List.{list_any}
+use Rattle.std.proofs.lemmas.Bool.{or_cases, not-true}
 use Rattle.farm_base.specs.Outside.{Outside, Puts as SinkPuts, Rose}
 use Rattle.farm_base.specs.declared.sinks.SinkFault.{SinkFault}
 use Rattle.tile_store.specs.Stores.{StoreTold, Puts, Stored, IfTold}
@@ -72,20 +73,12 @@ worn_first worn ends is = by_test (worn || list_any is_worn ends) refl
         rest false true p q = cc
         rest false false p q = cc
 
-one_of : (a b : Bool) → (a || b) ≡ true → (a ≡ true) ⊎ (b ≡ true)
-one_of true b is = inl refl
-one_of false b is = inr is
-
 worn_end : (end : FrontEnd) → is_worn end ≡ true → end ≡ FrontEnd.Worn
 worn_end FrontEnd.Worn is = refl
 worn_end FrontEnd.Finished is = cc
 worn_end FrontEnd.Stopped is = cc
 worn_end FrontEnd.Broken is = cc
 worn_end FrontEnd.NoMemory is = cc
-
-not_true : (b : Bool) → not b ≡ true → b ≡ false
-not_true false is = refl
-not_true true is = cc
 
 none_there : {A : Type 0} (o : Option A) → is_none o ≡ true → o ≡ None
 none_there None is = refl
@@ -112,10 +105,10 @@ module _ {D : Type 0} (state : D → Outside StoreTold) (s : Served) (store : D)
   first_left : state closed.0.first ≡ state store
   first_left = ap (λ (f : FarmSeen D). state f.first) kept.same ∙ ap (λ (p : LastingPart D). state p.first) served.runs.kept ∙ served.begun.first_shows
 
-  whole_first : past (lasting_of state served.first) H ≡ points.whole state closed
+  whole_first : past (lasting_of state served.first) H ≡ points.whole_history state closed
   whole_first = ap₂ (λ (p : FarmPlan) (o : Option Saving). plain (reverse H) ++ origin p o) (served.begun.plan_is ∙ sym plan_left) (sym saved_left)
 
-  whole_last : past (lasting_of state served.last) H ≡ points.whole state closed
+  whole_last : past (lasting_of state served.last) H ≡ points.whole_history state closed
   whole_last = ap (λ (p : LastingPart D). past p H) served.runs.kept ∙ whole_first
 
   may_first : (told : Bool) → points.MaySay state s store closed told → MayTell state (lasting_of state served.first) told
@@ -137,17 +130,17 @@ module _ {D : Type 0} (state : D → Outside StoreTold) (s : Served) (store : D)
 
   pub headline : points.HeadlineHolds state s store closed
   headline told may =
-      subst (λ (p : FarmPlan). Headline p told (points.whole state closed)) served.begun.plan_is
+      subst (λ (p : FarmPlan). Headline p told (points.whole_history state closed)) served.begun.plan_is
       (subst (Headline served.first.plan told) whole_first (served.runs.headline told (may_first told may)))
 
-  stands : (told : Bool) → points.MaySay state s store closed told → StandsFor state told closed.0 (points.whole state closed)
+  stands : (told : Bool) → points.MaySay state s store closed told → StandsFor state told closed.0 (points.whole_history state closed)
   stands told may = kept.after.each told (may_left told may)
 
   pub legal : points.IsLegal state s store closed
   legal = record {
     plan_is = plan_left;
     resumes = subst (λ (o : Option Saving). ResumesFrom (state store) s.inputs.plan s.config.resume o) (sym saved_left) served.begun.resumes;
-    legal = λ told may. subst (λ (p : FarmPlan). Legal (plan_of p) told (points.whole state closed)) plan_left (stands told may).legal;
+    legal = λ told may. subst (λ (p : FarmPlan). Legal (plan_of p) told (points.whole_history state closed)) plan_left (stands told may).legal;
     stands = stands;
   }
 
@@ -168,9 +161,9 @@ module _ {D : Type 0} (state : D → Outside StoreTold) (s : Served) (store : D)
     control = served.runs.control;
   }
 
-  worked : AreWorked s.inputs.plan.workers served.ends.worn H (points.whole state closed)
+  worked : AreWorked s.inputs.plan.workers served.ends.worn H (points.whole_history state closed)
   worked =
-      subst (λ (p : FarmPlan). AreWorked p.workers served.ends.worn H (points.whole state closed)) served.begun.plan_is
+      subst (λ (p : FarmPlan). AreWorked p.workers served.ends.worn H (points.whole_history state closed)) served.begun.plan_is
       (subst (AreWorked served.first.plan.workers served.ends.worn H) whole_first served.runs.worked)
 
   pub workers : points.WorkersWork state s store closed
@@ -221,7 +214,7 @@ module _ {D : Type 0} (state : D → Outside StoreTold) (s : Served) (store : D)
   kept_as : (resume : Bool) (why saved : Result (Unit {0}) Stop) → s.config.resume ≡ resume → MaySave state resume why served.last closed.0 H saved → KeptSo saved
   kept_as true (Ok done) (Ok u) is may = λ resumes. (
     may.went.saving,
-    subst (λ (p : FarmPlan). IsSaved (plan_of p) (points.whole state closed) may.went.saving) plan_last (subst (λ (h : List Entry). IsSaved (plan_of served.last.plan) h may.went.saving) whole_last may.went.saved),
+    subst (λ (p : FarmPlan). IsSaved (plan_of p) (points.whole_history state closed) may.went.saving) plan_last (subst (λ (h : List Entry). IsSaved (plan_of served.last.plan) h may.went.saving) whole_last may.went.saved),
     holds_put (state served.last.store) (state closed.0.store) (saved_bytes may.went.saving) may.went.puts,
   )
   kept_as true (Ok done) (Err stop.NoMemory) is may = λ resumes. subst (λ (at : Outside StoreTold). HoldsAt at []) (sym may.went) (still_empty resumes)
@@ -256,13 +249,13 @@ module _ {D : Type 0} (state : D → Outside StoreTold) (s : Served) (store : D)
   -- a front that ended worn met that all turns were drawn
   front_worn : (list_any is_worn (map end_of (fronts_of served.done))) ≡ true → 2 ^ 62 ≤ length H
   front_worn is =
-      elim (one_of (is_worn served.done.renderd.end) _ is) [
+      elim (or_cases (is_worn served.done.renderd.end) _ is) [
         | inl r ↦ served.runs.renderd.worn_out (marked _ _ _ _ _ _ served.runs.renderd.left (worn_end _ r))
         | inr rest ↦
-            elim (one_of (is_worn served.done.tiles.end) _ rest) [
+            elim (or_cases (is_worn served.done.tiles.end) _ rest) [
               | inl t ↦ served.runs.tiles.worn_out (marked _ _ _ _ _ _ served.runs.tiles.left (worn_end _ t))
               | inr last ↦
-                  elim (one_of (is_worn served.done.control.end) _ last) [
+                  elim (or_cases (is_worn served.done.control.end) _ last) [
                     | inl k ↦ served.runs.control.worn_out (marked _ _ _ _ _ _ served.runs.control.left (worn_end _ k))
                     | inr none ↦ absurd (cc)
                   ]
@@ -271,14 +264,14 @@ module _ {D : Type 0} (state : D → Outside StoreTold) (s : Served) (store : D)
 
   own_worn : is_worn_out served.ends ≡ true → 2 ^ 62 ≤ length H
   own_worn is =
-      elim (one_of (served.ends.worn || not served.ends.stopped) (is_none served.ends.tally) is) [
-        | inl rest ↦ elim (one_of served.ends.worn (not served.ends.stopped) rest) [ inl w ↦ worked.worn_out w | inr n ↦ seated.unstopped (not_true _ n) ]
+      elim (or_cases (served.ends.worn || not served.ends.stopped) (is_none served.ends.tally) is) [
+        | inl rest ↦ elim (or_cases served.ends.worn (not served.ends.stopped) rest) [ inl w ↦ worked.worn_out w | inr n ↦ seated.unstopped (not-true _ n) ]
         | inr n ↦ seated.untallied (none_there _ n)
       ]
 
   -- only where a run was worn its end is this
   turns_gone : why ≡ Err stop.TurnsUsedUp → 2 ^ 62 ≤ length H
-  turns_gone is = elim (one_of (is_worn_out served.ends) _ (worn_first (is_worn_out served.ends) (map end_of (fronts_of served.done)) is)) [ inl own ↦ own_worn own | inr front ↦ front_worn front ]
+  turns_gone is = elim (or_cases (is_worn_out served.ends) _ (worn_first (is_worn_out served.ends) (map end_of (fronts_of served.done)) is)) [ inl own ↦ own_worn own | inr front ↦ front_worn front ]
 
   by_saving : (resume : Bool) (why saved : Result (Unit {0}) Stop) → MaySave state resume why served.last closed.0 H saved → saved ≡ Err stop.TurnsUsedUp → why ≡ Err stop.TurnsUsedUp
   by_saving true (Ok done) (Ok u) may is = cc

@@ -15,7 +15,7 @@ use Rattle.farm_plan.specs.Plans.{FarmPlan}
 use Rattle.farm_config.specs.Configs.{Config}
 use Rattle.farm_files.specs.Inputs.{Served}
 use Rattle.farm_stands.specs.Seen.{FarmSeen}
-use Rattle.farm_threads.specs.declared.posts.Posts.{Posts}
+use Rattle.farm_threads.specs.declared.each_front.EachFront.{EachFront}
 use Rattle.farm_threads.specs.Actors.{maps_in}
 use Rattle.farm_runs.specs.Promise.{RunsWell}
 use Rattle.farm_runs.specs.declared.running.Run.{Run}
@@ -44,7 +44,7 @@ module _ {D : Type 0} (state : D → Outside StoreTold) where
         (why_is ∙ ap (λ (b : Bool). why_ended b (map end_of (fronts_of run.fronts))) worn_is) winds;
   }
 
-  module _ (ready : Ready D) (out out' : SinkAt) (ports ports' : Posts (Outside PortsTold)) where
+  module _ (ready : Ready D) (out out' : SinkAt) (ports ports' : EachFront (Outside PortsTold)) where
     abbrev before : World D
     before = record { out = out; left = Store ready.farm.store; fronts = []; ports = ports }
 
@@ -72,10 +72,10 @@ module _ {D : Type 0} (state : D → Outside StoreTold) where
       pub begun : (farm : FarmSeen D) → HasBegun state plan resume store farm → HasBegun state s.inputs.plan s.config.resume store farm
       begun farm h = subst (λ (b : Bool). HasBegun state s.inputs.plan b store farm) resume_is (subst (λ (p : FarmPlan). HasBegun state p resume store farm) plan_is h)
 
-      pub listened : (old new : Posts (Outside PortsTold)) (end : Result (Unit {0}) Stop) → Listening (places config old new) end → Listening (places s.config old new) end
+      pub listened : (old new : EachFront (Outside PortsTold)) (end : Result (Unit {0}) Stop) → Listening (places config old new) end → Listening (places s.config old new) end
       listened old new end h = subst (λ (c : Config). Listening (places c old new) end) config_is h
 
-  module _ (s : Served) (store : D) (out out' : SinkAt) (ports ports' : Posts (Outside PortsTold)) where
+  module _ (s : Served) (store : D) (out out' : SinkAt) (ports ports' : EachFront (Outside PortsTold)) where
     abbrev start : World D
     start = record { out = out; left = Store store; fronts = []; ports = ports }
 
@@ -86,7 +86,7 @@ module _ {D : Type 0} (state : D → Outside StoreTold) where
         subst (λ (l : Left D). ServesTo state s store start (record { out = out'; left = l; fronts = done.fronts.items; ports = ports' }) done.end l) (sym left_is)
         (record { why = why; end_is = end_is; why_not = why_not; silent = silent; no_fronts = none })
 
-    module _ (ready : Ready D) (resume_is : ready.resume ≡ s.config.resume) (lists_are : ready.lists.items ≡ s.inputs.lists) (listening : Posts (Outside PortsTold)) (begun : HasBegun state s.inputs.plan s.config.resume store ready.farm)
+    module _ (ready : Ready D) (resume_is : ready.resume ≡ s.config.resume) (lists_are : ready.lists.items ≡ s.inputs.lists) (listening : EachFront (Outside PortsTold)) (begun : HasBegun state s.inputs.plan s.config.resume store ready.farm)
         (listens : Listening (places s.config ports listening) (Ok tt)) where
       -- a farm that was ready has run
       pub served : (done : Done D) → HasRun state ready (record { out = out; left = Store ready.farm.store; fronts = []; ports = listening }) (record { out = out'; left = done.left; fronts = done.fronts.items; ports = ports' }) done.end
@@ -97,7 +97,7 @@ module _ {D : Type 0} (state : D → Outside StoreTold) where
           by_left (Store back) ran = record {
             why = stop.NoMemory;
             end_is = ran.0;
-            why_not = inr (ready.farm, begun, ran.1, inr (subst (λ (p : Posts (Outside PortsTold)). Listening (places s.config ports p) (Ok tt)) (sym ran.4) listens, refl));
+            why_not = inr (ready.farm, begun, ran.1, inr (subst (λ (p : EachFront (Outside PortsTold)). Listening (places s.config ports p) (Ok tt)) (sym ran.4) listens, refl));
             silent = ran.2;
             no_fronts = ran.3;
           }

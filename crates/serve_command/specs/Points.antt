@@ -24,7 +24,7 @@ use Rattle.turn_cell.specs.Turns.{by}
 use Rattle.farm_shared.specs.Seats.{plain}
 use Rattle.farm_shared.specs.Shared.{lasting_of, past}
 use Rattle.farm_headline.specs.Headline.{Headline}
-use Rattle.farm_threads.specs.declared.posts.Posts.{Posts}
+use Rattle.farm_threads.specs.declared.each_front.EachFront.{EachFront}
 use Rattle.farm_threads.specs.Actors.{maps_in}
 use Rattle.farm_runs.specs.Promise.{Ends, AreSeated, IsServed, AreWorked, IsStop}
 use Rattle.front_leaves.specs.Fronts.{renderd_leaves, tiles_leave, control_leaves}
@@ -40,8 +40,8 @@ ClosedFarm D = FarmSeen D × List (ℕ × Entry)
 
 module _ {D : Type 0} (state : D → Outside StoreTold) where
   -- all that happened to the farm, the newest entry first: what it was resumed from, replayed, and then the entries of this run
-  abbrev pub whole : ClosedFarm D → List Entry
-  whole closed = past (lasting_of state closed.0) closed.1
+  abbrev pub whole_history : ClosedFarm D → List Entry
+  whole_history closed = past (lasting_of state closed.0) closed.1
 
   module _ (s : Served) (store : D) (closed : ClosedFarm D) where
     -- it may be said that the store tells what it holds: where it does; and for a farm that was resumed, where it also holds what was shown when the other farm stopped
@@ -50,24 +50,24 @@ module _ {D : Type 0} (state : D → Outside StoreTold) where
 
     -- ---- The headline: its four sentences hold of all that happened
     abbrev pub HeadlineHolds : Type 0
-    HeadlineHolds = (told : Bool) → MaySay told → Headline s.inputs.plan told (whole closed)
+    HeadlineHolds = (told : Bool) → MaySay told → Headline s.inputs.plan told (whole_history closed)
 
     -- ---- 1. The farm that is left is of the plan that the files give, and was resumed from what was saved, if the configuration says so; all that happened is legal, and the farm stands for it
     pub record IsLegal : Type 0 where
       pub plan_is : closed.0.plan ≡ s.inputs.plan
       pub resumes : ResumesFrom (state store) s.inputs.plan s.config.resume closed.0.saved
-      pub legal : (told : Bool) → MaySay told → Legal (plan_of s.inputs.plan) told (whole closed)
-      pub stands : (told : Bool) → MaySay told → StandsFor state told closed.0 (whole closed)
+      pub legal : (told : Bool) → MaySay told → Legal (plan_of s.inputs.plan) told (whole_history closed)
+      pub stands : (told : Bool) → MaySay told → StandsFor state told closed.0 (whole_history closed)
 
     -- ---- 2. Each entry is of the command's own seat, of a front's or of a worker's; the command's own are a Stop and then a Tally
     abbrev pub EntriesAreOwned : Type 0
     EntriesAreOwned = (ends : Ends) × AreSeated s.inputs.plan.workers ends closed.1
 
     -- ---- 3. The entries of each front are those of what it did with the bytes of its ports since they listened, and what it answered is of the same
-    pub record FrontsServe (old new : Posts (Outside PortsTold)) (fronts : List FrontDone) : Type 0 where
-      pub listening : Posts (Outside PortsTold)
+    pub record FrontsServe (old new : EachFront (Outside PortsTold)) (fronts : List FrontDone) : Type 0 where
+      pub listening : EachFront (Outside PortsTold)
       pub listens : Listening (places s.config old listening) (Ok tt)
-      pub done : Posts FrontDone
+      pub done : EachFront FrontDone
       pub fronts_are : fronts ≡ fronts_of done
       pub renderd : IsServed (renderd_leaves (maps_in s.inputs.plan)) listening.renderd new.renderd done.renderd (plain (by 1 closed.1)) (length closed.1)
       pub tiles : IsServed (tiles_leave (maps_in s.inputs.plan)) listening.tiles new.tiles done.tiles (plain (by 2 closed.1)) (length closed.1)
@@ -75,12 +75,12 @@ module _ {D : Type 0} (state : D → Outside StoreTold) where
 
     -- ---- 4. The entries of each worker are its Claims, each Job with its Finish; and at the end no drawing is under way, unless all turns were drawn
     abbrev pub WorkersWork : Type 0
-    WorkersWork = (worn : Bool) × AreWorked s.inputs.plan.workers worn closed.1 (whole closed)
+    WorkersWork = (worn : Bool) × AreWorked s.inputs.plan.workers worn closed.1 (whole_history closed)
 
     -- ---- 5. A Stop is that of a control line, or the last entry of a front that ended otherwise than Finished, or stands after all entries of the fronts
     abbrev pub StopsHaveCauses : List FrontDone → Type 0
     StopsHaveCauses fronts =
-        (done : Posts FrontDone) × (fronts ≡ fronts_of done)
+        (done : EachFront FrontDone) × (fronts ≡ fronts_of done)
         × ((before after : List (ℕ × Entry)) (n : ℕ) → closed.1 ≡ before ++ (n, StopEntry) ∷ after → IsStop done n after)
 
     -- ---- 6. What was put on out is the line of the last entry, which is a Tally, unless all turns were drawn; a put that failed is the end
@@ -103,7 +103,7 @@ module _ {D : Type 0} (state : D → Outside StoreTold) where
 
     -- after an end in order the text of what is saved after all that happened, and no bytes after one for want of memory, since ports failed or all turns were drawn
     abbrev pub KeptAt : Result (Unit {0}) Stop → Type 0
-    KeptAt (Ok done) = s.config.resume ≡ true → (saving : Saving) × IsSaved (plan_of s.inputs.plan) (whole closed) saving × Holds (saved_bytes saving)
+    KeptAt (Ok done) = s.config.resume ≡ true → (saving : Saving) × IsSaved (plan_of s.inputs.plan) (whole_history closed) saving × Holds (saved_bytes saving)
     KeptAt (Err stop.NoMemory) = s.config.resume ≡ true → Holds []
     KeptAt (Err stop.PortsFailed) = s.config.resume ≡ true → Holds []
     KeptAt (Err stop.TurnsUsedUp) = s.config.resume ≡ true → Holds []

@@ -12,7 +12,7 @@ use Rattle.farm_history.specs.Entries.{Entry}
 use Rattle.farm_config.specs.Configs.{Config}
 use Rattle.farm_files.specs.Inputs.{Served}
 use Rattle.farm_stands.specs.Seen.{FarmSeen}
-use Rattle.farm_threads.specs.declared.posts.Posts.{Posts}
+use Rattle.farm_threads.specs.declared.each_front.EachFront.{EachFront}
 use Rattle.farm_threads.specs.Actors.{maps_in}
 use Rattle.farm_runs.specs.Promise.{Ends, RunsWell}
 use Rattle.front_leaves.specs.Fronts.{renderd_leaves, tiles_leave, control_leaves}
@@ -27,7 +27,7 @@ pub record World (D : Type 0) : Type 0 where
   pub out : SinkAt
   pub left : Left D
   pub fronts : List FrontDone
-  pub ports : Posts (Outside PortsTold)
+  pub ports : EachFront (Outside PortsTold)
 
 -- ---- the ports
 
@@ -37,7 +37,7 @@ address_of (Some address) = address
 address_of None = []
 
 -- the ports that are listened on, in this order: each with its address, and what it shows before and after
-abbrev pub places : Config → Posts (Outside PortsTold) → Posts (Outside PortsTold) → List Place
+abbrev pub places : Config → EachFront (Outside PortsTold) → EachFront (Outside PortsTold) → List Place
 places config old new =
     (address_of config.renderd, old.renderd, new.renderd)
     ∷ (address_of config.tiles, old.tiles, new.tiles)
@@ -46,7 +46,7 @@ places config old new =
 -- ---- the end
 
 -- what the fronts answered, by their numbers
-abbrev pub fronts_of : Posts FrontDone → List FrontDone
+abbrev pub fronts_of : EachFront FrontDone → List FrontDone
 fronts_of done = done.renderd ∷ done.tiles ∷ done.control ∷ []
 
 -- how a front ended
@@ -59,7 +59,7 @@ is_worn_out ends = ends.worn || not ends.stopped || is_none ends.tally
 
 module _ {D : Type 0} (state : D → Outside StoreTold) (s : Served) (store : D) where
   -- No actor was started, and this is why: no farm was begun, and then no port was listened on; or a port could not be listened on, or memory was wanting after that, and then the store is that of the farm that was begun
-  abbrev pub WhyNot : D → Posts (Outside PortsTold) → Posts (Outside PortsTold) → Stop → Type 0
+  abbrev pub WhyNot : D → EachFront (Outside PortsTold) → EachFront (Outside PortsTold) → Stop → Type 0
   WhyNot store' ports ports' why =
       (CannotBegin (state store) s.inputs.plan s.config.resume (state store') why × (ports' ≡ ports))
       ⊎ ((farm : FarmSeen D) × HasBegun state s.inputs.plan s.config.resume store farm × (store' ≡ farm.store)
@@ -78,11 +78,11 @@ module _ {D : Type 0} (state : D → Outside StoreTold) (s : Served) (store : D)
     -- the farm as it began, and what the ports showed when they listened
     pub first : FarmSeen D
     pub begun : HasBegun state s.inputs.plan s.config.resume store first
-    pub listening : Posts (Outside PortsTold)
+    pub listening : EachFront (Outside PortsTold)
     pub listens : Listening (places s.config old.ports listening) (Ok tt)
     -- it ran well from there on; `last` is the farm as the run left it, before anything was saved
     pub last : FarmSeen D
-    pub done : Posts FrontDone
+    pub done : EachFront FrontDone
     pub ends : Ends
     pub runs : RunsWell state first last closed.1 (renderd_leaves (maps_in s.inputs.plan)) (tiles_leave (maps_in s.inputs.plan)) (control_leaves s.inputs.lists) listening new.ports done ends
     pub fronts_are : new.fronts ≡ fronts_of done

@@ -10,7 +10,7 @@ use farm_base::Sink;
 use farm_ending::{why_ended, wind_up};
 use farm_plan::Tally;
 use farm_runs::Run;
-use farm_threads::Posts;
+use farm_threads::EachFront;
 use port_trait::FrontDone;
 use std::alloc::Global;
 use tile_store::TileStore;
@@ -27,13 +27,13 @@ fn add(all: &mut Vec<FrontDone>, done: FrontDone)
 }
 
 /// What the fronts answered, by their numbers, in the room that was made for it.
-fn in_order(room: Vec<FrontDone>, fronts: Posts<FrontDone>) -> Vec<FrontDone>
+fn in_order(room: Vec<FrontDone>, fronts: EachFront<FrontDone>) -> Vec<FrontDone>
     requires empty { room.items ≡ [] }
     requires room { 3 ≤ vec_capacity room }
     ensures { result.items ≡ fronts_of fronts }
 {
     let mut all = room;
-    let Posts {
+    let EachFront {
         renderd,
         tiles,
         control,

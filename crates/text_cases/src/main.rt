@@ -10,7 +10,6 @@ mod data_told;
 mod filter_told;
 mod lines_told;
 mod path_told;
-mod rows;
 mod saved_told;
 mod style_told;
 
@@ -20,9 +19,9 @@ use crate::data_told::{data_told, update_told};
 use crate::filter_told::{again_told, filter_told, value_told, written_told};
 use crate::lines_told::{list_told, script_told};
 use crate::path_told::path_told;
-use crate::rows::{Frame, frame_of, row};
 use crate::saved_told::saved_told;
 use crate::style_told::style_told;
+use case_rows::{Frame, frame_of, row};
 use data_versions::Snapshot;
 use farm_base::{DiskFiles, Files, OutSink, Sink};
 use geo_json::read_data;

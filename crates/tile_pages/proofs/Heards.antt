@@ -1,5 +1,7 @@
 -- Hearing a piece, by cases.
 use Rattle.std.proofs.Common.{◌≡◌, ℕ, ◌<◌, ◌≤◌, List, [], ◌∷◌, ◌++◌, length, Bool, true, false, ◌||◌, Option, inl, inr, refl, sym, ap, subst, ◌∙◌, arith, append-nil}
+use Rattle.std.proofs.lemmas.Bool.{and_from, false≢true}
+use Rattle.std.proofs.Math.Bool.{or-false}
 use Rattle.farm_history.specs.Entries.{Entry}
 use Rattle.farm_history.specs.declared.queues.Conn.{Conn}
 use Rattle.front_rounds.specs.declared.fates.Fate.{Fate}
@@ -14,7 +16,7 @@ use Rattle.tile_pages.specs.declared.talks.Talk.{Talk}
 use Rattle.tile_pages.specs.Talks.{is_reading, is_answered, waits_in}
 use Rattle.tile_pages.specs.Tiles.{Asks, Wants, want, entries_of, whole_act, is_answer, starves_act, ends, wishes, rules_of, Knows}
 use Rattle.tile_pages.specs.Steps.{WhyOf, IsIdle, DidWish, DoesWish}
-use Rattle.tile_pages.proofs.Wishes.{asked_is, asks_stay, open_all, shown_twice, or_false, both, reading_unanswered}
+use Rattle.tile_pages.proofs.Wishes.{asked_is, asks_stay, open_all, shown_twice, reading_unanswered}
 
 module _ (front : ℕ) (maps : List ℕ → Option ℕ) where
   -- the one wish that was asked, and what the bytes ask
@@ -64,14 +66,11 @@ module _ (front : ℕ) (maps : List ℕ → Option ℕ) where
         begins = inl (asked_is front maps ms ∙ (knows.head reads).2);
         fits = tt;
         why = tt;
-        said_is = λ k. absurd (no_keep k);
-        asked_is = λ k. absurd (no_keep k);
-        whole = λ k. absurd (no_keep k);
-        knows = λ k. absurd (no_keep k);
+        said_is = λ k. absurd (false≢true k);
+        asked_is = λ k. absurd (false≢true k);
+        whole = λ k. absurd (false≢true k);
+        knows = λ k. absurd (false≢true k);
       })
-    where
-      no_keep : false ≡ true → ⊥
-      no_keep e = cc
 
   -- more bytes are waited for
   pub hears_open : (c : ℕ) (piece : List ℕ) (mine : List Entry) (talk talk' : Talk) (said : List ℕ) → said ≡ [] → is_reading talk.stage ≡ true → talk'.stage ≡ talk.stage
@@ -108,8 +107,8 @@ module _ (front : ℕ) (maps : List ℕ → Option ℕ) where
 
   -- why a session goes on or is left, of one act alone
   why_heard : (given : List ℕ) (a : Act) (fate : Fate) → WhyOf (starves_act a) fate → HeardWhy (rules_of front maps) given (Does a ∷ []) fate
-  why_heard given a Stays e = (refl, or_false (starves_act a) ∙ e)
-  why_heard given a (Leaves reason.NoMemory) e = or_false (starves_act a) ∙ e
+  why_heard given a Stays e = (refl, or-false (starves_act a) ∙ e)
+  why_heard given a (Leaves reason.NoMemory) e = or-false (starves_act a) ∙ e
   why_heard given a (Leaves reason.Starved) e = tt
   why_heard given a (Leaves reason.Ended) e = e
   why_heard given a (Leaves reason.Lost) e = e
@@ -141,12 +140,12 @@ module _ (front : ℕ) (maps : List ℕ → Option ℕ) where
         why = why_heard (given ++ piece) a fate did.why;
         said_is = λ k. ap (λ (t : List ℕ). text (rules_of front maps) ms ++ t) (sym (did.said_is k));
         asked_is = λ k. wanted;
-        whole = λ k. both (whole_act a) (each_whole (rules_of front maps) ms) (did.whole k) whole;
+        whole = λ k. and_from (whole_act a) (each_whole (rules_of front maps) ms) (did.whole k) whole;
         knows = λ k. record {
           head = λ e. absurd (no_both (is_reading talk'.stage) e (did.read k));
           once = λ e. (w, once);
           waits = did.waits k;
-          ends = ap (λ (b : Bool). is_answer a || b) unanswered ∙ or_false (is_answer a) ∙ did.ends k;
+          ends = ap (λ (b : Bool). is_answer a || b) unanswered ∙ or-false (is_answer a) ∙ did.ends k;
         };
       }
     where

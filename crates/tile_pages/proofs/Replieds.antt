@@ -1,6 +1,7 @@
 -- Taking a reply, by cases.
 use Rattle.std.proofs.Common.{◌≡◌, ℕ, List, [], ◌∷◌, Bool, true, false, ◌||◌, Option, Some, None, inl, inr, refl, sym, ap, subst, ◌∙◌, append-nil}
 use Rattle.std.specs.Option.{is_none}
+use Rattle.std.proofs.lemmas.Bool.{or_right, false≢true}
 use Rattle.farm_history.specs.Entries.{Entry, Fetch}
 use Rattle.farm_history.specs.declared.asks.Spot.{Spot}
 use Rattle.farm_history.specs.declared.queues.Reply.{Reply}
@@ -17,7 +18,7 @@ use Rattle.tile_pages.specs.declared.talks.Stage.TheVariants.{Answered}
 use Rattle.tile_pages.specs.Talks.{is_reading, is_answered, waits_in, spot_at}
 use Rattle.tile_pages.specs.Tiles.{fits_behind, is_no_memory, waiting, rules_of, Knows}
 use Rattle.tile_pages.specs.Steps.{WhyOf, IsIdle, DidFetch, Fetches}
-use Rattle.tile_pages.proofs.Wishes.{same_self, or_true, unless_other, unless_that, waiting_read}
+use Rattle.tile_pages.proofs.Wishes.{same_self, unless_other, unless_that, waiting_read}
 
 module _ (front : ℕ) (maps : List ℕ → Option ℕ) where
   -- no request waits for the reply
@@ -65,7 +66,7 @@ module _ (front : ℕ) (maps : List ℕ → Option ℕ) where
         fits = ap (λ (o : Option Spot). fits_behind o (Fetch s f ∷ [])) that_waits ∙ same_self s;
         why = why_replied reply s f fate did.why;
         said_is = λ k. sym (did.said_is k);
-        whole = λ k. or_true (is_none (spot_at reply.ask (waiting ms))) true refl;
+        whole = λ k. or_right (is_none (spot_at reply.ask (waiting ms))) true refl;
         knows = λ k. record {
           head = λ e. absurd (no_both (is_reading talk'.stage) e (ap is_reading stage));
           once = λ e. one;
@@ -87,13 +88,10 @@ module _ (front : ℕ) (maps : List ℕ → Option ℕ) where
         mine_is = idle.0 ∙ sym (append-nil mine);
         fits = refl;
         why = tt;
-        said_is = λ k. absurd (no_keep k);
-        whole = λ k. absurd (no_keep k);
-        knows = λ k. absurd (no_keep k);
+        said_is = λ k. absurd (false≢true k);
+        whole = λ k. absurd (false≢true k);
+        knows = λ k. absurd (false≢true k);
       })
-    where
-      no_keep : false ≡ true → ⊥
-      no_keep e = cc
 
   pub replies_fetched : (reply : Reply) (s : Spot) (mine mine' : List Entry) (talk talk' : Talk) (said : List ℕ) (fate : Fate)
       → spot_at reply.ask (waits_in talk.stage) ≡ Some s → talk'.stage ≡ Answered → Fetches s mine mine' said fate

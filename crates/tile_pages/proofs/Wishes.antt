@@ -70,18 +70,6 @@ same_self s = rw (same_place s.map, same_number s.z, same_number s.x, same_numbe
 
 -- ---- small facts of tests
 
-pub or_false : (b : Bool) → (b || false) ≡ b
-or_false true = refl
-or_false false = refl
-
-pub or_true : (b c : Bool) → c ≡ true → (b || c) ≡ true
-or_true true c e = refl
-or_true false c e = e
-
-pub both : (a b : Bool) → a ≡ true → b ≡ true → (a && b) ≡ true
-both true b e f = f
-both false b e f = e
-
 -- ---- stages
 
 pub reading_unanswered : (s : Stage) → is_reading s ≡ true → is_answered s ≡ false

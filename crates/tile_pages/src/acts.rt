@@ -2,7 +2,7 @@
 use farm_history::{AskAnswer, Fetched, Looked, Spot};
 
 /// What a connection asks for.
-#[derive(Clone, Copy, Debug, PartialEq, Eq)]
+#[derive(Clone, Copy)]
 pub enum Wish {
     /// No head of a request came.
     Bad,
@@ -19,7 +19,7 @@ pub enum Wish {
 }
 
 /// A wish that was done, with the answers that it got. No value of it is made.
-#[derive(Debug, Drop)]
+#[derive(Drop)]
 pub enum Act {
     /// Nothing was asked of the farm.
     Refused(Wish),

@@ -11,7 +11,7 @@ use std::alloc::Global;
 use std::sync::Wait;
 
 /// The tile front, by its number.
-#[derive(Clone, Copy, Debug)]
+#[derive(Clone, Copy)]
 pub struct Tiles {
     pub front: u32,
 }

@@ -47,7 +47,8 @@ fn wish_of(kind: Kind, spot: Spot) -> Wish
 
 /// The spot of a place.
 fn spot_of<M: Farm>(farm: &M, name: &str, z: u32, x: u32, y: u32) -> Spot
-    ensures { result ≡ spec.spot_of (M.map_at farm.now) (record { name = name.now; z = z; x = x; y = y }) }
+    ensures { result ≡ spec.spot_of (M.map_at farm.now)
+        (record { name = name.now; z = z; x = x; y = y }) }
 {
     let map = farm.map_of(name.as_bytes());
     Spot { map, z, x, y }
@@ -69,15 +70,28 @@ pub(crate) fn serve_wish<R: Wait, M: Farm>(
     requires empty { said.old.items ≡ [] }
     ensures seat { SameSeat (M.seats farm.now) seat.old seat.new }
     ensures worn { OnErr result ((M.seats farm.now).worn seat.new ≡ true) }
-    ensures does { DoesWish conn wish ((M.seats farm.now).mine seat.old) ((M.seats farm.now).mine seat.new) stage.new said.new.items (fate_of result) }
+    ensures does { DoesWish conn wish ((M.seats farm.now).mine seat.old)
+        ((M.seats farm.now).mine seat.new) stage.new said.new.items (fate_of result) }
 {
     match wish {
         Wish::Bad => Ok(refuse(alloc, Fault::BadRequest, stage, said)),
         Wish::NotGet => Ok(refuse(alloc, Fault::NotAllowed, stage, said)),
         Wish::NoTarget => Ok(refuse(alloc, Fault::NotFound, stage, said)),
         Wish::Tile(spot) => serve_tile(rt, alloc, farm, seat, conn, spot, stage, said),
-        Wish::Status(spot) => serve_status(rt, alloc, farm, seat, conn, spot, stage, said),
-        Wish::Dirty(spot) => serve_dirty(rt, alloc, farm, seat, conn, spot, stage, said),
+        Wish::Status(spot) => {
+            let Ok(looked) = farm.look(rt, seat, spot) else {
+                return Err(Worn);
+            };
+            *stage = Stage::Answered;
+            Ok(fate_of_put(put_status(alloc, looked, said)))
+        }
+        Wish::Dirty(spot) => {
+            let Ok(_) = farm.ask(rt, seat, conn, Cmd::Dirty, spot) else {
+                return Err(Worn);
+            };
+            *stage = Stage::Answered;
+            Ok(fate_of_put(put_dirty(alloc, said)))
+        }
     }
 }
 
@@ -107,7 +121,8 @@ fn serve_tile<R: Wait, M: Farm>(
     requires empty { said.old.items ≡ [] }
     ensures seat { SameSeat (M.seats farm.now) seat.old seat.new }
     ensures worn { OnErr result ((M.seats farm.now).worn seat.new ≡ true) }
-    ensures does { DoesWish conn (wish.Tile spot) ((M.seats farm.now).mine seat.old) ((M.seats farm.now).mine seat.new) stage.new said.new.items (fate_of result) }
+    ensures does { DoesWish conn (wish.Tile spot) ((M.seats farm.now).mine seat.old)
+        ((M.seats farm.now).mine seat.new) stage.new said.new.items (fate_of result) }
 {
     let Ok(answer) = farm.ask(rt, seat, conn, Cmd::Render, spot) else {
         return Err(Worn);
@@ -151,7 +166,8 @@ pub(crate) fn fetch_and_say<R: Wait, M: Farm>(
     requires empty { said.old.items ≡ [] }
     ensures seat { SameSeat (M.seats farm.now) seat.old seat.new }
     ensures worn { OnErr result ((M.seats farm.now).worn seat.new ≡ true) }
-    ensures fetches { Fetches spot ((M.seats farm.now).mine seat.old) ((M.seats farm.now).mine seat.new) said.new.items (fate_of result) }
+    ensures fetches { Fetches spot ((M.seats farm.now).mine seat.old)
+        ((M.seats farm.now).mine seat.new) said.new.items (fate_of result) }
 {
     let Ok(fetched) = farm.fetch(rt, alloc, seat, spot) else {
         return Err(Worn);
@@ -170,58 +186,10 @@ fn say_tile(alloc: Global, fetched: &Fetched, said: &mut Vec<u8>) -> Fate
     fate_of_put(put_tile(alloc, fetched, said))
 }
 
-/// Looks at a tile.
-fn serve_status<R: Wait, M: Farm>(
-    rt: &R,
-    alloc: Global,
-    farm: &M,
-    seat: &mut M::Seat,
-    conn: Conn,
-    spot: Spot,
-    stage: &mut Stage,
-    said: &mut Vec<u8>,
-) -> Result<Fate, Worn>
-    requires seat { (M.seats farm.now).is_seat seat.old }
-    requires empty { said.old.items ≡ [] }
-    ensures seat { SameSeat (M.seats farm.now) seat.old seat.new }
-    ensures worn { OnErr result ((M.seats farm.now).worn seat.new ≡ true) }
-    ensures does { DoesWish conn (wish.Status spot) ((M.seats farm.now).mine seat.old) ((M.seats farm.now).mine seat.new) stage.new said.new.items (fate_of result) }
-{
-    let Ok(looked) = farm.look(rt, seat, spot) else {
-        return Err(Worn);
-    };
-    *stage = Stage::Answered;
-    Ok(fate_of_put(put_status(alloc, looked, said)))
-}
-
-/// Makes a tile dirty.
-fn serve_dirty<R: Wait, M: Farm>(
-    rt: &R,
-    alloc: Global,
-    farm: &M,
-    seat: &mut M::Seat,
-    conn: Conn,
-    spot: Spot,
-    stage: &mut Stage,
-    said: &mut Vec<u8>,
-) -> Result<Fate, Worn>
-    requires seat { (M.seats farm.now).is_seat seat.old }
-    requires number { (M.seats farm.now).number seat.old ≡ conn.front + 1 }
-    requires empty { said.old.items ≡ [] }
-    ensures seat { SameSeat (M.seats farm.now) seat.old seat.new }
-    ensures worn { OnErr result ((M.seats farm.now).worn seat.new ≡ true) }
-    ensures does { DoesWish conn (wish.Dirty spot) ((M.seats farm.now).mine seat.old) ((M.seats farm.now).mine seat.new) stage.new said.new.items (fate_of result) }
-{
-    let Ok(_) = farm.ask(rt, seat, conn, Cmd::Dirty, spot) else {
-        return Err(Worn);
-    };
-    *stage = Stage::Answered;
-    Ok(fate_of_put(put_dirty(alloc, said)))
-}
-
 /// A session whose answer found no memory is left.
 fn fate_of_put(put: Result<(), NoMemory>) -> Fate
-    ensures { MatchResult put (λ _. result ≡ Fate.Stays) (λ _. result ≡ Fate.Leaves Reason.Starved) }
+    ensures { MatchResult put (λ _. result ≡ Fate.Stays)
+        (λ _. result ≡ Fate.Leaves Reason.Starved) }
 {
     match put {
         Ok(()) => Fate::Stays,

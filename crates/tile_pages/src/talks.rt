@@ -10,7 +10,7 @@ use farm_history::Spot;
 const HEAD_BYTES: usize = 8192;
 
 /// How far a session is.
-#[derive(Clone, Copy, Debug, PartialEq, Eq)]
+#[derive(Clone, Copy)]
 pub enum Stage {
     /// Its head is read.
     Reading,
@@ -21,7 +21,7 @@ pub enum Stage {
 }
 
 /// What is kept of a session: the bytes that came, while the head is read.
-#[derive(Debug, Drop)]
+#[derive(Drop)]
 pub struct Talk {
     pub head: Vec<u8>,
     pub stage: Stage,
@@ -63,7 +63,8 @@ pub(crate) fn read_part(bytes: &[u8]) -> &[u8]
 
 /// Puts a piece behind a head, as far as it is read.
 pub(crate) fn keep(head: &mut Vec<u8>, piece: &[u8]) -> Result<(), NoMemory>
-    ensures { length head.old.items ≤ 8192 → OnOk result (head.new.items ≡ shown (head.old.items ++ piece.now)) }
+    ensures { length head.old.items ≤ 8192
+        → OnOk result (head.new.items ≡ shown (head.old.items ++ piece.now)) }
 {
     head.extend_from_slice(part_for(piece, head.as_slice()))?;
     Ok(())

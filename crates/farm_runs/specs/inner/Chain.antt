@@ -14,9 +14,9 @@ use Rattle.farm_shared.specs.Seats.{plain}
 use Rattle.farm_shared.specs.declared.turned.Turned.{Turned}
 use Rattle.farm_shared.specs.Shared.{Adds, IsClosed}
 use Rattle.render_workers.specs.declared.worker.WorkEnd.{WorkEnd}
-use Rattle.farm_threads.specs.declared.posts.Posts.{Posts}
+use Rattle.farm_threads.specs.declared.each_front.EachFront.{EachFront}
 use Rattle.farm_threads.specs.declared.crew.Actor.{Actor}
-use Rattle.farm_threads.specs.declared.together.Stage.{Stage}
+use Rattle.farm_threads.specs.declared.together.RunSeats.{RunSeats}
 use Rattle.farm_threads.specs.Actors.{Leaving, WorkBy, IsReady, HasEnded, AreStanding}
 
 module _ {T : Type 0} where
@@ -53,13 +53,13 @@ module _ {T : Type 0} where
     pub unjoined : v.joined ≡ []
     pub splits : v.splits ≡ 3 + workers
 
-  -- the stage of a run: the first seat, those of the fronts, and so many workers with theirs
-  pub record IsSet (made : Made T) (workers : ℕ) (stage : Stage (SeatState T Entry)) : Type 0 where
-    pub own : IsStart made workers stage.desk.own
-    pub standing : AreStanding made 0 1 2 stage.desk
-    pub long : length stage.crew.items ≡ workers
-    pub ready : All (IsReady made) stage.crew.items
-    pub numbered : Numbered 0 stage.crew.items
+  -- the seats of a run: the first, those of the fronts, and so many workers with theirs
+  pub record IsSet (made : Made T) (workers : ℕ) (run_seats : RunSeats (SeatState T Entry)) : Type 0 where
+    pub own : IsStart made workers run_seats.front_seats.own
+    pub standing : AreStanding made 0 1 2 run_seats.front_seats
+    pub long : length run_seats.crew.items ≡ workers
+    pub ready : All (IsReady made) run_seats.crew.items
+    pub numbered : Numbered 0 run_seats.crew.items
 
   -- a front's seat when it has ended
   pub record HasLeft (made : Made T) (n : ℕ) (leaves : Leaving) (told told' : Outside PortsTold) (done : FrontDone) (v : SeatState T Entry) : Type 0 where
@@ -74,9 +74,9 @@ module _ {T : Type 0} where
     pub worn : a.end ≡ Some WorkEnd.Worn → a.seat.worn ≡ true
 
   -- what the threads left: `own` is the first seat then
-  pub record Ran (made : Made T) (leaves leaves' leaves'' : Leaving) (start own : SeatState T Entry) (crew : List (Actor (SeatState T Entry))) (told told' : Posts (Outside PortsTold)) (done : Posts FrontDone) (stopped : Bool) : Type 0 where
+  pub record Ran (made : Made T) (leaves leaves' leaves'' : Leaving) (start own : SeatState T Entry) (crew : List (Actor (SeatState T Entry))) (told told' : EachFront (Outside PortsTold)) (done : EachFront FrontDone) (stopped : Bool) : Type 0 where
     pub start_is : IsStart made (length crew) start
-    pub posts : Posts (SeatState T Entry)
+    pub posts : EachFront (SeatState T Entry)
     pub renderd : HasLeft made 1 leaves told.renderd told'.renderd done.renderd posts.renderd
     pub tiles : HasLeft made 2 leaves' told.tiles told'.tiles done.tiles posts.tiles
     pub control : HasLeft made 3 leaves'' told.control told'.control done.control posts.control

@@ -11,7 +11,7 @@ use Rattle.input_files.specs.inner.Follows.{Follows}
 use Rattle.farm_history.specs.Entries.{Entry}
 use Rattle.farm_files.specs.Inputs.{Served}
 use Rattle.farm_stands.specs.Seen.{FarmSeen}
-use Rattle.farm_threads.specs.declared.posts.Posts.{Posts}
+use Rattle.farm_threads.specs.declared.each_front.EachFront.{EachFront}
 use Rattle.farm_threads.specs.Actors.{maps_in}
 use Rattle.farm_runs.specs.Promise.{Ends, RunsWell}
 use Rattle.front_leaves.specs.Fronts.{renderd_leaves, tiles_leave, control_leaves}
@@ -48,7 +48,7 @@ pub record Runs {D : Type 0} (state : D → Outside StoreTold) (course : Course 
 -- A farm that was ready, with its ports, has run: it ran well and was ended; or memory was wanting before its threads, and then it is as it was
 pub record RanWell {D : Type 0} (state : D → Outside StoreTold) (ready : Ready D) (closed : FarmSeen D × List (ℕ × Entry)) (old new : World D) (end : Result (Unit {0}) Stop) : Type 0 where
   pub last : FarmSeen D
-  pub done : Posts FrontDone
+  pub done : EachFront FrontDone
   pub ends : Ends
   pub runs :
       RunsWell state ready.farm last closed.1 (renderd_leaves (maps_in ready.farm.plan)) (tiles_leave (maps_in ready.farm.plan)) (control_leaves ready.lists.items) old.ports new.ports done ends

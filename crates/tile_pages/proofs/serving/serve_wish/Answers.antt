@@ -1,24 +1,29 @@
-use Rattle.std.proofs.Common.{refl, sym, subst}
-use Rattle.tile_pages.specs.declared.acts.Wish.{Wish}
+use Rattle.std.proofs.Common.{refl}
 use Rattle.tile_pages.specs.declared.acts.Wish.TheVariants as wish
-use Rattle.tile_pages.specs.Steps.{DoesWish}
-use Rattle.tile_pages.proofs.Says.{did_refuse}
+use Rattle.tile_answers.specs.Answers.{status_answer, dirty_answer}
+use Rattle.tile_pages.proofs.Says.{put_says, did_refuse, did_look, did_mark, as_wish}
 use Rattle.tile_pages.proofs.serving.serve_wish.Goals as goal
 
 pub returns-in-Bad-clause-does : goal.returns-in-Bad-clause-does
 returns-in-Bad-clause-does g c =
-    let mine = (g.M.Farm.seats c.args.farm.now).mine c.args.seat.now in
-    subst (λ (w : Wish). DoesWish c.args.conn w mine mine c.refuse.new.stage c.refuse.new.said.items c.refuse.result) (sym c.in-Bad.is)
-    (did_refuse c.args.conn wish.Bad mine c.refuse.new.stage c.refuse.new.said.items c.refuse.result refl c.refuse.ensures.stage c.refuse.ensures.said)
+    as_wish _ _ _ _ _ _ _ _ c.in-Bad.is (did_refuse c.args.conn wish.Bad _ _ _ _ refl c.refuse.ensures.stage c.refuse.ensures.said)
 
 pub returns-in-NotGet-clause-does : goal.returns-in-NotGet-clause-does
 returns-in-NotGet-clause-does g c =
-    let mine = (g.M.Farm.seats c.args.farm.now).mine c.args.seat.now in
-    subst (λ (w : Wish). DoesWish c.args.conn w mine mine c.refuse-in-NotGet.new.stage c.refuse-in-NotGet.new.said.items c.refuse-in-NotGet.result) (sym c.in-NotGet.is)
-    (did_refuse c.args.conn wish.NotGet mine c.refuse-in-NotGet.new.stage c.refuse-in-NotGet.new.said.items c.refuse-in-NotGet.result refl c.refuse-in-NotGet.ensures.stage c.refuse-in-NotGet.ensures.said)
+    as_wish _ _ _ _ _ _ _ _ c.in-NotGet.is (did_refuse c.args.conn wish.NotGet _ _ _ _ refl c.refuse-in-NotGet.ensures.stage c.refuse-in-NotGet.ensures.said)
 
 pub returns-in-NoTarget-clause-does : goal.returns-in-NoTarget-clause-does
 returns-in-NoTarget-clause-does g c =
-    let mine = (g.M.Farm.seats c.args.farm.now).mine c.args.seat.now in
-    subst (λ (w : Wish). DoesWish c.args.conn w mine mine c.refuse-in-NoTarget.new.stage c.refuse-in-NoTarget.new.said.items c.refuse-in-NoTarget.result) (sym c.in-NoTarget.is)
-    (did_refuse c.args.conn wish.NoTarget mine c.refuse-in-NoTarget.new.stage c.refuse-in-NoTarget.new.said.items c.refuse-in-NoTarget.result refl c.refuse-in-NoTarget.ensures.stage c.refuse-in-NoTarget.ensures.said)
+    as_wish _ _ _ _ _ _ _ _ c.in-NoTarget.is (did_refuse c.args.conn wish.NoTarget _ _ _ _ refl c.refuse-in-NoTarget.ensures.stage c.refuse-in-NoTarget.ensures.said)
+
+pub returns-in-Ok-clause-does : goal.returns-in-Ok-clause-does
+returns-in-Ok-clause-does g c =
+    as_wish _ _ _ _ _ _ _ _ c.in-Status.is (did_look c.args.conn c.in-Status.spot c.in-Ok.looked _ _ _ _ _ c.in-Ok.ensures.takes refl
+    (put_says c.put_status.result (status_answer c.in-Ok.looked) c.args.said.now.items c.put_status.new.said.items c.fate_of_put.result c.requires.empty c.put_status.ensures
+    c.fate_of_put.ensures))
+
+pub returns-in-Ok-ask-clause-does : goal.returns-in-Ok-ask-clause-does
+returns-in-Ok-ask-clause-does g c =
+    as_wish _ _ _ _ _ _ _ _ c.in-Dirty.is (did_mark c.args.conn c.in-Dirty.spot c.in-Ok-ask.field-0 _ _ _ _ _ c.in-Ok-ask.ensures.takes refl
+    (put_says c.put_dirty.result dirty_answer c.args.said.now.items c.put_dirty.new.said.items c.fate_of_put-in-Dirty.result c.requires.empty c.put_dirty.ensures
+    c.fate_of_put-in-Dirty.ensures))

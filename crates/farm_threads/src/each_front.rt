@@ -1,10 +1,10 @@
 //! What there is one of for each front, and who takes part in a run.
-use crate::muster::Muster;
+use crate::barrier::StartBarrier;
 use std::alloc::Global;
 
 /// One for each of the three fronts.
 #[derive(Drop)]
-pub struct Posts<T> {
+pub struct EachFront<T> {
     pub renderd: T,
     pub tiles: T,
     pub control: T,
@@ -18,11 +18,11 @@ pub struct Fronts<F, G, H> {
     pub control: H,
 }
 
-/// Who takes part in a run beside the workers: the fronts, and the muster of all actors. It also has what they
-/// take memory from.
+/// Who takes part in a run beside the workers: the fronts, and the barrier at which all actors begin. It also
+/// has what they take memory from.
 #[derive(Drop)]
-pub struct Cast<F, G, H> {
+pub struct RunActors<F, G, H> {
     pub fronts: Fronts<F, G, H>,
-    pub muster: Muster,
+    pub barrier: StartBarrier,
     pub alloc: Global,
 }

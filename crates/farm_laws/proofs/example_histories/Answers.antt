@@ -1,6 +1,6 @@
 -- Each by computation.
 use Rattle.farm_laws.proofs.Legality as legality
-use Rattle.farm_laws.proofs.worked_histories.Goals as goal
+use Rattle.farm_laws.proofs.example_histories.Goals as goal
 
 pub returns : goal.returns
 returns c = record {

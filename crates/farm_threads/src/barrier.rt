@@ -27,20 +27,20 @@ fn is_late<R: Clock>(rt: &R, began: Option<Instant>) -> bool {
     }
 }
 
-/// The actors of a run call at it when they begin. Where no thread is to be had for one of them, actors run one
+/// The actors of a run come to it when they begin. Where no thread is to be had for one of them, actors run one
 /// after another, and would wait for each other for ever; so each waits here for a while until all have begun,
 /// and where they have not, all give up. It also has who wakes the workers.
 #[derive(Drop)]
-pub struct Muster {
+pub struct StartBarrier {
     begun: AtomicU64,
     all: u64,
     pub sleepers: Vec<Unparker>,
 }
 
-impl Muster {
-    /// The muster of so many actors, of whom the workers are woken by these.
-    pub fn new(all: u64, sleepers: Vec<Unparker>) -> Muster {
-        Muster {
+impl StartBarrier {
+    /// A barrier for so many actors, of whom the workers are woken by these.
+    pub fn new(all: u64, sleepers: Vec<Unparker>) -> StartBarrier {
+        StartBarrier {
             begun: AtomicU64::new(0),
             all,
             sleepers,

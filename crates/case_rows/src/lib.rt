@@ -1,6 +1,8 @@
 //! Tables of texts. A line `in A%B` says what the texts after it stand in, at the `%`; a line `WANTED <- TEXT`
 //! is a text, and a line `WANTED <* COUNT SEPARATOR PIECE` is one of so many pieces, each `#` in a piece being
 //! its number. What is wanted is for readers, and for the script that makes the output wanted of this program.
+#![tactic(auto)]
+
 use std::alloc::{AllocError, Global};
 
 /// What the texts of a table stand in.

@@ -1,4 +1,4 @@
--- Worked histories of small farms, each from its first entry to its last. They show what the rules answer, and that the laws speak of something.
+-- Example histories of small farms, each from its first entry to its last. They show what the rules answer, and that the laws speak of something.
 use Rattle.std.specs.Prelude.{ℕ, zero, suc, Bool, true, false, ◌&&◌, ◌==◌, nat_lt, if◌then◌else◌, List, [], ◌∷◌, filter, Option, Some, None}
 use Rattle.std.specs.List.{list_any}
 use Rattle.farm_base.specs.declared.faults.ApplyFault.TheVariants.{NoFeature}

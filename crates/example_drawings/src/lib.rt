@@ -1,7 +1,7 @@
 //! Drawings that were worked out by hand, computed from the definitions alone.
 //!
-//! Each function here has an empty body. Its contract holds worked examples over the definitions of what is
-//! drawn, and the check computes them: so the definitions say what these examples say. `specs/Worked.antt` has
+//! Each function here has an empty body. Its contract holds examples over the definitions of what is
+//! drawn, and the check computes them: so the definitions say what these examples say. `specs/Examples.antt` has
 //! the maps and shapes.
 #![tactic(auto)]
 
@@ -14,11 +14,11 @@ ghost use Rattle.plain_drawing.specs.declared.style.Symbolizer.TheVariants as pa
 ghost use Rattle.plain_shapes.specs.Strokes.{half_of};
 ghost use Rattle.plain_drawing.specs.Rules.{denominator_of, is_active};
 ghost use Rattle.plain_drawing.specs.Drawing.{covers};
-ghost use Rattle.worked_drawings.specs.Worked.{red, blue, lime, white, pale_red, pale_blue, rows, picture, at, box, square, filled, stroked, outlined, spotted, level, level_doubled, level_back, dot, map_of, land, fill, met, sky, over_white, drawn_world};
+ghost use Rattle.example_drawings.specs.Examples.{red, blue, lime, white, pale_red, pale_blue, rows, picture, at, box, square, filled, stroked, outlined, spotted, level, level_doubled, level_back, dot, map_of, land, fill, met, sky, over_white, drawn_world};
 
 /// Scale denominators, rounded down, and the bounds that are active at one of them: the least bound belongs to
 /// a scale, the greatest one does not. Bounds are in hundredths.
-pub fn worked_scales()
+pub fn example_scales()
     ensures whole_world { denominator_of 0 16 ≡ 8945316224 }
     ensures town { denominator_of 10 256 ≡ 545978 }
     ensures least { is_active 54597800 None (denominator_of 10 256) ≡ true }
@@ -30,7 +30,7 @@ pub fn worked_scales()
 /// How the rules of a style are taken. The rules paint red where `k` is 1, blue where it is at least 1, and
 /// lime where no other rule holds: with the mode First a feature meets one of them, with the mode All a feature
 /// of `k` 1 meets red and then blue.
-pub fn worked_filter_modes()
+pub fn example_filter_modes()
     ensures first_one { met First 1 ≡ fill red ∷ [] }
     ensures first_two { met First 2 ≡ fill blue ∷ [] }
     ensures first_none { met First 0 ≡ fill lime ∷ [] }
@@ -40,14 +40,14 @@ pub fn worked_filter_modes()
 {}
 
 /// The whole tile of a grid of 2 by 1 pixels over the north half of the world, opaque and half opaque.
-pub fn worked_grid()
+pub fn example_grid()
     ensures opaque { drawn_world (sky 1000) [] ≡ picture (over_white red blue) }
     ensures half { drawn_world (sky 500) [] ≡ picture (over_white pale_red pale_blue) }
 {}
 
 /// The whole tile of one red square, of a map whose source is absent, and of two polygons, half opaque, that
 /// share an edge through the centres of column 8: each pixel is painted once.
-pub fn worked_polygons()
+pub fn example_polygons()
     ensures square { drawn_world (map_of (codes "land") (fill red) [] []) (land (square 4 12 ∷ [])) ≡ picture (rows 4 (replicate 16 white) ++ rows 8 (replicate 4 white ++ replicate 8 red ++ replicate 4 white) ++ rows 4 (replicate 16 white)) }
     ensures absent { drawn_world (map_of (codes "sea") (fill red) [] []) (land (square 4 12 ∷ [])) ≡ picture (rows 16 (replicate 16 white)) }
     ensures shared_edge { drawn_world (map_of (codes "land") (paint.Polygon red 500) [] []) (land (box 0 0 17 32 ∷ box 17 0 32 32 ∷ [])) ≡ picture (rows 16 (replicate 16 pale_red)) }
@@ -57,7 +57,7 @@ pub fn worked_polygons()
 /// each cap, outlines and marks. Of a square whose corners are centres the north and west edges belong to it, and
 /// the south and east ones do not.
 #[tactic(auto, unfolding(plain_shapes::specs::Strokes::long, plain_shapes::specs::Strokes::along, plain_shapes::specs::Strokes::beside, plain_shapes::specs::Strokes::reach, plain_shapes::specs::Strokes::is_near, plain_shapes::specs::Strokes::in_body, plain_shapes::specs::Strokes::in_disk, plain_shapes::specs::Strokes::before_start, plain_shapes::specs::Strokes::past_end, plain_shapes::specs::Strokes::in_block, plain_shapes::specs::Strokes::in_mark))]
-pub fn worked_covers()
+pub fn example_covers()
     ensures half_of_300 { half_of 300 (2 ^ 26) ≡ 100663296 }
     ensures half_of_150 { half_of 150 (2 ^ 26) ≡ 50331648 }
     ensures half_of_250 { half_of 250 (2 ^ 26) ≡ 83886080 }
