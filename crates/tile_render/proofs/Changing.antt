@@ -13,9 +13,9 @@ use Rattle.plain_shapes.specs.Blending.{blend}
 use Rattle.plain_shapes.specs.Images.{Pixels}
 use Rattle.plain_shapes.specs.inner.Canvas.{at_centres, stepped}
 use Rattle.plain_shapes.proofs.Places.{length-centres, get_or-centres}
-use Rattle.tile_render.specs.declared.parts.Part.{Part}
+use Rattle.tile_render.specs.declared.regions.Region.{Region}
 use Rattle.tile_render.specs.inner.Places.{changed_at}
-use Rattle.tile_render.specs.inner.Parts.{IsPart, InPart, Holds, Tells, Changed, over_member}
+use Rattle.tile_render.specs.inner.Regions.{IsRegion, InRegion, Holds, Tells, Changed, over_member}
 use Rattle.tile_render.proofs.Pixels.{unchanged_at, written_at, next_changed}
 
 changed_start : (f : Point → Colour → Colour) (w : Window) (start : Pixels) → Changed f w 0 start start
@@ -82,7 +82,7 @@ changed_end : (f : Point → Colour → Colour) (w : Window) (n : ℕ) (start no
 changed_end f w n start now e r = r.is ∙ ap (λ cs. record start { pixels = at_centres f cs start.pixels })
     (ap (λ k. take k (centres w)) (e ∙ sym (length-centres w)) ∙ take_all (length (centres w)) (centres w) (omega arith))
 
--- ---- the colour of a member over the pixels of a part
+-- ---- the colour of a member over the pixels of a region
 
 -- a row of the mask, as the code takes it
 pub row_taken : (bits row : List Bool) (cols j : ℕ) → row ≡ bits → take (j * cols + cols - j * cols) (drop (j * cols) row) ≡ take cols (drop (j * cols) bits)
@@ -90,53 +90,51 @@ row_taken bits row cols j is =
     let size : j * cols + cols - j * cols ≡ cols = omega arith in
     ap (λ n. take n (drop (j * cols) row)) size ∙ ap (λ bs. take cols (drop (j * cols) bs)) is
 
-pub row_length : (bits : List Bool) (cols rows across down j : ℕ) → length bits ≡ down * across → across ≡ cols → down ≡ rows → j < rows
-    → length (take (j * cols + cols - j * cols) (drop (j * cols) bits)) ≡ cols
-row_length bits cols rows across down j count same_cols same_rows hj =
+pub row_length : (bits : List Bool) (cols rows j : ℕ) → length bits ≡ rows * cols → j < rows → length (take (j * cols + cols - j * cols) (drop (j * cols) bits)) ≡ cols
+row_length bits cols rows j count hj =
     let next : j + 1 ≤ rows = omega arith in
-    let all : length bits ≡ rows * cols = count ∙ ap (λ n. n * across) same_rows ∙ ap (λ n. rows * n) same_cols in
     ap length (row_taken bits bits cols j refl)
-    ∙ length-take-le cols (drop (j * cols) bits) (omega (arith, length-drop (j * cols) bits, all, mul-le-mul_right cols next))
+    ∙ length-take-le cols (drop (j * cols) bits) (omega (arith, length-drop (j * cols) bits, count, mul-le-mul_right cols next))
 
 -- what a row of the mask says of a pixel
-told : (w : Window) (p : Part) (member : Point → Bool) (bits row : List Bool) (i j : ℕ) (t : Bool) → i < p.cols → j < p.rows
+told : (w : Window) (p : Region) (member : Point → Bool) (bits row : List Bool) (i j : ℕ) (t : Bool) → i < p.cols → j < p.rows
     → row ≡ take p.cols (drop (j * p.cols) bits) → get_or row i false ≡ t → Tells w p member bits → member (centre w (p.col + i) (p.row + j)) ≡ t
 told w p member bits row i j t hi hj is has tells =
     sym (tells.at j i hj hi) ∙ sym (get_or-drop (j * p.cols) bits i false) ∙ sym (get_or-take p.cols (drop (j * p.cols) bits) i false hi)
     ∙ ap (λ bs. get_or bs i false) (sym is) ∙ has
 
--- a pixel outside the part has no member as its centre
-outside : (w : Window) (p : Part) (member : Point → Bool) (colour : Colour) (opacity j i : ℕ) → Holds w p member → i < w.cols → j < w.rows → (InPart p i j → ⊥)
+-- a pixel outside the region has no member as its centre
+outside : (w : Window) (p : Region) (member : Point → Bool) (colour : Colour) (opacity j i : ℕ) → Holds w p member → i < w.cols → j < w.rows → (InRegion p i j → ⊥)
     → (x : Colour) → over_member member colour opacity (centre w i j) x ≡ x
 outside w p member colour opacity j i holds hi hj out x =
     ap (λ t. if t then blend colour opacity x else x) (false_from_ne_true (member (centre w i j)) (λ e. out (holds.at j i hi hj e)))
 
--- a pixel of the part that the mask covers
-pub pixel_on : (w : Window) (p : Part) (member : Point → Bool) (bits row : List Bool) (colour : Colour) (opacity i j : ℕ) (start now after : Pixels)
-    → IsPart w p → i < p.cols → j < p.rows → now.cols ≡ w.cols → row ≡ take p.cols (drop (j * p.cols) bits) → get_or row i false ≡ true
+-- a pixel of the region that the mask covers
+pub pixel_on : (w : Window) (p : Region) (member : Point → Bool) (bits row : List Bool) (colour : Colour) (opacity i j : ℕ) (start now after : Pixels)
+    → IsRegion w p → i < p.cols → j < p.rows → now.cols ≡ w.cols → row ≡ take p.cols (drop (j * p.cols) bits) → get_or row i false ≡ true
     → after ≡ record now {
       pixels = set now.pixels ((p.row + j) * now.cols + (p.col + i)) (blend colour opacity (get_or now.pixels ((p.row + j) * now.cols + (p.col + i)) colour));
     }
     → Tells w p member bits
     → Changed (over_member member colour opacity) w ((p.row + j) * w.cols + (p.col + i)) start now
     → Changed (over_member member colour opacity) w ((p.row + j) * w.cols + (p.col + (i + 1))) start after
-pixel_on w p member bits row colour opacity i j start now after part hi hj same_cols is has written tells r =
+pixel_on w p member bits row colour opacity i j start now after ok hi hj same_cols is has written tells r =
     changed_on (over_member member colour opacity) w colour opacity (p.col + i) (p.row + j) ((p.row + j) * w.cols + (p.col + i)) ((p.row + j) * w.cols + (p.col + (i + 1))) start now after
-    (omega (arith, part.in_cols)) (omega (arith, part.in_rows)) refl (omega arith)
+    (omega (arith, ok.in_cols)) (omega (arith, ok.in_rows)) refl (omega arith)
     (λ d. ap (λ b. if b then blend colour opacity d else d) (told w p member bits row i j true hi hj is has tells))
     (written ∙ ap (λ k. record now {
       pixels = set now.pixels ((p.row + j) * k + (p.col + i)) (blend colour opacity (get_or now.pixels ((p.row + j) * k + (p.col + i)) colour));
     }) same_cols) r
 
--- a pixel of the part that the mask does not cover
-pub pixel_off : (w : Window) (p : Part) (member : Point → Bool) (bits row : List Bool) (colour : Colour) (opacity i j : ℕ) (start now : Pixels)
-    → IsPart w p → i < p.cols → j < p.rows → row ≡ take p.cols (drop (j * p.cols) bits) → get_or row i false ≡ false
+-- a pixel of the region that the mask does not cover
+pub pixel_off : (w : Window) (p : Region) (member : Point → Bool) (bits row : List Bool) (colour : Colour) (opacity i j : ℕ) (start now : Pixels)
+    → IsRegion w p → i < p.cols → j < p.rows → row ≡ take p.cols (drop (j * p.cols) bits) → get_or row i false ≡ false
     → Tells w p member bits
     → Changed (over_member member colour opacity) w ((p.row + j) * w.cols + (p.col + i)) start now
     → Changed (over_member member colour opacity) w ((p.row + j) * w.cols + (p.col + (i + 1))) start now
-pixel_off w p member bits row colour opacity i j start now part hi hj row_is has tells r =
-    let inside : p.row + j < w.rows = omega (arith, part.in_rows) in
-    let col : p.col + i + 1 ≤ w.cols = omega (arith, part.in_cols) in
+pixel_off w p member bits row colour opacity i j start now ok hi hj row_is has tells r =
+    let inside : p.row + j < w.rows = omega (arith, ok.in_rows) in
+    let col : p.col + i + 1 ≤ w.cols = omega (arith, ok.in_cols) in
     let d0 : Point = record { x = 0; y = 0 } in
     let n : ℕ = (p.row + j) * w.cols + (p.col + i) in
     let within : n < length (centres w) = omega (arith, length-centres w, row_fits (p.row + j) w.cols w.rows w.cols inside (omega arith)) in
@@ -150,7 +148,7 @@ pixel_off w p member bits row colour opacity i j start now part hi hj row_is has
           ∙ ap (λ q. at_centres (over_member member colour opacity) (take q (centres w)) start.pixels) e);
     }
 
--- the pixels of a row before the part, and those behind it
+-- the pixels of a row before the region, and those behind it
 same_row : (j' i j c low high : ℕ) → i < c → high ≤ c → j * c + low ≤ j' * c + i → j' * c + i < j * c + high → j' ≡ j
 same_row j' i j c low high p h from below = elim (cases_lt j' j) [
   | inl q ↦ (let k : j' + 1 ≤ j = omega arith in absurd (omega (arith, mul-le-mul_right c k)))
@@ -160,52 +158,52 @@ same_row j' i j c low high p h from below = elim (cases_lt j' j) [
   ])
 ]
 
-pub row_before : (w : Window) (p : Part) (member : Point → Bool) (bits : List Bool) (colour : Colour) (opacity j : ℕ) (start now : Pixels) → IsPart w p → j < p.rows
+pub row_before : (w : Window) (p : Region) (member : Point → Bool) (bits : List Bool) (colour : Colour) (opacity j : ℕ) (start now : Pixels) → IsRegion w p → j < p.rows
     → Tells w p member bits
     → Changed (over_member member colour opacity) w ((p.row + j) * w.cols) start now
     → Changed (over_member member colour opacity) w ((p.row + j) * w.cols + (p.col + 0)) start now
-row_before w p member bits colour opacity j start now part hj tells r =
-    let row : p.row + j + 1 ≤ w.rows = omega (arith, part.in_rows) in
-    changed_skip (over_member member colour opacity) w ((p.row + j) * w.cols) ((p.row + j) * w.cols + (p.col + 0)) start now (omega (arith, part.in_cols, part.some_col)) (omega arith)
-    (omega (arith, mul-le-mul_right w.cols row, part.in_cols))
+row_before w p member bits colour opacity j start now ok hj tells r =
+    let row : p.row + j + 1 ≤ w.rows = omega (arith, ok.in_rows) in
+    changed_skip (over_member member colour opacity) w ((p.row + j) * w.cols) ((p.row + j) * w.cols + (p.col + 0)) start now (omega (arith, ok.in_cols, ok.some_col)) (omega arith)
+    (omega (arith, mul-le-mul_right w.cols row, ok.in_cols))
     (λ j' i p' q low high.
-    let e : j' ≡ p.row + j = same_row j' i (p.row + j) w.cols 0 p.col p' (omega (arith, part.in_cols)) (omega arith) (omega arith) in
+    let e : j' ≡ p.row + j = same_row j' i (p.row + j) w.cols 0 p.col p' (omega (arith, ok.in_cols)) (omega arith) (omega arith) in
     outside w p member colour opacity j' i tells.holds p' q (λ inside. omega (arith, inside.from_col, ap (λ k. k * w.cols) e))) r
 
-pub row_behind : (w : Window) (p : Part) (member : Point → Bool) (bits : List Bool) (colour : Colour) (opacity j i : ℕ) (start now : Pixels) → IsPart w p → j < p.rows → i ≡ p.cols
+pub row_behind : (w : Window) (p : Region) (member : Point → Bool) (bits : List Bool) (colour : Colour) (opacity j i : ℕ) (start now : Pixels) → IsRegion w p → j < p.rows → i ≡ p.cols
     → Tells w p member bits
     → Changed (over_member member colour opacity) w ((p.row + j) * w.cols + (p.col + i)) start now
     → Changed (over_member member colour opacity) w ((p.row + (j + 1)) * w.cols) start now
-row_behind w p member bits colour opacity j i start now part hj all tells r =
-    let row : p.row + j + 1 ≤ w.rows = omega (arith, part.in_rows) in
-    changed_skip (over_member member colour opacity) w ((p.row + j) * w.cols + (p.col + i)) ((p.row + (j + 1)) * w.cols) start now (omega (arith, part.in_cols, part.some_col))
-    (omega (arith, part.in_cols))
+row_behind w p member bits colour opacity j i start now ok hj all tells r =
+    let row : p.row + j + 1 ≤ w.rows = omega (arith, ok.in_rows) in
+    changed_skip (over_member member colour opacity) w ((p.row + j) * w.cols + (p.col + i)) ((p.row + (j + 1)) * w.cols) start now (omega (arith, ok.in_cols, ok.some_col))
+    (omega (arith, ok.in_cols))
     (omega (arith, mul-le-mul_right w.cols row))
     (λ j' i' p' q low high.
     let e : j' ≡ p.row + j = same_row j' i' (p.row + j) w.cols (p.col + i) w.cols p' (omega arith) low (omega arith) in
     outside w p member colour opacity j' i' tells.holds p' q (λ inside. omega (arith, inside.to_col, ap (λ k. k * w.cols) e))) r
 
--- the rows above the part, and those below it
-pub rows_above : (w : Window) (p : Part) (member : Point → Bool) (bits : List Bool) (colour : Colour) (opacity : ℕ) (start : Pixels) → IsPart w p
+-- the rows above the region, and those below it
+pub rows_above : (w : Window) (p : Region) (member : Point → Bool) (bits : List Bool) (colour : Colour) (opacity : ℕ) (start : Pixels) → IsRegion w p
     → Tells w p member bits
     → Changed (over_member member colour opacity) w ((p.row + 0) * w.cols) start start
-rows_above w p member bits colour opacity start part tells =
-    let row : p.row + 0 ≤ w.rows = omega (arith, part.in_rows) in
-    changed_skip (over_member member colour opacity) w 0 ((p.row + 0) * w.cols) start start (omega (arith, part.in_cols, part.some_col)) (omega arith)
+rows_above w p member bits colour opacity start ok tells =
+    let row : p.row + 0 ≤ w.rows = omega (arith, ok.in_rows) in
+    changed_skip (over_member member colour opacity) w 0 ((p.row + 0) * w.cols) start start (omega (arith, ok.in_cols, ok.some_col)) (omega arith)
     (mul-le-mul_right w.cols row)
     (λ j i p' q low high. outside w p member colour opacity j i tells.holds p' q (λ inside. above j i inside.from_row high)) (changed_start (over_member member colour opacity) w start)
   where
     above : (j i : ℕ) → p.row ≤ j → j * w.cols + i < (p.row + 0) * w.cols → ⊥
     above j i from high = (let k : p.row + 0 ≤ j = omega arith in omega (arith, mul-le-mul_right w.cols k))
 
-pub rows_below : (w : Window) (p : Part) (member : Point → Bool) (bits : List Bool) (colour : Colour) (opacity j : ℕ) (start now : Pixels) → IsPart w p → j ≡ p.rows
+pub rows_below : (w : Window) (p : Region) (member : Point → Bool) (bits : List Bool) (colour : Colour) (opacity j : ℕ) (start now : Pixels) → IsRegion w p → j ≡ p.rows
     → Tells w p member bits
     → Changed (over_member member colour opacity) w ((p.row + j) * w.cols) start now
     → now ≡ stepped w (over_member member colour opacity) start
-rows_below w p member bits colour opacity j start now part all tells r =
-    let row : p.row + j ≤ w.rows = omega (arith, part.in_rows) in
+rows_below w p member bits colour opacity j start now ok all tells r =
+    let row : p.row + j ≤ w.rows = omega (arith, ok.in_rows) in
     changed_end (over_member member colour opacity) w (w.rows * w.cols) start now refl
-    (changed_skip (over_member member colour opacity) w ((p.row + j) * w.cols) (w.rows * w.cols) start now (omega (arith, part.in_cols, part.some_col))
+    (changed_skip (over_member member colour opacity) w ((p.row + j) * w.cols) (w.rows * w.cols) start now (omega (arith, ok.in_cols, ok.some_col))
     (mul-le-mul_right w.cols row) (omega arith)
     (λ j' i p' q low high. outside w p member colour opacity j' i tells.holds p' q (λ inside. below j' i p' inside.to_row low)) r)
   where

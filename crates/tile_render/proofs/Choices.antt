@@ -5,7 +5,7 @@ use Rattle.std.specs.List.{list_any, position_or_len}
 use Rattle.std.proofs.lemmas.Bool.{ltb-false}
 use Rattle.std.proofs.lemmas.Grind.{fold-append}
 use Rattle.std.proofs.lemmas.List.{take_all, length-drop}
-use Rattle.std.proofs.lemmas.List.Sums.{prefix_len_passes}
+use Rattle.std.proofs.lemmas.List.Sums.{prefix_len_passes, fold_more}
 use Rattle.std.proofs.lemmas.List.Folds.{list_any_at, list_any_none}
 use Rattle.std.proofs.lemmas.List.Quantifiers.{position-Some}
 use Rattle.plain_world.specs.declared.world.Window.{Window}
@@ -111,3 +111,18 @@ fallbacks_drawn w d s item image none =
     chosen_all w item (is_fallback d) s.rules image
     ∙ ap (λ b. fold (with_symbolizer w item) image (flat_map (λ r. r.symbolizers)
     (if b then taken s.filter_mode (filter (matches (item_attrs item) d) s.rules) else filter (is_fallback d) s.rules))) (sym none)
+
+-- one rule more of a loop: one that is not chosen, and one that is
+pub rule_passed : (w : Window) (item : Item) (p : Rule → Bool) (rules : List Rule) (i : ℕ) (r : Rule) (start now : Pixels) → i < length rules → r ≡ get_or rules i r → p r ≡ false
+    → now ≡ fold (with_chosen w item p) start (take i rules) → now ≡ fold (with_chosen w item p) start (take (i + 1) rules)
+unfolding with_chosen
+rule_passed w item p rules i r start now within is off so_far =
+    ap (λ b. if b then with_rule w item now r else now) (sym off) ∙ ap (λ m. with_chosen w item p m r) so_far
+    ∙ ap (with_chosen w item p (fold (with_chosen w item p) start (take i rules))) is ∙ sym (fold_more (with_chosen w item p) start rules i r within)
+
+pub rule_drawn : (w v : Window) (item : Item) (p : Rule → Bool) (rules : List Rule) (i : ℕ) (r : Rule) (start now next : Pixels) → i < length rules → r ≡ get_or rules i r → p r ≡ true
+    → v ≡ w → now ≡ fold (with_chosen w item p) start (take i rules) → next ≡ with_rule v item now r → next ≡ fold (with_chosen w item p) start (take (i + 1) rules)
+unfolding with_chosen
+rule_drawn w v item p rules i r start now next within is on same so_far step =
+    step ∙ ap (λ u. with_rule u item now r) same ∙ ap (λ b. if b then with_rule w item now r else now) (sym on) ∙ ap (λ m. with_chosen w item p m r) so_far
+    ∙ ap (with_chosen w item p (fold (with_chosen w item p) start (take i rules))) is ∙ sym (fold_more (with_chosen w item p) start rules i r within)

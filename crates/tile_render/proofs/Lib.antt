@@ -1,7 +1,8 @@
 pub mod Changing
 pub mod Choices
+pub mod Covering
 pub mod Metas
-pub mod Painting
+pub mod Painted
 pub mod Pixels
 pub mod Skipping
 pub mod Steps

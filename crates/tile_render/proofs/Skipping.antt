@@ -26,7 +26,7 @@ use Rattle.drawing_reach.proofs.Members.{not_true}
 use Rattle.drawing_reach.proofs.Boxes.{box_holds, box_west, box_north}
 use Rattle.drawing_reach.proofs.Reaching.{covered_within}
 use Rattle.drawing_reach.proofs.Unreached.{Misses, all_centres, item_missed}
-use Rattle.tile_render.specs.inner.Parts.{around}
+use Rattle.tile_render.specs.inner.Regions.{around}
 use Rattle.tile_render.proofs.Steps.{fold_next}
 
 -- ---- a feature far from the window leaves the picture
@@ -164,3 +164,9 @@ all_drawn w d style features place start now ok keeps none so_far =
     so_far ∙ sym (skipped (with_item w d style) feature features start place (length features)
     (λ j f low high has m. far_item w d style f m ok keeps (none_left features place (around w) none j f low has)))
     ∙ ap (λ fs. fold (with_item w d style) start (map feature fs)) (take_all (place + length features) features (omega arith))
+
+-- a feature that is there, drawn
+pub feature_drawn : (w v : Window) (d : ℕ) (style : Style) (f : Feature) (o : Option Feature) (now after : Pixels) → Some f ≡ o → v ≡ w → after ≡ with_item v d style now (feature f)
+    → after ≡ fold (with_item w d style) now (map feature (option_to_list o))
+feature_drawn w v d style f o now after is same step =
+    step ∙ ap (λ u. with_item u d style now (feature f)) same ∙ ap (λ o. fold (with_item w d style) now (map feature (option_to_list o))) is

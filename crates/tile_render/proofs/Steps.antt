@@ -1,7 +1,8 @@
 -- One step of a loop more, and what holds of an Ok.
-use Rattle.std.proofs.Common.{◌≡◌, ℕ, zero, suc, ◌+◌, ◌∙◌, ap, sym, refl, arith, List, [], ◌∷◌, ◌++◌, take, fold, map}
+use Rattle.std.proofs.Common.{◌≡◌, ℕ, zero, suc, ◌+◌, ◌<◌, ◌∙◌, ap, sym, refl, arith, List, [], ◌∷◌, ◌++◌, length, get_or, take, fold, map, flat_map}
 use Rattle.std.specs.Prelude.{Result, Ok, Err, OnOk, IfOk, slice_get, option_to_list}
-use Rattle.std.proofs.lemmas.Grind.{fold-append}
+use Rattle.std.proofs.lemmas.List.{append-nil, take_more}
+use Rattle.std.proofs.lemmas.Grind.{fold-append, flat_map-append}
 
 pub on_ok : {T E : Type 0} {P Q : Type 0} (r : Result T E) → (P → Q) → OnOk r P → OnOk r Q
 on_ok (Ok x) f h = f h
@@ -32,3 +33,14 @@ fold_next h f xs a now next i so_far step =
     ∙ ap (fold h a) (sym (map_append f (take i xs) (option_to_list (slice_get xs i))))
     ∙ ap (λ ys. fold h a (map f ys)) (sym (take_get xs i))
     ∙ ap (λ n. fold h a (map f (take n xs))) (sym e)
+
+-- the same for the lists that a list's items give
+pub named_next : {X Y A : Type 0} (h : A → Y → A) (g : X → List Y) (xs : List X) (a now next : A) (i : ℕ) (x : X) → i < length xs → x ≡ get_or xs i x
+    → now ≡ fold h a (flat_map g (take i xs)) → next ≡ fold h now (g x) → next ≡ fold h a (flat_map g (take (i + 1) xs))
+named_next h g xs a now next i x within is so_far step =
+    step ∙ ap (λ b. fold h b (g x)) so_far
+    ∙ sym (fold-append h a (flat_map g (take i xs)) (g x))
+    ∙ ap (λ ys. fold h a (flat_map g (take i xs) ++ ys)) (sym (append-nil (g x)))
+    ∙ ap (fold h a) (sym (flat_map-append g (take i xs) (x ∷ [])))
+    ∙ ap (λ y. fold h a (flat_map g (take i xs ++ y ∷ []))) is
+    ∙ ap (λ ys. fold h a (flat_map g ys)) (sym (take_more xs i x within))

@@ -1,4 +1,6 @@
+pub mod Canvases
 pub mod Chosen
-pub mod Parts
+pub mod Covers
+pub mod Items
 pub mod Places
-pub mod Sources
+pub mod Regions

@@ -1,14 +1,16 @@
 //! Tiles of a map: the drawing of a style over data, pixel by pixel.
 #![tactic(auto)]
 
-mod features;
+mod canvas;
+mod covers;
 mod grids;
+mod items;
 mod layers;
-mod masks;
 mod metatiles;
-mod parts;
+mod painting;
+mod regions;
 mod rules;
-mod sources;
+mod styles;
 mod symbolizers;
 mod tiles;
 

@@ -5,6 +5,7 @@ ghost use Rattle.plain_world.specs.World.{IsMeta, IsTileSize};
 ghost use Rattle.plain_drawing.specs.Metatiles.{tiles_of};
 ghost use Rattle.plain_drawing.specs.inner.PartTexts.{part_text, column_texts, part_texts};
 
+use crate::canvas::Canvas;
 use crate::layers::draw_map;
 use data_versions::Snapshot;
 use farm_base::{Bytes, NoMemory};
@@ -91,8 +92,8 @@ pub fn draw_meta(
 {
     let w = meta_window(m, size);
     let scale = denominator(m.z, size);
-    let mut image = Image::new(alloc, w.cols, w.rows, style.background_color)?;
-    draw_map(alloc, w, scale, style, snapshot, &mut image)?;
-    let tiles = cut_tiles(alloc, &image, size, tiles_across(m))?;
+    let mut canvas = Canvas::new(alloc, w, style.background_color)?;
+    draw_map(alloc, scale, style, snapshot, &mut canvas)?;
+    let tiles = cut_tiles(alloc, canvas.image(), size, tiles_across(m))?;
     Ok(DrawnMeta { meta: m, tiles })
 }

@@ -4,12 +4,12 @@ ghost use Rattle.std.specs.List.{list_all};
 ghost use Rattle.plain_world.specs.World.{IsTile, IsTileSize};
 ghost use Rattle.plain_drawing.specs.Drawing.{tile_of};
 
+use crate::canvas::Canvas;
 use crate::layers::draw_map;
 use data_versions::Snapshot;
 use farm_base::NoMemory;
 use merc_fixed::{Tile, window};
 use plain_drawing::MapStyle;
-use plain_image::Image;
 use scale_rules::denominator;
 use std::alloc::Global;
 
@@ -28,7 +28,7 @@ pub fn draw_tile(
 {
     let w = window(t, size);
     let scale = denominator(t.z, size);
-    let mut image = Image::new(alloc, w.cols, w.rows, style.background_color)?;
-    draw_map(alloc, w, scale, style, snapshot, &mut image)?;
-    image.write_ppm(alloc)
+    let mut canvas = Canvas::new(alloc, w, style.background_color)?;
+    draw_map(alloc, scale, style, snapshot, &mut canvas)?;
+    canvas.image().write_ppm(alloc)
 }

@@ -4,7 +4,6 @@ use Rattle.tile_render.proofs.layers.draw_map.Given as goal
 
 abbrev pub invariant-loop-layer : goal.invariant-loop-layer
 invariant-loop-layer l = record {
-  drawn : l.image ≡ fold (with_layer l.w l.denominator l.style l.snapshot) l.initial.image (take l.layer-index l.layer-items);
-  cols : l.image.cols ≡ l.w.cols;
-  rows : l.image.rows ≡ l.w.rows;
+  drawn : l.canvas.image ≡ fold (with_layer l.fn.canvas.window l.denominator l.style l.snapshot) l.fn.canvas.image (take l.layer-index l.layer-items);
+  window : l.canvas.window ≡ l.fn.canvas.window;
 }

@@ -1,0 +1,137 @@
+//! The pass of a style over items, and the rules that each item meets.
+ghost use Rattle.std.specs.Prelude.{◌≡◌, ◌*◌, ◌^◌, ◌<◌, OnOk, fold, map};
+ghost use Rattle.plain_drawing.specs.Drawing.{feature, item_attrs};
+ghost use Rattle.plain_drawing.specs.inner.Pictures.{with_item, with_style};
+ghost use Rattle.tile_render.specs.inner.Chosen.{is_chosen, with_rule, with_chosen};
+ghost use Rattle.tile_render.specs.inner.Items.{item_of, items_in};
+
+use crate::canvas::Canvas;
+use crate::items::{Item, Items};
+use crate::regions::around;
+use crate::rules::{Choice, first_match, is_chosen};
+use crate::symbolizers::draw_symbolizer;
+use data_versions::LayerView;
+use farm_base::NoMemory;
+use plain_drawing::{FilterMode, Rule, Style};
+use std::alloc::Global;
+
+/// Draws an item by a rule, whatever its filter and scales: each symbolizer in order.
+#[tactic(auto, unfolding(crate::specs::inner::Chosen::with_rule))]
+fn draw_rule(
+    alloc: Global,
+    item: Item<'_>,
+    rule: &Rule,
+    canvas: &mut Canvas,
+) -> Result<(), NoMemory>
+    ensures drawn { OnOk result (canvas.new.image ≡ with_rule canvas.old.window (item_of item.entry) canvas.old.image rule.now) }
+    ensures window { canvas.new.window ≡ canvas.old.window }
+{
+    for symbolizer in &rule.symbolizers {
+        draw_symbolizer(alloc, item, *symbolizer, canvas)?;
+    }
+    Ok(())
+}
+
+/// Draws an item by each chosen rule, in order.
+fn draw_rules(
+    alloc: Global,
+    denominator: u64,
+    item: Item<'_>,
+    choice: Choice,
+    rules: &[Rule],
+    canvas: &mut Canvas,
+) -> Result<(), NoMemory>
+    requires { 100 * denominator < 2 ^ 64 }
+    ensures drawn { OnOk result (canvas.new.image
+        ≡ fold (with_chosen canvas.old.window (item_of item.entry) (is_chosen choice (item_attrs (item_of item.entry)) denominator)) canvas.old.image rules.now) }
+    ensures window { canvas.new.window ≡ canvas.old.window }
+{
+    let attrs = item.attrs();
+    for rule in rules {
+        if !is_chosen(choice, rule, attrs, denominator) {
+            continue;
+        }
+        draw_rule(alloc, item, rule, canvas)?;
+    }
+    Ok(())
+}
+
+/// Draws an item by a style: by the Filter rules that are taken, or where none matches by every ElseFilter
+/// rule.
+fn draw_item(
+    alloc: Global,
+    denominator: u64,
+    style: &Style,
+    item: Item<'_>,
+    canvas: &mut Canvas,
+) -> Result<(), NoMemory>
+    requires { 100 * denominator < 2 ^ 64 }
+    ensures drawn { OnOk result (canvas.new.image ≡ with_item canvas.old.window denominator style.now canvas.old.image (item_of item.entry)) }
+    ensures window { canvas.new.window ≡ canvas.old.window }
+{
+    let rules = style.rules.as_slice();
+    match first_match(rules, item.attrs(), denominator) {
+        Some(place) => {
+            draw_rule(alloc, item, &rules[place], canvas)?;
+            match style.filter_mode {
+                FilterMode::All => {
+                    let rest = &rules[place + 1..];
+                    draw_rules(alloc, denominator, item, Choice::Matching, rest, canvas)
+                }
+                FilterMode::First => Ok(()),
+            }
+        }
+        None => draw_rules(alloc, denominator, item, Choice::Fallback, rules, canvas),
+    }
+}
+
+/// Draws the features of a layer of data by a style, in order. Those that are too far from the window to
+/// paint any of its pixels are passed over.
+fn draw_features(
+    alloc: Global,
+    denominator: u64,
+    style: &Style,
+    features: &LayerView<'_>,
+    canvas: &mut Canvas,
+) -> Result<(), NoMemory>
+    requires { 100 * denominator < 2 ^ 64 }
+    ensures drawn { OnOk result (canvas.new.image ≡ fold (with_item canvas.old.window denominator style.now) canvas.old.image (map feature features.now)) }
+    ensures window { canvas.new.window ≡ canvas.old.window }
+{
+    style.know();
+    let near = around(canvas.window());
+    // Read for what `len` ensures: the number of features is a `u32`, so a place past each of them is one too.
+    let _count = features.len();
+    let mut place = 0;
+    while let Some(next) = features.next_near(place, near.west, near.north, near.east, near.south) {
+        let Some(feature) = features.get(next) else {
+            return Ok(());
+        };
+        draw_item(alloc, denominator, style, Item::Feature(feature), canvas)?;
+        place = next + 1;
+    }
+    Ok(())
+}
+
+/// Draws all items of a layer by a style: one pass.
+#[tactic(auto, unfolding(plain_drawing::specs::inner::Pictures::with_style))]
+pub(crate) fn draw_style(
+    alloc: Global,
+    denominator: u64,
+    style: &Style,
+    items: &Items<'_>,
+    canvas: &mut Canvas,
+) -> Result<(), NoMemory>
+    requires { 100 * denominator < 2 ^ 64 }
+    ensures drawn { OnOk result (canvas.new.image ≡ with_style canvas.old.window denominator (items_in items.now) canvas.old.image style.now) }
+    ensures window { canvas.new.window ≡ canvas.old.window }
+{
+    match items {
+        Items::Raster(grid) => {
+            let grid = *grid;
+            draw_item(alloc, denominator, style, Item::Raster(grid), canvas)
+        }
+        Items::Features(features) => draw_features(alloc, denominator, style, features, canvas),
+        Items::Nothing => Ok(()),
+    }
+}
