@@ -1,13 +1,12 @@
 -- The runs of members between crossings in order, and the bits that they set.
-use Rattle.std.proofs.Common.{◌≡◌, ℕ, suc, zero, ◌+◌, ◌-◌, ◌*◌, ◌/◌, ◌%◌, ◌<◌, ◌≤◌, min, max, Bool, true, false, ◌&&◌, List, [], length, take, get_or, count_by, refl, ap, sym, subst, ◌∙◌, inl, inr, arith}
+use Rattle.std.proofs.Common.{◌≡◌, ℕ, suc, zero, ◌+◌, ◌-◌, ◌*◌, ◌/◌, ◌%◌, ◌<◌, ◌≤◌, min, max, Bool, true, false, ◌&&◌, List, [], length, take, get_or, refl, ap, sym, subst, ◌∙◌, inl, inr, arith}
 use Rattle.std.specs.Prelude.{nat_le}
 use Rattle.std.specs.List.Sorted.{IsPermutation, IsSortedByKey, IsNonDecreasing}
 use Rattle.std.specs.Ordering.{nat_cmp}
 use Rattle.std.proofs.Math.Bool.{and-false}
 use Rattle.std.proofs.Math.Nat.{mul-le-mul_right, div-add-mod, mod-lt}
-use Rattle.std.proofs.lemmas.Bool.{cases_Bool, cases_lt, le-leb, lt-leb}
+use Rattle.std.proofs.lemmas.Bool.{cases_lt, le-leb, lt-leb}
 use Rattle.std.proofs.lemmas.List.{take_all, get_or_past, get_or_default}
-use Rattle.std.proofs.lemmas.List.Sums.{count_by_more_yes, count_by_more_no}
 use Rattle.std.proofs.lemmas.List.Sorted.{IsNonDecreasingBy-from_sort, sum_by-IsPermutation, All-permutation}
 use Rattle.plain_world.specs.declared.world.Point.{Point}
 use Rattle.plain_world.specs.declared.world.Window.{Window}
@@ -19,18 +18,7 @@ use Rattle.plain_shapes.proofs.Places.{reached_start, reached_skip, reached_end}
 use Rattle.raster_core.specs.declared.runs.Run.{Run}
 use Rattle.raster_core.specs.inner.Toggles.{flip, is_up_to, parity_at, Toggled}
 use Rattle.raster_core.specs.inner.Crossings.{Crossings, Done, IsNext}
-use Rattle.raster_core.proofs.Toggling.{is_odd_suc}
-
--- one crossing more
-parity_more : (cols : ℕ) (places : List ℕ) (k j i d : ℕ) → k < length places
-    → parity_at cols (take (k + 1) places) j i ≡ flip (is_up_to cols j i (get_or places k d)) (parity_at cols (take k places) j i)
-parity_more cols places k j i d lt = elim (cases_Bool (is_up_to cols j i (get_or places k d))) [
-  | inl t ↦ (
-      let e : count_by (is_up_to cols j i) (take k places) + 1 ≡ 1 + count_by (is_up_to cols j i) (take k places) = omega arith in
-      ap is_odd (count_by_more_yes (is_up_to cols j i) places k d lt t ∙ e) ∙ is_odd_suc (count_by (is_up_to cols j i) (take k places))
-      ∙ sym (ap (λ b. flip b (parity_at cols (take k places) j i)) t))
-  | inr t ↦ ap is_odd (count_by_more_no (is_up_to cols j i) places k d lt t) ∙ sym (ap (λ b. flip b (parity_at cols (take k places) j i)) t)
-]
+use Rattle.raster_core.proofs.Toggling.{odd_more}
 
 -- where a place counts
 counted : (cols j i p : ℕ) → j * cols ≤ p → p ≤ j * cols + i → is_up_to cols j i p ≡ true
@@ -49,7 +37,7 @@ parity_rest : (cols : ℕ) (places : List ℕ) (k n j i : ℕ) → k + n ≤ len
 parity_rest cols places k zero j i fits far = ap (λ m. parity_at cols (take m places) j i) (let e : k + 0 ≡ k = omega arith in e)
 parity_rest cols places k (suc n) j i fits far =
     ap (λ m. parity_at cols (take m places) j i) (let e : k + suc n ≡ k + n + 1 = omega arith in e)
-    ∙ parity_more cols places (k + n) j i 0 (omega arith)
+    ∙ odd_more (is_up_to cols j i) places (k + n) 0 (omega arith)
     ∙ ap (λ b. flip b (parity_at cols (take (k + n) places) j i)) (past_it cols j i (get_or places (k + n) 0) (far (k + n) (omega arith) (omega arith)))
     ∙ parity_rest cols places k n j i (omega arith) (λ x from to. far x from (omega arith))
 
@@ -144,7 +132,7 @@ run_even w m places k n row first end next is done b le j i col from = elim (cas
   | inl less ↦ (
       let closed = closed_by w places k row first end next b less in
       ap (λ q. parity_at w.cols (take q places) j i) (b.two less)
-      ∙ parity_more w.cols places (k + 1) j i 0 closed.0 ∙ ap (flip (is_up_to w.cols j i (get_or places (k + 1) 0))) one_more
+      ∙ odd_more (is_up_to w.cols j i) places (k + 1) 0 closed.0 ∙ ap (flip (is_up_to w.cols j i (get_or places (k + 1) 0))) one_more
       ∙ ap (λ p. flip (is_up_to w.cols j i p) (flip (is_up_to w.cols j i first) false)) (closed.1 0)
       ∙ both less)
   | inr past ↦ (
@@ -154,7 +142,7 @@ run_even w m places k n row first end next is done b le j i col from = elim (cas
   where
     one_more : parity_at w.cols (take (k + 1) places) j i ≡ flip (is_up_to w.cols j i first) false
     one_more =
-        parity_more w.cols places k j i 0 b.lt ∙ ap (λ p. flip (is_up_to w.cols j i p) (parity_at w.cols (take k places) j i)) (b.at 0)
+        odd_more (is_up_to w.cols j i) places k 0 b.lt ∙ ap (λ p. flip (is_up_to w.cols j i p) (parity_at w.cols (take k places) j i)) (b.at 0)
         ∙ ap (flip (is_up_to w.cols j i first)) (done.even j i col (omega (arith, done.rest 0 b.lt, b.at 0)))
 
     both : end < row * w.cols + w.cols → flip (is_up_to w.cols j i end) (flip (is_up_to w.cols j i first) false) ≡ false
@@ -208,7 +196,7 @@ run_next w m places k n row first end next r is done b r_is =
       within = λ i low high.
           is.tells row i row_in (omega (arith, b.ends))
           ∙ parity_all w.cols places (k + 1) row i (omega (arith, b.lt)) (λ x from to. omega (arith, rest_past w m places k row first end next is b x from to, ends))
-          ∙ parity_more w.cols places k row i 0 b.lt
+          ∙ odd_more (is_up_to w.cols row i) places k 0 b.lt
           ∙ ap (λ p. flip (is_up_to w.cols row i p) (parity_at w.cols (take k places) row i)) (b.at 0)
           ∙ ap (flip (is_up_to w.cols row i first)) (done.even row i (omega (arith, b.ends)) (omega (arith, begins, done.rest 0 b.lt, b.at 0)))
           ∙ ap (λ t. flip t false) (counted w.cols row i first b.low (omega (arith, begins)));

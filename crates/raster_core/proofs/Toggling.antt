@@ -1,17 +1,21 @@
 -- How the parities of a row change with one crossing more, and how edges, rings and rows add up.
-use Rattle.std.proofs.Common.{◌≡◌, ◌≢◌, ◌==◌, ℕ, ◌+◌, ◌*◌, ◌%◌, ◌<◌, ◌≤◌, Bool, true, false, not, ◌&&◌, List, [], ◌∷◌, ◌++◌, count_by, cond, refl, ap, sym, subst, ◌∙◌, inl, inr, arith}
+use Rattle.std.proofs.Common.{◌≡◌, ◌≢◌, ◌==◌, ℕ, ◌+◌, ◌-◌, ◌*◌, ◌%◌, ◌<◌, ◌≤◌, Bool, true, false, not, ◌&&◌, List, [], ◌∷◌, ◌++◌, length, take, get_or, count_by, cond, refl, ap, sym, subst, ◌∙◌, inl, inr, arith}
 use Rattle.std.specs.Prelude.{nat_le}
+use Rattle.std.specs.List.{All}
+use Rattle.std.specs.List.Sorted.{IsPermutation}
 use Rattle.std.proofs.Math.Nat.{mul-le-mul_right}
 use Rattle.std.proofs.Math.Bool.{and-false}
-use Rattle.std.proofs.lemmas.Bool.{cases_lt, cases_eq, le-leb, lt-leb}
+use Rattle.std.proofs.lemmas.Bool.{cases_Bool, cases_lt, cases_eq, le-leb, lt-leb}
 use Rattle.std.proofs.lemmas.Nat.{row_fits}
-use Rattle.std.proofs.lemmas.List.Elements.{All-push}
-use Rattle.std.proofs.lemmas.List.Sums.{sum_by-cons}
+use Rattle.std.proofs.lemmas.List.{take_all}
+use Rattle.std.proofs.lemmas.List.Elements.{All-push, All-take}
+use Rattle.std.proofs.lemmas.List.Sorted.{All-permutation, sum_by-IsPermutation}
+use Rattle.std.proofs.lemmas.List.Sums.{sum_by-cons, count_by_more_yes, count_by_more_no}
 use Rattle.plain_world.specs.declared.world.Point.{Point}
 use Rattle.plain_world.specs.declared.world.Window.{Window}
 use Rattle.plain_world.specs.World.{centre}
 use Rattle.plain_shapes.specs.Rings.{is_odd}
-use Rattle.raster_core.specs.inner.Toggles.{flip, is_up_to, parity_at, AllInside, Toggled, RowToggled, RowsToggled, Remains}
+use Rattle.raster_core.specs.inner.Toggles.{flip, is_up_to, parity_at, AllInside, Toggled, RowToggled, RowsToggled, Remains, Turned, SameParities}
 
 -- one more that counts, or not
 pub is_odd_suc : (n : ℕ) → is_odd (1 + n) ≡ not (is_odd n)
@@ -52,6 +56,16 @@ odd_push p xs x =
     swapped true false = refl
     swapped false true = refl
     swapped false false = refl
+
+-- one place more
+pub odd_more : {X : Type 0} (p : X → Bool) (xs : List X) (k : ℕ) (d : X) → k < length xs
+    → is_odd (count_by p (take (k + 1) xs)) ≡ flip (p (get_or xs k d)) (is_odd (count_by p (take k xs)))
+odd_more p xs k d lt = elim (cases_Bool (p (get_or xs k d))) [
+  | inl t ↦ (
+      let e : count_by p (take k xs) + 1 ≡ 1 + count_by p (take k xs) = omega arith in
+      ap is_odd (count_by_more_yes p xs k d lt t ∙ e) ∙ is_odd_suc (count_by p (take k xs)) ∙ sym (ap (λ b. flip b (is_odd (count_by p (take k xs)))) t))
+  | inr t ↦ ap is_odd (count_by_more_no p xs k d lt t) ∙ sym (ap (λ b. flip b (is_odd (count_by p (take k xs)))) t)
+]
 
 -- a place counts in its own row from its column on, and in no other row
 in_row : (cols j k i : ℕ) → is_up_to cols j i (j * cols + k) ≡ nat_le k i
@@ -162,4 +176,45 @@ pub remains_end : (w : Window) (left whole : Point → Bool) (old now : List ℕ
 remains_end w left whole old now none r = record {
   inside = r.inside;
   at = λ j i p q. sym (ap (λ b. flip b (parity_at w.cols now j i)) (none (centre w i j))) ∙ r.at j i p q;
+}
+
+-- a place goes in, or the last one out
+pub turned_in : (place : ℕ) (old new : List ℕ) → new ≡ old ++ place ∷ [] → Turned place old new
+turned_in place old new is = record {
+  below = λ n one all. (let P : List ℕ → Type 0 = λ xs. All (λ x. x < n) xs in subst P (sym is) (All-push (λ x. x < n) old place all one));
+  parity = λ p. ap (λ xs. is_odd (count_by p xs)) is ∙ odd_push p old place;
+}
+
+pub turned_out : (place : ℕ) (old new : List ℕ) (count d : ℕ) → count ≡ length old → 0 < count → get_or old (count - 1) d ≡ place → new ≡ take (count - 1) old → Turned place old new
+turned_out place old new count d all some last is =
+    let k : ℕ = count - 1 in
+    let e : k + 1 ≡ length old = omega arith in record {
+      below = λ n one h. (let P : List ℕ → Type 0 = λ xs. All (λ x. x < n) xs in subst P (sym is) (All-take (λ x. x < n) k old h));
+      parity = λ p.
+          ap (λ xs. is_odd (count_by p xs)) is ∙ sym (twice (p place) (is_odd (count_by p (take k old))))
+          ∙ ap (flip (p place)) (ap (λ v. flip (p v) (is_odd (count_by p (take k old)))) (sym last) ∙ sym (odd_more p old k d (omega arith))
+          ∙ ap (λ xs. is_odd (count_by p xs)) (ap (λ m. take m old) e ∙ take_all (length old) old (omega arith)));
+    }
+  where
+    twice : (a b : Bool) → flip a (flip a b) ≡ b
+    twice true true = refl
+    twice true false = refl
+    twice false b = refl
+
+-- what is kept of the places, those of one more
+pub kept_more : (p : ℕ → Bool) (places kept next : List ℕ) (k place d : ℕ) → k < length places → get_or places k d ≡ place
+    → is_odd (count_by p kept) ≡ is_odd (count_by p (take k places)) → Turned place kept next → is_odd (count_by p next) ≡ is_odd (count_by p (take (k + 1) places))
+kept_more p places kept next k place d lt is before t =
+    t.parity p ∙ ap (flip (p place)) before ∙ ap (λ v. flip (p v) (is_odd (count_by p (take k places)))) (sym is) ∙ sym (odd_more p places k d lt)
+
+pub same_sorted : (old sorted kept : List ℕ) → IsPermutation old sorted → SameParities sorted kept → SameParities old kept
+same_sorted old sorted kept moved s = record {
+  below = λ n all. s.below n (All-permutation (λ x. x < n) old sorted moved all);
+  parity = λ p. s.parity p ∙ ap is_odd (sum_by-IsPermutation (λ x. cond (p x) 1 0) old sorted moved);
+}
+
+pub toggled_kept : (w : Window) (m : Point → Bool) (old now next : List ℕ) → Toggled w m old now → SameParities now next → Toggled w m old next
+toggled_kept w m old now next t s = record {
+  inside = λ all. s.below (w.rows * w.cols) (t.inside all);
+  at = λ j i row col. s.parity (is_up_to w.cols j i) ∙ t.at j i row col;
 }

@@ -4,10 +4,12 @@ ghost use Rattle.plain_world.specs.World.{InWorld, IsWindow, centre};
 ghost use Rattle.plain_shapes.specs.Rings.{counts_down, counts, ring_edges, in_rings};
 ghost use Rattle.raster_core.specs.inner.Toggles.{Toggled, RowToggled, odd_edges};
 
+use crate::pairs::thin;
 use centre_spans::first_at;
 use farm_base::NoMemory;
 use plain_shapes::Path;
 use plain_world::{Point, Window};
+use std::alloc::Global;
 
 // The least x that does not lie before the edge from `a` down to `b` at the height `y`.
 #[tactic(auto, using(centre_spans::proofs::Quotients::up_le))]
@@ -87,7 +89,12 @@ fn cross_edge(a: Point, b: Point, w: Window, places: &mut Vec<u32>) -> Result<()
 }
 
 // Adds the crossings of the edges of a ring, which is closed from its last point to its first.
-fn cross_ring(points: &[Point], w: Window, places: &mut Vec<u32>) -> Result<(), NoMemory>
+fn cross_ring(
+    alloc: Global,
+    points: &[Point],
+    w: Window,
+    places: &mut Vec<u32>,
+) -> Result<(), NoMemory>
     requires points { All InWorld points.now }
     requires window { IsWindow w }
     ensures { OnOk result (Toggled w (odd_edges (ring_edges points.now)) places.old.items places.new.items) }
@@ -98,29 +105,35 @@ fn cross_ring(points: &[Point], w: Window, places: &mut Vec<u32>) -> Result<(), 
     let mut before = *last;
     for p in points {
         cross_edge(before, *p, w, places)?;
+        thin(alloc, w, places)?;
         before = *p;
     }
     Ok(())
 }
 
 // The same of a ring as a path.
-fn cross_path(ring: &Path, w: Window, places: &mut Vec<u32>) -> Result<(), NoMemory>
+fn cross_path(alloc: Global, ring: &Path, w: Window, places: &mut Vec<u32>) -> Result<(), NoMemory>
     requires points { All InWorld ring.now }
     requires window { IsWindow w }
     ensures { OnOk result (Toggled w (odd_edges (ring_edges ring.now)) places.old.items places.new.items) }
 {
-    cross_ring(&ring.points, w, places)
+    cross_ring(alloc, &ring.points, w, places)
 }
 
 /// Adds the places at which the edges of all rings are crossed: how many of them a row has up to a pixel
 /// is turned round, by parity, exactly where the pixel's centre lies in the rings.
-pub fn cross_rings(rings: &[Path], w: Window, places: &mut Vec<u32>) -> Result<(), NoMemory>
+pub fn cross_rings(
+    alloc: Global,
+    rings: &[Path],
+    w: Window,
+    places: &mut Vec<u32>,
+) -> Result<(), NoMemory>
     requires rings { All (All InWorld) rings.now }
     requires window { IsWindow w }
     ensures { OnOk result (Toggled w (in_rings rings.now) places.old.items places.new.items) }
 {
     for ring in rings {
-        cross_path(ring, w, places)?;
+        cross_path(alloc, ring, w, places)?;
     }
     Ok(())
 }

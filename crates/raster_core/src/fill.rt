@@ -25,7 +25,7 @@ pub fn crossings(alloc: Global, rings: &[Path], w: Window) -> Result<Vec<u32>, N
     ensures { IfOk result (λ v. Crossings w (in_rings rings.now) v.items) }
 {
     let mut places = Vec::new(alloc);
-    cross_rings(rings, w, &mut places)?;
+    cross_rings(alloc, rings, w, &mut places)?;
     places.sort_unstable();
     Ok(places)
 }
@@ -52,8 +52,8 @@ fn set_runs(places: &[u32], w: Window, mask: &mut Mask)
 /// Sets the bits of the mask whose pixel centre lies in the polygon of the rings, by even-odd filling
 /// (Mapnik's and AGG's default rule): left and top edges belong to it, right and bottom ones do not. No
 /// other bit changes, and after `NoMemory` none has. The points lie in the world, the window is a
-/// tile's or a metatile's, and the mask has its sides. It takes four bytes for each row that an edge
-/// crosses, and works along each edge's own rows.
+/// tile's or a metatile's, and the mask has its sides. It takes some bytes for each row that an edge
+/// crosses, at most some for each pixel of the window, and works along each edge's own rows.
 pub fn fill_mask(alloc: Global, rings: &[Path], w: Window, mask: &mut Mask) -> Result<(), NoMemory>
     requires rings { All (All InWorld) rings.now }
     requires window { IsWindow w }

@@ -4,6 +4,7 @@
 
 mod edges;
 mod fill;
+mod pairs;
 mod runs;
 
 pub use fill::{crossings, fill_mask};

@@ -44,6 +44,16 @@ pub record Remains (w : Window) (left whole : Point → Bool) (old new : List �
   pub inside : AllInside w old → AllInside w new
   pub at : (j i : ℕ) → j < w.rows → i < w.cols → flip (left (centre w i j)) (parity_at w.cols new j i) ≡ flip (whole (centre w i j)) (parity_at w.cols old j i)
 
+-- a place more, or one less: of each kind of place the number is turned round, by parity, where the place is of that kind
+pub record Turned (place : ℕ) (old new : List ℕ) : Type 0 where
+  pub below : (n : ℕ) → place < n → All (λ x. x < n) old → All (λ x. x < n) new
+  pub parity : (p : ℕ → Bool) → is_odd (count_by p new) ≡ flip (p place) (is_odd (count_by p old))
+
+-- as many places of each kind, by parity
+pub record SameParities (old new : List ℕ) : Type 0 where
+  pub below : (n : ℕ) → All (λ x. x < n) old → All (λ x. x < n) new
+  pub parity : (p : ℕ → Bool) → is_odd (count_by p new) ≡ is_odd (count_by p old)
+
 -- an odd number of the edges counts for the point
 abbrev pub odd_edges : List (Point × Point) → Point → Bool
 odd_edges edges c = is_odd (count_by (λ e. counts e c) edges)
