@@ -23,7 +23,6 @@ use Rattle.plain_drawing.specs.Drawing.{covers}
 use Rattle.plain_shapes.proofs.Places.{length-centres, get_or-centres}
 use Rattle.plain_drawing.proofs.Steps.{at_centres-replicate}
 use Rattle.tile_render.specs.declared.regions.Region.{Region}
-use Rattle.tile_render.specs.declared.covers.Covered.{Covered}
 use Rattle.tile_render.specs.inner.Regions.{IsRegion, InRegion, region_window, Holds, HoldsCovered, Tells}
 use Rattle.tile_render.specs.inner.Covers.{mask_where, IsCover}
 

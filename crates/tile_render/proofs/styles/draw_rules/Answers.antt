@@ -1,4 +1,4 @@
-use Rattle.std.proofs.Common.{◌≡◌, ◌∙◌, ap, sym, Bool, true, false}
+use Rattle.std.proofs.Common.{◌≡◌, ◌∙◌, ap, sym, true, false}
 use Rattle.plain_drawing.specs.Drawing.{item_attrs}
 use Rattle.tile_render.specs.inner.Chosen.{is_chosen}
 use Rattle.tile_render.specs.inner.Items.{item_of}
