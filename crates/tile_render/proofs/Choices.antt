@@ -2,7 +2,7 @@
 use Rattle.std.proofs.Common.{◌≡◌, ℕ, zero, suc, ◌+◌, ◌-◌, ◌<◌, ◌≤◌, Bool, true, false, cond, refl, ap, sym, ◌∙◌, arith, List, [], ◌∷◌, length, get_or, fold, take, drop, filter, flat_map, Some, None}
 use Rattle.std.specs.Prelude.{if◌then◌else◌, nat_lt, not, position}
 use Rattle.std.specs.List.{list_any, position_or_len}
-use Rattle.std.proofs.lemmas.Bool.{ltb-false}
+use Rattle.std.proofs.lemmas.Bool.{ltb-false, not-true}
 use Rattle.std.proofs.lemmas.Grind.{fold-append}
 use Rattle.std.proofs.lemmas.List.{take_all, length-drop}
 use Rattle.std.proofs.lemmas.List.Sums.{prefix_len_passes, fold_more}
@@ -16,7 +16,6 @@ use Rattle.plain_shapes.specs.Images.{Pixels}
 use Rattle.plain_drawing.specs.Rules.{matches, is_fallback, taken}
 use Rattle.plain_drawing.specs.Drawing.{Item, item_attrs}
 use Rattle.plain_drawing.specs.inner.Pictures.{with_symbolizer, with_item}
-use Rattle.drawing_reach.proofs.Members.{not_true}
 use Rattle.tile_render.specs.inner.Chosen.{with_rule, with_chosen}
 use Rattle.tile_render.proofs.Skipping.{none_past}
 
@@ -68,7 +67,7 @@ pub no_match : (p : Rule → Bool) (rules : List Rule) → None ≡ position p r
 no_match p rules none =
     let n : ℕ = position_or_len p rules in
     let past : length rules ≤ n = ltb-false n (length rules) (none_past (nat_lt n (length rules)) n (sym none)) in
-    list_any_none p rules (λ k d h. not_true (p (get_or rules k d)) (prefix_len_passes (λ r. not (p r)) rules k d (omega (arith, h, past))))
+    list_any_none p rules (λ k d h. not-true (p (get_or rules k d)) (prefix_len_passes (λ r. not (p r)) rules k d (omega (arith, h, past))))
 
 -- what is drawn where some Filter rule matches
 some_taken : (w : Window) (d : ℕ) (s : Style) (item : Item) (image : Pixels) (mode : FilterMode) → list_any (matches (item_attrs item) d) s.rules ≡ true → s.filter_mode ≡ mode

@@ -3,7 +3,7 @@ use Rattle.std.proofs.Common.{◌≡◌, ℕ, zero, suc, ◌+◌, ◌-◌, ◌*�
 use Rattle.std.specs.Prelude.{nat_le, nat_lt, not, cond, Option, option_map, option_to_list, slice_get, position, IsTrue}
 use Rattle.std.specs.List.{position_or_len}
 use Rattle.std.proofs.Math.Nat.{mul-le-mul_right}
-use Rattle.std.proofs.lemmas.Bool.{le-leb, ltb-false, false_from_ne_true}
+use Rattle.std.proofs.lemmas.Bool.{and_from, le-leb, ltb-false, false_from_ne_true, not-true}
 use Rattle.std.proofs.lemmas.List.{take_all, get_or-drop, length-drop}
 use Rattle.std.proofs.lemmas.List.Sums.{prefix_len_passes}
 use Rattle.std.proofs.lemmas.List.Quantifiers.{position-Some}
@@ -22,7 +22,6 @@ use Rattle.geo_model.specs.Shapes.{parts_of}
 use Rattle.data_versions.specs.Near.{is_near, next_near}
 use Rattle.drawing_reach.specs.inner.Spreads.{Beside}
 use Rattle.plain_drawing.specs.Styles.{KeepsRanges}
-use Rattle.drawing_reach.proofs.Members.{not_true}
 use Rattle.drawing_reach.proofs.Boxes.{box_holds, box_west, box_north}
 use Rattle.drawing_reach.proofs.Reaching.{covered_within}
 use Rattle.drawing_reach.proofs.Unreached.{Misses, all_centres, item_missed}
@@ -30,9 +29,6 @@ use Rattle.tile_render.specs.inner.Regions.{around}
 use Rattle.tile_render.proofs.Steps.{fold_next}
 
 -- ---- a feature far from the window leaves the picture
-
-both : (a b : Bool) → a ≡ true → b ≡ true → (a && b) ≡ true
-both a b p q = ap (λ t. t && b) p ∙ q
 
 -- a centre of the window beside the box puts the box near the window
 meets_near : (w : Window) (b : Bounds) (i j : ℕ) → i < w.cols → j < w.rows → 1 ≤ w.pixel → b.west ≤ 2 ^ 30 → b.north ≤ 2 ^ 30
@@ -47,8 +43,8 @@ meets_near w b i j hi hj some west north near =
     let c : nat_le n.west b.east ≡ true = le-leb n.west b.east (omega (arith, near.east)) in
     let d : nat_le b.north n.south ≡ true = le-leb b.north n.south (omega (arith, near.north)) in
     let e : nat_le n.north b.south ≡ true = le-leb n.north b.south (omega (arith, near.south)) in
-    both (nat_le b.west n.east && nat_le n.west b.east && nat_le b.north n.south) (nat_le n.north b.south)
-    (both (nat_le b.west n.east && nat_le n.west b.east) (nat_le b.north n.south) (both (nat_le b.west n.east) (nat_le n.west b.east) a c) d) e
+    and_from (nat_le b.west n.east && nat_le n.west b.east && nat_le b.north n.south) (nat_le n.north b.south)
+    (and_from (nat_le b.west n.east && nat_le n.west b.east) (nat_le b.north n.south) (and_from (nat_le b.west n.east) (nat_le n.west b.east) a c) d) e
 
 far_misses : (w : Window) (f : Feature) (s : Symbolizer) → IsWindow w → IsTrue (is_paint s) → is_near (around w) f ≡ false → Misses w f s
 far_misses w f s ok valid far = all_centres (λ c. covers w.pixel f.geometry c s ≡ false) w (λ j i hi hj.
@@ -133,7 +129,7 @@ none_by features from b None at is j f low has =
     let s : from + (j - from) ≡ j = omega arith in
     let g : get_or rest (j - from) f ≡ f = get_or-drop from features (j - from) f ∙ ap (λ m. get_or features m f) s ∙ t.1 in
     let below : j - from < n = omega (arith, t.0, length-drop from features) in
-    not_true (is_near b f) (sym (ap (λ x. not (is_near b x)) g) ∙ prefix_len_passes (λ x. not (is_near b x)) rest (j - from) f below)
+    not-true (is_near b f) (sym (ap (λ x. not (is_near b x)) g) ∙ prefix_len_passes (λ x. not (is_near b x)) rest (j - from) f below)
 
 none_left : (features : List Feature) (from : ℕ) (b : Bounds) → None ≡ next_near features from b
     → (j : ℕ) (f : Feature) → from ≤ j → slice_get features j ≡ Some f → is_near b f ≡ false
