@@ -1,0 +1,95 @@
+//! Where ports listen and where they fail, and a bell that is rung while they wait.
+use farm_base::Bell;
+use port_trait::{PortEvent, PortFault, Ports};
+use socket_ports::{SocketBell, SocketPorts};
+use std::alloc::Global;
+use std::net::{Net, TcpListener, TcpStream};
+use std::os::unix::net::UnixListener;
+use std::rt::{Clock, Files};
+use std::thread::{self, Threads};
+use std::time::{Duration, Instant};
+use std::{fs, io};
+
+/// Prints of each address whether it is listened at.
+pub fn show<R>(rt: &R, alloc: Global, ports: &mut SocketPorts<R>) -> io::Result<()>
+where
+    R: Print + Files + Net<Listener = TcpListener, Stream = TcpStream>,
+{
+    // a socket file at which nobody listens any more, a plain file, and a port at which another listens
+    drop(fs::remove_file(rt, "left.sock"));
+    drop(UnixListener::bind(rt, "left.sock")?);
+    fs::write(rt, "plain", b"kept")?;
+    let other = TcpListener::bind(rt, "127.0.0.1:0")?;
+    let port = other.local_addr()?.port();
+    let taken = format!(in alloc; "tcp:127.0.0.1:{port}")?;
+    for (name, address) in [
+        ("no address", ""),
+        ("no kind", "127.0.0.1:80"),
+        ("no port", "tcp:127.0.0.1"),
+        ("a name", "tcp:localhost:80"),
+        ("a port that is taken", taken.as_str()),
+        ("no path", "unix:"),
+        ("no such folder", "unix:no_folder/a.sock"),
+        ("a plain file", "unix:plain"),
+        ("a socket file that was left", "unix:left.sock"),
+        ("one at which somebody listens", "unix:left.sock"),
+    ] {
+        let told = listen(ports, address);
+        println!(rt; "{name}: {told}")?;
+    }
+    // these fail where the files are gone
+    fs::remove_file(rt, "plain")?;
+    fs::remove_file(rt, "left.sock")
+}
+
+fn listen<R: Net + Files>(ports: &mut SocketPorts<R>, address: &str) -> &'static str {
+    match ports.listen(address) {
+        Ok(()) => "listens",
+        Err(PortFault::Failed) => "fails",
+        Err(PortFault::NoMemory) => "wants memory",
+    }
+}
+
+/// Rings a bell while ports wait, again and again, and prints what they heard; where rates are asked
+/// for also how long it took at most.
+pub fn show_bell<R: Threads + Sync + Clock + Print, P: Ports>(
+    rt: &R,
+    alloc: Global,
+    ports: &mut P,
+    bell: &SocketBell,
+    rates: bool,
+) -> io::Result<()> {
+    let mut woken = 0u32;
+    let mut longest = Duration::ZERO;
+    for _ in 0..10 {
+        let (rung, (event, heard)) = thread::join(rt, || ring(rt, bell), || hear(rt, alloc, ports));
+        if event == PortEvent::Woken {
+            woken = woken.saturating_add(1);
+        }
+        longest = longest.max(heard?.duration_since(rung?));
+    }
+    print!(rt; "a bell that rings 10 times while they wait: Woken {woken} times")?;
+    if rates {
+        let micros = longest.as_micros();
+        print!(rt; ", after {micros} microseconds at most")?;
+    }
+    println!(rt; "")
+}
+
+/// Rings when the ports wait, and says when.
+fn ring<R: Clock>(rt: &R, bell: &SocketBell) -> io::Result<Instant> {
+    thread::sleep(rt, Duration::from_millis(5));
+    let rung = Instant::now(rt);
+    bell.ring();
+    rung
+}
+
+/// What the ports hear, and when.
+fn hear<R: Clock, P: Ports>(
+    rt: &R,
+    alloc: Global,
+    ports: &mut P,
+) -> (PortEvent, io::Result<Instant>) {
+    let event = ports.next(&mut Vec::new(alloc));
+    (event, Instant::now(rt))
+}

@@ -1,0 +1,201 @@
+//! Runs: clients at a free address of the server, and what both of them saw.
+use crate::clients::{Client, Task, visit};
+use crate::echo::{Echo, Server};
+use farm_base::Bell;
+use port_trait::Ports;
+use socket_ports::{SocketBell, SocketPorts};
+use std::alloc::Global;
+use std::net::{Net, TcpListener, TcpStream};
+use std::os::unix::net::UnixStream;
+use std::rt::{Clock, Files};
+use std::thread::{self, Threads};
+use std::time::{Duration, Instant};
+use std::{fs, io};
+
+/// How many bytes are offered at once of a large answer.
+const PART: usize = 1 << 18;
+
+/// The kind of the sockets.
+#[derive(Clone, Copy, PartialEq, Eq)]
+pub enum Kind {
+    Tcp,
+    Unix,
+}
+
+impl Kind {
+    fn name(self) -> &'static str {
+        match self {
+            Kind::Tcp => "tcp",
+            Kind::Unix => "unix",
+        }
+    }
+}
+
+/// Shows what clients do, one thing after another, over sockets of one kind: false where the ports fail.
+pub fn show_all<R>(
+    rt: &R,
+    alloc: Global,
+    echo: &mut Echo<R>,
+    bell: &SocketBell,
+    kind: Kind,
+    rates: bool,
+) -> io::Result<bool>
+where
+    R: Threads + Clock + Print + Files,
+    R: Net<Listener = TcpListener, Stream = TcpStream>,
+{
+    let many = if rates { 100u32 } else { 1 };
+    let Some(place) = listen_free(rt, alloc, &mut echo.ports, kind)? else {
+        return Ok(false);
+    };
+    echo.part.resize(PART, 0)?;
+    for (name, task) in [
+        ("one connection", Task::Echoes(1, many.saturating_mul(1000))),
+        (
+            "100 connections",
+            Task::Echoes(100, many.saturating_mul(10)),
+        ),
+        (
+            "one large answer",
+            Task::Large(u64::from(many).saturating_mul(10_000_000)),
+        ),
+        ("one that ends its sending", Task::Half(10_000)),
+        ("one that closes with bytes unread", Task::Reset),
+    ] {
+        let kind_name = kind.name();
+        print!(rt; "{kind_name}, {name}")?;
+        let start = Instant::now(rt)?;
+        echo.large = task.large();
+        let (served, came) = match kind {
+            Kind::Tcp => {
+                let streams = connect_tcp(rt, alloc, place.as_str(), task)?;
+                serve(rt, alloc, echo, bell, streams, task)
+            }
+            Kind::Unix => {
+                let streams = connect_unix(rt, alloc, place.as_str(), task)?;
+                serve(rt, alloc, echo, bell, streams, task)
+            }
+        };
+        let took = start.elapsed(rt)?;
+        show(rt, echo, came?, took, rates)?;
+        if !served {
+            return Ok(false);
+        }
+    }
+    if kind == Kind::Unix {
+        fs::remove_file(rt, place.as_str())?;
+    }
+    Ok(true)
+}
+
+/// Prints what came to the clients and what the server heard, and where rates are asked for how much came
+/// a second.
+fn show<R: Print>(
+    rt: &R,
+    echo: &Echo<R>,
+    came: u64,
+    took: Duration,
+    rates: bool,
+) -> io::Result<()> {
+    let heard = echo.heard;
+    for (name, number) in [
+        ("came", came),
+        ("opened", heard.opened),
+        ("ended", heard.ended),
+        ("lost", heard.lost),
+        ("longest piece", heard.longest as u64),
+        ("a second", rate_of(came, took)),
+    ] {
+        if rates || name != "a second" {
+            print!(rt; ", {name} {number}")?;
+        }
+    }
+    println!(rt; "")
+}
+
+/// Listens at an address of loopback at which nobody listens, and answers how clients call it.
+fn listen_free<R>(
+    rt: &R,
+    alloc: Global,
+    ports: &mut SocketPorts<R>,
+    kind: Kind,
+) -> io::Result<Option<String>>
+where
+    R: Files + Net<Listener = TcpListener, Stream = TcpStream>,
+{
+    // another program may be quicker to listen there
+    for number in 0..8u32 {
+        let place = match kind {
+            Kind::Tcp => {
+                let port = TcpListener::bind(rt, "127.0.0.1:0")?.local_addr()?.port();
+                format!(in alloc; "127.0.0.1:{port}")?
+            }
+            Kind::Unix => format!(in alloc; "echo{number}.sock")?,
+        };
+        let kind_name = kind.name();
+        let address = format!(in alloc; "{kind_name}:{place}")?;
+        if ports.listen(address.as_str()).is_ok() {
+            return Ok(Some(place));
+        }
+    }
+    Ok(None)
+}
+
+/// Serves clients that are connected: whether that went in order, and what came to them.
+fn serve<R: Threads, E: Server, S: Client + Send>(
+    rt: &R,
+    alloc: Global,
+    server: &mut E,
+    bell: &SocketBell,
+    streams: Vec<S>,
+    task: Task,
+) -> (bool, io::Result<u64>) {
+    let (came, served) = thread::join(
+        rt,
+        || {
+            let came = visit(alloc, streams, task);
+            bell.ring();
+            came
+        },
+        || server.serve(),
+    );
+    (served, came)
+}
+
+fn connect_tcp<R: Net<Stream = TcpStream>>(
+    rt: &R,
+    alloc: Global,
+    place: &str,
+    task: Task,
+) -> io::Result<Vec<TcpStream>> {
+    let mut streams = Vec::new(alloc);
+    for _ in 0..task.connections() {
+        let stream = TcpStream::connect(rt, place)?;
+        stream.set_nodelay(true)?;
+        streams.push(stream)?;
+    }
+    Ok(streams)
+}
+
+fn connect_unix<R: Files + Net>(
+    rt: &R,
+    alloc: Global,
+    place: &str,
+    task: Task,
+) -> io::Result<Vec<UnixStream>> {
+    let mut streams = Vec::new(alloc);
+    for _ in 0..task.connections() {
+        streams.push(UnixStream::connect(rt, place)?)?;
+    }
+    Ok(streams)
+}
+
+/// So many a second, without the fraction. A time below a millisecond counts as one.
+fn rate_of(many: u64, took: Duration) -> u64 {
+    let millis = took
+        .as_secs()
+        .saturating_mul(1000)
+        .saturating_add(u64::from(took.subsec_millis()));
+    let millis = if millis == 0 { 1 } else { millis };
+    many.saturating_mul(1000) / millis
+}
