@@ -5,9 +5,9 @@
 #
 # starts `tilefarm serve` in a folder of its own, with sixteen maps over 10,000 features that all lie in one metatile of
 # zoom 14, and measures: clean metatiles answered Done on one connection of renderd's protocol; clean tiles of 256
-# pixels over HTTP, one connection each; metatiles of 10,000 features drawn with 1, 2 and 4 workers; how long one ask
-# takes; what 1,000 idle connections cost; and the farm's memory before and after all these asks. The client is
-# benchmarks/serve_client.c, compiled by cc. With TILEFARM another program is measured.
+# pixels over HTTP, one connection each; how long one ask takes; what 1,000 idle connections cost; the farm's memory
+# before and after all these asks; and metatiles over 200 of these features and over all, drawn with 1, 2 and 4 workers.
+# The client is benchmarks/serve_client.c, compiled by cc. With TILEFARM another program is measured.
 set -eu
 top="$(cd "$(dirname "${BASH_SOURCE[0]}")/.." && pwd)"
 program="${TILEFARM:-$top/tilefarm}"
@@ -55,14 +55,16 @@ def write(name, value):
         out.write(value if isinstance(value, str) else json.dumps(value))
 
 
-write("data.json", {"units": "world", "layers": [{"name": n, "features": f} for n, f in layers.items()]})
+for count in (200, 10000):
+    kept = [{"name": n, "features": [one for one in f if one["id"] < count]} for n, f in layers.items()]
+    write("data%d.json" % count, {"units": "world", "layers": kept})
 write("style.json", style)
 write("all.list", "14/8192/8192\n")
-for workers in (1, 2, 4):
+for workers, count in ((w, c) for w in (1, 2, 4) for c in (200, 10000)):
     names = ["m%d" % number for number in range(15)] + ["default"]
-    write("farm%d.json" % workers, {
+    write("farm%d_%d.json" % (workers, count), {
         "maps": [{"name": name, "style": "style.json", "tile": 256} for name in names],
-        "data": "data.json", "expiries": ["all.list"], "workers": workers,
+        "data": "data%d.json" % count, "expiries": ["all.list"], "workers": workers,
         "renderd": "unix:%s/renderd.sock" % folder, "tiles": "unix:%s/tiles.sock" % folder,
         "control": "unix:%s/control.sock" % folder,
     })
@@ -74,15 +76,15 @@ memory() { awk '/^VmRSS/ { print $2 }' "/proc/$farm/status"; }
 rate() { awk '{ printf "%.0f", $1 / $2 }'; }
 row() { printf '%-64s %14s  %s\n' "$1" "$2" "$3"; }
 
-# Starts a farm with so many workers, with the tiles at $tiles; waits until it listens.
+# Starts a farm with so many workers over so many features, with the tiles at $tiles; waits until it listens.
 start() {
-    python3 - "$folder/farm$1.json" "$tiles" <<'PYTHON'
+    python3 - "$folder/farm$1_$2.json" "$tiles" <<'PYTHON'
 import json, sys
 config = json.load(open(sys.argv[1]))
 config["tiles"] = sys.argv[2]
 json.dump(config, open(sys.argv[1], "w"))
 PYTHON
-    (cd "$folder" && exec "$program" serve "farm$1.json" >out 2>err) &
+    (cd "$folder" && exec "$program" serve "farm$1_$2.json" >out 2>err) &
     farm=$!
     for _ in $(seq 600); do
         control stats >/dev/null 2>&1 && return
@@ -105,7 +107,7 @@ tiles="tcp:127.0.0.1:$port"
 machine="$(sed -n 's/^model name[^:]*: //p' /proc/cpuinfo | head -n 1)"
 echo "$(date +%F), $(nproc) processors, $machine, load $(cut -d' ' -f1 /proc/loadavg)"
 
-start 4
+start 4 10000
 tile='14 8192 8192'
 client done "$renderd" 1 1 $tile >/dev/null
 before="$(memory)"
@@ -135,12 +137,14 @@ row "asks in all" "$(control stats | cut -d' ' -f2)" ""
 stop
 
 drawn() { client draw "$renderd" 15 $tile "$1" | awk '{ printf "%.1f", $1 / $2 }'; }
-for workers in 1 2 4; do
-    rm -rf "$folder/tiles"
-    start "$workers"
-    row "metatiles over 10,000 features, zooms 11 to 14, $workers workers" "$(drawn 3)" "a second"
-    control 'expire 0' >/dev/null
-    row "the same of zoom 14 alone, drawn again" "$(drawn 0)" "a second"
-    row "memory at the end" "$(memory)" "KiB"
-    stop
+for features in 200 10000; do
+    for workers in 1 2 4; do
+        rm -rf "$folder/tiles"
+        start "$workers" "$features"
+        row "metatiles over $features features, zooms 11 to 14, $workers workers" "$(drawn 3)" "a second"
+        control 'expire 0' >/dev/null
+        row "the same of zoom 14 alone, drawn again" "$(drawn 0)" "a second"
+        row "memory at the end" "$(memory)" "KiB"
+        stop
+    done
 done
