@@ -97,10 +97,13 @@ class Window:
 
 
 def comb(r, window):
-    """Up and down along a side, as often as there are pixels."""
+    """Up and down along a side, once or twice a pixel, or so often that a row is crossed more than there are pixels."""
     (west, north), (_, south) = window.point(), window.point()
-    step = r.choice((window.pixel, window.pixel // 2, 2 * window.pixel // 3, 1))
-    points = [[min(west + i * step, WORLD), north if i % 2 else south] for i in range(r.randint(6, 2 * window.size))]
+    step, count = r.choice((window.pixel, window.pixel // 2, 2 * window.pixel // 3, 1)), r.randint(6, 2 * window.size)
+    if window.size == 16 and r.random() < 0.2:
+        step, count = r.choice((1, window.pixel // 40, window.pixel // 7)), r.choice((600, 900))
+        north, south = 0, WORLD
+    points = [[min(west + i * step, WORLD), north if i % 2 else south] for i in range(count)]
     return [points[0][:1] + [max(north, south)]] + points
 
 
@@ -116,7 +119,7 @@ def ring(r, window, before):
         (1, [[west, north]] * 3),  # no area
         (1, [[west, north], [east, south], [west, north]]),
         (1, [[west, north], [west, south], [west, north + 1 if north < WORLD else north]]),
-        (1, comb(r, window)),
+        (1, comb(r, window)),  # many crossings
         (2 if before else 0, before and r.choice(before)[::-1]),  # a hole as large as the ring
         (1, [[0, 0], [WORLD, 0], [WORLD, WORLD], [0, WORLD]]),
     )
