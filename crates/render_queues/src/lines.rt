@@ -25,8 +25,13 @@ fn two(alloc: Global, first: u32, second: u32) -> Result<(Line, Line), NoMemory>
     ensures { IfOk result (λ l. (l.0 ≡ no_line first) × (l.1 ≡ no_line second)) }
 {
     let one = Line::with_limit(alloc, first)?;
-    let other = Line::with_limit(alloc, second)?;
-    Ok((one, other))
+    match Line::with_limit(alloc, second) {
+        Ok(other) => Ok((one, other)),
+        Err(refused) => {
+            drop(one);
+            Err(refused)
+        }
+    }
 }
 
 /// The queues prio, request and low.
@@ -34,8 +39,14 @@ fn three(alloc: Global, limits: Limits) -> Result<(Line, Line, Line), NoMemory>
     ensures { IfOk result (λ l. (l.0 ≡ no_line limits.prio) × (l.1 ≡ no_line limits.request) × (l.2 ≡ no_line limits.low)) }
 {
     let (prio, request) = two(alloc, limits.prio, limits.request)?;
-    let low = Line::with_limit(alloc, limits.low)?;
-    Ok((prio, request, low))
+    match Line::with_limit(alloc, limits.low) {
+        Ok(low) => Ok((prio, request, low)),
+        Err(refused) => {
+            drop(prio);
+            drop(request);
+            Err(refused)
+        }
+    }
 }
 
 impl Lines {
@@ -44,14 +55,21 @@ impl Lines {
         ensures { IfOk result (λ l. l ≡ no_lines limits) }
     {
         let (prio, request, low) = three(alloc, limits)?;
-        let (dirty, bulk) = two(alloc, limits.dirty, limits.bulk)?;
-        Ok(Lines {
-            prio,
-            request,
-            low,
-            dirty,
-            bulk,
-        })
+        match two(alloc, limits.dirty, limits.bulk) {
+            Ok((dirty, bulk)) => Ok(Lines {
+                prio,
+                request,
+                low,
+                dirty,
+                bulk,
+            }),
+            Err(refused) => {
+                drop(prio);
+                drop(request);
+                drop(low);
+                Err(refused)
+            }
+        }
     }
 
     /// Where the key waits.
