@@ -1,5 +1,5 @@
 -- One more row of a part of an image.
-use Rattle.std.proofs.Common.{◌≡◌, ℕ, suc, zero, ◌+◌, ◌*◌, ◌≤◌, ◌<◌, length, List, [], ◌∷◌, ◌++◌, take, drop, flat_map, ap, ◌∙◌, arith, add-one}
+use Rattle.std.proofs.Common.{◌≡◌, ℕ, suc, zero, ◌+◌, ◌*◌, ◌≤◌, ◌<◌, length, List, [], ◌∷◌, ◌++◌, take, drop, flat_map, ap, subst, ◌∙◌, arith, add-one, length-append}
 use Rattle.std.proofs.lemmas.List.{append-nil, length-take, length-drop}
 use Rattle.std.proofs.Math.Nat.{mul-le-mul_right}
 use Rattle.std.specs.List.{range_with_len}
@@ -28,3 +28,13 @@ pub part_fits : (across col row cols rows j len : ℕ) → col + cols ≤ across
 part_fits across col row cols rows j len a b h =
     let k : j + 1 ≤ row + rows = omega arith in
     omega (arith, mul-le-mul_right across k)
+
+-- a part that is inside has as many elements as its sides make
+pub cut_len : {X : Type 0} (across col row cols rows : ℕ) (xs : List X) → col + cols ≤ across → (row + rows) * across ≤ length xs
+    → length (cut_rows across col row cols rows xs) ≡ rows * cols
+cut_len across col row cols zero xs a h = omega arith
+cut_len across col row cols (suc n) xs a h =
+    let e : row + suc n ≡ row + 1 + n = omega arith in
+    let first : length (take cols (drop (row * across + col) xs)) ≡ cols = part_len xs (row * across + col) cols (part_fits across col row cols (suc n) row (length xs) a (omega arith) h) in
+    let rest : length (cut_rows across col (row + 1) cols n xs) ≡ n * cols = cut_len across col (row + 1) cols n xs a (subst (λ k. k * across ≤ length xs) e h) in
+    omega (arith, length-append (take cols (drop (row * across + col) xs)) (cut_rows across col (row + 1) cols n xs), first, rest)

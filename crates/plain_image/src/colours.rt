@@ -42,15 +42,23 @@ fn line(alloc: Global, cols: u32, c: Colour) -> Result<Vec<u8>, NoMemory>
     Ok(out)
 }
 
-// The bytes of so many rows of one colour.
+// The bytes of so many rows of one colour, in the place of what the buffer held.
 #[tactic(auto, using(crate::proofs::Bytes::lines_more, crate::proofs::Bytes::no_lines))]
-fn lines(alloc: Global, rows: u32, cols: u32, c: Colour) -> Result<Vec<u8>, NoMemory>
+fn lines(
+    alloc: Global,
+    buffer: Vec<u8>,
+    rows: u32,
+    cols: u32,
+    c: Colour,
+) -> Result<Vec<u8>, NoMemory>
     requires rows { rows ≤ most_side }
     requires cols { cols ≤ most_side }
     ensures { IfOk result (λ v. v.items ≡ flat_map pixel_bytes (replicate (rows * cols) c)) }
 {
     let line = line(alloc, cols, c)?;
-    let mut out = Vec::with_capacity(alloc, rows as usize * cols as usize * 3)?;
+    let mut out = buffer;
+    out.clear();
+    out.reserve_exact(rows as usize * cols as usize * 3)?;
     for _row in 0..rows {
         out.extend_from_slice(&line)?;
     }
@@ -58,15 +66,28 @@ fn lines(alloc: Global, rows: u32, cols: u32, c: Colour) -> Result<Vec<u8>, NoMe
 }
 
 impl Colours {
-    /// So many rows of so many columns that are all of one colour.
+    /// So many rows of so many columns that are all of one colour, in a buffer that is used again.
     #[tactic(auto, using(crate::proofs::Bytes::colours_of))]
-    pub fn filled(alloc: Global, rows: u32, cols: u32, c: Colour) -> Result<Colours, NoMemory>
+    pub fn over(
+        alloc: Global,
+        buffer: Vec<u8>,
+        rows: u32,
+        cols: u32,
+        c: Colour,
+    ) -> Result<Colours, NoMemory>
         requires rows { rows ≤ most_side }
         requires cols { cols ≤ most_side }
         ensures { IfOk result (λ v. v ≡ replicate (rows * cols) c) }
     {
-        let bytes = lines(alloc, rows, cols, c)?;
+        let bytes = lines(alloc, buffer, rows, cols, c)?;
         Ok(Colours { bytes })
+    }
+
+    /// Its bytes, three for each colour. The buffer may be used again.
+    pub fn into_bytes(self) -> Vec<u8>
+        ensures { result.items ≡ flat_map pixel_bytes self }
+    {
+        self.bytes
     }
 
     /// The colours that `count` times three bytes say.
@@ -122,6 +143,30 @@ impl Colours {
         Ok(())
     }
 
+    /// Appends the bytes of a part of rows that are `across` colours wide, row by row.
+    pub fn write_rows(
+        &self,
+        across: u32,
+        col: u32,
+        row: u32,
+        cols: u32,
+        rows: u32,
+        out: &mut Vec<u8>,
+    ) -> Result<(), NoMemory>
+        requires across { across ≤ most_side }
+        requires few_rows { row + rows ≤ most_side }
+        requires few { length self.now ≤ most_side * most_side }
+        requires in_cols { col + cols ≤ across }
+        requires in_rows { (row + rows) * across ≤ length self.now }
+        ensures { OnOk result (out.new.items ≡ out.old.items ++ flat_map pixel_bytes (cut_rows across col row cols rows self.now)) }
+    {
+        for j in row..row + rows {
+            let start = j as usize * across as usize + col as usize;
+            self.write_part(start, cols as usize, out)?;
+        }
+        Ok(())
+    }
+
     /// The colours of a part of rows that are `across` colours wide, row by row.
     pub fn cut(
         &self,
@@ -141,10 +186,7 @@ impl Colours {
         ensures len { IfOk result (λ v. length v ≡ rows * cols) }
     {
         let mut bytes = Vec::with_capacity(alloc, rows as usize * cols as usize * 3)?;
-        for j in row..row + rows {
-            let start = j as usize * across as usize + col as usize;
-            self.write_part(start, cols as usize, &mut bytes)?;
-        }
+        self.write_rows(across, col, row, cols, rows, &mut bytes)?;
         Ok(Colours { bytes })
     }
 }

@@ -26,11 +26,11 @@ impl Model for Image {
 }
 
 impl Image {
-    ghost use Rattle.std.specs.Prelude.{◌≡◌, ◌+◌, ◌*◌, ◌<◌, ◌≤◌, ℕ, IfOk, slice_set, slice_get, slice_index_or, Some, replicate, length, Ok};
+    ghost use Rattle.std.specs.Prelude.{◌≡◌, ◌+◌, ◌*◌, ◌<◌, ◌≤◌, ◌++◌, ℕ, IfOk, OnOk, flat_map, slice_set, slice_get, slice_index_or, Some, replicate, length, Ok};
     ghost use Rattle.plain_shapes.specs.Blending.{blend};
     ghost use Rattle.plain_shapes.specs.Images.{IsRaster, IsSides};
     ghost use Rattle.plain_shapes.specs.inner.Canvas.{painted, cut_of};
-    ghost use Rattle.plain_shapes.specs.Ppm.{ppm};
+    ghost use Rattle.plain_shapes.specs.Ppm.{pixel_bytes, ppm};
     ghost use Rattle.plain_image.specs.PpmText.{ppm_of};
 
     /// An image of these sides that is all of one colour. Sides are 1 to 4,096.
@@ -38,8 +38,31 @@ impl Image {
         requires { IsSides cols rows }
         ensures { IfOk result (λ m. m ≡ record { cols = cols; rows = rows; pixels = replicate (rows * cols) c }) }
     {
-        let pixels = Colours::filled(alloc, rows, cols, c)?;
+        Image::over(alloc, Vec::new(alloc), cols, rows, c)
+    }
+
+    /// The same in a buffer that is used again: what it held goes, and no memory is taken where it has
+    /// room. `into_bytes` gives the buffer back.
+    pub fn over(
+        alloc: Global,
+        buffer: Vec<u8>,
+        cols: u32,
+        rows: u32,
+        c: Colour,
+    ) -> Result<Image, NoMemory>
+        requires { IsSides cols rows }
+        ensures { IfOk result (λ m. m ≡ record { cols = cols; rows = rows; pixels = replicate (rows * cols) c }) }
+    {
+        let pixels = Colours::over(alloc, buffer, rows, cols, c)?;
         Ok(Image { cols, rows, pixels })
+    }
+
+    /// The three bytes of each pixel, by rows.
+    pub fn into_bytes(self) -> Vec<u8>
+        ensures items { result.items ≡ flat_map pixel_bytes self.pixels }
+        ensures len { length result.items ≡ 3 * (self.rows * self.cols) }
+    {
+        self.pixels.into_bytes()
     }
 
     /// How many columns it has.
@@ -120,8 +143,26 @@ impl Image {
         ensures text { IfOk result (λ v. v.items ≡ ppm self.now.cols self.now.rows self.now.pixels) }
         ensures reads_back { IfOk result (λ v. ppm_of v.items ≡ Ok self.now) }
     {
-        let head = format!(in alloc; "P6\n{} {}\n255\n", self.cols, self.rows)?;
+        let head = pixels::head_of(alloc, self.cols, self.rows)?;
         pixels::bytes_after(alloc, head.as_str(), &self.pixels)
+    }
+
+    /// Appends the text of a part of it, which is inside, as `cut` and then `write_ppm` give it.
+    pub fn put_part(
+        &self,
+        col: u32,
+        row: u32,
+        cols: u32,
+        rows: u32,
+        out: &mut Vec<u8>,
+    ) -> Result<(), NoMemory>
+        requires in_cols { col + cols ≤ self.now.cols }
+        requires in_rows { row + rows ≤ self.now.rows }
+        ensures { OnOk result (out.new.items ≡ out.old.items ++ ppm cols rows (cut_of self.now col row cols rows).pixels) }
+    {
+        let head = pixels::head_of(*out.allocator(), cols, rows)?;
+        out.extend_from_slice(head.as_str().as_bytes())?;
+        self.pixels.write_rows(self.cols, col, row, cols, rows, out)
     }
 
     /// The image of these pixels.

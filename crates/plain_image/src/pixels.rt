@@ -1,7 +1,7 @@
 //! The arithmetic of painting.
-ghost use Rattle.std.specs.Prelude.{◌≡◌, ℕ, ◌*◌, ◌≤◌, ◌++◌, length, IfOk, flat_map};
+ghost use Rattle.std.specs.Prelude.{◌≡◌, ℕ, ◌*◌, ◌≤◌, ◌++◌, [], length, IfOk, flat_map, string_bytes};
 ghost use Rattle.plain_shapes.specs.inner.Canvas.{painted};
-ghost use Rattle.plain_shapes.specs.Ppm.{pixel_bytes};
+ghost use Rattle.plain_shapes.specs.Ppm.{pixel_bytes, ppm};
 ghost use Rattle.plain_shapes.specs.Blending.{blend_channel, blend};
 ghost use Rattle.plain_world.specs.Limits.{most_side};
 
@@ -47,6 +47,13 @@ pub fn paint(covered: &[bool], s: Colour, opacity: u32, pixels: &mut Colours)
             pixels.put(k, over(s, opacity, d));
         }
     }
+}
+
+/// What stands before the pixels of a PPM text: the text of no pixels.
+pub fn head_of(alloc: Global, cols: u32, rows: u32) -> Result<String, NoMemory>
+    ensures { IfOk result (λ head. string_bytes head ≡ ppm cols rows []) }
+{
+    Ok(format!(in alloc; "P6\n{} {}\n255\n", cols, rows)?)
 }
 
 /// A text and then the three bytes of each pixel.
