@@ -1,10 +1,10 @@
 -- The drawings of a metatile's tiles: how many, how long, and which stands at a tile's place.
-use Rattle.std.proofs.Common.{◌≡◌, ℕ, zero, suc, ◌+◌, ◌*◌, ◌/◌, ◌%◌, ◌<◌, ◌≤◌, true, ◌&&◌, List, [], ◌∷◌, ◌++◌, length, get_or, map, flat_map, Ok, refl, ap, subst, ◌∙◌, arith, length-append}
+use Rattle.std.proofs.Common.{◌≡◌, ℕ, zero, suc, ◌+◌, ◌*◌, ◌/◌, ◌%◌, ◌<◌, ◌≤◌, true, ◌&&◌, List, [], ◌∷◌, ◌++◌, length, get_or, map, flat_map, Ok, refl, sym, ap, subst, ◌∙◌, arith, length-append}
 use Rattle.std.specs.Prelude.{codes}
 use Rattle.std.specs.List.{range_with_len, list_all}
 use Rattle.std.specs.Fmt.{decimal}
 use Rattle.std.proofs.Math.Nat.{mul-le-mul_right, mul-le-mul}
-use Rattle.std.proofs.lemmas.Bool.{lt-ltb}
+use Rattle.std.proofs.lemmas.Bool.{lt-ltb, eq-eqb}
 use Rattle.std.proofs.lemmas.Fmt.{length-decimal-le}
 use Rattle.std.proofs.lemmas.List.{length-map, get_or-map, get_or_append_left, get_or-append-add}
 use Rattle.std.proofs.lemmas.List.FromFn.{length-map-range_with_len, get_or-map-range_with_len}
@@ -21,6 +21,7 @@ use Rattle.plain_drawing.specs.Metatiles.{tile_at, column_of, tiles_in, tiles_of
 use Rattle.plain_shapes.proofs.Places.{length-centres}
 use Rattle.plain_world.proofs.Windows.{size_bounds}
 use Rattle.meta_container.specs.Container.{bytes_of, is_stored, rank}
+use Rattle.meta_container.specs.Heads.{all_of_size}
 use Rattle.meta_container.specs.Laws.{tile_of}
 use Rattle.meta_container.specs.Drawn.{DrawnAreTiles, DrawnInPlace, DrawnComeBack}
 use Rattle.meta_container.proofs.Written.{tiles_come_back}
@@ -114,6 +115,23 @@ all_stored style size data_layers [] = refl
 all_stored style size data_layers (t ∷ ts) =
     ap (λ b. b && list_all is_stored (map (λ u. drawing.tile_of style size u data_layers) ts)) (stored_drawn style size t data_layers)
     ∙ all_stored style size data_layers ts
+
+-- the drawings of tiles have all the same size
+length_text : (size : ℕ) (pixels : List Colour) → length pixels ≡ size * size → length (ppm size size pixels) ≡ 9 + 2 * length (decimal size) + 3 * (size * size)
+length_text size pixels count = length_head (decimal size) (flat_map pixel_bytes pixels) ∙ omega (arith, length_pixels pixels, count)
+
+all_even : (style : MapStyle) (size n : ℕ) (data_layers : List Layer) (ts : List Tile) → n ≡ 9 + 2 * length (decimal size) + 3 * (size * size)
+    → all_of_size n (map (λ t. drawing.tile_of style size t data_layers) ts) ≡ true
+all_even style size n data_layers [] e = refl
+all_even style size n data_layers (t ∷ ts) e =
+    let pixels : List Colour = map (drawing.colour_at style size t.z data_layers) (centres (window_of t size)) in
+    let count = length-map (centres (window_of t size)) (drawing.colour_at style size t.z data_layers) ∙ length-centres (window_of t size) in
+    ap (λ b. b && all_of_size n (map (λ u. drawing.tile_of style size u data_layers) ts)) (eq-eqb (length (ppm size size pixels)) n (length_text size pixels count ∙ sym e))
+    ∙ all_even style size n data_layers ts e
+
+pub drawn_of_size : (style : MapStyle) (size n : ℕ) (m : Meta) (data_layers : List Layer) → n ≡ 9 + 2 * length (decimal size) + 3 * (size * size)
+    → all_of_size n (tiles_of style size m data_layers) ≡ true
+drawn_of_size style size n m data_layers e = all_even style size n data_layers (tiles_in m) e
 
 all_short : (style : MapStyle) (size : ℕ) (data_layers : List Layer) (ts : List Tile) → size ≤ 512
     → bytes_of (map (λ t. drawing.tile_of style size t data_layers) ts) ≤ length ts * 786447

@@ -1,4 +1,5 @@
 pub mod Container
+pub mod Heads
 pub mod Reading
 pub mod Laws
 pub mod Drawn

@@ -10,4 +10,4 @@ pub use container::{Entry, HEAD_BYTES, Listing, PLACES};
 pub use farm_base::MetaFault;
 pub use laws::{law_drawn_container, law_tiles_come_back};
 pub use reading::{entry_in, listing, tile_in};
-pub use writing::encode;
+pub use writing::{encode, put_head};
