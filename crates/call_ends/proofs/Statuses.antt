@@ -4,7 +4,7 @@ use Rattle.std.specs.Prelude.{Option, Some, Result, Ok, Err, Vec}
 use Rattle.std.specs.declared.alloc.Global.{Global}
 use Rattle.farm_base.specs.Outside.{Puts, Rose}
 use Rattle.farm_base.specs.declared.sinks.SinkFault.{SinkFault}
-use Rattle.call_ends.specs.Stops.{status_of, line_of}
+use Rattle.call_ends.specs.Stops.{status_of, err_line}
 use Rattle.call_ends.specs.Ends.{SinkAt, put_end, PutsAll, PutsMade, told_status, EndsWith}
 use Rattle.call_ends.specs.Promises.{Stands}
 use Rattle.call_ends.proofs.Outsides.{PutTells, PutCounts, put_tells, put_counts}
@@ -89,7 +89,7 @@ stands err err' line put e h had e' = put_tells had err err' line (Ok tt) e' (su
 abbrev pub Fails : (Stop → Type 0) → ℕ → ℕ → Type 0
 Fails runs before now = Rose before now × (s : Stop) × (s ≢ stop.SinkFailed) × runs s
 
-failed_4 : (end : Result (Unit {0}) Stop) (put : Result (Unit {0}) SinkFault) (before now : ℕ) → (line_of end ≡ [] → put ≡ Ok tt)
+failed_4 : (end : Result (Unit {0}) Stop) (put : Result (Unit {0}) SinkFault) (before now : ℕ) → (err_line end ≡ [] → put ≡ Ok tt)
     → 4 ≡ told_status (status_of end) put → PutCounts before now put → (end ≡ Err stop.SinkFailed) ⊎ Fails (λ s. end ≡ Err s) before now
 failed_4 end (Ok u) before now calm h c = inl (ends_as 4 end h)
 failed_4 (Ok v) (Err g) before now calm h c = absurd (let e = calm refl in cc)
@@ -117,64 +117,64 @@ module _ (runs : Result (Unit {0}) Stop → Type 0) (err err' : SinkAt) (result 
   pub silent_0 : result ≡ 0 → err'.told ≡ err.told
   silent_0 is =
       let told = quiet ends.end ends.reports.put 0 (omega arith) (sym is ∙ ends.reports.status_is) in
-      ap (λ (at : SinkAt). at.told) (ends.reports.quiet (ap line_of (ends_as 0 ends.end told.1))).1
+      ap (λ (at : SinkAt). at.told) (ends.reports.quiet (ap err_line (ends_as 0 ends.end told.1))).1
 
   -- with 1 a file was refused, and the line stands on err
   pub with_1 : result ≡ 1 → (line : List ℕ) × runs (Err (stop.Refused line)) × Stands err.told err'.told line
   with_1 one =
       let told = quiet ends.end ends.reports.put 1 (omega arith) (sym one ∙ ends.reports.status_is) in
       let end = ends_as 1 ends.end told.1 in
-      (end.0, subst runs end.1 ends.ran, subst (λ (l : List ℕ). Stands err.told err'.told l) (ap line_of end.1) (stands err err' (line_of ends.end) ends.reports.put told.0 ends.reports.puts))
+      (end.0, subst runs end.1 ends.ran, subst (λ (l : List ℕ). Stands err.told err'.told l) (ap err_line end.1) (stands err err' (err_line ends.end) ends.reports.put told.0 ends.reports.puts))
 
   -- with 2 the words were refused, and the usage line stands on err
-  pub with_2 : result ≡ 2 → runs (Err stop.Words) × Stands err.told err'.told (line_of (Err stop.Words))
+  pub with_2 : result ≡ 2 → runs (Err stop.Words) × Stands err.told err'.told (err_line (Err stop.Words))
   with_2 two =
       let told = quiet ends.end ends.reports.put 2 (omega arith) (sym two ∙ ends.reports.status_is) in
       let end = ends_as 2 ends.end told.1 in
-      (subst runs end ends.ran, subst (λ (l : List ℕ). Stands err.told err'.told l) (ap line_of end) (stands err err' (line_of ends.end) ends.reports.put told.0 ends.reports.puts))
+      (subst runs end ends.ran, subst (λ (l : List ℕ). Stands err.told err'.told l) (ap err_line end) (stands err err' (err_line ends.end) ends.reports.put told.0 ends.reports.puts))
 
   -- with 3 a read failed, and the line stands on err
   pub with_3 : result ≡ 3 → (line : List ℕ) × runs (Err (stop.Unreadable line)) × Stands err.told err'.told line
   with_3 three =
       let told = quiet ends.end ends.reports.put 3 (omega arith) (sym three ∙ ends.reports.status_is) in
       let end = ends_as 3 ends.end told.1 in
-      (end.0, subst runs end.1 ends.ran, subst (λ (l : List ℕ). Stands err.told err'.told l) (ap line_of end.1) (stands err err' (line_of ends.end) ends.reports.put told.0 ends.reports.puts))
+      (end.0, subst runs end.1 ends.ran, subst (λ (l : List ℕ). Stands err.told err'.told l) (ap err_line end.1) (stands err err' (err_line ends.end) ends.reports.put told.0 ends.reports.puts))
 
   -- with 4 the command's put failed; or it ended early, for no put, and the put of its line failed
   pub with_4 : result ≡ 4 → runs (Err stop.SinkFailed) ⊎ Fails (λ s. runs (Err s)) err.faults err'.faults
   with_4 four =
-      elim (failed_4 ends.end ends.reports.put err.faults err'.faults (λ e. (ends.reports.quiet e).0) (sym four ∙ ends.reports.status_is) (put_counts err err' (line_of ends.end) ends.reports.put ends.reports.puts)) [
+      elim (failed_4 ends.end ends.reports.put err.faults err'.faults (λ e. (ends.reports.quiet e).0) (sym four ∙ ends.reports.status_is) (put_counts err err' (err_line ends.end) ends.reports.put ends.reports.puts)) [
         | inl h ↦ inl (subst runs h ends.ran)
         | inr h ↦ inr (h.0, h.1, h.2, subst runs h.3 ends.ran)
       ]
 
   -- with 5 memory was wanting, and the line that says so stands on err
-  pub with_5 : result ≡ 5 → Stands err.told err'.told (line_of (Err stop.NoMemory))
+  pub with_5 : result ≡ 5 → Stands err.told err'.told (err_line (Err stop.NoMemory))
   with_5 five =
       let told = quiet ends.end ends.reports.put 5 (omega arith) (sym five ∙ ends.reports.status_is) in
       let end = ends_as 5 ends.end told.1 in
-      subst (λ (l : List ℕ). Stands err.told err'.told l) (ap line_of end) (stands err err' (line_of ends.end) ends.reports.put told.0 ends.reports.puts)
+      subst (λ (l : List ℕ). Stands err.told err'.told l) (ap err_line end) (stands err err' (err_line ends.end) ends.reports.put told.0 ends.reports.puts)
 
   -- with 6 the store failed, and the line that says so stands on err
-  pub with_6 : result ≡ 6 → runs (Err stop.StoreFailed) × Stands err.told err'.told (line_of (Err stop.StoreFailed))
+  pub with_6 : result ≡ 6 → runs (Err stop.StoreFailed) × Stands err.told err'.told (err_line (Err stop.StoreFailed))
   with_6 six =
       let told = quiet ends.end ends.reports.put 6 (omega arith) (sym six ∙ ends.reports.status_is) in
       let end = ends_as 6 ends.end told.1 in
-      (subst runs end ends.ran, subst (λ (l : List ℕ). Stands err.told err'.told l) (ap line_of end) (stands err err' (line_of ends.end) ends.reports.put told.0 ends.reports.puts))
+      (subst runs end ends.ran, subst (λ (l : List ℕ). Stands err.told err'.told l) (ap err_line end) (stands err err' (err_line ends.end) ends.reports.put told.0 ends.reports.puts))
 
   -- with 7 the ports failed, and the line that says so stands on err
-  pub with_7 : result ≡ 7 → runs (Err stop.PortsFailed) × Stands err.told err'.told (line_of (Err stop.PortsFailed))
+  pub with_7 : result ≡ 7 → runs (Err stop.PortsFailed) × Stands err.told err'.told (err_line (Err stop.PortsFailed))
   with_7 seven =
       let told = quiet ends.end ends.reports.put 7 (omega arith) (sym seven ∙ ends.reports.status_is) in
       let end = ends_as 7 ends.end told.1 in
-      (subst runs end ends.ran, subst (λ (l : List ℕ). Stands err.told err'.told l) (ap line_of end) (stands err err' (line_of ends.end) ends.reports.put told.0 ends.reports.puts))
+      (subst runs end ends.ran, subst (λ (l : List ℕ). Stands err.told err'.told l) (ap err_line end) (stands err err' (err_line ends.end) ends.reports.put told.0 ends.reports.puts))
 
   -- with 8 turns were used up, and the line that says so stands on err
-  pub with_8 : result ≡ 8 → runs (Err stop.TurnsUsedUp) × Stands err.told err'.told (line_of (Err stop.TurnsUsedUp))
+  pub with_8 : result ≡ 8 → runs (Err stop.TurnsUsedUp) × Stands err.told err'.told (err_line (Err stop.TurnsUsedUp))
   with_8 eight =
       let told = quiet ends.end ends.reports.put 8 (omega arith) (sym eight ∙ ends.reports.status_is) in
       let end = ends_as 8 ends.end told.1 in
-      (subst runs end ends.ran, subst (λ (l : List ℕ). Stands err.told err'.told l) (ap line_of end) (stands err err' (line_of ends.end) ends.reports.put told.0 ends.reports.puts))
+      (subst runs end ends.ran, subst (λ (l : List ℕ). Stands err.told err'.told l) (ap err_line end) (stands err err' (err_line ends.end) ends.reports.put told.0 ends.reports.puts))
 
   -- with another status than 0 and 4 the command ended early, and for no put
   pub with_other : result ≢ 0 → result ≢ 4 → (s : Stop) × (s ≢ stop.SinkFailed) × runs (Err s)
@@ -187,4 +187,4 @@ module _ (runs : Result (Unit {0}) Stop → Type 0) (err err' : SinkAt) (result 
   pub of_end : (result ≡ status_of ends.end) ⊎ ((result ≡ 4) × Rose err.faults err'.faults)
   of_end =
       subst (λ n. (n ≡ status_of ends.end) ⊎ ((n ≡ 4) × Rose err.faults err'.faults)) (sym ends.reports.status_is)
-      (kept_or_4 ends.reports.put (status_of ends.end) err.faults err'.faults (put_counts err err' (line_of ends.end) ends.reports.put ends.reports.puts))
+      (kept_or_4 ends.reports.put (status_of ends.end) err.faults err'.faults (put_counts err err' (err_line ends.end) ends.reports.put ends.reports.puts))

@@ -3,7 +3,7 @@ use Rattle.std.specs.Prelude.{◌≡◌, ℕ, List, [], Result, Ok, Err, Vec}
 use Rattle.std.specs.declared.alloc.Global.{Global}
 use Rattle.farm_base.specs.Outside.{Outside, FilesTold, Puts}
 use Rattle.farm_base.specs.declared.sinks.SinkFault.{SinkFault}
-use Rattle.call_ends.specs.Stops.{status_of, line_of}
+use Rattle.call_ends.specs.Stops.{status_of, err_line}
 use Rattle.call_ends.specs.declared.stops.Stop.{Stop}
 use Rattle.call_ends.specs.declared.stops.Stop.TheVariants as stop
 
@@ -55,4 +55,4 @@ pub record Reports (status : ℕ) (line : List ℕ) (old new : SinkAt) (result :
 pub record EndsWith (runs : Result (Unit {0}) Stop → Type 0) (err err' : SinkAt) (result : ℕ) : Type 0 where
   pub end : Result (Unit {0}) Stop
   pub ran : runs end
-  pub reports : Reports (status_of end) (line_of end) err err' result
+  pub reports : Reports (status_of end) (err_line end) err err' result

@@ -36,16 +36,16 @@ abbrev pub turns_used_up : List ℕ
 turns_used_up = codes "tilefarm: turns used up\n"
 
 -- the line on err, which is empty at the end of the command and where a put failed
-abbrev pub line_of : Result (Unit {0}) Stop → List ℕ
-line_of (Ok done) = []
-line_of (Err (Refused line)) = line
-line_of (Err Words) = usage
-line_of (Err (Unreadable line)) = line
-line_of (Err SinkFailed) = []
-line_of (Err NoMemory) = want_of_memory
-line_of (Err StoreFailed) = store_failed
-line_of (Err PortsFailed) = ports_failed
-line_of (Err TurnsUsedUp) = turns_used_up
+abbrev pub err_line : Result (Unit {0}) Stop → List ℕ
+err_line (Ok done) = []
+err_line (Err (Refused line)) = line
+err_line (Err Words) = usage
+err_line (Err (Unreadable line)) = line
+err_line (Err SinkFailed) = []
+err_line (Err NoMemory) = want_of_memory
+err_line (Err StoreFailed) = store_failed
+err_line (Err PortsFailed) = ports_failed
+err_line (Err TurnsUsedUp) = turns_used_up
 
 -- the line of a file that is refused: its name, and the text of its fault
 abbrev pub refused_line : List ℕ → List ℕ → List ℕ

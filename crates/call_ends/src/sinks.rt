@@ -35,8 +35,8 @@ fn status_of(end: &Result<(), Stop>) -> u8
     }
 }
 
-fn line_of(end: &Result<(), Stop>) -> &str
-    ensures { result.now ≡ spec.line_of end.now }
+fn err_line(end: &Result<(), Stop>) -> &str
+    ensures { result.now ≡ spec.err_line end.now }
 {
     match end {
         Ok(()) => "",
@@ -53,10 +53,10 @@ fn line_of(end: &Result<(), Stop>) -> &str
 
 /// Puts the line of an end on err, if it has one, and answers the status; 4 where that put failed.
 pub fn report<E: Sink>(err: &mut E, end: &Result<(), Stop>) -> u8
-    ensures { Reports (spec.status_of end.now) (spec.line_of end.now) (E.state err.old) (E.state err.new) result }
+    ensures { Reports (spec.status_of end.now) (spec.err_line end.now) (E.state err.old) (E.state err.new) result }
 {
     let status = status_of(end);
-    let line = line_of(end);
+    let line = err_line(end);
     if line.is_empty() {
         return status;
     }

@@ -64,8 +64,8 @@ line_cut text None = line_alone text
 line_cut text (Some p) = line_named p.0 p.1
 
 -- a line in words
-unfoldable pub line_of : List ℕ → Line
-line_of text = line_cut text (cut_at 32 text)
+unfoldable pub control_line : List ℕ → Line
+control_line text = line_cut text (cut_at 32 text)
 
 -- bytes as a text
 unfoldable pub text_of : List ℕ → Option (List ℕ)
@@ -74,7 +74,7 @@ text_of bytes = if is_utf8 bytes then Some bytes else None
 -- bytes that are no text are a bad line
 abbrev pub text_says : Option (List ℕ) → Line
 text_says None = line.Bad
-text_says (Some text) = line_of text
+text_says (Some text) = control_line text
 
 -- what a line says; one carriage return at its end is dropped
 abbrev pub line_in : List ℕ → Line

@@ -36,9 +36,9 @@ fn alone(word: &str) -> Line
     }
 }
 
-#[tactic(auto, unfolding(crate::specs::Lines::line_of))]
-fn line_of(text: &str) -> Line
-    ensures { result ≡ spec.line_of text.now }
+#[tactic(auto, unfolding(crate::specs::Lines::control_line))]
+fn control_line(text: &str) -> Line
+    ensures { result ≡ spec.control_line text.now }
 {
     match cut(text, ' ') {
         Some((name, words)) => named(name, words),
@@ -71,7 +71,7 @@ pub fn line_in(bytes: &[u8]) -> Line
     ensures { result ≡ spec.line_in bytes.now }
 {
     match text(without_return(bytes)) {
-        Some(text) => line_of(text),
+        Some(text) => control_line(text),
         None => Line::Bad,
     }
 }

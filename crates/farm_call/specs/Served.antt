@@ -3,7 +3,7 @@ use Rattle.std.specs.Prelude.{◌≡◌, ◌⊎◌, ◌≤◌, ◌^◌, ℕ, tru
 use Rattle.farm_base.specs.Outside.{Outside, FilesTold, Rose}
 use Rattle.tile_store.specs.Stores.{StoreTold}
 use Rattle.port_trait.specs.Told.{PortsTold}
-use Rattle.call_ends.specs.Stops.{status_of, line_of}
+use Rattle.call_ends.specs.Stops.{status_of, err_line}
 use Rattle.call_ends.specs.Ends.{SinkAt, Reports}
 use Rattle.call_ends.specs.declared.stops.Stop.{Stop}
 use Rattle.input_files.specs.Course.{Course, Makes}
@@ -33,7 +33,7 @@ IfServed {D} asks told left holds = (closed : ClosedFarm D) → left ≡ Farm cl
 
 -- the call ended so, and this holds of its end: the status and the line on err are those of the end
 abbrev pub AtEnd : SinkAt → SinkAt → ℕ → (Result (Unit {0}) Stop → Type 0) → Type 0
-AtEnd err err' status holds = (end : Result (Unit {0}) Stop) × Reports (status_of end) (line_of end) err err' status × holds end
+AtEnd err err' status holds = (end : Result (Unit {0}) Stop) × Reports (status_of end) (err_line end) err err' status × holds end
 
 -- the line refuses what is saved in the store, where the files say that it is to be resumed
 abbrev pub RefusesSaved : (Course Work → Type 0) → Option FilesTold → Outside StoreTold → List ℕ → Type 0

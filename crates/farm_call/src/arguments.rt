@@ -1,6 +1,6 @@
 //! The program over the words of its runtime.
 ghost use Rattle.std.specs.Prelude.{◌≡◌, ◌⊎◌, [], Err};
-ghost use Rattle.call_ends.specs.Stops.{status_of, line_of, usage, want_of_memory, store_failed};
+ghost use Rattle.call_ends.specs.Stops.{status_of, err_line, usage, want_of_memory, store_failed};
 ghost use Rattle.call_ends.specs.Ends.{Reports};
 ghost use Rattle.call_ends.specs.Promises.{Stands};
 ghost use Rattle.serve_command.specs.declared.left.Left.TheVariants.{Store};
@@ -84,7 +84,7 @@ fn words<R: Env + Alloc<A = Global>>(rt: &R) -> io::Result<Vec<String>> {
 
 // The end of a call whose words cannot be had.
 fn wordless<E: Sink, D: TileStore>(alloc: Global, err: &mut E, stop: Stop, store: D) -> FarmEnd<D>
-    ensures report { Reports (status_of (Err stop)) (line_of (Err stop)) (E.state err.old) (E.state err.new) result.status }
+    ensures report { Reports (status_of (Err stop)) (err_line (Err stop)) (E.state err.old) (E.state err.new) result.status }
     ensures left { result.left ≡ Store store }
     ensures no_fronts { result.fronts.items ≡ [] }
 {

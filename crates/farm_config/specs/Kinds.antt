@@ -5,7 +5,7 @@ use Rattle.std.specs.Option.{ok_or}
 use Rattle.serde_json.specs.Data.{Data}
 use Rattle.serde_json.specs.Find.{as_bool}
 use Rattle.reading.specs.Steps.{◌>>=◌}
-use Rattle.reading.specs.Values.{text, whole}
+use Rattle.reading.specs.Values.{text, whole_number}
 use Rattle.farm_config.specs.Addresses.{is_address}
 use Rattle.farm_config.specs.Configs.{is_map_name, is_tile_size}
 use Rattle.farm_config.specs.declared.fault.ConfigFault.{ConfigFault}
@@ -21,11 +21,11 @@ a_map_name key d = text (Shape key) d >>= λ s. if is_map_name s then Ok s else 
 
 -- a whole number within two bounds
 unfoldable pub a_number : ℕ → ℕ → ℕ → Data → Result ℕ ConfigFault
-a_number key low high d = whole (Shape key) (Range key) low high d
+a_number key low high d = whole_number (Shape key) (Range key) low high d
 
 -- the size of a tile
 unfoldable pub a_tile_size : ℕ → Data → Result ℕ ConfigFault
-a_tile_size key d = whole (Shape key) (Range key) 16 512 d >>= λ n. if is_tile_size n then Ok n else Err (Range key)
+a_tile_size key d = whole_number (Shape key) (Range key) 16 512 d >>= λ n. if is_tile_size n then Ok n else Err (Range key)
 
 -- an address
 unfoldable pub an_address : ℕ → Data → Result (Option (List ℕ)) ConfigFault

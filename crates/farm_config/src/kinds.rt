@@ -11,7 +11,7 @@ ghost use Rattle.farm_config.specs.declared.fault.ConfigFault.TheVariants as fau
 use crate::addresses::is_address;
 use crate::fault::ConfigFault;
 use farm_base::Text;
-use reading::{text, whole};
+use reading::{text, whole_number};
 use serde_json::Value;
 use std::alloc::Global;
 use tile_paths::is_name;
@@ -71,7 +71,7 @@ fn a_number(value: &Value, key: u32, low: u32, high: u32) -> Result<u32, ConfigF
     ensures high { IfOk result (λ n. n ≤ high) }
 {
     let shape = ConfigFault::Shape(key);
-    let number = whole(
+    let number = whole_number(
         value,
         shape,
         ConfigFault::Range(key),

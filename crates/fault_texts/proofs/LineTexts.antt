@@ -10,7 +10,7 @@ use Rattle.plain_world.specs.declared.world.Tile.{Tile}
 use Rattle.expiry_lists.specs.Lists as list
 use Rattle.expiry_lists.specs.declared.faults.ListFault.{ListFault}
 use Rattle.expiry_lists.specs.declared.faults.ListFault.TheVariants.{Line}
-use Rattle.script_lines.specs.Lines.{cmd_of, tile_of, place_of, ask_of, fetch_of, look_of, expire_of, line_named, line_alone, line_cut, line_of}
+use Rattle.script_lines.specs.Lines.{cmd_of, tile_of, place_of, ask_of, fetch_of, look_of, expire_of, line_named, line_alone, line_cut, script_line_of}
 use Rattle.script_lines.specs.Scripts.{is_skipped, text_of, line_read, lines_after, script_in}
 use Rattle.script_lines.specs.declared.script.ScriptFault.{ScriptFault}
 use Rattle.script_lines.specs.declared.script.ScriptFault.TheVariants as script
@@ -133,7 +133,7 @@ cut_told fault h line None = alone_told fault h line
 cut_told fault h line (Some p) = named_told fault h p.0 p.1
 
 line_told : (fault : ScriptFault) → HasText fault → (line : List ℕ) → Told (line_read fault line)
-unfolding line_read text_of line_of
+unfolding line_read text_of script_line_of
 line_told fault h line =
     either HasText (is_skipped line) _ _ tt (
     step HasText _ _ (step HasText _ _ (checks HasText (is_utf8 line) fault h) (λ u. tt)) (λ text.

@@ -6,7 +6,7 @@ use Rattle.serde_json.specs.Data.{Data, Items, no_items, item, Num, unsigned, ne
 use Rattle.serde_json.specs.Find.{as_object, as_array, as_number}
 use Rattle.serde_json.specs.Events.{items_len}
 use Rattle.reading.specs.Steps.{◌>>=◌, check}
-use Rattle.reading.specs.Values.{needed, or_value, opened, only_keys, items_within, within, integer_within, whole}
+use Rattle.reading.specs.Values.{needed, or_value, opened, only_keys, items_within, within, integer_within, whole_number}
 use Rattle.reading.specs.Lists.{list_after}
 
 -- a fault, where there is one, is such a one
@@ -53,7 +53,7 @@ few T limit fault found h = by (option_and_then as_array found)
     by None = tt
     by (Some items) = either T (nat_le (items_len items) limit) (Ok (Some items)) (Err fault) tt h
 
-pub wholes : {E : Type 0} (T : E → Type 0) (shape range : E) (low high : ℕ) (d : Data) → T shape → T range → OnFault T (whole shape range low high d)
+pub wholes : {E : Type 0} (T : E → Type 0) (shape range : E) (low high : ℕ) (d : Data) → T shape → T range → OnFault T (whole_number shape range low high d)
 wholes T shape range low high d h g = by (as_number d)
   where
     by : (n : Option Num) → OnFault T (integer_within shape range low high n)

@@ -10,7 +10,7 @@ use Rattle.geo_model.specs.declared.faults.GeoFault.{GeoFault}
 use Rattle.geo_model.specs.declared.faults.GeoFault.TheVariants.{TooManyAttrs}
 use Rattle.geo_model.specs.Shapes.{shape_fault, first_of}
 use Rattle.reading.specs.Steps.{◌>>=◌, check}
-use Rattle.reading.specs.Values.{needed, whole}
+use Rattle.reading.specs.Values.{needed, whole_number}
 use Rattle.geo_json.specs.Attributes.{attrs_at}
 use Rattle.geo_json.specs.Geometries.{geometry_of}
 use Rattle.geo_json.specs.Openings.{object_of}
@@ -21,7 +21,7 @@ use Rattle.plain_data.specs.Limits.{most_attrs}
 
 -- an id is a whole number of 64 bits
 unfoldable pub id_of : DataFault → Data → Result ℕ DataFault
-id_of shape d = whole shape shape 0 (2 ^ 64 - 1) d
+id_of shape d = whole_number shape shape 0 (2 ^ 64 - 1) d
 
 -- the faults that the parts of a feature may have, in order: those of its shape, and then more than 64 attributes;
 -- the keys of an object are distinct, so no two attributes have one name

@@ -22,7 +22,7 @@ use crate::openings::open;
 use farm_base::Attr;
 use geo_model::{Feature, make_feature};
 use plain_shapes::Geometry;
-use reading::{ReadItem, ReadKnown, read_list, read_list_with, whole};
+use reading::{ReadItem, ReadKnown, read_list, read_list_with, whole_number};
 use serde_json::Value;
 use std::alloc::Global;
 use std::collections::BTreeSet;
@@ -32,7 +32,7 @@ use std::collections::BTreeSet;
 pub(crate) fn id_of(value: &Value, shape: DataFault) -> Result<u64, DataFault>
     ensures { result ≡ spec.id_of shape (view value.now) }
 {
-    whole(value, shape, shape, 0, u64::MAX)
+    whole_number(value, shape, shape, 0, u64::MAX)
 }
 
 fn id_at(object: &Value, shape: DataFault) -> Result<u64, DataFault>

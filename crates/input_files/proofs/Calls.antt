@@ -4,7 +4,7 @@ use Rattle.std.proofs.Common.{◌≡◌, ◌≢◌, ℕ, ◌⊎◌, inl, inr, Li
 use Rattle.std.specs.Prelude.{Option, Some, None, Result, Ok, Err, IfSome}
 use Rattle.farm_base.specs.Outside.{FilesTold, Rose}
 use Rattle.farm_base.specs.declared.sinks.SinkFault.{SinkFault}
-use Rattle.call_ends.specs.Stops.{status_of, line_of, usage, want_of_memory, store_failed, ports_failed, turns_used_up, unreadable_line}
+use Rattle.call_ends.specs.Stops.{status_of, err_line, usage, want_of_memory, store_failed, ports_failed, turns_used_up, unreadable_line}
 use Rattle.call_ends.specs.Ends.{FilesAt, SinkAt, put_end, PutsAll, told_status, EndsWith}
 use Rattle.call_ends.specs.Promises.{Stands}
 use Rattle.call_ends.specs.declared.stops.Stop.{Stop}
@@ -249,10 +249,10 @@ module _ {V W : Type 0} (asks : Course V → Type 0) (one : (c d : Course V) →
   noticed (inl other) = four_of (status_at (Err stop.SinkFailed) (sink_failed other (ran asks does files files' world world' call.end call.ran)))
   noticed (inr other) =
       failed_4 call.reports.put (status_of call.end) result err.faults err'.faults call.reports.status_is
-      (put_counts err err' (line_of call.end) call.reports.put call.reports.puts) other
+      (put_counts err err' (err_line call.end) call.reports.put call.reports.puts) other
 
   pub out_failed : (out world').faults ≢ (out world).faults → err' ≡ err
-  out_failed other = (call.reports.quiet (ap line_of (sink_failed other (ran asks does files files' world world' call.end call.ran)))).1
+  out_failed other = (call.reports.quiet (ap err_line (sink_failed other (ran asks does files files' world world' call.end call.ran)))).1
 
   -- ---- 5 and more
 

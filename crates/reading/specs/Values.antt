@@ -30,8 +30,8 @@ integer_within shape range low high (Some (negative z)) = Err range
 integer_within shape range low high (Some (float x)) = Err shape
 
 -- a whole number within two bounds, as a JSON value
-abbrev pub whole : {E : Type 0} → E → E → ℕ → ℕ → Data → Result ℕ E
-whole shape range low high d = integer_within shape range low high (as_number d)
+abbrev pub whole_number : {E : Type 0} → E → E → ℕ → ℕ → Data → Result ℕ E
+whole_number shape range low high d = integer_within shape range low high (as_number d)
 
 -- a whole number of 64 bits with a sign
 abbrev pub signed : {E : Type 0} → E → Data → Result ℤ E

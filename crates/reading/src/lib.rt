@@ -10,4 +10,4 @@ mod scalars;
 pub use json::{ReadFault, read_json};
 pub use keys::opened;
 pub use lists::{ReadItem, ReadKnown, read_list, read_list_with};
-pub use scalars::{list, signed, text, whole, within};
+pub use scalars::{list, signed, text, whole_number, within};

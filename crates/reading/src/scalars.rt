@@ -15,8 +15,14 @@ pub fn text<E: Drop>(value: &Value, fault: E) -> Result<&str, E>
 
 /// The whole number: `shape` where the value is none (a fraction, an exponent and `-0` make a number
 /// none), `range` where it is one below `low` or above `high`.
-pub fn whole<E: Drop>(value: &Value, shape: E, range: E, low: u64, high: u64) -> Result<u64, E>
-    ensures value { result ≡ spec.whole shape range low high (view value.now) }
+pub fn whole_number<E: Drop>(
+    value: &Value,
+    shape: E,
+    range: E,
+    low: u64,
+    high: u64,
+) -> Result<u64, E>
+    ensures value { result ≡ spec.whole_number shape range low high (view value.now) }
     ensures low { IfOk result (λ n. low ≤ n) }
     ensures high { IfOk result (λ n. n ≤ high) }
 {

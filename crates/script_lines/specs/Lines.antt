@@ -113,5 +113,5 @@ line_cut fault line None = line_alone fault line
 line_cut fault line (Some p) = line_named fault p.0 p.1
 
 -- a line
-unfoldable pub line_of : ScriptFault → List ℕ → Result ScriptLine ScriptFault
-line_of fault line = line_cut fault line (cut_at 32 line)
+unfoldable pub script_line_of : ScriptFault → List ℕ → Result ScriptLine ScriptFault
+script_line_of fault line = line_cut fault line (cut_at 32 line)

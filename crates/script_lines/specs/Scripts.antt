@@ -6,7 +6,7 @@ use Rattle.reading.specs.Steps.{◌>>=◌, check}
 use Rattle.script_lines.specs.declared.script.ScriptFault.{ScriptFault}
 use Rattle.script_lines.specs.declared.script.ScriptFault.TheVariants.{Line}
 use Rattle.script_lines.specs.declared.script.ScriptLine.{ScriptLine}
-use Rattle.script_lines.specs.Lines.{line_of}
+use Rattle.script_lines.specs.Lines.{script_line_of}
 
 -- a line that says nothing: an empty one, or one that begins with `#`
 abbrev pub is_skipped : List ℕ → Bool
@@ -19,7 +19,7 @@ text_of fault line = check (is_utf8 line) fault >>= λ u. Ok line
 
 -- what a line says, nothing where it is skipped
 unfoldable pub line_read : ScriptFault → List ℕ → Result (Option ScriptLine) ScriptFault
-line_read fault line = if is_skipped line then Ok None else (text_of fault line >>= λ text. line_of fault text >>= λ l. Ok (Some l))
+line_read fault line = if is_skipped line then Ok None else (text_of fault line >>= λ text. script_line_of fault text >>= λ l. Ok (Some l))
 
 -- the lines from this number on, after those that were read before; there is no line after 1,000,000
 unfoldable pub lines_after : ℕ → List ScriptLine → List (List ℕ) → Result (List ScriptLine) ScriptFault

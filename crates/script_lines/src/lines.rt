@@ -91,9 +91,9 @@ fn alone(word: &str, fault: ScriptFault) -> Result<ScriptLine, ScriptFault>
     }
 }
 
-#[tactic(auto, unfolding(crate::specs::Lines::line_of))]
+#[tactic(auto, unfolding(crate::specs::Lines::script_line_of))]
 fn line(alloc: Global, line: &str, fault: ScriptFault) -> Result<ScriptLine, ScriptFault>
-    ensures { Gives NoMemory (λ l. l) (spec.line_of fault line.now) result }
+    ensures { Gives NoMemory (λ l. l) (spec.script_line_of fault line.now) result }
 {
     match cut(line, ' ') {
         Some((name, rest)) => named(alloc, name, rest, fault),

@@ -15,7 +15,7 @@ use Rattle.paint_texts.specs.Colours.{colour_of}
 use Rattle.paint_texts.specs.Decimals.{hundredths_of, thousandths_of}
 use Rattle.filter_expr.specs.declared.faults.FilterFault.{FilterFault}
 use Rattle.reading.specs.Steps.{◌>>=◌, check}
-use Rattle.reading.specs.Values.{text, whole, or_value}
+use Rattle.reading.specs.Values.{text, whole_number, or_value}
 use Rattle.style_objects.specs.declared.fault.At.{At}
 use Rattle.style_objects.specs.declared.fault.StyleFault.{StyleFault}
 use Rattle.style_objects.specs.declared.fault.StyleFault.TheVariants as fault
@@ -72,7 +72,7 @@ a_cap at d = in_grammar cap_of at d
 
 -- a whole number of a raster, from this least one to 2^30
 unfoldable pub a_number : ℕ → At → Data → Result ℕ StyleFault
-a_number low at d = whole (fault.Shape at) (fault.Range at) low (2 ^ 30) d
+a_number low at d = whole_number (fault.Shape at) (fault.Range at) low (2 ^ 30) d
 
 -- what a filter text says, or its fault
 abbrev pub filter_at : At → Result FilterTree FilterFault → Result (Option FilterTree) StyleFault

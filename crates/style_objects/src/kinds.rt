@@ -18,7 +18,7 @@ use paint_texts::{Colour, hundredths, thousandths};
 use plain_data::MOST_WIDTH;
 use plain_drawing::FilterMode;
 use plain_shapes::LineCap;
-use reading::{text, whole};
+use reading::{text, whole_number};
 use serde_json::Value;
 use std::alloc::Global;
 
@@ -219,7 +219,7 @@ fn a_number(value: &Value, low: u32, at: At) -> Result<u32, StyleFault>
     ensures low { IfOk result (λ n. low ≤ n) }
     ensures high { IfOk result (λ n. n ≤ 2 ^ 30) }
 {
-    let n = whole(
+    let n = whole_number(
         value,
         StyleFault::Shape(at),
         StyleFault::Range(at),

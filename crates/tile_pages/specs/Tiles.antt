@@ -198,9 +198,9 @@ whole_act (act.Seen s l) = true
 whole_act (act.Marked s a) = true
 
 -- a reply for which a tile waits has its Fetch, but where it is Cut
-abbrev pub whole : List (Move Act) → Move Act → Bool
-whole ms (Does a) = whole_act a
-whole ms (Gets r behind) = is_none (spot_at r.ask (waiting ms)) || (not (is_empty behind) || is_cut {A = Act} (Gets r behind))
+abbrev pub whole_move : List (Move Act) → Move Act → Bool
+whole_move ms (Does a) = whole_act a
+whole_move ms (Gets r behind) = is_none (spot_at r.ask (waiting ms)) || (not (is_empty behind) || is_cut {A = Act} (Gets r behind))
 
 abbrev pub says : List (Move Act) → Move Act → List ℕ
 says ms (Does a) = answer_of a
@@ -239,7 +239,7 @@ rules_of front maps = record {
   want = want;
   entries = λ c a. entries_of (record { front = front; number = c }) a;
   fits = fits;
-  whole = whole;
+  whole = whole_move;
   says = says;
   starves = starves;
   ends = ends;
