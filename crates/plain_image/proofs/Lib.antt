@@ -3,3 +3,4 @@ pub mod Painting
 pub mod Cutting
 pub mod Texts
 pub mod RoundTrip
+pub mod Runs

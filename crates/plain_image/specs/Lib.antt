@@ -1,1 +1,2 @@
 pub mod PpmText
+pub mod Runs

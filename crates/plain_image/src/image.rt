@@ -26,12 +26,13 @@ impl Model for Image {
 }
 
 impl Image {
-    ghost use Rattle.std.specs.Prelude.{◌≡◌, ◌+◌, ◌*◌, ◌<◌, ◌≤◌, ◌++◌, ℕ, IfOk, OnOk, flat_map, slice_set, slice_get, slice_index_or, Some, replicate, length, Ok};
+    ghost use Rattle.std.specs.Prelude.{◌≡◌, ◌+◌, ◌-◌, ◌*◌, ◌<◌, ◌≤◌, ◌++◌, ℕ, IfOk, OnOk, flat_map, slice_set, slice_get, slice_index_or, Some, replicate, length, Ok};
     ghost use Rattle.plain_shapes.specs.Blending.{blend};
     ghost use Rattle.plain_shapes.specs.Images.{IsRaster, IsSides};
     ghost use Rattle.plain_shapes.specs.inner.Canvas.{painted, cut_of};
     ghost use Rattle.plain_shapes.specs.Ppm.{pixel_bytes, ppm};
     ghost use Rattle.plain_image.specs.PpmText.{ppm_of};
+    ghost use Rattle.plain_image.specs.Runs.{run_changed};
 
     /// An image of these sides that is all of one colour. Sides are 1 to 4,096.
     pub fn new(alloc: Global, cols: u32, rows: u32, c: Colour) -> Result<Image, NoMemory>
@@ -114,6 +115,22 @@ impl Image {
         let place = j as usize * self.cols as usize + i as usize;
         let under = self.pixels.at(place);
         self.pixels.put(place, pixels::over(c, opacity, under));
+    }
+
+    /// Paints the pixels of row `j` from the column `start` on and before the column `end`, which are
+    /// inside, by the formula of `paint`.
+    pub fn blend_run(&mut self, j: u32, start: u32, end: u32, c: Colour, opacity: u32)
+        requires row { j < self.old.rows }
+        requires order { start ≤ end }
+        requires cols { end ≤ self.old.cols }
+        requires opacity { opacity ≤ 1000 }
+        ensures { self.new ≡ record self.old {
+          pixels = run_changed (blend c opacity) (j * self.old.cols + start) (end - start) self.old.pixels;
+        } }
+    {
+        let west = j as usize * self.cols as usize;
+        let from = west + start as usize;
+        pixels::paint_run(c, opacity, from, west + end as usize, &mut self.pixels);
     }
 
     /// The image of a part of it: `cols` columns from `col` on and `rows` rows from `row` on. The part

@@ -1,8 +1,9 @@
 //! The arithmetic of painting.
-ghost use Rattle.std.specs.Prelude.{◌≡◌, ℕ, ◌*◌, ◌≤◌, ◌++◌, [], length, IfOk, flat_map, string_bytes};
+ghost use Rattle.std.specs.Prelude.{◌≡◌, ℕ, ◌-◌, ◌*◌, ◌≤◌, ◌++◌, [], length, IfOk, flat_map, string_bytes};
 ghost use Rattle.plain_shapes.specs.inner.Canvas.{painted};
 ghost use Rattle.plain_shapes.specs.Ppm.{pixel_bytes, ppm};
 ghost use Rattle.plain_shapes.specs.Blending.{blend_channel, blend};
+ghost use Rattle.plain_image.specs.Runs.{run_changed};
 ghost use Rattle.plain_world.specs.Limits.{most_side};
 
 use crate::colours::Colours;
@@ -30,6 +31,21 @@ pub fn over(s: Colour, opacity: u32, d: Colour) -> Colour
         r: channel(s.r, opacity, d.r),
         g: channel(s.g, opacity, d.g),
         b: channel(s.b, opacity, d.b),
+    }
+}
+
+/// Paints the pixels from the place `start` on and before the place `end` over with the colour `s`.
+pub fn paint_run(s: Colour, opacity: u32, start: usize, end: usize, pixels: &mut Colours)
+    requires opacity { opacity ≤ 1000 }
+    requires order { start ≤ end }
+    requires inside { end ≤ length pixels.old }
+    requires few { length pixels.old ≤ most_side * most_side }
+    ensures painted { pixels.new ≡ run_changed (blend s opacity) start (end - start) pixels.old }
+    ensures len { length pixels.new ≡ length pixels.old }
+{
+    for k in start..end {
+        let d = pixels.at(k);
+        pixels.put(k, over(s, opacity, d));
     }
 }
 
