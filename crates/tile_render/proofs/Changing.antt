@@ -1,5 +1,5 @@
 -- The pixels of a window changed by their centres, one after another.
-use Rattle.std.proofs.Common.{◌≡◌, ℕ, zero, suc, ◌+◌, ◌-◌, ◌*◌, ◌/◌, ◌%◌, ◌<◌, ◌≤◌, Bool, true, false, List, length, take, drop, get_or, set, refl, ap, sym, ◌∙◌, inl, inr, arith}
+use Rattle.std.proofs.Common.{◌≡◌, ℕ, zero, suc, ◌+◌, ◌-◌, ◌*◌, ◌/◌, ◌%◌, ◌<◌, ◌≤◌, Bool, false, List, length, take, drop, get_or, refl, ap, sym, ◌∙◌, inl, inr, arith}
 use Rattle.std.specs.Prelude.{if◌then◌else◌}
 use Rattle.std.proofs.Math.Nat.{mul-le-mul_right, div-add-mod, mod-lt}
 use Rattle.std.proofs.lemmas.Bool.{cases_lt, false_from_ne_true}
@@ -14,32 +14,11 @@ use Rattle.plain_shapes.specs.Images.{Pixels}
 use Rattle.plain_shapes.specs.inner.Canvas.{at_centres, stepped}
 use Rattle.plain_shapes.proofs.Places.{length-centres, get_or-centres}
 use Rattle.tile_render.specs.declared.regions.Region.{Region}
-use Rattle.tile_render.specs.inner.Places.{changed_at}
 use Rattle.tile_render.specs.inner.Regions.{IsRegion, InRegion, Holds, Tells, Changed, over_member}
-use Rattle.tile_render.proofs.Pixels.{unchanged_at, written_at, next_changed}
+use Rattle.tile_render.proofs.Pixels.{unchanged_at, next_changed}
 
-changed_start : (f : Point → Colour → Colour) (w : Window) (start : Pixels) → Changed f w 0 start start
+pub changed_start : (f : Point → Colour → Colour) (w : Window) (start : Pixels) → Changed f w 0 start start
 changed_start f w start = record { is = refl }
-
--- one pixel written
-changed_on : (f : Point → Colour → Colour) (w : Window) (colour : Colour) (opacity i j n next : ℕ) (start now after : Pixels)
-    → i < w.cols → j < w.rows → n ≡ j * w.cols + i → next ≡ n + 1 → ((d : Colour) → f (centre w i j) d ≡ blend colour opacity d)
-    → after ≡ record now { pixels = set now.pixels n (blend colour opacity (get_or now.pixels n colour)) }
-    → Changed f w n start now → Changed f w next start after
-changed_on f w colour opacity i j n next start now after hi hj at more same written r =
-    let d : Point = record { x = 0; y = 0 } in
-    let within : n < length (centres w) = omega (arith, length-centres w, row_fits j w.cols w.rows w.cols hj (omega arith)) in
-    let here : get_or (centres w) n d ≡ centre w i j = ap (λ k. get_or (centres w) k d) at ∙ get_or-centres w j i d hi hj in
-    let e : suc n ≡ next = omega arith in
-    record {
-      is =
-          written
-          ∙ ap (λ ps. record now { pixels = ps }) (written_at f (centre w i j) (blend colour opacity) same n now.pixels colour)
-          ∙ ap (λ (b : Pixels). record b { pixels = changed_at f n (centre w i j) b.pixels }) r.is
-          ∙ ap (λ c. record start { pixels = changed_at f n c (at_centres f (take n (centres w)) start.pixels) }) (sym here)
-          ∙ ap (λ ps. record start { pixels = ps }) (next_changed f (centres w) start.pixels n d within)
-          ∙ ap (λ k. record start { pixels = at_centres f (take k (centres w)) start.pixels }) e;
-    }
 
 at_off : (f : Point → Colour → Colour) (cs : List Point) (xs : List Colour) (n : ℕ) (d : Point) → n < length cs → ((x : Colour) → f (get_or cs n d) x ≡ x)
     → at_centres f (take (suc n) cs) xs ≡ at_centres f (take n cs) xs
@@ -78,7 +57,7 @@ changed_skip f w n next start now some le fits off r =
           (sym (at_skip f (centres w) start.pixels n k d (omega (arith, length-centres w)) each) ∙ ap (λ q. at_centres f (take q (centres w)) start.pixels) at);
     }
 
-changed_end : (f : Point → Colour → Colour) (w : Window) (n : ℕ) (start now : Pixels) → n ≡ w.rows * w.cols → Changed f w n start now → now ≡ stepped w f start
+pub changed_end : (f : Point → Colour → Colour) (w : Window) (n : ℕ) (start now : Pixels) → n ≡ w.rows * w.cols → Changed f w n start now → now ≡ stepped w f start
 changed_end f w n start now e r = r.is ∙ ap (λ cs. record start { pixels = at_centres f cs start.pixels })
     (ap (λ k. take k (centres w)) (e ∙ sym (length-centres w)) ∙ take_all (length (centres w)) (centres w) (omega arith))
 
@@ -96,12 +75,11 @@ row_length bits cols rows j count hj =
     ap length (row_taken bits bits cols j refl)
     ∙ length-take-le cols (drop (j * cols) bits) (omega (arith, length-drop (j * cols) bits, count, mul-le-mul_right cols next))
 
--- what a row of the mask says of a pixel
-told : (w : Window) (p : Region) (member : Point → Bool) (bits row : List Bool) (i j : ℕ) (t : Bool) → i < p.cols → j < p.rows
-    → row ≡ take p.cols (drop (j * p.cols) bits) → get_or row i false ≡ t → Tells w p member bits → member (centre w (p.col + i) (p.row + j)) ≡ t
-told w p member bits row i j t hi hj is has tells =
-    sym (tells.at j i hj hi) ∙ sym (get_or-drop (j * p.cols) bits i false) ∙ sym (get_or-take p.cols (drop (j * p.cols) bits) i false hi)
-    ∙ ap (λ bs. get_or bs i false) (sym is) ∙ has
+-- a bit of the row is one of the mask
+pub bit_at : (bits row : List Bool) (cols i j : ℕ) (t : Bool) → i < cols → row ≡ take cols (drop (j * cols) bits) → get_or row i false ≡ t
+    → get_or bits (j * cols + i) false ≡ t
+bit_at bits row cols i j t hi is has =
+    sym (get_or-drop (j * cols) bits i false) ∙ sym (get_or-take cols (drop (j * cols) bits) i false hi) ∙ ap (λ bs. get_or bs i false) (sym is) ∙ has
 
 -- a pixel outside the region has no member as its centre
 outside : (w : Window) (p : Region) (member : Point → Bool) (colour : Colour) (opacity j i : ℕ) → Holds w p member → i < w.cols → j < w.rows → (InRegion p i j → ⊥)
@@ -109,42 +87,25 @@ outside : (w : Window) (p : Region) (member : Point → Bool) (colour : Colour) 
 outside w p member colour opacity j i holds hi hj out x =
     ap (λ t. if t then blend colour opacity x else x) (false_from_ne_true (member (centre w i j)) (λ e. out (holds.at j i hi hj e)))
 
--- a pixel of the region that the mask covers
-pub pixel_on : (w : Window) (p : Region) (member : Point → Bool) (bits row : List Bool) (colour : Colour) (opacity i j : ℕ) (start now after : Pixels)
-    → IsRegion w p → i < p.cols → j < p.rows → now.cols ≡ w.cols → row ≡ take p.cols (drop (j * p.cols) bits) → get_or row i false ≡ true
-    → after ≡ record now {
-      pixels = set now.pixels ((p.row + j) * now.cols + (p.col + i)) (blend colour opacity (get_or now.pixels ((p.row + j) * now.cols + (p.col + i)) colour));
-    }
-    → Tells w p member bits
-    → Changed (over_member member colour opacity) w ((p.row + j) * w.cols + (p.col + i)) start now
-    → Changed (over_member member colour opacity) w ((p.row + j) * w.cols + (p.col + (i + 1))) start after
-pixel_on w p member bits row colour opacity i j start now after ok hi hj same_cols is has written tells r =
-    changed_on (over_member member colour opacity) w colour opacity (p.col + i) (p.row + j) ((p.row + j) * w.cols + (p.col + i)) ((p.row + j) * w.cols + (p.col + (i + 1))) start now after
-    (omega (arith, ok.in_cols)) (omega (arith, ok.in_rows)) refl (omega arith)
-    (λ d. ap (λ b. if b then blend colour opacity d else d) (told w p member bits row i j true hi hj is has tells))
-    (written ∙ ap (λ k. record now {
-      pixels = set now.pixels ((p.row + j) * k + (p.col + i)) (blend colour opacity (get_or now.pixels ((p.row + j) * k + (p.col + i)) colour));
-    }) same_cols) r
-
 -- a pixel of the region that the mask does not cover
-pub pixel_off : (w : Window) (p : Region) (member : Point → Bool) (bits row : List Bool) (colour : Colour) (opacity i j : ℕ) (start now : Pixels)
-    → IsRegion w p → i < p.cols → j < p.rows → row ≡ take p.cols (drop (j * p.cols) bits) → get_or row i false ≡ false
+pub pixel_off : (w : Window) (p : Region) (member : Point → Bool) (bits : List Bool) (colour : Colour) (opacity i j : ℕ) (start now : Pixels)
+    → IsRegion w p → i < p.cols → j < p.rows → get_or bits (j * p.cols + i) false ≡ false
     → Tells w p member bits
     → Changed (over_member member colour opacity) w ((p.row + j) * w.cols + (p.col + i)) start now
-    → Changed (over_member member colour opacity) w ((p.row + j) * w.cols + (p.col + (i + 1))) start now
-pixel_off w p member bits row colour opacity i j start now ok hi hj row_is has tells r =
+    → Changed (over_member member colour opacity) w ((p.row + j) * w.cols + (p.col + i + 1)) start now
+pixel_off w p member bits colour opacity i j start now ok hi hj off tells r =
     let inside : p.row + j < w.rows = omega (arith, ok.in_rows) in
     let col : p.col + i + 1 ≤ w.cols = omega (arith, ok.in_cols) in
     let d0 : Point = record { x = 0; y = 0 } in
     let n : ℕ = (p.row + j) * w.cols + (p.col + i) in
     let within : n < length (centres w) = omega (arith, length-centres w, row_fits (p.row + j) w.cols w.rows w.cols inside (omega arith)) in
-    let e : suc n ≡ (p.row + j) * w.cols + (p.col + (i + 1)) = omega arith in
+    let e : suc n ≡ (p.row + j) * w.cols + (p.col + i + 1) = omega arith in
     record {
       is =
           r.is ∙ ap (λ ps. record start { pixels = ps })
           (sym (at_off (over_member member colour opacity) (centres w) start.pixels n d0 within (λ x.
           ap (λ c. over_member member colour opacity c x) (get_or-centres w (p.row + j) (p.col + i) d0 (omega arith) inside)
-          ∙ ap (λ b. if b then blend colour opacity x else x) (told w p member bits row i j false hi hj row_is has tells)))
+          ∙ ap (λ b. if b then blend colour opacity x else x) (sym (tells.at j i hj hi) ∙ off)))
           ∙ ap (λ q. at_centres (over_member member colour opacity) (take q (centres w)) start.pixels) e);
     }
 
@@ -161,26 +122,26 @@ same_row j' i j c low high p h from below = elim (cases_lt j' j) [
 pub row_before : (w : Window) (p : Region) (member : Point → Bool) (bits : List Bool) (colour : Colour) (opacity j : ℕ) (start now : Pixels) → IsRegion w p → j < p.rows
     → Tells w p member bits
     → Changed (over_member member colour opacity) w ((p.row + j) * w.cols) start now
-    → Changed (over_member member colour opacity) w ((p.row + j) * w.cols + (p.col + 0)) start now
+    → Changed (over_member member colour opacity) w ((p.row + j) * w.cols + p.col) start now
 row_before w p member bits colour opacity j start now ok hj tells r =
     let row : p.row + j + 1 ≤ w.rows = omega (arith, ok.in_rows) in
-    changed_skip (over_member member colour opacity) w ((p.row + j) * w.cols) ((p.row + j) * w.cols + (p.col + 0)) start now (omega (arith, ok.in_cols, ok.some_col)) (omega arith)
+    changed_skip (over_member member colour opacity) w ((p.row + j) * w.cols) ((p.row + j) * w.cols + p.col) start now (omega (arith, ok.in_cols, ok.some_col)) (omega arith)
     (omega (arith, mul-le-mul_right w.cols row, ok.in_cols))
     (λ j' i p' q low high.
     let e : j' ≡ p.row + j = same_row j' i (p.row + j) w.cols 0 p.col p' (omega (arith, ok.in_cols)) (omega arith) (omega arith) in
     outside w p member colour opacity j' i tells.holds p' q (λ inside. omega (arith, inside.from_col, ap (λ k. k * w.cols) e))) r
 
-pub row_behind : (w : Window) (p : Region) (member : Point → Bool) (bits : List Bool) (colour : Colour) (opacity j i : ℕ) (start now : Pixels) → IsRegion w p → j < p.rows → i ≡ p.cols
+pub row_behind : (w : Window) (p : Region) (member : Point → Bool) (bits : List Bool) (colour : Colour) (opacity j : ℕ) (start now : Pixels) → IsRegion w p → j < p.rows
     → Tells w p member bits
-    → Changed (over_member member colour opacity) w ((p.row + j) * w.cols + (p.col + i)) start now
+    → Changed (over_member member colour opacity) w ((p.row + j) * w.cols + (p.col + p.cols)) start now
     → Changed (over_member member colour opacity) w ((p.row + (j + 1)) * w.cols) start now
-row_behind w p member bits colour opacity j i start now ok hj all tells r =
+row_behind w p member bits colour opacity j start now ok hj tells r =
     let row : p.row + j + 1 ≤ w.rows = omega (arith, ok.in_rows) in
-    changed_skip (over_member member colour opacity) w ((p.row + j) * w.cols + (p.col + i)) ((p.row + (j + 1)) * w.cols) start now (omega (arith, ok.in_cols, ok.some_col))
+    changed_skip (over_member member colour opacity) w ((p.row + j) * w.cols + (p.col + p.cols)) ((p.row + (j + 1)) * w.cols) start now (omega (arith, ok.in_cols, ok.some_col))
     (omega (arith, ok.in_cols))
     (omega (arith, mul-le-mul_right w.cols row))
     (λ j' i' p' q low high.
-    let e : j' ≡ p.row + j = same_row j' i' (p.row + j) w.cols (p.col + i) w.cols p' (omega arith) low (omega arith) in
+    let e : j' ≡ p.row + j = same_row j' i' (p.row + j) w.cols (p.col + p.cols) w.cols p' (omega arith) low (omega arith) in
     outside w p member colour opacity j' i' tells.holds p' q (λ inside. omega (arith, inside.to_col, ap (λ k. k * w.cols) e))) r
 
 -- the rows above the region, and those below it

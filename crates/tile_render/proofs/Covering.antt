@@ -1,6 +1,6 @@
 -- What a symbolizer covers on a feature, as a mask of the region near it.
 use Rattle.std.proofs.Common.{List, [], ◌∷◌, subst, arith, refl, ◌≡◌, ◌+◌, ◌*◌, ◌/◌, ◌<◌, ℕ, Bool, false, ◌||◌, ap, sym, ◌∙◌, length, get_or, replicate}
-use Rattle.std.specs.Prelude.{All}
+use Rattle.std.specs.Prelude.{All, Some}
 use Rattle.std.proofs.lemmas.Bool.{false_from_ne_true}
 use Rattle.std.proofs.lemmas.Nat.{row_fits}
 use Rattle.std.proofs.lemmas.List.{get_or-map}
@@ -11,6 +11,7 @@ use Rattle.plain_drawing.specs.declared.style.Symbolizer.TheVariants as paint
 use Rattle.plain_shapes.specs.declared.shapes.Geometry.{Geometry}
 use Rattle.plain_shapes.specs.declared.shapes.Geometry.TheVariants as shape
 use Rattle.plain_world.specs.World.{InWorld, centre, centres}
+use Rattle.raster_core.specs.inner.Crossings.{Crossings}
 use Rattle.geo_model.specs.declared.bounds.Bounds.{Bounds}
 use Rattle.geo_model.specs.Bounds.{InBounds}
 use Rattle.geo_model.specs.Shapes.{parts_of}
@@ -24,7 +25,9 @@ use Rattle.plain_shapes.proofs.Places.{length-centres, get_or-centres}
 use Rattle.plain_drawing.proofs.Steps.{at_centres-replicate}
 use Rattle.tile_render.specs.declared.regions.Region.{Region}
 use Rattle.tile_render.specs.inner.Regions.{IsRegion, InRegion, region_window, Holds, HoldsCovered, Tells}
-use Rattle.tile_render.specs.inner.Covers.{mask_where, IsCover}
+use Rattle.tile_render.specs.declared.covers.CoveredPixels.{CoveredPixels}
+use Rattle.tile_render.specs.declared.covers.CoveredPixels.TheVariants.{Masked, Runs}
+use Rattle.tile_render.specs.inner.Covers.{mask_where, Shows, IsCover}
 
 -- a fresh mask with the members marked
 pub mask_made : (w : Window) (member covered : Point → Bool) (fresh mask : Bits) → ((c : Point) → covered c ≡ member c)
@@ -51,16 +54,27 @@ region_told w p member bits holds is = record {
   holds = holds;
 }
 
--- the mask of a region that has all that is covered
-pub cover_made : (w : Window) (f : Feature) (s : Symbolizer) (r : Region) (near : Window) (mask : Bits) → IsRegion w r → HoldsCovered w r f s → near ≡ region_window w r
-    → mask ≡ mask_where near (λ c. covers near.pixel f.geometry c s) → IsCover w f s (record { region = r; mask = mask })
-cover_made w f s r near mask region holds near_is mask_is =
-    let is : mask ≡ mask_where (region_window w r) (λ c. covers w.pixel f.geometry c s) = mask_is ∙ ap (λ (v : Window). mask_where v (λ c. covers v.pixel f.geometry c s)) near_is in
-    record {
+-- crossings that tell members tell what is covered, where that is the same
+pub crossings_covered : (w : Window) (member covered : Point → Bool) (places : List ℕ) → ((c : Point) → covered c ≡ member c) → Crossings w member places
+    → Crossings w covered places
+crossings_covered w member covered places same is = subst (λ m. Crossings w m places) (λ i c. sym (same c) i) is
+
+-- the cover of a region that has all that is covered
+pub cover_made : (w : Window) (f : Feature) (s : Symbolizer) (r : Region) (near : Window) (pixels : CoveredPixels) → IsRegion w r → HoldsCovered w r f s
+    → near ≡ region_window w r → Shows near f.geometry s (Some pixels) → IsCover w f s (record { region = r; pixels = pixels })
+cover_made w f s r near pixels region holds near_is shows =
+    made pixels (subst (λ (v : Window). Shows v f.geometry s (Some pixels)) near_is shows)
+  where
+    made : (pixels : CoveredPixels) → Shows (region_window w r) f.geometry s (Some pixels) → IsCover w f s (record { region = r; pixels = pixels })
+    made (Masked mask) is = record {
       region = region;
-      mask_cols = ap (λ m. m.cols) is;
-      mask_rows = ap (λ m. m.rows) is;
-      tells = region_told w r (λ c. covers w.pixel f.geometry c s) mask.bits holds (ap (λ m. m.bits) is);
+      fits = record { cols = ap (λ m. m.cols) is; rows = ap (λ m. m.rows) is };
+      says = region_told w r (λ c. covers w.pixel f.geometry c s) mask.bits holds (ap (λ m. m.bits) is);
+    }
+    made (Runs places) is = record {
+      region = region;
+      fits = record { inside = is.inside; order = is.order };
+      says = record { crossings = is; holds = holds };
     }
 
 same_beside : (w : Window) (s : Symbolizer) (c : Point) (b : Bounds) (across down : ℕ) → across ≡ spread_across w.pixel s → down ≡ spread_down w.pixel s

@@ -4,5 +4,6 @@ pub mod Covering
 pub mod Metas
 pub mod Painted
 pub mod Pixels
+pub mod Runs
 pub mod Skipping
 pub mod Steps

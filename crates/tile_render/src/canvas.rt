@@ -1,7 +1,7 @@
 //! A window and its picture.
-use crate::covers::Covered;
+use crate::covers::{Covered, CoveredPixels};
 use crate::grids::blend_grid;
-use crate::painting::paint_mask;
+use crate::painting::{paint_mask, paint_runs};
 use crate::symbolizers::Paint;
 use farm_base::NoMemory;
 use plain_drawing::Grid;
@@ -36,7 +36,8 @@ impl Canvas {
     ghost use Rattle.plain_drawing.specs.declared.style.Symbolizer.TheVariants as paint;
     ghost use Rattle.plain_drawing.specs.Drawing.{raster_over};
     ghost use Rattle.tile_render.specs.inner.Canvases.{IsCanvas};
-    ghost use Rattle.tile_render.specs.inner.Regions.{IsRegion, Tells, over_member};
+    ghost use Rattle.tile_render.specs.inner.Covers.{Fits, Says};
+    ghost use Rattle.tile_render.specs.inner.Regions.{IsRegion, over_member};
 
     /// A canvas that is all of one colour.
     pub(crate) fn new(alloc: Global, window: Window, colour: Colour) -> Result<Canvas, NoMemory>
@@ -66,14 +67,21 @@ impl Canvas {
     /// Paints the pixels that are covered. All others stay.
     pub(crate) fn paint(&mut self, covered: &Covered, paint: Paint)
         requires region { IsRegion self.old.window covered.now.region }
-        requires mask_cols { covered.now.mask.cols ≡ covered.now.region.cols }
-        requires mask_rows { covered.now.mask.rows ≡ covered.now.region.rows }
+        requires fits { Fits self.old.window covered.now.region covered.now.pixels }
         requires opacity { paint.opacity ≤ 1000 }
-        ensures painted { (member : Point → Bool) → Tells self.old.window covered.now.region member covered.now.mask.bits
+        ensures painted { (member : Point → Bool) → Says self.old.window covered.now.region member covered.now.pixels
             → self.new.image ≡ stepped self.old.window (over_member member paint.colour paint.opacity) self.old.image }
         ensures window { self.new.window ≡ self.old.window }
     {
-        paint_mask(self.window, covered, paint, &mut self.image);
+        let region = covered.region;
+        match &covered.pixels {
+            CoveredPixels::Masked(mask) => {
+                paint_mask(self.window, region, mask, paint, &mut self.image)
+            }
+            CoveredPixels::Runs(places) => {
+                paint_runs(self.window, region, places, paint, &mut self.image)
+            }
+        }
     }
 
     /// Paints the grid over all pixels whose centres it holds.

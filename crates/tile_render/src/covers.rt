@@ -8,7 +8,7 @@ ghost use Rattle.plain_shapes.specs.Strokes.{half_of};
 ghost use Rattle.plain_drawing.specs.declared.style.Symbolizer.TheVariants as paint;
 ghost use Rattle.plain_drawing.specs.Styles.{is_paint};
 ghost use Rattle.tile_render.specs.inner.Regions.{IsRegion, HoldsCovered};
-ghost use Rattle.tile_render.specs.inner.Covers.{Masks, Covers};
+ghost use Rattle.tile_render.specs.inner.Covers.{Shows, Covers};
 
 use crate::regions::{Region, region_near, region_window};
 use farm_base::NoMemory;
@@ -18,15 +18,23 @@ use plain_drawing::Symbolizer;
 use plain_image::Mask;
 use plain_shapes::{Geometry, LineCap};
 use plain_world::Window;
-use raster_core::fill_mask;
+use raster_core::crossings;
 use std::alloc::Global;
 use stroke_core::{stroke_lines, stroke_rings};
 
-/// Which pixels of a window are covered: those of a region that its mask says, and no other.
+/// Which pixels of a window are covered: some of a region, and no other.
 #[derive(Drop)]
 pub(crate) struct Covered {
     pub region: Region,
-    pub mask: Mask,
+    pub pixels: CoveredPixels,
+}
+
+/// Covered pixels: those that a mask says, or those in runs between the places where a polygon's edges are
+/// crossed, in order.
+#[derive(Drop)]
+pub(crate) enum CoveredPixels {
+    Masked(Mask),
+    Runs(Vec<u32>),
 }
 
 /// Half of a width of so many hundredths of a pixel, in world units, rounded down.
@@ -64,33 +72,32 @@ fn spread(symbolizer: Symbolizer, pixel: u32) -> (u64, u64)
     }
 }
 
-/// The mask of a polygon that is filled; other shapes are not.
-fn fill(alloc: Global, w: Window, feature: &Feature) -> Result<Option<Mask>, NoMemory>
+/// The pixels of a polygon that is filled; other shapes are not.
+fn fill(alloc: Global, w: Window, feature: &Feature) -> Result<Option<CoveredPixels>, NoMemory>
     requires { IsWindow w }
-    ensures { (colour : Colour) (opacity : ℕ) → IfOk result (λ found. Masks w feature.now.geometry (paint.Polygon colour opacity) found) }
+    ensures { (colour : Colour) (opacity : ℕ) → IfOk result (λ found. Shows w feature.now.geometry (paint.Polygon colour opacity) found) }
 {
     match feature.geometry() {
         Geometry::Points(_) => Ok(None),
         Geometry::Lines(_) => Ok(None),
         Geometry::Polygon(rings) => {
-            let mut mask = Mask::new(alloc, w.cols, w.rows)?;
-            fill_mask(alloc, rings.as_slice(), w, &mut mask)?;
-            Ok(Some(mask))
+            let places = crossings(alloc, rings.as_slice(), w)?;
+            Ok(Some(CoveredPixels::Runs(places)))
         }
     }
 }
 
-/// The mask of lines that are stroked, or of the outlines of a polygon's rings; points have no strokes.
+/// The pixels of lines that are stroked, or of the outlines of a polygon's rings; points have no strokes.
 fn stroke(
     alloc: Global,
     w: Window,
     feature: &Feature,
     width: u64,
     cap: LineCap,
-) -> Result<Option<Mask>, NoMemory>
+) -> Result<Option<CoveredPixels>, NoMemory>
     requires window { IsWindow w }
     requires width { width ≤ 100 * most_width }
-    ensures { (colour : Colour) (opacity : ℕ) → IfOk result (λ found. Masks w feature.now.geometry (paint.Line colour width opacity cap) found) }
+    ensures { (colour : Colour) (opacity : ℕ) → IfOk result (λ found. Shows w feature.now.geometry (paint.Line colour width opacity cap) found) }
 {
     let half = half_of(width, w.pixel);
     match feature.geometry() {
@@ -98,28 +105,28 @@ fn stroke(
         Geometry::Lines(lines) => {
             let mut mask = Mask::new(alloc, w.cols, w.rows)?;
             stroke_lines(alloc, lines.as_slice(), half, cap, w, &mut mask)?;
-            Ok(Some(mask))
+            Ok(Some(CoveredPixels::Masked(mask)))
         }
         Geometry::Polygon(rings) => {
             let mut mask = Mask::new(alloc, w.cols, w.rows)?;
             stroke_rings(rings.as_slice(), half, w, &mut mask)?;
-            Ok(Some(mask))
+            Ok(Some(CoveredPixels::Masked(mask)))
         }
     }
 }
 
-/// The mask of an ellipse at each point of a shape that is points; other shapes have no marks.
+/// The pixels of an ellipse at each point of a shape that is points; other shapes have no marks.
 fn mark(
     alloc: Global,
     w: Window,
     feature: &Feature,
     width: u64,
     height: u64,
-) -> Result<Option<Mask>, NoMemory>
+) -> Result<Option<CoveredPixels>, NoMemory>
     requires window { IsWindow w }
     requires width { width ≤ 100 * most_width }
     requires height { height ≤ 100 * most_width }
-    ensures { (colour : Colour) (opacity : ℕ) → IfOk result (λ found. Masks w feature.now.geometry (paint.Markers colour width height opacity) found) }
+    ensures { (colour : Colour) (opacity : ℕ) → IfOk result (λ found. Shows w feature.now.geometry (paint.Markers colour width height opacity) found) }
 {
     match feature.geometry() {
         Geometry::Points(points) => {
@@ -127,24 +134,24 @@ fn mark(
             let a = half_of(width, w.pixel);
             let b = half_of(height, w.pixel);
             mark_points(points, a, b, w, &mut mask);
-            Ok(Some(mask))
+            Ok(Some(CoveredPixels::Masked(mask)))
         }
         Geometry::Lines(_) => Ok(None),
         Geometry::Polygon(_) => Ok(None),
     }
 }
 
-/// The mask of the window's pixels whose centres the symbolizer covers on the feature; none where it covers
+/// Those of the window's pixels whose centres the symbolizer covers on the feature; none where it covers
 /// no shape of that kind.
-fn mask_of(
+fn covered_on(
     alloc: Global,
     w: Window,
     feature: &Feature,
     symbolizer: Symbolizer,
-) -> Result<Option<Mask>, NoMemory>
+) -> Result<Option<CoveredPixels>, NoMemory>
     requires window { IsWindow w }
     requires paint { IsTrue (is_paint symbolizer) }
-    ensures { IfOk result (λ found. Masks w feature.now.geometry symbolizer found) }
+    ensures { IfOk result (λ found. Shows w feature.now.geometry symbolizer found) }
 {
     match symbolizer {
         Symbolizer::Polygon { .. } => fill(alloc, w, feature),
@@ -172,8 +179,8 @@ fn cover_region(
     requires holds { HoldsCovered w region feature.now symbolizer }
     ensures { IfOk result (λ found. Covers w feature.now symbolizer found) }
 {
-    match mask_of(alloc, region_window(w, region), feature, symbolizer)? {
-        Some(mask) => Ok(Some(Covered { region, mask })),
+    match covered_on(alloc, region_window(w, region), feature, symbolizer)? {
+        Some(pixels) => Ok(Some(Covered { region, pixels })),
         None => Ok(None),
     }
 }

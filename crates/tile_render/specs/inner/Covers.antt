@@ -1,5 +1,6 @@
 -- What a symbolizer covers of a window.
-use Rattle.std.specs.Prelude.{◌≡◌, ℕ, ◌*◌, ◌<◌, Bool, false, replicate, Option, Some, None}
+use Rattle.std.specs.Prelude.{◌≡◌, ℕ, ◌*◌, ◌<◌, Bool, false, List, replicate, Option, Some, None}
+use Rattle.std.specs.List.Sorted.{IsNonDecreasing}
 use Rattle.plain_world.specs.declared.world.Point.{Point}
 use Rattle.plain_world.specs.declared.world.Window.{Window}
 use Rattle.plain_world.specs.World.{centre, centres}
@@ -9,24 +10,54 @@ use Rattle.plain_shapes.specs.Images.{Bits}
 use Rattle.plain_shapes.specs.inner.Canvas.{marked}
 use Rattle.plain_drawing.specs.declared.style.Symbolizer.{Symbolizer}
 use Rattle.plain_drawing.specs.Drawing.{covers}
+use Rattle.raster_core.specs.inner.Toggles.{AllInside}
+use Rattle.raster_core.specs.inner.Crossings.{Crossings}
+use Rattle.tile_render.specs.declared.regions.Region.{Region}
 use Rattle.tile_render.specs.declared.covers.Covered.{Covered}
-use Rattle.tile_render.specs.inner.Regions.{IsRegion, Tells}
+use Rattle.tile_render.specs.declared.covers.CoveredPixels.{CoveredPixels}
+use Rattle.tile_render.specs.declared.covers.CoveredPixels.TheVariants.{Masked, Runs}
+use Rattle.tile_render.specs.inner.Regions.{IsRegion, region_window, Holds, Tells}
 
 -- the mask of a window's pixels whose centres are members
 abbrev pub mask_where : Window → (Point → Bool) → Bits
 mask_where w member = record { cols = w.cols; rows = w.rows; bits = marked member (centres w) (replicate (w.rows * w.cols) false) }
 
--- the mask has the pixels whose centres the symbolizer covers on the shape; there is none where it covers no such shape
-abbrev pub Masks : Window → Geometry → Symbolizer → Option Bits → Type 0
-Masks w g s None = (c : Point) → covers w.pixel g c s ≡ false
-Masks w g s (Some mask) = mask ≡ mask_where w (λ c. covers w.pixel g c s)
+-- the pixels are those whose centres the symbolizer covers on the shape; there are none where it covers no such shape
+abbrev pub Shows : Window → Geometry → Symbolizer → Option CoveredPixels → Type 0
+Shows w g s None = (c : Point) → covers w.pixel g c s ≡ false
+Shows w g s (Some (Masked mask)) = mask ≡ mask_where w (λ c. covers w.pixel g c s)
+Shows w g s (Some (Runs places)) = Crossings w (λ c. covers w.pixel g c s) places.items
+
+-- the mask has the region's sides
+pub record MaskFits (r : Region) (mask : Bits) : Type 0 where
+  pub cols : mask.cols ≡ r.cols
+  pub rows : mask.rows ≡ r.rows
+
+-- the crossings lie in the region, in order
+pub record RunsFit (w : Window) (r : Region) (places : List ℕ) : Type 0 where
+  pub inside : AllInside (region_window w r) places
+  pub order : IsNonDecreasing places
+
+-- what is covered lies in the region
+abbrev pub Fits : Window → Region → CoveredPixels → Type 0
+Fits w r (Masked mask) = MaskFits r mask
+Fits w r (Runs places) = RunsFit w r places.items
+
+-- the runs between the crossings have the region's pixels with a member as their centre, and no other pixel of the window has one
+pub record Between (w : Window) (r : Region) (member : Point → Bool) (places : List ℕ) : Type 0 where
+  pub crossings : Crossings (region_window w r) member places
+  pub holds : Holds w r member
+
+-- what is covered are the window's pixels with a member as their centre
+abbrev pub Says : Window → Region → (Point → Bool) → CoveredPixels → Type 0
+Says w r member (Masked mask) = Tells w r member mask.bits
+Says w r member (Runs places) = Between w r member places.items
 
 -- the cover has the pixels of the window whose centres the symbolizer covers on the feature
 pub record IsCover (w : Window) (f : Feature) (s : Symbolizer) (cover : Covered) : Type 0 where
   pub region : IsRegion w cover.region
-  pub mask_cols : cover.mask.cols ≡ cover.region.cols
-  pub mask_rows : cover.mask.rows ≡ cover.region.rows
-  pub tells : Tells w cover.region (λ c. covers w.pixel f.geometry c s) cover.mask.bits
+  pub fits : Fits w cover.region cover.pixels
+  pub says : Says w cover.region (λ c. covers w.pixel f.geometry c s) cover.pixels
 
 -- there is none where no pixel is covered
 abbrev pub Covers : Window → Feature → Symbolizer → Option Covered → Type 0

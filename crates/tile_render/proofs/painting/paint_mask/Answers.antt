@@ -4,7 +4,7 @@ use Rattle.tile_render.proofs.painting.paint_mask.Goals as goal
 
 pub loop-j-init : goal.loop-j-init
 loop-j-init c = record {
-  painted = λ member tells. rows_above c.args.w c.args.covered.now.region member c.args.covered.now.mask.bits c.args.paint.colour c.args.paint.opacity c.args.image.now c.requires.region tells;
+  painted = λ member tells. rows_above c.args.w c.args.region member c.args.mask.now.bits c.args.paint.colour c.args.paint.opacity c.args.image.now c.requires.region tells;
   cols = c.requires.cols;
   rows = c.requires.rows;
 }
@@ -18,5 +18,5 @@ loop-j-preserved c = record {
 
 pub returns-clause-painted : goal.returns-clause-painted
 returns-clause-painted c member tells =
-    rows_below c.args.w c.args.covered.now.region member c.args.covered.now.mask.bits c.args.paint.colour c.args.paint.opacity c.loop-j.j c.args.image.now c.loop-j.image c.requires.region
+    rows_below c.args.w c.args.region member c.args.mask.now.bits c.args.paint.colour c.args.paint.opacity c.loop-j.j c.args.image.now c.loop-j.image c.requires.region
     (omega (arith, c.loop-j-test.false, c.loop-j.auto.j-end)) tells (c.loop-j.invariant.painted member tells)

@@ -5,8 +5,8 @@ use Rattle.tile_render.proofs.painting.paint_mask.Given as goal
 
 abbrev pub invariant-loop-j : goal.invariant-loop-j
 invariant-loop-j l = record {
-  painted : (member : Point → Bool) → Tells l.fn.w l.fn.covered.region member l.fn.covered.mask.bits
-      → Changed (over_member member l.fn.paint.colour l.fn.paint.opacity) l.fn.w ((l.fn.covered.region.row + l.j) * l.fn.w.cols) l.fn.image l.image;
+  painted : (member : Point → Bool) → Tells l.fn.w l.fn.region member l.fn.mask.bits
+      → Changed (over_member member l.fn.paint.colour l.fn.paint.opacity) l.fn.w ((l.fn.region.row + l.j) * l.fn.w.cols) l.fn.image l.image;
   cols : l.image.cols ≡ l.fn.w.cols;
   rows : l.image.rows ≡ l.fn.w.rows;
 }

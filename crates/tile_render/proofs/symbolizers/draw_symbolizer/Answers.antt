@@ -16,7 +16,7 @@ returns-in-Some-clause-drawn c =
     let is : IsCover w f s c.in-Some.covered = subst (λ (v : Window). IsCover v f s c.in-Some.covered) c.window.ensures.value found in
     rw c.in-Feature.is
     (painted_cover w f s c.paint_of.result.colour c.paint_of.result.opacity c.args.canvas.now.image c.paint.new.self.image c.paint_of.ensures.value
-    (c.paint.ensures.painted (λ p. covers w.pixel f.geometry p s) is.tells))
+    (c.paint.ensures.painted (λ p. covers w.pixel f.geometry p s) is.says))
 
 pub returns-in-None-clause-drawn : goal.returns-in-None-clause-drawn
 returns-in-None-clause-drawn c =
