@@ -1,9 +1,18 @@
 -- Where the first one that passes stands in a list that is cut into parts.
-use Rattle.std.proofs.Common.{◌≡◌, ℕ, suc, ◌+◌, List, [], ◌∷◌, ◌++◌, length, drop, refl, sym, ap, ◌∙◌, arith}
-use Rattle.std.specs.Prelude.{Bool, true, false, not, cond, nat_lt, position, All, Option, Some, None, option_map}
+use Rattle.std.proofs.Common.{◌≡◌, ℕ, suc, ◌+◌, ◌<◌, List, [], ◌∷◌, ◌++◌, length, drop, get_or, refl, sym, ap, ◌∙◌, inl, inr, arith}
+use Rattle.std.specs.Prelude.{Bool, true, false, not, cond, nat_eq, nat_lt, position, All, Option, Some, None, option_map, Result, Ok, Err, is_err}
+use Rattle.std.specs.Ordering.{nat_cmp}
+use Rattle.std.specs.List.Sorted.{IsBinarySearchResult, IsNonDecreasingBy}
 use Rattle.std.specs.List.{AllByRecursion, position_or_len}
 use Rattle.std.proofs.lemmas.Bool.Decides.{nat_tests}
 use Rattle.std.proofs.lemmas.List.Elements.{All-drop, recursion_from_All}
+use Rattle.std.proofs.lemmas.Bool.{cases_lt}
+use Rattle.std.proofs.lemmas.List.{get_or_default}
+use Rattle.std.proofs.lemmas.List.Sorted.{searched, All-permutation, IsPermutation-sym, IsNonDecreasingBy-from_sort}
+use Rattle.plain_data.specs.Features.{Feature}
+use Rattle.plain_data.specs.Data.{ids_of}
+use Rattle.data_versions.specs.Near.{place_of}
+use Rattle.data_versions.specs.inner.Chunks.{IsIndex}
 
 first_cases : (b : Bool) (n m : ℕ) → cond (nat_lt (cond (not b) (1 + n) 0) (suc m)) (Some (cond (not b) (1 + n) 0)) None
     ≡ cond b (Some 0) (option_map (λ k. k + 1) (cond (nat_lt n m) (Some n) None))
@@ -46,3 +55,33 @@ none_passes p (x ∷ xs) each = position-cons p x xs ∙ rw (each.0, none_passes
 -- where none passes, none does from a place on
 pub none_found : {X : Type 0} (p : X → Bool) (xs : List X) (n : ℕ) → All (λ x. p x ≡ false) xs → position p (drop n xs) ≡ None
 none_found p xs n each = none_passes p (drop n xs) (recursion_from_All (λ x. p x ≡ false) (drop n xs) (All-drop (λ x. p x ≡ false) n xs each))
+
+-- ---- the place of an id
+
+-- where no feature has the id, it has no place
+pub no_place : (features : List Feature) (id : ℕ) → AllByRecursion (λ q. nat_eq id q ≡ false) (ids_of features) → place_of features id ≡ None
+no_place [] id each = refl
+no_place (f ∷ features) id each = position-cons (λ g. nat_eq g.id id) f features ∙ rw (flip f.id id, each.0, no_place features id each.1) refl
+  where
+    flip : (a b : ℕ) → nat_eq a b ≡ nat_eq b a
+    flip a b = grind (arith, nat_tests)
+
+-- an id that a search by halving misses has no place
+pub missed : (ids : List ℕ) (features : List Feature) (id : ℕ) (r : Result ℕ ℕ) → IsIndex ids features → IsBinarySearchResult (λ q. nat_cmp q id) ids r → is_err r ≡ true
+    → place_of features id ≡ None
+missed ids features id (Ok i) index result e = cc
+missed ids features id (Err i) index result e =
+    let up : IsNonDecreasingBy (λ q. q) ids = IsNonDecreasingBy-from_sort (λ q. q) ids index.sorted in
+    let parts = searched ids id (Err i) result (λ j k before small. up j k 0 before small) in
+    let other : All (λ q. nat_eq id q ≡ false) ids = λ k d small. elim (cases_lt k i) [
+      | inl low ↦ below id (get_or ids k d) (rw (get_or_default ids k d 0 small) (parts.1 k low))
+      | inr high ↦ above id (get_or ids k d) (rw (get_or_default ids k d 0 small) (parts.2 k high small))
+    ] in
+    no_place features id (recursion_from_All (λ q. nat_eq id q ≡ false) (ids_of features)
+    (All-permutation (λ q. nat_eq id q ≡ false) ids (ids_of features) (IsPermutation-sym (ids_of features) ids index.all) other))
+  where
+    below : (a b : ℕ) → b < a → nat_eq a b ≡ false
+    below a b h = grind (arith, nat_tests)
+
+    above : (a b : ℕ) → a < b → nat_eq a b ≡ false
+    above a b h = grind (arith, nat_tests)

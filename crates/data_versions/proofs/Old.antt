@@ -1,8 +1,10 @@
 -- Slots that have the features from the start.
-use Rattle.std.proofs.Common.{◌≡◌, ℕ, zero, suc, ◌+◌, ◌-◌, ◌<◌, ◌≤◌, List, [], ◌∷◌, ◌++◌, length, get_or, set, take, drop, refl, sym, ◌∙◌, ap, subst, append_assoc, length-append, length-drop, arith}
+use Rattle.std.proofs.Common.{◌≡◌, ℕ, zero, suc, ◌+◌, ◌-◌, ◌<◌, ◌≤◌, List, [], ◌∷◌, ◌++◌, length, get_or, set, take, drop, refl, sym, ◌∙◌, ap, subst, inr, append_assoc, length-append, length-drop, arith}
 use Rattle.std.specs.Prelude.{Bool, true, false, ◌&&◌, cond, nat_eq, map, Option, Some, None}
 use Rattle.std.specs.Ordering.{nat_cmp}
-use Rattle.std.specs.BTreeMap.{BTreeMap, Updates}
+use Rattle.std.specs.BTreeMap.{BTreeMap, Updates, is_at, IsEmpty}
+use Rattle.std.specs.Map.{lookup}
+use Rattle.std.proofs.lemmas.Bool.{eq-eqb, eqb-true}
 use Rattle.std.specs.List.{AllByRecursion, IsDistinct, list_all}
 use Rattle.std.proofs.lemmas.Map.Keys.{IsDistinct-head, IsDistinct-tail}
 use Rattle.std.proofs.lemmas.Bool.Decides.{nat_tests}
@@ -13,11 +15,13 @@ use Rattle.std.specs.Arc.{arc_value}
 use Rattle.plain_data.specs.Features.{Feature}
 use Rattle.plain_data.specs.Data.{has_id, ids_of}
 use Rattle.data_versions.specs.declared.slot.Slot.{Slot}
-use Rattle.data_versions.specs.inner.Slots.{standing_in, standing, is_old, old_in, IsOldAs, HasOld, KnowsPlaces}
+use Rattle.data_versions.specs.inner.Slots.{standing_in, standing, slot_id, is_old, old_in, IsOldAs, HasOld, KnowsPlaces}
 use Rattle.data_versions.specs.inner.Chunks.{joined}
 use Rattle.data_versions.proofs.Places.{Chunks, ChunkShare, joined_more}
 use Rattle.std.specs.Option.{option_to_list}
-use Rattle.data_versions.proofs.Slots.{knows_room, knows_added, unheld, standing_more}
+use Rattle.data_versions.proofs.Slots.{knows_room, knows_added, unheld, standing_more, none_some, some_same}
+use Rattle.data_versions.specs.Near.{place_of}
+use Rattle.data_versions.proofs.Finds.{position-cons, no_place}
 
 -- ---- slots that all have their features
 
@@ -166,19 +170,51 @@ new_id (Some f ∷ slots) (suc i) s at distinct =
     rw apart (new_id slots i s at (IsDistinct-tail nat_eq f.feature.now.id (ids_of (standing slots)) distinct))
 
 pub places_more : (places after : BTreeMap ℕ ℕ) (slots : List (Option Slot)) (i : ℕ) (s : Slot) → i < length slots → get_or slots i None ≡ Some s
-    → IsDistinct nat_eq (ids_of (standing slots)) → KnowsPlaces places (take i slots) → Updates nat_cmp places after s.feature.now.id (Some i)
-    → KnowsPlaces after (take (i + 1) slots)
+    → IsDistinct nat_eq (ids_of (standing slots)) → KnowsPlaces true places [] (take i slots) → Updates nat_cmp places after s.feature.now.id (Some i)
+    → KnowsPlaces true after [] (take (i + 1) slots)
 places_more places after slots i s small at distinct knows updates =
     let long : length (take i slots) ≡ i = length-take-le i slots (omega arith) in
     let next : take (i + 1) slots ≡ take i slots ++ Some s ∷ [] = take_more slots i None small ∙ ap (λ (o : Option Slot). take i slots ++ o ∷ []) at in
-    rw next (knows_added places after (take i slots) s knows (unheld places (take i slots) s.feature.now.id knows (new_id slots i s at distinct))
+    rw next (knows_added true places after [] (take i slots) s knows (unheld (take i slots) s.feature.now.id (new_id slots i s at distinct))
     (subst (λ (n : ℕ). Updates nat_cmp places after s.feature.now.id (Some n)) (sym long) updates))
 
 pub places_same : (places : BTreeMap ℕ ℕ) (slots : List (Option Slot)) (i : ℕ) → i < length slots → get_or slots i None ≡ None
-    → KnowsPlaces places (take i slots) → KnowsPlaces places (take (i + 1) slots)
+    → KnowsPlaces true places [] (take i slots) → KnowsPlaces true places [] (take (i + 1) slots)
 places_same places slots i small at knows =
     let next : take (i + 1) slots ≡ take i slots ++ None ∷ [] = take_more slots i None small ∙ ap (λ (o : Option Slot). take i slots ++ o ∷ []) at in
-    rw next (knows_room places (take i slots) knows)
+    rw next (knows_room true places [] (take i slots) knows)
+
+-- ---- the places of the features from the start
+
+first_is : (b : Bool) (f : Feature) (features : List Feature) (id k : ℕ) → nat_eq f.id id ≡ b → AllByRecursion (λ q. nat_eq f.id q ≡ false) (ids_of features)
+    → place_of features id ≡ Some k → place_of (f ∷ features) id ≡ Some (suc k)
+first_is true f features id k same new later =
+    let none : place_of features id ≡ None = no_place features id (subst (λ (x : ℕ). AllByRecursion (λ q. nat_eq x q ≡ false) (ids_of features)) (eqb-true f.id id same) new) in cc
+first_is false f features id k other new later =
+    position-cons (λ g. nat_eq g.id id) f features ∙ rw (other, later) (ap Some (omega arith))
+
+-- where all stand, each one's place is that of its id
+pub first_places : (slots : List (Option Slot)) (features : List Feature) → map old_in slots ≡ map Some features → IsDistinct nat_eq (ids_of features)
+    → (id k : ℕ) → slot_id (get_or slots k None) ≡ Some id → place_of features id ≡ Some k
+first_places [] features e distinct id k here = cc
+first_places (s ∷ slots) [] e distinct id k here = cc
+first_places (None ∷ slots) (f ∷ features) e distinct id k here = none_is f (head_is (old_in None) (Some f) (map old_in slots) (map Some features) e)
+first_places (Some s ∷ slots) (f ∷ features) e distinct id zero here =
+    let old = old_some s.is_old s.feature.now f (head_is (old_in (Some s)) (Some f) (map old_in slots) (map Some features) e) in
+    let same : f.id ≡ id = ap (λ (g : Feature). g.id) (sym old.1) ∙ some_same s.feature.now.id id here in
+    position-cons (λ g. nat_eq g.id id) f features ∙ rw (eq-eqb f.id id same) refl
+first_places (Some s ∷ slots) (f ∷ features) e distinct id (suc k) here =
+    first_is (nat_eq f.id id) f features id k refl (IsDistinct-head nat_eq f.id (ids_of features) distinct)
+    (first_places slots features (tail_is (old_in (Some s)) (Some f) (map old_in slots) (map Some features) e) (IsDistinct-tail nat_eq f.id (ids_of features) distinct) id k here)
+
+pub knows_first : (places : BTreeMap ℕ ℕ) (slots : List (Option Slot)) (features : List Feature) → IsEmpty places → map old_in slots ≡ map Some features
+    → IsDistinct nat_eq (ids_of features) → KnowsPlaces false places features slots
+knows_first places slots features empty e distinct =
+    let at : (id k : ℕ) → slot_id (get_or slots k None) ≡ Some id → place_of features id ≡ Some k = first_places slots features e distinct in record {
+      found = λ q j there. none_some (ap (λ es. lookup (is_at (nat_cmp q)) es) empty) there;
+      held = λ q j there. inr (refl, at q j there);
+      one = λ q i j a b. some_same i j (sym (at q i a) ∙ at q j b);
+    }
 
 -- a slot more is copied
 pub copies_more : (builder after start : List Feature) (slots : List (Option Slot)) (i : ℕ) (s : Option Slot) → i < length slots → s ≡ get_or slots i s

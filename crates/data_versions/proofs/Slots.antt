@@ -1,6 +1,6 @@
 -- What a removal and a put do to the slots of a layer, and to the places of its ids.
 use Rattle.std.proofs.Common.{◌≡◌, ℕ, zero, suc, ◌+◌, ◌<◌, List, [], ◌∷◌, ◌++◌, length, get_or, set, take, add-one, refl, sym, ◌∙◌, ap, subst, inl, inr, append-nil, length-append, arith}
-use Rattle.std.specs.Prelude.{Bool, true, false, ◌||◌, nat_eq, Option, Some, None}
+use Rattle.std.specs.Prelude.{◌⊎◌, Bool, true, false, ◌||◌, nat_eq, Option, Some, None}
 use Rattle.std.specs.Ordering.{nat_cmp}
 use Rattle.std.specs.BTreeMap.{BTreeMap, get, Updates, is_at, IsEmpty}
 use Rattle.std.specs.Map.{lookup}
@@ -13,7 +13,7 @@ use Rattle.std.proofs.lemmas.List.Elements.{filter_map-append}
 use Rattle.data_versions.specs.declared.slot.Slot.{Slot}
 use Rattle.plain_data.specs.Features.{Feature}
 use Rattle.plain_data.specs.Data.{has_id, ids_of}
-use Rattle.data_versions.specs.inner.Slots.{standing_in, standing, slot_id, KnowsPlaces, without, replaced_by, with_put}
+use Rattle.data_versions.specs.inner.Slots.{standing_in, standing, slot_id, KnowsPlaces, StandsNowhere, without, replaced_by, with_put}
 
 no_left : (a b : Bool) → (a || b) ≡ false → a ≡ false
 no_left true b h = h
@@ -30,10 +30,10 @@ or_true false b h = h
 apart : (a b : ℕ) → (a ≡ b → ⊥) → nat_eq a b ≡ false
 apart a b h = grind (arith, nat_tests)
 
-none_some : {A : Type 0} {x : Option ℕ} {k : ℕ} → x ≡ None → x ≡ Some k → A
+pub none_some : {A : Type 0} {x : Option ℕ} {k : ℕ} → x ≡ None → x ≡ Some k → A
 none_some h g = cc
 
-some_same : (a b : ℕ) → Some a ≡ Some b → a ≡ b
+pub some_same : (a b : ℕ) → Some a ≡ Some b → a ≡ b
 some_same a b h = cc
 
 -- ---- where no slot has the id
@@ -54,7 +54,7 @@ none_replaced (Some f ∷ slots) g none =
     let other : nat_eq g.id f.feature.now.id ≡ false = apart g.id f.feature.now.id (λ e. none 0 (ap Some (sym e))) in
     rw other (ap (λ fs. f.feature.now ∷ fs) (none_replaced slots g (λ j. none (suc j))))
 
-none_has : (slots : List (Option Slot)) (id : ℕ) → ((j : ℕ) → slot_id (get_or slots j None) ≡ Some id → ⊥)
+pub none_has : (slots : List (Option Slot)) (id : ℕ) → ((j : ℕ) → slot_id (get_or slots j None) ≡ Some id → ⊥)
     → has_id (ids_of (standing slots)) id ≡ false
 none_has [] id none = refl
 none_has (None ∷ slots) id none = none_has slots id (λ j. none (suc j))
@@ -70,7 +70,7 @@ no_suc k h = absurd (omega arith)
 one_less : (j k : ℕ) → suc j ≡ suc k → j ≡ k
 one_less j k h = omega arith
 
-one_has : (slots : List (Option Slot)) (id k : ℕ) → slot_id (get_or slots k None) ≡ Some id → has_id (ids_of (standing slots)) id ≡ true
+pub one_has : (slots : List (Option Slot)) (id k : ℕ) → slot_id (get_or slots k None) ≡ Some id → has_id (ids_of (standing slots)) id ≡ true
 one_has [] id k here = cc
 one_has (None ∷ slots) id zero here = cc
 one_has (None ∷ slots) id (suc k) here = one_has slots id k here
@@ -105,7 +105,7 @@ standing_replaced (Some f ∷ slots) g (suc k) here only =
 
 -- ---- how many stand
 
-fewer_standing : (slots : List (Option Slot)) (id k : ℕ) → slot_id (get_or slots k None) ≡ Some id
+pub fewer_standing : (slots : List (Option Slot)) (id k : ℕ) → slot_id (get_or slots k None) ≡ Some id
     → length (standing (set slots k None)) + 1 ≡ length (standing slots)
 fewer_standing [] id k here = cc
 fewer_standing (None ∷ slots) id zero here = cc
@@ -118,7 +118,7 @@ same_standing g features = simp length-map
 
 -- ---- the places, after each step
 
-in_slots : (slots : List (Option Slot)) (k id : ℕ) → slot_id (get_or slots k None) ≡ Some id → k < length slots
+pub in_slots : (slots : List (Option Slot)) (k id : ℕ) → slot_id (get_or slots k None) ≡ Some id → k < length slots
 in_slots [] k id here = cc
 in_slots (s ∷ slots) zero id here = omega arith
 in_slots (s ∷ slots) (suc k) id here = omega (arith, in_slots slots k id here)
@@ -136,30 +136,39 @@ set_other slots k j s other = get_or-set_other slots k j s None other
 set_same : (slots : List (Option Slot)) (k : ℕ) (s : Option Slot) → k < length slots → get_or (set slots k s) k None ≡ s
 set_same slots k s small = get_or-set_same slots k s None small
 
--- one id has one slot
-one_slot : (places : BTreeMap ℕ ℕ) (slots : List (Option Slot)) (id k : ℕ) → KnowsPlaces places slots → get nat_cmp places id ≡ Some k
-    → (j : ℕ) → slot_id (get_or slots j None) ≡ Some id → j ≡ k
-one_slot places slots id k knows here j there = some_same j k (sym (knows.held id j there) ∙ here)
+-- what stands once a slot is emptied stood before, in another slot
+stood : (slots : List (Option Slot)) (k j q : ℕ) → slot_id (get_or (set slots k None) j None) ≡ Some q → slot_id (get_or slots j None) ≡ Some q
+stood [] k j q there = there
+stood (s ∷ slots) zero zero q there = cc
+stood (s ∷ slots) zero (suc j) q there = there
+stood (s ∷ slots) (suc k) zero q there = there
+stood (s ∷ slots) (suc k) (suc j) q there = stood slots k j q there
 
-pub knows_removed : (places after : BTreeMap ℕ ℕ) (slots : List (Option Slot)) (id k : ℕ) → KnowsPlaces places slots
-    → get nat_cmp places id ≡ Some k → Updates nat_cmp places after id None → KnowsPlaces after (set slots k None)
-knows_removed places after slots id k knows here updates = record {
+not_emptied : (slots : List (Option Slot)) (k j q : ℕ) → slot_id (get_or (set slots k None) j None) ≡ Some q → j ≡ k → ⊥
+not_emptied [] k j q there e = cc
+not_emptied (s ∷ slots) zero zero q there e = cc
+not_emptied (s ∷ slots) zero (suc j) q there e = no_suc j (sym e)
+not_emptied (s ∷ slots) (suc k) zero q there e = no_suc k e
+not_emptied (s ∷ slots) (suc k) (suc j) q there e = not_emptied slots k j q there (one_less j k e)
+
+pub knows_removed : (all : Bool) (places after : BTreeMap ℕ ℕ) (features : List Feature) (slots : List (Option Slot)) (id k : ℕ) → KnowsPlaces all places features slots
+    → slot_id (get_or slots k None) ≡ Some id → Updates nat_cmp places after id None → KnowsPlaces all after features (set slots k None)
+knows_removed all places after features slots id k knows here updates = record {
   found = λ q j there. elim (cases_eq id q) [
     | inl e ↦ (let gone : get nat_cmp after q ≡ None = subst (λ (x : ℕ). get nat_cmp after x ≡ None) e updates.1 in cc)
     | inr other ↦ (
         let slot : slot_id (get_or slots j None) ≡ Some q = knows.found q j (sym (kept_place places after id q None updates other) ∙ there) in
-        let away : (j ≡ k → ⊥) = λ e. other (some_same id q (sym (knows.found id k here) ∙ ap (λ i. slot_id (get_or slots i None)) (sym e) ∙ slot)) in
+        let away : (j ≡ k → ⊥) = λ e. other (some_same id q (sym here ∙ ap (λ i. slot_id (get_or slots i None)) (sym e) ∙ slot)) in
         rw (set_other slots k j None away) slot)
   ];
-  held = λ q j there. elim (cases_eq j k) [
-    | inl e ↦ (
-        let none : get_or (set slots k None) j None ≡ None = subst (λ (x : ℕ). get_or (set slots k None) x None ≡ None) (sym e) (set_same slots k None (in_slots slots k id (knows.found id k here))) in
-        let gone : slot_id (get_or (set slots k None) j None) ≡ None = ap slot_id none in cc)
-    | inr away ↦ (
-        let slot : slot_id (get_or slots j None) ≡ Some q = sym (ap slot_id (set_other slots k j None away)) ∙ there in
-        let other : (id ≡ q → ⊥) = λ e. away (one_slot places slots id k knows here j (slot ∙ ap Some (sym e))) in
-        kept_place places after id q None updates other ∙ knows.held q j slot)
-  ];
+  held = λ q j there.
+      let slot : slot_id (get_or slots j None) ≡ Some q = stood slots k j q there in
+      let other : (id ≡ q → ⊥) = λ e. not_emptied slots k j q there (knows.one id j k (slot ∙ ap Some (sym e)) here) in
+      elim (knows.held q j slot) [
+        | inl told ↦ inl (kept_place places after id q None updates other ∙ told)
+        | inr first ↦ inr first
+      ];
+  one = λ q i j a b. knows.one q i j (stood slots k i q a) (stood slots k j q b);
 }
 
 -- a slot whose feature is replaced by another of its id
@@ -171,11 +180,12 @@ same_ids slots g k j here = elim (cases_eq j k) [
   | inr away ↦ ap slot_id (set_other slots k j (Some g) away)
 ]
 
-pub knows_replaced : (places : BTreeMap ℕ ℕ) (slots : List (Option Slot)) (g : Slot) (k : ℕ) → KnowsPlaces places slots
-    → get nat_cmp places g.feature.now.id ≡ Some k → KnowsPlaces places (set slots k (Some g))
-knows_replaced places slots g k knows here = record {
-  found = λ q j there. same_ids slots g k j (knows.found g.feature.now.id k here) ∙ knows.found q j there;
-  held = λ q j there. knows.held q j (sym (same_ids slots g k j (knows.found g.feature.now.id k here)) ∙ there);
+pub knows_replaced : (all : Bool) (places : BTreeMap ℕ ℕ) (features : List Feature) (slots : List (Option Slot)) (g : Slot) (k : ℕ)
+    → KnowsPlaces all places features slots → slot_id (get_or slots k None) ≡ Some g.feature.now.id → KnowsPlaces all places features (set slots k (Some g))
+knows_replaced all places features slots g k knows here = record {
+  found = λ q j there. same_ids slots g k j here ∙ knows.found q j there;
+  held = λ q j there. knows.held q j (sym (same_ids slots g k j here) ∙ there);
+  one = λ q i j a b. knows.one q i j (sym (same_ids slots g k i here) ∙ a) (sym (same_ids slots g k j here) ∙ b);
 }
 
 -- an empty slot more
@@ -185,10 +195,12 @@ pushed_none [] (suc j) = refl
 pushed_none (s ∷ slots) zero = refl
 pushed_none (s ∷ slots) (suc j) = pushed_none slots j
 
-pub knows_room : (places : BTreeMap ℕ ℕ) (slots : List (Option Slot)) → KnowsPlaces places slots → KnowsPlaces places (slots ++ None ∷ [])
-knows_room places slots knows = record {
+pub knows_room : (all : Bool) (places : BTreeMap ℕ ℕ) (features : List Feature) (slots : List (Option Slot)) → KnowsPlaces all places features slots
+    → KnowsPlaces all places features (slots ++ None ∷ [])
+knows_room all places features slots knows = record {
   found = λ q j there. ap slot_id (pushed_none slots j) ∙ knows.found q j there;
   held = λ q j there. knows.held q j (sym (ap slot_id (pushed_none slots j)) ∙ there);
+  one = λ q i j a b. knows.one q i j (sym (ap slot_id (pushed_none slots i)) ∙ a) (sym (ap slot_id (pushed_none slots j)) ∙ b);
 }
 
 pub set_last : (slots : List (Option Slot)) (s : Option Slot) → set (slots ++ None ∷ []) (length slots) s ≡ slots ++ s ∷ []
@@ -208,10 +220,21 @@ pushed_other (x ∷ slots) s (suc j) other = pushed_other slots s j (λ e. other
 past_end : (slots : List (Option Slot)) (id j : ℕ) → slot_id (get_or slots j None) ≡ Some id → (j ≡ length slots → ⊥)
 past_end slots id j here e = let small : j < length slots = in_slots slots j id here in absurd (omega arith)
 
+-- what stands once a slot more is there: its feature, or what stood before
+pushed_id : (slots : List (Option Slot)) (g : Slot) (q j : ℕ) → slot_id (get_or (slots ++ Some g ∷ []) j None) ≡ Some q
+    → ((j ≡ length slots) × (g.feature.now.id ≡ q)) ⊎ (slot_id (get_or slots j None) ≡ Some q)
+pushed_id [] g q zero there = inl (refl, some_same g.feature.now.id q there)
+pushed_id [] g q (suc j) there = cc
+pushed_id (s ∷ slots) g q zero there = inr there
+pushed_id (s ∷ slots) g q (suc j) there = elim (pushed_id slots g q j there) [
+  | inl last ↦ inl (ap suc last.0, last.1)
+  | inr slot ↦ inr slot
+]
+
 -- one more feature, of a new id, goes last
-pub knows_added : (places after : BTreeMap ℕ ℕ) (slots : List (Option Slot)) (g : Slot) → KnowsPlaces places slots
-    → get nat_cmp places g.feature.now.id ≡ None → Updates nat_cmp places after g.feature.now.id (Some (length slots)) → KnowsPlaces after (slots ++ Some g ∷ [])
-knows_added places after slots g knows fresh updates = record {
+pub knows_added : (all : Bool) (places after : BTreeMap ℕ ℕ) (features : List Feature) (slots : List (Option Slot)) (g : Slot) → KnowsPlaces all places features slots
+    → StandsNowhere slots g.feature.now.id → Updates nat_cmp places after g.feature.now.id (Some (length slots)) → KnowsPlaces all after features (slots ++ Some g ∷ [])
+knows_added all places after features slots g knows nowhere updates = record {
   found = λ q j there. elim (cases_eq g.feature.now.id q) [
     | inl e ↦ (
         let last : j ≡ length slots = some_same j (length slots) (sym there ∙ subst (λ (x : ℕ). get nat_cmp after x ≡ Some (length slots)) e updates.1) in
@@ -220,50 +243,44 @@ knows_added places after slots g knows fresh updates = record {
         let slot : slot_id (get_or slots j None) ≡ Some q = knows.found q j (sym (kept_place places after g.feature.now.id q (Some (length slots)) updates other) ∙ there) in
         ap slot_id (pushed_other slots (Some g) j (past_end slots q j slot)) ∙ slot)
   ];
-  held = λ q j there. elim (cases_eq j (length slots)) [
-    | inl e ↦ (
-        let last : slot_id (get_or (slots ++ Some g ∷ []) j None) ≡ Some g.feature.now.id = subst (λ (x : ℕ). slot_id (get_or (slots ++ Some g ∷ []) x None) ≡ Some g.feature.now.id) (sym e) (ap slot_id (pushed_last slots (Some g))) in
-        let same : g.feature.now.id ≡ q = some_same g.feature.now.id q (sym last ∙ there) in
-        subst (λ (x : ℕ). get nat_cmp after x ≡ Some j) same (updates.1 ∙ ap Some (sym e)))
-    | inr away ↦ (
-        let slot : slot_id (get_or slots j None) ≡ Some q = sym (ap slot_id (pushed_other slots (Some g) j away)) ∙ there in
-        let other : (g.feature.now.id ≡ q → ⊥) = λ e. none_some (sym (ap (get nat_cmp places) e) ∙ fresh) (knows.held q j slot) in
-        kept_place places after g.feature.now.id q (Some (length slots)) updates other ∙ knows.held q j slot)
+  held = λ q j there. elim (pushed_id slots g q j there) [
+    | inl last ↦ inl (subst (λ (x : ℕ). get nat_cmp after x ≡ Some j) last.1 (updates.1 ∙ ap Some (sym last.0)))
+    | inr slot ↦ (
+        let other : (g.feature.now.id ≡ q → ⊥) = λ e. nowhere j (slot ∙ ap Some (sym e)) in
+        elim (knows.held q j slot) [
+          | inl told ↦ inl (kept_place places after g.feature.now.id q (Some (length slots)) updates other ∙ told)
+          | inr first ↦ inr first
+        ])
+  ];
+  one = λ q i j a b. elim (pushed_id slots g q i a) [
+    | inl last ↦ elim (pushed_id slots g q j b) [
+      | inl end ↦ last.0 ∙ sym end.0
+      | inr slot ↦ absurd (nowhere j (slot ∙ ap Some (sym last.1)))
+    ]
+    | inr slot ↦ elim (pushed_id slots g q j b) [
+      | inl end ↦ absurd (nowhere i (slot ∙ ap Some (sym end.1)))
+      | inr other ↦ knows.one q i j slot other
+    ]
   ];
 }
 
-pub knows_nothing : (places : BTreeMap ℕ ℕ) → IsEmpty places → KnowsPlaces places []
-knows_nothing places empty = record {
+pub knows_nothing : (all : Bool) (places : BTreeMap ℕ ℕ) (features : List Feature) → IsEmpty places → KnowsPlaces all places features []
+knows_nothing all places features empty = record {
   found = λ q j there. none_some (ap (λ es. lookup (is_at (nat_cmp q)) es) empty) there;
   held = λ q j there. cc;
+  one = λ q i j a b. cc;
 }
 
 -- ---- what the features are, after each step
 
-pub has_place : (places : BTreeMap ℕ ℕ) (slots : List (Option Slot)) (id k : ℕ) → KnowsPlaces places slots → get nat_cmp places id ≡ Some k
-    → has_id (ids_of (standing slots)) id ≡ true
-has_place places slots id k knows here = one_has slots id k (knows.found id k here)
+pub removed_is : (slots : List (Option Slot)) (id k : ℕ) → ((i j : ℕ) → slot_id (get_or slots i None) ≡ Some id → slot_id (get_or slots j None) ≡ Some id → i ≡ j)
+    → slot_id (get_or slots k None) ≡ Some id → standing (set slots k None) ≡ without id (standing slots)
+removed_is slots id k one here = standing_removed slots id k here (λ j there. one j k there here)
 
-no_place : (places : BTreeMap ℕ ℕ) (slots : List (Option Slot)) (id : ℕ) → KnowsPlaces places slots → get nat_cmp places id ≡ None
-    → (j : ℕ) → slot_id (get_or slots j None) ≡ Some id → ⊥
-no_place places slots id knows none j there = none_some none (knows.held id j there)
-
-pub has_no_place : (places : BTreeMap ℕ ℕ) (slots : List (Option Slot)) (id : ℕ) → KnowsPlaces places slots → get nat_cmp places id ≡ None
-    → has_id (ids_of (standing slots)) id ≡ false
-has_no_place places slots id knows none = none_has slots id (no_place places slots id knows none)
-
-pub removed_is : (places : BTreeMap ℕ ℕ) (slots : List (Option Slot)) (id k : ℕ) → KnowsPlaces places slots → get nat_cmp places id ≡ Some k
-    → standing (set slots k None) ≡ without id (standing slots)
-removed_is places slots id k knows here = standing_removed slots id k (knows.found id k here) (one_slot places slots id k knows here)
-
-pub removed_count : (places : BTreeMap ℕ ℕ) (slots : List (Option Slot)) (id k : ℕ) → KnowsPlaces places slots → get nat_cmp places id ≡ Some k
-    → length (standing (set slots k None)) + 1 ≡ length (standing slots)
-removed_count places slots id k knows here = fewer_standing slots id k (knows.found id k here)
-
-pub replaced_is : (places : BTreeMap ℕ ℕ) (slots : List (Option Slot)) (g : Slot) (k : ℕ) → KnowsPlaces places slots → get nat_cmp places g.feature.now.id ≡ Some k
-    → standing (set slots k (Some g)) ≡ replaced_by g.feature.now (standing slots)
-replaced_is places slots g k knows here =
-    standing_replaced slots g k (knows.found g.feature.now.id k here) (one_slot places slots g.feature.now.id k knows here)
+pub replaced_is : (slots : List (Option Slot)) (g : Slot) (k : ℕ)
+    → ((i j : ℕ) → slot_id (get_or slots i None) ≡ Some g.feature.now.id → slot_id (get_or slots j None) ≡ Some g.feature.now.id → i ≡ j)
+    → slot_id (get_or slots k None) ≡ Some g.feature.now.id → standing (set slots k (Some g)) ≡ replaced_by g.feature.now (standing slots)
+replaced_is slots g k one here = standing_replaced slots g k here (λ j there. one j k there here)
 
 pub added_is : (slots : List (Option Slot)) (g : Slot) → standing (slots ++ Some g ∷ []) ≡ standing slots ++ g.feature.now ∷ []
 added_is slots g = filter_map-append standing_in slots (Some g ∷ [])
@@ -271,15 +288,28 @@ added_is slots g = filter_map-append standing_in slots (Some g ∷ [])
 pub room_is : (slots : List (Option Slot)) → standing (slots ++ None ∷ []) ≡ standing slots
 room_is slots = filter_map-append standing_in slots (None ∷ []) ∙ append-nil (standing slots)
 
-pub in_bounds : (places : BTreeMap ℕ ℕ) (slots : List (Option Slot)) (id k : ℕ) → KnowsPlaces places slots → get nat_cmp places id ≡ Some k
-    → k < length slots
-in_bounds places slots id k knows here = in_slots slots k id (knows.found id k here)
+-- places that are all noted need no features from the start
+pub knows_all : (places : BTreeMap ℕ ℕ) (features others : List Feature) (slots : List (Option Slot)) → KnowsPlaces true places features slots
+    → KnowsPlaces true places others slots
+knows_all places features others slots knows = record {
+  found = knows.found;
+  held = λ q j there. elim (knows.held q j there) [
+    | inl told ↦ inl told
+    | inr early ↦ (let wrong : true ≡ false = early.0 in cc)
+  ];
+  one = knows.one;
+}
 
 -- a map with the same entries
-pub knows_same : (places after : BTreeMap ℕ ℕ) (slots : List (Option Slot)) → KnowsPlaces places slots → after.entries ≡ places.entries → KnowsPlaces after slots
-knows_same places after slots knows same = record {
+pub knows_same : (all : Bool) (places after : BTreeMap ℕ ℕ) (features : List Feature) (slots : List (Option Slot)) → KnowsPlaces all places features slots
+    → after.entries ≡ places.entries → KnowsPlaces all after features slots
+knows_same all places after features slots knows same = record {
   found = λ q j there. knows.found q j (sym (ap (λ es. lookup (is_at (nat_cmp q)) es) same) ∙ there);
-  held = λ q j there. ap (λ es. lookup (is_at (nat_cmp q)) es) same ∙ knows.held q j there;
+  held = λ q j there. elim (knows.held q j there) [
+    | inl told ↦ inl (ap (λ es. lookup (is_at (nat_cmp q)) es) same ∙ told)
+    | inr first ↦ inr first
+  ];
+  one = knows.one;
 }
 
 -- a put of a known id, and of a new one
@@ -289,15 +319,9 @@ put_known f features known = rw known refl
 pub put_new : (f : Feature) (features : List Feature) → has_id (ids_of features) f.id ≡ false → features ++ f ∷ [] ≡ with_put f features
 put_new f features fresh = rw fresh refl
 
-unheld_by : (o : Option ℕ) (places : BTreeMap ℕ ℕ) (slots : List (Option Slot)) (id : ℕ) → KnowsPlaces places slots
-    → has_id (ids_of (standing slots)) id ≡ false → get nat_cmp places id ≡ o → get nat_cmp places id ≡ None
-unheld_by None places slots id knows fresh is = is
-unheld_by (Some k) places slots id knows fresh is = let held : has_id (ids_of (standing slots)) id ≡ true = has_place places slots id k knows is in cc
-
--- a new id has no place
-pub unheld : (places : BTreeMap ℕ ℕ) (slots : List (Option Slot)) (id : ℕ) → KnowsPlaces places slots
-    → has_id (ids_of (standing slots)) id ≡ false → get nat_cmp places id ≡ None
-unheld places slots id knows fresh = unheld_by (get nat_cmp places id) places slots id knows fresh refl
+-- a new id stands nowhere
+pub unheld : (slots : List (Option Slot)) (id : ℕ) → has_id (ids_of (standing slots)) id ≡ false → StandsNowhere slots id
+unheld slots id fresh j there = let held : has_id (ids_of (standing slots)) id ≡ true = one_has slots id j there in cc
 
 pub set_end : (slots : List (Option Slot)) (s : Option Slot) (n : ℕ) → n ≡ length slots → set (slots ++ None ∷ []) n s ≡ slots ++ s ∷ []
 set_end slots s n e = rw e (set_last slots s)
@@ -321,8 +345,9 @@ distinct_slots (Some f ∷ slots) one = (
   distinct_slots slots (λ id i j p q. one_less i j (one id (suc i) (suc j) p q)),
 )
 
-pub standing_distinct : (places : BTreeMap ℕ ℕ) (slots : List (Option Slot)) → KnowsPlaces places slots → IsDistinct nat_eq (ids_of (standing slots))
-standing_distinct places slots knows = distinct_slots slots (λ id i j p q. some_same i j (sym (knows.held id i p) ∙ knows.held id j q))
+pub standing_distinct : (all : Bool) (places : BTreeMap ℕ ℕ) (features : List Feature) (slots : List (Option Slot)) → KnowsPlaces all places features slots
+    → IsDistinct nat_eq (ids_of (standing slots))
+standing_distinct all places features slots knows = distinct_slots slots knows.one
 
 -- the next slot as well
 pub standing_more : (slots : List (Option Slot)) (i : ℕ) (d : Option Slot) → i < length slots

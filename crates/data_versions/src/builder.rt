@@ -44,7 +44,7 @@ fn close(
     if features.is_empty() {
         return Ok(());
     }
-    chunks.push(Arc::new(alloc, Chunk::of(features))?)?;
+    chunks.push(Arc::new(alloc, Chunk::of(alloc, features)?)?)?;
     Ok(())
 }
 

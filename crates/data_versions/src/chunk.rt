@@ -1,23 +1,27 @@
 //! A chunk of a layer: up to 256 features that snapshots share, with the box and the cells in which they lie.
-ghost use Rattle.std.specs.Prelude.{◌≡◌, ◌≤◌, ◌<◌, ◌+◌, false, length, drop, position, slice_get, All, IfSome};
+ghost use Rattle.std.specs.Prelude.{◌≡◌, ◌≤◌, ◌<◌, ◌+◌, false, length, drop, position, slice_get, All, IfSome, IfOk};
 ghost use Rattle.std.specs.Option.{option_copied};
 ghost use Rattle.data_versions.specs.Near.{place_of, is_near};
 ghost use Rattle.data_versions.specs.inner.Cells.{IsWide, IsBoxed, IsMarked, box_of};
+ghost use Rattle.data_versions.specs.inner.Chunks.{IsIndex};
 ghost use Rattle.geo_model.specs.Bounds.{Within};
 
 use crate::cells::cells_met;
+use farm_base::NoMemory;
 use geo_model::{Bounds, Feature};
+use std::alloc::Global;
 use std::marker::Model;
 
 /// The most features of a chunk.
 pub(crate) const MOST_TOGETHER: usize = 256;
 
-/// Up to 256 features, the box that holds them, and those of its eight by eight cells that they meet: the
-/// bit `8 * row + column` stands for a cell, counted from the north and from the west. Contracts see it as
-/// the list of its features.
+/// Up to 256 features, their ids from least to greatest, the box that holds them, and those of its eight by
+/// eight cells that they meet: the bit `8 * row + column` stands for a cell, counted from the north and from
+/// the west. Contracts see it as the list of its features.
 #[derive(Drop)]
 pub(crate) struct Chunk {
     features: Vec<Feature>,
+    ids: Vec<u64>,
     bounds: Bounds,
     cells: u64,
 }
@@ -26,12 +30,13 @@ impl Model for Chunk {
     ghost use Rattle.std.specs.Prelude.{List};
     ghost use Rattle.plain_data.specs.Features.{Feature};
     ghost use Rattle.data_versions.specs.inner.Cells.{IsChunk};
+    ghost use Rattle.data_versions.specs.inner.Chunks.{IsIndex};
 
     ghost Value = { List Feature };
 
     ghost view = { λ c. c.features.items };
 
-    ghost invariant = { λ c. IsChunk c.bounds c.cells c.features.items };
+    ghost invariant = { λ c. IsChunk c.bounds c.cells c.features.items × IsIndex c.ids.items c.features.items };
 }
 
 /// The least rectangle that holds both.
@@ -84,19 +89,33 @@ fn cells_under(bounds: Bounds, features: &[Feature]) -> u64
     cells
 }
 
+/// The ids of the features from least to greatest.
+fn sorted_ids(alloc: Global, features: &[Feature]) -> Result<Vec<u64>, NoMemory>
+    ensures { IfOk result (λ ids. IsIndex ids.items features.now) }
+{
+    let mut ids = Vec::with_capacity(alloc, features.len())?;
+    for feature in features {
+        ids.push(feature.id())?;
+    }
+    ids.sort_unstable();
+    Ok(ids)
+}
+
 impl Chunk {
-    /// The chunk of the features; takes no memory.
-    pub(crate) fn of(features: Vec<Feature>) -> Chunk
+    /// The chunk of the features.
+    pub(crate) fn of(alloc: Global, features: Vec<Feature>) -> Result<Chunk, NoMemory>
         requires { length features.items ≤ 256 }
-        ensures { result ≡ features.items }
+        ensures { IfOk result (λ chunk. chunk ≡ features.items) }
     {
+        let ids = sorted_ids(alloc, features.as_slice())?;
         let bounds = box_around(features.as_slice());
         let cells = cells_under(bounds, features.as_slice());
-        Chunk {
+        Ok(Chunk {
             features,
+            ids,
             bounds,
             cells,
-        }
+        })
     }
 
     /// The features in order.
@@ -142,7 +161,10 @@ impl Chunk {
         ensures place { result ≡ place_of self.now id }
         ensures bound { IfSome result (λ place. place < length self.now) }
     {
-        self.features.iter().position(|f| f.id() == id)
+        if self.ids.binary_search(&id).is_err() {
+            return None;
+        }
+        find_id(self.features.as_slice(), id)
     }
 }
 
@@ -158,4 +180,12 @@ fn find_near(features: &[Feature], around: Bounds) -> Option<usize>
     ensures bound { IfSome result (λ place. place < length features.now) }
 {
     features.iter().position(|f| is_near(f, around))
+}
+
+/// The first place of a feature with the id.
+fn find_id(features: &[Feature], id: u64) -> Option<usize>
+    ensures place { result ≡ place_of features.now id }
+    ensures bound { IfSome result (λ place. place < length features.now) }
+{
+    features.iter().position(|f| f.id() == id)
 }

@@ -1,5 +1,5 @@
 //! A layer while an update changes it.
-ghost use Rattle.std.specs.Prelude.{◌≡◌, ◌≤◌, ◌<◌, ◌∷◌, ◌++◌, [], true, false, nat_eq, length, IfOk, OnOk, MatchResult};
+ghost use Rattle.std.specs.Prelude.{◌≡◌, ◌≤◌, ◌<◌, ◌∷◌, ◌++◌, [], true, false, nat_eq, length, IfOk, OnOk};
 ghost use Rattle.std.specs.List.{IsDistinct};
 ghost use Rattle.plain_data.specs.Data.{has_id, ids_of};
 ghost use Rattle.data_versions.specs.inner.Slots.{without, replaced_by, with_put};
@@ -7,7 +7,8 @@ ghost use Rattle.data_versions.specs.inner.Chunks.{joined};
 
 use crate::builder::ChunkBuilder;
 use crate::chunk::{Chunk, MOST_TOGETHER};
-use crate::slot::{Slot, copy_slots, keep_chunk, old_slots, places_of};
+use crate::chunked::ChunkedLayer;
+use crate::slot::{Slot, copy_slots, keep_chunk, old_slots, places_of, slot_of};
 use farm_base::NoMemory;
 use geo_model::Feature;
 use plain_data::MOST_FEATURES;
@@ -16,14 +17,21 @@ use std::collections::BTreeMap;
 use std::marker::Model;
 use std::sync::Arc;
 
+/// The most ids that are found by walks over the chunks. To note the places of all ids takes about as long as
+/// two or three times as many walks.
+const MOST_WALKS: usize = 1_000;
+
 /// The features of a layer by reference, each in a slot that stays its own, so that a removal moves no other
-/// feature and an id is found without a walk. The first slots are those of the features from the start, chunk
-/// by chunk. Contracts see it as the list of its features.
+/// feature. The first slots are those of the features from the start, chunk by chunk. The places are those of
+/// the ids that were added, and of all ids once many are to be found. Contracts see it as the list of its
+/// features.
 #[derive(Drop)]
 pub(crate) struct LayerEdit<'a> {
-    chunks: &'a [Arc<Chunk>],
+    layer: &'a ChunkedLayer,
     slots: Vec<Option<Slot<'a>>>,
     places: BTreeMap<u64, usize>,
+    all_noted: bool,
+    expected: usize,
     count: usize,
 }
 
@@ -31,31 +39,44 @@ impl<'a> Model for LayerEdit<'a> {
     ghost use Rattle.std.specs.Prelude.{◌≡◌, ◌≤◌, List, length};
     ghost use Rattle.plain_data.specs.Features.{Feature};
     ghost use Rattle.data_versions.specs.inner.Slots.{standing, HasOld, KnowsPlaces};
-    ghost use Rattle.data_versions.specs.inner.Chunks.{joined};
 
     ghost Value = { List Feature };
 
     ghost view = { λ b. standing b.slots.items };
 
-    ghost invariant = { λ b. KnowsPlaces b.places b.slots.items × (b.count ≡ length (standing b.slots.items)) × (b.count ≤ 1000000) × HasOld b.slots.items (joined b.chunks.now) };
+    ghost invariant = { λ b. KnowsPlaces b.all_noted b.places b.layer.now.features b.slots.items × (b.count ≡ length (standing b.slots.items)) × (b.count ≤ 1000000) × HasOld b.slots.items b.layer.now.features };
 }
 
 impl<'a> LayerEdit<'a> {
-    /// The features of the chunks of a layer.
-    pub(crate) fn of(alloc: Global, chunks: &'a [Arc<Chunk>]) -> Result<LayerEdit<'a>, NoMemory>
-        requires few { length (joined chunks.now) ≤ 1000000 }
-        requires distinct { IsDistinct nat_eq (ids_of (joined chunks.now)) }
-        ensures { IfOk result (λ b. b ≡ joined chunks.now) }
+    /// The features of a layer.
+    pub(crate) fn of(alloc: Global, layer: &'a ChunkedLayer) -> Result<LayerEdit<'a>, NoMemory>
+        requires few { length layer.now.features ≤ 1000000 }
+        requires distinct { IsDistinct nat_eq (ids_of layer.now.features) }
+        ensures { IfOk result (λ b. b ≡ layer.now.features) }
     {
-        let slots = old_slots(alloc, chunks)?;
-        let places = places_of(alloc, slots.as_slice())?;
+        let slots = old_slots(alloc, layer.chunks())?;
         let count = slots.len();
         Ok(LayerEdit {
-            chunks,
+            layer,
             slots,
-            places,
+            places: BTreeMap::new(alloc),
+            all_noted: false,
+            expected: 0,
             count,
         })
+    }
+
+    /// Makes ready for so many more ids to be found.
+    pub(crate) fn expect(&mut self, alloc: Global, ids: usize) -> Result<(), NoMemory>
+        ensures { self.new ≡ self.old }
+    {
+        self.expected = self.expected.saturating_add(ids);
+        if self.all_noted || self.expected <= MOST_WALKS {
+            return Ok(());
+        }
+        self.places = places_of(alloc, self.slots.as_slice())?;
+        self.all_noted = true;
+        Ok(())
     }
 
     /// How many features there are: at most 1,000,000, of distinct ids.
@@ -74,9 +95,16 @@ impl<'a> LayerEdit<'a> {
         ensures gone { result ≡ true → self.new ≡ without id self.old }
         ensures absent { result ≡ false → self.new ≡ self.old }
     {
-        match self.places.remove(&id) {
+        match slot_of(
+            &self.places,
+            self.all_noted,
+            self.layer,
+            self.slots.as_slice(),
+            id,
+        ) {
             Some(place) => {
                 self.slots[place] = None;
+                self.places.remove(&id);
                 self.count -= 1;
                 true
             }
@@ -107,7 +135,13 @@ impl<'a> LayerEdit<'a> {
         ensures done { result ≡ true → self.new ≡ replaced_by feature.now self.old }
         ensures absent { result ≡ false → self.new ≡ self.old }
     {
-        match self.places.get(&feature.id()).copied() {
+        match slot_of(
+            &self.places,
+            self.all_noted,
+            self.layer,
+            self.slots.as_slice(),
+            feature.id(),
+        ) {
             Some(place) => {
                 self.slots[place] = Some(Slot {
                     feature,
@@ -140,12 +174,13 @@ impl<'a> LayerEdit<'a> {
     pub(crate) fn chunks(&self, alloc: Global) -> Result<Vec<Arc<Chunk>>, NoMemory>
         ensures { IfOk result (λ chunks. joined chunks.items ≡ self.now) }
     {
+        let chunks = self.layer.chunks();
         let mut builder = ChunkBuilder::new(alloc);
         let mut at = 0;
-        for (place, shared) in self.chunks.iter().enumerate() {
+        for (place, shared) in chunks.iter().enumerate() {
             let chunk: &Chunk = shared;
             let end = at + chunk.features().len();
-            let is_last = place + 1 == self.chunks.len();
+            let is_last = place + 1 == chunks.len();
             let may_share = !is_last || end - at == MOST_TOGETHER || end == self.slots.len();
             keep_chunk(alloc, shared, may_share, &self.slots[at..end], &mut builder)?;
             at = end;

@@ -118,8 +118,10 @@ impl<'a> EditedLayer<'a> {
         let layer: &'a ChunkedLayer = self.shared;
         let mut edit = match self.edit.take() {
             Some(edit) => edit,
-            None => LayerEdit::of(alloc, layer.chunks()).map_err(no_memory)?,
+            None => LayerEdit::of(alloc, layer).map_err(no_memory)?,
         };
+        let ids = change.remove.len().saturating_add(change.put.len());
+        edit.expect(alloc, ids).map_err(no_memory)?;
         make_change(&mut edit, place, change)?;
         self.edit = Some(edit);
         Ok(())

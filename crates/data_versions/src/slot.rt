@@ -1,14 +1,16 @@
 //! The slots of a layer while an update changes it.
-ghost use Rattle.std.specs.Prelude.{◌≡◌, ◌++◌, true, false, nat_eq, length, map, Some, IfOk, OnOk};
+ghost use Rattle.std.specs.Prelude.{◌≡◌, ◌++◌, [], ℕ, true, false, nat_eq, length, map, get_or, Some, None, IfOk, OnOk, IfSome};
 ghost use Rattle.std.specs.List.{IsDistinct, list_all};
 ghost use Rattle.std.specs.Option.{option_to_list};
 ghost use Rattle.std.specs.Arc.{arc_value};
 ghost use Rattle.plain_data.specs.Data.{ids_of};
-ghost use Rattle.data_versions.specs.inner.Slots.{standing_in, standing, is_old, old_in, HasOld, KnowsPlaces};
+ghost use Rattle.data_versions.specs.Near.{place_of};
+ghost use Rattle.data_versions.specs.inner.Slots.{standing_in, standing, slot_id, is_old, old_in, HasOld, KnowsPlaces, StandsNowhere};
 ghost use Rattle.data_versions.specs.inner.Chunks.{joined};
 
 use crate::builder::ChunkBuilder;
 use crate::chunk::Chunk;
+use crate::chunked::ChunkedLayer;
 use farm_base::NoMemory;
 use geo_model::Feature;
 use std::alloc::Global;
@@ -56,7 +58,7 @@ pub(crate) fn places_of(
     slots: &[Option<Slot<'_>>],
 ) -> Result<BTreeMap<u64, usize>, NoMemory>
     requires { IsDistinct nat_eq (ids_of (standing slots.now)) }
-    ensures { IfOk result (λ places. KnowsPlaces places slots.now) }
+    ensures { IfOk result (λ places. KnowsPlaces true places [] slots.now) }
 {
     let mut places = BTreeMap::new(alloc);
     for (place, slot) in slots.iter().enumerate() {
@@ -68,6 +70,51 @@ pub(crate) fn places_of(
         }
     }
     Ok(places)
+}
+
+/// Whether the feature of the id stands in the slot.
+fn holds(slot: &Option<Slot<'_>>, id: u64) -> bool
+    ensures yes { result ≡ true → slot_id slot.now ≡ Some id }
+    ensures no { result ≡ false → slot_id slot.now ≡ Some id → ⊥ }
+{
+    match slot {
+        Some(here) => here.feature.id() == id,
+        None => false,
+    }
+}
+
+/// The slot of the layer's feature of the id, if the id still stands there.
+fn first_slot(layer: &ChunkedLayer, slots: &[Option<Slot<'_>>], id: u64) -> Option<usize>
+    ensures found { IfSome result (λ k. slot_id (get_or slots.now k None) ≡ Some id) }
+    ensures none { result ≡ None → (k : ℕ) → place_of layer.now.features id ≡ Some k → slot_id (get_or slots.now k None) ≡ Some id → ⊥ }
+{
+    let place = layer.place_of(id)? as usize;
+    match slots.get(place) {
+        Some(slot) if holds(slot, id) => Some(place),
+        _ => None,
+    }
+}
+
+/// In which slot the id stands: the places tell it, or else, where not all are noted, the layer from the
+/// start.
+pub(crate) fn slot_of(
+    places: &BTreeMap<u64, usize>,
+    all_noted: bool,
+    layer: &ChunkedLayer,
+    slots: &[Option<Slot<'_>>],
+    id: u64,
+) -> Option<usize>
+    requires { KnowsPlaces all_noted places.now layer.now.features slots.now }
+    ensures found { IfSome result (λ k. slot_id (get_or slots.now k None) ≡ Some id) }
+    ensures none { result ≡ None → StandsNowhere slots.now id }
+{
+    if let Some(place) = places.get(&id).copied() {
+        return Some(place);
+    }
+    if all_noted {
+        return None;
+    }
+    first_slot(layer, slots, id)
 }
 
 fn is_old(slot: &Option<Slot<'_>>) -> bool

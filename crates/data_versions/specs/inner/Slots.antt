@@ -1,10 +1,11 @@
 -- A layer while it is changed: slots in which features stand, or stood.
-use Rattle.std.specs.Prelude.{◌≡◌, ℕ, Bool, true, false, not, cond, nat_eq, if◌then◌else◌, List, [], ◌∷◌, ◌++◌, map, filter, get_or, Option, Some, None, option_map}
+use Rattle.std.specs.Prelude.{◌≡◌, ◌⊎◌, ℕ, Bool, true, false, not, cond, nat_eq, if◌then◌else◌, List, [], ◌∷◌, ◌++◌, map, filter, get_or, Option, Some, None, option_map}
 use Rattle.std.specs.Ordering.{nat_cmp}
 use Rattle.std.specs.List.{filter_map}
 use Rattle.std.specs.BTreeMap.{BTreeMap, get}
 use Rattle.plain_data.specs.Features.{Feature}
 use Rattle.plain_data.specs.Data.{has_id, ids_of}
+use Rattle.data_versions.specs.Near.{place_of}
 use Rattle.data_versions.specs.declared.slot.Slot.{Slot}
 
 -- the feature that stands in a slot
@@ -41,10 +42,15 @@ HasOld slots [] = Unit {0}
 HasOld [] (f ∷ features) = ⊥
 HasOld (s ∷ slots) (f ∷ features) = IsOldAs s f × HasOld slots features
 
--- the places tell in which slot each id stands
-pub record KnowsPlaces (places : BTreeMap ℕ ℕ) (slots : List (Option Slot)) : Type 0 where
+-- the id stands in no slot
+abbrev pub StandsNowhere : List (Option Slot) → ℕ → Type 0
+StandsNowhere slots id = (k : ℕ) → slot_id (get_or slots k None) ≡ Some id → ⊥
+
+-- each id stands in one slot: in the one that the places tell, or else, unless they are all noted, in that of its place among the features from the start
+pub record KnowsPlaces (all_noted : Bool) (places : BTreeMap ℕ ℕ) (features : List Feature) (slots : List (Option Slot)) : Type 0 where
   pub found : (id k : ℕ) → get nat_cmp places id ≡ Some k → slot_id (get_or slots k None) ≡ Some id
-  pub held : (id k : ℕ) → slot_id (get_or slots k None) ≡ Some id → get nat_cmp places id ≡ Some k
+  pub held : (id k : ℕ) → slot_id (get_or slots k None) ≡ Some id → (get nat_cmp places id ≡ Some k) ⊎ ((all_noted ≡ false) × (place_of features id ≡ Some k))
+  pub one : (id i j : ℕ) → slot_id (get_or slots i None) ≡ Some id → slot_id (get_or slots j None) ≡ Some id → i ≡ j
 
 -- the features without the one of the id
 abbrev pub without : ℕ → List Feature → List Feature

@@ -7,27 +7,27 @@ use Rattle.data_versions.proofs.edit.LayerEdit.chunks.Goals as goal
 
 pub slice_bounds-keep_chunk-end : goal.slice_bounds-keep_chunk-end
 slice_bounds-keep_chunk-end c =
-    let size : length c.features.result.now ≡ length (arc_value c.shared-item.result) = ap length (c.features.ensures.value ∙ c.deref-chunk.ensures) in
-    let has = rw (joined_rest c.self.inside.chunks.now c.loop-place.place c.shared-item.result c.loop-place-test.true c.shared-item.is) at c.loop-place.invariant.left in
-    let within = end_within c.self.inside.slots.items c.loop-place.at (arc_value c.shared-item.result) (joined (drop (c.loop-place.place + 1) c.self.inside.chunks.now)) c.loop-place.invariant.bound has in
+    let size : length c.features.result.now ≡ length (arc_value c.index-chunks-place.result) = ap length (c.features.ensures.value ∙ c.deref-chunk.ensures) in
+    let has = rw (joined_rest c.chunks-chunks.result.now c.loop-place.place c.index-chunks-place.result c.loop-place-test.true c.index-chunks-place.is) at c.loop-place.invariant.left in
+    let within = end_within c.self.inside.slots.items c.loop-place.at (arc_value c.index-chunks-place.result) (joined (drop (c.loop-place.place + 1) c.chunks-chunks.result.now)) c.loop-place.invariant.bound has in
     rw c.deref.ensures.value (omega (arith, size, within))
 
 pub keep_chunk-requires-clause-old : goal.keep_chunk-requires-clause-old
 keep_chunk-requires-clause-old c =
-    let size : length c.features.result.now ≡ length (arc_value c.shared-item.result) = ap length (c.features.ensures.value ∙ c.deref-chunk.ensures) in
-    let has = rw (joined_rest c.self.inside.chunks.now c.loop-place.place c.shared-item.result c.loop-place-test.true c.shared-item.is) at c.loop-place.invariant.left in
-    old_part c.self.inside.slots.items c.deref.result.now c.loop-place.at (length c.features.result.now) (arc_value c.shared-item.result) (joined (drop (c.loop-place.place + 1) c.self.inside.chunks.now))
+    let size : length c.features.result.now ≡ length (arc_value c.index-chunks-place.result) = ap length (c.features.ensures.value ∙ c.deref-chunk.ensures) in
+    let has = rw (joined_rest c.chunks-chunks.result.now c.loop-place.place c.index-chunks-place.result c.loop-place-test.true c.index-chunks-place.is) at c.loop-place.invariant.left in
+    old_part c.self.inside.slots.items c.deref.result.now c.loop-place.at (length c.features.result.now) (arc_value c.index-chunks-place.result) (joined (drop (c.loop-place.place + 1) c.chunks-chunks.result.now))
     c.deref.ensures.value size has
 
 pub loop-place-preserved : goal.loop-place-preserved
 loop-place-preserved c =
-    let size : length c.features.result.now ≡ length (arc_value c.shared-item.result) = ap length (c.features.ensures.value ∙ c.deref-chunk.ensures) in
-    let has = rw (joined_rest c.self.inside.chunks.now c.loop-place.place c.shared-item.result c.loop-place-test.true c.shared-item.is) at c.loop-place.invariant.left in
-    let within = end_within c.self.inside.slots.items c.loop-place.at (arc_value c.shared-item.result) (joined (drop (c.loop-place.place + 1) c.self.inside.chunks.now)) c.loop-place.invariant.bound has in record {
+    let size : length c.features.result.now ≡ length (arc_value c.index-chunks-place.result) = ap length (c.features.ensures.value ∙ c.deref-chunk.ensures) in
+    let has = rw (joined_rest c.chunks-chunks.result.now c.loop-place.place c.index-chunks-place.result c.loop-place-test.true c.index-chunks-place.is) at c.loop-place.invariant.left in
+    let within = end_within c.self.inside.slots.items c.loop-place.at (arc_value c.index-chunks-place.result) (joined (drop (c.loop-place.place + 1) c.chunks-chunks.result.now)) c.loop-place.invariant.bound has in record {
       bound = omega (arith, size, within);
       packed = packed_more c.loop-place.builder c.keep_chunk.new.builder c.self.inside.slots.items c.deref.result.now c.loop-place.at (length c.features.result.now)
           c.deref.ensures.value c.loop-place.invariant.packed c.in_ok-keep_chunk.ensures;
-      left = old_left c.self.inside.slots.items c.loop-place.at (length c.features.result.now) (arc_value c.shared-item.result) (joined (drop (c.loop-place.place + 1) c.self.inside.chunks.now)) size has;
+      left = old_left c.self.inside.slots.items c.loop-place.at (length c.features.result.now) (arc_value c.index-chunks-place.result) (joined (drop (c.loop-place.place + 1) c.chunks-chunks.result.now)) size has;
     }
 
 pub returns : goal.returns

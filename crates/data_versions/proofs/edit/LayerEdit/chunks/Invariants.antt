@@ -8,5 +8,5 @@ abbrev pub invariant-loop-place : goal.invariant-loop-place
 invariant-loop-place l = record {
   bound : l.at ≤ length l.self-inside.slots.items;
   packed : l.builder ≡ standing (take l.at l.self-inside.slots.items);
-  left : HasOld (drop l.at l.self-inside.slots.items) (joined (drop l.place l.self-inside.chunks.now));
+  left : HasOld (drop l.at l.self-inside.slots.items) (joined (drop l.place l.chunks));
 }
