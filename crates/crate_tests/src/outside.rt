@@ -1,0 +1,66 @@
+//! The real files and streams by their traits.
+use farm_base::{DiskFiles, FileFault, Files, OutSink, Sink, SinkFault};
+use std::alloc::Global;
+use std::fs;
+use std::io::{self, Write};
+use std::process::Abort;
+use std::test::Fail;
+
+/// A writer that takes at most so many bytes a call.
+#[derive(Drop)]
+struct SlowWriter {
+    taken: Vec<u8>,
+    most: usize,
+}
+
+impl Write for SlowWriter {
+    fn write(&mut self, buf: &[u8]) -> io::Result<usize> {
+        let len = buf.len().min(self.most);
+        self.taken.extend_from_slice(&buf[..len])?;
+        Ok(len)
+    }
+
+    fn flush(&mut self) -> io::Result<()> {
+        Ok(())
+    }
+}
+
+/// What a put of the piece answers where the writer takes so many bytes a call, and what was taken.
+fn puts(alloc: Global, most: usize, piece: &[u8]) -> (Result<(), SinkFault>, Vec<u8>) {
+    let mut writer = SlowWriter {
+        taken: Vec::new(alloc),
+        most,
+    };
+    let answer = OutSink::new(&mut writer).put(piece);
+    (answer, writer.taken)
+}
+
+#[test]
+fn a_piece_is_taken_whole_or_not(rt: HostRuntime) {
+    let alloc = rt.alloc();
+    let (answer, taken) = puts(alloc, 1, b"one by one");
+    assert!(rt; answer == Ok(()) && taken.as_slice() == b"one by one".as_slice());
+    let (answer, taken) = puts(alloc, 0, b"none");
+    assert!(rt; answer == Err(SinkFault::Failed) && taken.is_empty());
+}
+
+fn is_failed(read: &Result<Vec<u8>, FileFault>) -> bool {
+    matches!(read, Err(FileFault::Failed))
+}
+
+#[test]
+fn files_are_read(rt: HostRuntime) -> Result<(), Fail> {
+    let alloc = rt.alloc();
+    let mut files = DiskFiles::new(rt.clone()?);
+    let _left_by_an_earlier_run = fs::remove_dir_all(&rt, "folder");
+    assert!(rt;
+        is_failed(&files.read(alloc, "folder")),
+        "a name that is missing"
+    );
+    fs::create_dir(&rt, "folder")?;
+    assert!(rt; is_failed(&files.read(alloc, "folder")), "a folder");
+    fs::write(&rt, "folder/file", b"bytes")?;
+    assert!(rt; files.read(alloc, "folder/file")?.as_slice() == b"bytes".as_slice());
+    fs::remove_dir_all(&rt, "folder")?;
+    Ok(())
+}
