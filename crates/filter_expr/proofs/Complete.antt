@@ -6,10 +6,11 @@ use Rattle.filter_expr.specs.declared.tokens.PlacedToken.{PlacedToken}
 use Rattle.filter_expr.specs.declared.faults.FilterFault.{FilterFault}
 use Rattle.filter_expr.specs.declared.faults.FilterFault.TheVariants.{Bad, NumberRange, TooDeep, NoMemory}
 use Rattle.plain_filters.specs.declared.CompareSign.{CompareSign}
-use Rattle.filter_expr.specs.Trees.{Kind, Tree, Terms, leaf, negation, negative, comparison, chain, parens, no_terms, term, or_chain, and_chain, sum_chain, product_chain, joins, is_leaf, is_out_of_range, is_open, is_minus, is_not, is_compare, is_close, bare, bare_terms, nesting, nesting_terms, InRange, TermsInRange}
+use Rattle.filter_expr.specs.Trees.{Kind, JoinSign, sign_token, Tree, Terms, leaf, negation, negative, comparison, chain, parens, no_terms, term, or_chain, and_chain, sum_chain, product_chain, joins, is_leaf, is_out_of_range, is_open, is_minus, is_not, is_compare, is_close, bare, bare_terms, nesting, nesting_terms, InRange, TermsInRange}
 use Rattle.filter_expr.specs.Seen.{Part, terms_of}
 use Rattle.filter_expr.specs.Grammar.{IsSpelled, AreSpelled, kind_strength, IsMany, Stands, StandTerms}
-use Rattle.filter_expr.specs.Reading.{Step, got, failed, Reader, then_read, starts, with_front, later, chained, chain_after, chain_of, Inner, or_in, and_in, not_in, compare_in, sum_in, product_in, unary_in, atom_in, within_depth, compared, got_negation, got_negative, closed, sign_of}
+use Rattle.filter_expr.specs.Reading.{join_of, Step, got, failed, Reader, then_read, starts, with_front, later, chained, chain_after, chain_of, Inner, or_in, and_in, not_in, compare_in, sum_in, product_in, unary_in, atom_in, within_depth, compared, got_negation, got_negative, closed, sign_of}
+use Rattle.filter_expr.proofs.Signs.{sign_back}
 use Rattle.filter_expr.proofs.Chains.{later-stop, later-more}
 use Rattle.filter_expr.proofs.Rows.{row, part_row, part_shortens, strength_below, Stops, stops_up, close_stops, compare_stops, sign_stops, wrong}
 
@@ -205,7 +206,7 @@ own_comparison a c b n us rest p stop iha ihb =
 
 -- ---- chains
 
-front_fine : (n : ℕ) (t : Token) (e : Tree) (ps : Terms) (rest : List PlacedToken) (r : Step (List Part)) → FineTerms n ps rest r →
+front_fine : (n : ℕ) (t : JoinSign) (e : Tree) (ps : Terms) (rest : List PlacedToken) (r : Step (List Part)) → FineTerms n ps rest r →
     FineTerms n (term t e ps) rest (with_front ((t, bare e) ∷ []) r)
 front_fine n t e ps rest (got xs ts) h = (ap (term t (bare e)) h.0, h.1)
 front_fine n t e ps rest (failed (Bad o) ts) h = h
@@ -213,11 +214,11 @@ front_fine n t e ps rest (failed (NumberRange o) ts) h = λ x. h x.1
 front_fine n t e ps rest (failed (TooDeep o) ts) h = omega (arith, h)
 front_fine n t e ps rest (failed NoMemory ts) h = h
 
-then_terms : (n : ℕ) (s : PlacedToken) (t : Token) (e : Tree) (ps : Terms) (mid rest : List PlacedToken) (r : Step Tree) (next : Reader (List Part)) → s.token ≡ t → Fine n e mid r →
-    FineTerms n ps rest (next mid) → FineTerms n (term t e ps) rest (then_read r (λ d us. with_front ((s.token, d) ∷ []) (next us)))
+then_terms : (n : ℕ) (s : PlacedToken) (t : JoinSign) (e : Tree) (ps : Terms) (mid rest : List PlacedToken) (r : Step Tree) (next : Reader (List Part)) → s.token ≡ sign_token t → Fine n e mid r →
+    FineTerms n ps rest (next mid) → FineTerms n (term t e ps) rest (then_read r (λ d us. with_front ((join_of s.token, d) ∷ []) (next us)))
 then_terms n s t e ps mid rest (got d us) next q h k =
-    subst (λ y. FineTerms n (term t e ps) rest (with_front ((s.token, y) ∷ []) (next us))) (sym h.0)
-    (subst (λ y. FineTerms n (term t e ps) rest (with_front ((y, bare e) ∷ []) (next us))) (sym q)
+    subst (λ y. FineTerms n (term t e ps) rest (with_front ((join_of s.token, y) ∷ []) (next us))) (sym h.0)
+    (subst (λ y. FineTerms n (term t e ps) rest (with_front ((y, bare e) ∷ []) (next us))) (sym (ap join_of q ∙ sign_back t))
     (front_fine n t e ps rest (next us) (subst (λ vs. FineTerms n ps rest (next vs)) (sym h.1) k)))
 then_terms n s t e ps mid rest (failed (Bad o) us) next q h k = h
 then_terms n s t e ps mid rest (failed (NumberRange o) us) next q h k = λ x. h x.0
@@ -235,7 +236,7 @@ own_terms_none k n ws rest p stop =
     subst (λ vs. FineTerms n no_terms rest (later k (part_row k (within_depth n)) (vs ++ rest))) (sym p)
     (subst (λ r. FineTerms n no_terms rest r) (sym (later-stop k (part_row k (within_depth n)) rest (stop.chains k (omega arith)))) (refl, refl))
 
-own_terms_some : (t : Token) (e : Tree) (qs : Terms) (k : Kind) (n : ℕ) (ws rest : List PlacedToken) → StandTerms k (term t e qs) → AreSpelled (term t e qs) ws → Stops (kind_strength k) rest →
+own_terms_some : (t : JoinSign) (e : Tree) (qs : Terms) (k : Kind) (n : ℕ) (ws rest : List PlacedToken) → StandTerms k (term t e qs) → AreSpelled (term t e qs) ws → Stops (kind_strength k) rest →
     ((vs more : List PlacedToken) → IsSpelled e vs → Stops (kind_strength k + 1) more → Fine n e more (part_row k (within_depth n) (vs ++ more))) →
     ((vs : List PlacedToken) → AreSpelled qs vs → FineTerms n qs rest (later k (part_row k (within_depth n)) (vs ++ rest))) →
     FineTerms n (term t e qs) rest (later k (part_row k (within_depth n)) (ws ++ rest))

@@ -4,15 +4,14 @@ use Rattle.std.proofs.lemmas.List.{map-append}
 use Rattle.plain_filters.specs.declared.Expr.{Expr}
 use Rattle.plain_filters.specs.Filters.{tree_of, trees_of}
 use Rattle.filter_expr.specs.declared.tokens.PlacedToken.{PlacedToken}
-use Rattle.filter_expr.specs.declared.tokens.Token.{Token}
 use Rattle.filter_expr.specs.declared.faults.FilterFault.{FilterFault}
 use Rattle.filter_expr.specs.declared.faults.FilterFault.TheVariants.{Bad, NumberRange, TooDeep, NoMemory}
 use Rattle.filter_expr.specs.declared.parser.Connective.{Connective}
 use Rattle.filter_expr.specs.declared.parser.Connective.TheVariants as connective
-use Rattle.filter_expr.specs.Trees.{Kind, Tree, joins}
+use Rattle.filter_expr.specs.Trees.{Kind, JoinSign, Tree, joins}
 use Rattle.filter_expr.specs.Seen.{Part, seen, joined, behind}
-use Rattle.filter_expr.specs.Reading.{Step, got, failed, Reader, Inner, starts, first_token, with_front, later, chain_after, chain_of, or_in, and_in, within_depth}
-use Rattle.filter_expr.specs.inner.Connectives.{connective_kind, connective_token, chain_kind, chain_in, part_in}
+use Rattle.filter_expr.specs.Reading.{Step, got, failed, Reader, Inner, starts, first_token, join_of, with_front, later, chain_after, chain_of, or_in, and_in, within_depth}
+use Rattle.filter_expr.specs.inner.Connectives.{connective_kind, connective_sign, chain_kind, chain_in, part_in}
 use Rattle.filter_expr.specs.inner.Gives.{Gives}
 use Rattle.filter_expr.specs.inner.Kinds.{is_of}
 use Rattle.filter_expr.proofs.Chains.{Shortens, later-stop, loop_goes, loop_fails, chain_reads}
@@ -21,7 +20,7 @@ use Rattle.filter_expr.proofs.Loops.{or_first, and_first, first_fails}
 use Rattle.filter_expr.proofs.SeenLemmas.{joined_listed}
 
 -- the first of these parts with the others and then what is read behind them
-abbrev pub resumed : Kind → Token → List Tree → Step (List Part) → Step Tree
+abbrev pub resumed : Kind → JoinSign → List Tree → Step (List Part) → Step Tree
 resumed k t [] r = failed NoMemory []
 resumed k t (e ∷ es) r = chain_after k e (with_front (behind t es) r)
 
@@ -38,9 +37,9 @@ connects : (c : Connective) (ts : List PlacedToken) (b : Bool) → b ≡ starts 
 connects connective.Or ts b h = sym h
 connects connective.And ts b h = sym h
 
-first_connects : (c : Connective) (ts : List PlacedToken) → true ≡ starts (is_of (connective_kind c)) ts → first_token ts ≡ connective_token c
-first_connects connective.Or ts h = or_first ts (sym h)
-first_connects connective.And ts h = and_first ts (sym h)
+first_connects : (c : Connective) (ts : List PlacedToken) → true ≡ starts (is_of (connective_kind c)) ts → join_of (first_token ts) ≡ connective_sign c
+first_connects connective.Or ts h = ap join_of (or_first ts (sym h))
+first_connects connective.And ts h = ap join_of (and_first ts (sym h))
 
 module _ (c : Connective) (n : ℕ) where
   abbrev part : Reader Tree
@@ -50,7 +49,7 @@ module _ (c : Connective) (n : ℕ) where
   rest ts = later (chain_kind c) (part_in c (within_depth n)) ts
 
   abbrev so_far : List Tree → List PlacedToken → Step Tree
-  so_far es ts = resumed (chain_kind c) (connective_token c) es (rest ts)
+  so_far es ts = resumed (chain_kind c) (connective_sign c) es (rest ts)
 
   -- the first part goes wrong
   pub no_first : {X : Type 0} (view : X → Tree) (ts us : List PlacedToken) (f : FilterFault) → Gives view (Err f) us (part ts) → Gives view (Err f) us (chain_in c (within_depth n) ts)
@@ -65,7 +64,7 @@ module _ (c : Connective) (n : ℕ) where
   pub first_read : (ts us : List PlacedToken) (e : Tree) → part ts ≡ got e us → so_far (e ∷ []) us ≡ chain_in c (within_depth n) ts
   first_read ts us e first = alone (rest us) ∙ sym (ap (λ r. r ts) (chain_is c (within_depth n)) ∙ chain_reads (chain_kind c) part ts us e (rest us) first refl)
     where
-      alone : (r : Step (List Part)) → resumed (chain_kind c) (connective_token c) (e ∷ []) r ≡ chain_after (chain_kind c) e r
+      alone : (r : Step (List Part)) → resumed (chain_kind c) (connective_sign c) (e ∷ []) r ≡ chain_after (chain_kind c) e r
       alone (got ps vs) = refl
       alone (failed f vs) = refl
 
@@ -77,11 +76,11 @@ module _ (c : Connective) (n : ℕ) where
         by : (ds : List Expr) → 1 ≤ length ds → so_far (map seen ds) ts ≡ all → so_far (map seen (ds ++ x ∷ [])) us ≡ all
         by [] h r = absurd (omega (arith, h))
         by (d ∷ ds) h r =
-            ap (λ es. chain_after (chain_kind c) (seen d) (with_front (behind (connective_token c) es) (rest us))) (map-append seen ds (x ∷ []))
-            ∙ ap (λ ps. chain_after (chain_kind c) (seen d) (with_front ps (rest us))) (map-append (λ e. (connective_token c, e)) (map seen ds) (seen x ∷ []))
+            ap (λ es. chain_after (chain_kind c) (seen d) (with_front (behind (connective_sign c) es) (rest us))) (map-append seen ds (x ∷ []))
+            ∙ ap (λ ps. chain_after (chain_kind c) (seen d) (with_front ps (rest us))) (map-append (λ e. (connective_sign c, e)) (map seen ds) (seen x ∷ []))
             ∙ ap (chain_after (chain_kind c) (seen d))
-            (loop_goes (chain_kind c) part (part_shortens c n) (behind (connective_token c) (map seen ds)) ts (with_front (behind (connective_token c) (map seen ds)) (rest ts)) refl
-            (connective_token c) (seen x) us (connects c ts true next) (first_connects c ts next) here)
+            (loop_goes (chain_kind c) part (part_shortens c n) (behind (connective_sign c) (map seen ds)) ts (with_front (behind (connective_sign c) (map seen ds)) (rest ts)) refl
+            (connective_sign c) (seen x) us (connects c ts true next) (first_connects c ts next) here)
             ∙ r
 
     -- one more part goes wrong
@@ -94,7 +93,7 @@ module _ (c : Connective) (n : ℕ) where
         by (d ∷ ds) h r g e =
             sym r
             ∙ ap (chain_after (chain_kind c) (seen d))
-            (loop_fails (chain_kind c) part (part_shortens c n) (behind (connective_token c) (map seen ds)) ts (with_front (behind (connective_token c) (map seen ds)) (rest ts)) refl g us
+            (loop_fails (chain_kind c) part (part_shortens c n) (behind (connective_sign c) (map seen ds)) ts (with_front (behind (connective_sign c) (map seen ds)) (rest ts)) refl g us
             (connects c ts true next) e)
 
         of : (g : FilterFault) → Gives view (Err g) us (part (drop 1 ts)) → Gives view (Err g) us all
@@ -104,13 +103,13 @@ module _ (c : Connective) (n : ℕ) where
         of NoMemory h = tt
 
     -- no more parts follow
-    pub all_read : 2 ≤ length xs → false ≡ starts (is_of (connective_kind c)) ts → all ≡ got (joined (chain_kind c) (connective_token c) (trees_of (map tree_of xs))) ts
+    pub all_read : 2 ≤ length xs → false ≡ starts (is_of (connective_kind c)) ts → all ≡ got (joined (chain_kind c) (connective_sign c) (trees_of (map tree_of xs))) ts
     all_read many stop = by xs many read
       where
-        by : (ds : List Expr) → 2 ≤ length ds → so_far (map seen ds) ts ≡ all → all ≡ got (joined (chain_kind c) (connective_token c) (trees_of (map tree_of ds))) ts
+        by : (ds : List Expr) → 2 ≤ length ds → so_far (map seen ds) ts ≡ all → all ≡ got (joined (chain_kind c) (connective_sign c) (trees_of (map tree_of ds))) ts
         by [] h r = absurd (omega (arith, h))
         by (d ∷ []) h r = absurd (omega (arith, h))
         by (d ∷ (e ∷ ds)) h r =
-            sym r ∙ ap (λ q. chain_after (chain_kind c) (seen d) (with_front (behind (connective_token c) (map seen (e ∷ ds))) q)) (later-stop (chain_kind c) part ts (connects c ts false stop))
-            ∙ ap (λ ps. chain_after (chain_kind c) (seen d) (got ps ts)) (append-nil (behind (connective_token c) (map seen (e ∷ ds))))
-            ∙ ap (λ t. got t ts) (sym (joined_listed (chain_kind c) (connective_token c) (d ∷ (e ∷ ds))))
+            sym r ∙ ap (λ q. chain_after (chain_kind c) (seen d) (with_front (behind (connective_sign c) (map seen (e ∷ ds))) q)) (later-stop (chain_kind c) part ts (connects c ts false stop))
+            ∙ ap (λ ps. chain_after (chain_kind c) (seen d) (got ps ts)) (append-nil (behind (connective_sign c) (map seen (e ∷ ds))))
+            ∙ ap (λ t. got t ts) (sym (joined_listed (chain_kind c) (connective_sign c) (d ∷ (e ∷ ds))))

@@ -6,7 +6,7 @@ use Rattle.filter_expr.specs.declared.tokens.Token.TheVariants as token
 use Rattle.filter_expr.specs.declared.tokens.PlacedToken.{PlacedToken}
 use Rattle.filter_expr.specs.declared.faults.FilterFault.{FilterFault}
 use Rattle.filter_expr.specs.declared.faults.FilterFault.TheVariants.{Bad, NumberRange, TooDeep, NoMemory}
-use Rattle.filter_expr.specs.Trees.{Kind, Tree, Terms, leaf, negation, negative, comparison, chain, parens, no_terms, term, joins, is_leaf, is_out_of_range, is_end, is_unknown, bare, nesting, InRange, or_chain, and_chain, sum_chain, product_chain}
+use Rattle.filter_expr.specs.Trees.{Kind, sign_token, Tree, Terms, leaf, negation, negative, comparison, chain, parens, no_terms, term, joins, is_leaf, is_out_of_range, is_end, is_unknown, bare, nesting, InRange, or_chain, and_chain, sum_chain, product_chain}
 use Rattle.filter_expr.specs.Grammar.{IsSpelled, AreSpelled, kind_strength, Stands, StandTerms}
 use Rattle.filter_expr.specs.Filters.{IsText, IsFilter, IsFault, Begins, GoesOn, StandsAt, Passes, HasCause}
 use Rattle.filter_expr.proofs.Places.{IsAt}
@@ -62,7 +62,7 @@ mutual
   terms_no_stop : (ts : Terms) (k : Kind) (us : List PlacedToken) → StandTerms k ts → AreSpelled ts us → NoStop us
   terms_no_stop no_terms k us s p = subst NoStop (sym p) tt
   terms_no_stop (term t e ts) k us s p =
-      subst NoStop (sym p.3) (ap is_stop p.4 ∙ sign_no_stop k t s.0, no_stop_both p.1 p.2 (tree_no_stop e (kind_strength k + 1) p.1 s.1 p.5) (terms_no_stop ts k p.2 s.2 p.6))
+      subst NoStop (sym p.3) (ap is_stop p.4 ∙ sign_no_stop k (sign_token t) s.0, no_stop_both p.1 p.2 (tree_no_stop e (kind_strength k + 1) p.1 s.1 p.5) (terms_no_stop ts k p.2 s.2 p.6))
 
 -- tokens of a text: the last one ends them, and no other does
 abbrev pub Stopped : List PlacedToken → Type 0

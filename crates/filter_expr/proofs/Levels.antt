@@ -5,7 +5,7 @@ use Rattle.filter_expr.specs.declared.faults.FilterFault.{FilterFault}
 use Rattle.filter_expr.specs.declared.faults.FilterFault.TheVariants.{Bad, NumberRange}
 use Rattle.filter_expr.specs.Trees.{Kind, Tree, leaf, comparison, joins, or_chain, and_chain, sum_chain, product_chain, is_leaf, is_out_of_range, is_open, is_close, is_minus, is_not, is_compare, is_end}
 use Rattle.filter_expr.specs.Seen.{Part}
-use Rattle.filter_expr.specs.Reading.{Step, got, failed, Reader, then_read, with_front, turns, later, chain_after, chain_of, Inner, atom_in, unary_in, product_in, sum_in, compare_in, not_in, and_in, or_in, within_depth, closed, ended, whole_filter, starts, first_token, place, sign_of, compared, got_negation, got_negative}
+use Rattle.filter_expr.specs.Reading.{Step, got, failed, Reader, then_read, with_front, turns, later, chain_after, chain_of, Inner, atom_in, unary_in, product_in, sum_in, compare_in, not_in, and_in, or_in, within_depth, closed, ended, whole_filter, starts, first_token, join_of, place, sign_of, compared, got_negation, got_negative}
 use Rattle.filter_expr.proofs.Chains.{Leaves, Shortens}
 
 abbrev fault : FilterFault → List PlacedToken → Step Tree
@@ -42,9 +42,9 @@ pub turns_leaves : (k : Kind) (part : Reader Tree) → Shortens part → (n : �
 unfolding turns
 turns_leaves k part short zero ts = refl_le (length ts)
 turns_leaves k part short (suc n) ts =
-    cond_leaves (length ts) (starts (joins k) ts) (then_read (part (drop 1 ts)) (λ e us. with_front ((first_token ts, e) ∷ []) (turns k part n us))) (got [] ts)
-    (then_leaves (length ts) (part (drop 1 ts)) (λ e us. with_front ((first_token ts, e) ∷ []) (turns k part n us)) (weaken (length (drop 1 ts)) (length ts) (part (drop 1 ts)) (drop_one ts) (short.leaves (drop 1 ts)))
-    (λ e us h. front_leaves (length ts) ((first_token ts, e) ∷ []) (turns k part n us) (weaken (length us) (length ts) (turns k part n us) h (turns_leaves k part short n us))))
+    cond_leaves (length ts) (starts (joins k) ts) (then_read (part (drop 1 ts)) (λ e us. with_front ((join_of (first_token ts), e) ∷ []) (turns k part n us))) (got [] ts)
+    (then_leaves (length ts) (part (drop 1 ts)) (λ e us. with_front ((join_of (first_token ts), e) ∷ []) (turns k part n us)) (weaken (length (drop 1 ts)) (length ts) (part (drop 1 ts)) (drop_one ts) (short.leaves (drop 1 ts)))
+    (λ e us h. front_leaves (length ts) ((join_of (first_token ts), e) ∷ []) (turns k part n us) (weaken (length us) (length ts) (turns k part n us) h (turns_leaves k part short n us))))
     (refl_le (length ts))
 
 pub chain_shortens : (k : Kind) (part : Reader Tree) → Shortens part → Shortens (chain_of k part)

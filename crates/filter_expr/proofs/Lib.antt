@@ -14,6 +14,7 @@ pub mod Places
 pub mod Plain
 pub mod Rows
 pub mod SeenLemmas
+pub mod Signs
 pub mod Sound
 pub mod Spelled
 pub mod Tokenised

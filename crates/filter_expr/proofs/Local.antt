@@ -6,7 +6,7 @@ use Rattle.filter_expr.specs.declared.faults.FilterFault.{FilterFault}
 use Rattle.filter_expr.specs.declared.faults.FilterFault.TheVariants.{Bad, NumberRange, TooDeep}
 use Rattle.filter_expr.specs.Trees.{Kind, Tree, leaf, negation, negative, comparison, or_chain, and_chain, sum_chain, product_chain, joins, is_leaf, is_out_of_range, is_open, is_minus, is_not, is_compare, is_close, is_end}
 use Rattle.filter_expr.specs.Seen.{Part}
-use Rattle.filter_expr.specs.Reading.{Step, got, failed, Reader, then_read, starts, first_token, place, with_front, later, chained, chain_after, chain_of, Inner, or_in, and_in, not_in, compare_in, sum_in, product_in, unary_in, atom_in, within_depth, compared, got_negation, got_negative, closed, ended, whole_filter, sign_of}
+use Rattle.filter_expr.specs.Reading.{Step, got, failed, Reader, then_read, starts, first_token, join_of, place, with_front, later, chained, chain_after, chain_of, Inner, or_in, and_in, not_in, compare_in, sum_in, product_in, unary_in, atom_in, within_depth, compared, got_negation, got_negative, closed, ended, whole_filter, sign_of}
 use Rattle.filter_expr.proofs.Chains.{Shortens, Leaves, later-stop, later-more}
 use Rattle.filter_expr.proofs.Levels.{within_shortens, and_shortens, not_shortens, product_shortens, unary_shortens, ShortensIn}
 use Rattle.filter_expr.proofs.Rows.{wrong}
@@ -115,7 +115,7 @@ at_same p q ts same h = subst (At p ts) (sym (same ts)) record { used = h.used; 
 module _ (k : Kind) (part : Reader Tree) (short : Shortens part) (loc : Local part) where
   -- one part with the sign before it, and then the others
   more_of : Reader (List Part)
-  more_of ts = then_read (take_one ts) (λ t us. then_read (part us) (λ e vs. with_front ((t, e) ∷ []) (later k part vs)))
+  more_of ts = then_read (take_one ts) (λ t us. then_read (part us) (λ e vs. with_front ((join_of t, e) ∷ []) (later k part vs)))
 
   stop_at : (ts : List PlacedToken) → starts (joins k) ts ≡ false → At (later k part) ts (later k part ts)
   stop_at ts e = same_at (joins k) false (later k part) (λ us. got [] us) ts e (λ us g. later-stop k part us g) ((local_got []).here ts)
@@ -123,21 +123,21 @@ module _ (k : Kind) (part : Reader Tree) (short : Shortens part) (loc : Local pa
   more_at : (t : PlacedToken) (ts : List PlacedToken) → ((us : List PlacedToken) → length us ≤ length ts → At (later k part) us (later k part us)) → At more_of (t ∷ ts) (more_of (t ∷ ts))
   unfolding more_of take_one
   more_at t ts ih =
-      then_at take_one (λ x us. then_read (part us) (λ e vs. with_front ((x, e) ∷ []) (later k part vs))) (t ∷ ts) (got t.token ts) (local_one.here (t ∷ ts)) inner
+      then_at take_one (λ x us. then_read (part us) (λ e vs. with_front ((join_of x, e) ∷ []) (later k part vs))) (t ∷ ts) (got t.token ts) (local_one.here (t ∷ ts)) inner
     where
       fewer : (us : List PlacedToken) (r : Step Tree) (e : Tree) (vs : List PlacedToken) → Leaves (length us) r → r ≡ got e vs → length vs ≤ length us
       fewer us r e vs l q = subst (λ (x : Step Tree). Leaves (length us) x) q l
 
-      inner : (x : Token) (us : List PlacedToken) → got t.token ts ≡ got x us → At (λ ws. then_read (part ws) (λ e vs. with_front ((x, e) ∷ []) (later k part vs))) us
-          (then_read (part us) (λ e vs. with_front ((x, e) ∷ []) (later k part vs)))
+      inner : (x : Token) (us : List PlacedToken) → got t.token ts ≡ got x us → At (λ ws. then_read (part ws) (λ e vs. with_front ((join_of x, e) ∷ []) (later k part vs))) us
+          (then_read (part us) (λ e vs. with_front ((join_of x, e) ∷ []) (later k part vs)))
       inner x us q =
           let same : us ≡ ts = cc in
-          then_at part (λ e vs. with_front ((x, e) ∷ []) (later k part vs)) us (part us) (loc.here us)
-          (λ e vs g. at_same (λ ws. with_front ((x, e) ∷ []) (later k part ws)) (λ ws. then_read (later k part ws) (λ l zs. got (((x, e) ∷ []) ++ l) zs)) vs
-          (λ ws. front_is ((x, e) ∷ []) (later k part ws))
-          (then_at (later k part) (λ l zs. got (((x, e) ∷ []) ++ l) zs) vs (later k part vs)
+          then_at part (λ e vs. with_front ((join_of x, e) ∷ []) (later k part vs)) us (part us) (loc.here us)
+          (λ e vs g. at_same (λ ws. with_front ((join_of x, e) ∷ []) (later k part ws)) (λ ws. then_read (later k part ws) (λ l zs. got (((join_of x, e) ∷ []) ++ l) zs)) vs
+          (λ ws. front_is ((join_of x, e) ∷ []) (later k part ws))
+          (then_at (later k part) (λ l zs. got (((join_of x, e) ∷ []) ++ l) zs) vs (later k part vs)
           (ih vs (subst (λ (l : List PlacedToken). length vs ≤ length l) same (fewer us (part us) e vs (short.leaves us) g)))
-          (λ l zs _. (local_got (((x, e) ∷ []) ++ l)).here zs)))
+          (λ l zs _. (local_got (((join_of x, e) ∷ []) ++ l)).here zs)))
 
   later_at : (m : ℕ) (ts : List PlacedToken) → length ts ≤ m → At (later k part) ts (later k part ts)
   unfolding more_of take_one

@@ -5,14 +5,18 @@ use Rattle.filter_expr.specs.declared.tokens.Token.{Token}
 use Rattle.filter_expr.specs.declared.tokens.Token.TheVariants as token
 use Rattle.filter_expr.specs.declared.faults.FilterFault.{FilterFault}
 use Rattle.filter_expr.specs.declared.faults.FilterFault.TheVariants.{Bad, NumberRange, TooDeep, NoMemory}
-use Rattle.filter_expr.specs.Trees.{Kind, Tree, joins, chain, or_chain, and_chain, is_or, is_and}
-use Rattle.filter_expr.specs.Seen.{Part, terms_of, behind}
+use Rattle.filter_expr.specs.Trees.{Kind, JoinSign, sign_token, Tree, joins, chain, or_chain, and_chain, is_or, is_and}
+use Rattle.filter_expr.specs.Seen.{Part, terms_of}
 use Rattle.filter_expr.specs.inner.Gives.{Gives}
-use Rattle.filter_expr.specs.Reading.{got, failed, Reader, starts, first_token, next_sign, with_front, later, chained, chain_of}
+use Rattle.filter_expr.specs.Reading.{got, failed, Reader, starts, first_token, join_of, next_sign, with_front, later, chained, chain_of}
+use Rattle.filter_expr.proofs.Signs.{sign_back}
 use Rattle.filter_expr.proofs.Chains.{Shortens, loop_fails, loop_ends, chain_fails, chain_reads}
 
 wrong : false ≡ true → ⊥
 wrong e = grind arith
+
+some_same : (t u : Token) → Some t ≡ Some u → t ≡ u
+some_same t u e = cc
 
 -- a sign stands next: which one, and that it joins
 pub sign_joins : (k : Kind) (ts : List PlacedToken) (t : Token) → Some t ≡ next_sign k ts → starts (joins k) ts ≡ true
@@ -23,12 +27,12 @@ sign_joins k (s ∷ ts) t h = by (joins k s.token) h
     by true e = refl
     by false e = absurd (cc)
 
-pub sign_is : (k : Kind) (ts : List PlacedToken) (t : Token) → Some t ≡ next_sign k ts → first_token ts ≡ t
-sign_is k [] t h = absurd (cc)
-sign_is k (s ∷ ts) t h = by (joins k s.token) h
+pub sign_is : (k : Kind) (ts : List PlacedToken) (j : JoinSign) → Some (sign_token j) ≡ next_sign k ts → join_of (first_token ts) ≡ j
+sign_is k [] j h = absurd (cc)
+sign_is k (s ∷ ts) j h = by (joins k s.token) h
   where
-    by : (b : Bool) → Some t ≡ (if b then Some s.token else None) → s.token ≡ t
-    by true e = cc
+    by : (b : Bool) → Some (sign_token j) ≡ (if b then Some s.token else None) → join_of s.token ≡ j
+    by true e = ap join_of (some_same s.token (sign_token j) (sym e)) ∙ sign_back j
     by false e = absurd (cc)
 
 pub no_sign : (k : Kind) (ts : List PlacedToken) → None ≡ next_sign k ts → starts (joins k) ts ≡ false

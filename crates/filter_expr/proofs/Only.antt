@@ -146,7 +146,9 @@ pub one_token_list : OneTokenList
 one_token_list text ts us a b = tokens_unique text ts a ∙ sym (tokens_unique text us b)
 
 pub one_filter : OneFilter
-one_filter text s t a b = shape_known s t (filter_unique b.0 (shape s) (shape t) (subst (λ ts. IsFilter ts (shape s)) (one_token_list text a.0 b.0 a.1 b.1) a.2) b.2)
+one_filter text s t a b =
+    let same : IsFilter b.0 (shape s) = subst (λ ts. IsFilter ts (shape s)) (one_token_list text a.0 b.0 a.1 b.1) a.2 in
+    shape_known b.0 s t same b.2 (filter_unique b.0 (shape s) (shape t) same b.2)
 
 pub not_both_of : NotBoth
 not_both_of text t f a b = not_both b.0 (shape t) f (subst (λ ts. IsFilter ts (shape t)) (one_token_list text a.0 b.0 a.1 b.1) a.2) b.2

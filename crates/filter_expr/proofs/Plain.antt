@@ -13,7 +13,7 @@ use Rattle.filter_expr.specs.Reading.{Step, got, failed, whole_filter}
 use Rattle.filter_expr.specs.inner.Gives.{Answers}
 use Rattle.filter_expr.specs.Filters.{IsFilter, IsFault, FilterOf, FaultOf, SomeTokenList, SomeAnswer}
 use Rattle.filter_expr.specs.FilterTexts.{back, verdict, filter_of, Says, SaysFilter, SaysFault, FilterSaid, FaultSaid}
-use Rattle.filter_expr.proofs.SeenLemmas.{round}
+use Rattle.filter_expr.proofs.SeenLemmas.{filter_round}
 use Rattle.filter_expr.proofs.Back.{tree_again}
 use Rattle.filter_expr.proofs.Final.{IsAnswer, not_both}
 use Rattle.filter_expr.proofs.Only.{one_token_list, filter_unique, fault_unique, lexed_answer}
@@ -21,7 +21,7 @@ use Rattle.filter_expr.proofs.Tokenised.{lexed_tokens}
 
 pub says : (text : List ℕ) (r : Result Expr FilterFault) → Answers seen r (whole_filter (lexed 0 0 text)) → Says (filter_of text) r
 unfolding filter_of
-says text (Ok e) a = ap verdict a.1 ∙ ap Ok (round (tree_of e))
+says text (Ok e) a = ap verdict a.1 ∙ ap Ok (filter_round (lexed 0 0 text) (tree_of e) (subst (IsAnswer (lexed 0 0 text)) a.1 (lexed_answer text)))
 says text (Err (Bad o)) a = ap verdict a.1
 says text (Err (NumberRange o)) a = ap verdict a.1
 says text (Err (TooDeep o)) a = ap verdict a.1
@@ -33,7 +33,7 @@ says_filter text t b =
     go (whole_filter (lexed 0 0 text)) (lexed_answer text) (subst (λ ts. IsFilter ts (shape t)) (one_token_list text b.0 (lexed 0 0 text) b.1 (lexed_tokens text)) b.2)
   where
     go : (s : Step Tree) → IsAnswer (lexed 0 0 text) s → IsFilter (lexed 0 0 text) (shape t) → verdict s ≡ Ok t
-    go (got d us) a h = ap Ok (ap back (filter_unique (lexed 0 0 text) d (shape t) a h) ∙ round t)
+    go (got d us) a h = ap Ok (ap back (filter_unique (lexed 0 0 text) d (shape t) a h) ∙ filter_round (lexed 0 0 text) t h)
     go (failed f us) a h = absurd (not_both (lexed 0 0 text) (shape t) f h a)
 
 pub says_fault : SaysFault

@@ -1,70 +1,70 @@
 -- The tree of each node of an expression, by the trees of its parts; and that a filter is known by its tree.
-use Rattle.std.proofs.Common.{◌≡◌, ℕ, Bool, true, false, if◌then◌else◌, ℤ, List, [], ◌∷◌, map, refl, sym, ◌∙◌, ap}
+use Rattle.std.proofs.Common.{◌≡◌, ℕ, ◌+◌, Bool, true, false, ℤ, List, [], ◌∷◌, map, refl, sym, ◌∙◌, ap, subst}
 use Rattle.std.specs.declared.boxed.Box.{Box}
 use Rattle.std.specs.declared.vec.Vec.{Vec}
 use Rattle.std.specs.declared.alloc.Global.{Global}
 use Rattle.plain_filters.specs.declared.Expr.{Expr, fold-roll-Expr, roll-Expr, map-Expr}
 use Rattle.plain_filters.specs.declared.Expr.TheVariants as node
 use Rattle.plain_filters.specs.declared.Expr.TheOpen as «open»
-use Rattle.plain_filters.specs.declared.SumPart.{SumPart, fold-SumPart, fold-roll-SumPart, roll-SumPart}
-use Rattle.plain_filters.specs.declared.ProductPart.{ProductPart, fold-ProductPart, fold-roll-ProductPart, roll-ProductPart}
+use Rattle.plain_filters.specs.declared.SumPart.{SumPart, fold-roll-SumPart, roll-SumPart}
+use Rattle.plain_filters.specs.declared.ProductPart.{ProductPart, fold-roll-ProductPart, roll-ProductPart}
 use Rattle.plain_filters.specs.declared.CompareSign.{CompareSign}
 use Rattle.plain_filters.specs.declared.SumSign.{SumSign}
-use Rattle.plain_filters.specs.declared.SumSign.TheVariants as sum
 use Rattle.plain_filters.specs.declared.ProductSign.{ProductSign}
-use Rattle.plain_filters.specs.declared.ProductSign.TheVariants as product
 use Rattle.plain_filters.specs.Filters.{FilterTree, FilterTrees, SumTrees, ProductTrees, or_tree, and_tree, not_tree, compare_tree, sum_tree, product_tree, negate_tree, name_tree, text_tree, number_tree, truth_tree, null_tree, no_trees, tree_then, no_sums, sum_then, no_products, product_then, tree_of, tree_step, sum_part_step, product_part_step, trees_of, sums_of, products_of}
-use Rattle.filter_expr.specs.declared.tokens.Token.{Token}
+use Rattle.filter_expr.specs.declared.tokens.PlacedToken.{PlacedToken}
 use Rattle.filter_expr.specs.declared.tokens.Token.TheVariants as token
-use Rattle.filter_expr.specs.Trees.{Kind, Tree, leaf, negation, negative, comparison, chain, no_terms, term, or_chain, and_chain, sum_chain, product_chain, sum_token, product_token}
-use Rattle.filter_expr.specs.FilterTexts.{is_end_leaf, sum_sign_of, product_sign_of, back, backs, back_sums, back_products}
+use Rattle.filter_expr.specs.Trees.{Kind, JoinSign, or_sign, and_sign, sum_sign, product_sign, Tree, Terms, leaf, negation, negative, comparison, chain, parens, no_terms, term, or_chain, and_chain, sum_chain, product_chain, bare, bare_terms}
+use Rattle.filter_expr.specs.Grammar.{kind_strength, IsMany, Stands, StandTerms}
+use Rattle.filter_expr.specs.Filters.{IsFilter}
+use Rattle.filter_expr.specs.FilterTexts.{back, backs, back_sums, back_products}
 use Rattle.filter_expr.specs.inner.SeenParts.{tree_of_sum, tree_of_product, seen_sum, seen_product}
 use Rattle.filter_expr.specs.Seen.{Part, seen, shape, joined, same_terms, sum_terms, product_terms, terms_of, behind, truth_token}
 
 -- ---- nodes
 
-abbrev part_of : Token → Tree → Part
+abbrev part_of : JoinSign → Tree → Part
 part_of t e = (t, e)
 
-pub seen_sum-made : (p : open.SumPart-F Expr ProductPart SumPart) → seen_sum (roll-SumPart p) ≡ (sum_token p.sign, seen p.part)
+pub seen_sum-made : (p : open.SumPart-F Expr ProductPart SumPart) → seen_sum (roll-SumPart p) ≡ (sum_sign p.sign, seen p.part)
 seen_sum-made p =
-    ap (λ (q : SumSign × FilterTree). part_of (sum_token q.0) (shape q.1))
+    ap (λ (q : SumSign × FilterTree). part_of (sum_sign q.0) (shape q.1))
     (fold-roll-SumPart FilterTree (ProductSign × FilterTree) (SumSign × FilterTree) tree_step product_part_step sum_part_step p)
 
-pub seen_product-made : (p : open.ProductPart-F Expr ProductPart SumPart) → seen_product (roll-ProductPart p) ≡ (product_token p.sign, seen p.part)
+pub seen_product-made : (p : open.ProductPart-F Expr ProductPart SumPart) → seen_product (roll-ProductPart p) ≡ (product_sign p.sign, seen p.part)
 seen_product-made p =
-    ap (λ (q : ProductSign × FilterTree). part_of (product_token q.0) (shape q.1))
+    ap (λ (q : ProductSign × FilterTree). part_of (product_sign q.0) (shape q.1))
     (fold-roll-ProductPart FilterTree (ProductSign × FilterTree) (SumSign × FilterTree) tree_step product_part_step sum_part_step p)
 
 rolled : (d : open.Expr-F Expr ProductPart SumPart) (e : Expr) → roll-Expr d ≡ e → seen e ≡ shape (tree_step (map-Expr Expr ProductPart SumPart FilterTree (ProductSign × FilterTree) (SumSign × FilterTree) tree_of tree_of_product tree_of_sum d))
 rolled d e q = ap seen (sym q) ∙ ap shape (fold-roll-Expr FilterTree (ProductSign × FilterTree) (SumSign × FilterTree) tree_step product_part_step sum_part_step d)
 
 -- a list of parts under one sign
-abbrev pub listed : Kind → Token → List Tree → Tree
+abbrev pub listed : Kind → JoinSign → List Tree → Tree
 listed k t [] = chain k (leaf token.End) no_terms
 listed k t (x ∷ xs) = chain k x (terms_of (behind t xs))
 
-same_listed : (t : Token) (es : List Expr) → same_terms t (trees_of (map tree_of es)) ≡ terms_of (behind t (map seen es))
+same_listed : (t : JoinSign) (es : List Expr) → same_terms t (trees_of (map tree_of es)) ≡ terms_of (behind t (map seen es))
 same_listed t [] = refl
 same_listed t (e ∷ es) = ap (term t (seen e)) (same_listed t es)
 
-pub joined_listed : (k : Kind) (t : Token) (es : List Expr) → joined k t (trees_of (map tree_of es)) ≡ listed k t (map seen es)
+pub joined_listed : (k : Kind) (t : JoinSign) (es : List Expr) → joined k t (trees_of (map tree_of es)) ≡ listed k t (map seen es)
 joined_listed k t [] = refl
 joined_listed k t (e ∷ es) = ap (chain k (seen e)) (same_listed t es)
 
 sums_listed : (ps : List SumPart) → sum_terms (sums_of (map tree_of_sum ps)) ≡ terms_of (map seen_sum ps)
 sums_listed [] = refl
-sums_listed (p ∷ ps) = ap (term (sum_token (tree_of_sum p).0) (shape (tree_of_sum p).1)) (sums_listed ps)
+sums_listed (p ∷ ps) = ap (term (sum_sign (tree_of_sum p).0) (shape (tree_of_sum p).1)) (sums_listed ps)
 
 products_listed : (ps : List ProductPart) → product_terms (products_of (map tree_of_product ps)) ≡ terms_of (map seen_product ps)
 products_listed [] = refl
-products_listed (p ∷ ps) = ap (term (product_token (tree_of_product p).0) (shape (tree_of_product p).1)) (products_listed ps)
+products_listed (p ∷ ps) = ap (term (product_sign (tree_of_product p).0) (shape (tree_of_product p).1)) (products_listed ps)
 
-pub seen-Or : (v : Vec Expr Global) → seen (node.Or v) ≡ listed or_chain token.Or (map seen v.items)
-seen-Or v = rolled (open.Or v) (node.Or v) (node.rolls-Or v) ∙ joined_listed or_chain token.Or v.items
+pub seen-Or : (v : Vec Expr Global) → seen (node.Or v) ≡ listed or_chain or_sign (map seen v.items)
+seen-Or v = rolled (open.Or v) (node.Or v) (node.rolls-Or v) ∙ joined_listed or_chain or_sign v.items
 
-pub seen-And : (v : Vec Expr Global) → seen (node.And v) ≡ listed and_chain token.And (map seen v.items)
-seen-And v = rolled (open.And v) (node.And v) (node.rolls-And v) ∙ joined_listed and_chain token.And v.items
+pub seen-And : (v : Vec Expr Global) → seen (node.And v) ≡ listed and_chain and_sign (map seen v.items)
+seen-And v = rolled (open.And v) (node.And v) (node.rolls-And v) ∙ joined_listed and_chain and_sign v.items
 
 pub seen-Not : (b : Box Expr Global) → seen (node.Not b) ≡ negation (seen b.value)
 seen-Not b = rolled (open.Not b) (node.Not b) (node.rolls-Not b)
@@ -98,70 +98,72 @@ seen-Null = rolled open.Null node.Null node.rolls-Null
 
 pub ruleset nodes = (seen-Not, seen-Compare, seen-Negate, seen-Name, seen-Text, seen-Number, seen-Truth, seen-Null)
 
--- ---- a filter is known by its tree
+-- ---- a filter of a text is known by its tree
 
-no_end : (t : FilterTree) → is_end_leaf (shape t) ≡ false
-no_end (or_tree no_trees) = refl
-no_end (or_tree (tree_then p ps)) = refl
-no_end (and_tree no_trees) = refl
-no_end (and_tree (tree_then p ps)) = refl
-no_end (not_tree p) = refl
-no_end (compare_tree a s b) = refl
-no_end (sum_tree f ps) = refl
-no_end (product_tree f ps) = refl
-no_end (negate_tree p) = refl
-no_end (name_tree n) = refl
-no_end (text_tree t) = refl
-no_end (number_tree z) = refl
-no_end (truth_tree true) = refl
-no_end (truth_tree false) = refl
-no_end null_tree = refl
+-- each chain in the tree has a later part, as all chains of texts have
+abbrev mutual
+  pub HasParts : Tree → Type 0
+  HasParts (leaf t) = Unit {0}
+  HasParts (negation e) = HasParts e
+  HasParts (negative e) = HasParts e
+  HasParts (comparison a c b) = HasParts a × HasParts b
+  HasParts (chain k e ts) = IsMany ts × HasParts e × HaveParts ts
+  HasParts (parens e) = HasParts e
 
-sum_sign_back : (s : SumSign) → sum_sign_of (sum_token s) ≡ s
-sum_sign_back sum.Plus = refl
-sum_sign_back sum.Minus = refl
+  pub HaveParts : Terms → Type 0
+  HaveParts no_terms = Unit {0}
+  HaveParts (term s e ts) = HasParts e × HaveParts ts
 
-product_sign_back : (s : ProductSign) → product_sign_of (product_token s) ≡ s
-product_sign_back product.Times = refl
-product_sign_back product.Divide = refl
-product_sign_back product.Rest = refl
+many_bare : (ts : Terms) → IsMany ts → IsMany (bare_terms ts)
+many_bare no_terms m = m
+many_bare (term s e ts) m = tt
 
 mutual
-  pub round : (t : FilterTree) → back (shape t) ≡ t
-  round (or_tree no_trees) = refl
-  round (or_tree (tree_then p ps)) =
-      ap (λ b. or_tree (if b then no_trees else tree_then (back (shape p)) (backs (same_terms token.Or ps)))) (no_end p)
-      ∙ ap (λ q. or_tree (tree_then q (backs (same_terms token.Or ps)))) (round p) ∙ ap (λ qs. or_tree (tree_then p qs)) (rounds token.Or ps)
-  round (and_tree no_trees) = refl
-  round (and_tree (tree_then p ps)) =
-      ap (λ b. and_tree (if b then no_trees else tree_then (back (shape p)) (backs (same_terms token.And ps)))) (no_end p)
-      ∙ ap (λ q. and_tree (tree_then q (backs (same_terms token.And ps)))) (round p) ∙ ap (λ qs. and_tree (tree_then p qs)) (rounds token.And ps)
-  round (not_tree p) = ap not_tree (round p)
-  round (compare_tree a s b) = ap (λ q. compare_tree q s (back (shape b))) (round a) ∙ ap (compare_tree a s) (round b)
-  round (sum_tree f ps) = ap (λ q. sum_tree q (back_sums (sum_terms ps))) (round f) ∙ ap (sum_tree f) (round_sums ps)
-  round (product_tree f ps) = ap (λ q. product_tree q (back_products (product_terms ps))) (round f) ∙ ap (product_tree f) (round_products ps)
-  round (negate_tree p) = ap negate_tree (round p)
-  round (name_tree n) = refl
-  round (text_tree t) = refl
-  round (number_tree z) = refl
-  round (truth_tree true) = refl
-  round (truth_tree false) = refl
-  round null_tree = refl
+  pub stands_parts : (e : Tree) (l : ℕ) → Stands l e → HasParts (bare e)
+  stands_parts (leaf t) l s = tt
+  stands_parts (negation e) l s = stands_parts e 2 s.1
+  stands_parts (negative e) l s = stands_parts e 6 s.1
+  stands_parts (comparison a c b) l s = (stands_parts a 4 s.1, stands_parts b 4 s.2)
+  stands_parts (chain k e ts) l s = (many_bare ts s.2, stands_parts e (kind_strength k + 1) s.1, terms_parts ts k s.3)
+  stands_parts (parens e) l s = stands_parts e 0 s
 
-  rounds : (t : Token) (ps : FilterTrees) → backs (same_terms t ps) ≡ ps
-  rounds t no_trees = refl
-  rounds t (tree_then p ps) = ap (λ q. tree_then q (backs (same_terms t ps))) (round p) ∙ ap (tree_then p) (rounds t ps)
+  terms_parts : (ts : Terms) (k : Kind) → StandTerms k ts → HaveParts (bare_terms ts)
+  terms_parts no_terms k s = tt
+  terms_parts (term j e ts) k s = (stands_parts e (kind_strength k + 1) s.1, terms_parts ts k s.2)
 
-  round_sums : (ps : SumTrees) → back_sums (sum_terms ps) ≡ ps
-  round_sums no_sums = refl
-  round_sums (sum_then s p ps) =
-      ap (λ x. sum_then x (back (shape p)) (back_sums (sum_terms ps))) (sum_sign_back s) ∙ ap (λ q. sum_then s q (back_sums (sum_terms ps))) (round p) ∙ ap (sum_then s p) (round_sums ps)
+mutual
+  pub round : (t : FilterTree) → HasParts (shape t) → back (shape t) ≡ t
+  round (or_tree no_trees) h = absurd h.0
+  round (or_tree (tree_then p ps)) h = ap (λ q. or_tree (tree_then q (backs (same_terms or_sign ps)))) (round p h.1) ∙ ap (λ qs. or_tree (tree_then p qs)) (rounds or_sign ps h.2)
+  round (and_tree no_trees) h = absurd h.0
+  round (and_tree (tree_then p ps)) h = ap (λ q. and_tree (tree_then q (backs (same_terms and_sign ps)))) (round p h.1) ∙ ap (λ qs. and_tree (tree_then p qs)) (rounds and_sign ps h.2)
+  round (not_tree p) h = ap not_tree (round p h)
+  round (compare_tree a s b) h = ap (λ q. compare_tree q s (back (shape b))) (round a h.0) ∙ ap (compare_tree a s) (round b h.1)
+  round (sum_tree f ps) h = ap (λ q. sum_tree q (back_sums (sum_terms ps))) (round f h.1) ∙ ap (sum_tree f) (round_sums ps h.2)
+  round (product_tree f ps) h = ap (λ q. product_tree q (back_products (product_terms ps))) (round f h.1) ∙ ap (product_tree f) (round_products ps h.2)
+  round (negate_tree p) h = ap negate_tree (round p h)
+  round (name_tree n) h = refl
+  round (text_tree t) h = refl
+  round (number_tree z) h = refl
+  round (truth_tree true) h = refl
+  round (truth_tree false) h = refl
+  round null_tree h = refl
 
-  round_products : (ps : ProductTrees) → back_products (product_terms ps) ≡ ps
-  round_products no_products = refl
-  round_products (product_then s p ps) =
-      ap (λ x. product_then x (back (shape p)) (back_products (product_terms ps))) (product_sign_back s) ∙ ap (λ q. product_then s q (back_products (product_terms ps))) (round p)
-      ∙ ap (product_then s p) (round_products ps)
+  rounds : (j : JoinSign) (ps : FilterTrees) → HaveParts (same_terms j ps) → backs (same_terms j ps) ≡ ps
+  rounds j no_trees h = refl
+  rounds j (tree_then p ps) h = ap (λ q. tree_then q (backs (same_terms j ps))) (round p h.0) ∙ ap (tree_then p) (rounds j ps h.1)
 
-pub shape_known : (s t : FilterTree) → shape s ≡ shape t → s ≡ t
-shape_known s t e = sym (round s) ∙ ap back e ∙ round t
+  round_sums : (ps : SumTrees) → HaveParts (sum_terms ps) → back_sums (sum_terms ps) ≡ ps
+  round_sums no_sums h = refl
+  round_sums (sum_then s p ps) h = ap (λ q. sum_then s q (back_sums (sum_terms ps))) (round p h.0) ∙ ap (sum_then s p) (round_sums ps h.1)
+
+  round_products : (ps : ProductTrees) → HaveParts (product_terms ps) → back_products (product_terms ps) ≡ ps
+  round_products no_products h = refl
+  round_products (product_then s p ps) h = ap (λ q. product_then s q (back_products (product_terms ps))) (round p h.0) ∙ ap (product_then s p) (round_products ps h.1)
+
+-- the filter of what tokens are
+pub filter_round : (ts : List PlacedToken) (t : FilterTree) → IsFilter ts (shape t) → back (shape t) ≡ t
+filter_round ts t a = round t (subst HasParts a.is (stands_parts a.tree 0 a.stands))
+
+pub shape_known : (ts : List PlacedToken) (s t : FilterTree) → IsFilter ts (shape s) → IsFilter ts (shape t) → shape s ≡ shape t → s ≡ t
+shape_known ts s t a b e = sym (filter_round ts s a) ∙ ap back e ∙ filter_round ts t b

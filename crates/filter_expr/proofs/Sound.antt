@@ -10,7 +10,8 @@ use Rattle.filter_expr.specs.Trees.{Kind, Tree, Terms, leaf, negation, negative,
 use Rattle.filter_expr.specs.Seen.{Part, terms_of}
 use Rattle.filter_expr.specs.Grammar.{IsSpelled, AreSpelled, kind_strength, IsMany, Stands, StandTerms}
 use Rattle.filter_expr.specs.Filters.{opens}
-use Rattle.filter_expr.specs.Reading.{Step, got, failed, Reader, then_read, starts, first_token, with_front, turns, later, chained, chain_after, chain_of, Inner, or_in, and_in, not_in, compare_in, sum_in, product_in, unary_in, atom_in, within_depth, compared, got_negation, got_negative, closed, sign_of, too_deep}
+use Rattle.filter_expr.specs.Reading.{Step, got, failed, Reader, then_read, starts, first_token, join_of, with_front, turns, later, chained, chain_after, chain_of, Inner, or_in, and_in, not_in, compare_in, sum_in, product_in, unary_in, atom_in, within_depth, compared, got_negation, got_negative, closed, sign_of, too_deep}
+use Rattle.filter_expr.proofs.Signs.{sign_again}
 use Rattle.filter_expr.proofs.Complete.{stands_down}
 use Rattle.filter_expr.proofs.Rows.{wrong}
 
@@ -209,39 +210,39 @@ behind ts us rest all e g = e ∙ ap (λ l. us ++ l) g
 module _ (n : ℕ) (k : Kind) (part : Reader Tree) (sound : (ts : List PlacedToken) → Outcome n (kind_strength k + 1) ts (part ts)) where
   -- a sign, the outcome of the part behind it, and that of the parts behind this one
   one_more : (s : PlacedToken) (ts : List PlacedToken) (next : Reader (List Part)) → joins k s.token ≡ true → ((us : List PlacedToken) → OutcomeTerms n k us (next us)) → (r : Step Tree) →
-      Outcome n (kind_strength k + 1) ts r → OutcomeTerms n k (s ∷ ts) (then_read r (λ e us. with_front ((s.token, e) ∷ []) (next us)))
+      Outcome n (kind_strength k + 1) ts r → OutcomeTerms n k (s ∷ ts) (then_read r (λ e us. with_front ((join_of s.token, e) ∷ []) (next us)))
   one_more s ts next j ih (failed f rest) o = (
     s ∷ o.0,
     ap (λ l. s ∷ l) o.1,
     record {
       more = o.2.more;
-      terms = term s.token o.2.tree no_terms;
+      terms = term (join_of s.token) o.2.tree no_terms;
       many = tt;
-      stand = (j, o.2.stands, tt);
-      spelled = (s, o.0 ++ o.2.more, [], ap (λ l. s ∷ l) (sym (append-nil (o.0 ++ o.2.more))), refl, o.2.spelled, refl);
+      stand = (ap (joins k) (sign_again k s.token j) ∙ j, o.2.stands, tt);
+      spelled = (s, o.0 ++ o.2.more, [], ap (λ l. s ∷ l) (sym (append-nil (o.0 ++ o.2.more))), sym (sign_again k s.token j), o.2.spelled, refl);
       range = (o.2.range, tt);
       deep = omega (arith, o.2.deep);
     },
     cause_to_terms (kind_strength k + 1) k f o.0 (s ∷ o.0) rest
         (λ here w. record {
           more = w.more;
-          terms = term s.token w.tree no_terms;
+          terms = term (join_of s.token) w.tree no_terms;
           many = tt;
-          stand = (j, w.stands, tt);
-          spelled = (s, o.0 ++ here ∷ w.more, [], ap (λ l. s ∷ l) (sym (append-nil (o.0 ++ here ∷ w.more))), refl, w.spelled, refl);
+          stand = (ap (joins k) (sign_again k s.token j) ∙ j, w.stands, tt);
+          spelled = (s, o.0 ++ here ∷ w.more, [], ap (λ l. s ∷ l) (sym (append-nil (o.0 ++ here ∷ w.more))), sym (sign_again k s.token j), w.spelled, refl);
         }) o.3,
   )
   one_more s ts next j ih (got e us) o = by (next us) (ih us)
     where
-      by : (r : Step (List Part)) → OutcomeTerms n k us r → OutcomeTerms n k (s ∷ ts) (with_front ((s.token, e) ∷ []) r)
+      by : (r : Step (List Part)) → OutcomeTerms n k us r → OutcomeTerms n k (s ∷ ts) (with_front ((join_of s.token, e) ∷ []) r)
       by (got xs rest) m = (
         s ∷ (o.0 ++ m.0),
         ap (λ l. s ∷ l) (o.1 ∙ ap (λ l. o.0 ++ l) m.1 ∙ sym (append_assoc o.0 m.0 rest)),
         record {
-          terms = term s.token o.2.tree m.2.terms;
-          stand = (j, o.2.stands, m.2.stand);
-          spelled = (s, o.0, m.0, refl, refl, o.2.spelled, m.2.spelled);
-          is = ap (λ d. term s.token d (bare_terms m.2.terms)) o.2.is ∙ ap (λ ps. term s.token e ps) m.2.is;
+          terms = term (join_of s.token) o.2.tree m.2.terms;
+          stand = (ap (joins k) (sign_again k s.token j) ∙ j, o.2.stands, m.2.stand);
+          spelled = (s, o.0, m.0, refl, sym (sign_again k s.token j), o.2.spelled, m.2.spelled);
+          is = ap (λ d. term (join_of s.token) d (bare_terms m.2.terms)) o.2.is ∙ ap (λ ps. term (join_of s.token) e ps) m.2.is;
           range = (o.2.range, m.2.range);
           deep = omega (arith, o.2.deep, m.2.deep);
         },
@@ -251,20 +252,20 @@ module _ (n : ℕ) (k : Kind) (part : Reader Tree) (sound : (ts : List PlacedTok
         ap (λ l. s ∷ l) (o.1 ∙ ap (λ l. o.0 ++ l) m.1 ∙ sym (append_assoc o.0 m.0 rest)),
         record {
           more = m.2.more;
-          terms = term s.token o.2.tree m.2.terms;
+          terms = term (join_of s.token) o.2.tree m.2.terms;
           many = tt;
-          stand = (j, o.2.stands, m.2.stand);
-          spelled = (s, o.0, m.0 ++ m.2.more, ap (λ l. s ∷ l) (append_assoc o.0 m.0 m.2.more), refl, o.2.spelled, m.2.spelled);
+          stand = (ap (joins k) (sign_again k s.token j) ∙ j, o.2.stands, m.2.stand);
+          spelled = (s, o.0, m.0 ++ m.2.more, ap (λ l. s ∷ l) (append_assoc o.0 m.0 m.2.more), sym (sign_again k s.token j), o.2.spelled, m.2.spelled);
           range = (o.2.range, m.2.range);
           deep = omega (arith, o.2.deep, m.2.deep);
         },
         cause_in_terms k f m.0 (s ∷ (o.0 ++ m.0)) rest
             (λ here w. record {
               more = w.more;
-              terms = term s.token o.2.tree w.terms;
+              terms = term (join_of s.token) o.2.tree w.terms;
               many = tt;
-              stand = (j, o.2.stands, w.stand);
-              spelled = (s, o.0, m.0 ++ here ∷ w.more, ap (λ l. s ∷ l) (append_assoc o.0 m.0 (here ∷ w.more)), refl, o.2.spelled, w.spelled);
+              stand = (ap (joins k) (sign_again k s.token j) ∙ j, o.2.stands, w.stand);
+              spelled = (s, o.0, m.0 ++ here ∷ w.more, ap (λ l. s ∷ l) (append_assoc o.0 m.0 (here ∷ w.more)), sym (sign_again k s.token j), o.2.spelled, w.spelled);
             }) m.3,
       )
 

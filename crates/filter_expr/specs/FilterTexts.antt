@@ -1,6 +1,6 @@
 -- What a text says as a filter, as a function: the filter that its tokens are read as, or the first fault.
 -- It is what the grammar gives the text: the filter where there is one, and else the first fault.
-use Rattle.std.specs.Prelude.{◌≡◌, ℕ, Bool, true, false, if◌then◌else◌, List, Result, Ok, Err}
+use Rattle.std.specs.Prelude.{◌≡◌, ℕ, true, false, List, Result, Ok, Err}
 use Rattle.plain_filters.specs.declared.Expr.{Expr}
 use Rattle.plain_filters.specs.declared.SumSign.{SumSign}
 use Rattle.plain_filters.specs.declared.SumSign.TheVariants as sum
@@ -11,25 +11,19 @@ use Rattle.filter_expr.specs.declared.tokens.Token.{Token}
 use Rattle.filter_expr.specs.declared.tokens.Token.TheVariants as token
 use Rattle.filter_expr.specs.declared.faults.FilterFault.{FilterFault}
 use Rattle.filter_expr.specs.declared.faults.FilterFault.TheVariants.{Bad, NumberRange, TooDeep, NoMemory}
-use Rattle.filter_expr.specs.Trees.{Tree, Terms, leaf, negation, negative, comparison, chain, parens, no_terms, term, or_chain, and_chain, sum_chain, product_chain, is_end}
+use Rattle.filter_expr.specs.Trees.{JoinSign, sum_sign, product_sign, Tree, Terms, leaf, negation, negative, comparison, chain, parens, no_terms, term, or_chain, and_chain, sum_chain, product_chain}
 use Rattle.filter_expr.specs.Lexing.{lexed}
 use Rattle.filter_expr.specs.Reading.{Step, got, failed, whole_filter}
 use Rattle.filter_expr.specs.Filters.{FilterOf, FaultOf}
 
--- the tree is only the end of the text, which stands in a chain of no parts where its first part would
-abbrev pub is_end_leaf : Tree → Bool
-is_end_leaf (leaf t) = is_end t
-is_end_leaf _ = false
-
--- the sign that a token is in a sum: `-`, and `+` for every other token
-abbrev pub sum_sign_of : Token → SumSign
-sum_sign_of token.Minus = sum.Minus
+-- the sign of a sum, and `+` for every other sign
+abbrev pub sum_sign_of : JoinSign → SumSign
+sum_sign_of (sum_sign s) = s
 sum_sign_of _ = sum.Plus
 
--- the sign that a token is in a product: `/`, `%`, and `*` for every other token
-abbrev pub product_sign_of : Token → ProductSign
-product_sign_of token.Divide = product.Divide
-product_sign_of token.Rest = product.Rest
+-- the sign of a product, and `*` for every other sign
+abbrev pub product_sign_of : JoinSign → ProductSign
+product_sign_of (product_sign s) = s
 product_sign_of _ = product.Times
 
 -- the filter that one token is: a name, a text, a number or a truth value, and null for every other token
@@ -48,8 +42,8 @@ abbrev mutual
   back (negation e) = not_tree (back e)
   back (negative e) = negate_tree (back e)
   back (comparison a c b) = compare_tree (back a) c (back b)
-  back (chain or_chain e ts) = or_tree (if is_end_leaf e then no_trees else tree_then (back e) (backs ts))
-  back (chain and_chain e ts) = and_tree (if is_end_leaf e then no_trees else tree_then (back e) (backs ts))
+  back (chain or_chain e ts) = or_tree (tree_then (back e) (backs ts))
+  back (chain and_chain e ts) = and_tree (tree_then (back e) (backs ts))
   back (chain sum_chain e ts) = sum_tree (back e) (back_sums ts)
   back (chain product_chain e ts) = product_tree (back e) (back_products ts)
   back (parens e) = back e
@@ -57,17 +51,17 @@ abbrev mutual
   -- the filters that a chain's later parts say
   pub backs : Terms → FilterTrees
   backs no_terms = no_trees
-  backs (term t e ts) = tree_then (back e) (backs ts)
+  backs (term s e ts) = tree_then (back e) (backs ts)
 
   -- the later parts of a sum, each with its sign
   pub back_sums : Terms → SumTrees
   back_sums no_terms = no_sums
-  back_sums (term t e ts) = sum_then (sum_sign_of t) (back e) (back_sums ts)
+  back_sums (term s e ts) = sum_then (sum_sign_of s) (back e) (back_sums ts)
 
   -- the later parts of a product, each with its sign
   pub back_products : Terms → ProductTrees
   back_products no_terms = no_products
-  back_products (term t e ts) = product_then (product_sign_of t) (back e) (back_products ts)
+  back_products (term s e ts) = product_then (product_sign_of s) (back e) (back_products ts)
 
 -- what was read, as a filter or a fault
 abbrev pub verdict : Step Tree → Result FilterTree FilterFault

@@ -2,7 +2,7 @@
 use Rattle.std.specs.Prelude.{◌≡◌, ℕ, ◌+◌, ◌≤◌, ◌||◌, IsTrue, List, [], ◌∷◌, ◌++◌}
 use Rattle.filter_expr.specs.declared.tokens.Token.TheVariants as token
 use Rattle.filter_expr.specs.declared.tokens.PlacedToken.{PlacedToken}
-use Rattle.filter_expr.specs.Trees.{Kind, Tree, Terms, leaf, negation, negative, comparison, chain, parens, no_terms, term, or_chain, and_chain, sum_chain, product_chain, joins, is_leaf, is_out_of_range}
+use Rattle.filter_expr.specs.Trees.{Kind, Tree, Terms, leaf, negation, negative, comparison, chain, parens, no_terms, term, or_chain, and_chain, sum_chain, product_chain, joins, sign_token, is_leaf, is_out_of_range}
 
 -- these tokens, wherever they stand in a text, spell the tree
 abbrev mutual
@@ -19,8 +19,8 @@ abbrev mutual
   -- the later parts of a chain, each behind its sign
   pub AreSpelled : Terms → List PlacedToken → Type 0
   AreSpelled no_terms us = us ≡ []
-  AreSpelled (term t e ts) us =
-      (s : PlacedToken) × (vs : List PlacedToken) × (ws : List PlacedToken) × (us ≡ s ∷ (vs ++ ws)) × (s.token ≡ t) × IsSpelled e vs × AreSpelled ts ws
+  AreSpelled (term j e ts) us =
+      (s : PlacedToken) × (vs : List PlacedToken) × (ws : List PlacedToken) × (us ≡ s ∷ (vs ++ ws)) × (s.token ≡ sign_token j) × IsSpelled e vs × AreSpelled ts ws
 
 -- ---- binding strengths, from `or`, the weakest: or 0, and 1, not 2, comparison 3, sum 4, product 5, unary minus 6,
 -- and 7 for what stands by itself
@@ -44,7 +44,7 @@ strength (parens e) = 7
 -- there is a later part at least
 abbrev pub IsMany : Terms → Type 0
 IsMany no_terms = ⊥
-IsMany (term t e ts) = Unit {0}
+IsMany (term s e ts) = Unit {0}
 
 -- the tree may stand where at least this strength is asked for: the table of forms
 abbrev mutual
@@ -59,4 +59,4 @@ abbrev mutual
   -- each later part stands behind a sign of the chain and binds more strongly than the chain
   pub StandTerms : Kind → Terms → Type 0
   StandTerms k no_terms = Unit {0}
-  StandTerms k (term s e ts) = IsTrue (joins k s) × Stands (kind_strength k + 1) e × StandTerms k ts
+  StandTerms k (term s e ts) = IsTrue (joins k (sign_token s)) × Stands (kind_strength k + 1) e × StandTerms k ts

@@ -8,7 +8,9 @@ use Rattle.filter_expr.specs.declared.faults.FilterFault.{FilterFault}
 use Rattle.filter_expr.specs.declared.faults.FilterFault.TheVariants.{Bad, NumberRange, TooDeep}
 use Rattle.plain_filters.specs.declared.CompareSign.{CompareSign}
 use Rattle.plain_filters.specs.declared.CompareSign.TheVariants as «compare»
-use Rattle.filter_expr.specs.Trees.{Kind, Tree, leaf, negation, negative, comparison, chain, or_chain, and_chain, sum_chain, product_chain, joins, is_leaf, is_out_of_range, is_open, is_close, is_minus, is_not, is_compare, is_end}
+use Rattle.plain_filters.specs.declared.SumSign.TheVariants as sum
+use Rattle.plain_filters.specs.declared.ProductSign.TheVariants as product
+use Rattle.filter_expr.specs.Trees.{Kind, JoinSign, or_sign, and_sign, sum_sign, product_sign, Tree, leaf, negation, negative, comparison, chain, or_chain, and_chain, sum_chain, product_chain, joins, is_leaf, is_out_of_range, is_open, is_close, is_minus, is_not, is_compare, is_end}
 use Rattle.filter_expr.specs.Seen.{Part, terms_of}
 
 -- what was read and what is left; or a fault, which stands at the first of what is left
@@ -45,6 +47,16 @@ abbrev pub sign_of : Token → CompareSign
 sign_of (token.Compare c) = c
 sign_of _ = compare.Equal
 
+-- the sign of a token that joins parts, and `or` for every other token
+abbrev pub join_of : Token → JoinSign
+join_of token.And = and_sign
+join_of token.Plus = sum_sign sum.Plus
+join_of token.Minus = sum_sign sum.Minus
+join_of token.Times = product_sign product.Times
+join_of token.Divide = product_sign product.Divide
+join_of token.Rest = product_sign product.Rest
+join_of _ = or_sign
+
 -- the next token, if it is a sign that joins a chain of this kind
 abbrev pub next_sign : Kind → List PlacedToken → Option Token
 next_sign k [] = None
@@ -65,7 +77,7 @@ unfoldable pub turns : Kind → Reader Tree → ℕ → Reader (List Part)
 turns k part zero ts = got [] ts
 turns k part (suc n) ts =
     if starts (joins k) ts
-    then then_read (part (drop 1 ts)) (λ e us. with_front ((first_token ts, e) ∷ []) (turns k part n us))
+    then then_read (part (drop 1 ts)) (λ e us. with_front ((join_of (first_token ts), e) ∷ []) (turns k part n us))
     else got [] ts
 
 -- all later parts of a chain: there are no more of them than tokens

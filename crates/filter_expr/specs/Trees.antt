@@ -12,6 +12,12 @@ use Rattle.filter_expr.specs.declared.tokens.Token.TheVariants as token
 pub data Kind : Type 0 where
   or_chain and_chain sum_chain product_chain : Kind
 
+-- the signs that join the parts of a chain
+pub data JoinSign : Type 0 where
+  or_sign and_sign : JoinSign
+  sum_sign : SumSign → JoinSign
+  product_sign : ProductSign → JoinSign
+
 -- a filter as a text spells it, with its parentheses
 mutual
   pub data Tree : Type 0 where
@@ -28,7 +34,7 @@ mutual
   -- the later parts of a chain, each behind its sign
   pub data Terms : Type 0 where
     no_terms : Terms
-    term : Token → Tree → Terms → Terms
+    term : JoinSign → Tree → Terms → Terms
 
 -- ---- tests of a token
 
@@ -105,7 +111,7 @@ is_leaf token.False = true
 is_leaf token.Null = true
 is_leaf _ = false
 
--- the sign joins the parts of a chain of this kind
+-- the token is a sign that joins the parts of a chain of this kind
 abbrev pub joins : Kind → Token → Bool
 joins or_chain = is_or
 joins and_chain = is_and
@@ -127,6 +133,13 @@ product_token product.Times = token.Times
 product_token product.Divide = token.Divide
 product_token product.Rest = token.Rest
 
+-- the token of a sign that joins
+abbrev pub sign_token : JoinSign → Token
+sign_token or_sign = token.Or
+sign_token and_sign = token.And
+sign_token (sum_sign s) = sum_token s
+sign_token (product_sign s) = product_token s
+
 -- ---- what is asked of a tree
 
 -- the tree without its parentheses
@@ -142,7 +155,7 @@ abbrev mutual
   -- the later parts of a chain without their parentheses
   pub bare_terms : Terms → Terms
   bare_terms no_terms = no_terms
-  bare_terms (term t e ts) = term t (bare e) (bare_terms ts)
+  bare_terms (term s e ts) = term s (bare e) (bare_terms ts)
 
 -- how many `not`, negative signs and parentheses are open at once, at most
 abbrev mutual
@@ -157,7 +170,7 @@ abbrev mutual
   -- how many `not`, negative signs and parentheses are open at once in the later parts of a chain, at most
   pub nesting_terms : Terms → ℕ
   nesting_terms no_terms = 0
-  nesting_terms (term t e ts) = max (nesting e) (nesting_terms ts)
+  nesting_terms (term s e ts) = max (nesting e) (nesting_terms ts)
 
 -- no number in the tree passes the greatest one
 abbrev mutual
@@ -172,4 +185,4 @@ abbrev mutual
   -- no number in the later parts of a chain passes the greatest one
   pub TermsInRange : Terms → Type 0
   TermsInRange no_terms = Unit {0}
-  TermsInRange (term t e ts) = InRange e × TermsInRange ts
+  TermsInRange (term s e ts) = InRange e × TermsInRange ts

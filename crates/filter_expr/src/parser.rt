@@ -4,7 +4,7 @@ ghost use Rattle.std.specs.Prelude.{◌≡◌, ◌≤◌, length, map};
 ghost use Rattle.plain_filters.specs.Filters.{tree_of, trees_of};
 ghost use Rattle.filter_expr.specs.Seen.{seen, joined};
 ghost use Rattle.filter_expr.specs.Reading.{not_in, compare_in, sum_in, product_in, unary_in, atom_in, within_depth};
-ghost use Rattle.filter_expr.specs.inner.Connectives.{connective_kind, connective_token, chain_kind, chain_in, part_in};
+ghost use Rattle.filter_expr.specs.inner.Connectives.{connective_kind, connective_sign, chain_kind, chain_in, part_in};
 ghost use Rattle.filter_expr.specs.inner.Gives.{Gives};
 
 use crate::faults::FilterFault;
@@ -30,7 +30,7 @@ impl Connective {
     }
 
     fn join(self, parts: Vec<Expr>) -> Expr
-        ensures { seen result ≡ joined (chain_kind self) (connective_token self) (trees_of (map tree_of parts.items)) }
+        ensures { seen result ≡ joined (chain_kind self) (connective_sign self) (trees_of (map tree_of parts.items)) }
     {
         match self {
             Connective::Or => Expr::Or(parts),

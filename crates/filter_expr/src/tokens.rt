@@ -11,7 +11,7 @@ use std::collections::VecDeque;
 use std::marker::Model;
 
 /// A token of a filter text. Both spellings of a word or sign, as `or` and two bars, are one token.
-#[derive(Debug, Drop)]
+#[derive(Drop)]
 pub enum Token {
     Name(Text),
     Quoted(Text),
@@ -55,14 +55,14 @@ pub enum TokenKind {
 }
 
 /// A token and the place of its first byte in the text.
-#[derive(Debug, Drop)]
+#[derive(Drop)]
 pub struct PlacedToken {
     pub token: Token,
     pub offset: usize,
 }
 
 /// The tokens that are still to be read, the next one first.
-#[derive(Debug, Drop)]
+#[derive(Drop)]
 pub struct TokenStream {
     left: VecDeque<PlacedToken>,
 }

@@ -11,7 +11,7 @@ use Rattle.plain_filters.specs.Filters.{tree_of}
 use Rattle.filter_expr.specs.declared.tokens.Token.{Token}
 use Rattle.filter_expr.specs.declared.tokens.Token.TheVariants as token
 use Rattle.filter_expr.specs.declared.tokens.PlacedToken.{PlacedToken}
-use Rattle.filter_expr.specs.Trees.{Kind, Tree, Terms, leaf, negation, negative, comparison, chain, parens, no_terms, term, or_chain, and_chain, sum_chain, product_chain, joins, is_leaf, bare, bare_terms, nesting, nesting_terms, InRange, TermsInRange}
+use Rattle.filter_expr.specs.Trees.{Kind, Tree, Terms, leaf, negation, negative, comparison, chain, parens, no_terms, term, or_chain, and_chain, sum_chain, product_chain, joins, sign_token, is_leaf, bare, bare_terms, nesting, nesting_terms, InRange, TermsInRange}
 use Rattle.filter_expr.specs.Seen.{shape}
 use Rattle.farm_base.specs.Digits.{is_digit, number_after}
 use Rattle.filter_expr.specs.Spelling.{IsDigits, number_of, IsQuoting, Spells, begins_with, EndsBefore, AreTokens, TokensOf}
@@ -303,7 +303,7 @@ mutual
   terms_said no_terms k us s r p h = tt
   terms_said (term t e ts) k us s r p h =
       let heard : Heard (p.0 ∷ (p.1 ++ p.2)) = subst Heard p.3 h in (
-        sign_said k t s.0,
+        sign_said k (sign_token t) s.0,
         said_both (tokens_in (guarded (kind_strength k + 1) (shown e))) (tokens_of_terms (shown_terms k ts))
             (guarded_said (kind_strength k + 1) (shown e) (shown_said e (kind_strength k + 1) p.1 s.1 r.0 p.5 (heard_first p.1 p.2 heard.1)))
             (terms_said ts k p.2 s.2 r.1 p.6 (heard_second p.1 p.2 heard.1)),
@@ -468,7 +468,7 @@ mutual
   spell_terms no_terms [] m = refl
   spell_terms no_terms (s ∷ ss) m = absurd (no_tokens s.token (map (λ (x : PlacedToken). x.token) ss) (sym m))
   spell_terms (term t e ts) ss m =
-      let f = first_placed ss t (tokens_in e ++ tokens_of_terms ts) m in
+      let f = first_placed ss (sign_token t) (tokens_in e ++ tokens_of_terms ts) m in
       let c : Cut f.1 (tokens_in e) (tokens_of_terms ts) = cut f.1 (tokens_in e) (tokens_of_terms ts) f.4 in
       (f.0, c.first, c.second, f.2 ∙ ap (λ l. f.0 ∷ l) c.split, f.3, spells_tree e c.first c.left, spell_terms ts c.second c.right)
 

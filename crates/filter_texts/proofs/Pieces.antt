@@ -11,7 +11,7 @@ use Rattle.plain_filters.specs.declared.ProductPart.{ProductPart}
 use Rattle.plain_filters.specs.declared.CompareSign.{CompareSign}
 use Rattle.filter_expr.specs.declared.tokens.Token.{Token}
 use Rattle.filter_expr.specs.declared.tokens.Token.TheVariants as token
-use Rattle.filter_expr.specs.Trees.{Kind, Tree, leaf, parens, or_chain, and_chain, sum_chain, product_chain}
+use Rattle.filter_expr.specs.Trees.{Kind, JoinSign, or_sign, and_sign, sign_token, Tree, leaf, parens, or_chain, and_chain, sum_chain, product_chain}
 use Rattle.filter_expr.specs.Seen.{Part, seen, terms_of, behind, truth_token}
 use Rattle.filter_expr.specs.Grammar.{kind_strength, strength}
 use Rattle.filter_expr.proofs.SeenLemmas.{listed, seen-Or, seen-And, seen-Not, seen-Compare, seen-Sum, seen-Product, seen-Negate, seen-Name, seen-Text, seen-Number, seen-Truth, seen-Null}
@@ -29,12 +29,12 @@ put_both out (t ∷ ts) us = put_both (put_behind out (spelling t)) ts us
 terms_put : (k : Kind) (ps : List Part) (out : List ℕ) → put_tokens out (tokens_of_terms (shown_terms k (terms_of ps))) ≡ put_terms (kind_strength k + 1) ps out
 terms_put k [] out = refl
 terms_put k (p ∷ ps) out =
-    put_both (put_behind out (spelling p.0)) (tokens_in (guarded (kind_strength k + 1) (shown p.1))) (tokens_of_terms (shown_terms k (terms_of ps)))
-    ∙ terms_put k ps (put_tree (kind_strength k + 1) p.1 (put_behind out (spelling p.0)))
+    put_both (put_behind out (spelling (sign_token p.0))) (tokens_in (guarded (kind_strength k + 1) (shown p.1))) (tokens_of_terms (shown_terms k (terms_of ps)))
+    ∙ terms_put k ps (put_tree (kind_strength k + 1) p.1 (put_behind out (spelling (sign_token p.0))))
 
-parts_put : (t : Token) (l : ℕ) (xs : List Tree) (out : List ℕ) → put_terms l (behind t xs) out ≡ put_parts (spelling t) l xs out
+parts_put : (t : JoinSign) (l : ℕ) (xs : List Tree) (out : List ℕ) → put_terms l (behind t xs) out ≡ put_parts (spelling (sign_token t)) l xs out
 parts_put t l [] out = refl
-parts_put t l (x ∷ xs) out = parts_put t l xs (put_tree l x (put_behind out (spelling t)))
+parts_put t l (x ∷ xs) out = parts_put t l xs (put_tree l x (put_behind out (spelling (sign_token t))))
 
 nothing_put : (k : Kind) (out : List ℕ) → put_tokens out (tokens_in (guarded (kind_strength k + 1) (leaf token.End)) ++ []) ≡ put_behind out []
 nothing_put or_chain out = refl
@@ -42,7 +42,7 @@ nothing_put and_chain out = refl
 nothing_put sum_chain out = refl
 nothing_put product_chain out = refl
 
-list_put : (k : Kind) (t : Token) (xs : List Tree) (out : List ℕ) → put_form (listed k t xs) out ≡ put_list (spelling t) (kind_strength k + 1) xs out
+list_put : (k : Kind) (t : JoinSign) (xs : List Tree) (out : List ℕ) → put_form (listed k t xs) out ≡ put_list (spelling (sign_token t)) (kind_strength k + 1) xs out
 list_put k t [] out = nothing_put k out
 list_put k t (x ∷ xs) out =
     put_both out (tokens_in (guarded (kind_strength k + 1) (shown x))) (tokens_of_terms (shown_terms k (terms_of (behind t xs))))
@@ -56,10 +56,10 @@ chain_put k e ps out =
 -- ---- forms
 
 pub form-Or : (out : List ℕ) (v : Vec Expr Global) → put_form (seen (node.Or v)) out ≡ put_list (spelling token.Or) 1 (map seen v.items) out
-form-Or out v = ap (λ e. put_form e out) (seen-Or v) ∙ list_put or_chain token.Or (map seen v.items) out
+form-Or out v = ap (λ e. put_form e out) (seen-Or v) ∙ list_put or_chain or_sign (map seen v.items) out
 
 pub form-And : (out : List ℕ) (v : Vec Expr Global) → put_form (seen (node.And v)) out ≡ put_list (spelling token.And) 2 (map seen v.items) out
-form-And out v = ap (λ e. put_form e out) (seen-And v) ∙ list_put and_chain token.And (map seen v.items) out
+form-And out v = ap (λ e. put_form e out) (seen-And v) ∙ list_put and_chain and_sign (map seen v.items) out
 
 pub form-Not : (out : List ℕ) (b : Box Expr Global) → put_form (seen (node.Not b)) out ≡ put_tree 2 (seen b.value) (put_behind out (spelling token.Not))
 form-Not out b = ap (λ e. put_form e out) (seen-Not b)
@@ -109,7 +109,7 @@ put_guarded l e out h =
 -- ---- one turn of each loop
 
 module _ {A : Type 0} (l : ℕ) (xs : List A) (i : ℕ) (x : A) (h : i < length xs) (e : x ≡ get_or xs i x) where
-  pub term_here : (f : A → Part) (out : List ℕ) → put_terms l (map f (drop i xs)) out ≡ put_terms l (map f (drop (i + 1) xs)) (put_tree l (f x).1 (put_behind out (spelling (f x).0)))
+  pub term_here : (f : A → Part) (out : List ℕ) → put_terms l (map f (drop i xs)) out ≡ put_terms l (map f (drop (i + 1) xs)) (put_tree l (f x).1 (put_behind out (spelling (sign_token (f x).0))))
   term_here f out = ap (λ ys. put_terms l (map f ys) out) (left_here xs i x h e)
 
   pub part_here : (f : A → Tree) (word out : List ℕ) → put_parts word l (map f (drop i xs)) out ≡ put_parts word l (map f (drop (i + 1) xs)) (put_tree l (f x) (put_behind out word))
@@ -121,15 +121,15 @@ list_begins word l f xs x out h e = ap (λ ys. put_list word l (map f ys) out) (
 
 -- ---- strengths
 
-listed_strength : (k : Kind) (t : Token) (xs : List Tree) → strength (shown (listed k t xs)) ≡ kind_strength k
+listed_strength : (k : Kind) (t : JoinSign) (xs : List Tree) → strength (shown (listed k t xs)) ≡ kind_strength k
 listed_strength k t [] = refl
 listed_strength k t (x ∷ xs) = refl
 
 pub strength-Or : (v : Vec Expr Global) → strength (shown (seen (node.Or v))) ≡ 0
-strength-Or v = ap (λ e. strength (shown e)) (seen-Or v) ∙ listed_strength or_chain token.Or (map seen v.items)
+strength-Or v = ap (λ e. strength (shown e)) (seen-Or v) ∙ listed_strength or_chain or_sign (map seen v.items)
 
 pub strength-And : (v : Vec Expr Global) → strength (shown (seen (node.And v))) ≡ 1
-strength-And v = ap (λ e. strength (shown e)) (seen-And v) ∙ listed_strength and_chain token.And (map seen v.items)
+strength-And v = ap (λ e. strength (shown e)) (seen-And v) ∙ listed_strength and_chain and_sign (map seen v.items)
 
 pub strength-Not : (b : Box Expr Global) → strength (shown (seen (node.Not b))) ≡ 2
 strength-Not b = ap (λ e. strength (shown e)) (seen-Not b)

@@ -6,7 +6,7 @@ use Rattle.plain_filters.specs.declared.Expr.{Expr}
 use Rattle.plain_filters.specs.Filters.{FilterTree, tree_of}
 use Rattle.filter_expr.specs.declared.tokens.Token.{Token}
 use Rattle.filter_expr.specs.declared.tokens.Token.TheVariants as token
-use Rattle.filter_expr.specs.Trees.{Kind, Tree, Terms, leaf, negation, negative, comparison, chain, parens, no_terms, term}
+use Rattle.filter_expr.specs.Trees.{Kind, Tree, Terms, leaf, negation, negative, comparison, chain, parens, no_terms, term, sign_token}
 use Rattle.filter_expr.specs.Grammar.{kind_strength, strength}
 use Rattle.filter_expr.specs.Seen.{shape}
 use Rattle.filter_expr.specs.declared.faults.FilterFault.{FilterFault}
@@ -62,7 +62,7 @@ abbrev mutual
   -- the later parts of a chain with parentheses only where they are needed
   pub shown_terms : Kind → Terms → Terms
   shown_terms k no_terms = no_terms
-  shown_terms k (term t e ts) = term t (guarded (kind_strength k + 1) (shown e)) (shown_terms k ts)
+  shown_terms k (term s e ts) = term s (guarded (kind_strength k + 1) (shown e)) (shown_terms k ts)
 
 -- the tokens of a tree
 abbrev mutual
@@ -77,7 +77,7 @@ abbrev mutual
   -- the tokens of the later parts of a chain, each behind its sign
   pub tokens_of_terms : Terms → List Token
   tokens_of_terms no_terms = []
-  tokens_of_terms (term t e ts) = t ∷ (tokens_in e ++ tokens_of_terms ts)
+  tokens_of_terms (term s e ts) = sign_token s ∷ (tokens_in e ++ tokens_of_terms ts)
 
 -- a spelling behind what was written so far, and a space between the two
 abbrev pub put_behind : List ℕ → List ℕ → List ℕ

@@ -1,11 +1,9 @@
 -- The two chains that a word joins, by that word. Words of inner contracts.
 use Rattle.filter_expr.specs.declared.parser.Connective.{Connective}
 use Rattle.filter_expr.specs.declared.parser.Connective.TheVariants as connective
-use Rattle.filter_expr.specs.declared.tokens.Token.{Token}
-use Rattle.filter_expr.specs.declared.tokens.Token.TheVariants as token
 use Rattle.filter_expr.specs.declared.tokens.TokenKind.{TokenKind}
 use Rattle.filter_expr.specs.declared.tokens.TokenKind.TheVariants as kind
-use Rattle.filter_expr.specs.Trees.{Kind, Tree, or_chain, and_chain}
+use Rattle.filter_expr.specs.Trees.{Kind, JoinSign, or_sign, and_sign, Tree, or_chain, and_chain}
 use Rattle.filter_expr.specs.Reading.{Reader, Inner, or_in, and_in, not_in}
 
 -- the token of the word, as it is asked for
@@ -13,10 +11,10 @@ abbrev pub connective_kind : Connective → TokenKind
 connective_kind connective.Or = kind.Or
 connective_kind connective.And = kind.And
 
--- the token of the word
-abbrev pub connective_token : Connective → Token
-connective_token connective.Or = token.Or
-connective_token connective.And = token.And
+-- the sign of the word
+abbrev pub connective_sign : Connective → JoinSign
+connective_sign connective.Or = or_sign
+connective_sign connective.And = and_sign
 
 -- the chain of the word
 abbrev pub chain_kind : Connective → Kind

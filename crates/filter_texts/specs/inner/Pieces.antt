@@ -1,6 +1,6 @@
 -- The text of a filter put together piece by piece, each behind what was written so far.
 use Rattle.std.specs.Prelude.{ℕ, Bool, ◌==◌, ◌||◌, if◌then◌else◌, List, [], ◌∷◌, ◌++◌, encode_utf8}
-use Rattle.filter_expr.specs.Trees.{Tree}
+use Rattle.filter_expr.specs.Trees.{Tree, sign_token}
 use Rattle.filter_expr.specs.Seen.{Part}
 use Rattle.filter_texts.specs.Written.{spelling, guarded, shown, tokens_in, put_behind, put_tokens}
 
@@ -38,4 +38,4 @@ put_list word l (x ∷ xs) out = put_parts word l xs (put_tree l x out)
 -- trees, each behind its sign
 abbrev pub put_terms : ℕ → List Part → List ℕ → List ℕ
 put_terms l [] out = out
-put_terms l (p ∷ ps) out = put_terms l ps (put_tree l p.1 (put_behind out (spelling p.0)))
+put_terms l (p ∷ ps) out = put_terms l ps (put_tree l p.1 (put_behind out (spelling (sign_token p.0))))

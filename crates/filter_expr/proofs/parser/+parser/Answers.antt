@@ -1,7 +1,7 @@
 use Rattle.std.proofs.Common.{◌≡◌, [], Some, None, length, map, true, false, sym, ◌∙◌, ap, arith, rules}
 use Rattle.std.proofs.lemmas.List.{map-append}
 use Rattle.std.proofs.lemmas.Result.{err_from_is_err_and}
-use Rattle.filter_expr.specs.Trees.{sum_chain, product_chain, sum_token, product_token, chain}
+use Rattle.filter_expr.specs.Trees.{sum_chain, product_chain, sum_token, product_token, sum_sign, product_sign, chain}
 use Rattle.filter_expr.specs.Seen.{seen, terms_of}
 use Rattle.filter_expr.specs.Reading.{got, sum_in, product_in, unary_in, within_depth, starts, next_sign, later}
 use Rattle.filter_expr.specs.inner.Connectives.{connective_kind, chain_in}
@@ -40,8 +40,8 @@ product-products-preserved t c = record {
       rw (c.in_ok-push.ensures.items, map-append, seen_product-made)
       (loop_goes product_chain (unary_in (within_depth c.args.depth_left)) (unary_shortens (within_depth c.args.depth_left) (within_shortens c.args.depth_left))
       (map seen_product c.products.parts.items) c.products.stream (later product_chain (unary_in (within_depth c.args.depth_left)) c.unary.new.stream) c.products.invariant.read
-      (product_token c.in-Some.sign) (seen c.in_ok-part.part) c.unary-in-Some.new.stream (sign_joins product_chain c.products.stream (product_token c.in-Some.sign) next)
-      (sign_is product_chain c.products.stream (product_token c.in-Some.sign) next) (rw c.skip.ensures at c.in_ok-part.ensures.read));
+      (product_sign c.in-Some.sign) (seen c.in_ok-part.part) c.unary-in-Some.new.stream (sign_joins product_chain c.products.stream (product_token c.in-Some.sign) next)
+      (sign_is product_chain c.products.stream (product_sign c.in-Some.sign) next) (rw c.skip.ensures at c.in_ok-part.ensures.read));
   many = λ _. rw c.in_ok-push.ensures.items (grown c.products.parts.items _);
   left = omega (arith, drop_one c.products.stream, ap length c.skip.ensures, c.unary-in-Some.ensures.left, c.products.invariant.left);
 }
@@ -88,8 +88,8 @@ sum-sums-preserved t c = record {
       rw (c.in_ok-push.ensures.items, map-append, seen_sum-made)
       (loop_goes sum_chain (product_in (within_depth c.args.depth_left)) (product_shortens (within_depth c.args.depth_left) (within_shortens c.args.depth_left))
       (map seen_sum c.sums.parts.items) c.sums.stream (later sum_chain (product_in (within_depth c.args.depth_left)) c.product.new.stream) c.sums.invariant.read
-      (sum_token c.in-Some.sign) (seen c.in_ok-part.part) c.product-in-Some.new.stream (sign_joins sum_chain c.sums.stream (sum_token c.in-Some.sign) next)
-      (sign_is sum_chain c.sums.stream (sum_token c.in-Some.sign) next) (rw c.skip.ensures at c.in_ok-part.ensures.read));
+      (sum_sign c.in-Some.sign) (seen c.in_ok-part.part) c.product-in-Some.new.stream (sign_joins sum_chain c.sums.stream (sum_token c.in-Some.sign) next)
+      (sign_is sum_chain c.sums.stream (sum_sign c.in-Some.sign) next) (rw c.skip.ensures at c.in_ok-part.ensures.read));
   many = λ _. rw c.in_ok-push.ensures.items (grown c.sums.parts.items _);
   left = omega (arith, drop_one c.sums.stream, ap length c.skip.ensures, c.product-in-Some.ensures.left, c.sums.invariant.left);
 }

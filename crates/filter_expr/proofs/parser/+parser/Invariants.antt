@@ -4,7 +4,7 @@ use Rattle.filter_expr.specs.declared.parser.Connective.TheVariants as connectiv
 use Rattle.filter_expr.specs.Trees.{sum_chain, product_chain}
 use Rattle.filter_expr.specs.Seen.{seen}
 use Rattle.filter_expr.specs.Reading.{with_front, later, within_depth, starts, next_sign, product_in, unary_in}
-use Rattle.filter_expr.specs.inner.Connectives.{connective_kind, connective_token, chain_kind, chain_in, part_in}
+use Rattle.filter_expr.specs.inner.Connectives.{connective_kind, connective_sign, chain_kind, chain_in, part_in}
 use Rattle.filter_expr.specs.inner.Kinds.{is_of}
 use Rattle.filter_expr.specs.inner.SeenParts.{seen_sum, seen_product}
 use Rattle.filter_expr.proofs.Connectives.{resumed}
@@ -41,7 +41,7 @@ decreases-atom l = 16 * l.depth_left + 1
 
 abbrev pub invariant-chain-parts : goal.invariant-chain-parts
 invariant-chain-parts l = record {
-  read : resumed (chain_kind l.connective) (connective_token l.connective) (map seen l.parts.items)
+  read : resumed (chain_kind l.connective) (connective_sign l.connective) (map seen l.parts.items)
       (later (chain_kind l.connective) (part_in l.connective (within_depth l.depth_left)) l.stream)
       ≡ chain_in l.connective (within_depth l.depth_left) l.fn.stream;
   some : 1 ≤ length l.parts.items;
