@@ -31,6 +31,10 @@ pub joined_rest : (chunks : Chunks) (i : ℕ) (c : ChunkShare) → i < length ch
 joined_rest chunks i c small at =
     ap joined (drop_more chunks i c small) ∙ ap (λ (s : ChunkShare). arc_value s ++ joined (drop (i + 1) chunks)) (sym at)
 
+pub joined_none : (chunks : Chunks) → length chunks ≡ 0 → joined chunks ≡ []
+joined_none [] none = refl
+joined_none (c ∷ chunks) none = absurd (omega arith)
+
 pub joined_split : (chunks : Chunks) (i : ℕ) → joined chunks ≡ joined (take i chunks) ++ joined (drop i chunks)
 joined_split chunks i = ap joined (sym (take-append-drop i chunks)) ∙ flat_map-append arc_value (take i chunks) (drop i chunks)
 

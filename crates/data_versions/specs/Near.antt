@@ -1,5 +1,5 @@
 -- Where in a layer a feature stands, and which feature is near a rectangle next.
-use Rattle.std.specs.Prelude.{ℕ, ◌+◌, Bool, nat_eq, List, drop, position, Option, option_map}
+use Rattle.std.specs.Prelude.{ℕ, ◌+◌, Bool, nat_eq, List, drop, filter, position, Option, option_map}
 use Rattle.plain_data.specs.Features.{Feature}
 use Rattle.geo_model.specs.declared.bounds.Bounds.{Bounds}
 use Rattle.geo_model.specs.Bounds.{bounds_of, meets}
@@ -16,3 +16,7 @@ is_near around f = meets (bounds_of (parts_of f.geometry)) around
 -- the least place from `from` on of a feature near the rectangle
 abbrev pub next_near : List Feature → ℕ → Bounds → Option ℕ
 next_near features from around = option_map (λ k. from + k) (position (is_near around) (drop from features))
+
+-- the features near the rectangle, in order
+abbrev pub all_near : List Feature → Bounds → List Feature
+all_near features around = filter (is_near around) features

@@ -1,7 +1,7 @@
 //! A chunk of a layer: up to 256 features that snapshots share, with the box and the cells in which they lie.
 ghost use Rattle.std.specs.Prelude.{◌≡◌, ◌≤◌, ◌<◌, ◌+◌, false, length, drop, position, slice_get, All, IfSome, IfOk};
 ghost use Rattle.std.specs.Option.{option_copied};
-ghost use Rattle.data_versions.specs.Near.{place_of, is_near};
+ghost use Rattle.data_versions.specs.Near.{place_of, is_near, all_near};
 ghost use Rattle.data_versions.specs.inner.Cells.{IsWide, IsBoxed, IsMarked, box_of};
 ghost use Rattle.data_versions.specs.inner.Chunks.{IsIndex};
 ghost use Rattle.geo_model.specs.Bounds.{Within};
@@ -156,6 +156,19 @@ impl Chunk {
         find_near(&self.features[from..], around)
     }
 
+    /// The features among which all that are near the rectangle are: none where no cell meets it.
+    pub(crate) fn near_part(&self, around: Bounds) -> &[Feature]
+        requires { IsWide around }
+        ensures near { all_near result.now around ≡ all_near self.now around }
+        ensures few { length result.now ≤ 256 }
+    {
+        if self.may_meet(around) {
+            self.features.as_slice()
+        } else {
+            &[]
+        }
+    }
+
     /// The place of the feature with the id.
     pub(crate) fn place_of(&self, id: u64) -> Option<usize>
         ensures place { result ≡ place_of self.now id }
@@ -175,7 +188,7 @@ fn is_near(feature: &Feature, around: Bounds) -> bool
 }
 
 /// The first place of a feature near the rectangle.
-fn find_near(features: &[Feature], around: Bounds) -> Option<usize>
+pub(crate) fn find_near(features: &[Feature], around: Bounds) -> Option<usize>
     ensures place { result ≡ position (is_near around) features.now }
     ensures bound { IfSome result (λ place. place < length features.now) }
 {

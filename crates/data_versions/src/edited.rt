@@ -1,5 +1,5 @@
 //! The layers of a snapshot while an update changes them.
-ghost use Rattle.std.specs.Prelude.{◌≡◌, ◌≢◌, ◌≤◌, true, false, nat_eq, length, map, IfOk, OnOk, IfErr, Some, None, option_map};
+ghost use Rattle.std.specs.Prelude.{◌≡◌, ◌≢◌, true, false, IfOk, OnOk, IfErr, Some, None, option_map};
 ghost use Rattle.std.specs.Arc.{arc_value};
 ghost use Rattle.std.specs.Str.{bytes_eq};
 ghost use Rattle.plain_data.specs.Data.{ids_of, kept, first_missing, is_too_many, with_puts, with_change, features_fault, changed_layer, IsLayer};

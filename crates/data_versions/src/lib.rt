@@ -11,9 +11,11 @@ mod edited;
 mod slot;
 mod snapshot;
 mod updates;
+mod walk;
 
 pub use dataset::{Change, Dataset, Layer, Update};
 pub use farm_base::ApplyFault;
 pub use geo_model::Feature;
 pub use snapshot::{LayerView, Snapshot};
 pub use updates::apply;
+pub use walk::NearFeatures;

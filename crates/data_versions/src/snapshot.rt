@@ -2,13 +2,14 @@
 ghost use Rattle.std.specs.Prelude.{◌≡◌, ◌≤◌, IfOk, All, length, slice_get};
 ghost use Rattle.std.specs.Option.{option_copied};
 ghost use Rattle.plain_data.specs.Data.{IsLayer, IsDataset, layer_named, features_named};
-ghost use Rattle.data_versions.specs.Near.{place_of, next_near};
+ghost use Rattle.data_versions.specs.Near.{place_of, next_near, all_near};
 ghost use Rattle.data_versions.specs.Shared.{shared_layers};
 ghost use Rattle.plain_data.specs.Limits.{most_features};
 
 use crate::builder::ChunkBuilder;
 use crate::chunked::ChunkedLayer;
 use crate::dataset::{Dataset, Layer};
+use crate::walk::NearFeatures;
 use farm_base::NoMemory;
 use geo_model::{Bounds, Feature};
 use std::alloc::Global;
@@ -172,5 +173,21 @@ impl LayerView<'_> {
             south,
         };
         self.layer.next_near(from, around)
+    }
+    /// A walk over the features whose bounding box, borders included, has a point in common with the
+    /// rectangle, borders included, in order. The caller sees to it that the rectangle's west is not past its
+    /// east, nor its north past its south.
+    pub fn near(&self, west: u32, north: u32, east: u32, south: u32) -> NearFeatures<'_>
+        requires across { west ≤ east }
+        requires down { north ≤ south }
+        ensures { result ≡ all_near self.now (record { west = west; north = north; east = east; south = south }) }
+    {
+        let around = Bounds {
+            west,
+            north,
+            east,
+            south,
+        };
+        NearFeatures::of(self.layer.chunks(), around)
     }
 }
