@@ -17,7 +17,6 @@ use Rattle.plain_drawing.specs.Rules.{matches, is_fallback, taken}
 use Rattle.plain_drawing.specs.Drawing.{Item, item_attrs}
 use Rattle.plain_drawing.specs.inner.Pictures.{with_symbolizer, with_item}
 use Rattle.tile_render.specs.inner.Chosen.{with_rule, with_chosen}
-use Rattle.tile_render.proofs.Skipping.{none_past}
 
 chosen_by : (b : Bool) (w : Window) (item : Item) (p : Rule → Bool) (r : Rule) (rules : List Rule) (image : Pixels)
     → fold (with_symbolizer w item) (if b then with_rule w item image r else image) (flat_map (λ r. r.symbolizers) (filter p rules))
@@ -61,6 +60,10 @@ first_at p rules k r rest found is behind =
 -- the rules behind a place, as the code takes them
 pub rules_behind : {X : Type 0} (xs ys : List X) (n : ℕ) → xs ≡ ys → take (length xs - n) (drop n xs) ≡ drop n ys
 rules_behind xs ys n same = take_all (length xs - n) (drop n xs) (omega (arith, length-drop n xs)) ∙ ap (drop n) same
+
+none_past : (t : Bool) (n : ℕ) → cond t (Some n) None ≡ None → t ≡ false
+none_past true n h = absurd (cc)
+none_past false n h = refl
 
 -- where none matches
 pub no_match : (p : Rule → Bool) (rules : List Rule) → None ≡ position p rules → list_any p rules ≡ false

@@ -100,15 +100,9 @@ fn draw_features(
 {
     style.know();
     let near = around(canvas.window());
-    // Read for what `len` ensures: the number of features is a `u32`, so a place past each of them is one too.
-    let _count = features.len();
-    let mut place = 0;
-    while let Some(next) = features.next_near(place, near.west, near.north, near.east, near.south) {
-        let Some(feature) = features.get(next) else {
-            return Ok(());
-        };
+    let mut walk = features.near(near.west, near.north, near.east, near.south);
+    while let Some(feature) = walk.next() {
         draw_item(alloc, denominator, style, Item::Feature(feature), canvas)?;
-        place = next + 1;
     }
     Ok(())
 }

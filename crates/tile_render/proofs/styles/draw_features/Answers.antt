@@ -1,27 +1,32 @@
-use Rattle.std.proofs.Common.{◌∙◌, ap, sym, subst}
-use Rattle.std.specs.Prelude.{slice_get}
+use Rattle.std.proofs.Common.{◌∙◌, fold, map, refl, ap, sym, subst}
 use Rattle.plain_world.specs.World.{IsWindow}
-use Rattle.data_versions.specs.Near.{next_near}
+use Rattle.plain_drawing.specs.Drawing.{feature}
+use Rattle.plain_drawing.specs.inner.Pictures.{with_item}
+use Rattle.data_versions.specs.Near.{all_near}
 use Rattle.tile_render.specs.inner.Regions.{around}
-use Rattle.tile_render.proofs.Skipping.{next_is, next_drawn, all_drawn, feature_drawn}
+use Rattle.tile_render.proofs.Skipping.{near_drawn, one_drawn}
 use Rattle.tile_render.proofs.styles.draw_features.Goals as goal
 
-pub loop-next-preserved : goal.loop-next-preserved
-loop-next-preserved c = record {
+pub loop-feature-init : goal.loop-feature-init
+loop-feature-init c = record {
   drawn =
-      next_drawn c.args.canvas.now.window c.args.denominator c.args.style.now c.args.features.now c.loop-next.place c.in-Some.next c.args.canvas.now.image c.loop-next.canvas.image
-      c.draw_item.new.canvas.image (subst IsWindow c.window.ensures.value c.window.ensures.valid) c.know.ensures
-      (next_is c.args.features.now c.loop-next.place c.in-Some.next _
-      (c.in-Some.ensures ∙ ap (next_near c.args.features.now c.loop-next.place) (c.around-near.ensures.value ∙ ap around c.window.ensures.value)))
-      c.loop-next.invariant.drawn
-      (feature_drawn c.args.canvas.now.window c.loop-next.canvas.window c.args.denominator c.args.style.now c.in-Some-get.feature.now (slice_get c.args.features.now c.in-Some.next)
-      c.loop-next.canvas.image c.draw_item.new.canvas.image c.in-Some-get.ensures c.loop-next.invariant.window c.in_ok-draw_item.ensures.drawn);
-  window = c.draw_item.ensures.window ∙ c.loop-next.invariant.window;
+      ap (λ fs. fold (with_item c.args.canvas.now.window c.args.denominator c.args.style.now) c.args.canvas.now.image (map feature fs))
+      (c.near-walk.ensures ∙ ap (all_near c.args.features.now) (c.around-near.ensures.value ∙ ap around c.window.ensures.value))
+      ∙ near_drawn c.args.canvas.now.window c.args.denominator c.args.style.now c.args.features.now c.args.canvas.now.image
+      (subst IsWindow c.window.ensures.value c.window.ensures.valid) c.know.ensures;
+  window = refl;
+}
+
+pub loop-feature-preserved : goal.loop-feature-preserved
+loop-feature-preserved c = record {
+  drawn =
+      one_drawn c.args.canvas.now.window c.loop-feature.canvas.window c.args.denominator c.args.style.now c.in-Some.feature.now c.loop-feature.walk c.next.new.self
+      c.loop-feature.canvas.image c.draw_item.new.canvas.image c.in-Some.ensures c.loop-feature.invariant.window c.in_ok-draw_item.ensures.drawn
+      ∙ c.loop-feature.invariant.drawn;
+  window = c.draw_item.ensures.window ∙ c.loop-feature.invariant.window;
 }
 
 pub returns-clause-drawn : goal.returns-clause-drawn
 returns-clause-drawn c =
-    all_drawn c.args.canvas.now.window c.args.denominator c.args.style.now c.args.features.now c.loop-next.place c.args.canvas.now.image c.loop-next.canvas.image
-    (subst IsWindow c.window.ensures.value c.window.ensures.valid) c.know.ensures
-    (sym c.in_default.is ∙ c.next_near.ensures ∙ ap (next_near c.args.features.now c.loop-next.place) (c.around-near.ensures.value ∙ ap around c.window.ensures.value))
-    c.loop-next.invariant.drawn
+    ap (λ fs. fold (with_item c.args.canvas.now.window c.args.denominator c.args.style.now) c.loop-feature.canvas.image (map feature fs)) (sym c.in_default.ensures)
+    ∙ c.loop-feature.invariant.drawn
