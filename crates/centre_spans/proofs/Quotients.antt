@@ -1,5 +1,5 @@
 -- Quotients, rounded up and down, against products.
-use Rattle.std.proofs.Common.{◌≡◌, ℕ, ◌+◌, ◌*◌, ◌/◌, ◌%◌, ◌<◌, ◌≤◌, min, sym, ◌∙◌, inl, inr, arith}
+use Rattle.std.proofs.Common.{◌≡◌, ℕ, ◌+◌, ◌-◌, ◌*◌, ◌/◌, ◌%◌, ◌<◌, ◌≤◌, min, ap, sym, ◌∙◌, inl, inr, arith}
 use Rattle.std.specs.Prelude.{nat_le}
 use Rattle.std.proofs.Math.Nat.{mul-le-mul_left, mul-le-mul_right, div-add-mod, mod-lt}
 use Rattle.std.proofs.lemmas.Bool.{cases_lt, le-leb, lt-leb}
@@ -29,3 +29,14 @@ down_le n h x some = elim (cases_lt (n / h) x) [
   | inl p ↦ (let q : n / h + 1 ≤ x = omega arith in lt-leb x (n / h) p ∙ sym (lt-leb (x * h) n (omega (arith, mul-le-mul_right h q, div-add-mod n h, mod-lt n some))))
   | inr p ↦ le-leb x (n / h) p ∙ sym (le-leb (x * h) n (omega (arith, mul-le-mul_right h p, div-add-mod n h)))
 ]
+
+-- a number lies past so many whole steps from m exactly where it lies past v, if that many and one more step reach v first
+pub past_steps : (v m step i q : ℕ) → 1 ≤ step → m < v → q ≡ (v - m - 1) / step → nat_le (q + 1) i ≡ nat_le v (m + i * step)
+past_steps v m step i q some lt is =
+    let whole = div-add-mod (v - m - 1) step in
+    let rest = mod-lt (v - m - 1) some in
+    let same = ap (λ k. k * step) is in
+    elim (cases_lt q i) [
+      | inl h ↦ (let k : q + 1 ≤ i = omega arith in le-leb (q + 1) i k ∙ sym (le-leb v (m + i * step) (omega (arith, whole, rest, same, mul-le-mul_right step k))))
+      | inr h ↦ (lt-leb (q + 1) i (omega arith) ∙ sym (lt-leb v (m + i * step) (omega (arith, whole, same, mul-le-mul_right step h))))
+    ]

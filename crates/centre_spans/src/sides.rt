@@ -1,6 +1,19 @@
 //! The centres along one side of a window.
 ghost use Rattle.std.specs.Prelude.{◌≡◌, ℕ, ◌+◌, ◌*◌, ◌/◌, ◌<◌, ◌≤◌, nat_le};
 
+// A quotient: by a shift where the divisor is a power of two, as the units of a pixel mostly are.
+fn quotient(n: u64, divisor: u32) -> u64
+    requires { 1 ≤ divisor }
+    ensures { result ≡ n / divisor }
+{
+    let digits = divisor.trailing_zeros();
+    if digits < 32 && 1 << digits == divisor {
+        n >> digits
+    } else {
+        n / u64::from(divisor)
+    }
+}
+
 /// Of the centres along a side of a window, which begins at `start` and has `count` pixels of `pixel`
 /// units, the first that lies at `v` or past it: its column or row, or `count` where none does.
 pub fn first_at(start: u32, pixel: u32, count: u32, v: u64) -> u32
@@ -12,7 +25,7 @@ pub fn first_at(start: u32, pixel: u32, count: u32, v: u64) -> u32
     if v <= middle {
         return 0;
     }
-    let steps = (v - middle - 1) / u64::from(pixel);
+    let steps = quotient(v - middle - 1, pixel);
     if steps < u64::from(count) {
         steps as u32 + 1
     } else {
