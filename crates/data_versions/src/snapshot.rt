@@ -174,6 +174,7 @@ impl LayerView<'_> {
         };
         self.layer.next_near(from, around)
     }
+
     /// A walk over the features whose bounding box, borders included, has a point in common with the
     /// rectangle, borders included, in order. The caller sees to it that the rectangle's west is not past its
     /// east, nor its north past its south.

@@ -1,15 +1,12 @@
 //! A metatile over the files of a style and of data, drawn and packed again and again.
-ghost use Rattle.plain_world.specs.World.{IsMeta};
-
 use data_versions::Snapshot;
-use farm_base::{Files, NoMemory};
+use farm_base::Files;
 use geo_json::read_data;
-use merc_fixed::{Meta, meta_of, tile};
-use meta_container::{encode, law_drawn_container};
+use merc_fixed::{meta_of, tile};
+use meta_drawing::{Easel, draw_container};
 use plain_drawing::MapStyle;
 use std::alloc::Global;
 use style_objects::read_style;
-use tile_render::draw_meta;
 
 /// The names of the files, the tile of whose metatile the drawing is, and how often it is drawn.
 #[derive(Drop)]
@@ -45,9 +42,10 @@ impl Rounds {
 
     fn draw(&self, alloc: Global, style: &MapStyle, snapshot: &Snapshot) -> Option<Drawn> {
         let meta = meta_of(tile(self.z, self.x, self.y)?);
+        let mut easel = Easel::new(alloc);
         let mut drawn = Drawn { bytes: 0, sum: 0 };
         for _round in 0..self.count {
-            let container = container(alloc, style, meta, snapshot).ok()?;
+            let container = draw_container(&mut easel, style, 256, meta, snapshot).ok()?;
             drawn = drawn.and(container.as_slice());
         }
         Some(drawn)
@@ -77,18 +75,4 @@ impl Drawn {
         let bytes = self.bytes.saturating_add(container.len() as u64);
         Drawn { bytes, sum }
     }
-}
-
-/// The container of the metatile's drawing, of 256 pixels a tile.
-fn container(
-    alloc: Global,
-    style: &MapStyle,
-    meta: Meta,
-    snapshot: &Snapshot,
-) -> Result<Vec<u8>, NoMemory>
-    requires { IsMeta meta }
-{
-    law_drawn_container();
-    let drawn = draw_meta(alloc, style, 256, meta, snapshot)?;
-    encode(alloc, drawn.meta, drawn.tiles.as_slice())
 }

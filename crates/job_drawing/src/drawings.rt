@@ -4,9 +4,8 @@ ghost use Rattle.farm_stands.specs.Jobs.{IsValidJob, job_text};
 
 use farm_base::NoMemory;
 use farm_jobs::Job;
-use meta_container::{encode, law_drawn_container};
+use meta_drawing::{Easel, draw_container};
 use std::alloc::Global;
-use tile_render::draw_meta;
 
 /// Draws the metatile of a job, in its style and over its data, and gives it as the container that is
 /// stored.
@@ -14,7 +13,13 @@ pub fn draw_job(alloc: Global, job: &Job) -> Result<Vec<u8>, NoMemory>
     requires { IsValidJob job.now }
     ensures { IfOk result (λ v. v.items ≡ job_text job.now) }
 {
-    law_drawn_container();
-    let drawn = draw_meta(alloc, job.style(), job.tile, job.meta, job.snapshot())?;
-    encode(alloc, drawn.meta, drawn.tiles.as_slice())
+    draw_job_on(&mut Easel::new(alloc), job)
+}
+
+/// The same on an easel, for who draws again and again.
+pub fn draw_job_on(easel: &mut Easel, job: &Job) -> Result<Vec<u8>, NoMemory>
+    requires { IsValidJob job.now }
+    ensures { IfOk result (λ v. v.items ≡ job_text job.now) }
+{
+    draw_container(easel, job.style(), job.tile, job.meta, job.snapshot())
 }

@@ -3,4 +3,5 @@
 
 mod drawings;
 
-pub use drawings::draw_job;
+pub use drawings::{draw_job, draw_job_on};
+pub use meta_drawing::Easel;

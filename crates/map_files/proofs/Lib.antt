@@ -1,4 +1,3 @@
 pub mod Bound
 pub mod Fitting
-pub mod Pixels
 pub mod Reading

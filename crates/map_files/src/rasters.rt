@@ -1,6 +1,5 @@
 //! Raster files: each is a PPM text that makes the grid of a raster.
-ghost use Rattle.std.specs.Prelude.{◌≡◌, ◌*◌, Some, IfOk, length, flat_map};
-ghost use Rattle.plain_shapes.specs.Ppm.{pixel_bytes};
+ghost use Rattle.std.specs.Prelude.{◌≡◌, Some, IfOk};
 ghost use Rattle.plain_image.specs.declared.reading.PpmFault.TheVariants as ppm;
 ghost use Rattle.reading.specs.Steps.{Gives};
 ghost use Rattle.input_files.specs.inner.Follows.{Follows};
@@ -88,18 +87,18 @@ fn read_raster(alloc: Global, raster: &RasterRef, bytes: &[u8]) -> Result<Grid, 
     ensures { Gives (fault.Ppm ppm.NoMemory) (λ x. x) (raster_in raster.now bytes.now) result }
 {
     match read_ppm(alloc, bytes) {
-        Ok(image) => grid_of(alloc, raster, &image),
+        Ok(image) => grid_of(alloc, raster, image),
         Err(fault) => Err(RasterFault::Ppm(fault)),
     }
 }
 
 // The grid of a raster with this picture.
-fn grid_of(alloc: Global, raster: &RasterRef, image: &Image) -> Result<Grid, RasterFault>
-    ensures { Gives (fault.Ppm ppm.NoMemory) (λ x. x) (with_image raster.now image.now) result }
+fn grid_of(alloc: Global, raster: &RasterRef, image: Image) -> Result<Grid, RasterFault>
+    ensures { Gives (fault.Ppm ppm.NoMemory) (λ x. x) (with_image raster.now image) result }
 {
     let name = Text::of(alloc, raster.name.as_str())?;
-    let bytes = bytes_of(alloc, image)?;
     let (cols, rows) = (image.cols(), image.rows());
+    let bytes = image.into_bytes();
     match make_grid(
         name,
         raster.west,
@@ -112,21 +111,4 @@ fn grid_of(alloc: Global, raster: &RasterRef, image: &Image) -> Result<Grid, Ras
         Ok(grid) => Ok(grid),
         Err(fault) => Err(RasterFault::Grid(fault)),
     }
-}
-
-// The three bytes of each pixel, by rows.
-fn bytes_of(alloc: Global, image: &Image) -> Result<Vec<u8>, NoMemory>
-    ensures items { IfOk result (λ v. v.items ≡ flat_map pixel_bytes image.now.pixels) }
-    ensures len { IfOk result (λ v. length v.items ≡ 3 * (image.now.rows * image.now.cols)) }
-{
-    let cols = image.cols();
-    let count = image.rows() * cols;
-    let mut bytes = Vec::with_capacity(alloc, count as usize * 3)?;
-    for place in 0..count {
-        let c = image.pixel(place % cols, place / cols);
-        bytes.push(c.r)?;
-        bytes.push(c.g)?;
-        bytes.push(c.b)?;
-    }
-    Ok(bytes)
 }

@@ -39,12 +39,17 @@ impl Canvas {
     ghost use Rattle.tile_render.specs.inner.Covers.{Fits, Says};
     ghost use Rattle.tile_render.specs.inner.Regions.{IsRegion, over_member};
 
-    /// A canvas that is all of one colour.
-    pub(crate) fn new(alloc: Global, window: Window, colour: Colour) -> Result<Canvas, NoMemory>
+    /// A canvas that is all of one colour, in a buffer that is used again.
+    pub(crate) fn over(
+        alloc: Global,
+        buffer: Vec<u8>,
+        window: Window,
+        colour: Colour,
+    ) -> Result<Canvas, NoMemory>
         requires { IsWindow window }
         ensures { IfOk result (λ m. m ≡ record { window = window; image = record { cols = window.cols; rows = window.rows; pixels = replicate (window.rows * window.cols) colour } }) }
     {
-        let image = Image::new(alloc, window.cols, window.rows, colour)?;
+        let image = Image::over(alloc, buffer, window.cols, window.rows, colour)?;
         Ok(Canvas { window, image })
     }
 
@@ -62,6 +67,14 @@ impl Canvas {
         ensures valid { IsCanvas self.now.window self.now.image }
     {
         &self.image
+    }
+
+    /// The picture, when it is painted.
+    pub(crate) fn into_image(self) -> Image
+        ensures value { result ≡ self.image }
+        ensures valid { IsCanvas self.window self.image }
+    {
+        self.image
     }
 
     /// Paints the pixels that are covered. All others stay.

@@ -14,5 +14,5 @@ mod styles;
 mod symbolizers;
 mod tiles;
 
-pub use metatiles::{DrawnMeta, draw_meta};
+pub use metatiles::{DrawnMeta, draw_meta, draw_picture};
 pub use tiles::draw_tile;

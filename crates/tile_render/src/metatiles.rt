@@ -1,7 +1,7 @@
 //! All tiles of a metatile, cut from one picture.
 ghost use Rattle.std.specs.Prelude.{◌≡◌, ◌+◌, ◌*◌, ◌<◌, ◌≤◌, ◌++◌, IfOk, OnOk, IsTrue};
 ghost use Rattle.std.specs.List.{list_all};
-ghost use Rattle.plain_world.specs.World.{IsMeta, IsTileSize};
+ghost use Rattle.plain_world.specs.World.{IsMeta, IsTileSize, tiles_across};
 ghost use Rattle.plain_drawing.specs.Metatiles.{tiles_of};
 ghost use Rattle.plain_drawing.specs.inner.PartTexts.{part_text, column_texts, part_texts};
 
@@ -77,6 +77,29 @@ fn cut_tiles(alloc: Global, image: &Image, size: u32, across: u32) -> Result<Vec
     Ok(tiles)
 }
 
+/// The picture of a metatile, whose parts are exactly its tiles, each its `draw_tile`. It is made in the buffer:
+/// what this held goes, and no memory is taken for the picture where it has room.
+pub fn draw_picture(
+    alloc: Global,
+    buffer: Vec<u8>,
+    style: &MapStyle,
+    size: u32,
+    m: Meta,
+    snapshot: &Snapshot,
+) -> Result<Image, NoMemory>
+    requires size { IsTileSize size }
+    requires meta { IsMeta m }
+    ensures tiles { IfOk result (λ image. part_texts image size (tiles_across m) ≡ tiles_of style.now size m snapshot.now) }
+    ensures cols { IfOk result (λ image. image.cols ≡ size * tiles_across m) }
+    ensures rows { IfOk result (λ image. image.rows ≡ size * tiles_across m) }
+{
+    let w = meta_window(m, size);
+    let scale = denominator(m.z, size);
+    let mut canvas = Canvas::over(alloc, buffer, w, style.background_color)?;
+    draw_map(alloc, scale, style, snapshot, &mut canvas)?;
+    Ok(canvas.into_image())
+}
+
 /// The tiles of a metatile, each exactly its `draw_tile`, in order of index place.
 pub fn draw_meta(
     alloc: Global,
@@ -90,10 +113,7 @@ pub fn draw_meta(
     ensures meta { IfOk result (λ drawn. drawn.meta ≡ m) }
     ensures tiles { IfOk result (λ drawn. drawn.tiles.items ≡ tiles_of style.now size m snapshot.now) }
 {
-    let w = meta_window(m, size);
-    let scale = denominator(m.z, size);
-    let mut canvas = Canvas::new(alloc, w, style.background_color)?;
-    draw_map(alloc, scale, style, snapshot, &mut canvas)?;
-    let tiles = cut_tiles(alloc, canvas.image(), size, tiles_across(m))?;
+    let image = draw_picture(alloc, Vec::new(alloc), style, size, m, snapshot)?;
+    let tiles = cut_tiles(alloc, &image, size, tiles_across(m))?;
     Ok(DrawnMeta { meta: m, tiles })
 }

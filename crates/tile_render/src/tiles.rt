@@ -28,7 +28,7 @@ pub fn draw_tile(
 {
     let w = window(t, size);
     let scale = denominator(t.z, size);
-    let mut canvas = Canvas::new(alloc, w, style.background_color)?;
+    let mut canvas = Canvas::over(alloc, Vec::new(alloc), w, style.background_color)?;
     draw_map(alloc, scale, style, snapshot, &mut canvas)?;
     canvas.image().write_ppm(alloc)
 }

@@ -1,29 +1,12 @@
-use Rattle.std.proofs.Common.{◌*◌, ◌∙◌, ap, sym, refl}
+use Rattle.std.proofs.Common.{◌*◌, ◌∙◌, ap, sym}
 use Rattle.plain_drawing.specs.inner.PartTexts.{part_texts}
-use Rattle.plain_drawing.specs.inner.Pictures.{with_map}
-use Rattle.plain_drawing.proofs.Steps.{one_colour}
-use Rattle.plain_drawing.proofs.Cuts.{tiles_cut}
-use Rattle.tile_render.proofs.Metas.{drawn_picture}
 use Rattle.tile_render.proofs.metatiles.draw_meta.Goals as goal
 
 pub cut_tiles-requires-clause-cols : goal.cut_tiles-requires-clause-cols
-cut_tiles-requires-clause-cols c =
-    ap (λ i. i.cols) c.image.ensures.value ∙ c.image.ensures.valid.cols
-    ∙ ap (λ w. w.cols) (c.draw_map.ensures.window ∙ ap (λ m. m.window) c.in_ok-canvas.ensures ∙ c.meta_window-w.ensures.value) ∙ ap (λ n. c.args.size * n) (sym c.tiles_across.ensures.value)
+cut_tiles-requires-clause-cols c = c.in_ok-image.ensures.cols ∙ ap (λ n. c.args.size * n) (sym c.tiles_across.ensures.value)
 
 pub cut_tiles-requires-clause-rows : goal.cut_tiles-requires-clause-rows
-cut_tiles-requires-clause-rows c =
-    ap (λ i. i.rows) c.image.ensures.value ∙ c.image.ensures.valid.rows
-    ∙ ap (λ w. w.rows) (c.draw_map.ensures.window ∙ ap (λ m. m.window) c.in_ok-canvas.ensures ∙ c.meta_window-w.ensures.value) ∙ ap (λ n. c.args.size * n) (sym c.tiles_across.ensures.value)
+cut_tiles-requires-clause-rows c = c.in_ok-image.ensures.rows ∙ ap (λ n. c.args.size * n) (sym c.tiles_across.ensures.value)
 
 pub returns-clause-tiles : goal.returns-clause-tiles
-returns-clause-tiles c =
-    c.in_ok-tiles.ensures
-    ∙ ap (part_texts c.image.result.now c.args.size) c.tiles_across.ensures.value
-    ∙ tiles_cut c.args.style.now c.args.size c.args.m c.args.snapshot.now c.meta_window-w.result c.image.result.now c.requires.size c.requires.meta.z_fits c.meta_window-w.ensures.value
-    (drawn_picture c.args.style.now c.args.size c.args.m.z c.args.snapshot.now c.meta_window-w.result c.denominator-scale.result
-    (one_colour c.meta_window-w.result c.args.style.now.background_color) c.image.result.now
-    (ap (λ w. w.pixel) c.meta_window-w.ensures.value) c.denominator-scale.ensures.value refl
-    (c.image.ensures.value ∙ c.in_ok-draw_map.ensures.drawn
-    ∙ ap (λ m. with_map m.window c.denominator-scale.result c.args.style.now c.args.snapshot.now m.image) c.in_ok-canvas.ensures
-    ∙ ap (λ s. with_map c.meta_window-w.result c.denominator-scale.result c.args.style.now c.args.snapshot.now (one_colour c.meta_window-w.result s.background_color)) c.style.view_is))
+returns-clause-tiles c = c.in_ok-tiles.ensures ∙ ap (part_texts c.in_ok-image.image c.args.size) c.tiles_across.ensures.value ∙ c.in_ok-image.ensures.tiles

@@ -1,0 +1,52 @@
+-- The texts of a metatile's tiles, one behind another.
+use Rattle.std.proofs.Common.{◌≡◌, ℕ, ◌+◌, ◌<◌, ◌≤◌, List, [], ◌∷◌, ◌++◌, length, map, flat_map, refl, sym, ap, subst, ◌∙◌, append_assoc, inl, inr}
+use Rattle.std.specs.List.{range_with_len}
+use Rattle.std.specs.Fmt.{decimal, digits}
+use Rattle.std.specs.Prelude.{nat_lt, if◌then◌else◌}
+use Rattle.std.proofs.lemmas.Bool.{lt-ltb, le-ltb}
+use Rattle.std.proofs.lemmas.List.{append-nil}
+use Rattle.std.proofs.lemmas.Grind.{flat_map-append}
+use Rattle.plain_world.specs.World.{IsTileSize}
+use Rattle.meta_container.specs.Container.{joined}
+use Rattle.tile_render.proofs.Metas.{one_more_text, one_more_column}
+
+-- the digits of a tile's side
+digits_of_side : (size : ℕ) → IsTileSize size → length (decimal size) ≡ (if nat_lt size 100 then 2 else 3)
+unfolding digits
+digits_of_side size sized = elim sized [
+  | inl e ↦ at 16 e refl
+  | inr (inl e) ↦ at 32 e refl
+  | inr (inr (inl e)) ↦ at 64 e refl
+  | inr (inr (inr (inl e))) ↦ at 128 e refl
+  | inr (inr (inr (inr (inl e)))) ↦ at 256 e refl
+  | inr (inr (inr (inr (inr e)))) ↦ at 512 e refl
+]
+  where
+    at : (n : ℕ) → size ≡ n → length (decimal n) ≡ (if nat_lt n 100 then 2 else 3) → length (decimal size) ≡ (if nat_lt size 100 then 2 else 3)
+    at n e known = subst (λ k. length (decimal k) ≡ (if nat_lt k 100 then 2 else 3)) (sym e) known
+
+pub two_digits : (size : ℕ) → IsTileSize size → size < 100 → 2 ≡ length (decimal size)
+two_digits size sized h = sym (digits_of_side size sized ∙ ap (λ t. if t then 2 else 3) (lt-ltb size 100 h))
+
+pub three_digits : (size : ℕ) → IsTileSize size → 100 ≤ size → 3 ≡ length (decimal size)
+three_digits size sized h = sym (digits_of_side size sized ∙ ap (λ t. if t then 2 else 3) (le-ltb size 100 h))
+
+joined_append : (these those : List (List ℕ)) → joined (these ++ those) ≡ joined these ++ joined those
+joined_append these those = flat_map-append (λ (text : List ℕ). text) these those
+
+-- one text more
+pub text_behind : (f : ℕ → List ℕ) (old now next : List ℕ) (row : ℕ) → now ≡ old ++ joined (map f (range_with_len 0 row)) → next ≡ now ++ f row
+    → next ≡ old ++ joined (map f (range_with_len 0 (row + 1)))
+text_behind f old now next row so_far step =
+    let before : List (List ℕ) = map f (range_with_len 0 row) in
+    step ∙ ap (λ bs. bs ++ f row) so_far ∙ append_assoc old (joined before) (f row)
+    ∙ ap (λ bs. old ++ bs) (ap (λ bs. joined before ++ bs) (sym (append-nil (f row))) ∙ sym (joined_append before (f row ∷ []))
+    ∙ ap joined (one_more_text f [] before (before ++ f row ∷ []) row (f row) refl refl refl))
+
+-- one column more
+pub column_behind : (f : ℕ → List (List ℕ)) (old now next : List ℕ) (col : ℕ) → now ≡ old ++ joined (flat_map f (range_with_len 0 col)) → next ≡ now ++ joined (f col)
+    → next ≡ old ++ joined (flat_map f (range_with_len 0 (col + 1)))
+column_behind f old now next col so_far step =
+    let before : List (List ℕ) = flat_map f (range_with_len 0 col) in
+    step ∙ ap (λ bs. bs ++ joined (f col)) so_far ∙ append_assoc old (joined before) (joined (f col))
+    ∙ ap (λ bs. old ++ bs) (sym (joined_append before (f col)) ∙ ap joined (one_more_column f before (before ++ f col) col refl refl))

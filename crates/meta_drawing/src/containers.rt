@@ -1,0 +1,117 @@
+//! The container of a metatile, written straight from its picture.
+ghost use Rattle.std.specs.Prelude.{◌≡◌, ◌+◌, ◌*◌, ◌<◌, ◌≤◌, ◌++◌, ◌^◌, List, length, IfOk, OnOk};
+ghost use Rattle.std.specs.Fmt.{decimal};
+ghost use Rattle.plain_world.specs.World.{IsMeta, IsTileSize, tiles_across};
+ghost use Rattle.plain_data.specs.Features.{Layer};
+ghost use Rattle.plain_drawing.specs.Styles.{MapStyle};
+ghost use Rattle.plain_drawing.specs.Metatiles.{tiles_of};
+ghost use Rattle.plain_drawing.specs.inner.PartTexts.{column_texts, part_texts};
+ghost use Rattle.meta_container.specs.Container.{container_of, joined};
+
+use crate::easel::Easel;
+use data_versions::Snapshot;
+use farm_base::NoMemory;
+use merc_fixed::tiles_across;
+use meta_container::{HEAD_BYTES, put_head};
+use plain_drawing::MapStyle;
+use plain_image::Image;
+use plain_world::Meta;
+use std::alloc::Global;
+use tile_render::draw_picture;
+
+/// How many digits the side of a tile has.
+#[tactic(auto, using(crate::proofs::Texts::two_digits, crate::proofs::Texts::three_digits))]
+fn digits_of(size: u32) -> u32
+    requires { IsTileSize size }
+    ensures value { result ≡ length (decimal size) }
+    ensures few { result ≤ 3 }
+{
+    if size < 100 { 2 } else { 3 }
+}
+
+/// How many bytes the text of a tile has.
+fn text_len(size: u32) -> u32
+    requires { IsTileSize size }
+    ensures value { result ≡ 9 + 2 * length (decimal size) + 3 * (size * size) }
+    ensures few { result < 2 ^ 20 }
+{
+    9 + 2 * digits_of(size) + 3 * (size * size)
+}
+
+/// Appends the texts of a column of tiles, from north to south.
+fn put_column(
+    image: &Image,
+    size: u32,
+    across: u32,
+    col: u32,
+    out: &mut Vec<u8>,
+) -> Result<(), NoMemory>
+    requires few { size ≤ 512 }
+    requires few_across { across ≤ 8 }
+    requires col { col < across }
+    requires cols { image.now.cols ≡ size * across }
+    requires rows { image.now.rows ≡ size * across }
+    ensures { OnOk result (out.new.items ≡ out.old.items ++ joined (column_texts image.now size across col)) }
+{
+    for row in 0..across {
+        image.put_part(col * size, row * size, size, size, out)?;
+    }
+    Ok(())
+}
+
+/// Appends the texts of all tiles, by columns.
+fn put_tiles(
+    image: &Image,
+    size: u32,
+    across: u32,
+    out: &mut Vec<u8>,
+) -> Result<(), NoMemory>
+    requires few { size ≤ 512 }
+    requires few_across { across ≤ 8 }
+    requires cols { image.now.cols ≡ size * across }
+    requires rows { image.now.rows ≡ size * across }
+    ensures { OnOk result (out.new.items ≡ out.old.items ++ joined (part_texts image.now size across)) }
+{
+    for col in 0..across {
+        put_column(image, size, across, col, out)?;
+    }
+    Ok(())
+}
+
+/// The container of the tiles of a picture.
+fn packed(alloc: Global, image: &Image, size: u32, m: Meta) -> Result<Vec<u8>, NoMemory>
+    requires size { IsTileSize size }
+    requires meta { IsMeta m }
+    requires cols { image.now.cols ≡ size * tiles_across m }
+    requires rows { image.now.rows ≡ size * tiles_across m }
+    ensures { (style : MapStyle) (layers : List Layer) → part_texts image.now size (tiles_across m) ≡ tiles_of style size m layers
+        → IfOk result (λ v. v.items ≡ container_of m (tiles_of style size m layers)) }
+{
+    let across = tiles_across(m);
+    let each = text_len(size);
+    let mut out = Vec::with_capacity(alloc, HEAD_BYTES + (across * across * each) as usize)?;
+    put_head(&mut out, m, each)?;
+    put_tiles(image, size, across, &mut out)?;
+    Ok(out)
+}
+
+/// Draws a metatile in a style over data, and gives it as the container of its tiles. The picture is made in the
+/// buffer that the easel keeps, and its tiles are written straight from it.
+pub fn draw_container(
+    easel: &mut Easel,
+    style: &MapStyle,
+    size: u32,
+    m: Meta,
+    snapshot: &Snapshot,
+) -> Result<Vec<u8>, NoMemory>
+    requires size { IsTileSize size }
+    requires meta { IsMeta m }
+    ensures { IfOk result (λ v. v.items ≡ container_of m (tiles_of style.now size m snapshot.now)) }
+{
+    let alloc = easel.alloc();
+    let buffer = easel.take_buffer();
+    let image = draw_picture(alloc, buffer, style, size, m, snapshot)?;
+    let container = packed(alloc, &image, size, m);
+    easel.keep(image.into_bytes());
+    container
+}

@@ -1,0 +1,36 @@
+//! What is kept from drawing to drawing.
+use std::alloc::Global;
+use std::mem;
+
+/// Where a worker draws: it keeps the buffer of its picture, so that only its first drawing takes new memory for
+/// one. No contract speaks of what it keeps.
+#[derive(Drop)]
+pub struct Easel {
+    alloc: Global,
+    buffer: Vec<u8>,
+}
+
+impl Easel {
+    /// An easel that keeps nothing yet.
+    pub fn new(alloc: Global) -> Easel {
+        Easel {
+            alloc,
+            buffer: Vec::new(alloc),
+        }
+    }
+
+    /// Where its memory is from.
+    pub fn alloc(&self) -> Global {
+        self.alloc
+    }
+
+    /// Hands its buffer out, with whatever it holds.
+    pub(crate) fn take_buffer(&mut self) -> Vec<u8> {
+        mem::replace(&mut self.buffer, Vec::new(self.alloc))
+    }
+
+    /// Keeps a buffer.
+    pub(crate) fn keep(&mut self, buffer: Vec<u8>) {
+        self.buffer = buffer;
+    }
+}
