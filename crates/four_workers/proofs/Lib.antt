@@ -1,0 +1,3 @@
+mod Shares
+mod SoundPlan
+mod Turning

@@ -1,0 +1,48 @@
+//! Shared farms over stores in memory. First the life of one metatile, through one seat alone, with each answer. Then
+//! four workers and a feeder, each in a thread of its own and with a seat of its own: the feeder asks for 500
+//! metatiles, with expiries and updates between. Every call and its answer is noted in the order of the turns, under a
+//! lock of this program's own, and at the end a second farm, which is lists that are walked, says of each answer
+//! whether it is the one that the farm's rules give. What is printed is the same however the threads run.
+#![tactic(auto)]
+
+mod crew;
+mod feeding;
+mod notes;
+mod one_seat;
+mod plain;
+mod plans;
+mod working;
+
+use crate::crew::{Left, run, run_alone};
+use crate::notes::METATILES;
+use farm_base::OutSink;
+use std::io;
+use std::process::ExitCode;
+
+fn main(rt: HostRuntime) -> io::Result<ExitCode> {
+    let mut out = OutSink::new(rt.stdout());
+    let lived = run_alone(&rt, rt.alloc(), &mut out);
+    let (Some(()), Some(left)) = (lived, run(&rt, rt.alloc())) else {
+        eprintln!(&rt; "no memory")?;
+        return Ok(ExitCode::from(1));
+    };
+    let Left {
+        checked,
+        saved,
+        finished,
+    } = left;
+    if !finished {
+        println!(&rt; "the feeder did not come to its end")?;
+    }
+    match checked.wrong {
+        None => println!(&rt; "every answer is the one that the rules give")?,
+        Some(place) => println!(&rt; "turn {place} has another answer")?,
+    }
+    println!(&rt;
+        "{} of {METATILES} metatiles are clean, {} updates",
+        checked.clean, checked.version
+    )?;
+    let same = saved == (checked.clean, checked.version);
+    println!(&rt; "what the farm saves agrees: {same}")?;
+    Ok(ExitCode::SUCCESS)
+}

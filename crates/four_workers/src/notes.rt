@@ -1,0 +1,90 @@
+//! What is noted of the turns, and the places that are drawn.
+ghost use Rattle.std.specs.Prelude.{◌≡◌};
+ghost use Rattle.plain_world.specs.World.{IsTile};
+
+use farm_history::{
+    AskAnswer, ClaimAnswer, Collected, Conn, Finished, Key, Looked, Spot, Tally, Updated,
+};
+use plain_world::{Meta, Tile};
+
+/// How many metatiles are asked for.
+pub const METATILES: u32 = 500;
+
+/// A turn: what was asked of which metatile, by its number, and the answer.
+#[derive(Clone, Copy)]
+pub enum Note {
+    Ask(u32, AskAnswer),
+    Collect(Collected),
+    Claim(ClaimAnswer),
+    Finish(u64, Finished),
+    Update(Updated),
+    Expire(Tile, u64),
+    Look(u32, Looked),
+    Tally(Tally),
+    Stop,
+}
+
+/// The turns so far.
+#[derive(Drop)]
+pub struct Notes {
+    pub list: Vec<Note>,
+    /// Whether memory was wanting for one.
+    pub is_cut: bool,
+}
+
+impl Notes {
+    pub fn add(&mut self, note: Note) {
+        if self.list.push(note).is_err() {
+            self.is_cut = true;
+        }
+    }
+}
+
+/// The metatile of that number: of zoom 12, 25 in a row.
+pub fn key_at(number: u32) -> Key {
+    let meta = Meta {
+        z: 12,
+        x: 8 * (number % 25),
+        y: number / 25 % 25 * 8,
+    };
+    Key { map: 0, meta }
+}
+
+/// A tile of that metatile.
+pub fn spot_at(number: u32) -> Spot {
+    let Meta { z, x, y } = key_at(number).meta;
+    Spot {
+        map: Some(0),
+        z,
+        x,
+        y,
+    }
+}
+
+/// The tile of zoom 8 or of zoom 13 that is expired behind the metatile of that number. The former overlaps four
+/// metatiles.
+pub fn tile_at(number: u32) -> Tile
+    ensures { IsTile result }
+{
+    let (column, row) = (number % 25, number / 25 % 25);
+    if number % 2 == 0 {
+        Tile {
+            z: 8,
+            x: column / 2,
+            y: row / 2,
+        }
+    } else {
+        Tile {
+            z: 13,
+            x: 16 * column,
+            y: 16 * row + 15,
+        }
+    }
+}
+
+/// The connection that asks for the metatile of that number.
+pub fn conn_of(number: u32) -> Conn
+    ensures { result.front ≡ 0 }
+{
+    Conn { front: 0, number }
+}
