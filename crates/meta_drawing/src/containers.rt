@@ -60,12 +60,7 @@ fn put_column(
 }
 
 /// Appends the texts of all tiles, by columns.
-fn put_tiles(
-    image: &Image,
-    size: u32,
-    across: u32,
-    out: &mut Vec<u8>,
-) -> Result<(), NoMemory>
+fn put_tiles(image: &Image, size: u32, across: u32, out: &mut Vec<u8>) -> Result<(), NoMemory>
     requires few { size ≤ 512 }
     requires few_across { across ≤ 8 }
     requires cols { image.now.cols ≡ size * across }
