@@ -18,7 +18,7 @@ use Rattle.input_files.proofs.Courses.{made_apart}
 use Rattle.input_files.proofs.Runs as runs
 use Rattle.input_files.proofs.Runs.{Ran, ran}
 use Rattle.call_ends.specs.Promises.{Stands}
-use Rattle.call_ends.specs.Stops.{status_of}
+use Rattle.call_ends.specs.Stops.{status_of, ports_failed, turns_used_up}
 use Rattle.call_ends.proofs.Statuses as status
 use Rattle.farm_call.specs.Words.{Asks}
 use Rattle.farm_call.specs.Works.{Work, Does, puts, scripts, loads, serves, over, store_of}
@@ -192,6 +192,15 @@ module _ {D : Type 0} (state : D → Outside StoreTold) (words : List (List ℕ)
   gone_turns eight =
       let d = (whole.turns_gone (Asks words) (asks_one words) (Does state) (λ w. w.out) (Hinders state) (works state) files files' world world' err err' result call eight).0 in
       (works state).stops d.value world world' stop.TurnsUsedUp d.worked
+
+  -- and their lines stand on err
+  pub ports_line : result ≡ 7 → Stands err.told err'.told ports_failed
+  ports_line seven =
+      (whole.ports_lost (Asks words) (asks_one words) (Does state) (λ w. w.out) (Hinders state) (works state) files files' world world' err err' result call seven).1
+
+  pub turns_line : result ≡ 8 → Stands err.told err'.told turns_used_up
+  turns_line eight =
+      (whole.turns_gone (Asks words) (asks_one words) (Does state) (λ w. w.out) (Hinders state) (works state) files files' world world' err err' result call eight).1
 
   -- where the store is left there are no fronts
   pub no_fronts : (d : D) → world'.left ≡ Store d → world'.fronts ≡ []

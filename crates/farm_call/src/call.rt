@@ -1,7 +1,7 @@
 //! The top call.
 ghost use Rattle.std.specs.Prelude.{◌≡◌, ◌≢◌, ◌⊎◌, ℕ, List, [], true, Ok, Err, IfSome, map, string_bytes};
 ghost use Rattle.farm_base.specs.Outside.{Rose};
-ghost use Rattle.call_ends.specs.Stops.{usage, want_of_memory, store_failed};
+ghost use Rattle.call_ends.specs.Stops.{usage, want_of_memory, store_failed, ports_failed, turns_used_up};
 ghost use Rattle.call_ends.specs.Ends.{EndsWith};
 ghost use Rattle.call_ends.specs.Promises.{Stands};
 ghost use Rattle.call_ends.specs.declared.stops.Stop.TheVariants.{StoreFailed};
@@ -120,10 +120,15 @@ pub fn farm_main<
         (record { out = O.state out.new; left = result.left; fronts = result.fronts.items; ports = three (P.state ports.new.renderd) (P.state ports.new.tiles) (P.state ports.new.control) }) (Err StoreFailed)
         × Stands (E.state err.old).told (E.state err.new).told store_failed }
     ensures store_rose { result.status ≡ 6 → Rose (D.state store).faults (D.state (store_of result.left)).faults }
-    // 7: a port's count rose. 8: a farm is left, whose history has used up all turns.
+    // 7: a port's count rose, and the line of ports stands on err. 8: a farm is left, whose history has used up all turns,
+    // and its line stands on err.
     ensures ports_rose { result.status ≡ 7 → PortsRose (three (P.state ports.old.renderd) (P.state ports.old.tiles) (P.state ports.old.control))
         (three (P.state ports.new.renderd) (P.state ports.new.tiles) (P.state ports.new.control)) }
+    ensures ports_line { result.status ≡ 7
+        → Stands (E.state err.old).told (E.state err.new).told ports_failed }
     ensures turns_gone { result.status ≡ 8 → TurnsAreGone result.left }
+    ensures turns_line { result.status ≡ 8
+        → Stands (E.state err.old).told (E.state err.new).told turns_used_up }
     // Files with no fault give 0, where no read, no put on out and no call of the store or of a port fails, not all turns
     // are drawn, and what is saved, if a farm is to be resumed from it, has no fault, unless memory is wanting.
     ensures complete { IfSome (F.state files.old).told (λ t. (c : Course Work)

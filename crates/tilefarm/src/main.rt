@@ -1,30 +1,36 @@
 //! The program: the top call over the real files, streams and sockets.
 #![tactic(auto)]
 
-use farm_base::{Bells, DiskFiles, OpenGate, OutSink, Sink};
+use call_ends::{Stop, report};
+use farm_base::{Bells, DiskFiles, OpenGate, OutSink};
 use farm_call::program;
 use port_trait::ThreePorts;
 use socket_ports::{SocketBell, SocketPorts};
-use std::io;
+use std::io::{self, ErrorKind};
 use std::process::ExitCode;
 use tile_store::FileStore;
-
-/// The exit status where the system gives no ports.
-const NO_PORTS: u8 = 7;
 
 fn main(rt: HostRuntime) -> ExitCode {
     let mut files = DiskFiles::new(rt);
     let mut out = OutSink::new(rt.stdout());
     let mut err = OutSink::new(rt.stderr());
-    let Ok(mut ports) = ports(rt) else {
-        drop(err.put(b"tilefarm: the ports failed\n"));
-        return ExitCode::from(NO_PORTS);
+    let mut ports = match ports(rt) {
+        Ok(ports) => ports,
+        Err(error) => return ExitCode::from(report(&mut err, &Err(portless(&error)))),
     };
     let store = FileStore::new(rt);
     let end = program(
         &rt, &mut files, &mut out, &mut err, store, &mut ports, &OpenGate,
     );
     ExitCode::from(end.into_status())
+}
+
+/// Why the system gives no ports.
+fn portless(error: &io::Error) -> Stop {
+    match error.kind() {
+        ErrorKind::OutOfMemory => Stop::NoMemory,
+        _ => Stop::PortsFailed,
+    }
 }
 
 /// Ports that listen nowhere yet, and their bells.

@@ -2,7 +2,7 @@ use Rattle.std.specs.Prelude.{map, string_bytes}
 use Rattle.input_files.proofs.Calls as calls
 use Rattle.farm_call.proofs.Asked.{asks_one}
 use Rattle.farm_call.proofs.Told.{if_told}
-use Rattle.farm_call.proofs.Working.{works, complete_over, refused_over, kept_over, no_fronts, rose_ports, gone_turns, served_with}
+use Rattle.farm_call.proofs.Working.{works, complete_over, refused_over, kept_over, no_fronts, rose_ports, gone_turns, ports_line, turns_line, served_with}
 use Rattle.serve_command.proofs.Points.{headline, legal, owned, fronts, workers, stops, told, kept_at, ends_by}
 use Rattle.farm_call.proofs.call.farm_main.Goals as goal
 
@@ -88,6 +88,14 @@ returns-clause-ports_rose g c = rose_ports g.D.TileStore.state (map string_bytes
 
 pub returns-clause-turns_gone : goal.returns-clause-turns_gone
 returns-clause-turns_gone g c = gone_turns g.D.TileStore.state (map string_bytes c.args.words.now) _ _ c.args.store _ _ _ _ _ _
+    (record { end = c.command-done.result.end; ran = c.command-done.ensures; reports = c.report-status.ensures })
+
+pub returns-clause-ports_line : goal.returns-clause-ports_line
+returns-clause-ports_line g c = ports_line g.D.TileStore.state (map string_bytes c.args.words.now) _ _ c.args.store _ _ _ _ _ _
+    (record { end = c.command-done.result.end; ran = c.command-done.ensures; reports = c.report-status.ensures })
+
+pub returns-clause-turns_line : goal.returns-clause-turns_line
+returns-clause-turns_line g c = turns_line g.D.TileStore.state (map string_bytes c.args.words.now) _ _ c.args.store _ _ _ _ _ _
     (record { end = c.command-done.result.end; ran = c.command-done.ensures; reports = c.report-status.ensures })
 
 pub returns-clause-store_rose : goal.returns-clause-store_rose
