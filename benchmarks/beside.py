@@ -3,7 +3,10 @@
 Shapes are in world units, 2^30 across the world, with y to the south. Mapnik gets the same numbers with y turned
 round, in one projection for data and map, so that it projects nothing."""
 
-import json, math, os, random, resource, statistics, subprocess, sys, time
+import json, math, os, random, statistics, subprocess, sys
+
+sys.path.insert(0, os.path.join(os.path.dirname(os.path.abspath(__file__)), "..", "oracle"))
+import farm
 
 WORLD = 2**30
 REPEATS = int(os.environ.get("REPEATS", "5"))
@@ -35,7 +38,16 @@ def along(draw, x, y, step, count):
 
 
 def generated(count):
-    """As many polygons as lines and points, in the square of the metatile of zoom 11."""
+    """The data of `tilefarm load 7 COUNT`: squares, lines and points in the metatile of zoom 14."""
+    draws, features = farm.Draws(7), {}
+    for name, layer in farm.generated_layers(draws, count).items():
+        features[name] = [(it["attrs"][b"kind"], it["kind"], [list(map(list, path)) for path in it["paths"]]) for it in layer.values()]
+    features["spots"] = [(kind, shape, at[0]) for kind, shape, at in features["spots"]]
+    return features
+
+
+def mixed(count):
+    """As many polygons as lines and points, large and small, in the square of the metatile of zoom 11."""
     draw, features = random.Random(2026), {"land": [], "roads": [], "spots": []}
     for number in range(count):
         x, y = MIDDLE + draw.randrange(2**22), MIDDLE + draw.randrange(2**22)
@@ -123,6 +135,13 @@ TWELVE = {
 }
 
 
+def load_style():
+    """The twelve rules of `tilefarm load`, four for each layer."""
+    colour = lambda r: "#%02x%02x80" % (20 * r, 255 - 20 * r)
+    paints = {"land": lambda c: fill(c), "roads": lambda c: stroke(c, 2, "round"), "spots": lambda c: mark(c, 6)}
+    return {name: [(q, [paint(colour(4 * place + q))]) for q in range(4)] for place, (name, paint) in enumerate(paints.items())}
+
+
 def one(*symbolizers):
     return {"all": [(None, list(symbolizers))]}
 
@@ -130,9 +149,11 @@ def one(*symbolizers):
 # what is drawn, how, at which zooms, and round which point
 HERE = [MIDDLE, MIDDLE]
 CASES = {
-    "200": (lambda: generated(200), TWELVE, [11, 14], HERE),
-    "10000": (lambda: generated(10000), TWELVE, [11, 12, 13, 14], HERE),
-    "100000": (lambda: generated(100000), TWELVE, [11, 12, 13, 14], HERE),
+    "200": (lambda: generated(200), load_style(), [11, 12, 13, 14], HERE),
+    "10000": (lambda: generated(10000), load_style(), [11, 12, 13, 14], HERE),
+    "100000": (lambda: generated(100000), load_style(), [11, 12, 13, 14], HERE),
+    "mixed10000": (lambda: mixed(10000), TWELVE, [11, 12, 13, 14], HERE),
+    "mixed100000": (lambda: mixed(100000), TWELVE, [11, 14], HERE),
     "cities": (cities, one(fill("#336699", 0.5)), [14], HERE),
     "opaque": (cities, one(fill("#336699")), [14], HERE),
     "segments": (strokes(50000, 32, 2), one(stroke("#336699", 8, "round")), [14], HERE),
@@ -144,7 +165,7 @@ CASES = {
     "large_marks": (spots(20000), one(mark("#336699", 32)), [14], HERE),
     "coast": (coast, one(fill("#336699")), [8, 12, 18], SHORE),
     "long": (long_line, one(stroke("#336699", 2)), [10, 14, 18], SHORE),
-    "elsewhere": (lambda: generated(100000), TWELVE, [18], HERE),
+    "elsewhere": (lambda: mixed(100000), TWELVE, [18], HERE),
     "nothing": (lambda: {"all": []}, one(fill("#336699")), [14], HERE),
 }
 

@@ -4,8 +4,9 @@
 #
 #   benchmarks/beside.sh [CASE..]       (all cases of benchmarks/beside.py where none is named)
 #
-# A case is a number of features of generated work, as 10000, or a name, as wide; `benchmarks/beside.sh -l` lists
-# them. REPEATS sets how many runs a median is taken of (5). DRAW_BENCH names another build of crates/draw_bench.
+# A case is a number of features of generated work, those of `tilefarm load 7 NUMBER`, as 10000, or a name, as
+# wide; `benchmarks/beside.sh -l` lists them. REPEATS sets how many runs a median is taken of (5). DRAW_BENCH names
+# another build of crates/draw_bench.
 #
 # Mapnik is Debian's python3-mapnik; where no python3 has it, its column stays empty. Ours is drawing and packing,
 # Mapnik's is drawing alone, and raw is the cutting of a ready picture into a ready container, in C.
