@@ -901,6 +901,8 @@ def main(words):
             out, err, status = run(words[1], line.split(" "))
             sys.stdout.buffer.write(out + err + b"status %d\n" % status)
             sys.stdout.buffer.flush()
+        out, err, _status = run(words[1], read(words[1], "../args").decode().splitlines())
+        sys.stdout.buffer.write(out + err)
         return 0
     out, err, status = run(".", words)
     sys.stdout.buffer.write(out)
