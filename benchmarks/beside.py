@@ -12,7 +12,6 @@ WORLD = 2**30
 REPEATS = int(os.environ.get("REPEATS", "5"))
 MIDDLE = WORLD // 2
 SHORE = [MIDDLE + 3 * 2**23, MIDDLE + 2**24]
-KEPT = {"GLIBC_TUNABLES": "glibc.malloc.trim_threshold=268435456"}
 
 # ---- shapes: a feature is (kind, "polygon" | "lines" | "points", coordinates)
 
@@ -233,10 +232,10 @@ print((time.process_time() - begin) / rounds)
 """
 
 
-def processor(words, more={}):
+def processor(words):
     """The processor time of a run and its peak memory in KiB."""
     with open(os.devnull, "w") as nothing:
-        child = subprocess.Popen(words, stdout=nothing, env={**os.environ, **more})
+        child = subprocess.Popen(words, stdout=nothing)
     _, status, used = os.wait4(child.pid, 0)
     child.returncode = status
     if status:
@@ -249,9 +248,9 @@ def rounds_for(words):
     return max(2, min(100, int(1 / max(first, 0.005))))
 
 
-def a_round(words, rounds, more={}):
-    none, _ = processor(words + ["0"], more)
-    spent, peak = processor(words + [str(rounds)], more)
+def a_round(words, rounds):
+    none, _ = processor(words + ["0"])
+    spent, peak = processor(words + [str(rounds)])
     return max(0.0, spent - none) / rounds, peak
 
 
@@ -260,7 +259,7 @@ def measure(program, raw, folder, mapnik, z, point):
     west, north, side, _ = metatile(*place)
     words = [program, folder + "/style.json", folder + "/data.json", *map(str, place)]
     rounds = rounds_for(words)
-    got = {"mapnik": [], "raw": [], "ours": [], "kept": []}
+    got = {"mapnik": [], "raw": [], "ours": []}
     peak = 0
     for _ in range(REPEATS):
         if mapnik:
@@ -273,7 +272,6 @@ def measure(program, raw, folder, mapnik, z, point):
         spent, most = a_round(words, rounds)
         got["ours"].append(spent)
         peak = max(peak, most)
-        got["kept"].append(a_round(words, rounds, KEPT)[0])
     return {key: statistics.median(all_of) if all_of else None for key, all_of in got.items()}, peak
 
 
@@ -286,8 +284,8 @@ def main():
     if names == ["-l"]:
         print(*CASES)
         return
-    row = "%-12s %3s %9s %8s %8s %14s %10s %8s %14s %9s"
-    print(row % ("case", "z", "Mapnik s", "raw s", "ours s", "Mapnik / ours", "ours / raw", "kept s", "Mapnik / kept", "peak KiB"))
+    row = "%-12s %3s %9s %8s %8s %14s %10s %9s"
+    print(row % ("case", "z", "Mapnik s", "raw s", "ours s", "Mapnik / ours", "ours / raw", "peak KiB"))
     for name in names or CASES:
         shapes, style, zooms, point = CASES[name]
         features = shapes()
@@ -301,7 +299,7 @@ def main():
         for z in zooms:
             got, peak = measure(program, folder + "/raw", folder, mapnik, z, point)
             number = lambda it: "-" if it is None else "%.4f" % it
-            print(row % (name, z, number(got["mapnik"]), number(got["raw"]), number(got["ours"]), ratio(got["mapnik"], got["ours"]), ratio(got["ours"], got["raw"]), number(got["kept"]), ratio(got["mapnik"], got["kept"]), peak), flush=True)
+            print(row % (name, z, number(got["mapnik"]), number(got["raw"]), number(got["ours"]), ratio(got["mapnik"], got["ours"]), ratio(got["ours"], got["raw"]), peak), flush=True)
 
 
 main()
