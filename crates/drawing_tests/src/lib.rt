@@ -1,8 +1,13 @@
 //! Drawings that no command reaches: a metatile's tiles in their places, one of very many points, and a map
-//! whose grids are not bound. The tiles that a command draws are those of the program `drawn_cases`.
+//! whose grids are not bound; the bits of a mask; and an update of very many ids. The tiles that a command draws
+//! are those of the program `drawn_cases`.
 #![tactic(auto)]
 
 #[cfg(test)]
 mod drawings;
 #[cfg(test)]
+mod masks;
+#[cfg(test)]
 mod metatiles;
+#[cfg(test)]
+mod updates;

@@ -1,11 +1,15 @@
 //! The tiles of a metatile in their places, also of a ring of very many points, and a map without its grids.
 ghost use Rattle.std.specs.Prelude.{◌<◌, ◌^◌};
 ghost use Rattle.plain_data.specs.Data.{IsLayer};
+ghost use Rattle.plain_world.specs.World.{IsMeta};
 
 use crate::drawings::{data, is_boxed, map};
 use data_versions::{Dataset, Layer, Snapshot};
-use farm_base::{Listed, Text};
+use farm_base::{Listed, NoMemory, Text};
 use geo_model::{Feature, make_feature};
+use meta_container::{encode, law_drawn_container};
+use meta_drawing::{Easel, draw_container};
+use plain_drawing::MapStyle;
 use plain_shapes::{Geometry, Path};
 use plain_world::{Meta, Point, Tile};
 use std::alloc::Global;
@@ -32,6 +36,38 @@ fn four_tiles_of_one_window(rt: HostRuntime) -> Result<(), Fail> {
     for (tile, bounds) in drawn.tiles.iter().zip(bounds) {
         assert!(rt; is_boxed(tile.as_slice(), b"P6\n16 16\n255\n", 16, bounds));
     }
+    Ok(())
+}
+
+const BLUE: &str = r#"{"background-color":"blue","styles":[],"layers":[]}"#;
+
+// The container of a metatile by way of its tiles.
+fn encoded(
+    alloc: Global,
+    style: &MapStyle,
+    meta: Meta,
+    snapshot: &Snapshot,
+) -> Result<Vec<u8>, NoMemory>
+    requires { IsMeta meta }
+{
+    law_drawn_container();
+    let drawn = draw_meta(alloc, style, 16, meta, snapshot)?;
+    encode(alloc, drawn.meta, drawn.tiles.as_slice())
+}
+
+// The easel's buffer is of a larger picture, which is blue all over.
+#[test]
+fn a_container_from_a_used_easel(rt: HostRuntime) -> Result<(), Fail> {
+    let alloc = rt.alloc();
+    let blue = map(alloc, BLUE)?;
+    let style = map(alloc, RED)?;
+    let snapshot = data(alloc, SQUARE)?;
+    let meta = Meta { z: 1, x: 0, y: 0 };
+    let mut easel = Easel::new(alloc);
+    let larger = draw_container(&mut easel, &blue, 32, meta, &snapshot)?;
+    let container = draw_container(&mut easel, &style, 16, meta, &snapshot)?;
+    let wanted = encoded(alloc, &style, meta, &snapshot)?;
+    assert!(rt; larger.len() > container.len() && container == wanted);
     Ok(())
 }
 
