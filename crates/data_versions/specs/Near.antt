@@ -1,4 +1,4 @@
--- Where in a layer a feature stands, and which feature is near a rectangle next.
+-- Where in a layer a feature stands, and which features are near a rectangle.
 use Rattle.std.specs.Prelude.{ℕ, ◌+◌, Bool, nat_eq, List, drop, filter, position, Option, option_map}
 use Rattle.plain_data.specs.Features.{Feature}
 use Rattle.geo_model.specs.declared.bounds.Bounds.{Bounds}

@@ -18,7 +18,7 @@ use std::marker::Model;
 use std::sync::Arc;
 
 /// The most ids that are found by walks over the chunks. To note the places of all ids takes about as long as
-/// two or three times as many walks.
+/// 2,000 to 3,000 such walks.
 const MOST_WALKS: usize = 1_000;
 
 /// The features of a layer by reference, each in a slot that stays its own, so that a removal moves no other

@@ -73,8 +73,8 @@ fn put_tiles(image: &Image, size: u32, across: u32, out: &mut Vec<u8>) -> Result
     Ok(())
 }
 
-/// The container of the tiles of a picture.
-fn packed(alloc: Global, image: &Image, size: u32, m: Meta) -> Result<Vec<u8>, NoMemory>
+/// The container of a picture's tiles, where these are the drawings of a metatile's.
+fn container_of_picture(alloc: Global, image: &Image, size: u32, m: Meta) -> Result<Vec<u8>, NoMemory>
     requires size { IsTileSize size }
     requires meta { IsMeta m }
     requires cols { image.now.cols ≡ size * tiles_across m }
@@ -106,7 +106,7 @@ pub fn draw_container(
     let alloc = easel.alloc();
     let buffer = easel.take_buffer();
     let image = draw_picture(alloc, buffer, style, size, m, snapshot)?;
-    let container = packed(alloc, &image, size, m);
+    let container = container_of_picture(alloc, &image, size, m);
     easel.keep(image.into_bytes());
     container
 }

@@ -2,8 +2,8 @@
 use std::alloc::Global;
 use std::mem;
 
-/// Where a worker draws: it keeps the buffer of its picture, so that only its first drawing takes new memory for
-/// one. No contract speaks of what it keeps.
+/// Where a worker draws: it keeps the buffer of its picture, so that a drawing takes new memory for one only where
+/// it is larger than those before, or where the one before found no memory. No contract speaks of what it keeps.
 #[derive(Drop)]
 pub struct Easel {
     alloc: Global,

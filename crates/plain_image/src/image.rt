@@ -42,8 +42,8 @@ impl Image {
         Image::over(alloc, Vec::new(alloc), cols, rows, c)
     }
 
-    /// The same in a buffer that is used again: what it held goes, and no memory is taken where it has
-    /// room. `into_bytes` gives the buffer back.
+    /// The same in a buffer that is used again: what it held goes, and its pixels take no new memory
+    /// where it has room; one row's bytes are taken beside it. `into_bytes` gives the buffer back.
     pub fn over(
         alloc: Global,
         buffer: Vec<u8>,

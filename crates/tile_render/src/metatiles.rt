@@ -78,7 +78,8 @@ fn cut_tiles(alloc: Global, image: &Image, size: u32, across: u32) -> Result<Vec
 }
 
 /// The picture of a metatile, whose parts are exactly its tiles, each its `draw_tile`. It is made in the buffer:
-/// what this held goes, and no memory is taken for the picture where it has room.
+/// what this held goes, and the picture's pixels take no new memory where it has room; one row's bytes are taken
+/// beside it.
 pub fn draw_picture(
     alloc: Global,
     buffer: Vec<u8>,

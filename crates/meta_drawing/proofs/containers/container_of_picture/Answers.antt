@@ -3,7 +3,7 @@ use Rattle.plain_drawing.specs.Metatiles.{tiles_of}
 use Rattle.plain_drawing.specs.inner.PartTexts.{part_texts}
 use Rattle.meta_container.specs.Container.{joined, container_of}
 use Rattle.meta_container.proofs.Drawn.{drawn_are_tiles, drawn_of_size}
-use Rattle.meta_drawing.proofs.containers.packed.Goals as goal
+use Rattle.meta_drawing.proofs.containers.container_of_picture.Goals as goal
 
 pub returns : goal.returns
 returns c style layers parts =
