@@ -3,7 +3,7 @@ use data_versions::Snapshot;
 use farm_base::Files;
 use geo_json::read_data;
 use merc_fixed::{meta_of, tile};
-use meta_drawing::{Easel, draw_container};
+use meta_drawing::{PictureBuffer, draw_container};
 use plain_drawing::MapStyle;
 use std::alloc::Global;
 use style_objects::read_style;
@@ -42,10 +42,10 @@ impl Rounds {
 
     fn draw(&self, alloc: Global, style: &MapStyle, snapshot: &Snapshot) -> Option<Drawn> {
         let meta = meta_of(tile(self.z, self.x, self.y)?);
-        let mut easel = Easel::new(alloc);
+        let mut picture_buffer = PictureBuffer::new(alloc);
         let mut drawn = Drawn { bytes: 0, sum: 0 };
         for _round in 0..self.count {
-            let container = draw_container(&mut easel, style, 256, meta, snapshot).ok()?;
+            let container = draw_container(&mut picture_buffer, style, 256, meta, snapshot).ok()?;
             drawn = drawn.and(container.as_slice());
         }
         Some(drawn)

@@ -4,7 +4,7 @@ ghost use Rattle.farm_stands.specs.Jobs.{IsValidJob, job_text};
 
 use farm_base::NoMemory;
 use farm_jobs::Job;
-use meta_drawing::{Easel, draw_container};
+use meta_drawing::{PictureBuffer, draw_container};
 use std::alloc::Global;
 
 /// Draws the metatile of a job, in its style and over its data, and gives it as the container that is
@@ -13,13 +13,19 @@ pub fn draw_job(alloc: Global, job: &Job) -> Result<Vec<u8>, NoMemory>
     requires { IsValidJob job.now }
     ensures { IfOk result (λ v. v.items ≡ job_text job.now) }
 {
-    draw_job_on(&mut Easel::new(alloc), job)
+    draw_job_on(&mut PictureBuffer::new(alloc), job)
 }
 
-/// The same on an easel, for who draws again and again.
-pub fn draw_job_on(easel: &mut Easel, job: &Job) -> Result<Vec<u8>, NoMemory>
+/// The same on a picture buffer, for who draws again and again.
+pub fn draw_job_on(picture_buffer: &mut PictureBuffer, job: &Job) -> Result<Vec<u8>, NoMemory>
     requires { IsValidJob job.now }
     ensures { IfOk result (λ v. v.items ≡ job_text job.now) }
 {
-    draw_container(easel, job.style(), job.tile, job.meta, job.snapshot())
+    draw_container(
+        picture_buffer,
+        job.style(),
+        job.tile,
+        job.meta,
+        job.snapshot(),
+    )
 }

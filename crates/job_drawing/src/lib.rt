@@ -4,4 +4,4 @@
 mod drawings;
 
 pub use drawings::{draw_job, draw_job_on};
-pub use meta_drawing::Easel;
+pub use meta_drawing::PictureBuffer;

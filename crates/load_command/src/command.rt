@@ -16,7 +16,7 @@ use crate::totals::Totals;
 use call_ends::{Stop, put};
 use farm_base::{NoMemory, Sink};
 use farm_core::Farm;
-use job_drawing::Easel;
+use job_drawing::PictureBuffer;
 use std::alloc::Global;
 use tile_store::TileStore;
 use work_gen::{Step, plan, steps};
@@ -33,10 +33,10 @@ fn run_steps<D: TileStore>(
     ensures run { (told : Bool) → StandsFor D.state told farm.old [] → Runs D.state told farm.new steps.now result }
     ensures kept { Lasts D.state farm.old farm.new }
 {
-    let mut easel = Easel::new(alloc);
+    let mut picture_buffer = PictureBuffer::new(alloc);
     let mut totals = Totals::none();
     for step in steps {
-        let seen = match run_step(&mut easel, farm, step) {
+        let seen = match run_step(&mut picture_buffer, farm, step) {
             Ok(seen) => seen,
             Err(_) => return Err(NoMemory),
         };

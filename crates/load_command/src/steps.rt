@@ -14,7 +14,7 @@ ghost use Rattle.work_gen.specs.declared.stepping.Step.{Step};
 use farm_base::NoMemory;
 use farm_core::{Claimed, Drawn, Farm};
 use farm_plan::{Cmd, Collected, Conn, Fetched, Finished, Spot};
-use job_drawing::{Easel, draw_job_on};
+use job_drawing::{PictureBuffer, draw_job_on};
 use plain_world::Tile;
 use std::alloc::Global;
 use tile_store::TileStore;
@@ -68,7 +68,10 @@ fn is_wanting(answer: Finished) -> bool
 }
 
 /// Claims what waits first; a job is drawn and finished. Answers whether its put failed.
-fn draw_next<D: TileStore>(easel: &mut Easel, farm: &mut Farm<D>) -> Result<bool, NoMemory>
+fn draw_next<D: TileStore>(
+    picture_buffer: &mut PictureBuffer,
+    farm: &mut Farm<D>,
+) -> Result<bool, NoMemory>
     requires stands { (told : Bool) × (g : List Entry) × StandsFor D.state told farm.old g × (weight g < 2 ^ 62) }
     ensures grows { (told : Bool) (g : List Entry) (step : Step) → StandsFor D.state told farm.old g → Grows D.state told farm.new (weight g + 2) (Draws step g result) }
     ensures kept { Lasts D.state farm.old farm.new }
@@ -77,11 +80,11 @@ fn draw_next<D: TileStore>(easel: &mut Easel, farm: &mut Farm<D>) -> Result<bool
         Claimed::Job(job) => job,
         _ => return Ok(false),
     };
-    let bytes = match draw_job_on(easel, &job) {
+    let bytes = match draw_job_on(picture_buffer, &job) {
         Ok(bytes) => bytes,
         Err(_) => return Err(NoMemory),
     };
-    let answer = farm.finish(easel.alloc(), job, Drawn::Bytes(bytes));
+    let answer = farm.finish(picture_buffer.alloc(), job, Drawn::Bytes(bytes));
     if is_wanting(answer) {
         return Err(NoMemory);
     }
@@ -146,7 +149,7 @@ fn fetch_one<D: TileStore>(
 /// Runs a step: its tile is expired, if so marked, and asked for; what waits first is drawn; the replies are
 /// collected; and the tile is fetched.
 pub(crate) fn run_step<D: TileStore>(
-    easel: &mut Easel,
+    picture_buffer: &mut PictureBuffer,
     farm: &mut Farm<D>,
     step: &Step,
 ) -> Result<StepSeen, NoMemory>
@@ -157,10 +160,10 @@ pub(crate) fn run_step<D: TileStore>(
 {
     expire_marked(farm, *step);
     farm.ask(LOADER, Cmd::Render, step.spot);
-    let lost = match draw_next(easel, farm) {
+    let lost = match draw_next(picture_buffer, farm) {
         Ok(lost) => lost,
         Err(_) => return Err(NoMemory),
     };
     collect_all(farm);
-    fetch_one(easel.alloc(), farm, step.spot, lost)
+    fetch_one(picture_buffer.alloc(), farm, step.spot, lost)
 }

@@ -8,7 +8,7 @@ ghost use Rattle.plain_drawing.specs.Metatiles.{tiles_of};
 ghost use Rattle.plain_drawing.specs.inner.PartTexts.{column_texts, part_texts};
 ghost use Rattle.meta_container.specs.Container.{container_of, joined};
 
-use crate::easel::Easel;
+use crate::picture_buffer::PictureBuffer;
 use data_versions::Snapshot;
 use farm_base::NoMemory;
 use merc_fixed::tiles_across;
@@ -74,7 +74,12 @@ fn put_tiles(image: &Image, size: u32, across: u32, out: &mut Vec<u8>) -> Result
 }
 
 /// The container of a picture's tiles, where these are the drawings of a metatile's.
-fn container_of_picture(alloc: Global, image: &Image, size: u32, m: Meta) -> Result<Vec<u8>, NoMemory>
+fn container_of_picture(
+    alloc: Global,
+    image: &Image,
+    size: u32,
+    m: Meta,
+) -> Result<Vec<u8>, NoMemory>
     requires size { IsTileSize size }
     requires meta { IsMeta m }
     requires cols { image.now.cols ≡ size * tiles_across m }
@@ -91,9 +96,9 @@ fn container_of_picture(alloc: Global, image: &Image, size: u32, m: Meta) -> Res
 }
 
 /// Draws a metatile in a style over data, and gives it as the container of its tiles. The picture is made in the
-/// buffer that the easel keeps, and its tiles are written straight from it.
+/// buffer that the picture buffer keeps, and its tiles are written straight from it.
 pub fn draw_container(
-    easel: &mut Easel,
+    picture_buffer: &mut PictureBuffer,
     style: &MapStyle,
     size: u32,
     m: Meta,
@@ -103,10 +108,10 @@ pub fn draw_container(
     requires meta { IsMeta m }
     ensures { IfOk result (λ v. v.items ≡ container_of m (tiles_of style.now size m snapshot.now)) }
 {
-    let alloc = easel.alloc();
-    let buffer = easel.take_buffer();
+    let alloc = picture_buffer.alloc();
+    let buffer = picture_buffer.take_buffer();
     let image = draw_picture(alloc, buffer, style, size, m, snapshot)?;
     let container = container_of_picture(alloc, &image, size, m);
-    easel.keep(image.into_bytes());
+    picture_buffer.keep(image.into_bytes());
     container
 }

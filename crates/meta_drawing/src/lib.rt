@@ -2,7 +2,7 @@
 #![tactic(auto)]
 
 mod containers;
-mod easel;
+mod picture_buffer;
 
 pub use containers::draw_container;
-pub use easel::Easel;
+pub use picture_buffer::PictureBuffer;

@@ -5,14 +5,14 @@ ghost use Rattle.farm_core.specs.Answers.{IsDrawingOf};
 
 use farm_base::NoMemory;
 use farm_core::{Drawn, Job};
-use job_drawing::{Easel, draw_job_on};
+use job_drawing::{PictureBuffer, draw_job_on};
 
 /// What is handed back of a job: the container of its metatile, or that there was no memory for it.
-pub fn draw(easel: &mut Easel, job: &Job) -> Drawn
+pub fn draw(picture_buffer: &mut PictureBuffer, job: &Job) -> Drawn
     requires { IsValidJob job.now }
     ensures { IsDrawingOf job.now result }
 {
-    match draw_job_on(easel, job) {
+    match draw_job_on(picture_buffer, job) {
         Ok(bytes) => Drawn::Bytes(bytes),
         Err(NoMemory) => Drawn::NoMemory,
     }

@@ -10,7 +10,7 @@ use crossbeam_utils::sync::Parker;
 use farm_base::{Bell, Gate};
 use farm_core::Claimed;
 use farm_shared::{Alarms, Seat, SharedFarm};
-use job_drawing::Easel;
+use job_drawing::PictureBuffer;
 use std::alloc::Global;
 use std::sync::Wait;
 use tile_store::TileStore;
@@ -38,7 +38,7 @@ enum Next {
 /// Claims. A job is drawn after the gate let it pass, while no turn is taken, and handed back; then all are woken.
 fn round<R: Wait, D: TileStore, G: Gate, B: Bell>(
     rt: &R,
-    easel: &mut Easel,
+    picture_buffer: &mut PictureBuffer,
     farm: &SharedFarm<D>,
     seat: &mut Seat<D>,
     worker: u32,
@@ -58,8 +58,8 @@ fn round<R: Wait, D: TileStore, G: Gate, B: Bell>(
     match claimed {
         Claimed::Job(job) => {
             gate.before_draw(job.ticket);
-            let drawn = draw(easel, &job);
-            let Ok(_answer) = farm.finish(rt, seat, easel.alloc(), job, drawn) else {
+            let drawn = draw(picture_buffer, &job);
+            let Ok(_answer) = farm.finish(rt, seat, picture_buffer.alloc(), job, drawn) else {
                 return Next::End(WorkEnd::Worn);
             };
             alarms.ring_all();
@@ -90,9 +90,9 @@ pub fn work<R: Wait, D: TileStore, G: Gate, B: Bell>(
     ensures entries { Worked worker result seat.old seat.new }
     ensures worn { result ≡ WorkEnd.Worn → seat.new.worn ≡ true }
 {
-    let mut easel = Easel::new(alloc);
+    let mut picture_buffer = PictureBuffer::new(alloc);
     for _ in rt.forever() {
-        match round(rt, &mut easel, farm, seat, worker, gate, alarms) {
+        match round(rt, &mut picture_buffer, farm, seat, worker, gate, alarms) {
             Next::Again => {}
             Next::Rest => nap.park(rt),
             Next::End(end) => return end,

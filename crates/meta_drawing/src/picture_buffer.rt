@@ -5,15 +5,15 @@ use std::mem;
 /// Where a worker draws: it keeps the buffer of its picture, so that a drawing takes new memory for one only where
 /// it is larger than those before, or where the one before found no memory. No contract speaks of what it keeps.
 #[derive(Drop)]
-pub struct Easel {
+pub struct PictureBuffer {
     alloc: Global,
     buffer: Vec<u8>,
 }
 
-impl Easel {
-    /// An easel that keeps nothing yet.
-    pub fn new(alloc: Global) -> Easel {
-        Easel {
+impl PictureBuffer {
+    /// A picture buffer that keeps nothing yet.
+    pub fn new(alloc: Global) -> PictureBuffer {
+        PictureBuffer {
             alloc,
             buffer: Vec::new(alloc),
         }
