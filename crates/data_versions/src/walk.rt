@@ -48,7 +48,7 @@ impl<'a> NearFeatures<'a> {
 
     /// The next feature, or none exactly where none is left.
     pub fn next(&mut self) -> Option<&'a Feature>
-        ensures { MatchOption result (self.old ≡ []) (λ f. self.old ≡ f.now ∷ self.new) }
+        ensures { MatchOption result ((self.old ≡ []) × (self.new ≡ [])) (λ f. self.old ≡ f.now ∷ self.new) }
     {
         let mut here = self.here;
         let mut later = self.later;
@@ -59,6 +59,8 @@ impl<'a> NearFeatures<'a> {
                 return Some(&here[place]);
             }
             let Some((first, rest)) = later.split_first() else {
+                self.here = &[];
+                self.later = &[];
                 return None;
             };
             let chunk: &'a Chunk = first;
