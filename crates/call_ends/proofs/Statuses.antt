@@ -6,7 +6,7 @@ use Rattle.farm_base.specs.Outside.{Puts, Rose}
 use Rattle.farm_base.specs.declared.sinks.SinkFault.{SinkFault}
 use Rattle.call_ends.specs.Stops.{status_of, err_line}
 use Rattle.call_ends.specs.Ends.{SinkAt, put_end, PutsAll, PutsMade, told_status, EndsWith}
-use Rattle.call_ends.specs.Promises.{Stands}
+use Rattle.call_ends.specs.Promises.{LineStands}
 use Rattle.call_ends.proofs.Outsides.{PutTells, PutCounts, put_tells, put_counts}
 use Rattle.call_ends.specs.declared.stops.Stop.{Stop}
 use Rattle.call_ends.specs.declared.stops.Stop.TheVariants as stop
@@ -82,7 +82,7 @@ early : (end : Result (Unit {0}) Stop) → 0 ≢ status_of end → 4 ≢ status_
 early (Ok u) no0 no4 = absurd (no0 refl)
 early (Err s) no0 no4 = (s, (λ h. no4 (sym (ap (λ (x : Stop). status_of (Err x)) h))), refl)
 
-stands : (err err' : SinkAt) (line : List ℕ) (put : Result (Unit {0}) SinkFault) → put ≡ Ok tt → Puts err err' line put → Stands err.told err'.told line
+stands : (err err' : SinkAt) (line : List ℕ) (put : Result (Unit {0}) SinkFault) → put ≡ Ok tt → Puts err err' line put → LineStands err.told err'.told line
 stands err err' line put e h had e' = put_tells had err err' line (Ok tt) e' (subst (λ (p : Result (Unit {0}) SinkFault). Puts err err' line p) e h)
 
 -- why a status is 4: the command's own put failed, or that of the line of another end
@@ -120,25 +120,25 @@ module _ (runs : Result (Unit {0}) Stop → Type 0) (err err' : SinkAt) (result 
       ap (λ (at : SinkAt). at.told) (ends.reports.quiet (ap err_line (ends_as 0 ends.end told.1))).1
 
   -- with 1 a file was refused, and the line stands on err
-  pub with_1 : result ≡ 1 → (line : List ℕ) × runs (Err (stop.Refused line)) × Stands err.told err'.told line
+  pub with_1 : result ≡ 1 → (line : List ℕ) × runs (Err (stop.Refused line)) × LineStands err.told err'.told line
   with_1 one =
       let told = quiet ends.end ends.reports.put 1 (omega arith) (sym one ∙ ends.reports.status_is) in
       let end = ends_as 1 ends.end told.1 in
-      (end.0, subst runs end.1 ends.ran, subst (λ (l : List ℕ). Stands err.told err'.told l) (ap err_line end.1) (stands err err' (err_line ends.end) ends.reports.put told.0 ends.reports.puts))
+      (end.0, subst runs end.1 ends.ran, subst (λ (l : List ℕ). LineStands err.told err'.told l) (ap err_line end.1) (stands err err' (err_line ends.end) ends.reports.put told.0 ends.reports.puts))
 
   -- with 2 the words were refused, and the usage line stands on err
-  pub with_2 : result ≡ 2 → runs (Err stop.Words) × Stands err.told err'.told (err_line (Err stop.Words))
+  pub with_2 : result ≡ 2 → runs (Err stop.Words) × LineStands err.told err'.told (err_line (Err stop.Words))
   with_2 two =
       let told = quiet ends.end ends.reports.put 2 (omega arith) (sym two ∙ ends.reports.status_is) in
       let end = ends_as 2 ends.end told.1 in
-      (subst runs end ends.ran, subst (λ (l : List ℕ). Stands err.told err'.told l) (ap err_line end) (stands err err' (err_line ends.end) ends.reports.put told.0 ends.reports.puts))
+      (subst runs end ends.ran, subst (λ (l : List ℕ). LineStands err.told err'.told l) (ap err_line end) (stands err err' (err_line ends.end) ends.reports.put told.0 ends.reports.puts))
 
   -- with 3 a read failed, and the line stands on err
-  pub with_3 : result ≡ 3 → (line : List ℕ) × runs (Err (stop.Unreadable line)) × Stands err.told err'.told line
+  pub with_3 : result ≡ 3 → (line : List ℕ) × runs (Err (stop.Unreadable line)) × LineStands err.told err'.told line
   with_3 three =
       let told = quiet ends.end ends.reports.put 3 (omega arith) (sym three ∙ ends.reports.status_is) in
       let end = ends_as 3 ends.end told.1 in
-      (end.0, subst runs end.1 ends.ran, subst (λ (l : List ℕ). Stands err.told err'.told l) (ap err_line end.1) (stands err err' (err_line ends.end) ends.reports.put told.0 ends.reports.puts))
+      (end.0, subst runs end.1 ends.ran, subst (λ (l : List ℕ). LineStands err.told err'.told l) (ap err_line end.1) (stands err err' (err_line ends.end) ends.reports.put told.0 ends.reports.puts))
 
   -- with 4 the command's put failed; or it ended early, for no put, and the put of its line failed
   pub with_4 : result ≡ 4 → runs (Err stop.SinkFailed) ⊎ Fails (λ s. runs (Err s)) err.faults err'.faults
@@ -149,32 +149,32 @@ module _ (runs : Result (Unit {0}) Stop → Type 0) (err err' : SinkAt) (result 
       ]
 
   -- with 5 memory was wanting, and the line that says so stands on err
-  pub with_5 : result ≡ 5 → Stands err.told err'.told (err_line (Err stop.NoMemory))
+  pub with_5 : result ≡ 5 → LineStands err.told err'.told (err_line (Err stop.NoMemory))
   with_5 five =
       let told = quiet ends.end ends.reports.put 5 (omega arith) (sym five ∙ ends.reports.status_is) in
       let end = ends_as 5 ends.end told.1 in
-      subst (λ (l : List ℕ). Stands err.told err'.told l) (ap err_line end) (stands err err' (err_line ends.end) ends.reports.put told.0 ends.reports.puts)
+      subst (λ (l : List ℕ). LineStands err.told err'.told l) (ap err_line end) (stands err err' (err_line ends.end) ends.reports.put told.0 ends.reports.puts)
 
   -- with 6 the store failed, and the line that says so stands on err
-  pub with_6 : result ≡ 6 → runs (Err stop.StoreFailed) × Stands err.told err'.told (err_line (Err stop.StoreFailed))
+  pub with_6 : result ≡ 6 → runs (Err stop.StoreFailed) × LineStands err.told err'.told (err_line (Err stop.StoreFailed))
   with_6 six =
       let told = quiet ends.end ends.reports.put 6 (omega arith) (sym six ∙ ends.reports.status_is) in
       let end = ends_as 6 ends.end told.1 in
-      (subst runs end ends.ran, subst (λ (l : List ℕ). Stands err.told err'.told l) (ap err_line end) (stands err err' (err_line ends.end) ends.reports.put told.0 ends.reports.puts))
+      (subst runs end ends.ran, subst (λ (l : List ℕ). LineStands err.told err'.told l) (ap err_line end) (stands err err' (err_line ends.end) ends.reports.put told.0 ends.reports.puts))
 
   -- with 7 the ports failed, and the line that says so stands on err
-  pub with_7 : result ≡ 7 → runs (Err stop.PortsFailed) × Stands err.told err'.told (err_line (Err stop.PortsFailed))
+  pub with_7 : result ≡ 7 → runs (Err stop.PortsFailed) × LineStands err.told err'.told (err_line (Err stop.PortsFailed))
   with_7 seven =
       let told = quiet ends.end ends.reports.put 7 (omega arith) (sym seven ∙ ends.reports.status_is) in
       let end = ends_as 7 ends.end told.1 in
-      (subst runs end ends.ran, subst (λ (l : List ℕ). Stands err.told err'.told l) (ap err_line end) (stands err err' (err_line ends.end) ends.reports.put told.0 ends.reports.puts))
+      (subst runs end ends.ran, subst (λ (l : List ℕ). LineStands err.told err'.told l) (ap err_line end) (stands err err' (err_line ends.end) ends.reports.put told.0 ends.reports.puts))
 
   -- with 8 turns were used up, and the line that says so stands on err
-  pub with_8 : result ≡ 8 → runs (Err stop.TurnsUsedUp) × Stands err.told err'.told (err_line (Err stop.TurnsUsedUp))
+  pub with_8 : result ≡ 8 → runs (Err stop.TurnsUsedUp) × LineStands err.told err'.told (err_line (Err stop.TurnsUsedUp))
   with_8 eight =
       let told = quiet ends.end ends.reports.put 8 (omega arith) (sym eight ∙ ends.reports.status_is) in
       let end = ends_as 8 ends.end told.1 in
-      (subst runs end ends.ran, subst (λ (l : List ℕ). Stands err.told err'.told l) (ap err_line end) (stands err err' (err_line ends.end) ends.reports.put told.0 ends.reports.puts))
+      (subst runs end ends.ran, subst (λ (l : List ℕ). LineStands err.told err'.told l) (ap err_line end) (stands err err' (err_line ends.end) ends.reports.put told.0 ends.reports.puts))
 
   -- with another status than 0 and 4 the command ended early, and for no put
   pub with_other : result ≢ 0 → result ≢ 4 → (s : Stop) × (s ≢ stop.SinkFailed) × runs (Err s)

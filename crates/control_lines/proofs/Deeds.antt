@@ -9,14 +9,14 @@ use Rattle.farm_history.specs.Entries.{Entry}
 use Rattle.front_rounds.specs.declared.fates.Fate.{Fate}
 use Rattle.front_rounds.specs.declared.fates.Fate.TheVariants.{Stays, Leaves}
 use Rattle.front_rounds.specs.declared.fates.Reason.TheVariants as reason
-use Rattle.front_rounds.specs.Rules.{Rules, Move, asked, text, each_whole, any_starves}
+use Rattle.front_rounds.specs.Rules.{Rules, Move, wants_of, answer_bytes, each_whole, any_starves}
 use Rattle.front_rounds.specs.Front.{keeps, does, EachFits, with_acts, Heard, HeardWhy}
 use Rattle.control_lines.specs.declared.acts.Line.{Line}
 use Rattle.control_lines.specs.declared.acts.Line.TheVariants as line
 use Rattle.control_lines.specs.declared.acts.Act.{Act}
 use Rattle.control_lines.specs.declared.hearing.Talk.{Talk}
-use Rattle.control_lines.specs.Lines.{Reading, read_on, read_all, begun, wants, line_in}
-use Rattle.control_lines.specs.Control.{rules_of, line_done, entries_of, text_of, act_fits, act_whole, act_starves}
+use Rattle.control_lines.specs.Lines.{Reading, read_on, read_all, part_alone, wants, line_in}
+use Rattle.control_lines.specs.Control.{rules_of, line_done, entries_of, act_text, act_fits, act_whole, act_starves}
 use Rattle.control_lines.specs.inner.Doing.{Says, Said, Lacks, Answers, Gives, Wants, Starves, DoneWhy, Did, LongWhy, as_done, Heeds, Knows}
 use Rattle.control_lines.proofs.Streams.{read_both, read_more, read_shut, wants_more, wants_begin}
 
@@ -40,15 +40,15 @@ module _ (number : ℕ) (lists : List (List Tile)) (c : ℕ) where
   R = rules_of number lists
 
   -- requests behind others
-  asked_both : (acts before : List Act) → asked R (does (acts ++ before)) ≡ asked R (does before) ++ asked R (does acts)
-  asked_both [] before = sym (append-nil (asked R (does before)))
+  asked_both : (acts before : List Act) → wants_of R (does (acts ++ before)) ≡ wants_of R (does before) ++ wants_of R (does acts)
+  asked_both [] before = sym (append-nil (wants_of R (does before)))
   asked_both (a ∷ acts) before =
-      ap (λ ls. ls ++ line_done a ∷ []) (asked_both acts before) ∙ append_assoc (asked R (does before)) (asked R (does acts)) (line_done a ∷ [])
+      ap (λ ls. ls ++ line_done a ∷ []) (asked_both acts before) ∙ append_assoc (wants_of R (does before)) (wants_of R (does acts)) (line_done a ∷ [])
 
-  text_both : (acts before : List Act) → text R (does (acts ++ before)) ≡ text R (does before) ++ text R (does acts)
-  text_both [] before = sym (append-nil (text R (does before)))
+  text_both : (acts before : List Act) → answer_bytes R (does (acts ++ before)) ≡ answer_bytes R (does before) ++ answer_bytes R (does acts)
+  text_both [] before = sym (append-nil (answer_bytes R (does before)))
   text_both (a ∷ acts) before =
-      ap (λ ls. ls ++ text_of lists a) (text_both acts before) ∙ append_assoc (text R (does before)) (text R (does acts)) (text_of lists a)
+      ap (λ ls. ls ++ act_text lists a) (text_both acts before) ∙ append_assoc (answer_bytes R (does before)) (answer_bytes R (does acts)) (act_text lists a)
 
   entries_both : (acts before : List Act) (mine : List Entry) → with_acts R c (acts ++ before) mine ≡ with_acts R c acts (with_acts R c before mine)
   entries_both [] before mine = refl
@@ -121,7 +121,7 @@ module _ (number : ℕ) (lists : List (List Tile)) (c : ℕ) where
   }
 
   did_whole : (a : Act) (mine mine' : List Entry) (said said' : List ℕ) → act_fits lists a ≡ true → act_whole lists a ≡ true → mine' ≡ mine ++ entries_of lists a → act_starves a ≡ false
-      → said' ≡ said ++ text_of lists a → Did number lists c (line_done a ∷ []) mine mine' said said' Stays
+      → said' ≡ said ++ act_text lists a → Did number lists c (line_done a ∷ []) mine mine' said said' Stays
   did_whole a mine mine' said said' f w m s e = record {
     acts = a ∷ [];
     mine_is = m;
@@ -165,14 +165,14 @@ module _ (number : ℕ) (lists : List (List Tile)) (c : ℕ) where
     mine_is = k.mine_is ∙ ap (with_acts R c k.acts) h.mine_is ∙ sym (entries_both k.acts h.acts mine);
     begins = (
       k.begins.0,
-      ap (λ ls. ls ++ ys) (h.asked_is refl) ∙ ap (λ ls. asked R (does h.acts) ++ ls) k.begins.1 ∙ sym (append_assoc (asked R (does h.acts)) (asked R (does k.acts)) k.begins.0)
+      ap (λ ls. ls ++ ys) (h.asked_is refl) ∙ ap (λ ls. wants_of R (does h.acts) ++ ls) k.begins.1 ∙ sym (append_assoc (wants_of R (does h.acts)) (wants_of R (does k.acts)) k.begins.0)
           ∙ ap (λ ls. ls ++ k.begins.0) (sym (asked_both k.acts h.acts)),
     );
     fits = fits_both k.acts h.acts k.fits h.fits;
     why = why_both k.acts h.acts fate h.why k.why;
-    said_is = λ e. k.said_is e ∙ ap (λ xs. xs ++ text R (does k.acts)) (h.said_is refl) ∙ append_assoc said (text R (does h.acts)) (text R (does k.acts))
+    said_is = λ e. k.said_is e ∙ ap (λ xs. xs ++ answer_bytes R (does k.acts)) (h.said_is refl) ∙ append_assoc said (answer_bytes R (does h.acts)) (answer_bytes R (does k.acts))
         ∙ ap (λ xs. said ++ xs) (sym (text_both k.acts h.acts));
-    asked_is = λ e. ap (λ ls. ls ++ ys) (h.asked_is refl) ∙ ap (λ ls. asked R (does h.acts) ++ ls) (k.asked_is e) ∙ sym (asked_both k.acts h.acts);
+    asked_is = λ e. ap (λ ls. ls ++ ys) (h.asked_is refl) ∙ ap (λ ls. wants_of R (does h.acts) ++ ls) (k.asked_is e) ∙ sym (asked_both k.acts h.acts);
     whole = λ e. whole_both k.acts h.acts (k.whole e) (h.whole refl);
   }
 
@@ -182,7 +182,7 @@ module _ (number : ℕ) (lists : List (List Tile)) (c : ℕ) where
   did_cut xs ys mine mine' said said' fate n h = record {
     acts = h.acts;
     mine_is = h.mine_is;
-    begins = (h.begins.0 ++ ys, ap (λ ls. ls ++ ys) h.begins.1 ∙ append_assoc (asked R (does h.acts)) h.begins.0 ys);
+    begins = (h.begins.0 ++ ys, ap (λ ls. ls ++ ys) h.begins.1 ∙ append_assoc (wants_of R (does h.acts)) h.begins.0 ys);
     fits = h.fits;
     why = h.why;
     said_is = λ k. clash (sym k ∙ n);
@@ -237,34 +237,34 @@ module _ (number : ℕ) (lists : List (List Tile)) (c : ℕ) where
   pub heeds_then : (part mid part' xs ys : List ℕ) (mine min2 mine' : List Entry) (said saying said' : List ℕ) (fate : Fate) → Heeds number lists c part xs mine min2 mid said saying Stays
       → Heeds number lists c mid ys min2 mine' part' saying said' fate → Heeds number lists c part (xs ++ ys) mine mine' part' said said' fate
   heeds_then part mid part' xs ys mine min2 mine' said saying said' fate h k =
-      let r = read_on (begun part) xs in
-      let s = read_on (begun mid) ys in
-      let is : read_on (begun part) (xs ++ ys) ≡ read_on r ys = read_both (begun part) xs ys in
-      let lines : wants (read_on (begun part) (xs ++ ys)) ≡ wants r ++ wants s =
-      ap wants is ∙ wants_more r ys h.why ∙ ap (λ p. wants r ++ wants (read_on (begun p) ys)) (sym (h.part_is refl)) in
+      let r = read_on (part_alone part) xs in
+      let s = read_on (part_alone mid) ys in
+      let is : read_on (part_alone part) (xs ++ ys) ≡ read_on r ys = read_both (part_alone part) xs ys in
+      let lines : wants (read_on (part_alone part) (xs ++ ys)) ≡ wants r ++ wants s =
+      ap wants is ∙ wants_more r ys h.why ∙ ap (λ p. wants r ++ wants (read_on (part_alone p) ys)) (sym (h.part_is refl)) in
       let rest = is ∙ read_more r ys h.why in
       record {
         did = subst (λ ls. Did number lists c ls mine mine' said said' (as_done fate)) (sym lines) (did_then (wants r) (wants s) mine min2 mine' said saying said' (as_done fate) h.did k.did);
-        why = subst (λ b. LongWhy b fate) (sym (ap (λ (v : Reading). v.long) rest ∙ ap (λ p. (read_on (begun p) ys).long) (sym (h.part_is refl)))) k.why;
-        part_is = λ e. k.part_is e ∙ sym (ap (λ (v : Reading). v.part) rest ∙ ap (λ p. (read_on (begun p) ys).part) (sym (h.part_is refl)));
+        why = subst (λ b. LongWhy b fate) (sym (ap (λ (v : Reading). v.long) rest ∙ ap (λ p. (read_on (part_alone p) ys).long) (sym (h.part_is refl)))) k.why;
+        part_is = λ e. k.part_is e ∙ sym (ap (λ (v : Reading). v.part) rest ∙ ap (λ p. (read_on (part_alone p) ys).part) (sym (h.part_is refl)));
       }
 
   heeds_cut : (part part' xs ys : List ℕ) (mine mine' : List Entry) (said said' : List ℕ) (fate : Fate) → keeps (as_done fate) ≡ false → keeps fate ≡ false → ((b : Bool) → LongWhy b fate)
       → Heeds number lists c part xs mine mine' part' said said' fate → Heeds number lists c part (xs ++ ys) mine mine' part' said said' fate
   heeds_cut part part' xs ys mine mine' said said' fate n m w h =
-      let r = read_on (begun part) xs in
+      let r = read_on (part_alone part) xs in
       let more = wants_begin r ys in
       record {
-        did = subst (λ ls. Did number lists c ls mine mine' said said' (as_done fate)) (sym (ap wants (read_both (begun part) xs ys) ∙ more.1)) (did_cut (wants r) more.0 mine mine' said said' (as_done fate) n h.did);
-        why = w (read_on (begun part) (xs ++ ys)).long;
+        did = subst (λ ls. Did number lists c ls mine mine' said said' (as_done fate)) (sym (ap wants (read_both (part_alone part) xs ys) ∙ more.1)) (did_cut (wants r) more.0 mine mine' said said' (as_done fate) n h.did);
+        why = w (read_on (part_alone part) (xs ++ ys)).long;
         part_is = λ k. clash (sym k ∙ m);
       }
 
   heeds_long : (part part' xs ys : List ℕ) (mine mine' : List Entry) (said said' : List ℕ) → Heeds number lists c part xs mine mine' part' said said' (Leaves reason.Unread)
       → Heeds number lists c part (xs ++ ys) mine mine' part' said said' (Leaves reason.Unread)
   heeds_long part part' xs ys mine mine' said said' h =
-      let r = read_on (begun part) xs in
-      let is : read_on (begun part) (xs ++ ys) ≡ r = read_both (begun part) xs ys ∙ read_shut r ys h.why in
+      let r = read_on (part_alone part) xs in
+      let is : read_on (part_alone part) (xs ++ ys) ≡ r = read_both (part_alone part) xs ys ∙ read_shut r ys h.why in
       record {
         did = subst (λ (v : Reading). Did number lists c (wants v) mine mine' said said' Stays) (sym is) h.did;
         why = ap (λ (v : Reading). v.long) is ∙ h.why;
@@ -292,17 +292,17 @@ module _ (number : ℕ) (lists : List (List Tile)) (c : ℕ) where
       subst (λ x. Heeds number lists c part (x ∷ []) mine mine' [] said said' fate) (sym e)
       (record { did = done_same (line_in part ∷ []) mine mine' said said' fate h; why = not_long h.acts fate h.why; part_is = λ _. refl })
 
-  byte_long : (part : List ℕ) (b : ℕ) → (b ≡ 10 → ⊥) → nat_lt (length part) 64 ≡ false → read_on (begun part) (b ∷ []) ≡ record { lines = []; part = part; long = true }
+  byte_long : (part : List ℕ) (b : ℕ) → (b ≡ 10 → ⊥) → nat_lt (length part) 64 ≡ false → read_on (part_alone part) (b ∷ []) ≡ record { lines = []; part = part; long = true }
   byte_long part b n l =
       ap (λ v. cond v (record { lines = part ∷ []; part = []; long = false }) (cond (nat_lt (length part) 64) (record { lines = []; part = part ++ b ∷ []; long = false }) (record { lines = []; part = part; long = true })))
       (ne_eqb b 10 n)
       ∙ ap (λ v. cond v (record { lines = []; part = part ++ b ∷ []; long = false }) (record { lines = []; part = part; long = true })) l
 
-  byte_more : (part : List ℕ) (b : ℕ) → (b ≡ 10 → ⊥) → nat_lt (length part) 64 ≡ true → read_on (begun part) (b ∷ []) ≡ begun (part ++ b ∷ [])
+  byte_more : (part : List ℕ) (b : ℕ) → (b ≡ 10 → ⊥) → nat_lt (length part) 64 ≡ true → read_on (part_alone part) (b ∷ []) ≡ part_alone (part ++ b ∷ [])
   byte_more part b n l =
-      ap (λ v. cond v (record { lines = part ∷ []; part = []; long = false }) (cond (nat_lt (length part) 64) (begun (part ++ b ∷ [])) (record { lines = []; part = part; long = true })))
+      ap (λ v. cond v (record { lines = part ∷ []; part = []; long = false }) (cond (nat_lt (length part) 64) (part_alone (part ++ b ∷ [])) (record { lines = []; part = part; long = true })))
       (ne_eqb b 10 n)
-      ∙ ap (λ v. cond v (begun (part ++ b ∷ [])) (record { lines = []; part = part; long = true })) l
+      ∙ ap (λ v. cond v (part_alone (part ++ b ∷ [])) (record { lines = []; part = part; long = true })) l
 
   pub heeds_end : (part : List ℕ) (b : ℕ) (mine : List Entry) (said said' : List ℕ) (fate : Fate) → (b ≡ 10 → ⊥) → nat_lt (length part) 64 ≡ false
       → Did number lists c (line.Bad ∷ []) mine mine said said' (as_done fate) → LongWhy true fate → Heeds number lists c part (b ∷ []) mine mine part said said' fate
@@ -325,7 +325,7 @@ module _ (number : ℕ) (lists : List (List Tile)) (c : ℕ) where
 
   pub heeds_lost : (part part' bytes : List ℕ) (mine : List Entry) (said said' : List ℕ) → Heeds number lists c part bytes mine mine part' said said' (Leaves reason.Starved)
   heeds_lost part part' bytes mine said said' =
-      record { did = did_worn (wants (read_on (begun part) bytes)) mine mine said said' refl; why = tt; part_is = λ k. clash (sym k) }
+      record { did = did_worn (wants (read_on (part_alone part) bytes)) mine mine said said' refl; why = tt; part_is = λ k. clash (sym k) }
 
   pub heeds_kept : (part part' : List ℕ) (b : ℕ) (mine : List Entry) (said : List ℕ) (fate : Fate) → (b ≡ 10 → ⊥) → nat_lt (length part) 64 ≡ true → Says (b ∷ []) part part' fate
       → Heeds number lists c part (b ∷ []) mine mine part' said said fate
@@ -353,13 +353,13 @@ module _ (number : ℕ) (lists : List (List Tile)) (c : ℕ) where
 
   -- ---- as the front is asked
 
-  asked_front : (acts : List Act) (ms : List (Move Act)) → asked R (does acts ++ ms) ≡ asked R ms ++ asked R (does acts)
-  asked_front [] ms = sym (append-nil (asked R ms))
-  asked_front (a ∷ acts) ms = ap (λ ls. ls ++ line_done a ∷ []) (asked_front acts ms) ∙ append_assoc (asked R ms) (asked R (does acts)) (line_done a ∷ [])
+  asked_front : (acts : List Act) (ms : List (Move Act)) → wants_of R (does acts ++ ms) ≡ wants_of R ms ++ wants_of R (does acts)
+  asked_front [] ms = sym (append-nil (wants_of R ms))
+  asked_front (a ∷ acts) ms = ap (λ ls. ls ++ line_done a ∷ []) (asked_front acts ms) ∙ append_assoc (wants_of R ms) (wants_of R (does acts)) (line_done a ∷ [])
 
-  text_front : (acts : List Act) (ms : List (Move Act)) → text R (does acts ++ ms) ≡ text R ms ++ text R (does acts)
-  text_front [] ms = sym (append-nil (text R ms))
-  text_front (a ∷ acts) ms = ap (λ ls. ls ++ text_of lists a) (text_front acts ms) ∙ append_assoc (text R ms) (text R (does acts)) (text_of lists a)
+  text_front : (acts : List Act) (ms : List (Move Act)) → answer_bytes R (does acts ++ ms) ≡ answer_bytes R ms ++ answer_bytes R (does acts)
+  text_front [] ms = sym (append-nil (answer_bytes R ms))
+  text_front (a ∷ acts) ms = ap (λ ls. ls ++ act_text lists a) (text_front acts ms) ∙ append_assoc (answer_bytes R ms) (answer_bytes R (does acts)) (act_text lists a)
 
   fits_front : (acts : List Act) (ms : List (Move Act)) → EachFits R acts [] → EachFits R acts ms
   fits_front [] ms f = tt
@@ -382,29 +382,29 @@ module _ (number : ℕ) (lists : List (List Tile)) (c : ℕ) where
   why_front long given acts (Leaves reason.SendFailed) e d l = absurd d
 
   pub heard_by : (piece : List ℕ) (mine mine' : List Entry) (talk talk' : Talk) (said : List ℕ) (fate : Fate) (given : List ℕ) (ms : List (Move Act))
-      → Heeds number lists c talk.part.items piece mine mine' talk'.part.items [] said fate → Knows given ms talk → wants (read_all given) ≡ asked R ms → each_whole R ms ≡ true
+      → Heeds number lists c talk.part.items piece mine mine' talk'.part.items [] said fate → Knows given ms talk → wants (read_all given) ≡ wants_of R ms → each_whole R ms ≡ true
       → (read_all given).long ≡ false → Heard R Knows c piece mine mine' talk' said fate given ms
   heard_by piece mine mine' talk talk' said fate given ms h k w v l =
       let r = read_all given in
-      let s = read_on (begun talk.part.items) piece in
-      let is : read_all (given ++ piece) ≡ read_on r piece = read_both (begun []) given piece in
-      let lines : wants (read_all (given ++ piece)) ≡ asked R ms ++ wants s =
-      ap wants is ∙ wants_more r piece l ∙ ap (λ p. wants r ++ wants (read_on (begun p) piece)) (sym k) ∙ ap (λ ls. ls ++ wants s) w in
+      let s = read_on (part_alone talk.part.items) piece in
+      let is : read_all (given ++ piece) ≡ read_on r piece = read_both (part_alone []) given piece in
+      let lines : wants (read_all (given ++ piece)) ≡ wants_of R ms ++ wants s =
+      ap wants is ∙ wants_more r piece l ∙ ap (λ p. wants r ++ wants (read_on (part_alone p) piece)) (sym k) ∙ ap (λ ls. ls ++ wants s) w in
       let rest = is ∙ read_more r piece l in
-      let long : (read_all (given ++ piece)).long ≡ s.long = ap (λ (v : Reading). v.long) rest ∙ ap (λ p. (read_on (begun p) piece).long) (sym k) in
-      let part : (read_all (given ++ piece)).part ≡ s.part = ap (λ (v : Reading). v.part) rest ∙ ap (λ p. (read_on (begun p) piece).part) (sym k) in
+      let long : (read_all (given ++ piece)).long ≡ s.long = ap (λ (v : Reading). v.long) rest ∙ ap (λ p. (read_on (part_alone p) piece).long) (sym k) in
+      let part : (read_all (given ++ piece)).part ≡ s.part = ap (λ (v : Reading). v.part) rest ∙ ap (λ p. (read_on (part_alone p) piece).part) (sym k) in
       record {
         acts = h.did.acts;
         mine_is = h.did.mine_is;
         begins = inr (
           h.did.begins.0,
-          lines ∙ ap (λ ls. asked R ms ++ ls) h.did.begins.1 ∙ sym (append_assoc (asked R ms) (asked R (does h.did.acts)) h.did.begins.0)
+          lines ∙ ap (λ ls. wants_of R ms ++ ls) h.did.begins.1 ∙ sym (append_assoc (wants_of R ms) (wants_of R (does h.did.acts)) h.did.begins.0)
               ∙ ap (λ ls. ls ++ h.did.begins.0) (sym (asked_front h.did.acts ms)),
         );
         fits = fits_front h.did.acts ms h.did.fits;
         why = why_front s.long (given ++ piece) h.did.acts fate long h.did.why h.why;
-        said_is = λ e. text_front h.did.acts ms ∙ ap (λ xs. text R ms ++ xs) (sym (h.did.said_is (done_keeps fate e)));
-        asked_is = λ e. lines ∙ ap (λ ls. asked R ms ++ ls) (h.did.asked_is (done_keeps fate e)) ∙ sym (asked_front h.did.acts ms);
+        said_is = λ e. text_front h.did.acts ms ∙ ap (λ xs. answer_bytes R ms ++ xs) (sym (h.did.said_is (done_keeps fate e)));
+        asked_is = λ e. lines ∙ ap (λ ls. wants_of R ms ++ ls) (h.did.asked_is (done_keeps fate e)) ∙ sym (asked_front h.did.acts ms);
         whole = λ e. whole_front h.did.acts ms (h.did.whole (done_keeps fate e)) v;
         knows = λ e. h.part_is e ∙ sym part;
       }

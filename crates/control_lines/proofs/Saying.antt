@@ -14,16 +14,16 @@ use Rattle.front_rounds.specs.declared.farm.Worn.{Worn}
 use Rattle.front_rounds.specs.declared.fates.Fate.{Fate}
 use Rattle.front_rounds.specs.declared.fates.Fate.TheVariants.{Leaves}
 use Rattle.front_rounds.specs.declared.fates.Reason.TheVariants as reason
-use Rattle.script_answers.specs.Answers.{refused_line}
+use Rattle.script_answers.specs.Answers.{fault_line}
 use Rattle.control_lines.specs.declared.acts.Line.TheVariants as line
 use Rattle.control_lines.specs.declared.acts.Act.{Act}
 use Rattle.control_lines.specs.declared.acts.Act.TheVariants.{Updates, Renews, Expires}
-use Rattle.control_lines.specs.Control.{update_text, renew_text, said_or_none, is_no_memory, update_starves, renew_starves, expired_text, expire_text, text_of, act_starves, tiles_in, tiles_at, total_of, expiries}
+use Rattle.control_lines.specs.Control.{update_text, renew_text, said_or_none, is_no_memory, update_starves, renew_starves, expired_text, expire_text, act_text, act_starves, tiles_or_none, tiles_at, total_of, expiries}
 use Rattle.control_lines.specs.inner.Doing.{Says, Said, Lacks, Answers, Gives, Wants, Expired, Did}
 use Rattle.control_lines.proofs.Deeds.{did_one, did_part}
 
 -- a fault that has a line is no want of memory
-has_line : (fault : ApplyFault) (t : List ℕ) → refused_line fault ≡ Some t → is_no_memory fault ≡ false
+has_line : (fault : ApplyFault) (t : List ℕ) → fault_line fault ≡ Some t → is_no_memory fault ≡ false
 has_line apply.NoMemory t h = cc
 has_line (apply.NoLayer change) t h = refl
 has_line (apply.NoFeature change id) t h = refl
@@ -39,7 +39,7 @@ renew_given (renewed.Version v count) t h = refl
 renew_given renewed.NoUpdate t h = refl
 renew_given (renewed.Refused fault) t h = has_line fault t h
 
-pub says_answer : (lists : List (List Tile)) (a : Act) (text old new : List ℕ) (fate : Fate) → text_of lists a ≡ text → act_starves a ≡ false → Says text old new fate → Answers lists a old new fate
+pub says_answer : (lists : List (List Tile)) (a : Act) (text old new : List ℕ) (fate : Fate) → act_text lists a ≡ text → act_starves a ≡ false → Says text old new fate → Answers lists a old new fate
 says_answer lists a text old new fate t s (Said q e) = Gives q s (e ∙ ap (λ xs. old ++ xs) (sym t))
 says_answer lists a text old new fate t s (Lacks q) = Wants q
 
@@ -98,14 +98,14 @@ module _ (front : ℕ) (lists : List (List Tile)) (c : ℕ) where
       → Did front lists c (line.Expire n ∷ []) mine mine old new fate
   expire_none n mine old new fate g s =
       did_one front lists c (Expires n []) mine mine old new fate (le-leb 0 (length (tiles_at lists n)) (omega arith))
-      (eq-eqb 0 (length (tiles_at lists n)) (sym (ap (λ o. length (tiles_in o)) g)))
+      (eq-eqb 0 (length (tiles_at lists n)) (sym (ap (λ o. length (tiles_or_none o)) g)))
       (sym (append-nil mine) ∙ ap (λ es. mine ++ es) (sym (expiries_none (tiles_at lists n))))
       (says_answer lists (Expires n []) (codes "no list\n") old new fate (ap (λ o. expire_text o []) g) refl s)
 
   pub expire_some : (n total : ℕ) (tiles : List Tile) (mine mine' : List Entry) (old new : List ℕ) (fate : Fate) → slice_get lists n ≡ Some tiles → Expired tiles mine mine' (Ok total)
       → Says (expired_text total) old new fate → Did front lists c (line.Expire n ∷ []) mine mine' old new fate
   expire_some n total tiles mine mine' old new fate g (counts, l, m, t) s =
-      let is : tiles_at lists n ≡ tiles = ap tiles_in g in
+      let is : tiles_at lists n ≡ tiles = ap tiles_or_none g in
       did_one front lists c (Expires n counts) mine mine' old new fate
       (le-leb (length counts) (length (tiles_at lists n)) (subst (λ ts. length counts ≤ length ts) (sym is) (omega (arith, l))))
       (eq-eqb (length counts) (length (tiles_at lists n)) (l ∙ ap length (sym is)))
@@ -115,7 +115,7 @@ module _ (front : ℕ) (lists : List (List Tile)) (c : ℕ) where
   pub expire_worn : (n : ℕ) (w : Worn) (tiles : List Tile) (mine mine' : List Entry) (old new : List ℕ) → slice_get lists n ≡ Some tiles → Expired tiles mine mine' (Err w)
       → Did front lists c (line.Expire n ∷ []) mine mine' old new (Leaves reason.Starved)
   expire_worn n w tiles mine mine' old new g (counts, l, m) =
-      let is : tiles_at lists n ≡ tiles = ap tiles_in g in
+      let is : tiles_at lists n ≡ tiles = ap tiles_or_none g in
       did_part front lists c (Expires n counts) mine mine' old new
       (le-leb (length counts) (length (tiles_at lists n)) (subst (λ ts. length counts ≤ length ts) (sym is) l))
       (m ∙ ap (λ ts. mine ++ expiries ts counts) (sym is))

@@ -3,7 +3,7 @@ use Rattle.std.proofs.Common.{◌≡◌, ◌==◌, ℕ, Bool, true, false, cond,
 use Rattle.std.proofs.lemmas.List.{append-nil}
 use Rattle.control_lines.specs.declared.acts.Line.{Line}
 use Rattle.control_lines.specs.declared.acts.Line.TheVariants as line
-use Rattle.control_lines.specs.Lines.{Reading, with_byte, read_on, begun, line_in, wants}
+use Rattle.control_lines.specs.Lines.{Reading, with_byte, read_on, part_alone, line_in, wants}
 
 -- what was read, behind these lines
 abbrev pub behind : List (List ℕ) → Reading → Reading
@@ -35,14 +35,14 @@ abbrev by_tests : List (List ℕ) → List ℕ → ℕ → Bool → Bool → Rea
 by_tests ls part b newline short = cond newline (opened (ls ++ part ∷ []) []) (cond short (opened ls (part ++ b ∷ [])) (shut ls part))
 
 from_by : (ls : List (List ℕ)) (part : List ℕ) (b : ℕ) (ys : List ℕ) (newline short : Bool)
-    → ((ms : List (List ℕ)) (p : List ℕ) → read_on (opened ms p) ys ≡ behind ms (read_on (begun p) ys))
+    → ((ms : List (List ℕ)) (p : List ℕ) → read_on (opened ms p) ys ≡ behind ms (read_on (part_alone p) ys))
     → read_on (by_tests ls part b newline short) ys ≡ behind ls (read_on (by_tests [] part b newline short) ys)
 from_by ls part b ys true short f =
-    f (ls ++ part ∷ []) [] ∙ behind_both ls (part ∷ []) (read_on (begun []) ys) ∙ ap (behind ls) (sym (f (part ∷ []) []))
+    f (ls ++ part ∷ []) [] ∙ behind_both ls (part ∷ []) (read_on (part_alone []) ys) ∙ ap (behind ls) (sym (f (part ∷ []) []))
 from_by ls part b ys false true f = f ls (part ++ b ∷ [])
 from_by ls part b ys false false f = read_none ls part ys ∙ behind_none ls part true ∙ ap (behind ls) (sym (read_none [] part ys))
 
-pub read_from : (ls : List (List ℕ)) (part ys : List ℕ) → read_on (opened ls part) ys ≡ behind ls (read_on (begun part) ys)
+pub read_from : (ls : List (List ℕ)) (part ys : List ℕ) → read_on (opened ls part) ys ≡ behind ls (read_on (part_alone part) ys)
 read_from ls part [] = behind_none ls part false
 read_from ls part (b ∷ ys) = from_by ls part b ys (b == 10) (nat_lt (length part) 64) (λ ms p. read_from ms p ys)
 
@@ -62,12 +62,12 @@ wants_open : (r : Reading) → r.long ≡ false → wants r ≡ map line_in r.li
 wants_open r e = ap (λ v. map line_in r.lines ++ cond v (line.Bad ∷ []) []) e ∙ append-nil (map line_in r.lines)
 
 -- more bytes behind what was read, where no line is too long
-pub read_more : (r : Reading) (ys : List ℕ) → r.long ≡ false → read_on r ys ≡ behind r.lines (read_on (begun r.part) ys)
+pub read_more : (r : Reading) (ys : List ℕ) → r.long ≡ false → read_on r ys ≡ behind r.lines (read_on (part_alone r.part) ys)
 read_more r ys e = ap (λ v. read_on v ys) (open_is r e) ∙ read_from r.lines r.part ys
 
-pub wants_more : (r : Reading) (ys : List ℕ) → r.long ≡ false → wants (read_on r ys) ≡ wants r ++ wants (read_on (begun r.part) ys)
+pub wants_more : (r : Reading) (ys : List ℕ) → r.long ≡ false → wants (read_on r ys) ≡ wants r ++ wants (read_on (part_alone r.part) ys)
 wants_more r ys e =
-    ap wants (read_more r ys e) ∙ wants_behind r.lines (read_on (begun r.part) ys) ∙ ap (λ v. v ++ wants (read_on (begun r.part) ys)) (sym (wants_open r e))
+    ap wants (read_more r ys e) ∙ wants_behind r.lines (read_on (part_alone r.part) ys) ∙ ap (λ v. v ++ wants (read_on (part_alone r.part) ys)) (sym (wants_open r e))
 
 pub read_shut : (r : Reading) (ys : List ℕ) → r.long ≡ true → read_on r ys ≡ r
 read_shut r ys e =
@@ -79,5 +79,5 @@ pub wants_begin : (r : Reading) (ys : List ℕ) → (more : List Line) × (wants
 wants_begin r ys = by_long r.long refl
   where
     by_long : (b : Bool) → r.long ≡ b → (more : List Line) × (wants (read_on r ys) ≡ wants r ++ more)
-    by_long false e = (wants (read_on (begun r.part) ys), wants_more r ys e)
+    by_long false e = (wants (read_on (part_alone r.part) ys), wants_more r ys e)
     by_long true e = ([], ap wants (read_shut r ys e) ∙ sym (append-nil (wants r)))

@@ -12,7 +12,7 @@ use Rattle.farm_history.specs.declared.answers.Renewed.TheVariants as renewed
 use Rattle.farm_history.specs.declared.answers.Tally.{Tally as Totals}
 use Rattle.farm_history.specs.Entries.{Entry, Update, Restyle, Renew, Expire, Stop, Tally}
 use Rattle.front_rounds.specs.Rules.{Rules, Move, Does, Gets}
-use Rattle.script_answers.specs.Answers.{numbered as line_with, refused_line, renewed_line, expire_line, tally_line, stop_line}
+use Rattle.script_answers.specs.Answers.{number_line as line_with, fault_line, renewed_line, expire_line, tally_line, stop_line}
 use Rattle.control_lines.specs.declared.acts.Line.{Line}
 use Rattle.control_lines.specs.declared.acts.Line.TheVariants as line
 use Rattle.control_lines.specs.declared.acts.Act.{Act}
@@ -24,7 +24,7 @@ use Rattle.control_lines.specs.Lines.{read_all, wants}
 abbrev pub update_text : Updated → Option (List ℕ)
 update_text (updated.Version v) = Some (line_with (codes "version ") v)
 update_text updated.NoUpdate = Some (codes "no update\n")
-update_text (updated.Refused fault) = refused_line fault
+update_text (updated.Refused fault) = fault_line fault
 
 abbrev pub restyle_text : Restyled → List ℕ
 restyle_text (restyled.Styled count) = line_with (codes "styled ") count
@@ -33,7 +33,7 @@ restyle_text restyled.NoRestyle = codes "no restyle\n"
 abbrev pub renew_text : Renewed → Option (List ℕ)
 renew_text (renewed.Version v count) = Some (renewed_line v count)
 renew_text renewed.NoUpdate = Some (codes "no update\n")
-renew_text (renewed.Refused fault) = refused_line fault
+renew_text (renewed.Refused fault) = fault_line fault
 
 abbrev pub tally_text : Totals → List ℕ
 tally_text totals = tally_line totals
@@ -60,13 +60,13 @@ said_or_none (Some text) = text
 
 -- ---- entries
 
-abbrev pub tiles_in : Option (List Tile) → List Tile
-tiles_in None = []
-tiles_in (Some tiles) = tiles
+abbrev pub tiles_or_none : Option (List Tile) → List Tile
+tiles_or_none None = []
+tiles_or_none (Some tiles) = tiles
 
 -- the tiles of the list of this number; none where it is not in the table
 abbrev pub tiles_at : List (List Tile) → ℕ → List Tile
-tiles_at lists n = tiles_in (slice_get lists n)
+tiles_at lists n = tiles_or_none (slice_get lists n)
 
 -- an Expire for each count, of the first tiles in order
 abbrev pub expiries : List Tile → List ℕ → List Entry
@@ -105,14 +105,14 @@ module _ (lists : List (List Tile)) where
   entries_of Stops = Stop ∷ []
   entries_of Refuses = []
 
-  abbrev pub text_of : Act → List ℕ
-  text_of (Updates n answer) = said_or_none (update_text answer)
-  text_of (Restyles n answer) = restyle_text answer
-  text_of (Renews n answer) = said_or_none (renew_text answer)
-  text_of (Expires n counts) = expire_text (slice_get lists n) counts
-  text_of (Counts totals) = tally_text totals
-  text_of Stops = stop_line
-  text_of Refuses = bad_text
+  abbrev pub act_text : Act → List ℕ
+  act_text (Updates n answer) = said_or_none (update_text answer)
+  act_text (Restyles n answer) = restyle_text answer
+  act_text (Renews n answer) = said_or_none (renew_text answer)
+  act_text (Expires n counts) = expire_text (slice_get lists n) counts
+  act_text (Counts totals) = tally_text totals
+  act_text Stops = stop_line
+  act_text Refuses = bad_text
 
   -- no more tiles were expired than the list has, and whether all were
   abbrev pub act_fits : Act → Bool
@@ -145,7 +145,7 @@ module _ (lists : List (List Tile)) where
   move_whole (Gets r behind) = true
 
   abbrev pub move_text : Move Act → List ℕ
-  move_text (Does a) = text_of a
+  move_text (Does a) = act_text a
   move_text (Gets r behind) = []
 
 abbrev pub update_starves : Updated → Bool

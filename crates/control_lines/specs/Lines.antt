@@ -3,7 +3,7 @@ use Rattle.std.specs.Prelude.{ℕ, ◌^◌, ◌==◌, Bool, true, false, cond, n
 use Rattle.std.specs.Str.{bytes_eq, is_utf8}
 use Rattle.std.specs.Str.Lines.{strip_carriage_return}
 use Rattle.line_words.specs.Cuts.{cut_at}
-use Rattle.line_words.specs.Numbers.{number_in}
+use Rattle.line_words.specs.Numbers.{decimal_below}
 use Rattle.control_lines.specs.declared.acts.Line.{Line}
 use Rattle.control_lines.specs.declared.acts.Line.TheVariants as line
 
@@ -30,12 +30,12 @@ read_on r [] = r
 read_on r (b ∷ bytes) = read_on (with_byte r b) bytes
 
 -- nothing but this part of a line
-abbrev pub begun : List ℕ → Reading
-begun part = record { lines = []; part = part; long = false }
+abbrev pub part_alone : List ℕ → Reading
+part_alone part = record { lines = []; part = part; long = false }
 
 -- what was read of all bytes that came
 abbrev pub read_all : List ℕ → Reading
-read_all given = read_on (begun []) given
+read_all given = read_on (part_alone []) given
 
 -- ---- what a line says
 
@@ -46,17 +46,17 @@ line_alone word =
     if bytes_eq word (codes "stop") then line.Stop else line.Bad
 
 -- a line whose word behind its name is a number, decimal without leading zeros
-abbrev pub numbered : (ℕ → Line) → Option ℕ → Line
-numbered make None = line.Bad
-numbered make (Some n) = make n
+abbrev pub with_number : (ℕ → Line) → Option ℕ → Line
+with_number make None = line.Bad
+with_number make (Some n) = make n
 
 -- the line of this name with these words behind it
 unfoldable pub line_named : List ℕ → List ℕ → Line
 line_named name words =
-    if bytes_eq name (codes "update") then numbered line.Update (number_in (2 ^ 32) words) else
-    if bytes_eq name (codes "restyle") then numbered line.Restyle (number_in (2 ^ 32) words) else
-    if bytes_eq name (codes "renew") then numbered line.Renew (number_in (2 ^ 32) words) else
-    if bytes_eq name (codes "expire") then numbered line.Expire (number_in (2 ^ 32) words) else line.Bad
+    if bytes_eq name (codes "update") then with_number line.Update (decimal_below (2 ^ 32) words) else
+    if bytes_eq name (codes "restyle") then with_number line.Restyle (decimal_below (2 ^ 32) words) else
+    if bytes_eq name (codes "renew") then with_number line.Renew (decimal_below (2 ^ 32) words) else
+    if bytes_eq name (codes "expire") then with_number line.Expire (decimal_below (2 ^ 32) words) else line.Bad
 
 -- a line that is cut at its first space, if it has one
 abbrev pub line_cut : List ℕ → Option (List ℕ × List ℕ) → Line

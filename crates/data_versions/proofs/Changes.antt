@@ -6,7 +6,7 @@ use Rattle.std.proofs.lemmas.Bool.Decides.{nat_tests}
 use Rattle.std.proofs.lemmas.List.{length-map, map-append, drop_all}
 use Rattle.std.proofs.lemmas.List.Folds.{list_any-append}
 use Rattle.plain_data.specs.Features.{Feature}
-use Rattle.plain_data.specs.Data.{has_id, ids_of, kept, last_put, replaced, added, with_puts, first_missing, is_too_many}
+use Rattle.plain_data.specs.Data.{has_id, ids_of, without_ids, last_put, puts_in_place, put_features, with_puts, first_missing, is_too_many}
 use Rattle.data_versions.specs.inner.Slots.{without, replaced_by, with_put}
 
 no_left : (a b : Bool) → (a || b) ≡ false → a ≡ false
@@ -22,18 +22,18 @@ flip a b = grind (arith, nat_tests)
 
 -- ---- removals
 
-kept_step : (b : Bool) (ids : List ℕ) (f : Feature) (xs ys : List Feature) → xs ≡ kept ids ys
-    → cond (not (b || has_id ids f.id)) (f ∷ xs) xs ≡ kept ids (cond (not b) (f ∷ ys) ys)
+kept_step : (b : Bool) (ids : List ℕ) (f : Feature) (xs ys : List Feature) → xs ≡ without_ids ids ys
+    → cond (not (b || has_id ids f.id)) (f ∷ xs) xs ≡ without_ids ids (cond (not b) (f ∷ ys) ys)
 kept_step true ids f xs ys e = e
 kept_step false ids f xs ys e = ap (λ zs. cond (not (has_id ids f.id)) (f ∷ zs) zs) e
 
 -- the first of the removed ids is taken out first
-pub kept_cons : (id : ℕ) (ids : List ℕ) (features : List Feature) → kept (id ∷ ids) features ≡ kept ids (without id features)
+pub kept_cons : (id : ℕ) (ids : List ℕ) (features : List Feature) → without_ids (id ∷ ids) features ≡ without_ids ids (without id features)
 kept_cons id ids [] = refl
 kept_cons id ids (f ∷ features) =
-    rw (flip f.id id) (kept_step (nat_eq id f.id) ids f (kept (id ∷ ids) features) (without id features) (kept_cons id ids features))
+    rw (flip f.id id) (kept_step (nat_eq id f.id) ids f (without_ids (id ∷ ids) features) (without id features) (kept_cons id ids features))
 
-pub kept_nil : (features : List Feature) → kept [] features ≡ features
+pub kept_nil : (features : List Feature) → without_ids [] features ≡ features
 kept_nil [] = refl
 kept_nil (f ∷ features) = ap (λ fs. f ∷ fs) (kept_nil features)
 
@@ -63,7 +63,7 @@ put_step true f g later e = ap (λ (k : ℕ). last_put later k f) (sym (eqb-true
 put_step false f g later e = refl
 
 -- the first put is done first: it replaces in place
-replaced_cons : (f : Feature) (later features : List Feature) → replaced (f ∷ later) features ≡ replaced later (replaced_by f features)
+replaced_cons : (f : Feature) (later features : List Feature) → puts_in_place (f ∷ later) features ≡ puts_in_place later (replaced_by f features)
 replaced_cons f later [] = refl
 replaced_cons f later (g ∷ features) =
     let first : last_put (f ∷ later) g.id g ≡ last_put later (cond (nat_eq f.id g.id) f g).id (cond (nat_eq f.id g.id) f g) = put_step (nat_eq f.id g.id) f g later refl in
@@ -87,10 +87,10 @@ choose_same : (b c : Bool) (x : Feature) (ps qs rs ss : List Feature) → b ≡ 
 choose_same b c x ps qs rs ss e p q = rw (e, p, q) refl
 
 -- what is added depends on which ids are held, and not on their order
-added_same : (puts : List Feature) (a b : List ℕ) → ((k : ℕ) → has_id a k ≡ has_id b k) → added a puts ≡ added b puts
+added_same : (puts : List Feature) (a b : List ℕ) → ((k : ℕ) → has_id a k ≡ has_id b k) → put_features a puts ≡ put_features b puts
 added_same [] a b same = refl
 added_same (f ∷ later) a b same =
-    choose_same (has_id a f.id) (has_id b f.id) (last_put later f.id f) (added a later) (added (f.id ∷ a) later) (added b later) (added (f.id ∷ b) later)
+    choose_same (has_id a f.id) (has_id b f.id) (last_put later f.id f) (put_features a later) (put_features (f.id ∷ a) later) (put_features b later) (put_features (f.id ∷ b) later)
     (same f.id) (added_same later a b same) (added_same later (f.id ∷ a) (f.id ∷ b) (λ k. ap (λ x. nat_eq k f.id || x) (same k)))
 
 or_swapped : (a b : Bool) → (a || b) ≡ (b || (a || false))
@@ -112,7 +112,7 @@ new_puts : (f : Feature) (later features : List Feature) → has_id (ids_of feat
     → with_puts (f ∷ later) features ≡ with_puts later (features ++ f ∷ [])
 new_puts f later features fresh =
     rw (fresh, replaced_cons f later features, unreplaced f features fresh, map-append (λ (g : Feature). last_put later g.id g) features (f ∷ []), append_assoc)
-    (ap (λ (rest : List Feature). replaced later features ++ (last_put later f.id f ∷ rest))
+    (ap (λ (rest : List Feature). puts_in_place later features ++ (last_put later f.id f ∷ rest))
     (added_same later (f.id ∷ ids_of features) (ids_of (features ++ f ∷ [])) (pushed_id features f)))
 
 by_known : (b : Bool) (f : Feature) (later features : List Feature) → has_id (ids_of features) f.id ≡ b
@@ -131,13 +131,13 @@ puts_nil (f ∷ features) = ap (λ fs. f ∷ fs) (puts_nil features)
 -- puts take no feature away
 pub puts_grow : (puts features : List Feature) → length features ≤ length (with_puts puts features)
 puts_grow puts features =
-    let same : length (replaced puts features) ≡ length features = simp length-map in
-    omega (arith, length-append (replaced puts features) (added (ids_of features) puts))
+    let same : length (puts_in_place puts features) ≡ length features = simp length-map in
+    omega (arith, length-append (puts_in_place puts features) (put_features (ids_of features) puts))
 
 -- ---- the same at a place of the list, as a loop goes
 
 pub kept_more : (ids : List ℕ) (i : ℕ) (features next : List Feature) → i < length ids → next ≡ without (get_or ids i 0) features
-    → kept (drop (i + 1) ids) next ≡ kept (drop i ids) features
+    → without_ids (drop (i + 1) ids) next ≡ without_ids (drop i ids) features
 kept_more ids i features next small e = rw (e, add-one i, drop-cons ids i 0 small) (sym (kept_cons (get_or ids i 0) (drop (suc i) ids) features))
 
 pub missing_more : (ids : List ℕ) (i : ℕ) (features next : List Feature) → i < length ids → has_id (ids_of features) (get_or ids i 0) ≡ true
@@ -149,7 +149,7 @@ pub missing_now : (ids : List ℕ) (i : ℕ) (features : List Feature) → i < l
     → first_missing (ids_of features) (drop i ids) ≡ Some (get_or ids i 0)
 missing_now ids i features small absent = rw (drop-cons ids i 0 small) (missing_here (get_or ids i 0) (drop (suc i) ids) features absent)
 
-pub kept_end : (ids : List ℕ) (i : ℕ) (features : List Feature) → length ids ≤ i → kept (drop i ids) features ≡ features
+pub kept_end : (ids : List ℕ) (i : ℕ) (features : List Feature) → length ids ≤ i → without_ids (drop i ids) features ≡ features
 kept_end ids i features past = rw (drop_all i ids past) (kept_nil features)
 
 pub missing_end : (ids : List ℕ) (i : ℕ) (features : List Feature) → length ids ≤ i → first_missing (ids_of features) (drop i ids) ≡ None

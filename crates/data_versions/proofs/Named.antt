@@ -10,7 +10,7 @@ use Rattle.std.specs.declared.sync.Arc.{Arc}
 use Rattle.std.specs.Arc.{arc_value}
 use Rattle.data_versions.specs.Shared.{shared_layers}
 use Rattle.plain_data.specs.Features.{Layer}
-use Rattle.plain_data.specs.Data.{Change, is_name, IsLayer, IsDataset, IsChange, IsUpdate, names_of, layer_named, features_named, changed_layer, changed, change_fault, changed_from}
+use Rattle.plain_data.specs.Data.{Change, is_name, IsLayer, IsDataset, IsChange, IsUpdate, names_of, layer_named, features_named, changed_layer, layers_after, change_fault, changed_from}
 use Rattle.farm_base.specs.declared.faults.ApplyFault.{ApplyFault}
 use Rattle.std.proofs.lemmas.List.{length-map, drop_all}
 use Rattle.std.proofs.lemmas.List.Quantifiers.{position-Some}
@@ -48,14 +48,14 @@ named_place layers i d name at =
     ap (option_map (λ (l : Layer). l.features)) (named_at layers i d name facts.0 facts.1 facts.2)
 
 changed_at : (layers : List Layer) (i : ℕ) (d : Layer) (c : Change) → i < length layers → bytes_eq (get_or layers i d).name c.layer ≡ true
-    → ((k : ℕ) → k < i → bytes_eq (get_or layers k d).name c.layer ≡ false) → set layers i (changed_layer c (get_or layers i d)) ≡ changed c layers
+    → ((k : ℕ) → k < i → bytes_eq (get_or layers k d).name c.layer ≡ false) → set layers i (changed_layer c (get_or layers i d)) ≡ layers_after c layers
 changed_at [] i d c small here before = absurd (omega arith)
 changed_at (l ∷ layers) zero d c small here before = rw here refl
 changed_at (l ∷ layers) (suc i) d c small here before =
     rw (before 0 (omega arith)) (ap (λ (ls : List Layer). l ∷ ls) (changed_at layers i d c (omega arith) here (λ k h. before (suc k) (omega arith))))
 
 pub changed_place : (layers : List Layer) (i : ℕ) (d : Layer) (c : Change) → position (λ l. bytes_eq l.name c.layer) layers ≡ Some i
-    → set layers i (changed_layer c (get_or layers i d)) ≡ changed c layers
+    → set layers i (changed_layer c (get_or layers i d)) ≡ layers_after c layers
 changed_place layers i d c at =
     let facts = position-Some (λ (l : Layer). bytes_eq l.name c.layer) layers i d at in
     changed_at layers i d c facts.0 facts.1 facts.2
@@ -73,7 +73,7 @@ unnamed layers name none =
 -- ---- the changes one after another
 
 pub changed_more : (changes : List Change) (i : ℕ) (c : Change) (layers next : List Layer) → i < length changes → c ≡ get_or changes i c
-    → change_fault i c layers ≡ None → next ≡ changed c layers → changed_from (i + 1) (drop (i + 1) changes) next ≡ changed_from i (drop i changes) layers
+    → change_fault i c layers ≡ None → next ≡ layers_after c layers → changed_from (i + 1) (drop (i + 1) changes) next ≡ changed_from i (drop i changes) layers
 unfolding changed_from
 changed_more changes i c layers next small at right e =
     rw (e, drop-cons changes i c small, ← at, right, add-one i) refl
@@ -93,9 +93,9 @@ by_name true c l layers rest e = refl
 by_name false c l layers rest e = ap (λ names. l.name ∷ names) e
 
 -- a change changes no name
-pub names_changed : (c : Change) (layers : List Layer) → names_of (changed c layers) ≡ names_of layers
+pub names_changed : (c : Change) (layers : List Layer) → names_of (layers_after c layers) ≡ names_of layers
 names_changed c [] = refl
-names_changed c (l ∷ layers) = by_name (bytes_eq l.name c.layer) c l layers (changed c layers) (names_changed c layers)
+names_changed c (l ∷ layers) = by_name (bytes_eq l.name c.layer) c l layers (layers_after c layers) (names_changed c layers)
 
 -- valid layers of the same names are data again
 pub dataset_kept : (old new : List Layer) → IsDataset old → names_of new ≡ names_of old → All IsLayer new → IsDataset new

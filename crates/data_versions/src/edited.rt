@@ -2,7 +2,7 @@
 ghost use Rattle.std.specs.Prelude.{◌≡◌, ◌≢◌, true, false, IfOk, OnOk, IfErr, Some, None, option_map};
 ghost use Rattle.std.specs.Arc.{arc_value};
 ghost use Rattle.std.specs.Str.{bytes_eq};
-ghost use Rattle.plain_data.specs.Data.{ids_of, kept, first_missing, is_too_many, with_puts, with_change, features_fault, changed_layer, IsLayer};
+ghost use Rattle.plain_data.specs.Data.{ids_of, without_ids, first_missing, is_too_many, with_puts, with_change, features_fault, changed_layer, IsLayer};
 
 use crate::chunked::ChunkedLayer;
 use crate::dataset::Change;
@@ -23,7 +23,7 @@ pub(crate) fn no_memory(_refused: NoMemory) -> ApplyFault
 #[tactic(auto, using(crate::proofs::Changes::kept_more, crate::proofs::Changes::missing_more, crate::proofs::Changes::missing_now, crate::proofs::Changes::kept_end, crate::proofs::Changes::missing_end))]
 fn remove_all(edit: &mut LayerEdit<'_>, place: u32, ids: &[u64]) -> Result<(), ApplyFault>
     ensures found { OnOk result (first_missing (ids_of edit.old) ids.now ≡ None) }
-    ensures gone { OnOk result (edit.new ≡ kept ids.now edit.old) }
+    ensures gone { OnOk result (edit.new ≡ without_ids ids.now edit.old) }
     ensures missing { IfErr result (λ e. option_map (λ id. ApplyFault.NoFeature place id) (first_missing (ids_of edit.old) ids.now) ≡ Some e) }
 {
     for id in ids {

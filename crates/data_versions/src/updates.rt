@@ -1,7 +1,7 @@
 //! An update gives the next snapshot.
 ghost use Rattle.std.specs.Prelude.{◌≡◌, ◌≢◌, ◌≤◌, length, position, All, IfOk, OnOk, IfErr, Some, None, Ok, Err};
 ghost use Rattle.std.specs.Str.{bytes_eq};
-ghost use Rattle.plain_data.specs.Data.{IsLayer, names_of, changed, change_fault, updated};
+ghost use Rattle.plain_data.specs.Data.{IsLayer, names_of, layers_after, change_fault, update_result};
 ghost use Rattle.data_versions.specs.Shared.{shared_layers};
 ghost use Rattle.plain_data.specs.Limits.{most_features};
 
@@ -45,7 +45,7 @@ fn change_one<'a>(
     place: u32,
     change: &'a Change,
 ) -> Result<(), ApplyFault>
-    ensures done { OnOk result (edited_layers.new ≡ changed change.now edited_layers.old) }
+    ensures done { OnOk result (edited_layers.new ≡ layers_after change.now edited_layers.old) }
     ensures right { OnOk result (change_fault place change.now edited_layers.old ≡ None) }
     ensures refused { IfErr result (λ e. e ≢ ApplyFault.NoMemory → change_fault place change.now edited_layers.old ≡ Some e) }
 {
@@ -66,9 +66,9 @@ fn change_all<'a>(
     changes: &'a [Change],
 ) -> Result<(), ApplyFault>
     requires { length changes.now ≤ most_features }
-    ensures done { OnOk result (updated changes.now edited_layers.old ≡ Ok edited_layers.new) }
+    ensures done { OnOk result (update_result changes.now edited_layers.old ≡ Ok edited_layers.new) }
     ensures names { OnOk result (names_of edited_layers.new ≡ names_of edited_layers.old) }
-    ensures refused { IfErr result (λ e. e ≢ ApplyFault.NoMemory → updated changes.now edited_layers.old ≡ Err e) }
+    ensures refused { IfErr result (λ e. e ≢ ApplyFault.NoMemory → update_result changes.now edited_layers.old ≡ Err e) }
 {
     for (place, change) in changes.iter().enumerate() {
         change_one(alloc, edited_layers, place as u32, change)?;
@@ -98,8 +98,8 @@ fn finish(
 /// share the layers, and in a changed layer the chunks, in which nothing changed.
 #[tactic(auto, using(crate::proofs::Named::dataset_kept))]
 pub fn apply(alloc: Global, old: &Snapshot, update: &Update) -> Result<Snapshot, ApplyFault>
-    ensures done { IfOk result (λ next. updated update.now old.now ≡ Ok next) }
-    ensures refused { IfErr result (λ e. e ≢ ApplyFault.NoMemory → updated update.now old.now ≡ Err e) }
+    ensures done { IfOk result (λ next. update_result update.now old.now ≡ Ok next) }
+    ensures refused { IfErr result (λ e. e ≢ ApplyFault.NoMemory → update_result update.now old.now ≡ Err e) }
 {
     let mut edited_layers = edited_layers(alloc, old.shared()).map_err(no_memory)?;
     change_all(alloc, edited_layers.as_mut_slice(), update.changes())?;

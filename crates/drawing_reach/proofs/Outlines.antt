@@ -7,7 +7,7 @@ use Rattle.std.proofs.lemmas.List.Elements.{All-from_recursion}
 use Rattle.plain_world.specs.declared.world.Point.{Point}
 use Rattle.plain_shapes.specs.declared.shapes.LineCap.{LineCap}
 use Rattle.plain_shapes.specs.declared.shapes.LineCap.TheVariants as with
-use Rattle.plain_shapes.specs.Strokes.{is_same, in_body, in_disk, in_mark, before_start, past_end, kept, kept_after, on_sides, on_disks, on_dot, on_line, on_stroke, on_ring, on_outline, on_marks}
+use Rattle.plain_shapes.specs.Strokes.{is_same, in_body, in_disk, in_mark, before_start, past_end, line_points, kept_after, on_sides, on_disks, on_dot, on_line, on_stroke, on_ring, on_outline, on_marks}
 use Rattle.geo_model.specs.declared.bounds.Bounds.{Bounds}
 use Rattle.geo_model.specs.Bounds.{InBounds}
 use Rattle.stroke_core.specs.inner.Parts.{point_at, on_ends, on_parts}
@@ -87,12 +87,12 @@ kept_after_all : (P : Point → Type 0) (before : Point) (ps : List Point) → A
 kept_after_all P before [] h = tt
 kept_after_all P before (p ∷ ps) h = choose_all P (is_same before p) p (kept_after p ps) h.0 (kept_after_all P p ps h.1)
 
-kept_all : (P : Point → Type 0) (ps : List Point) → AllByRecursion P ps → AllByRecursion P (kept ps)
+kept_all : (P : Point → Type 0) (ps : List Point) → AllByRecursion P ps → AllByRecursion P (line_points ps)
 kept_all P [] h = tt
 kept_all P (p ∷ ps) h = (h.0, kept_after_all P p ps h.1)
 
 line_beside : (b : Bounds) (half : ℕ) (cap : LineCap) (c : Point) (ps : List Point) → AllByRecursion (InBounds b) ps → on_line half cap c ps ≡ true → Beside b (half + half) (half + half) c
-line_beside b half cap c ps all h = parts_beside b half cap c (kept ps) (kept_all (InBounds b) ps all) (parts_kept half cap ps c ∙ h)
+line_beside b half cap c ps all h = parts_beside b half cap c (line_points ps) (kept_all (InBounds b) ps all) (parts_kept half cap ps c ∙ h)
 
 pub lines_beside : (b : Bounds) (half : ℕ) (cap : LineCap) (c : Point) (lines : List (List Point)) → AllByRecursion (AllByRecursion (InBounds b)) lines
     → on_stroke lines half cap c ≡ true → Beside b (half + half) (half + half) c

@@ -16,7 +16,7 @@ use Rattle.plain_drawing.specs.declared.style.Symbolizer.{Symbolizer}
 use Rattle.plain_world.specs.World.{side_at, centre, row_centres, centres, window_of, tile_square, InSquare, IsTile, IsTileSize, IsWindow}
 use Rattle.plain_data.specs.Features.{Feature}
 use Rattle.plain_drawing.specs.Styles.{Rule, Style, is_paint}
-use Rattle.plain_drawing.specs.Rules.{matches, is_fallback, taken, drawing_rules, drawn}
+use Rattle.plain_drawing.specs.Rules.{matches, is_fallback, first_or_all, drawing_rules, item_symbolizers}
 use Rattle.plain_shapes.specs.Images.{Pixels}
 use Rattle.plain_shapes.specs.inner.Canvas.{at_centres}
 use Rattle.plain_drawing.specs.Drawing.{covers, painted_over, feature, pixel_of}
@@ -96,7 +96,7 @@ took P zero (x ∷ xs) h = tt
 took P (suc n) [] h = tt
 took P (suc n) (x ∷ xs) h = (h.0, took P n xs h.1)
 
-taken_all : (P : Rule → Type 0) (m : FilterMode) (rules : List Rule) → AllByRecursion P rules → AllByRecursion P (taken m rules)
+taken_all : (P : Rule → Type 0) (m : FilterMode) (rules : List Rule) → AllByRecursion P rules → AllByRecursion P (first_or_all m rules)
 taken_all P AllRules rules h = h
 taken_all P First rules h = took P 1 rules h
 
@@ -106,7 +106,7 @@ choose false P xs ys h k = k
 
 drawing_all : (P : Rule → Type 0) (attrs : List Attr) (d : ℕ) (s : Style) → AllByRecursion P s.rules → AllByRecursion P (drawing_rules attrs d s)
 drawing_all P attrs d s h =
-    choose (list_any (matches attrs d) s.rules) P (taken s.filter_mode (filter (matches attrs d) s.rules)) (filter (is_fallback d) s.rules)
+    choose (list_any (matches attrs d) s.rules) P (first_or_all s.filter_mode (filter (matches attrs d) s.rules)) (filter (is_fallback d) s.rules)
     (taken_all P s.filter_mode (filter (matches attrs d) s.rules) (filtered P (matches attrs d) s.rules h))
     (filtered P (is_fallback d) s.rules h)
 
@@ -114,7 +114,7 @@ paints_all : (symbolizers : List Symbolizer) → IsTrue (list_all is_paint symbo
 paints_all [] h = tt
 paints_all (s ∷ ss) h = (let both = and_parts (is_paint s) (list_all is_paint ss) h in (both.0, paints_all ss both.1))
 
-pub drawn_paints : (attrs : List Attr) (d : ℕ) (s : Style) → KeepsRanges s → AllByRecursion (λ s. IsTrue (is_paint s)) (drawn attrs d s)
+pub drawn_paints : (attrs : List Attr) (d : ℕ) (s : Style) → KeepsRanges s → AllByRecursion (λ s. IsTrue (is_paint s)) (item_symbolizers attrs d s)
 drawn_paints attrs d s h =
     all_flat (λ t. IsTrue (is_paint t)) (λ r. r.symbolizers) (drawing_rules attrs d s)
     (all_map (λ r. IsTrue (list_all is_paint r.symbolizers)) (λ r. AllByRecursion (λ t. IsTrue (is_paint t)) r.symbolizers) (λ r k. paints_all r.symbolizers k) (drawing_rules attrs d s)
@@ -124,7 +124,7 @@ drawn_paints attrs d s h =
 pub item_missed : (w : Window) (d : ℕ) (s : Style) (image : Pixels) (f : Feature) → KeepsRanges s → ((t : Symbolizer) → IsTrue (is_paint t) → Misses w f t)
     → with_item w d s image (feature f) ≡ image
 unfolding with_item
-item_missed w d s image f keeps each = all_missed w f each (drawn f.attrs d s) (drawn_paints f.attrs d s keeps) image
+item_missed w d s image f keeps each = all_missed w f each (item_symbolizers f.attrs d s) (drawn_paints f.attrs d s keeps) image
 
 -- ---- a tile's square that the feature does not reach
 

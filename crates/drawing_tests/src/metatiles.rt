@@ -8,7 +8,7 @@ use data_versions::{Dataset, Layer, Snapshot};
 use farm_base::{Listed, NoMemory, Text};
 use geo_model::{Feature, make_feature};
 use meta_container::{encode, law_drawn_container};
-use meta_drawing::{Easel, draw_container};
+use meta_drawing::{PictureBuffer, draw_container};
 use plain_drawing::MapStyle;
 use plain_shapes::{Geometry, Path};
 use plain_world::{Meta, Point, Tile};
@@ -55,17 +55,17 @@ fn encoded(
     encode(alloc, drawn.meta, drawn.tiles.as_slice())
 }
 
-// The easel's buffer is of a larger picture, which is blue all over.
+// The buffer holds a larger picture, which is blue all over.
 #[test]
-fn a_container_from_a_used_easel(rt: HostRuntime) -> Result<(), Fail> {
+fn a_container_from_a_used_buffer(rt: HostRuntime) -> Result<(), Fail> {
     let alloc = rt.alloc();
     let blue = map(alloc, BLUE)?;
     let style = map(alloc, RED)?;
     let snapshot = data(alloc, SQUARE)?;
     let meta = Meta { z: 1, x: 0, y: 0 };
-    let mut easel = Easel::new(alloc);
-    let larger = draw_container(&mut easel, &blue, 32, meta, &snapshot)?;
-    let container = draw_container(&mut easel, &style, 16, meta, &snapshot)?;
+    let mut buffer = PictureBuffer::new(alloc);
+    let larger = draw_container(&mut buffer, &blue, 32, meta, &snapshot)?;
+    let container = draw_container(&mut buffer, &style, 16, meta, &snapshot)?;
     let wanted = encoded(alloc, &style, meta, &snapshot)?;
     assert!(rt; larger.len() > container.len() && container == wanted);
     Ok(())

@@ -20,7 +20,7 @@ use Rattle.plain_filters.specs.Filters.{FilterTree, compare_tree, name_tree, num
 use Rattle.plain_drawing.specs.Styles.{Rule, Style, LayerRef, RasterRef, MapStyle}
 use Rattle.plain_drawing.specs.Grids.{Grid}
 use Rattle.plain_shapes.specs.Ppm.{ppm}
-use Rattle.plain_drawing.specs.Rules.{denominator_of, drawn}
+use Rattle.plain_drawing.specs.Rules.{denominator_of, item_symbolizers}
 use Rattle.plain_drawing.specs.Drawing.{pixel_of, covers, tile_of}
 
 -- ---- colours and pictures
@@ -80,24 +80,24 @@ abbrev pub square : ℕ → ℕ → List Point
 square a b = box (2 * a) (2 * a) (2 * b) (2 * b)
 
 -- how many of the 256 centres the symbolizer covers on a shape
-abbrev pub covered : Geometry → Symbolizer → ℕ
-covered g s = count_by (λ c. covers (pixel_of 0 16) g c s) (centres (window_of world 16))
+abbrev pub cover_count : Geometry → Symbolizer → ℕ
+cover_count g s = count_by (λ c. covers (pixel_of 0 16) g c s) (centres (window_of world 16))
 
 -- how many centres a fill of these rings covers
-abbrev pub filled : List (List Point) → ℕ
-filled rings = covered (shape.Polygon rings) (paint.Polygon red 1000)
+abbrev pub fill_count : List (List Point) → ℕ
+fill_count rings = cover_count (shape.Polygon rings) (paint.Polygon red 1000)
 
 -- how many centres a stroke along a line covers, its width in hundredths of a pixel
-abbrev pub stroked : List Point → ℕ → LineCap → ℕ
-stroked points width cap = covered (shape.Lines (points ∷ [])) (paint.Line red width 1000 cap)
+abbrev pub stroke_count : List Point → ℕ → LineCap → ℕ
+stroke_count points width cap = cover_count (shape.Lines (points ∷ [])) (paint.Line red width 1000 cap)
 
 -- how many centres a stroke along these rings covers, its width in hundredths of a pixel
-abbrev pub outlined : List (List Point) → ℕ → LineCap → ℕ
-outlined rings width cap = covered (shape.Polygon rings) (paint.Line red width 1000 cap)
+abbrev pub outline_count : List (List Point) → ℕ → LineCap → ℕ
+outline_count rings width cap = cover_count (shape.Polygon rings) (paint.Line red width 1000 cap)
 
 -- how many centres marks on these points cover, their width and height in hundredths of a pixel
-abbrev pub spotted : List Point → ℕ → ℕ → ℕ
-spotted points width height = covered (shape.Points points) (paint.Markers red width height 1000)
+abbrev pub mark_count : List Point → ℕ → ℕ → ℕ
+mark_count points width height = cover_count (shape.Points points) (paint.Markers red width height 1000)
 
 -- a line of 4 pixels along the centres of row 8
 abbrev pub level : List Point
@@ -166,20 +166,20 @@ abbrev pub k : ℕ → List Attr
 k n = record { name = codes "k"; value = value.Whole (pos n) } ∷ []
 
 -- the filter [k] SIGN 1
-abbrev pub compared : CompareSign → Option FilterTree
-compared s = Some (compare_tree (name_tree (codes "k")) s (number_tree (pos 1)))
+abbrev pub compare_one : CompareSign → Option FilterTree
+compare_one s = Some (compare_tree (name_tree (codes "k")) s (number_tree (pos 1)))
 
 -- an opaque fill of this colour
 abbrev pub fill : Colour → Symbolizer
 fill c = paint.Polygon c 1000
 
 -- a style of three rules: red where k is 1, blue where it is at least 1, and lime elsewhere
-abbrev pub coloured : FilterMode → Style
-coloured mode = style mode (rule (compared sign.Equal) false (fill red) ∷ rule (compared sign.GreaterEqual) false (fill blue) ∷ rule None true (fill lime) ∷ [])
+abbrev pub three_rules : FilterMode → Style
+three_rules mode = style mode (rule (compare_one sign.Equal) false (fill red) ∷ rule (compare_one sign.GreaterEqual) false (fill blue) ∷ rule None true (fill lime) ∷ [])
 
 -- the symbolizers that draw a feature with this k
-abbrev pub met : FilterMode → ℕ → List Symbolizer
-met mode n = drawn (k n) (denominator_of 0 16) (coloured mode)
+abbrev pub symbolizers_met : FilterMode → ℕ → List Symbolizer
+symbolizers_met mode n = item_symbolizers (k n) (denominator_of 0 16) (three_rules mode)
 
 -- ---- a grid under the tile
 

@@ -14,7 +14,7 @@ ghost use Rattle.plain_drawing.specs.declared.style.Symbolizer.TheVariants as pa
 ghost use Rattle.plain_shapes.specs.Strokes.{half_of};
 ghost use Rattle.plain_drawing.specs.Rules.{denominator_of, is_active};
 ghost use Rattle.plain_drawing.specs.Drawing.{covers};
-ghost use Rattle.example_drawings.specs.Examples.{red, blue, lime, white, pale_red, pale_blue, rows, picture, at, box, square, filled, stroked, outlined, spotted, level, level_doubled, level_back, dot, map_of, land, fill, met, sky, over_white, drawn_world};
+ghost use Rattle.example_drawings.specs.Examples.{red, blue, lime, white, pale_red, pale_blue, rows, picture, at, box, square, fill_count, stroke_count, outline_count, mark_count, level, level_doubled, level_back, dot, map_of, land, fill, symbolizers_met, sky, over_white, drawn_world};
 
 /// Scale denominators, rounded down, and the bounds that are active at one of them: the least bound belongs to
 /// a scale, the greatest one does not. Bounds are in hundredths.
@@ -31,12 +31,12 @@ pub fn example_scales()
 /// lime where no other rule holds: with the mode First a feature meets one of them, with the mode All a feature
 /// of `k` 1 meets red and then blue.
 pub fn example_filter_modes()
-    ensures first_one { met First 1 ≡ fill red ∷ [] }
-    ensures first_two { met First 2 ≡ fill blue ∷ [] }
-    ensures first_none { met First 0 ≡ fill lime ∷ [] }
-    ensures all_one { met All 1 ≡ fill red ∷ fill blue ∷ [] }
-    ensures all_two { met All 2 ≡ fill blue ∷ [] }
-    ensures all_none { met All 0 ≡ fill lime ∷ [] }
+    ensures first_one { symbolizers_met First 1 ≡ fill red ∷ [] }
+    ensures first_two { symbolizers_met First 2 ≡ fill blue ∷ [] }
+    ensures first_none { symbolizers_met First 0 ≡ fill lime ∷ [] }
+    ensures all_one { symbolizers_met All 1 ≡ fill red ∷ fill blue ∷ [] }
+    ensures all_two { symbolizers_met All 2 ≡ fill blue ∷ [] }
+    ensures all_none { symbolizers_met All 0 ≡ fill lime ∷ [] }
 {}
 
 /// The whole tile of a grid of 2 by 1 pixels over the north half of the world, opaque and half opaque.
@@ -65,22 +65,22 @@ pub fn example_covers()
     ensures half_of_400 { half_of 400 (2 ^ 26) ≡ 134217728 }
     ensures half_of_200 { half_of 200 (2 ^ 26) ≡ 67108864 }
     ensures half_of_24 { half_of 24 8 ≡ 0 }
-    ensures ring_in_ring { filled (square 2 14 ∷ square 6 10 ∷ []) ≡ 128 }
-    ensures ring_twice { filled (square 2 14 ∷ square 2 14 ∷ []) ≡ 0 }
-    ensures corners_at_centres { filled (box 9 9 25 25 ∷ []) ≡ 64 }
+    ensures ring_in_ring { fill_count (square 2 14 ∷ square 6 10 ∷ []) ≡ 128 }
+    ensures ring_twice { fill_count (square 2 14 ∷ square 2 14 ∷ []) ≡ 0 }
+    ensures corners_at_centres { fill_count (box 9 9 25 25 ∷ []) ≡ 64 }
     ensures first_corner { covers (2 ^ 26) (shape.Polygon (box 9 9 25 25 ∷ [])) (at 9 9) (fill red) ≡ true }
     ensures last_corner { covers (2 ^ 26) (shape.Polygon (box 9 9 25 25 ∷ [])) (at 25 25) (fill red) ≡ false }
-    ensures butt { stroked level 300 Butt ≡ 12 }
-    ensures square { stroked level 300 Square ≡ 24 }
-    ensures round { stroked level 300 Round ≡ 20 }
-    ensures thin { stroked level 150 Butt ≡ 4 }
-    ensures doubled { stroked level_doubled 300 Square ≡ 24 }
-    ensures back_butt { stroked level_back 300 Butt ≡ 16 }
-    ensures back_round { stroked level_back 300 Round ≡ 20 }
-    ensures dot_butt { stroked dot 250 Butt ≡ 0 }
-    ensures dot_round { stroked dot 250 Round ≡ 5 }
-    ensures dot_square { stroked dot 250 Square ≡ 9 }
-    ensures outline { outlined (square 4 12 ∷ []) 100 Butt ≡ 60 }
-    ensures mark { spotted (at 17 17 ∷ []) 400 200 ≡ 7 }
+    ensures butt { stroke_count level 300 Butt ≡ 12 }
+    ensures square { stroke_count level 300 Square ≡ 24 }
+    ensures round { stroke_count level 300 Round ≡ 20 }
+    ensures thin { stroke_count level 150 Butt ≡ 4 }
+    ensures doubled { stroke_count level_doubled 300 Square ≡ 24 }
+    ensures back_butt { stroke_count level_back 300 Butt ≡ 16 }
+    ensures back_round { stroke_count level_back 300 Round ≡ 20 }
+    ensures dot_butt { stroke_count dot 250 Butt ≡ 0 }
+    ensures dot_round { stroke_count dot 250 Round ≡ 5 }
+    ensures dot_square { stroke_count dot 250 Square ≡ 9 }
+    ensures outline { outline_count (square 4 12 ∷ []) 100 Butt ≡ 60 }
+    ensures mark { mark_count (at 17 17 ∷ []) 400 200 ≡ 7 }
     ensures flat_mark { covers 8 (shape.Points (at 17 17 ∷ [])) (at 17 17) (paint.Markers red 24 400 1000) ≡ false }
 {}

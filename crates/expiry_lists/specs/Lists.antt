@@ -5,7 +5,7 @@ use Rattle.std.specs.Option.{ok_or}
 use Rattle.std.specs.Str.{is_utf8}
 use Rattle.std.specs.Str.Lines.{lines}
 use Rattle.line_words.specs.Cuts.{cut_at}
-use Rattle.line_words.specs.Numbers.{number_in}
+use Rattle.line_words.specs.Numbers.{decimal_below}
 use Rattle.reading.specs.Steps.{◌>>=◌, check}
 use Rattle.plain_world.specs.declared.world.Tile.{Tile}
 use Rattle.expiry_lists.specs.declared.faults.ListFault.{ListFault}
@@ -21,11 +21,11 @@ word_of fault text = ok_or (cut_at 47 text) fault
 
 -- a number of 32 bits, in decimal without leading zeros
 abbrev pub number_of : ListFault → List ℕ → Result ℕ ListFault
-number_of fault word = ok_or (number_in (2 ^ 32) word) fault
+number_of fault word = ok_or (decimal_below (2 ^ 32) word) fault
 
 -- the tile of these numbers, if there is one
-abbrev pub tile_at : ℕ → ℕ → ℕ → Option Tile
-tile_at z x y = if nat_le z 18 && nat_lt x (2 ^ z) && nat_lt y (2 ^ z) then Some (record { z = z; x = x; y = y }) else None
+abbrev pub tile_if_any : ℕ → ℕ → ℕ → Option Tile
+tile_if_any z x y = if nat_le z 18 && nat_lt x (2 ^ z) && nat_lt y (2 ^ z) then Some (record { z = z; x = x; y = y }) else None
 
 -- the tile of a line: z/x/y
 unfoldable pub tile_of : ListFault → List ℕ → Result Tile ListFault
@@ -35,7 +35,7 @@ tile_of fault text = do
   z ← number_of fault first.0
   x ← number_of fault second.0
   y ← number_of fault second.1
-  ok_or (tile_at z x y) fault
+  ok_or (tile_if_any z x y) fault
 
 -- what a line says, nothing where it is empty
 unfoldable pub line_read : ListFault → List ℕ → Result (Option Tile) ListFault

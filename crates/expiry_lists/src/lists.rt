@@ -59,7 +59,7 @@ fn number(word: &str, fault: ListFault) -> Result<u32, ListFault>
 
 /// The tile of these numbers, if there is one.
 fn tile_at(z: u32, x: u32, y: u32) -> Option<Tile>
-    ensures value { result ≡ spec.tile_at z x y }
+    ensures value { result ≡ spec.tile_if_any z x y }
     ensures valid { IfSome result IsTile }
 {
     if z <= 18 && x < 1 << z && y < 1 << z {

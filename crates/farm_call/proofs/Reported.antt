@@ -3,20 +3,20 @@ use Rattle.std.proofs.Common.{◌≡◌, ℕ, refl}
 use Rattle.std.specs.Prelude.{Result}
 use Rattle.call_ends.specs.Stops.{status_of, err_line, usage, want_of_memory, store_failed}
 use Rattle.call_ends.specs.Ends.{SinkAt, Reports}
-use Rattle.call_ends.specs.Promises.{Stands}
+use Rattle.call_ends.specs.Promises.{LineStands}
 use Rattle.call_ends.specs.declared.stops.Stop.{Stop}
 use Rattle.call_ends.proofs.Statuses as status
 
 pub usage_told : (end : Result (Unit {0}) Stop) (err err' : SinkAt) (result : ℕ) → Reports (status_of end) (err_line end) err err' result → result ≡ 2
-    → Stands err.told err'.told usage
+    → LineStands err.told err'.told usage
 usage_told end err err' result reports two = (status.with_2 (λ (e : Result (Unit {0}) Stop). e ≡ end) err err' result (record { end = end; ran = refl; reports = reports }) two).1
 
 pub want_told : (end : Result (Unit {0}) Stop) (err err' : SinkAt) (result : ℕ) → Reports (status_of end) (err_line end) err err' result → result ≡ 5
-    → Stands err.told err'.told want_of_memory
+    → LineStands err.told err'.told want_of_memory
 want_told end err err' result reports five = status.with_5 (λ (e : Result (Unit {0}) Stop). e ≡ end) err err' result (record { end = end; ran = refl; reports = reports }) five
 
 pub store_told : (end : Result (Unit {0}) Stop) (err err' : SinkAt) (result : ℕ) → Reports (status_of end) (err_line end) err err' result → result ≡ 6
-    → Stands err.told err'.told store_failed
+    → LineStands err.told err'.told store_failed
 store_told end err err' result reports six = (status.with_6 (λ (e : Result (Unit {0}) Stop). e ≡ end) err err' result (record { end = end; ran = refl; reports = reports }) six).1
 
 pub nothing_told : (end : Result (Unit {0}) Stop) (err err' : SinkAt) (result : ℕ) → Reports (status_of end) (err_line end) err err' result → result ≡ 0

@@ -15,19 +15,19 @@ use Rattle.call_ends.specs.Ends.{SinkAt}
 use Rattle.call_ends.specs.declared.stops.Stop.{Stop}
 use Rattle.call_ends.specs.declared.stops.Stop.TheVariants as stop
 use Rattle.farm_files.specs.Inputs.{Scripted}
-use Rattle.script_command.specs.Scripts.{end_of, Scripts}
+use Rattle.script_command.specs.Scripts.{command_end, Scripts}
 use Rattle.farm_call.proofs.Whys.{StoreWhys, by_end, store_rose}
 
 module _ (plan : FarmPlan) (lines : List ScriptLine) (stands : List Entry → Type 0) (out out' : SinkAt) where
   -- why it ended so; `lose` says what a history means in which a call of the store failed
   on_why : {Q : Type 0} → ((h : List Entry) → stands h → has_failed h ≡ true → Q) → (q : Stop) (failed : Bool) (how : ScriptEnd) → script.Runs plan lines [] stands out out' failed how
-      → Err q ≡ end_of failed how → StoreWhys (Rose out.faults out'.faults) Q q
+      → Err q ≡ command_end failed how → StoreWhys (Rose out.faults out'.faults) Q q
   on_why lose q false Done run e = absurd (cc)
   on_why {Q} lose q true Done run e = by_end (Rose out.faults out'.faults) Q stop.StoreFailed q e (lose run.after run.stood_for run.noted)
   on_why {Q} lose q failed SinkFailed run e = by_end (Rose out.faults out'.faults) Q stop.SinkFailed q e run.put.3.1
   on_why {Q} lose q failed NoMemory run e = by_end (Rose out.faults out'.faults) Q stop.NoMemory q e tt
 
-  on_noticed : (end : Result (Unit {0}) Stop) (failed : Bool) (how : ScriptEnd) → script.Runs plan lines [] stands out out' failed how → end ≡ end_of failed how → out'.faults ≢ out.faults
+  on_noticed : (end : Result (Unit {0}) Stop) (failed : Bool) (how : ScriptEnd) → script.Runs plan lines [] stands out out' failed how → end ≡ command_end failed how → out'.faults ≢ out.faults
       → end ≡ Err stop.SinkFailed
   on_noticed end failed Done run e other = absurd (other run.put.1)
   on_noticed end failed SinkFailed run e other = e

@@ -24,9 +24,9 @@ use Rattle.script_answers.specs.Answers.{tally_line}
 use Rattle.farm_shared.specs.Shared.{lasting_of, past}
 use Rattle.farm_threads.specs.declared.each_front.EachFront.{EachFront}
 use Rattle.farm_shared.specs.declared.turned.LastingPart.{LastingPart}
-use Rattle.farm_setup.specs.Listens.{Listens, Listening, end_of}
-use Rattle.farm_setup.specs.Beginnings.{CannotBegin, IsSavedIn, Refusal, RefusesFor}
-use Rattle.farm_ending.specs.Endings.{is_worn, is_broken, is_wanting, put_end, TellsCounts}
+use Rattle.farm_setup.specs.Listens.{ListenEnds, Listening, listen_end}
+use Rattle.farm_setup.specs.Beginnings.{CannotBegin, IsSavedIn, ResumeRefusal, RefusesFor}
+use Rattle.farm_ending.specs.Endings.{is_worn, is_broken, is_wanting, end_after_put, TellsCounts}
 use Rattle.farm_ending.specs.Savings.{MaySave}
 use Rattle.serve_command.specs.Serves.{World, HasServed, NotServed, WhyNot, Serves, ServesTo, places, fronts_of, is_worn_out}
 use Rattle.serve_command.specs.Serves as serves
@@ -40,17 +40,17 @@ use Rattle.farm_call.proofs.Whys.{Hinders}
 
 -- ---- listening
 
-listen_ok : (address : List ℕ) (a b : Outside PortsTold) → Listens address a b (Ok tt) → b.faults ≡ a.faults
+listen_ok : (address : List ℕ) (a b : Outside PortsTold) → ListenEnds address a b (Ok tt) → b.faults ≡ a.faults
 listen_ok address a b h = by_answer h.answer h.counts h.end_is
   where
-    by_answer : (answer : Result (Unit {0}) PortFault) → ListenCounts a.faults b.faults answer → Ok tt ≡ end_of answer → b.faults ≡ a.faults
+    by_answer : (answer : Result (Unit {0}) PortFault) → ListenCounts a.faults b.faults answer → Ok tt ≡ listen_end answer → b.faults ≡ a.faults
     by_answer (Ok u) counts is = counts
     by_answer (Err f) counts is = absurd (cc)
 
-listen_err : (address : List ℕ) (a b : Outside PortsTold) (why : Stop) → Listens address a b (Err why) → ((why ≡ stop.PortsFailed) × Rose a.faults b.faults) ⊎ (why ≡ stop.NoMemory)
+listen_err : (address : List ℕ) (a b : Outside PortsTold) (why : Stop) → ListenEnds address a b (Err why) → ((why ≡ stop.PortsFailed) × Rose a.faults b.faults) ⊎ (why ≡ stop.NoMemory)
 listen_err address a b why h = by_answer h.answer h.counts h.end_is
   where
-    by_answer : (answer : Result (Unit {0}) PortFault) → ListenCounts a.faults b.faults answer → Err why ≡ end_of answer → ((why ≡ stop.PortsFailed) × Rose a.faults b.faults) ⊎ (why ≡ stop.NoMemory)
+    by_answer : (answer : Result (Unit {0}) PortFault) → ListenCounts a.faults b.faults answer → Err why ≡ listen_end answer → ((why ≡ stop.PortsFailed) × Rose a.faults b.faults) ⊎ (why ≡ stop.NoMemory)
     by_answer (Ok u) counts is = absurd (cc)
     by_answer (Err port_fault.Failed) counts is = inl (cc, counts.1)
     by_answer (Err port_fault.NoMemory) counts is = inr (cc)
@@ -63,7 +63,7 @@ module _ (config : Config) (p q : EachFront (Outside PortsTold)) where
   abbrev Fails : Stop → Type 0
   Fails why = ((why ≡ stop.PortsFailed) × PortsRose p q) ⊎ (why ≡ stop.NoMemory)
 
-  from_one : (why w : Stop) (a b : Outside PortsTold) (address : List ℕ) → (Rose a.faults b.faults → PortsRose p q) → Listens address a b (Err w) → fails why ≡ fails w → Fails why
+  from_one : (why w : Stop) (a b : Outside PortsTold) (address : List ℕ) → (Rose a.faults b.faults → PortsRose p q) → ListenEnds address a b (Err w) → fails why ≡ fails w → Fails why
   from_one why w a b address rose listens is =
       let same : why ≡ w = cc in
       elim (listen_err address a b w listens) [ inl h ↦ inl (same ∙ h.0, rose h.1) | inr none ↦ inr (same ∙ none) ]
@@ -203,7 +203,7 @@ module _ {D : Type 0} (state : D → Outside StoreTold) (s : Served) (store : D)
     end_is : (end ≡ h.winds.saved) ⊎ ((end ≡ Err stop.SinkFailed) × Rose old.out.faults new.out.faults)
     end_is = by_tally h.ends.tally h.winds.told
       where
-        by_put : (a : Totals) (put : Result (Unit {0}) SinkFault) → sink.Puts old.out new.out (tally_line a) put → end ≡ put_end put h.winds.saved
+        by_put : (a : Totals) (put : Result (Unit {0}) SinkFault) → sink.Puts old.out new.out (tally_line a) put → end ≡ end_after_put put h.winds.saved
             → (end ≡ h.winds.saved) ⊎ ((end ≡ Err stop.SinkFailed) × Rose old.out.faults new.out.faults)
         by_put a (Ok done) puts is = inl is
         by_put a (Err f) puts is = inr (is, puts.3.1)
@@ -258,7 +258,7 @@ module _ {D : Type 0} (state : D → Outside StoreTold) (s : Served) (store : D)
     out_noticed : new.out.faults ≢ old.out.faults → end ≡ Err stop.SinkFailed
     out_noticed other = by_tally h.ends.tally h.winds.told
       where
-        by_put : (a : Totals) (put : Result (Unit {0}) SinkFault) → sink.Puts old.out new.out (tally_line a) put → end ≡ put_end put h.winds.saved → end ≡ Err stop.SinkFailed
+        by_put : (a : Totals) (put : Result (Unit {0}) SinkFault) → sink.Puts old.out new.out (tally_line a) put → end ≡ end_after_put put h.winds.saved → end ≡ Err stop.SinkFailed
         by_put a (Ok done) puts is = absurd (other puts.1)
         by_put a (Err f) puts is = is
 
@@ -271,7 +271,7 @@ module _ {D : Type 0} (state : D → Outside StoreTold) (s : Served) (store : D)
   -- the line refuses what is saved; out and what the store shows are as they were
   abbrev pub IsRefused : List ℕ → Type 0
   IsRefused line =
-      (s.config.resume ≡ true) × (why : Refusal) × IsSavedIn (state store) s.inputs.plan (Err why) × RefusesFor why line × (new.out ≡ old.out) × (state (store_of new.left) ≡ state store)
+      (s.config.resume ≡ true) × (why : ResumeRefusal) × IsSavedIn (state store) s.inputs.plan (Err why) × RefusesFor why line × (new.out ≡ old.out) × (state (store_of new.left) ≡ state store)
 
   refused_by : (l : Left D) → new.left ≡ l → (line : List ℕ) → ServesTo state s store old new (Err (stop.Refused line)) l → IsRefused line
   refused_by (Farm closed) is line h = absurd (not_refused closed is (Err (stop.Refused line)) h line refl)

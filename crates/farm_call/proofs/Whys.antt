@@ -13,7 +13,7 @@ use Rattle.input_files.proofs.Courses.{ended}
 use Rattle.input_files.proofs.Calls.{Whys}
 use Rattle.farm_left.proofs.Lost.{lost}
 use Rattle.farm_files.specs.Inputs.{Served}
-use Rattle.farm_setup.specs.Beginnings.{Refusal, RefusesFor, IsSavedIn}
+use Rattle.farm_setup.specs.Beginnings.{ResumeRefusal, RefusesFor, IsSavedIn}
 use Rattle.serve_command.specs.Serves.{World}
 use Rattle.serve_command.specs.declared.left.Left.{Left}
 use Rattle.serve_command.specs.declared.left.Left.TheVariants.{Store}
@@ -46,7 +46,7 @@ module _ {D : Type 0} (state : D → Outside StoreTold) where
   -- Why work ends early, but for a put on out and want of memory: a call of the store failed, or a port; all turns were drawn; or what is saved is refused, and then out and what the store shows are as they were
   abbrev pub Hinders : Stop → World D → World D → Type 0
   Hinders (stop.Refused line) old new =
-      (s : Served) × (s.config.resume ≡ true) × (why : Refusal) × IsSavedIn (state (store_of old.left)) s.inputs.plan (Err why) × RefusesFor why line × (new.out ≡ old.out)
+      (s : Served) × (s.config.resume ≡ true) × (why : ResumeRefusal) × IsSavedIn (state (store_of old.left)) s.inputs.plan (Err why) × RefusesFor why line × (new.out ≡ old.out)
       × (state (store_of new.left) ≡ state (store_of old.left))
   Hinders stop.StoreFailed old new = Lost old new
   Hinders stop.PortsFailed old new = PortsRose old.ports new.ports

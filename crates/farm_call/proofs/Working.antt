@@ -8,7 +8,7 @@ use Rattle.call_ends.specs.declared.stops.Stop.{Stop}
 use Rattle.call_ends.specs.declared.stops.Stop.TheVariants as stop
 use Rattle.call_ends.proofs.Statuses.{puts_failed}
 use Rattle.input_files.specs.Course.{Course, IsValid}
-use Rattle.input_files.specs.Calls.{EndsAt}
+use Rattle.input_files.specs.Calls.{HasStatus}
 use Rattle.input_files.specs.inner.Runs as calls
 use Rattle.input_files.specs.Course.{Makes, RefusedBy}
 use Rattle.input_files.specs.Calls.{Refusal as FileRefusal}
@@ -17,7 +17,7 @@ use Rattle.input_files.proofs.Calls.{Whys, IsWork, puts_noticed}
 use Rattle.input_files.proofs.Courses.{made_apart}
 use Rattle.input_files.proofs.Runs as runs
 use Rattle.input_files.proofs.Runs.{Ran, ran}
-use Rattle.call_ends.specs.Promises.{Stands}
+use Rattle.call_ends.specs.Promises.{LineStands}
 use Rattle.call_ends.specs.Stops.{status_of, ports_failed, turns_used_up}
 use Rattle.call_ends.proofs.Statuses as status
 use Rattle.farm_call.specs.Words.{Asks}
@@ -26,7 +26,7 @@ use Rattle.farm_call.specs.Served.{PortsRose, TurnsAreGone, SaysServed, IfServed
 use Rattle.farm_files.specs.Inputs.{Served}
 use Rattle.port_trait.specs.Told.{PortsTold}
 use Rattle.farm_threads.specs.declared.each_front.EachFront.{EachFront}
-use Rattle.farm_setup.specs.Beginnings.{Refusal, RefusesFor, IsSavedIn}
+use Rattle.farm_setup.specs.Beginnings.{ResumeRefusal, RefusesFor, IsSavedIn}
 use Rattle.serve_command.specs.Serves.{World, HasServed, Serves, ServesTo}
 use Rattle.serve_command.specs.Points.{ClosedFarm}
 use Rattle.serve_command.specs.declared.left.Left.{Left}
@@ -61,7 +61,7 @@ module _ {D : Type 0} (state : D → Outside StoreTold) where
 
 -- of what work it is that what is saved is refused
 saved_refused : {D : Type 0} (state : D → Outside StoreTold) (v : Work) (store : D) (old new : World D) → old.left ≡ Store store → (line : List ℕ) → Does state v old new (Err (stop.Refused line))
-    → (s : Served) × (v ≡ serves s) × (s.config.resume ≡ true) × (why : Refusal) × IsSavedIn (state store) s.inputs.plan (Err why) × RefusesFor why line × (new.out ≡ old.out) × (state (store_of new.left) ≡ state store)
+    → (s : Served) × (v ≡ serves s) × (s.config.resume ≡ true) × (why : ResumeRefusal) × IsSavedIn (state store) s.inputs.plan (Err why) × RefusesFor why line × (new.out ≡ old.out) × (state (store_of new.left) ≡ state store)
 saved_refused state (puts text) store old new is line did = absurd (let e = (puts_failed old.out new.out text (stop.Refused line) did.0).0 in cc)
 saved_refused state (scripts x) store old new is line did = absurd (scripts_stops state x did.0 did.1 old.out new.out (stop.Refused line) did.5)
 saved_refused state (loads seed n) store old new is line did = absurd (loads_stops state seed n did.0 did.1 old.out new.out (stop.Refused line) did.5)
@@ -83,18 +83,18 @@ module _ {D : Type 0} (state : D → Outside StoreTold) (words : List (List ℕ)
   how : Ran (Asks words) (Does state) files files' world world' call.end
   how = ran (Asks words) (Does state) files files' world world' call.end call.ran
 
-  status_at : (end : Result (Unit {0}) Stop) → call.end ≡ end → EndsAt (status_of end) err.faults err'.faults result
+  status_at : (end : Result (Unit {0}) Stop) → call.end ≡ end → HasStatus (status_of end) err.faults err'.faults result
   status_at end is =
-      subst (λ (e : Result (Unit {0}) Stop). EndsAt (status_of e) err.faults err'.faults result) is
+      subst (λ (e : Result (Unit {0}) Stop). HasStatus (status_of e) err.faults err'.faults result) is
       (status.of_end (calls.Runs (Asks words) (Does state) files files' world world') err err' result call)
 
   -- a whole call over files with no fault
   pub complete_over : (t : FilesTold) → files.told ≡ Some t → (c : Course Work) → Asks words c → IsValid t.content c → ¬ (Rose files.faults files'.faults) → ¬ (Rose out.faults world'.out.faults)
       → ¬ (Rose (state store).faults (state (store_of world'.left)).faults) → ¬ (PortsRose ports world'.ports) → ¬ (TurnsAreGone world'.left)
-      → ((s : Served) (why : Refusal) → Makes t.content c (serves s) → s.config.resume ≡ true → ¬ (IsSavedIn (state store) s.inputs.plan (Err why))) → (result ≡ 0) ⊎ EndsAt 5 err.faults err'.faults result
+      → ((s : Served) (why : ResumeRefusal) → Makes t.content c (serves s) → s.config.resume ≡ true → ¬ (IsSavedIn (state store) s.inputs.plan (Err why))) → (result ≡ 0) ⊎ HasStatus 5 err.faults err'.faults result
   complete_over t is c asked valid calm quiet kept heard fresh resumes = by_end how
     where
-      by_why : (v : Work) → Makes t.content c v → (s : Stop) → call.end ≡ Err s → Does state v world world' (Err s) → Whys (λ w. w.out) (Hinders state) s world world' → (result ≡ 0) ⊎ EndsAt 5 err.faults err'.faults result
+      by_why : (v : Work) → Makes t.content c v → (s : Stop) → call.end ≡ Err s → Does state v world world' (Err s) → Whys (λ w. w.out) (Hinders state) s world world' → (result ≡ 0) ⊎ HasStatus 5 err.faults err'.faults result
       by_why v makes (stop.Refused line) e did why =
           let r = saved_refused state v store world world' refl line did in
           absurd (resumes r.0 r.3 (subst (Makes t.content c) r.1 makes) r.2 r.4)
@@ -106,11 +106,11 @@ module _ {D : Type 0} (state : D → Outside StoreTold) (words : List (List ℕ)
       by_why v makes stop.PortsFailed e did why = absurd (heard why)
       by_why v makes stop.TurnsUsedUp e did why = absurd (fresh why)
 
-      by_work : (v : Work) → Makes t.content c v → (end : Result (Unit {0}) Stop) → call.end ≡ end → Does state v world world' end → (result ≡ 0) ⊎ EndsAt 5 err.faults err'.faults result
+      by_work : (v : Work) → Makes t.content c v → (end : Result (Unit {0}) Stop) → call.end ≡ end → Does state v world world' end → (result ≡ 0) ⊎ HasStatus 5 err.faults err'.faults result
       by_work v makes (Ok u) e did = elim (status_at (Ok tt) e) [ inl zero ↦ inl zero | inr four ↦ inr (inr four) ]
       by_work v makes (Err s) e did = by_why v makes s e did ((works state).stops v world world' s did)
 
-      by_end : Ran (Asks words) (Does state) files files' world world' call.end → (result ≡ 0) ⊎ EndsAt 5 err.faults err'.faults result
+      by_end : Ran (Asks words) (Does state) files files' world world' call.end → (result ≡ 0) ⊎ HasStatus 5 err.faults err'.faults result
       by_end (runs.worked d also v told still did) =
           by_work v (subst (λ (x : Course Work). Makes t.content x v) (sym (asks_one words c d asked also)) (told t is).0) call.end refl did
       by_end (runs.refuses d also line e told still same) =
@@ -120,7 +120,7 @@ module _ {D : Type 0} (state : D → Outside StoreTold) (words : List (List ℕ)
       by_end (runs.wants e told still same) = inr (status_at (Err stop.NoMemory) e)
 
   -- with 1 a file is refused, or what is saved
-  pub refused_over : result ≡ 1 → (line : List ℕ) × Stands err.told err'.told line × (IfSome files.told (λ t. FileRefusal (Asks words) t.content line) ⊎ RefusesSaved (Asks words) files.told (state store) line)
+  pub refused_over : result ≡ 1 → (line : List ℕ) × LineStands err.told err'.told line × (IfSome files.told (λ t. FileRefusal (Asks words) t.content line) ⊎ RefusesSaved (Asks words) files.told (state store) line)
       × (world'.out ≡ out) × (state (store_of world'.left) ≡ state store)
   refused_over first =
       let r = whole.refused (Asks words) (asks_one words) (Does state) (λ w. w.out) (Hinders state) (works state) files files' world world' err err' result call first in
@@ -194,11 +194,11 @@ module _ {D : Type 0} (state : D → Outside StoreTold) (words : List (List ℕ)
       (works state).stops d.value world world' stop.TurnsUsedUp d.worked
 
   -- and their lines stand on err
-  pub ports_line : result ≡ 7 → Stands err.told err'.told ports_failed
+  pub ports_line : result ≡ 7 → LineStands err.told err'.told ports_failed
   ports_line seven =
       (whole.ports_lost (Asks words) (asks_one words) (Does state) (λ w. w.out) (Hinders state) (works state) files files' world world' err err' result call seven).1
 
-  pub turns_line : result ≡ 8 → Stands err.told err'.told turns_used_up
+  pub turns_line : result ≡ 8 → LineStands err.told err'.told turns_used_up
   turns_line eight =
       (whole.turns_gone (Asks words) (asks_one words) (Does state) (λ w. w.out) (Hinders state) (works state) files files' world world' err err' result call eight).1
 

@@ -9,7 +9,7 @@ use Rattle.call_ends.specs.declared.stops.Stop.{Stop}
 use Rattle.input_files.specs.Course.{Course, Makes}
 use Rattle.farm_threads.specs.declared.each_front.EachFront.{EachFront}
 use Rattle.farm_files.specs.Inputs.{Served}
-use Rattle.farm_setup.specs.Beginnings.{Refusal, RefusesFor, IsSavedIn}
+use Rattle.farm_setup.specs.Beginnings.{ResumeRefusal, RefusesFor, IsSavedIn}
 use Rattle.serve_command.specs.Points.{ClosedFarm}
 use Rattle.serve_command.specs.declared.left.Left.{Left}
 use Rattle.serve_command.specs.declared.left.Left.TheVariants.{Farm}
@@ -37,4 +37,4 @@ AtEnd err err' status holds = (end : Result (Unit {0}) Stop) × Reports (status_
 
 -- the line refuses what is saved in the store, where the files say that it is to be resumed
 abbrev pub RefusesSaved : (Course Work → Type 0) → Option FilesTold → Outside StoreTold → List ℕ → Type 0
-RefusesSaved asks told at line = (s : Served) × SaysServed asks told s × (s.config.resume ≡ true) × (why : Refusal) × IsSavedIn at s.inputs.plan (Err why) × RefusesFor why line
+RefusesSaved asks told at line = (s : Served) × SaysServed asks told s × (s.config.resume ≡ true) × (why : ResumeRefusal) × IsSavedIn at s.inputs.plan (Err why) × RefusesFor why line

@@ -2,7 +2,7 @@
 ghost use Rattle.std.specs.Prelude.{◌≡◌, ◌⊎◌, [], Err};
 ghost use Rattle.call_ends.specs.Stops.{status_of, err_line, usage, want_of_memory, store_failed};
 ghost use Rattle.call_ends.specs.Ends.{Reports};
-ghost use Rattle.call_ends.specs.Promises.{Stands};
+ghost use Rattle.call_ends.specs.Promises.{LineStands};
 ghost use Rattle.serve_command.specs.declared.left.Left.TheVariants.{Store};
 
 use crate::call::farm_main;
@@ -42,11 +42,11 @@ pub fn program<
 ) -> FarmEnd<D>
     // With 2 the usage line stands on err, with 5 that of want of memory, with 6 that of the store, and with
     // 0 nothing.
-    ensures usage_line { result.status ≡ 2 → Stands (E.state err.old).told (E.state err.new).told usage }
+    ensures usage_line { result.status ≡ 2 → LineStands (E.state err.old).told (E.state err.new).told usage }
     ensures want_line { result.status ≡ 5
-        → Stands (E.state err.old).told (E.state err.new).told want_of_memory }
+        → LineStands (E.state err.old).told (E.state err.new).told want_of_memory }
     ensures store_line { result.status ≡ 6
-        → Stands (E.state err.old).told (E.state err.new).told store_failed }
+        → LineStands (E.state err.old).told (E.state err.new).told store_failed }
     ensures silent { result.status ≡ 0 → (E.state err.new).told ≡ (E.state err.old).told }
     // With 2 and 3 out and the store are as they were.
     ensures untouched { (result.status ≡ 2) ⊎ (result.status ≡ 3)

@@ -3,16 +3,16 @@ ghost use Rattle.std.specs.Prelude.{◌≡◌, ◌≢◌, ◌⊎◌, ℕ, List, 
 ghost use Rattle.farm_base.specs.Outside.{Rose};
 ghost use Rattle.call_ends.specs.Stops.{usage, want_of_memory, store_failed, ports_failed, turns_used_up};
 ghost use Rattle.call_ends.specs.Ends.{EndsWith};
-ghost use Rattle.call_ends.specs.Promises.{Stands};
+ghost use Rattle.call_ends.specs.Promises.{LineStands};
 ghost use Rattle.call_ends.specs.declared.stops.Stop.TheVariants.{StoreFailed};
 ghost use Rattle.input_files.specs.Course.{Course, Makes, RefusedBy, IsValid};
-ghost use Rattle.input_files.specs.Calls.{Did, Refusal, Missed, Ended, EndsAt};
+ghost use Rattle.input_files.specs.Calls.{Did, Refusal, Missed, Ended, HasStatus};
 ghost use Rattle.input_files.specs.inner.Runs as works;
 ghost use Rattle.farm_call.specs.Words.{Asks};
 ghost use Rattle.farm_call.specs.Works.{Work, Does, over, serves, store_of};
 ghost use Rattle.farm_call.specs.Served.{AtEnd, IfServed, PortsRose, RefusesSaved, TurnsAreGone};
 ghost use Rattle.farm_files.specs.Inputs.{Served};
-ghost use Rattle.farm_setup.specs.Beginnings.{IsSavedIn, Refusal as SavedRefusal};
+ghost use Rattle.farm_setup.specs.Beginnings.{IsSavedIn, ResumeRefusal as SavedRefusal};
 ghost use Rattle.farm_threads.specs.Actors.{three};
 ghost use Rattle.serve_command.specs.Points.{HeadlineHolds, IsLegal, EntriesAreOwned, FrontsServe, WorkersWork, StopsHaveCauses, CountsAreTold, KeptAt, EndsBy};
 ghost use Rattle.serve_command.specs.declared.left.Left.TheVariants.{Store};
@@ -118,17 +118,17 @@ pub fn farm_main<
     ensures store_lost { result.status ≡ 6 → Did (Asks (map string_bytes words.now)) (Does D.state)
         (F.state files.old) (F.state files.new) (over (O.state out.old) store (three (P.state ports.old.renderd) (P.state ports.old.tiles) (P.state ports.old.control)))
         (record { out = O.state out.new; left = result.left; fronts = result.fronts.items; ports = three (P.state ports.new.renderd) (P.state ports.new.tiles) (P.state ports.new.control) }) (Err StoreFailed)
-        × Stands (E.state err.old).told (E.state err.new).told store_failed }
+        × LineStands (E.state err.old).told (E.state err.new).told store_failed }
     ensures store_rose { result.status ≡ 6 → Rose (D.state store).faults (D.state (store_of result.left)).faults }
     // 7: a port's count rose, and the line of ports stands on err. 8: a farm is left, whose history has used up all turns,
     // and its line stands on err.
     ensures ports_rose { result.status ≡ 7 → PortsRose (three (P.state ports.old.renderd) (P.state ports.old.tiles) (P.state ports.old.control))
         (three (P.state ports.new.renderd) (P.state ports.new.tiles) (P.state ports.new.control)) }
     ensures ports_line { result.status ≡ 7
-        → Stands (E.state err.old).told (E.state err.new).told ports_failed }
+        → LineStands (E.state err.old).told (E.state err.new).told ports_failed }
     ensures turns_gone { result.status ≡ 8 → TurnsAreGone result.left }
     ensures turns_line { result.status ≡ 8
-        → Stands (E.state err.old).told (E.state err.new).told turns_used_up }
+        → LineStands (E.state err.old).told (E.state err.new).told turns_used_up }
     // Files with no fault give 0, where no read, no put on out and no call of the store or of a port fails, not all turns
     // are drawn, and what is saved, if a farm is to be resumed from it, has no fault, unless memory is wanting.
     ensures complete { IfSome (F.state files.old).told (λ t. (c : Course Work)
@@ -141,11 +141,11 @@ pub fn farm_main<
         → ¬ (TurnsAreGone result.left)
         → ((s : Served) (why : SavedRefusal) → Makes t.content c (serves s) → s.config.resume ≡ true
         → ¬ (IsSavedIn (D.state store) s.inputs.plan (Err why)))
-        → (result.status ≡ 0) ⊎ EndsAt 5 (E.state err.old).faults (E.state err.new).faults result.status) }
+        → (result.status ≡ 0) ⊎ HasStatus 5 (E.state err.old).faults (E.state err.new).faults result.status) }
 
     // 1: the files lead the course to this line, that of their first fault, or it is that of what is saved in the store; it
     // stands on err, and out and what the store shows are as they were.
-    ensures refused { result.status ≡ 1 → (line : List ℕ) × Stands (E.state err.old).told (E.state err.new).told line
+    ensures refused { result.status ≡ 1 → (line : List ℕ) × LineStands (E.state err.old).told (E.state err.new).told line
         × (IfSome (F.state files.old).told (λ t. Refusal (Asks (map string_bytes words.now)) t.content line)
         ⊎ RefusesSaved (Asks (map string_bytes words.now)) (F.state files.old).told (D.state store) line)
         × (O.state out.new ≡ O.state out.old) × (D.state (store_of result.left) ≡ D.state store) }
@@ -153,24 +153,24 @@ pub fn farm_main<
     ensures refusing { IfSome (F.state files.old).told (λ t. (c : Course Work) → (line : List ℕ)
         → Asks (map string_bytes words.now) c → RefusedBy t.content c line
         → ¬ (Rose (F.state files.old).faults (F.state files.new).faults)
-        → (result.status ≡ 1) ⊎ EndsAt 5 (E.state err.old).faults (E.state err.new).faults result.status) }
+        → (result.status ≡ 1) ⊎ HasStatus 5 (E.state err.old).faults (E.state err.new).faults result.status) }
     // 2: the words ask for nothing, and the usage line stands on err.
     ensures words { result.status ≡ 2 → (c : Course Work) → ¬ (Asks (map string_bytes words.now) c) }
     ensures usage_line { result.status ≡ 2
-        → Stands (E.state err.old).told (E.state err.new).told usage }
+        → LineStands (E.state err.old).told (E.state err.new).told usage }
     // Words that ask for nothing give 2, unless memory is wanting.
     ensures no_words { ((c : Course Work) → ¬ (Asks (map string_bytes words.now) c))
-        → (result.status ≡ 2) ⊎ EndsAt 5 (E.state err.old).faults (E.state err.new).faults result.status }
+        → (result.status ≡ 2) ⊎ HasStatus 5 (E.state err.old).faults (E.state err.new).faults result.status }
     // 3: the files lead to a read, that read failed and no other call, and its line stands on err.
     ensures unread { result.status ≡ 3 → IfSome (F.state files.old).told (λ t. (line : List ℕ)
         × Missed (Asks (map string_bytes words.now)) t (F.state files.new).told line
-        × Stands (E.state err.old).told (E.state err.new).told line) }
+        × LineStands (E.state err.old).told (E.state err.new).told line) }
     ensures read_failed { result.status ≡ 3
         → Rose (F.state files.old).faults (F.state files.new).faults }
     // A read that failed gives 3, unless memory is wanting.
     ensures one_failed { IfSome (F.state files.old).told (λ t. IfSome (F.state files.new).told (λ u.
         u.failed ≢ t.failed
-        → (result.status ≡ 3) ⊎ EndsAt 5 (E.state err.old).faults (E.state err.new).faults result.status)) }
+        → (result.status ≡ 3) ⊎ HasStatus 5 (E.state err.old).faults (E.state err.new).faults result.status)) }
     // 2 and 3: out and the store are as they were.
     ensures untouched { (result.status ≡ 2) ⊎ (result.status ≡ 3)
         → (O.state out.new ≡ O.state out.old) × (result.left ≡ Store store) }
@@ -185,7 +185,7 @@ pub fn farm_main<
         → E.state err.new ≡ E.state err.old }
     // 5: the line of want of memory stands on err.
     ensures want_line { result.status ≡ 5
-        → Stands (E.state err.old).told (E.state err.new).told want_of_memory }
+        → LineStands (E.state err.old).told (E.state err.new).told want_of_memory }
 {
     let done = command(rt, alloc, words, files, out, store, ports, gate);
     let status = report(err, &done.end);

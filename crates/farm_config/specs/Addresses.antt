@@ -3,12 +3,12 @@ use Rattle.std.specs.Prelude.{◌≡◌, ℕ, ◌≤◌, ◌<◌, ◌⊎◌, Boo
 use Rattle.std.specs.Fmt.{decimal}
 use Rattle.std.specs.Str.{bytes_eq}
 use Rattle.line_words.specs.Cuts.{cut_at}
-use Rattle.line_words.specs.Numbers.{number_in}
+use Rattle.line_words.specs.Numbers.{decimal_below}
 use Rattle.farm_config.specs.Limits.{most_path_bytes}
 
 -- what stands behind a number below the bound and this byte
 abbrev pub after_number : ℕ → ℕ → List ℕ → Option (List ℕ)
-after_number bound byte text = option_and_then (λ p. if is_some (number_in bound p.0) then Some p.1 else None) (cut_at byte text)
+after_number bound byte text = option_and_then (λ p. if is_some (decimal_below bound p.0) then Some p.1 else None) (cut_at byte text)
 
 -- what stands behind an octet, a number below 256, and this byte
 abbrev pub after_octet : ℕ → List ℕ → Option (List ℕ)
@@ -17,7 +17,7 @@ after_octet byte text = after_number 256 byte text
 -- the port behind four octets, `a.b.c.d:port`, a number below 65536
 unfoldable pub port_of : List ℕ → Option ℕ
 port_of text =
-    option_and_then (λ b. option_and_then (λ c. option_and_then (λ d. option_and_then (λ port. number_in 65536 port)
+    option_and_then (λ b. option_and_then (λ c. option_and_then (λ d. option_and_then (λ port. decimal_below 65536 port)
     (after_octet 58 d)) (after_octet 46 c)) (after_octet 46 b)) (after_octet 46 text)
 
 -- whether an address of this kind has this rest: `tcp:` and four octets with a port, or `unix:` and a path of 1 to 100 bytes

@@ -21,8 +21,8 @@ abbrev pub map_keys : List (List ℕ)
 map_keys = codes "name" ∷ codes "style" ∷ codes "tile" ∷ codes "maxzoom" ∷ []
 
 -- a map at its place; there is none after 16, and an earlier map of its name is Double, after its keys
-unfoldable pub map_of : ℕ → List MapEntry → Data → Result MapEntry ConfigFault
-map_of place before d = do
+unfoldable pub map_entry : ℕ → List MapEntry → Data → Result MapEntry ConfigFault
+map_entry place before d = do
   u ← check (nat_lt place most_maps) (Range 1)
   u ← opened (Shape 1) (Shape 1) map_keys d
   name ← needed (Shape 1) (a_map_name 1) (get (codes "name") d)
@@ -34,7 +34,7 @@ map_of place before d = do
 
 -- a map of the list, at the place behind those that were read before it
 abbrev pub map_after : List MapEntry → Data → Result MapEntry ConfigFault
-map_after before d = map_of (length before) before d
+map_after before d = map_entry (length before) before d
 
 -- the maps, of which there is at least one
 unfoldable pub maps_of : Data → Result (List MapEntry) ConfigFault

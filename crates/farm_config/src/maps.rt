@@ -37,7 +37,7 @@ pub fn map_place(name: &str, maps: &[MapEntry]) -> Option<usize>
 }
 
 /// A map at the place behind those before it.
-#[tactic(auto, unfolding(crate::specs::Tables::map_of))]
+#[tactic(auto, unfolding(crate::specs::Tables::map_entry))]
 fn map(alloc: Global, before: &[MapEntry], object: &Value) -> Result<MapEntry, ConfigFault>
     ensures value { Gives fault.NoMemory (λ x. x) (spec.map_after before.now (view object.now)) result }
     ensures place { IfOk result (λ m. IsTrue (nat_lt (length before.now) most_maps)) }

@@ -18,7 +18,7 @@ use Rattle.farm_plan.specs.Drawings.{plan_of, data_of}
 use Rattle.expiry_lists.specs.Marks.{MarksSeen, mark_of}
 use Rattle.render_queues.specs.Tables.{no_tables}
 use Rattle.farm_stands.specs.Stands.{waits_key, asked_of, failures, Accounts, CountsStand, QueuesStand, StandsFor}
-use Rattle.farm_stands.specs.inner.Events.{no_counts, begun}
+use Rattle.farm_stands.specs.inner.Events.{no_counts, new_farm}
 use Rattle.farm_stands.proofs.Starting.{start_step}
 use Rattle.resume_faults.specs.declared.faults.ResumeFault.TheVariants.{Number}
 use Rattle.resume_faults.specs.Given.{styles_given}
@@ -108,7 +108,7 @@ module _ {D : Type 0} (state : D → Outside StoreTold) (plan : FarmPlan) (s : S
   none : Option ℕ
   none = None
 
-  begun_stands : StandsFor state false (begun plan None store (replicate (length plan.maps) None) ms) []
+  begun_stands : StandsFor state false (new_farm plan None store (replicate (length plan.maps) None) ms) []
   begun_stands = start_step state false plan None store (replicate (length plan.maps) None) ms valid (none_styled (length plan.maps)) empty counted (λ t. absurd (never false refl t))
 
   counts : CountsStand (record no_counts { turns = styles_given s.styles }) r
@@ -142,7 +142,7 @@ module _ {D : Type 0} (state : D → Outside StoreTold) (plan : FarmPlan) (s : S
     ended_are = begun_stands.queues_are.ended_are ∙ sym (ap (λ (asks : List Numbered). replies_to asks r) (bare false).quiet.answered ∙ replies_none r);
   }
 
-  pub anew_stands : IsReplaying state (record (begun plan (Some s) store s.styles ms) { counts = record no_counts { turns = styles_given s.styles } }) r
+  pub anew_stands : IsReplaying state (record (new_farm plan (Some s) store s.styles ms) { counts = record no_counts { turns = styles_given s.styles } }) r
   unfolding data_after data_of changes_after flights
   anew_stands = record {
     legal = λ told. (bare told).quiet.legal;

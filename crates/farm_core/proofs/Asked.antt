@@ -19,7 +19,7 @@ use Rattle.render_queues.specs.Tables.{Tables}
 use Rattle.expiry_lists.specs.Marks.{mark_of}
 use Rattle.farm_stands.specs.Seen.{FarmSeen}
 use Rattle.farm_stands.specs.Stands.{StandsFor}
-use Rattle.farm_stands.specs.inner.Events.{tests_at, asked_tables, turned}
+use Rattle.farm_stands.specs.inner.Events.{tests_at, asked_tables, one_turn_more}
 use Rattle.farm_stands.proofs.Asking.{ask_render_step, ask_unmarked_step, ask_marked_step}
 use Rattle.farm_stands.proofs.Marking.{soil_at}
 use Rattle.farm_core.specs.inner.Asks.{answer_at, rendered_at, rendered_counts, noted_tables, Dirties, Dirtied}
@@ -54,10 +54,10 @@ module _ {D : Type 0} (state : D → Outside StoreTold) where
 
   pub ask_rendered : (told : Bool) (old new : FarmSeen D) (h : List Entry) (conn : Conn) (command : Cmd) (spot : Spot) (served : Option Key) (answer : AskAnswer) → is_dirty_command command ≡ false →
       is_some served ≡ is_servable (plan_of old.plan) spot → IfSome served (λ k. k ≡ key_of spot) → answer ≡ rendered_at (turn old) conn command served →
-      new ≡ record (turn old) { counts = rendered_counts answer (turned old.counts); queues = noted_tables old.queues (own_queue command) conn served answer } → StandsFor state told old h → StandsFor state told new (Ask conn command spot answer ∷ h)
+      new ≡ record (turn old) { counts = rendered_counts answer (one_turn_more old.counts); queues = noted_tables old.queues (own_queue command) conn served answer } → StandsFor state told old h → StandsFor state told new (Ask conn command spot answer ∷ h)
   ask_rendered told old new h conn command spot served answer render on key is same s =
       subst (λ (f : FarmSeen D). StandsFor state told f (Ask conn command spot answer ∷ h)) (sym same)
-      (subst (λ (q : Tables). StandsFor state told (record old { counts = rendered_counts answer (turned old.counts); queues = q }) (Ask conn command spot answer ∷ h)) (sym (noted_is old conn command spot served answer key is))
+      (subst (λ (q : Tables). StandsFor state told (record old { counts = rendered_counts answer (one_turn_more old.counts); queues = q }) (Ask conn command spot answer ∷ h)) (sym (noted_is old conn command spot served answer key is))
       (subst (λ (b : Bool). StandsFor state told (record old {
         counts = record old.counts {
           turns = old.counts.turns + 1;

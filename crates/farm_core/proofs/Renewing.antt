@@ -5,7 +5,7 @@ use Rattle.farm_base.specs.Outside.{Outside}
 use Rattle.farm_base.specs.declared.faults.ApplyFault.{ApplyFault}
 use Rattle.tile_store.specs.Stores.{StoreTold}
 use Rattle.plain_data.specs.Features.{Layer}
-use Rattle.plain_data.specs.Data.{IsLayer, updated}
+use Rattle.plain_data.specs.Data.{IsLayer, update_result}
 use Rattle.geo_model.specs.declared.bounds.Bounds.{Bounds}
 use Rattle.farm_history.specs.declared.keys.Key.{Key}
 use Rattle.farm_history.specs.declared.saved.Past.{Past}
@@ -225,7 +225,7 @@ module _ {D : Type 0} (state : D → Outside StoreTold) where
   pub renew_told : (told : Bool) (old new : FarmSeen D) (h : List Entry) (n v count : ℕ) → nat_lt n (length old.plan.updates) ≡ true → Renews (turn old) new n count → v ≡ new.counts.version → old.counts.turns < 2 ^ 63 → StandsFor state told old h → StandsFor state told new (Renew n (Renewed.Version v count) ∷ h)
   renew_told told old new h n v count lt r is turns s = renew_done told old new h n count r s v (ltb-true n (length old.plan.updates) lt) is turns
 
-  pub renew_refused : (told : Bool) (old new : FarmSeen D) (h : List Entry) (n : ℕ) (fault : ApplyFault) → nat_lt n (length old.plan.updates) ≡ true → (fault ≢ ApplyFault.NoMemory → updated (update_of old.plan n) old.data_now ≡ Err fault) → new ≡ turn old → StandsFor state told old h →
+  pub renew_refused : (told : Bool) (old new : FarmSeen D) (h : List Entry) (n : ℕ) (fault : ApplyFault) → nat_lt n (length old.plan.updates) ≡ true → (fault ≢ ApplyFault.NoMemory → update_result (update_of old.plan n) old.data_now ≡ Err fault) → new ≡ turn old → StandsFor state told old h →
       StandsFor state told new (Renew n (Renewed.Refused fault) ∷ h)
   renew_refused told old new h n fault lt first same s = subst (λ (f : FarmSeen D). StandsFor state told f (Renew n (Renewed.Refused fault) ∷ h)) (sym same) (renew_refused_step state told old h n fault (ltb-true n (length old.plan.updates) lt) first s)
 

@@ -6,40 +6,40 @@ use Rattle.farm_base.specs.Outside.{Outside}
 use Rattle.farm_base.specs.declared.faults.ApplyFault.{ApplyFault}
 use Rattle.tile_store.specs.Stores.{StoreTold}
 use Rattle.plain_data.specs.Features.{Layer}
-use Rattle.plain_data.specs.Data.{updated}
+use Rattle.plain_data.specs.Data.{update_result}
 use Rattle.farm_history.specs.declared.keys.Kept.{Kept}
 use Rattle.farm_history.specs.declared.saved.Past.{Past}
 use Rattle.farm_history.specs.Entries.{Entry}
 use Rattle.farm_history.specs.Plans.{Plan}
-use Rattle.farm_history.specs.Replays.{number_of, replay_keys, replay_change, replay_from}
+use Rattle.farm_history.specs.Replays.{past_number, replay_keys, replay_change, replay_from}
 use Rattle.farm_plan.specs.Plans.{FarmPlan}
 use Rattle.farm_plan.specs.Drawings.{plan_of, update_of}
 use Rattle.farm_stands.specs.Seen.{FarmSeen}
 use Rattle.resume_faults.specs.declared.faults.ResumeFault.{ResumeFault}
-use Rattle.resume_faults.specs.Faults.{refused_at, applied, apply_fault}
+use Rattle.resume_faults.specs.Faults.{refused_at, update_fault, apply_fault}
 use Rattle.farm_core.specs.inner.Replays.{IsReplaying, how_many_from, ReplaysVersion, RefusesAt}
 
 -- ---- faults
 
-pub fault_more : (plan : FarmPlan) (layers new : List Layer) (v : ℕ) (updates : List Past) (c : Past) → v < length updates → c ≡ get_or updates v c → updated (update_of plan (number_of c)) layers ≡ Ok new → apply_fault plan layers v (drop v updates) ≡ apply_fault plan new (v + 1) (drop (v + 1) updates)
+pub fault_more : (plan : FarmPlan) (layers new : List Layer) (v : ℕ) (updates : List Past) (c : Past) → v < length updates → c ≡ get_or updates v c → update_result (update_of plan (past_number c)) layers ≡ Ok new → apply_fault plan layers v (drop v updates) ≡ apply_fault plan new (v + 1) (drop (v + 1) updates)
 unfolding apply_fault
 fault_more plan layers new v updates c lt at is =
     at_drop_more (λ cs. apply_fault plan layers v cs) updates v c lt
-    ∙ (ap (λ (x : Past). applied v (updated (update_of plan (number_of x)) layers) (λ n. apply_fault plan n (v + 1) (drop (v + 1) updates))) (sym at)
-    ∙ ap (λ r. applied v r (λ n. apply_fault plan n (v + 1) (drop (v + 1) updates))) is)
+    ∙ (ap (λ (x : Past). update_fault v (update_result (update_of plan (past_number x)) layers) (λ n. apply_fault plan n (v + 1) (drop (v + 1) updates))) (sym at)
+    ∙ ap (λ r. update_fault v r (λ n. apply_fault plan n (v + 1) (drop (v + 1) updates))) is)
 
-told_at : (v : ℕ) (f : ApplyFault) (layers : Result (List Layer) ApplyFault) (later : List Layer → Option ResumeFault) → refused_at v f ≢ ResumeFault.NoMemory → (f ≢ ApplyFault.NoMemory → layers ≡ Err f) → applied v layers later ≡ Some (refused_at v f)
-told_at v (ApplyFault.NoLayer n) layers later some is = ap (λ r. applied v r later) (is (λ same. cc))
-told_at v (ApplyFault.NoFeature n id) layers later some is = ap (λ r. applied v r later) (is (λ same. cc))
-told_at v (ApplyFault.TooMany n) layers later some is = ap (λ r. applied v r later) (is (λ same. cc))
+told_at : (v : ℕ) (f : ApplyFault) (layers : Result (List Layer) ApplyFault) (later : List Layer → Option ResumeFault) → refused_at v f ≢ ResumeFault.NoMemory → (f ≢ ApplyFault.NoMemory → layers ≡ Err f) → update_fault v layers later ≡ Some (refused_at v f)
+told_at v (ApplyFault.NoLayer n) layers later some is = ap (λ r. update_fault v r later) (is (λ same. cc))
+told_at v (ApplyFault.NoFeature n id) layers later some is = ap (λ r. update_fault v r later) (is (λ same. cc))
+told_at v (ApplyFault.TooMany n) layers later some is = ap (λ r. update_fault v r later) (is (λ same. cc))
 told_at v ApplyFault.NoMemory layers later some is = absurd (some refl)
 
 pub fault_here : {D : Type 0} (farm : FarmSeen D) (v : ℕ) (updates : List Past) (c : Past) (e : ResumeFault) → v < length updates → c ≡ get_or updates v c → RefusesAt farm v c e → e ≢ ResumeFault.NoMemory → apply_fault farm.plan farm.data_now v (drop v updates) ≡ Some e
 unfolding apply_fault
 fault_here farm v updates c e lt at r some =
     at_drop_more (λ cs. apply_fault farm.plan farm.data_now v cs) updates v c lt
-    ∙ (ap (λ (x : Past). applied v (updated (update_of farm.plan (number_of x)) farm.data_now) (λ n. apply_fault farm.plan n (v + 1) (drop (v + 1) updates))) (sym at)
-    ∙ (told_at v r.fault (updated (update_of farm.plan (number_of c)) farm.data_now) (λ n. apply_fault farm.plan n (v + 1) (drop (v + 1) updates)) (λ none. some (r.is ∙ none)) r.refused ∙ ap (λ x. Some x) (sym r.is)))
+    ∙ (ap (λ (x : Past). update_fault v (update_result (update_of farm.plan (past_number x)) farm.data_now) (λ n. apply_fault farm.plan n (v + 1) (drop (v + 1) updates))) (sym at)
+    ∙ (told_at v r.fault (update_result (update_of farm.plan (past_number c)) farm.data_now) (λ n. apply_fault farm.plan n (v + 1) (drop (v + 1) updates)) (λ none. some (r.is ∙ none)) r.refused ∙ ap (λ x. Some x) (sym r.is)))
 
 pub fault_none : (plan : FarmPlan) (layers : List Layer) (v : ℕ) (updates : List Past) → length updates ≤ v → apply_fault plan layers v (drop v updates) ≡ None
 unfolding apply_fault

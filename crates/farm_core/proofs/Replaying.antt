@@ -15,7 +15,7 @@ use Rattle.farm_history.specs.Lists.{Each}
 use Rattle.farm_history.specs.Plans.{AreApart, same_key}
 use Rattle.farm_history.specs.Past.{shown}
 use Rattle.farm_history.specs.Seen.{soiled, mark_at}
-use Rattle.farm_history.specs.Replays.{number_of, lowest, replay_key, replay_keys, replay_change}
+use Rattle.farm_history.specs.Replays.{past_number, lowest, replay_key, replay_keys, replay_change}
 use Rattle.farm_history.proofs.Lists.{same_key-sym}
 use Rattle.farm_history.proofs.Counts.{count-cons}
 use Rattle.farm_history.proofs.Keyed.{IsServed}
@@ -225,7 +225,7 @@ module _ {D : Type 0} (state : D → Outside StoreTold) where
       (with_rows old g rows same r)))
 
   -- an update that was made again
-  pub change_step : (old new : FarmSeen D) (g : List Entry) (c : Past) → number_of c < length old.plan.updates → ReplaysChange old new c → IsReplaying state old g → IsReplaying state new (replay_change (plan_of old.plan) c g)
+  pub change_step : (old new : FarmSeen D) (g : List Entry) (c : Past) → past_number c < length old.plan.updates → ReplaysChange old new c → IsReplaying state old g → IsReplaying state new (replay_change (plan_of old.plan) c g)
   change_step old new g (Past.Update n) lt d r =
       subst (λ (f : FarmSeen D). IsReplaying state f (replay_change (plan_of old.plan) (Past.Update n) g)) (sym d.1) (from_replays _ _ (replay_update_step state old g n new.data_now lt d.0 (to_replays old g r)))
   change_step old new g (Past.Renew n) lt d r = renewed_rows old new g n d.0 (once old.marks.shown) lt d.1 (once_apart old.marks.shown) (λ k. once_same k old.marks.shown) r

@@ -11,7 +11,7 @@ use Rattle.farm_history.specs.declared.keys.Kept.{Kept}
 use Rattle.farm_history.specs.declared.saved.Past.{Past}
 use Rattle.farm_history.specs.Entries.{Entry}
 use Rattle.farm_history.specs.Lists.{Each}
-use Rattle.farm_history.specs.Replays.{Saving, are_rising, number_of, replay_styles, replay_from, replay}
+use Rattle.farm_history.specs.Replays.{Saving, are_rising, past_number, replay_styles, replay_from, replay}
 use Rattle.farm_history.proofs.Lists.{each-map}
 use Rattle.farm_history.proofs.Unflown.{replay_unflown, replay_asks, replay_length}
 use Rattle.farm_plan.specs.Plans.{FarmPlan, IsPlan}
@@ -24,7 +24,7 @@ use Rattle.farm_stands.proofs.Resuming.{resumed_stands}
 use Rattle.resume_faults.specs.declared.faults.ResumeFault.{ResumeFault}
 use Rattle.resume_faults.specs.declared.faults.ResumeFault.TheVariants.{Number, Kept as NotKept}
 use Rattle.resume_faults.specs.Given.{styles_given}
-use Rattle.resume_faults.specs.Faults.{can_show, apply_fault, shape_fault, resume_fault}
+use Rattle.resume_faults.specs.Faults.{can_show, apply_fault, form_fault, resume_fault}
 use Rattle.resume_faults.proofs.Checked.{each_passes, shaped}
 use Rattle.farm_core.specs.Begins.{Begins, BeginsWell}
 use Rattle.farm_core.specs.inner.Starts.{IsStarted}
@@ -37,20 +37,20 @@ use Rattle.farm_core.proofs.Replaying.{to_replays}
 under : (a b : ℕ) → nat_lt a b ≡ true → a < b
 under a b h = grind (arith, nat_tests)
 
-known : (p : FarmPlan) (s : Saving) → shape_fault p s ≡ None → Each (λ (c : Past). number_of c < length p.updates) s.updates
+known : (p : FarmPlan) (s : Saving) → form_fault p s ≡ None → Each (λ (c : Past). past_number c < length p.updates) s.updates
 known p s fits =
-    each-map (λ (c : Past). nat_lt (number_of c) (length p.updates) ≡ true) (λ (c : Past). number_of c < length p.updates) s.updates (λ c h. under (number_of c) (length p.updates) h)
-    (each_passes (λ (c : Past). nat_lt (number_of c) (length p.updates)) (λ place. Number (length s.styles + place)) 0 s.updates (shaped p s fits).updates)
+    each-map (λ (c : Past). nat_lt (past_number c) (length p.updates) ≡ true) (λ (c : Past). past_number c < length p.updates) s.updates (λ c h. under (past_number c) (length p.updates) h)
+    (each_passes (λ (c : Past). nat_lt (past_number c) (length p.updates)) (λ place. Number (length s.styles + place)) 0 s.updates (shaped p s fits).updates)
 
 can_all : (p : FarmPlan) (n : ℕ) (xs : List Kept) → All (IsKept n) xs → Each (λ (x : Kept). can_show p x.key ≡ true) xs → Each (CanReplay p) xs
 can_all p n [] all each = tt
 can_all p n (x ∷ xs) all each = (record { shows = each.0; meta = (All-head (IsKept n) x xs all).placed }, can_all p n xs (All-tail (IsKept n) x xs all) each.1)
 
-all_shown : (p : FarmPlan) (s : Saving) → shape_fault p s ≡ None → IsSaving s → Each (CanReplay p) s.clean
+all_shown : (p : FarmPlan) (s : Saving) → form_fault p s ≡ None → IsSaving s → Each (CanReplay p) s.clean
 all_shown p s fits sound =
     can_all p (length s.updates) s.clean sound.clean_fit.kept (each_passes (λ (x : Kept). can_show p x.key) (λ place. NotKept place) 0 s.clean (shaped p s fits).clean)
 
-few_turns : (p : FarmPlan) (s : Saving) (updates clean : ℕ) → IsPlan p → shape_fault p s ≡ None → updates + 4 * clean < 2 ^ 62 - 16 → styles_given s.styles + updates + 4 * clean < 2 ^ 62
+few_turns : (p : FarmPlan) (s : Saving) (updates clean : ℕ) → IsPlan p → form_fault p s ≡ None → updates + 4 * clean < 2 ^ 62 - 16 → styles_given s.styles + updates + 4 * clean < 2 ^ 62
 few_turns p s updates clean valid fits short =
     let maps = (shaped p s fits).maps in
     let few = valid.count_maps.few in
@@ -59,18 +59,18 @@ few_turns p s updates clean valid fits short =
 -- what a replay needs of a farm that begins anew, and of the lists of what was saved
 pub record IsReady {D : Type 0} (p : FarmPlan) (s : Saving) (farm : FarmSeen D) (updates : List Past) (clean : List Kept) : Type 0 where
   pub version : farm.counts.version ≡ 0
-  pub known : Each (λ (c : Past). number_of c < length farm.plan.updates) updates
+  pub known : Each (λ (c : Past). past_number c < length farm.plan.updates) updates
   pub keys : Each (CanReplay farm.plan) clean
   pub rise : are_rising clean ≡ true
   pub fresh : IsFresh 0 0 clean farm.marks.shown
   pub turns : farm.counts.turns + length updates + 4 * length clean < 2 ^ 62
 
-ready_at : {D : Type 0} (p : FarmPlan) (s : Saving) (store : D) (farm : FarmSeen D) → IsPlan p → shape_fault p s ≡ None → IsSaving s → length s.updates + 4 * length s.clean < 2 ^ 62 - 16 → IsAnew p s store farm → IsReady p s farm s.updates s.clean
+ready_at : {D : Type 0} (p : FarmPlan) (s : Saving) (store : D) (farm : FarmSeen D) → IsPlan p → form_fault p s ≡ None → IsSaving s → length s.updates + 4 * length s.clean < 2 ^ 62 - 16 → IsAnew p s store farm → IsReady p s farm s.updates s.clean
 ready_at {D} p s store farm valid fits sound short anew =
     let plan_is : farm.plan ≡ p = ap (λ (f : FarmSeen D). f.plan) anew.is in
     record {
       version = ap (λ (f : FarmSeen D). f.counts.version) anew.is;
-      known = subst (λ (q : FarmPlan). Each (λ (c : Past). number_of c < length q.updates) s.updates) (sym plan_is) (known p s fits);
+      known = subst (λ (q : FarmPlan). Each (λ (c : Past). past_number c < length q.updates) s.updates) (sym plan_is) (known p s fits);
       keys = subst (λ (q : FarmPlan). Each (CanReplay q) s.clean) (sym plan_is) (all_shown p s fits sound);
       rise = sound.clean_fit.rise;
       fresh = λ j x at left. ap (λ rows. mark_of rows x.key) anew.unmarked;
@@ -78,7 +78,7 @@ ready_at {D} p s store farm valid fits sound short anew =
     }
 
 pub ready : {D : Type 0} (p : FarmPlan) (s : Saving) (store : D) (farm : FarmSeen D) (updates : List Past) (clean : List Kept) → updates ≡ s.updates → clean ≡ s.clean →
-    IsPlan p → shape_fault p s ≡ None → IsSaving s → length s.updates + 4 * length s.clean < 2 ^ 62 - 16 → IsAnew p s store farm → IsReady p s farm updates clean
+    IsPlan p → form_fault p s ≡ None → IsSaving s → length s.updates + 4 * length s.clean < 2 ^ 62 - 16 → IsAnew p s store farm → IsReady p s farm updates clean
 ready p s store farm updates clean same_updates same_clean valid fits sound short anew =
     subst (λ (us : List Past). IsReady p s farm us clean) (sym same_updates) (subst (λ (xs : List Kept). IsReady p s farm s.updates xs) (sym same_clean) (ready_at p s store farm valid fits sound short anew))
 
@@ -114,7 +114,7 @@ again {D} p s store farm a = record { plan_is = plan_is; store_is = store_is; an
 
 -- ---- after the replay
 
-pub resumed : {D : Type 0} (state : D → Outside StoreTold) (p : FarmPlan) (s : Saving) (store : D) (anew farm : FarmSeen D) (updates : List Past) (clean : List Kept) → updates ≡ s.updates → clean ≡ s.clean → IsPlan p → shape_fault p s ≡ None → IfSome (state store).told (λ t. (state store).faults ≡ length t.failed) → IsAnew p s store anew → Stays anew farm →
+pub resumed : {D : Type 0} (state : D → Outside StoreTold) (p : FarmPlan) (s : Saving) (store : D) (anew farm : FarmSeen D) (updates : List Past) (clean : List Kept) → updates ≡ s.updates → clean ≡ s.clean → IsPlan p → form_fault p s ≡ None → IfSome (state store).told (λ t. (state store).faults ≡ length t.failed) → IsAnew p s store anew → Stays anew farm →
     ((g : List Entry) → IsReplaying state anew g → IsReplaying state farm (replay_from (plan_of anew.plan) clean 0 updates g)) → Begins state p (Some s) store farm
 resumed {D} state p s store anew farm updates clean same_updates same_clean valid fits counted is stays replays = record {
   plan_is = plan_now;
@@ -151,7 +151,7 @@ resumed {D} state p s store anew farm updates clean same_updates same_clean vali
 
 -- ---- what the history is with which a resumed farm begins
 
-pub begins_well : (p : FarmPlan) (s : Saving) → IsPlan p → shape_fault p s ≡ None → length s.updates + 4 * length s.clean < 2 ^ 62 - 16 → BeginsWell (replay (plan_of p) s)
+pub begins_well : (p : FarmPlan) (s : Saving) → IsPlan p → form_fault p s ≡ None → length s.updates + 4 * length s.clean < 2 ^ 62 - 16 → BeginsWell (replay (plan_of p) s)
 begins_well p s valid fits short =
     let maps = (shaped p s fits).maps in
     let few = valid.count_maps.few in
@@ -164,9 +164,9 @@ first_of None b h = refl
 first_of (Some f) b h = cc
 
 -- the fault of what is of such a plan is that of its updates
-pub later_fault : {D : Type 0} (p : FarmPlan) (s : Saving) (store : D) (farm : FarmSeen D) (updates : List Past) (f : Option ResumeFault) → updates ≡ s.updates → shape_fault p s ≡ None → IsAnew p s store farm → apply_fault farm.plan farm.data_now 0 updates ≡ f → resume_fault p s ≡ f
+pub later_fault : {D : Type 0} (p : FarmPlan) (s : Saving) (store : D) (farm : FarmSeen D) (updates : List Past) (f : Option ResumeFault) → updates ≡ s.updates → form_fault p s ≡ None → IsAnew p s store farm → apply_fault farm.plan farm.data_now 0 updates ≡ f → resume_fault p s ≡ f
 later_fault {D} p s store farm updates f same fits anew is =
-    first_of (shape_fault p s) (apply_fault p p.dataset 0 s.updates) fits
+    first_of (form_fault p s) (apply_fault p p.dataset 0 s.updates) fits
     ∙ (sym (ap (λ (x : FarmSeen D). apply_fault x.plan x.data_now 0 s.updates) anew.is) ∙ (sym (ap (apply_fault farm.plan farm.data_now 0) same) ∙ is))
 
 at_once : (a b : Option ResumeFault) (f : ResumeFault) → a ≡ Some f → option_or a b ≡ Some f
@@ -174,13 +174,13 @@ at_once None b f h = cc
 at_once (Some e) b f h = h
 
 -- a fault of what is not of such a plan is the first
-pub first_fault : (p : FarmPlan) (s : Saving) (f : ResumeFault) → shape_fault p s ≡ Some f → resume_fault p s ≡ Some f
-first_fault p s f h = at_once (shape_fault p s) (apply_fault p p.dataset 0 s.updates) f h
+pub first_fault : (p : FarmPlan) (s : Saving) (f : ResumeFault) → form_fault p s ≡ Some f → resume_fault p s ≡ Some f
+first_fault p s f h = at_once (form_fault p s) (apply_fault p p.dataset 0 s.updates) f h
 
 -- what has no fault is of such a plan
-pub no_first_fault : (p : FarmPlan) (s : Saving) → resume_fault p s ≡ None → shape_fault p s ≡ None
-no_first_fault p s h = go (shape_fault p s) refl h
+pub no_first_fault : (p : FarmPlan) (s : Saving) → resume_fault p s ≡ None → form_fault p s ≡ None
+no_first_fault p s h = go (form_fault p s) refl h
   where
-    go : (a : Option ResumeFault) → shape_fault p s ≡ a → option_or a (apply_fault p p.dataset 0 s.updates) ≡ None → shape_fault p s ≡ None
+    go : (a : Option ResumeFault) → form_fault p s ≡ a → option_or a (apply_fault p p.dataset 0 s.updates) ≡ None → form_fault p s ≡ None
     go None e h = e
     go (Some f) e h = cc

@@ -19,7 +19,7 @@ use Rattle.farm_history.proofs.Lists.{each-append, each-map, each-over, each-fil
 use Rattle.farm_history.proofs.Counts.{count-cons}
 use Rattle.render_queues.specs.declared.lines.Lines.{Lines}
 use Rattle.render_queues.specs.OneQueue.{is_below}
-use Rattle.render_queues.specs.Tables.{Tables, line_of, first_of, next_of, after_take, placed, lifted_out}
+use Rattle.render_queues.specs.Tables.{Tables, line_of, first_of, next_of, after_take, after_place, lifted_out}
 use Rattle.farm_plan.specs.Plans.{FarmPlan, IsPlan}
 use Rattle.farm_plan.specs.Spots.{IsKeyOf}
 use Rattle.farm_stands.specs.Seen.{Counts}
@@ -246,10 +246,10 @@ room_release own spares share taken t queues styled counts spares_room taken_roo
 -- ---- keys that wait
 
 -- a key of the plan goes last in a queue
-pub placed_each : (P : Key → Type 0) (t : Tables) (own : Queue) (key : Key) → P key → ((queue : Queue) → Each P (line_of t.lines queue).keys) → (queue : Queue) → Each P (line_of (placed t own key).lines queue).keys
+pub placed_each : (P : Key → Type 0) (t : Tables) (own : Queue) (key : Key) → P key → ((queue : Queue) → Each P (line_of t.lines queue).keys) → (queue : Queue) → Each P (line_of (after_place t own key).lines queue).keys
 placed_each P t own key here each queue = go own queue
   where
-    go : (a b : Queue) → Each P (line_of (placed t a key).lines b).keys
+    go : (a b : Queue) → Each P (line_of (after_place t a key).lines b).keys
     go Queue.Prio Queue.Prio = each-append P _ key (each Queue.Prio) here
     go Queue.Request Queue.Request = each-append P _ key (each Queue.Request) here
     go Queue.Low Queue.Low = each-append P _ key (each Queue.Low) here
@@ -264,7 +264,7 @@ placed_each P t own key here each queue = go own queue
 pub dirty_each : (P : Key → Type 0) (t : Tables) (key : Key) → P key → ((queue : Queue) → Each P (line_of t.lines queue).keys) → (queue : Queue) → Each P (line_of (with_dirty t key).lines queue).keys
 dirty_each P t key here each queue = go (is_below t.lines.dirty)
   where
-    go : (b : Bool) → Each P (line_of (cond b (placed t Queue.Dirty key) t).lines queue).keys
+    go : (b : Bool) → Each P (line_of (cond b (after_place t Queue.Dirty key) t).lines queue).keys
     go true = placed_each P t Queue.Dirty key here each queue
     go false = each queue
 

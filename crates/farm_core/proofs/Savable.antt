@@ -12,7 +12,7 @@ use Rattle.farm_history.specs.Lists.{Each}
 use Rattle.farm_history.specs.Plans.{AreApart, same_key}
 use Rattle.farm_history.specs.Past.{version, style_after, shown, is_touched_after}
 use Rattle.farm_history.specs.Rules.{Legal}
-use Rattle.farm_history.specs.Replays.{Saving, changes_after, number_of, kept_of, kept_version, version_if_fresh, IsSaved}
+use Rattle.farm_history.specs.Replays.{Saving, changes_after, past_number, kept_of, kept_version, version_if_fresh, IsSaved}
 use Rattle.farm_history.proofs.Lists.{same_key-self, same_key-sym, each-map, each-both, none-each}
 use Rattle.farm_history.proofs.Keyed.{shown_served}
 use Rattle.farm_history.proofs.Since.{data_changes, clean_since, style_fits, style_in_table}
@@ -42,7 +42,7 @@ each_own (x ∷ xs) apart = (
     later y h = ap (λ b. cond b (Some x) (kept_of xs y.key)) (same_key-sym x.key y.key ∙ h.1) ∙ h.0
 
 as_many : (h : List Entry) → length (changes_after h) ≡ version h
-as_many h = sym (ap length (data_changes h) ∙ length-map (changes_after h) number_of)
+as_many h = sym (ap length (data_changes h) ∙ length-map (changes_after h) past_number)
 
 module _ (plan : FarmPlan) (told : Bool) (h : List Entry) (s : Saving) (valid : IsPlan plan) (legal : Legal (plan_of plan) told h) (saved : IsSaved (plan_of plan) h s) where
   kept_one : (x : Kept) → kept_of s.clean x.key ≡ Some x → IsKept (length s.updates) x

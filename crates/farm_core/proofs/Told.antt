@@ -9,7 +9,7 @@ use Rattle.farm_base.specs.declared.faults.ApplyFault.{ApplyFault}
 use Rattle.tile_store.specs.Stores.{StoreTold, Puts}
 use Rattle.plain_world.specs.declared.world.Tile.{Tile}
 use Rattle.plain_world.specs.World.{index_place}
-use Rattle.plain_data.specs.Data.{updated}
+use Rattle.plain_data.specs.Data.{update_result}
 use Rattle.farm_history.specs.declared.keys.Key.{Key}
 use Rattle.farm_history.specs.declared.keys.Mark.{Mark}
 use Rattle.farm_history.specs.declared.saved.Past.{Past}
@@ -172,7 +172,7 @@ module _ {D : Type 0} (state : D → Outside StoreTold) where
       subst (λ (x : ℕ). StandsFor state told new (Update n (Updated.Version x) ∷ h)) (sym (is ∙ later))
       (subst (λ (f : FarmSeen D). StandsFor state told f (Update n (Updated.Version (old.counts.version + 1)) ∷ h)) (sym a.1) (update_step state told old h n new.data_now (below n (length old.plan.updates) lt) a.0 s))
 
-  pub update_refused : (told : Bool) (old new : FarmSeen D) (h : List Entry) (n : ℕ) (fault : ApplyFault) → nat_lt n (length old.plan.updates) ≡ true → (fault ≢ ApplyFault.NoMemory → updated (update_of old.plan n) old.data_now ≡ Err fault) → new ≡ turn old → StandsFor state told old h →
+  pub update_refused : (told : Bool) (old new : FarmSeen D) (h : List Entry) (n : ℕ) (fault : ApplyFault) → nat_lt n (length old.plan.updates) ≡ true → (fault ≢ ApplyFault.NoMemory → update_result (update_of old.plan n) old.data_now ≡ Err fault) → new ≡ turn old → StandsFor state told old h →
       StandsFor state told new (Update n (Updated.Refused fault) ∷ h)
   update_refused told old new h n fault lt first same s = subst (λ (f : FarmSeen D). StandsFor state told f (Update n (Updated.Refused fault) ∷ h)) (sym same) (update_refused_step state told old h n fault (below n (length old.plan.updates) lt) first s)
 

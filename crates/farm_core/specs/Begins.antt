@@ -4,7 +4,7 @@ use Rattle.farm_base.specs.Outside.{Outside}
 use Rattle.tile_store.specs.Stores.{StoreTold}
 use Rattle.farm_history.specs.Entries.{Entry}
 use Rattle.farm_history.specs.Past.{Numbered, flights}
-use Rattle.farm_history.specs.Laws.{asked}
+use Rattle.farm_history.specs.Laws.{ask_numbered}
 use Rattle.farm_history.specs.Replays.{Saving, replay_front, replay}
 use Rattle.farm_plan.specs.Plans.{FarmPlan}
 use Rattle.farm_plan.specs.Drawings.{plan_of}
@@ -33,4 +33,4 @@ pub record Begins {D : Type 0} (state : D → Outside StoreTold) (plan : FarmPla
 pub record BeginsWell (h : List Entry) : Type 0 where
   pub short : length h < 2 ^ 62
   pub unflown : flights h ≡ []
-  pub asks : (m : ℕ) (a : Numbered) → asked h m ≡ Some a → a.conn.front ≡ replay_front
+  pub asks : (m : ℕ) (a : Numbered) → ask_numbered h m ≡ Some a → a.conn.front ≡ replay_front

@@ -1,7 +1,7 @@
 //! Renews: updates that expire what they reach.
 ghost use Rattle.std.specs.Prelude.{◌≡◌, ◌≢◌, ◌<◌, ◌^◌, Bool, List, ◌∷◌, All, length, map as map_list, slice_get, IfErr, IfOk, Err};
 ghost use Rattle.farm_base.specs.declared.faults.ApplyFault.{ApplyFault};
-ghost use Rattle.plain_data.specs.Data.{IsDataset, IsLayer, updated};
+ghost use Rattle.plain_data.specs.Data.{IsDataset, IsLayer, update_result};
 ghost use Rattle.reach_box.specs.Boxes.{IsBox};
 ghost use Rattle.farm_history.specs.Entries.{Entry, Renew};
 ghost use Rattle.farm_history.specs.Lists.{Each};
@@ -70,7 +70,7 @@ impl<D> Farm<D> {
         requires known { number < length self.old.plan.updates }
         requires more { self.old.counts.version < self.old.counts.turns }
         ensures done { IfOk result (Renews self.old self.new number) }
-        ensures refused { IfErr result (λ e. e ≢ ApplyFault.NoMemory → updated (update_of self.old.plan number) self.old.data_now ≡ Err e) }
+        ensures refused { IfErr result (λ e. e ≢ ApplyFault.NoMemory → update_result (update_of self.old.plan number) self.old.data_now ≡ Err e) }
         ensures same { IfErr result (λ e. self.new ≡ self.old) }
     {
         let Ok(boxes) = self.named(alloc, number) else {

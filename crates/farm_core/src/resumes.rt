@@ -2,16 +2,16 @@
 ghost use Rattle.std.specs.Prelude.{◌≡◌, ◌≢◌, ◌<◌, ◌+◌, ◌-◌, ◌*◌, ◌^◌, List, true, Some, None, Err, length, IfErr, IfOk, OnErr, OnOk};
 ghost use Rattle.farm_base.specs.declared.faults.ApplyFault.{ApplyFault};
 ghost use Rattle.plain_world.specs.World.{IsMeta};
-ghost use Rattle.plain_data.specs.Data.{updated};
+ghost use Rattle.plain_data.specs.Data.{update_result};
 ghost use Rattle.farm_history.specs.Entries.{Entry};
 ghost use Rattle.farm_history.specs.Lists.{Each};
-ghost use Rattle.farm_history.specs.Replays.{are_rising, number_of, replay, replay_from, replay_keys};
+ghost use Rattle.farm_history.specs.Replays.{are_rising, past_number, replay, replay_from, replay_keys};
 ghost use Rattle.farm_plan.specs.Plans.{IsPlan};
 ghost use Rattle.farm_plan.specs.Drawings.{plan_of, update_of};
 ghost use Rattle.farm_saved.specs.Savings.{IsSaving};
 ghost use Rattle.resume_faults.specs.declared.faults.ResumeFault.{ResumeFault};
 ghost use Rattle.farm_core.specs.inner.Starts.{IsStarted};
-ghost use Rattle.resume_faults.specs.Faults.{apply_fault, resume_fault, shape_fault};
+ghost use Rattle.resume_faults.specs.Faults.{apply_fault, resume_fault, form_fault};
 ghost use Rattle.farm_core.specs.Begins.{Begins, BeginsWell};
 ghost use Rattle.farm_core.specs.inner.Replays.{CanReplay, IsAnew, IsFresh, IsReplaying, RefusesAt, ReplaysAt, ReplaysChange, ReplaysVersion, Stays, how_many_of};
 
@@ -75,10 +75,10 @@ impl<D> Farm<D> {
 
     /// Makes an update again.
     fn replay_change(&mut self, alloc: Global, past: Past) -> Result<(), ApplyFault>
-        requires known { number_of past < length self.old.plan.updates }
+        requires known { past_number past < length self.old.plan.updates }
         requires turns { self.old.counts.turns < 2 ^ 63 }
         ensures done { OnOk result (ReplaysChange self.old self.new past) }
-        ensures refused { IfErr result (λ e. e ≢ ApplyFault.NoMemory → updated (update_of self.old.plan (number_of past)) self.old.data_now ≡ Err e) }
+        ensures refused { IfErr result (λ e. e ≢ ApplyFault.NoMemory → update_result (update_of self.old.plan (past_number past)) self.old.data_now ≡ Err e) }
         ensures stays { Stays self.old self.new }
     {
         self.count_turn();
@@ -126,7 +126,7 @@ impl<D: TileStore> Farm<D> {
         requires keys { Each (CanReplay self.old.plan) clean.now }
         requires rise { are_rising clean.now ≡ true }
         requires fresh { IsFresh version 0 clean.now self.old.marks.shown }
-        requires known { number_of past < length self.old.plan.updates }
+        requires known { past_number past < length self.old.plan.updates }
         requires turns { self.old.counts.turns + 4 * how_many_of version clean.now < 2 ^ 62 }
         ensures done { OnOk result (ReplaysVersion D.state self.old self.new version past clean.now) }
         ensures refused { IfErr result (RefusesAt self.old version past) }
@@ -142,7 +142,7 @@ impl<D: TileStore> Farm<D> {
     /// Replays what was saved: for each version in turn its clean metatiles, and then the update that ended it.
     fn replay(&mut self, alloc: Global, updates: &[Past], clean: &[Kept]) -> Result<(), ResumeFault>
         requires version { self.old.counts.version ≡ 0 }
-        requires known { Each (λ c. number_of c < length self.old.plan.updates) updates.now }
+        requires known { Each (λ c. past_number c < length self.old.plan.updates) updates.now }
         requires keys { Each (CanReplay self.old.plan) clean.now }
         requires rise { are_rising clean.now ≡ true }
         requires fresh { IsFresh 0 0 clean.now self.old.marks.shown }
@@ -165,7 +165,7 @@ impl<D: TileStore> Farm<D> {
         requires plan { IsPlan self.old.plan }
         requires anew { IsAnew self.old.plan saved.now self.old.store self.old }
         requires saved { IsSaving saved.now }
-        requires shape { shape_fault self.old.plan saved.now ≡ None }
+        requires shape { form_fault self.old.plan saved.now ≡ None }
         requires short { length saved.now.updates + 4 * length saved.now.clean < 2 ^ 62 - 16 }
         ensures begins { OnOk result (Begins D.state self.old.plan (Some saved.now) self.old.store self.new) }
         ensures fits { OnOk result (resume_fault self.old.plan saved.now ≡ None) }
@@ -181,7 +181,7 @@ impl<D: TileStore> Farm<D> {
         requires plan { IsPlan self.old.plan }
         requires started { IsStarted self.old.plan self.old.store self.old }
         requires saved { IsSaving saved.now }
-        requires shape { shape_fault self.old.plan saved.now ≡ None }
+        requires shape { form_fault self.old.plan saved.now ≡ None }
         requires short { length saved.now.updates + 4 * length saved.now.clean < 2 ^ 62 - 16 }
         ensures begins { OnOk result (Begins D.state self.old.plan (Some saved.now) self.old.store self.new) }
         ensures fits { OnOk result (resume_fault self.old.plan saved.now ≡ None) }

@@ -5,7 +5,7 @@ ghost use Rattle.farm_core.specs.Answers.{Lasts};
 ghost use Rattle.farm_stands.specs.Stands.{StandsFor};
 ghost use Rattle.std.specs.Vec.{vec_capacity};
 ghost use Rattle.farm_base.specs.declared.faults.ApplyFault.{ApplyFault};
-ghost use Rattle.plain_data.specs.Data.{updated};
+ghost use Rattle.plain_data.specs.Data.{update_result};
 ghost use Rattle.farm_plan.specs.Drawings.{update_of};
 ghost use Rattle.farm_core.specs.inner.Effects.{Advances, IsNext, Nexts, own_of};
 
@@ -36,7 +36,7 @@ fn next_of(alloc: Global, own: &Share, snapshot: Snapshot) -> Result<Next, NoMem
 /// The next data after an update, with its shares.
 fn next_data(alloc: Global, own: &Share, update: &Update) -> Result<Next, ApplyFault>
     ensures done { IfOk result (λ next. Nexts own.now update.now next.own next.spares.items (vec_capacity next.spares)) }
-    ensures refused { IfErr result (λ e. e ≢ ApplyFault.NoMemory → updated update.now own.now.data_now ≡ Err e) }
+    ensures refused { IfErr result (λ e. e ≢ ApplyFault.NoMemory → update_result update.now own.now.data_now ≡ Err e) }
 {
     let snapshot = apply(alloc, own.snapshot(), update)?;
     match next_of(alloc, own, snapshot) {
@@ -50,7 +50,7 @@ impl<D> Farm<D> {
     fn next(&self, alloc: Global, number: u32) -> Result<Next, ApplyFault>
         requires { number < length self.now.plan.updates }
         ensures done { IfOk result (λ next. Nexts (own_of self.now) (update_of self.now.plan number) next.own next.spares.items (vec_capacity next.spares)) }
-        ensures refused { IfErr result (λ e. e ≢ ApplyFault.NoMemory → updated (update_of self.now.plan number) self.now.data_now ≡ Err e) }
+        ensures refused { IfErr result (λ e. e ≢ ApplyFault.NoMemory → update_result (update_of self.now.plan number) self.now.data_now ≡ Err e) }
     {
         let update = self.own.setup().update(number).unwrap();
         next_data(alloc, &self.own, update)
@@ -81,7 +81,7 @@ impl<D> Farm<D> {
         requires known { number < length self.old.plan.updates }
         requires more { self.old.counts.version < self.old.counts.turns }
         ensures done { OnOk result (Advances self.old self.new number past) }
-        ensures refused { IfErr result (λ e. e ≢ ApplyFault.NoMemory → updated (update_of self.old.plan number) self.old.data_now ≡ Err e) }
+        ensures refused { IfErr result (λ e. e ≢ ApplyFault.NoMemory → update_result (update_of self.old.plan number) self.old.data_now ≡ Err e) }
         ensures same { IfErr result (λ e. self.new ≡ self.old) }
     {
         match self.next(alloc, number) {

@@ -40,14 +40,14 @@ why_ended worn ends =
 -- ---- the line of the counts
 
 -- a put that failed is the end, and else it is as it was
-abbrev pub put_end : Result (Unit {0}) SinkFault → Result (Unit {0}) Stop → Result (Unit {0}) Stop
-put_end (Ok done) end = end
-put_end (Err fault) end = Err stop.SinkFailed
+abbrev pub end_after_put : Result (Unit {0}) SinkFault → Result (Unit {0}) Stop → Result (Unit {0}) Stop
+end_after_put (Ok done) end = end
+end_after_put (Err fault) end = Err stop.SinkFailed
 
 -- The line of the counts was put on out, where they were taken; `end` is how the call ends without it, and `end'` how it ends
 abbrev pub TellsCounts : Option Tally → SinkAt → SinkAt → Result (Unit {0}) Stop → Result (Unit {0}) Stop → Type 0
 TellsCounts None out out' end end' = (out' ≡ out) × (end' ≡ end)
-TellsCounts (Some tally) out out' end end' = (put : Result (Unit {0}) SinkFault) × Puts out out' (tally_line tally) put × (end' ≡ put_end put end)
+TellsCounts (Some tally) out out' end end' = (put : Result (Unit {0}) SinkFault) × Puts out out' (tally_line tally) put × (end' ≡ end_after_put put end)
 
 -- ---- the whole end
 

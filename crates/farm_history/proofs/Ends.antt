@@ -12,8 +12,8 @@ use Rattle.farm_history.specs.declared.answers.Finished.{Finished}
 use Rattle.farm_history.specs.declared.answers.Collected.{Collected}
 use Rattle.farm_history.specs.Entries.{Entry, Ask, Finish, Collect, Leave}
 use Rattle.farm_history.specs.Plans.{same_key, same_conn, key_of}
-use Rattle.farm_history.specs.Past.{Flight, flights, flight_in, finishes, is_on, Numbered, number_in, with_ask, without_conn, open_asks, is_ended_after, is_end_of, outcome_of, reply_to, replies_to, ended}
-use Rattle.farm_history.specs.Laws.{asked}
+use Rattle.farm_history.specs.Past.{Flight, flights, flight_in, finishes, is_on, Numbered, number_in, with_ask, without_conn, open_asks, is_ended_after, is_end_of, outcome_of, reply_to, replies_to, due_replies}
+use Rattle.farm_history.specs.Laws.{ask_numbered}
 use Rattle.farm_history.specs.Seen.{is_waiter, waiter_of, asks_on, chain_after, outbox}
 use Rattle.farm_history.specs.Lists.{Each}
 use Rattle.farm_history.proofs.Lists.{same_key-true, same_key-sym, each-append, each-map, each-filter, each-all, map-filter, filter-append, filter-agree, filter-none, filter-filter}
@@ -83,7 +83,7 @@ asks_on_reply front r g k opens given =
     only : (a : Numbered) → IsOpen g a → (a.number == r.ask) ≡ true → a ≡ given.ask
     only a o equal =
         let number : a.number ≡ r.ask = grind (arith, nat_tests) in
-        let found : Some a ≡ Some given.ask = sym o.is_asked ∙ (ap (asked g) (number ∙ given.number_is) ∙ given.holds.is_asked) in
+        let found : Some a ≡ Some given.ask = sym o.is_asked ∙ (ap (ask_numbered g) (number ∙ given.number_is) ∙ given.holds.is_asked) in
         cc
 
     same : (a : Numbered) → IsOpen g a → is_waiter g k a && not (a.number == r.ask) ≡ is_waiter g k a
@@ -193,5 +193,5 @@ outbox_finish t drawn answer g f is =
         grind arith
 
 -- a front's ended replies are those of its connections among all
-pub ended_outbox : (h : List Entry) (front : ℕ) → ended h front ≡ filter (λ r. r.conn.front == front) (outbox h)
+pub ended_outbox : (h : List Entry) (front : ℕ) → due_replies h front ≡ filter (λ r. r.conn.front == front) (outbox h)
 ended_outbox h front = replies_filter _ _ (open_asks h) h (λ answer a. refl)

@@ -12,7 +12,7 @@ use Rattle.farm_history.specs.Entries.{Entry, Ask, Collect, Leave}
 use Rattle.farm_history.specs.Plans.{Plan, same_conn, key_of, is_dirty_command}
 use Rattle.farm_history.specs.Past.{Numbered, number_in, numbers, with_ask, without_conn, without_number, open_asks}
 use Rattle.farm_history.specs.Rules.{Tests, answer_of_waiting, answer_by, tests_of, ask_rule, Fits, Legal}
-use Rattle.farm_history.specs.Laws.{asked_here, asked, is_left_after, is_replied, IsOnlyReply, IsNewNumber, LawOneReply}
+use Rattle.farm_history.specs.Laws.{asked_here, ask_numbered, is_left_after, is_replied, IsOnlyReply, IsNewNumber, LawOneReply}
 use Rattle.farm_history.specs.Lists.{Each}
 use Rattle.farm_history.proofs.Lists.{each-append, each-map, each-filter, each-passes, each-both}
 use Rattle.farm_history.proofs.Apart.{ask_dirty, ask_render}
@@ -33,13 +33,13 @@ ask_number p g conn command spot answer m is h = go (is_dirty_command command) r
 -- of an open ask: its number was given to it, it was not left, and its reply was not collected
 pub record IsOpen (h : List Entry) (a : Numbered) : Type 0 where
   pub below : a.number < numbers h
-  pub is_asked : asked h a.number ≡ Some a
+  pub is_asked : ask_numbered h a.number ≡ Some a
   pub not_left : is_left_after h (length a.before) a.conn ≡ false
   pub not_replied : is_replied h a.number ≡ false
 
 -- what was neither asked nor replied
 pub record IsNew (h : List Entry) (n : ℕ) : Type 0 where
-  pub not_asked : asked h n ≡ None
+  pub not_asked : ask_numbered h n ≡ None
   pub not_replied : is_replied h n ≡ false
 
 pub record Counted (h : List Entry) : Type 0 where
@@ -56,7 +56,7 @@ left_none (_ ∷ g) place conn h = left_none g place conn (omega arith)
 
 -- an ask without a number changes nothing
 counted_by_unnumbered : (conn : Conn) (command : Cmd) (spot : Spot) (answer : AskAnswer) (g : List Entry) → number_in answer ≡ None → Counted g → Counted (Ask conn command spot answer ∷ g)
-unfolding numbers asked is_left_after is_replied open_asks
+unfolding numbers ask_numbered is_left_after is_replied open_asks
 counted_by_unnumbered conn command spot answer g none old = record {
   new = λ n h. let here = old.new n (omega (arith, count_is)) in record { not_asked = asked_is n ∙ here.not_asked; not_replied = here.not_replied };
   opens = subst (Each (IsOpen (e ∷ g))) (sym open_is) (each-map _ _ (open_asks g) still old.opens);
@@ -68,8 +68,8 @@ counted_by_unnumbered conn command spot answer g none old = record {
     count_is : numbers (e ∷ g) ≡ numbers g
     count_is = ap (λ o. cond (is_some o) (numbers g + 1) (numbers g)) none
 
-    asked_is : (n : ℕ) → asked (e ∷ g) n ≡ asked g n
-    asked_is n = ap (λ o. asked_here o n conn (key_of spot) g (asked g n)) none
+    asked_is : (n : ℕ) → ask_numbered (e ∷ g) n ≡ ask_numbered g n
+    asked_is n = ap (λ o. asked_here o n conn (key_of spot) g (ask_numbered g n)) none
 
     open_is : open_asks (e ∷ g) ≡ open_asks g
     open_is = ap (λ o. with_ask o conn (key_of spot) g (open_asks g)) none
@@ -79,7 +79,7 @@ counted_by_unnumbered conn command spot answer g none old = record {
 
 -- and one with a number is open
 counted_by_numbered : (conn : Conn) (command : Cmd) (spot : Spot) (answer : AskAnswer) (g : List Entry) (m : ℕ) → number_in answer ≡ Some m → m ≡ numbers g → Counted g → Counted (Ask conn command spot answer ∷ g)
-unfolding numbers asked is_left_after is_replied open_asks
+unfolding numbers ask_numbered is_left_after is_replied open_asks
 counted_by_numbered conn command spot answer g m some count old = record {
   new = newer;
   opens = subst (Each (IsOpen (e ∷ g))) (sym open_is) (each-append (IsOpen (e ∷ g)) (open_asks g) a (each-map _ _ (open_asks g) still old.opens) here);
@@ -94,8 +94,8 @@ counted_by_numbered conn command spot answer g m some count old = record {
     count_is : numbers (e ∷ g) ≡ numbers g + 1
     count_is = ap (λ o. cond (is_some o) (numbers g + 1) (numbers g)) some
 
-    asked_is : (n : ℕ) → asked (e ∷ g) n ≡ cond (m == n) (Some a) (asked g n)
-    asked_is n = ap (λ o. asked_here o n conn (key_of spot) g (asked g n)) some
+    asked_is : (n : ℕ) → ask_numbered (e ∷ g) n ≡ cond (m == n) (Some a) (ask_numbered g n)
+    asked_is n = ap (λ o. asked_here o n conn (key_of spot) g (ask_numbered g n)) some
 
     open_is : open_asks (e ∷ g) ≡ open_asks g ++ a ∷ []
     open_is = ap (λ o. with_ask o conn (key_of spot) g (open_asks g)) some
@@ -105,7 +105,7 @@ counted_by_numbered conn command spot answer g m some count old = record {
         let more : numbers g + 1 ≤ n = rw (← count_is) h in
         let other : (m == n) ≡ false = grind (arith, nat_tests) in
         let old_one = old.new n (omega arith) in
-        record { not_asked = asked_is n ∙ (ap (λ b. cond b (Some a) (asked g n)) other ∙ old_one.not_asked); not_replied = old_one.not_replied }
+        record { not_asked = asked_is n ∙ (ap (λ b. cond b (Some a) (ask_numbered g n)) other ∙ old_one.not_asked); not_replied = old_one.not_replied }
 
     still : (x : Numbered) → IsOpen g x → IsOpen (e ∷ g) x
     still x o =
@@ -113,7 +113,7 @@ counted_by_numbered conn command spot answer g m some count old = record {
         let other : (m == x.number) ≡ false = grind (arith, nat_tests) in
         record {
           below = rw count_is (omega arith);
-          is_asked = asked_is x.number ∙ (ap (λ b. cond b (Some a) (asked g x.number)) other ∙ o.is_asked);
+          is_asked = asked_is x.number ∙ (ap (λ b. cond b (Some a) (ask_numbered g x.number)) other ∙ o.is_asked);
           not_left = o.not_left;
           not_replied = o.not_replied;
         }
@@ -123,7 +123,7 @@ counted_by_numbered conn command spot answer g m some count old = record {
         let same : (m == m) ≡ true = grind (arith, nat_tests) in
         record {
           below = rw count_is (omega arith);
-          is_asked = asked_is m ∙ ap (λ b. cond b (Some a) (asked g m)) same;
+          is_asked = asked_is m ∙ ap (λ b. cond b (Some a) (ask_numbered g m)) same;
           not_left = left_none g (length g) conn (omega arith);
           not_replied = (old.new m (omega arith)).not_replied;
         }
@@ -133,7 +133,7 @@ counted_by_ask conn command spot answer g None is first old = counted_by_unnumbe
 counted_by_ask conn command spot answer g (Some m) is first old = counted_by_numbered conn command spot answer g m is (first m is) old
 
 counted_by_leave : (conn : Conn) (count : ℕ) (g : List Entry) → Counted g → Counted (Leave conn count ∷ g)
-unfolding numbers asked is_left_after is_replied open_asks
+unfolding numbers ask_numbered is_left_after is_replied open_asks
 counted_by_leave conn count g old = record {
   new = λ n h. let here = old.new n h in record { not_asked = here.not_asked; not_replied = here.not_replied };
   opens = each-map _ _ (without_conn conn (open_asks g)) still (each-both (IsOpen g) _ (without_conn conn (open_asks g)) (each-filter (IsOpen g) _ (open_asks g) old.opens) (each-passes (λ a. not (same_conn a.conn conn)) (open_asks g)));
@@ -148,7 +148,7 @@ counted_by_leave conn count g old = record {
     }
 
 counted_by_reply : (front : ℕ) (r : Reply) (g : List Entry) → IsReplyIn (IsOpen g) g r → Counted g → Counted (Collect front (Collected.Reply r) ∷ g)
-unfolding numbers asked is_left_after is_replied open_asks
+unfolding numbers ask_numbered is_left_after is_replied open_asks
 counted_by_reply front r g given old = record {
   new = newer;
   opens = each-map _ _ (without_number r.ask (open_asks g)) still (each-both (IsOpen g) _ (without_number r.ask (open_asks g)) (each-filter (IsOpen g) _ (open_asks g) old.opens) (each-passes (λ a. not (a.number == r.ask)) (open_asks g)));
@@ -172,7 +172,7 @@ counted_by_reply front r g given old = record {
 
 -- each legal history keeps it
 pub counted : (p : Plan) (told : Bool) (h : List Entry) → Legal p told h → Counted h
-unfolding Fits numbers asked is_left_after is_replied open_asks
+unfolding Fits numbers ask_numbered is_left_after is_replied open_asks
 counted p told [] legal = record { new = λ n h. record { not_asked = refl; not_replied = refl }; opens = tt }
 counted p told (Ask conn command spot answer ∷ g) legal =
     counted_by_ask conn command spot answer g (number_in answer) refl (λ m is. ask_number p g conn command spot answer m legal.0 is) (counted p told g legal.1)

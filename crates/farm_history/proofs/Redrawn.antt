@@ -14,7 +14,7 @@ use Rattle.farm_history.specs.declared.answers.Finished.TheVariants.{Stored}
 use Rattle.farm_history.specs.declared.answers.Collected.{Collected}
 use Rattle.farm_history.specs.Entries.{Entry, Ask, Claim, Finish}
 use Rattle.farm_history.specs.Plans.{Plan, waits_in, waits_in_queue, how_many_in, same_key, key_of, next, without_key}
-use Rattle.farm_history.specs.Past.{is_clean, is_fresh, how_many_of, flies_in, is_ended_after, Flight, is_stopped, data_after, version, style_after, flights, flight_in, without_ticket, jobs, shown, is_touched_after, waiting, numbers, Numbered, open_asks, without_number, ended, replies_to}
+use Rattle.farm_history.specs.Past.{is_clean, is_fresh, how_many_of, flies_in, is_ended_after, Flight, is_stopped, data_after, version, style_after, flights, flight_in, without_ticket, jobs, shown, is_touched_after, waiting, numbers, Numbered, open_asks, without_number, due_replies, replies_to}
 use Rattle.farm_history.specs.Rules.{Tests, answer_of_waiting, answer_by, tests_of, ask_rule, job_of, claim_rule, FlightFits, collect_from, collect_rule, Fits, Legal}
 use Rattle.farm_history.specs.Seen.{is_waiter, chain_after, outbox, waiter_of}
 use Rattle.farm_history.specs.Replays.{replay_front, replayer, lowest, replay_key}
@@ -64,7 +64,7 @@ finish_fits : (p : Plan) (g : List Entry) (f : Flight) → flight_in (flights g)
 finish_fits p g f is last = subst (λ (o : Option Flight). FlightFits p g o true (Stored true)) (sym is) (sym (ap not (touched_never p g (length f.before) f.key last)))
 
 -- a Collect of the one reply
-collect_fits : (g : List Entry) (r : Reply) (front : ℕ) → ended g front ≡ r ∷ [] → Collected.Reply r ≡ collect_rule g front
+collect_fits : (g : List Entry) (r : Reply) (front : ℕ) → due_replies g front ≡ r ∷ [] → Collected.Reply r ≡ collect_rule g front
 collect_fits g r front is = sym (ap (λ rs. collect_from rs (is_stopped g)) is)
 
 -- no asks, no replies
@@ -119,7 +119,7 @@ outbox_alone : (p : Plan) (told : Bool) (g : List Entry) (k : Key) → IsQuiet p
 unfolding open_asks replies_to
 outbox_alone p told g k q = outbox_ask replayer Cmd.Bulk (lowest k) (Queued (numbers g)) g ∙ (ap (λ xs. replies_to xs g) q.answered ∙ replies_none g)
 
-reply_alone : (p : Plan) (told : Bool) (g : List Entry) (k : Key) → IsQuiet p told g → IsServed p k → ended (stored_clean k g) replay_front ≡ the_reply g ∷ []
+reply_alone : (p : Plan) (told : Bool) (g : List Entry) (k : Key) → IsQuiet p told g → IsServed p k → due_replies (stored_clean k g) replay_front ≡ the_reply g ∷ []
 reply_alone p told g k q served =
     ended_outbox (stored_clean k g) replay_front
     ∙ ap (λ xs. filter (λ r. r.conn.front == replay_front) xs) (outbox_finish (jobs g) true (Stored true) (claimed_first k g) (the_flight k g) (found_alone p told g k q)

@@ -7,7 +7,7 @@ use Rattle.farm_history.specs.declared.answers.Finished.{Finished}
 use Rattle.farm_history.specs.declared.answers.Finished.TheVariants.{Stored, PutFailed}
 use Rattle.farm_history.specs.declared.answers.Collected.{Collected}
 use Rattle.farm_history.specs.Entries.{Entry, Finish}
-use Rattle.farm_history.specs.Past.{is_ended_after, Numbered, is_stopped, open_asks, is_end_of, outcome_of, reply_to, replies_to, ended}
+use Rattle.farm_history.specs.Past.{is_ended_after, Numbered, is_stopped, open_asks, is_end_of, outcome_of, reply_to, replies_to, due_replies}
 use Rattle.farm_history.specs.Rules.{collect_from, collect_rule}
 use Rattle.farm_history.specs.Laws.{is_stored_after}
 use Rattle.farm_history.specs.Lists.{Each}
@@ -59,7 +59,7 @@ replies_in P asks (e ∷ g) each = each-map _ _ (replies_to asks g) (still_reply
 
 -- what a Collect gives is a reply to an open ask
 pub collected : (P : Numbered → Type 0) (g : List Entry) (front : ℕ) (r : Reply) → Each P (open_asks g) → Collected.Reply r ≡ collect_rule g front → IsReplyIn P g r
-collected P g front r each is = go (ended g front) (is_stopped g) (replies_in P _ g (each-filter P (λ a. a.conn.front == front) (open_asks g) each)) is
+collected P g front r each is = go (due_replies g front) (is_stopped g) (replies_in P _ g (each-filter P (λ a. a.conn.front == front) (open_asks g) each)) is
   where
     go : (rs : List Reply) (stopped : Bool) → Each (IsReplyIn P g) rs → Collected.Reply r ≡ collect_from rs stopped → IsReplyIn P g r
     go [] true all same = cc

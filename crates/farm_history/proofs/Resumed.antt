@@ -11,7 +11,7 @@ use Rattle.farm_history.specs.Entries.{Entry, Restyle}
 use Rattle.farm_history.specs.Plans.{Plan, AreApart, same_key, is_servable, is_at_most, is_style_of}
 use Rattle.farm_history.specs.Past.{is_stopped, data_after, version, style_after, flights, claimed_keys, shown, is_touched_after, is_fresh, is_clean, waiting, open_asks}
 use Rattle.farm_history.specs.Rules.{Fits, Legal}
-use Rattle.farm_history.specs.Replays.{changes_after, number_of, Saving, key_before, are_rising, kept_of, kept_version, version_if_fresh, IsSaved, replay_styles, replay_key, replay_keys, replay_change, replay_from, replay, IsCleanAgain, LawResumed}
+use Rattle.farm_history.specs.Replays.{changes_after, past_number, Saving, key_before, are_rising, kept_of, kept_version, version_if_fresh, IsSaved, replay_styles, replay_key, replay_keys, replay_change, replay_from, replay, IsCleanAgain, LawResumed}
 use Rattle.farm_history.specs.Lists.{Each}
 use Rattle.farm_history.proofs.Lists.{same_key-true, same_key-self, same_key-sym, each-map, each-both, none-each, find-any, find-passes}
 use Rattle.farm_history.proofs.Keyed.{IsServed, shown_served}
@@ -46,7 +46,7 @@ record IsGood (p : Plan) (s : Saving) (x : Kept) : Type 0 where
   later : List Past
   split : s.updates ≡ first ++ later
   long : length first ≡ x.version
-  passes : Along (Passes p x.key) (map number_of first) later
+  passes : Along (Passes p x.key) (map past_number first) later
 
 -- one that was drawn again, where the rest of the changes are still to come
 record IsAgain (p : Plan) (s : Saving) (style : ℕ → Option ℕ) (g : List Entry) (rest : List Past) (k : Key) (x : Kept) : Type 0 where
@@ -57,7 +57,7 @@ record IsAgain (p : Plan) (s : Saving) (style : ℕ → Option ℕ) (g : List En
   later : List Past
   split : s.updates ≡ first ++ later
   long : length first ≡ x.version
-  data_are : data_after again ≡ map number_of first
+  data_are : data_after again ≡ map past_number first
   style_is : style_after p again k.map ≡ style k.map
   passes : Along (Passes p k) (data_after g) rest
 
@@ -73,7 +73,7 @@ drawn_by v to_come (Some x) = cond (nat_lt x.version v || ((x.version == v) && n
 -- a replay at version v, where xs are still to come in it, and the rest of the changes after it
 record InReplay (p : Plan) (told : Bool) (s : Saving) (style : ℕ → Option ℕ) (v : ℕ) (xs : List Kept) (done rest : List Past) (g : List Entry) : Type 0 where
   quiet : IsQuiet p told g
-  data_are : data_after g ≡ map number_of done
+  data_are : data_after g ≡ map past_number done
   long : length done ≡ v
   split : s.updates ≡ done ++ rest
   styled : (m : ℕ) → m < length p.max_zooms → style_after p g m ≡ style m
@@ -149,7 +149,7 @@ draw_step p told s style v x xs done rest g workers room good alone this i = rec
           long = i.long ∙ number;
           data_are = again_data g x.key ∙ i.data_are;
           style_is = again_style p g x.key x.key.map ∙ i.styled x.key.map good.has_map;
-          passes = subst (λ d. Along (Passes p x.key) d rest) (sym (redrawn_data g x.key ∙ i.data_are)) (subst (λ cs. Along (Passes p x.key) (map number_of done) cs) fronts.1 (subst (λ cs. Along (Passes p x.key) (map number_of cs) good.later) fronts.0 good.passes));
+          passes = subst (λ d. Along (Passes p x.key) d rest) (sym (redrawn_data g x.key ∙ i.data_are)) (subst (λ cs. Along (Passes p x.key) (map past_number done) cs) fronts.1 (subst (λ cs. Along (Passes p x.key) (map past_number cs) good.later) fronts.0 good.passes));
         }
 
     at : (k : Key) (b : Bool) → same_key x.key k ≡ b → MarkIs p s style (replay_key x.key g) rest k (drawn_by v (is_kept xs k) (kept_of s.clean k))
@@ -182,7 +182,7 @@ unfolding is_touched_after
 change_quiet p (Past.Update n) g k place passes = refl
 change_quiet p (Past.Renew n) g k place passes = grind (arith, passes)
 
-pub change_data : (p : Plan) (c : Past) (g : List Entry) → data_after (replay_change p c g) ≡ data_after g ++ number_of c ∷ []
+pub change_data : (p : Plan) (c : Past) (g : List Entry) → data_after (replay_change p c g) ≡ data_after g ++ past_number c ∷ []
 unfolding data_after
 change_data p (Past.Update n) g = refl
 change_data p (Past.Renew n) g = refl
@@ -233,11 +233,11 @@ next_version s v k None h = refl
 next_version s v k (Some x) h =
     ap (λ b. cond b (Some x) None) (up_to x.version v ∙ none_to_come (nat_lt x.version (v + 1)) (x.version == v + 1) (is_kept s.clean k) (found_kept s.clean k x h))
 
-change_step : (p : Plan) (told : Bool) (s : Saving) (style : ℕ → Option ℕ) (v : ℕ) (done : List Past) (c : Past) (cs : List Past) (g : List Entry) → ChangeFits p (map number_of done) c →
+change_step : (p : Plan) (told : Bool) (s : Saving) (style : ℕ → Option ℕ) (v : ℕ) (done : List Past) (c : Past) (cs : List Past) (g : List Entry) → ChangeFits p (map past_number done) c →
     InReplay p told s style v [] done (c ∷ cs) g → InReplay p told s style (v + 1) s.clean (done ++ c ∷ []) cs (replay_change p c g)
 change_step p told s style v done c cs g fits i = record {
   quiet = change_legal p told c g (subst (λ d. ChangeFits p d c) (sym i.data_are) fits) i.quiet;
-  data_are = change_data p c g ∙ (ap (λ d. d ++ number_of c ∷ []) i.data_are ∙ sym (map-append number_of done (c ∷ [])));
+  data_are = change_data p c g ∙ (ap (λ d. d ++ past_number c ∷ []) i.data_are ∙ sym (map-append past_number done (c ∷ [])));
   long = length-append done (c ∷ []) ∙ ap (λ n. n + 1) i.long;
   split = i.split ∙ sym (append_assoc done (c ∷ []) cs);
   styled = λ m lt. change_style p c g m ∙ i.styled m lt;
@@ -245,13 +245,13 @@ change_step p told s style v done c cs g fits i = record {
 }
 
 -- to the end
-replayed : (p : Plan) (told : Bool) (s : Saving) (style : ℕ → Option ℕ) (v : ℕ) (done rest : List Past) (g : List Entry) → 0 < p.workers → 0 < p.limits.bulk → Each (IsGood p s) s.clean → AreApart kept_key s.clean → Along (ChangeFits p) (map number_of done) rest →
+replayed : (p : Plan) (told : Bool) (s : Saving) (style : ℕ → Option ℕ) (v : ℕ) (done rest : List Past) (g : List Entry) → 0 < p.workers → 0 < p.limits.bulk → Each (IsGood p s) s.clean → AreApart kept_key s.clean → Along (ChangeFits p) (map past_number done) rest →
     InReplay p told s style v s.clean done rest g → (n : ℕ) × (all : List Past) × InReplay p told s style n [] all [] (replay_from p s.clean v rest g)
 unfolding replay_from
 replayed p told s style v done [] g workers room good apart fits i = (v, done, keys_replayed p told s style v s.clean done [] g workers room good apart i)
 replayed p told s style v done (c ∷ cs) g workers room good apart fits i =
     let after = keys_replayed p told s style v s.clean done (c ∷ cs) g workers room good apart i in
-    replayed p told s style (v + 1) (done ++ c ∷ []) cs (replay_change p c (replay_keys v s.clean g)) workers room good apart (subst (λ d. Along (ChangeFits p) d cs) (sym (map-append number_of done (c ∷ []))) fits.1)
+    replayed p told s style (v + 1) (done ++ c ∷ []) cs (replay_change p c (replay_keys v s.clean g)) workers room good apart (subst (λ d. Along (ChangeFits p) d cs) (sym (map-append past_number done (c ∷ []))) fits.1)
     (change_step p told s style v done c cs (replay_keys v s.clean g) fits.0 after)
 
 -- Styles.
@@ -381,7 +381,7 @@ fresh_at p h k v is = go (shown h k) refl is
 
 -- as many changes as their numbers
 as_many : (h : List Entry) → length (changes_after h) ≡ version h
-as_many h = sym (ap length (data_changes h) ∙ length-map (changes_after h) number_of)
+as_many h = sym (ap length (data_changes h) ∙ length-map (changes_after h) past_number)
 
 good_one : (p : Plan) (told : Bool) (h : List Entry) (s : Saving) (x : Kept) → Legal p told h → IsSaved p h s → kept_of s.clean x.key ≡ Some x → IsGood p s x
 good_one p told h s x legal saved own =
@@ -466,7 +466,7 @@ clean_again p told h s n all r legal saved i k before clean is = go (kept_of s.c
     again : (x : Kept) → x.version ≡ version before → IsAgain p s (style_after p h) r [] k x → IsCleanAgain p r k before
     again x number m =
         let fronts = same_front m.first (changes_after before) m.later since.later (sym m.split ∙ (saved.updates_are ∙ since.changes_are)) (m.long ∙ (number ∙ sym (as_many before))) in
-        let same : data_after m.again ≡ data_after before = m.data_are ∙ (ap (map number_of) fronts.0 ∙ sym (data_changes before)) in
+        let same : data_after m.again ≡ data_after before = m.data_are ∙ (ap (map past_number) fronts.0 ∙ sym (data_changes before)) in
         record { again = m.again; is_shown = m.is_shown; is_untouched = m.is_untouched; same_version = ap length same; same_data = same; same_style = m.style_is ∙ since.same_style }
 
     -- all versions that are kept were passed
@@ -499,7 +499,7 @@ nothing_else p h s n all r saved i k unclean = go (kept_of s.clean k) refl
 pub resumed : LawResumed
 resumed p told h s workers room legal saved = record {
   legal = λ over. (ended_replay p told h s workers room legal saved over).2.quiet.legal;
-  same_data = e.2.data_are ∙ (ap (map number_of) (sym (append-nil e.1) ∙ (sym e.2.split ∙ saved.updates_are)) ∙ sym (data_changes h));
+  same_data = e.2.data_are ∙ (ap (map past_number) (sym (append-nil e.1) ∙ (sym e.2.split ∙ saved.updates_are)) ∙ sym (data_changes h));
   clean_again = clean_again p told h s e.0 e.1 (replay p s) legal saved e.2;
   nothing_else = nothing_else p h s e.0 e.1 (replay p s) saved e.2;
 }

@@ -12,35 +12,35 @@ use Rattle.farm_history.specs.Entries.{Entry, Claim, Update, Renew, Restyle}
 use Rattle.farm_history.specs.Plans.{Plan, holds, is_style_of}
 use Rattle.farm_history.specs.Past.{data_after, version, style_after, shown, touches, is_touched_after}
 use Rattle.farm_history.specs.Rules.{Fits, Legal}
-use Rattle.farm_history.specs.Replays.{changes_after, number_of}
+use Rattle.farm_history.specs.Replays.{changes_after, past_number}
 use Rattle.farm_history.proofs.Sounds.{shown_drawn}
 
 -- the data are the numbers of the changes
-pub data_changes : (h : List Entry) → data_after h ≡ map number_of (changes_after h)
+pub data_changes : (h : List Entry) → data_after h ≡ map past_number (changes_after h)
 unfolding data_after changes_after
 data_changes [] = refl
-data_changes (Update n (Updated.Version v) ∷ g) = ap (λ xs. xs ++ n ∷ []) (data_changes g) ∙ sym (map-append number_of (changes_after g) (Past.Update n ∷ []))
+data_changes (Update n (Updated.Version v) ∷ g) = ap (λ xs. xs ++ n ∷ []) (data_changes g) ∙ sym (map-append past_number (changes_after g) (Past.Update n ∷ []))
 data_changes (Update n _ ∷ g) = data_changes g
-data_changes (Renew n (Renewed.Version v count) ∷ g) = ap (λ xs. xs ++ n ∷ []) (data_changes g) ∙ sym (map-append number_of (changes_after g) (Past.Renew n ∷ []))
+data_changes (Renew n (Renewed.Version v count) ∷ g) = ap (λ xs. xs ++ n ∷ []) (data_changes g) ∙ sym (map-append past_number (changes_after g) (Past.Renew n ∷ []))
 data_changes (Renew n _ ∷ g) = data_changes g
 data_changes (_ ∷ g) = data_changes g
 
 -- P holds of each change and of the data before it
 abbrev pub Along : (List ℕ → Past → Type 0) → List ℕ → List Past → Type 0
 Along P known [] = Unit {0}
-Along P known (c ∷ cs) = P known c × Along P (known ++ number_of c ∷ []) cs
+Along P known (c ∷ cs) = P known c × Along P (known ++ past_number c ∷ []) cs
 
-pub along-append : (P : List ℕ → Past → Type 0) (known : List ℕ) (cs : List Past) (c : Past) → Along P known cs → P (known ++ map number_of cs) c → Along P known (cs ++ c ∷ [])
+pub along-append : (P : List ℕ → Past → Type 0) (known : List ℕ) (cs : List Past) (c : Past) → Along P known cs → P (known ++ map past_number cs) c → Along P known (cs ++ c ∷ [])
 along-append P known [] c along here = (subst (λ xs. P xs c) (append-nil known) here, tt)
 along-append P known (d ∷ cs) c along here =
-    (along.0, along-append P (known ++ number_of d ∷ []) cs c along.1 (subst (λ xs. P xs c) (sym (append_assoc known (number_of d ∷ []) (map number_of cs))) here))
+    (along.0, along-append P (known ++ past_number d ∷ []) cs c along.1 (subst (λ xs. P xs c) (sym (append_assoc known (past_number d ∷ []) (map past_number cs))) here))
 
 -- Changes that fit.
 
 -- the table has the change's update, and it has no fault over the data
 pub record ChangeFits (p : Plan) (known : List ℕ) (c : Past) : Type 0 where
-  pub in_table : number_of c < p.updates
-  pub no_fault : p.fault known (number_of c) ≡ None
+  pub in_table : past_number c < p.updates
+  pub no_fault : p.fault known (past_number c) ≡ None
 
 pub changes_fit : (p : Plan) (told : Bool) (h : List Entry) → Legal p told h → Along (ChangeFits p) [] (changes_after h)
 unfolding Fits changes_after
@@ -69,8 +69,8 @@ pub record IsSince (p : Plan) (k : Key) (h before : List Entry) : Type 0 where
 since_none : (p : Plan) (k : Key) (before : List Entry) → IsSince p k before before
 since_none p k before = record { later = []; changes_are = sym (append-nil (changes_after before)); passed = tt; same_style = refl }
 
-data_since : (p : Plan) (k : Key) (h before : List Entry) (s : IsSince p k h before) → data_after h ≡ data_after before ++ map number_of s.later
-data_since p k h before s = data_changes h ∙ (ap (map number_of) s.changes_are ∙ (map-append number_of (changes_after before) s.later ∙ ap (λ xs. xs ++ map number_of s.later) (sym (data_changes before))))
+data_since : (p : Plan) (k : Key) (h before : List Entry) (s : IsSince p k h before) → data_after h ≡ data_after before ++ map past_number s.later
+data_since p k h before s = data_changes h ∙ (ap (map past_number) s.changes_are ∙ (map-append past_number (changes_after before) s.later ∙ ap (λ xs. xs ++ map past_number s.later) (sym (data_changes before))))
 
 since_step : (p : Plan) (k : Key) (e : Entry) (g before : List Entry) → touches p g e k ≡ false → IsSince p k g before → IsSince p k (e ∷ g) before
 unfolding changes_after style_after

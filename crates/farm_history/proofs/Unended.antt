@@ -14,8 +14,8 @@ use Rattle.farm_history.specs.Lists.{Each}
 use Rattle.farm_history.specs.Entries.{Entry, Ask, Finish, Collect, Leave}
 use Rattle.farm_history.specs.Plans.{same_key, key_of}
 use Rattle.farm_history.specs.Past.{Flight, flights, flight_in, finishes, is_on, Numbered, number_in, with_ask, without_conn, open_asks, is_ended_after}
-use Rattle.farm_history.specs.Laws.{asked}
-use Rattle.farm_history.specs.Seen.{has_no_end, unended, is_waiter, waiter_of, asks_on, chain_after, outbox}
+use Rattle.farm_history.specs.Laws.{ask_numbered}
+use Rattle.farm_history.specs.Seen.{has_no_end, waiting_asks, is_waiter, waiter_of, asks_on, chain_after, outbox}
 use Rattle.farm_history.proofs.Lists.{same_key-sym, each-all, each-map, map-filter, filter-append, filter-agree, filter-filter}
 use Rattle.farm_history.proofs.OneReply.{IsOpen}
 use Rattle.farm_history.proofs.Replies.{IsReplyIn}
@@ -24,20 +24,20 @@ use Rattle.farm_history.proofs.Opens.{count-filter, count-either, count_replies}
 
 -- Of any list that keeps the asks that wait, each with its key and its waiter, those on a key are the key's chain.
 pub chain_joined : {X : Type 0} (kept : Numbered → X) (key : X → Key) (waiter : X → Waiter) (xs : List X) (h : List Entry) (k : Key) →
-    ((a : Numbered) → key (kept a) ≡ a.key) → ((a : Numbered) → waiter (kept a) ≡ waiter_of a) → xs ≡ map kept (unended h) → map waiter (filter (λ x. same_key (key x) k) xs) ≡ chain_after h k
+    ((a : Numbered) → key (kept a) ≡ a.key) → ((a : Numbered) → waiter (kept a) ≡ waiter_of a) → xs ≡ map kept (waiting_asks h) → map waiter (filter (λ x. same_key (key x) k) xs) ≡ chain_after h k
 chain_joined kept key waiter xs h k keys waiters are =
     ap (λ ys. map waiter (filter (λ x. same_key (key x) k) ys)) are
-    ∙ (ap (map waiter) (sym (map-filter kept (λ a. same_key a.key k) (λ x. same_key (key x) k) (unended h) (λ a. ap (λ j. same_key j k) (keys a))))
-    ∙ (map-map kept waiter (filter (λ a. same_key a.key k) (unended h))
-    ∙ (ap (λ f. map f (filter (λ a. same_key a.key k) (unended h))) (λ i a. waiters a i)
+    ∙ (ap (map waiter) (sym (map-filter kept (λ a. same_key a.key k) (λ x. same_key (key x) k) (waiting_asks h) (λ a. ap (λ j. same_key j k) (keys a))))
+    ∙ (map-map kept waiter (filter (λ a. same_key a.key k) (waiting_asks h))
+    ∙ (ap (λ f. map f (filter (λ a. same_key a.key k) (waiting_asks h))) (λ i a. waiters a i)
     ∙ ap (map waiter_of) (filter-filter (λ a. same_key a.key k) (has_no_end h) (open_asks h) ∙ filter-agree _ (is_waiter h k) (open_asks h) (each-all _ (open_asks h) (λ a. grind arith))))))
 
 -- an ask with a number comes last
 pub unended_ask : (conn : Conn) (command : Cmd) (spot : Spot) (answer : AskAnswer) (g : List Entry) (n : ℕ) → number_in answer ≡ Some n →
-    unended (Ask conn command spot answer ∷ g) ≡ unended g ++ record { conn = conn; number = n; key = key_of spot; before = g } ∷ []
+    waiting_asks (Ask conn command spot answer ∷ g) ≡ waiting_asks g ++ record { conn = conn; number = n; key = key_of spot; before = g } ∷ []
 unfolding open_asks is_ended_after
 unended_ask conn command spot answer g n is =
-    ap (λ o. filter (has_no_end g) (with_ask o conn (key_of spot) g (open_asks g))) is ∙ (filter-append (has_no_end g) (open_asks g) (a ∷ []) ∙ ap (λ xs. unended g ++ xs) last)
+    ap (λ o. filter (has_no_end g) (with_ask o conn (key_of spot) g (open_asks g))) is ∙ (filter-append (has_no_end g) (open_asks g) (a ∷ []) ∙ ap (λ xs. waiting_asks g ++ xs) last)
   where
     a : Numbered
     a = record { conn = conn; number = n; key = key_of spot; before = g }
@@ -46,17 +46,17 @@ unended_ask conn command spot answer g n is =
     last = ap (λ b. cond (not b) (a ∷ []) []) (ended_never g (length g) (key_of spot) (omega arith))
 
 -- one without changes nothing
-pub unended_unnumbered : (conn : Conn) (command : Cmd) (spot : Spot) (answer : AskAnswer) (g : List Entry) → number_in answer ≡ None → unended (Ask conn command spot answer ∷ g) ≡ unended g
+pub unended_unnumbered : (conn : Conn) (command : Cmd) (spot : Spot) (answer : AskAnswer) (g : List Entry) → number_in answer ≡ None → waiting_asks (Ask conn command spot answer ∷ g) ≡ waiting_asks g
 unfolding open_asks is_ended_after
 unended_unnumbered conn command spot answer g is = ap (λ o. filter (has_no_end g) (with_ask o conn (key_of spot) g (open_asks g))) is
 
 -- a Leave takes its connection out
-pub unended_leave : (conn : Conn) (count : ℕ) (g : List Entry) → unended (Leave conn count ∷ g) ≡ without_conn conn (unended g)
+pub unended_leave : (conn : Conn) (count : ℕ) (g : List Entry) → waiting_asks (Leave conn count ∷ g) ≡ without_conn conn (waiting_asks g)
 unfolding open_asks is_ended_after
 unended_leave conn count g = filter_swap (has_no_end g) _ (open_asks g)
 
 -- a Finish takes out those on its key
-pub unended_finish : (t : ℕ) (drawn : Bool) (answer : Finished) (g : List Entry) (f : Flight) → flight_in (flights g) t ≡ Some f → unended (Finish t drawn answer ∷ g) ≡ filter (λ a. not (same_key a.key f.key)) (unended g)
+pub unended_finish : (t : ℕ) (drawn : Bool) (answer : Finished) (g : List Entry) (f : Flight) → flight_in (flights g) t ≡ Some f → waiting_asks (Finish t drawn answer ∷ g) ≡ filter (λ a. not (same_key a.key f.key)) (waiting_asks g)
 unfolding open_asks
 unended_finish t drawn answer g f is = filter-agree (has_no_end (e ∷ g)) _ (open_asks g) (each-map _ _ (open_asks g) same (asks_earlier g)) ∙ sym (filter-filter (λ a. not (same_key a.key f.key)) (has_no_end g) (open_asks g))
   where
@@ -71,7 +71,7 @@ unended_finish t drawn answer g f is = filter-agree (has_no_end (e ∷ g)) _ (op
         grind arith
 
 -- a Collect takes nothing out: the ask of its reply has ended
-pub unended_reply : (front : ℕ) (r : Reply) (g : List Entry) → Each (IsOpen g) (open_asks g) → IsReplyIn (IsOpen g) g r → unended (Collect front (Collected.Reply r) ∷ g) ≡ unended g
+pub unended_reply : (front : ℕ) (r : Reply) (g : List Entry) → Each (IsOpen g) (open_asks g) → IsReplyIn (IsOpen g) g r → waiting_asks (Collect front (Collected.Reply r) ∷ g) ≡ waiting_asks g
 unfolding open_asks is_ended_after
 unended_reply front r g opens given =
     filter_swap (has_no_end g) _ (open_asks g) ∙ (filter-filter _ (has_no_end g) (open_asks g) ∙ filter-agree _ (has_no_end g) (open_asks g) (each-map _ _ (open_asks g) same opens))
@@ -80,7 +80,7 @@ unended_reply front r g opens given =
     only : (a : Numbered) → IsOpen g a → (a.number == r.ask) ≡ true → a ≡ given.ask
     only a o equal =
         let number : a.number ≡ r.ask = grind (arith, nat_tests) in
-        let found : Some a ≡ Some given.ask = sym o.is_asked ∙ (ap (asked g) (number ∙ given.number_is) ∙ given.holds.is_asked) in
+        let found : Some a ≡ Some given.ask = sym o.is_asked ∙ (ap (ask_numbered g) (number ∙ given.number_is) ∙ given.holds.is_asked) in
         cc
 
     same : (a : Numbered) → IsOpen g a → has_no_end g a && not (a.number == r.ask) ≡ has_no_end g a
@@ -91,11 +91,11 @@ unended_reply front r g opens given =
         go false other = grind arith
 
 -- Of the open asks whose connection passes, each waits or has a reply that waits.
-pub open_split : (q : Conn → Bool) (h : List Entry) → count_by (λ a. q a.conn) (open_asks h) ≡ count_by (λ a. q a.conn) (unended h) + count_by (λ r. q r.conn) (outbox h)
+pub open_split : (q : Conn → Bool) (h : List Entry) → count_by (λ a. q a.conn) (open_asks h) ≡ count_by (λ a. q a.conn) (waiting_asks h) + count_by (λ r. q r.conn) (outbox h)
 open_split q h =
     count-either (λ a. q a.conn) (λ a. has_no_end h a && q a.conn) (λ a. q a.conn && is_ended_after h (length a.before) a.key) (open_asks h) (each-all _ (open_asks h) (λ a. (grind arith, grind arith)))
     ∙ ap₂ (λ m n. m + n) (sym (count-filter (λ a. q a.conn) (has_no_end h) (open_asks h))) (sym (count_replies q (open_asks h) h))
 
 -- a Finish leaves the others; how many wait for its key is how many replies it gives
-pub still_unended : (h : List Entry) (k : Key) → asks_on h k ≡ filter (λ a. same_key a.key k) (unended h)
+pub still_unended : (h : List Entry) (k : Key) → asks_on h k ≡ filter (λ a. same_key a.key k) (waiting_asks h)
 still_unended h k = sym (filter-filter (λ a. same_key a.key k) (has_no_end h) (open_asks h) ∙ filter-agree _ (is_waiter h k) (open_asks h) (each-all _ (open_asks h) (λ a. grind arith)))

@@ -8,7 +8,7 @@ use Rattle.farm_history.specs.declared.answers.Restyled.TheVariants.{Styled}
 use Rattle.farm_history.specs.Entries.{Entry, Restyle}
 use Rattle.farm_history.specs.Plans.{Plan, key_of}
 use Rattle.farm_history.specs.Past.{flights, jobs, Numbered, numbers}
-use Rattle.farm_history.specs.Laws.{asked}
+use Rattle.farm_history.specs.Laws.{ask_numbered}
 use Rattle.farm_history.specs.Replays.{Saving, replay_front, replayer, lowest, replay_styles, replay_key, replay_keys, replay_change, replay_from, replay}
 use Rattle.farm_history.proofs.Lists.{each-all}
 use Rattle.farm_history.proofs.Opens.{count-either}
@@ -17,16 +17,16 @@ use Rattle.farm_history.proofs.Counts.{count-cons}
 -- what a replay keeps of a history
 record Rests (g : List Entry) : Type 0 where
   unflown : flights g ≡ []
-  asks : (m : ℕ) (a : Numbered) → asked g m ≡ Some a → a.conn.front ≡ replay_front
+  asks : (m : ℕ) (a : Numbered) → ask_numbered g m ≡ Some a → a.conn.front ≡ replay_front
 
 rests_styles : (styles : List (Option ℕ)) (g : List Entry) → Rests g → Rests (replay_styles styles g)
-unfolding replay_styles flights asked
+unfolding replay_styles flights ask_numbered
 rests_styles [] g r = r
 rests_styles (None ∷ styles) g r = rests_styles styles g r
 rests_styles (Some n ∷ styles) g r = rests_styles styles _ (record { unflown = r.unflown; asks = r.asks })
 
 rests_key : (k : Key) (g : List Entry) → Rests g → Rests (replay_key k g)
-unfolding flights asked
+unfolding flights ask_numbered
 rests_key k g r = record {
   unflown = let own : (jobs g == jobs g) ≡ true = grind (arith, nat_tests) in rw (r.unflown, own) refl;
   asks = λ m a is. go m a (numbers g == m) is;
@@ -35,7 +35,7 @@ rests_key k g r = record {
     new : ℕ → Numbered
     new m = record { conn = replayer; number = numbers g; key = key_of (lowest k); before = g }
 
-    go : (m : ℕ) (a : Numbered) (b : Bool) → cond b (Some (new m)) (asked g m) ≡ Some a → a.conn.front ≡ replay_front
+    go : (m : ℕ) (a : Numbered) (b : Bool) → cond b (Some (new m)) (ask_numbered g m) ≡ Some a → a.conn.front ≡ replay_front
     go m a true is = let same : new m ≡ a = cc in sym (ap (λ (x : Numbered). x.conn.front) same)
     go m a false is = r.asks m a is
 
@@ -49,7 +49,7 @@ rests_keys v (x ∷ xs) g r = rests_keys v xs _ (go (x.version == v))
     go false = r
 
 rests_change : (p : Plan) (c : Past) (g : List Entry) → Rests g → Rests (replay_change p c g)
-unfolding flights asked
+unfolding flights ask_numbered
 rests_change p (Past.Update n) g r = record { unflown = r.unflown; asks = r.asks }
 rests_change p (Past.Renew n) g r = record { unflown = r.unflown; asks = r.asks }
 
@@ -59,7 +59,7 @@ rests_from p kept v [] g r = rests_keys v kept g r
 rests_from p kept v (c ∷ cs) g r = rests_from p kept (v + 1) cs _ (rests_change p c _ (rests_keys v kept g r))
 
 rests_none : Rests []
-unfolding flights asked
+unfolding flights ask_numbered
 rests_none = record { unflown = refl; asks = λ m a is. cc }
 
 rests : (p : Plan) (s : Saving) → Rests (replay p s)
@@ -70,7 +70,7 @@ pub replay_unflown : (p : Plan) (s : Saving) → flights (replay p s) ≡ []
 replay_unflown p s = (rests p s).unflown
 
 -- and each of its asks is of the replay's own front
-pub replay_asks : (p : Plan) (s : Saving) (m : ℕ) (a : Numbered) → asked (replay p s) m ≡ Some a → a.conn.front ≡ replay_front
+pub replay_asks : (p : Plan) (s : Saving) (m : ℕ) (a : Numbered) → ask_numbered (replay p s) m ≡ Some a → a.conn.front ≡ replay_front
 replay_asks p s m a is = (rests p s).asks m a is
 
 -- Its length.

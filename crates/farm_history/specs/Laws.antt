@@ -150,10 +150,10 @@ asked_here None n conn k g otherwise = otherwise
 asked_here (Some m) n conn k g otherwise = if m == n then Some (record { conn = conn; number = m; key = k; before = g }) else otherwise
 
 -- the ask that was given that number
-unfoldable pub asked : List Entry → ℕ → Option Numbered
-asked [] n = None
-asked (Ask conn command spot answer ∷ g) n = asked_here (number_in answer) n conn (key_of spot) g (asked g n)
-asked (_ ∷ g) n = asked g n
+unfoldable pub ask_numbered : List Entry → ℕ → Option Numbered
+ask_numbered [] n = None
+ask_numbered (Ask conn command spot answer ∷ g) n = asked_here (number_in answer) n conn (key_of spot) g (ask_numbered g n)
+ask_numbered (_ ∷ g) n = ask_numbered g n
 
 -- whether a Leave of the connection stands after that place
 unfoldable pub is_left_after : List Entry → ℕ → Conn → Bool
@@ -170,7 +170,7 @@ is_replied (_ ∷ g) n = is_replied g n
 -- the reply is that of an ask before it, of the asker's connection; no earlier reply has its number, and no Leave of the connection stands after the ask
 pub record IsOnlyReply (h : List Entry) (r : Reply) : Type 0 where
   pub ask : Numbered
-  pub is_asked : asked h r.ask ≡ Some ask
+  pub is_asked : ask_numbered h r.ask ≡ Some ask
   pub same_asker : r.conn ≡ ask.conn
   pub is_first : is_replied h r.ask ≡ false
   pub not_left : is_left_after h (length ask.before) ask.conn ≡ false
@@ -178,7 +178,7 @@ pub record IsOnlyReply (h : List Entry) (r : Reply) : Type 0 where
 -- no earlier ask was given that number
 abbrev pub IsNewNumber : List Entry → Option ℕ → Type 0
 IsNewNumber g None = Unit {0}
-IsNewNumber g (Some n) = asked g n ≡ None
+IsNewNumber g (Some n) = ask_numbered g n ≡ None
 
 -- where the entry is an ask with a number, the number is new; where it collects a reply, that is the only one to its ask
 abbrev pub OneReplyAt : List Entry → Entry → Type 0

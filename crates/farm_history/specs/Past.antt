@@ -253,8 +253,8 @@ replies_to asks (Finish t drawn answer ∷ g) = replies_to asks g ++ map (reply_
 replies_to asks (_ ∷ g) = replies_to asks g
 
 -- the replies to a front's open asks that have an End, in order
-abbrev pub ended : List Entry → ℕ → List Reply
-ended h front = replies_to (filter (λ a. a.conn.front == front) (open_asks h)) h
+abbrev pub due_replies : List Entry → ℕ → List Reply
+due_replies h front = replies_to (filter (λ a. a.conn.front == front) (open_asks h)) h
 
 -- how many asks had a render command, whatever they were answered
 unfoldable pub asks_made : List Entry → ℕ

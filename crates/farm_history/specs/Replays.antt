@@ -30,9 +30,9 @@ changes_after (Renew n (Renewed.Version v count) ∷ g) = changes_after g ++ Pas
 changes_after (_ ∷ g) = changes_after g
 
 -- the number of an update
-abbrev pub number_of : Past → ℕ
-number_of (Past.Update n) = n
-number_of (Past.Renew n) = n
+abbrev pub past_number : Past → ℕ
+past_number (Past.Update n) = n
+past_number (Past.Renew n) = n
 
 -- what is saved: for each map the number of its last style, or none; the updates that succeeded; the clean keys with their versions
 pub record Saving : Type 0 where

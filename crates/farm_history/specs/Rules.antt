@@ -25,7 +25,7 @@ use Rattle.farm_history.specs.declared.answers.Collected.{Collected}
 use Rattle.farm_history.specs.declared.answers.Collected.TheVariants.{Empty}
 use Rattle.farm_history.specs.Entries.{Entry, Ask, Claim, Finish, Update, Renew, Restyle, Expire, Fetch, Look, Collect, Leave, Stop, Tally, EachMoment}
 use Rattle.farm_history.specs.Plans.{Plan, Waits, key_of, is_servable, overlaps, is_style_of, is_dirty_command, is_lifting, own_queue, waits_in_queue, has_room, next}
-use Rattle.farm_history.specs.Past.{Flight, is_stopped, data_after, version, drawn_after, flights, flight_in, flies, jobs, shown, is_touched_after, is_clean, clean_count, is_overtaken, waiting, waits, numbers, open_asks, how_many_of, ended, totals}
+use Rattle.farm_history.specs.Past.{Flight, is_stopped, data_after, version, drawn_after, flights, flight_in, flies, jobs, shown, is_touched_after, is_clean, clean_count, is_overtaken, waiting, waits, numbers, open_asks, how_many_of, due_replies, totals}
 
 -- Asks with a render command. The queues, and that an ask whose own queue is full goes to the dirty queue, are renderd's; all other lines, and the limits, are this farm's own rule.
 
@@ -189,7 +189,7 @@ collect_from (r ∷ rs) stopped = Collected.Reply r
 
 -- what a Collect is answered
 abbrev pub collect_rule : List Entry → ℕ → Collected
-collect_rule g front = collect_from (ended g front) (is_stopped g)
+collect_rule g front = collect_from (due_replies g front) (is_stopped g)
 
 -- the entry has the answer that the entries before it give it. `told` says that the store tells its content
 unfoldable pub Fits : Plan → Bool → List Entry → Entry → Type 0

@@ -56,8 +56,8 @@ abbrev pub has_no_end : List Entry → Numbered → Bool
 has_no_end h a = not (is_ended_after h (length a.before) a.key)
 
 -- the open asks that wait, of whatever key, in order
-abbrev pub unended : List Entry → List Numbered
-unended h = filter (has_no_end h) (open_asks h)
+abbrev pub waiting_asks : List Entry → List Numbered
+waiting_asks h = filter (has_no_end h) (open_asks h)
 
 -- whether an open ask waits for the key: it is on the key and has no End
 abbrev pub is_waiter : List Entry → Key → Numbered → Bool

@@ -5,7 +5,7 @@ use Rattle.std.specs.Str.{bytes_eq}
 use Rattle.std.proofs.lemmas.Bool.Decides.{nat_tests}
 use Rattle.farm_base.specs.declared.faults.ApplyFault.{ApplyFault}
 use Rattle.plain_data.specs.Features.{Feature, Layer}
-use Rattle.plain_data.specs.Data.{Change, has_id, ids_of, kept, last_put, replaced, added, with_change, changed_layer, changed, change_fault, unless, changed_from, updated}
+use Rattle.plain_data.specs.Data.{Change, has_id, ids_of, without_ids, last_put, puts_in_place, put_features, with_change, changed_layer, layers_after, change_fault, unless, changed_from, update_result}
 use Rattle.farm_history.specs.Lists.{Each}
 use Rattle.farm_history.proofs.Lists.{each-join, each-over, each-filter, each-map, filter-append, filter-agree, filter-filter, filter-none}
 use Rattle.farm_plan.specs.Drawings.{features_in, names_id, named_by, named}
@@ -29,29 +29,29 @@ last_put_none (f ∷ later) id other h =
     let rest : has_id (ids_of later) id ≡ false = grind arith in
     ap (λ b. cond b (last_put later id f) (last_put later id other)) apart ∙ last_put_none later id other rest
 
-added_each : (P : Feature → Type 0) (held : List ℕ) (puts : List Feature) → Each P puts → Each P (added held puts)
+added_each : (P : Feature → Type 0) (held : List ℕ) (puts : List Feature) → Each P puts → Each P (put_features held puts)
 added_each P held [] each = tt
 added_each P held (f ∷ later) each =
     go (has_id held f.id) (added_each P held later each.1) (last_put_each P later f.id f each.1 each.0, added_each P (f.id ∷ held) later each.1)
   where
-    go : (b : Bool) → Each P (added held later) → Each P (last_put later f.id f ∷ added (f.id ∷ held) later) →
-        Each P (cond b (added held later) (last_put later f.id f ∷ added (f.id ∷ held) later))
+    go : (b : Bool) → Each P (put_features held later) → Each P (last_put later f.id f ∷ put_features (f.id ∷ held) later) →
+        Each P (cond b (put_features held later) (last_put later f.id f ∷ put_features (f.id ∷ held) later))
     go true x y = x
     go false x y = y
 
 -- what all of a layer's features and all puts of a change keep is kept by the layer after it
 pub change_each : (P : Feature → Type 0) (c : Change) (features : List Feature) → Each P features → Each P c.put → Each P (with_change c features)
 change_each P c features old puts =
-    each-join P (replaced c.put (kept c.remove features)) (added (ids_of (kept c.remove features)) c.put)
-    (each-over (λ f. last_put c.put f.id f) P P (kept c.remove features) (λ f h. last_put_each P c.put f.id f puts h) (each-filter P (λ f. not (has_id c.remove f.id)) features old))
-    (added_each P (ids_of (kept c.remove features)) c.put puts)
+    each-join P (puts_in_place c.put (without_ids c.remove features)) (put_features (ids_of (without_ids c.remove features)) c.put)
+    (each-over (λ f. last_put c.put f.id f) P P (without_ids c.remove features) (λ f h. last_put_each P c.put f.id f puts h) (each-filter P (λ f. not (has_id c.remove f.id)) features old))
+    (added_each P (ids_of (without_ids c.remove features)) c.put puts)
 
 -- the test fails at each of the features that the change names, and at each that it puts
 pub record IsOff (q : Feature → Bool) (features : List Feature) (c : Change) : Type 0 where
   pub old : Each (λ f. names_id c f.id ≡ true → q f ≡ false) features
   pub puts : Each (λ f. q f ≡ false) c.put
 
-kept_same : (q : Feature → Bool) (c : Change) (features : List Feature) → Each (λ f. names_id c f.id ≡ true → q f ≡ false) features → filter q (kept c.remove features) ≡ filter q features
+kept_same : (q : Feature → Bool) (c : Change) (features : List Feature) → Each (λ f. names_id c f.id ≡ true → q f ≡ false) features → filter q (without_ids c.remove features) ≡ filter q features
 kept_same q c features off =
     filter-filter q (λ f. not (has_id c.remove f.id)) features
     ∙ filter-agree (λ f. not (has_id c.remove f.id) && q f) q features
@@ -61,29 +61,29 @@ kept_same q c features off =
     go true b d h = sym (h refl)
     go false b d h = refl
 
-replaced_same : (q : Feature → Bool) (c : Change) (features : List Feature) → Each (λ f. names_id c f.id ≡ true → q f ≡ false) features → Each (λ f. q f ≡ false) c.put → filter q (replaced c.put features) ≡ filter q features
+replaced_same : (q : Feature → Bool) (c : Change) (features : List Feature) → Each (λ f. names_id c f.id ≡ true → q f ≡ false) features → Each (λ f. q f ≡ false) c.put → filter q (puts_in_place c.put features) ≡ filter q features
 replaced_same q c [] off puts = refl
 replaced_same q c (f ∷ fs) off puts = go (has_id (ids_of c.put) f.id) refl (replaced_same q c fs off.1 puts)
   where
     named_put : has_id (ids_of c.put) f.id ≡ true → q f ≡ false
     named_put h = off.0 (grind arith)
 
-    go : (b : Bool) → has_id (ids_of c.put) f.id ≡ b → filter q (replaced c.put fs) ≡ filter q fs → filter q (last_put c.put f.id f ∷ replaced c.put fs) ≡ filter q (f ∷ fs)
+    go : (b : Bool) → has_id (ids_of c.put) f.id ≡ b → filter q (puts_in_place c.put fs) ≡ filter q fs → filter q (last_put c.put f.id f ∷ puts_in_place c.put fs) ≡ filter q (f ∷ fs)
     go true is ih =
         let new : q (last_put c.put f.id f) ≡ false = last_put_each (λ x. q x ≡ false) c.put f.id f puts (named_put is) in
-        ap (λ b. cond b (last_put c.put f.id f ∷ filter q (replaced c.put fs)) (filter q (replaced c.put fs))) new
+        ap (λ b. cond b (last_put c.put f.id f ∷ filter q (puts_in_place c.put fs)) (filter q (puts_in_place c.put fs))) new
         ∙ ih ∙ sym (ap (λ b. cond b (f ∷ filter q fs) (filter q fs)) (named_put is))
     go false is ih =
-        ap (λ x. filter q (x ∷ replaced c.put fs)) (last_put_none c.put f.id f is)
+        ap (λ x. filter q (x ∷ puts_in_place c.put fs)) (last_put_none c.put f.id f is)
         ∙ ap (λ zs. cond (q f) (f ∷ zs) zs) ih
 
 -- a layer has after a change the same features that pass a test which fails at all that the change names
 pub change_same : (q : Feature → Bool) (c : Change) (features : List Feature) → IsOff q features c → filter q (with_change c features) ≡ filter q features
 change_same q c features off =
-    filter-append q (replaced c.put (kept c.remove features)) (added (ids_of (kept c.remove features)) c.put)
-    ∙ ap (λ zs. filter q (replaced c.put (kept c.remove features)) ++ zs) (filter-none q _ (added_each (λ f. q f ≡ false) (ids_of (kept c.remove features)) c.put off.puts))
-    ∙ no_more (filter q (replaced c.put (kept c.remove features)))
-    ∙ replaced_same q c (kept c.remove features) (each-filter (λ f. names_id c f.id ≡ true → q f ≡ false) (λ f. not (has_id c.remove f.id)) features off.old) off.puts
+    filter-append q (puts_in_place c.put (without_ids c.remove features)) (put_features (ids_of (without_ids c.remove features)) c.put)
+    ∙ ap (λ zs. filter q (puts_in_place c.put (without_ids c.remove features)) ++ zs) (filter-none q _ (added_each (λ f. q f ≡ false) (ids_of (without_ids c.remove features)) c.put off.puts))
+    ∙ no_more (filter q (puts_in_place c.put (without_ids c.remove features)))
+    ∙ replaced_same q c (without_ids c.remove features) (each-filter (λ f. names_id c f.id ≡ true → q f ≡ false) (λ f. not (has_id c.remove f.id)) features off.old) off.puts
     ∙ kept_same q c features off.old
   where
     no_more : (xs : List Feature) → xs ++ [] ≡ xs
@@ -98,7 +98,7 @@ picked b l layers name = unwrap_or (option_map (λ k. k.features) (cond b (Some 
 
 -- what holds between a layer and itself, and between the changed layer before and after, holds between each name's layer before and after
 changed_in : (R : List Feature → List Feature → Type 0) (c : Change) (name : List ℕ) (layers : List Layer) → ((fs : List Feature) → R fs fs) →
-    R (features_in layers c.layer) (with_change c (features_in layers c.layer)) → R (features_in layers name) (features_in (changed c layers) name)
+    R (features_in layers c.layer) (with_change c (features_in layers c.layer)) → R (features_in layers name) (features_in (layers_after c layers) name)
 changed_in R c name [] same step = same []
 changed_in R c name (l ∷ ls) same step = go (bytes_eq l.name c.layer) (λ s. changed_in R c name ls same s) step
   where
@@ -106,21 +106,21 @@ changed_in R c name (l ∷ ls) same step = go (bytes_eq l.name c.layer) (λ s. c
     first true s = s
     first false s = same (picked false l ls name)
 
-    later : (b : Bool) → R (features_in ls name) (features_in (changed c ls) name) → R (picked b l ls name) (picked b l (changed c ls) name)
+    later : (b : Bool) → R (features_in ls name) (features_in (layers_after c ls) name) → R (picked b l ls name) (picked b l (layers_after c ls) name)
     later true s = same l.features
     later false s = s
 
-    go : (b : Bool) → (R (features_in ls c.layer) (with_change c (features_in ls c.layer)) → R (features_in ls name) (features_in (changed c ls) name)) →
+    go : (b : Bool) → (R (features_in ls c.layer) (with_change c (features_in ls c.layer)) → R (features_in ls name) (features_in (layers_after c ls) name)) →
         R (picked b l ls c.layer) (with_change c (picked b l ls c.layer)) →
-        R (features_in (l ∷ ls) name) (features_in (cond b (changed_layer c l ∷ ls) (l ∷ changed c ls)) name)
+        R (features_in (l ∷ ls) name) (features_in (cond b (changed_layer c l ∷ ls) (l ∷ layers_after c ls)) name)
     go true ih s = first (bytes_eq l.name name) s
     go false ih s = later (bytes_eq l.name name) (ih s)
 
-pub changed_each : (P : Feature → Type 0) (c : Change) (name : List ℕ) (layers : List Layer) → Each P c.put → Each P (features_in layers name) → Each P (features_in (changed c layers) name)
+pub changed_each : (P : Feature → Type 0) (c : Change) (name : List ℕ) (layers : List Layer) → Each P c.put → Each P (features_in layers name) → Each P (features_in (layers_after c layers) name)
 changed_each P c name layers puts old =
     changed_in (λ fs gs. Each P fs → Each P gs) c name layers (λ fs h. h) (λ h. change_each P c (features_in layers c.layer) h puts) old
 
-pub changed_same : (q : Feature → Bool) (c : Change) (name : List ℕ) (layers : List Layer) → IsOff q (features_in layers c.layer) c → filter q (features_in (changed c layers) name) ≡ filter q (features_in layers name)
+pub changed_same : (q : Feature → Bool) (c : Change) (name : List ℕ) (layers : List Layer) → IsOff q (features_in layers c.layer) c → filter q (features_in (layers_after c layers) name) ≡ filter q (features_in layers name)
 changed_same q c name layers off = changed_in (λ fs gs. filter q gs ≡ filter q fs) c name layers (λ fs. refl) (change_same q c (features_in layers c.layer) off)
 
 -- ---- the changes of an update in order
@@ -130,9 +130,9 @@ abbrev pub AreOff : (Feature → Bool) → List Layer → List Change → Type 0
 AreOff q layers changes = Each (λ c. IsOff q (features_in layers c.layer) c) changes
 
 -- a change whose puts fail the test brings in nothing that a later change could name and that passes
-still_off : (q : Feature → Bool) (c : Change) (layers : List Layer) (later : List Change) → Each (λ f. q f ≡ false) c.put → AreOff q layers later → AreOff q (changed c layers) later
+still_off : (q : Feature → Bool) (c : Change) (layers : List Layer) (later : List Change) → Each (λ f. q f ≡ false) c.put → AreOff q layers later → AreOff q (layers_after c layers) later
 still_off q c layers later puts off =
-    each-map (λ d. IsOff q (features_in layers d.layer) d) (λ d. IsOff q (features_in (changed c layers) d.layer) d) later
+    each-map (λ d. IsOff q (features_in layers d.layer) d) (λ d. IsOff q (features_in (layers_after c layers) d.layer) d) later
     (λ d o. record {
       old = changed_each (λ f. names_id d f.id ≡ true → q f ≡ false) c d.layer layers (each-map (λ f. q f ≡ false) (λ f. names_id d f.id ≡ true → q f ≡ false) c.put (λ f e named. e) puts) o.old;
       puts = o.puts;
@@ -143,16 +143,16 @@ changed_from_same : (q : Feature → Bool) (place : ℕ) (changes : List Change)
 unfolding changed_from
 changed_from_same q place [] layers new is off name = let same : layers ≡ new = cc in ap (λ ls. filter q (features_in ls name)) (sym same)
 changed_from_same q place (c ∷ later) layers new is off name =
-    go (change_fault place c layers) is (λ e. changed_from_same q (place + 1) later (changed c layers) new e (still_off q c layers later off.0.puts off.1) name)
+    go (change_fault place c layers) is (λ e. changed_from_same q (place + 1) later (layers_after c layers) new e (still_off q c layers later off.0.puts off.1) name)
   where
-    go : (o : Option ApplyFault) → unless o (changed_from (place + 1) later (changed c layers)) ≡ Ok new →
-        (changed_from (place + 1) later (changed c layers) ≡ Ok new → filter q (features_in new name) ≡ filter q (features_in (changed c layers) name)) →
+    go : (o : Option ApplyFault) → unless o (changed_from (place + 1) later (layers_after c layers)) ≡ Ok new →
+        (changed_from (place + 1) later (layers_after c layers) ≡ Ok new → filter q (features_in new name) ≡ filter q (features_in (layers_after c layers) name)) →
         filter q (features_in new name) ≡ filter q (features_in layers name)
     go (Some fault) never ih = let e : Err fault ≡ Ok new = never in cc
     go None rest ih = ih rest ∙ changed_same q c name layers off.0
 
 -- each layer has after an update the same features that pass a test which fails at all that the update names
-pub updated_same : (q : Feature → Bool) (changes : List Change) (layers new : List Layer) → updated changes layers ≡ Ok new → AreOff q layers changes →
+pub updated_same : (q : Feature → Bool) (changes : List Change) (layers new : List Layer) → update_result changes layers ≡ Ok new → AreOff q layers changes →
     (name : List ℕ) → filter q (features_in new name) ≡ filter q (features_in layers name)
 updated_same q changes layers new is off name = changed_from_same q 0 changes layers new is off name
 

@@ -14,7 +14,7 @@ use Rattle.plain_world.proofs.Windows.{world_wide}
 use Rattle.plain_shapes.specs.Images.{Pixels}
 use Rattle.plain_shapes.specs.Ppm.{ppm}
 use Rattle.plain_data.specs.Features.{Feature, Layer}
-use Rattle.plain_data.specs.Data.{Change, updated}
+use Rattle.plain_data.specs.Data.{Change, update_result}
 use Rattle.plain_data.specs.Reach.{Reaches, feature_reaches}
 use Rattle.plain_drawing.specs.Styles.{Style, LayerRef, MapStyle, KeepsRanges}
 use Rattle.plain_drawing.specs.Grids.{Grid}
@@ -231,7 +231,7 @@ styled_ranged plan place mp (Some n) ranged is = go (slice_get plan.restyles n) 
 
 -- an update that names no feature which reaches the metatile leaves the metatile's tiles
 updated_tile : (style : MapStyle) (size : ℕ) (t : Tile) (changes : List Change) (layers : List Layer) (result : Result (List Layer) ApplyFault) → IsRanged style → IsTileSize size → IsTile t →
-    updated changes layers ≡ result → any_reaches (named layers changes) size (meta_of t) ≡ false →
+    update_result changes layers ≡ result → any_reaches (named layers changes) size (meta_of t) ≡ false →
     tile_of style size t (kept_or layers result) ≡ tile_of style size t layers
 updated_tile style size t changes layers (Err fault) ranged sizes tile is off = refl
 updated_tile style size t changes layers (Ok new) ranged sizes tile is off =
@@ -257,5 +257,5 @@ local plan valid ranged spot styled numbers n servable off =
     sym (ap (λ (o : Option MapPlan). any_reaches_map (named layers (update_of plan n)) o (meta_of t)) s.is_map) ∙ off in
     ap (λ (o : Option MapPlan). tile_in plan o styled t (data_of plan (numbers ++ n ∷ []))) s.is_map
     ∙ ap (tile_of style s.map.tile t) (data_more plan numbers n)
-    ∙ updated_tile style s.map.tile t (update_of plan n) layers (updated (update_of plan n) layers) (styled_ranged plan (map_of spot) s.map styled ranged s.is_map) s.valid.sized s.tile refl far
+    ∙ updated_tile style s.map.tile t (update_of plan n) layers (update_result (update_of plan n) layers) (styled_ranged plan (map_of spot) s.map styled ranged s.is_map) s.valid.sized s.tile refl far
     ∙ sym (ap (λ (o : Option MapPlan). tile_in plan o styled t layers) s.is_map)

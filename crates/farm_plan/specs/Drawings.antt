@@ -6,7 +6,7 @@ use Rattle.plain_world.specs.declared.world.Tile.{Tile}
 use Rattle.plain_world.specs.declared.world.Meta.{Meta}
 use Rattle.plain_world.specs.World.{meta_square}
 use Rattle.plain_data.specs.Features.{Feature, Layer}
-use Rattle.plain_data.specs.Data.{Change, has_id, ids_of, features_named, updated}
+use Rattle.plain_data.specs.Data.{Change, has_id, ids_of, features_named, update_result}
 use Rattle.plain_data.specs.Reach.{feature_reaches}
 use Rattle.plain_drawing.specs.Styles.{MapStyle}
 use Rattle.plain_drawing.specs.Drawing as drawing
@@ -35,7 +35,7 @@ fault_in (Err fault) = Some fault
 
 -- the data after one update of the table
 abbrev pub data_step : FarmPlan → List Layer → ℕ → List Layer
-data_step plan layers n = kept_or layers (updated (update_of plan n) layers)
+data_step plan layers n = kept_or layers (update_result (update_of plan n) layers)
 
 -- the data after the updates of these numbers, in order, from those that the plan begins with
 unfoldable pub data_of : FarmPlan → List ℕ → List Layer
@@ -95,8 +95,8 @@ meta_in plan None styled m layers = []
 meta_in plan (Some mp) styled m layers = container_of m (tiles_of (styled_as plan mp styled) mp.tile m layers)
 
 -- the bytes that are stored of a key, in the style of that number over the data
-abbrev pub meta_text : FarmPlan → Key → Option ℕ → List Layer → List ℕ
-meta_text plan k styled layers = meta_in plan (slice_get plan.maps k.map) styled k.meta layers
+abbrev pub container_bytes : FarmPlan → Key → Option ℕ → List Layer → List ℕ
+container_bytes plan k styled layers = meta_in plan (slice_get plan.maps k.map) styled k.meta layers
 
 -- the path of a map's metatile; nothing without a map
 abbrev pub path_in : Option MapPlan → Meta → List ℕ
@@ -117,7 +117,7 @@ plan_of plan = record {
   workers = plan.workers;
   updates = length plan.updates;
   restyles = map (λ r. r.map) plan.restyles;
-  fault = λ numbers n. fault_in (updated (update_of plan n) (data_of plan numbers));
+  fault = λ numbers n. fault_in (update_result (update_of plan n) (data_of plan numbers));
   reaches = λ numbers n k. reaches_of plan (data_of plan numbers) n k;
   drawing = λ m styled t numbers. tile_in plan (slice_get plan.maps m) styled t (data_of plan numbers);
 }

@@ -14,7 +14,7 @@ use Rattle.plain_data.specs.Reach.{feature_reaches}
 use Rattle.geo_model.specs.declared.bounds.Bounds.{Bounds}
 use Rattle.reach_box.specs.Boxes.{IsBox, box_reaches}
 use Rattle.plain_data.specs.Data.{Change}
-use Rattle.farm_reach.specs.Boxes.{AreBoxesOf, Adds, listed, at_id, at_put, met_by}
+use Rattle.farm_reach.specs.Boxes.{AreBoxesOf, Adds, feature_list, at_id, at_put, met_by}
 
 both : (fs gs : List Feature) (a b : List Bounds) → AreBoxesOf fs a → AreBoxesOf gs b → AreBoxesOf (fs ++ gs) (a ++ b)
 both fs gs a b x y = record {
@@ -70,13 +70,13 @@ of_id id f = nat_eq f.id id
 pub placed : (features : List Feature) (id place : ℕ) (f : Feature) → Some place ≡ position (of_id id) features → Some f ≡ slice_get features place → f ∷ [] ≡ at_id features id
 placed features id place f at is =
     let here : position_or_len (of_id id) features ≡ place = some_place (nat_lt (position_or_len (of_id id) features) (length features)) (position_or_len (of_id id) features) place (sym at) in
-    ap listed (is ∙ (sym (ap (slice_get features) here) ∙ sym (find_at (of_id id) features)))
+    ap feature_list (is ∙ (sym (ap (slice_get features) here) ∙ sym (find_at (of_id id) features)))
 
 -- there is none
 pub unplaced : (features : List Feature) (id : ℕ) → None ≡ position (of_id id) features → [] ≡ at_id features id
 unplaced features id at =
     let past : length features ≤ position_or_len (of_id id) features = ltb-false (position_or_len (of_id id) features) (length features) (no_place (nat_lt (position_or_len (of_id id) features) (length features)) (position_or_len (of_id id) features) (sym at)) in
-    ap listed (sym (find_at (of_id id) features ∙ slice_get_past features (position_or_len (of_id id) features) past))
+    ap feature_list (sym (find_at (of_id id) features ∙ slice_get_past features (position_or_len (of_id id) features) past))
 
 -- boxes that are added to none are all
 pub boxes_from : (fs : List Feature) (xs : List Bounds) → Adds fs [] xs → AreBoxesOf fs xs

@@ -10,7 +10,7 @@ use Rattle.farm_history.proofs.Lists.{any-append}
 use Rattle.plain_data.specs.Features.{Feature, Layer}
 use Rattle.plain_data.specs.Data.{Change, has_id, ids_of, layer_named, IsLayer}
 use Rattle.farm_plan.specs.Drawings.{features_in, names_id, named_by, named}
-use Rattle.farm_reach.specs.Boxes.{listed, at_id, at_put, met_by, met}
+use Rattle.farm_reach.specs.Boxes.{feature_list, at_id, at_put, met_by, features_met}
 
 -- ---- some of a list
 
@@ -62,7 +62,7 @@ at_found q id [] apart = refl
 at_found q id (x ∷ xs) apart =
     go (nat_eq x.id id) refl (IsDistinct-head nat_eq x.id (ids_of xs) apart) (at_found q id xs (IsDistinct-tail nat_eq x.id (ids_of xs) apart))
   where
-    go : (b : Bool) → nat_eq x.id id ≡ b → AllByRecursion (λ y. nat_eq x.id y ≡ false) (ids_of xs) → list_any q (at_id xs id) ≡ found q xs id → list_any q (listed (cond b (Some x) (find (λ (f : Feature). nat_eq f.id id) xs))) ≡ ((b && q x) || found q xs id)
+    go : (b : Bool) → nat_eq x.id id ≡ b → AllByRecursion (λ y. nat_eq x.id y ≡ false) (ids_of xs) → list_any q (at_id xs id) ≡ found q xs id → list_any q (feature_list (cond b (Some x) (find (λ (f : Feature). nat_eq f.id id) xs))) ≡ ((b && q x) || found q xs id)
     go true same head ih = ap (λ r. q x || r) (sym (no_more q id x xs same head))
     go false other head ih = ih
 
@@ -121,11 +121,11 @@ layer_apart (l ∷ layers) name each = go (bytes_eq l.name name) (layer_apart la
     go true ih = each.0.distinct
     go false ih = ih
 
-each_change : (q : Feature → Bool) (layers : List Layer) (changes : List Change) → AllByRecursion IsLayer layers → list_any q (met layers changes) ≡ list_any q (named layers changes)
+each_change : (q : Feature → Bool) (layers : List Layer) (changes : List Change) → AllByRecursion IsLayer layers → list_any q (features_met layers changes) ≡ list_any q (named layers changes)
 each_change q layers [] each = refl
 each_change q layers (c ∷ changes) each =
-    any-append q (met_by (features_in layers c.layer) c) (met layers changes)
+    any-append q (met_by (features_in layers c.layer) c) (features_met layers changes)
     ∙ (ap₂ (λ a b. a || b) (one_change q (features_in layers c.layer) c (layer_apart layers c.layer each)) (each_change q layers changes each) ∙ sym (any-append q (named_by layers c) (named layers changes)))
 
-pub met_named : (q : Feature → Bool) (layers : List Layer) (changes : List Change) → All IsLayer layers → list_any q (met layers changes) ≡ list_any q (named layers changes)
+pub met_named : (q : Feature → Bool) (layers : List Layer) (changes : List Change) → All IsLayer layers → list_any q (features_met layers changes) ≡ list_any q (named layers changes)
 met_named q layers changes valid = each_change q layers changes (recursion_from_All IsLayer layers valid)

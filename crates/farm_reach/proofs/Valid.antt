@@ -9,7 +9,7 @@ use Rattle.std.proofs.lemmas.List.Elements.{recursion_from_All, All-from_recursi
 use Rattle.std.proofs.lemmas.Map.Keys.{IsDistinct-head, IsDistinct-tail, IsDistinct-cons}
 use Rattle.farm_base.specs.declared.faults.ApplyFault.{ApplyFault}
 use Rattle.plain_data.specs.Features.{Feature, Layer}
-use Rattle.plain_data.specs.Data.{Change, has_id, ids_of, kept, last_put, replaced, added, with_change, first_missing, is_too_many, removal_or_put, features_fault, layer_named, fault_at, change_fault, changed_layer, changed, unless, changed_from, updated, IsLayer}
+use Rattle.plain_data.specs.Data.{Change, has_id, ids_of, without_ids, last_put, puts_in_place, put_features, with_change, first_missing, is_too_many, removal_or_put, features_fault, layer_named, fault_at, change_fault, changed_layer, layers_after, unless, changed_from, update_result, IsLayer}
 use Rattle.plain_data.specs.Limits.{most_features}
 use Rattle.farm_plan.specs.Plans.{FarmPlan}
 use Rattle.farm_plan.specs.Drawings.{update_of, kept_or, data_step, data_of}
@@ -73,30 +73,30 @@ last_id (f ∷ later) id other is = go (nat_eq f.id id) refl (λ o e. last_id la
     go true e rest = rest f (same_id f.id id e)
     go false e rest = rest other is
 
-replaced_ids : (puts fs : List Feature) → ids_of (replaced puts fs) ≡ ids_of fs
+replaced_ids : (puts fs : List Feature) → ids_of (puts_in_place puts fs) ≡ ids_of fs
 replaced_ids puts [] = refl
 replaced_ids puts (f ∷ fs) = ap₂ (λ (a : ℕ) xs. a ∷ xs) (last_id puts f.id f refl) (replaced_ids puts fs)
 
-added_new : (held : List ℕ) (puts : List Feature) → IsDistinct nat_eq (ids_of (added held puts)) × AreNew held (ids_of (added held puts))
+added_new : (held : List ℕ) (puts : List Feature) → IsDistinct nat_eq (ids_of (put_features held puts)) × AreNew held (ids_of (put_features held puts))
 unfolding IsDistinct
 added_new held [] = (tt, tt)
 added_new held (f ∷ later) = go (has_id held f.id) refl (added_new held later) (added_new (f.id ∷ held) later)
   where
-    go : (b : Bool) → has_id held f.id ≡ b → (IsDistinct nat_eq (ids_of (added held later)) × AreNew held (ids_of (added held later))) → (IsDistinct nat_eq (ids_of (added (f.id ∷ held) later)) × AreNew (f.id ∷ held) (ids_of (added (f.id ∷ held) later))) →
-        IsDistinct nat_eq (ids_of (cond b (added held later) (last_put later f.id f ∷ added (f.id ∷ held) later))) × AreNew held (ids_of (cond b (added held later) (last_put later f.id f ∷ added (f.id ∷ held) later)))
+    go : (b : Bool) → has_id held f.id ≡ b → (IsDistinct nat_eq (ids_of (put_features held later)) × AreNew held (ids_of (put_features held later))) → (IsDistinct nat_eq (ids_of (put_features (f.id ∷ held) later)) × AreNew (f.id ∷ held) (ids_of (put_features (f.id ∷ held) later))) →
+        IsDistinct nat_eq (ids_of (cond b (put_features held later) (last_put later f.id f ∷ put_features (f.id ∷ held) later))) × AreNew held (ids_of (cond b (put_features held later) (last_put later f.id f ∷ put_features (f.id ∷ held) later)))
     go true here same more = same
     go false new same more = (
-      subst (λ id. IsDistinct nat_eq (id ∷ ids_of (added (f.id ∷ held) later))) (sym (last_id later f.id f refl))
-          (IsDistinct-cons nat_eq f.id (ids_of (added (f.id ∷ held) later)) (each_more (λ id. has_id (f.id ∷ held) id ≡ false) (λ y. nat_eq f.id y ≡ false) (ids_of (added (f.id ∷ held) later)) (λ y h. turned y f.id (left_false (nat_eq y f.id) (has_id held y) h)) more.1) more.0),
-      (subst (λ id. has_id held id ≡ false) (sym (last_id later f.id f refl)) new, each_more (λ id. has_id (f.id ∷ held) id ≡ false) (λ id. has_id held id ≡ false) (ids_of (added (f.id ∷ held) later)) (λ y h. right_false (nat_eq y f.id) (has_id held y) h) more.1),
+      subst (λ id. IsDistinct nat_eq (id ∷ ids_of (put_features (f.id ∷ held) later))) (sym (last_id later f.id f refl))
+          (IsDistinct-cons nat_eq f.id (ids_of (put_features (f.id ∷ held) later)) (each_more (λ id. has_id (f.id ∷ held) id ≡ false) (λ y. nat_eq f.id y ≡ false) (ids_of (put_features (f.id ∷ held) later)) (λ y h. turned y f.id (left_false (nat_eq y f.id) (has_id held y) h)) more.1) more.0),
+      (subst (λ id. has_id held id ≡ false) (sym (last_id later f.id f refl)) new, each_more (λ id. has_id (f.id ∷ held) id ≡ false) (λ id. has_id held id ≡ false) (ids_of (put_features (f.id ∷ held) later)) (λ y h. right_false (nat_eq y f.id) (has_id held y) h) more.1),
     )
 
 changed_distinct : (c : Change) (fs : List Feature) → IsDistinct nat_eq (ids_of fs) → IsDistinct nat_eq (ids_of (with_change c fs))
 changed_distinct c fs apart =
-    let old : List Feature = kept c.remove fs in
+    let old : List Feature = without_ids c.remove fs in
     let new = added_new (ids_of old) c.put in
-    subst (IsDistinct nat_eq) (sym (map-append (λ (f : Feature). f.id) (replaced c.put old) (added (ids_of old) c.put) ∙ ap (λ xs. xs ++ ids_of (added (ids_of old) c.put)) (replaced_ids c.put old)))
-    (distinct_append (ids_of old) (ids_of (added (ids_of old) c.put)) (distinct_filter (λ f. not (has_id c.remove f.id)) fs apart) new.0 new.1)
+    subst (IsDistinct nat_eq) (sym (map-append (λ (f : Feature). f.id) (puts_in_place c.put old) (put_features (ids_of old) c.put) ∙ ap (λ xs. xs ++ ids_of (put_features (ids_of old) c.put)) (replaced_ids c.put old)))
+    (distinct_append (ids_of old) (ids_of (put_features (ids_of old) c.put)) (distinct_filter (λ f. not (has_id c.remove f.id)) fs apart) new.0 new.1)
 
 -- ---- layers
 
@@ -115,29 +115,29 @@ one_layer place c l valid right = record {
   distinct = changed_distinct c l.features valid.distinct;
 }
 
-all_layers : (place : ℕ) (c : Change) (layers : List Layer) → AllByRecursion IsLayer layers → change_fault place c layers ≡ None → AllByRecursion IsLayer (changed c layers)
+all_layers : (place : ℕ) (c : Change) (layers : List Layer) → AllByRecursion IsLayer layers → change_fault place c layers ≡ None → AllByRecursion IsLayer (layers_after c layers)
 all_layers place c [] each right = tt
 all_layers place c (l ∷ layers) each right = go (bytes_eq l.name c.layer) right (all_layers place c layers each.1)
   where
-    go : (b : Bool) → fault_at place c (option_map (λ (x : Layer). x.features) (cond b (Some l) (layer_named layers c.layer))) ≡ None → (change_fault place c layers ≡ None → AllByRecursion IsLayer (changed c layers)) →
-        AllByRecursion IsLayer (cond b (changed_layer c l ∷ layers) (l ∷ changed c layers))
+    go : (b : Bool) → fault_at place c (option_map (λ (x : Layer). x.features) (cond b (Some l) (layer_named layers c.layer))) ≡ None → (change_fault place c layers ≡ None → AllByRecursion IsLayer (layers_after c layers)) →
+        AllByRecursion IsLayer (cond b (changed_layer c l ∷ layers) (l ∷ layers_after c layers))
     go true h rest = (one_layer place c l each.0 h, each.1)
     go false h rest = (each.0, rest h)
 
 valid_from : (place : ℕ) (changes : List Change) (old new : List Layer) → AllByRecursion IsLayer old → changed_from place changes old ≡ Ok new → AllByRecursion IsLayer new
 unfolding changed_from
 valid_from place [] old new each is = let same : old ≡ new = cc in subst (AllByRecursion IsLayer) same each
-valid_from place (c ∷ later) old new each is = go (change_fault place c old) refl is (λ valid done. valid_from (place + 1) later (changed c old) new valid done)
+valid_from place (c ∷ later) old new each is = go (change_fault place c old) refl is (λ valid done. valid_from (place + 1) later (layers_after c old) new valid done)
   where
-    go : (o : Option ApplyFault) → change_fault place c old ≡ o → unless o (changed_from (place + 1) later (changed c old)) ≡ Ok new → (AllByRecursion IsLayer (changed c old) → changed_from (place + 1) later (changed c old) ≡ Ok new → AllByRecursion IsLayer new) → AllByRecursion IsLayer new
+    go : (o : Option ApplyFault) → change_fault place c old ≡ o → unless o (changed_from (place + 1) later (layers_after c old)) ≡ Ok new → (AllByRecursion IsLayer (layers_after c old) → changed_from (place + 1) later (layers_after c old) ≡ Ok new → AllByRecursion IsLayer new) → AllByRecursion IsLayer new
     go (Some fault) e done rest = cc
     go None e done rest = rest (all_layers place c old each e) done
 
 -- the data after the updates of a plan are valid
 step_valid : (plan : FarmPlan) (layers : List Layer) (n : ℕ) → AllByRecursion IsLayer layers → AllByRecursion IsLayer (data_step plan layers n)
-step_valid plan layers n each = go (updated (update_of plan n) layers) refl
+step_valid plan layers n each = go (update_result (update_of plan n) layers) refl
   where
-    go : (r : Result (List Layer) ApplyFault) → updated (update_of plan n) layers ≡ r → AllByRecursion IsLayer (kept_or layers r)
+    go : (r : Result (List Layer) ApplyFault) → update_result (update_of plan n) layers ≡ r → AllByRecursion IsLayer (kept_or layers r)
     go (Ok new) is = valid_from 0 (update_of plan n) layers new each is
     go (Err fault) is = each
 

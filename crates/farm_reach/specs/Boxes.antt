@@ -14,13 +14,13 @@ use Rattle.farm_plan.specs.Plans.{MapPlan}
 use Rattle.farm_plan.specs.Drawings.{features_in}
 
 -- the feature of the id, where there is one
-abbrev pub listed : Option Feature → List Feature
-listed None = []
-listed (Some f) = f ∷ []
+abbrev pub feature_list : Option Feature → List Feature
+feature_list None = []
+feature_list (Some f) = f ∷ []
 
 -- the first feature of the id, if there is one
 abbrev pub at_id : List Feature → ℕ → List Feature
-at_id features id = listed (find (λ f. nat_eq f.id id) features)
+at_id features id = feature_list (find (λ f. nat_eq f.id id) features)
 
 -- an old feature of the id of one that is put, and the one that is put
 abbrev pub at_put : List Feature → Feature → List Feature
@@ -31,8 +31,8 @@ abbrev pub met_by : List Feature → Change → List Feature
 met_by features c = flat_map (at_id features) c.remove ++ flat_map (at_put features) c.put
 
 -- the features that the changes name, over the old data, one by one
-abbrev pub met : List Layer → List Change → List Feature
-met layers changes = flat_map (λ c. met_by (features_in layers c.layer) c) changes
+abbrev pub features_met : List Layer → List Change → List Feature
+features_met layers changes = flat_map (λ c. met_by (features_in layers c.layer) c) changes
 
 -- some box reaches the square, for tiles of so many pixels at zoom z
 abbrev pub boxes_reach : List Bounds → ℕ → ℕ → Square → Bool

@@ -5,7 +5,7 @@ ghost use Rattle.plain_data.specs.Data.{IsLayer};
 ghost use Rattle.farm_history.specs.Lists.{Each};
 ghost use Rattle.reach_box.specs.Boxes.{IsBox};
 ghost use Rattle.farm_plan.specs.Drawings.{features_in, named};
-ghost use Rattle.farm_reach.specs.Boxes.{Adds, AreBoxesOf, at_id, at_put, boxes_reach, met, met_by};
+ghost use Rattle.farm_reach.specs.Boxes.{Adds, AreBoxesOf, at_id, at_put, boxes_reach, features_met, met_by};
 
 use data_versions::{Change, Feature, LayerView, Snapshot, Update};
 use farm_base::NoMemory;

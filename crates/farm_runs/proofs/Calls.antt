@@ -16,7 +16,7 @@ use Rattle.farm_threads.specs.declared.crew.Actor.{Actor}
 use Rattle.farm_threads.specs.declared.together.RunSeats.{RunSeats}
 use Rattle.farm_threads.specs.Actors.{Leaving, HasServed, HasWorked, IsPost, IsReady, HaveServed}
 use Rattle.farm_runs.specs.Promise.{is_worn}
-use Rattle.farm_runs.specs.inner.Chain.{gathered, notes, ends_in, Numbered, IsStart, IsSet, HasLeft, IsSpent, Ran}
+use Rattle.farm_runs.specs.inner.Chain.{first_seat_after, notes, ends_in, Numbered, IsStart, IsSet, HasLeft, IsSpent, Ran}
 use Rattle.farm_runs.proofs.Gathering.{each_left, each_right, gathered_first, gathered_splits, gathered_joined, notes_length}
 
 module _ {T : Type 0} (made : Made T) where
@@ -102,7 +102,7 @@ module _ {T : Type 0} (made : Made T) where
   -- Seats at the end.
 
   -- as many seats were joined as were split
-  pub whole : (own h : Sat) (crew : List (Actor Sat)) → own.first ≡ true → own.splits ≡ length own.joined + length crew → SameSeat (gathered own crew) h → (h.first ≡ true) × (length h.joined ≡ h.splits)
+  pub whole : (own h : Sat) (crew : List (Actor Sat)) → own.first ≡ true → own.splits ≡ length own.joined + length crew → SameSeat (first_seat_after own crew) h → (h.first ≡ true) × (length h.joined ≡ h.splits)
   whole own h crew first splits same = (
     same.1 ∙ (gathered_first own crew ∙ first),
     (let joined : length h.joined ≡ length (own.joined ++ notes crew) = ap length (same.3 ∙ gathered_joined own crew) in
@@ -121,7 +121,7 @@ module _ {T : Type 0} (made : Made T) where
   pub record Gathering (start own : Sat) (all left : List (Actor Sat)) (worn : Bool) : Type 0 where
     pub rest : List (Actor Sat)
     pub are : all ≡ left ++ rest
-    pub own_is : own ≡ gathered start rest
+    pub own_is : own ≡ first_seat_after start rest
     pub longer : StartsWith own.seen start.seen
     pub worn_is : worn ≡ list_any is_worn (ends_in rest)
     pub spent : Each (IsSpent made) left

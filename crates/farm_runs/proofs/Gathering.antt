@@ -8,7 +8,7 @@ use Rattle.turn_cell.specs.SeatStates.{Made, SeatState}
 use Rattle.render_workers.specs.declared.worker.WorkEnd.{WorkEnd}
 use Rattle.farm_threads.specs.declared.crew.Actor.{Actor}
 use Rattle.farm_runs.specs.Promise.{is_worn}
-use Rattle.farm_runs.specs.inner.Chain.{gathered, notes, Numbered, ends_in, IsSpent}
+use Rattle.farm_runs.specs.inner.Chain.{first_seat_after, notes, Numbered, ends_in, IsSpent}
 
 -- of each joined number the history has just its entries
 pub each_joined : (joined : List (ℕ × List (ℕ × Entry))) (log : List (ℕ × Entry)) → HasJoined joined log → Each (λ p. by p.0 log ≡ p.1) joined
@@ -29,23 +29,23 @@ ended_worn (Some WorkEnd.Stopped) is = cc
 ended_worn None is = cc
 
 module _ {T : Type 0} where
-  pub gathered_number : (v : SeatState T Entry) (crew : List (Actor (SeatState T Entry))) → (gathered v crew).number ≡ v.number
+  pub gathered_number : (v : SeatState T Entry) (crew : List (Actor (SeatState T Entry))) → (first_seat_after v crew).number ≡ v.number
   gathered_number v [] = refl
   gathered_number v (a ∷ rest) = gathered_number v rest
 
-  pub gathered_mine : (v : SeatState T Entry) (crew : List (Actor (SeatState T Entry))) → (gathered v crew).mine ≡ v.mine
+  pub gathered_mine : (v : SeatState T Entry) (crew : List (Actor (SeatState T Entry))) → (first_seat_after v crew).mine ≡ v.mine
   gathered_mine v [] = refl
   gathered_mine v (a ∷ rest) = gathered_mine v rest
 
-  pub gathered_first : (v : SeatState T Entry) (crew : List (Actor (SeatState T Entry))) → (gathered v crew).first ≡ v.first
+  pub gathered_first : (v : SeatState T Entry) (crew : List (Actor (SeatState T Entry))) → (first_seat_after v crew).first ≡ v.first
   gathered_first v [] = refl
   gathered_first v (a ∷ rest) = gathered_first v rest
 
-  pub gathered_splits : (v : SeatState T Entry) (crew : List (Actor (SeatState T Entry))) → (gathered v crew).splits ≡ v.splits
+  pub gathered_splits : (v : SeatState T Entry) (crew : List (Actor (SeatState T Entry))) → (first_seat_after v crew).splits ≡ v.splits
   gathered_splits v [] = refl
   gathered_splits v (a ∷ rest) = gathered_splits v rest
 
-  pub gathered_joined : (v : SeatState T Entry) (crew : List (Actor (SeatState T Entry))) → (gathered v crew).joined ≡ v.joined ++ notes crew
+  pub gathered_joined : (v : SeatState T Entry) (crew : List (Actor (SeatState T Entry))) → (first_seat_after v crew).joined ≡ v.joined ++ notes crew
   gathered_joined v [] = sym (append-nil v.joined)
   gathered_joined v (a ∷ rest) = ap (λ l. l ++ (a.seat.number, a.seat.mine) ∷ []) (gathered_joined v rest) ∙ append_assoc v.joined (notes rest) ((a.seat.number, a.seat.mine) ∷ [])
 
@@ -54,11 +54,11 @@ module _ {T : Type 0} where
   notes_length (a ∷ rest) = let long = length-append (notes rest) ((a.seat.number, a.seat.mine) ∷ []) in let ih = notes_length rest in omega arith
 
   -- marks are passed on
-  pub gathered_mark : (v : SeatState T Entry) (crew : List (Actor (SeatState T Entry))) → v.worn ≡ true → (gathered v crew).worn ≡ true
+  pub gathered_mark : (v : SeatState T Entry) (crew : List (Actor (SeatState T Entry))) → v.worn ≡ true → (first_seat_after v crew).worn ≡ true
   gathered_mark v [] mark = mark
   gathered_mark v (a ∷ rest) mark = ap (λ b. b || a.seat.worn) (gathered_mark v rest mark)
 
-  pub crew_mark : (made : Made T) (v : SeatState T Entry) (crew : List (Actor (SeatState T Entry))) → Each (IsSpent made) crew → list_any is_worn (ends_in crew) ≡ true → (gathered v crew).worn ≡ true
+  pub crew_mark : (made : Made T) (v : SeatState T Entry) (crew : List (Actor (SeatState T Entry))) → Each (IsSpent made) crew → list_any is_worn (ends_in crew) ≡ true → (first_seat_after v crew).worn ≡ true
   crew_mark made v [] each any = cc
   crew_mark made v (a ∷ rest) each any = go (is_worn a.end) refl (crew_mark made v rest each.1) any
     where
@@ -66,8 +66,8 @@ module _ {T : Type 0} where
       right true c is = refl
       right false c is = is
 
-      go : (b : Bool) → is_worn a.end ≡ b → (list_any is_worn (ends_in rest) ≡ true → (gathered v rest).worn ≡ true) → (b || list_any is_worn (ends_in rest)) ≡ true → ((gathered v rest).worn || a.seat.worn) ≡ true
-      go true is ih any = right (gathered v rest).worn a.seat.worn (each.0.worn (ended_worn a.end is))
+      go : (b : Bool) → is_worn a.end ≡ b → (list_any is_worn (ends_in rest) ≡ true → (first_seat_after v rest).worn ≡ true) → (b || list_any is_worn (ends_in rest)) ≡ true → ((first_seat_after v rest).worn || a.seat.worn) ≡ true
+      go true is ih any = right (first_seat_after v rest).worn a.seat.worn (each.0.worn (ended_worn a.end is))
       go false is ih any = ap (λ b. b || a.seat.worn) (ih any)
 
   -- what is noted of each worker is so of it

@@ -29,7 +29,7 @@ use Rattle.farm_threads.specs.declared.each_front.EachFront.{EachFront}
 use Rattle.farm_threads.specs.declared.crew.Actor.{Actor}
 use Rattle.farm_threads.specs.Actors.{Leaving, AreOfFront, WorkBy, with_posts}
 use Rattle.farm_runs.specs.Promise.{Ends, own_entries, is_worn, AreSeated, IsServed, AreWorked, IsStop, RunsWell}
-use Rattle.farm_runs.specs.inner.Chain.{gathered, notes, ends_in, IsTally, HasLeft, IsSpent, Ran}
+use Rattle.farm_runs.specs.inner.Chain.{first_seat_after, notes, ends_in, IsTally, HasLeft, IsSpent, Ran}
 use Rattle.farm_runs.proofs.Settling.{gives, Settled, landed}
 use Rattle.farm_runs.proofs.Owners.{quiet, front_settled, own_settled, worker_settled, is_stop, worker_unstopped}
 use Rattle.farm_runs.proofs.Stopping.{ends_front, never_stops, OwnStop, own_stop}
@@ -93,9 +93,9 @@ module _ {D : Type 0} (state : D → Outside StoreTold) (made : Made (Turned D))
     pub kinds : IsFronts 0 leaves
     pub kinds' : IsFronts 1 leaves'
     pub kinds'' : IsFronts 2 leaves''
-    pub longer : StartsWith (gathered own crew).seen own.seen
-    pub tallies : IsTally tally (gathered own crew) h
-    pub same : SameSeat (gathered own crew) h
+    pub longer : StartsWith (first_seat_after own crew).seen own.seen
+    pub tallies : IsTally tally (first_seat_after own crew) h
+    pub same : SameSeat (first_seat_after own crew) h
     pub known : Knows h
     pub closed : IsClosed state made.about.limit made.about.first.value.farm h farm
 
@@ -110,12 +110,12 @@ module _ {D : Type 0} (state : D → Outside StoreTold) (made : Made (Turned D))
     own_number : own.number ≡ 0
     own_number = c.ran.ended.same.0 ∙ c.ran.start_is.number
 
-    last_number : (gathered own crew).number ≡ 0
+    last_number : (first_seat_after own crew).number ≡ 0
     last_number = gathered_number own crew ∙ own_number
 
     -- the marks of a worn cell come to the last seat
     own_marked : own.worn ≡ true → h.worn ≡ true
-    own_marked mark = tally_mark (gathered own crew) h tally c.tallies (gathered_mark own crew mark)
+    own_marked mark = tally_mark (first_seat_after own crew) h tally c.tallies (gathered_mark own crew mark)
 
     full : h.worn ≡ true → 2 ^ 62 ≤ length h.seen
     full mark = subst (λ n. n ≤ length h.seen) c.limit (c.closed.worn mark)
@@ -127,7 +127,7 @@ module _ {D : Type 0} (state : D → Outside StoreTold) (made : Made (Turned D))
     own_by : by 0 h.seen ≡ h.mine
     own_by = subst (λ n. by n h.seen ≡ h.mine) (c.same.0 ∙ last_number) c.known.0
 
-    own_mine : plain (gathered own crew).mine ≡ own_entries stopped None
+    own_mine : plain (first_seat_after own crew).mine ≡ own_entries stopped None
     own_mine = ap plain (gathered_mine own crew) ∙ stop_mine (with_posts start c.ran.posts) own stopped c.ran.start_is.unused c.ran.ended.stops
 
     splits_are : h.splits ≡ 3 + length (ends_in crew)
@@ -144,11 +144,11 @@ module _ {D : Type 0} (state : D → Outside StoreTold) (made : Made (Turned D))
 
     seated : AreSeated made.about.first.value.farm.plan.workers ends_are h.seen
     seated = record {
-      own = ap plain own_by ∙ tally_mine (gathered own crew) h stopped tally own_mine c.tallies;
+      own = ap plain own_by ∙ tally_mine (first_seat_after own crew) h stopped tally own_mine c.tallies;
       none_above = subst (λ n. NoneAbove (3 + n) h.seen) workers_are none_above;
       unstopped = λ none. full (own_marked (unstopped_mark (with_posts start c.ran.posts) own stopped c.ran.ended.stops none));
-      untallied = λ none. full (lost_mark (gathered own crew) h tally c.tallies none);
-      last = λ a is. tally_last (gathered own crew) h tally a last_number c.tallies is;
+      untallied = λ none. full (lost_mark (first_seat_after own crew) h tally c.tallies none);
+      last = λ a is. tally_last (first_seat_after own crew) h tally a last_number c.tallies is;
     }
 
     -- what was joined
@@ -243,7 +243,7 @@ module _ {D : Type 0} (state : D → Outside StoreTold) (made : Made (Turned D))
       as_many = workers_are;
       each = λ w end is. work_at w end (at_zero w end is);
       worn_is = c.worn_is;
-      worn_out = λ any. full (tally_mark (gathered own crew) h tally c.tallies (crew_mark made own crew c.ran.spent (sym c.worn_is ∙ any)));
+      worn_out = λ any. full (tally_mark (first_seat_after own crew) h tally c.tallies (crew_mark made own crew c.ran.spent (sym c.worn_is ∙ any)));
       landed = λ fine. subst (λ l. flights (past l h.seen) ≡ []) c.closed.kept (none_flying (sym c.worn_is ∙ fine));
     }
 
@@ -263,7 +263,7 @@ module _ {D : Type 0} (state : D → Outside StoreTold) (made : Made (Turned D))
     tally_goes_on u w None is = ([], ap (λ (x : Sat). x.seen) is ∙ sym (append-nil u.seen))
 
     after_own : StartsWith h.seen own.seen
-    after_own = starts_through h.seen (gathered own crew).seen own.seen (tally_goes_on (gathered own crew) h tally c.tallies) c.longer
+    after_own = starts_through h.seen (first_seat_after own crew).seen own.seen (tally_goes_on (first_seat_after own crew) h tally c.tallies) c.longer
 
     stop_at : (v w : Sat) → v.number ≡ 0 → by v.number v.seen ≡ [] → Adds Stop v w → StartsWith h.seen w.seen → OwnStop h.seen v.seen
     stop_at v w zero_is none is later =

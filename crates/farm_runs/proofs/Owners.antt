@@ -8,7 +8,7 @@ use Rattle.farm_history.specs.Lists.{Each}
 use Rattle.port_trait.specs.declared.ends.FrontEnd.{FrontEnd}
 use Rattle.farm_shared.specs.Seats.{gives_ticket, ends_ticket}
 use Rattle.render_workers.specs.declared.worker.WorkEnd.{WorkEnd}
-use Rattle.render_workers.specs.Rounds.{Round, Drew, FoundNone, FoundMany, entries_of, EndsWith, WorkOf}
+use Rattle.render_workers.specs.Rounds.{Round, Drew, FoundNone, FoundMany, entries_of, LastEntries, WorkOf}
 use Rattle.farm_threads.specs.Actors.{IsOfFront, AreOfFront, WorkBy}
 use Rattle.farm_runs.specs.Promise.{own_entries, is_worn}
 use Rattle.farm_runs.proofs.Settling.{gives, ends, Settled}
@@ -92,7 +92,7 @@ rounds_unstopped : (w : ℕ) (rs : List Round) → list_any is_stop (flat_map (e
 rounds_unstopped w [] = refl
 rounds_unstopped w (r ∷ rs) = list_any-append is_stop (entries_of w r) (flat_map (entries_of w) rs) ∙ ap₂ (λ a b. a || b) (round_unstopped w r) (rounds_unstopped w rs)
 
-last_unstopped : (w : ℕ) (end : WorkEnd) (last : List Entry) → EndsWith w end last → list_any is_stop last ≡ false
+last_unstopped : (w : ℕ) (end : WorkEnd) (last : List Entry) → LastEntries w end last → list_any is_stop last ≡ false
 last_unstopped w WorkEnd.Stopped last is = ap (list_any is_stop) is
 last_unstopped w WorkEnd.Worn last (inl none) = ap (list_any is_stop) none
 last_unstopped w WorkEnd.Worn last (inr (ticket, key, version, is)) = ap (list_any is_stop) is

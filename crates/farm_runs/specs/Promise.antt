@@ -40,8 +40,8 @@ is_worn (Some WorkEnd.Stopped) = false
 is_worn None = false
 
 -- the end of front n, which is 1, 2 or 3
-abbrev pub end_of : EachFront FrontDone → ℕ → FrontEnd
-end_of done n = if n == 1 then done.renderd.end else if n == 2 then done.tiles.end else done.control.end
+abbrev pub end_of_front : EachFront FrontDone → ℕ → FrontEnd
+end_of_front done n = if n == 1 then done.renderd.end else if n == 2 then done.tiles.end else done.control.end
 
 -- Whose the entries are: the run's own seat has a Stop and then a Tally, each of which is missing only where all turns were drawn; and there are no entries but its own, the fronts' and the workers'
 pub record AreSeated (workers : ℕ) (ends : Ends) (H : List (ℕ × Entry)) : Type 0 where
@@ -71,7 +71,7 @@ pub record AreWorked (workers : ℕ) (worn : Bool) (H : List (ℕ × Entry)) (h 
 -- A Stop of seat n, before those entries of H: it is the control front's, of whose lines or end it then is by that front's own entries; or it is the last entry of another front, which ended otherwise than Finished; or it is the run's own, after all entries of the fronts
 abbrev pub IsStop : EachFront FrontDone → ℕ → List (ℕ × Entry) → Type 0
 IsStop done n after =
-    (n ≡ 3) ⊎ (((1 ≤ n) × (n ≤ 3) × (by n after ≡ []) × (end_of done n ≢ FrontEnd.Finished)) ⊎ ((n ≡ 0) × (by 1 after ≡ []) × (by 2 after ≡ []) × (by 3 after ≡ [])))
+    (n ≡ 3) ⊎ (((1 ≤ n) × (n ≤ 3) × (by n after ≡ []) × (end_of_front done n ≢ FrontEnd.Finished)) ⊎ ((n ≡ 0) × (by 1 after ≡ []) × (by 2 after ≡ []) × (by 3 after ≡ [])))
 
 -- The whole promise. `first` is the farm that the run began with, `farm` the one that is left, and H what happened between them
 pub record RunsWell {D : Type 0} (state : D → Outside StoreTold) (first farm : FarmSeen D) (H : List (ℕ × Entry)) (leaves leaves' leaves'' : Leaving) (told told' : EachFront (Outside PortsTold)) (done : EachFront FrontDone) (ends : Ends) : Type 0 where

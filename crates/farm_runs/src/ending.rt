@@ -5,7 +5,7 @@ ghost use Rattle.farm_history.specs.Lists.{Each};
 ghost use Rattle.turn_cell.specs.SeatStates.{IsSeatOf, Knows};
 ghost use Rattle.turn_cell.specs.Turns.{StartsWith};
 ghost use Rattle.farm_runs.specs.Promise.{is_worn};
-ghost use Rattle.farm_runs.specs.inner.Chain.{IsEnd, IsSpent, ends_in, gathered};
+ghost use Rattle.farm_runs.specs.inner.Chain.{IsEnd, IsSpent, ends_in, first_seat_after};
 
 use farm_plan::Tally;
 use farm_shared::{Closed, Seat, SharedFarm};
@@ -27,7 +27,7 @@ fn gather<D: TileStore>(farm: &SharedFarm<D>, own: &mut Seat<D>, crew: Vec<Actor
     requires first { own.old.first ≡ true }
     requires known { Knows own.old }
     requires crew { Each (λ a. IsSpent farm.now a) crew.items }
-    ensures own { own.new ≡ gathered own.old crew.items }
+    ensures own { own.new ≡ first_seat_after own.old crew.items }
     ensures seat { IsSeatOf farm.now own.new }
     ensures known { Knows own.new }
     ensures longer { StartsWith own.new.seen own.old.seen }

@@ -19,13 +19,13 @@ use Rattle.farm_saved.specs.declared.fault.SavedFault.{SavedFault}
 use Rattle.farm_saved.specs.declared.fault.SavedFault.TheVariants.{Short, Kind}
 use Rattle.farm_saved.specs.Savings.{StyleFits, IsKept, IsSaving}
 use Rattle.farm_saved.specs.Writing.{style_bytes, past_bytes, kept_bytes, saved_bytes}
-use Rattle.farm_saved.specs.Reading.{magic, opened, number_in, many, style_of, style_in, past_of, past_in, is_meta, is_behind, last_of, is_kept, fields_in, entry_in, ended, saved_in, text_in}
+use Rattle.farm_saved.specs.Reading.{saved_magic, after_magic, bytes_number, many, style_if_any, style_in, past_of, past_in, is_meta, is_behind, last_of, is_kept, fields_in, entry_in, nothing_left, saved_in, saving_in}
 use Rattle.farm_saved.proofs.Loops.{many_step, many_none}
 use Rattle.farm_saved.specs.Laws.{PastFits, MapFits, HasNumbers, ReadsBack}
 
 -- a number that was written is read, and what stands behind it is left
-field_back : (short : SavedFault) (n x : ℕ) (rest : List ℕ) → x < 256 ^ n → number_in short n (little_bytes n x ++ rest) ≡ Ok (x, rest)
-unfolding number_in
+field_back : (short : SavedFault) (n x : ℕ) (rest : List ℕ) → x < 256 ^ n → bytes_number short n (little_bytes n x ++ rest) ≡ Ok (x, rest)
+unfolding bytes_number
 field_back short n x rest h =
     let len : length (little_bytes n x ++ rest) ≡ n + length rest = length-append (little_bytes n x) rest ∙ ap (λ k. k + length rest) (length-bytes_low_first 0 n x) in
     let long : leb n (length (little_bytes n x ++ rest)) ≡ true = grind (arith, nat_tests) in
@@ -33,18 +33,18 @@ field_back short n x rest h =
 
 -- ---- styles
 
-style_step : (short : SavedFault) (before : List (Option ℕ)) (bytes : List ℕ) → style_in short before bytes ≡ (number_in short 4 bytes >>= λ number. Ok (style_of number.0, number.1))
+style_step : (short : SavedFault) (before : List (Option ℕ)) (bytes : List ℕ) → style_in short before bytes ≡ (bytes_number short 4 bytes >>= λ number. Ok (style_if_any number.0, number.1))
 unfolding style_in
 style_step short before bytes = refl
 
 style_back : (short : SavedFault) (before : List (Option ℕ)) (s : Option ℕ) (rest : List ℕ) → StyleFits s → style_in short before (style_bytes s ++ rest) ≡ Ok (s, rest)
 style_back short before None rest h =
     style_step short before (little_bytes 4 0 ++ rest)
-    ∙ ap (λ (r : Result (ℕ × List ℕ) SavedFault). r >>= λ number. Ok (style_of number.0, number.1)) (field_back short 4 0 rest (omega arith))
+    ∙ ap (λ (r : Result (ℕ × List ℕ) SavedFault). r >>= λ number. Ok (style_if_any number.0, number.1)) (field_back short 4 0 rest (omega arith))
 style_back short before (Some n) rest h =
     style_step short before (little_bytes 4 (n + 1) ++ rest)
-    ∙ ap (λ (r : Result (ℕ × List ℕ) SavedFault). r >>= λ number. Ok (style_of number.0, number.1)) (field_back short 4 (n + 1) rest (omega arith))
-    ∙ ap (λ (k : ℕ). Ok (style_of k, rest)) (add-one n)
+    ∙ ap (λ (r : Result (ℕ × List ℕ) SavedFault). r >>= λ number. Ok (style_if_any number.0, number.1)) (field_back short 4 (n + 1) rest (omega arith))
+    ∙ ap (λ (k : ℕ). Ok (style_if_any k, rest)) (add-one n)
 
 styles_back : (short : SavedFault) (styles before : List (Option ℕ)) (rest : List ℕ) → All StyleFits styles
     → many (style_in short) (length styles) before (flat_map style_bytes styles ++ rest) ≡ Ok (before ++ styles, rest)
@@ -65,20 +65,20 @@ abbrev after_number : ℕ → Result (ℕ × List ℕ) SavedFault → Result (Pa
 after_number kind r = r >>= λ number. Ok (past_of kind number.0, number.1)
 
 abbrev after_kind : SavedFault → ℕ → Result (ℕ × List ℕ) SavedFault → Result (Past × List ℕ) SavedFault
-after_kind short place r = r >>= λ kind. check (leb kind.0 1) (Kind place) >>= λ u. number_in short 4 kind.1 >>= λ number. Ok (past_of kind.0 number.0, number.1)
+after_kind short place r = r >>= λ kind. check (leb kind.0 1) (Kind place) >>= λ u. bytes_number short 4 kind.1 >>= λ number. Ok (past_of kind.0 number.0, number.1)
 
-past_step : (short : SavedFault) (before : List Past) (bytes : List ℕ) → past_in short before bytes ≡ after_kind short (length before) (number_in short 4 bytes)
+past_step : (short : SavedFault) (before : List Past) (bytes : List ℕ) → past_in short before bytes ≡ after_kind short (length before) (bytes_number short 4 bytes)
 unfolding past_in
 past_step short before bytes = refl
 
 past_back : (short : SavedFault) (before : List Past) (past : Past) (rest : List ℕ) → PastFits past → past_in short before (past_bytes past ++ rest) ≡ Ok (past, rest)
 past_back short before (Past.Update n) rest h =
-    let kind : number_in short 4 ((little_bytes 4 0 ++ little_bytes 4 n) ++ rest) ≡ Ok (0, little_bytes 4 n ++ rest) =
-    ap (number_in short 4) (append_assoc (little_bytes 4 0) (little_bytes 4 n) rest) ∙ field_back short 4 0 (little_bytes 4 n ++ rest) (omega arith) in
+    let kind : bytes_number short 4 ((little_bytes 4 0 ++ little_bytes 4 n) ++ rest) ≡ Ok (0, little_bytes 4 n ++ rest) =
+    ap (bytes_number short 4) (append_assoc (little_bytes 4 0) (little_bytes 4 n) rest) ∙ field_back short 4 0 (little_bytes 4 n ++ rest) (omega arith) in
     past_step short before ((little_bytes 4 0 ++ little_bytes 4 n) ++ rest) ∙ ap (after_kind short (length before)) kind ∙ ap (after_number 0) (field_back short 4 n rest h)
 past_back short before (Past.Renew n) rest h =
-    let kind : number_in short 4 ((little_bytes 4 1 ++ little_bytes 4 n) ++ rest) ≡ Ok (1, little_bytes 4 n ++ rest) =
-    ap (number_in short 4) (append_assoc (little_bytes 4 1) (little_bytes 4 n) rest) ∙ field_back short 4 1 (little_bytes 4 n ++ rest) (omega arith) in
+    let kind : bytes_number short 4 ((little_bytes 4 1 ++ little_bytes 4 n) ++ rest) ≡ Ok (1, little_bytes 4 n ++ rest) =
+    ap (bytes_number short 4) (append_assoc (little_bytes 4 1) (little_bytes 4 n) rest) ∙ field_back short 4 1 (little_bytes 4 n ++ rest) (omega arith) in
     past_step short before ((little_bytes 4 1 ++ little_bytes 4 n) ++ rest) ∙ ap (after_kind short (length before)) kind ∙ ap (after_number 1) (field_back short 4 n rest h)
 
 updates_back : (short : SavedFault) (updates before : List Past) (rest : List ℕ) → All PastFits updates
@@ -97,8 +97,8 @@ updates_back short (u ∷ updates) before rest h =
 
 -- the five fields one after another
 fields_steps : (short : SavedFault) (b0 b1 b2 b3 b4 b5 : List ℕ) (m z x y v : ℕ)
-    → number_in short 4 b0 ≡ Ok (m, b1) → number_in short 4 b1 ≡ Ok (z, b2) → number_in short 4 b2 ≡ Ok (x, b3) → number_in short 4 b3 ≡ Ok (y, b4)
-    → number_in short 8 b4 ≡ Ok (v, b5) → fields_in short b0 ≡ Ok (record { key = record { map = m; meta = record { z = z; x = x; y = y } }; version = v }, b5)
+    → bytes_number short 4 b0 ≡ Ok (m, b1) → bytes_number short 4 b1 ≡ Ok (z, b2) → bytes_number short 4 b2 ≡ Ok (x, b3) → bytes_number short 4 b3 ≡ Ok (y, b4)
+    → bytes_number short 8 b4 ≡ Ok (v, b5) → fields_in short b0 ≡ Ok (record { key = record { map = m; meta = record { z = z; x = x; y = y } }; version = v }, b5)
 unfolding fields_in
 fields_steps short b0 b1 b2 b3 b4 b5 m z x y v e0 e1 e2 e3 e4 = rw (e0, e1, e2, e3, e4) refl
 
@@ -189,21 +189,21 @@ clean_back short updates (k ∷ clean) before rest few maps kept rise follows =
 -- ---- the whole text
 
 text_steps : (short : SavedFault) (all : ℕ) (bytes start b0 b1 b2 b3 b4 : List ℕ) (n0 n1 n2 : ℕ) (styles : List (Option ℕ)) (updates : List Past) (clean : List Kept)
-    → opened short bytes ≡ Ok start → number_in short 4 start ≡ Ok (n0, b0) → many (style_in short) n0 [] b0 ≡ Ok (styles, b1)
-    → number_in short 8 b1 ≡ Ok (n1, b2) → many (past_in short) n1 [] b2 ≡ Ok (updates, b3)
-    → number_in short 8 b3 ≡ Ok (n2, b4) → many (entry_in short (length updates)) n2 [] b4 ≡ Ok (clean, []) → ended all [] ≡ Ok tt
-    → text_in short all bytes ≡ Ok (record { styles = styles; updates = updates; clean = clean })
-unfolding text_in
+    → after_magic short bytes ≡ Ok start → bytes_number short 4 start ≡ Ok (n0, b0) → many (style_in short) n0 [] b0 ≡ Ok (styles, b1)
+    → bytes_number short 8 b1 ≡ Ok (n1, b2) → many (past_in short) n1 [] b2 ≡ Ok (updates, b3)
+    → bytes_number short 8 b3 ≡ Ok (n2, b4) → many (entry_in short (length updates)) n2 [] b4 ≡ Ok (clean, []) → nothing_left all [] ≡ Ok tt
+    → saving_in short all bytes ≡ Ok (record { styles = styles; updates = updates; clean = clean })
+unfolding saving_in
 text_steps short all bytes start b0 b1 b2 b3 b4 n0 n1 n2 styles updates clean e0 e1 e2 e3 e4 e5 e6 e7 = rw (e0, e1, e2, e3, e4, e5, e6, e7) refl
 
-opened_back : (short : SavedFault) (rest : List ℕ) → opened short (magic ++ rest) ≡ Ok rest
-unfolding opened
+opened_back : (short : SavedFault) (rest : List ℕ) → after_magic short (saved_magic ++ rest) ≡ Ok rest
+unfolding after_magic
 opened_back short rest =
-    let long : leb 4 (length (magic ++ rest)) ≡ true = grind (arith, nat_tests, length-append magic rest) in
+    let long : leb 4 (length (saved_magic ++ rest)) ≡ true = grind (arith, nat_tests, length-append saved_magic rest) in
     rw long refl
 
-ended_back : (all : ℕ) → ended all [] ≡ Ok tt
-unfolding ended
+ended_back : (all : ℕ) → nothing_left all [] ≡ Ok tt
+unfolding nothing_left
 ended_back all = refl
 
 regrouped : (a b c d e f g : List ℕ) → a ++ b ++ c ++ d ++ e ++ f ++ g ≡ a ++ (b ++ (c ++ (d ++ (e ++ (f ++ g)))))
@@ -213,7 +213,7 @@ first_follows : (clean : List Kept) → Follows (last_of []) clean
 first_follows [] = tt
 first_follows (k ∷ ks) = refl
 
-whole_back : (short : SavedFault) (all : ℕ) (s : Saving) → IsSaving s → HasNumbers s → text_in short all (saved_bytes s) ≡ Ok s
+whole_back : (short : SavedFault) (all : ℕ) (s : Saving) → IsSaving s → HasNumbers s → saving_in short all (saved_bytes s) ≡ Ok s
 unfolding saved_bytes
 whole_back short all s sound numbers =
     let cs = flat_map kept_bytes s.clean in
@@ -225,8 +225,8 @@ whole_back short all s sound numbers =
     let clean : many (entry_in short (length s.updates)) (length s.clean) [] cs ≡ Ok (s.clean, []) =
     ap (many (entry_in short (length s.updates)) (length s.clean) []) (sym (append-nil cs))
     ∙ clean_back short (length s.updates) s.clean [] [] numbers.few_updates numbers.maps_fit sound.clean_fit.kept sound.clean_fit.rise (first_follows s.clean) in
-    let text : saved_bytes s ≡ magic ++ start = regrouped magic (little_bytes 4 (length s.styles)) ss (little_bytes 8 (length s.updates)) us (little_bytes 8 (length s.clean)) cs in
-    ap (text_in short all) text ∙ text_steps short all (magic ++ start) start (ss ++ b1) b1 (us ++ b3) b3 cs (length s.styles) (length s.updates) (length s.clean) s.styles s.updates s.clean
+    let text : saved_bytes s ≡ saved_magic ++ start = regrouped saved_magic (little_bytes 4 (length s.styles)) ss (little_bytes 8 (length s.updates)) us (little_bytes 8 (length s.clean)) cs in
+    ap (saving_in short all) text ∙ text_steps short all (saved_magic ++ start) start (ss ++ b1) b1 (us ++ b3) b3 cs (length s.styles) (length s.updates) (length s.clean) s.styles s.updates s.clean
     (opened_back short start) (field_back short 4 (length s.styles) (ss ++ b1) sound.few_styles) (styles_back short s.styles [] b1 sound.styles_fit)
     (field_back short 8 (length s.updates) (us ++ b3) numbers.few_updates) (updates_back short s.updates [] b3 numbers.updates_fit)
     (field_back short 8 (length s.clean) cs numbers.few_clean) clean (ended_back all)

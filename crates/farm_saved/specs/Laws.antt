@@ -4,7 +4,7 @@ use Rattle.farm_history.specs.declared.keys.Kept.{Kept}
 use Rattle.farm_history.specs.declared.saved.Past.{Past}
 use Rattle.farm_history.specs.Entries.{Entry}
 use Rattle.farm_history.specs.Rules.{Legal}
-use Rattle.farm_history.specs.Replays.{Saving, number_of, IsSaved, IsResumed, replay}
+use Rattle.farm_history.specs.Replays.{Saving, past_number, IsSaved, IsResumed, replay}
 use Rattle.farm_plan.specs.Plans.{FarmPlan, IsPlan}
 use Rattle.farm_plan.specs.Drawings.{plan_of}
 use Rattle.farm_saved.specs.Savings.{IsSaving}
@@ -13,7 +13,7 @@ use Rattle.farm_saved.specs.Reading.{saved_in}
 
 -- the numbers of updates and maps fit 32 bits
 abbrev pub PastFits : Past → Type 0
-PastFits past = number_of past < 2 ^ 32
+PastFits past = past_number past < 2 ^ 32
 
 abbrev pub MapFits : Kept → Type 0
 MapFits k = k.key.map < 2 ^ 32

@@ -13,16 +13,16 @@ use Rattle.farm_saved.specs.declared.fault.SavedFault.{SavedFault}
 use Rattle.farm_saved.specs.declared.fault.SavedFault.TheVariants.{Short, Magic, Kind, Order, Extra}
 
 -- the bytes at the front
-abbrev pub magic : List ℕ
-magic = codes "FSV1"
+abbrev pub saved_magic : List ℕ
+saved_magic = codes "FSV1"
 
 -- all saved texts begin with these bytes
-unfoldable pub opened : SavedFault → List ℕ → Result (List ℕ) SavedFault
-opened short bytes = check (nat_le 4 (length bytes)) short >>= λ u. check (bytes_eq (take 4 bytes) magic) Magic >>= λ u. Ok (drop 4 bytes)
+unfoldable pub after_magic : SavedFault → List ℕ → Result (List ℕ) SavedFault
+after_magic short bytes = check (nat_le 4 (length bytes)) short >>= λ u. check (bytes_eq (take 4 bytes) saved_magic) Magic >>= λ u. Ok (drop 4 bytes)
 
 -- a number of so many bytes, and the bytes behind it
-unfoldable pub number_in : SavedFault → ℕ → List ℕ → Result (ℕ × List ℕ) SavedFault
-number_in short n bytes = if nat_le n (length bytes) then Ok (little_number n bytes, drop n bytes) else Err short
+unfoldable pub bytes_number : SavedFault → ℕ → List ℕ → Result (ℕ × List ℕ) SavedFault
+bytes_number short n bytes = if nat_le n (length bytes) then Ok (little_number n bytes, drop n bytes) else Err short
 
 -- so many items one after another, behind those that were read before; each is read with those before it
 unfoldable pub many : {A : Type 0} → (List A → List ℕ → Result (A × List ℕ) SavedFault) → ℕ → List A → List ℕ → Result (List A × List ℕ) SavedFault
@@ -30,13 +30,13 @@ many read zero before bytes = Ok (before, bytes)
 many read (suc n) before bytes = read before bytes >>= λ item. many read n (before ++ item.0 ∷ []) item.1
 
 -- the style that a map's number says
-abbrev pub style_of : ℕ → Option ℕ
-style_of zero = None
-style_of (suc n) = Some n
+abbrev pub style_if_any : ℕ → Option ℕ
+style_if_any zero = None
+style_if_any (suc n) = Some n
 
 -- a map
 unfoldable pub style_in : SavedFault → List (Option ℕ) → List ℕ → Result (Option ℕ × List ℕ) SavedFault
-style_in short before bytes = number_in short 4 bytes >>= λ number. Ok (style_of number.0, number.1)
+style_in short before bytes = bytes_number short 4 bytes >>= λ number. Ok (style_if_any number.0, number.1)
 
 -- the update of a kind
 abbrev pub past_of : ℕ → ℕ → Past
@@ -45,9 +45,9 @@ past_of kind n = if kind == 0 then Past.Update n else Past.Renew n
 -- an update: its kind, which is 0 or 1, and its number
 unfoldable pub past_in : SavedFault → List Past → List ℕ → Result (Past × List ℕ) SavedFault
 past_in short before bytes = do
-  kind ← number_in short 4 bytes
+  kind ← bytes_number short 4 bytes
   u ← check (nat_le kind.0 1) (Kind (length before))
-  number ← number_in short 4 kind.1
+  number ← bytes_number short 4 kind.1
   Ok (past_of kind.0 number.0, number.1)
 
 -- a metatile
@@ -70,11 +70,11 @@ is_kept updates before k = is_meta k.key.meta && nat_le k.version updates && is_
 -- the fields of a clean entry: map, zoom, column, row and version
 unfoldable pub fields_in : SavedFault → List ℕ → Result (Kept × List ℕ) SavedFault
 fields_in short bytes = do
-  map ← number_in short 4 bytes
-  z ← number_in short 4 map.1
-  x ← number_in short 4 z.1
-  y ← number_in short 4 x.1
-  version ← number_in short 8 y.1
+  map ← bytes_number short 4 bytes
+  z ← bytes_number short 4 map.1
+  x ← bytes_number short 4 z.1
+  y ← bytes_number short 4 x.1
+  version ← bytes_number short 8 y.1
   Ok (record { key = record { map = map.0; meta = record { z = z.0; x = x.0; y = y.0 } }; version = version.0 }, version.1)
 
 -- a clean entry of a farm with so many updates, which is judged after all its fields
@@ -85,22 +85,22 @@ entry_in short updates before bytes = do
   Ok entry
 
 -- nothing is left of so many bytes
-unfoldable pub ended : ℕ → List ℕ → Result (Unit {0}) SavedFault
-ended all rest = check (length rest == 0) (Extra (all - length rest))
+unfoldable pub nothing_left : ℕ → List ℕ → Result (Unit {0}) SavedFault
+nothing_left all rest = check (length rest == 0) (Extra (all - length rest))
 
 -- the whole text
-unfoldable pub text_in : SavedFault → ℕ → List ℕ → Result Saving SavedFault
-text_in short all bytes = do
-  start ← opened short bytes
-  maps ← number_in short 4 start
+unfoldable pub saving_in : SavedFault → ℕ → List ℕ → Result Saving SavedFault
+saving_in short all bytes = do
+  start ← after_magic short bytes
+  maps ← bytes_number short 4 start
   styles ← many (style_in short) maps.0 [] maps.1
-  pasts ← number_in short 8 styles.1
+  pasts ← bytes_number short 8 styles.1
   updates ← many (past_in short) pasts.0 [] pasts.1
-  entries ← number_in short 8 updates.1
+  entries ← bytes_number short 8 updates.1
   clean ← many (entry_in short (length updates.0)) entries.0 [] entries.1
-  u ← ended all clean.1
+  u ← nothing_left all clean.1
   Ok (record { styles = styles.0; updates = updates.0; clean = clean.0 })
 
 -- what the bytes of a saved text say
 unfoldable pub saved_in : List ℕ → Result Saving SavedFault
-saved_in bytes = text_in (Short (length bytes)) (length bytes) bytes
+saved_in bytes = saving_in (Short (length bytes)) (length bytes) bytes

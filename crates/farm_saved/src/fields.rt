@@ -11,9 +11,9 @@ use farm_history::{Kept, Key, Past};
 use plain_world::Meta;
 
 /// The bytes behind `FSV1`.
-#[tactic(auto, unfolding(crate::specs::Reading::opened))]
+#[tactic(auto, unfolding(crate::specs::Reading::after_magic))]
 pub fn opened(bytes: &[u8], short: SavedFault) -> Result<&[u8], SavedFault>
-    ensures value { seen (λ s. s.now) result ≡ spec.opened short bytes.entry.now }
+    ensures value { seen (λ s. s.now) result ≡ spec.after_magic short bytes.entry.now }
     ensures left { IfOk result (λ s. length s.now + 4 ≡ length bytes.entry.now) }
 {
     if bytes.len() < 4 {
@@ -27,9 +27,9 @@ pub fn opened(bytes: &[u8], short: SavedFault) -> Result<&[u8], SavedFault>
 }
 
 /// A number of four bytes.
-#[tactic(auto, unfolding(crate::specs::Reading::number_in))]
+#[tactic(auto, unfolding(crate::specs::Reading::bytes_number))]
 pub fn number(bytes: &[u8], short: SavedFault) -> Result<(u32, &[u8]), SavedFault>
-    ensures value { seen (λ p. (p.0, p.1.now)) result ≡ spec.number_in short 4 bytes.entry.now }
+    ensures value { seen (λ p. (p.0, p.1.now)) result ≡ spec.bytes_number short 4 bytes.entry.now }
     ensures left { IfOk result (λ p. length p.1.now + 4 ≡ length bytes.entry.now) }
 {
     if bytes.len() < 4 {
@@ -39,9 +39,9 @@ pub fn number(bytes: &[u8], short: SavedFault) -> Result<(u32, &[u8]), SavedFaul
 }
 
 /// A number of eight bytes.
-#[tactic(auto, unfolding(crate::specs::Reading::number_in))]
+#[tactic(auto, unfolding(crate::specs::Reading::bytes_number))]
 pub fn long_number(bytes: &[u8], short: SavedFault) -> Result<(u64, &[u8]), SavedFault>
-    ensures value { seen (λ p. (p.0, p.1.now)) result ≡ spec.number_in short 8 bytes.entry.now }
+    ensures value { seen (λ p. (p.0, p.1.now)) result ≡ spec.bytes_number short 8 bytes.entry.now }
     ensures left { IfOk result (λ p. length p.1.now + 8 ≡ length bytes.entry.now) }
 {
     if bytes.len() < 8 {
@@ -52,7 +52,7 @@ pub fn long_number(bytes: &[u8], short: SavedFault) -> Result<(u64, &[u8]), Save
 
 /// The style that a map's number says.
 fn style_of(number: u32) -> Option<u32>
-    ensures value { result ≡ spec.style_of number }
+    ensures value { result ≡ spec.style_if_any number }
     ensures fits { StyleFits result }
 {
     if number == 0 { None } else { Some(number - 1) }

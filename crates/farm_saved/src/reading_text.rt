@@ -12,10 +12,10 @@ use farm_history::Saved;
 use std::alloc::Global;
 
 /// Whether nothing is left of so many bytes.
-#[tactic(auto, unfolding(crate::specs::Reading::ended))]
+#[tactic(auto, unfolding(crate::specs::Reading::nothing_left))]
 fn ended(all: u64, rest: &[u8]) -> Result<(), SavedFault>
     requires { length rest.now ≤ all }
-    ensures { result ≡ spec.ended all rest.now }
+    ensures { result ≡ spec.nothing_left all rest.now }
 {
     if rest.is_empty() {
         return Ok(());
@@ -24,7 +24,7 @@ fn ended(all: u64, rest: &[u8]) -> Result<(), SavedFault>
 }
 
 /// The whole text.
-#[tactic(auto, unfolding(crate::specs::Reading::saved_in, crate::specs::Reading::text_in))]
+#[tactic(auto, unfolding(crate::specs::Reading::saved_in, crate::specs::Reading::saving_in))]
 fn saved(alloc: Global, bytes: &[u8]) -> Result<Saved, SavedFault>
     ensures value { Gives fault.NoMemory (λ s. s) (spec.saved_in bytes.now) result }
     ensures sound { IfOk result (λ s. IsSaving s) }

@@ -17,7 +17,7 @@ use Rattle.resume_faults.specs.Faults.{resume_fault}
 use Rattle.resume_faults.specs.declared.faults.ResumeFault.{ResumeFault}
 use Rattle.resume_faults.specs.declared.faults.ResumeFault.TheVariants as fault
 use Rattle.farm_stands.specs.Seen.{FarmSeen}
-use Rattle.farm_setup.specs.Beginnings.{Refusal, unread, unfit, refusal_text, resumed_by, judged, fitting, resume_text}
+use Rattle.farm_setup.specs.Beginnings.{ResumeRefusal, unread, unfit, refusal_text, resumed_by, judged, resumed_or_unfit, resume_text}
 use Rattle.farm_setup.specs.inner.Steps.{Tells, BeganBy, Refuses}
 
 -- bytes that were found are judged
@@ -26,7 +26,7 @@ resumed_some plan [] some = absurd (omega (arith, some))
 resumed_some plan (b ∷ bytes) some = refl
 
 -- a fault whose text is told is refused by it
-refuses : (plan : FarmPlan) (found : Option (List ℕ)) (fault : Refusal) (text : Result (List ℕ) NoMemory) (why : Stop) → Tells text why → IfOk text (λ t. refusal_text fault ≡ Some t)
+refuses : (plan : FarmPlan) (found : Option (List ℕ)) (fault : ResumeRefusal) (text : Result (List ℕ) NoMemory) (why : Stop) → Tells text why → IfOk text (λ t. refusal_text fault ≡ Some t)
     → ((t : List ℕ) → refusal_text fault ≡ Some t → resumed_by plan found ≡ Err fault) → Refuses plan found why
 refuses plan found fault (Err wanting) why is said by = subst (Refuses plan found) (sym is) tt
 refuses plan found fault (Ok t) why (inl is) said by = subst (Refuses plan found) (sym is) tt
@@ -54,7 +54,7 @@ module _ (plan : FarmPlan) (bytes : List ℕ) (some : 0 < length bytes) where
       → IfOk text (λ t. resume_text why ≡ Some t) → Tells text s → Refuses plan (Some bytes) s
   not_fitting saving means why text s is_fault said tells =
       refuses plan (Some bytes) (unfit why) text s tells said
-      (λ t is. resumed_some plan bytes some ∙ ap (judged plan) means ∙ ap (fitting saving) (is_fault (λ e. resume_memory t (subst (λ (w : ResumeFault). resume_text w ≡ Some t) e is))))
+      (λ t is. resumed_some plan bytes some ∙ ap (judged plan) means ∙ ap (resumed_or_unfit saving) (is_fault (λ e. resume_memory t (subst (λ (w : ResumeFault). resume_text w ≡ Some t) e is))))
 
 -- no bytes are as nothing
 refuses_none : (plan : FarmPlan) (why : Stop) → Refuses plan None why → Refuses plan (Some []) why

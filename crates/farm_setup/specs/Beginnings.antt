@@ -32,39 +32,39 @@ resume_text (fault.Apply place why) = Some (codes "resume 4")
 resume_text fault.NoMemory = None
 
 -- the first fault of what is saved: of its text, or over a plan
-pub data Refusal : Type 0 where
-  unread : SavedFault → Refusal
-  unfit : ResumeFault → Refusal
+pub data ResumeRefusal : Type 0 where
+  unread : SavedFault → ResumeRefusal
+  unfit : ResumeFault → ResumeRefusal
 
 -- the text of it
-abbrev pub refusal_text : Refusal → Option (List ℕ)
+abbrev pub refusal_text : ResumeRefusal → Option (List ℕ)
 refusal_text (unread why) = saved_text why
 refusal_text (unfit why) = resume_text why
 
 -- what is resumed, if it is of such a plan
-abbrev pub fitting : Saving → Option ResumeFault → Result (Option Saving) Refusal
-fitting s None = Ok (Some s)
-fitting s (Some why) = Err (unfit why)
+abbrev pub resumed_or_unfit : Saving → Option ResumeFault → Result (Option Saving) ResumeRefusal
+resumed_or_unfit s None = Ok (Some s)
+resumed_or_unfit s (Some why) = Err (unfit why)
 
 -- what is resumed by a farm of the plan, or the first fault
-abbrev pub judged : FarmPlan → Result Saving SavedFault → Result (Option Saving) Refusal
-judged plan (Ok s) = fitting s (resume_fault plan s)
+abbrev pub judged : FarmPlan → Result Saving SavedFault → Result (Option Saving) ResumeRefusal
+judged plan (Ok s) = resumed_or_unfit s (resume_fault plan s)
 judged plan (Err why) = Err (unread why)
 
 -- what a farm of the plan is resumed from, by what was found of a saved one: by nothing and by no bytes it begins anew. Or the first fault
-abbrev pub resumed_by : FarmPlan → Option (List ℕ) → Result (Option Saving) Refusal
+abbrev pub resumed_by : FarmPlan → Option (List ℕ) → Result (Option Saving) ResumeRefusal
 resumed_by plan None = Ok None
 resumed_by plan (Some []) = Ok None
 resumed_by plan (Some (b ∷ bytes)) = judged plan (saved_in (b ∷ bytes))
 
 -- What is saved in a store, for a farm of the plan: what it is resumed from, or the first fault. Where the store tells, it is by what stands there; and else by what it answered
-pub record IsSavedIn (at : Outside StoreTold) (plan : FarmPlan) (says : Result (Option Saving) Refusal) : Type 0 where
+pub record IsSavedIn (at : Outside StoreTold) (plan : FarmPlan) (says : Result (Option Saving) ResumeRefusal) : Type 0 where
   pub found : Option (List ℕ)
   pub stands : IfSome at.told (λ t. found ≡ t.content saved_path)
   pub said : resumed_by plan found ≡ says
 
 -- the line refuses what is saved, for this fault
-abbrev pub RefusesFor : Refusal → List ℕ → Type 0
+abbrev pub RefusesFor : ResumeRefusal → List ℕ → Type 0
 RefusesFor why line = (text : List ℕ) × (refusal_text why ≡ Some text) × (line ≡ refused_line saved_path text)
 
 -- ---- how a farm begins
@@ -92,7 +92,7 @@ pub record HasBegun {D : Type 0} (state : D → Outside StoreTold) (plan : FarmP
 -- Why none was begun, and what the store shows then. Refused, by the line of the first fault of what is saved; StoreFailed, where what is saved could not be had, or could not be emptied; or NoMemory. But for the call that failed the store shows what it showed
 abbrev pub CannotBegin : Outside StoreTold → FarmPlan → Bool → Outside StoreTold → Stop → Type 0
 CannotBegin at plan resume at' (stop.Refused line) =
-    (resume ≡ true) × (why : Refusal) × IsSavedIn at plan (Err why) × RefusesFor why line × (at' ≡ at)
+    (resume ≡ true) × (why : ResumeRefusal) × IsSavedIn at plan (Err why) × RefusesFor why line × (at' ≡ at)
 CannotBegin at plan resume at' stop.StoreFailed =
     (resume ≡ true) × (Gets whole at at' saved_path (Err Failed) ⊎ ((saved : Option Saving) × IsSavedIn at plan (Ok saved) × Puts at at' saved_path [] (Err Failed)))
 CannotBegin at plan resume at' stop.NoMemory = at' ≡ at

@@ -14,23 +14,23 @@ stop_of fault.Failed = stop.PortsFailed
 stop_of fault.NoMemory = stop.NoMemory
 
 -- how a call goes on after a listen
-abbrev pub end_of : Result (Unit {0}) PortFault → Result (Unit {0}) Stop
-end_of (Ok done) = Ok tt
-end_of (Err why) = Err (stop_of why)
+abbrev pub listen_end : Result (Unit {0}) PortFault → Result (Unit {0}) Stop
+listen_end (Ok done) = Ok tt
+listen_end (Err why) = Err (stop_of why)
 
 -- one listen at the address: what the ports show before and after it
-pub record Listens (address : List ℕ) (old new : Outside PortsTold) (end : Result (Unit {0}) Stop) : Type 0 where
+pub record ListenEnds (address : List ℕ) (old new : Outside PortsTold) (end : Result (Unit {0}) Stop) : Type 0 where
   pub answer : Result (Unit {0}) PortFault
   pub told : port.Listens address answer old.told new.told
   pub counts : ListenCounts old.faults new.faults answer
-  pub end_is : end ≡ end_of answer
+  pub end_is : end ≡ listen_end answer
 
 -- ports that are to be listened on: the address, and what they show before and after
-abbrev pub Place : Type 0
-Place = List ℕ × Outside PortsTold × Outside PortsTold
+abbrev pub ListenPlace : Type 0
+ListenPlace = List ℕ × Outside PortsTold × Outside PortsTold
 
 -- they are not touched
-abbrev pub Untouched : List Place → Type 0
+abbrev pub Untouched : List ListenPlace → Type 0
 Untouched [] = Unit {0}
 Untouched (p ∷ ps) = (p.2 ≡ p.1) × Untouched ps
 
@@ -40,6 +40,6 @@ After (Ok done) end next none = next
 After (Err why) end next none = none × (end ≡ Err why)
 
 -- Each is listened on at its address, in this order, and the first that does not listen is the last
-abbrev pub Listening : List Place → Result (Unit {0}) Stop → Type 0
+abbrev pub Listening : List ListenPlace → Result (Unit {0}) Stop → Type 0
 Listening [] end = end ≡ Ok tt
-Listening (p ∷ ps) end = (first : Result (Unit {0}) Stop) × Listens p.0 p.1 p.2 first × After first end (Listening ps end) (Untouched ps)
+Listening (p ∷ ps) end = (first : Result (Unit {0}) Stop) × ListenEnds p.0 p.1 p.2 first × After first end (Listening ps end) (Untouched ps)

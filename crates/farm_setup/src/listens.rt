@@ -1,6 +1,6 @@
 //! The ports of a farm are listened on.
 ghost use Rattle.std.specs.Prelude.{◌≡◌, [], ◌∷◌};
-ghost use Rattle.farm_setup.specs.Listens.{Listens, Listening};
+ghost use Rattle.farm_setup.specs.Listens.{ListenEnds, Listening};
 ghost use Rattle.farm_setup.specs.Listens as spec;
 
 use call_ends::Stop;
@@ -18,7 +18,7 @@ fn stop_of(fault: PortFault) -> Stop
 
 /// Listens at the address.
 fn listen<P: Ports>(ports: &mut P, address: &str) -> Result<(), Stop>
-    ensures { Listens address.now (P.state ports.old) (P.state ports.new) result }
+    ensures { ListenEnds address.now (P.state ports.old) (P.state ports.new) result }
 {
     match ports.listen(address) {
         Ok(()) => Ok(()),

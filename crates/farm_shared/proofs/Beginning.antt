@@ -3,7 +3,7 @@ use Rattle.std.proofs.Common.{◌^◌, ◌<◌, Bool, [], length, Option, Some, 
 use Rattle.farm_base.specs.Outside.{Outside}
 use Rattle.tile_store.specs.Stores.{StoreTold}
 use Rattle.farm_history.specs.Past.{flights}
-use Rattle.farm_history.specs.Laws.{asked}
+use Rattle.farm_history.specs.Laws.{ask_numbered}
 use Rattle.farm_history.specs.Replays.{Saving}
 use Rattle.farm_history.proofs.Unflown.{replay_unflown, replay_asks}
 use Rattle.farm_plan.specs.Plans.{FarmPlan}
@@ -14,7 +14,7 @@ use Rattle.farm_core.specs.Begins.{origin, BeginsWell}
 use Rattle.farm_shared.specs.Shared.{lasting_of, MayTell, IsAfter}
 
 begins_well : (plan : FarmPlan) (saved : Option Saving) → length (origin plan saved) < 2 ^ 62 → BeginsWell (origin plan saved)
-unfolding flights asked
+unfolding flights ask_numbered
 begins_well plan None short = record { short = short; unflown = refl; asks = λ m a is. cc }
 begins_well plan (Some s) short = record { short = short; unflown = replay_unflown (plan_of plan) s; asks = replay_asks (plan_of plan) s }
 

@@ -7,9 +7,9 @@ use Rattle.farm_history.specs.declared.queues.Reply.{Reply}
 use Rattle.farm_history.specs.declared.answers.Collected.{Collected}
 use Rattle.farm_history.specs.Entries.{Entry, Ask, Collect, Leave}
 use Rattle.farm_history.specs.Plans.{Plan, same_conn, key_of}
-use Rattle.farm_history.specs.Past.{Numbered, number_in, open_asks, ended, is_stopped}
+use Rattle.farm_history.specs.Past.{Numbered, number_in, open_asks, due_replies, is_stopped}
 use Rattle.farm_history.specs.Rules.{Fits, Legal, collect_from, collect_rule}
-use Rattle.farm_history.specs.Laws.{asked_here, asked, is_left_after, is_replied, IsOnlyReply}
+use Rattle.farm_history.specs.Laws.{asked_here, ask_numbered, is_left_after, is_replied, IsOnlyReply}
 use Rattle.farm_history.specs.Replays.{replay_front}
 use Rattle.farm_history.specs.Lists.{Each}
 use Rattle.farm_history.proofs.Lists.{each-passes, each-map}
@@ -22,7 +22,7 @@ use Rattle.farm_shared.specs.inner.Turns.{own_of}
 -- of an ask in the whole history h: it stands among the seat's own entries too, and where no Leave of its connection stands after it in the whole, none does among those
 record Owns (m : ℕ) (a : Numbered) (h own : List Entry) : Type 0 where
   ask : Numbered
-  is_asked : asked own m ≡ Some ask
+  is_asked : ask_numbered own m ≡ Some ask
   conn_is : ask.conn ≡ a.conn
   inner : length ask.before < length own
   outer : length a.before < length h
@@ -36,7 +36,7 @@ left_none (Leave c count ∷ g) place conn h = let lt : nat_lt place (length g) 
 left_none (_ ∷ g) place conn h = left_none g place conn (omega arith)
 
 -- an entry that neither asks with that number nor leaves
-passes : (m : ℕ) (a : Numbered) (h own : List Entry) (e : Entry) (b : Bool) → ((g : List Entry) → asked (e ∷ g) m ≡ asked g m) →
+passes : (m : ℕ) (a : Numbered) (h own : List Entry) (e : Entry) (b : Bool) → ((g : List Entry) → ask_numbered (e ∷ g) m ≡ ask_numbered g m) →
     ((g : List Entry) (place : ℕ) (conn : Conn) → is_left_after (e ∷ g) place conn ≡ is_left_after g place conn) → Owns m a h own → Owns m a (e ∷ h) (cond b (e ∷ own) own)
 passes m a h own e true same_asked same_left o = record {
   ask = o.ask;
@@ -61,7 +61,7 @@ or_false false b e = (refl, e)
 
 -- a Leave of any connection
 leaves : (m : ℕ) (a : Numbered) (h own : List Entry) (c : Conn) (count : ℕ) (b : Bool) → Owns m a h own → Owns m a (Leave c count ∷ h) (cond b (Leave c count ∷ own) own)
-unfolding asked is_left_after
+unfolding ask_numbered is_left_after
 leaves m a h own c count true o = record {
   ask = o.ask;
   is_asked = o.is_asked;
@@ -86,17 +86,17 @@ leaves m a h own c count false o = record {
 }
 
 -- an ask, by the number that it was given
-asks : (n m s : ℕ) (a : Numbered) (h own : List Entry) (e : Entry) (conn : Conn) (k : Key) (number : Option ℕ) → ((g : List Entry) (j : ℕ) → asked (e ∷ g) j ≡ asked_here number j conn k g (asked g j)) →
+asks : (n m s : ℕ) (a : Numbered) (h own : List Entry) (e : Entry) (conn : Conn) (k : Key) (number : Option ℕ) → ((g : List Entry) (j : ℕ) → ask_numbered (e ∷ g) j ≡ asked_here number j conn k g (ask_numbered g j)) →
     ((g : List Entry) (place : ℕ) (c : Conn) → is_left_after (e ∷ g) place c ≡ is_left_after g place c) → s ≡ conn.front + 1 → a.conn.front + 1 ≡ n →
-    asked_here number m conn k h (asked h m) ≡ Some a → (asked h m ≡ Some a → Owns m a h own) → Owns m a (e ∷ h) (cond (s == n) (e ∷ own) own)
+    asked_here number m conn k h (ask_numbered h m) ≡ Some a → (ask_numbered h m ≡ Some a → Owns m a h own) → Owns m a (e ∷ h) (cond (s == n) (e ∷ own) own)
 asks n m s a h own e conn k None same_asked same_left fits front is ih = passes m a h own e (s == n) (λ g. same_asked g m) same_left (ih is)
 asks n m s a h own e conn k (Some j) same_asked same_left fits front is ih = go (j == m) refl is
   where
     new : List Entry → Numbered
     new g = record { conn = conn; number = j; key = k; before = g }
 
-    go : (b : Bool) → (j == m) ≡ b → cond b (Some (new h)) (asked h m) ≡ Some a → Owns m a (e ∷ h) (cond (s == n) (e ∷ own) own)
-    go false other here = passes m a h own e (s == n) (λ g. same_asked g m ∙ ap (λ b. cond b (Some (new g)) (asked g m)) other) same_left (ih here)
+    go : (b : Bool) → (j == m) ≡ b → cond b (Some (new h)) (ask_numbered h m) ≡ Some a → Owns m a (e ∷ h) (cond (s == n) (e ∷ own) own)
+    go false other here = passes m a h own e (s == n) (λ g. same_asked g m ∙ ap (λ b. cond b (Some (new g)) (ask_numbered g m)) other) same_left (ih here)
     go true same here =
         let is_new : new h ≡ a = cc in
         let conn_is : conn ≡ a.conn = ap (λ (x : Numbered). x.conn) is_new in
@@ -106,7 +106,7 @@ asks n m s a h own e conn k (Some j) same_asked same_left fits front is ih = go 
         let seat : (s == n) ≡ true = grind (arith, nat_tests) in
         rw seat (record {
           ask = new own;
-          is_asked = same_asked own m ∙ ap (λ b. cond b (Some (new own)) (asked own m)) same;
+          is_asked = same_asked own m ∙ ap (λ b. cond b (Some (new own)) (ask_numbered own m)) same;
           conn_is = conn_is;
           inner = omega arith;
           outer = omega arith;
@@ -114,15 +114,15 @@ asks n m s a h own e conn k (Some j) same_asked same_left fits front is ih = go 
         })
 
 -- one entry
-owns_more : (n m s : ℕ) (a : Numbered) (g : List (ℕ × Entry)) (h own : List Entry) (e : Entry) → SeatFits g s e → a.conn.front + 1 ≡ n → asked (e ∷ h) m ≡ Some a → (asked h m ≡ Some a → Owns m a h own) →
+owns_more : (n m s : ℕ) (a : Numbered) (g : List (ℕ × Entry)) (h own : List Entry) (e : Entry) → SeatFits g s e → a.conn.front + 1 ≡ n → ask_numbered (e ∷ h) m ≡ Some a → (ask_numbered h m ≡ Some a → Owns m a h own) →
     Owns m a (e ∷ h) (cond (s == n) (e ∷ own) own)
-unfolding asked is_left_after
+unfolding ask_numbered is_left_after
 owns_more n m s a g h own (Ask conn command spot answer) fits front is ih =
     asks n m s a h own (Ask conn command spot answer) conn (key_of spot) (number_in answer) (λ g' j. refl) (λ g' place c. refl) fits front is ih
 owns_more n m s a g h own (Leave c count) fits front is ih = leaves m a h own c count (s == n) (ih is)
 owns_more n m s a g h own e fits front is ih = passes m a h own e (s == n) (λ g'. refl) (λ g' place c. refl) (ih is)
 
-owns : (n m : ℕ) (a : Numbered) (o : List Entry) (g : List (ℕ × Entry)) → BeginsWell o → Seated g → a.conn.front + 1 ≡ n → a.conn.front ≢ replay_front → asked (plain g ++ o) m ≡ Some a → Owns m a (plain g ++ o) (own_of n g)
+owns : (n m : ℕ) (a : Numbered) (o : List Entry) (g : List (ℕ × Entry)) → BeginsWell o → Seated g → a.conn.front + 1 ≡ n → a.conn.front ≢ replay_front → ask_numbered (plain g ++ o) m ≡ Some a → Owns m a (plain g ++ o) (own_of n g)
 owns n m a o [] begun seated front other is = absurd (other (begun.asks m a is))
 owns n m a o (x ∷ g) begun seated front other is = owns_more n m x.0 a g (plain g ++ o) (own_of n g) x.1 seated.0 front is (owns n m a o g begun seated.1 front other)
 
@@ -141,7 +141,7 @@ unreplied n m o (x ∷ g) un = unreplied_more m (plain g ++ o) (own_of n g) x.1 
 
 -- a reply to a front is of a connection of that front
 reply_front : (h : List Entry) (front : ℕ) (r : Reply) → Collected.Reply r ≡ collect_rule h front → r.conn.front ≡ front
-reply_front h front r is = go (ended h front) (is_stopped h) (replies_in At _ h (each-map _ _ (filter (λ a. a.conn.front == front) (open_asks h)) (λ a test. grind (arith, nat_tests)) (each-passes (λ a. a.conn.front == front) (open_asks h)))) is
+reply_front h front r is = go (due_replies h front) (is_stopped h) (replies_in At _ h (each-map _ _ (filter (λ a. a.conn.front == front) (open_asks h)) (λ a test. grind (arith, nat_tests)) (each-passes (λ a. a.conn.front == front) (open_asks h)))) is
   where
     At : Numbered → Type 0
     At a = a.conn.front ≡ front

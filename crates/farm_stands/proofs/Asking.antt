@@ -24,7 +24,7 @@ use Rattle.render_queues.specs.Tables.{open_of, open_count}
 use Rattle.expiry_lists.specs.Marks.{MarksSeen, mark_of}
 use Rattle.farm_stands.specs.Seen.{FarmSeen}
 use Rattle.farm_stands.specs.Stands.{failures, StandsFor}
-use Rattle.farm_stands.specs.inner.Events.{turned, asked_counts, tests_at, asked_tables, marked_tables, soil_taken}
+use Rattle.farm_stands.specs.inner.Events.{one_turn_more, asked_counts, tests_at, asked_tables, marked_tables, soil_taken}
 use Rattle.farm_stands.proofs.Storing.{store_quiet}
 use Rattle.farm_stands.proofs.Counting.{IsUncounted, counts_turn, counts_ask}
 use Rattle.farm_stands.proofs.Lining.{any-map}
@@ -109,10 +109,10 @@ uncounted_ask g conn command spot dirty = record {
 
 -- an ask with Dirty after a Stop, or of a spot that cannot be served: nothing changes
 pub ask_unmarked_step : {D : Type 0} (state : D → Outside StoreTold) (told : Bool) (farm : FarmSeen D) (g : List Entry) (conn : Conn) (command : Cmd) (spot : Spot) → is_dirty_command command ≡ true → not farm.counts.stopped && is_servable (plan_of farm.plan) spot ≡ false →
-    StandsFor state told farm g → StandsFor state told (record farm { counts = turned farm.counts }) (Ask conn command spot Silent ∷ g)
+    StandsFor state told farm g → StandsFor state told (record farm { counts = one_turn_more farm.counts }) (Ask conn command spot Silent ∷ g)
 unfolding Fits shown failures
 ask_unmarked_step state told farm g conn command spot dirty off s =
-    quiet state told farm g e (turned farm.counts) farm.queues farm.store s (quiet_ask farm.plan g conn command spot Silent untouched)
+    quiet state told farm g e (one_turn_more farm.counts) farm.queues farm.store s (quiet_ask farm.plan g conn command spot Silent untouched)
     (sym (ask_dirty p g conn command spot dirty)) (counts_turn farm.counts g e (uncounted_ask g conn command spot dirty) s.counts_are)
     (queues_unmarked farm.plan farm.queues g conn command spot (untouched (key_of spot)) s.queues_are)
     (store_quiet farm.plan (state farm.first).faults told g e (state farm.store) refl (λ k. refl) s.store_is)
@@ -132,10 +132,10 @@ ask_unmarked_step state told farm g conn command spot dirty off s =
 -- an ask with Dirty of a spot that can be served: its key is touched, and goes to the dirty queue if it stands nowhere
 pub ask_marked_step : {D : Type 0} (state : D → Outside StoreTold) (told : Bool) (farm : FarmSeen D) (g : List Entry) (conn : Conn) (command : Cmd) (spot : Spot) (ms : MarksSeen) → is_dirty_command command ≡ true → farm.counts.stopped ≡ false → is_servable (plan_of farm.plan) spot ≡ true →
     ((k : Key) → mark_of ms.shown k ≡ option_map (soiled (same_key (key_of spot) k)) (mark_of farm.marks.shown k)) → StandsFor state told farm g →
-    StandsFor state told (record farm { counts = turned farm.counts; taken = soil_taken (same_key (key_of spot)) farm.taken; marks = ms; queues = marked_tables farm.queues (key_of spot) }) (Ask conn command spot Silent ∷ g)
+    StandsFor state told (record farm { counts = one_turn_more farm.counts; taken = soil_taken (same_key (key_of spot)) farm.taken; marks = ms; queues = marked_tables farm.queues (key_of spot) }) (Ask conn command spot Silent ∷ g)
 unfolding Fits flights data_after changes_after style_after shown failures
 ask_marked_step state told farm g conn command spot ms dirty running servable marks s =
-    touching state told farm g e (same_key (key_of spot)) (turned farm.counts) farm.data_now farm.changes farm.styled ms (marked_tables farm.queues (key_of spot)) s refl tests refl
+    touching state told farm g e (same_key (key_of spot)) (one_turn_more farm.counts) farm.data_now farm.changes farm.styled ms (marked_tables farm.queues (key_of spot)) s refl tests refl
     (sym (ask_dirty p g conn command spot dirty)) (counts_turn farm.counts g e (uncounted_ask g conn command spot dirty) s.counts_are) s.data_is s.changes_are s.styles_are marks
     (queues_mark farm.plan farm.queues g conn command spot (tests (key_of spot) ∙ same_key-self (key_of spot)) s.queues_are)
     (store_quiet farm.plan (state farm.first).faults told g e (state farm.store) refl (λ k. refl) s.store_is)

@@ -30,7 +30,7 @@ use Rattle.render_queues.specs.Tables.{next_of, after_take}
 use Rattle.farm_stands.specs.Seen.{FarmSeen}
 use Rattle.farm_stands.specs.Stands.{failures, QueuesStand, StandsFor}
 use Rattle.farm_stands.specs.Jobs.{JobSeen, job_key, Carries, IsFlight}
-use Rattle.farm_stands.specs.inner.Events.{turned, claimed_counts, claim_at, claimed, taken_at}
+use Rattle.farm_stands.specs.inner.Events.{one_turn_more, claimed_counts, claim_at, new_flight, taken_at}
 use Rattle.farm_stands.proofs.Storing.{store_quiet}
 use Rattle.farm_stands.proofs.Counting.{counts_claim}
 use Rattle.farm_stands.proofs.Queueing.{next_at, queues_claim}
@@ -54,13 +54,13 @@ no_job worker (Job t k v) none = absurd none
 no_job worker answer none = refl
 
 -- a claim without a job
-pub claim_none_step : {D : Type 0} (state : D → Outside StoreTold) (told : Bool) (farm : FarmSeen D) (g : List Entry) (worker : ℕ) (answer : ClaimAnswer) → IsNoJob answer → answer ≡ claim_at farm → StandsFor state told farm g → StandsFor state told (record farm { counts = turned farm.counts }) (Claim worker answer ∷ g)
+pub claim_none_step : {D : Type 0} (state : D → Outside StoreTold) (told : Bool) (farm : FarmSeen D) (g : List Entry) (worker : ℕ) (answer : ClaimAnswer) → IsNoJob answer → answer ≡ claim_at farm → StandsFor state told farm g → StandsFor state told (record farm { counts = one_turn_more farm.counts }) (Claim worker answer ∷ g)
 unfolding Fits
 claim_none_step state told farm g worker answer none is s = idle_step state told farm g (Claim worker answer) (no_job worker answer none) (is ∙ claim_is state told farm g s) s
 
 -- a claim with the job of what waits first
 pub claim_job_step : {D : Type 0} (state : D → Outside StoreTold) (told : Bool) (farm : FarmSeen D) (g : List Entry) (worker : ℕ) (w : Waits) → next_of farm.queues.lines ≡ Some w → Job farm.counts.jobs w.key farm.counts.version ≡ claim_at farm → StandsFor state told farm g →
-    StandsFor state told (record farm { counts = claimed_counts farm.counts; queues = after_take farm.queues (next_of farm.queues.lines); taken = farm.taken ++ claimed farm.counts.jobs w.key farm.counts.version ∷ [] }) (Claim worker (Job farm.counts.jobs w.key farm.counts.version) ∷ g)
+    StandsFor state told (record farm { counts = claimed_counts farm.counts; queues = after_take farm.queues (next_of farm.queues.lines); taken = farm.taken ++ new_flight farm.counts.jobs w.key farm.counts.version ∷ [] }) (Claim worker (Job farm.counts.jobs w.key farm.counts.version) ∷ g)
 unfolding Fits data_after changes_after style_after shown failures
 claim_job_step state told farm g worker w first is s = record {
   valid = s.valid;
@@ -69,7 +69,7 @@ claim_job_step state told farm g worker w first is s = record {
   data_is = s.data_is;
   changes_are = s.changes_are;
   styles_are = s.styles_are;
-  taken_are = ap₂ (λ xs v. xs ++ claimed farm.counts.jobs w.key v ∷ []) s.taken_are s.counts_are.version_is ∙ sym (taken_claim p g worker farm.counts.jobs w.key farm.counts.version);
+  taken_are = ap₂ (λ xs v. xs ++ new_flight farm.counts.jobs w.key v ∷ []) s.taken_are s.counts_are.version_is ∙ sym (taken_claim p g worker farm.counts.jobs w.key farm.counts.version);
   marks_are = λ k. s.marks_are k ∙ sym (mark_quiet p g e k refl refl);
   queues_are = subst (λ o. QueuesStand farm.plan (after_take farm.queues o) (e ∷ g)) (sym first)
       (queues_claim farm.plan farm.queues g worker farm.counts.jobs farm.counts.version w (kept p told g s.legal).lone (sym (next_at farm.plan farm.queues g s.queues_are) ∙ first) s.queues_are);

@@ -16,7 +16,7 @@ use Rattle.farm_history.specs.Plans.{is_dirty_command}
 use Rattle.farm_history.specs.Past.{is_stopped, data_after, version, jobs, number_in, numbers, asks_made, is_done_answer, is_done, done_asks, stored_drawings}
 use Rattle.farm_stands.specs.Seen.{Counts}
 use Rattle.farm_stands.specs.Stands.{CountsStand}
-use Rattle.farm_stands.specs.inner.Events.{turned, asked_counts, claimed_counts, stored_counts, updated_counts, collected_counts, stopped_counts}
+use Rattle.farm_stands.specs.inner.Events.{one_turn_more, asked_counts, claimed_counts, stored_counts, updated_counts, collected_counts, stopped_counts}
 
 -- an entry that none of the counts but that of calls tells of
 pub record IsUncounted (e : Entry) (g : List Entry) : Type 0 where
@@ -31,7 +31,7 @@ pub record IsUncounted (e : Entry) (g : List Entry) : Type 0 where
 turn : (n : ℕ) (g : List Entry) (e : Entry) → n ≡ length g → n + 1 ≡ length (e ∷ g)
 turn n g e is = omega (arith, is)
 
-pub counts_turn : (c : Counts) (g : List Entry) (e : Entry) → IsUncounted e g → CountsStand c g → CountsStand (turned c) (e ∷ g)
+pub counts_turn : (c : Counts) (g : List Entry) (e : Entry) → IsUncounted e g → CountsStand c g → CountsStand (one_turn_more c) (e ∷ g)
 counts_turn c g e u s = record {
   turns_are = turn c.turns g e s.turns_are;
   stopped_is = s.stopped_is ∙ sym u.stopped_same;

@@ -20,13 +20,13 @@ use Rattle.farm_history.proofs.Flying.{find-map}
 use Rattle.farm_history.proofs.Marks.{mark_stored, mark_stored_other, mark_lost, mark_lost_other, mark_cut, taken_finish}
 use Rattle.farm_history.proofs.Numbers.{tickets_differ}
 use Rattle.farm_plan.specs.Plans.{FarmPlan}
-use Rattle.farm_plan.specs.Drawings.{plan_of, data_of, meta_text, key_path}
+use Rattle.farm_plan.specs.Drawings.{plan_of, data_of, container_bytes, key_path}
 use Rattle.render_queues.specs.Tables.{Tables, after_end}
 use Rattle.expiry_lists.specs.Marks.{MarksSeen, mark_of}
 use Rattle.farm_stands.specs.Seen.{Counts, FarmSeen}
 use Rattle.farm_stands.specs.Stands.{text_before, QueuesStand, CountsStand, StoreStands, StandsFor}
 use Rattle.farm_stands.specs.Jobs.{JobSeen, job_key, job_text, IsFlight}
-use Rattle.farm_stands.specs.inner.Events.{turned, stored_counts, taken_at, untaken, stale_tables}
+use Rattle.farm_stands.specs.inner.Events.{one_turn_more, stored_counts, taken_at, untaken, stale_tables}
 use Rattle.farm_stands.proofs.Storing.{store_put, store_lost, store_cut}
 use Rattle.farm_stands.proofs.Counting.{IsUncounted, counts_turn, counts_stored}
 use Rattle.farm_stands.proofs.Queueing.{queues_end, queues_stale}
@@ -35,8 +35,8 @@ use Rattle.farm_stands.proofs.Claiming.{IsKept, job_kept}
 -- the bytes of the job are those that were to be drawn when it was claimed
 pub text_is : (plan : FarmPlan) (h : List Entry) (job : JobSeen) (i : IsFlight plan h job) → job_text job ≡ text_before plan i.flight.before i.flight.key
 text_is plan h job i =
-    (λ j. meta_text (i.carries.plan_is j) (job_key job) (i.carries.style_is j) (i.carries.data_is j))
-    ∙ sym (ap (λ (k : Key). meta_text plan k (style_after (plan_of plan) i.flight.before k.map) (data_of plan (data_after i.flight.before))) i.key_is)
+    (λ j. container_bytes (i.carries.plan_is j) (job_key job) (i.carries.style_is j) (i.carries.data_is j))
+    ∙ sym (ap (λ (k : Key). container_bytes plan k (style_after (plan_of plan) i.flight.before k.map) (data_of plan (data_after i.flight.before))) i.key_is)
 
 -- what every end shares: all but marks, queues, counts and the store
 ended : {D : Type 0} (state : D → Outside StoreTold) (told : Bool) (farm : FarmSeen D) (h : List Entry) (t : ℕ) (drawn : Bool) (answer : Finished) (f : Flight) (c : Counts) (ms : MarksSeen) (q : Tables) (d : D) → flight_in (flights h) t ≡ Some f → EndFits (plan_of farm.plan) h f drawn answer →
@@ -110,10 +110,10 @@ uncounted_end t drawn Finished.NoMemory h other = record { stopped_same = refl; 
 -- One that the store refused.
 pub finish_lost_step : {D : Type 0} (state : D → Outside StoreTold) (told : Bool) (farm : FarmSeen D) (h : List Entry) (job : JobSeen) (bytes : List ℕ) (ms : MarksSeen) (d : D) → IsFlight farm.plan h job →
     Puts (state farm.store) (state d) (key_path farm.plan (job_key job)) bytes (Err Failed) → ((k : Key) → mark_of ms.shown k ≡ (if same_key (job_key job) k then None else mark_of farm.marks.shown k)) → StandsFor state told farm h →
-    StandsFor state told (record farm { counts = turned farm.counts; taken = untaken job.ticket farm.taken; marks = ms; queues = after_end farm.queues (job_key job) Outcome.NotDone; store = d }) (Finish job.ticket true PutFailed ∷ h)
+    StandsFor state told (record farm { counts = one_turn_more farm.counts; taken = untaken job.ticket farm.taken; marks = ms; queues = after_end farm.queues (job_key job) Outcome.NotDone; store = d }) (Finish job.ticket true PutFailed ∷ h)
 unfolding waiting
 finish_lost_step state told farm h job bytes ms d i puts marks s =
-    ended state told farm h job.ticket true PutFailed f (turned farm.counts) ms (after_end farm.queues (job_key job) Outcome.NotDone) d i.is_flight tt
+    ended state told farm h job.ticket true PutFailed f (one_turn_more farm.counts) ms (after_end farm.queues (job_key job) Outcome.NotDone) d i.is_flight tt
     (counts_turn farm.counts h e (uncounted_end job.ticket true PutFailed h (λ clean is. cc)) s.counts_are) marked
     (subst (λ (k : Key). QueuesStand farm.plan (after_end farm.queues k Outcome.NotDone) (e ∷ h)) i.key_is (queues_end farm.plan farm.queues h job.ticket true PutFailed f (tickets_differ p told h s.legal) (kept p told h s.legal).single i.is_flight refl s.queues_are))
     (store_lost farm.plan (state farm.first).faults told h job.ticket true f bytes (state farm.store) (state d) s.valid s.legal i.is_flight (subst (λ (k : Key). Puts (state farm.store) (state d) (key_path farm.plan k) bytes (Err Failed)) (sym i.key_is) puts) s.store_is) s
@@ -135,10 +135,10 @@ finish_lost_step state told farm h job bytes ms d i puts marks s =
 -- One that was not drawn, or found no memory at its end. What is shown stays.
 pub finish_cut_step : {D : Type 0} (state : D → Outside StoreTold) (told : Bool) (farm : FarmSeen D) (h : List Entry) (job : JobSeen) (drawn : Bool) (ms : MarksSeen) (d : D) → IsFlight farm.plan h job → state d ≡ state farm.store →
     ((k : Key) → mark_of ms.shown k ≡ mark_of farm.marks.shown k) → StandsFor state told farm h →
-    StandsFor state told (record farm { counts = turned farm.counts; taken = untaken job.ticket farm.taken; marks = ms; queues = after_end farm.queues (job_key job) Outcome.Cut; store = d }) (Finish job.ticket drawn Finished.NoMemory ∷ h)
+    StandsFor state told (record farm { counts = one_turn_more farm.counts; taken = untaken job.ticket farm.taken; marks = ms; queues = after_end farm.queues (job_key job) Outcome.Cut; store = d }) (Finish job.ticket drawn Finished.NoMemory ∷ h)
 unfolding waiting
 finish_cut_step state told farm h job drawn ms d i same marks s =
-    ended state told farm h job.ticket drawn Finished.NoMemory f (turned farm.counts) ms (after_end farm.queues (job_key job) Outcome.Cut) d i.is_flight (free drawn)
+    ended state told farm h job.ticket drawn Finished.NoMemory f (one_turn_more farm.counts) ms (after_end farm.queues (job_key job) Outcome.Cut) d i.is_flight (free drawn)
     (counts_turn farm.counts h e (uncounted_end job.ticket drawn Finished.NoMemory h (λ clean is. cc)) s.counts_are) (λ k. marks k ∙ (s.marks_are k ∙ sym (mark_cut p h job.ticket drawn k)))
     (subst (λ (k : Key). QueuesStand farm.plan (after_end farm.queues k Outcome.Cut) (e ∷ h)) i.key_is (queues_end farm.plan farm.queues h job.ticket drawn Finished.NoMemory f (tickets_differ p told h s.legal) (kept p told h s.legal).single i.is_flight refl s.queues_are))
     (subst (StoreStands farm.plan (state farm.first).faults told (e ∷ h)) (sym same) (store_cut farm.plan (state farm.first).faults told h job.ticket drawn (state farm.store) s.store_is)) s

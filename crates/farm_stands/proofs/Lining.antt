@@ -14,7 +14,7 @@ use Rattle.farm_history.proofs.Lists.{same_key-true, find-any, find-passes, each
 use Rattle.farm_history.proofs.Queued.{how_many_in_queue, in_queue_append, in_queue_without, find_first}
 use Rattle.render_queues.specs.declared.lines.Lines.{Lines}
 use Rattle.render_queues.specs.OneQueue.{is_below, without}
-use Rattle.render_queues.specs.Tables.{line_of, pushed, cut_from, lifted_out, first_of, next_of}
+use Rattle.render_queues.specs.Tables.{line_of, with_last, cut_from, lifted_out, first_of, next_of}
 use Rattle.farm_stands.specs.Stands.{waits_key}
 
 -- ---- words for lists
@@ -46,7 +46,7 @@ without_absent k ks absent = filter-all _ ks (each-map _ _ ks (λ x h. ap not h)
 
 -- ---- lines
 
-line_pushed : (ls : Lines) (own queue : Queue) (k : Key) → (line_of (pushed ls own k) queue).keys ≡ (line_of ls queue).keys ++ cond (same_queue own queue) (k ∷ []) []
+line_pushed : (ls : Lines) (own queue : Queue) (k : Key) → (line_of (with_last ls own k) queue).keys ≡ (line_of ls queue).keys ++ cond (same_queue own queue) (k ∷ []) []
 line_pushed ls Queue.Prio Queue.Prio k = refl
 line_pushed ls Queue.Request Queue.Request k = refl
 line_pushed ls Queue.Low Queue.Low k = refl
@@ -54,7 +54,7 @@ line_pushed ls Queue.Dirty Queue.Dirty k = refl
 line_pushed ls Queue.Bulk Queue.Bulk k = refl
 line_pushed ls own queue k = sym (append-nil (line_of ls queue).keys)
 
-pub limit_pushed : (ls : Lines) (own queue : Queue) (k : Key) → (line_of (pushed ls own k) queue).limit ≡ (line_of ls queue).limit
+pub limit_pushed : (ls : Lines) (own queue : Queue) (k : Key) → (line_of (with_last ls own k) queue).limit ≡ (line_of ls queue).limit
 limit_pushed ls Queue.Prio Queue.Prio k = refl
 limit_pushed ls Queue.Request Queue.Request k = refl
 limit_pushed ls Queue.Low Queue.Low k = refl
@@ -95,7 +95,7 @@ pub in_line : (ls : Lines) (ws : List Waits) (queue : Queue) (k : Key) → AreLi
 in_line ls ws queue k are = ap (is_in k) (are queue) ∙ (any-map waits_key (λ x. same_key x k) (in_queue queue ws) ∙ any-both (λ w. same_key w.key k) (λ w. same_queue w.queue queue) ws)
 
 -- one that comes last in its queue
-pub lines_pushed : (ls : Lines) (ws : List Waits) (own : Queue) (k : Key) → AreLines ls ws → AreLines (pushed ls own k) (ws ++ record { queue = own; key = k } ∷ [])
+pub lines_pushed : (ls : Lines) (ws : List Waits) (own : Queue) (k : Key) → AreLines ls ws → AreLines (with_last ls own k) (ws ++ record { queue = own; key = k } ∷ [])
 lines_pushed ls ws own k are queue =
     line_pushed ls own queue k
     ∙ (ap (λ xs. xs ++ cond (same_queue own queue) (k ∷ []) []) (are queue)

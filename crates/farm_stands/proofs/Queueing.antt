@@ -23,7 +23,7 @@ use Rattle.farm_history.specs.Plans.{Plan, Waits, AreApart, same_key, same_conn,
 use Rattle.farm_history.specs.Past.{Flight, is_stopped, flights, flight_in, without_ticket, flies, touches, with_dirty, after_answer, after_stale, waiting, waits, number_in, open_asks, is_ended_after, replies_to, how_many_of, outcome_of}
 use Rattle.farm_history.specs.Rules.{Tests, answer_of_waiting, answer_by}
 use Rattle.farm_history.specs.Laws.{flight_key}
-use Rattle.farm_history.specs.Seen.{in_queue, unended, outbox, chain_after}
+use Rattle.farm_history.specs.Seen.{in_queue, waiting_asks, outbox, chain_after}
 use Rattle.farm_history.proofs.Lists.{same_key-self, same_key-sym, find-not, each-map, none-each, filter-all, map-filter}
 use Rattle.farm_history.proofs.Numbers.{flight_ticket}
 use Rattle.farm_history.proofs.OneReply.{IsOpen}
@@ -36,7 +36,7 @@ use Rattle.farm_plan.specs.Plans.{FarmPlan}
 use Rattle.farm_plan.specs.Drawings.{plan_of}
 use Rattle.render_queues.specs.declared.asks.Asked.{Asked}
 use Rattle.render_queues.specs.OneQueue.{is_below, without}
-use Rattle.render_queues.specs.Tables.{Tables, line_of, placed, after_take, after_end, after_leave, waits_on, reply_with, open_of, open_count, next_of, asked_by, replies_to_conn}
+use Rattle.render_queues.specs.Tables.{Tables, line_of, after_place, after_take, after_end, after_leave, waits_on, reply_with, open_of, open_count, next_of, asked_by, replies_to_conn}
 use Rattle.farm_stands.specs.Stands.{waits_key, asked_of, QueuesStand}
 use Rattle.farm_stands.specs.inner.Events as events
 use Rattle.farm_stands.specs.inner.Events.{asked_tables, waiter, waits_at, marked_tables, stale_tables}
@@ -44,7 +44,7 @@ use Rattle.farm_stands.proofs.Lining.{without_absent, any-map, AreLines, in_line
 
 -- ---- an entry that changes nothing of what waits, flies or is asked
 
-pub queues_quiet : (plan : FarmPlan) (t : Tables) (g : List Entry) (e : Entry) → waiting (plan_of plan) (e ∷ g) ≡ waiting (plan_of plan) g → flights (e ∷ g) ≡ flights g → unended (e ∷ g) ≡ unended g → outbox (e ∷ g) ≡ outbox g →
+pub queues_quiet : (plan : FarmPlan) (t : Tables) (g : List Entry) (e : Entry) → waiting (plan_of plan) (e ∷ g) ≡ waiting (plan_of plan) g → flights (e ∷ g) ≡ flights g → waiting_asks (e ∷ g) ≡ waiting_asks g → outbox (e ∷ g) ≡ outbox g →
     QueuesStand plan t g → QueuesStand plan t (e ∷ g)
 queues_quiet plan t g e same_waiting same_flights same_asks same_replies s = record {
   limits_are = s.limits_are;
@@ -75,7 +75,7 @@ next_at plan t g s = next_is t.lines (waiting (plan_of plan) g) s.waiting_is
 counts_open : (plan : FarmPlan) (t : Tables) (g : List Entry) (q : Conn → Bool) → QueuesStand plan t g → count_by (λ a. q a.waiter.conn) t.asks + count_by (λ r. q r.conn) t.ended ≡ count_by (λ a. q a.conn) (open_asks g)
 counts_open plan t g q s =
     ap₂ (λ xs ys. count_by (λ a. q a.waiter.conn) xs + count_by (λ r. q r.conn) ys) s.asks_are s.ended_are
-    ∙ (ap (λ n. n + count_by (λ r. q r.conn) (outbox g)) (count-map asked_of (λ a. q a.waiter.conn) (unended g)) ∙ sym (open_split q g))
+    ∙ (ap (λ n. n + count_by (λ r. q r.conn) (outbox g)) (count-map asked_of (λ a. q a.waiter.conn) (waiting_asks g)) ∙ sym (open_split q g))
 
 pub open_of_is : (plan : FarmPlan) (t : Tables) (g : List Entry) (conn : Conn) → QueuesStand plan t g → open_of t conn ≡ how_many_of conn (open_asks g)
 open_of_is plan t g conn s = counts_open plan t g (λ c. same_conn c conn) s
@@ -117,17 +117,17 @@ asked_lines plan t g conn own k (NotDone Deferred) lone lifts s = record {
 asked_lines plan t g conn own k (NotDone why) lone lifts s = record { limits = s.limits_are; lines = s.waiting_is }
 asked_lines plan t g conn own k answer lone lifts s = record { limits = s.limits_are; lines = s.waiting_is }
 
-asked_asks : (plan : FarmPlan) (t : Tables) (g : List Entry) (conn : Conn) (command : Cmd) (own : Queue) (spot : Spot) (answer : AskAnswer) → t.asks ≡ map asked_of (unended g) →
-    (asked_tables t own (key_of spot) conn answer).asks ≡ map asked_of (unended (Ask conn command spot answer ∷ g))
+asked_asks : (plan : FarmPlan) (t : Tables) (g : List Entry) (conn : Conn) (command : Cmd) (own : Queue) (spot : Spot) (answer : AskAnswer) → t.asks ≡ map asked_of (waiting_asks g) →
+    (asked_tables t own (key_of spot) conn answer).asks ≡ map asked_of (waiting_asks (Ask conn command spot answer ∷ g))
 asked_asks plan t g conn command own spot answer are = go answer refl
   where
-    numbered : (a : AskAnswer) (n : ℕ) → number_in a ≡ Some n → t.asks ++ record { key = key_of spot; waiter = waiter conn n } ∷ [] ≡ map asked_of (unended (Ask conn command spot a ∷ g))
-    numbered a n is = ap (λ xs. xs ++ record { key = key_of spot; waiter = waiter conn n } ∷ []) are ∙ sym (ap (map asked_of) (unended_ask conn command spot a g n is) ∙ map-append asked_of (unended g) _)
+    numbered : (a : AskAnswer) (n : ℕ) → number_in a ≡ Some n → t.asks ++ record { key = key_of spot; waiter = waiter conn n } ∷ [] ≡ map asked_of (waiting_asks (Ask conn command spot a ∷ g))
+    numbered a n is = ap (λ xs. xs ++ record { key = key_of spot; waiter = waiter conn n } ∷ []) are ∙ sym (ap (map asked_of) (unended_ask conn command spot a g n is) ∙ map-append asked_of (waiting_asks g) _)
 
-    unnumbered : (a : AskAnswer) → number_in a ≡ None → t.asks ≡ map asked_of (unended (Ask conn command spot a ∷ g))
+    unnumbered : (a : AskAnswer) → number_in a ≡ None → t.asks ≡ map asked_of (waiting_asks (Ask conn command spot a ∷ g))
     unnumbered a is = are ∙ sym (ap (map asked_of) (unended_unnumbered conn command spot a g is))
 
-    go : (a : AskAnswer) → a ≡ answer → (asked_tables t own (key_of spot) conn a).asks ≡ map asked_of (unended (Ask conn command spot a ∷ g))
+    go : (a : AskAnswer) → a ≡ answer → (asked_tables t own (key_of spot) conn a).asks ≡ map asked_of (waiting_asks (Ask conn command spot a ∷ g))
     go (Queued n) same = numbered (Queued n) n refl
     go (Joined n) same = numbered (Joined n) n refl
     go (Lifted n) same = numbered (Lifted n) n refl
@@ -183,7 +183,7 @@ dirty_lines plan t g k s = go (is_below t.lines.dirty) (has_room plan.limits Que
     ws : List Waits
     ws = waiting (plan_of plan) g
 
-    go : (b c : Bool) → b ≡ c → AskLines plan t (cond b (placed t Queue.Dirty k) t) (cond c (ws ++ record { queue = Queue.Dirty; key = k } ∷ []) ws)
+    go : (b c : Bool) → b ≡ c → AskLines plan t (cond b (after_place t Queue.Dirty k) t) (cond c (ws ++ record { queue = Queue.Dirty; key = k } ∷ []) ws)
     go true true same = record { limits = λ queue. limit_pushed t.lines Queue.Dirty queue k ∙ s.limits_are queue; lines = lines_pushed t.lines ws Queue.Dirty k s.waiting_is }
     go false false same = record { limits = s.limits_are; lines = s.waiting_is }
     go true false same = cc
@@ -192,7 +192,7 @@ dirty_lines plan t g k s = go (is_below t.lines.dirty) (has_room plan.limits Que
 dirty_rest : (t : Tables) (k : Key) → ((events.with_dirty t k).workers ≡ t.workers) × ((events.with_dirty t k).taken ≡ t.taken) × ((events.with_dirty t k).asks ≡ t.asks) × ((events.with_dirty t k).ended ≡ t.ended)
 dirty_rest t k = go (is_below t.lines.dirty)
   where
-    go : (b : Bool) → ((cond b (placed t Queue.Dirty k) t).workers ≡ t.workers) × ((cond b (placed t Queue.Dirty k) t).taken ≡ t.taken) × ((cond b (placed t Queue.Dirty k) t).asks ≡ t.asks) × ((cond b (placed t Queue.Dirty k) t).ended ≡ t.ended)
+    go : (b : Bool) → ((cond b (after_place t Queue.Dirty k) t).workers ≡ t.workers) × ((cond b (after_place t Queue.Dirty k) t).taken ≡ t.taken) × ((cond b (after_place t Queue.Dirty k) t).asks ≡ t.asks) × ((cond b (after_place t Queue.Dirty k) t).ended ≡ t.ended)
     go true = (refl, refl, refl, refl)
     go false = (refl, refl, refl, refl)
 
@@ -215,7 +215,7 @@ queues_mark plan t g conn command spot marks s = go (waits_at t k || is_in k t.t
     waiting_now b is =
         ap₂ (λ c d. cond (c && not d) (with_dirty p.limits k (waiting p g)) (waiting p g)) marks (sym stands ∙ is)
 
-    asks_now : t.asks ≡ map asked_of (unended (Ask conn command spot Silent ∷ g))
+    asks_now : t.asks ≡ map asked_of (waiting_asks (Ask conn command spot Silent ∷ g))
     asks_now = s.asks_are ∙ sym (ap (map asked_of) (unended_unnumbered conn command spot Silent g refl))
 
     ended_now : t.ended ≡ outbox (Ask conn command spot Silent ∷ g)
@@ -284,15 +284,15 @@ taken_without (x ∷ xs) ticket f differ apart is = go (x.ticket == ticket) refl
         let turned : same_key x.key f.key ≡ false = same_key-sym x.key f.key ∙ off in
         rw turned (ap (λ ks. x.key ∷ ks) (ih found))
 
-end_replies : (answer : Finished) (t : Tables) (g : List Entry) (k : Key) → t.asks ≡ map asked_of (unended g) → map (reply_with (outcome_of answer)) (filter (waits_on k) t.asks) ≡ map (reply_for answer) (chain_after g k)
+end_replies : (answer : Finished) (t : Tables) (g : List Entry) (k : Key) → t.asks ≡ map asked_of (waiting_asks g) → map (reply_with (outcome_of answer)) (filter (waits_on k) t.asks) ≡ map (reply_for answer) (chain_after g k)
 end_replies answer t g k are =
     sym (map-map (λ (a : Asked). a.waiter) (reply_for answer) (filter (waits_on k) t.asks))
     ∙ ap (map (reply_for answer)) (chain_joined asked_of (λ (a : Asked). a.key) (λ (a : Asked). a.waiter) t.asks g k (λ a. refl) (λ a. refl) are)
 
-end_asks : (t : Tables) (g : List Entry) (ticket : ℕ) (drawn : Bool) (answer : Finished) (f : Flight) → flight_in (flights g) ticket ≡ Some f → t.asks ≡ map asked_of (unended g) →
-    filter (λ a. not (waits_on f.key a)) t.asks ≡ map asked_of (unended (Finish ticket drawn answer ∷ g))
+end_asks : (t : Tables) (g : List Entry) (ticket : ℕ) (drawn : Bool) (answer : Finished) (f : Flight) → flight_in (flights g) ticket ≡ Some f → t.asks ≡ map asked_of (waiting_asks g) →
+    filter (λ a. not (waits_on f.key a)) t.asks ≡ map asked_of (waiting_asks (Finish ticket drawn answer ∷ g))
 end_asks t g ticket drawn answer f is are =
-    ap (filter (λ a. not (waits_on f.key a))) are ∙ sym (ap (map asked_of) (unended_finish ticket drawn answer g f is) ∙ map-filter asked_of (λ a. not (same_key a.key f.key)) (λ a. not (waits_on f.key a)) (unended g) (λ a. refl))
+    ap (filter (λ a. not (waits_on f.key a))) are ∙ sym (ap (map asked_of) (unended_finish ticket drawn answer g f is) ∙ map-filter asked_of (λ a. not (same_key a.key f.key)) (λ a. not (waits_on f.key a)) (waiting_asks g) (λ a. refl))
 
 -- an end whose key waits no more
 pub queues_end : (plan : FarmPlan) (t : Tables) (g : List Entry) (ticket : ℕ) (drawn : Bool) (answer : Finished) (f : Flight) → Differ flight_ticket (flights g) → AreApart flight_key (flights g) → flight_in (flights g) ticket ≡ Some f →
@@ -329,7 +329,7 @@ queues_stale plan t g ticket drawn f differ apart is s = record {
         ws : List Waits
         ws = waiting (plan_of plan) g
 
-        line_dirty : (b c : Bool) → b ≡ c → AskLines plan ended (cond b (placed ended Queue.Dirty f.key) ended) (cond c (ws ++ record { queue = Queue.Dirty; key = f.key } ∷ []) ws)
+        line_dirty : (b c : Bool) → b ≡ c → AskLines plan ended (cond b (after_place ended Queue.Dirty f.key) ended) (cond c (ws ++ record { queue = Queue.Dirty; key = f.key } ∷ []) ws)
         line_dirty true true same = record { limits = λ queue. limit_pushed t.lines Queue.Dirty queue f.key ∙ s.limits_are queue; lines = lines_pushed t.lines ws Queue.Dirty f.key s.waiting_is }
         line_dirty false false same = record { limits = s.limits_are; lines = s.waiting_is }
         line_dirty true false same = cc
@@ -347,7 +347,7 @@ queues_leave plan t g conn count s = record {
   workers_are = s.workers_are;
   waiting_is = s.waiting_is;
   taken_is = s.taken_is;
-  asks_are = ap (filter (λ a. not (asked_by conn a))) s.asks_are ∙ sym (ap (map asked_of) (unended_leave conn count g) ∙ map-filter asked_of (λ a. not (same_conn a.conn conn)) (λ a. not (asked_by conn a)) (unended g) (λ a. refl));
+  asks_are = ap (filter (λ a. not (asked_by conn a))) s.asks_are ∙ sym (ap (map asked_of) (unended_leave conn count g) ∙ map-filter asked_of (λ a. not (same_conn a.conn conn)) (λ a. not (asked_by conn a)) (waiting_asks g) (λ a. refl));
   ended_are = ap (filter (λ r. not (replies_to_conn conn r))) s.ended_are ∙ sym (outbox_leave conn count g);
 }
 

@@ -26,17 +26,17 @@ use Rattle.farm_history.specs.Entries.{Entry, Fetch, Look}
 use Rattle.farm_history.specs.Plans.{Plan, key_of, map_of, tile_of, is_servable}
 use Rattle.farm_history.specs.Past.{is_stopped, data_after, version, style_after, drawn_after, flights, jobs, numbers, asks_made, done_asks, stored_drawings, shown, waiting, open_asks, is_ended_after, replies_to, is_touched_after}
 use Rattle.farm_history.specs.Rules.{ReadFits, ShownFits, look_at as look_of, look_rule, Fits}
-use Rattle.farm_history.specs.Seen.{mark_at, mark_after, unended, outbox}
+use Rattle.farm_history.specs.Seen.{mark_at, mark_after, waiting_asks, outbox}
 use Rattle.farm_history.specs.Replays.{changes_after}
 use Rattle.farm_plan.specs.Plans.{FarmPlan, IsPlan}
-use Rattle.farm_plan.specs.Drawings.{styled_as, tile_in, meta_in, data_of, meta_text, key_path, plan_of}
+use Rattle.farm_plan.specs.Drawings.{styled_as, tile_in, meta_in, data_of, container_bytes, key_path, plan_of}
 use Rattle.farm_plan.specs.Spots.{IsSpotOf}
 use Rattle.farm_plan.proofs.Spots.{spot_of, meta_is}
 use Rattle.expiry_lists.specs.Marks.{mark_of}
 use Rattle.farm_stands.specs.Seen.{FarmSeen}
 use Rattle.farm_stands.specs.Stands.{failures, text_before, HoldsShown, StoreStands, StandsFor}
 use Rattle.farm_stands.specs.Reads.{IsTilePart, SpoiltBy, IsSpoilt, ReadsTile, fetched_by}
-use Rattle.farm_stands.specs.inner.Events.{turned, looked_by, look_at}
+use Rattle.farm_stands.specs.inner.Events.{one_turn_more, looked_by, look_at}
 use Rattle.farm_stands.proofs.Storing.{store_quiet, store_ungot}
 use Rattle.farm_stands.proofs.Counting.{IsUncounted, counts_turn}
 use Rattle.farm_stands.proofs.Queueing.{queues_quiet}
@@ -51,7 +51,7 @@ record Comes (plan : FarmPlan) (spot : Spot) (styled : Option ℕ) (layers : Lis
   part_is : take entry.size (drop entry.offset text) ≡ tile_in plan (slice_get plan.maps (map_of spot)) styled (tile_of spot) layers
   size_is : entry.size ≡ length (take entry.size (drop entry.offset text))
 
-comes : (plan : FarmPlan) (spot : Spot) (styled : Option ℕ) (layers : List Layer) → IsSpotOf plan spot → Comes plan spot styled layers (meta_text plan (key_of spot) styled layers)
+comes : (plan : FarmPlan) (spot : Spot) (styled : Option ℕ) (layers : List Layer) → IsSpotOf plan spot → Comes plan spot styled layers (container_bytes plan (key_of spot) styled layers)
 comes plan spot styled layers at = subst (λ text. Comes plan spot styled layers text) (sym text_is) (record {
   entry = back.0;
   is_entry = back.1;
@@ -68,7 +68,7 @@ comes plan spot styled layers at = subst (λ text. Comes plan spot styled layers
     style : MapStyle
     style = styled_as plan at.map styled
 
-    text_is : meta_text plan (key_of spot) styled layers ≡ container_of m (tiles_of style at.map.tile m layers)
+    text_is : container_bytes plan (key_of spot) styled layers ≡ container_of m (tiles_of style at.map.tile m layers)
     text_is = ap (λ o. meta_in plan o styled m layers) at.is_map
 
     back : (entry : Span) × (entry_found (take head_len (container_of m (tiles_of style at.map.tile m layers))) m (index_place t) ≡ Ok entry)
@@ -147,7 +147,7 @@ read_fits plan since told g spot before old new (Err (Fetched.Dirty v bytes)) at
 
 -- ---- fetches
 
-pub fetch_unservable_step : {D : Type 0} (state : D → Outside StoreTold) (told : Bool) (farm : FarmSeen D) (g : List Entry) (spot : Spot) → is_servable (plan_of farm.plan) spot ≡ false → StandsFor state told farm g → StandsFor state told (record farm { counts = turned farm.counts }) (Fetch spot Fetched.Unservable ∷ g)
+pub fetch_unservable_step : {D : Type 0} (state : D → Outside StoreTold) (told : Bool) (farm : FarmSeen D) (g : List Entry) (spot : Spot) → is_servable (plan_of farm.plan) spot ≡ false → StandsFor state told farm g → StandsFor state told (record farm { counts = one_turn_more farm.counts }) (Fetch spot Fetched.Unservable ∷ g)
 unfolding Fits
 fetch_unservable_step state told farm g spot off s =
     idle_step state told farm g (Fetch spot Fetched.Unservable) refl (subst (λ b. MatchBool b (ShownFits (plan_of farm.plan) told g spot (shown g (key_of spot)) Fetched.Unservable) (Fetched.Unservable ≡ Fetched.Unservable)) (sym off) refl) s
@@ -173,7 +173,7 @@ one_mark p g k m h = go (shown g k) refl h
     go (Some before) is h = record { before = before; is_shown = is; mark_is = cc }
 
 pub fetch_missing_step : {D : Type 0} (state : D → Outside StoreTold) (told : Bool) (farm : FarmSeen D) (g : List Entry) (spot : Spot) → is_servable (plan_of farm.plan) spot ≡ true → mark_of farm.marks.shown (key_of spot) ≡ None → StandsFor state told farm g →
-    StandsFor state told (record farm { counts = turned farm.counts }) (Fetch spot Fetched.Missing ∷ g)
+    StandsFor state told (record farm { counts = one_turn_more farm.counts }) (Fetch spot Fetched.Missing ∷ g)
 unfolding Fits
 fetch_missing_step state told farm g spot on none s =
     idle_step state told farm g (Fetch spot Fetched.Missing) refl
@@ -212,7 +212,7 @@ record FetchRest (plan : FarmPlan) (g : List Entry) (e : Entry) : Type 0 where
   uncounted : IsUncounted e g
   quiet_one : LeavesAll plan g e
   same_waiting : waiting (plan_of plan) (e ∷ g) ≡ waiting (plan_of plan) g
-  same_asks : unended (e ∷ g) ≡ unended g
+  same_asks : waiting_asks (e ∷ g) ≡ waiting_asks g
   same_replies : outbox (e ∷ g) ≡ outbox g
 
 fetch_rest : (plan : FarmPlan) (g : List Entry) (spot : Spot) (answer : Fetched) → FetchRest plan g (Fetch spot answer)
@@ -228,10 +228,10 @@ fetch_rest plan g spot answer = record {
 -- a fetch of what is shown, as the read of its container gave it
 pub fetch_read_step : {D : Type 0} (state : D → Outside StoreTold) (told : Bool) (farm : FarmSeen D) (g : List Entry) (spot : Spot) (m : Mark) (read : Result (List ℕ) Fetched) (d : D) → is_servable (plan_of farm.plan) spot ≡ true → mark_of farm.marks.shown (key_of spot) ≡ Some m →
     ReadsTile (state farm.store) (state d) (key_path farm.plan (key_of spot)) (key_of spot).meta (index_place (tile_of spot)) read → StandsFor state told farm g →
-    StandsFor state told (record farm { counts = turned farm.counts; store = d }) (Fetch spot (fetched_by m read) ∷ g)
+    StandsFor state told (record farm { counts = one_turn_more farm.counts; store = d }) (Fetch spot (fetched_by m read) ∷ g)
 unfolding Fits
 fetch_read_step state told farm g spot m read d on marked reads s =
-    quiet state told farm g e (turned farm.counts) farm.queues d s rest.quiet_one fits (counts_turn farm.counts g e rest.uncounted s.counts_are)
+    quiet state told farm g e (one_turn_more farm.counts) farm.queues d s rest.quiet_one fits (counts_turn farm.counts g e rest.uncounted s.counts_are)
     (queues_quiet farm.plan farm.queues g e rest.same_waiting rest.quiet_one.same_flights rest.same_asks rest.same_replies s.queues_are)
     (store_read farm.plan (state farm.first).faults told g spot m (state farm.store) (state d) read s.valid on reads s.store_is)
   where
@@ -265,7 +265,7 @@ looked_is p g k (Some before) = go (is_touched_after p g (length before) k)
     go false = refl
 
 -- a look is answered by the mark
-pub look_step : {D : Type 0} (state : D → Outside StoreTold) (told : Bool) (farm : FarmSeen D) (g : List Entry) (spot : Spot) → StandsFor state told farm g → StandsFor state told (record farm { counts = turned farm.counts }) (Look spot (look_at farm spot) ∷ g)
+pub look_step : {D : Type 0} (state : D → Outside StoreTold) (told : Bool) (farm : FarmSeen D) (g : List Entry) (spot : Spot) → StandsFor state told farm g → StandsFor state told (record farm { counts = one_turn_more farm.counts }) (Look spot (look_at farm spot) ∷ g)
 unfolding Fits
 look_step state told farm g spot s = idle_step state told farm g (Look spot (look_at farm spot)) refl is s
   where

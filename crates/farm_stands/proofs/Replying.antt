@@ -21,7 +21,7 @@ use Rattle.farm_plan.specs.Drawings.{plan_of}
 use Rattle.render_queues.specs.Tables.{is_of_front, after_leave, open_of}
 use Rattle.farm_stands.specs.Seen.{FarmSeen}
 use Rattle.farm_stands.specs.Stands.{failures, QueuesStand, StandsFor}
-use Rattle.farm_stands.specs.inner.Events.{turned, collected_by, collect_at, collected_counts, stopped_counts, tally_of}
+use Rattle.farm_stands.specs.inner.Events.{one_turn_more, collected_by, collect_at, collected_counts, stopped_counts, tally_of}
 use Rattle.farm_stands.proofs.Storing.{store_quiet}
 use Rattle.farm_stands.proofs.Counting.{IsUncounted, counts_turn, counts_reply, counts_stop}
 use Rattle.farm_stands.proofs.Queueing.{queues_quiet, queues_leave, queues_reply, open_of_is}
@@ -50,7 +50,7 @@ no_reply front false = refl
 
 -- a collect without a reply
 pub collect_none_step : {D : Type 0} (state : D → Outside StoreTold) (told : Bool) (farm : FarmSeen D) (g : List Entry) (front : ℕ) → find (is_of_front front) farm.queues.ended ≡ None → StandsFor state told farm g →
-    StandsFor state told (record farm { counts = turned farm.counts }) (Collect front (collected_by None farm.counts.stopped) ∷ g)
+    StandsFor state told (record farm { counts = one_turn_more farm.counts }) (Collect front (collected_by None farm.counts.stopped) ∷ g)
 unfolding Fits
 collect_none_step state told farm g front none s =
     idle_step state told farm g (Collect front (collected_by None farm.counts.stopped)) (no_reply front farm.counts.stopped) (ap (λ o. collected_by o farm.counts.stopped) (sym none) ∙ collect_is state told farm g front s) s
@@ -94,10 +94,10 @@ uncounted_leave g conn count = record { stopped_same = refl; version_same = refl
 
 -- a leave takes the connection's asks and replies out, and tells how many they were
 pub leave_step : {D : Type 0} (state : D → Outside StoreTold) (told : Bool) (farm : FarmSeen D) (g : List Entry) (conn : Conn) → StandsFor state told farm g →
-    StandsFor state told (record farm { counts = turned farm.counts; queues = after_leave farm.queues conn }) (Leave conn (open_of farm.queues conn) ∷ g)
+    StandsFor state told (record farm { counts = one_turn_more farm.counts; queues = after_leave farm.queues conn }) (Leave conn (open_of farm.queues conn) ∷ g)
 unfolding Fits shown failures
 leave_step state told farm g conn s =
-    quiet state told farm g e (turned farm.counts) (after_leave farm.queues conn) farm.store s (quiet_leave farm.plan g conn (open_of farm.queues conn)) (open_of_is farm.plan farm.queues g conn s.queues_are)
+    quiet state told farm g e (one_turn_more farm.counts) (after_leave farm.queues conn) farm.store s (quiet_leave farm.plan g conn (open_of farm.queues conn)) (open_of_is farm.plan farm.queues g conn s.queues_are)
     (counts_turn farm.counts g e (uncounted_leave g conn (open_of farm.queues conn)) s.counts_are) (queues_leave farm.plan farm.queues g conn (open_of farm.queues conn) s.queues_are)
     (store_quiet farm.plan (state farm.first).faults told g e (state farm.store) refl (λ k. refl) s.store_is)
   where
@@ -116,7 +116,7 @@ stop_step state told farm g s =
     quiet state told farm g Stop (stopped_counts farm.counts) farm.queues farm.store s (quiet_stop farm.plan g) tt (counts_stop farm.counts g s.counts_are)
     (queues_quiet farm.plan farm.queues g Stop refl refl refl refl s.queues_are) (store_quiet farm.plan (state farm.first).faults told g Stop (state farm.store) refl (λ k. refl) s.store_is)
 
-pub tally_step : {D : Type 0} (state : D → Outside StoreTold) (told : Bool) (farm : FarmSeen D) (g : List Entry) → StandsFor state told farm g → StandsFor state told (record farm { counts = turned farm.counts }) (Tally (tally_of farm.counts) ∷ g)
+pub tally_step : {D : Type 0} (state : D → Outside StoreTold) (told : Bool) (farm : FarmSeen D) (g : List Entry) → StandsFor state told farm g → StandsFor state told (record farm { counts = one_turn_more farm.counts }) (Tally (tally_of farm.counts) ∷ g)
 unfolding Fits
 tally_step state told farm g s = idle_step state told farm g (Tally (tally_of farm.counts)) refl is s
   where

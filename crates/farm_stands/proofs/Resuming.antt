@@ -4,7 +4,7 @@ use Rattle.std.specs.Prelude.{IfSome}
 use Rattle.farm_base.specs.Outside.{Outside}
 use Rattle.tile_store.specs.Stores.{StoreTold}
 use Rattle.plain_data.specs.Features.{Layer}
-use Rattle.plain_data.specs.Data.{updated}
+use Rattle.plain_data.specs.Data.{update_result}
 use Rattle.farm_history.specs.declared.keys.Key.{Key}
 use Rattle.farm_history.specs.declared.saved.Past.{Past}
 use Rattle.farm_history.specs.declared.answers.Updated.{Updated}
@@ -15,8 +15,8 @@ use Rattle.farm_history.specs.Plans.{Plan, AreApart, same_key}
 use Rattle.farm_history.specs.Past.{is_stopped, data_after, version, jobs, numbers, asks_made, done_asks, stored_drawings, shown, clean_count, Numbered, replies_to}
 use Rattle.farm_history.specs.Rules.{Fits}
 use Rattle.farm_history.specs.Laws.{flight_key}
-use Rattle.farm_history.specs.Seen.{has_no_end, soiled, mark_at, mark_after, in_queue, unended, outbox}
-use Rattle.farm_history.specs.Replays.{Saving, replay_key, replay_change, number_of, changes_after}
+use Rattle.farm_history.specs.Seen.{has_no_end, soiled, mark_at, mark_after, in_queue, waiting_asks, outbox}
+use Rattle.farm_history.specs.Replays.{Saving, replay_key, replay_change, past_number, changes_after}
 use Rattle.farm_history.proofs.Lists.{same_key-true}
 use Rattle.farm_history.proofs.Keyed.{IsServed}
 use Rattle.farm_history.proofs.Since.{ChangeFits}
@@ -28,7 +28,7 @@ use Rattle.render_queues.specs.Tables.{Tables}
 use Rattle.expiry_lists.specs.Marks.{MarksSeen, shown_key, mark_of, clean_marks}
 use Rattle.farm_stands.specs.Seen.{Counts, FarmSeen}
 use Rattle.farm_stands.specs.Stands.{waits_key, asked_of, failures, Accounts, HoldsShown, CountsStand, QueuesStand, StoreStands, StandsFor}
-use Rattle.farm_stands.specs.inner.Events.{turned, updated_counts, replayed_counts, soil_taken}
+use Rattle.farm_stands.specs.inner.Events.{one_turn_more, updated_counts, replayed_counts, soil_taken}
 use Rattle.farm_stands.proofs.Changing.{no_fault, update_step, renew_step, restyle_step}
 
 -- a farm in the midst of its replay: nothing waits, flies or is open, the history is legal whatever is told of the store, and the farm stands for it but for what the store holds
@@ -54,7 +54,7 @@ queues_idle plan t g h before after s = record {
   ended_are = s.ended_are ∙ (no_reply g before ∙ sym (no_reply h after));
 }
   where
-    none : (x : List Entry) → IsQuiet (plan_of plan) false x → unended x ≡ []
+    none : (x : List Entry) → IsQuiet (plan_of plan) false x → waiting_asks x ≡ []
     none x q = ap (filter (has_no_end x)) q.answered
 
     no_reply : (x : List Entry) → IsQuiet (plan_of plan) false x → outbox x ≡ []
@@ -135,9 +135,9 @@ style_unfailed : (plan : FarmPlan) (n count : ℕ) (g : List Entry) → failures
 unfolding failures
 style_unfailed plan n count g = refl
 
-fits_again : {D : Type 0} (state : D → Outside StoreTold) (farm : FarmSeen D) (g : List Entry) (c : Past) (new : List Layer) → number_of c < length farm.plan.updates → updated (update_of farm.plan (number_of c)) farm.data_now ≡ Ok new → StandsFor state false farm g → ChangeFits (plan_of farm.plan) (data_after g) c
+fits_again : {D : Type 0} (state : D → Outside StoreTold) (farm : FarmSeen D) (g : List Entry) (c : Past) (new : List Layer) → past_number c < length farm.plan.updates → update_result (update_of farm.plan (past_number c)) farm.data_now ≡ Ok new → StandsFor state false farm g → ChangeFits (plan_of farm.plan) (data_after g) c
 unfolding plan_of
-fits_again state farm g c new lt fits s = record { in_table = lt; no_fault = no_fault state false farm g (number_of c) new fits s }
+fits_again state farm g c new lt fits s = record { in_table = lt; no_fault = no_fault state false farm g (past_number c) new fits s }
 
 -- a renew's numbers are those of the history, as it is legal
 as_fits : {D : Type 0} (state : D → Outside StoreTold) (farm : FarmSeen D) (g : List Entry) (n v count : ℕ) → StandsFor state false farm (Renew n (Renewed.Version v count) ∷ g) → StandsFor state false farm (replay_change (plan_of farm.plan) (Past.Renew n) g)
@@ -171,7 +171,7 @@ replay_key_step state farm g k ms served unseen marks r = record {
     now told = redrawn_quiet p told g k (r.quiet told) served (workers farm.plan r.stands.valid) (room farm.plan r.stands.valid) unseen
 
 -- An update that is made again.
-pub replay_update_step : {D : Type 0} (state : D → Outside StoreTold) (farm : FarmSeen D) (g : List Entry) (n : ℕ) (new : List Layer) → n < length farm.plan.updates → updated (update_of farm.plan n) farm.data_now ≡ Ok new → Replays state farm g →
+pub replay_update_step : {D : Type 0} (state : D → Outside StoreTold) (farm : FarmSeen D) (g : List Entry) (n : ℕ) (new : List Layer) → n < length farm.plan.updates → update_result (update_of farm.plan n) farm.data_now ≡ Ok new → Replays state farm g →
     Replays state (record farm { counts = updated_counts farm.counts; data_now = new; changes = farm.changes ++ Past.Update n ∷ [] }) (replay_change (plan_of farm.plan) (Past.Update n) g)
 replay_update_step state farm g n new lt fits r = record {
   quiet = λ told. change_legal (plan_of farm.plan) told (Past.Update n) g (fits_again state farm g (Past.Update n) new lt fits r.stands) (r.quiet told);
@@ -180,7 +180,7 @@ replay_update_step state farm g n new lt fits r = record {
 }
 
 -- A renew that is made again.
-pub replay_renew_step : {D : Type 0} (state : D → Outside StoreTold) (farm : FarmSeen D) (g : List Entry) (n : ℕ) (new : List Layer) (test : Key → Bool) (ms : MarksSeen) → n < length farm.plan.updates → updated (update_of farm.plan n) farm.data_now ≡ Ok new → AreApart shown_key farm.marks.shown →
+pub replay_renew_step : {D : Type 0} (state : D → Outside StoreTold) (farm : FarmSeen D) (g : List Entry) (n : ℕ) (new : List Layer) (test : Key → Bool) (ms : MarksSeen) → n < length farm.plan.updates → update_result (update_of farm.plan n) farm.data_now ≡ Ok new → AreApart shown_key farm.marks.shown →
     ((k : Key) → is_some (mark_of farm.marks.shown k) ≡ true → test k ≡ reaches_of farm.plan farm.data_now n k) → ((k : Key) → mark_of ms.shown k ≡ option_map (soiled (test k)) (mark_of farm.marks.shown k)) → Replays state farm g →
     Replays state (record farm { counts = updated_counts farm.counts; data_now = new; changes = farm.changes ++ Past.Renew n ∷ []; taken = soil_taken (reaches_of farm.plan farm.data_now n) farm.taken; marks = ms }) (replay_change (plan_of farm.plan) (Past.Renew n) g)
 replay_renew_step state farm g n new test ms lt fits apart agree marks r = record {
@@ -192,10 +192,10 @@ replay_renew_step state farm g n new test ms lt fits apart agree marks r = recor
 -- A style that its map is given again, before anything is shown.
 pub replay_style_step : {D : Type 0} (state : D → Outside StoreTold) (farm : FarmSeen D) (g : List Entry) (n : ℕ) (s : PlanStyle) (st : List (Option ℕ)) → slice_get farm.plan.restyles n ≡ Some s → farm.marks.shown ≡ [] →
     ((m : ℕ) → m < length farm.plan.maps → slice_get st m ≡ cond (s.map == m) (Some (Some n)) (slice_get farm.styled m)) → ((told : Bool) → IsQuiet (plan_of farm.plan) told (Restyle n (Styled 0) ∷ g)) → Replays state farm g →
-    Replays state (record farm { counts = turned farm.counts; styled = st; taken = soil_taken (λ k. s.map == k.map) farm.taken }) (Restyle n (Styled 0) ∷ g)
+    Replays state (record farm { counts = one_turn_more farm.counts; styled = st; taken = soil_taken (λ k. s.map == k.map) farm.taken }) (Restyle n (Styled 0) ∷ g)
 replay_style_step state farm g n s st is none styles now r = record {
   quiet = now;
-  stands = subst (λ count. StandsFor state false (record farm { counts = turned farm.counts; styled = st; taken = soil_taken (λ k. s.map == k.map) farm.taken }) (Restyle n (Styled count) ∷ g)) (ap (clean_marks own) none)
+  stands = subst (λ count. StandsFor state false (record farm { counts = one_turn_more farm.counts; styled = st; taken = soil_taken (λ k. s.map == k.map) farm.taken }) (Restyle n (Styled count) ∷ g)) (ap (clean_marks own) none)
       (restyle_step state false farm g n s own st farm.marks is (subst (AreApart shown_key) (sym none) tt) (λ k there. refl) styles (λ k. ap (λ rows. mark_of rows k) none ∙ sym (ap (λ rows. option_map (soiled (own k)) (mark_of rows k)) none)) r.stands);
   unfailed = style_unfailed farm.plan n 0 g ∙ r.unfailed;
 }

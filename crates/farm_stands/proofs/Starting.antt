@@ -17,7 +17,7 @@ use Rattle.render_queues.specs.Tables.{no_tables, no_lines, line_of}
 use Rattle.expiry_lists.specs.Marks.{MarksSeen, mark_of}
 use Rattle.farm_stands.specs.Seen.{FarmSeen}
 use Rattle.farm_stands.specs.Stands.{failures, CountsStand, QueuesStand, StandsFor}
-use Rattle.farm_stands.specs.inner.Events.{no_counts, begun}
+use Rattle.farm_stands.specs.inner.Events.{no_counts, new_farm}
 use Rattle.farm_stands.proofs.Storing.{store_beside, store_began, shown_none}
 
 no_limits : (limits : Limits) (queue : Queue) → (line_of (no_lines limits) queue).limit ≡ limit_of limits queue
@@ -48,7 +48,7 @@ counts_none = record { turns_are = refl; stopped_is = refl; version_is = refl; n
 
 -- a farm as it is started stands for the empty history, over a store that counts its failed calls; `told` may be true where the store tells
 pub start_step : {D : Type 0} (state : D → Outside StoreTold) (told : Bool) (plan : FarmPlan) (saved : Option Saving) (store : D) (st : List (Option ℕ)) (ms : MarksSeen) → IsPlan plan → ((m : ℕ) → m < length plan.maps → slice_get st m ≡ Some None) → ms.shown ≡ [] →
-    IfSome (state store).told (λ t. (state store).faults ≡ length t.failed) → (told ≡ true → is_some (state store).told ≡ true) → StandsFor state told (begun plan saved store st ms) []
+    IfSome (state store).told (λ t. (state store).faults ≡ length t.failed) → (told ≡ true → is_some (state store).told ≡ true) → StandsFor state told (new_farm plan saved store st ms) []
 unfolding data_after changes_after style_after flights shown data_of
 start_step state told plan saved store st ms valid styles empty counted tells = record {
   valid = valid;

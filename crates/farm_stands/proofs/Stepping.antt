@@ -14,7 +14,7 @@ use Rattle.farm_history.specs.declared.answers.Collected.{Collected}
 use Rattle.farm_history.specs.Entries.{Entry, Ask, Claim, Finish, Update, Renew, Restyle, Expire, Fetch, Collect, Leave, Stop}
 use Rattle.farm_history.specs.Past.{is_stopped, data_after, style_after, flights, jobs, numbers, asks_made, done_asks, stored_drawings, shown, waiting, open_asks, is_ended_after, replies_to, touches}
 use Rattle.farm_history.specs.Rules.{Fits}
-use Rattle.farm_history.specs.Seen.{soiled, unended, outbox}
+use Rattle.farm_history.specs.Seen.{soiled, waiting_asks, outbox}
 use Rattle.farm_history.specs.Replays.{changes_after}
 use Rattle.farm_history.proofs.Marks.{is_finish, mark_quiet, taken_soiled, taken_quiet}
 use Rattle.farm_plan.specs.Plans.{FarmPlan}
@@ -23,7 +23,7 @@ use Rattle.render_queues.specs.Tables.{Tables}
 use Rattle.expiry_lists.specs.Marks.{MarksSeen, mark_of}
 use Rattle.farm_stands.specs.Seen.{Counts, FarmSeen}
 use Rattle.farm_stands.specs.Stands.{failures, CountsStand, QueuesStand, StoreStands, StandsFor}
-use Rattle.farm_stands.specs.inner.Events.{turned, soil_taken}
+use Rattle.farm_stands.specs.inner.Events.{one_turn_more, soil_taken}
 use Rattle.farm_stands.proofs.Storing.{store_quiet}
 use Rattle.farm_stands.proofs.Counting.{IsUncounted, counts_turn}
 use Rattle.farm_stands.proofs.Queueing.{queues_quiet}
@@ -97,7 +97,7 @@ pub record IsIdle (plan : FarmPlan) (g : List Entry) (e : Entry) : Type 0 where
   pub uncounted : IsUncounted e g
   pub quiet_one : LeavesAll plan g e
   pub same_waiting : waiting (plan_of plan) (e ∷ g) ≡ waiting (plan_of plan) g
-  pub same_asks : unended (e ∷ g) ≡ unended g
+  pub same_asks : waiting_asks (e ∷ g) ≡ waiting_asks g
   pub same_replies : outbox (e ∷ g) ≡ outbox g
   pub same_failures : failures plan (e ∷ g) ≡ failures plan g
   pub same_shown : (k : Key) → shown (e ∷ g) k ≡ shown g k
@@ -141,9 +141,9 @@ idle plan g e h = record {
 }
 
 -- it is one more call, and nothing else
-pub idle_step : {D : Type 0} (state : D → Outside StoreTold) (told : Bool) (farm : FarmSeen D) (g : List Entry) (e : Entry) → is_idle e ≡ true → Fits (plan_of farm.plan) told g e → StandsFor state told farm g → StandsFor state told (record farm { counts = turned farm.counts }) (e ∷ g)
+pub idle_step : {D : Type 0} (state : D → Outside StoreTold) (told : Bool) (farm : FarmSeen D) (g : List Entry) (e : Entry) → is_idle e ≡ true → Fits (plan_of farm.plan) told g e → StandsFor state told farm g → StandsFor state told (record farm { counts = one_turn_more farm.counts }) (e ∷ g)
 idle_step state told farm g e is fits s =
     let i = idle farm.plan g e is in
-    quiet state told farm g e (turned farm.counts) farm.queues farm.store s i.quiet_one fits (counts_turn farm.counts g e i.uncounted s.counts_are)
+    quiet state told farm g e (one_turn_more farm.counts) farm.queues farm.store s i.quiet_one fits (counts_turn farm.counts g e i.uncounted s.counts_are)
     (queues_quiet farm.plan farm.queues g e i.same_waiting i.quiet_one.same_flights i.same_asks i.same_replies s.queues_are)
     (store_quiet farm.plan (state farm.first).faults told g e (state farm.store) i.same_failures i.same_shown s.store_is)

@@ -10,7 +10,7 @@ use Rattle.meta_container.specs.Container.{container_of}
 use Rattle.farm_history.specs.declared.keys.Key.{Key}
 use Rattle.farm_history.specs.Entries.{Entry}
 use Rattle.farm_history.specs.Plans.{Plan, Waits}
-use Rattle.farm_history.specs.Past.{version, shown, is_touched_after, waiting, ended}
+use Rattle.farm_history.specs.Past.{version, shown, is_touched_after, waiting, due_replies}
 use Rattle.farm_history.specs.Seen.{mark_at, chain_after}
 use Rattle.farm_history.specs.Replays.{Saving, are_rising, kept_of, kept_version, version_if_fresh, IsSaved}
 use Rattle.farm_history.proofs.Ends.{ended_outbox}
@@ -34,7 +34,7 @@ pub chains_are : {D : Type 0} (state : D → Outside StoreTold) (told : Bool) (f
 chains_are state told farm h k s = chain_joined asked_of (λ (a : Asked). a.key) (λ (a : Asked). a.waiter) farm.queues.asks h k (λ a. refl) (λ a. refl) s.queues_are.asks_are
 
 -- the replies of a front are those of the history
-pub replies_are : {D : Type 0} (state : D → Outside StoreTold) (told : Bool) (farm : FarmSeen D) (h : List Entry) (front : ℕ) → StandsFor state told farm h → filter (is_of_front front) farm.queues.ended ≡ ended h front
+pub replies_are : {D : Type 0} (state : D → Outside StoreTold) (told : Bool) (farm : FarmSeen D) (h : List Entry) (front : ℕ) → StandsFor state told farm h → filter (is_of_front front) farm.queues.ended ≡ due_replies h front
 replies_are state told farm h front s = ap (filter (is_of_front front)) s.queues_are.ended_are ∙ sym (ended_outbox h front)
 
 -- ---- what is saved

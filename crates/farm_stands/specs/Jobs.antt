@@ -8,7 +8,7 @@ use Rattle.farm_history.specs.declared.keys.Key.{Key}
 use Rattle.farm_history.specs.Entries.{Entry}
 use Rattle.farm_history.specs.Past.{data_after, version, style_after, Flight, flights, flight_in}
 use Rattle.farm_plan.specs.Plans.{MapPlan, FarmPlan}
-use Rattle.farm_plan.specs.Drawings.{styled_as, plan_of, data_of, meta_text}
+use Rattle.farm_plan.specs.Drawings.{styled_as, plan_of, data_of, container_bytes}
 
 -- A job: its ticket, the worker that claimed it, the map and the metatile, how many pixels a tile has side by side, the data version, the number of the map's style, and the plan and the data that it shares with the farm.
 pub record JobSeen : Type 0 where
@@ -32,7 +32,7 @@ job_style job = option_map (λ mp. styled_as job.plan mp job.styled) (slice_get 
 
 -- the container of what it draws, in the job's own terms
 abbrev pub job_text : JobSeen → List ℕ
-job_text job = meta_text job.plan (job_key job) job.styled job.data_now
+job_text job = container_bytes job.plan (job_key job) job.styled job.data_now
 
 -- a job that can be drawn: its map is one of its plan, its tile that map's, a size that is drawn, and its metatile is one
 pub record IsValidJob (job : JobSeen) : Type 0 where

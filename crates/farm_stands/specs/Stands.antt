@@ -13,10 +13,10 @@ use Rattle.farm_history.specs.Plans.{Waits, key_of, limit_of}
 use Rattle.farm_history.specs.Past.{is_stopped, data_after, version, style_after, Flight, flights, flight_in, jobs, shown, waiting, numbers, Numbered, asks_made, done_asks, stored_drawings}
 use Rattle.farm_history.specs.Rules.{Legal}
 use Rattle.farm_history.specs.Laws.{flight_key}
-use Rattle.farm_history.specs.Seen.{mark_after, taken_after, waiter_of, unended, outbox, in_queue}
+use Rattle.farm_history.specs.Seen.{mark_after, taken_after, waiter_of, waiting_asks, outbox, in_queue}
 use Rattle.farm_history.specs.Replays.{changes_after}
 use Rattle.farm_plan.specs.Plans.{FarmPlan, IsPlan}
-use Rattle.farm_plan.specs.Drawings.{plan_of, data_of, meta_text, key_path}
+use Rattle.farm_plan.specs.Drawings.{plan_of, data_of, container_bytes, key_path}
 use Rattle.render_queues.specs.declared.asks.Asked.{Asked}
 use Rattle.render_queues.specs.Tables.{Tables, line_of}
 use Rattle.expiry_lists.specs.Marks.{mark_of}
@@ -52,7 +52,7 @@ pub record QueuesStand (plan : FarmPlan) (t : Tables) (h : List Entry) : Type 0 
   pub workers_are : t.workers ≡ plan.workers
   pub waiting_is : (queue : Queue) → (line_of t.lines queue).keys ≡ map waits_key (in_queue queue (waiting (plan_of plan) h))
   pub taken_is : t.taken ≡ map flight_key (flights h)
-  pub asks_are : t.asks ≡ map asked_of (unended h)
+  pub asks_are : t.asks ≡ map asked_of (waiting_asks h)
   pub ended_are : t.ended ≡ outbox h
 
 -- The store.
@@ -80,7 +80,7 @@ pub record Accounts (plan : FarmPlan) (since : ℕ) (h : List Entry) (t : StoreT
 
 -- the container that was drawn of a key, where before came before its Claim: in the style and over the data of that moment
 abbrev pub text_before : FarmPlan → List Entry → Key → List ℕ
-text_before plan before k = meta_text plan k (style_after (plan_of plan) before k.map) (data_of plan (data_after before))
+text_before plan before k = container_bytes plan k (style_after (plan_of plan) before k.map) (data_of plan (data_after before))
 
 -- at the path of each shown key stands the container that was drawn for it
 abbrev pub HoldsShown : FarmPlan → List Entry → (List ℕ → Option (List ℕ)) → Type 0

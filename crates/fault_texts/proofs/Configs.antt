@@ -10,7 +10,7 @@ use Rattle.farm_config.specs.Addresses.{is_address}
 use Rattle.farm_config.specs.Configs.{MapEntry, map_has, map_place, greatest_limits, is_map_name, is_tile_size}
 use Rattle.farm_config.specs.Limits.{most_maps, most_zoom, most_files, most_workers, most_waiting, most_dirty}
 use Rattle.farm_config.specs.Kinds.{a_file, a_map_name, a_number, a_tile_size, an_address, a_truth}
-use Rattle.farm_config.specs.Tables.{map_keys, map_of, map_after, maps_of, file_after, files_of, limit_keys, limits_of, restyle_keys, restyle_after, restyles_of, config_keys, config_of, config_in}
+use Rattle.farm_config.specs.Tables.{map_keys, map_entry, map_after, maps_of, file_after, files_of, limit_keys, limits_of, restyle_keys, restyle_after, restyles_of, config_keys, config_of, config_in}
 use Rattle.farm_config.specs.declared.config.RestyleEntry.{RestyleEntry}
 use Rattle.farm_config.specs.declared.fault.ConfigFault.{ConfigFault}
 use Rattle.farm_config.specs.declared.fault.ConfigFault.TheVariants.{NotJson, Shape, Range, Double}
@@ -52,8 +52,8 @@ truth_told key d = has HasText (as_bool d) (Shape key) refl
 
 -- ---- objects
 
-map_told : (place : ℕ) (before : List MapEntry) (d : Data) → Told (map_of place before d)
-unfolding map_of
+map_told : (place : ℕ) (before : List MapEntry) (d : Data) → Told (map_entry place before d)
+unfolding map_entry
 map_told place before d =
     step HasText _ _ (checks HasText (nat_lt place most_maps) (Range 1) refl) (λ t.
     step HasText _ _ (opens HasText (Shape 1) (Shape 1) map_keys d refl refl) (λ u.

@@ -4,7 +4,7 @@ use Rattle.std.specs.Option.{ok_or}
 use Rattle.std.specs.Str.{bytes_eq, is_utf8}
 use Rattle.std.specs.Str.Lines.{lines}
 use Rattle.line_words.specs.Cuts.{cut_at}
-use Rattle.line_words.specs.Numbers.{number_in}
+use Rattle.line_words.specs.Numbers.{decimal_below}
 use Rattle.reading.specs.Steps.{◌>>=◌}
 use Rattle.plain_world.specs.declared.world.Tile.{Tile}
 use Rattle.expiry_lists.specs.Lists as list
@@ -33,10 +33,10 @@ unfolding list.tile_of
 tile_told fault h text =
     step ListText _ _ (has ListText (cut_at 47 text) fault h) (λ first.
     step ListText _ _ (has ListText (cut_at 47 first.1) fault h) (λ second.
-    step ListText _ _ (has ListText (number_in (2 ^ 32) first.0) fault h) (λ z.
-    step ListText _ _ (has ListText (number_in (2 ^ 32) second.0) fault h) (λ x.
-    step ListText _ _ (has ListText (number_in (2 ^ 32) second.1) fault h) (λ y.
-    has ListText (list.tile_at z x y) fault h)))))
+    step ListText _ _ (has ListText (decimal_below (2 ^ 32) first.0) fault h) (λ z.
+    step ListText _ _ (has ListText (decimal_below (2 ^ 32) second.0) fault h) (λ x.
+    step ListText _ _ (has ListText (decimal_below (2 ^ 32) second.1) fault h) (λ y.
+    has ListText (list.tile_if_any z x y) fault h)))))
 
 list_line_told : (fault : ListFault) → ListText fault → (line : List ℕ) → ListTold (list.line_read fault line)
 unfolding list.line_read list.text_of
@@ -72,9 +72,9 @@ unfolding tile_of
 numbers_told fault h text =
     step HasText _ _ (has HasText (cut_at 32 text) fault h) (λ first.
     step HasText _ _ (has HasText (cut_at 32 first.1) fault h) (λ second.
-    step HasText _ _ (has HasText (number_in (2 ^ 32) first.0) fault h) (λ z.
-    step HasText _ _ (has HasText (number_in (2 ^ 32) second.0) fault h) (λ x.
-    step HasText _ _ (has HasText (number_in (2 ^ 32) second.1) fault h) (λ y. tt)))))
+    step HasText _ _ (has HasText (decimal_below (2 ^ 32) first.0) fault h) (λ z.
+    step HasText _ _ (has HasText (decimal_below (2 ^ 32) second.0) fault h) (λ x.
+    step HasText _ _ (has HasText (decimal_below (2 ^ 32) second.1) fault h) (λ y. tt)))))
 
 place_told : (fault : ScriptFault) → HasText fault → (text : List ℕ) → Told (place_of fault text)
 unfolding place_of
@@ -88,7 +88,7 @@ unfolding ask_of
 ask_told fault h text =
     step HasText _ _ (has HasText (cut_at 32 text) fault h) (λ first.
     step HasText _ _ (has HasText (cut_at 32 first.1) fault h) (λ second.
-    step HasText _ _ (has HasText (number_in (2 ^ 32) first.0) fault h) (λ conn.
+    step HasText _ _ (has HasText (decimal_below (2 ^ 32) first.0) fault h) (λ conn.
     step HasText _ _ (has HasText (cmd_of second.0) fault h) (λ command.
     step HasText _ _ (place_told fault h second.1) (λ place. tt)))))
 
@@ -105,8 +105,8 @@ unfolding expire_of
 expire_told fault h text = step HasText _ _ (numbers_told fault h text) (λ tile. tt)
 
 -- a line of one number below a bound
-number_told : (line : ℕ → ScriptLine) (bound : ℕ) (fault : ScriptFault) → HasText fault → (word : List ℕ) → Told (ok_or (number_in bound word) fault >>= λ n. Ok (line n))
-number_told line bound fault h word = step HasText _ _ (has HasText (number_in bound word) fault h) (λ n. tt)
+number_told : (line : ℕ → ScriptLine) (bound : ℕ) (fault : ScriptFault) → HasText fault → (word : List ℕ) → Told (ok_or (decimal_below bound word) fault >>= λ n. Ok (line n))
+number_told line bound fault h word = step HasText _ _ (has HasText (decimal_below bound word) fault h) (λ n. tt)
 
 named_told : (fault : ScriptFault) → HasText fault → (name rest : List ℕ) → Told (line_named fault name rest)
 unfolding line_named

@@ -4,7 +4,7 @@ use Rattle.std.specs.Str.{bytes_eq}
 use Rattle.reading.specs.Steps.{◌>>=◌}
 use Rattle.farm_history.specs.declared.keys.Kept.{Kept}
 use Rattle.farm_history.specs.declared.saved.Past.{Past}
-use Rattle.farm_saved.specs.Reading.{magic, opened, number_in, many, style_in, past_in, is_kept, fields_in, entry_in, ended, text_in, saved_in}
+use Rattle.farm_saved.specs.Reading.{saved_magic, after_magic, bytes_number, many, style_in, past_in, is_kept, fields_in, entry_in, nothing_left, saving_in, saved_in}
 use Rattle.farm_saved.specs.declared.fault.SavedFault.{SavedFault}
 use Rattle.farm_saved.specs.declared.fault.SavedFault.TheVariants.{Short, Magic, Kind, Order, Extra}
 use Rattle.fault_texts.specs.SavedFaults.{saved_text}
@@ -17,14 +17,14 @@ HasText e = IsTrue (is_some (saved_text e))
 abbrev Told : {A : Type 0} → Result A SavedFault → Type 0
 Told r = OnFault HasText r
 
-opened_told : (short : SavedFault) → HasText short → (bytes : List ℕ) → Told (opened short bytes)
-unfolding opened
+opened_told : (short : SavedFault) → HasText short → (bytes : List ℕ) → Told (after_magic short bytes)
+unfolding after_magic
 opened_told short h bytes =
     step HasText _ _ (checks HasText (nat_le 4 (length bytes)) short h) (λ u.
-    step HasText _ _ (checks HasText (bytes_eq (take 4 bytes) magic) Magic refl) (λ v. tt))
+    step HasText _ _ (checks HasText (bytes_eq (take 4 bytes) saved_magic) Magic refl) (λ v. tt))
 
-number_told : (short : SavedFault) → HasText short → (n : ℕ) (bytes : List ℕ) → Told (number_in short n bytes)
-unfolding number_in
+number_told : (short : SavedFault) → HasText short → (n : ℕ) (bytes : List ℕ) → Told (bytes_number short n bytes)
+unfolding bytes_number
 number_told short h n bytes = either HasText (nat_le n (length bytes)) _ _ tt h
 
 many_told : {A : Type 0} (read : List A → List ℕ → Result (A × List ℕ) SavedFault) → ((before : List A) (bytes : List ℕ) → Told (read before bytes))
@@ -59,12 +59,12 @@ entry_told short h updates before bytes =
     step HasText _ _ (fields_told short h bytes) (λ entry.
     step HasText _ _ (checks HasText (is_kept updates before entry.0) (Order (length before)) refl) (λ u. tt))
 
-ended_told : (all : ℕ) (rest : List ℕ) → Told (ended all rest)
-unfolding ended
+ended_told : (all : ℕ) (rest : List ℕ) → Told (nothing_left all rest)
+unfolding nothing_left
 ended_told all rest = checks HasText (length rest == 0) (Extra (all - length rest)) refl
 
-text_told : (short : SavedFault) → HasText short → (all : ℕ) (bytes : List ℕ) → Told (text_in short all bytes)
-unfolding text_in
+text_told : (short : SavedFault) → HasText short → (all : ℕ) (bytes : List ℕ) → Told (saving_in short all bytes)
+unfolding saving_in
 text_told short h all bytes =
     step HasText _ _ (opened_told short h bytes) (λ start.
     step HasText _ _ (number_told short h 4 start) (λ maps.

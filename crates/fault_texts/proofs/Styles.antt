@@ -9,7 +9,7 @@ use Rattle.plain_drawing.specs.declared.style.FilterMode.TheVariants as mode
 use Rattle.plain_drawing.specs.Styles.{Style, LayerRef, RasterRef, style_has, layer_has, raster_has, is_text_to, is_width}
 use Rattle.filter_expr.specs.declared.faults.FilterFault.TheVariants.{Bad, NumberRange, TooDeep, NoMemory}
 use Rattle.filter_expr.specs.Trees.{Tree}
-use Rattle.filter_expr.specs.Lexing.{lexed}
+use Rattle.filter_expr.specs.Lexing.{tokens_from}
 use Rattle.filter_expr.specs.Reading.{Step, got, failed, whole_filter}
 use Rattle.filter_expr.specs.FilterTexts.{filter_of, verdict}
 use Rattle.filter_expr.proofs.Final.{IsAnswer}
@@ -24,7 +24,7 @@ use Rattle.style_objects.specs.declared.keys.Object.TheVariants as object
 use Rattle.style_objects.specs.Keys.{keys_of, opened_as}
 use Rattle.style_objects.specs.Kinds.{in_grammar, a_colour, a_scale, a_bound, an_opacity, a_width, a_text_to, any_text, a_mode, a_cap, a_number, filter_at, a_filter, is_true, an_else, list_or_none}
 use Rattle.style_objects.specs.Places.{at_map, at_style, at_rule, at_symbolizer, at_layer, at_raster}
-use Rattle.style_objects.specs.Tables.{white, gray, black, polygon_of, line_symbolizer_of, markers_of, raster_symbolizer_of, symbolizer_named, symbolizer_of, symbolizer_after, filters_of, rule_of, rule_after, style_of, style_after, style_name_of, layer_of, layer_after, raster_of, raster_after, map_of, style_by, style_in}
+use Rattle.style_objects.specs.Tables.{white, gray, black, polygon_of, line_symbolizer_of, markers_of, raster_symbolizer_of, symbolizer_named, symbolizer_of, symbolizer_after, filters_of, rule_of, rule_after, style_of, style_after, style_name_of, layer_of, layer_after, raster_of, raster_after, map_object, style_by, style_in}
 use Rattle.fault_texts.specs.StyleFaults.{style_text}
 use Rattle.fault_texts.specs.Told.{StylesAreTold}
 use Rattle.fault_texts.proofs.Steps.{OnFault, of_fault, step, either, checks, has, needs, may, opens, few, wholes, lists}
@@ -39,9 +39,9 @@ Told r = OnFault HasText r
 
 filter_told : (text : List ℕ) (at : At) → Told (filter_at at (filter_of text))
 unfolding filter_of
-filter_told text at = by (whole_filter (lexed 0 0 text)) (lexed_answer text)
+filter_told text at = by (whole_filter (tokens_from 0 0 text)) (lexed_answer text)
   where
-    by : (r : Step Tree) → IsAnswer (lexed 0 0 text) r → Told (filter_at at (verdict r))
+    by : (r : Step Tree) → IsAnswer (tokens_from 0 0 text) r → Told (filter_at at (verdict r))
     by (got d ts) h = tt
     by (failed (Bad o) ts) h = refl
     by (failed (NumberRange o) ts) h = refl
@@ -216,8 +216,8 @@ raster_told raster before d =
     step HasText _ _ (needs HasText (fault.Shape (at_raster raster)) (a_number 1 (at_raster raster)) (get (codes "pixel") d) refl (number_told 1 (at_raster raster))) (λ pixel.
     step HasText _ _ (checks HasText (not (raster_has name before)) (fault.Double (at_raster raster)) refl) (λ v. tt)))))))
 
-map_told : (d : Data) → Told (map_of filter_of d)
-unfolding map_of
+map_told : (d : Data) → Told (map_object filter_of d)
+unfolding map_object
 map_told d =
     step HasText _ _ (opened_told object.Map at_map d) (λ u.
     step HasText _ _ (few HasText 256 (fault.Range at_map) (get (codes "styles") d) refl) (λ found_styles.

@@ -6,10 +6,10 @@ use Rattle.filter_expr.specs.declared.tokens.PlacedToken.{PlacedToken}
 use Rattle.filter_expr.specs.declared.faults.FilterFault.{FilterFault}
 use Rattle.filter_expr.specs.declared.faults.FilterFault.TheVariants.{Bad, NumberRange, TooDeep, NoMemory}
 use Rattle.plain_filters.specs.declared.CompareSign.{CompareSign}
-use Rattle.filter_expr.specs.Trees.{Kind, JoinSign, sign_token, Tree, Terms, leaf, negation, negative, comparison, chain, parens, no_terms, term, or_chain, and_chain, sum_chain, product_chain, joins, is_leaf, is_out_of_range, is_open, is_minus, is_not, is_compare, is_close, bare, bare_terms, nesting, nesting_terms, InRange, TermsInRange}
+use Rattle.filter_expr.specs.Trees.{Kind, JoinSign, sign_token, Tree, Terms, leaf, negation, negative, comparison, chain, parens, no_terms, term, or_chain, and_chain, sum_chain, product_chain, joins, is_leaf, is_out_of_range, is_open_paren, is_minus, is_not, is_compare, is_close_paren, bare, bare_terms, nesting, nesting_terms, InRange, TermsInRange}
 use Rattle.filter_expr.specs.Seen.{Part, terms_of}
 use Rattle.filter_expr.specs.Grammar.{IsSpelled, AreSpelled, kind_strength, IsMany, Stands, StandTerms}
-use Rattle.filter_expr.specs.Reading.{join_of, Step, got, failed, Reader, then_read, starts, with_front, later, chained, chain_after, chain_of, Inner, or_in, and_in, not_in, compare_in, sum_in, product_in, unary_in, atom_in, within_depth, compared, got_negation, got_negative, closed, sign_of}
+use Rattle.filter_expr.specs.Reading.{join_of, Step, got, failed, Reader, then_read, starts, with_front, later, chain_or_part, chain_after, chain_of, Inner, or_in, and_in, not_in, compare_in, sum_in, product_in, unary_in, atom_in, within_depth, compare_rest, got_negation, got_negative, close_read, sign_of}
 use Rattle.filter_expr.proofs.Signs.{sign_back}
 use Rattle.filter_expr.proofs.Chains.{later-stop, later-more}
 use Rattle.filter_expr.proofs.Rows.{row, part_row, part_shortens, strength_below, Stops, stops_up, close_stops, compare_stops, sign_stops, wrong}
@@ -95,7 +95,7 @@ lift (suc zero) n e us rest h s p stop f = chain_lift and_chain (not_in (within_
 lift (suc (suc zero)) n e us rest h s p stop f =
     fine_if n e rest (starts is_not (us ++ rest)) false ((within_depth n).not_from (us ++ rest)) (compare_in (within_depth n) (us ++ rest)) (first_not e 3 us rest (omega arith) s p) f
 lift (suc (suc (suc zero))) n e us rest h s p stop f =
-    then_fine n n e e rest rest (sum_in (within_depth n) (us ++ rest)) (compared (within_depth n)) (λ x. x) (λ x. x) f
+    then_fine n n e e rest rest (sum_in (within_depth n) (us ++ rest)) (compare_rest (within_depth n)) (λ x. x) (λ x. x) f
     (fine_if n e rest (starts is_compare rest) false _ (got (bare e) rest) (stop.compares (omega arith)) (refl, refl))
 lift (suc (suc (suc (suc zero)))) n e us rest h s p stop f = chain_lift sum_chain (product_in (within_depth n)) n e rest (us ++ rest) (stop.chains sum_chain (omega arith)) f
 lift (suc (suc (suc (suc (suc zero))))) n e us rest h s p stop f = chain_lift product_chain (unary_in (within_depth n)) n e rest (us ++ rest) (stop.chains product_chain (omega arith)) f
@@ -141,7 +141,7 @@ own_leaf t n us rest h p = subst (λ vs. Fine n (leaf t) rest (atom_in (within_d
 
     by : (b : Bool) → is_leaf p.0.token ≡ b →
         Fine n (leaf t) rest (if b then got (leaf p.0.token) rest else (if is_out_of_range p.0.token then failed (NumberRange p.0.offset) (p.0 ∷ rest)
-        else (if is_open p.0.token then (within_depth n).open_from (p.0 ∷ rest) else failed (Bad p.0.offset) (p.0 ∷ rest))))
+        else (if is_open_paren p.0.token then (within_depth n).open_from (p.0 ∷ rest) else failed (Bad p.0.offset) (p.0 ∷ rest))))
     by true e = (ap leaf p.2, refl)
     by false e =
         fine_if n (leaf t) rest (is_out_of_range p.0.token) true (failed (NumberRange p.0.offset) (p.0 ∷ rest)) _ (ap is_out_of_range p.2 ∙ out_of_range (sym (ap is_leaf p.2) ∙ e))
@@ -155,16 +155,16 @@ own_parens e n us rest p ih = subst (λ vs. Fine n (parens e) rest (atom_in (wit
     by : (m : ℕ) → Fine m (parens e) rest ((within_depth m).open_from (p.0 ∷ ((p.1 ++ p.2 ∷ []) ++ rest)))
     by zero = omega arith
     by (suc m) =
-        subst (λ ts. Fine (suc m) (parens e) rest (then_read (or_in (within_depth m) ts) closed)) (sym (append_assoc p.1 (p.2 ∷ []) rest))
-        (then_fine m (suc m) e (parens e) (p.2 ∷ rest) rest (or_in (within_depth m) (p.1 ++ p.2 ∷ rest)) closed (λ x. x) (λ x. omega (arith, x))
+        subst (λ ts. Fine (suc m) (parens e) rest (then_read (or_in (within_depth m) ts) close_read)) (sym (append_assoc p.1 (p.2 ∷ []) rest))
+        (then_fine m (suc m) e (parens e) (p.2 ∷ rest) rest (or_in (within_depth m) (p.1 ++ p.2 ∷ rest)) close_read (λ x. x) (λ x. omega (arith, x))
         (ih m p.1 (p.2 ∷ rest) p.6 (close_stops p.2 rest p.5))
-        (fine_if (suc m) (parens e) rest (is_close p.2.token) true (got (bare e) rest) _ (ap is_close p.5) (refl, refl)))
+        (fine_if (suc m) (parens e) rest (is_close_paren p.2.token) true (got (bare e) rest) _ (ap is_close_paren p.5) (refl, refl)))
 
     opened : Fine n (parens e) rest (atom_in (within_depth n) ((p.0 ∷ (p.1 ++ p.2 ∷ [])) ++ rest))
     opened =
         fine_if n (parens e) rest (is_leaf p.0.token) false _ _ (ap is_leaf p.4)
         (fine_if n (parens e) rest (is_out_of_range p.0.token) false _ _ (ap is_out_of_range p.4)
-        (fine_if n (parens e) rest (is_open p.0.token) true _ _ (ap is_open p.4) (by n)))
+        (fine_if n (parens e) rest (is_open_paren p.0.token) true _ _ (ap is_open_paren p.4) (by n)))
 
 own_negation : (e : Tree) (n : ℕ) (us rest : List PlacedToken) → IsSpelled (negation e) us →
     ((m : ℕ) (vs : List PlacedToken) → IsSpelled e vs → Fine m e rest (not_in (within_depth m) (vs ++ rest))) → Fine n (negation e) rest (row 2 (within_depth n) (us ++ rest))
@@ -197,7 +197,7 @@ unfolding compare_in
 own_comparison a c b n us rest p stop iha ihb =
     subst (λ vs. Fine n (comparison a c b) rest (compare_in (within_depth n) (vs ++ rest))) (sym p.3)
     (subst (λ vs. Fine n (comparison a c b) rest (compare_in (within_depth n) vs)) (sym (append_assoc p.0 (p.1 ∷ p.2) rest))
-    (then_fine n n a (comparison a c b) (p.1 ∷ (p.2 ++ rest)) rest (sum_in (within_depth n) (p.0 ++ p.1 ∷ (p.2 ++ rest))) (compared (within_depth n)) (λ x. x.0) (λ x. omega (arith, x))
+    (then_fine n n a (comparison a c b) (p.1 ∷ (p.2 ++ rest)) rest (sum_in (within_depth n) (p.0 ++ p.1 ∷ (p.2 ++ rest))) (compare_rest (within_depth n)) (λ x. x.0) (λ x. omega (arith, x))
     (iha p.0 (p.1 ∷ (p.2 ++ rest)) p.5 (compare_stops p.1 (p.2 ++ rest) (ap is_compare p.4)))
     (fine_if n (comparison a c b) rest (is_compare p.1.token) true _ _ (ap is_compare p.4)
     (then_fine n n b (comparison a c b) rest rest (sum_in (within_depth n) (p.2 ++ rest)) (λ d vs. got (comparison (bare a) (sign_of p.1.token) d) vs) (λ x. x.1) (λ x. omega (arith, x))
@@ -248,7 +248,7 @@ own_terms_some t e qs k n ws rest s p stop ih more =
     (ih p.1 (p.2 ++ rest) p.5 (terms_stop k qs p.2 rest s.2 p.6 stop)))
     (more p.2 p.6)))
 
-chained_many : (k : Kind) (d : Tree) (xs : List Part) (ps : Terms) → IsMany ps → terms_of xs ≡ bare_terms ps → chained k d xs ≡ chain k d (bare_terms ps)
+chained_many : (k : Kind) (d : Tree) (xs : List Part) (ps : Terms) → IsMany ps → terms_of xs ≡ bare_terms ps → chain_or_part k d xs ≡ chain k d (bare_terms ps)
 chained_many k d [] no_terms m e = absurd m
 chained_many k d [] (term t x ps) m e = absurd (cc)
 chained_many k d (x ∷ xs) ps m e = ap (chain k d) e

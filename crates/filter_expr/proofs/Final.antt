@@ -10,7 +10,7 @@ use Rattle.filter_expr.specs.Trees.{Kind, sign_token, Tree, Terms, leaf, negatio
 use Rattle.filter_expr.specs.Grammar.{IsSpelled, AreSpelled, kind_strength, Stands, StandTerms}
 use Rattle.filter_expr.specs.Filters.{IsText, IsFilter, IsFault, Begins, GoesOn, StandsAt, Passes, HasCause}
 use Rattle.filter_expr.proofs.Places.{IsAt}
-use Rattle.filter_expr.specs.Reading.{Step, got, failed, then_read, or_in, within_depth, ended, whole_filter}
+use Rattle.filter_expr.specs.Reading.{Step, got, failed, then_read, or_in, within_depth, end_read, whole_filter}
 use Rattle.filter_expr.proofs.Chains.{Leaves}
 use Rattle.filter_expr.proofs.Levels.{whole_shortens}
 use Rattle.filter_expr.proofs.Complete.{Fine, complete}
@@ -97,12 +97,12 @@ pub reads_whole : (e : Tree) (us : List PlacedToken) (z : PlacedToken) → Stand
 unfolding whole_filter
 reads_whole e us z s q p = by (or_in (within_depth 64) (us ++ z ∷ [])) (complete e 64 0 us (z ∷ []) (omega arith) s p (end_stops z [] q))
   where
-    at_end : (d : Tree) → d ≡ bare e → (rest : List PlacedToken) → rest ≡ z ∷ [] → Reads e z (ended d rest)
+    at_end : (d : Tree) → d ≡ bare e → (rest : List PlacedToken) → rest ≡ z ∷ [] → Reads e z (end_read d rest)
     at_end d h rest g =
-        subst (λ ts. Reads e z (ended d ts)) (sym g)
+        subst (λ ts. Reads e z (end_read d ts)) (sym g)
         (subst (λ b. Reads e z (if b then got d (z ∷ []) else failed (Bad z.offset) (z ∷ []))) (sym (ap is_end q)) (h, refl))
 
-    by : (r : Step Tree) → Fine 64 e (z ∷ []) r → Reads e z (then_read r ended)
+    by : (r : Step Tree) → Fine 64 e (z ∷ []) r → Reads e z (then_read r end_read)
     by (got d rest) h = at_end d h.0 rest h.1
     by (failed (Bad o) rest) h = h
     by (failed (NumberRange o) rest) h = h
@@ -178,8 +178,8 @@ pub right : (ts : List PlacedToken) → Stopped ts → IsAnswer ts (whole_filter
 unfolding whole_filter
 right ts stop = subst (IsAnswer ts) refl (by (or_in (within_depth 64) ts) refl (sound_or 64 (within_depth 64) (within_sound 64) ts))
   where
-    at_end : (d : Tree) (us rest : List PlacedToken) → or_in (within_depth 64) ts ≡ got d rest → ts ≡ us ++ rest → Whole 64 0 d us → IsAnswer ts (ended d rest)
-    at_end d us [] q split w = fault_of ts stop (Bad 0) [] us (ap (λ r. then_read r ended) q) split (begun_of d us w) tt
+    at_end : (d : Tree) (us rest : List PlacedToken) → or_in (within_depth 64) ts ≡ got d rest → ts ≡ us ++ rest → Whole 64 0 d us → IsAnswer ts (end_read d rest)
+    at_end d us [] q split w = fault_of ts stop (Bad 0) [] us (ap (λ r. then_read r end_read) q) split (begun_of d us w) tt
     at_end d us (z ∷ more) q split w = last (is_end z.token) refl
       where
         last : (b : Bool) → is_end z.token ≡ b → IsAnswer ts (if b then got d (z ∷ more) else failed (Bad z.offset) (z ∷ more))
@@ -193,11 +193,11 @@ right ts stop = subst (IsAnswer ts) refl (by (or_in (within_depth 64) ts) refl (
         }
         last false e =
             fault_of ts stop (Bad z.offset) (z ∷ more) us
-            (ap (λ r. then_read r ended) q ∙ ap (λ b. if b then got d (z ∷ more) else failed (Bad z.offset) (z ∷ more)) e) split (begun_of d us w) tt
+            (ap (λ r. then_read r end_read) q ∙ ap (λ b. if b then got d (z ∷ more) else failed (Bad z.offset) (z ∷ more)) e) split (begun_of d us w) tt
 
-    by : (r : Step Tree) → or_in (within_depth 64) ts ≡ r → Outcome 64 0 ts r → IsAnswer ts (then_read r ended)
+    by : (r : Step Tree) → or_in (within_depth 64) ts ≡ r → Outcome 64 0 ts r → IsAnswer ts (then_read r end_read)
     by (got d rest) q o = at_end d o.0 rest q o.1 o.2
-    by (failed f rest) q o = fault_of ts stop f rest o.0 (ap (λ r. then_read r ended) q) o.1 o.2 o.3
+    by (failed f rest) q o = fault_of ts stop f rest o.0 (ap (λ r. then_read r end_read) q) o.1 o.2 o.3
 
 -- ---- one answer
 

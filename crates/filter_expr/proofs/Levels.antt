@@ -3,9 +3,9 @@ use Rattle.std.proofs.Common.{ℕ, zero, suc, ◌≤◌, List, [], ◌∷◌, le
 use Rattle.filter_expr.specs.declared.tokens.PlacedToken.{PlacedToken}
 use Rattle.filter_expr.specs.declared.faults.FilterFault.{FilterFault}
 use Rattle.filter_expr.specs.declared.faults.FilterFault.TheVariants.{Bad, NumberRange}
-use Rattle.filter_expr.specs.Trees.{Kind, Tree, leaf, comparison, joins, or_chain, and_chain, sum_chain, product_chain, is_leaf, is_out_of_range, is_open, is_close, is_minus, is_not, is_compare, is_end}
+use Rattle.filter_expr.specs.Trees.{Kind, Tree, leaf, comparison, joins, or_chain, and_chain, sum_chain, product_chain, is_leaf, is_out_of_range, is_open_paren, is_close_paren, is_minus, is_not, is_compare, is_end}
 use Rattle.filter_expr.specs.Seen.{Part}
-use Rattle.filter_expr.specs.Reading.{Step, got, failed, Reader, then_read, with_front, turns, later, chain_after, chain_of, Inner, atom_in, unary_in, product_in, sum_in, compare_in, not_in, and_in, or_in, within_depth, closed, ended, whole_filter, starts, first_token, join_of, place, sign_of, compared, got_negation, got_negative}
+use Rattle.filter_expr.specs.Reading.{Step, got, failed, Reader, then_read, with_front, turns, later, chain_after, chain_of, Inner, atom_in, unary_in, product_in, sum_in, compare_in, not_in, and_in, or_in, within_depth, close_read, end_read, whole_filter, starts, first_token, join_of, place, sign_of, compare_rest, got_negation, got_negative}
 use Rattle.filter_expr.proofs.Chains.{Leaves, Shortens}
 
 abbrev fault : FilterFault → List PlacedToken → Step Tree
@@ -54,13 +54,13 @@ chain_shortens k part short = record {
       (λ e us h. after_leaves (length ts) k e (turns k part (length us) us) (weaken (length us) (length ts) (turns k part (length us) us) h (turns_leaves k part short (length us) us)));
 }
 
-closed_leaves : (n : ℕ) (e : Tree) (us : List PlacedToken) → length us ≤ n → Leaves n (closed e us)
+closed_leaves : (n : ℕ) (e : Tree) (us : List PlacedToken) → length us ≤ n → Leaves n (close_read e us)
 closed_leaves n e us h =
     let bad : Leaves n (fault (Bad (place us)) us) = (h, refl) in
     let fewer : length (drop 1 us) ≤ n = omega (arith, drop_one us) in
-    cond_leaves n (starts is_close us) (got e (drop 1 us)) (failed (Bad (place us)) us) fewer bad
+    cond_leaves n (starts is_close_paren us) (got e (drop 1 us)) (failed (Bad (place us)) us) fewer bad
 
-ended_leaves : (n : ℕ) (e : Tree) (us : List PlacedToken) → length us ≤ n → Leaves n (ended e us)
+ended_leaves : (n : ℕ) (e : Tree) (us : List PlacedToken) → length us ≤ n → Leaves n (end_read e us)
 ended_leaves n e us h =
     let bad : Leaves n (fault (Bad (place us)) us) = (h, refl) in
     cond_leaves n (starts is_end us) (got e us) (failed (Bad (place us)) us) h bad
@@ -76,10 +76,10 @@ module _ (i : Inner) (short : ShortensIn i) where
   atom_shortens = record {
     leaves = λ ts. let bad : Leaves (length ts) (fault (Bad (place ts)) ts) = (refl_le (length ts), refl) in
         let out_of_range : Leaves (length ts) (fault (NumberRange (place ts)) ts) = (refl_le (length ts), refl) in
-        let opened : Step Tree = if starts is_open ts then i.open_from ts else failed (Bad (place ts)) ts in
+        let opened : Step Tree = if starts is_open_paren ts then i.open_from ts else failed (Bad (place ts)) ts in
         cond_leaves (length ts) (starts is_leaf ts) (got (leaf (first_token ts)) (drop 1 ts)) (if starts is_out_of_range ts then failed (NumberRange (place ts)) ts else opened) (drop_one ts)
         (cond_leaves (length ts) (starts is_out_of_range ts) (failed (NumberRange (place ts)) ts) opened out_of_range
-        (cond_leaves (length ts) (starts is_open ts) (i.open_from ts) (failed (Bad (place ts)) ts) (short.open_from.leaves ts) bad));
+        (cond_leaves (length ts) (starts is_open_paren ts) (i.open_from ts) (failed (Bad (place ts)) ts) (short.open_from.leaves ts) bad));
   }
 
   pub unary_shortens : Shortens (unary_in i)
@@ -97,7 +97,7 @@ module _ (i : Inner) (short : ShortensIn i) where
   pub compare_shortens : Shortens (compare_in i)
   unfolding compare_in
   compare_shortens = record {
-    leaves = λ ts. then_leaves (length ts) (sum_in i ts) (compared i) (sum_shortens.leaves ts)
+    leaves = λ ts. then_leaves (length ts) (sum_in i ts) (compare_rest i) (sum_shortens.leaves ts)
         (λ a us h. cond_leaves (length ts) (starts is_compare us) (then_read (sum_in i (drop 1 us)) (λ b vs. got (comparison a (sign_of (first_token us)) b) vs)) (got a us)
         (then_leaves (length ts) (sum_in i (drop 1 us)) (λ b vs. got (comparison a (sign_of (first_token us)) b) vs)
         (weaken (length us) (length ts) (sum_in i (drop 1 us)) h (weaken (length (drop 1 us)) (length us) (sum_in i (drop 1 us)) (drop_one us) (sum_shortens.leaves (drop 1 us))))
@@ -133,7 +133,7 @@ within_shortens (suc n) = record {
         (weaken (length (drop 1 ts)) (length ts) (unary_in (within_depth n) (drop 1 ts)) (drop_one ts) ((unary_shortens (within_depth n) (within_shortens n)).leaves (drop 1 ts))) (λ e us h. h);
   };
   open_from = record {
-    leaves = λ ts. then_leaves (length ts) (or_in (within_depth n) (drop 1 ts)) closed
+    leaves = λ ts. then_leaves (length ts) (or_in (within_depth n) (drop 1 ts)) close_read
         (weaken (length (drop 1 ts)) (length ts) (or_in (within_depth n) (drop 1 ts)) (drop_one ts) ((or_shortens (within_depth n) (within_shortens n)).leaves (drop 1 ts)))
         (λ e us h. closed_leaves (length ts) e us h);
   };
@@ -142,6 +142,6 @@ within_shortens (suc n) = record {
 pub whole_shortens : Shortens whole_filter
 unfolding whole_filter
 whole_shortens = record {
-  leaves = λ ts. then_leaves (length ts) (or_in (within_depth 64) ts) ended ((or_shortens (within_depth 64) (within_shortens 64)).leaves ts)
+  leaves = λ ts. then_leaves (length ts) (or_in (within_depth 64) ts) end_read ((or_shortens (within_depth 64) (within_shortens 64)).leaves ts)
       (λ e us h. ended_leaves (length ts) e us h);
 }

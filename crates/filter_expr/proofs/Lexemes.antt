@@ -12,8 +12,8 @@ use Rattle.filter_expr.specs.declared.tokens.Token.{Token}
 use Rattle.filter_expr.specs.declared.tokens.Token.TheVariants as token
 use Rattle.filter_expr.specs.Trees.{is_unknown}
 use Rattle.farm_base.specs.Digits.{is_digit}
-use Rattle.filter_expr.specs.Spelling.{is_letter, is_word_byte, is_quote, is_escaped, is_name_byte, IsDigits, number_of, IsQuoting, Spells, begins_with, goes_on, EndsBefore, StandsFirst}
-use Rattle.filter_expr.specs.Lexing.{Taken, nothing, number_token, number_token_at, word_token, word_at, name_token_at, longer, quoting_len, unescaped, quoted_of, quoted_at, single, less_at, sign_at, first_byte, token_at}
+use Rattle.filter_expr.specs.Spelling.{is_letter, is_word_byte, is_quote, is_escaped, is_attribute_byte, IsDigits, digits_number, IsQuoting, Spells, begins_with, lengthens, EndsBefore, StandsFirst}
+use Rattle.filter_expr.specs.Lexing.{Taken, nothing, number_token, number_token_at, word_token, word_at, name_token_at, longer, quoting_len, quoted_text, quoted_of, quoted_at, single, less_at, sign_at, first_byte, token_at}
 use Rattle.filter_expr.proofs.Spelled.{wrong, split_bool, end_digits, end_words, run_all, run_stops, run_first}
 
 -- where the token is one, it stands first
@@ -41,11 +41,11 @@ some_first xs b ys e n = wrong (ap (begins_with (λ _. true)) (sym n ∙ e))
 
 number_spells : (us : List ℕ) → IsDigits us → Spells (number_token us) us
 unfolding number_token
-number_spells us d = by (nat_lt (number_of us) (2 ^ 63)) refl
+number_spells us d = by (nat_lt (digits_number us) (2 ^ 63)) refl
   where
-    by : (b : Bool) → nat_lt (number_of us) (2 ^ 63) ≡ b → Spells (if b then token.Number (pos (number_of us)) else token.OutOfRange) us
-    by true e = (d, refl, ltb-true (number_of us) (2 ^ 63) e)
-    by false e = (d, ltb-false (number_of us) (2 ^ 63) e)
+    by : (b : Bool) → nat_lt (digits_number us) (2 ^ 63) ≡ b → Spells (if b then token.Number (pos (digits_number us)) else token.OutOfRange) us
+    by true e = (d, refl, ltb-true (digits_number us) (2 ^ 63) e)
+    by false e = (d, ltb-false (digits_number us) (2 ^ 63) e)
 
 number_good : (b : ℕ) (bs : List ℕ) → is_digit b ≡ true → Good (b ∷ bs) (number_token_at (b ∷ bs))
 unfolding number_token_at
@@ -89,7 +89,7 @@ word_good b bs d h = record {
 take_two : (b : ℕ) (bs : List ℕ) (n : ℕ) → n < length bs → take (n + 2) (b ∷ bs) ≡ b ∷ (take n bs ++ get_or bs n 0 ∷ [])
 take_two b bs n h = let e : n + 2 ≡ suc (n + 1) = omega arith in ap (λ m. take m (b ∷ bs)) e ∙ ap (λ l. b ∷ l) (take_more bs n 0 h)
 
-name_end : (n : ℕ) → is_name_byte n ≡ false → n ≡ 93
+name_end : (n : ℕ) → is_attribute_byte n ≡ false → n ≡ 93
 name_end n h = by (split_bool (n == 93))
   where
     by : ((n == 93) ≡ true) ⊎ ((n == 93) ≡ false) → n ≡ 93
@@ -104,9 +104,9 @@ pub quote_ends : (q : ℕ) (us more : List ℕ) → is_quote q ≡ true → Ends
 quote_ends q us [] h = tt
 quote_ends q us (c ∷ cs) h = by (split_bool (q == 39))
   where
-    by : ((q == 39) ≡ true) ⊎ ((q == 39) ≡ false) → goes_on (q ∷ us) c ≡ false
-    by (inl e) = subst (λ n. goes_on (n ∷ us) c ≡ false) (sym (eqb-true q 39 e)) refl
-    by (inr e) = subst (λ n. goes_on (n ∷ us) c ≡ false) (sym (eqb-true q 34 (sym (ap (λ b. b || q == 34) e) ∙ h))) refl
+    by : ((q == 39) ≡ true) ⊎ ((q == 39) ≡ false) → lengthens (q ∷ us) c ≡ false
+    by (inl e) = subst (λ n. lengthens (n ∷ us) c ≡ false) (sym (eqb-true q 39 e)) refl
+    by (inr e) = subst (λ n. lengthens (n ∷ us) c ≡ false) (sym (eqb-true q 34 (sym (ap (λ b. b || q == 34) e) ∙ h))) refl
 
 some_taken : (n : ℕ) (bs : List ℕ) → (n == 0) ≡ false → n < length bs → take n bs ≢ []
 some_taken zero bs e h = absurd (wrong (sym e))
@@ -116,15 +116,15 @@ some_taken (suc n) (b ∷ bs) e h = some_first (b ∷ take n bs) b (take n bs) r
 name_good : (bs : List ℕ) → Good (91 ∷ bs) (name_token_at bs)
 unfolding name_token_at
 name_good bs =
-    good_if (91 ∷ bs) (prefix_len is_name_byte bs == 0) _ _ (λ _. good_nothing (91 ∷ bs))
-    (λ z. good_if (91 ∷ bs) (nat_lt (prefix_len is_name_byte bs) (length bs)) _ _
+    good_if (91 ∷ bs) (prefix_len is_attribute_byte bs == 0) _ _ (λ _. good_nothing (91 ∷ bs))
+    (λ z. good_if (91 ∷ bs) (nat_lt (prefix_len is_attribute_byte bs) (length bs)) _ _
     (λ e.
-    let less : prefix_len is_name_byte bs < length bs = ltb-true (prefix_len is_name_byte bs) (length bs) e in
-    good_at (91 ∷ bs) (token.Name (take (prefix_len is_name_byte bs) bs)) (prefix_len is_name_byte bs + 2) (91 ∷ (take (prefix_len is_name_byte bs) bs ++ 93 ∷ [])) (drop (prefix_len is_name_byte bs + 2) (91 ∷ bs))
-    (take_two 91 bs (prefix_len is_name_byte bs) less
-    ∙ ap (λ x. 91 ∷ (take (prefix_len is_name_byte bs) bs ++ x ∷ [])) (name_end (get_or bs (prefix_len is_name_byte bs) 0) (prefix_len_stops is_name_byte bs 0 less)))
+    let less : prefix_len is_attribute_byte bs < length bs = ltb-true (prefix_len is_attribute_byte bs) (length bs) e in
+    good_at (91 ∷ bs) (token.Name (take (prefix_len is_attribute_byte bs) bs)) (prefix_len is_attribute_byte bs + 2) (91 ∷ (take (prefix_len is_attribute_byte bs) bs ++ 93 ∷ [])) (drop (prefix_len is_attribute_byte bs + 2) (91 ∷ bs))
+    (take_two 91 bs (prefix_len is_attribute_byte bs) less
+    ∙ ap (λ x. 91 ∷ (take (prefix_len is_attribute_byte bs) bs ++ x ∷ [])) (name_end (get_or bs (prefix_len is_attribute_byte bs) 0) (prefix_len_stops is_attribute_byte bs 0 less)))
     refl
-    ((refl, some_taken (prefix_len is_name_byte bs) bs z less, run_all is_name_byte bs), bracket_ends (take (prefix_len is_name_byte bs) bs ++ 93 ∷ []) (drop (prefix_len is_name_byte bs + 2) (91 ∷ bs))))
+    ((refl, some_taken (prefix_len is_attribute_byte bs) bs z less, run_all is_attribute_byte bs), bracket_ends (take (prefix_len is_attribute_byte bs) bs ++ 93 ∷ []) (drop (prefix_len is_attribute_byte bs + 2) (91 ∷ bs))))
     (λ _. good_nothing (91 ∷ bs)))
 
 -- a text in quotes, where a backslash stood just before or not
@@ -135,29 +135,29 @@ Quoting q true t us = IsQuoting q t (92 ∷ us)
 record Closed (q : ℕ) (e : Bool) (bs : List ℕ) (n : ℕ) : Type 0 where
   less : n < length bs
   quote : get_or bs n 0 ≡ q
-  text : Quoting q e (unescaped e (take n bs)) (take n bs)
+  text : Quoting q e (quoted_text e (take n bs)) (take n bs)
 
 abbrev ClosedAt : ℕ → Bool → List ℕ → Option ℕ → Type 0
 ClosedAt q e bs None = Unit {0}
 ClosedAt q e bs (Some n) = Closed q e bs n
 
 closed_escaped : (q b : ℕ) (bs : List ℕ) → is_escaped b ≡ true → (o : Option ℕ) → ClosedAt q false bs o → ClosedAt q true (b ∷ bs) (longer o)
-unfolding unescaped
+unfolding quoted_text
 closed_escaped q b bs h None c = tt
 closed_escaped q b bs h (Some n) c = record { less = omega (arith, c.less); quote = c.quote; text = (take n bs, c.text, inr (refl, h)) }
 
 closed_backslash : (q : ℕ) (bs : List ℕ) → (o : Option ℕ) → ClosedAt q true bs o → ClosedAt q false (92 ∷ bs) (longer o)
-unfolding unescaped
+unfolding quoted_text
 closed_backslash q bs None c = tt
 closed_backslash q bs (Some n) c = record { less = omega (arith, c.less); quote = c.quote; text = c.text }
 
 closed_plain : (q b : ℕ) (bs : List ℕ) → (b == q) ≡ false → (b == 92) ≡ false → (o : Option ℕ) → ClosedAt q false bs o → ClosedAt q false (b ∷ bs) (longer o)
-unfolding unescaped
+unfolding quoted_text
 closed_plain q b bs h g None c = tt
 closed_plain q b bs h g (Some n) c = record {
   less = omega (arith, c.less);
   quote = c.quote;
-  text = subst (λ l. IsQuoting q l (b ∷ take n bs)) (sym (ap (λ t. if t then unescaped true (take n bs) else b ∷ unescaped false (take n bs)) g))
+  text = subst (λ l. IsQuoting q l (b ∷ take n bs)) (sym (ap (λ t. if t then quoted_text true (take n bs) else b ∷ quoted_text false (take n bs)) g))
       (take n bs, c.text, inl (refl, apart b q h, apart b 92 g));
 }
   where
@@ -169,7 +169,7 @@ closed_if q e bs true x y h g = h refl
 closed_if q e bs false x y h g = g refl
 
 closed_at : (q : ℕ) (e : Bool) (bs : List ℕ) → ClosedAt q e bs (quoting_len q e bs)
-unfolding quoting_len unescaped
+unfolding quoting_len quoted_text
 closed_at q e [] = tt
 closed_at q true (b ∷ bs) =
     closed_if q true (b ∷ bs) (is_escaped b) (longer (quoting_len q false bs)) None (λ h. closed_escaped q b bs h (quoting_len q false bs) (closed_at q false bs)) (λ _. tt)
@@ -187,7 +187,7 @@ quoted_good q bs h = by (quoting_len q false bs) (closed_at q false bs)
     by : (o : Option ℕ) → ClosedAt q false bs o → Good (q ∷ bs) (quoted_of bs o)
     by None c = good_nothing (q ∷ bs)
     by (Some n) c =
-        good_at (q ∷ bs) (token.Quoted (unescaped false (take n bs))) (n + 2) (q ∷ (take n bs ++ q ∷ [])) (drop (n + 2) (q ∷ bs))
+        good_at (q ∷ bs) (token.Quoted (quoted_text false (take n bs))) (n + 2) (q ∷ (take n bs ++ q ∷ [])) (drop (n + 2) (q ∷ bs))
         (take_two q bs n c.less ∙ ap (λ x. q ∷ (take n bs ++ x ∷ [])) c.quote) refl
         ((q, take n bs, refl, h, c.text), quote_ends q (take n bs ++ q ∷ []) (drop (n + 2) (q ∷ bs)) h)
 
@@ -202,12 +202,12 @@ two_good k j b (c ∷ cs) t e g s h =
     good_at (b ∷ c ∷ cs) t 2 (k ∷ suc j ∷ []) cs (ap (λ x. x ∷ c ∷ []) (eqb-true b k e) ∙ ap (λ x. k ∷ x ∷ []) (eqb-true c (suc j) g)) refl (s, h cs)
 
 -- a sign that no byte makes a longer one
-alone : (us : List ℕ) → ((c : ℕ) → goes_on us c ≡ false) → (more : List ℕ) → EndsBefore us more
+alone : (us : List ℕ) → ((c : ℕ) → lengthens us c ≡ false) → (more : List ℕ) → EndsBefore us more
 alone us h [] = tt
 alone us h (c ∷ cs) = h c
 
 -- a sign before a byte that is not the one that would make it longer
-before_other : (us : List ℕ) (k : ℕ) (more : List ℕ) → ((c : ℕ) → (c == k) ≡ false → goes_on us c ≡ false) → (first_byte more == k) ≡ false → EndsBefore us more
+before_other : (us : List ℕ) (k : ℕ) (more : List ℕ) → ((c : ℕ) → (c == k) ≡ false → lengthens us c ≡ false) → (first_byte more == k) ≡ false → EndsBefore us more
 before_other us k [] h e = tt
 before_other us k (c ∷ cs) h e = h c e
 

@@ -11,8 +11,8 @@ use Rattle.filter_expr.specs.declared.tokens.Token.{Token}
 use Rattle.filter_expr.specs.declared.tokens.Token.TheVariants as token
 use Rattle.filter_expr.specs.Trees.{is_unknown}
 use Rattle.farm_base.specs.Digits.{is_digit, number_after}
-use Rattle.filter_expr.specs.Spelling.{is_blank, is_escaped, is_name_byte, is_letter, is_word_byte, is_quote, number_of}
-use Rattle.filter_expr.specs.Lexing.{Taken, nothing, single, quoted_of, first_byte, word_token, longer, quoting_len, unescaped, is_plain_byte, number_token, number_token_at, word_at, name_token_at, quoted_at, sign_at, less_at, token_at, lexed}
+use Rattle.filter_expr.specs.Spelling.{is_blank, is_escaped, is_attribute_byte, is_letter, is_word_byte, is_quote, digits_number}
+use Rattle.filter_expr.specs.Lexing.{Taken, nothing, single, quoted_of, first_byte, word_token, longer, quoting_len, quoted_text, is_plain_byte, number_token, number_token_at, word_at, name_token_at, quoted_at, sign_at, less_at, token_at, tokens_from}
 
 wrong : false ≡ true → ⊥
 wrong e = grind arith
@@ -92,49 +92,49 @@ further_none (Some n) = ap Some (zero-add n)
 -- what follows a run without backslashes
 abbrev behind_run : List ℕ → List ℕ
 behind_run [] = []
-behind_run (b ∷ bs) = unescaped true bs
+behind_run (b ∷ bs) = quoted_text true bs
 
-escape_run : (bs : List ℕ) → unescaped false bs ≡ take (prefix_len is_plain_byte bs) bs ++ behind_run (drop (prefix_len is_plain_byte bs) bs)
-unfolding unescaped
+escape_run : (bs : List ℕ) → quoted_text false bs ≡ take (prefix_len is_plain_byte bs) bs ++ behind_run (drop (prefix_len is_plain_byte bs) bs)
+unfolding quoted_text
 escape_run [] = refl
 escape_run (b ∷ bs) = by (b == 92) (escape_run bs)
   where
-    by : (t : Bool) → unescaped false bs ≡ take (prefix_len is_plain_byte bs) bs ++ behind_run (drop (prefix_len is_plain_byte bs) bs) →
-        (if t then unescaped true bs else b ∷ unescaped false bs)
+    by : (t : Bool) → quoted_text false bs ≡ take (prefix_len is_plain_byte bs) bs ++ behind_run (drop (prefix_len is_plain_byte bs) bs) →
+        (if t then quoted_text true bs else b ∷ quoted_text false bs)
         ≡ take (if not t then 1 + prefix_len is_plain_byte bs else 0) (b ∷ bs) ++ behind_run (drop (if not t then 1 + prefix_len is_plain_byte bs else 0) (b ∷ bs))
     by true ih = refl
     by false ih = rw (one-add (prefix_len is_plain_byte bs)) (ap (λ l. b ∷ l) ih)
 
 pub escape_here : (bs : List ℕ) → prefix_len is_plain_byte bs < length bs →
-    unescaped false bs ≡ take (prefix_len is_plain_byte bs) bs ++ unescaped true (drop (prefix_len is_plain_byte bs + 1) bs)
+    quoted_text false bs ≡ take (prefix_len is_plain_byte bs) bs ++ quoted_text true (drop (prefix_len is_plain_byte bs + 1) bs)
 escape_here bs h = escape_run bs ∙ ap (λ l. take (prefix_len is_plain_byte bs) bs ++ behind_run l) (drop_more bs (prefix_len is_plain_byte bs) 0 h)
 
-pub escape_none : (bs : List ℕ) → length bs ≤ prefix_len is_plain_byte bs → unescaped false bs ≡ bs
+pub escape_none : (bs : List ℕ) → length bs ≤ prefix_len is_plain_byte bs → quoted_text false bs ≡ bs
 escape_none bs h =
     escape_run bs ∙ ap (λ l. take (prefix_len is_plain_byte bs) bs ++ behind_run l) (drop_all (prefix_len is_plain_byte bs) bs h)
     ∙ append-nil (take (prefix_len is_plain_byte bs) bs) ∙ take_all (prefix_len is_plain_byte bs) bs h
 
-pub escape_next : (bs : List ℕ) → get_or bs 0 0 ≡ 92 → take 1 bs ++ unescaped false (drop 1 bs) ≡ unescaped true bs
-unfolding unescaped
+pub escape_next : (bs : List ℕ) → get_or bs 0 0 ≡ 92 → take 1 bs ++ quoted_text false (drop 1 bs) ≡ quoted_text true bs
+unfolding quoted_text
 escape_next [] h = refl
 escape_next (b ∷ bs) h = refl
 
-pub escape_other : (bs : List ℕ) → (get_or bs 0 0 ≡ 92 → ⊥) → unescaped false bs ≡ unescaped true bs
-unfolding unescaped
+pub escape_other : (bs : List ℕ) → (get_or bs 0 0 ≡ 92 → ⊥) → quoted_text false bs ≡ quoted_text true bs
+unfolding quoted_text
 escape_other [] h = refl
 escape_other (b ∷ bs) h = by (b == 92) refl
   where
-    by : (t : Bool) → (b == 92) ≡ t → (if t then unescaped true bs else b ∷ unescaped false bs) ≡ b ∷ unescaped false bs
+    by : (t : Bool) → (b == 92) ≡ t → (if t then quoted_text true bs else b ∷ quoted_text false bs) ≡ b ∷ quoted_text false bs
     by true e = absurd (h (eqb-true b 92 e))
     by false e = refl
 
-pub number_some : (ds : List ℕ) → number_of ds < 2 ^ 63 → number_token ds ≡ token.Number (pos (number_of ds))
+pub number_some : (ds : List ℕ) → digits_number ds < 2 ^ 63 → number_token ds ≡ token.Number (pos (digits_number ds))
 unfolding number_token
-number_some ds h = ap (λ b. if b then token.Number (pos (number_of ds)) else token.OutOfRange) (lt-ltb (number_of ds) (2 ^ 63) h)
+number_some ds h = ap (λ b. if b then token.Number (pos (digits_number ds)) else token.OutOfRange) (lt-ltb (digits_number ds) (2 ^ 63) h)
 
-pub number_none : (ds : List ℕ) → 2 ^ 63 ≤ number_of ds → number_token ds ≡ token.OutOfRange
+pub number_none : (ds : List ℕ) → 2 ^ 63 ≤ digits_number ds → number_token ds ≡ token.OutOfRange
 unfolding number_token
-number_none ds h = ap (λ b. if b then token.Number (pos (number_of ds)) else token.OutOfRange) (le-ltb (number_of ds) (2 ^ 63) h)
+number_none ds h = ap (λ b. if b then token.Number (pos (digits_number ds)) else token.OutOfRange) (le-ltb (digits_number ds) (2 ^ 63) h)
 
 -- a text may be cut beside an ASCII byte
 pub ruleset cuts = (IsCharBoundary-before_ascii, IsCharBoundary-after_ascii, lead_after_ascii)
@@ -143,7 +143,7 @@ pub ruleset cuts = (IsCharBoundary-before_ascii, IsCharBoundary-after_ascii, lea
 pub run_cut : (p : ℕ → Bool) → ((b : ℕ) → p b ≡ false → b < 128) → (bs : List ℕ) → IsCharBoundary bs (prefix_len p bs)
 run_cut p ascii bs = (prefix_len-le-length p bs, λ h over. absurd (omega (arith, over, ascii (get_or bs (prefix_len p bs) 0) (prefix_len_stops p bs 0 h))))
 
-pub name_ends : (b : ℕ) → is_name_byte b ≡ false → b < 128
+pub name_ends : (b : ℕ) → is_attribute_byte b ≡ false → b < 128
 name_ends b h = by (b == 93) refl h
   where
     by : (t : Bool) → (b == 93) ≡ t → not t ≡ false → b < 128
@@ -162,17 +162,17 @@ escape_cut [] u h = absurd (omega (arith, h))
 escape_cut (b ∷ bs) u h = IsCharBoundary-after_ascii (b ∷ bs) 0 u (omega arith) (omega (arith, h))
 
 -- one more escape is taken in
-pub escapes_go : (out rest kept more mid new content : List ℕ) (n : ℕ) → out ++ unescaped false rest ≡ content → n ≡ prefix_len is_plain_byte rest → n < length rest →
-    mid ≡ out ++ take n rest → new ≡ mid ++ kept → kept ++ unescaped false more ≡ unescaped true (drop (n + 1) rest) → new ++ unescaped false more ≡ content
+pub escapes_go : (out rest kept more mid new content : List ℕ) (n : ℕ) → out ++ quoted_text false rest ≡ content → n ≡ prefix_len is_plain_byte rest → n < length rest →
+    mid ≡ out ++ take n rest → new ≡ mid ++ kept → kept ++ quoted_text false more ≡ quoted_text true (drop (n + 1) rest) → new ++ quoted_text false more ≡ content
 escapes_go out rest kept more mid new content n read run less one two here =
-    ap (λ l. l ++ unescaped false more) (two ∙ ap (λ l. l ++ kept) one)
-    ∙ append_assoc (out ++ take n rest) kept (unescaped false more)
-    ∙ append_assoc out (take n rest) (kept ++ unescaped false more)
+    ap (λ l. l ++ quoted_text false more) (two ∙ ap (λ l. l ++ kept) one)
+    ∙ append_assoc (out ++ take n rest) kept (quoted_text false more)
+    ∙ append_assoc out (take n rest) (kept ++ quoted_text false more)
     ∙ ap (λ l. out ++ (take n rest ++ l)) here
     ∙ ap (λ l. out ++ l) (sym (at_run n run less)) ∙ read
   where
-    at_run : (m : ℕ) → m ≡ prefix_len is_plain_byte rest → m < length rest → unescaped false rest ≡ take m rest ++ unescaped true (drop (m + 1) rest)
-    at_run m e l = subst (λ k. unescaped false rest ≡ take k rest ++ unescaped true (drop (k + 1) rest)) (sym e) (escape_here rest (omega (arith, e)))
+    at_run : (m : ℕ) → m ≡ prefix_len is_plain_byte rest → m < length rest → quoted_text false rest ≡ take m rest ++ quoted_text true (drop (m + 1) rest)
+    at_run m e l = subst (λ k. quoted_text false rest ≡ take k rest ++ quoted_text true (drop (k + 1) rest)) (sym e) (escape_here rest (omega (arith, e)))
 
 -- ---- the tokens of a text
 
@@ -230,9 +230,9 @@ nothing_fits n = record { least = omega arith; most = omega arith }
 name_fits : (bs : List ℕ) → Fits (suc (length bs)) (name_token_at bs)
 unfolding name_token_at
 name_fits bs =
-    fits_if (suc (length bs)) (prefix_len is_name_byte bs == 0) _ _ (λ _. nothing_fits (length bs))
-    (λ _. fits_if (suc (length bs)) (nat_lt (prefix_len is_name_byte bs) (length bs)) _ _
-    (λ e. record { least = omega arith; most = omega (arith, ltb-true (prefix_len is_name_byte bs) (length bs) e) }) (λ _. nothing_fits (length bs)))
+    fits_if (suc (length bs)) (prefix_len is_attribute_byte bs == 0) _ _ (λ _. nothing_fits (length bs))
+    (λ _. fits_if (suc (length bs)) (nat_lt (prefix_len is_attribute_byte bs) (length bs)) _ _
+    (λ e. record { least = omega arith; most = omega (arith, ltb-true (prefix_len is_attribute_byte bs) (length bs) e) }) (λ _. nothing_fits (length bs)))
 
 abbrev AllBelow : ℕ → Option ℕ → Type 0
 AllBelow m None = Unit {0}
@@ -279,11 +279,11 @@ token_fits b bs =
     (λ _. sign_fits b bs))))
 
 -- of a token that was taken before, no byte begins another
-pub lexed_skips : (k at : ℕ) (bs : List ℕ) → k ≤ length bs → lexed at k bs ≡ lexed (at + k) 0 (drop k bs)
-unfolding lexed
-lexed_skips zero at bs h = ap (λ m. lexed m 0 bs) (sym (add-zero at))
+pub lexed_skips : (k at : ℕ) (bs : List ℕ) → k ≤ length bs → tokens_from at k bs ≡ tokens_from (at + k) 0 (drop k bs)
+unfolding tokens_from
+lexed_skips zero at bs h = ap (λ m. tokens_from m 0 bs) (sym (add-zero at))
 lexed_skips (suc k) at [] h = absurd (omega (arith, h))
-lexed_skips (suc k) at (b ∷ bs) h = lexed_skips k (suc at) bs (omega (arith, h)) ∙ ap (λ m. lexed m 0 (drop k bs)) (omega arith)
+lexed_skips (suc k) at (b ∷ bs) h = lexed_skips k (suc at) bs (omega (arith, h)) ∙ ap (λ m. tokens_from m 0 (drop k bs)) (omega arith)
 
 abbrev pub placed_then : Token → ℕ → List PlacedToken → List PlacedToken
 placed_then t at ts = record { token = t; offset = at } ∷ ts
@@ -292,30 +292,30 @@ placed_then t at ts = record { token = t; offset = at } ∷ ts
 abbrev pub from_token : ℕ → ℕ → List ℕ → List PlacedToken
 from_token at b bs =
     if is_unknown (token_at (b ∷ bs)).0 then record { token = token.Unknown; offset = at } ∷ []
-    else record { token = (token_at (b ∷ bs)).0; offset = at } ∷ lexed (suc at) ((token_at (b ∷ bs)).1 - 1) bs
+    else record { token = (token_at (b ∷ bs)).0; offset = at } ∷ tokens_from (suc at) ((token_at (b ∷ bs)).1 - 1) bs
 
 module _ (bs : List ℕ) (at : ℕ) (h : at < length bs) where
-  pub lexed_blank : is_blank (get_or bs at 0) ≡ true → lexed at 0 (drop at bs) ≡ lexed (at + 1) 0 (drop (at + 1) bs)
-  unfolding lexed
+  pub lexed_blank : is_blank (get_or bs at 0) ≡ true → tokens_from at 0 (drop at bs) ≡ tokens_from (at + 1) 0 (drop (at + 1) bs)
+  unfolding tokens_from
   lexed_blank e =
-      ap (λ l. lexed at 0 l) (drop_more bs at 0 h)
-      ∙ ap (λ t. if t then lexed (suc at) 0 (drop (at + 1) bs) else from_token at (get_or bs at 0) (drop (at + 1) bs)) e
-      ∙ ap (λ m. lexed m 0 (drop (at + 1) bs)) (sym (add-one at))
+      ap (λ l. tokens_from at 0 l) (drop_more bs at 0 h)
+      ∙ ap (λ t. if t then tokens_from (suc at) 0 (drop (at + 1) bs) else from_token at (get_or bs at 0) (drop (at + 1) bs)) e
+      ∙ ap (λ m. tokens_from m 0 (drop (at + 1) bs)) (sym (add-one at))
 
-  solid : is_blank (get_or bs at 0) ≡ false → lexed at 0 (drop at bs) ≡ from_token at (get_or bs at 0) (drop (at + 1) bs)
-  unfolding lexed
+  solid : is_blank (get_or bs at 0) ≡ false → tokens_from at 0 (drop at bs) ≡ from_token at (get_or bs at 0) (drop (at + 1) bs)
+  unfolding tokens_from
   solid e =
-      ap (λ l. lexed at 0 l) (drop_more bs at 0 h)
-      ∙ ap (λ t. if t then lexed (suc at) 0 (drop (at + 1) bs) else from_token at (get_or bs at 0) (drop (at + 1) bs)) e
+      ap (λ l. tokens_from at 0 l) (drop_more bs at 0 h)
+      ∙ ap (λ t. if t then tokens_from (suc at) 0 (drop (at + 1) bs) else from_token at (get_or bs at 0) (drop (at + 1) bs)) e
 
   module _ (e : is_blank (get_or bs at 0) ≡ false) (t : Token) (n : ℕ) (r : ◌≡◌ {A = Taken} (t, n) (token_at (drop at bs))) where
     here : ◌≡◌ {A = Taken} (token_at (get_or bs at 0 ∷ drop (at + 1) bs)) (t, n)
     here = ap token_at (sym (drop_more bs at 0 h)) ∙ sym r
 
-    pub lexed_unknown : is_unknown t ≡ true → lexed at 0 (drop at bs) ≡ record { token = token.Unknown; offset = at } ∷ []
+    pub lexed_unknown : is_unknown t ≡ true → tokens_from at 0 (drop at bs) ≡ record { token = token.Unknown; offset = at } ∷ []
     lexed_unknown u =
         solid e
-        ∙ ap (λ b. if b then record { token = token.Unknown; offset = at } ∷ [] else record { token = (token_at (get_or bs at 0 ∷ drop (at + 1) bs)).0; offset = at } ∷ lexed (suc at) ((token_at (get_or bs at 0 ∷ drop (at + 1) bs)).1 - 1) (drop (at + 1) bs))
+        ∙ ap (λ b. if b then record { token = token.Unknown; offset = at } ∷ [] else record { token = (token_at (get_or bs at 0 ∷ drop (at + 1) bs)).0; offset = at } ∷ tokens_from (suc at) ((token_at (get_or bs at 0 ∷ drop (at + 1) bs)).1 - 1) (drop (at + 1) bs))
         (ap (λ (x : Taken). is_unknown x.0) here ∙ u)
 
     pub token_least : 1 ≤ n
@@ -326,21 +326,21 @@ module _ (bs : List ℕ) (at : ℕ) (h : at < length bs) where
         let most : n ≤ length (get_or bs at 0 ∷ drop (at + 1) bs) = subst (λ (x : Taken). x.1 ≤ length (get_or bs at 0 ∷ drop (at + 1) bs)) here (token_fits (get_or bs at 0) (drop (at + 1) bs)).most in
         omega (arith, most, length-drop (at + 1) bs)
 
-    pub lexed_token : is_unknown t ≡ false → lexed at 0 (drop at bs) ≡ record { token = t; offset = at } ∷ lexed (at + n) 0 (drop (at + n) bs)
+    pub lexed_token : is_unknown t ≡ false → tokens_from at 0 (drop at bs) ≡ record { token = t; offset = at } ∷ tokens_from (at + n) 0 (drop (at + n) bs)
     lexed_token u =
         solid e
-        ∙ ap (λ (b : Bool). if b then record { token = token.Unknown; offset = at } ∷ [] else record { token = (token_at (get_or bs at 0 ∷ drop (at + 1) bs)).0; offset = at } ∷ lexed (suc at) ((token_at (get_or bs at 0 ∷ drop (at + 1) bs)).1 - 1) (drop (at + 1) bs))
+        ∙ ap (λ (b : Bool). if b then record { token = token.Unknown; offset = at } ∷ [] else record { token = (token_at (get_or bs at 0 ∷ drop (at + 1) bs)).0; offset = at } ∷ tokens_from (suc at) ((token_at (get_or bs at 0 ∷ drop (at + 1) bs)).1 - 1) (drop (at + 1) bs))
         (ap (λ (x : Taken). is_unknown x.0) here ∙ u)
-        ∙ ap (λ (x : Taken). placed_then x.0 at (lexed (suc at) (x.1 - 1) (drop (at + 1) bs))) here
+        ∙ ap (λ (x : Taken). placed_then x.0 at (tokens_from (suc at) (x.1 - 1) (drop (at + 1) bs))) here
         ∙ ap (λ l. placed_then t at l)
         (lexed_skips (n - 1) (suc at) (drop (at + 1) bs) (omega (arith, token_most, token_least, length-drop (at + 1) bs))
-        ∙ ap (λ l. lexed (suc at + (n - 1)) 0 l) (drop-drop (n - 1) (at + 1) bs)
-        ∙ ap (λ m. lexed m 0 (drop (at + 1 + (n - 1)) bs)) (omega (arith, token_least))
-        ∙ ap (λ m. lexed (at + n) 0 (drop m bs)) (omega (arith, token_least)))
+        ∙ ap (λ l. tokens_from (suc at + (n - 1)) 0 l) (drop-drop (n - 1) (at + 1) bs)
+        ∙ ap (λ m. tokens_from m 0 (drop (at + 1 + (n - 1)) bs)) (omega (arith, token_least))
+        ∙ ap (λ m. tokens_from (at + n) 0 (drop m bs)) (omega (arith, token_least)))
 
-pub lexed_end : (bs : List ℕ) (at : ℕ) → at ≡ length bs → lexed at 0 (drop at bs) ≡ record { token = token.End; offset = at } ∷ []
-unfolding lexed
-lexed_end bs at h = ap (λ l. lexed at 0 l) (drop_all at bs (omega arith))
+pub lexed_end : (bs : List ℕ) (at : ℕ) → at ≡ length bs → tokens_from at 0 (drop at bs) ≡ record { token = token.End; offset = at } ∷ []
+unfolding tokens_from
+lexed_end bs at h = ap (λ l. tokens_from at 0 l) (drop_all at bs (omega arith))
 
 pub unknown_is : (t : Token) → is_unknown t ≡ true → t ≡ token.Unknown
 unknown_is token.Unknown h = refl

@@ -4,9 +4,9 @@ use Rattle.filter_expr.specs.declared.tokens.Token.{Token}
 use Rattle.filter_expr.specs.declared.tokens.PlacedToken.{PlacedToken}
 use Rattle.filter_expr.specs.declared.faults.FilterFault.{FilterFault}
 use Rattle.filter_expr.specs.declared.faults.FilterFault.TheVariants.{Bad, NumberRange, TooDeep}
-use Rattle.filter_expr.specs.Trees.{Kind, Tree, leaf, negation, negative, comparison, or_chain, and_chain, sum_chain, product_chain, joins, is_leaf, is_out_of_range, is_open, is_minus, is_not, is_compare, is_close, is_end}
+use Rattle.filter_expr.specs.Trees.{Kind, Tree, leaf, negation, negative, comparison, or_chain, and_chain, sum_chain, product_chain, joins, is_leaf, is_out_of_range, is_open_paren, is_minus, is_not, is_compare, is_close_paren, is_end}
 use Rattle.filter_expr.specs.Seen.{Part}
-use Rattle.filter_expr.specs.Reading.{Step, got, failed, Reader, then_read, starts, first_token, join_of, place, with_front, later, chained, chain_after, chain_of, Inner, or_in, and_in, not_in, compare_in, sum_in, product_in, unary_in, atom_in, within_depth, compared, got_negation, got_negative, closed, ended, whole_filter, sign_of}
+use Rattle.filter_expr.specs.Reading.{Step, got, failed, Reader, then_read, starts, first_token, join_of, place, with_front, later, chain_or_part, chain_after, chain_of, Inner, or_in, and_in, not_in, compare_in, sum_in, product_in, unary_in, atom_in, within_depth, compare_rest, got_negation, got_negative, close_read, end_read, whole_filter, sign_of}
 use Rattle.filter_expr.proofs.Chains.{Shortens, Leaves, later-stop, later-more}
 use Rattle.filter_expr.proofs.Levels.{within_shortens, and_shortens, not_shortens, product_shortens, unary_shortens, ShortensIn}
 use Rattle.filter_expr.proofs.Rows.{wrong}
@@ -105,7 +105,7 @@ front_is : (front : List Part) (r : Step (List Part)) → with_front front r ≡
 front_is front (got l us) = refl
 front_is front (failed f us) = refl
 
-after_is : (k : Kind) (e : Tree) (r : Step (List Part)) → chain_after k e r ≡ then_read r (λ l us. got (chained k e l) us)
+after_is : (k : Kind) (e : Tree) (r : Step (List Part)) → chain_after k e r ≡ then_read r (λ l us. got (chain_or_part k e l) us)
 after_is k e (got l us) = refl
 after_is k e (failed f us) = refl
 
@@ -153,8 +153,8 @@ module _ (k : Kind) (part : Reader Tree) (short : Shortens part) (loc : Local pa
   unfolding chain_of
   chain_local = local_then part (λ e us. chain_after k e (later k part us)) loc
       (λ e. record {
-        here = λ ts. at_same (λ us. chain_after k e (later k part us)) (λ us. then_read (later k part us) (λ l vs. got (chained k e l) vs)) ts (λ us. after_is k e (later k part us))
-            (then_at (later k part) (λ l vs. got (chained k e l) vs) ts (later k part ts) (later_at (length ts) ts (omega arith)) (λ l vs _. (local_got (chained k e l)).here vs));
+        here = λ ts. at_same (λ us. chain_after k e (later k part us)) (λ us. then_read (later k part us) (λ l vs. got (chain_or_part k e l) vs)) ts (λ us. after_is k e (later k part us))
+            (then_at (later k part) (λ l vs. got (chain_or_part k e l) vs) ts (later k part ts) (later_at (length ts) ts (omega arith)) (λ l vs _. (local_got (chain_or_part k e l)).here vs));
       })
 
 -- ---- rows
@@ -173,10 +173,10 @@ module _ (i : Inner) (short : ShortensIn i) (loc : LocalIn i) where
   atom_local : Local (atom_in i)
   unfolding atom_in take_one
   atom_local =
-      local_cond is_leaf (λ ts. got (leaf (first_token ts)) (drop 1 ts)) (λ ts. if starts is_out_of_range ts then failed (NumberRange (place ts)) ts else (if starts is_open ts then i.open_from ts else failed (Bad (place ts)) ts))
+      local_cond is_leaf (λ ts. got (leaf (first_token ts)) (drop 1 ts)) (λ ts. if starts is_out_of_range ts then failed (NumberRange (place ts)) ts else (if starts is_open_paren ts then i.open_from ts else failed (Bad (place ts)) ts))
       (local_map leaf take_one local_one)
-      (local_cond is_out_of_range (λ ts. failed (NumberRange (place ts)) ts) (λ ts. if starts is_open ts then i.open_from ts else failed (Bad (place ts)) ts) (local_fail NumberRange)
-      (local_cond is_open i.open_from (λ ts. failed (Bad (place ts)) ts) loc.open_from (local_fail Bad)))
+      (local_cond is_out_of_range (λ ts. failed (NumberRange (place ts)) ts) (λ ts. if starts is_open_paren ts then i.open_from ts else failed (Bad (place ts)) ts) (local_fail NumberRange)
+      (local_cond is_open_paren i.open_from (λ ts. failed (Bad (place ts)) ts) loc.open_from (local_fail Bad)))
 
   unary_local : Local (unary_in i)
   unfolding unary_in
@@ -192,7 +192,7 @@ module _ (i : Inner) (short : ShortensIn i) (loc : LocalIn i) where
 
   compare_local : Local (compare_in i)
   unfolding compare_in take_one
-  compare_local = local_then (sum_in i) (compared i) sum_local
+  compare_local = local_then (sum_in i) (compare_rest i) sum_local
       (λ a. local_cond is_compare (λ us. then_read (sum_in i (drop 1 us)) (λ b vs. got (comparison a (sign_of (first_token us)) b) vs)) (λ us. got a us)
       (local_then take_one (λ t us. then_read (sum_in i us) (λ b vs. got (comparison a (sign_of t) b) vs)) local_one (λ t. local_map (comparison a (sign_of t)) (sum_in i) sum_local))
       (local_got a))
@@ -209,10 +209,10 @@ module _ (i : Inner) (short : ShortensIn i) (loc : LocalIn i) where
   unfolding or_in
   or_local = chain_local or_chain (and_in i) (and_shortens i short) and_local
 
-closed_local : (e : Tree) → Local (closed e)
-closed_local e = local_cond is_close (λ us. got e (drop 1 us)) (λ us. failed (Bad (place us)) us) (local_after e) (local_fail Bad)
+closed_local : (e : Tree) → Local (close_read e)
+closed_local e = local_cond is_close_paren (λ us. got e (drop 1 us)) (λ us. failed (Bad (place us)) us) (local_after e) (local_fail Bad)
 
-ended_local : (e : Tree) → Local (ended e)
+ended_local : (e : Tree) → Local (end_read e)
 ended_local e = local_cond is_end (λ us. got e us) (λ us. failed (Bad (place us)) us) (local_got e) (local_fail Bad)
 
 within_local : (n : ℕ) → LocalIn (within_depth n)
@@ -223,10 +223,10 @@ within_local (suc n) = record {
       (λ _. local_then (not_in (within_depth n)) got_negation (not_local (within_depth n) (within_shortens n) (within_local n)) (λ e. local_got (negation e)));
   minus_from = local_then take_one (λ _ us. then_read (unary_in (within_depth n) us) got_negative) local_one
       (λ _. local_then (unary_in (within_depth n)) got_negative (unary_local (within_depth n) (within_shortens n) (within_local n)) (λ e. local_got (negative e)));
-  open_from = local_then take_one (λ _ us. then_read (or_in (within_depth n) us) closed) local_one
-      (λ _. local_then (or_in (within_depth n)) closed (or_local (within_depth n) (within_shortens n) (within_local n)) closed_local);
+  open_from = local_then take_one (λ _ us. then_read (or_in (within_depth n) us) close_read) local_one
+      (λ _. local_then (or_in (within_depth n)) close_read (or_local (within_depth n) (within_shortens n) (within_local n)) closed_local);
 }
 
 pub whole_local : Local whole_filter
 unfolding whole_filter
-whole_local = local_then (or_in (within_depth 64)) ended (or_local (within_depth 64) (within_shortens 64) (within_local 64)) ended_local
+whole_local = local_then (or_in (within_depth 64)) end_read (or_local (within_depth 64) (within_shortens 64) (within_local 64)) ended_local

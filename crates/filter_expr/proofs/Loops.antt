@@ -8,7 +8,7 @@ use Rattle.filter_expr.specs.declared.faults.FilterFault.TheVariants.{Bad, Numbe
 use Rattle.filter_expr.specs.Trees.{Kind, JoinSign, sign_token, Tree, joins, chain, or_chain, and_chain, is_or, is_and}
 use Rattle.filter_expr.specs.Seen.{Part, terms_of}
 use Rattle.filter_expr.specs.inner.Gives.{Gives}
-use Rattle.filter_expr.specs.Reading.{got, failed, Reader, starts, first_token, join_of, next_sign, with_front, later, chained, chain_of}
+use Rattle.filter_expr.specs.Reading.{got, failed, Reader, starts, first_token, join_of, next_sign, with_front, later, chain_or_part, chain_of}
 use Rattle.filter_expr.proofs.Signs.{sign_back}
 use Rattle.filter_expr.proofs.Chains.{Shortens, loop_fails, loop_ends, chain_fails, chain_reads}
 
@@ -65,12 +65,12 @@ module _ {X : Type 0} (view : X → Tree) (k : Kind) (part : Reader Tree) (short
     part_fails next NoMemory us h = tt
 
     -- no part is left
-    pub chain_ends : starts (joins k) ts ≡ false → chain_of k part all ≡ got (chained k e front) ts
+    pub chain_ends : starts (joins k) ts ≡ false → chain_of k part all ≡ got (chain_or_part k e front) ts
     chain_ends stop = chain_reads k part all after e (got front ts) first (loop_ends k part short front ts (later k part after) read stop)
 
 -- a chain with later parts is a chain
 
-pub more_parts : {X : Type 0} (k : Kind) (e : Tree) (f : X → Part) (xs : List X) → (length xs ≡ 0 → ⊥) → chained k e (map f xs) ≡ chain k e (terms_of (map f xs))
+pub more_parts : {X : Type 0} (k : Kind) (e : Tree) (f : X → Part) (xs : List X) → (length xs ≡ 0 → ⊥) → chain_or_part k e (map f xs) ≡ chain k e (terms_of (map f xs))
 more_parts k e f [] h = absurd (h refl)
 more_parts k e f (x ∷ xs) h = refl
 

@@ -15,7 +15,7 @@ use Rattle.plain_filters.specs.declared.ProductPart.{ProductPart}
 use Rattle.plain_filters.specs.declared.SumSign.{SumSign}
 use Rattle.plain_filters.specs.declared.ProductSign.{ProductSign}
 use Rattle.plain_filters.specs.declared.CompareSign.{CompareSign}
-use Rattle.plain_filters.specs.Values.{truth, compares, negated, sum_of, product_of}
+use Rattle.plain_filters.specs.Values.{truth, compares, negative_of, sum_of, product_of}
 use Rattle.filter_expr.specs.inner.Parts.{valued, tree_of_sum, tree_of_product, sum_part, product_part, sum_value, product_value}
 use Rattle.plain_filters.specs.Filters.{FilterTree, tree_of, tree_value, any_true, all_true, after_sums, after_products, trees_of, sums_of, products_of, tree_step, sum_part_step, product_part_step}
 
@@ -64,7 +64,7 @@ valued-Product attrs b v =
     ap (valued attrs) (sym (node.rolls-Product b v)) ∙ ap (tree_value attrs) (fold-roll-Expr FilterTree (ProductSign × FilterTree) (SumSign × FilterTree) tree_step product_part_step sum_part_step (open.Product b v))
     ∙ products_listed attrs (valued attrs b.value) v.items
 
-pub valued-Negate : (attrs : List Attr) (b : Box Expr Global) → valued attrs (node.Negate b) ≡ negated (valued attrs b.value)
+pub valued-Negate : (attrs : List Attr) (b : Box Expr Global) → valued attrs (node.Negate b) ≡ negative_of (valued attrs b.value)
 valued-Negate attrs b =
     ap (valued attrs) (sym (node.rolls-Negate b)) ∙ ap (tree_value attrs) (fold-roll-Expr FilterTree (ProductSign × FilterTree) (SumSign × FilterTree) tree_step product_part_step sum_part_step (open.Negate b))
 

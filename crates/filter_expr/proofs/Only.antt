@@ -10,9 +10,9 @@ use Rattle.filter_expr.specs.Trees.{Tree, bare, nesting, InRange, is_out_of_rang
 use Rattle.filter_expr.specs.Seen.{seen, shape}
 use Rattle.plain_filters.specs.Filters.{FilterTree, tree_of}
 use Rattle.filter_expr.proofs.SeenLemmas.{shape_known}
-use Rattle.filter_expr.specs.Lexing.{lexed}
+use Rattle.filter_expr.specs.Lexing.{tokens_from}
 use Rattle.filter_expr.specs.Grammar.{IsSpelled, Stands}
-use Rattle.filter_expr.specs.Filters.{IsText, IsFilter, IsFault, Begins, GoesOn, StandsAt, Passes, HasCause, opens, FilterOf, FaultOf, MayAnswer, AnswersTree, AnswersFault, OneTree, OneFilter, NotBoth, OneFault, OneTokenList}
+use Rattle.filter_expr.specs.Filters.{IsText, IsFilter, IsFault, Begins, GoesOn, StandsAt, Passes, HasCause, may_open, FilterOf, FaultOf, MayAnswer, AnswersTree, AnswersFault, OneTree, OneFilter, NotBoth, OneFault, OneTokenList}
 use Rattle.filter_expr.specs.inner.Gives.{Answers}
 use Rattle.filter_expr.specs.Reading.{Step, got, failed, or_in, within_depth, whole_filter}
 use Rattle.filter_expr.proofs.Complete.{Fine, complete}
@@ -106,7 +106,7 @@ goes_text before here g = (
   g.spelled,
 )
 
-out_of_range_opens : (t : Token) → is_out_of_range t ≡ true → opens t ≡ true → ⊥
+out_of_range_opens : (t : Token) → is_out_of_range t ≡ true → may_open t ≡ true → ⊥
 out_of_range_opens token.OutOfRange h g = wrong g
 out_of_range_opens _ h g = wrong h
 
@@ -156,15 +156,15 @@ not_both_of text t f a b = not_both b.0 (shape t) f (subst (λ ts. IsFilter ts (
 pub one_fault : OneFault
 one_fault text f g a b = fault_unique b.0 f g (subst (λ ts. IsFault ts f) (one_token_list text a.0 b.0 a.1 b.1) a.2) b.2
 
-pub lexed_answer : (text : List ℕ) → IsAnswer (lexed 0 0 text) (whole_filter (lexed 0 0 text))
-lexed_answer text = right (lexed 0 0 text) (tokens_stopped (lexed 0 0 text) 0 text (lexed_tokens text))
+pub lexed_answer : (text : List ℕ) → IsAnswer (tokens_from 0 0 text) (whole_filter (tokens_from 0 0 text))
+lexed_answer text = right (tokens_from 0 0 text) (tokens_stopped (tokens_from 0 0 text) 0 text (lexed_tokens text))
 
 -- the reading of the tokens is the answer
-pub may_answer : (text : List ℕ) (r : Result Expr FilterFault) → Answers seen r (whole_filter (lexed 0 0 text)) → MayAnswer text r
-may_answer text (Ok e) a = (lexed 0 0 text, lexed_tokens text, subst (IsAnswer (lexed 0 0 text)) a.1 (right (lexed 0 0 text) (tokens_stopped (lexed 0 0 text) 0 text (lexed_tokens text))))
-may_answer text (Err (Bad o)) a = (lexed 0 0 text, lexed_tokens text, subst (IsAnswer (lexed 0 0 text)) a.1 (right (lexed 0 0 text) (tokens_stopped (lexed 0 0 text) 0 text (lexed_tokens text))))
-may_answer text (Err (NumberRange o)) a = (lexed 0 0 text, lexed_tokens text, subst (IsAnswer (lexed 0 0 text)) a.1 (right (lexed 0 0 text) (tokens_stopped (lexed 0 0 text) 0 text (lexed_tokens text))))
-may_answer text (Err (TooDeep o)) a = (lexed 0 0 text, lexed_tokens text, subst (IsAnswer (lexed 0 0 text)) a.1 (right (lexed 0 0 text) (tokens_stopped (lexed 0 0 text) 0 text (lexed_tokens text))))
+pub may_answer : (text : List ℕ) (r : Result Expr FilterFault) → Answers seen r (whole_filter (tokens_from 0 0 text)) → MayAnswer text r
+may_answer text (Ok e) a = (tokens_from 0 0 text, lexed_tokens text, subst (IsAnswer (tokens_from 0 0 text)) a.1 (right (tokens_from 0 0 text) (tokens_stopped (tokens_from 0 0 text) 0 text (lexed_tokens text))))
+may_answer text (Err (Bad o)) a = (tokens_from 0 0 text, lexed_tokens text, subst (IsAnswer (tokens_from 0 0 text)) a.1 (right (tokens_from 0 0 text) (tokens_stopped (tokens_from 0 0 text) 0 text (lexed_tokens text))))
+may_answer text (Err (NumberRange o)) a = (tokens_from 0 0 text, lexed_tokens text, subst (IsAnswer (tokens_from 0 0 text)) a.1 (right (tokens_from 0 0 text) (tokens_stopped (tokens_from 0 0 text) 0 text (lexed_tokens text))))
+may_answer text (Err (TooDeep o)) a = (tokens_from 0 0 text, lexed_tokens text, subst (IsAnswer (tokens_from 0 0 text)) a.1 (right (tokens_from 0 0 text) (tokens_stopped (tokens_from 0 0 text) 0 text (lexed_tokens text))))
 may_answer text (Err NoMemory) a = tt
 
 pub answers_tree : (text : List ℕ) (r : Result Expr FilterFault) → MayAnswer text r → (t : FilterTree) → FilterOf text t → AnswersTree t r

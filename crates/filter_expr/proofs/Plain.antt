@@ -8,7 +8,7 @@ use Rattle.filter_expr.specs.declared.faults.FilterFault.{FilterFault}
 use Rattle.filter_expr.specs.declared.faults.FilterFault.TheVariants.{Bad, NumberRange, TooDeep, NoMemory}
 use Rattle.filter_expr.specs.Trees.{Tree}
 use Rattle.filter_expr.specs.Seen.{seen, shape}
-use Rattle.filter_expr.specs.Lexing.{lexed}
+use Rattle.filter_expr.specs.Lexing.{tokens_from}
 use Rattle.filter_expr.specs.Reading.{Step, got, failed, whole_filter}
 use Rattle.filter_expr.specs.inner.Gives.{Answers}
 use Rattle.filter_expr.specs.Filters.{IsFilter, IsFault, FilterOf, FaultOf, SomeTokenList, SomeAnswer}
@@ -19,9 +19,9 @@ use Rattle.filter_expr.proofs.Final.{IsAnswer, not_both}
 use Rattle.filter_expr.proofs.Only.{one_token_list, filter_unique, fault_unique, lexed_answer}
 use Rattle.filter_expr.proofs.Tokenised.{lexed_tokens}
 
-pub says : (text : List ℕ) (r : Result Expr FilterFault) → Answers seen r (whole_filter (lexed 0 0 text)) → Says (filter_of text) r
+pub says : (text : List ℕ) (r : Result Expr FilterFault) → Answers seen r (whole_filter (tokens_from 0 0 text)) → Says (filter_of text) r
 unfolding filter_of
-says text (Ok e) a = ap verdict a.1 ∙ ap Ok (filter_round (lexed 0 0 text) (tree_of e) (subst (IsAnswer (lexed 0 0 text)) a.1 (lexed_answer text)))
+says text (Ok e) a = ap verdict a.1 ∙ ap Ok (filter_round (tokens_from 0 0 text) (tree_of e) (subst (IsAnswer (tokens_from 0 0 text)) a.1 (lexed_answer text)))
 says text (Err (Bad o)) a = ap verdict a.1
 says text (Err (NumberRange o)) a = ap verdict a.1
 says text (Err (TooDeep o)) a = ap verdict a.1
@@ -30,20 +30,20 @@ says text (Err NoMemory) a = tt
 pub says_filter : SaysFilter
 unfolding filter_of
 says_filter text t b =
-    go (whole_filter (lexed 0 0 text)) (lexed_answer text) (subst (λ ts. IsFilter ts (shape t)) (one_token_list text b.0 (lexed 0 0 text) b.1 (lexed_tokens text)) b.2)
+    go (whole_filter (tokens_from 0 0 text)) (lexed_answer text) (subst (λ ts. IsFilter ts (shape t)) (one_token_list text b.0 (tokens_from 0 0 text) b.1 (lexed_tokens text)) b.2)
   where
-    go : (s : Step Tree) → IsAnswer (lexed 0 0 text) s → IsFilter (lexed 0 0 text) (shape t) → verdict s ≡ Ok t
-    go (got d us) a h = ap Ok (ap back (filter_unique (lexed 0 0 text) d (shape t) a h) ∙ filter_round (lexed 0 0 text) t h)
-    go (failed f us) a h = absurd (not_both (lexed 0 0 text) (shape t) f h a)
+    go : (s : Step Tree) → IsAnswer (tokens_from 0 0 text) s → IsFilter (tokens_from 0 0 text) (shape t) → verdict s ≡ Ok t
+    go (got d us) a h = ap Ok (ap back (filter_unique (tokens_from 0 0 text) d (shape t) a h) ∙ filter_round (tokens_from 0 0 text) t h)
+    go (failed f us) a h = absurd (not_both (tokens_from 0 0 text) (shape t) f h a)
 
 pub says_fault : SaysFault
 unfolding filter_of
 says_fault text f b =
-    go (whole_filter (lexed 0 0 text)) (lexed_answer text) (subst (λ ts. IsFault ts f) (one_token_list text b.0 (lexed 0 0 text) b.1 (lexed_tokens text)) b.2)
+    go (whole_filter (tokens_from 0 0 text)) (lexed_answer text) (subst (λ ts. IsFault ts f) (one_token_list text b.0 (tokens_from 0 0 text) b.1 (lexed_tokens text)) b.2)
   where
-    go : (s : Step Tree) → IsAnswer (lexed 0 0 text) s → IsFault (lexed 0 0 text) f → verdict s ≡ Err f
-    go (got d us) a h = absurd (not_both (lexed 0 0 text) d f a h)
-    go (failed g us) a h = ap Err (fault_unique (lexed 0 0 text) g f a h)
+    go : (s : Step Tree) → IsAnswer (tokens_from 0 0 text) s → IsFault (tokens_from 0 0 text) f → verdict s ≡ Err f
+    go (got d us) a h = absurd (not_both (tokens_from 0 0 text) d f a h)
+    go (failed g us) a h = ap Err (fault_unique (tokens_from 0 0 text) g f a h)
 
 -- ---- and the other way
 
@@ -59,26 +59,26 @@ filter_again ts d a = subst (IsFilter ts) (sym a.is ∙ sym (tree_again a.tree 0
 
 pub filter_said : FilterSaid
 unfolding filter_of
-filter_said text t q = (lexed 0 0 text, lexed_tokens text, go (whole_filter (lexed 0 0 text)) (lexed_answer text) q)
+filter_said text t q = (tokens_from 0 0 text, lexed_tokens text, go (whole_filter (tokens_from 0 0 text)) (lexed_answer text) q)
   where
-    go : (s : Step Tree) → IsAnswer (lexed 0 0 text) s → verdict s ≡ Ok t → IsFilter (lexed 0 0 text) (shape t)
-    go (got d us) a e = subst (λ x. IsFilter (lexed 0 0 text) (shape x)) (ok_same (back d) t e) (filter_again (lexed 0 0 text) d a)
+    go : (s : Step Tree) → IsAnswer (tokens_from 0 0 text) s → verdict s ≡ Ok t → IsFilter (tokens_from 0 0 text) (shape t)
+    go (got d us) a e = subst (λ x. IsFilter (tokens_from 0 0 text) (shape x)) (ok_same (back d) t e) (filter_again (tokens_from 0 0 text) d a)
     go (failed f us) a e = absurd (cc)
 
 pub fault_said : FaultSaid
 unfolding filter_of
-fault_said text f q = (lexed 0 0 text, lexed_tokens text, go (whole_filter (lexed 0 0 text)) (lexed_answer text) q)
+fault_said text f q = (tokens_from 0 0 text, lexed_tokens text, go (whole_filter (tokens_from 0 0 text)) (lexed_answer text) q)
   where
-    go : (s : Step Tree) → IsAnswer (lexed 0 0 text) s → verdict s ≡ Err f → IsFault (lexed 0 0 text) f
+    go : (s : Step Tree) → IsAnswer (tokens_from 0 0 text) s → verdict s ≡ Err f → IsFault (tokens_from 0 0 text) f
     go (got d us) a e = absurd (cc)
-    go (failed g us) a e = subst (IsFault (lexed 0 0 text)) (err_same g f e) a
+    go (failed g us) a e = subst (IsFault (tokens_from 0 0 text)) (err_same g f e) a
 
 pub some_answer : SomeAnswer
-some_answer text = go (whole_filter (lexed 0 0 text)) (lexed_answer text)
+some_answer text = go (whole_filter (tokens_from 0 0 text)) (lexed_answer text)
   where
-    go : (s : Step Tree) → IsAnswer (lexed 0 0 text) s → ((t : FilterTree) × FilterOf text t) ⊎ ((f : FilterFault) × FaultOf text f)
-    go (got d us) a = inl (back d, (lexed 0 0 text, lexed_tokens text, filter_again (lexed 0 0 text) d a))
-    go (failed f us) a = inr (f, (lexed 0 0 text, lexed_tokens text, a))
+    go : (s : Step Tree) → IsAnswer (tokens_from 0 0 text) s → ((t : FilterTree) × FilterOf text t) ⊎ ((f : FilterFault) × FaultOf text f)
+    go (got d us) a = inl (back d, (tokens_from 0 0 text, lexed_tokens text, filter_again (tokens_from 0 0 text) d a))
+    go (failed f us) a = inr (f, (tokens_from 0 0 text, lexed_tokens text, a))
 
 pub some_tokens : SomeTokenList
-some_tokens text = (lexed 0 0 text, lexed_tokens text)
+some_tokens text = (tokens_from 0 0 text, lexed_tokens text)

@@ -6,11 +6,11 @@ use Rattle.filter_expr.specs.declared.tokens.Token.TheVariants as token
 use Rattle.filter_expr.specs.declared.tokens.PlacedToken.{PlacedToken}
 use Rattle.filter_expr.specs.declared.faults.FilterFault.{FilterFault}
 use Rattle.filter_expr.specs.declared.faults.FilterFault.TheVariants.{Bad, NumberRange, TooDeep, NoMemory}
-use Rattle.filter_expr.specs.Trees.{Kind, Tree, Terms, leaf, negation, negative, comparison, chain, parens, no_terms, term, or_chain, and_chain, sum_chain, product_chain, joins, is_leaf, is_out_of_range, is_open, is_minus, is_not, is_compare, is_close, bare, bare_terms, nesting, nesting_terms, InRange, TermsInRange}
+use Rattle.filter_expr.specs.Trees.{Kind, Tree, Terms, leaf, negation, negative, comparison, chain, parens, no_terms, term, or_chain, and_chain, sum_chain, product_chain, joins, is_leaf, is_out_of_range, is_open_paren, is_minus, is_not, is_compare, is_close_paren, bare, bare_terms, nesting, nesting_terms, InRange, TermsInRange}
 use Rattle.filter_expr.specs.Seen.{Part, terms_of}
 use Rattle.filter_expr.specs.Grammar.{IsSpelled, AreSpelled, kind_strength, IsMany, Stands, StandTerms}
-use Rattle.filter_expr.specs.Filters.{opens}
-use Rattle.filter_expr.specs.Reading.{Step, got, failed, Reader, then_read, starts, first_token, join_of, with_front, turns, later, chained, chain_after, chain_of, Inner, or_in, and_in, not_in, compare_in, sum_in, product_in, unary_in, atom_in, within_depth, compared, got_negation, got_negative, closed, sign_of, too_deep}
+use Rattle.filter_expr.specs.Filters.{may_open}
+use Rattle.filter_expr.specs.Reading.{Step, got, failed, Reader, then_read, starts, first_token, join_of, with_front, turns, later, chain_or_part, chain_after, chain_of, Inner, or_in, and_in, not_in, compare_in, sum_in, product_in, unary_in, atom_in, within_depth, compare_rest, got_negation, got_negative, close_read, sign_of, too_deep}
 use Rattle.filter_expr.proofs.Signs.{sign_again}
 use Rattle.filter_expr.proofs.Complete.{stands_down}
 use Rattle.filter_expr.proofs.Rows.{wrong}
@@ -51,7 +51,7 @@ Cause l (Bad o) us rest = Unit {0}
 Cause l (NumberRange o) us [] = ⊥
 Cause l (NumberRange o) us (here ∷ after) = IsTrue (is_out_of_range here.token) × Wide l us here
 Cause l (TooDeep o) us [] = ⊥
-Cause l (TooDeep o) us (here ∷ after) = IsTrue (opens here.token) × Wide l us here
+Cause l (TooDeep o) us (here ∷ after) = IsTrue (may_open here.token) × Wide l us here
 Cause l NoMemory us rest = ⊥
 
 abbrev pub Outcome : ℕ → ℕ → List PlacedToken → Step Tree → Type 0
@@ -92,7 +92,7 @@ outcome_if n l ts false x y h g = g refl
 pub record SoundIn (n : ℕ) (i : Inner) : Type 0 where
   pub not_from : (ts : List PlacedToken) → starts is_not ts ≡ true → Outcome n 2 ts (i.not_from ts)
   pub minus_from : (ts : List PlacedToken) → starts is_minus ts ≡ true → Outcome n 6 ts (i.minus_from ts)
-  pub open_from : (ts : List PlacedToken) → starts is_open ts ≡ true → Outcome n 7 ts (i.open_from ts)
+  pub open_from : (ts : List PlacedToken) → starts is_open_paren ts ≡ true → Outcome n 7 ts (i.open_from ts)
 
 -- ---- signs
 
@@ -104,11 +104,11 @@ minus_is : (t : Token) → is_minus t ≡ true → t ≡ token.Minus
 minus_is token.Minus e = refl
 minus_is _ e = absurd (wrong e)
 
-open_is : (t : Token) → is_open t ≡ true → t ≡ token.Open
+open_is : (t : Token) → is_open_paren t ≡ true → t ≡ token.Open
 open_is token.Open e = refl
 open_is _ e = absurd (wrong e)
 
-close_is : (t : Token) → is_close t ≡ true → t ≡ token.Close
+close_is : (t : Token) → is_close_paren t ≡ true → t ≡ token.Close
 close_is token.Close e = refl
 close_is _ e = absurd (wrong e)
 
@@ -134,7 +134,7 @@ module _ (n : ℕ) (i : Inner) (sound : SoundIn n i) where
       (λ e. (s ∷ [], refl, record { tree = leaf s.token; stands = either (is_leaf s.token) (is_out_of_range s.token) e; spelled = (s, refl, refl); is = refl; range = e; deep = omega arith }))
       (λ _. outcome_if n 7 (s ∷ ts) (is_out_of_range s.token) _ _
       (λ e. ([], refl, null_begins n 7, (e, record { more = []; tree = leaf s.token; stands = out_of_range_leaf s.token e; spelled = (s, refl, refl) })))
-      (λ _. outcome_if n 7 (s ∷ ts) (is_open s.token) _ _ (λ e. sound.open_from (s ∷ ts) e) (λ _. outcome_bad n 7 (s ∷ ts) s.offset)))
+      (λ _. outcome_if n 7 (s ∷ ts) (is_open_paren s.token) _ _ (λ e. sound.open_from (s ∷ ts) e) (λ _. outcome_bad n 7 (s ∷ ts) s.offset)))
 
   sound_unary : (ts : List PlacedToken) → Outcome n 6 ts (unary_in i ts)
   unfolding unary_in
@@ -172,7 +172,7 @@ CauseTerms k (Bad o) us rest = Unit {0}
 CauseTerms k (NumberRange o) us [] = ⊥
 CauseTerms k (NumberRange o) us (here ∷ after) = IsTrue (is_out_of_range here.token) × WideTerms k us here
 CauseTerms k (TooDeep o) us [] = ⊥
-CauseTerms k (TooDeep o) us (here ∷ after) = IsTrue (opens here.token) × WideTerms k us here
+CauseTerms k (TooDeep o) us (here ∷ after) = IsTrue (may_open here.token) × WideTerms k us here
 CauseTerms k NoMemory us rest = ⊥
 
 abbrev pub OutcomeTerms : ℕ → Kind → List PlacedToken → Step (List Part) → Type 0
@@ -289,7 +289,7 @@ module _ (n : ℕ) (k : Kind) (part : Reader Tree) (sound : (ts : List PlacedTok
 
   -- a chain by the outcome of its first part and that of the later ones
   whole_chain : (us rest : List PlacedToken) (d : Tree) (w : Whole n (kind_strength k + 1) d us) (xs : List Part) (ws : List PlacedToken) → WholeTerms n k xs ws →
-      Whole n (kind_strength k) (chained k d xs) (us ++ ws)
+      Whole n (kind_strength k) (chain_or_part k d xs) (us ++ ws)
   whole_chain us rest d w [] ws m = record {
     tree = w.tree;
     stands = stands_down w.tree (kind_strength k + 1) (kind_strength k) (omega arith) w.stands;
@@ -423,7 +423,7 @@ module _ (n l : ℕ) (t : Token) (wrap : Tree → Tree) (made : (e : Tree) (us :
 in_parens : (e : Tree) (us vs ws : List PlacedToken) (s z : PlacedToken) → s.token ≡ token.Open → z.token ≡ token.Close → IsSpelled e (us ++ vs) → ws ≡ (s ∷ us) ++ (vs ++ z ∷ []) → IsSpelled (parens e) ws
 in_parens e us vs ws s z a b p q = (s, us ++ vs, z, q ∙ ap (λ x. s ∷ x) (sym (append_assoc us vs (z ∷ []))), a, b, p)
 
-enclosed : (n : ℕ) (s : PlacedToken) (ts : List PlacedToken) → s.token ≡ token.Open → (r : Step Tree) → Outcome n 0 ts r → Outcome (suc n) 7 (s ∷ ts) (then_read r closed)
+enclosed : (n : ℕ) (s : PlacedToken) (ts : List PlacedToken) → s.token ≡ token.Open → (r : Step Tree) → Outcome n 0 ts r → Outcome (suc n) 7 (s ∷ ts) (then_read r close_read)
 enclosed n s ts q (failed f rest) o = (
   s ∷ o.0,
   ap (λ x. s ∷ x) o.1,
@@ -460,10 +460,10 @@ enclosed n s ts q (got d rest) o = by rest o
       tt,
     )
 
-    by : (rest : List PlacedToken) → (us : List PlacedToken) × (ts ≡ us ++ rest) × Whole n 0 d us → Outcome (suc n) 7 (s ∷ ts) (closed d rest)
+    by : (rest : List PlacedToken) → (us : List PlacedToken) × (ts ≡ us ++ rest) × Whole n 0 d us → Outcome (suc n) 7 (s ∷ ts) (close_read d rest)
     by [] o = unclosed o.0 [] 0 o.1 o.2
     by (z ∷ zs) o =
-        outcome_if (suc n) 7 (s ∷ ts) (is_close z.token) _ _
+        outcome_if (suc n) 7 (s ∷ ts) (is_close_paren z.token) _ _
         (λ e. (
           s ∷ (o.0 ++ z ∷ []),
           ap (λ x. s ∷ x) (o.1 ∙ sym (append_assoc o.0 (z ∷ []) zs)),
@@ -486,7 +486,7 @@ module _ (n : ℕ) (i : Inner) (sound : SoundIn n i) where
   unfolding compare_in
   sound_compare ts = by (sum_in i ts) (sound_sum ts)
     where
-      by : (r : Step Tree) → Outcome n 4 ts r → Outcome n 3 ts (then_read r (compared i))
+      by : (r : Step Tree) → Outcome n 4 ts r → Outcome n 3 ts (then_read r (compare_rest i))
       by (got a us) o = after_first n (sum_in i) sound_sum ts a us o
       by (failed f rest) o = outcome_down n 4 3 ts (failed f rest) (omega arith) o
 
@@ -502,7 +502,7 @@ module _ (n : ℕ) (i : Inner) (sound : SoundIn n i) where
   unfolding or_in
   sound_or = sound_chain n or_chain (and_in i) sound_and
 
-opened_wide : (l : ℕ) (s : PlacedToken) (ts : List PlacedToken) (e : Tree) (more : List PlacedToken) → IsTrue (opens s.token) → Stands l e → IsSpelled e (s ∷ more) → Outcome 0 l (s ∷ ts) (too_deep (s ∷ ts))
+opened_wide : (l : ℕ) (s : PlacedToken) (ts : List PlacedToken) (e : Tree) (more : List PlacedToken) → IsTrue (may_open s.token) → Stands l e → IsSpelled e (s ∷ more) → Outcome 0 l (s ∷ ts) (too_deep (s ∷ ts))
 opened_wide l s ts e more o st p = ([], refl, null_begins 0 l, (o, record { more = more; tree = e; stands = st; spelled = p }))
 
 pub within_sound : (n : ℕ) → SoundIn n (within_depth n)
@@ -515,17 +515,17 @@ within_sound zero = record { not_from = by_not; minus_from = by_minus; open_from
     by_not : (ts : List PlacedToken) → starts is_not ts ≡ true → Outcome 0 2 ts (too_deep ts)
     by_not [] e = absurd (wrong e)
     by_not (s ∷ ts) e =
-        opened_wide 2 s ts (negation (leaf null.token)) (null ∷ []) (ap opens (not_is s.token e)) (omega arith, refl) (s, null ∷ [], refl, not_is s.token e, (null, refl, refl))
+        opened_wide 2 s ts (negation (leaf null.token)) (null ∷ []) (ap may_open (not_is s.token e)) (omega arith, refl) (s, null ∷ [], refl, not_is s.token e, (null, refl, refl))
 
     by_minus : (ts : List PlacedToken) → starts is_minus ts ≡ true → Outcome 0 6 ts (too_deep ts)
     by_minus [] e = absurd (wrong e)
     by_minus (s ∷ ts) e =
-        opened_wide 6 s ts (negative (leaf null.token)) (null ∷ []) (ap opens (minus_is s.token e)) (omega arith, refl) (s, null ∷ [], refl, minus_is s.token e, (null, refl, refl))
+        opened_wide 6 s ts (negative (leaf null.token)) (null ∷ []) (ap may_open (minus_is s.token e)) (omega arith, refl) (s, null ∷ [], refl, minus_is s.token e, (null, refl, refl))
 
-    by_open : (ts : List PlacedToken) → starts is_open ts ≡ true → Outcome 0 7 ts (too_deep ts)
+    by_open : (ts : List PlacedToken) → starts is_open_paren ts ≡ true → Outcome 0 7 ts (too_deep ts)
     by_open [] e = absurd (wrong e)
     by_open (s ∷ ts) e =
-        opened_wide 7 s ts (parens (leaf null.token)) (null ∷ placed_of token.Close ∷ []) (ap opens (open_is s.token e)) refl (s, null ∷ [], placed_of token.Close, refl, open_is s.token e, refl, (null, refl, refl))
+        opened_wide 7 s ts (parens (leaf null.token)) (null ∷ placed_of token.Close ∷ []) (ap may_open (open_is s.token e)) refl (s, null ∷ [], placed_of token.Close, refl, open_is s.token e, refl, (null, refl, refl))
 within_sound (suc n) = record { not_from = by_not (within_sound n); minus_from = by_minus (within_sound n); open_from = by_open (within_sound n) }
   where
     by_not : SoundIn n (within_depth n) → (ts : List PlacedToken) → starts is_not ts ≡ true → Outcome (suc n) 2 ts (then_read (not_in (within_depth n) (drop 1 ts)) got_negation)
@@ -540,6 +540,6 @@ within_sound (suc n) = record { not_from = by_not (within_sound n); minus_from =
         wrapped n 6 token.Minus negative (λ d us z q p. (z, us, refl, q, p)) (λ d p. (omega arith, p)) (λ d p. p) (λ d p. omega (arith, p)) (λ d. refl) s ts (minus_is s.token e)
         (unary_in (within_depth n) ts) (sound_unary n (within_depth n) ih ts)
 
-    by_open : SoundIn n (within_depth n) → (ts : List PlacedToken) → starts is_open ts ≡ true → Outcome (suc n) 7 ts (then_read (or_in (within_depth n) (drop 1 ts)) closed)
+    by_open : SoundIn n (within_depth n) → (ts : List PlacedToken) → starts is_open_paren ts ≡ true → Outcome (suc n) 7 ts (then_read (or_in (within_depth n) (drop 1 ts)) close_read)
     by_open ih [] e = absurd (wrong e)
     by_open ih (s ∷ ts) e = enclosed n s ts (open_is s.token e) (or_in (within_depth n) ts) (sound_or n (within_depth n) ih ts)

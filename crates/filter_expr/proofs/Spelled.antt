@@ -9,8 +9,8 @@ use Rattle.plain_filters.specs.declared.CompareSign.TheVariants as «compare»
 use Rattle.filter_expr.specs.declared.tokens.Token.{Token}
 use Rattle.filter_expr.specs.declared.tokens.Token.TheVariants as token
 use Rattle.farm_base.specs.Digits.{is_digit}
-use Rattle.filter_expr.specs.Spelling.{is_letter, is_word_byte, is_quote, is_escaped, is_name_byte, IsDigits, number_of, IsQuoting, Spells, signs, begins_with, EndsBefore}
-use Rattle.filter_expr.specs.Lexing.{Taken, nothing, number_token, number_token_at, word_token, word_at, name_token_at, longer, quoting_len, unescaped, quoted_of, quoted_at, single, less_at, sign_at, first_byte, token_at}
+use Rattle.filter_expr.specs.Spelling.{is_letter, is_word_byte, is_quote, is_escaped, is_attribute_byte, IsDigits, digits_number, IsQuoting, Spells, signs, begins_with, EndsBefore}
+use Rattle.filter_expr.specs.Lexing.{Taken, nothing, number_token, number_token_at, word_token, word_at, name_token_at, longer, quoting_len, quoted_text, quoted_of, quoted_at, single, less_at, sign_at, first_byte, token_at}
 
 pub wrong : false ≡ true → ⊥
 wrong e = grind arith
@@ -139,11 +139,11 @@ not_equal a b n = by (a == b) refl
     by true e = absurd (n (eqb-true a b e))
     by false e = refl
 
-name_found : (n more : List ℕ) → n ≢ [] → list_all is_name_byte n ≡ true → ◌≡◌ {A = Taken} (name_token_at ((n ++ 93 ∷ []) ++ more)) (token.Name n, length n + 2)
+name_found : (n more : List ℕ) → n ≢ [] → list_all is_attribute_byte n ≡ true → ◌≡◌ {A = Taken} (name_token_at ((n ++ 93 ∷ []) ++ more)) (token.Name n, length n + 2)
 unfolding name_token_at
 name_found n more some all =
     ap (λ l. name_token_at l) (append_assoc n (93 ∷ []) more)
-    ∙ ap (λ m. name_from m (n ++ 93 ∷ more)) (run_exact is_name_byte n (93 ∷ more) all refl)
+    ∙ ap (λ m. name_from m (n ++ 93 ∷ more)) (run_exact is_attribute_byte n (93 ∷ more) all refl)
     ∙ ap (λ b. if b then nothing else name_within (length n) (n ++ 93 ∷ more)) (not_zero n some)
     ∙ ap (λ b. if b then taken (token.Name (take (length n) (n ++ 93 ∷ more))) (length n + 2) else nothing)
     (lt-ltb (length n) (length (n ++ 93 ∷ more)) (omega (arith, length-append n (93 ∷ more))))
@@ -163,7 +163,7 @@ quote_no_escape q h = by (split_bool (q == 39))
 -- a quoted text is read up to its closing quote, and its escapes are taken away
 record Quoted (q : ℕ) (t vs more : List ℕ) : Type 0 where
   len : quoting_len q false (vs ++ q ∷ more) ≡ Some (length vs)
-  text : unescaped false vs ≡ t
+  text : quoted_text false vs ≡ t
 
 quoted_empty : (q : ℕ) (more : List ℕ) → quoting_len q false (q ∷ more) ≡ Some 0
 unfolding quoting_len
@@ -173,17 +173,17 @@ quoted_empty q more = ap (λ b. if b then Some 0 else (if q == 92 then longer (q
     same n = eq-eqb n n refl
 
 quoted_plain : (q c : ℕ) (cs vs more : List ℕ) → c ≢ q → c ≢ 92 → Quoted q cs vs more → Quoted q (c ∷ cs) (c ∷ vs) more
-unfolding quoting_len unescaped
+unfolding quoting_len quoted_text
 quoted_plain q c cs vs more a b h = record {
   len =
       ap (λ t. if t then Some 0 else (if c == 92 then longer (quoting_len q true (vs ++ q ∷ more)) else longer (quoting_len q false (vs ++ q ∷ more)))) (not_equal c q a)
       ∙ ap (λ t. if t then longer (quoting_len q true (vs ++ q ∷ more)) else longer (quoting_len q false (vs ++ q ∷ more))) (not_equal c 92 b)
       ∙ ap longer h.len;
-  text = ap (λ t. if t then unescaped true vs else c ∷ unescaped false vs) (not_equal c 92 b) ∙ ap (λ l. c ∷ l) h.text;
+  text = ap (λ t. if t then quoted_text true vs else c ∷ quoted_text false vs) (not_equal c 92 b) ∙ ap (λ l. c ∷ l) h.text;
 }
 
 quoted_escape : (q c : ℕ) (cs vs more : List ℕ) → (q == 92) ≡ false → is_escaped c ≡ true → Quoted q cs vs more → Quoted q (c ∷ cs) (92 ∷ c ∷ vs) more
-unfolding quoting_len unescaped
+unfolding quoting_len quoted_text
 quoted_escape q c cs vs more a b h = record {
   len =
       ap (λ t. if t then Some 0 else longer (if is_escaped c then longer (quoting_len q false (vs ++ q ∷ more)) else None)) (flip q a)
@@ -196,10 +196,10 @@ quoted_escape q c cs vs more a b h = record {
     flip n e = not_equal 92 n (λ s. wrong (sym e ∙ eq-eqb n 92 (sym s)))
 
 quoting_found : (q : ℕ) (t vs more : List ℕ) → is_quote q ≡ true → IsQuoting q t vs → Quoted q t vs more
-unfolding unescaped
+unfolding quoted_text
 quoting_found q [] vs more h p = subst (λ l. Quoted q [] l more) (sym p) record { len = quoted_empty q more; text = unescaped_none }
   where
-    unescaped_none : unescaped false [] ≡ []
+    unescaped_none : quoted_text false [] ≡ []
     unescaped_none = refl
 quoting_found q (c ∷ cs) vs more h p = by p.2 (quoting_found q cs p.0 more h p.1)
   where
@@ -213,7 +213,7 @@ quoted_found q t vs more h p =
     let r : Quoted q t vs more = quoting_found q t vs more h p in
     ap (λ l. quoted_of l (quoting_len q false l)) (append_assoc vs (q ∷ []) more)
     ∙ ap (λ o. quoted_of (vs ++ q ∷ more) o) r.len
-    ∙ ap (λ l. taken (token.Quoted (unescaped false l)) (length vs + 2)) (take_front vs (q ∷ more))
+    ∙ ap (λ l. taken (token.Quoted (quoted_text false l)) (length vs + 2)) (take_front vs (q ∷ more))
     ∙ ap (λ l. taken (token.Quoted l) (length vs + 2)) r.text
 
 quote_first : (q : ℕ) → is_quote q ≡ true → (bs : List ℕ) → token_at (q ∷ bs) ≡ quoted_at q bs
@@ -275,9 +275,9 @@ token_complete (token.Quoted t) us more s e =
       at = quote_first s.0 s.3 ((s.1 ++ s.0 ∷ []) ++ more) ∙ quoted_found s.0 t s.1 more s.3 s.4 ∙ ap (λ m. taken (token.Quoted t) m) (omega (arith, length-append s.1 (s.0 ∷ [])));
     }
 token_complete (token.Number z) us more s e = digits_found us more (token.Number z) s.0 e
-    (ap (λ (b : Bool). if b then token.Number (pos (number_of us)) else token.OutOfRange) (lt-ltb (number_of us) (2 ^ 63) s.2) ∙ ap token.Number (sym s.1))
+    (ap (λ (b : Bool). if b then token.Number (pos (digits_number us)) else token.OutOfRange) (lt-ltb (digits_number us) (2 ^ 63) s.2) ∙ ap token.Number (sym s.1))
 token_complete token.OutOfRange us more s e = digits_found us more token.OutOfRange s.0 e
-    (ap (λ (b : Bool). if b then token.Number (pos (number_of us)) else token.OutOfRange) (le-ltb (number_of us) (2 ^ 63) s.1))
+    (ap (λ (b : Bool). if b then token.Number (pos (digits_number us)) else token.OutOfRange) (le-ltb (digits_number us) (2 ^ 63) s.1))
 token_complete token.True us more s e = found_at token.True (codes "true") us more s (word_found (codes "true") more token.True refl refl refl refl) e
 token_complete token.False us more s e = found_at token.False (codes "false") us more s (word_found (codes "false") more token.False refl refl refl refl) e
 token_complete token.Null us more s e = found_at token.Null (codes "null") us more s (word_found (codes "null") more token.Null refl refl refl refl) e

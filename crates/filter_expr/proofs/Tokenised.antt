@@ -10,7 +10,7 @@ use Rattle.filter_expr.specs.declared.tokens.PlacedToken.{PlacedToken}
 use Rattle.filter_expr.specs.Trees.{is_unknown}
 use Rattle.farm_base.specs.Digits.{is_digit}
 use Rattle.filter_expr.specs.Spelling.{is_blank, is_quote, IsDigits, begins_with, Spells, StandsFirst, AreTokens, TokensOf}
-use Rattle.filter_expr.specs.Lexing.{Taken, token_at, lexed}
+use Rattle.filter_expr.specs.Lexing.{Taken, token_at, tokens_from}
 use Rattle.filter_expr.proofs.Spelled.{wrong, split_bool, token_complete, both_true, not_equal}
 use Rattle.filter_expr.proofs.Lexemes.{token_good}
 use Rattle.filter_expr.proofs.Lexes.{token_fits, lexed_skips, from_token, placed_then, unknown_is}
@@ -18,29 +18,29 @@ use Rattle.filter_expr.proofs.Final.{Stopped, is_stop}
 
 -- ---- one step of the lexer, at any place
 
-lexed_gap : (at : ℕ) (b : ℕ) (bs : List ℕ) → is_blank b ≡ true → lexed at 0 (b ∷ bs) ≡ lexed (suc at) 0 bs
-unfolding lexed
-lexed_gap at b bs e = ap (λ t. if t then lexed (suc at) 0 bs else from_token at b bs) e
+lexed_gap : (at : ℕ) (b : ℕ) (bs : List ℕ) → is_blank b ≡ true → tokens_from at 0 (b ∷ bs) ≡ tokens_from (suc at) 0 bs
+unfolding tokens_from
+lexed_gap at b bs e = ap (λ t. if t then tokens_from (suc at) 0 bs else from_token at b bs) e
 
-lexed_solid : (at : ℕ) (b : ℕ) (bs : List ℕ) → is_blank b ≡ false → lexed at 0 (b ∷ bs) ≡ from_token at b bs
-unfolding lexed
-lexed_solid at b bs e = ap (λ t. if t then lexed (suc at) 0 bs else from_token at b bs) e
+lexed_solid : (at : ℕ) (b : ℕ) (bs : List ℕ) → is_blank b ≡ false → tokens_from at 0 (b ∷ bs) ≡ from_token at b bs
+unfolding tokens_from
+lexed_solid at b bs e = ap (λ t. if t then tokens_from (suc at) 0 bs else from_token at b bs) e
 
 from_unknown : (at : ℕ) (b : ℕ) (bs : List ℕ) → is_unknown (token_at (b ∷ bs)).0 ≡ true → from_token at b bs ≡ placed_then token.Unknown at []
-from_unknown at b bs e = ap (λ t. if t then placed_then token.Unknown at [] else placed_then (token_at (b ∷ bs)).0 at (lexed (suc at) ((token_at (b ∷ bs)).1 - 1) bs)) e
+from_unknown at b bs e = ap (λ t. if t then placed_then token.Unknown at [] else placed_then (token_at (b ∷ bs)).0 at (tokens_from (suc at) ((token_at (b ∷ bs)).1 - 1) bs)) e
 
 from_known : (at : ℕ) (b : ℕ) (bs : List ℕ) → is_unknown (token_at (b ∷ bs)).0 ≡ false →
-    from_token at b bs ≡ placed_then (token_at (b ∷ bs)).0 at (lexed (at + (token_at (b ∷ bs)).1) 0 (drop (token_at (b ∷ bs)).1 (b ∷ bs)))
+    from_token at b bs ≡ placed_then (token_at (b ∷ bs)).0 at (tokens_from (at + (token_at (b ∷ bs)).1) 0 (drop (token_at (b ∷ bs)).1 (b ∷ bs)))
 from_known at b bs e =
-    ap (λ t. if t then placed_then token.Unknown at [] else placed_then (token_at (b ∷ bs)).0 at (lexed (suc at) ((token_at (b ∷ bs)).1 - 1) bs)) e
+    ap (λ t. if t then placed_then token.Unknown at [] else placed_then (token_at (b ∷ bs)).0 at (tokens_from (suc at) ((token_at (b ∷ bs)).1 - 1) bs)) e
     ∙ ap (placed_then (token_at (b ∷ bs)).0 at) (skipped (token_at (b ∷ bs)).1 (token_fits b bs).least (token_fits b bs).most)
   where
-    skipped : (n : ℕ) → 1 ≤ n → n ≤ length (b ∷ bs) → lexed (suc at) (n - 1) bs ≡ lexed (at + n) 0 (drop n (b ∷ bs))
+    skipped : (n : ℕ) → 1 ≤ n → n ≤ length (b ∷ bs) → tokens_from (suc at) (n - 1) bs ≡ tokens_from (at + n) 0 (drop n (b ∷ bs))
     skipped zero l m = absurd (omega (arith, l))
     skipped (suc n) l m =
         let less : n ≤ length bs = omega (arith, m) in
         let same : suc n - 1 ≡ n = omega arith in
-        ap (λ k. lexed (suc at) k bs) same ∙ lexed_skips n (suc at) bs less ∙ ap (λ k. lexed k 0 (drop n bs)) (omega arith)
+        ap (λ k. tokens_from (suc at) k bs) same ∙ lexed_skips n (suc at) bs less ∙ ap (λ k. tokens_from k 0 (drop n bs)) (omega arith)
 
 -- ---- the lexer's list is one of tokens
 
@@ -74,39 +74,39 @@ none_there b bs u t vs ws e s =
     let unknown : is_unknown t ≡ true = sym (ap (λ (r : Taken). is_unknown r.0) (ap token_at e ∙ found)) ∙ u in
     subst (λ x. Spells x vs) (unknown_is t unknown) s.0
 
-end_lexed : (at : ℕ) → lexed at 0 [] ≡ placed_then token.End at []
-unfolding lexed
+end_lexed : (at : ℕ) → tokens_from at 0 [] ≡ placed_then token.End at []
+unfolding tokens_from
 end_lexed at = refl
 
-tokens_of : (m at : ℕ) (bs : List ℕ) → length bs ≤ m → AreTokens at bs (lexed at 0 bs)
+tokens_of : (m at : ℕ) (bs : List ℕ) → length bs ≤ m → AreTokens at bs (tokens_from at 0 bs)
 tokens_of m at [] h = subst (AreTokens at []) (sym (end_lexed at)) (at_once at [] [] [] token.End [] refl (inr (refl, refl, inl (refl, refl))))
 tokens_of zero at (b ∷ bs) h = absurd (omega (arith, h))
 tokens_of (suc m) at (b ∷ bs) h = by (split_bool (is_blank b)) (λ k l g. tokens_of m k l g)
   where
-    known : ((k : ℕ) (l : List ℕ) → length l ≤ m → AreTokens k l (lexed k 0 l)) → is_unknown (token_at (b ∷ bs)).0 ≡ false →
-        AreTokens at (b ∷ bs) (placed_then (token_at (b ∷ bs)).0 at (lexed (at + (token_at (b ∷ bs)).1) 0 (drop (token_at (b ∷ bs)).1 (b ∷ bs))))
+    known : ((k : ℕ) (l : List ℕ) → length l ≤ m → AreTokens k l (tokens_from k 0 l)) → is_unknown (token_at (b ∷ bs)).0 ≡ false →
+        AreTokens at (b ∷ bs) (placed_then (token_at (b ∷ bs)).0 at (tokens_from (at + (token_at (b ∷ bs)).1) 0 (drop (token_at (b ∷ bs)).1 (b ∷ bs))))
     known ih u =
         let n : ℕ = (token_at (b ∷ bs)).1 in
         let len : length (take n (b ∷ bs)) ≡ n = length-take n (b ∷ bs) ∙ omega (arith, (token_fits b bs).most) in
-        at_once at (b ∷ bs) (take n (b ∷ bs)) (drop n (b ∷ bs)) (token_at (b ∷ bs)).0 (lexed (at + n) 0 (drop n (b ∷ bs))) (sym (take-append-drop n (b ∷ bs)))
+        at_once at (b ∷ bs) (take n (b ∷ bs)) (drop n (b ∷ bs)) (token_at (b ∷ bs)).0 (tokens_from (at + n) 0 (drop n (b ∷ bs))) (sym (take-append-drop n (b ∷ bs)))
         (inl (
           (token_good b bs).good u,
-          subst (λ k. AreTokens (at + k) (drop n (b ∷ bs)) (lexed (at + n) 0 (drop n (b ∷ bs)))) (sym len)
+          subst (λ k. AreTokens (at + k) (drop n (b ∷ bs)) (tokens_from (at + n) 0 (drop n (b ∷ bs)))) (sym len)
               (ih (at + n) (drop n (b ∷ bs)) (omega (arith, h, length-drop n (b ∷ bs), (token_fits b bs).least))),
         ))
 
-    solid : ((k : ℕ) (l : List ℕ) → length l ≤ m → AreTokens k l (lexed k 0 l)) → is_blank b ≡ false → (is_unknown (token_at (b ∷ bs)).0 ≡ true) ⊎ (is_unknown (token_at (b ∷ bs)).0 ≡ false) →
-        AreTokens at (b ∷ bs) (lexed at 0 (b ∷ bs))
+    solid : ((k : ℕ) (l : List ℕ) → length l ≤ m → AreTokens k l (tokens_from k 0 l)) → is_blank b ≡ false → (is_unknown (token_at (b ∷ bs)).0 ≡ true) ⊎ (is_unknown (token_at (b ∷ bs)).0 ≡ false) →
+        AreTokens at (b ∷ bs) (tokens_from at 0 (b ∷ bs))
     solid ih e (inl u) =
         subst (AreTokens at (b ∷ bs)) (sym (lexed_solid at b bs e ∙ from_unknown at b bs u))
         (at_once at (b ∷ bs) [] (b ∷ bs) token.Unknown [] refl (inr (refl, refl, inr (refl, some_bytes b bs, e, none_there b bs u))))
     solid ih e (inr u) = subst (AreTokens at (b ∷ bs)) (sym (lexed_solid at b bs e ∙ from_known at b bs u)) (known ih u)
 
-    by : (is_blank b ≡ true) ⊎ (is_blank b ≡ false) → ((k : ℕ) (l : List ℕ) → length l ≤ m → AreTokens k l (lexed k 0 l)) → AreTokens at (b ∷ bs) (lexed at 0 (b ∷ bs))
-    by (inl e) ih = subst (AreTokens at (b ∷ bs)) (sym (lexed_gap at b bs e)) (add_blank at b bs (lexed (suc at) 0 bs) e (ih (suc at) bs (omega (arith, h))))
+    by : (is_blank b ≡ true) ⊎ (is_blank b ≡ false) → ((k : ℕ) (l : List ℕ) → length l ≤ m → AreTokens k l (tokens_from k 0 l)) → AreTokens at (b ∷ bs) (tokens_from at 0 (b ∷ bs))
+    by (inl e) ih = subst (AreTokens at (b ∷ bs)) (sym (lexed_gap at b bs e)) (add_blank at b bs (tokens_from (suc at) 0 bs) e (ih (suc at) bs (omega (arith, h))))
     by (inr e) ih = solid ih e (split_bool (is_unknown (token_at (b ∷ bs)).0))
 
-pub lexed_tokens : (text : List ℕ) → TokensOf text (lexed 0 0 text)
+pub lexed_tokens : (text : List ℕ) → TokensOf text (tokens_from 0 0 text)
 lexed_tokens text = tokens_of (length text) 0 text (omega arith)
 
 -- ---- and there is no other
@@ -171,11 +171,11 @@ first_solid token.Close us s = solid_is 41 _ us s refl
 first_solid token.End us s = absurd s
 first_solid token.Unknown us s = absurd s
 
-gap_passed : (at : ℕ) (gap bs : List ℕ) → list_all is_blank gap ≡ true → lexed at 0 (gap ++ bs) ≡ lexed (at + length gap) 0 bs
-gap_passed at [] bs h = ap (λ k. lexed k 0 bs) (sym (add-zero at))
+gap_passed : (at : ℕ) (gap bs : List ℕ) → list_all is_blank gap ≡ true → tokens_from at 0 (gap ++ bs) ≡ tokens_from (at + length gap) 0 bs
+gap_passed at [] bs h = ap (λ k. tokens_from k 0 bs) (sym (add-zero at))
 gap_passed at (b ∷ gap) bs h =
     lexed_gap at b (gap ++ bs) (both_true (is_blank b) (list_all is_blank gap) h).0 ∙ gap_passed (suc at) gap bs (both_true (is_blank b) (list_all is_blank gap) h).1
-    ∙ ap (λ k. lexed k 0 bs) (omega arith)
+    ∙ ap (λ k. tokens_from k 0 bs) (omega arith)
 
 drop_front : (us more : List ℕ) → drop (length us) (us ++ more) ≡ more
 drop_front [] more = refl
@@ -186,17 +186,17 @@ known_token token.Unknown us s = absurd s
 known_token _ us s = refl
 
 -- a token that stands first is the lexer's
-first_lexed : (at : ℕ) (t : Token) (us more : List ℕ) → StandsFirst t us more → lexed at 0 (us ++ more) ≡ placed_then t at (lexed (at + length us) 0 more)
+first_lexed : (at : ℕ) (t : Token) (us more : List ℕ) → StandsFirst t us more → tokens_from at 0 (us ++ more) ≡ placed_then t at (tokens_from (at + length us) 0 more)
 first_lexed at t [] more s = absurd ((first_solid t [] s.0).0 refl)
 first_lexed at t (b ∷ us) more s =
     let found : ◌≡◌ {A = Taken} (token_at ((b ∷ us) ++ more)) (t, length (b ∷ us)) = (token_complete t (b ∷ us) more s.0 s.1).at in
     lexed_solid at b (us ++ more) (first_solid t (b ∷ us) s.0).1
     ∙ from_known at b (us ++ more) (ap (λ (r : Taken). is_unknown r.0) found ∙ known_token t (b ∷ us) s.0)
-    ∙ ap (λ (r : Taken). placed_then r.0 at (lexed (at + r.1) 0 (drop r.1 ((b ∷ us) ++ more)))) found
-    ∙ ap (λ l. placed_then t at (lexed (at + length (b ∷ us)) 0 l)) (drop_front (b ∷ us) more)
+    ∙ ap (λ (r : Taken). placed_then r.0 at (tokens_from (at + r.1) 0 (drop r.1 ((b ∷ us) ++ more)))) found
+    ∙ ap (λ l. placed_then t at (tokens_from (at + length (b ∷ us)) 0 l)) (drop_front (b ∷ us) more)
 
 unknown_lexed : (at : ℕ) (more : List ℕ) → more ≢ [] → begins_with is_blank more ≡ false → ((t : Token) → (vs : List ℕ) → (ws : List ℕ) → more ≡ vs ++ ws → StandsFirst t vs ws → ⊥) →
-    lexed at 0 more ≡ placed_then token.Unknown at []
+    tokens_from at 0 more ≡ placed_then token.Unknown at []
 unknown_lexed at [] n e h = absurd (n refl)
 unknown_lexed at (b ∷ bs) n e h = lexed_solid at b bs e ∙ from_unknown at b bs (by (split_bool (is_unknown (token_at (b ∷ bs)).0)))
   where
@@ -205,27 +205,27 @@ unknown_lexed at (b ∷ bs) n e h = lexed_solid at b bs e ∙ from_unknown at b 
     by (inr u) =
         absurd (h (token_at (b ∷ bs)).0 (take (token_at (b ∷ bs)).1 (b ∷ bs)) (drop (token_at (b ∷ bs)).1 (b ∷ bs)) (sym (take-append-drop (token_at (b ∷ bs)).1 (b ∷ bs))) ((token_good b bs).good u))
 
-tokens_are : (ts : List PlacedToken) (at : ℕ) (bs : List ℕ) → AreTokens at bs ts → ts ≡ lexed at 0 bs
+tokens_are : (ts : List PlacedToken) (at : ℕ) (bs : List ℕ) → AreTokens at bs ts → ts ≡ tokens_from at 0 bs
 tokens_are [] at bs h = absurd h
 tokens_are (s ∷ others) at bs h =
-    ap (λ k. placed_then s.token k others) h.5 ∙ by h.6 (tokens_are others) ∙ sym (ap (lexed at 0) h.3 ∙ gap_passed at h.0 (h.1 ++ h.2) h.4)
+    ap (λ k. placed_then s.token k others) h.5 ∙ by h.6 (tokens_are others) ∙ sym (ap (tokens_from at 0) h.3 ∙ gap_passed at h.0 (h.1 ++ h.2) h.4)
   where
     stops : (us more : List ℕ) → (others ≡ []) → us ≡ [] →
         ((s.token ≡ token.End) × (more ≡ []))
         ⊎ ((s.token ≡ token.Unknown) × (more ≢ []) × (begins_with is_blank more ≡ false) × ((t : Token) → (vs : List ℕ) → (ws : List ℕ) → more ≡ vs ++ ws → StandsFirst t vs ws → ⊥)) →
-        placed_then s.token (at + length h.0) others ≡ lexed (at + length h.0) 0 (us ++ more)
+        placed_then s.token (at + length h.0) others ≡ tokens_from (at + length h.0) 0 (us ++ more)
     stops us more o e (inl r) =
         ap (placed_then s.token (at + length h.0)) o ∙ ap (λ t. placed_then t (at + length h.0) []) r.0 ∙ sym (end_lexed (at + length h.0))
-        ∙ sym (ap (λ l. lexed (at + length h.0) 0 (l ++ more)) e ∙ ap (λ l. lexed (at + length h.0) 0 l) r.1)
+        ∙ sym (ap (λ l. tokens_from (at + length h.0) 0 (l ++ more)) e ∙ ap (λ l. tokens_from (at + length h.0) 0 l) r.1)
     stops us more o e (inr r) =
         ap (placed_then s.token (at + length h.0)) o ∙ ap (λ t. placed_then t (at + length h.0) []) r.0 ∙ sym (unknown_lexed (at + length h.0) more r.1 r.2 r.3)
-        ∙ sym (ap (λ l. lexed (at + length h.0) 0 (l ++ more)) e)
+        ∙ sym (ap (λ l. tokens_from (at + length h.0) 0 (l ++ more)) e)
 
-    by : Rest (at + length h.0) h.1 h.2 s others → ((k : ℕ) (l : List ℕ) → AreTokens k l others → others ≡ lexed k 0 l) → placed_then s.token (at + length h.0) others ≡ lexed (at + length h.0) 0 (h.1 ++ h.2)
+    by : Rest (at + length h.0) h.1 h.2 s others → ((k : ℕ) (l : List ℕ) → AreTokens k l others → others ≡ tokens_from k 0 l) → placed_then s.token (at + length h.0) others ≡ tokens_from (at + length h.0) 0 (h.1 ++ h.2)
     by (inl r) ih = ap (placed_then s.token (at + length h.0)) (ih (at + length h.0 + length h.1) h.2 r.1) ∙ sym (first_lexed (at + length h.0) s.token h.1 h.2 r.0)
     by (inr r) ih = stops h.1 h.2 r.0 r.1 r.2
 
-pub tokens_unique : (text : List ℕ) (ts : List PlacedToken) → TokensOf text ts → ts ≡ lexed 0 0 text
+pub tokens_unique : (text : List ℕ) (ts : List PlacedToken) → TokensOf text ts → ts ≡ tokens_from 0 0 text
 tokens_unique text ts h = tokens_are ts 0 text h
 
 -- ---- the last token ends the list, and no other does

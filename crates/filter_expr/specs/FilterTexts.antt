@@ -12,7 +12,7 @@ use Rattle.filter_expr.specs.declared.tokens.Token.TheVariants as token
 use Rattle.filter_expr.specs.declared.faults.FilterFault.{FilterFault}
 use Rattle.filter_expr.specs.declared.faults.FilterFault.TheVariants.{Bad, NumberRange, TooDeep, NoMemory}
 use Rattle.filter_expr.specs.Trees.{JoinSign, sum_sign, product_sign, Tree, Terms, leaf, negation, negative, comparison, chain, parens, no_terms, term, or_chain, and_chain, sum_chain, product_chain}
-use Rattle.filter_expr.specs.Lexing.{lexed}
+use Rattle.filter_expr.specs.Lexing.{tokens_from}
 use Rattle.filter_expr.specs.Reading.{Step, got, failed, whole_filter}
 use Rattle.filter_expr.specs.Filters.{FilterOf, FaultOf}
 
@@ -70,7 +70,7 @@ verdict (failed f ts) = Err f
 
 -- what a text says as a filter: the filter, or its first fault
 unfoldable pub filter_of : List ℕ → Result FilterTree FilterFault
-filter_of text = verdict (whole_filter (lexed 0 0 text))
+filter_of text = verdict (whole_filter (tokens_from 0 0 text))
 
 -- the answer is what the text says, but for want of memory
 abbrev pub Says : Result FilterTree FilterFault → Result Expr FilterFault → Type 0

@@ -7,7 +7,7 @@ use Rattle.filter_expr.specs.declared.tokens.Token.TheVariants as token
 use Rattle.filter_expr.specs.declared.tokens.PlacedToken.{PlacedToken}
 use Rattle.filter_expr.specs.declared.faults.FilterFault.{FilterFault}
 use Rattle.filter_expr.specs.declared.faults.FilterFault.TheVariants.{Bad, NumberRange, TooDeep, NoMemory}
-use Rattle.filter_expr.specs.Trees.{Tree, bare, nesting, InRange, is_out_of_range, is_not, is_minus, is_open}
+use Rattle.filter_expr.specs.Trees.{Tree, bare, nesting, InRange, is_out_of_range, is_not, is_minus, is_open_paren}
 use Rattle.filter_expr.specs.Seen.{shape}
 use Rattle.filter_expr.specs.Spelling.{TokensOf}
 use Rattle.filter_expr.specs.Grammar.{IsSpelled, Stands}
@@ -46,8 +46,8 @@ pub record GoesOn (us : List PlacedToken) : Type 0 where
   pub spelled : IsSpelled tree (us ++ more)
 
 -- a token that may open something: `not`, a minus sign or an opening parenthesis
-abbrev pub opens : Token → Bool
-opens t = is_not t || is_minus t || is_open t
+abbrev pub may_open : Token → Bool
+may_open t = is_not t || is_minus t || is_open_paren t
 
 -- the place of the fault is that of this token; want of memory is no fault of a text
 abbrev pub StandsAt : FilterFault → PlacedToken → Type 0
@@ -67,7 +67,7 @@ Passes e NoMemory = ⊥
 abbrev pub HasCause : FilterFault → List PlacedToken → PlacedToken → Type 0
 HasCause (Bad o) before here = Unit {0}
 HasCause (NumberRange o) before here = IsTrue (is_out_of_range here.token) × GoesOn (before ++ here ∷ [])
-HasCause (TooDeep o) before here = IsTrue (opens here.token) × GoesOn (before ++ here ∷ [])
+HasCause (TooDeep o) before here = IsTrue (may_open here.token) × GoesOn (before ++ here ∷ [])
 HasCause NoMemory before here = ⊥
 
 -- the fault stands at the first token with which no filter within the limits goes on after what stands before

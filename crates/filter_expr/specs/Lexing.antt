@@ -10,7 +10,7 @@ use Rattle.filter_expr.specs.declared.lexer.Run.{Run}
 use Rattle.filter_expr.specs.declared.lexer.Run.TheVariants.{Digits, Word, Name, Plain}
 use Rattle.filter_expr.specs.Trees.{is_unknown}
 use Rattle.farm_base.specs.Digits.{is_digit}
-use Rattle.filter_expr.specs.Spelling.{is_blank, is_letter, is_word_byte, is_quote, is_escaped, is_name_byte, number_of}
+use Rattle.filter_expr.specs.Spelling.{is_blank, is_letter, is_word_byte, is_quote, is_escaped, is_attribute_byte, digits_number}
 
 -- a token, and how many bytes it takes
 abbrev pub Taken : Type 0
@@ -28,12 +28,12 @@ is_plain_byte b = not (b == 92)
 abbrev pub run_test : Run → ℕ → Bool
 run_test Digits = is_digit
 run_test Word = is_word_byte
-run_test Name = is_name_byte
+run_test Name = is_attribute_byte
 run_test Plain = is_plain_byte
 
 -- the token of a run of digits: a number, or one out of range from 2^63 on
 unfoldable pub number_token : List ℕ → Token
-number_token ds = if nat_lt (number_of ds) (2 ^ 63) then token.Number (pos (number_of ds)) else token.OutOfRange
+number_token ds = if nat_lt (digits_number ds) (2 ^ 63) then token.Number (pos (digits_number ds)) else token.OutOfRange
 
 -- the number at the front of bytes that begin with a digit, and how many digits it has
 unfoldable pub number_token_at : List ℕ → Taken
@@ -57,9 +57,9 @@ word_at bs = (word_token (take (prefix_len is_word_byte bs) bs), prefix_len is_w
 -- the name that follows an opening bracket, up to the closing one; no token where it is empty or is not closed
 unfoldable pub name_token_at : List ℕ → Taken
 name_token_at bs =
-    if prefix_len is_name_byte bs == 0 then nothing
-    else (if nat_lt (prefix_len is_name_byte bs) (length bs)
-    then (token.Name (take (prefix_len is_name_byte bs) bs), prefix_len is_name_byte bs + 2)
+    if prefix_len is_attribute_byte bs == 0 then nothing
+    else (if nat_lt (prefix_len is_attribute_byte bs) (length bs)
+    then (token.Name (take (prefix_len is_attribute_byte bs) bs), prefix_len is_attribute_byte bs + 2)
     else nothing)
 
 -- a count that is greater by one, if there is a count
@@ -77,15 +77,15 @@ quoting_len q false (b ∷ bs) =
     else (if b == 92 then longer (quoting_len q true bs) else longer (quoting_len q false bs))
 
 -- the bytes between quotes without the backslashes before escaped ones
-unfoldable pub unescaped : Bool → List ℕ → List ℕ
-unescaped escaped [] = []
-unescaped true (b ∷ bs) = b ∷ unescaped false bs
-unescaped false (b ∷ bs) = if b == 92 then unescaped true bs else b ∷ unescaped false bs
+unfoldable pub quoted_text : Bool → List ℕ → List ℕ
+quoted_text escaped [] = []
+quoted_text true (b ∷ bs) = b ∷ quoted_text false bs
+quoted_text false (b ∷ bs) = if b == 92 then quoted_text true bs else b ∷ quoted_text false bs
 
 -- the text in quotes whose closing quote stands after so many bytes; no token where there is no count
 abbrev pub quoted_of : List ℕ → Option ℕ → Taken
 quoted_of bs None = nothing
-quoted_of bs (Some n) = (token.Quoted (unescaped false (take n bs)), n + 2)
+quoted_of bs (Some n) = (token.Quoted (quoted_text false (take n bs)), n + 2)
 
 -- the text that follows an opening quote, up to the closing one of the same kind
 unfoldable pub quoted_at : ℕ → List ℕ → Taken
@@ -138,10 +138,10 @@ token_at (b ∷ bs) =
 
 -- the tokens of bytes that begin at this place, up to the end or to bytes at which no token stands; the second number counts
 -- the bytes that still belong to the token before
-unfoldable pub lexed : ℕ → ℕ → List ℕ → List PlacedToken
-lexed at left [] = record { token = token.End; offset = at } ∷ []
-lexed at (suc left) (b ∷ bs) = lexed (suc at) left bs
-lexed at zero (b ∷ bs) =
-    if is_blank b then lexed (suc at) zero bs
+unfoldable pub tokens_from : ℕ → ℕ → List ℕ → List PlacedToken
+tokens_from at left [] = record { token = token.End; offset = at } ∷ []
+tokens_from at (suc left) (b ∷ bs) = tokens_from (suc at) left bs
+tokens_from at zero (b ∷ bs) =
+    if is_blank b then tokens_from (suc at) zero bs
     else (if is_unknown (token_at (b ∷ bs)).0 then record { token = token.Unknown; offset = at } ∷ []
-    else record { token = (token_at (b ∷ bs)).0; offset = at } ∷ lexed (suc at) ((token_at (b ∷ bs)).1 - 1) bs)
+    else record { token = (token_at (b ∷ bs)).0; offset = at } ∷ tokens_from (suc at) ((token_at (b ∷ bs)).1 - 1) bs)

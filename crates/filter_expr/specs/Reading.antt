@@ -10,7 +10,7 @@ use Rattle.plain_filters.specs.declared.CompareSign.{CompareSign}
 use Rattle.plain_filters.specs.declared.CompareSign.TheVariants as «compare»
 use Rattle.plain_filters.specs.declared.SumSign.TheVariants as sum
 use Rattle.plain_filters.specs.declared.ProductSign.TheVariants as product
-use Rattle.filter_expr.specs.Trees.{Kind, JoinSign, or_sign, and_sign, sum_sign, product_sign, Tree, leaf, negation, negative, comparison, chain, or_chain, and_chain, sum_chain, product_chain, joins, is_leaf, is_out_of_range, is_open, is_close, is_minus, is_not, is_compare, is_end}
+use Rattle.filter_expr.specs.Trees.{Kind, JoinSign, or_sign, and_sign, sum_sign, product_sign, Tree, leaf, negation, negative, comparison, chain, or_chain, and_chain, sum_chain, product_chain, joins, is_leaf, is_out_of_range, is_open_paren, is_close_paren, is_minus, is_not, is_compare, is_end}
 use Rattle.filter_expr.specs.Seen.{Part, terms_of}
 
 -- what was read and what is left; or a fault, which stands at the first of what is left
@@ -85,13 +85,13 @@ unfoldable pub later : Kind → Reader Tree → Reader (List Part)
 later k part ts = turns k part (length ts) ts
 
 -- a part by itself, or the chain of it and the later ones
-abbrev pub chained : Kind → Tree → List Part → Tree
-chained k first [] = first
-chained k first (p ∷ ps) = chain k first (terms_of (p ∷ ps))
+abbrev pub chain_or_part : Kind → Tree → List Part → Tree
+chain_or_part k first [] = first
+chain_or_part k first (p ∷ ps) = chain k first (terms_of (p ∷ ps))
 
 -- a first part with the later ones that were read behind it, or the fault of their reading
 abbrev pub chain_after : Kind → Tree → Step (List Part) → Step Tree
-chain_after k first (got parts ts) = got (chained k first parts) ts
+chain_after k first (got parts ts) = got (chain_or_part k first parts) ts
 chain_after k first (failed f ts) = failed f ts
 
 -- a part, and then each later part behind a sign that joins chains of this kind
@@ -109,7 +109,7 @@ unfoldable pub atom_in : Inner → Reader Tree
 atom_in i ts =
     if starts is_leaf ts then got (leaf (first_token ts)) (drop 1 ts)
     else (if starts is_out_of_range ts then failed (NumberRange (place ts)) ts
-    else (if starts is_open ts then i.open_from ts
+    else (if starts is_open_paren ts then i.open_from ts
     else failed (Bad (place ts)) ts))
 
 -- a negative where a minus sign stands first, and else what stands by itself
@@ -125,15 +125,15 @@ unfoldable pub sum_in : Inner → Reader Tree
 sum_in i = chain_of sum_chain (product_in i)
 
 -- a first sum compared with the next one, where a sign that compares follows, and else the first sum alone
-abbrev pub compared : Inner → Tree → Reader Tree
-compared i a us =
+abbrev pub compare_rest : Inner → Tree → Reader Tree
+compare_rest i a us =
     if starts is_compare us
     then then_read (sum_in i (drop 1 us)) (λ b vs. got (comparison a (sign_of (first_token us)) b) vs)
     else got a us
 
 -- a comparison of two sums, or one sum alone
 unfoldable pub compare_in : Inner → Reader Tree
-compare_in i ts = then_read (sum_in i ts) (compared i)
+compare_in i ts = then_read (sum_in i ts) (compare_rest i)
 
 -- the opposite of something where `not` stands first, and else a comparison
 unfoldable pub not_in : Inner → Reader Tree
@@ -160,8 +160,8 @@ abbrev pub got_negative : Tree → Reader Tree
 got_negative e us = got (negative e) us
 
 -- the parenthesis is closed, and leaves no node
-abbrev pub closed : Tree → Reader Tree
-closed e us = if starts is_close us then got e (drop 1 us) else failed (Bad (place us)) us
+abbrev pub close_read : Tree → Reader Tree
+close_read e us = if starts is_close_paren us then got e (drop 1 us) else failed (Bad (place us)) us
 
 -- what is read from a token that opens something on, where so many things may be open at once
 unfoldable pub within_depth : ℕ → Inner
@@ -169,13 +169,13 @@ within_depth zero = record { not_from = too_deep; minus_from = too_deep; open_fr
 within_depth (suc n) = record {
   not_from = λ ts. then_read (not_in (within_depth n) (drop 1 ts)) got_negation;
   minus_from = λ ts. then_read (unary_in (within_depth n) (drop 1 ts)) got_negative;
-  open_from = λ ts. then_read (or_in (within_depth n) (drop 1 ts)) closed;
+  open_from = λ ts. then_read (or_in (within_depth n) (drop 1 ts)) close_read;
 }
 
 -- the filter ends with the text
-abbrev pub ended : Tree → Reader Tree
-ended e us = if starts is_end us then got e us else failed (Bad (place us)) us
+abbrev pub end_read : Tree → Reader Tree
+end_read e us = if starts is_end us then got e us else failed (Bad (place us)) us
 
 -- the reading of all tokens of a text
 unfoldable pub whole_filter : Reader Tree
-whole_filter ts = then_read (or_in (within_depth 64) ts) ended
+whole_filter ts = then_read (or_in (within_depth 64) ts) end_read

@@ -31,8 +31,8 @@ abbrev pub is_escaped : ℕ → Bool
 is_escaped b = b == 92 || is_quote b
 
 -- what may stand in a name between brackets: every byte but the closing bracket
-abbrev pub is_name_byte : ℕ → Bool
-is_name_byte b = not (b == 93)
+abbrev pub is_attribute_byte : ℕ → Bool
+is_attribute_byte b = not (b == 93)
 
 -- ---- spellings
 
@@ -41,8 +41,8 @@ abbrev pub IsDigits : List ℕ → Type 0
 IsDigits us = (us ≢ []) × IsTrue (list_all is_digit us)
 
 -- the number that decimal digits spell
-abbrev pub number_of : List ℕ → ℕ
-number_of = number_after 0
+abbrev pub digits_number : List ℕ → ℕ
+digits_number = number_after 0
 
 -- how a text is written between quotes of this kind: a backslash stands before each quote or backslash
 -- that is escaped, and a quote of the other kind may stand by itself
@@ -54,10 +54,10 @@ IsQuoting q (c ∷ cs) us =
 
 -- the bytes spell the token
 abbrev pub Spells : Token → List ℕ → Type 0
-Spells (token.Name n) us = (us ≡ 91 ∷ (n ++ 93 ∷ [])) × (n ≢ []) × IsTrue (list_all is_name_byte n)
+Spells (token.Name n) us = (us ≡ 91 ∷ (n ++ 93 ∷ [])) × (n ≢ []) × IsTrue (list_all is_attribute_byte n)
 Spells (token.Quoted t) us = (q : ℕ) × (vs : List ℕ) × (us ≡ q ∷ (vs ++ q ∷ [])) × IsTrue (is_quote q) × IsQuoting q t vs
-Spells (token.Number z) us = IsDigits us × (z ≡ pos (number_of us)) × (number_of us < 2 ^ 63)
-Spells token.OutOfRange us = IsDigits us × (2 ^ 63 ≤ number_of us)
+Spells (token.Number z) us = IsDigits us × (z ≡ pos (digits_number us)) × (digits_number us < 2 ^ 63)
+Spells token.OutOfRange us = IsDigits us × (2 ^ 63 ≤ digits_number us)
 Spells token.True us = us ≡ codes "true"
 Spells token.False us = us ≡ codes "false"
 Spells token.Null us = us ≡ codes "null"
@@ -94,8 +94,8 @@ begins_with test (b ∷ bs) = test b
 
 -- with the byte b after it the spelling would be a longer one: a digit after a number, a letter, digit or
 -- `_` after a word, and after a sign a byte that makes it another sign
-abbrev pub goes_on : List ℕ → ℕ → Bool
-goes_on us b =
+abbrev pub lengthens : List ℕ → ℕ → Bool
+lengthens us b =
     if begins_with is_digit us then is_digit b
     else (if begins_with is_letter us then is_word_byte b
     else list_any (bytes_eq (us ++ b ∷ [])) signs)
@@ -103,7 +103,7 @@ goes_on us b =
 -- the spelling ends before these bytes
 abbrev pub EndsBefore : List ℕ → List ℕ → Type 0
 EndsBefore us [] = Unit {0}
-EndsBefore us (b ∷ bs) = goes_on us b ≡ false
+EndsBefore us (b ∷ bs) = lengthens us b ≡ false
 
 -- the token stands at the front: its spelling, which is as long as can be, and what follows it
 abbrev pub StandsFirst : Token → List ℕ → List ℕ → Type 0

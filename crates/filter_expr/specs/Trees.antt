@@ -77,14 +77,14 @@ is_minus token.Minus = true
 is_minus _ = false
 
 -- the token is an opening parenthesis
-abbrev pub is_open : Token → Bool
-is_open token.Open = true
-is_open _ = false
+abbrev pub is_open_paren : Token → Bool
+is_open_paren token.Open = true
+is_open_paren _ = false
 
 -- the token is a closing parenthesis
-abbrev pub is_close : Token → Bool
-is_close token.Close = true
-is_close _ = false
+abbrev pub is_close_paren : Token → Bool
+is_close_paren token.Close = true
+is_close_paren _ = false
 
 -- the token is the end of the text
 abbrev pub is_end : Token → Bool

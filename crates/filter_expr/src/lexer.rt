@@ -4,7 +4,7 @@ ghost use Rattle.std.specs.List.{prefix_len};
 ghost use Rattle.std.specs.Str.{IsCharBoundary};
 ghost use Rattle.farm_base.specs.Digits.{is_digit};
 ghost use Rattle.filter_expr.specs.Spelling.{is_blank, is_letter, is_quote, is_escaped};
-ghost use Rattle.filter_expr.specs.Lexing.{run_test, number_token, number_token_at, word_token, word_at, name_token_at, quoting_len, unescaped, quoted_at, sign_at, less_at, single, token_at, lexed};
+ghost use Rattle.filter_expr.specs.Lexing.{run_test, number_token, number_token_at, word_token, word_at, name_token_at, quoting_len, quoted_text, quoted_at, sign_at, less_at, single, token_at, tokens_from};
 
 use crate::tokens::{PlacedToken, Token, TokenKind, TokenStream};
 use farm_base::{NoMemory, Text};
@@ -25,7 +25,7 @@ pub enum Run {
 /// The tokens of the text, up to its end or to the first byte at which no token stands.
 #[tactic(auto)]
 pub fn tokens(alloc: Global, text: &str) -> Result<TokenStream, NoMemory>
-    ensures { IfOk result (λ s. s ≡ lexed 0 0 text.now) }
+    ensures { IfOk result (λ s. s ≡ tokens_from 0 0 text.now) }
 {
     let bytes = text.as_bytes();
     let mut stream = VecDeque::new(alloc);
@@ -244,7 +244,7 @@ fn quoting_len(quote: u8, bytes: &[u8]) -> Option<usize>
 /// The text without the backslashes before escaped bytes.
 #[tactic(auto, using(crate::proofs::Lexes::cuts, crate::proofs::Lexes::escape_here, crate::proofs::Lexes::escape_none))]
 fn unescaped(alloc: Global, content: &str) -> Result<String, NoMemory>
-    ensures { IfOk result (λ s. string_bytes s ≡ unescaped false content.now) }
+    ensures { IfOk result (λ s. string_bytes s ≡ quoted_text false content.now) }
 {
     let mut out = String::new(alloc);
     let mut rest = content;
@@ -264,7 +264,7 @@ fn unescaped(alloc: Global, content: &str) -> Result<String, NoMemory>
 /// How many bytes behind a backslash are an escaped backslash: one or none.
 #[tactic(auto, using(crate::proofs::Lexes::escape_next, crate::proofs::Lexes::escape_other, crate::proofs::Lexes::escape_cut, crate::proofs::Lexes::escape_no_cut))]
 fn escaped_len(text: &str) -> usize
-    ensures parts { take result text.now ++ unescaped false (drop result text.now) ≡ unescaped true text.now }
+    ensures parts { take result text.now ++ quoted_text false (drop result text.now) ≡ quoted_text true text.now }
     ensures cut { IsCharBoundary text.now result }
 {
     if byte_at(text.as_bytes(), 0) == b'\\' {

@@ -1,6 +1,6 @@
 //! Reads a filter text.
 ghost use Rattle.filter_expr.specs.Seen.{seen};
-ghost use Rattle.filter_expr.specs.Lexing.{lexed};
+ghost use Rattle.filter_expr.specs.Lexing.{tokens_from};
 ghost use Rattle.filter_expr.specs.Reading.{whole_filter};
 ghost use Rattle.filter_expr.specs.inner.Gives.{Answers};
 ghost use Rattle.filter_expr.specs.Filters.{FilterOf, FaultOf, MayAnswer, AnswersTree, AnswersFault, OneTree, SomeAnswer, OneFilter, NotBoth, OneFault, SomeTokenList, OneTokenList};
@@ -39,7 +39,7 @@ pub fn parse(alloc: Global, text: &str) -> Result<Expr, FilterFault>
 /// The reading of all tokens of the text.
 #[tactic(auto, unfolding(crate::specs::Reading::whole_filter))]
 fn read(alloc: Global, text: &str) -> Result<Expr, FilterFault>
-    ensures { Answers seen result (whole_filter (lexed 0 0 text.now)) }
+    ensures { Answers seen result (whole_filter (tokens_from 0 0 text.now)) }
 {
     let mut stream = tokens(alloc, text)?;
     let filter = chain(alloc, &mut stream, DEPTH, Connective::Or)?;

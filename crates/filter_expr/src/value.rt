@@ -1,6 +1,6 @@
 //! Values of filters, and what the operators make of them.
 ghost use Rattle.std.specs.Prelude.{◌≡◌, int_rem};
-ghost use Rattle.plain_filters.specs.Values.{truth, same, below, ordered, compares, sum_of, product_of, negated, attribute, divided_by, fitting};
+ghost use Rattle.plain_filters.specs.Values.{truth, same, below, have_order, compares, sum_of, product_of, negative_of, attribute, divided_by, whole_or_null};
 ghost use Rattle.filter_expr.specs.inner.Shown.{plain, plain_number};
 
 use farm_base::{Attr, Value};
@@ -65,7 +65,7 @@ fn same(v: ValueRef<'_>, w: ValueRef<'_>) -> bool
 }
 
 fn ordered(v: ValueRef<'_>, w: ValueRef<'_>) -> bool
-    ensures { result ≡ ordered (plain v.entry) (plain w.entry) }
+    ensures { result ≡ have_order (plain v.entry) (plain w.entry) }
 {
     match (v, w) {
         (ValueRef::Truth(_), ValueRef::Truth(_)) => true,
@@ -140,14 +140,14 @@ pub fn product_of<'a>(sign: ProductSign, v: ValueRef<'a>, w: ValueRef<'a>) -> Va
 /// The rest of the division with the dividend's sign; none for the divisor 0. The rest by -1 is 0 also
 /// where the quotient has no room.
 fn rest(x: i64, y: i64) -> Option<i64>
-    ensures { plain_number result ≡ divided_by y (fitting (int_rem x y)) }
+    ensures { plain_number result ≡ divided_by y (whole_or_null (int_rem x y)) }
 {
     if y == -1 { Some(0) } else { x.checked_rem(y) }
 }
 
 /// The value with its sign turned round: the exact result, or null.
 pub fn negated<'a>(v: ValueRef<'a>) -> ValueRef<'a>
-    ensures { plain result ≡ negated (plain v.entry) }
+    ensures { plain result ≡ negative_of (plain v.entry) }
 {
     sum_of(SumSign::Minus, ValueRef::Whole(0), v)
 }

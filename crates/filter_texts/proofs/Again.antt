@@ -14,10 +14,10 @@ use Rattle.filter_expr.specs.declared.tokens.PlacedToken.{PlacedToken}
 use Rattle.filter_expr.specs.Trees.{Kind, Tree, Terms, leaf, negation, negative, comparison, chain, parens, no_terms, term, or_chain, and_chain, sum_chain, product_chain, joins, sign_token, is_leaf, bare, bare_terms, nesting, nesting_terms, InRange, TermsInRange}
 use Rattle.filter_expr.specs.Seen.{shape}
 use Rattle.farm_base.specs.Digits.{is_digit, number_after}
-use Rattle.filter_expr.specs.Spelling.{IsDigits, number_of, IsQuoting, Spells, begins_with, EndsBefore, AreTokens, TokensOf}
+use Rattle.filter_expr.specs.Spelling.{IsDigits, digits_number, IsQuoting, Spells, begins_with, EndsBefore, AreTokens, TokensOf}
 use Rattle.filter_expr.specs.Grammar.{IsSpelled, AreSpelled, kind_strength, strength, IsMany, Stands, StandTerms}
 use Rattle.filter_expr.specs.Filters.{IsFilter, FilterOf}
-use Rattle.filter_texts.specs.Written.{escaped_text, spelling, guarded, shown, shown_terms, tokens_in, tokens_of_terms, put_tokens, written, ReadsAgain, AnswersAgain, IsKnownByText}
+use Rattle.filter_texts.specs.Written.{escaped_text, spelling, parens_below, shown, shown_terms, tokens_in, tokens_of_terms, put_tokens, filter_text, ReadsAgain, AnswersAgain, IsKnownByText}
 use Rattle.filter_expr.proofs.Complete.{stands_down}
 use Rattle.filter_expr.proofs.Spelled.{wrong, split_bool, end_digits, both_true}
 use Rattle.filter_expr.proofs.Lexemes.{bracket_ends, quote_ends}
@@ -27,7 +27,7 @@ use Rattle.filter_expr.proofs.Rows.{strength_below, or_signs, and_signs, sum_sig
 
 -- ---- the tree with its parentheses
 
-bare_guarded : (l : ℕ) (e : Tree) → bare (guarded l e) ≡ bare e
+bare_guarded : (l : ℕ) (e : Tree) → bare (parens_below l e) ≡ bare e
 bare_guarded l e = by (nat_lt (strength e) l)
   where
     by : (b : Bool) → bare (if b then parens e else e) ≡ bare e
@@ -40,7 +40,7 @@ mutual
   bare_shown (negation e) = ap negation (bare_guarded 2 (shown e) ∙ bare_shown e)
   bare_shown (negative e) = ap negative (bare_guarded 6 (shown e) ∙ bare_shown e)
   bare_shown (comparison a c b) =
-      ap (λ x. comparison x c (bare (guarded 4 (shown b)))) (bare_guarded 4 (shown a) ∙ bare_shown a) ∙ ap (comparison (bare a) c) (bare_guarded 4 (shown b) ∙ bare_shown b)
+      ap (λ x. comparison x c (bare (parens_below 4 (shown b)))) (bare_guarded 4 (shown a) ∙ bare_shown a) ∙ ap (comparison (bare a) c) (bare_guarded 4 (shown b) ∙ bare_shown b)
   bare_shown (chain k e ts) =
       ap (λ x. chain k x (bare_terms (shown_terms k ts))) (bare_guarded (kind_strength k + 1) (shown e) ∙ bare_shown e) ∙ ap (chain k (bare e)) (bare_shown_terms k ts)
   bare_shown (parens e) = bare_shown e
@@ -54,19 +54,19 @@ mutual
 mutual
   shown_bare : (e : Tree) → shown (bare e) ≡ shown e
   shown_bare (leaf t) = refl
-  shown_bare (negation e) = ap (λ x. negation (guarded 2 x)) (shown_bare e)
-  shown_bare (negative e) = ap (λ x. negative (guarded 6 x)) (shown_bare e)
-  shown_bare (comparison a c b) = ap (λ x. comparison (guarded 4 x) c (guarded 4 (shown (bare b)))) (shown_bare a) ∙ ap (λ x. comparison (guarded 4 (shown a)) c (guarded 4 x)) (shown_bare b)
+  shown_bare (negation e) = ap (λ x. negation (parens_below 2 x)) (shown_bare e)
+  shown_bare (negative e) = ap (λ x. negative (parens_below 6 x)) (shown_bare e)
+  shown_bare (comparison a c b) = ap (λ x. comparison (parens_below 4 x) c (parens_below 4 (shown (bare b)))) (shown_bare a) ∙ ap (λ x. comparison (parens_below 4 (shown a)) c (parens_below 4 x)) (shown_bare b)
   shown_bare (chain k e ts) =
-      ap (λ x. chain k (guarded (kind_strength k + 1) x) (shown_terms k (bare_terms ts))) (shown_bare e) ∙ ap (chain k (guarded (kind_strength k + 1) (shown e))) (shown_bare_terms k ts)
+      ap (λ x. chain k (parens_below (kind_strength k + 1) x) (shown_terms k (bare_terms ts))) (shown_bare e) ∙ ap (chain k (parens_below (kind_strength k + 1) (shown e))) (shown_bare_terms k ts)
   shown_bare (parens e) = shown_bare e
 
   shown_bare_terms : (k : Kind) (ts : Terms) → shown_terms k (bare_terms ts) ≡ shown_terms k ts
   shown_bare_terms k no_terms = refl
   shown_bare_terms k (term t e ts) =
-      ap (λ x. term t (guarded (kind_strength k + 1) x) (shown_terms k (bare_terms ts))) (shown_bare e) ∙ ap (term t (guarded (kind_strength k + 1) (shown e))) (shown_bare_terms k ts)
+      ap (λ x. term t (parens_below (kind_strength k + 1) x) (shown_terms k (bare_terms ts))) (shown_bare e) ∙ ap (term t (parens_below (kind_strength k + 1) (shown e))) (shown_bare_terms k ts)
 
-guarded_stands : (l : ℕ) (e : Tree) → Stands (strength e) e → Stands l (guarded l e)
+guarded_stands : (l : ℕ) (e : Tree) → Stands (strength e) e → Stands l (parens_below l e)
 guarded_stands l e s = by (nat_lt (strength e) l) refl
   where
     by : (b : Bool) → nat_lt (strength e) l ≡ b → Stands l (if b then parens e else e)
@@ -91,7 +91,7 @@ mutual
   terms_stand k no_terms s = s
   terms_stand k (term t e ts) s = (s.0, guarded_stands (kind_strength k + 1) (shown e) (shown_stands e (kind_strength k + 1) s.1), terms_stand k ts s.2)
 
-guarded_range : (l : ℕ) (e : Tree) → InRange e → InRange (guarded l e)
+guarded_range : (l : ℕ) (e : Tree) → InRange e → InRange (parens_below l e)
 guarded_range l e r = by (nat_lt (strength e) l)
   where
     by : (b : Bool) → InRange (if b then parens e else e)
@@ -112,14 +112,14 @@ mutual
   terms_range k (term t e ts) r = (guarded_range (kind_strength k + 1) (shown e) (shown_range e r.0), terms_range k ts r.1)
 
 -- parentheses are put only where the tree had some
-guarded_most : (l : ℕ) (e : Tree) → nesting (guarded l e) ≤ 1 + nesting e
+guarded_most : (l : ℕ) (e : Tree) → nesting (parens_below l e) ≤ 1 + nesting e
 guarded_most l e = by (nat_lt (strength e) l)
   where
     by : (b : Bool) → nesting (if b then parens e else e) ≤ 1 + nesting e
     by true = omega arith
     by false = omega arith
 
-unguarded : (l : ℕ) (e : Tree) → l ≤ strength e → nesting (guarded l e) ≡ nesting e
+unguarded : (l : ℕ) (e : Tree) → l ≤ strength e → nesting (parens_below l e) ≡ nesting e
 unguarded l e h = ap (λ b. nesting (if b then parens e else e)) (le-ltb (strength e) l h)
 
 mutual
@@ -131,7 +131,7 @@ mutual
   shown_nests (chain k e ts) l s = omega (arith, part_nests e (kind_strength k + 1) (omega (arith, strength_below k)) s.1, terms_nest k ts s.3)
   shown_nests (parens e) l s = omega (arith, shown_nests e 0 s)
 
-  part_nests : (e : Tree) (l : ℕ) → l ≤ 7 → Stands l e → nesting (guarded l (shown e)) ≤ nesting e
+  part_nests : (e : Tree) (l : ℕ) → l ≤ 7 → Stands l e → nesting (parens_below l (shown e)) ≤ nesting e
   part_nests (leaf t) l h s = omega (arith, unguarded l (leaf t) h)
   part_nests (negation e) l h s = omega (arith, unguarded l (shown (negation e)) s.0, part_nests e 2 (omega arith) s.1)
   part_nests (negative e) l h s = omega (arith, unguarded l (shown (negative e)) s.0, part_nests e 6 (omega arith) s.1)
@@ -193,7 +193,7 @@ quoting (b ∷ bs) = (escaped_text bs, quoting bs, by (b == 39 || b == 92) refl)
 record Digits (n : ℕ) (ds : List ℕ) : Type 0 where
   some : 0 < length ds
   digits : list_all is_digit ds ≡ true
-  value : number_of ds ≡ n
+  value : digits_number ds ≡ n
 
 list_all_both : (p : ℕ → Bool) (xs ys : List ℕ) → list_all p xs ≡ true → list_all p ys ≡ true → list_all p (xs ++ ys) ≡ true
 list_all_both p [] ys h g = g
@@ -234,7 +234,7 @@ number_said n h =
 said : (t : Token) (us : List ℕ) → Spells t us → is_leaf t ≡ true → Said t
 said (token.Name n) us s e = (refl, s.1, s.2)
 said (token.Quoted t) us s e = (39, escaped_text t, refl, refl, quoting t)
-said (token.Number z) us s e = subst (λ x. Said (token.Number x)) (sym s.1) (number_said (number_of us) s.2)
+said (token.Number z) us s e = subst (λ x. Said (token.Number x)) (sym s.1) (number_said (digits_number us) s.2)
 said token.True us s e = refl
 said token.False us s e = refl
 said token.Null us s e = refl
@@ -267,7 +267,7 @@ heard_second : (xs ys : List PlacedToken) → Heard (xs ++ ys) → Heard ys
 heard_second [] ys h = h
 heard_second (s ∷ xs) ys h = heard_second xs ys h.1
 
-guarded_said : (l : ℕ) (e : Tree) → AllSaid (tokens_in e) → AllSaid (tokens_in (guarded l e))
+guarded_said : (l : ℕ) (e : Tree) → AllSaid (tokens_in e) → AllSaid (tokens_in (parens_below l e))
 guarded_said l e h = by (nat_lt (strength e) l)
   where
     by : (b : Bool) → AllSaid (tokens_in (if b then parens e else e))
@@ -287,12 +287,12 @@ mutual
       (refl, guarded_said 6 (shown e) (shown_said e 6 p.1 s.1 r p.4 heard.1))
   shown_said (comparison a c b) l us s r p h =
       let heard : Heard (p.0 ++ p.1 ∷ p.2) = subst Heard p.3 h in
-      said_both (tokens_in (guarded 4 (shown a))) (token.Compare c ∷ tokens_in (guarded 4 (shown b)))
+      said_both (tokens_in (parens_below 4 (shown a))) (token.Compare c ∷ tokens_in (parens_below 4 (shown b)))
       (guarded_said 4 (shown a) (shown_said a 4 p.0 s.1 r.0 p.5 (heard_first p.0 (p.1 ∷ p.2) heard)))
       (compare_said c, guarded_said 4 (shown b) (shown_said b 4 p.2 s.2 r.1 p.6 (heard_second p.0 (p.1 ∷ p.2) heard).1))
   shown_said (chain k e ts) l us s r p h =
       let heard : Heard (p.0 ++ p.1) = subst Heard p.2 h in
-      said_both (tokens_in (guarded (kind_strength k + 1) (shown e))) (tokens_of_terms (shown_terms k ts))
+      said_both (tokens_in (parens_below (kind_strength k + 1) (shown e))) (tokens_of_terms (shown_terms k ts))
       (guarded_said (kind_strength k + 1) (shown e) (shown_said e (kind_strength k + 1) p.0 s.1 r.0 p.3 (heard_first p.0 p.1 heard)))
       (terms_said ts k p.1 s.3 r.1 p.4 (heard_second p.0 p.1 heard))
   shown_said (parens e) l us s r p h =
@@ -304,7 +304,7 @@ mutual
   terms_said (term t e ts) k us s r p h =
       let heard : Heard (p.0 ∷ (p.1 ++ p.2)) = subst Heard p.3 h in (
         sign_said k (sign_token t) s.0,
-        said_both (tokens_in (guarded (kind_strength k + 1) (shown e))) (tokens_of_terms (shown_terms k ts))
+        said_both (tokens_in (parens_below (kind_strength k + 1) (shown e))) (tokens_of_terms (shown_terms k ts))
             (guarded_said (kind_strength k + 1) (shown e) (shown_said e (kind_strength k + 1) p.1 s.1 r.0 p.5 (heard_first p.1 p.2 heard.1)))
             (terms_said ts k p.2 s.2 r.1 p.6 (heard_second p.1 p.2 heard.1)),
       )
@@ -512,7 +512,7 @@ written_again text t f =
 -- ---- what follows
 
 pub answered_again : AnswersAgain
-answered_again text e m r n = answers_tree (written (tree_of e)) r n (tree_of e) (written_again text (tree_of e) m)
+answered_again text e m r n = answers_tree (filter_text (tree_of e)) r n (tree_of e) (written_again text (tree_of e) m)
 
 pub known_by_text : IsKnownByText
-known_by_text a b s t f g same = one_filter (written s) s t (written_again a s f) (subst (λ w. FilterOf w t) (sym same) (written_again b t g))
+known_by_text a b s t f g same = one_filter (filter_text s) s t (written_again a s f) (subst (λ w. FilterOf w t) (sym same) (written_again b t g))

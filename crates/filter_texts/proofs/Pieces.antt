@@ -17,7 +17,7 @@ use Rattle.filter_expr.specs.Grammar.{kind_strength, strength}
 use Rattle.filter_expr.proofs.SeenLemmas.{listed, seen-Or, seen-And, seen-Not, seen-Compare, seen-Sum, seen-Product, seen-Negate, seen-Name, seen-Text, seen-Number, seen-Truth, seen-Null}
 use Rattle.filter_expr.specs.inner.SeenParts.{seen_sum, seen_product}
 use Rattle.filter_expr.proofs.Turns.{left_here}
-use Rattle.filter_texts.specs.Written.{spelling, guarded, shown, shown_terms, tokens_in, tokens_of_terms, put_behind, put_tokens}
+use Rattle.filter_texts.specs.Written.{spelling, parens_below, shown, shown_terms, tokens_in, tokens_of_terms, put_behind, put_tokens}
 use Rattle.filter_texts.specs.inner.Pieces.{put_form, put_tree, put_parts, put_list, put_terms}
 
 put_both : (out : List ℕ) (ts us : List Token) → put_tokens out (ts ++ us) ≡ put_tokens (put_tokens out ts) us
@@ -29,14 +29,14 @@ put_both out (t ∷ ts) us = put_both (put_behind out (spelling t)) ts us
 terms_put : (k : Kind) (ps : List Part) (out : List ℕ) → put_tokens out (tokens_of_terms (shown_terms k (terms_of ps))) ≡ put_terms (kind_strength k + 1) ps out
 terms_put k [] out = refl
 terms_put k (p ∷ ps) out =
-    put_both (put_behind out (spelling (sign_token p.0))) (tokens_in (guarded (kind_strength k + 1) (shown p.1))) (tokens_of_terms (shown_terms k (terms_of ps)))
+    put_both (put_behind out (spelling (sign_token p.0))) (tokens_in (parens_below (kind_strength k + 1) (shown p.1))) (tokens_of_terms (shown_terms k (terms_of ps)))
     ∙ terms_put k ps (put_tree (kind_strength k + 1) p.1 (put_behind out (spelling (sign_token p.0))))
 
 parts_put : (t : JoinSign) (l : ℕ) (xs : List Tree) (out : List ℕ) → put_terms l (behind t xs) out ≡ put_parts (spelling (sign_token t)) l xs out
 parts_put t l [] out = refl
 parts_put t l (x ∷ xs) out = parts_put t l xs (put_tree l x (put_behind out (spelling (sign_token t))))
 
-nothing_put : (k : Kind) (out : List ℕ) → put_tokens out (tokens_in (guarded (kind_strength k + 1) (leaf token.End)) ++ []) ≡ put_behind out []
+nothing_put : (k : Kind) (out : List ℕ) → put_tokens out (tokens_in (parens_below (kind_strength k + 1) (leaf token.End)) ++ []) ≡ put_behind out []
 nothing_put or_chain out = refl
 nothing_put and_chain out = refl
 nothing_put sum_chain out = refl
@@ -45,13 +45,13 @@ nothing_put product_chain out = refl
 list_put : (k : Kind) (t : JoinSign) (xs : List Tree) (out : List ℕ) → put_form (listed k t xs) out ≡ put_list (spelling (sign_token t)) (kind_strength k + 1) xs out
 list_put k t [] out = nothing_put k out
 list_put k t (x ∷ xs) out =
-    put_both out (tokens_in (guarded (kind_strength k + 1) (shown x))) (tokens_of_terms (shown_terms k (terms_of (behind t xs))))
+    put_both out (tokens_in (parens_below (kind_strength k + 1) (shown x))) (tokens_of_terms (shown_terms k (terms_of (behind t xs))))
     ∙ terms_put k (behind t xs) (put_tree (kind_strength k + 1) x out) ∙ parts_put t (kind_strength k + 1) xs (put_tree (kind_strength k + 1) x out)
 
 chain_put : (k : Kind) (e : Tree) (ps : List Part) (out : List ℕ)
-    → put_tokens out (tokens_in (guarded (kind_strength k + 1) (shown e)) ++ tokens_of_terms (shown_terms k (terms_of ps))) ≡ put_terms (kind_strength k + 1) ps (put_tree (kind_strength k + 1) e out)
+    → put_tokens out (tokens_in (parens_below (kind_strength k + 1) (shown e)) ++ tokens_of_terms (shown_terms k (terms_of ps))) ≡ put_terms (kind_strength k + 1) ps (put_tree (kind_strength k + 1) e out)
 chain_put k e ps out =
-    put_both out (tokens_in (guarded (kind_strength k + 1) (shown e))) (tokens_of_terms (shown_terms k (terms_of ps))) ∙ terms_put k ps (put_tree (kind_strength k + 1) e out)
+    put_both out (tokens_in (parens_below (kind_strength k + 1) (shown e))) (tokens_of_terms (shown_terms k (terms_of ps))) ∙ terms_put k ps (put_tree (kind_strength k + 1) e out)
 
 -- ---- forms
 
@@ -67,7 +67,7 @@ form-Not out b = ap (λ e. put_form e out) (seen-Not b)
 pub form-Compare : (out : List ℕ) (a : Box Expr Global) (s : CompareSign) (b : Box Expr Global)
     → put_form (seen (node.Compare a s b)) out ≡ put_tree 4 (seen b.value) (put_behind (put_tree 4 (seen a.value) out) (spelling (token.Compare s)))
 form-Compare out a s b =
-    ap (λ e. put_form e out) (seen-Compare a s b) ∙ put_both out (tokens_in (guarded 4 (shown (seen a.value)))) (token.Compare s ∷ tokens_in (guarded 4 (shown (seen b.value))))
+    ap (λ e. put_form e out) (seen-Compare a s b) ∙ put_both out (tokens_in (parens_below 4 (shown (seen a.value)))) (token.Compare s ∷ tokens_in (parens_below 4 (shown (seen b.value))))
 
 pub form-Sum : (out : List ℕ) (b : Box Expr Global) (v : Vec SumPart Global) → put_form (seen (node.Sum b v)) out ≡ put_terms 5 (map seen_sum v.items) (put_tree 5 (seen b.value) out)
 form-Sum out b v = ap (λ e. put_form e out) (seen-Sum b v) ∙ chain_put sum_chain (seen b.value) (map seen_sum v.items) out

@@ -46,23 +46,23 @@ spelling token.End = []
 spelling token.Unknown = []
 
 -- the tree, in parentheses where it binds too weakly for its place
-abbrev pub guarded : ℕ → Tree → Tree
-guarded l e = if nat_lt (strength e) l then parens e else e
+abbrev pub parens_below : ℕ → Tree → Tree
+parens_below l e = if nat_lt (strength e) l then parens e else e
 
 -- the tree with parentheses only where they are needed
 abbrev mutual
   pub shown : Tree → Tree
   shown (leaf t) = leaf t
-  shown (negation e) = negation (guarded 2 (shown e))
-  shown (negative e) = negative (guarded 6 (shown e))
-  shown (comparison a c b) = comparison (guarded 4 (shown a)) c (guarded 4 (shown b))
-  shown (chain k e ts) = chain k (guarded (kind_strength k + 1) (shown e)) (shown_terms k ts)
+  shown (negation e) = negation (parens_below 2 (shown e))
+  shown (negative e) = negative (parens_below 6 (shown e))
+  shown (comparison a c b) = comparison (parens_below 4 (shown a)) c (parens_below 4 (shown b))
+  shown (chain k e ts) = chain k (parens_below (kind_strength k + 1) (shown e)) (shown_terms k ts)
   shown (parens e) = shown e
 
   -- the later parts of a chain with parentheses only where they are needed
   pub shown_terms : Kind → Terms → Terms
   shown_terms k no_terms = no_terms
-  shown_terms k (term s e ts) = term s (guarded (kind_strength k + 1) (shown e)) (shown_terms k ts)
+  shown_terms k (term s e ts) = term s (parens_below (kind_strength k + 1) (shown e)) (shown_terms k ts)
 
 -- the tokens of a tree
 abbrev mutual
@@ -90,20 +90,20 @@ put_tokens out [] = out
 put_tokens out (t ∷ ts) = put_tokens (put_behind out (spelling t)) ts
 
 -- the text of a filter
-abbrev pub written : FilterTree → List ℕ
-written t = put_tokens [] (tokens_in (shown (shape t)))
+abbrev pub filter_text : FilterTree → List ℕ
+filter_text t = put_tokens [] (tokens_in (shown (shape t)))
 
 -- ---- laws
 
 -- a filter that some text says is said by what is written of it
 abbrev pub ReadsAgain : Type 0
-ReadsAgain = (text : List ℕ) (t : FilterTree) → FilterOf text t → FilterOf (written t) t
+ReadsAgain = (text : List ℕ) (t : FilterTree) → FilterOf text t → FilterOf (filter_text t) t
 
 -- a filter that may be answered for some text is answered again for what is written of it, but for want of memory
 abbrev pub AnswersAgain : Type 0
 AnswersAgain =
-    (text : List ℕ) (e : Expr) → MayAnswer text (Ok e) → (r : Result Expr FilterFault) → MayAnswer (written (tree_of e)) r → AnswersTree (tree_of e) r
+    (text : List ℕ) (e : Expr) → MayAnswer text (Ok e) → (r : Result Expr FilterFault) → MayAnswer (filter_text (tree_of e)) r → AnswersTree (tree_of e) r
 
 -- two filters of texts that are written alike are one
 abbrev pub IsKnownByText : Type 0
-IsKnownByText = (a b : List ℕ) (s t : FilterTree) → FilterOf a s → FilterOf b t → written s ≡ written t → s ≡ t
+IsKnownByText = (a b : List ℕ) (s t : FilterTree) → FilterOf a s → FilterOf b t → filter_text s ≡ filter_text t → s ≡ t

@@ -5,14 +5,14 @@ ghost use Rattle.filter_expr.specs.Trees.{sum_token, product_token};
 ghost use Rattle.filter_expr.specs.Grammar.{strength};
 ghost use Rattle.filter_expr.specs.Seen.{seen, truth_token};
 ghost use Rattle.filter_texts.specs.Written.{escaped_text, spelling, put_behind, shown};
-ghost use Rattle.filter_texts.specs.inner.Pieces.{spaced, escaped_char};
+ghost use Rattle.filter_texts.specs.inner.Pieces.{with_space, escaped_char};
 
 use farm_base::NoMemory;
 use plain_filters::{CompareSign, Expr, ProductSign, SumSign};
 
 /// The space before the next word; none before the first.
 fn put_space(out: &mut String) -> Result<(), NoMemory>
-    ensures { OnOk result (string_bytes out.new ≡ spaced (string_bytes out.old)) }
+    ensures { OnOk result (string_bytes out.new ≡ with_space (string_bytes out.old)) }
 {
     if out.is_empty() {
         return Ok(());

@@ -4,7 +4,7 @@ ghost use Rattle.plain_filters.specs.Filters.{tree_of};
 ghost use Rattle.filter_expr.specs.Seen.{seen};
 ghost use Rattle.filter_expr.specs.Filters.{FilterOf};
 ghost use Rattle.filter_expr.specs.inner.SeenParts.{seen_sum, seen_product};
-ghost use Rattle.filter_texts.specs.Written.{written};
+ghost use Rattle.filter_texts.specs.Written.{filter_text};
 ghost use Rattle.filter_texts.specs.inner.Pieces as piece;
 ghost use Rattle.filter_texts.specs.inner.Pieces.{put_tree, put_terms};
 
@@ -22,7 +22,7 @@ use std::alloc::Global;
 /// of none, or a number below 0 is written too, and that text is another filter or none. Linear in the
 /// text, and no deeper than the filter.
 pub fn write(alloc: Global, e: &Expr) -> Result<Text, NoMemory>
-    ensures text { IfOk result (λ t. t ≡ written (tree_of e.now)) }
+    ensures text { IfOk result (λ t. t ≡ filter_text (tree_of e.now)) }
     ensures again { IfOk result (λ t. (text : List ℕ) → FilterOf text (tree_of e.now) → FilterOf t (tree_of e.now)) }
 {
     let mut out = String::new(alloc);

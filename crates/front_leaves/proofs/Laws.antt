@@ -14,7 +14,7 @@ use Rattle.port_trait.specs.Told.{PortsTold}
 use Rattle.front_rounds.specs.Rules.{Rules, Move, Gets}
 use Rattle.front_rounds.specs.Steps.{Step, Came, Did, Got, Through, Tried, Left, own}
 use Rattle.front_rounds.specs.Rounds.{Sound}
-use Rattle.front_rounds.specs.Serving.{EndFits, BreakFits, RestsFit, TellsOf, with_break}
+use Rattle.front_rounds.specs.Serving.{EndHasCause, BreakFits, RestsFit, TellsOf, with_break}
 use Rattle.front_rounds.specs.Parts.{told_after}
 use Rattle.renderd_front.specs.Renderd.{rules_of as renderd_rules}
 use Rattle.renderd_front.proofs.Sorts as renderd
@@ -23,7 +23,7 @@ use Rattle.control_lines.proofs.Sorts as control
 use Rattle.tile_pages.specs.Tiles.{rules_of as tile_rules}
 use Rattle.tile_pages.proofs.OwnEntries as tiles
 use Rattle.farm_threads.specs.Actors.{IsOfFront, AreOfFront, IsUnbegun}
-use Rattle.front_leaves.specs.Fronts.{Leaves, renderd_leaves, tiles_leave, control_leaves}
+use Rattle.front_leaves.specs.Fronts.{FrontLeaves, renderd_leaves, tiles_leave, control_leaves}
 use Rattle.farm_history.proofs.Lists.{each-join}
 
 -- Which entries are of no front, as a test.
@@ -54,7 +54,7 @@ each_of_front n (e ∷ es) none = go (is_foreign n e) refl (each_of_front n es) 
 
 -- What is so of every front.
 
-may_stop : {A W : Type 0} (R : Rules A W) (ss : List (Step A)) (stop : List Entry) (worn : Bool) (end : FrontEnd) → EndFits R end ss stop worn → (stop ≡ []) ⊎ ((stop ≡ Stop ∷ []) × (end ≢ FrontEnd.Finished))
+may_stop : {A W : Type 0} (R : Rules A W) (ss : List (Step A)) (stop : List Entry) (worn : Bool) (end : FrontEnd) → EndHasCause R end ss stop worn → (stop ≡ []) ⊎ ((stop ≡ Stop ∷ []) × (end ≢ FrontEnd.Finished))
 may_stop R ss stop worn FrontEnd.Finished fits = inl fits.2
 may_stop R ss stop worn FrontEnd.Stopped fits = inr (fits.2, λ never. cc)
 may_stop R ss stop worn FrontEnd.Broken fits = inr (fits.2, λ never. cc)
@@ -62,8 +62,8 @@ may_stop R ss stop worn FrontEnd.NoMemory fits = inr (fits.2, λ never. cc)
 may_stop R ss stop worn FrontEnd.Worn fits = inl fits.1
 
 module _ {A W : Type 0} (R : Rules A W) where
-  pub marked : (shown after : Outside PortsTold) (es : List Entry) (done : FrontDone) (worn : Bool) → Leaves R shown after es done worn → done.end ≡ FrontEnd.Worn → worn ≡ true
-  marked shown after es done worn left is = (subst (λ end. EndFits R end left.served.steps left.served.stop worn) is left.served.end_fits).0
+  pub marked : (shown after : Outside PortsTold) (es : List Entry) (done : FrontDone) (worn : Bool) → FrontLeaves R shown after es done worn → done.end ≡ FrontEnd.Worn → worn ≡ true
+  marked shown after es done worn left is = (subst (λ end. EndHasCause R end left.served.steps left.served.stop worn) is left.served.end_fits).0
 
   -- the entries of each step are a front's
   module _ (n : ℕ) (acts : (c : ℕ) (a : A) → Each (IsOfFront n) (R.entries c a)) (behinds : (ms : List (Move A)) (r : Reply) (behind : List Entry) → R.fits ms (Gets r behind) ≡ true → Each (IsOfFront n) behind) where
@@ -76,7 +76,7 @@ module _ {A W : Type 0} (R : Rules A W) where
     each_own (Tried c taken ∷ ss) sound = each_own ss sound.1
     each_own (Left c asks why ∷ ss) sound = each-join (IsOfFront n) (own R ss) _ (each_own ss sound.1) (tt, tt)
 
-    kinds : (shown after : Outside PortsTold) (es : List Entry) (done : FrontDone) (worn : Bool) → Leaves R shown after es done worn → AreOfFront n es done.end
+    kinds : (shown after : Outside PortsTold) (es : List Entry) (done : FrontDone) (worn : Bool) → FrontLeaves R shown after es done worn → AreOfFront n es done.end
     kinds shown after es done worn left = record {
       served = own R left.served.steps;
       stop = left.served.stop;
@@ -96,7 +96,7 @@ module _ {A W : Type 0} (R : Rules A W) where
   tells (Some t) = λ c. (sym (append-nil (t.taken c)), λ closed. closed)
 
   -- it has made no step
-  no_steps : (shown : Outside PortsTold) (es stop : List Entry) (done : FrontDone) (worn : Bool) → es ≡ stop → EndFits R done.end [] stop worn → RestsFit R done.end [] done.rests.items → done.end ≢ FrontEnd.Broken → done.starved ≡ 0 → Leaves R shown shown es done worn
+  no_steps : (shown : Outside PortsTold) (es stop : List Entry) (done : FrontDone) (worn : Bool) → es ≡ stop → EndHasCause R done.end [] stop worn → RestsFit R done.end [] done.rests.items → done.end ≢ FrontEnd.Broken → done.starved ≡ 0 → FrontLeaves R shown shown es done worn
   no_steps shown es stop done worn are fits rests whole none = record {
     served = record {
       steps = [];
@@ -122,15 +122,15 @@ module _ {A W : Type 0} (R : Rules A W) where
       unbroken FrontEnd.NoMemory not_so = refl
       unbroken FrontEnd.Worn not_so = tt
 
-  pub unbegun : (shown : Outside PortsTold) (es : List Entry) (done : FrontDone) (worn : Bool) → IsUnbegun es done worn → Leaves R shown shown es done worn
+  pub unbegun : (shown : Outside PortsTold) (es : List Entry) (done : FrontDone) (worn : Bool) → IsUnbegun es done worn → FrontLeaves R shown shown es done worn
   unbegun shown es done worn is = go is.ended
     where
-      go : ((es ≡ Stop ∷ []) × (done.end ≡ FrontEnd.NoMemory)) ⊎ ((es ≡ []) × (done.end ≡ FrontEnd.Worn) × (worn ≡ true)) → Leaves R shown shown es done worn
+      go : ((es ≡ Stop ∷ []) × (done.end ≡ FrontEnd.NoMemory)) ⊎ ((es ≡ []) × (done.end ≡ FrontEnd.Worn) × (worn ≡ true)) → FrontLeaves R shown shown es done worn
       go (inl a) =
-          no_steps shown es (Stop ∷ []) done worn a.0 (subst (λ end. EndFits R end [] (Stop ∷ []) worn) (sym a.1) ((λ c here. cc), tt, refl)) (subst (λ end. RestsFit R end [] done.rests.items) (sym a.1) is.no_rests)
+          no_steps shown es (Stop ∷ []) done worn a.0 (subst (λ end. EndHasCause R end [] (Stop ∷ []) worn) (sym a.1) ((λ c here. cc), tt, refl)) (subst (λ end. RestsFit R end [] done.rests.items) (sym a.1) is.no_rests)
           (λ broken. let never = sym a.1 ∙ broken in cc) is.none_starved
       go (inr a) =
-          no_steps shown es [] done worn a.0 (subst (λ end. EndFits R end [] [] worn) (sym a.1) (a.2, refl)) (subst (λ end. RestsFit R end [] done.rests.items) (sym a.1) (subst (Each (λ (r : Rest). r.front ≡ R.number)) (sym is.no_rests) tt))
+          no_steps shown es [] done worn a.0 (subst (λ end. EndHasCause R end [] [] worn) (sym a.1) (a.2, refl)) (subst (λ end. RestsFit R end [] done.rests.items) (sym a.1) (subst (Each (λ (r : Rest). r.front ≡ R.number)) (sym is.no_rests) tt))
           (λ broken. let never = sym a.1 ∙ broken in cc) is.none_starved
 
 -- The three fronts.

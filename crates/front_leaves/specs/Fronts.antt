@@ -14,18 +14,18 @@ use Rattle.control_lines.specs.Control.{rules_of as control_rules}
 use Rattle.farm_threads.specs.Actors.{Leaving}
 
 -- What a front with these rules leaves: its own entries, what its ports tell and what it hands back are those of its rounds; and it ends Broken only where its ports' count of faults rose
-pub record Leaves {A W : Type 0} (R : Rules A W) (shown after : Outside PortsTold) (es : List Entry) (done : FrontDone) (worn : Bool) : Type 0 where
+pub record FrontLeaves {A W : Type 0} (R : Rules A W) (shown after : Outside PortsTold) (es : List Entry) (done : FrontDone) (worn : Bool) : Type 0 where
   pub served : Serves R shown.told after.told es done.end done.rests.items done.starved worn
   pub broken : done.end ≡ FrontEnd.Broken → Counted shown.faults after.faults
 
 -- the renderd front, number 0, of a farm that has the maps of these names
 abbrev pub renderd_leaves : (List ℕ → Option ℕ) → Leaving
-renderd_leaves maps = Leaves (renderd_rules 0 maps)
+renderd_leaves maps = FrontLeaves (renderd_rules 0 maps)
 
 -- the tile front, number 1
 abbrev pub tiles_leave : (List ℕ → Option ℕ) → Leaving
-tiles_leave maps = Leaves (tile_rules 1 maps)
+tiles_leave maps = FrontLeaves (tile_rules 1 maps)
 
 -- the control front, number 2, with these tile lists
 abbrev pub control_leaves : List (List Tile) → Leaving
-control_leaves lists = Leaves (control_rules 2 lists)
+control_leaves lists = FrontLeaves (control_rules 2 lists)

@@ -9,14 +9,14 @@ use Rattle.port_trait.specs.declared.ends.FrontEnd.{FrontEnd}
 use Rattle.port_trait.specs.declared.ends.FrontEnd.TheVariants as ended
 use Rattle.port_trait.specs.Told.{PortsTold, Hears, heard, EventCounts}
 use Rattle.farm_base.specs.Outside.{Counted}
-use Rattle.port_trait.specs.Boxes.{rest_at, rest_of, handed}
+use Rattle.port_trait.specs.Boxes.{rest_at, rest_of, as_rest}
 use Rattle.front_rounds.specs.declared.sessions.Session.{Session}
 use Rattle.front_rounds.specs.Rules.{Rules, Move}
 use Rattle.front_rounds.specs.Steps.{Step, Phase, Fresh, Hearing, Collecting, Offering, Leaving, phase, goes_on, MayBegin, there, has, own}
 use Rattle.front_rounds.specs.Parts.{part, due, told_after, EachMayCome}
 use Rattle.front_rounds.specs.Rounds.{BeginsRound}
 use Rattle.port_trait.specs.declared.ends.Rest.{Rest}
-use Rattle.front_rounds.specs.Serving.{EndsAt, StopsAt, Serves, EndFits, BreakFits, RestsFit, with_break, rests_of}
+use Rattle.front_rounds.specs.Serving.{EndsAt, StopsAt, Serves, EndHasCause, BreakFits, RestsFit, with_break, rests_of}
 use Rattle.front_rounds.specs.inner.Sessions.{conns, keys, Apart}
 use Rattle.front_rounds.specs.inner.Stands.{World, IsAtRest, Sits, Stands}
 use Rattle.front_rounds.specs.inner.Stages.{HasBegun, Collects, CanGo, IsOver, Goes, CutShort, EndsEarly, end_of, StopsAfter}
@@ -152,28 +152,28 @@ module _ {A W T : Type 0} (R : Rules A W) (K : List ℕ → List (Move A) → T 
       let e : p.1 ≡ due R (part R ss p.0) = some_is p.1 (due R (part R ss p.0)) (sym (ap (λ b. cond b (Some p.1) (rest_at ps p.0)) (same p.0)) ∙ r.0) in
       ap (λ d. (p.0, d) ∷ ps) e ∙ ap (λ qs. (p.0, due R (part R ss p.0)) ∷ qs) (rests_are ps ss a.1 (rests_tail p ps ss (keys ps) a.0 r.1))
 
-  handed_rests : (ss : List (Step A)) (cs : List ℕ) → map (handed R.number) (map (λ c. (c, due R (part R ss c))) cs)
+  handed_rests : (ss : List (Step A)) (cs : List ℕ) → map (as_rest R.number) (map (λ c. (c, due R (part R ss c))) cs)
       ≡ map (λ c. record { front = R.number; conn = c; bytes = due R (part R ss c) }) cs
   handed_rests ss [] = refl
   handed_rests ss (c ∷ cs) = ap (λ rs. record { front = R.number; conn = c; bytes = due R (part R ss c) } ∷ rs) (handed_rests ss cs)
 
-  whole_rests : (start : Option PortsTold) (ss : List (Step A)) (w : World T) → Stands R K start ss w → Each IsAtRest w.sessions → map (handed R.number) w.box ≡ rests_of R ss
+  whole_rests : (start : Option PortsTold) (ss : List (Step A)) (w : World T) → Stands R K start ss w → Each IsAtRest w.sessions → map (as_rest R.number) w.box ≡ rests_of R ss
   whole_rests start ss w st r =
       let key : keys w.box ≡ conns w.sessions = st.keys_are ∙ sym st.conns_are in
       let all = each_weaker (λ (s : Session T). Sits R K w.told w.box (part R ss s.conn) s × IsAtRest s) (λ (s : Session T). rest_at w.box s.conn ≡ Some (due R (part R ss s.conn))) w.sessions
       (λ s b. rest_due w.told w.box ss s b.0 b.1) (each_both (λ (s : Session T). Sits R K w.told w.box (part R ss s.conn) s) IsAtRest w.sessions st.each r) in
-      ap (map (handed R.number))
+      ap (map (as_rest R.number))
       (rests_are w.box ss (subst Apart (sym key) st.apart) (subst (RestsAt w.box ss) (sym key) (rests_at w.box ss w.sessions all))
       ∙ ap (map (λ c. (c, due R (part R ss c)))) st.keys_are)
       ∙ handed_rests ss (there ss)
 
-  each_handed : (n : ℕ) (box : List (ℕ × List ℕ)) → Each (λ (r : Rest). r.front ≡ n) (map (handed n) box)
+  each_handed : (n : ℕ) (box : List (ℕ × List ℕ)) → Each (λ (r : Rest). r.front ≡ n) (map (as_rest n) box)
   each_handed n [] = tt
   each_handed n (p ∷ ps) = (refl, each_handed n ps)
 
   -- a front that met a worn turn
   pub serves_worn : (start told : Option PortsTold) (mine : List Entry) (box : List (ℕ × List ℕ)) (starved : ℕ) (worn : Bool) → CutShort R K start told mine starved → worn ≡ true
-      → Serves R start told mine ended.Worn (map (handed R.number) box) starved worn
+      → Serves R start told mine ended.Worn (map (as_rest R.number) box) starved worn
   serves_worn start told mine box starved worn h e = record {
     steps = h.steps;
     broke = false;
@@ -194,8 +194,8 @@ module _ {A W T : Type 0} (R : Rules A W) (K : List ℕ → List (Move A) → T 
 
   -- a front that ends where a round may begin, or where one is over
   serves_by : (start told' : Option PortsTold) (ss : List (Step A)) (w : World T) (mine' stop : List Entry) (end : FrontEnd) (broke worn : Bool) → Stands R K start ss w → Each IsAtRest w.sessions
-      → mine' ≡ w.mine ++ stop → told' ≡ option_map (λ t. with_break broke (told_after R ss t)) start → EndFits R end ss stop worn → BreakFits end broke
-      → (broke ≡ true → MayBegin (phase ss)) → RestsFit R end ss (map (handed R.number) w.box) → Serves R start told' mine' end (map (handed R.number) w.box) w.starved worn
+      → mine' ≡ w.mine ++ stop → told' ≡ option_map (λ t. with_break broke (told_after R ss t)) start → EndHasCause R end ss stop worn → BreakFits end broke
+      → (broke ≡ true → MayBegin (phase ss)) → RestsFit R end ss (map (as_rest R.number) w.box) → Serves R start told' mine' end (map (as_rest R.number) w.box) w.starved worn
   serves_by start told' ss w mine' stop end broke worn st r m t e b q f = record {
     steps = ss;
     broke = broke;
@@ -213,7 +213,7 @@ module _ {A W T : Type 0} (R : Rules A W) (K : List ℕ → List (Move A) → T 
 
   -- the end of a front
   abbrev Ended : Option PortsTold → World T → List Entry → FrontEnd → Bool → Type 0
-  Ended start w mine' end' worn = Serves R start w.told mine' end' (map (handed R.number) w.box) w.starved worn
+  Ended start w mine' end' worn = Serves R start w.told mine' end' (map (as_rest R.number) w.box) w.starved worn
 
   serves_finished : (start : Option PortsTold) (w : World T) (mine' : List Entry) (worn : Bool) → IsOver R K event.Finished false start w → mine' ≡ w.mine
       → Ended start w mine' ended.Finished worn
@@ -235,7 +235,7 @@ module _ {A W T : Type 0} (R : Rules A W) (K : List ℕ → List (Move A) → T 
       (all_kept R K start h.steps w st h.can.rested, h.can.time, refl) refl (λ q. clash (sym q)) (whole_rests start h.steps w st h.can.rested)
 
   serves_broken : (start told' : Option PortsTold) (w : World T) (mine' : List Entry) (worn : Bool) → CanGo R K start w → told' ≡ option_map (heard event.Broken []) w.told
-      → mine' ≡ w.mine ++ Stop ∷ [] → Serves R start told' mine' ended.Broken (map (handed R.number) w.box) w.starved worn
+      → mine' ≡ w.mine ++ Stop ∷ [] → Serves R start told' mine' ended.Broken (map (as_rest R.number) w.box) w.starved worn
   serves_broken start told' w mine' worn h t m =
       let st = h.can.stands in
       serves_by start told' h.steps w mine' (Stop ∷ []) ended.Broken true worn st h.can.rested m

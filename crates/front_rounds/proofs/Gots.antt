@@ -10,14 +10,14 @@ use Rattle.farm_history.specs.declared.queues.Outcome.TheVariants as outcome
 use Rattle.farm_history.specs.declared.answers.Collected.TheVariants as collected
 use Rattle.port_trait.specs.declared.events.PortEvent.{PortEvent}
 use Rattle.port_trait.specs.Told.{PortsTold, IsOpen}
-use Rattle.port_trait.specs.Boxes.{rest_at, put_rest, HasRest, held}
+use Rattle.port_trait.specs.Boxes.{rest_at, put_rest, HasRest, rest_in}
 use Rattle.front_rounds.specs.declared.fates.Fate.{Fate}
 use Rattle.front_rounds.specs.declared.fates.Fate.TheVariants.{Stays, Leaves}
 use Rattle.front_rounds.specs.declared.fates.Reason.TheVariants as reason
 use Rattle.front_rounds.specs.declared.sessions.Session.{Session}
-use Rattle.front_rounds.specs.Rules.{Rules, Move, Does, Gets, text, each_whole}
+use Rattle.front_rounds.specs.Rules.{Rules, Move, Does, Gets, answer_bytes, each_whole}
 use Rattle.front_rounds.specs.Steps.{Step, Came, Did, Got, Through, Tried, Left, Phase, Fresh, Hearing, Collecting, Offering, Leaving, phase, collecting, offering, leaving, Gathers, Offers, IsThrough, has}
-use Rattle.front_rounds.specs.Parts.{Part, part, moved, must, is_full, is_cut, is_excused, is_open, Running}
+use Rattle.front_rounds.specs.Parts.{Part, part, after_move, must, is_full, is_cut, is_excused, is_open, Running}
 use Rattle.front_rounds.specs.Rounds.{Sound}
 use Rattle.front_rounds.specs.Front.{keeps, RepliedWhy, MayStandAlone}
 use Rattle.front_rounds.specs.inner.Sessions.{conns, keys, Apart, StandsAt, is_up, asks_all, worse, owing, woken}
@@ -108,7 +108,7 @@ module _ {A W : Type 0} (R : Rules A W) where
   abbrev pub Untried : Part A → Type 0
   Untried p = (p.tried ≡ false) × (p.failed ≡ false) × (p.sent_whole ≡ false)
 
-  same_tried : (b : Bool) (m : Move A) (p : Part A) → Untried p → Untried (cond b (moved R m p) p)
+  same_tried : (b : Bool) (m : Move A) (p : Part A) → Untried p → Untried (cond b (after_move R m p) p)
   same_tried true m p h = h
   same_tried false m p h = h
 
@@ -124,10 +124,10 @@ module _ {A W : Type 0} (R : Rules A W) where
 
 module _ {A W T : Type 0} (R : Rules A W) (K : List ℕ → List (Move A) → T → Type 0) where
   abbrev got : Reply → List Entry → Part A → Part A
-  got r behind p = moved R (Gets r behind) p
+  got r behind p = after_move R (Gets r behind) p
 
-  grows : (r : Reply) (behind : List Entry) (p : Part A) → length (text R p.moves) ≤ length (text R (Gets r behind ∷ p.moves))
-  grows r behind p = let e = length-append (text R p.moves) (R.says p.moves (Gets r behind)) in omega (arith, e)
+  grows : (r : Reply) (behind : List Entry) (p : Part A) → length (answer_bytes R p.moves) ≤ length (answer_bytes R (Gets r behind ∷ p.moves))
+  grows r behind p = let e = length-append (answer_bytes R p.moves) (R.says p.moves (Gets r behind)) in omega (arith, e)
 
   counts_got : (r : Reply) (behind : List Entry) (p : Part A) → Counts R p → Counts R (got r behind p)
   counts_got r behind p n =
@@ -139,8 +139,8 @@ module _ {A W T : Type 0} (R : Rules A W) (K : List ℕ → List (Move A) → T 
   full_more : (r : Reply) (behind : List Entry) (p : Part A) → is_full R p ≡ true → is_full R (got r behind p) ≡ true
   full_more r behind p h =
       let g = grows r behind p in
-      let l = ltb-true (p.had + 1048576) (length (text R p.moves)) h in
-      lt-ltb (p.had + 1048576) (length (text R (Gets r behind ∷ p.moves))) (omega (arith, g, l))
+      let l = ltb-true (p.had + 1048576) (length (answer_bytes R p.moves)) h in
+      lt-ltb (p.had + 1048576) (length (answer_bytes R (Gets r behind ∷ p.moves))) (omega (arith, g, l))
 
   running_got : (r : Reply) (behind : List Entry) (p : Part A) → Running p → Running (got r behind p)
   running_got r behind p h = record { ended = h.ended; lost = h.lost; sends = h.sends; sent = h.sent }
@@ -219,7 +219,7 @@ module _ {A W T : Type 0} (R : Rules A W) (K : List ℕ → List (Move A) → T 
     opened : is_open p ≡ true
     counts : Counts R p
     untried : p.tried ≡ false
-    keep : Keeping R K p s (held box s'.conn)
+    keep : Keeping R K p s (rest_in box s'.conn)
     complete : p.complete ≡ true
     fits : FateFits R p s.fate
     why : RepliedWhy R (Gets r behind) f
@@ -229,25 +229,25 @@ module _ {A W T : Type 0} (R : Rules A W) (K : List ℕ → List (Move A) → T 
     uncut : is_cut {A = A} (Gets r behind) ≡ false
     owes : s'.owes ≡ owing s.owes said Stays
 
-  text_is : (r : Reply) (behind : List Entry) (p : Part A) (said : List ℕ) → R.says p.moves (Gets r behind) ≡ said → text R (Gets r behind ∷ p.moves) ≡ text R p.moves ++ said
-  text_is r behind p said e = ap (λ xs. text R p.moves ++ xs) e
+  text_is : (r : Reply) (behind : List Entry) (p : Part A) (said : List ℕ) → R.says p.moves (Gets r behind) ≡ said → answer_bytes R (Gets r behind ∷ p.moves) ≡ answer_bytes R p.moves ++ said
+  text_is r behind p said e = ap (λ xs. answer_bytes R p.moves ++ xs) e
 
   must_more : (r : Reply) (behind : List Entry) (p : Part A) → must R p ≡ true → must R (got r behind p) ≡ true
   must_more r behind p h =
-      or_more p.called (nat_lt p.was (length (text R p.moves)) || R.refuses p.given) (nat_lt p.was (length (text R (Gets r behind ∷ p.moves))) || R.refuses p.given)
-      (λ e. or_less (R.refuses p.given) (nat_lt p.was (length (text R p.moves))) (nat_lt p.was (length (text R (Gets r behind ∷ p.moves))))
-      (λ q. let l = ltb-true p.was (length (text R p.moves)) q in
+      or_more p.called (nat_lt p.was (length (answer_bytes R p.moves)) || R.refuses p.given) (nat_lt p.was (length (answer_bytes R (Gets r behind ∷ p.moves))) || R.refuses p.given)
+      (λ e. or_less (R.refuses p.given) (nat_lt p.was (length (answer_bytes R p.moves))) (nat_lt p.was (length (answer_bytes R (Gets r behind ∷ p.moves))))
+      (λ q. let l = ltb-true p.was (length (answer_bytes R p.moves)) q in
       let g = grows r behind p in
-      lt-ltb p.was (length (text R (Gets r behind ∷ p.moves))) (omega (arith, l, g))) e) h
+      lt-ltb p.was (length (answer_bytes R (Gets r behind ∷ p.moves))) (omega (arith, l, g))) e) h
 
   must_said : (r : Reply) (behind : List Entry) (p : Part A) (said : List ℕ) → R.says p.moves (Gets r behind) ≡ said → Counts R p → nat_lt 0 (length said) ≡ true
       → must R (got r behind p) ≡ true
   must_said r behind p said e n h =
       let l = ltb-true 0 (length said) h in
-      let t = ap length (text_is r behind p said e) ∙ length-append (text R p.moves) said in
+      let t = ap length (text_is r behind p said e) ∙ length-append (answer_bytes R p.moves) said in
       let before = n.before in
-      or_right p.called (nat_lt p.was (length (text R (Gets r behind ∷ p.moves))) || R.refuses p.given)
-      (or_left (nat_lt p.was (length (text R (Gets r behind ∷ p.moves)))) (R.refuses p.given) (lt-ltb p.was (length (text R (Gets r behind ∷ p.moves))) (omega (arith, l, t, before))))
+      or_right p.called (nat_lt p.was (length (answer_bytes R (Gets r behind ∷ p.moves))) || R.refuses p.given)
+      (or_left (nat_lt p.was (length (answer_bytes R (Gets r behind ∷ p.moves)))) (R.refuses p.given) (lt-ltb p.was (length (answer_bytes R (Gets r behind ∷ p.moves))) (omega (arith, l, t, before))))
 
   owes_by : (r : Reply) (behind : List Entry) (p : Part A) (said : List ℕ) (owes : Bool) → R.says p.moves (Gets r behind) ≡ said → Counts R p
       → (owes ≡ true → must R p ≡ true) → (owes || (nat_lt 0 (length said) || false)) ≡ true → must R (got r behind p) ≡ true
@@ -259,12 +259,12 @@ module _ {A W T : Type 0} (R : Rules A W) (K : List ℕ → List (Move A) → T 
       or_false' false = refl
 
   keeping_got : (told : Option PortsTold) (box box' : List (ℕ × List ℕ)) (p : Part A) (r : Reply) (behind : List Entry) (s s' : Session T) (said : List ℕ)
-      → Say told box p r behind s s' said Stays → held box' s'.conn ≡ held box s'.conn ++ said → Keeping R K (got r behind p) s' (held box' s'.conn)
+      → Say told box p r behind s s' said Stays → rest_in box' s'.conn ≡ rest_in box s'.conn ++ said → Keeping R K (got r behind p) s' (rest_in box' s'.conn)
   keeping_got told box box' p r behind s s' said h e =
       let k = h.keep in
       let is = text_is r behind p said (h.said_is refl) in
       record {
-        rest_is = e ∙ ap (λ xs. xs ++ said) k.rest_is ∙ sym (due_grows R p.took (text R p.moves) said (text R (Gets r behind ∷ p.moves)) h.counts.low is);
+        rest_is = e ∙ ap (λ xs. xs ++ said) k.rest_is ∙ sym (due_grows R p.took (answer_bytes R p.moves) said (answer_bytes R (Gets r behind ∷ p.moves)) h.counts.low is);
         asked_all = k.asked_all;
         whole = ap (λ b. b && each_whole R p.moves) (h.whole refl) ∙ k.whole;
         knows = h.knows refl;
@@ -273,7 +273,7 @@ module _ {A W T : Type 0} (R : Rules A W) (K : List ℕ → List (Move A) → T 
         offered = λ o m t.
             let parts = or_parts s.owes (nat_lt 0 (length said) || false) (sym h.owes ∙ o) in
             let none = none_said said (or_parts (nat_lt 0 (length said)) false parts.1).0 in
-            let text_same : text R (Gets r behind ∷ p.moves) ≡ text R p.moves = is ∙ ap (λ xs. text R p.moves ++ xs) none ∙ append-nil (text R p.moves) in
+            let text_same : answer_bytes R (Gets r behind ∷ p.moves) ≡ answer_bytes R p.moves = is ∙ ap (λ xs. answer_bytes R p.moves ++ xs) none ∙ append-nil (answer_bytes R p.moves) in
             ap (drop p.took) text_same
             ∙ k.offered parts.0 (sym (ap (λ xs. p.called || (nat_lt p.was (length xs) || R.refuses p.given)) text_same) ∙ m) t;
       }
@@ -297,14 +297,14 @@ module _ {A W T : Type 0} (R : Rules A W) (K : List ℕ → List (Move A) → T 
 
   -- what fits a kept fate goes on to fit it
   fits_got : (told : Option PortsTold) (box : List (ℕ × List ℕ)) (p : Part A) (r : Reply) (behind : List Entry) (s s' : Session T) (said : List ℕ) (f : Fate)
-      → Say told box p r behind s s' said Stays → keeps f ≡ true → FateFits R p f → length (text R (Gets r behind ∷ p.moves)) ≤ p.took + 1048576 → FateFits R (got r behind p) f
+      → Say told box p r behind s s' said Stays → keeps f ≡ true → FateFits R p f → length (answer_bytes R (Gets r behind ∷ p.moves)) ≤ p.took + 1048576 → FateFits R (got r behind p) f
   fits_got told box p r behind s s' said Stays h k fits l =
       let same : p.took ≡ p.had = h.counts.untaken h.untried in
       record {
         ended = fits.ended;
         lost = fits.lost;
         cut = or_none (is_cut {A = A} (Gets r behind)) p.cut h.uncut fits.cut;
-        full = le-ltb (p.had + 1048576) (length (text R (Gets r behind ∷ p.moves))) (omega (arith, same, l));
+        full = le-ltb (p.had + 1048576) (length (answer_bytes R (Gets r behind ∷ p.moves))) (omega (arith, same, l));
         read = fits.read;
         sent = fits.sent;
         sends = fits.sends;
@@ -334,26 +334,26 @@ module _ {A W T : Type 0} (R : Rules A W) (K : List ℕ → List (Move A) → T 
   kept_is m old (Leaves reason.SendFailed) w k = absurd w
 
   said_holds : (told : Option PortsTold) (box : List (ℕ × List ℕ)) (p : Part A) (r : Reply) (behind : List Entry) (s s' : Session T) (said : List ℕ)
-      → Say told box p r behind s s' said Stays → keeps s.fate ≡ true → s'.fate ≡ s.fate → length (held box s'.conn ++ said) ≤ 1048576
-      → Sits R K told (put_rest box s'.conn (held box s'.conn ++ said)) (got r behind p) s'
+      → Say told box p r behind s s' said Stays → keeps s.fate ≡ true → s'.fate ≡ s.fate → length (rest_in box s'.conn ++ said) ≤ 1048576
+      → Sits R K told (put_rest box s'.conn (rest_in box s'.conn ++ said)) (got r behind p) s'
   said_holds told box p r behind s s' said h k e l =
-      let box' = put_rest box s'.conn (held box s'.conn ++ said) in
-      let short = within R p.took (text R p.moves) said (text R (Gets r behind ∷ p.moves)) h.counts.low (text_is r behind p said (h.said_is refl))
+      let box' = put_rest box s'.conn (rest_in box s'.conn ++ said) in
+      let short = within R p.took (answer_bytes R p.moves) said (answer_bytes R (Gets r behind ∷ p.moves)) h.counts.low (text_is r behind p said (h.said_is refl))
       (subst (λ (xs : List ℕ). length (xs ++ said) ≤ 1048576) h.keep.rest_is l) in
-      sits_as R K told box' (got r behind p) s' s.fate e (held box s'.conn ++ said, at_put box s'.conn (held box s'.conn ++ said) h.has) (λ _. h.op)
+      sits_as R K told box' (got r behind p) s' s.fate e (rest_in box s'.conn ++ said, at_put box s'.conn (rest_in box s'.conn ++ said) h.has) (λ _. h.op)
       (h.opened ∙ sym (keeps_up s.fate k)) (counts_got r behind p h.counts)
-      (λ _. keeping_got told box box' p r behind s s' said h (holds_rest R K box s'.conn (held box s'.conn ++ said) h.has))
+      (λ _. keeping_got told box box' p r behind s s' said h (holds_rest R K box s'.conn (rest_in box s'.conn ++ said) h.has))
       (fits_got told box p r behind s s' said s.fate h k h.fits short)
       (λ _. (h.keep.asked_all, complete_got r behind p (or_right (is_excused (Gets r behind) p) (R.whole p.moves (Gets r behind)) (h.whole refl)) h.complete))
 
   said_full : (told : Option PortsTold) (box : List (ℕ × List ℕ)) (p : Part A) (r : Reply) (behind : List Entry) (s s' : Session T) (said : List ℕ)
-      → Say told box p r behind s s' said Stays → s'.fate ≡ Leaves reason.Full → 1048576 < length (held box s'.conn ++ said) → Sits R K told box (got r behind p) s'
+      → Say told box p r behind s s' said Stays → s'.fate ≡ Leaves reason.Full → 1048576 < length (rest_in box s'.conn ++ said) → Sits R K told box (got r behind p) s'
   said_full told box p r behind s s' said h e l =
-      let long = beyond R p.took (text R p.moves) said (text R (Gets r behind ∷ p.moves)) h.counts.low (text_is r behind p said (h.said_is refl))
+      let long = beyond R p.took (answer_bytes R p.moves) said (answer_bytes R (Gets r behind ∷ p.moves)) h.counts.low (text_is r behind p said (h.said_is refl))
       (subst (λ (xs : List ℕ). 1048576 < length (xs ++ said)) h.keep.rest_is l) in
       let same : p.took ≡ p.had = h.counts.untaken h.untried in
       sits_as R K told box (got r behind p) s' (Leaves reason.Full) e h.has (λ _. h.op) h.opened (counts_got r behind p h.counts)
-      (λ q. clash (sym q)) (lt-ltb (p.had + 1048576) (length (text R (Gets r behind ∷ p.moves))) (omega (arith, same, long))) (λ q. clash (sym q))
+      (λ q. clash (sym q)) (lt-ltb (p.had + 1048576) (length (answer_bytes R (Gets r behind ∷ p.moves))) (omega (arith, same, long))) (λ q. clash (sym q))
 
   said_starves : (told : Option PortsTold) (box : List (ℕ × List ℕ)) (p : Part A) (r : Reply) (behind : List Entry) (s s' : Session T) (said : List ℕ) (f : Fate)
       → Say told box p r behind s s' said f → s'.fate ≡ Leaves reason.Starved → Sits R K told box (got r behind p) s'
@@ -389,7 +389,7 @@ module _ {A W T : Type 0} (R : Rules A W) (K : List ℕ → List (Move A) → T 
         opened = sits.up ∙ keeps_up s.fate k;
         counts = sits.counts;
         untried = u;
-        keep = subst (λ c. Keeping R K p s (held box c)) (sym h.conn) (sits.keeping k);
+        keep = subst (λ c. Keeping R K p s (rest_in box c)) (sym h.conn) (sits.keeping k);
         complete = (sits.asked_all (keeps_asks s.fate k)).1;
         fits = sits.fate_fits;
         why = rp.why;

@@ -2,13 +2,13 @@
 use Rattle.std.proofs.Common.{◌≡◌, ◌<◌, ◌≤◌, ◌+◌, ℕ, true, false, ◌||◌, List, ◌++◌, length, Option, refl, sym, ap, subst, ◌∙◌, arith, nat_lt, length-append}
 use Rattle.std.proofs.lemmas.Bool.{lt-ltb, le-ltb}
 use Rattle.port_trait.specs.Told.{PortsTold, IsOpen}
-use Rattle.port_trait.specs.Boxes.{put_rest, HasRest, held, rest_of}
+use Rattle.port_trait.specs.Boxes.{put_rest, HasRest, rest_in, rest_of}
 use Rattle.farm_history.specs.Entries.{Entry}
 use Rattle.front_rounds.specs.declared.fates.Fate.{Fate}
 use Rattle.front_rounds.specs.declared.fates.Fate.TheVariants.{Stays, Leaves}
 use Rattle.front_rounds.specs.declared.fates.Reason.TheVariants as reason
 use Rattle.front_rounds.specs.declared.sessions.Session.{Session}
-use Rattle.front_rounds.specs.Rules.{Rules, Move, asked, text, each_whole, any_starves}
+use Rattle.front_rounds.specs.Rules.{Rules, Move, wants_of, answer_bytes, each_whole, any_starves}
 use Rattle.front_rounds.specs.Parts.{Part, due, must}
 use Rattle.front_rounds.specs.Front.{keeps, does, HeardWhy, Heard}
 use Rattle.front_rounds.specs.inner.Sessions.{is_up, is_unread, owing}
@@ -23,10 +23,10 @@ module _ {A W T : Type 0} (R : Rules A W) (K : List ℕ → List (Move A) → T 
     has : HasRest box s'.conn
     op : IsOpen s'.conn told
     counts : Counts R p
-    rest_is : held box s'.conn ≡ due R p
+    rest_is : rest_in box s'.conn ≡ due R p
     why : HeardWhy R given (does acts) f
-    said_is : keeps f ≡ true → text R (does acts ++ p.moves) ≡ text R p.moves ++ said
-    asked_is : keeps f ≡ true → R.wanted given (asked R (does acts ++ p.moves))
+    said_is : keeps f ≡ true → answer_bytes R (does acts ++ p.moves) ≡ answer_bytes R p.moves ++ said
+    asked_is : keeps f ≡ true → R.wanted given (wants_of R (does acts ++ p.moves))
     whole : keeps f ≡ true → each_whole R (does acts ++ p.moves) ≡ true
     knows : keeps f ≡ true → K given (does acts ++ p.moves) s'.talk
     owes : s'.owes ≡ owing false said f
@@ -41,20 +41,20 @@ module _ {A W T : Type 0} (R : Rules A W) (K : List ℕ → List (Move A) → T 
       record { low = omega (arith, more, low); before = more; more = omega arith; untaken = λ _. refl }
 
   -- there is a reason to offer bytes exactly where the session owes that
-  must_owes : (p : Part A) (acts : List A) (given said : List ℕ) (f : Fate) → text R (does acts ++ p.moves) ≡ text R p.moves ++ said
+  must_owes : (p : Part A) (acts : List A) (given said : List ℕ) (f : Fate) → answer_bytes R (does acts ++ p.moves) ≡ answer_bytes R p.moves ++ said
       → R.refuses given ≡ is_unread f → must R (after_it p acts given) ≡ owing false said f
   must_owes p acts given said f e r =
-      ap (λ (n : ℕ). nat_lt (length (text R p.moves)) n || R.refuses given) (ap length e ∙ length-append (text R p.moves) said)
-      ∙ ap (λ b. b || R.refuses given) (grew_by (length (text R p.moves)) (length said))
+      ap (λ (n : ℕ). nat_lt (length (answer_bytes R p.moves)) n || R.refuses given) (ap length e ∙ length-append (answer_bytes R p.moves) said)
+      ∙ ap (λ b. b || R.refuses given) (grew_by (length (answer_bytes R p.moves)) (length said))
       ∙ ap (λ b. nat_lt 0 (length said) || b) r
 
   keeping_then : (told : Option PortsTold) (box box' : List (ℕ × List ℕ)) (p : Part A) (acts : List A) (given : List ℕ) (s' : Session T) (said : List ℕ) (f : Fate)
-      → Hear told box box' p acts given s' said f → keeps f ≡ true → R.refuses given ≡ is_unread f → held box' s'.conn ≡ held box s'.conn ++ said
-      → Keeping R K (after_it p acts given) s' (held box' s'.conn)
+      → Hear told box box' p acts given s' said f → keeps f ≡ true → R.refuses given ≡ is_unread f → rest_in box' s'.conn ≡ rest_in box s'.conn ++ said
+      → Keeping R K (after_it p acts given) s' (rest_in box' s'.conn)
   keeping_then told box box' p acts given s' said f h k r e =
       let must_is = must_owes p acts given said f (h.said_is k) r in
       record {
-        rest_is = e ∙ ap (λ xs. xs ++ said) h.rest_is ∙ sym (due_grows R p.took (text R p.moves) said (text R (does acts ++ p.moves)) h.counts.low (h.said_is k));
+        rest_is = e ∙ ap (λ xs. xs ++ said) h.rest_is ∙ sym (due_grows R p.took (answer_bytes R p.moves) said (answer_bytes R (does acts ++ p.moves)) h.counts.low (h.said_is k));
         asked_all = h.asked_is k;
         whole = h.whole k;
         knows = h.knows k;
@@ -80,25 +80,25 @@ module _ {A W T : Type 0} (R : Rules A W) (K : List ℕ → List (Move A) → T 
   heard_passes told box p acts given s' said (Leaves reason.SentWhole) h k e = absurd h.why
   heard_passes told box p acts given s' said (Leaves reason.SendFailed) h k e = absurd h.why
 
-  pub holds_rest : (box : List (ℕ × List ℕ)) (c : ℕ) (r : List ℕ) → HasRest box c → held (put_rest box c r) c ≡ r
+  pub holds_rest : (box : List (ℕ × List ℕ)) (c : ℕ) (r : List ℕ) → HasRest box c → rest_in (put_rest box c r) c ≡ r
   holds_rest box c r h = ap rest_of (at_put box c r h)
 
   heard_holds : (told : Option PortsTold) (box : List (ℕ × List ℕ)) (p : Part A) (acts : List A) (given : List ℕ) (s' : Session T) (said : List ℕ) (f : Fate)
-      → Hear told box (put_rest box s'.conn (held box s'.conn ++ said)) p acts given s' said f → keeps f ≡ true → s'.fate ≡ f
-      → length (held box s'.conn ++ said) ≤ 1048576
-      → Sits R K told (put_rest box s'.conn (held box s'.conn ++ said)) (after_it p acts given) s'
+      → Hear told box (put_rest box s'.conn (rest_in box s'.conn ++ said)) p acts given s' said f → keeps f ≡ true → s'.fate ≡ f
+      → length (rest_in box s'.conn ++ said) ≤ 1048576
+      → Sits R K told (put_rest box s'.conn (rest_in box s'.conn ++ said)) (after_it p acts given) s'
   heard_holds told box p acts given s' said Stays h k e l =
-      let box' = put_rest box s'.conn (held box s'.conn ++ said) in
-      let short = within R p.took (text R p.moves) said (text R (does acts ++ p.moves)) h.counts.low (h.said_is refl)
+      let box' = put_rest box s'.conn (rest_in box s'.conn ++ said) in
+      let short = within R p.took (answer_bytes R p.moves) said (answer_bytes R (does acts ++ p.moves)) h.counts.low (h.said_is refl)
       (subst (λ (xs : List ℕ). length (xs ++ said) ≤ 1048576) h.rest_is l) in
-      sits_as R K told box' (after_it p acts given) s' Stays e (held box s'.conn ++ said, at_put box s'.conn (held box s'.conn ++ said) h.has) (λ _. h.op) refl
+      sits_as R K told box' (after_it p acts given) s' Stays e (rest_in box s'.conn ++ said, at_put box s'.conn (rest_in box s'.conn ++ said) h.has) (λ _. h.op) refl
       (counts_then p acts given h.counts)
-      (λ _. keeping_then told box box' p acts given s' said Stays h refl h.why.0 (holds_rest box s'.conn (held box s'.conn ++ said) h.has))
+      (λ _. keeping_then told box box' p acts given s' said Stays h refl h.why.0 (holds_rest box s'.conn (rest_in box s'.conn ++ said) h.has))
       (record {
         ended = refl;
         lost = refl;
         cut = refl;
-        full = le-ltb (p.took + 1048576) (length (text R (does acts ++ p.moves))) short;
+        full = le-ltb (p.took + 1048576) (length (answer_bytes R (does acts ++ p.moves))) short;
         read = h.why.0;
         sent = refl;
         sends = refl;
@@ -106,10 +106,10 @@ module _ {A W T : Type 0} (R : Rules A W) (K : List ℕ → List (Move A) → T 
       })
       (λ _. (h.asked_is refl, sym (whole_acts R acts p.moves) ∙ h.whole refl))
   heard_holds told box p acts given s' said (Leaves reason.Unread) h k e l =
-      let box' = put_rest box s'.conn (held box s'.conn ++ said) in
-      sits_as R K told box' (after_it p acts given) s' (Leaves reason.Unread) e (held box s'.conn ++ said, at_put box s'.conn (held box s'.conn ++ said) h.has) (λ _. h.op) refl
+      let box' = put_rest box s'.conn (rest_in box s'.conn ++ said) in
+      sits_as R K told box' (after_it p acts given) s' (Leaves reason.Unread) e (rest_in box s'.conn ++ said, at_put box s'.conn (rest_in box s'.conn ++ said) h.has) (λ _. h.op) refl
       (counts_then p acts given h.counts)
-      (λ _. keeping_then told box box' p acts given s' said (Leaves reason.Unread) h refl h.why.0 (holds_rest box s'.conn (held box s'.conn ++ said) h.has))
+      (λ _. keeping_then told box box' p acts given s' said (Leaves reason.Unread) h refl h.why.0 (holds_rest box s'.conn (rest_in box s'.conn ++ said) h.has))
       h.why.0 (λ _. (h.asked_is refl, sym (whole_acts R acts p.moves) ∙ h.whole refl))
   heard_holds told box p acts given s' said (Leaves reason.NoMemory) h k e l = clash (sym k)
   heard_holds told box p acts given s' said (Leaves reason.Starved) h k e l = clash (sym k)
@@ -121,13 +121,13 @@ module _ {A W T : Type 0} (R : Rules A W) (K : List ℕ → List (Move A) → T 
   heard_holds told box p acts given s' said (Leaves reason.SendFailed) h k e l = clash (sym k)
 
   heard_full : (told : Option PortsTold) (box : List (ℕ × List ℕ)) (p : Part A) (acts : List A) (given : List ℕ) (s' : Session T) (said : List ℕ) (f : Fate)
-      → Hear told box box p acts given s' said f → keeps f ≡ true → s'.fate ≡ Leaves reason.Full → 1048576 < length (held box s'.conn ++ said)
+      → Hear told box box p acts given s' said f → keeps f ≡ true → s'.fate ≡ Leaves reason.Full → 1048576 < length (rest_in box s'.conn ++ said)
       → Sits R K told box (after_it p acts given) s'
   heard_full told box p acts given s' said f h k e l =
-      let long = beyond R p.took (text R p.moves) said (text R (does acts ++ p.moves)) h.counts.low (h.said_is k)
+      let long = beyond R p.took (answer_bytes R p.moves) said (answer_bytes R (does acts ++ p.moves)) h.counts.low (h.said_is k)
       (subst (λ (xs : List ℕ). 1048576 < length (xs ++ said)) h.rest_is l) in
       sits_as R K told box (after_it p acts given) s' (Leaves reason.Full) e h.has (λ _. h.op) refl (counts_then p acts given h.counts)
-      (λ q. clash (sym q)) (lt-ltb (p.took + 1048576) (length (text R (does acts ++ p.moves))) long) (λ q. clash (sym q))
+      (λ q. clash (sym q)) (lt-ltb (p.took + 1048576) (length (answer_bytes R (does acts ++ p.moves))) long) (λ q. clash (sym q))
 
   heard_starves : (told : Option PortsTold) (box : List (ℕ × List ℕ)) (p : Part A) (acts : List A) (given : List ℕ) (s' : Session T) (said : List ℕ) (f : Fate)
       → Hear told box box p acts given s' said f → s'.fate ≡ Leaves reason.Starved → Sits R K told box (after_it p acts given) s'
@@ -141,7 +141,7 @@ module _ {A W T : Type 0} (R : Rules A W) (K : List ℕ → List (Move A) → T 
   heard_by told box box' p acts given s' said f f' h e (Passes k q b) =
       subst (λ (x : List (ℕ × List ℕ)). Sits R K told x (after_it p acts given) s') (sym b) (heard_passes told box p acts given s' said f (h box) k (e ∙ q))
   heard_by told box box' p acts given s' said f f' h e (Holds k q b l) =
-      subst (λ (x : List (ℕ × List ℕ)). Sits R K told x (after_it p acts given) s') (sym b) (heard_holds told box p acts given s' said f (h (put_rest box s'.conn (held box s'.conn ++ said))) k (e ∙ q) l)
+      subst (λ (x : List (ℕ × List ℕ)). Sits R K told x (after_it p acts given) s') (sym b) (heard_holds told box p acts given s' said f (h (put_rest box s'.conn (rest_in box s'.conn ++ said))) k (e ∙ q) l)
   heard_by told box box' p acts given s' said f f' h e (Overflows k q b l) =
       subst (λ (x : List (ℕ × List ℕ)). Sits R K told x (after_it p acts given) s') (sym b) (heard_full told box p acts given s' said f (h box) k (e ∙ q) l)
   heard_by told box box' p acts given s' said f f' h e (Starves k q b) =
@@ -167,7 +167,7 @@ module _ {A W T : Type 0} (R : Rules A W) (K : List ℕ → List (Move A) → T 
         has = subst (HasRest box) (sym h.conn) sits.rest_there;
         op = subst (λ c. IsOpen c told) (sym h.conn) (o (sits.opening (ap is_up r.0)));
         counts = sits.counts;
-        rest_is = ap (held box) h.conn ∙ k.rest_is;
+        rest_is = ap (rest_in box) h.conn ∙ k.rest_is;
         why = hd.why;
         said_is = hd.said_is;
         asked_is = hd.asked_is;

@@ -3,7 +3,7 @@ use Rattle.std.proofs.Common.{◌≡◌, ◌+◌, ◌-◌, ◌^◌, ℕ, suc, Bo
 use Rattle.farm_history.specs.Lists.{Each}
 use Rattle.farm_history.specs.Entries.{Entry, Leave}
 use Rattle.port_trait.specs.declared.events.PortEvent.{PortEvent}
-use Rattle.port_trait.specs.Told.{PortsTold, IsOpen, closed}
+use Rattle.port_trait.specs.Told.{PortsTold, IsOpen, after_close}
 use Rattle.port_trait.specs.Boxes.{without, HasRest}
 use Rattle.front_rounds.specs.declared.fates.Fate.TheVariants.{Stays, Leaves}
 use Rattle.front_rounds.specs.declared.fates.Reason.{Reason}
@@ -59,13 +59,13 @@ counted_more n reason.NoMemory = min_twice n (2 ^ 64 - 1)
 
 -- what is told, where a connection is closed or not
 shut_told : (start told told' : Option PortsTold) (c : ℕ) (g : PortsTold → PortsTold) (u : Bool) → told ≡ option_map g start
-    → (u ≡ true → told' ≡ option_map (closed c) told) → (u ≡ false → told' ≡ told) → told' ≡ option_map (λ t. cond u (closed c (g t)) (g t)) start
-shut_told start told told' c g true h f k = told_more start told told' (closed c) g h (f refl)
+    → (u ≡ true → told' ≡ option_map (after_close c) told) → (u ≡ false → told' ≡ told) → told' ≡ option_map (λ t. cond u (after_close c (g t)) (g t)) start
+shut_told start told told' c g true h f k = told_more start told told' (after_close c) g h (f refl)
 shut_told start told told' c g false h f k = k refl ∙ h
 
-shut_open : (told told' : Option PortsTold) (c d : ℕ) (u : Bool) → (u ≡ true → told' ≡ option_map (closed c) told) → (u ≡ false → told' ≡ told) → (d ≡ c → ⊥)
+shut_open : (told told' : Option PortsTold) (c d : ℕ) (u : Bool) → (u ≡ true → told' ≡ option_map (after_close c) told) → (u ≡ false → told' ≡ told) → (d ≡ c → ⊥)
     → IsOpen d told → IsOpen d told'
-shut_open told told' c d true f k n o = open_by told told' (closed c) d (f refl) (λ t. ap (λ b. cond b false (t.is_open d)) (other d c n)) o
+shut_open told told' c d true f k n o = open_by told told' (after_close c) d (f refl) (λ t. ap (λ b. cond b false (t.is_open d)) (other d c n)) o
 shut_open told told' c d false f k n o = subst (IsOpen d) (sym (k refl)) o
 
 module _ {A W T : Type 0} (R : Rules A W) (K : List ℕ → List (Move A) → T → Type 0) where

@@ -3,7 +3,7 @@ use Rattle.std.proofs.Common.{◌≡◌, ◌==◌, ◌<◌, ◌+◌, ◌-◌, �
 use Rattle.std.proofs.lemmas.Bool.{eqb-true, le-ltb}
 use Rattle.farm_history.specs.Entries.{Entry}
 use Rattle.port_trait.specs.declared.events.PortEvent.TheVariants as event
-use Rattle.port_trait.specs.Told.{PortsTold, IsOpen, MayCome, heard, closed}
+use Rattle.port_trait.specs.Told.{PortsTold, IsOpen, MayCome, heard, after_close}
 use Rattle.port_trait.specs.Boxes.{rest_at, rest_of}
 use Rattle.front_rounds.specs.declared.fates.Fate.TheVariants.{Stays}
 use Rattle.front_rounds.specs.declared.sessions.Session.{Session}
@@ -26,7 +26,7 @@ just_open None c piece = tt
 just_open (Some t) c piece = ap (λ b. cond b true (t.is_open c)) (same c)
 
 still_open : (o : Option PortsTold) (c d : ℕ) (piece : List ℕ) → IfSome o (MayCome (event.Opened c)) → IsOpen d o
-    → IsOpen d (option_map (closed c) (option_map (heard (event.Opened c) piece) o))
+    → IsOpen d (option_map (after_close c) (option_map (heard (event.Opened c) piece) o))
 still_open None c d piece m i = tt
 still_open (Some t) c d piece m i = by_test (d == c) refl
   where
@@ -56,17 +56,17 @@ module _ {A W T : Type 0} (R : Rules A W) (K : List ℕ → List (Move A) → T 
 
   -- it got no session
   pub refused : (c : ℕ) (piece : List ℕ) (start told told' : Option PortsTold) (w : World T) (starved' : ℕ) → (m : Comes R K (event.Opened c) piece start told w)
-      → told' ≡ option_map (closed c) told → starved' ≡ cond (nat_lt (length w.sessions) 1024) (min (w.starved + 1) (2 ^ 64 - 1)) w.starved
+      → told' ≡ option_map (after_close c) told → starved' ≡ cond (nat_lt (length w.sessions) 1024) (min (w.starved + 1) (2 ^ 64 - 1)) w.starved
       → HasBegun R K (event.Opened c) start (record w { told = told'; starved = starved' })
   refused c piece start told told' w starved' m t n =
       let st = m.can.stands in
       let ss : List (Step A) = Came (event.Opened c) piece false ∷ m.steps in
-      let told_is = t ∙ ap (option_map (closed c)) m.heard.1 in
+      let told_is = t ∙ ap (option_map (after_close c)) m.heard.1 in
       record {
         steps = ss;
         stands = record {
           entries = st.entries;
-          telling = told_more start told told' (closed c) (λ v. heard (event.Opened c) piece (told_after R m.steps v))
+          telling = told_more start told told' (after_close c) (λ v. heard (event.Opened c) piece (told_after R m.steps v))
               (told_more start w.told told (heard (event.Opened c) piece) (told_after R m.steps) st.telling m.heard.1) t;
           coming = came_may R start w.told (event.Opened c) piece false m.steps st.telling m.heard.0 st.coming;
           conns_are = st.conns_are;
@@ -151,7 +151,7 @@ module _ {A W T : Type 0} (R : Rules A W) (K : List ℕ → List (Move A) → T 
       (admitted c piece start told (world was mine old) talk m b l n)))
 
   pub opened_no : (c : ℕ) (piece : List ℕ) (start told told' was : Option PortsTold) (mine : List Entry) (old mid new : SessionTable T) → Comes R K (event.Opened c) piece start told (world was mine old)
-      → Admits R K c old mid false → told' ≡ option_map (closed c) told → new.sessions.items ≡ mid.sessions.items → new.outbox ≡ mid.outbox
+      → Admits R K c old mid false → told' ≡ option_map (after_close c) told → new.sessions.items ≡ mid.sessions.items → new.outbox ≡ mid.outbox
       → new.starved ≡ cond (nat_lt (length mid.sessions.items) 1024) (min (mid.starved + 1) (2 ^ 64 - 1)) mid.starved
       → HasBegun R K (event.Opened c) start (world told' mine new)
   opened_no c piece start told told' was mine old mid new m (se, be, te) t sn bn tn =

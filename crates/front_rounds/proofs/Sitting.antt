@@ -4,12 +4,12 @@ use Rattle.std.proofs.lemmas.Bool.{ltb-false, lt-ltb, le-ltb}
 use Rattle.std.proofs.lemmas.Bool.Decides.{nat_tests}
 use Rattle.std.proofs.lemmas.List.{drop-append-le, length-drop}
 use Rattle.port_trait.specs.Told.{PortsTold, IsOpen}
-use Rattle.port_trait.specs.Boxes.{rest_at, HasRest, held, rest_of}
+use Rattle.port_trait.specs.Boxes.{rest_at, HasRest, rest_in, rest_of}
 use Rattle.front_rounds.specs.declared.fates.Fate.{Fate}
 use Rattle.front_rounds.specs.declared.fates.Fate.TheVariants.{Stays, Leaves}
 use Rattle.front_rounds.specs.declared.fates.Reason.TheVariants as reason
 use Rattle.front_rounds.specs.declared.sessions.Session.{Session}
-use Rattle.front_rounds.specs.Rules.{Rules, Move, Does, text, each_whole, any_starves}
+use Rattle.front_rounds.specs.Rules.{Rules, Move, Does, answer_bytes, each_whole, any_starves}
 use Rattle.front_rounds.specs.Parts.{Part, must, is_open, Calm}
 use Rattle.front_rounds.specs.Rounds.{HasAll}
 use Rattle.front_rounds.specs.Front.{keeps, does}
@@ -92,7 +92,7 @@ module _ {A W : Type 0} (R : Rules A W) where
     moves = p.moves;
     took = p.took;
     had = p.took;
-    was = length (text R p.moves);
+    was = length (answer_bytes R p.moves);
     ended = ended;
     lost = lost;
     called = called;
@@ -118,11 +118,11 @@ module _ {A W : Type 0} (R : Rules A W) where
   abbrev pub moved_by : List A → Part A → Part A
   moved_by acts p = record p { moves = does acts ++ p.moves; cut = p.cut; starved = any_starves R (does acts) || p.starved; complete = wholes acts p.moves && p.complete }
 
-  pub text_grows : (acts : List A) (ms : List (Move A)) → length (text R ms) ≤ length (text R (does acts ++ ms))
+  pub text_grows : (acts : List A) (ms : List (Move A)) → length (answer_bytes R ms) ≤ length (answer_bytes R (does acts ++ ms))
   text_grows [] ms = omega arith
   text_grows (a ∷ acts) ms =
       let more = text_grows acts ms in
-      let e = length-append (text R (does acts ++ ms)) (R.says (does acts ++ ms) (Does a)) in
+      let e = length-append (answer_bytes R (does acts ++ ms)) (R.says (does acts ++ ms) (Does a)) in
       omega (arith, more, e)
 
   -- the rest grows by what is said
@@ -150,7 +150,7 @@ module _ {A W T : Type 0} (R : Rules A W) (K : List ℕ → List (Move A) → T 
   -- a session by its fate
   pub sits_as : (told : Option PortsTold) (box : List (ℕ × List ℕ)) (p : Part A) (s : Session T) (f : Fate) → s.fate ≡ f
       → HasRest box s.conn → (is_up f ≡ true → IsOpen s.conn told) → is_open p ≡ is_up f → Counts R p
-      → (keeps f ≡ true → Keeping R K p s (held box s.conn)) → FateFits R p f → (asks_all f ≡ true → HasAll R p)
+      → (keeps f ≡ true → Keeping R K p s (rest_in box s.conn)) → FateFits R p f → (asks_all f ≡ true → HasAll R p)
       → Sits R K told box p s
   sits_as told box p s f e rest op up counts keep fits all = record {
     rest_there = rest;
@@ -179,14 +179,14 @@ module _ {A W T : Type 0} (R : Rules A W) (K : List ℕ → List (Move A) → T 
   calm_of told box p s h r = subst (FateFits R p) r.0 h.fate_fits
 
   pub kept_of : (told : Option PortsTold) (box : List (ℕ × List ℕ)) (p : Part A) (s : Session T) → Sits R K told box p s → IsAtRest s
-      → Keeping R K p s (held box s.conn)
+      → Keeping R K p s (rest_in box s.conn)
   kept_of told box p s h r = h.keeping (ap keeps r.0)
 
   -- the rest of a session at rest is within its limit
   small_of : (told : Option PortsTold) (box : List (ℕ × List ℕ)) (p : Part A) (s : Session T) → Sits R K told box p s → IsAtRest s
-      → length (text R p.moves) ≤ p.took + 1048576
+      → length (answer_bytes R p.moves) ≤ p.took + 1048576
   small_of told box p s h r =
-      let full = ltb-false (p.had + 1048576) (length (text R p.moves)) (calm_of told box p s h r).full in
+      let full = ltb-false (p.had + 1048576) (length (answer_bytes R p.moves)) (calm_of told box p s h r).full in
       let more = h.counts.more in
       omega (arith, full, more)
 
@@ -199,7 +199,7 @@ module _ {A W T : Type 0} (R : Rules A W) (K : List ℕ → List (Move A) → T 
     ended = refl;
     lost = refl;
     cut = refl;
-    full = le-ltb (p.took + 1048576) (length (text R p.moves)) (small_of told box p s h r);
+    full = le-ltb (p.took + 1048576) (length (answer_bytes R p.moves)) (small_of told box p s h r);
     read = (calm_of told box p s h r).read;
     sent = refl;
     sends = refl;
@@ -212,7 +212,7 @@ module _ {A W T : Type 0} (R : Rules A W) (K : List ℕ → List (Move A) → T 
   roll_quiet told told' box p s h r o =
       let k = kept_of told box p s h r in
       let quiet : must R (rolled R p.given false false false p) ≡ false =
-      or_none (nat_lt (length (text R p.moves)) (length (text R p.moves))) (R.refuses p.given) (not_less (length (text R p.moves))) (calm_of told box p s h r).read in
+      or_none (nat_lt (length (answer_bytes R p.moves)) (length (answer_bytes R p.moves))) (R.refuses p.given) (not_less (length (answer_bytes R p.moves))) (calm_of told box p s h r).read in
       sits_as told' box (rolled R p.given false false false p) s Stays r.0 h.rest_there (λ _. o (h.opening (ap is_up r.0))) refl
       (rolled_counts p.given false false false p h.counts)
       (λ _. record {

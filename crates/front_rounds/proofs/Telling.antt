@@ -5,10 +5,10 @@ use Rattle.std.proofs.lemmas.List.{append-nil, take-append-le, length-drop}
 use Rattle.std.proofs.Math.Seq.{take-add}
 use Rattle.port_trait.specs.declared.events.PortEvent.{PortEvent}
 use Rattle.port_trait.specs.declared.events.PortEvent.TheVariants as event
-use Rattle.port_trait.specs.Told.{PortsTold, MayCome, heard, sent, closed}
-use Rattle.front_rounds.specs.Rules.{Rules, Move, Does, Gets, text}
-use Rattle.front_rounds.specs.Steps.{Step, Came, Did, Got, Through, Tried, Left, there, has, remove, opened}
-use Rattle.front_rounds.specs.Parts.{Part, part, due, came, moved, with_try, blank, opens, is_open, answer_of, shut_out, told_after, EachMayCome}
+use Rattle.port_trait.specs.Told.{PortsTold, MayCome, heard, after_send, after_close}
+use Rattle.front_rounds.specs.Rules.{Rules, Move, Does, Gets, answer_bytes}
+use Rattle.front_rounds.specs.Steps.{Step, Came, Did, Got, Through, Tried, Left, there, has, remove, connections_after}
+use Rattle.front_rounds.specs.Parts.{Part, part, due, came, after_move, with_try, blank, opens, is_open, send_answer, shut_out, told_after, EachMayCome}
 use Rattle.front_rounds.specs.Rounds.{Sound, AllKept, OpensNew}
 use Rattle.front_rounds.specs.Serving.{TellsOf}
 use Rattle.front_rounds.specs.inner.Sessions.{Apart}
@@ -58,7 +58,7 @@ has_removed : (cs : List ℕ) (c : ℕ) → Apart cs → has (remove cs c) c ≡
 has_removed [] c a = refl
 has_removed (x ∷ cs) c a = removed_by (x == c) cs x c refl a.0 (has_removed cs c a.1)
 
-apart_opened : (cs : List ℕ) (e : PortEvent) (kept : Bool) → (kept ≡ true → OpensNew e cs) → Apart cs → Apart (opened cs e kept)
+apart_opened : (cs : List ℕ) (e : PortEvent) (kept : Bool) → (kept ≡ true → OpensNew e cs) → Apart cs → Apart (connections_after cs e kept)
 apart_opened cs (event.Opened c) true n a = apart_snoc cs c a (n refl)
 apart_opened cs (event.Opened c) false n a = a
 apart_opened cs (event.Bytes c) kept n a = a
@@ -113,7 +113,7 @@ module _ {A W : Type 0} (R : Rules A W) where
   abbrev Unfailed : Part A → Type 0
   Unfailed p = p.tried ≡ false → p.failed ≡ false
 
-  unfailed_moved : (b : Bool) (m : Move A) (p : Part A) → Unfailed p → Unfailed (cond b (moved R m p) p)
+  unfailed_moved : (b : Bool) (m : Move A) (p : Part A) → Unfailed p → Unfailed (cond b (after_move R m p) p)
   unfailed_moved true m p f h = f h
   unfailed_moved false m p f h = f h
 
@@ -138,13 +138,13 @@ module _ {A W : Type 0} (R : Rules A W) where
 
   -- these bytes were taken of a connection, where those were taken before
   abbrev Takes : List ℕ → Part A → List ℕ → Type 0
-  Takes before p now = (now ≡ before ++ take p.took (text R p.moves)) × (p.took ≤ length (text R p.moves))
+  Takes before p now = (now ≡ before ++ take p.took (answer_bytes R p.moves)) × (p.took ≤ length (answer_bytes R p.moves))
 
-  takes_moved : (b : Bool) (m : Move A) (p : Part A) (before now : List ℕ) → Takes before p now → Takes before (cond b (moved R m p) p) now
+  takes_moved : (b : Bool) (m : Move A) (p : Part A) (before now : List ℕ) → Takes before p now → Takes before (cond b (after_move R m p) p) now
   takes_moved true m p before now h =
-      let e = length-append (text R p.moves) (R.says p.moves m) in
+      let e = length-append (answer_bytes R p.moves) (R.says p.moves m) in
       let l = h.1 in
-      (h.0 ∙ ap (λ xs. before ++ xs) (sym (take-append-le p.took (text R p.moves) (R.says p.moves m) h.1)), omega (arith, e, l))
+      (h.0 ∙ ap (λ xs. before ++ xs) (sym (take-append-le p.took (answer_bytes R p.moves) (R.says p.moves m) h.1)), omega (arith, e, l))
   takes_moved false m p before now h = h
 
   takes_called : (b : Bool) (p : Part A) (before now : List ℕ) → Takes before p now → Takes before (cond b (record p { called = true }) p) now
@@ -153,20 +153,20 @@ module _ {A W : Type 0} (R : Rules A W) where
 
   takes_some : (n : ℕ) (p : Part A) (before now : List ℕ) → n ≤ length (due R p) → Takes before p now → Takes before (with_try R (Some n) p) (now ++ take n (due R p))
   takes_some n p before now k h =
-      let e = length-drop p.took (text R p.moves) in
+      let e = length-drop p.took (answer_bytes R p.moves) in
       let l = h.1 in (
-        ap (λ xs. xs ++ take n (due R p)) h.0 ∙ append_assoc before (take p.took (text R p.moves)) (take n (due R p))
-            ∙ ap (λ xs. before ++ xs) (sym (take-add p.took n (text R p.moves))),
+        ap (λ xs. xs ++ take n (due R p)) h.0 ∙ append_assoc before (take p.took (answer_bytes R p.moves)) (take n (due R p))
+            ∙ ap (λ xs. before ++ xs) (sym (take-add p.took n (answer_bytes R p.moves))),
         omega (arith, e, l, k),
       )
 
   takes_none : (p : Part A) (before now : List ℕ) → Takes before p now → Takes before (with_try R None p) now
   takes_none p before now h =
       let e : p.took ≡ p.took + 0 = omega arith in
-      (h.0 ∙ ap (λ n. before ++ take n (text R p.moves)) e, subst (λ n. n ≤ length (text R p.moves)) e h.1)
+      (h.0 ∙ ap (λ n. before ++ take n (answer_bytes R p.moves)) e, subst (λ n. n ≤ length (answer_bytes R p.moves)) e h.1)
 
   takes_try : (ss : List (Step A)) (t : PortsTold) (c d : ℕ) (taken : Option ℕ) (before : List ℕ) → IfSome taken (λ n. n ≤ length (due R (part R ss d))) → Takes before (part R ss c) (t.taken c)
-      → Takes before (cond (d == c) (with_try R taken (part R ss c)) (part R ss c)) ((sent d (due R (part R ss d)) (answer_of taken) t).taken c)
+      → Takes before (cond (d == c) (with_try R taken (part R ss c)) (part R ss c)) ((after_send d (due R (part R ss d)) (send_answer taken) t).taken c)
   takes_try ss t c d None before k h = by_test (d == c)
     where
       by_test : (b : Bool) → Takes before (cond b (with_try R None (part R ss c)) (part R ss c)) (t.taken c)
@@ -191,10 +191,10 @@ module _ {A W : Type 0} (R : Rules A W) where
       by_test : (b : Bool) → (opens e c && kept) ≡ b → Takes before (came R e piece c (cond b blank p)) (t.taken c)
       by_test true k =
           let none = fresh_taken e kept t c m k in
-          (none ∙ sym (append-nil before ∙ nil_front before (take p.took (text R p.moves)) (sym h.0 ∙ none)), omega arith)
+          (none ∙ sym (append-nil before ∙ nil_front before (take p.took (answer_bytes R p.moves)) (sym h.0 ∙ none)), omega arith)
       by_test false k = h
 
-  takes_left : (b : Bool) (t : PortsTold) (c d : ℕ) (p : Part A) (before : List ℕ) → Takes before p (t.taken c) → Takes before p ((cond b (closed d t) t).taken c)
+  takes_left : (b : Bool) (t : PortsTold) (c d : ℕ) (p : Part A) (before : List ℕ) → Takes before p (t.taken c) → Takes before p ((cond b (after_close d t) t).taken c)
   takes_left true t c d p before h = h
   takes_left false t c d p before h = h
 
@@ -223,7 +223,7 @@ module _ {A W : Type 0} (R : Rules A W) where
       by_test false e = refl
 
   open_came : (ss : List (Step A)) (e : PortEvent) (piece : List ℕ) (kept : Bool) (t : PortsTold) (c : ℕ) → MayCome e t → ((d : ℕ) → d ≡ c → t.is_open d ≡ has (there ss) d)
-      → (shut_out e kept (heard e piece t)).is_open c ≡ (has (opened (there ss) e kept) c && is_open (came R e piece c (cond (opens e c && kept) blank (part R ss c))))
+      → (shut_out e kept (heard e piece t)).is_open c ≡ (has (connections_after (there ss) e kept) c && is_open (came R e piece c (cond (opens e c && kept) blank (part R ss c))))
   open_came ss (event.Opened d) piece true t c m h = by_test (d == c) refl
     where
       by_test : (b : Bool) → (d == c) ≡ b → cond (c == d) true (t.is_open c) ≡ (has (there ss ++ d ∷ []) c && true)
@@ -253,7 +253,7 @@ module _ {A W : Type 0} (R : Rules A W) where
   open_came ss event.Broken piece kept t c m h = h c refl ∙ sym (and_true (has (there ss) c))
   open_came ss event.NoMemory piece kept t c m h = h c refl ∙ sym (and_true (has (there ss) c))
 
-  open_moved : (b : Bool) (m : Move A) (p : Part A) → is_open (cond b (moved R m p) p) ≡ is_open p
+  open_moved : (b : Bool) (m : Move A) (p : Part A) → is_open (cond b (after_move R m p) p) ≡ is_open p
   open_moved true m p = refl
   open_moved false m p = refl
 
@@ -266,7 +266,7 @@ module _ {A W : Type 0} (R : Rules A W) where
   lost_not false = refl
 
   open_try : (t : PortsTold) (c d : ℕ) (taken : Option ℕ) (bytes : List ℕ) (p : Part A) (x : Bool) → (d ≡ c → p.failed ≡ false) → t.is_open c ≡ (x && is_open p)
-      → (sent d bytes (answer_of taken) t).is_open c ≡ (x && is_open (cond (d == c) (with_try R taken p) p))
+      → (after_send d bytes (send_answer taken) t).is_open c ≡ (x && is_open (cond (d == c) (with_try R taken p) p))
   open_try t c d (Some n) bytes p x f h = by_test (d == c) refl
     where
       by_test : (b : Bool) → (d == c) ≡ b → t.is_open c ≡ (x && is_open (cond b (with_try R (Some n) p) p))
@@ -280,21 +280,21 @@ module _ {A W : Type 0} (R : Rules A W) where
       by_test false e = ap (λ v. cond v false (t.is_open c)) (flipped d c e) ∙ h
 
   open_left : (ss : List (Step A)) (t : PortsTold) (c d : ℕ) → Apart (there ss) → t.is_open c ≡ (has (there ss) c && is_open (part R ss c))
-      → (cond (is_open (part R ss d)) (closed d t) t).is_open c ≡ (has (remove (there ss) d) c && is_open (part R ss c))
+      → (cond (is_open (part R ss d)) (after_close d t) t).is_open c ≡ (has (remove (there ss) d) c && is_open (part R ss c))
   open_left ss t c d a h = by_test (d == c) refl
     where
-      closes : (b : Bool) → t.is_open c ≡ (has (there ss) c && b) → (cond b (closed c t) t).is_open c ≡ false
+      closes : (b : Bool) → t.is_open c ≡ (has (there ss) c && b) → (cond b (after_close c t) t).is_open c ≡ false
       closes true k = ap (λ v. cond v false (t.is_open c)) (same c)
       closes false k = k ∙ and_false (has (there ss) c)
 
-      stays : (b : Bool) → (d == c) ≡ false → (cond b (closed d t) t).is_open c ≡ t.is_open c
+      stays : (b : Bool) → (d == c) ≡ false → (cond b (after_close d t) t).is_open c ≡ t.is_open c
       stays true e = ap (λ v. cond v false (t.is_open c)) (flipped d c e)
       stays false e = refl
 
-      by_test : (b : Bool) → (d == c) ≡ b → (cond (is_open (part R ss d)) (closed d t) t).is_open c ≡ (has (remove (there ss) d) c && is_open (part R ss c))
+      by_test : (b : Bool) → (d == c) ≡ b → (cond (is_open (part R ss d)) (after_close d t) t).is_open c ≡ (has (remove (there ss) d) c && is_open (part R ss c))
       by_test true e =
           let q = eqb-true d c e in
-          ap (λ x. (cond (is_open (part R ss x)) (closed x t) t).is_open c) q ∙ closes (is_open (part R ss c)) h
+          ap (λ x. (cond (is_open (part R ss x)) (after_close x t) t).is_open c) q ∙ closes (is_open (part R ss c)) h
           ∙ ap (λ v. v && is_open (part R ss c)) (sym (ap (λ x. has (remove (there ss) x) c) q ∙ has_removed (there ss) c a))
       by_test false e = stays (is_open (part R ss d)) e ∙ h ∙ ap (λ v. v && is_open (part R ss c)) (sym (has_kept (there ss) c d e))
 

@@ -5,17 +5,17 @@ use Rattle.std.proofs.lemmas.List.{drop-drop, length-drop, take_more_set}
 use Rattle.farm_history.specs.Lists.{Each}
 use Rattle.port_trait.specs.declared.events.PortEvent.{PortEvent}
 use Rattle.port_trait.specs.declared.events.SendFault.TheVariants as send_fault
-use Rattle.port_trait.specs.Told.{PortsTold, IsOpen, sent}
-use Rattle.port_trait.specs.Boxes.{rest_at, rest_of, put_rest, HasRest, held, Offered}
+use Rattle.port_trait.specs.Told.{PortsTold, IsOpen, after_send}
+use Rattle.port_trait.specs.Boxes.{rest_at, rest_of, put_rest, HasRest, rest_in, Offered}
 use Rattle.front_rounds.specs.declared.fates.Fate.{Fate}
 use Rattle.front_rounds.specs.declared.fates.Fate.TheVariants.{Stays, Leaves}
 use Rattle.front_rounds.specs.declared.fates.Reason.TheVariants as reason
 use Rattle.front_rounds.specs.declared.sessions.Session.{Session}
 use Rattle.front_rounds.specs.declared.offering.Gave.{Gave}
 use Rattle.front_rounds.specs.declared.offering.Gave.TheVariants as gave
-use Rattle.front_rounds.specs.Rules.{Rules, Move, text}
+use Rattle.front_rounds.specs.Rules.{Rules, Move, answer_bytes}
 use Rattle.front_rounds.specs.Steps.{Tried, Phase, Fresh, Hearing, Collecting, Offering, Leaving, phase, Offers, has}
-use Rattle.front_rounds.specs.Parts.{Part, part, due, must, with_try, answer_of, told_after}
+use Rattle.front_rounds.specs.Parts.{Part, part, due, must, with_try, send_answer, told_after}
 use Rattle.front_rounds.specs.Serving.{EndsAt}
 use Rattle.front_rounds.specs.Front.{keeps}
 use Rattle.front_rounds.specs.inner.Sessions.{keys, Apart, StandsAt, is_up}
@@ -54,7 +54,7 @@ unlost : (a b : Bool) → not (a || b) ≡ true → not (a || false) ≡ true
 unlost true b h = h
 unlost false b h = refl
 
-starved_told : (o : Option PortsTold) (c : ℕ) (rest : List ℕ) → option_map (sent c rest (Err send_fault.NoMemory)) o ≡ o
+starved_told : (o : Option PortsTold) (c : ℕ) (rest : List ℕ) → option_map (after_send c rest (Err send_fault.NoMemory)) o ≡ o
 starved_told None c rest = refl
 starved_told (Some t) c rest = refl
 
@@ -65,7 +65,7 @@ module _ {A W T : Type 0} (R : Rules A W) (K : List ℕ → List (Move A) → T 
 
   counts_try : (n : ℕ) (p : Part A) → Counts R p → n ≤ length (due R p) → Counts R (with_try R (Some n) p)
   counts_try n p h l =
-      let d = length-drop p.took (text R p.moves) in
+      let d = length-drop p.took (answer_bytes R p.moves) in
       let low = h.low in
       let more = h.more in
       record { low = omega (arith, l, d, low); before = h.before; more = omega (arith, more); untaken = λ e. clash e }
@@ -78,7 +78,7 @@ module _ {A W T : Type 0} (R : Rules A W) (K : List ℕ → List (Move A) → T 
 
   -- nothing was due
   nothing_sits : (told : Option PortsTold) (box : List (ℕ × List ℕ)) (p : Part A) (s : Session T) → Sits R K told box p s → keeps s.fate ≡ true
-      → length (held box s.conn) ≡ 0 → Sits R K told box p (given s s.fate)
+      → length (rest_in box s.conn) ≡ 0 → Sits R K told box p (given s s.fate)
   nothing_sits told box p s h k z =
       let kept = h.keeping k in
       sits_as R K told box p (given s s.fate) s.fate refl h.rest_there h.opening h.up h.counts
@@ -89,13 +89,13 @@ module _ {A W T : Type 0} (R : Rules A W) (K : List ℕ → List (Move A) → T 
         knows = kept.knows;
         running = kept.running;
         owed = λ e. clash (sym e);
-        offered = λ _ m t. sym kept.rest_is ∙ no_bytes (held box s.conn) z;
+        offered = λ _ m t. sym kept.rest_is ∙ no_bytes (rest_in box s.conn) z;
       })
       h.fate_fits h.asked_all
 
   -- what fits a fate goes on to fit it, where not all was taken or not all is answered
   fits_try : (n : ℕ) (p : Part A) (f : Fate) → keeps f ≡ true → FateFits R p f
-      → (R.ends p.moves && nat_le (length (text R p.moves)) (p.took + n)) ≡ false → FateFits R (with_try R (Some n) p) f
+      → (R.ends p.moves && nat_le (length (answer_bytes R p.moves)) (p.took + n)) ≡ false → FateFits R (with_try R (Some n) p) f
   fits_try n p Stays k h e = record { ended = h.ended; lost = h.lost; cut = h.cut; full = h.full; read = h.read; sent = e; sends = refl; memory = h.memory }
   fits_try n p (Leaves reason.Unread) k h e = h
   fits_try n p (Leaves reason.NoMemory) k h e = clash (sym k)
@@ -109,17 +109,17 @@ module _ {A W T : Type 0} (R : Rules A W) (K : List ℕ → List (Move A) → T 
 
   -- some bytes were taken, and the session goes on as it was
   taken_sits : (told told' : Option PortsTold) (box : List (ℕ × List ℕ)) (p : Part A) (s : Session T) (n : ℕ) → Sits R K told box p s → keeps s.fate ≡ true
-      → n ≤ length (held box s.conn) → (IsOpen s.conn told → IsOpen s.conn told')
-      → (R.ends p.moves && nat_le (length (text R p.moves)) (p.took + n)) ≡ false
-      → Sits R K told' (put_rest box s.conn (drop n (held box s.conn))) (with_try R (Some n) p) (given s s.fate)
+      → n ≤ length (rest_in box s.conn) → (IsOpen s.conn told → IsOpen s.conn told')
+      → (R.ends p.moves && nat_le (length (answer_bytes R p.moves)) (p.took + n)) ≡ false
+      → Sits R K told' (put_rest box s.conn (drop n (rest_in box s.conn))) (with_try R (Some n) p) (given s s.fate)
   taken_sits told told' box p s n h k l o e =
       let kept = h.keeping k in
-      let box' = put_rest box s.conn (drop n (held box s.conn)) in
-      sits_as R K told' box' (with_try R (Some n) p) (given s s.fate) s.fate refl (drop n (held box s.conn), at_put box s.conn (drop n (held box s.conn)) h.rest_there)
+      let box' = put_rest box s.conn (drop n (rest_in box s.conn)) in
+      sits_as R K told' box' (with_try R (Some n) p) (given s s.fate) s.fate refl (drop n (rest_in box s.conn), at_put box s.conn (drop n (rest_in box s.conn)) h.rest_there)
       (λ u. o (h.opening u)) (unlost p.lost p.failed (h.up ∙ keeps_up s.fate k) ∙ sym (keeps_up s.fate k))
       (counts_try n p h.counts (subst (λ (xs : List ℕ). n ≤ length xs) kept.rest_is l))
       (λ _. record {
-        rest_is = holds_rest R K box s.conn (drop n (held box s.conn)) h.rest_there ∙ ap (drop n) kept.rest_is ∙ drop-drop n p.took (text R p.moves);
+        rest_is = holds_rest R K box s.conn (drop n (rest_in box s.conn)) h.rest_there ∙ ap (drop n) kept.rest_is ∙ drop-drop n p.took (answer_bytes R p.moves);
         asked_all = kept.asked_all;
         whole = kept.whole;
         knows = kept.knows;
@@ -131,13 +131,13 @@ module _ {A W T : Type 0} (R : Rules A W) (K : List ℕ → List (Move A) → T 
 
   -- all was taken, and all is answered
   whole_sits : (told told' : Option PortsTold) (box : List (ℕ × List ℕ)) (p : Part A) (s : Session T) (n : ℕ) → Sits R K told box p s → keeps s.fate ≡ true
-      → n ≤ length (held box s.conn) → (IsOpen s.conn told → IsOpen s.conn told')
-      → (R.ends p.moves && nat_le (length (text R p.moves)) (p.took + n)) ≡ true
-      → Sits R K told' (put_rest box s.conn (drop n (held box s.conn))) (with_try R (Some n) p) (given s (Leaves reason.SentWhole))
+      → n ≤ length (rest_in box s.conn) → (IsOpen s.conn told → IsOpen s.conn told')
+      → (R.ends p.moves && nat_le (length (answer_bytes R p.moves)) (p.took + n)) ≡ true
+      → Sits R K told' (put_rest box s.conn (drop n (rest_in box s.conn))) (with_try R (Some n) p) (given s (Leaves reason.SentWhole))
   whole_sits told told' box p s n h k l o e =
       let kept = h.keeping k in
-      sits_as R K told' (put_rest box s.conn (drop n (held box s.conn))) (with_try R (Some n) p) (given s (Leaves reason.SentWhole)) (Leaves reason.SentWhole) refl
-      (drop n (held box s.conn), at_put box s.conn (drop n (held box s.conn)) h.rest_there)
+      sits_as R K told' (put_rest box s.conn (drop n (rest_in box s.conn))) (with_try R (Some n) p) (given s (Leaves reason.SentWhole)) (Leaves reason.SentWhole) refl
+      (drop n (rest_in box s.conn), at_put box s.conn (drop n (rest_in box s.conn)) h.rest_there)
       (λ _. o (h.opening (keeps_up s.fate k))) (unlost p.lost p.failed (h.up ∙ keeps_up s.fate k))
       (counts_try n p h.counts (subst (λ (xs : List ℕ). n ≤ length xs) kept.rest_is l))
       (λ q. clash (sym q)) e (λ _. (kept.asked_all, (h.asked_all (keeps_asks s.fate k)).1))
@@ -183,7 +183,7 @@ module _ {A W T : Type 0} (R : Rules A W) (K : List ℕ → List (Move A) → T 
   -- a try was made on one session
   stepped : (e : PortEvent) (stopped : Bool) (start told' : Option PortsTold) (w : World T) (i : ℕ) (s s' : Session T) (taken : Option ℕ) (box' : List (ℕ × List ℕ))
       → (h : CanOffer R K e stopped start w) → StandsAt w.sessions i s → s'.conn ≡ s.conn
-      → told' ≡ option_map (sent s.conn (due R (part R h.steps s.conn)) (answer_of taken)) w.told
+      → told' ≡ option_map (after_send s.conn (due R (part R h.steps s.conn)) (send_answer taken)) w.told
       → must R (part R h.steps s.conn) ≡ true → (part R h.steps s.conn).tried ≡ false → 0 < length (due R (part R h.steps s.conn))
       → IfSome taken (λ n. n ≤ length (due R (part R h.steps s.conn)))
       → keys box' ≡ keys w.box → ((d : ℕ) → (s.conn ≡ d → ⊥) → rest_at box' d ≡ rest_at w.box d)
@@ -198,7 +198,7 @@ module _ {A W T : Type 0} (R : Rules A W) (K : List ℕ → List (Move A) → T 
         steps = ss;
         stands = record {
           entries = st.entries;
-          telling = told_more start w.told told' (sent s.conn (due R (part R h.steps s.conn)) (answer_of taken)) (told_after R h.steps) st.telling t;
+          telling = told_more start w.told told' (after_send s.conn (due R (part R h.steps s.conn)) (send_answer taken)) (told_after R h.steps) st.telling t;
           coming = st.coming;
           conns_are = cs ∙ st.conns_are;
           keys_are = k ∙ st.keys_are;
@@ -216,31 +216,31 @@ module _ {A W T : Type 0} (R : Rules A W) (K : List ℕ → List (Move A) → T 
         time = h.time;
       }
 
-  end_done : (s : Session T) (p : Part A) (n : ℕ) (rest : List ℕ) (done : Bool) → rest ≡ due R p → p.took ≤ length (text R p.moves) → length (drop n rest) ≡ 0 → done ≡ R.ends p.moves
-      → (R.ends p.moves && nat_le (length (text R p.moves)) (p.took + n)) ≡ done
+  end_done : (s : Session T) (p : Part A) (n : ℕ) (rest : List ℕ) (done : Bool) → rest ≡ due R p → p.took ≤ length (answer_bytes R p.moves) → length (drop n rest) ≡ 0 → done ≡ R.ends p.moves
+      → (R.ends p.moves && nat_le (length (answer_bytes R p.moves)) (p.took + n)) ≡ done
   end_done s p n rest true e l z d =
       let a = length-drop n rest in
-      let b = ap length e ∙ length-drop p.took (text R p.moves) in
-      and_both (R.ends p.moves) (nat_le (length (text R p.moves)) (p.took + n)) (sym d) (le-leb (length (text R p.moves)) (p.took + n) (omega (arith, a, b, z, l)))
-  end_done s p n rest false e l z d = ap (λ x. x && nat_le (length (text R p.moves)) (p.took + n)) (sym d)
+      let b = ap length e ∙ length-drop p.took (answer_bytes R p.moves) in
+      and_both (R.ends p.moves) (nat_le (length (answer_bytes R p.moves)) (p.took + n)) (sym d) (le-leb (length (answer_bytes R p.moves)) (p.took + n) (omega (arith, a, b, z, l)))
+  end_done s p n rest false e l z d = ap (λ x. x && nat_le (length (answer_bytes R p.moves)) (p.took + n)) (sym d)
 
-  part_left : (p : Part A) (n : ℕ) (rest : List ℕ) → rest ≡ due R p → p.took ≤ length (text R p.moves) → 0 < length (drop n rest)
-      → (R.ends p.moves && nat_le (length (text R p.moves)) (p.took + n)) ≡ false
+  part_left : (p : Part A) (n : ℕ) (rest : List ℕ) → rest ≡ due R p → p.took ≤ length (answer_bytes R p.moves) → 0 < length (drop n rest)
+      → (R.ends p.moves && nat_le (length (answer_bytes R p.moves)) (p.took + n)) ≡ false
   part_left p n rest e l z =
       let a = length-drop n rest in
-      let b = ap length e ∙ length-drop p.took (text R p.moves) in
-      and_false (R.ends p.moves) (nat_le (length (text R p.moves)) (p.took + n)) (lt-leb (length (text R p.moves)) (p.took + n) (omega (arith, a, b, z, l)))
+      let b = ap length e ∙ length-drop p.took (answer_bytes R p.moves) in
+      and_false (R.ends p.moves) (nat_le (length (answer_bytes R p.moves)) (p.took + n)) (lt-leb (length (answer_bytes R p.moves)) (p.took + n) (omega (arith, a, b, z, l)))
 
   all_by : (done : Bool) (told told' : Option PortsTold) (box : List (ℕ × List ℕ)) (p : Part A) (s : Session T) (n : ℕ) → Sits R K told box p s → keeps s.fate ≡ true
-      → n ≤ length (held box s.conn) → (IsOpen s.conn told → IsOpen s.conn told')
-      → (R.ends p.moves && nat_le (length (text R p.moves)) (p.took + n)) ≡ done
-      → Sits R K told' (put_rest box s.conn (drop n (held box s.conn))) (with_try R (Some n) p) (given s (fate_after gave.All done s.fate))
+      → n ≤ length (rest_in box s.conn) → (IsOpen s.conn told → IsOpen s.conn told')
+      → (R.ends p.moves && nat_le (length (answer_bytes R p.moves)) (p.took + n)) ≡ done
+      → Sits R K told' (put_rest box s.conn (drop n (rest_in box s.conn))) (with_try R (Some n) p) (given s (fate_after gave.All done s.fate))
   all_by true told told' box p s n h k l o e = whole_sits told told' box p s n h k l o e
   all_by false told told' box p s n h k l o e = taken_sits told told' box p s n h k l o e
 
   -- an offer to one session
   pub gave_by : (e : PortEvent) (stopped : Bool) (start told' : Option PortsTold) (w : World T) (i : ℕ) (s s' : Session T) (box' : List (ℕ × List ℕ)) (g : Gave) (done : Bool)
-      → CanOffer R K e stopped start w → StandsAt w.sessions i s → s.owes ≡ true → keeps s.fate ≡ true → Gives s.conn (held w.box s.conn) w.box box' w.told told' g
+      → CanOffer R K e stopped start w → StandsAt w.sessions i s → s.owes ≡ true → keeps s.fate ≡ true → Gives s.conn (rest_in w.box s.conn) w.box box' w.told told' g
       → ((given : List ℕ) (ms : List (Move A)) → K given ms s.talk → done ≡ R.ends ms) → s' ≡ record s { owes = false; fate = fate_after g done s.fate }
       → CanOffer R K e stopped start (record { told = told'; mine = w.mine; sessions = set w.sessions i s'; box = box'; starved = w.starved })
   gave_by e stopped start told' w i s s' box' gave.Nothing done h at o k (z, b, t) d is =
@@ -250,7 +250,7 @@ module _ {A W T : Type 0} (R : Rules A W) (K : List ℕ → List (Move A) → T 
       (unstepped e stopped start w i s (given s s.fate) h at refl (nothing_sits w.told w.box (part R h.steps s.conn) s sits k z))
   gave_by e stopped start told' w i s s' box' gave.NoMemory done h at o k (z, b, t) d is =
       let sits = each_at (λ (x : Session T). Sits R K w.told w.box (part R h.steps x.conn) x) w.sessions i s at h.stands.each in
-      let same_told = t ∙ starved_told w.told s.conn (held w.box s.conn) in
+      let same_told = t ∙ starved_told w.told s.conn (rest_in w.box s.conn) in
       subst (λ (v : World T). CanOffer R K e stopped start v) (ap (λ (v : Option PortsTold × (List (ℕ × List ℕ) × Session T)). record { told = v.0; mine = w.mine; sessions = set w.sessions i v.1.1; box = v.1.0; starved = w.starved })
       (let q : ◌≡◌ {A = Option PortsTold × (List (ℕ × List ℕ) × Session T)} (w.told, (w.box, given s (Leaves reason.Starved))) (told', (box', s')) = cc in q))
       (unstepped e stopped start w i s (given s (Leaves reason.Starved)) h at refl (lacked_sits w.told w.box (part R h.steps s.conn) s sits k))
@@ -259,9 +259,9 @@ module _ {A W T : Type 0} (R : Rules A W) (K : List ℕ → List (Move A) → T 
       let kept = sits.keeping k in
       let owed = kept.owed o in
       stepped e stopped start told' w i s s' None box' h at (ap (λ (x : Session T). x.conn) is)
-      (t ∙ ap (λ xs. option_map (sent s.conn xs (Err send_fault.Failed)) w.told) kept.rest_is)
+      (t ∙ ap (λ xs. option_map (after_send s.conn xs (Err send_fault.Failed)) w.told) kept.rest_is)
       owed.1 owed.0 (subst (λ (xs : List ℕ). 0 < length xs) kept.rest_is z) tt (ap keys b) (λ d n. ap (λ (x : List (ℕ × List ℕ)). rest_at x d) b)
-      (λ d n. open_by w.told told' (sent s.conn (held w.box s.conn) (Err send_fault.Failed)) d t (λ v. ap (λ x. cond x false (v.is_open d)) (other d s.conn (λ q. n (sym q)))))
+      (λ d n. open_by w.told told' (after_send s.conn (rest_in w.box s.conn) (Err send_fault.Failed)) d t (λ v. ap (λ x. cond x false (v.is_open d)) (other d s.conn (λ q. n (sym q)))))
       (subst (λ (x : Session T). Sits R K told' box' (with_try R None (part R h.steps s.conn)) x) (sym is)
       (subst (λ (x : List (ℕ × List ℕ)). Sits R K told' x (with_try R None (part R h.steps s.conn)) (given s (Leaves reason.SendFailed))) (sym b)
       (failed_sits told' w.told w.box (part R h.steps s.conn) s sits k)))
@@ -270,28 +270,28 @@ module _ {A W T : Type 0} (R : Rules A W) (K : List ℕ → List (Move A) → T 
       let kept = sits.keeping k in
       let owed = kept.owed o in
       stepped e stopped start told' w i s s' (Some n) box' h at (ap (λ (x : Session T). x.conn) is)
-      (t ∙ ap (λ xs. option_map (sent s.conn xs (Ok n)) w.told) kept.rest_is)
+      (t ∙ ap (λ xs. option_map (after_send s.conn xs (Ok n)) w.told) kept.rest_is)
       owed.1 owed.0 (subst (λ (xs : List ℕ). 0 < length xs) kept.rest_is z) (subst (λ (xs : List ℕ). n ≤ length xs) kept.rest_is l)
-      (ap keys b ∙ keys_put w.box s.conn (drop n (held w.box s.conn))) (λ d ne. ap (λ (x : List (ℕ × List ℕ)). rest_at x d) b ∙ other_put w.box s.conn (drop n (held w.box s.conn)) d ne)
-      (λ d ne. open_by w.told told' (sent s.conn (held w.box s.conn) (Ok n)) d t (λ v. refl))
+      (ap keys b ∙ keys_put w.box s.conn (drop n (rest_in w.box s.conn))) (λ d ne. ap (λ (x : List (ℕ × List ℕ)). rest_at x d) b ∙ other_put w.box s.conn (drop n (rest_in w.box s.conn)) d ne)
+      (λ d ne. open_by w.told told' (after_send s.conn (rest_in w.box s.conn) (Ok n)) d t (λ v. refl))
       (subst (λ (x : Session T). Sits R K told' box' (with_try R (Some n) (part R h.steps s.conn)) x) (sym is)
       (subst (λ (x : List (ℕ × List ℕ)). Sits R K told' x (with_try R (Some n) (part R h.steps s.conn)) (given s s.fate)) (sym b)
-      (taken_sits w.told told' w.box (part R h.steps s.conn) s n sits k l (open_by w.told told' (sent s.conn (held w.box s.conn) (Ok n)) s.conn t (λ v. refl))
-      (part_left (part R h.steps s.conn) n (held w.box s.conn) kept.rest_is sits.counts.low rem))))
+      (taken_sits w.told told' w.box (part R h.steps s.conn) s n sits k l (open_by w.told told' (after_send s.conn (rest_in w.box s.conn) (Ok n)) s.conn t (λ v. refl))
+      (part_left (part R h.steps s.conn) n (rest_in w.box s.conn) kept.rest_is sits.counts.low rem))))
   gave_by e stopped start told' w i s s' box' gave.All done h at o k (z, (n, l, rem, b, t)) d is =
       let sits = each_at (λ (x : Session T). Sits R K w.told w.box (part R h.steps x.conn) x) w.sessions i s at h.stands.each in
       let kept = sits.keeping k in
       let owed = kept.owed o in
       let p = part R h.steps s.conn in
-      let opens = open_by w.told told' (sent s.conn (held w.box s.conn) (Ok n)) s.conn t (λ v. refl) in
+      let opens = open_by w.told told' (after_send s.conn (rest_in w.box s.conn) (Ok n)) s.conn t (λ v. refl) in
       stepped e stopped start told' w i s s' (Some n) box' h at (ap (λ (x : Session T). x.conn) is)
-      (t ∙ ap (λ xs. option_map (sent s.conn xs (Ok n)) w.told) kept.rest_is)
+      (t ∙ ap (λ xs. option_map (after_send s.conn xs (Ok n)) w.told) kept.rest_is)
       owed.1 owed.0 (subst (λ (xs : List ℕ). 0 < length xs) kept.rest_is z) (subst (λ (xs : List ℕ). n ≤ length xs) kept.rest_is l)
-      (ap keys b ∙ keys_put w.box s.conn (drop n (held w.box s.conn))) (λ d ne. ap (λ (x : List (ℕ × List ℕ)). rest_at x d) b ∙ other_put w.box s.conn (drop n (held w.box s.conn)) d ne)
-      (λ d ne. open_by w.told told' (sent s.conn (held w.box s.conn) (Ok n)) d t (λ v. refl))
+      (ap keys b ∙ keys_put w.box s.conn (drop n (rest_in w.box s.conn))) (λ d ne. ap (λ (x : List (ℕ × List ℕ)). rest_at x d) b ∙ other_put w.box s.conn (drop n (rest_in w.box s.conn)) d ne)
+      (λ d ne. open_by w.told told' (after_send s.conn (rest_in w.box s.conn) (Ok n)) d t (λ v. refl))
       (subst (λ (x : Session T). Sits R K told' box' (with_try R (Some n) p) x) (sym is)
       (subst (λ (x : List (ℕ × List ℕ)). Sits R K told' x (with_try R (Some n) p) (given s (fate_after gave.All done s.fate))) (sym b)
-      (all_by done w.told told' w.box p s n sits k l opens (end_done s p n (held w.box s.conn) done kept.rest_is sits.counts.low rem (d p.given p.moves kept.knows)))))
+      (all_by done w.told told' w.box p s n sits k l opens (end_done s p n (rest_in w.box s.conn) done kept.rest_is sits.counts.low rem (d p.given p.moves kept.knows)))))
 
   pub offered_one : (e : PortEvent) (stopped : Bool) (start told' : Option PortsTold) (w : World T) (i : ℕ) (s s' : Session T) (box' : List (ℕ × List ℕ))
       → CanOffer R K e stopped start w → StandsAt w.sessions i s → OffersOne R K s s' w.box box' w.told told'
@@ -314,16 +314,16 @@ module _ {A W T : Type 0} (R : Rules A W) (K : List ℕ → List (Move A) → T 
 
 -- the offer of a rest that is not empty
 gives_some : (c n : ℕ) (rest : List ℕ) (box box' : List (ℕ × List ℕ)) (told told' : Option PortsTold) (r : List ℕ) → drop n rest ≡ r → 0 < length rest → n ≤ length rest
-    → box' ≡ put_rest box c (drop n rest) → told' ≡ option_map (sent c rest (Ok n)) told → Gives c rest box box' told told' (part_or_all r)
+    → box' ≡ put_rest box c (drop n rest) → told' ≡ option_map (after_send c rest (Ok n)) told → Gives c rest box box' told told' (part_or_all r)
 gives_some c n rest box box' told told' [] e z l b t = (z, (n, l, ap length e, b, t))
 gives_some c n rest box box' told told' (x ∷ r) e z l b t = (z, (n, l, subst (λ (ys : List ℕ). 0 < length ys) (sym e) (let q : 0 < length (x ∷ r) = omega arith in q), b, t))
 
-pub offered_rest : (c : ℕ) (box box' : List (ℕ × List ℕ)) (was is : Option PortsTold) → HasRest box c → 0 < length (held box c) → Offered box c (Ok tt) box' was is
-    → HasRest box' c × Gives c (held box c) box box' was is (part_or_all (held box' c))
+pub offered_rest : (c : ℕ) (box box' : List (ℕ × List ℕ)) (was is : Option PortsTold) → HasRest box c → 0 < length (rest_in box c) → Offered box c (Ok tt) box' was is
+    → HasRest box' c × Gives c (rest_in box c) box box' was is (part_or_all (rest_in box' c))
 offered_rest c box box' was is h z o =
     let w = o.1 z in
-    let at = ap (λ (x : List (ℕ × List ℕ)). rest_at x c) w.2 ∙ at_put box c (drop w.0 (held box c)) h in
-    ((drop w.0 (held box c), at), gives_some c w.0 (held box c) box box' was is (held box' c) (sym (ap rest_of at)) z w.1 w.2 w.3)
+    let at = ap (λ (x : List (ℕ × List ℕ)). rest_at x c) w.2 ∙ at_put box c (drop w.0 (rest_in box c)) h in
+    ((drop w.0 (rest_in box c), at), gives_some c w.0 (rest_in box c) box box' was is (rest_in box' c) (sym (ap rest_of at)) z w.1 w.2 w.3)
 
 pub positive : (n : ℕ) → false ≡ (n == 0) → 0 < n
 positive zero h = clash (sym h)

@@ -5,13 +5,13 @@ use Rattle.farm_history.specs.Entries.{Entry}
 use Rattle.port_trait.specs.declared.events.PortEvent.{PortEvent}
 use Rattle.port_trait.specs.declared.events.PortEvent.TheVariants as event
 use Rattle.port_trait.specs.Told.{PortsTold, MayCome, IsOpen, heard}
-use Rattle.port_trait.specs.Boxes.{rest_at, HasRest, held}
+use Rattle.port_trait.specs.Boxes.{rest_at, HasRest, rest_in}
 use Rattle.front_rounds.specs.declared.fates.Fate.{Fate}
 use Rattle.front_rounds.specs.declared.sessions.Session.{Session}
 use Rattle.front_rounds.specs.declared.sessions.SessionTable.{SessionTable}
-use Rattle.front_rounds.specs.Rules.{Rules, Move, Does, asked, BeginsWanted, any_starves}
-use Rattle.front_rounds.specs.Steps.{Step, Came, Did, phase, Phase, Hearing, there, has, own, starved_in, opened, with_refused}
-use Rattle.front_rounds.specs.Parts.{Part, part, came, moved, told_after, EachMayCome, shut_out}
+use Rattle.front_rounds.specs.Rules.{Rules, Move, Does, wants_of, BeginsWanted, any_starves}
+use Rattle.front_rounds.specs.Steps.{Step, Came, Did, phase, Phase, Hearing, there, has, own, starved_in, connections_after, with_refused}
+use Rattle.front_rounds.specs.Parts.{Part, part, came, after_move, told_after, EachMayCome, shut_out}
 use Rattle.front_rounds.specs.Rounds.{Sound, AllKept, Kept, BeginsRound}
 use Rattle.front_rounds.specs.Front.{does, with_acts, EachFits}
 use Rattle.front_rounds.specs.inner.Sessions.{conns, keys, Apart, StandsAt, woken}
@@ -63,7 +63,7 @@ plain_shut event.Finished p t = refl
 plain_shut event.Broken p t = refl
 plain_shut event.NoMemory p t = refl
 
-plain_opened : (e : PortEvent) → Plain e → (cs : List ℕ) → opened cs e false ≡ cs
+plain_opened : (e : PortEvent) → Plain e → (cs : List ℕ) → connections_after cs e false ≡ cs
 plain_opened (event.Opened c) p cs = absurd p
 plain_opened (event.Bytes c) p cs = refl
 plain_opened (event.Writable c) p cs = refl
@@ -88,13 +88,13 @@ plain_refused event.NoMemory p n there = refl
 -- what settles changes nothing of others
 pub settles_keys : (c : ℕ) (said : List ℕ) (f f' : Fate) (box box' : List (ℕ × List ℕ)) → Settles c said f f' box box' → keys box' ≡ keys box
 settles_keys c said f f' box box' (Passes k q b) = ap keys b
-settles_keys c said f f' box box' (Holds k q b l) = ap keys b ∙ keys_put box c (held box c ++ said)
+settles_keys c said f f' box box' (Holds k q b l) = ap keys b ∙ keys_put box c (rest_in box c ++ said)
 settles_keys c said f f' box box' (Overflows k q b l) = ap keys b
 settles_keys c said f f' box box' (Starves k q b) = ap keys b
 
 pub settles_other : (c : ℕ) (said : List ℕ) (f f' : Fate) (box box' : List (ℕ × List ℕ)) (d : ℕ) → Settles c said f f' box box' → (c ≡ d → ⊥) → rest_at box' d ≡ rest_at box d
 settles_other c said f f' box box' d (Passes k q b) n = ap (λ (x : List (ℕ × List ℕ)). rest_at x d) b
-settles_other c said f f' box box' d (Holds k q b l) n = ap (λ (x : List (ℕ × List ℕ)). rest_at x d) b ∙ other_put box c (held box c ++ said) d n
+settles_other c said f f' box box' d (Holds k q b l) n = ap (λ (x : List (ℕ × List ℕ)). rest_at x d) b ∙ other_put box c (rest_in box c ++ said) d n
 settles_other c said f f' box box' d (Overflows k q b l) n = ap (λ (x : List (ℕ × List ℕ)). rest_at x d) b
 settles_other c said f f' box box' d (Starves k q b) n = ap (λ (x : List (ℕ × List ℕ)). rest_at x d) b
 
@@ -149,7 +149,7 @@ module _ {A W : Type 0} (R : Rules A W) where
   phase_dids c [] ss = refl
   phase_dids c (a ∷ acts) ss = phase_dids c acts ss
 
-  moved_once : (a : A) (acts : List A) (p : Part A) → moved R (Does a) (moved_by R acts p) ≡ moved_by R (a ∷ acts) p
+  moved_once : (a : A) (acts : List A) (p : Part A) → after_move R (Does a) (moved_by R acts p) ≡ moved_by R (a ∷ acts) p
   moved_once a acts p =
       ap (λ b. record p { moves = Does a ∷ (does acts ++ p.moves); starved = b; complete = R.whole (does acts ++ p.moves) (Does a) && (wholes R acts p.moves && p.complete) })
       (or_assoc (R.starves (Does a)) (any_starves R (does acts)) p.starved)
@@ -159,13 +159,13 @@ module _ {A W : Type 0} (R : Rules A W) where
   part_dids : (c : ℕ) (acts : List A) (ss : List (Step A)) → part R (dids c acts ++ ss) c ≡ moved_by R acts (part R ss c)
   part_dids c [] ss = refl
   part_dids c (a ∷ acts) ss =
-      ap (λ b. cond b (moved R (Does a) (part R (dids c acts ++ ss) c)) (part R (dids c acts ++ ss) c)) (same c)
-      ∙ ap (moved R (Does a)) (part_dids c acts ss) ∙ moved_once a acts (part R ss c)
+      ap (λ b. cond b (after_move R (Does a) (part R (dids c acts ++ ss) c)) (part R (dids c acts ++ ss) c)) (same c)
+      ∙ ap (after_move R (Does a)) (part_dids c acts ss) ∙ moved_once a acts (part R ss c)
 
   part_others : (c : ℕ) (acts : List A) (ss : List (Step A)) (d : ℕ) → (c ≡ d → ⊥) → part R (dids c acts ++ ss) d ≡ part R ss d
   part_others c [] ss d n = refl
   part_others c (a ∷ acts) ss d n =
-      ap (λ b. cond b (moved R (Does a) (part R (dids c acts ++ ss) d)) (part R (dids c acts ++ ss) d)) (other c d n) ∙ part_others c acts ss d n
+      ap (λ b. cond b (after_move R (Does a) (part R (dids c acts ++ ss) d)) (part R (dids c acts ++ ss) d)) (other c d n) ∙ part_others c acts ss d n
 
   -- what ports may do
   pub came_may : (start told : Option PortsTold) (e : PortEvent) (piece : List ℕ) (kept : Bool) (ss : List (Step A)) → told ≡ option_map (told_after R ss) start
@@ -187,15 +187,15 @@ module _ {A W : Type 0} (R : Rules A W) where
   begins_less given ws w (inr (more, h)) = inr (w ∷ more, subst (R.wanted given) (append_assoc ws (w ∷ []) more) h)
 
   sound_dids : (c : ℕ) (acts : List A) (ss : List (Step A)) → phase ss ≡ Hearing (event.Bytes c) → Sound R ss → EachFits R acts (part R ss c).moves
-      → BeginsWanted R (part R ss c).given (asked R (does acts ++ (part R ss c).moves)) → Sound R (dids c acts ++ ss)
+      → BeginsWanted R (part R ss c).given (wants_of R (does acts ++ (part R ss c).moves)) → Sound R (dids c acts ++ ss)
   sound_dids c [] ss p s f b = s
   sound_dids c (a ∷ acts) ss p s f b =
-      let less = begins_less (part R ss c).given (asked R (does acts ++ (part R ss c).moves)) (R.want a) b in
+      let less = begins_less (part R ss c).given (wants_of R (does acts ++ (part R ss c).moves)) (R.want a) b in
       let is = part_dids c acts ss in (
         record {
           heard = phase_dids c acts ss ∙ p;
           fits = subst (λ (q : Part A). R.fits q.moves (Does a) ≡ true) (sym is) f.0;
-          begins = subst (λ (q : Part A). BeginsWanted R q.given (asked R q.moves ++ R.want a ∷ [])) (sym is) b;
+          begins = subst (λ (q : Part A). BeginsWanted R q.given (wants_of R q.moves ++ R.want a ∷ [])) (sym is) b;
         },
         sound_dids c acts ss p s f.1 less,
       )
@@ -290,7 +290,7 @@ module _ {A W T : Type 0} (R : Rules A W) (K : List ℕ → List (Move A) → T 
           sound = sound_dids R s.conn hd.acts ss (ap (λ d. Hearing (event.Bytes d)) (sym sc))
               (record { time = m.can.time; begins = tt; before = all_kept start m.steps w st m.can.rested; room = λ h. clash (sym h) }, st.sound)
               (subst (λ (q : Part A). EachFits R hd.acts q.moves) (sym part_is) hd.fits)
-              (subst (λ (q : Part A). BeginsWanted R q.given (asked R (does hd.acts ++ q.moves))) (sym part_is) hd.begins);
+              (subst (λ (q : Part A). BeginsWanted R q.given (wants_of R (does hd.acts ++ q.moves))) (sym part_is) hd.begins);
           counted = st.counted ∙ ap (λ n. min n (2 ^ 64 - 1)) (sym (starved_dids R s.conn hd.acts ss));
           apart = subst Apart (sym (conns_set w.sessions i s s' at h.conn)) st.apart;
           each = each_set (Resting w.told w.box m.steps) (λ (x : Session T). Sits R K told box' (part R (dids R s.conn hd.acts ++ ss) x.conn) x) w.sessions i s s' at st.apart
@@ -329,7 +329,7 @@ module _ {A W T : Type 0} (R : Rules A W) (K : List ℕ → List (Move A) → T 
         sound = sound_dids R s.conn hd.acts ss (ap (λ d. Hearing (event.Bytes d)) (sym sc))
             (record { time = m.can.time; begins = tt; before = all_kept start m.steps w st m.can.rested; room = λ h. clash (sym h) }, st.sound)
             (subst (λ (q : Part A). EachFits R hd.acts q.moves) (sym part_is) hd.fits)
-            (subst (λ (q : Part A). BeginsWanted R q.given (asked R (does hd.acts ++ q.moves))) (sym part_is) hd.begins);
+            (subst (λ (q : Part A). BeginsWanted R q.given (wants_of R (does hd.acts ++ q.moves))) (sym part_is) hd.begins);
       }
 
   pub rest_of_place : (e : PortEvent) (piece : List ℕ) (start told : Option PortsTold) (w : World T) (i : ℕ) (s : Session T)

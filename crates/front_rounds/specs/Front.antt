@@ -6,7 +6,7 @@ use Rattle.front_rounds.specs.declared.farm.Worn.{Worn}
 use Rattle.front_rounds.specs.declared.fates.Fate.{Fate}
 use Rattle.front_rounds.specs.declared.fates.Fate.TheVariants.{Stays, Leaves}
 use Rattle.front_rounds.specs.declared.fates.Reason.TheVariants as reason
-use Rattle.front_rounds.specs.Rules.{Rules, Move, Does, Gets, asked, text, each_whole, any_starves, BeginsWanted}
+use Rattle.front_rounds.specs.Rules.{Rules, Move, Does, Gets, wants_of, answer_bytes, each_whole, any_starves, BeginsWanted}
 
 -- the bytes of a connection are still kept and answered: it stays, or is left once they were offered
 abbrev pub keeps : Fate → Bool
@@ -83,17 +83,17 @@ module _ {A W T : Type 0} (R : Rules A W) (K : List ℕ → List (Move A) → T 
   pub record Heard (c : ℕ) (piece : List ℕ) (mine mine' : List Entry) (talk' : T) (said : List ℕ) (fate : Fate) (given : List ℕ) (ms : List (Move A)) : Type 0 where
     pub acts : List A
     pub mine_is : mine' ≡ with_acts R c acts mine
-    pub begins : BeginsWanted R (given ++ piece) (asked R (does acts ++ ms))
+    pub begins : BeginsWanted R (given ++ piece) (wants_of R (does acts ++ ms))
     pub fits : EachFits R acts ms
     pub why : HeardWhy R (given ++ piece) (does acts) fate
-    pub said_is : keeps fate ≡ true → text R (does acts ++ ms) ≡ text R ms ++ said
-    pub asked_is : keeps fate ≡ true → R.wanted (given ++ piece) (asked R (does acts ++ ms))
+    pub said_is : keeps fate ≡ true → answer_bytes R (does acts ++ ms) ≡ answer_bytes R ms ++ said
+    pub asked_is : keeps fate ≡ true → R.wanted (given ++ piece) (wants_of R (does acts ++ ms))
     pub whole : keeps fate ≡ true → each_whole R (does acts ++ ms) ≡ true
     pub knows : keeps fate ≡ true → K (given ++ piece) (does acts ++ ms) talk'
 
   abbrev pub Hears : ℕ → List ℕ → List Entry → List Entry → T → T → List ℕ → Fate → Type 0
   Hears c piece mine mine' talk talk' said fate =
-      (given : List ℕ) (ms : List (Move A)) → K given ms talk → R.wanted given (asked R ms) → each_whole R ms ≡ true → R.refuses given ≡ false
+      (given : List ℕ) (ms : List (Move A)) → K given ms talk → R.wanted given (wants_of R ms) → each_whole R ms ≡ true → R.refuses given ≡ false
       → Heard c piece mine mine' talk' said fate given ms
 
   -- what a reply does: some entries stand directly behind its Collect

@@ -4,11 +4,11 @@ use Rattle.port_trait.specs.declared.events.PortEvent.{PortEvent}
 use Rattle.port_trait.specs.declared.events.PortEvent.TheVariants as event
 use Rattle.port_trait.specs.declared.events.SendFault.{SendFault}
 use Rattle.port_trait.specs.declared.events.SendFault.TheVariants as send_fault
-use Rattle.port_trait.specs.Told.{PortsTold, MayCome, heard, sent, closed}
+use Rattle.port_trait.specs.Told.{PortsTold, MayCome, heard, after_send, after_close}
 use Rattle.farm_history.specs.declared.queues.Outcome.TheVariants as outcome
 use Rattle.front_rounds.specs.declared.fates.Reason.{Reason}
 use Rattle.front_rounds.specs.declared.fates.Reason.TheVariants as reason
-use Rattle.front_rounds.specs.Rules.{Rules, Move, Does, Gets, text, each_whole}
+use Rattle.front_rounds.specs.Rules.{Rules, Move, Does, Gets, answer_bytes, each_whole}
 use Rattle.front_rounds.specs.Steps.{Step, Came, Did, Got, Through, Tried, Left}
 
 pub record Part (A : Type 0) : Type 0 where
@@ -95,18 +95,18 @@ is_cut (Does a) = false
 is_cut (Gets r behind) = elim r.outcome [ outcome.Cut ↦ true | outcome.Done ↦ false | outcome.NotDone ↦ false ]
 
 -- a send that took so many bytes, or failed
-abbrev pub answer_of : Option ℕ → Result ℕ SendFault
-answer_of (Some n) = Ok n
-answer_of None = Err send_fault.Failed
+abbrev pub send_answer : Option ℕ → Result ℕ SendFault
+send_answer (Some n) = Ok n
+send_answer None = Err send_fault.Failed
 
 -- how many bytes a send took
 abbrev pub taken_by : Option ℕ → ℕ
 taken_by (Some n) = n
 taken_by None = 0
 
-abbrev pub is_failed : Option ℕ → Bool
-is_failed (Some n) = false
-is_failed None = true
+abbrev pub send_failed : Option ℕ → Bool
+send_failed (Some n) = false
+send_failed None = true
 
 -- nothing has happened on it
 abbrev pub blank : {A : Type 0} → Part A
@@ -131,7 +131,7 @@ is_open p = not (p.lost || p.failed)
 
 -- a connection that was refused at its Opened is closed
 abbrev pub shut_out : PortEvent → Bool → PortsTold → PortsTold
-shut_out (event.Opened c) false t = closed c t
+shut_out (event.Opened c) false t = after_close c t
 shut_out (event.Opened c) true t = t
 shut_out (event.Bytes c) kept t = t
 shut_out (event.Writable c) kept t = t
@@ -145,7 +145,7 @@ shut_out event.NoMemory kept t = t
 module _ {A W : Type 0} (R : Rules A W) where
   -- the bytes that were answered and not taken
   abbrev pub due : Part A → List ℕ
-  due p = drop p.took (text R p.moves)
+  due p = drop p.took (answer_bytes R p.moves)
 
   -- a round begins with this event
   abbrev pub came : PortEvent → List ℕ → ℕ → Part A → Part A
@@ -154,7 +154,7 @@ module _ {A W : Type 0} (R : Rules A W) where
     moves = p.moves;
     took = p.took;
     had = p.took;
-    was = length (text R p.moves);
+    was = length (answer_bytes R p.moves);
     ended = ends_at e c;
     lost = loses e c;
     called = calls e c;
@@ -167,8 +167,8 @@ module _ {A W : Type 0} (R : Rules A W) where
   }
 
   -- a move is made
-  abbrev pub moved : Move A → Part A → Part A
-  moved m p = record p {
+  abbrev pub after_move : Move A → Part A → Part A
+  after_move m p = record p {
     moves = m ∷ p.moves;
     cut = is_cut m || p.cut;
     starved = R.starves m || p.starved;
@@ -177,13 +177,13 @@ module _ {A W : Type 0} (R : Rules A W) where
 
   -- its bytes are offered
   abbrev pub with_try : Option ℕ → Part A → Part A
-  with_try taken p = record p { took = p.took + taken_by taken; tried = true; failed = is_failed taken; sent_whole = R.ends p.moves && nat_le (length (text R p.moves)) (p.took + taken_by taken) }
+  with_try taken p = record p { took = p.took + taken_by taken; tried = true; failed = send_failed taken; sent_whole = R.ends p.moves && nat_le (length (answer_bytes R p.moves)) (p.took + taken_by taken) }
 
   -- after one more step
   abbrev pub after : Step A → ℕ → Part A → Part A
   after (Came e piece kept) c p = came e piece c (cond (opens e c && kept) blank p)
-  after (Did d a) c p = cond (d == c) (moved (Does a) p) p
-  after (Got r behind) c p = cond (r.conn.number == c) (moved (Gets r behind) p) p
+  after (Did d a) c p = cond (d == c) (after_move (Does a) p) p
+  after (Got r behind) c p = cond (r.conn.number == c) (after_move (Gets r behind) p) p
   after (Through stopped) c p = cond stopped (record p { called = true }) p
   after (Tried d taken) c p = cond (d == c) (with_try taken p) p
   after (Left d asks why) c p = p
@@ -201,8 +201,8 @@ module _ {A W : Type 0} (R : Rules A W) where
   told_after (Did c a ∷ ss) t = told_after ss t
   told_after (Got r behind ∷ ss) t = told_after ss t
   told_after (Through stopped ∷ ss) t = told_after ss t
-  told_after (Tried c taken ∷ ss) t = sent c (due (part ss c)) (answer_of taken) (told_after ss t)
-  told_after (Left c asks why ∷ ss) t = cond (is_open (part ss c)) (closed c (told_after ss t)) (told_after ss t)
+  told_after (Tried c taken ∷ ss) t = after_send c (due (part ss c)) (send_answer taken) (told_after ss t)
+  told_after (Left c asks why ∷ ss) t = cond (is_open (part ss c)) (after_close c (told_after ss t)) (told_after ss t)
 
   -- each event came as ports that told this may give it
   abbrev pub EachMayCome : List (Step A) → PortsTold → Type 0
@@ -216,7 +216,7 @@ module _ {A W : Type 0} (R : Rules A W) where
 
   -- bytes were answered to it in the newest round
   abbrev pub grew : Part A → Bool
-  grew p = nat_lt p.was (length (text R p.moves))
+  grew p = nat_lt p.was (length (answer_bytes R p.moves))
 
   -- there is a reason to offer it its bytes in the newest round
   abbrev pub must : Part A → Bool
@@ -224,7 +224,7 @@ module _ {A W : Type 0} (R : Rules A W) where
 
   -- with what was answered in the newest round its rest passed 1,048,576 bytes
   abbrev pub is_full : Part A → Bool
-  is_full p = nat_lt (p.had + 1048576) (length (text R p.moves))
+  is_full p = nat_lt (p.had + 1048576) (length (answer_bytes R p.moves))
 
   -- where there is a reason and nothing was offered, nothing was due
   abbrev pub Offered : Part A → Type 0

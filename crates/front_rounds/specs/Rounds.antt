@@ -4,7 +4,7 @@ use Rattle.port_trait.specs.declared.events.PortEvent.{PortEvent}
 use Rattle.port_trait.specs.declared.events.PortEvent.TheVariants as event
 use Rattle.front_rounds.specs.declared.fates.Reason.{Reason}
 use Rattle.front_rounds.specs.declared.fates.Reason.TheVariants as reason
-use Rattle.front_rounds.specs.Rules.{Rules, Does, Gets, asked, each_whole, BeginsWanted}
+use Rattle.front_rounds.specs.Rules.{Rules, Does, Gets, wants_of, each_whole, BeginsWanted}
 use Rattle.front_rounds.specs.Steps.{Step, Came, Did, Got, Through, Tried, Left, Hearing, phase, Gathers, IsThrough, MayBegin, Offers, there, has}
 use Rattle.front_rounds.specs.Parts.{Part, part, due, must, Offered, Caused, Calm}
 
@@ -36,7 +36,7 @@ module _ {A W : Type 0} (R : Rules A W) where
   -- What holds of a connection that is there as a round ends: all that its bytes ask was asked and has all its
   -- entries; nothing closes it; and it was offered its bytes where there was a reason.
   pub record Kept (p : Part A) : Type 0 where
-    pub asked_all : R.wanted p.given (asked R p.moves)
+    pub asked_all : R.wanted p.given (wants_of R p.moves)
     pub whole : each_whole R p.moves ≡ true
     pub calm : Calm R p
     pub offered : Offered R p
@@ -59,7 +59,7 @@ module _ {A W : Type 0} (R : Rules A W) where
 
   -- all that its bytes ask was asked, and each move has all its entries but for the replies that may lack them
   abbrev pub HasAll : Part A → Type 0
-  HasAll p = R.wanted p.given (asked R p.moves) × (p.complete ≡ true)
+  HasAll p = R.wanted p.given (wants_of R p.moves) × (p.complete ≡ true)
 
   -- so it is of a connection that is left, unless its rest was full or memory was wanting
   abbrev pub AskedAll : Part A → Reason → Type 0
@@ -78,7 +78,7 @@ module _ {A W : Type 0} (R : Rules A W) where
   pub record DidFits (ss : List (Step A)) (c : ℕ) (a : A) : Type 0 where
     pub heard : phase ss ≡ Hearing (event.Bytes c)
     pub fits : R.fits (part R ss c).moves (Does a) ≡ true
-    pub begins : BeginsWanted R (part R ss c).given (asked R (part R ss c).moves ++ R.want a ∷ [])
+    pub begins : BeginsWanted R (part R ss c).given (wants_of R (part R ss c).moves ++ R.want a ∷ [])
 
   -- A try to send: after the last Collect, to a connection that is there, for a reason, once in a round, and of
   -- more than 0 bytes, of which no more are taken than there are.

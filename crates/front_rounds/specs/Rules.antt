@@ -35,15 +35,15 @@ pub record Rules (A W : Type 0) : Type 1 where
 
 module _ {A W : Type 0} (R : Rules A W) where
   -- what was asked by the moves, in order
-  abbrev pub asked : List (Move A) → List W
-  asked [] = []
-  asked (Does a ∷ ms) = asked ms ++ R.want a ∷ []
-  asked (Gets r behind ∷ ms) = asked ms
+  abbrev pub wants_of : List (Move A) → List W
+  wants_of [] = []
+  wants_of (Does a ∷ ms) = wants_of ms ++ R.want a ∷ []
+  wants_of (Gets r behind ∷ ms) = wants_of ms
 
   -- the bytes that were answered, in order
-  abbrev pub text : List (Move A) → List ℕ
-  text [] = []
-  text (m ∷ ms) = text ms ++ R.says ms m
+  abbrev pub answer_bytes : List (Move A) → List ℕ
+  answer_bytes [] = []
+  answer_bytes (m ∷ ms) = answer_bytes ms ++ R.says ms m
 
   -- every move has all its entries
   abbrev pub each_whole : List (Move A) → Bool

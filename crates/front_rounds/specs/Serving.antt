@@ -8,7 +8,7 @@ use Rattle.port_trait.specs.declared.ends.Rest.{Rest}
 use Rattle.port_trait.specs.Told.{PortsTold, heard}
 use Rattle.farm_history.specs.Entries.{Entry, Stop}
 use Rattle.farm_history.specs.Lists.{Each}
-use Rattle.front_rounds.specs.Rules.{Rules, text}
+use Rattle.front_rounds.specs.Rules.{Rules, answer_bytes}
 use Rattle.front_rounds.specs.Steps.{Step, Phase, Fresh, Hearing, Collecting, Offering, Leaving, phase, MayBegin, there, has, own, starved_in}
 use Rattle.front_rounds.specs.Parts.{part, due, is_open, told_after}
 use Rattle.front_rounds.specs.Rounds.{Sound, AllKept}
@@ -49,12 +49,12 @@ module _ {A W : Type 0} (R : Rules A W) where
   rests_of ss = map (λ c. record { front = R.number; conn = c; bytes = due R (part R ss c) }) (there ss)
 
   -- Why the front ended. Only a worn turn leaves a round that is cut short.
-  abbrev pub EndFits : FrontEnd → List (Step A) → List Entry → Bool → Type 0
-  EndFits ended.Finished ss stop worn = AllKept R ss × EndsAt event.Finished false (phase ss) × (stop ≡ [])
-  EndFits ended.Stopped ss stop worn = AllKept R ss × StopsAt (phase ss) × (stop ≡ Stop ∷ [])
-  EndFits ended.Broken ss stop worn = AllKept R ss × MayBegin (phase ss) × (stop ≡ Stop ∷ [])
-  EndFits ended.NoMemory ss stop worn = AllKept R ss × MayBegin (phase ss) × (stop ≡ Stop ∷ [])
-  EndFits ended.Worn ss stop worn = (worn ≡ true) × (stop ≡ [])
+  abbrev pub EndHasCause : FrontEnd → List (Step A) → List Entry → Bool → Type 0
+  EndHasCause ended.Finished ss stop worn = AllKept R ss × EndsAt event.Finished false (phase ss) × (stop ≡ [])
+  EndHasCause ended.Stopped ss stop worn = AllKept R ss × StopsAt (phase ss) × (stop ≡ Stop ∷ [])
+  EndHasCause ended.Broken ss stop worn = AllKept R ss × MayBegin (phase ss) × (stop ≡ Stop ∷ [])
+  EndHasCause ended.NoMemory ss stop worn = AllKept R ss × MayBegin (phase ss) × (stop ≡ Stop ∷ [])
+  EndHasCause ended.Worn ss stop worn = (worn ≡ true) × (stop ≡ [])
 
   -- where a turn was worn, what the rests are is free, but for the front's number in them
   abbrev pub RestsFit : FrontEnd → List (Step A) → List Rest → Type 0
@@ -68,7 +68,7 @@ module _ {A W : Type 0} (R : Rules A W) where
   -- answers. It is open exactly where it is there and has not failed, if it was not open before.
   abbrev pub TellsOf : List (Step A) → PortsTold → ℕ → Type 0
   TellsOf ss t c =
-      ((told_after R ss t).taken c ≡ t.taken c ++ take (part R ss c).took (text R (part R ss c).moves))
+      ((told_after R ss t).taken c ≡ t.taken c ++ take (part R ss c).took (answer_bytes R (part R ss c).moves))
       × (t.is_open c ≡ false → (told_after R ss t).is_open c ≡ (has (there ss) c && is_open (part R ss c)))
 
   -- **What a front leaves.** Its own entries are those of its steps, and then at most the Stop of its end. What its
@@ -82,7 +82,7 @@ module _ {A W : Type 0} (R : Rules A W) where
     pub telling : told ≡ option_map (λ t. with_break broke (told_after R steps t)) start
     pub sound : Sound R steps
     pub tells : IfSome start (λ t. (c : ℕ) → TellsOf steps t c)
-    pub end_fits : EndFits end steps stop worn
+    pub end_fits : EndHasCause end steps stop worn
     pub break_fits : BreakFits end broke
     pub break_time : broke ≡ true → AllKept R steps × MayBegin (phase steps)
     pub rests_fit : RestsFit end steps rests

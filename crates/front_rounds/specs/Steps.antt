@@ -122,17 +122,17 @@ has [] c = false
 has (d ∷ ds) c = cond (d == c) true (has ds c)
 
 -- the connections that are there after the event
-abbrev pub opened : List ℕ → PortEvent → Bool → List ℕ
-opened cs (event.Opened c) true = cs ++ c ∷ []
-opened cs (event.Opened c) false = cs
-opened cs (event.Bytes c) kept = cs
-opened cs (event.Writable c) kept = cs
-opened cs (event.Ended c) kept = cs
-opened cs (event.Lost c) kept = cs
-opened cs event.Woken kept = cs
-opened cs event.Finished kept = cs
-opened cs event.Broken kept = cs
-opened cs event.NoMemory kept = cs
+abbrev pub connections_after : List ℕ → PortEvent → Bool → List ℕ
+connections_after cs (event.Opened c) true = cs ++ c ∷ []
+connections_after cs (event.Opened c) false = cs
+connections_after cs (event.Bytes c) kept = cs
+connections_after cs (event.Writable c) kept = cs
+connections_after cs (event.Ended c) kept = cs
+connections_after cs (event.Lost c) kept = cs
+connections_after cs event.Woken kept = cs
+connections_after cs event.Finished kept = cs
+connections_after cs event.Broken kept = cs
+connections_after cs event.NoMemory kept = cs
 
 -- the answer of the Collect that gives no reply
 abbrev pub no_reply : Bool → Collected
@@ -168,7 +168,7 @@ module _ {A : Type 0} where
   -- the connections that are there, in the order in which they were opened
   abbrev pub there : List (Step A) → List ℕ
   there [] = []
-  there (Came e piece kept ∷ ss) = opened (there ss) e kept
+  there (Came e piece kept ∷ ss) = connections_after (there ss) e kept
   there (Did c a ∷ ss) = there ss
   there (Got r behind ∷ ss) = there ss
   there (Through stopped ∷ ss) = there ss

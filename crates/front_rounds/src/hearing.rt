@@ -8,7 +8,7 @@ ghost use Rattle.front_rounds.specs.inner.Sessions.{owing, woken, keys, conns, n
 ghost use Rattle.front_rounds.specs.inner.Stands.{world};
 ghost use Rattle.front_rounds.specs.inner.Stages.{Settles, HearsOne, HearsWorn, Comes, HasBegun, CutShort, Admits, MarksAt, marked};
 ghost use Rattle.port_trait.specs.Boxes.{HasRest, rest_at};
-ghost use Rattle.port_trait.specs.Told.{PortsTold, IsOpen, closed};
+ghost use Rattle.port_trait.specs.Told.{PortsTold, IsOpen, after_close};
 ghost use Rattle.port_trait.specs.declared.events.PortEvent.TheVariants as event;
 
 use crate::farm::{Farm, Worn};
@@ -192,7 +192,7 @@ fn refused_after(starved: u64, there: usize) -> u64
 /// Closes a connection that got no session.
 fn refuse<T, P: Ports>(table: &mut SessionTable<T>, ports: &mut P, conn: u32)
     requires { IsOpen conn (P.state ports.old).told }
-    ensures told { (P.state ports.new).told ≡ option_map (closed conn) (P.state ports.old).told }
+    ensures told { (P.state ports.new).told ≡ option_map (after_close conn) (P.state ports.old).told }
     ensures count { (P.state ports.new).faults ≡ (P.state ports.old).faults }
     ensures sessions { table.new.sessions.items ≡ table.old.sessions.items }
     ensures outbox { table.new.outbox ≡ table.old.outbox }

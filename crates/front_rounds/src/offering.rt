@@ -5,7 +5,7 @@ ghost use Rattle.front_rounds.specs.inner.Sessions.{is_up};
 ghost use Rattle.front_rounds.specs.inner.Stands.{world};
 ghost use Rattle.front_rounds.specs.inner.Stages.{Gives, OffersOne, CanOffer, CanLeave, fate_after, part_or_all};
 ghost use Rattle.farm_history.specs.Entries.{Entry};
-ghost use Rattle.port_trait.specs.Boxes.{HasRest, held};
+ghost use Rattle.port_trait.specs.Boxes.{HasRest, rest_in};
 ghost use Rattle.port_trait.specs.Told.{PortsTold, IsOpen};
 ghost use Rattle.port_trait.specs.declared.events.PortEvent.{PortEvent};
 ghost use Rattle.std.specs.Prelude.{Bool};
@@ -36,7 +36,7 @@ pub enum Gave {
 fn give<P: Ports>(outbox: &mut Outbox, conn: u32, ports: &mut P) -> Gave
     requires rest { HasRest outbox.old conn }
     requires open { IsOpen conn (P.state ports.old).told }
-    ensures gives { Gives conn (held outbox.old conn) outbox.old outbox.new (P.state ports.old).told (P.state ports.new).told result }
+    ensures gives { Gives conn (rest_in outbox.old conn) outbox.old outbox.new (P.state ports.old).told (P.state ports.new).told result }
     ensures count { (P.state ports.old).faults ≤ (P.state ports.new).faults }
 {
     if outbox.rest(conn).is_empty() {
@@ -52,7 +52,7 @@ fn give<P: Ports>(outbox: &mut Outbox, conn: u32, ports: &mut P) -> Gave
 /// Whether all is taken.
 fn gave_by(outbox: &Outbox, conn: u32) -> Gave
     requires { HasRest outbox.now conn }
-    ensures { result ≡ part_or_all (held outbox.now conn) }
+    ensures { result ≡ part_or_all (rest_in outbox.now conn) }
 {
     if outbox.rest(conn).is_empty() {
         Gave::All

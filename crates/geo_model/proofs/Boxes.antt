@@ -10,7 +10,7 @@ use Rattle.plain_world.specs.declared.world.Point.{Point}
 use Rattle.plain_shapes.specs.declared.shapes.Geometry.{Geometry}
 use Rattle.plain_world.specs.World.{InWorld}
 use Rattle.geo_model.specs.declared.bounds.Bounds.{Bounds}
-use Rattle.geo_model.specs.Bounds.{InBounds, Within, IsLeastBounds, no_bounds, widened, bounds_of}
+use Rattle.geo_model.specs.Bounds.{InBounds, Within, IsLeastBounds, no_bounds, box_with, bounds_of}
 use Rattle.geo_model.specs.Shapes.{parts_of, least_points, is_none, is_outside, fault_of, IsShape}
 
 within_self : (b : Bounds) → Within b b
@@ -22,28 +22,28 @@ within_both a b c p q = record { west = omega arith; north = omega arith; east =
 larger_holds : (a b : Bounds) (p : Point) → Within a b → InBounds a p → InBounds b p
 larger_holds a b p w h = record { from_west = omega arith; to_east = omega arith; from_north = omega arith; to_south = omega arith }
 
-widened_larger : (b : Bounds) (p : Point) → Within b (widened b p)
+widened_larger : (b : Bounds) (p : Point) → Within b (box_with b p)
 widened_larger b p = record { west = omega arith; north = omega arith; east = omega arith; south = omega arith }
 
-widened_holds : (b : Bounds) (p : Point) → InBounds (widened b p) p
+widened_holds : (b : Bounds) (p : Point) → InBounds (box_with b p) p
 widened_holds b p = record { from_west = omega arith; to_east = omega arith; from_north = omega arith; to_south = omega arith }
 
-widened_least : (b other : Bounds) (p : Point) → Within b other → InBounds other p → Within (widened b p) other
+widened_least : (b other : Bounds) (p : Point) → Within b other → InBounds other p → Within (box_with b p) other
 widened_least b other p w h = record { west = omega arith; north = omega arith; east = omega arith; south = omega arith }
 
 -- one part
 
-path_larger : (path : List Point) (b : Bounds) → Within b (fold widened b path)
+path_larger : (path : List Point) (b : Bounds) → Within b (fold box_with b path)
 path_larger [] b = within_self b
-path_larger (p ∷ path) b = within_both b (widened b p) (fold widened (widened b p) path) (widened_larger b p) (path_larger path (widened b p))
+path_larger (p ∷ path) b = within_both b (box_with b p) (fold box_with (box_with b p) path) (widened_larger b p) (path_larger path (box_with b p))
 
-path_holds : (path : List Point) (b : Bounds) → AllByRecursion (InBounds (fold widened b path)) path
+path_holds : (path : List Point) (b : Bounds) → AllByRecursion (InBounds (fold box_with b path)) path
 path_holds [] b = tt
-path_holds (p ∷ path) b = (larger_holds (widened b p) (fold widened (widened b p) path) p (path_larger path (widened b p)) (widened_holds b p), path_holds path (widened b p))
+path_holds (p ∷ path) b = (larger_holds (box_with b p) (fold box_with (box_with b p) path) p (path_larger path (box_with b p)) (widened_holds b p), path_holds path (box_with b p))
 
-path_least : (path : List Point) (b other : Bounds) → Within b other → AllByRecursion (InBounds other) path → Within (fold widened b path) other
+path_least : (path : List Point) (b other : Bounds) → Within b other → AllByRecursion (InBounds other) path → Within (fold box_with b path) other
 path_least [] b other w h = w
-path_least (p ∷ path) b other w h = path_least path (widened b p) other (widened_least b other p w h.0) h.1
+path_least (p ∷ path) b other w h = path_least path (box_with b p) other (widened_least b other p w h.0) h.1
 
 all_larger : (path : List Point) (a b : Bounds) → Within a b → AllByRecursion (InBounds a) path → AllByRecursion (InBounds b) path
 all_larger [] a b w h = tt
@@ -51,22 +51,22 @@ all_larger (p ∷ path) a b w h = (larger_holds a b p w h.0, all_larger path a b
 
 -- all parts
 
-parts_larger : (parts : List (List Point)) (b : Bounds) → Within b (fold (fold widened) b parts)
+parts_larger : (parts : List (List Point)) (b : Bounds) → Within b (fold (fold box_with) b parts)
 parts_larger [] b = within_self b
-parts_larger (path ∷ parts) b = within_both b (fold widened b path) (fold (fold widened) (fold widened b path) parts) (path_larger path b) (parts_larger parts (fold widened b path))
+parts_larger (path ∷ parts) b = within_both b (fold box_with b path) (fold (fold box_with) (fold box_with b path) parts) (path_larger path b) (parts_larger parts (fold box_with b path))
 
-parts_hold : (parts : List (List Point)) (b : Bounds) → AllByRecursion (All (InBounds (fold (fold widened) b parts))) parts
+parts_hold : (parts : List (List Point)) (b : Bounds) → AllByRecursion (All (InBounds (fold (fold box_with) b parts))) parts
 parts_hold [] b = tt
 parts_hold (path ∷ parts) b = (
-  All-from_recursion (InBounds (fold (fold widened) (fold widened b path) parts)) path
-      (all_larger path (fold widened b path) (fold (fold widened) (fold widened b path) parts) (parts_larger parts (fold widened b path)) (path_holds path b)),
-  parts_hold parts (fold widened b path),
+  All-from_recursion (InBounds (fold (fold box_with) (fold box_with b path) parts)) path
+      (all_larger path (fold box_with b path) (fold (fold box_with) (fold box_with b path) parts) (parts_larger parts (fold box_with b path)) (path_holds path b)),
+  parts_hold parts (fold box_with b path),
 )
 
-parts_least : (parts : List (List Point)) (b other : Bounds) → Within b other → AllByRecursion (All (InBounds other)) parts → Within (fold (fold widened) b parts) other
+parts_least : (parts : List (List Point)) (b other : Bounds) → Within b other → AllByRecursion (All (InBounds other)) parts → Within (fold (fold box_with) b parts) other
 parts_least [] b other w h = w
 parts_least (path ∷ parts) b other w h =
-    parts_least parts (fold widened b path) other (path_least path b other w (recursion_from_All (InBounds other) path h.0)) h.1
+    parts_least parts (fold box_with b path) other (path_least path b other w (recursion_from_All (InBounds other) path h.0)) h.1
 
 -- a rectangle that holds a point of the world holds the box of no point
 

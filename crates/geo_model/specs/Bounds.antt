@@ -31,9 +31,9 @@ abbrev pub no_bounds : Bounds
 no_bounds = record { west = 2 ^ 30; north = 2 ^ 30; east = 0; south = 0 }
 
 -- the rectangle widened to hold the point
-abbrev pub widened : Bounds → Point → Bounds
-widened b p = record { west = min b.west p.x; north = min b.north p.y; east = max b.east p.x; south = max b.south p.y }
+abbrev pub box_with : Bounds → Point → Bounds
+box_with b p = record { west = min b.west p.x; north = min b.north p.y; east = max b.east p.x; south = max b.south p.y }
 
 -- the bounding box of the parts of a shape: the least and the greatest coordinates of their points
 abbrev pub bounds_of : List (List Point) → Bounds
-bounds_of parts = fold (fold widened) no_bounds parts
+bounds_of parts = fold (fold box_with) no_bounds parts

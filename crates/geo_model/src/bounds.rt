@@ -1,6 +1,6 @@
 //! The bounding box of a list of points.
 ghost use Rattle.std.specs.Prelude.{◌≡◌, fold};
-ghost use Rattle.geo_model.specs.Bounds.{widened, meets, no_bounds, bounds_of};
+ghost use Rattle.geo_model.specs.Bounds.{box_with, meets, no_bounds, bounds_of};
 
 use plain_shapes::Path;
 use plain_world::Point;
@@ -31,7 +31,7 @@ impl Bounds {
 
 /// The rectangle widened so that it holds the point too.
 fn widened(b: Bounds, p: Point) -> Bounds
-    ensures { result ≡ widened b p }
+    ensures { result ≡ box_with b p }
 {
     Bounds {
         west: b.west.min(p.x),
@@ -43,7 +43,7 @@ fn widened(b: Bounds, p: Point) -> Bounds
 
 /// The rectangle widened by each point of the path.
 fn widened_by(b: Bounds, path: &Path) -> Bounds
-    ensures { result ≡ fold widened b path.now }
+    ensures { result ≡ fold box_with b path.now }
 {
     path.points.iter().fold(b, |b, p| widened(b, *p))
 }

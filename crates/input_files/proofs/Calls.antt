@@ -6,14 +6,14 @@ use Rattle.farm_base.specs.Outside.{FilesTold, Rose}
 use Rattle.farm_base.specs.declared.sinks.SinkFault.{SinkFault}
 use Rattle.call_ends.specs.Stops.{status_of, err_line, usage, want_of_memory, store_failed, ports_failed, turns_used_up, unreadable_line}
 use Rattle.call_ends.specs.Ends.{FilesAt, SinkAt, put_end, PutsAll, told_status, EndsWith}
-use Rattle.call_ends.specs.Promises.{Stands}
+use Rattle.call_ends.specs.Promises.{LineStands}
 use Rattle.call_ends.specs.declared.stops.Stop.{Stop}
 use Rattle.call_ends.specs.declared.stops.Stop.TheVariants as stop
 use Rattle.call_ends.proofs.Outsides.{PutCounts, put_counts}
 use Rattle.call_ends.proofs.Statuses as status
 use Rattle.call_ends.proofs.Statuses.{puts_failed}
 use Rattle.input_files.specs.Course.{Course, Makes, RefusedBy, IsValid}
-use Rattle.input_files.specs.Calls.{Did, Refusal, Missed, Ended, EndsAt}
+use Rattle.input_files.specs.Calls.{Did, Refusal, Missed, Ended, HasStatus}
 use Rattle.input_files.specs.inner.Runs.{Runs}
 use Rattle.input_files.proofs.Courses.{made_apart}
 use Rattle.input_files.proofs.Runs as runs
@@ -102,9 +102,9 @@ module _ {V W : Type 0} (asks : Course V → Type 0) (one : (c d : Course V) →
   ends = record { end = call.end; ran = ended call.end (ran asks does files files' world world' call.end call.ran); reports = call.reports }
 
   -- the status of an end, or 4 where err failed
-  status_at : (end : Result (Unit {0}) Stop) → call.end ≡ end → EndsAt (status_of end) err.faults err'.faults result
+  status_at : (end : Result (Unit {0}) Stop) → call.end ≡ end → HasStatus (status_of end) err.faults err'.faults result
   status_at end is =
-      subst (λ (e : Result (Unit {0}) Stop). EndsAt (status_of e) err.faults err'.faults result) is (status.of_end Does err err' result call)
+      subst (λ (e : Result (Unit {0}) Stop). HasStatus (status_of e) err.faults err'.faults result) is (status.of_end Does err err' result call)
 
   -- ---- 0
 
@@ -115,10 +115,10 @@ module _ {V W : Type 0} (asks : Course V → Type 0) (one : (c d : Course V) →
   silent zero = status.silent_0 Ends err err' result ends zero
 
   pub complete : (t : FilesTold) → files.told ≡ Some t → (c : Course V) → asks c → IsValid t.content c → ¬ (Rose files.faults files'.faults)
-      → ¬ (Rose (out world).faults (out world').faults) → ((s : Stop) → ¬ (hinders s world world')) → (result ≡ 0) ⊎ EndsAt 5 err.faults err'.faults result
+      → ¬ (Rose (out world).faults (out world').faults) → ((s : Stop) → ¬ (hinders s world world')) → (result ≡ 0) ⊎ HasStatus 5 err.faults err'.faults result
   complete t e c asked valid calm quiet free = by_end (ran asks does files files' world world' call.end call.ran)
     where
-      by_why : (s : Stop) → call.end ≡ Err s → Whys out hinders s world world' → (result ≡ 0) ⊎ EndsAt 5 err.faults err'.faults result
+      by_why : (s : Stop) → call.end ≡ Err s → Whys out hinders s world world' → (result ≡ 0) ⊎ HasStatus 5 err.faults err'.faults result
       by_why (stop.Refused line) is why = absurd (free (stop.Refused line) why)
       by_why stop.Words is why = absurd why
       by_why (stop.Unreadable line) is why = absurd why
@@ -128,11 +128,11 @@ module _ {V W : Type 0} (asks : Course V → Type 0) (one : (c d : Course V) →
       by_why stop.PortsFailed is why = absurd (free stop.PortsFailed why)
       by_why stop.TurnsUsedUp is why = absurd (free stop.TurnsUsedUp why)
 
-      by_work : (v : V) (end : Result (Unit {0}) Stop) → call.end ≡ end → does v world world' end → (result ≡ 0) ⊎ EndsAt 5 err.faults err'.faults result
+      by_work : (v : V) (end : Result (Unit {0}) Stop) → call.end ≡ end → does v world world' end → (result ≡ 0) ⊎ HasStatus 5 err.faults err'.faults result
       by_work v (Ok u) is worked = elim (status_at (Ok tt) is) [ inl zero ↦ inl zero | inr four ↦ inr (inr four) ]
       by_work v (Err s) is worked = by_why s is (work.stops v world world' s worked)
 
-      by_end : Ran asks does files files' world world' call.end → (result ≡ 0) ⊎ EndsAt 5 err.faults err'.faults result
+      by_end : Ran asks does files files' world world' call.end → (result ≡ 0) ⊎ HasStatus 5 err.faults err'.faults result
       by_end (runs.worked d also v told still worked) = by_work v call.end refl worked
       by_end (runs.refuses d also line is told still same) =
           absurd (made_apart t.content c valid.0 line valid.1 (subst (λ (x : Course V). RefusedBy t.content x line) (one d c also asked) (told t e).0))
@@ -142,13 +142,13 @@ module _ {V W : Type 0} (asks : Course V → Type 0) (one : (c d : Course V) →
 
   -- ---- 1
 
-  pub refused : result ≡ 1 → (line : List ℕ) × Stands err.told err'.told line
+  pub refused : result ≡ 1 → (line : List ℕ) × LineStands err.told err'.told line
       × ((IfSome files.told (λ t. Refusal asks t.content line) × (world' ≡ world)) ⊎ Did asks does files files' world world' (Err (stop.Refused line)))
   refused first = let end = status.with_1 Ends err err' result ends first in (end.0, end.2, end.1)
 
   -- where work refuses nothing, it was a file of the course
   pub refused_file : ((line : List ℕ) → ¬ (hinders (stop.Refused line) world world')) → result ≡ 1 → (t : FilesTold) → files.told ≡ Some t
-      → (line : List ℕ) × Refusal asks t.content line × Stands err.told err'.told line
+      → (line : List ℕ) × Refusal asks t.content line × LineStands err.told err'.told line
   refused_file free first t e =
       let end = refused first in
       elim end.2 [
@@ -157,13 +157,13 @@ module _ {V W : Type 0} (asks : Course V → Type 0) (one : (c d : Course V) →
       ]
 
   pub refusing : (t : FilesTold) → files.told ≡ Some t → (c : Course V) → (line : List ℕ) → asks c → RefusedBy t.content c line
-      → ¬ (Rose files.faults files'.faults) → (result ≡ 1) ⊎ EndsAt 5 err.faults err'.faults result
+      → ¬ (Rose files.faults files'.faults) → (result ≡ 1) ⊎ HasStatus 5 err.faults err'.faults result
   refusing t e c line asked bad calm = by_end (ran asks does files files' world world' call.end call.ran)
     where
       apart : (d : Course V) → asks d → (v : V) → Makes t.content d v → ⊥
       apart d also v makes = made_apart t.content d v line makes (subst (λ (x : Course V). RefusedBy t.content x line) (one c d asked also) bad)
 
-      by_end : Ran asks does files files' world world' call.end → (result ≡ 1) ⊎ EndsAt 5 err.faults err'.faults result
+      by_end : Ran asks does files files' world world' call.end → (result ≡ 1) ⊎ HasStatus 5 err.faults err'.faults result
       by_end (runs.worked d also v told still worked) = absurd (apart d also v (told t e).0)
       by_end (runs.refuses d also its is told still same) = elim (status_at (Err (stop.Refused its)) is) [ inl first ↦ inl first | inr four ↦ inr (inr four) ]
       by_end (runs.misses d also name is told rose same) = absurd (calm rose)
@@ -175,13 +175,13 @@ module _ {V W : Type 0} (asks : Course V → Type 0) (one : (c d : Course V) →
   pub words : result ≡ 2 → (c : Course V) → ¬ (asks c)
   words two = (status.with_2 Ends err err' result ends two).0.0
 
-  pub usage_line : result ≡ 2 → Stands err.told err'.told usage
+  pub usage_line : result ≡ 2 → LineStands err.told err'.told usage
   usage_line two = (status.with_2 Ends err err' result ends two).1
 
-  pub no_words : ((c : Course V) → ¬ (asks c)) → (result ≡ 2) ⊎ EndsAt 5 err.faults err'.faults result
+  pub no_words : ((c : Course V) → ¬ (asks c)) → (result ≡ 2) ⊎ HasStatus 5 err.faults err'.faults result
   no_words nothing = by_end (ran asks does files files' world world' call.end call.ran)
     where
-      by_end : Ran asks does files files' world world' call.end → (result ≡ 2) ⊎ EndsAt 5 err.faults err'.faults result
+      by_end : Ran asks does files files' world world' call.end → (result ≡ 2) ⊎ HasStatus 5 err.faults err'.faults result
       by_end (runs.worked c asked v told calm worked) = absurd (nothing c asked)
       by_end (runs.refuses c asked its is told calm same) = absurd (nothing c asked)
       by_end (runs.misses c asked name is told rose same) = absurd (nothing c asked)
@@ -190,7 +190,7 @@ module _ {V W : Type 0} (asks : Course V → Type 0) (one : (c d : Course V) →
 
   -- ---- 3
 
-  pub unread : result ≡ 3 → (t : FilesTold) → files.told ≡ Some t → (line : List ℕ) × Missed asks t files'.told line × Stands err.told err'.told line
+  pub unread : result ≡ 3 → (t : FilesTold) → files.told ≡ Some t → (line : List ℕ) × Missed asks t files'.told line × LineStands err.told err'.told line
   unread three t e =
       let end = status.with_3 Ends err err' result ends three in
       (end.0, subst (λ (o : Option FilesTold). IfSome o (λ t. Missed asks t files'.told end.0)) e end.1.0, end.2)
@@ -199,13 +199,13 @@ module _ {V W : Type 0} (asks : Course V → Type 0) (one : (c d : Course V) →
   read_failed three = (status.with_3 Ends err err' result ends three).1.1
 
   pub one_failed : (t : FilesTold) → files.told ≡ Some t → (u : FilesTold) → files'.told ≡ Some u → u.failed ≢ t.failed
-      → (result ≡ 3) ⊎ EndsAt 5 err.faults err'.faults result
+      → (result ≡ 3) ⊎ HasStatus 5 err.faults err'.faults result
   one_failed t e u g other = by_end (ran asks does files files' world world' call.end call.ran)
     where
       kept : files'.told ≡ Some t → ⊥
       kept k = let both : Some u ≡ Some t = sym g ∙ k in let same : u ≡ t = cc in other (ap (λ (x : FilesTold). x.failed) same)
 
-      by_end : Ran asks does files files' world world' call.end → (result ≡ 3) ⊎ EndsAt 5 err.faults err'.faults result
+      by_end : Ran asks does files files' world world' call.end → (result ≡ 3) ⊎ HasStatus 5 err.faults err'.faults result
       by_end (runs.worked c asked v told calm worked) = absurd (kept (told t e).1)
       by_end (runs.refuses c asked its is told calm same) = absurd (kept (told t e).1)
       by_end (runs.misses c asked name (inl is) told rose same) =
@@ -233,7 +233,7 @@ module _ {V W : Type 0} (asks : Course V → Type 0) (one : (c d : Course V) →
         | inr rose ↦ inr rose.0
       ]
 
-  four_of : EndsAt 4 err.faults err'.faults result → result ≡ 4
+  four_of : HasStatus 4 err.faults err'.faults result → result ≡ 4
   four_of (inl four) = four
   four_of (inr four) = four.0
 
@@ -256,17 +256,17 @@ module _ {V W : Type 0} (asks : Course V → Type 0) (one : (c d : Course V) →
 
   -- ---- 5 and more
 
-  pub want_line : result ≡ 5 → Stands err.told err'.told want_of_memory
+  pub want_line : result ≡ 5 → LineStands err.told err'.told want_of_memory
   want_line five = status.with_5 Ends err err' result ends five
 
-  pub store_lost : result ≡ 6 → Did asks does files files' world world' (Err stop.StoreFailed) × Stands err.told err'.told store_failed
+  pub store_lost : result ≡ 6 → Did asks does files files' world world' (Err stop.StoreFailed) × LineStands err.told err'.told store_failed
   store_lost six = status.with_6 Ends err err' result ends six
 
   pub lost_at : result ≡ 6 → hinders stop.StoreFailed world world'
   lost_at six = let d = (store_lost six).0 in work.stops d.value world world' stop.StoreFailed d.worked
 
-  pub ports_lost : result ≡ 7 → Did asks does files files' world world' (Err stop.PortsFailed) × Stands err.told err'.told ports_failed
+  pub ports_lost : result ≡ 7 → Did asks does files files' world world' (Err stop.PortsFailed) × LineStands err.told err'.told ports_failed
   ports_lost seven = status.with_7 Ends err err' result ends seven
 
-  pub turns_gone : result ≡ 8 → Did asks does files files' world world' (Err stop.TurnsUsedUp) × Stands err.told err'.told turns_used_up
+  pub turns_gone : result ≡ 8 → Did asks does files files' world world' (Err stop.TurnsUsedUp) × LineStands err.told err'.told turns_used_up
   turns_gone eight = status.with_8 Ends err err' result ends eight

@@ -45,5 +45,5 @@ Ended asks does files files' world world' (Err stop.NoMemory) = Did asks does fi
 Ended asks does files files' world world' (Err other) = Did asks does files files' world world' (Err other)
 
 -- this status, or 4 where the count of err rose, since its line could not be put
-abbrev pub EndsAt : ℕ → ℕ → ℕ → ℕ → Type 0
-EndsAt status before now result = (result ≡ status) ⊎ ((result ≡ 4) × Rose before now)
+abbrev pub HasStatus : ℕ → ℕ → ℕ → ℕ → Type 0
+HasStatus status before now result = (result ≡ status) ⊎ ((result ≡ 4) × Rose before now)

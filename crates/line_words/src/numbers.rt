@@ -1,13 +1,13 @@
 //! Numbers in decimal.
 ghost use Rattle.std.specs.Prelude.{◌≡◌, ◌<◌, ◌^◌, IfSome};
-ghost use Rattle.line_words.specs.Numbers.{number_in};
+ghost use Rattle.line_words.specs.Numbers.{decimal_below};
 
 use itoa::Buffer;
 
 /// The number of 64 bits that the text is in decimal, without sign or leading zeros; `None` exactly
 /// where it is none.
 pub fn number(text: &str) -> Option<u64>
-    ensures { result ≡ number_in (2 ^ 64) text.now }
+    ensures { result ≡ decimal_below (2 ^ 64) text.now }
 {
     let Ok(number) = text.parse::<u64>() else {
         return None;
@@ -21,7 +21,7 @@ pub fn number(text: &str) -> Option<u64>
 
 /// The same for numbers of 32 bits.
 pub fn small_number(text: &str) -> Option<u32>
-    ensures value { result ≡ number_in (2 ^ 32) text.now }
+    ensures value { result ≡ decimal_below (2 ^ 32) text.now }
     ensures small { IfSome result (λ n. n < 2 ^ 32) }
 {
     match number(text) {
@@ -32,7 +32,7 @@ pub fn small_number(text: &str) -> Option<u32>
 
 /// The same for numbers below a bound.
 pub fn number_below(text: &str, bound: u32) -> Option<u32>
-    ensures value { result ≡ number_in bound text.now }
+    ensures value { result ≡ decimal_below bound text.now }
     ensures below { IfSome result (λ n. n < bound) }
 {
     match small_number(text) {

@@ -21,7 +21,7 @@ use Rattle.farm_stands.specs.Seen.{FarmSeen}
 use Rattle.script_text.specs.ScriptTexts.{has_failed}
 use Rattle.work_gen.specs.declared.stepping.Step.{Step}
 use Rattle.load_command.specs.declared.steps.StepSeen.{StepSeen}
-use Rattle.load_command.specs.Loads.{Expires, Ends, replied, IsEventOf, clean_tiles, loader}
+use Rattle.load_command.specs.Loads.{Expires, EndsClaim, collect_entry, IsEventOf, clean_tiles, loader}
 use Rattle.load_command.specs.inner.Progress.{weight, Grows, BreaksOff, Draws, CollectsAll, FetchesOne, Steps, is_failed_fetch, clean_of}
 use Rattle.load_command.proofs.Weights.{ask_weighs}
 
@@ -52,12 +52,12 @@ ask_tiles : (s : Step) (answer : AskAnswer) (g : List Entry) → clean_tiles (As
 unfolding clean_tiles
 ask_tiles s answer g = refl
 
-replies_tiles : (replies : List Reply) (g : List Entry) → clean_tiles (map replied replies ++ g) ≡ clean_tiles g
+replies_tiles : (replies : List Reply) (g : List Entry) → clean_tiles (map collect_entry replies ++ g) ≡ clean_tiles g
 unfolding clean_tiles
 replies_tiles [] g = refl
 replies_tiles (r ∷ rs) g = replies_tiles rs g
 
-replies_noted : (replies : List Reply) (g : List Entry) → has_failed (map replied replies ++ g) ≡ has_failed g
+replies_noted : (replies : List Reply) (g : List Entry) → has_failed (map collect_entry replies ++ g) ≡ has_failed g
 replies_noted [] g = refl
 replies_noted (r ∷ rs) g = replies_noted rs g
 
@@ -68,7 +68,7 @@ collects_tiles g h c = ap clean_tiles c.3 ∙ replies_tiles c.0 g
 collects_noted : (g h : List Entry) → CollectsAll g h → has_failed h ≡ has_failed g
 collects_noted g h c = ap has_failed c.3 ∙ replies_noted c.0 g
 
-ends_tiles : (answer : ClaimAnswer) (g h : List Entry) → Ends answer (Claim 0 answer ∷ g) h → clean_tiles h ≡ clean_tiles g
+ends_tiles : (answer : ClaimAnswer) (g h : List Entry) → EndsClaim answer (Claim 0 answer ∷ g) h → clean_tiles h ≡ clean_tiles g
 unfolding clean_tiles
 ends_tiles (claimed.Job ticket key version) g h e = ap clean_tiles e.2
 ends_tiles claimed.Idle g h e = ap clean_tiles e
@@ -107,18 +107,18 @@ ask_broke s answer g = (Ask loader Render s.spot answer ∷ [], refl, ((refl, re
 expires_broke : (s : Step) (g h : List Entry) → Expires s g h → BreaksOff s g h
 expires_broke s g h e = elim (expires_by s g h e) [ inl x ↦ (Expire (tile_of s.spot) x.0 ∷ [], x.1, ((x.2, refl), tt)) | inr same ↦ ([], same, tt) ]
 
-ends_broke : (s : Step) (answer : ClaimAnswer) (g h : List Entry) → Ends answer (Claim 0 answer ∷ g) h → BreaksOff s g h
+ends_broke : (s : Step) (answer : ClaimAnswer) (g h : List Entry) → EndsClaim answer (Claim 0 answer ∷ g) h → BreaksOff s g h
 ends_broke s (claimed.Job ticket key version) g h e = (Finish ticket true e.0 ∷ Claim 0 (claimed.Job ticket key version) ∷ [], e.2, (refl, (refl, tt)))
 ends_broke s claimed.Idle g h e = (Claim 0 claimed.Idle ∷ [], e, (refl, tt))
 ends_broke s claimed.Crowded g h e = (Claim 0 claimed.Crowded ∷ [], e, (refl, tt))
 ends_broke s claimed.Stopped g h e = (Claim 0 claimed.Stopped ∷ [], e, (refl, tt))
 
-replies_events : (s : Step) (replies : List Reply) → Each (IsEventOf s) (map replied replies)
+replies_events : (s : Step) (replies : List Reply) → Each (IsEventOf s) (map collect_entry replies)
 replies_events s [] = tt
 replies_events s (r ∷ rs) = (refl, replies_events s rs)
 
 collects_broke : (s : Step) (g h : List Entry) → CollectsAll g h → BreaksOff s g h
-collects_broke s g h c = (Collect 0 c.1 ∷ map replied c.0, c.3, (refl, replies_events s c.0))
+collects_broke s g h c = (Collect 0 c.1 ∷ map collect_entry c.0, c.3, (refl, replies_events s c.0))
 
 -- ---- the whole step
 

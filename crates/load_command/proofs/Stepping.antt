@@ -28,7 +28,7 @@ use Rattle.farm_core.specs.declared.claims.Claimed.TheVariants as claims
 use Rattle.script_text.specs.ScriptTexts.{has_failed}
 use Rattle.work_gen.specs.declared.stepping.Step.{Step}
 use Rattle.load_command.specs.declared.steps.StepSeen.{StepSeen}
-use Rattle.load_command.specs.Loads.{Expires, Ends, IsLast, replied}
+use Rattle.load_command.specs.Loads.{Expires, EndsClaim, IsLast, collect_entry}
 use Rattle.load_command.specs.inner.Progress.{weight, Grows, Draws, CollectsAll, FetchesOne, is_failed_finish, is_failed_fetch}
 use Rattle.load_command.proofs.Weights.{expire_weighs, claim_weighs, finish_weighs, fetch_weighs, last_weighs, reply_lowers, reply_closes, open_kept}
 
@@ -51,7 +51,7 @@ module _ {D : Type 0} (state : D → Outside StoreTold) (told : Bool) where
     held = (claim_answer answer, none_ends answer none, refl);
   }
     where
-      none_ends : (a : Claimed) → ((j : JobSeen) → a ≡ claims.Job j → ⊥) → Ends (claim_answer a) (Claim 0 (claim_answer answer) ∷ g) (Claim 0 (claim_answer answer) ∷ g)
+      none_ends : (a : Claimed) → ((j : JobSeen) → a ≡ claims.Job j → ⊥) → EndsClaim (claim_answer a) (Claim 0 (claim_answer answer) ∷ g) (Claim 0 (claim_answer answer) ∷ g)
       none_ends (claims.Job j) none = absurd (none j refl)
       none_ends claims.Idle none = refl
       none_ends claims.Crowded none = refl
@@ -127,25 +127,25 @@ module _ {D : Type 0} (state : D → Outside StoreTold) (told : Bool) where
   -- the replies so far were collected
   pub record Collecting (farm : FarmSeen D) (g : List Entry) : Type 0 where
     pub replies : List Reply
-    pub stands : StandsFor state told farm (map replied replies ++ g)
-    pub small : weight (map replied replies ++ g) ≤ weight g
+    pub stands : StandsFor state told farm (map collect_entry replies ++ g)
+    pub small : weight (map collect_entry replies ++ g) ≤ weight g
 
   pub collecting_none : (farm : FarmSeen D) (g : List Entry) → StandsFor state told farm g → Collecting farm g
   collecting_none farm g stands = record { replies = []; stands = stands; small = omega arith }
 
-  pub collecting_more : (old farm : FarmSeen D) (g : List Entry) (r : Reply) (c : Collecting old g) → StandsFor state told farm (Collect 0 (Collected.Reply r) ∷ (map replied c.replies ++ g)) → Collecting farm g
+  pub collecting_more : (old farm : FarmSeen D) (g : List Entry) (r : Reply) (c : Collecting old g) → StandsFor state told farm (Collect 0 (Collected.Reply r) ∷ (map collect_entry c.replies ++ g)) → Collecting farm g
   collecting_more old farm g r c stands = record {
     replies = r ∷ c.replies;
     stands = stands;
-    small = let less = reply_lowers (plan_of farm.plan) told 0 r (map replied c.replies ++ g) stands.legal in let small = c.small in omega (arith, less, small);
+    small = let less = reply_lowers (plan_of farm.plan) told 0 r (map collect_entry c.replies ++ g) stands.legal in let small = c.small in omega (arith, less, small);
   }
 
   pub collected_all : (old farm : FarmSeen D) (g : List Entry) (last : Collected) (c : Collecting old g) → ((r : Reply) → last ≡ Collected.Reply r → ⊥)
-      → StandsFor state told farm (Collect 0 last ∷ (map replied c.replies ++ g)) → Grows state told farm (weight g + 1) (CollectsAll g)
+      → StandsFor state told farm (Collect 0 last ∷ (map collect_entry c.replies ++ g)) → Grows state told farm (weight g + 1) (CollectsAll g)
   collected_all old farm g last c none stands = record {
-    after = Collect 0 last ∷ (map replied c.replies ++ g);
+    after = Collect 0 last ∷ (map collect_entry c.replies ++ g);
     stands = stands;
-    small = let more = last_weighs 0 last (map replied c.replies ++ g) (is_last last none) in let small = c.small in omega (arith, more, small);
+    small = let more = last_weighs 0 last (map collect_entry c.replies ++ g) (is_last last none) in let small = c.small in omega (arith, more, small);
     held = (c.replies, last, is_last last none, refl);
   }
     where

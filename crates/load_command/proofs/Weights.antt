@@ -20,7 +20,7 @@ use Rattle.farm_history.specs.Entries.{Entry, Ask, Claim, Finish, Expire, Fetch,
 use Rattle.farm_history.specs.Plans.{Plan, key_of}
 use Rattle.farm_history.specs.Past.{Numbered, number_in, with_ask, open_asks}
 use Rattle.farm_history.specs.Rules.{Fits, Legal}
-use Rattle.farm_history.specs.Seen.{unended, outbox}
+use Rattle.farm_history.specs.Seen.{waiting_asks, outbox}
 use Rattle.farm_history.specs.Lists.{Each}
 use Rattle.farm_history.proofs.Lists.{each-map}
 use Rattle.farm_history.proofs.Counts.{count-cons}
@@ -108,11 +108,11 @@ count-all (x ∷ xs) = count-cons (λ x. true) x xs ∙ (let rest = count-all xs
 pub open_kept : {D : Type 0} (state : D → Outside StoreTold) (told : Bool) (farm : FarmSeen D) (h : List Entry) → StandsFor state told farm h
     → length farm.queues.asks + length farm.queues.ended ≡ length (open_asks h)
 open_kept state told farm h stands =
-    let waiting : length farm.queues.asks ≡ length (unended h) = ap length stands.queues_are.asks_are ∙ length-map (unended h) asked_of in
+    let waiting : length farm.queues.asks ≡ length (waiting_asks h) = ap length stands.queues_are.asks_are ∙ length-map (waiting_asks h) asked_of in
     let over : length farm.queues.ended ≡ length (outbox h) = ap length stands.queues_are.ended_are in
     let split = open_split (λ c. true) h in
     let all = count-all (open_asks h) in
-    let some = count-all (unended h) in
+    let some = count-all (waiting_asks h) in
     let rest = count-all (outbox h) in
     omega (arith, waiting, over, split, all, some, rest)
 

@@ -27,13 +27,13 @@ abbrev pub Expires : Step → List Entry → List Entry → Type 0
 Expires s before after = MatchBool s.expire ((count : ℕ) × (after ≡ Expire (tile_of s.spot) count ∷ before)) (after ≡ before)
 
 -- what was claimed is drawn and ended, if it is a job; memory was not wanting
-abbrev pub Ends : ClaimAnswer → List Entry → List Entry → Type 0
-Ends (Job ticket key version) before after = (answer : Finished) × (answer ≢ Finished.NoMemory) × (after ≡ Finish ticket true answer ∷ before)
-Ends answer before after = after ≡ before
+abbrev pub EndsClaim : ClaimAnswer → List Entry → List Entry → Type 0
+EndsClaim (Job ticket key version) before after = (answer : Finished) × (answer ≢ Finished.NoMemory) × (after ≡ Finish ticket true answer ∷ before)
+EndsClaim answer before after = after ≡ before
 
 -- a Collect that gave this reply
-abbrev pub replied : Reply → Entry
-replied reply = Collect 0 (Collected.Reply reply)
+abbrev pub collect_entry : Reply → Entry
+collect_entry reply = Collect 0 (Collected.Reply reply)
 
 -- the answer of a Collect gives no reply
 abbrev pub IsLast : Collected → Type 0
@@ -48,13 +48,13 @@ pub record IsStep (s : Step) (before after : List Entry) : Type 0 where
   pub asked : AskAnswer
   pub claimed : ClaimAnswer
   pub ended : List Entry
-  pub ends : Ends claimed (Claim 0 claimed ∷ Ask loader Render s.spot asked ∷ expired) ended
+  pub ends : EndsClaim claimed (Claim 0 claimed ∷ Ask loader Render s.spot asked ∷ expired) ended
   pub replies : List Reply
   pub last : Collected
   pub is_last : IsLast last
   pub fetched : Fetched
   pub has_memory : fetched ≢ Fetched.NoMemory
-  pub after_is : after ≡ Fetch s.spot fetched ∷ Collect 0 last ∷ (map replied replies ++ ended)
+  pub after_is : after ≡ Fetch s.spot fetched ∷ Collect 0 last ∷ (map collect_entry replies ++ ended)
 
 -- steps one after another
 abbrev pub IsLoad : List Step → List Entry → List Entry → Type 0

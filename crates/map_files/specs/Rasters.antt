@@ -6,7 +6,7 @@ use Rattle.plain_shapes.specs.Ppm.{pixel_bytes}
 use Rattle.plain_drawing.specs.Styles.{RasterRef}
 use Rattle.plain_image.specs.PpmText.{ppm_of}
 use Rattle.plain_image.specs.declared.reading.PpmFault.{PpmFault}
-use Rattle.raster_layers.specs.Scales.{sized}
+use Rattle.raster_layers.specs.Scales.{grid_or_fault}
 use Rattle.raster_layers.specs.declared.grids.GridFault.{GridFault}
 use Rattle.fault_texts.specs.RasterFaults.{ppm_text, grid_text}
 use Rattle.map_files.specs.declared.rasters.RasterFault.{RasterFault}
@@ -28,7 +28,7 @@ grid_with r image = record { name = r.name; west = r.west; north = r.north; pixe
 
 -- the grid of a raster with this picture, unless a side is too long
 abbrev pub with_image : RasterRef → Pixels → Result Grid RasterFault
-with_image r image = as_raster (sized (grid_with r image))
+with_image r image = as_raster (grid_or_fault (grid_with r image))
 
 -- the grid of the picture that was read, or the fault of its PPM text
 abbrev pub after_ppm : RasterRef → Result Pixels PpmFault → Result Grid RasterFault

@@ -135,7 +135,7 @@ faults_stay log line h = faults_more log line ∙ ap (λ b. count_by is_fault lo
 
 -- a send
 pub send_told : (old new : PortsHeld) (c : ℕ) (bytes : List ℕ) (result : Result ℕ SendFault) → up_of (slice_get old.peers c) ≡ true → SendsHeld old new c bytes result
-    → told_of new ≡ told.sent c bytes result (told_of old)
+    → told_of new ≡ told.after_send c bytes result (told_of old)
 send_told old new c bytes (Ok n) up s = ap told_of s.2 ∙ told_gained (old.log ++ item.Sent c (length bytes) (Some n) ∷ []) old.peers c bytes n up
 send_told old new c bytes (Err send_fault.Failed) up s = ap told_of s.1 ∙ told_closed (old.log ++ item.Sent c (length bytes) None ∷ []) old.peers c
 send_told old new c bytes (Err send_fault.NoMemory) up s = ap told_of s
@@ -152,7 +152,7 @@ send_takes old new c bytes n s = let e = s.1 in omega (arith, e)
 
 -- a listen
 pub listen_told : (old new : PortsHeld) (address : List ℕ) (result : Result (Unit {0}) PortFault) → ListensHeld old new address result
-    → told_of new ≡ told.listened address result (told_of old)
+    → told_of new ≡ told.after_listen address result (told_of old)
 listen_told old new address (Ok done) s = ap told_of s.1
 listen_told old new address (Err fault.Failed) s = ap told_of s.1
 listen_told old new address (Err fault.NoMemory) s = ap told_of s

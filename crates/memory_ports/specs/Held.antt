@@ -40,8 +40,8 @@ pub record PortsHeld : Type 0 where
   pub turns : ℕ
 
 -- ports at their beginning
-abbrev pub begun : List PortStep → ℕ → ℕ → PortsHeld
-begun steps most turns = record { log = []; peers = []; steps = steps; used = 0; ready = false; most = most; fails = []; sends = 0; deaf = false; turns = turns }
+abbrev pub first_ports : List PortStep → ℕ → ℕ → PortsHeld
+first_ports steps most turns = record { log = []; peers = []; steps = steps; used = 0; ready = false; most = most; fails = []; sends = 0; deaf = false; turns = turns }
 
 -- of a connection that was never opened: no bytes, not open, not ended
 abbrev pub taken_of : Option PeerHeld → List ℕ

@@ -5,7 +5,7 @@ ghost use Rattle.farm_base.specs.InMemory as base;
 ghost use Rattle.port_trait.specs.declared.events.PortEvent.TheVariants as event;
 ghost use Rattle.port_trait.specs.declared.events.PortItem.TheVariants as item;
 ghost use Rattle.port_trait.specs.Told.{Hears, IsPieceOf, Sends, Listens, Closes, IsOpen, EventCounts, SendCounts, ListenCounts};
-ghost use Rattle.memory_ports.specs.Held.{PortsHeld, ports_state, begun, taken_of, up_of, change, closed, ListensHeld, SendsHeld};
+ghost use Rattle.memory_ports.specs.Held.{PortsHeld, ports_state, first_ports, taken_of, up_of, change, closed, ListensHeld, SendsHeld};
 ghost use Rattle.memory_ports.specs.Playing.{is_due, BeginsLive, Readies, readied, play_step, play_due, PlayedBy, Plays, IsOver};
 ghost use Rattle.memory_ports.specs.Scripts.{is_valid};
 ghost use Rattle.memory_ports.specs.inner.Moving.{Moves};
@@ -104,7 +104,7 @@ impl MemPorts {
         turns: u64,
     ) -> MemPorts
         requires { is_valid [] steps.items ≡ true }
-        ensures { result ≡ begun steps.items take turns }
+        ensures { result ≡ first_ports steps.items take turns }
     {
         MemPorts {
             alloc,
@@ -134,9 +134,9 @@ impl MemPorts {
         requires renderd { is_valid [] renderd.items ≡ true }
         requires tiles { is_valid [] tiles.items ≡ true }
         requires control { is_valid [] control.items ≡ true }
-        ensures renderd { IfOk result (λ ports. ports.renderd ≡ begun renderd.items take turns) }
-        ensures tiles { IfOk result (λ ports. ports.tiles ≡ begun tiles.items take turns) }
-        ensures control { IfOk result (λ ports. ports.control ≡ begun control.items take turns) }
+        ensures renderd { IfOk result (λ ports. ports.renderd ≡ first_ports renderd.items take turns) }
+        ensures tiles { IfOk result (λ ports. ports.tiles ≡ first_ports tiles.items take turns) }
+        ensures control { IfOk result (λ ports. ports.control ≡ first_ports control.items take turns) }
     {
         let counts = Counts::new(alloc)?;
         let second = Arc::try_clone(&counts)?;

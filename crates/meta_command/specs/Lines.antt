@@ -7,16 +7,16 @@ use Rattle.meta_container.specs.declared.container.Entry.{Entry}
 use Rattle.meta_container.specs.declared.container.Listing.{Listing}
 
 -- three numbers in decimal on a line, with a space between them
-abbrev pub three : ℕ → ℕ → ℕ → List ℕ
-three a b c = decimal a ++ codes " " ++ decimal b ++ codes " " ++ decimal c ++ codes "\n"
+abbrev pub three_numbers : ℕ → ℕ → ℕ → List ℕ
+three_numbers a b c = decimal a ++ codes " " ++ decimal b ++ codes " " ++ decimal c ++ codes "\n"
 
 -- the line of a metatile: the zoom, the column and the row of its lowest tile
 abbrev pub meta_line : Meta → List ℕ
-meta_line m = three m.z m.x m.y
+meta_line m = three_numbers m.z m.x m.y
 
 -- the line of a tile: its place, where it begins, and how many bytes it has
 abbrev pub entry_line : Entry → List ℕ
-entry_line entry = three entry.place entry.offset entry.size
+entry_line entry = three_numbers entry.place entry.offset entry.size
 
 -- what a container holds: the line of its metatile, and those of its tiles in order
 abbrev pub listing_text : Listing → List ℕ

@@ -10,7 +10,7 @@ use Rattle.std.proofs.lemmas.Bool.{eqb-true}
 use Rattle.std.proofs.lemmas.Bool.Decides.{nat_tests}
 use Rattle.std.proofs.lemmas.List.Sums.{sum_by-cons, AllPass-from_list_all}
 use Rattle.meta_container.specs.declared.container.Span.{Span}
-use Rattle.meta_container.specs.Container.{span_bytes, joined, bytes_of, has_tile, rank, span_at, index_below, container_of}
+use Rattle.meta_container.specs.Container.{span_bytes, tile_bytes, bytes_of, has_tile, rank, span_at, index_below, container_of}
 use Rattle.meta_container.specs.Heads.{all_of_size}
 
 abbrev span : ℕ → ℕ → Span
@@ -56,12 +56,12 @@ even_pair across size place tiles there count all =
 -- the mark and the index are the head
 pub head_written : (m : Meta) (across : ℕ) (old marked new : List ℕ) (tiles : List (List ℕ)) → across ≡ tiles_across m
     → marked ≡ old ++ codes "META" ++ little_bytes 4 64 ++ little_bytes 4 m.x ++ little_bytes 4 m.y ++ little_bytes 4 m.z
-    → new ≡ marked ++ flat_map span_bytes (index_below across tiles 64) → new ++ joined tiles ≡ old ++ container_of m tiles
+    → new ≡ marked ++ flat_map span_bytes (index_below across tiles 64) → new ++ tile_bytes tiles ≡ old ++ container_of m tiles
 unfolding container_of
 head_written m across old marked new tiles e mark index =
-    ap (λ bs. bs ++ joined tiles) (index ∙ ap (λ n. marked ++ flat_map span_bytes (index_below n tiles 64)) e
+    ap (λ bs. bs ++ tile_bytes tiles) (index ∙ ap (λ n. marked ++ flat_map span_bytes (index_below n tiles 64)) e
     ∙ ap (λ bs. bs ++ flat_map span_bytes (index_below (tiles_across m) tiles 64)) mark)
-    ∙ joins (little_bytes 4 64) (little_bytes 4 m.x) (little_bytes 4 m.y) (little_bytes 4 m.z) (flat_map span_bytes (index_below (tiles_across m) tiles 64)) (joined tiles)
+    ∙ joins (little_bytes 4 64) (little_bytes 4 m.x) (little_bytes 4 m.y) (little_bytes 4 m.z) (flat_map span_bytes (index_below (tiles_across m) tiles 64)) (tile_bytes tiles)
   where
     joins : (count x y z spans rest : List ℕ) → old ++ codes "META" ++ count ++ x ++ y ++ z ++ spans ++ rest ≡ old ++ (codes "META" ++ count ++ x ++ y ++ z ++ spans ++ rest)
     joins count x y z spans rest = simp append_assoc

@@ -16,7 +16,7 @@ use Rattle.plain_world.specs.declared.world.Tile.{Tile}
 use Rattle.plain_world.specs.World.{IsTile, IsMeta, meta_of, tiles_across, index_place}
 use Rattle.meta_container.specs.declared.container.Entry.{Entry}
 use Rattle.meta_container.specs.declared.container.Span.{Span}
-use Rattle.meta_container.specs.Container.{span_bytes, joined, bytes_of, head_len, has_tile, rank, span_at, index_below, container_of, is_stored, AreTilesOf}
+use Rattle.meta_container.specs.Container.{span_bytes, tile_bytes, bytes_of, head_len, has_tile, rank, span_at, index_below, container_of, is_stored, AreTilesOf}
 use Rattle.meta_container.specs.Reading.{number_at, mark, head_fault, wrong_place, entry_at, is_present, begins_in_head, is_wild, place_fault, tile_found, entry_found}
 use Rattle.meta_container.specs.Laws.{tile_of, TilesComeBack, EntriesComeBack}
 
@@ -32,10 +32,10 @@ length-spans (s ∷ ss) = let e = length-spans ss in omega arith
 length-head : (m : Meta) (index : List Span) → length index ≡ 64 → length (head m index) ≡ 532
 length-head m index l = let e = length-spans index in omega arith
 
-length-joined : (tiles : List (List ℕ)) → length (joined tiles) ≡ bytes_of tiles
+length-joined : (tiles : List (List ℕ)) → length (tile_bytes tiles) ≡ bytes_of tiles
 length-joined [] = refl
 length-joined (t ∷ ts) =
-    length-append t (joined ts) ∙ ap (λ n. length t + n) (length-joined ts) ∙ sym (sum_by-cons (λ (tile : List ℕ). length tile) t ts)
+    length-append t (tile_bytes ts) ∙ ap (λ n. length t + n) (length-joined ts) ∙ sym (sum_by-cons (λ (tile : List ℕ). length tile) t ts)
 
 -- the pair at a place of the index
 record SpanThere (spans : List Span) (k : ℕ) (more : List ℕ) (d : Span) : Type 0 where
@@ -145,12 +145,12 @@ rank_below t tiles is count =
 
 -- the tiles behind those before a tile begin with it
 joined_at : (tiles : List (List ℕ)) (r : ℕ) → r < length tiles
-    → drop (bytes_of (take r tiles)) (joined tiles) ≡ get_or tiles r [] ++ joined (drop (suc r) tiles)
+    → drop (bytes_of (take r tiles)) (tile_bytes tiles) ≡ get_or tiles r [] ++ tile_bytes (drop (suc r) tiles)
 joined_at [] r h = absurd (omega arith)
 joined_at (t ∷ ts) zero h = refl
 joined_at (t ∷ ts) (suc r) h =
-    ap (λ n. drop n (t ++ joined ts)) (sum_by-cons (λ (tile : List ℕ). length tile) t (take r ts))
-    ∙ drop-append-add t (joined ts) (bytes_of (take r ts))
+    ap (λ n. drop n (t ++ tile_bytes ts)) (sum_by-cons (λ (tile : List ℕ). length tile) t (take r ts))
+    ∙ drop-append-add t (tile_bytes ts) (bytes_of (take r ts))
     ∙ joined_at ts r (omega arith)
 
 -- the pair of the tile of number r
@@ -159,14 +159,14 @@ span_of tiles r = record { offset = 532 + bytes_of (take r tiles); size = length
 
 -- the part that the pair names
 part_there : (m : Meta) (index : List Span) (tiles : List (List ℕ)) (r : ℕ) → length index ≡ 64 → r < length tiles
-    → take (span_of tiles r).size (drop (span_of tiles r).offset (head m index ++ joined tiles)) ≡ get_or tiles r []
+    → take (span_of tiles r).size (drop (span_of tiles r).offset (head m index ++ tile_bytes tiles)) ≡ get_or tiles r []
 part_there m index tiles r l h =
     let len = length-head m index l in
-    let behind : drop 532 (head m index ++ joined tiles) ≡ joined tiles =
-    ap (λ n. drop n (head m index ++ joined tiles)) (sym len) ∙ drop-append_seam (head m index) (joined tiles) in
+    let behind : drop 532 (head m index ++ tile_bytes tiles) ≡ tile_bytes tiles =
+    ap (λ n. drop n (head m index ++ tile_bytes tiles)) (sym len) ∙ drop-append_seam (head m index) (tile_bytes tiles) in
     ap (take (length (get_or tiles r [])))
-    (sym (drop-drop (bytes_of (take r tiles)) 532 (head m index ++ joined tiles)) ∙ ap (drop (bytes_of (take r tiles))) behind ∙ joined_at tiles r h)
-    ∙ take-append_seam (get_or tiles r []) (joined (drop (suc r) tiles))
+    (sym (drop-drop (bytes_of (take r tiles)) 532 (head m index ++ tile_bytes tiles)) ∙ ap (drop (bytes_of (take r tiles))) behind ∙ joined_at tiles r h)
+    ∙ take-append_seam (get_or tiles r []) (tile_bytes (drop (suc r) tiles))
 
 -- how far it reaches
 within : (tiles : List (List ℕ)) (r : ℕ) → r < length tiles → bytes_of (take r tiles) + length (get_or tiles r []) ≤ bytes_of tiles
@@ -259,18 +259,18 @@ entry_read tiles t more are is =
     entry_there (meta_of t) (index tiles t) more (index_place t) (span_of tiles (number t)) (omega (arith, p.indexed)) p.spanned b.offset b.size
 
 tile_back : (tiles : List (List ℕ)) (t : Tile) → AreTilesOf (meta_of t) tiles → IsTile t
-    → tile_found (head (meta_of t) (index tiles t) ++ joined tiles) (meta_of t) (index_place t) ≡ Ok (get_or tiles (number t) [])
+    → tile_found (head (meta_of t) (index tiles t) ++ tile_bytes tiles) (meta_of t) (index_place t) ≡ Ok (get_or tiles (number t) [])
 tile_back tiles t are is =
     let p = placed tiles t are is in
     let b = bounded tiles t are p.below in
     let len = length-head (meta_of t) (index tiles t) p.indexed in
-    let whole = length-append (head (meta_of t) (index tiles t)) (joined tiles) in
+    let whole = length-append (head (meta_of t) (index tiles t)) (tile_bytes tiles) in
     let tail = length-joined tiles in
-    tile_by (head (meta_of t) (index tiles t) ++ joined tiles) (meta_of t) (index_place t) (entry_of tiles t) (get_or tiles (number t) [])
-    (no_head_fault (meta_of t) (index tiles t) (joined tiles) p.indexed)
-    (no_place_fault (meta_of t) (index tiles t) (joined tiles) are.meta)
-    (entry_read tiles t (joined tiles) are is)
-    (passes (length (head (meta_of t) (index tiles t) ++ joined tiles)) (index_place t) (span_of tiles (number t)).offset (span_of tiles (number t)).size
+    tile_by (head (meta_of t) (index tiles t) ++ tile_bytes tiles) (meta_of t) (index_place t) (entry_of tiles t) (get_or tiles (number t) [])
+    (no_head_fault (meta_of t) (index tiles t) (tile_bytes tiles) p.indexed)
+    (no_place_fault (meta_of t) (index tiles t) (tile_bytes tiles) are.meta)
+    (entry_read tiles t (tile_bytes tiles) are is)
+    (passes (length (head (meta_of t) (index tiles t) ++ tile_bytes tiles)) (index_place t) (span_of tiles (number t)).offset (span_of tiles (number t)).size
     (omega arith) b.stored (omega (arith, b.reach)))
     (part_there (meta_of t) (index tiles t) tiles (number t) p.indexed p.below)
 
@@ -286,7 +286,7 @@ entry_back tiles t more are is =
     (passes_head (index_place t) (span_of tiles (number t)).offset (span_of tiles (number t)).size (omega arith) b.stored)
 
 -- a container is its head and its tiles
-container_is : (tiles : List (List ℕ)) (t : Tile) → container_of (meta_of t) tiles ≡ head (meta_of t) (index tiles t) ++ joined tiles
+container_is : (tiles : List (List ℕ)) (t : Tile) → container_of (meta_of t) tiles ≡ head (meta_of t) (index tiles t) ++ tile_bytes tiles
 unfolding container_of
 container_is tiles t = refl
 
@@ -299,8 +299,8 @@ head_alone : (tiles : List (List ℕ)) (t : Tile) → length (index tiles t) ≡
     → take 532 (container_of (meta_of t) tiles) ≡ head (meta_of t) (index tiles t) ++ []
 head_alone tiles t l =
     ap (take 532) (container_is tiles t)
-    ∙ ap (λ n. take n (head (meta_of t) (index tiles t) ++ joined tiles)) (sym (length-head (meta_of t) (index tiles t) l))
-    ∙ take-append_seam (head (meta_of t) (index tiles t)) (joined tiles)
+    ∙ ap (λ n. take n (head (meta_of t) (index tiles t) ++ tile_bytes tiles)) (sym (length-head (meta_of t) (index tiles t) l))
+    ∙ take-append_seam (head (meta_of t) (index tiles t)) (tile_bytes tiles)
     ∙ sym (append-nil (head (meta_of t) (index tiles t)))
 
 entries_back : (tiles : List (List ℕ)) (t : Tile) → AreTilesOf (meta_of t) tiles → IsTile t

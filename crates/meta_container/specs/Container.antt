@@ -12,8 +12,8 @@ abbrev pub span_bytes : Span → List ℕ
 span_bytes span = little_bytes 4 span.offset ++ little_bytes 4 span.size
 
 -- the bytes of tiles, one tile after another
-abbrev pub joined : List (List ℕ) → List ℕ
-joined tiles = flat_map (λ tile. tile) tiles
+abbrev pub tile_bytes : List (List ℕ) → List ℕ
+tile_bytes tiles = flat_map (λ tile. tile) tiles
 
 -- how many bytes tiles have together
 abbrev pub bytes_of : List (List ℕ) → ℕ
@@ -29,7 +29,7 @@ layout m index tiles =
     ++ little_bytes 4 m.y
     ++ little_bytes 4 m.z
     ++ flat_map span_bytes index
-    ++ joined tiles
+    ++ tile_bytes tiles
 
 -- how many bytes stand before the tiles
 abbrev pub head_len : ℕ

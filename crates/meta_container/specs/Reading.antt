@@ -32,8 +32,8 @@ head_fault bytes =
     else None
 
 -- the metatile that the head names, if it is one
-abbrev pub meta_in : List ℕ → Meta
-meta_in bytes = record { z = number_at 16 bytes; x = number_at 8 bytes; y = number_at 12 bytes }
+abbrev pub head_meta : List ℕ → Meta
+head_meta bytes = record { z = number_at 16 bytes; x = number_at 8 bytes; y = number_at 12 bytes }
 
 -- the fault that names what stands in the head in place of a metatile
 abbrev pub wrong_place : List ℕ → MetaFault
@@ -65,11 +65,11 @@ is_wild len entry = begins_in_head entry || nat_lt len (entry.offset + entry.siz
 
 -- the place names another metatile than the asked one
 abbrev pub place_fault : List ℕ → Meta → Option MetaFault
-place_fault bytes m = if same_meta (meta_in bytes) m then None else Some (wrong_place bytes)
+place_fault bytes m = if same_meta (head_meta bytes) m then None else Some (wrong_place bytes)
 
 -- the place names no metatile
 abbrev pub no_place_fault : List ℕ → Option MetaFault
-no_place_fault bytes = if is_meta (meta_in bytes) then None else Some (wrong_place bytes)
+no_place_fault bytes = if is_meta (head_meta bytes) then None else Some (wrong_place bytes)
 
 -- the fault, if there is one, and else what follows
 abbrev pub unless : {A : Type 0} → Option MetaFault → Result A MetaFault → Result A MetaFault
@@ -107,7 +107,7 @@ first_wild len entries = option_map (λ entry. Index entry.place) (find (is_wild
 unfoldable pub listing_found : List ℕ → Result Listing MetaFault
 listing_found bytes =
     unless (head_fault bytes) (unless (no_place_fault bytes) (unless (first_wild (length bytes) (entries_in bytes))
-    (Ok (record { meta = meta_in bytes; entries = record { items = entries_in bytes } }))))
+    (Ok (record { meta = head_meta bytes; entries = record { items = entries_in bytes } }))))
 
 -- what a reader that hands out a part of the bytes answers
 abbrev pub Hands : Result (List ℕ) MetaFault → Result (Bor (List ℕ)) MetaFault → Type 0

@@ -3,7 +3,7 @@
 ghost use Rattle.std.specs.Prelude.{◌≡◌, ◌≤◌, ◌<◌, ◌+◌, ◌*◌, length, find, Option, option_copied};
 ghost use Rattle.plain_world.specs.World.{IsTile, IsMeta, meta_of, index_place};
 ghost use Rattle.meta_container.specs.Reading as spec;
-ghost use Rattle.meta_container.specs.Reading.{Hands, number_at, meta_in, is_present, entries_in, tile_found, entry_found, listing_found};
+ghost use Rattle.meta_container.specs.Reading.{Hands, number_at, head_meta, is_present, entries_in, tile_found, entry_found, listing_found};
 
 use crate::container::{Entry, HEAD_BYTES, Listing, PLACES};
 use arrayvec::ArrayVec;
@@ -150,7 +150,7 @@ fn number_at(bytes: &[u8], place: usize) -> u32
 /// The metatile that the head names.
 fn meta_in(bytes: &[u8]) -> Meta
     requires { HEAD_BYTES ≤ length bytes.now }
-    ensures { result ≡ meta_in bytes.now }
+    ensures { result ≡ head_meta bytes.now }
 {
     Meta {
         z: number_at(bytes, 16),

@@ -3,7 +3,7 @@ ghost use Rattle.std.specs.Prelude.{◌≡◌, ◌≤◌, ◌<◌, ◌+◌, ◌*
 ghost use Rattle.std.specs.List.{flat_map};
 ghost use Rattle.byteorder.specs.Endian.{little_bytes};
 ghost use Rattle.plain_world.specs.World.{tiles_across, IsMeta};
-ghost use Rattle.meta_container.specs.Container.{AreTilesOf, container_of, index_below, span_at, span_bytes, bytes_of, joined};
+ghost use Rattle.meta_container.specs.Container.{AreTilesOf, container_of, index_below, span_at, span_bytes, bytes_of, tile_bytes};
 ghost use Rattle.meta_container.specs.Container as spec;
 ghost use Rattle.meta_container.specs.Heads.{all_of_size, IsHead};
 

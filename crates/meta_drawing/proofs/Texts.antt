@@ -7,7 +7,7 @@ use Rattle.std.proofs.lemmas.Bool.{lt-ltb, le-ltb}
 use Rattle.std.proofs.lemmas.List.{append-nil}
 use Rattle.std.proofs.lemmas.Grind.{flat_map-append}
 use Rattle.plain_world.specs.World.{IsTileSize}
-use Rattle.meta_container.specs.Container.{joined}
+use Rattle.meta_container.specs.Container.{tile_bytes}
 use Rattle.tile_render.proofs.Metas.{one_more_text, one_more_column}
 
 -- the digits of a tile's side
@@ -31,22 +31,22 @@ two_digits size sized h = sym (digits_of_side size sized ∙ ap (λ t. if t then
 pub three_digits : (size : ℕ) → IsTileSize size → 100 ≤ size → 3 ≡ length (decimal size)
 three_digits size sized h = sym (digits_of_side size sized ∙ ap (λ t. if t then 2 else 3) (le-ltb size 100 h))
 
-joined_append : (these those : List (List ℕ)) → joined (these ++ those) ≡ joined these ++ joined those
+joined_append : (these those : List (List ℕ)) → tile_bytes (these ++ those) ≡ tile_bytes these ++ tile_bytes those
 joined_append these those = flat_map-append (λ (text : List ℕ). text) these those
 
 -- one text more
-pub text_behind : (f : ℕ → List ℕ) (old now next : List ℕ) (row : ℕ) → now ≡ old ++ joined (map f (range_with_len 0 row)) → next ≡ now ++ f row
-    → next ≡ old ++ joined (map f (range_with_len 0 (row + 1)))
+pub text_behind : (f : ℕ → List ℕ) (old now next : List ℕ) (row : ℕ) → now ≡ old ++ tile_bytes (map f (range_with_len 0 row)) → next ≡ now ++ f row
+    → next ≡ old ++ tile_bytes (map f (range_with_len 0 (row + 1)))
 text_behind f old now next row so_far step =
     let before : List (List ℕ) = map f (range_with_len 0 row) in
-    step ∙ ap (λ bs. bs ++ f row) so_far ∙ append_assoc old (joined before) (f row)
-    ∙ ap (λ bs. old ++ bs) (ap (λ bs. joined before ++ bs) (sym (append-nil (f row))) ∙ sym (joined_append before (f row ∷ []))
-    ∙ ap joined (one_more_text f [] before (before ++ f row ∷ []) row (f row) refl refl refl))
+    step ∙ ap (λ bs. bs ++ f row) so_far ∙ append_assoc old (tile_bytes before) (f row)
+    ∙ ap (λ bs. old ++ bs) (ap (λ bs. tile_bytes before ++ bs) (sym (append-nil (f row))) ∙ sym (joined_append before (f row ∷ []))
+    ∙ ap tile_bytes (one_more_text f [] before (before ++ f row ∷ []) row (f row) refl refl refl))
 
 -- one column more
-pub column_behind : (f : ℕ → List (List ℕ)) (old now next : List ℕ) (col : ℕ) → now ≡ old ++ joined (flat_map f (range_with_len 0 col)) → next ≡ now ++ joined (f col)
-    → next ≡ old ++ joined (flat_map f (range_with_len 0 (col + 1)))
+pub column_behind : (f : ℕ → List (List ℕ)) (old now next : List ℕ) (col : ℕ) → now ≡ old ++ tile_bytes (flat_map f (range_with_len 0 col)) → next ≡ now ++ tile_bytes (f col)
+    → next ≡ old ++ tile_bytes (flat_map f (range_with_len 0 (col + 1)))
 column_behind f old now next col so_far step =
     let before : List (List ℕ) = flat_map f (range_with_len 0 col) in
-    step ∙ ap (λ bs. bs ++ joined (f col)) so_far ∙ append_assoc old (joined before) (joined (f col))
-    ∙ ap (λ bs. old ++ bs) (sym (joined_append before (f col)) ∙ ap joined (one_more_column f before (before ++ f col) col refl refl))
+    step ∙ ap (λ bs. bs ++ tile_bytes (f col)) so_far ∙ append_assoc old (tile_bytes before) (tile_bytes (f col))
+    ∙ ap (λ bs. old ++ bs) (sym (joined_append before (f col)) ∙ ap tile_bytes (one_more_column f before (before ++ f col) col refl refl))

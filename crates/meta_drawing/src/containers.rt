@@ -6,7 +6,7 @@ ghost use Rattle.plain_data.specs.Features.{Layer};
 ghost use Rattle.plain_drawing.specs.Styles.{MapStyle};
 ghost use Rattle.plain_drawing.specs.Metatiles.{tiles_of};
 ghost use Rattle.plain_drawing.specs.inner.PartTexts.{column_texts, part_texts};
-ghost use Rattle.meta_container.specs.Container.{container_of, joined};
+ghost use Rattle.meta_container.specs.Container.{container_of, tile_bytes};
 
 use crate::picture_buffer::PictureBuffer;
 use data_versions::Snapshot;
@@ -51,7 +51,7 @@ fn put_column(
     requires col { col < across }
     requires cols { image.now.cols ≡ size * across }
     requires rows { image.now.rows ≡ size * across }
-    ensures { OnOk result (out.new.items ≡ out.old.items ++ joined (column_texts image.now size across col)) }
+    ensures { OnOk result (out.new.items ≡ out.old.items ++ tile_bytes (column_texts image.now size across col)) }
 {
     for row in 0..across {
         image.put_part(col * size, row * size, size, size, out)?;
@@ -65,7 +65,7 @@ fn put_tiles(image: &Image, size: u32, across: u32, out: &mut Vec<u8>) -> Result
     requires few_across { across ≤ 8 }
     requires cols { image.now.cols ≡ size * across }
     requires rows { image.now.rows ≡ size * across }
-    ensures { OnOk result (out.new.items ≡ out.old.items ++ joined (part_texts image.now size across)) }
+    ensures { OnOk result (out.new.items ≡ out.old.items ++ tile_bytes (part_texts image.now size across)) }
 {
     for col in 0..across {
         put_column(image, size, across, col, out)?;

@@ -13,7 +13,7 @@ use Rattle.std.proofs.Math.Seq.{take-append_seam, drop-append_seam}
 use Rattle.plain_shapes.specs.declared.colour.Colour.{Colour}
 use Rattle.farm_base.specs.Digits.{is_digit}
 use Rattle.paint_texts.specs.Decimals.{number}
-use Rattle.paint_texts.specs.Colours.{rgb, colour_names, named, hex, IsChannel, IsShortHash, IsLongHash, is_space, IsPart, IsMixed, IsNamed, IsColour, two_digits, joined, channels, behind, hashed, trimmed, part_of, part, only, parts, mixed, colour_of}
+use Rattle.paint_texts.specs.Colours.{rgb, colour_names, colour_by_name, hex, IsChannel, IsShortHash, IsLongHash, is_space, IsPart, IsMixed, IsNamed, IsColour, two_digits, three_channels, channels, behind, hash_colour, without_spaces, part_of, number_before, only, parts, rgb_colour, colour_of}
 use Rattle.paint_texts.proofs.Runs.{front_passes, front_spelled}
 
 -- ---- hexadecimal digits
@@ -29,7 +29,7 @@ channel_is high low n h = go (hex high) (hex low) refl refl h
 is_channel : (high low n : ℕ) → IsChannel high low n → two_digits (hex high) (hex low) ≡ Some n
 is_channel high low n (x, y, e, f, v) = ap (λ o. two_digits o (hex low)) e ∙ ap (two_digits (Some x)) f ∙ ap Some (sym v)
 
-joined_is : (o p q : Option ℕ) (c : Colour) → joined o p q ≡ Some c → (o ≡ Some c.r) × (p ≡ Some c.g) × (q ≡ Some c.b)
+joined_is : (o p q : Option ℕ) (c : Colour) → three_channels o p q ≡ Some c → (o ≡ Some c.r) × (p ≡ Some c.g) × (q ≡ Some c.b)
 joined_is (Some r) (Some g) (Some b) c h = let e = same_Some (rgb r g b) c h in (ap (λ d. Some d.r) e, ap (λ d. Some d.g) e, ap (λ d. Some d.b) e)
 joined_is (Some r) (Some g) None c h = absurd (none-some c h)
 joined_is (Some r) None q c h = absurd (none-some c h)
@@ -63,8 +63,8 @@ behind_is sign (c ∷ t) rest e =
     let k = cond_some (c == sign) t rest e in
     ap (λ x. x ∷ t) (eqb-true c sign k.0) ∙ ap (λ x. sign ∷ x) k.1
 
-hash_is : (text : List ℕ) (c : Colour) → hashed text ≡ Some c → IsColour text c
-unfolding hashed
+hash_is : (text : List ℕ) (c : Colour) → hash_colour text ≡ Some c → IsColour text c
+unfolding hash_colour
 hash_is text c e = go (behind 35 text) refl e
   where
     go : (o : Option (List ℕ)) → behind 35 text ≡ o → option_and_then channels o ≡ Some c → IsColour text c
@@ -75,18 +75,18 @@ hash_is text c e = go (behind 35 text) refl e
     ]
 
 short_read : (text : List ℕ) (c : Colour) → IsShortHash text c → colour_of text ≡ Some c
-unfolding colour_of hashed channels
+unfolding colour_of hash_colour channels
 short_read text c (r, g, b, s, x, y, z) =
     let k : channels (r ∷ g ∷ b ∷ []) ≡ Some c = rw (is_channel r r c.r x, is_channel g g c.g y, is_channel b b c.b z) refl in
-    ap (λ t. option_or (hashed t) (option_or (mixed t) (named t))) s
-    ∙ ap (λ o. option_or o (option_or (mixed (35 ∷ r ∷ g ∷ b ∷ [])) (named (35 ∷ r ∷ g ∷ b ∷ [])))) k
+    ap (λ t. option_or (hash_colour t) (option_or (rgb_colour t) (colour_by_name t))) s
+    ∙ ap (λ o. option_or o (option_or (rgb_colour (35 ∷ r ∷ g ∷ b ∷ [])) (colour_by_name (35 ∷ r ∷ g ∷ b ∷ [])))) k
 
 long_read : (text : List ℕ) (c : Colour) → IsLongHash text c → colour_of text ≡ Some c
-unfolding colour_of hashed channels
+unfolding colour_of hash_colour channels
 long_read text c (r, s, g, h, b, d, q, x, y, z) =
     let k : channels (r ∷ s ∷ g ∷ h ∷ b ∷ d ∷ []) ≡ Some c = rw (is_channel r s c.r x, is_channel g h c.g y, is_channel b d c.b z) refl in
-    ap (λ t. option_or (hashed t) (option_or (mixed t) (named t))) q
-    ∙ ap (λ o. option_or o (option_or (mixed (35 ∷ r ∷ s ∷ g ∷ h ∷ b ∷ d ∷ [])) (named (35 ∷ r ∷ s ∷ g ∷ h ∷ b ∷ d ∷ [])))) k
+    ap (λ t. option_or (hash_colour t) (option_or (rgb_colour t) (colour_by_name t))) q
+    ∙ ap (λ o. option_or o (option_or (rgb_colour (35 ∷ r ∷ s ∷ g ∷ h ∷ b ∷ d ∷ [])) (colour_by_name (35 ∷ r ∷ s ∷ g ∷ h ∷ b ∷ d ∷ [])))) k
 
 -- ---- numbers with spaces round them
 
@@ -110,19 +110,19 @@ flat : (a b c d : List ℕ) → a ++ (b ++ (c ++ d)) ≡ a ++ b ++ c ++ d
 flat a b c d = simp append_assoc
 
 -- what is read of a number, and where it ends
-part_is : (sign : ℕ) (text : List ℕ) (n : ℕ) (rest : List ℕ) → part sign text ≡ Some (n, rest) → (s : List ℕ) × (text ≡ s ++ sign ∷ rest) × IsPart s n
-unfolding part
+part_is : (sign : ℕ) (text : List ℕ) (n : ℕ) (rest : List ℕ) → number_before sign text ≡ Some (n, rest) → (s : List ℕ) × (text ≡ s ++ sign ∷ rest) × IsPart s n
+unfolding number_before
 part_is sign text n rest e =
     let before : List ℕ = take (prefix_len is_space text) text in
-    let t : List ℕ = trimmed text in
+    let t : List ℕ = without_spaces text in
     let len : ℕ = prefix_len is_digit t in
     let digits : List ℕ = take len t in
     let u : List ℕ = drop len t in
     let after : List ℕ = take (prefix_len is_space u) u in
-    let k = if_some (nat_le 1 len && nat_le len 3 && nat_le (number digits) 255) (option_map (λ rest. (number digits, rest)) (behind sign (trimmed u))) (n, rest) e in
-    let m = map_some (λ rest. (number digits, rest)) (behind sign (trimmed u)) (n, rest) k.1 in
+    let k = if_some (nat_le 1 len && nat_le len 3 && nat_le (number digits) 255) (option_map (λ rest. (number digits, rest)) (behind sign (without_spaces u))) (n, rest) e in
+    let m = map_some (λ rest. (number digits, rest)) (behind sign (without_spaces u)) (n, rest) k.1 in
     let value : number digits ≡ n = ap (λ p. p.0) m.2 in
-    let ending : trimmed u ≡ sign ∷ rest = behind_is sign (trimmed u) m.0 m.1 ∙ ap (λ p. sign ∷ p.1) m.2 in
+    let ending : without_spaces u ≡ sign ∷ rest = behind_is sign (without_spaces u) m.0 m.1 ∙ ap (λ p. sign ∷ p.1) m.2 in
     let long : length digits ≡ len = length-take-le len t (prefix_fits is_digit t) in
     let a = and_parts (nat_le 1 len && nat_le len 3) (nat_le (number digits) 255) k.0 in
     let b = and_parts (nat_le 1 len) (nat_le len 3) a.0 in
@@ -152,7 +152,7 @@ part_is sign text n rest e =
 run_stops : (p : ℕ → Bool) (c : ℕ) (rest : List ℕ) → p c ≡ false → prefix_len p (c ∷ rest) ≡ 0
 run_stops p c rest e = ap (λ b. cond b (1 + prefix_len p rest) 0) e
 
-trimmed_is : (before u : List ℕ) → list_all is_space before ≡ true → prefix_len is_space u ≡ 0 → trimmed (before ++ u) ≡ u
+trimmed_is : (before u : List ℕ) → list_all is_space before ≡ true → prefix_len is_space u ≡ 0 → without_spaces (before ++ u) ≡ u
 trimmed_is before u h z = ap (λ k. drop k (before ++ u)) (front_spelled is_space before u h z) ∙ drop-append_seam before u
 
 no_space : (d : ℕ) → is_digit d ≡ true → is_space d ≡ false
@@ -171,16 +171,16 @@ spaces_stop [] rest sign e h = run_stops is_digit sign rest h
 spaces_stop (d ∷ after) rest sign e h = run_stops is_digit d (after ++ sign ∷ rest) (no_digit d (and_parts (is_space d) (list_all is_space after) e).0)
 
 -- a number that is spelled so is read, with what stands behind its sign
-is_part : (sign : ℕ) (s : List ℕ) (n : ℕ) (rest : List ℕ) → is_space sign ≡ false → is_digit sign ≡ false → IsPart s n → part sign (s ++ sign ∷ rest) ≡ Some (n, rest)
-unfolding part
+is_part : (sign : ℕ) (s : List ℕ) (n : ℕ) (rest : List ℕ) → is_space sign ≡ false → is_digit sign ≡ false → IsPart s n → number_before sign (s ++ sign ∷ rest) ≡ Some (n, rest)
+unfolding number_before
 is_part sign s n rest space digit p =
     let u : List ℕ = p.behind ++ sign ∷ rest in
     let t : List ℕ = p.digits ++ u in
     let text : s ++ sign ∷ rest ≡ p.before ++ t = ap (λ x. x ++ sign ∷ rest) p.spelled ∙ sym (flat p.before p.digits p.behind (sign ∷ rest)) in
-    let front : trimmed (s ++ sign ∷ rest) ≡ t =
-    ap trimmed text ∙ trimmed_is p.before t p.spaces_before (digits_stop p.digits u p.are_digits p.some) in
+    let front : without_spaces (s ++ sign ∷ rest) ≡ t =
+    ap without_spaces text ∙ trimmed_is p.before t p.spaces_before (digits_stop p.digits u p.are_digits p.some) in
     let len : prefix_len is_digit t ≡ length p.digits = front_spelled is_digit p.digits u p.are_digits (spaces_stop p.behind rest sign p.spaces_behind digit) in
-    let ending : trimmed u ≡ sign ∷ rest = trimmed_is p.behind (sign ∷ rest) p.spaces_behind (run_stops is_space sign rest space) in
+    let ending : without_spaces u ≡ sign ∷ rest = trimmed_is p.behind (sign ∷ rest) p.spaces_behind (run_stops is_space sign rest space) in
     let same : behind sign (sign ∷ rest) ≡ Some rest = rw (eq-eqb sign sign refl) refl in
     let fits : number p.digits ≤ 255 = let v = p.value in omega (arith, v, p.fits) in
     ap (λ x. part_of sign (prefix_len is_digit x) x) front
@@ -196,14 +196,14 @@ Three text c = (r : List ℕ) × (g : List ℕ) × (b : List ℕ) × (text ≡ r
 
 parts_are : (text : List ℕ) (c : Colour) → parts text ≡ Some c → Three text c
 unfolding parts
-parts_are text c e = first (part 44 text) refl e
+parts_are text c e = first (number_before 44 text) refl e
   where
     last : (x y z : ℕ) (rest : List ℕ) → only x y z rest ≡ Some c → (rest ≡ []) × (rgb x y z ≡ c)
     last x y z [] e = (refl, same_Some (rgb x y z) c e)
     last x y z (d ∷ rest) e = absurd (none-some c e)
 
     third : (x : ℕ) (r : List ℕ) (t : List ℕ) → text ≡ r ++ 44 ∷ t → IsPart r x → (y : ℕ) (g : List ℕ) (u : List ℕ) → t ≡ g ++ 44 ∷ u → IsPart g y
-        → (o : Option (ℕ × List ℕ)) → part 41 u ≡ o → option_and_then (λ b. only x y b.0 b.1) o ≡ Some c → Three text c
+        → (o : Option (ℕ × List ℕ)) → number_before 41 u ≡ o → option_and_then (λ b. only x y b.0 b.1) o ≡ Some c → Three text c
     third x r t s p y g u q w None a e = absurd (none-some c e)
     third x r t s p y g u q w (Some (z, v)) a e =
         let l = last x y z v e in
@@ -218,20 +218,20 @@ parts_are text c e = first (part 44 text) refl e
         )
 
     second : (x : ℕ) (r : List ℕ) (t : List ℕ) → text ≡ r ++ 44 ∷ t → IsPart r x
-        → (o : Option (ℕ × List ℕ)) → part 44 t ≡ o → option_and_then (λ g. option_and_then (λ b. only x g.0 b.0 b.1) (part 41 g.1)) o ≡ Some c → Three text c
+        → (o : Option (ℕ × List ℕ)) → number_before 44 t ≡ o → option_and_then (λ g. option_and_then (λ b. only x g.0 b.0 b.1) (number_before 41 g.1)) o ≡ Some c → Three text c
     second x r t s p None a e = absurd (none-some c e)
-    second x r t s p (Some (y, u)) a e = let k = part_is 44 t y u a in third x r t s p y k.0 u k.1 k.2 (part 41 u) refl e
+    second x r t s p (Some (y, u)) a e = let k = part_is 44 t y u a in third x r t s p y k.0 u k.1 k.2 (number_before 41 u) refl e
 
-    first : (o : Option (ℕ × List ℕ)) → part 44 text ≡ o
-        → option_and_then (λ r. option_and_then (λ g. option_and_then (λ b. only r.0 g.0 b.0 b.1) (part 41 g.1)) (part 44 r.1)) o ≡ Some c → Three text c
+    first : (o : Option (ℕ × List ℕ)) → number_before 44 text ≡ o
+        → option_and_then (λ r. option_and_then (λ g. option_and_then (λ b. only r.0 g.0 b.0 b.1) (number_before 41 g.1)) (number_before 44 r.1)) o ≡ Some c → Three text c
     first None a e = absurd (none-some c e)
-    first (Some (x, t)) a e = let k = part_is 44 text x t a in second x k.0 t k.1 k.2 (part 44 t) refl e
+    first (Some (x, t)) a e = let k = part_is 44 text x t a in second x k.0 t k.1 k.2 (number_before 44 t) refl e
 
 parts_read : (r g b : List ℕ) (c : Colour) → IsPart r c.r → IsPart g c.g → IsPart b c.b → parts (r ++ 44 ∷ (g ++ 44 ∷ (b ++ 41 ∷ []))) ≡ Some c
 unfolding parts
 parts_read r g b c p q w =
-    ap (option_and_then (λ r. option_and_then (λ g. option_and_then (λ b. only r.0 g.0 b.0 b.1) (part 41 g.1)) (part 44 r.1))) (is_part 44 r c.r (g ++ 44 ∷ (b ++ 41 ∷ [])) refl refl p)
-    ∙ ap (option_and_then (λ g. option_and_then (λ b. only c.r g.0 b.0 b.1) (part 41 g.1))) (is_part 44 g c.g (b ++ 41 ∷ []) refl refl q)
+    ap (option_and_then (λ r. option_and_then (λ g. option_and_then (λ b. only r.0 g.0 b.0 b.1) (number_before 41 g.1)) (number_before 44 r.1))) (is_part 44 r c.r (g ++ 44 ∷ (b ++ 41 ∷ [])) refl refl p)
+    ∙ ap (option_and_then (λ g. option_and_then (λ b. only c.r g.0 b.0 b.1) (number_before 41 g.1))) (is_part 44 g c.g (b ++ 41 ∷ []) refl refl q)
     ∙ ap (option_and_then (λ b. only c.r c.g b.0 b.1)) (is_part 41 b c.b [] refl refl w)
 
 spell : (r g b : List ℕ) → codes "rgb(" ++ r ++ codes "," ++ g ++ codes "," ++ b ++ codes ")" ≡ codes "rgb(" ++ (r ++ 44 ∷ (g ++ 44 ∷ (b ++ 41 ∷ [])))
@@ -240,19 +240,19 @@ spell r g b = simp append_assoc
 same_bytes : (xs ys : List ℕ) → bytes_eq xs ys ≡ true → xs ≡ ys
 same_bytes xs ys e = (bytes_eq-Decides xs ys).0 e
 
-mixed_is : (text : List ℕ) (c : Colour) → mixed text ≡ Some c → IsMixed text c
-unfolding mixed
+mixed_is : (text : List ℕ) (c : Colour) → rgb_colour text ≡ Some c → IsMixed text c
+unfolding rgb_colour
 mixed_is text c e =
     let k = if_some (bytes_eq (take 4 text) (codes "rgb(")) (parts (drop 4 text)) c e in
     let (r, g, b, s, x, y, z) = parts_are (drop 4 text) c k.1 in
     (r, g, b, sym (take-append-drop 4 text) ∙ ap (λ t. t ++ drop 4 text) (same_bytes (take 4 text) (codes "rgb(") k.0) ∙ ap (λ t. codes "rgb(" ++ t) s ∙ sym (spell r g b), x, y, z)
 
 mixed_read : (text : List ℕ) (c : Colour) → IsMixed text c → colour_of text ≡ Some c
-unfolding colour_of hashed mixed
+unfolding colour_of hash_colour rgb_colour
 mixed_read text c (r, g, b, s, x, y, z) =
     let body : List ℕ = r ++ 44 ∷ (g ++ 44 ∷ (b ++ 41 ∷ [])) in
-    ap (λ t. option_or (hashed t) (option_or (mixed t) (named t))) (s ∙ spell r g b)
-    ∙ ap (λ o. option_or o (named (codes "rgb(" ++ body))) (parts_read r g b c x y z)
+    ap (λ t. option_or (hash_colour t) (option_or (rgb_colour t) (colour_by_name t))) (s ∙ spell r g b)
+    ∙ ap (λ o. option_or o (colour_by_name (codes "rgb(" ++ body))) (parts_read r g b c x y z)
 
 -- ---- names
 
@@ -264,8 +264,8 @@ find_in p (y ∷ xs) x e = go (p y) refl e (find_in p xs x)
     go true q e ih = let s = same_Some y x e in ((0, omega arith, s), sym (ap p s) ∙ q)
     go false q e ih = let k = ih e in (Contains-append_right (y ∷ []) xs x k.0, k.1)
 
-named_is : (text : List ℕ) (c : Colour) → named text ≡ Some c → IsNamed text c
-unfolding named
+named_is : (text : List ℕ) (c : Colour) → colour_by_name text ≡ Some c → IsNamed text c
+unfolding colour_by_name
 named_is text c e =
     let k = map_some (λ e. e.1) (find (λ e. bytes_eq text e.0) colour_names) c e in
     let f = find_in (λ e. bytes_eq text e.0) colour_names k.0 k.1 in
@@ -273,7 +273,7 @@ named_is text c e =
     subst (Contains colour_names) same f.0
 
 names_read : All (λ e. colour_of e.0 ≡ Some e.1) colour_names
-unfolding colour_of hashed mixed named
+unfolding colour_of hash_colour rgb_colour colour_by_name
 names_read = All-from_recursion (λ e. colour_of e.0 ≡ Some e.1) colour_names
     (refl, (refl, (refl, (refl, (refl, (refl, (refl, (refl, (refl, (refl, (refl, (refl, (refl, (refl, (refl, (refl, tt))))))))))))))))
 
@@ -281,15 +281,15 @@ names_read = All-from_recursion (λ e. colour_of e.0 ≡ Some e.1) colour_names
 
 colour_is : (text : List ℕ) (c : Colour) → colour_of text ≡ Some c → IsColour text c
 unfolding colour_of
-colour_is text c e = hash (hashed text) refl e
+colour_is text c e = hash (hash_colour text) refl e
   where
-    mix : (o : Option Colour) → mixed text ≡ o → option_or o (named text) ≡ Some c → IsColour text c
+    mix : (o : Option Colour) → rgb_colour text ≡ o → option_or o (colour_by_name text) ≡ Some c → IsColour text c
     mix (Some d) m e = inr (inr (inl (mixed_is text c (m ∙ e))))
     mix None m e = inr (inr (inr (named_is text c e)))
 
-    hash : (o : Option Colour) → hashed text ≡ o → option_or o (option_or (mixed text) (named text)) ≡ Some c → IsColour text c
+    hash : (o : Option Colour) → hash_colour text ≡ o → option_or o (option_or (rgb_colour text) (colour_by_name text)) ≡ Some c → IsColour text c
     hash (Some d) h e = hash_is text c (h ∙ e)
-    hash None h e = mix (mixed text) refl e
+    hash None h e = mix (rgb_colour text) refl e
 
 is_colour : (text : List ℕ) (c : Colour) → IsColour text c → colour_of text ≡ Some c
 is_colour text c (inl h) = short_read text c h

@@ -8,14 +8,14 @@ use Rattle.std.proofs.lemmas.Bool.Decides.{nat_tests}
 use Rattle.std.proofs.lemmas.Option.{cond_some, none-some}
 use Rattle.std.proofs.Math.Seq.{take-append_seam, drop-append_seam}
 use Rattle.farm_base.specs.Digits.{is_digit}
-use Rattle.paint_texts.specs.Decimals.{scaled, IsDecimal, ends, decimal_of, hundredths_of, at_most_one, thousandths_of}
+use Rattle.paint_texts.specs.Decimals.{fixed_point, IsDecimal, fixed_point_in, decimal_of, hundredths_of, at_most_one, thousandths_of}
 use Rattle.paint_texts.proofs.Runs.{front_passes, front_spelled}
 
 -- what is read is in the grammar, told from the whole part and what stands behind it
 ends_is : (places : ℕ) (whole rest text : List ℕ) (n : ℕ) → text ≡ whole ++ rest → list_all is_digit whole ≡ true
-    → ends places whole rest ≡ Some n → IsDecimal places text n
+    → fixed_point_in places whole rest ≡ Some n → IsDecimal places text n
 ends_is places whole [] text n t d e =
-    let k = cond_some (nat_le 1 (length whole) && nat_le (length whole) 12) (scaled places whole []) n e in
+    let k = cond_some (nat_le 1 (length whole) && nat_le (length whole) 12) (fixed_point places whole []) n e in
     record {
       whole = whole;
       fraction = [];
@@ -27,7 +27,7 @@ ends_is places whole [] text n t d e =
       value = sym k.1;
     }
 ends_is places whole (c ∷ fraction) text n t d e =
-    let k = cond_some ((c == 46) && nat_le (length whole) 12 && list_all is_digit fraction && nat_le 1 (length fraction) && nat_le (length fraction) places) (scaled places whole fraction) n e in
+    let k = cond_some ((c == 46) && nat_le (length whole) 12 && list_all is_digit fraction && nat_le 1 (length fraction) && nat_le (length fraction) places) (fixed_point places whole fraction) n e in
     let point : c ≡ 46 = grind (arith, nat_tests) in
     record {
       whole = whole;
@@ -47,7 +47,7 @@ decimal_is places text n e =
 
 -- what is in the grammar is read, told from how it is spelled
 spelled_is : (places : ℕ) (whole rest text : List ℕ) → text ≡ whole ++ rest → list_all is_digit whole ≡ true → prefix_len is_digit rest ≡ 0
-    → decimal_of places text ≡ ends places whole rest
+    → decimal_of places text ≡ fixed_point_in places whole rest
 unfolding decimal_of
 spelled_is places whole rest text t d z =
     let k : prefix_len is_digit (whole ++ rest) ≡ length whole = front_spelled is_digit whole rest d z in
@@ -57,7 +57,7 @@ is_decimal : (places : ℕ) (text : List ℕ) (n : ℕ) → IsDecimal places tex
 is_decimal places text n d =
     elim d.spelled [
       | inl s ↦ spelled_is places d.whole [] text (s.0 ∙ sym (append-nil d.whole)) d.whole_digits refl
-          ∙ rw (le-leb 1 (length d.whole) s.1, le-leb (length d.whole) 12 d.whole_fits) (ap Some (sym (d.value ∙ ap (scaled places d.whole) s.2)))
+          ∙ rw (le-leb 1 (length d.whole) s.1, le-leb (length d.whole) 12 d.whole_fits) (ap Some (sym (d.value ∙ ap (fixed_point places d.whole) s.2)))
       | inr s ↦ spelled_is places d.whole (46 ∷ d.fraction) text s.0 d.whole_digits refl
           ∙ rw (le-leb (length d.whole) 12 d.whole_fits, d.fraction_digits, le-leb 1 (length d.fraction) s.1, le-leb (length d.fraction) places d.fraction_fits) (ap Some (sym d.value))
     ]

@@ -20,8 +20,8 @@ colour_names =
     ∷ (codes "silver", rgb 192 192 192) ∷ (codes "teal", rgb 0 128 128) ∷ (codes "white", rgb 255 255 255) ∷ (codes "yellow", rgb 255 255 0) ∷ []
 
 -- the colour of this name, if it is one of the sixteen
-unfoldable pub named : List ℕ → Option Colour
-named text = option_map (λ e. e.1) (find (λ e. bytes_eq text e.0) colour_names)
+unfoldable pub colour_by_name : List ℕ → Option Colour
+colour_by_name text = option_map (λ e. e.1) (find (λ e. bytes_eq text e.0) colour_names)
 
 -- the value of a hexadecimal digit of either case
 abbrev pub hex : ℕ → Option ℕ
@@ -84,16 +84,16 @@ two_digits (Some high) None = None
 two_digits None low = None
 
 -- the colour of three channels, if each of them is there
-abbrev pub joined : Option ℕ → Option ℕ → Option ℕ → Option Colour
-joined (Some r) (Some g) (Some b) = Some (rgb r g b)
-joined (Some r) (Some g) None = None
-joined (Some r) None b = None
-joined None g b = None
+abbrev pub three_channels : Option ℕ → Option ℕ → Option ℕ → Option Colour
+three_channels (Some r) (Some g) (Some b) = Some (rgb r g b)
+three_channels (Some r) (Some g) None = None
+three_channels (Some r) None b = None
+three_channels None g b = None
 
 -- the colour of three hexadecimal digits, each of them doubled, or of six
 unfoldable pub channels : List ℕ → Option Colour
-channels (r ∷ g ∷ b ∷ []) = joined (two_digits (hex r) (hex r)) (two_digits (hex g) (hex g)) (two_digits (hex b) (hex b))
-channels (r ∷ s ∷ g ∷ h ∷ b ∷ c ∷ []) = joined (two_digits (hex r) (hex s)) (two_digits (hex g) (hex h)) (two_digits (hex b) (hex c))
+channels (r ∷ g ∷ b ∷ []) = three_channels (two_digits (hex r) (hex r)) (two_digits (hex g) (hex g)) (two_digits (hex b) (hex b))
+channels (r ∷ s ∷ g ∷ h ∷ b ∷ c ∷ []) = three_channels (two_digits (hex r) (hex s)) (two_digits (hex g) (hex h)) (two_digits (hex b) (hex c))
 channels _ = None
 
 -- the rest of a text that begins with this byte
@@ -102,22 +102,22 @@ behind sign [] = None
 behind sign (c ∷ rest) = if c == sign then Some rest else None
 
 -- the colour of a hash and the three or six digits behind it
-unfoldable pub hashed : List ℕ → Option Colour
-hashed text = option_and_then channels (behind 35 text)
+unfoldable pub hash_colour : List ℕ → Option Colour
+hash_colour text = option_and_then channels (behind 35 text)
 
 -- the text without the spaces at its front
-abbrev pub trimmed : List ℕ → List ℕ
-trimmed text = drop (prefix_len is_space text) text
+abbrev pub without_spaces : List ℕ → List ℕ
+without_spaces text = drop (prefix_len is_space text) text
 
 -- a number of so many digits, one to three of them and up to 255, and what stands behind the sign that ends it
 abbrev pub part_of : ℕ → ℕ → List ℕ → Option (ℕ × List ℕ)
 part_of sign len text =
     if nat_le 1 len && nat_le len 3 && nat_le (number (take len text)) 255
-    then option_map (λ rest. (number (take len text), rest)) (behind sign (trimmed (drop len text))) else None
+    then option_map (λ rest. (number (take len text), rest)) (behind sign (without_spaces (drop len text))) else None
 
 -- the number at the front of a text, with spaces round it, and what stands behind the sign that ends it
-unfoldable pub part : ℕ → List ℕ → Option (ℕ × List ℕ)
-part sign text = part_of sign (prefix_len is_digit (trimmed text)) (trimmed text)
+unfoldable pub number_before : ℕ → List ℕ → Option (ℕ × List ℕ)
+number_before sign text = part_of sign (prefix_len is_digit (without_spaces text)) (without_spaces text)
 
 -- the colour of three numbers, where nothing follows them
 abbrev pub only : ℕ → ℕ → ℕ → List ℕ → Option Colour
@@ -126,12 +126,12 @@ only r g b (c ∷ rest) = None
 
 -- the colour of three numbers that two commas and a parenthesis end
 unfoldable pub parts : List ℕ → Option Colour
-parts text = option_and_then (λ r. option_and_then (λ g. option_and_then (λ b. only r.0 g.0 b.0 b.1) (part 41 g.1)) (part 44 r.1)) (part 44 text)
+parts text = option_and_then (λ r. option_and_then (λ g. option_and_then (λ b. only r.0 g.0 b.0 b.1) (number_before 41 g.1)) (number_before 44 r.1)) (number_before 44 text)
 
 -- the colour of a text that begins with `rgb(` and goes on with three numbers
-unfoldable pub mixed : List ℕ → Option Colour
-mixed text = if bytes_eq (take 4 text) (codes "rgb(") then parts (drop 4 text) else None
+unfoldable pub rgb_colour : List ℕ → Option Colour
+rgb_colour text = if bytes_eq (take 4 text) (codes "rgb(") then parts (drop 4 text) else None
 
 -- a colour text: a hash and three or six digits, or rgb(r,g,b), or a name
 unfoldable pub colour_of : List ℕ → Option Colour
-colour_of text = option_or (hashed text) (option_or (mixed text) (named text))
+colour_of text = option_or (hash_colour text) (option_or (rgb_colour text) (colour_by_name text))

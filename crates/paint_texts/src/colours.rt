@@ -33,9 +33,9 @@ fn read(text: &str) -> Option<Colour>
     named(text)
 }
 
-#[tactic(auto, unfolding(crate::specs::Colours::named))]
+#[tactic(auto, unfolding(crate::specs::Colours::colour_by_name))]
 fn named(text: &str) -> Option<Colour>
-    ensures { result ≡ spec.named text.now }
+    ensures { result ≡ spec.colour_by_name text.now }
 {
     match text {
         "aqua" => Some(rgb(0, 255, 255)),
@@ -86,7 +86,7 @@ fn two_digits(high: u8, low: u8) -> Option<u8>
 }
 
 fn joined(r: Option<u8>, g: Option<u8>, b: Option<u8>) -> Option<Colour>
-    ensures { result ≡ spec.joined r g b }
+    ensures { result ≡ spec.three_channels r g b }
 {
     Some(rgb(r?, g?, b?))
 }
@@ -112,16 +112,16 @@ fn behind(sign: u8, text: &[u8]) -> Option<&[u8]>
     }
 }
 
-#[tactic(auto, unfolding(crate::specs::Colours::hashed))]
+#[tactic(auto, unfolding(crate::specs::Colours::hash_colour))]
 fn hashed(text: &[u8]) -> Option<Colour>
-    ensures { result ≡ spec.hashed text.now }
+    ensures { result ≡ spec.hash_colour text.now }
 {
     channels(behind(b'#', text)?)
 }
 
 // The text without the spaces at its front.
 fn trimmed(text: &[u8]) -> &[u8]
-    ensures { result.now ≡ spec.trimmed text.now }
+    ensures { result.now ≡ spec.without_spaces text.now }
 {
     let spaces = spaces_len(text);
     &text[spaces..]
@@ -135,9 +135,9 @@ fn spaces_len(text: &[u8]) -> usize
 }
 
 // A number of one to three digits up to 255 between spaces, and what stands behind the sign that ends it.
-#[tactic(auto, using(crate::proofs::Runs::front_digits), unfolding(crate::specs::Colours::part))]
+#[tactic(auto, using(crate::proofs::Runs::front_digits), unfolding(crate::specs::Colours::number_before))]
 fn part(sign: u8, text: &[u8]) -> Option<(u8, &[u8])>
-    ensures { option_map (λ p. (p.0, p.1.now)) result ≡ spec.part sign text.now }
+    ensures { option_map (λ p. (p.0, p.1.now)) result ≡ spec.number_before sign text.now }
 {
     let text = trimmed(text);
     part_of(sign, front_len(text), text)
@@ -173,9 +173,9 @@ fn parts(text: &[u8]) -> Option<Colour>
     }
 }
 
-#[tactic(auto, unfolding(crate::specs::Colours::mixed))]
+#[tactic(auto, unfolding(crate::specs::Colours::rgb_colour))]
 fn mixed(text: &[u8]) -> Option<Colour>
-    ensures { result ≡ spec.mixed text.now }
+    ensures { result ≡ spec.rgb_colour text.now }
 {
     if text.len() >= 4 && &text[..4] == b"rgb(".as_slice() {
         parts(&text[4..])

@@ -48,7 +48,7 @@ fn decimal(text: &str, places: u32) -> Option<u64>
 fn ended(whole: &[u8], rest: &[u8], places: u32) -> Option<u64>
     requires few { places ≤ 3 }
     requires digits { list_all is_digit whole.now ≡ true }
-    ensures { result ≡ spec.ends places whole.now rest.now }
+    ensures { result ≡ spec.fixed_point_in places whole.now rest.now }
 {
     if rest.is_empty() {
         if 1 <= whole.len() && whole.len() <= 12 {
@@ -69,14 +69,14 @@ fn ended(whole: &[u8], rest: &[u8], places: u32) -> Option<u64>
     }
 }
 
-#[tactic(auto, unfolding(crate::specs::Decimals::scaled))]
+#[tactic(auto, unfolding(crate::specs::Decimals::fixed_point))]
 fn scaled(whole: &[u8], fraction: &[u8], places: u32) -> u64
     requires places { places ≤ 3 }
     requires whole_digits { list_all is_digit whole.now ≡ true }
     requires whole_few { length whole.now ≤ 12 }
     requires digits { list_all is_digit fraction.now ≡ true }
     requires few { length fraction.now ≤ places }
-    ensures { result ≡ spec.scaled places whole.now fraction.now }
+    ensures { result ≡ spec.fixed_point places whole.now fraction.now }
 {
     number(whole) * ten_to(places) + number(fraction) * ten_to(places - fraction.len() as u32)
 }

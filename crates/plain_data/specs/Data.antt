@@ -56,8 +56,8 @@ abbrev pub has_id : List ℕ → ℕ → Bool
 has_id ids id = list_any (nat_eq id) ids
 
 -- the old features without the removed ids
-abbrev pub kept : List ℕ → List Feature → List Feature
-kept removed features = filter (λ f. not (has_id removed f.id)) features
+abbrev pub without_ids : List ℕ → List Feature → List Feature
+without_ids removed features = filter (λ f. not (has_id removed f.id)) features
 
 -- the last of the puts of the id, or the other feature where none names it
 abbrev pub last_put : List Feature → ℕ → Feature → Feature
@@ -65,21 +65,21 @@ last_put [] id other = other
 last_put (f ∷ later) id other = if nat_eq f.id id then last_put later id f else last_put later id other
 
 -- each feature that a put names is replaced in place by the last put of that id
-abbrev pub replaced : List Feature → List Feature → List Feature
-replaced puts features = map (λ f. last_put puts f.id f) features
+abbrev pub puts_in_place : List Feature → List Feature → List Feature
+puts_in_place puts features = map (λ f. last_put puts f.id f) features
 
 -- the last puts of the ids that are not held, in the order of their first puts
-abbrev pub added : List ℕ → List Feature → List Feature
-added held [] = []
-added held (f ∷ later) = if has_id held f.id then added held later else last_put later f.id f ∷ added (f.id ∷ held) later
+abbrev pub put_features : List ℕ → List Feature → List Feature
+put_features held [] = []
+put_features held (f ∷ later) = if has_id held f.id then put_features held later else last_put later f.id f ∷ put_features (f.id ∷ held) later
 
 -- the features with the puts: known ids are replaced in place, new ones go last
 abbrev pub with_puts : List Feature → List Feature → List Feature
-with_puts puts features = replaced puts features ++ added (ids_of features) puts
+with_puts puts features = puts_in_place puts features ++ put_features (ids_of features) puts
 
 -- the features of a layer after a change: first the removals, then the puts
 abbrev pub with_change : Change → List Feature → List Feature
-with_change c features = with_puts c.put (kept c.remove features)
+with_change c features = with_puts c.put (without_ids c.remove features)
 
 -- ---- the faults of a change, in order
 
@@ -125,9 +125,9 @@ abbrev pub changed_layer : Change → Layer → Layer
 changed_layer c l = record l { features = with_change c l.features }
 
 -- the layers after a change of the one that it names; the others stay
-abbrev pub changed : Change → List Layer → List Layer
-changed c [] = []
-changed c (l ∷ layers) = if bytes_eq l.name c.layer then changed_layer c l ∷ layers else l ∷ changed c layers
+abbrev pub layers_after : Change → List Layer → List Layer
+layers_after c [] = []
+layers_after c (l ∷ layers) = if bytes_eq l.name c.layer then changed_layer c l ∷ layers else l ∷ layers_after c layers
 
 -- go on with data that stand, or stop at a fault
 abbrev pub unless : {A : Type 0} → Option ApplyFault → Result A ApplyFault → Result A ApplyFault
@@ -137,8 +137,8 @@ unless None done = done
 -- the data after the changes in order, the first of which stands at this place of its update; or the first fault
 unfoldable pub changed_from : ℕ → List Change → List Layer → Result (List Layer) ApplyFault
 changed_from place [] layers = Ok layers
-changed_from place (c ∷ later) layers = unless (change_fault place c layers) (changed_from (place + 1) later (changed c layers))
+changed_from place (c ∷ later) layers = unless (change_fault place c layers) (changed_from (place + 1) later (layers_after c layers))
 
 -- the data after an update, or its first fault
-abbrev pub updated : List Change → List Layer → Result (List Layer) ApplyFault
-updated changes layers = changed_from 0 changes layers
+abbrev pub update_result : List Change → List Layer → Result (List Layer) ApplyFault
+update_result changes layers = changed_from 0 changes layers

@@ -12,7 +12,7 @@ use Rattle.plain_drawing.specs.Styles.{Style, LayerRef, MapStyle}
 use Rattle.plain_shapes.specs.Blending.{blend}
 use Rattle.plain_shapes.specs.Images.{Pixels}
 use Rattle.plain_shapes.specs.inner.Canvas.{at_centres, stepped, marked, painted}
-use Rattle.plain_drawing.specs.Rules.{drawn, is_active, denominator_of}
+use Rattle.plain_drawing.specs.Rules.{item_symbolizers, is_active, denominator_of}
 use Rattle.plain_shapes.specs.Ppm.{ppm}
 use Rattle.plain_drawing.specs.Drawing.{tile_of, pixel_of, colour_at, Item, item_attrs, symbolizer_at, item_at, style_at, layer_at, items_of, style_named}
 use Rattle.plain_shapes.proofs.Places.{length-centres}
@@ -64,7 +64,7 @@ item_step : (w : Window) (denominator : ℕ) (style : Style) (image : Pixels) (i
     → with_item w denominator style image item ≡ stepped w (λ c d. item_at w.pixel denominator style c d item) image
 unfolding with_item
 item_step w denominator style image item =
-    fold_stepped w (symbolizer_at w.pixel item) (with_symbolizer w item) (symbolizer_step w item) (drawn (item_attrs item) denominator style) image
+    fold_stepped w (symbolizer_at w.pixel item) (with_symbolizer w item) (symbolizer_step w item) (item_symbolizers (item_attrs item) denominator style) image
 
 style_step : (w : Window) (denominator : ℕ) (items : List Item) (image : Pixels) (style : Style)
     → with_style w denominator items image style ≡ stepped w (λ c d. style_at w.pixel denominator items c d style) image
@@ -125,11 +125,11 @@ fresh_map w z size style data_layers e =
     }) e
 
 -- the tile is the text of the picture of its window
-pub drawn_tile : (style : MapStyle) (size : ℕ) (t : Tile) (data_layers : List Layer) (w : Window) (scale : ℕ) (fresh drawn : Pixels) (bytes : List ℕ)
-    → w ≡ window_of t size → scale ≡ denominator_of t.z size → fresh ≡ one_colour w style.background_color → drawn ≡ with_map w scale style data_layers fresh
-    → bytes ≡ ppm drawn.cols drawn.rows drawn.pixels → bytes ≡ tile_of style size t data_layers
-drawn_tile style size t data_layers w scale fresh drawn bytes window_is scale_is fresh_is drawn_is bytes_are =
-    let picture : drawn ≡ record { cols = size; rows = size; pixels = map (colour_at style size t.z data_layers) (centres (window_of t size)) } =
+pub drawn_tile : (style : MapStyle) (size : ℕ) (t : Tile) (data_layers : List Layer) (w : Window) (scale : ℕ) (fresh item_symbolizers : Pixels) (bytes : List ℕ)
+    → w ≡ window_of t size → scale ≡ denominator_of t.z size → fresh ≡ one_colour w style.background_color → item_symbolizers ≡ with_map w scale style data_layers fresh
+    → bytes ≡ ppm item_symbolizers.cols item_symbolizers.rows item_symbolizers.pixels → bytes ≡ tile_of style size t data_layers
+drawn_tile style size t data_layers w scale fresh item_symbolizers bytes window_is scale_is fresh_is drawn_is bytes_are =
+    let picture : item_symbolizers ≡ record { cols = size; rows = size; pixels = map (colour_at style size t.z data_layers) (centres (window_of t size)) } =
     drawn_is ∙ ap (with_map w scale style data_layers) fresh_is ∙ ap (λ n. with_map w n style data_layers (one_colour w style.background_color)) scale_is
     ∙ ap (λ v. with_map v (denominator_of t.z size) style data_layers (one_colour v style.background_color)) window_is
     ∙ fresh_map (window_of t size) t.z size style data_layers refl in

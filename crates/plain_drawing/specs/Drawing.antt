@@ -16,7 +16,7 @@ use Rattle.plain_drawing.specs.Grids.{Grid, grid_at}
 use Rattle.plain_shapes.specs.Rings.{in_rings}
 use Rattle.plain_shapes.specs.Strokes.{on_stroke, on_outline, on_marks, half_of}
 use Rattle.plain_shapes.specs.Blending.{blend}
-use Rattle.plain_drawing.specs.Rules.{drawn, denominator_of, is_active}
+use Rattle.plain_drawing.specs.Rules.{item_symbolizers, denominator_of, is_active}
 use Rattle.plain_shapes.specs.Ppm.{ppm}
 
 -- the side of a pixel of a tile of zoom z and so many pixels, in world units
@@ -67,7 +67,7 @@ symbolizer_at pixel (raster g) c d s = raster_over g c d s
 
 -- after each symbolizer that an item meets in a style
 abbrev pub item_at : ℕ → ℕ → Style → Point → Colour → Item → Colour
-item_at pixel denominator style c d item = fold (symbolizer_at pixel item c) d (drawn (item_attrs item) denominator style)
+item_at pixel denominator style c d item = fold (symbolizer_at pixel item c) d (item_symbolizers (item_attrs item) denominator style)
 
 -- after one pass of a style over all items
 abbrev pub style_at : ℕ → ℕ → List Item → Point → Colour → Style → Colour

@@ -39,16 +39,16 @@ abbrev pub is_fallback : ℕ → Rule → Bool
 is_fallback denominator r = at_scale denominator r && r.else_filter
 
 -- of the Filter rules that match, all are taken, or the first
-abbrev pub taken : FilterMode → List Rule → List Rule
-taken All rules = rules
-taken First rules = take 1 rules
+abbrev pub first_or_all : FilterMode → List Rule → List Rule
+first_or_all All rules = rules
+first_or_all First rules = take 1 rules
 
 -- the rules that draw: those taken of the Filter rules that match; where none matches, every ElseFilter rule
 abbrev pub drawing_rules : List Attr → ℕ → Style → List Rule
 drawing_rules attrs denominator s =
-    if list_any (matches attrs denominator) s.rules then taken s.filter_mode (filter (matches attrs denominator) s.rules)
+    if list_any (matches attrs denominator) s.rules then first_or_all s.filter_mode (filter (matches attrs denominator) s.rules)
     else filter (is_fallback denominator) s.rules
 
 -- the symbolizers that an item with these attributes meets in a style, in order
-abbrev pub drawn : List Attr → ℕ → Style → List Symbolizer
-drawn attrs denominator s = flat_map (λ r. r.symbolizers) (drawing_rules attrs denominator s)
+abbrev pub item_symbolizers : List Attr → ℕ → Style → List Symbolizer
+item_symbolizers attrs denominator s = flat_map (λ r. r.symbolizers) (drawing_rules attrs denominator s)

@@ -8,7 +8,7 @@ use Rattle.plain_filters.specs.declared.expr.Expr.TheOpen as «open»
 use Rattle.plain_filters.specs.declared.expr.CompareSign.{CompareSign}
 use Rattle.plain_filters.specs.declared.expr.SumSign.{SumSign}
 use Rattle.plain_filters.specs.declared.expr.ProductSign.{ProductSign}
-use Rattle.plain_filters.specs.Values.{truth, attribute, compares, sum_of, product_of, negated}
+use Rattle.plain_filters.specs.Values.{truth, attribute, compares, sum_of, product_of, negative_of}
 
 -- a filter: `or` and `and` of parts, `not`, a comparison, a sum or a product with its later parts, a minus sign, and the atoms
 mutual
@@ -50,7 +50,7 @@ abbrev mutual
   tree_value attrs (compare_tree a sign b) = Truth (compares sign (tree_value attrs a) (tree_value attrs b))
   tree_value attrs (sum_tree first later) = after_sums attrs (tree_value attrs first) later
   tree_value attrs (product_tree first later) = after_products attrs (tree_value attrs first) later
-  tree_value attrs (negate_tree part) = negated (tree_value attrs part)
+  tree_value attrs (negate_tree part) = negative_of (tree_value attrs part)
   tree_value attrs (name_tree name) = attribute name attrs
   tree_value attrs (text_tree text) = Text text
   tree_value attrs (number_tree z) = Whole z

@@ -35,11 +35,11 @@ same (Text s) (Text t) = bytes_eq s t
 same _ _ = false
 
 -- of one kind that has an order: truth values, whole numbers or texts
-abbrev pub ordered : Value → Value → Bool
-ordered (Truth a) (Truth b) = true
-ordered (Whole x) (Whole y) = true
-ordered (Text s) (Text t) = true
-ordered _ _ = false
+abbrev pub have_order : Value → Value → Bool
+have_order (Truth a) (Truth b) = true
+have_order (Whole x) (Whole y) = true
+have_order (Text s) (Text t) = true
+have_order _ _ = false
 
 -- below by number, by bytes of text, or false before true; never across kinds or with null
 abbrev pub below : Value → Value → Bool
@@ -53,13 +53,13 @@ abbrev pub compares : CompareSign → Value → Value → Bool
 compares Equal v w = same v w
 compares Unequal v w = not (same v w)
 compares Less v w = below v w
-compares LessEqual v w = ordered v w && not (below w v)
+compares LessEqual v w = have_order v w && not (below w v)
 compares Greater v w = below w v
-compares GreaterEqual v w = ordered v w && not (below v w)
+compares GreaterEqual v w = have_order v w && not (below v w)
 
 -- the whole number, or null where it is no i64
-abbrev pub fitting : ℤ → Value
-fitting z = if int_le (negsuc (2 ^ 63 - 1)) z && int_le z (pos (2 ^ 63 - 1)) then Whole z else Null
+abbrev pub whole_or_null : ℤ → Value
+whole_or_null z = if int_le (negsuc (2 ^ 63 - 1)) z && int_le z (pos (2 ^ 63 - 1)) then Whole z else Null
 
 -- the exact result of two whole numbers; null for other kinds
 abbrev pub of_numbers : (ℤ → ℤ → Value) → Value → Value → Value
@@ -72,15 +72,15 @@ divided_by y v = if int_eq y (pos 0) then Null else v
 
 -- the exact sum or difference
 abbrev pub sum_of : SumSign → Value → Value → Value
-sum_of Plus = of_numbers (λ x y. fitting (x +ℤ y))
-sum_of Minus = of_numbers (λ x y. fitting (x -ℤ y))
+sum_of Plus = of_numbers (λ x y. whole_or_null (x +ℤ y))
+sum_of Minus = of_numbers (λ x y. whole_or_null (x -ℤ y))
 
 -- the exact product, the quotient rounded towards zero, or the rest with the dividend's sign
 abbrev pub product_of : ProductSign → Value → Value → Value
-product_of Times = of_numbers (λ x y. fitting (x *ℤ y))
-product_of Divide = of_numbers (λ x y. divided_by y (fitting (int_div x y)))
-product_of Rest = of_numbers (λ x y. divided_by y (fitting (int_rem x y)))
+product_of Times = of_numbers (λ x y. whole_or_null (x *ℤ y))
+product_of Divide = of_numbers (λ x y. divided_by y (whole_or_null (int_div x y)))
+product_of Rest = of_numbers (λ x y. divided_by y (whole_or_null (int_rem x y)))
 
 -- 0 less the value: the exact result, or null
-abbrev pub negated : Value → Value
-negated v = sum_of Minus (Whole (pos 0)) v
+abbrev pub negative_of : Value → Value
+negative_of v = sum_of Minus (Whole (pos 0)) v

@@ -61,9 +61,9 @@ kept_after before [] = []
 kept_after before (p ∷ ps) = if is_same before p then kept_after p ps else p ∷ kept_after p ps
 
 -- a line's points, the first always with them
-abbrev pub kept : List Point → List Point
-kept [] = []
-kept (p ∷ ps) = p ∷ kept_after p ps
+abbrev pub line_points : List Point → List Point
+line_points [] = []
+line_points (p ∷ ps) = p ∷ kept_after p ps
 
 -- the body of one of the segments from a along the points
 abbrev pub on_bodies : ℕ → Point → List Point → Point → Bool
@@ -106,7 +106,7 @@ on_kept half cap (a ∷ b ∷ ps) c = on_bodies half a (b ∷ ps) c || on_joins 
 
 -- the stroke of a line holds c
 abbrev pub on_line : ℕ → LineCap → Point → List Point → Bool
-on_line half cap c points = on_kept half cap (kept points) c
+on_line half cap c points = on_kept half cap (line_points points) c
 
 -- the stroke of one of the lines holds c
 abbrev pub on_stroke : List (List Point) → ℕ → LineCap → Point → Bool

@@ -31,14 +31,14 @@ rest_of None = []
 rest_of (Some rest) = rest
 
 -- the rest of a connection; none of one that is not there
-abbrev pub held : List (ℕ × List ℕ) → ℕ → List ℕ
-held box c = rest_of (rest_at box c)
+abbrev pub rest_in : List (ℕ × List ℕ) → ℕ → List ℕ
+rest_in box c = rest_of (rest_at box c)
 
 -- An answer of bytes to a connection. Ok has put them behind its rest; Full comes exactly where the
 -- rest would pass 1,048,576 bytes; a refusal changes nothing.
 abbrev pub Answered : List (ℕ × List ℕ) → ℕ → List ℕ → Result (Unit {0}) BoxFault → List (ℕ × List ℕ) → Type 0
-Answered box c bytes (Ok done) new = (new ≡ put_rest box c (held box c ++ bytes)) × (length (held box c ++ bytes) ≤ 1048576)
-Answered box c bytes (Err fault.Full) new = (new ≡ box) × (1048576 < length (held box c ++ bytes))
+Answered box c bytes (Ok done) new = (new ≡ put_rest box c (rest_in box c ++ bytes)) × (length (rest_in box c ++ bytes) ≤ 1048576)
+Answered box c bytes (Err fault.Full) new = (new ≡ box) × (1048576 < length (rest_in box c ++ bytes))
 Answered box c bytes (Err fault.NoMemory) new = new ≡ box
 
 -- One send of the whole rest. What was taken is gone from its front; a refusal of the send is handed on
@@ -51,12 +51,12 @@ OfferedWhole rest box c (Err e) new was is = (new ≡ box) × Sends c rest (Err 
 -- the rest is empty, and else it is offered whole.
 abbrev pub Offered : List (ℕ × List ℕ) → ℕ → Result (Unit {0}) SendFault → List (ℕ × List ℕ) → Option PortsTold → Option PortsTold → Type 0
 Offered box c result new was is =
-    (length (held box c) ≡ 0 → (result ≡ Ok tt) × (new ≡ box) × (is ≡ was))
-    × (0 < length (held box c) → OfferedWhole (held box c) box c result new was is)
+    (length (rest_in box c) ≡ 0 → (result ≡ Ok tt) × (new ≡ box) × (is ≡ was))
+    × (0 < length (rest_in box c) → OfferedWhole (rest_in box c) box c result new was is)
 
 -- a pair as the rest that a front hands back
-abbrev pub handed : ℕ → ℕ × List ℕ → Rest
-handed front pair = record { front = front; conn = pair.0; bytes = pair.1 }
+abbrev pub as_rest : ℕ → ℕ × List ℕ → Rest
+as_rest front pair = record { front = front; conn = pair.0; bytes = pair.1 }
 
 -- no connection stands in it twice
 abbrev pub StandsOnce : List (ℕ × List ℕ) → Type 0

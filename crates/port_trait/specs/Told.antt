@@ -24,8 +24,8 @@ abbrev pub put : {A : Type 0} → (ℕ → A) → ℕ → A → ℕ → A
 put table c value d = cond (d == c) value (table d)
 
 -- one more line of the record
-abbrev pub noted : PortItem → PortsTold → PortsTold
-noted line t = record t { log = t.log ++ line ∷ [] }
+abbrev pub with_record_line : PortItem → PortsTold → PortsTold
+with_record_line line t = record t { log = t.log ++ line ∷ [] }
 
 -- the connection is open, and its peer may still send
 abbrev pub IsAlive : ℕ → PortsTold → Type 0
@@ -47,14 +47,14 @@ MayCome event.NoMemory t = Unit {0}
 -- What ports tell after an event. Each is a line of the record, with the piece at Bytes and no bytes
 -- at the others; want of memory alone is none and changes nothing.
 abbrev pub heard : PortEvent → List ℕ → PortsTold → PortsTold
-heard (event.Opened c) piece t = record (noted (item.Heard (event.Opened c) []) t) { opened = c + 1; is_open = put t.is_open c true }
-heard (event.Bytes c) piece t = noted (item.Heard (event.Bytes c) piece) t
-heard (event.Writable c) piece t = noted (item.Heard (event.Writable c) []) t
-heard (event.Ended c) piece t = record (noted (item.Heard (event.Ended c) []) t) { ended = put t.ended c true }
-heard (event.Lost c) piece t = record (noted (item.Heard (event.Lost c) []) t) { is_open = put t.is_open c false }
-heard event.Woken piece t = noted (item.Heard event.Woken []) t
-heard event.Finished piece t = noted (item.Heard event.Finished []) t
-heard event.Broken piece t = noted (item.Heard event.Broken []) t
+heard (event.Opened c) piece t = record (with_record_line (item.Heard (event.Opened c) []) t) { opened = c + 1; is_open = put t.is_open c true }
+heard (event.Bytes c) piece t = with_record_line (item.Heard (event.Bytes c) piece) t
+heard (event.Writable c) piece t = with_record_line (item.Heard (event.Writable c) []) t
+heard (event.Ended c) piece t = record (with_record_line (item.Heard (event.Ended c) []) t) { ended = put t.ended c true }
+heard (event.Lost c) piece t = record (with_record_line (item.Heard (event.Lost c) []) t) { is_open = put t.is_open c false }
+heard event.Woken piece t = with_record_line (item.Heard event.Woken []) t
+heard event.Finished piece t = with_record_line (item.Heard event.Finished []) t
+heard event.Broken piece t = with_record_line (item.Heard event.Broken []) t
 heard event.NoMemory piece t = t
 
 -- An event with its piece. Whether the ports tell stays.
@@ -75,32 +75,32 @@ IsPieceOf event.NoMemory piece = Unit {0}
 
 -- What ports tell after a send of these bytes. Ok has taken so many from their front; after Failed the
 -- connection is lost; want of memory is no line and changes nothing.
-abbrev pub sent : ℕ → List ℕ → Result ℕ SendFault → PortsTold → PortsTold
-sent c bytes (Ok n) t = record (noted (item.Sent c (length bytes) (Some n)) t) { taken = put t.taken c (t.taken c ++ take n bytes) }
-sent c bytes (Err send_fault.Failed) t = record (noted (item.Sent c (length bytes) None) t) { is_open = put t.is_open c false }
-sent c bytes (Err send_fault.NoMemory) t = t
+abbrev pub after_send : ℕ → List ℕ → Result ℕ SendFault → PortsTold → PortsTold
+after_send c bytes (Ok n) t = record (with_record_line (item.Sent c (length bytes) (Some n)) t) { taken = put t.taken c (t.taken c ++ take n bytes) }
+after_send c bytes (Err send_fault.Failed) t = record (with_record_line (item.Sent c (length bytes) None) t) { is_open = put t.is_open c false }
+after_send c bytes (Err send_fault.NoMemory) t = t
 
 -- A send of bytes. Whether the ports tell stays.
 abbrev pub Sends : ℕ → List ℕ → Result ℕ SendFault → Option PortsTold → Option PortsTold → Type 0
-Sends c bytes result old new = new ≡ option_map (sent c bytes result) old
+Sends c bytes result old new = new ≡ option_map (after_send c bytes result) old
 
 -- what ports tell after a listen at this address
-abbrev pub listened : List ℕ → Result (Unit {0}) PortFault → PortsTold → PortsTold
-listened address (Ok done) t = noted (item.Listened address false) t
-listened address (Err fault.Failed) t = noted (item.Listened address true) t
-listened address (Err fault.NoMemory) t = t
+abbrev pub after_listen : List ℕ → Result (Unit {0}) PortFault → PortsTold → PortsTold
+after_listen address (Ok done) t = with_record_line (item.Listened address false) t
+after_listen address (Err fault.Failed) t = with_record_line (item.Listened address true) t
+after_listen address (Err fault.NoMemory) t = t
 
 -- A listen at an address. Whether the ports tell stays.
 abbrev pub Listens : List ℕ → Result (Unit {0}) PortFault → Option PortsTold → Option PortsTold → Type 0
-Listens address result old new = new ≡ option_map (listened address result) old
+Listens address result old new = new ≡ option_map (after_listen address result) old
 
 -- what ports tell after a close, which is no line of their record: the connection is open no longer
-abbrev pub closed : ℕ → PortsTold → PortsTold
-closed c t = record t { is_open = put t.is_open c false }
+abbrev pub after_close : ℕ → PortsTold → PortsTold
+after_close c t = record t { is_open = put t.is_open c false }
 
 -- A close. Whether the ports tell stays.
 abbrev pub Closes : ℕ → Option PortsTold → Option PortsTold → Type 0
-Closes c old new = new ≡ option_map (closed c) old
+Closes c old new = new ≡ option_map (after_close c) old
 
 -- the connection is open, where the ports tell
 abbrev pub IsOpen : ℕ → Option PortsTold → Type 0

@@ -1,7 +1,7 @@
 //! The bytes of a front that were answered and not yet taken.
 ghost use Rattle.std.specs.Prelude.{◌≡◌, ◌≤◌, ◌<◌, ◌+◌, ◌++◌, ◌∷◌, [], ◌==◌, ℕ, true, false, List, None, Some, length, map, take, drop, position, OnOk, OnErr};
 ghost use Rattle.std.specs.Option.{is_some};
-ghost use Rattle.port_trait.specs.Boxes.{rest_at, put_rest, without, HasRest, Answered, Offered, handed};
+ghost use Rattle.port_trait.specs.Boxes.{rest_at, put_rest, without, HasRest, Answered, Offered, as_rest};
 ghost use Rattle.port_trait.specs.Told.{IsOpen, SendCounts};
 ghost use Rattle.port_trait.specs.inner.Places.{Here};
 
@@ -108,7 +108,7 @@ impl Pending {
     }
 
     fn into_rest(mut self, front: u32) -> Rest
-        ensures { result ≡ handed front self }
+        ensures { result ≡ as_rest front self }
     {
         drop_front(&mut self.bytes, self.start);
         Rest {
@@ -238,7 +238,7 @@ impl Outbox {
 
     /// All rests, in the order of their pairs, as those of the front of this number; takes no memory.
     pub fn into_rests(self, front: u32) -> Vec<Rest>
-        ensures { result.items ≡ map (handed front) self }
+        ensures { result.items ≡ map (as_rest front) self }
     {
         let mut rests = self.rests;
         for pending in self.items {

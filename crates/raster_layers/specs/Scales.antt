@@ -9,8 +9,8 @@ use Rattle.raster_layers.specs.declared.grids.GridFault.TheVariants.{Size}
 use Rattle.plain_drawing.specs.Limits.{most_grid_side}
 
 -- a grid, unless a side is over 1,024
-abbrev pub sized : Grid → Result Grid GridFault
-sized g = if nat_le g.cols most_grid_side && nat_le g.rows most_grid_side then Ok g else Err Size
+abbrev pub grid_or_fault : Grid → Result Grid GridFault
+grid_or_fault g = if nat_le g.cols most_grid_side && nat_le g.rows most_grid_side then Ok g else Err Size
 
 -- the numbers differ by a multiple of p
 abbrev pub DifferBy : ℕ → ℕ → ℕ → Type 0

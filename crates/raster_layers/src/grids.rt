@@ -1,6 +1,6 @@
 //! Making a grid.
 ghost use Rattle.std.specs.Prelude.{◌≡◌, ◌≤◌, ◌*◌, length};
-ghost use Rattle.raster_layers.specs.Scales.{sized};
+ghost use Rattle.raster_layers.specs.Scales.{grid_or_fault};
 
 use farm_base::Text;
 use plain_drawing::{Grid, MOST_GRID_SIDE};
@@ -27,7 +27,7 @@ pub fn make_grid(
     requires cols { 1 ≤ cols }
     requires rows { 1 ≤ rows }
     requires three_each { length bytes.items ≡ 3 * (rows * cols) }
-    ensures { result ≡ sized (record { name = name; west = west; north = north; pixel = pixel; cols = cols; rows = rows; bytes = bytes.items }) }
+    ensures { result ≡ grid_or_fault (record { name = name; west = west; north = north; pixel = pixel; cols = cols; rows = rows; bytes = bytes.items }) }
 {
     if cols > MOST_GRID_SIDE || rows > MOST_GRID_SIDE {
         return Err(GridFault::Size);

@@ -10,7 +10,7 @@ use Rattle.farm_history.specs.Plans.{Waits, same_key, same_conn}
 use Rattle.farm_history.proofs.Lists.{same_key-true, same_key-self, same_key-sym, each-all, map-filter, filter-append, filter-agree, filter-none, filter-filter}
 use Rattle.farm_history.proofs.Ends.{filter_swap, map-map}
 use Rattle.render_queues.specs.declared.asks.Asked.{Asked}
-use Rattle.render_queues.specs.Tables.{Tables, AreSound, chain_of, placed, joined, lifted, standing, after_take, after_end, after_leave, waits_on, asked_by, reply_with}
+use Rattle.render_queues.specs.Tables.{Tables, AreSound, chain_of, after_place, after_join, after_lift, standing, after_take, after_end, after_leave, waits_on, asked_by, reply_with}
 use Rattle.render_queues.specs.Laws.{LawChains, reply_from}
 use Rattle.render_queues.proofs.Counted.{stands_never}
 
@@ -26,7 +26,7 @@ map-append f (x ∷ xs) ys = ap (λ zs. f x ∷ zs) (map-append f xs ys)
 chain_new : (t : Tables) (k : Key) → AreSound t → standing t k ≡ None → chain_of t k ≡ []
 chain_new t k sound none = ap (map (λ a. a.waiter)) (no_items (filter (waits_on k) t.asks) (length-filter (waits_on k) t.asks ∙ sound.awaited k (stands_never t k none)))
 
-pub chain_joined : (t : Tables) (key : Key) (w : Waiter) (k : Key) → chain_of (joined t key (Some w)) k ≡ chain_of t k ++ cond (same_key key k) (w ∷ []) []
+pub chain_joined : (t : Tables) (key : Key) (w : Waiter) (k : Key) → chain_of (after_join t key (Some w)) k ≡ chain_of t k ++ cond (same_key key k) (w ∷ []) []
 chain_joined t key w k =
     ap (map (λ a. a.waiter)) (filter-append (waits_on k) t.asks (a ∷ []))
     ∙ (map-append (λ x. x.waiter) (filter (waits_on k) t.asks) (cond (same_key key k) (a ∷ []) []) ∙ ap (λ ws. chain_of t k ++ ws) (last (same_key key k)))

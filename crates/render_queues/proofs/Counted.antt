@@ -12,11 +12,11 @@ use Rattle.farm_history.specs.Plans.{Waits, same_key, is_in}
 use Rattle.farm_history.proofs.Lists.{same_key-true, same_key-self, none-each}
 use Rattle.farm_history.proofs.Counts.{count-cons}
 use Rattle.farm_history.proofs.Opens.{count-append, count-zero}
-use Rattle.render_queues.specs.OneQueue.{Line, without, cut, is_below}
+use Rattle.render_queues.specs.OneQueue.{Line, without, line_without, is_below}
 use Rattle.render_queues.specs.declared.lines.Lines.{Lines}
 use Rattle.render_queues.specs.declared.standing.Standing.{Standing}
 use Rattle.render_queues.specs.declared.standing.Standing.TheVariants.{Waits as InLine, Taken}
-use Rattle.render_queues.specs.Tables.{Tables, line_of, with_line, pushed, cut_from, next_of, standing, is_liftable, how_often, waits_often, stands_often}
+use Rattle.render_queues.specs.Tables.{Tables, line_of, with_line, with_last, cut_from, next_of, standing, is_liftable, how_often, waits_often, stands_often}
 
 pub often_last : (k key : Key) (ks : List Key) → how_often k (ks ++ key ∷ []) ≡ how_often k ks + cond (same_key key k) 1 0
 often_last k key ks = count-append (λ x. same_key x k) ks (key ∷ []) ∙ ap (λ n. how_often k ks + n) (count-cons (λ x. same_key x k) key [] ∙ omega arith)
@@ -85,13 +85,13 @@ often_more k ls Queue.Low = omega arith
 often_more k ls Queue.Dirty = omega arith
 often_more k ls Queue.Bulk = omega arith
 
-pub often_pushed : (k : Key) (ls : Lines) (queue : Queue) (key : Key) → waits_often k (pushed ls queue key) ≡ waits_often k ls + cond (same_key key k) 1 0
+pub often_pushed : (k : Key) (ls : Lines) (queue : Queue) (key : Key) → waits_often k (with_last ls queue key) ≡ waits_often k ls + cond (same_key key k) 1 0
 often_pushed k ls queue key =
     let line : Line = record (line_of ls queue) { keys = (line_of ls queue).keys ++ key ∷ [] } in
     omega (arith, often_with k ls queue line, often_last k key (line_of ls queue).keys)
 
 pub often_cut : (k : Key) (ls : Lines) (queue : Queue) (key : Key) → waits_often k (cut_from ls queue key) + how_often k (line_of ls queue).keys ≡ waits_often k ls + cond (same_key key k) 0 (how_often k (line_of ls queue).keys)
-often_cut k ls queue key = omega (arith, often_with k ls queue (cut (line_of ls queue) key), often_without k key (line_of ls queue).keys)
+often_cut k ls queue key = omega (arith, often_with k ls queue (line_without (line_of ls queue) key), often_without k key (line_of ls queue).keys)
 
 -- where something is, it is not none
 some_none : (s : Standing) → Some s ≡ None → ⊥

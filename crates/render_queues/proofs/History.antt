@@ -15,7 +15,7 @@ use Rattle.farm_history.specs.Entries.{Entry}
 use Rattle.farm_history.specs.Lists.{Each}
 use Rattle.farm_history.specs.Plans.{Waits, same_key, same_queue, is_in, waits_in, has_room, limit_of, first_in, next}
 use Rattle.farm_history.specs.Past.{Numbered, outcome_of}
-use Rattle.farm_history.specs.Seen.{in_queue, unended, waiter_of, chain_after}
+use Rattle.farm_history.specs.Seen.{in_queue, waiting_asks, waiter_of, chain_after}
 use Rattle.farm_history.proofs.Lists.{each-passes}
 use Rattle.farm_history.proofs.Queued.{find_first, how_many_in_queue}
 use Rattle.farm_history.proofs.Unended.{chain_joined}
@@ -88,5 +88,5 @@ abbrev pub asked_of : Numbered → Asked
 asked_of a = record { key = a.key; waiter = waiter_of a }
 
 -- the chain of a key
-pub chain_is : (t : Tables) (h : List Entry) (k : Key) → t.asks ≡ map asked_of (unended h) → chain_of t k ≡ chain_after h k
+pub chain_is : (t : Tables) (h : List Entry) (k : Key) → t.asks ≡ map asked_of (waiting_asks h) → chain_of t k ≡ chain_after h k
 chain_is t h k are = chain_joined asked_of (λ a. a.key) (λ a. a.waiter) t.asks h k (λ a. refl) (λ a. refl) are

@@ -11,9 +11,9 @@ use Rattle.farm_history.specs.Lists.{Each}
 use Rattle.farm_history.specs.Plans.{Waits, same_key, same_conn, is_in}
 use Rattle.farm_history.proofs.Lists.{same_key-self, same_key-sym, any-filter_off, map-filter, none-each}
 use Rattle.farm_history.proofs.Ends.{map-map}
-use Rattle.render_queues.specs.OneQueue.{Line, without, cut}
+use Rattle.render_queues.specs.OneQueue.{Line, without, line_without}
 use Rattle.render_queues.specs.declared.lines.Lines.{Lines}
-use Rattle.render_queues.specs.Tables.{Tables, AreSound, line_of, with_line, pushed, lifted_out, chain_of, placed, joined, lifted, standing, is_liftable, takes_lifted, after_take, after_end, after_leave, how_often, stands_often}
+use Rattle.render_queues.specs.Tables.{Tables, AreSound, line_of, with_line, with_last, lifted_out, chain_of, after_place, after_join, after_lift, standing, is_liftable, takes_lifted, after_take, after_end, after_leave, how_often, stands_often}
 use Rattle.render_queues.specs.Laws.{Item, item_of, items_of, taken_items, without_conn, LawItems}
 use Rattle.render_queues.proofs.Counted.{there_once, often_more, stands_never, liftable_waits}
 use Rattle.render_queues.proofs.Sound.{same_line}
@@ -62,36 +62,36 @@ one_last s t key keys ks chain are same absent own =
     ∙ ap₂ (λ (xs : List Item) (c : List Waiter). let i : Item = record { key = key; chain = c } in xs ++ i ∷ []) (agree s t key same ks (none-each (λ x. same_key x key) ks absent)) own)
 
 -- a waiter changes no other chain
-join_other : (t : Tables) (key : Key) (w : Option Waiter) (k : Key) → same_key key k ≡ false → chain_of (joined t key w) k ≡ chain_of t k
+join_other : (t : Tables) (key : Key) (w : Option Waiter) (k : Key) → same_key key k ≡ false → chain_of (after_join t key w) k ≡ chain_of t k
 join_other t key None k other = refl
 join_other t key (Some w) k other = chain_joined t key w k ∙ (ap (λ (b : Bool). chain_of t k ++ cond b (w ∷ []) []) other ∙ append_none (chain_of t k))
 
 -- and goes last in its own
-join_own : (t : Tables) (key : Key) (w : Waiter) → chain_of (joined t key (Some w)) key ≡ chain_of t key ++ w ∷ []
+join_own : (t : Tables) (key : Key) (w : Waiter) → chain_of (after_join t key (Some w)) key ≡ chain_of t key ++ w ∷ []
 join_own t key w = chain_joined t key w key ∙ ap (λ (b : Bool). chain_of t key ++ cond b (w ∷ []) []) (same_key-self key)
 
 placed_last : (t : Tables) (queue : Queue) (key : Key) (w : Option Waiter) → AreSound t → standing t key ≡ None →
-    items_of (joined (placed t queue key) key w) queue ≡ items_of t queue ++ record { key = key; chain = option_to_list w } ∷ []
+    items_of (after_join (after_place t queue key) key w) queue ≡ items_of t queue ++ record { key = key; chain = option_to_list w } ∷ []
 placed_last t queue key w sound none =
-    one_last (joined (placed t queue key) key w) t key (line_of (pushed t.lines queue key) queue).keys (line_of t.lines queue).keys (option_to_list w)
+    one_last (after_join (after_place t queue key) key w) t key (line_of (with_last t.lines queue key) queue).keys (line_of t.lines queue).keys (option_to_list w)
     (ap (λ (l : Line). l.keys) (own_line t.lines queue (record (line_of t.lines queue) { keys = (line_of t.lines queue).keys ++ key ∷ [] })))
-    (λ k other. join_other (placed t queue key) key w k other)
+    (λ k other. join_other (after_place t queue key) key w k other)
     (not_there key (line_of t.lines queue).keys (omega (arith, stands_never t key none, often_more key t.lines queue)))
     (own w)
   where
-    own : (o : Option Waiter) → chain_of (joined (placed t queue key) key o) key ≡ option_to_list o
+    own : (o : Option Waiter) → chain_of (after_join (after_place t queue key) key o) key ≡ option_to_list o
     own None = chains.new t key sound none
-    own (Some v) = join_own (placed t queue key) key v ∙ ap (λ (ws : List Waiter). ws ++ v ∷ []) (chains.new t key sound none)
+    own (Some v) = join_own (after_place t queue key) key v ∙ ap (λ (ws : List Waiter). ws ++ v ∷ []) (chains.new t key sound none)
 
 lifted_last : (t : Tables) (queue : Queue) (key : Key) (w : Waiter) → AreSound t → is_liftable (standing t key) ≡ true → takes_lifted queue ≡ true →
-    items_of (joined (lifted t queue key) key (Some w)) queue ≡ items_of t queue ++ record { key = key; chain = chain_of t key ++ w ∷ [] } ∷ []
+    items_of (after_join (after_lift t queue key) key (Some w)) queue ≡ items_of t queue ++ record { key = key; chain = chain_of t key ++ w ∷ [] } ∷ []
 lifted_last t queue key w sound liftable takes =
-    one_last (joined (lifted t queue key) key (Some w)) t key (line_of (pushed (lifted_out t.lines key) queue key) queue).keys (line_of t.lines queue).keys (chain_of t key ++ w ∷ [])
+    one_last (after_join (after_lift t queue key) key (Some w)) t key (line_of (with_last (lifted_out t.lines key) queue key) queue).keys (line_of t.lines queue).keys (chain_of t key ++ w ∷ [])
     (ap (λ (l : Line). l.keys) (own_line (lifted_out t.lines key) queue (record (line_of (lifted_out t.lines key) queue) { keys = (line_of (lifted_out t.lines key) queue).keys ++ key ∷ [] }))
     ∙ ap (λ (l : Line). l.keys ++ key ∷ []) (same_line t.lines queue key takes))
-    (λ k other. join_other (lifted t queue key) key (Some w) k other)
+    (λ k other. join_other (after_lift t queue key) key (Some w) k other)
     (not_there key (line_of t.lines queue).keys (omega (arith, liftable_waits t key liftable, sound.once key, elsewhere queue takes)))
-    (join_own (lifted t queue key) key w)
+    (join_own (after_lift t queue key) key w)
   where
     elsewhere : (q : Queue) → takes_lifted q ≡ true → how_often key (line_of t.lines q).keys + (how_often key t.lines.dirty.keys + how_often key t.lines.bulk.keys) ≤ stands_often key t
     elsewhere Queue.Prio h = omega arith
@@ -102,7 +102,7 @@ lifted_last t queue key w sound liftable takes =
 
 taken_out : (t : Tables) (w : Waits) → items_of (after_take t (Some w)) w.queue ≡ filter (λ i. not (same_key i.key w.key)) (items_of t w.queue)
 taken_out t w =
-    ap (λ (l : Line). map (item_of t) l.keys) (own_line t.lines w.queue (cut (line_of t.lines w.queue) w.key))
+    ap (λ (l : Line). map (item_of t) l.keys) (own_line t.lines w.queue (line_without (line_of t.lines w.queue) w.key))
     ∙ map-filter (item_of t) (λ k. not (same_key k w.key)) (λ i. not (same_key i.key w.key)) (line_of t.lines w.queue).keys (λ k. refl)
 
 ended_out : (t : Tables) (key : Key) (outcome : Outcome) → taken_items (after_end t key outcome) ≡ filter (λ i. not (same_key i.key key)) (taken_items t)

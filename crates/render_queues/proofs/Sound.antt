@@ -15,10 +15,10 @@ use Rattle.farm_history.specs.Plans.{Waits, same_key, is_in}
 use Rattle.farm_history.proofs.Lists.{same_key-true, same_key-self}
 use Rattle.farm_history.proofs.Counts.{count-cons}
 use Rattle.farm_history.proofs.Opens.{count-append}
-use Rattle.render_queues.specs.OneQueue.{Line, no_line, without, cut, is_below}
+use Rattle.render_queues.specs.OneQueue.{Line, no_line, without, line_without, is_below}
 use Rattle.render_queues.specs.declared.asks.Asked.{Asked}
 use Rattle.render_queues.specs.declared.lines.Lines.{Lines}
-use Rattle.render_queues.specs.Tables.{Tables, AreSound, IsWithin, no_tables, line_of, with_line, pushed, cut_from, lifted_out, lifted, placed, joined, with_waiter, next_of, standing, is_liftable, takes_lifted, after_take, after_end, after_leave, waits_on, reply_with, asked_by, replies_to_conn, open_count, how_often, waits_often, stands_often, chain_length}
+use Rattle.render_queues.specs.Tables.{Tables, AreSound, IsWithin, no_tables, line_of, with_line, with_last, cut_from, lifted_out, after_lift, after_place, after_join, with_waiter, next_of, standing, is_liftable, takes_lifted, after_take, after_end, after_leave, waits_on, reply_with, asked_by, replies_to_conn, open_count, how_often, waits_often, stands_often, chain_length}
 use Rattle.render_queues.proofs.Ends.{filter_fewer}
 use Rattle.render_queues.proofs.Keys.{without_few}
 use Rattle.render_queues.proofs.Counted.{often_last, often_without, there_once, often_more, often_pushed, often_cut, stands_never, stands_somewhere, liftable_waits, next_there}
@@ -65,17 +65,17 @@ within_with ls Queue.Bulk l new old Queue.Bulk = new
 below_less : (l : Line) → is_below l ≡ true → length l.keys < l.limit
 below_less l h = grind (arith, nat_tests)
 
-within_pushed : (ls : Lines) (queue : Queue) (key : Key) → is_below (line_of ls queue) ≡ true → ((q : Queue) → IsWithin (line_of ls q)) → (q : Queue) → IsWithin (line_of (pushed ls queue key) q)
+within_pushed : (ls : Lines) (queue : Queue) (key : Key) → is_below (line_of ls queue) ≡ true → ((q : Queue) → IsWithin (line_of ls q)) → (q : Queue) → IsWithin (line_of (with_last ls queue key) q)
 within_pushed ls queue key below old =
     let less = below_less (line_of ls queue) below in
     let long = length-append (line_of ls queue).keys (key ∷ []) in
     within_with ls queue (record (line_of ls queue) { keys = (line_of ls queue).keys ++ key ∷ [] }) (omega (arith, less, long)) old
 
 within_cut : (ls : Lines) (queue : Queue) (key : Key) → ((q : Queue) → IsWithin (line_of ls q)) → (q : Queue) → IsWithin (line_of (cut_from ls queue key) q)
-within_cut ls queue key old = within_with ls queue (cut (line_of ls queue) key) (omega (arith, old queue, without_few key (line_of ls queue).keys)) old
+within_cut ls queue key old = within_with ls queue (line_without (line_of ls queue) key) (omega (arith, old queue, without_few key (line_of ls queue).keys)) old
 
 -- a key that stood nowhere is placed
-pub sound_placed : (t : Tables) (queue : Queue) (key : Key) → standing t key ≡ None → is_below (line_of t.lines queue) ≡ true → AreSound t → AreSound (placed t queue key)
+pub sound_placed : (t : Tables) (queue : Queue) (key : Key) → standing t key ≡ None → is_below (line_of t.lines queue) ≡ true → AreSound t → AreSound (after_place t queue key)
 sound_placed t queue key none below sound = record {
   once = λ k. go k (same_key key k) refl (often_pushed k t.lines queue key);
   awaited = λ k nowhere. sound.awaited k (omega (arith, often_pushed k t.lines queue key));
@@ -84,7 +84,7 @@ sound_placed t queue key none below sound = record {
   few_asks = sound.few_asks;
 }
   where
-    go : (k : Key) (b : Bool) → same_key key k ≡ b → waits_often k (pushed t.lines queue key) ≡ waits_often k t.lines + cond b 1 0 → stands_often k (placed t queue key) ≤ 1
+    go : (k : Key) (b : Bool) → same_key key k ≡ b → waits_often k (with_last t.lines queue key) ≡ waits_often k t.lines + cond b 1 0 → stands_often k (after_place t queue key) ≤ 1
     go k true is now =
         let never : stands_often k t ≡ 0 = subst (λ j. stands_often j t ≡ 0) (same_key-true key k is) (stands_never t key none) in
         omega arith
@@ -92,7 +92,7 @@ sound_placed t queue key none below sound = record {
         omega (arith, sound.once k)
 
 -- a waiter joins the chain of a key that stands
-pub sound_joined : (t : Tables) (key : Key) (w : Option Waiter) → 1 ≤ stands_often key t → (IsSome w → open_count t < 4096) → AreSound t → AreSound (joined t key w)
+pub sound_joined : (t : Tables) (key : Key) (w : Option Waiter) → 1 ≤ stands_often key t → (IsSome w → open_count t < 4096) → AreSound t → AreSound (after_join t key w)
 sound_joined t key None stands few sound = record { once = sound.once; awaited = sound.awaited; within = sound.within; few_taken = sound.few_taken; few_asks = sound.few_asks }
 sound_joined t key (Some w) stands few sound = record {
   once = sound.once;
@@ -102,17 +102,17 @@ sound_joined t key (Some w) stands few sound = record {
   few_asks = omega (arith, few refl, length-append t.asks (record { key = key; waiter = w } ∷ []));
 }
   where
-    longer : (k : Key) (b : Bool) → same_key key k ≡ b → stands_often k t ≡ 0 → chain_length k (joined t key (Some w)) ≡ chain_length k t + count_by (waits_on k) (record { key = key; waiter = w } ∷ []) →
-        count_by (waits_on k) (record { key = key; waiter = w } ∷ []) ≡ cond b 1 0 + count_by (waits_on k) [] → chain_length k (joined t key (Some w)) ≡ 0
+    longer : (k : Key) (b : Bool) → same_key key k ≡ b → stands_often k t ≡ 0 → chain_length k (after_join t key (Some w)) ≡ chain_length k t + count_by (waits_on k) (record { key = key; waiter = w } ∷ []) →
+        count_by (waits_on k) (record { key = key; waiter = w } ∷ []) ≡ cond b 1 0 + count_by (waits_on k) [] → chain_length k (after_join t key (Some w)) ≡ 0
     longer k true is nowhere sum one = let here : 1 ≤ stands_often k t = subst (λ j. 1 ≤ stands_often j t) (same_key-true key k is) stands in absurd (omega arith)
     longer k false is nowhere sum one =
         let old = sound.awaited k nowhere in
         omega arith
 
 -- what was placed stands
-pub placed_stands : (t : Tables) (queue : Queue) (key : Key) → 1 ≤ stands_often key (placed t queue key)
+pub placed_stands : (t : Tables) (queue : Queue) (key : Key) → 1 ≤ stands_often key (after_place t queue key)
 placed_stands t queue key =
-    let now : waits_often key (pushed t.lines queue key) ≡ waits_often key t.lines + 1 = often_pushed key t.lines queue key ∙ ap (λ (b : Bool). waits_often key t.lines + cond b 1 0) (same_key-self key) in
+    let now : waits_often key (with_last t.lines queue key) ≡ waits_often key t.lines + 1 = often_pushed key t.lines queue key ∙ ap (λ (b : Bool). waits_often key t.lines + cond b 1 0) (same_key-self key) in
     omega arith
 
 -- a line that takes a lifted key is not the one that it leaves
@@ -131,19 +131,19 @@ within_lifted_out ls key old Queue.Dirty = omega (arith, old Queue.Dirty, withou
 within_lifted_out ls key old Queue.Bulk = omega (arith, old Queue.Bulk, without_few key ls.bulk.keys)
 
 -- each key stands as often as before when one is lifted
-lifted_often : (t : Tables) (queue : Queue) (key : Key) → is_liftable (standing t key) ≡ true → AreSound t → (k : Key) → stands_often k (lifted t queue key) ≡ stands_often k t
+lifted_often : (t : Tables) (queue : Queue) (key : Key) → is_liftable (standing t key) ≡ true → AreSound t → (k : Key) → stands_often k (after_lift t queue key) ≡ stands_often k t
 lifted_often t queue key liftable sound k = go (same_key key k) refl (often_pushed k (lifted_out t.lines key) queue key) (often_without k key t.lines.dirty.keys) (often_without k key t.lines.bulk.keys)
   where
-    go : (b : Bool) → same_key key k ≡ b → waits_often k (lifted t queue key).lines ≡ waits_often k (lifted_out t.lines key) + cond b 1 0 →
+    go : (b : Bool) → same_key key k ≡ b → waits_often k (after_lift t queue key).lines ≡ waits_often k (lifted_out t.lines key) + cond b 1 0 →
         how_often k (without key t.lines.dirty.keys) ≡ cond b 0 (how_often k t.lines.dirty.keys) → how_often k (without key t.lines.bulk.keys) ≡ cond b 0 (how_often k t.lines.bulk.keys) →
-        stands_often k (lifted t queue key) ≡ stands_often k t
+        stands_often k (after_lift t queue key) ≡ stands_often k t
     go true is now dirty bulk =
         let one : 1 ≤ how_often k t.lines.dirty.keys + how_often k t.lines.bulk.keys = subst (λ j. 1 ≤ how_often j t.lines.dirty.keys + how_often j t.lines.bulk.keys) (same_key-true key k is) (liftable_waits t key liftable) in
         omega (arith, sound.once k)
     go false is now dirty bulk =
         omega arith
 
-pub sound_lifted : (t : Tables) (queue : Queue) (key : Key) → is_liftable (standing t key) ≡ true → takes_lifted queue ≡ true → is_below (line_of t.lines queue) ≡ true → AreSound t → AreSound (lifted t queue key)
+pub sound_lifted : (t : Tables) (queue : Queue) (key : Key) → is_liftable (standing t key) ≡ true → takes_lifted queue ≡ true → is_below (line_of t.lines queue) ≡ true → AreSound t → AreSound (after_lift t queue key)
 sound_lifted t queue key liftable takes below sound = record {
   once = λ k. omega (arith, lifted_often t queue key liftable sound k, sound.once k);
   awaited = λ k nowhere. sound.awaited k (sym (lifted_often t queue key liftable sound k) ∙ nowhere);
@@ -153,9 +153,9 @@ sound_lifted t queue key liftable takes below sound = record {
 }
 
 -- what was lifted stands
-pub lifted_stands : (t : Tables) (queue : Queue) (key : Key) → 1 ≤ stands_often key (lifted t queue key)
+pub lifted_stands : (t : Tables) (queue : Queue) (key : Key) → 1 ≤ stands_often key (after_lift t queue key)
 lifted_stands t queue key =
-    let now : waits_often key (pushed (lifted_out t.lines key) queue key) ≡ waits_often key (lifted_out t.lines key) + 1 = often_pushed key (lifted_out t.lines key) queue key ∙ ap (λ (b : Bool). waits_often key (lifted_out t.lines key) + cond b 1 0) (same_key-self key) in
+    let now : waits_often key (with_last (lifted_out t.lines key) queue key) ≡ waits_often key (lifted_out t.lines key) + 1 = often_pushed key (lifted_out t.lines key) queue key ∙ ap (λ (b : Bool). waits_often key (lifted_out t.lines key) + cond b 1 0) (same_key-self key) in
     omega arith
 
 -- each key stands as often as before when one is taken

@@ -10,7 +10,7 @@ use Rattle.farm_history.specs.declared.queues.Waiter.{Waiter}
 use Rattle.farm_history.specs.Plans.{Waits, same_key, same_conn, next}
 use Rattle.farm_history.specs.Seen.{in_queue}
 use Rattle.render_queues.specs.declared.lines.Lines.{Lines}
-use Rattle.render_queues.specs.Tables.{Tables, AreSound, line_of, chain_of, placed, joined, lifted, standing, is_liftable, takes_lifted, next_of, after_take, after_end, after_leave}
+use Rattle.render_queues.specs.Tables.{Tables, AreSound, line_of, chain_of, after_place, after_join, after_lift, standing, is_liftable, takes_lifted, next_of, after_take, after_end, after_leave}
 
 -- the reply to a waiter
 abbrev pub reply_from : Outcome → Waiter → Reply
@@ -21,11 +21,11 @@ pub record LawChains : Type 0 where
   -- a key that stands nowhere has none
   pub new : (t : Tables) (k : Key) → AreSound t → standing t k ≡ None → chain_of t k ≡ []
   -- a key keeps its chain where it is placed, lifted or taken
-  pub placed_is : (t : Tables) (queue : Queue) (key k : Key) → chain_of (placed t queue key) k ≡ chain_of t k
-  pub lifted_is : (t : Tables) (queue : Queue) (key k : Key) → chain_of (lifted t queue key) k ≡ chain_of t k
+  pub placed_is : (t : Tables) (queue : Queue) (key k : Key) → chain_of (after_place t queue key) k ≡ chain_of t k
+  pub lifted_is : (t : Tables) (queue : Queue) (key k : Key) → chain_of (after_lift t queue key) k ≡ chain_of t k
   pub taken_is : (t : Tables) (w : Option Waits) (k : Key) → chain_of (after_take t w) k ≡ chain_of t k
   -- a waiter goes last in the chain that it joins
-  pub joined_is : (t : Tables) (key : Key) (w : Waiter) (k : Key) → chain_of (joined t key (Some w)) k ≡ chain_of t k ++ (if same_key key k then w ∷ [] else [])
+  pub joined_is : (t : Tables) (key : Key) (w : Waiter) (k : Key) → chain_of (after_join t key (Some w)) k ≡ chain_of t k ++ (if same_key key k then w ∷ [] else [])
   -- a chain that has ended is gone, and its waiters have replies in its order
   pub ended_is : (t : Tables) (key : Key) (outcome : Outcome) (k : Key) → chain_of (after_end t key outcome) k ≡ (if same_key key k then [] else chain_of t k)
   pub replies_are : (t : Tables) (key : Key) (outcome : Outcome) → (after_end t key outcome).ended ≡ t.ended ++ map (reply_from outcome) (chain_of t key)
@@ -61,10 +61,10 @@ without_conn conn i = record i { chain = filter (λ w. not (same_conn w.conn con
 pub record LawItems : Type 0 where
   -- a metatile that stood nowhere goes last in its queue, with the waiter, if there is one, as its chain
   pub placed_last : (t : Tables) (queue : Queue) (key : Key) (w : Option Waiter) → AreSound t → standing t key ≡ None →
-      items_of (joined (placed t queue key) key w) queue ≡ items_of t queue ++ record { key = key; chain = option_to_list w } ∷ []
+      items_of (after_join (after_place t queue key) key w) queue ≡ items_of t queue ++ record { key = key; chain = option_to_list w } ∷ []
   -- one that is lifted goes last in the other queue, with its chain and then the waiter
   pub lifted_last : (t : Tables) (queue : Queue) (key : Key) (w : Waiter) → AreSound t → is_liftable (standing t key) ≡ true → takes_lifted queue ≡ true →
-      items_of (joined (lifted t queue key) key (Some w)) queue ≡ items_of t queue ++ record { key = key; chain = chain_of t key ++ w ∷ [] } ∷ []
+      items_of (after_join (after_lift t queue key) key (Some w)) queue ≡ items_of t queue ++ record { key = key; chain = chain_of t key ++ w ∷ [] } ∷ []
   -- one that is taken leaves its queue and goes last among those that are taken, with its chain
   pub taken_last : (t : Tables) (w : Waits) → taken_items (after_take t (Some w)) ≡ taken_items t ++ item_of t w.key ∷ []
   pub taken_out : (t : Tables) (w : Waits) → items_of (after_take t (Some w)) w.queue ≡ filter (λ i. not (same_key i.key w.key)) (items_of t w.queue)

@@ -21,5 +21,5 @@ abbrev pub without : Key → List Key → List Key
 without key keys = filter (λ k. not (same_key k key)) keys
 
 -- a queue without the key
-abbrev pub cut : Line → Key → Line
-cut l key = record l { keys = without key l.keys }
+abbrev pub line_without : Line → Key → Line
+line_without l key = record l { keys = without key l.keys }

@@ -9,7 +9,7 @@ use Rattle.farm_history.specs.declared.queues.Queue.{Queue}
 use Rattle.farm_history.specs.declared.queues.Reply.{Reply}
 use Rattle.farm_history.specs.declared.queues.Waiter.{Waiter}
 use Rattle.farm_history.specs.Plans.{Waits, same_key, same_conn, is_in}
-use Rattle.render_queues.specs.OneQueue.{Line, no_line, without, cut}
+use Rattle.render_queues.specs.OneQueue.{Line, no_line, without, line_without}
 use Rattle.render_queues.specs.declared.asks.Asked.{Asked}
 use Rattle.render_queues.specs.declared.standing.Standing.{Standing}
 use Rattle.render_queues.specs.declared.standing.Standing.TheVariants.{Waits as InLine, Taken}
@@ -51,16 +51,16 @@ with_line ls Queue.Dirty l = record ls { dirty = l }
 with_line ls Queue.Bulk l = record ls { bulk = l }
 
 -- the key goes last in that queue
-abbrev pub pushed : Lines → Queue → Key → Lines
-pushed ls queue key = with_line ls queue (record (line_of ls queue) { keys = (line_of ls queue).keys ++ key ∷ [] })
+abbrev pub with_last : Lines → Queue → Key → Lines
+with_last ls queue key = with_line ls queue (record (line_of ls queue) { keys = (line_of ls queue).keys ++ key ∷ [] })
 
 -- the key is out of that queue
 abbrev pub cut_from : Lines → Queue → Key → Lines
-cut_from ls queue key = with_line ls queue (cut (line_of ls queue) key)
+cut_from ls queue key = with_line ls queue (line_without (line_of ls queue) key)
 
 -- the key is out of the dirty and bulk queues
 abbrev pub lifted_out : Lines → Key → Lines
-lifted_out ls key = record ls { dirty = cut ls.dirty key; bulk = cut ls.bulk key }
+lifted_out ls key = record ls { dirty = line_without ls.dirty key; bulk = line_without ls.bulk key }
 
 -- the first that waits in that queue
 abbrev pub first_of : Lines → Queue → Option Waits
@@ -97,8 +97,8 @@ abbrev pub standing : Tables → Key → Option Standing
 standing t key = if is_in key t.taken then Some Taken else waits_where t.lines key
 
 -- the key goes last in that queue
-abbrev pub placed : Tables → Queue → Key → Tables
-placed t queue key = record t { lines = pushed t.lines queue key }
+abbrev pub after_place : Tables → Queue → Key → Tables
+after_place t queue key = record t { lines = with_last t.lines queue key }
 
 -- the asks, and last among them that of the waiter, if there is one
 abbrev pub with_waiter : List Asked → Key → Option Waiter → List Asked
@@ -106,8 +106,8 @@ with_waiter asks key None = asks
 with_waiter asks key (Some w) = asks ++ record { key = key; waiter = w } ∷ []
 
 -- the waiter, if there is one, goes last in the chain of the key
-abbrev pub joined : Tables → Key → Option Waiter → Tables
-joined t key waiter = record t { asks = with_waiter t.asks key waiter }
+abbrev pub after_join : Tables → Key → Option Waiter → Tables
+after_join t key waiter = record t { asks = with_waiter t.asks key waiter }
 
 -- whether what stands so can be lifted: it waits in the dirty or bulk queue
 abbrev pub is_liftable : Option Standing → Bool
@@ -123,8 +123,8 @@ takes_lifted Queue.Low = true
 takes_lifted _ = false
 
 -- the key goes from the dirty or bulk queue to that one, last; its chain stays
-abbrev pub lifted : Tables → Queue → Key → Tables
-lifted t queue key = record t { lines = pushed (lifted_out t.lines key) queue key }
+abbrev pub after_lift : Tables → Queue → Key → Tables
+after_lift t queue key = record t { lines = with_last (lifted_out t.lines key) queue key }
 
 -- what is taken goes from its queue to the taken keys, last; its chain stays
 abbrev pub after_take : Tables → Option Waits → Tables

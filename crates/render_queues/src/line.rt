@@ -2,7 +2,7 @@
 ghost use Rattle.std.specs.Prelude.{◌≡◌, ◌+◌, ◌<◌, ◌≤◌, false, [], ◌∷◌, ◌++◌, length, slice_get, IfOk};
 ghost use Rattle.indexmap.specs.IndexSet.{index_set_len, spare};
 ghost use Rattle.farm_history.specs.Plans.{is_in};
-ghost use Rattle.render_queues.specs.OneQueue.{cut, is_below, no_line, without};
+ghost use Rattle.render_queues.specs.OneQueue.{line_without, is_below, no_line, without};
 
 use farm_base::NoMemory;
 use farm_history::Key;
@@ -97,7 +97,7 @@ impl Line {
 
     /// Takes the key out; where it does not wait here nothing is moved.
     pub(crate) fn remove(&mut self, key: Key)
-        ensures { self.new ≡ cut self.old key }
+        ensures { self.new ≡ line_without self.old key }
     {
         if !self.has(key) {
             return;

@@ -2,7 +2,7 @@
 ghost use Rattle.std.specs.Prelude.{◌≡◌, true, false, slice_get, option_map, IfOk};
 ghost use Rattle.farm_history.specs.Plans.{is_in};
 ghost use Rattle.render_queues.specs.OneQueue.{is_below, no_line};
-ghost use Rattle.render_queues.specs.Tables.{cut_from, lifted_out, line_of, next_of, no_lines, pushed, waits_where};
+ghost use Rattle.render_queues.specs.Tables.{cut_from, lifted_out, line_of, next_of, no_lines, with_last, waits_where};
 
 use crate::line::Line;
 use crate::standing::Standing;
@@ -108,7 +108,7 @@ impl Lines {
     pub(crate) fn push(&mut self, queue: Queue, key: Key)
         requires new { is_in key (line_of self.old queue).keys ≡ false }
         requires room { is_below (line_of self.old queue) ≡ true }
-        ensures { self.new ≡ pushed self.old queue key }
+        ensures { self.new ≡ with_last self.old queue key }
     {
         match queue {
             Queue::Prio => self.prio.push(key),

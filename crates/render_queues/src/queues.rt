@@ -4,7 +4,7 @@ ghost use Rattle.std.specs.Vec.{vec_capacity};
 ghost use Rattle.farm_history.specs.Lists.{without_first};
 ghost use Rattle.farm_history.specs.Plans.{is_in};
 ghost use Rattle.render_queues.specs.OneQueue.{is_below, without};
-ghost use Rattle.render_queues.specs.Tables.{AreSound, after_end, after_leave, after_take, is_liftable, is_of_front, joined, lifted, line_of, next_of, no_tables, open_count, open_of, placed, standing, takes_lifted};
+ghost use Rattle.render_queues.specs.Tables.{AreSound, after_end, after_leave, after_take, is_liftable, is_of_front, after_join, after_lift, line_of, next_of, no_tables, open_count, open_of, after_place, standing, takes_lifted};
 
 use crate::asks::{Asked, add_ask, asks_of, drop_asks_of, drop_asks_on, reply_all};
 use crate::lines::Lines;
@@ -126,7 +126,7 @@ impl Queues {
         requires new { standing self.old key ≡ None }
         requires few { IsSome waiter → open_count self.old < 4096 }
         ensures room { result ≡ is_below (line_of self.old.lines queue) }
-        ensures tables { self.new ≡ (if is_below (line_of self.old.lines queue) then joined (placed self.old queue key) key waiter else self.old) }
+        ensures tables { self.new ≡ (if is_below (line_of self.old.lines queue) then after_join (after_place self.old queue key) key waiter else self.old) }
     {
         if !self.lines.has_room(queue) {
             return false;
@@ -140,7 +140,7 @@ impl Queues {
     pub fn join(&mut self, key: Key, waiter: Waiter)
         requires stands { IsSome (standing self.old key) }
         requires few { open_count self.old < 4096 }
-        ensures { self.new ≡ joined self.old key (Some waiter) }
+        ensures { self.new ≡ after_join self.old key (Some waiter) }
     {
         add_ask(&mut self.asks, key, Some(waiter));
     }
@@ -152,7 +152,7 @@ impl Queues {
         requires queue { takes_lifted queue ≡ true }
         requires few { open_count self.old < 4096 }
         ensures room { result ≡ is_below (line_of self.old.lines queue) }
-        ensures tables { self.new ≡ (if is_below (line_of self.old.lines queue) then joined (lifted self.old queue key) key (Some waiter) else self.old) }
+        ensures tables { self.new ≡ (if is_below (line_of self.old.lines queue) then after_join (after_lift self.old queue key) key (Some waiter) else self.old) }
     {
         if !self.lines.has_room(queue) {
             return false;

@@ -13,7 +13,7 @@ use Rattle.turn_cell.specs.SeatStates.{Made, SeatState, IsSeatOf, SameSeat, worn
 use Rattle.farm_shared.specs.Seats.{plain}
 use Rattle.farm_shared.specs.Shared.{Adds}
 use Rattle.render_workers.specs.declared.worker.WorkEnd.{WorkEnd}
-use Rattle.render_workers.specs.Rounds.{Round, Drew, FoundNone, FoundMany, entries_of, EndsWith, Gains, Worked}
+use Rattle.render_workers.specs.Rounds.{Round, Drew, FoundNone, FoundMany, entries_of, LastEntries, Gains, Worked}
 use Rattle.render_workers.specs.declared.worker.Next.{Next}
 use Rattle.render_workers.specs.inner.Nexts.{IsWorking, IsWornOut}
 
@@ -31,7 +31,7 @@ module _ {T : Type 0} where
       second ∙ (ap (λ l. l ++ entries_of w r) first ∙ flat_map_more (entries_of w) (plain u.mine) rounds r)
 
   -- and the end
-  pub worked : (w : ℕ) (end : WorkEnd) (rounds : List Round) (last : List Entry) (u v x : SeatState T Entry) → Gains (flat_map (entries_of w) rounds) u v → Gains last v x → EndsWith w end last → Worked w end u x
+  pub worked : (w : ℕ) (end : WorkEnd) (rounds : List Round) (last : List Entry) (u v x : SeatState T Entry) → Gains (flat_map (entries_of w) rounds) u v → Gains last v x → LastEntries w end last → Worked w end u x
   worked w end rounds last u v x first second ended = record {
     entries = flat_map (entries_of w) rounds ++ last;
     gains = gains_both (flat_map (entries_of w) rounds) last u v x first second;
@@ -54,10 +54,10 @@ module _ {T : Type 0} where
   found_nothing w v u a (inl is) t = found_none w v u a is t
   found_nothing w v u a (inr is) t = found_many w v u a is t
 
-  pub found_stopped : (w : ℕ) (v u : SeatState T Entry) (a : Claimed) → a ≡ Claimed.Stopped → Adds (Claim w (claim_answer a)) v u → (last : List Entry) × Gains last v u × EndsWith w WorkEnd.Stopped last
+  pub found_stopped : (w : ℕ) (v u : SeatState T Entry) (a : Claimed) → a ≡ Claimed.Stopped → Adds (Claim w (claim_answer a)) v u → (last : List Entry) × Gains last v u × LastEntries w WorkEnd.Stopped last
   found_stopped w v u a is t = (Claim w ClaimAnswer.Stopped ∷ [], gains_one (Claim w ClaimAnswer.Stopped) v u (subst (λ b. Adds (Claim w (claim_answer b)) v u) is t), refl)
 
-  pub found_worn : (w : ℕ) (v u : SeatState T Entry) → u ≡ worn_out v → (last : List Entry) × Gains last v u × EndsWith w WorkEnd.Worn last
+  pub found_worn : (w : ℕ) (v u : SeatState T Entry) → u ≡ worn_out v → (last : List Entry) × Gains last v u × LastEntries w WorkEnd.Worn last
   found_worn w v u is = ([], gains_none v u is, inl refl)
 
   pub drew : (w : ℕ) (v u x : SeatState T Entry) (a : Claimed) (job : JobSeen) (d : Bool) (answer : Finished) → a ≡ Claimed.Job job → Adds (Claim w (claim_answer a)) v u → Adds (Finish job.ticket d answer) u x →
@@ -69,7 +69,7 @@ module _ {T : Type 0} where
   )
 
   pub drew_worn : (w : ℕ) (v u x : SeatState T Entry) (a : Claimed) (job : JobSeen) → a ≡ Claimed.Job job → Adds (Claim w (claim_answer a)) v u → x ≡ worn_out u →
-      (last : List Entry) × Gains last v x × EndsWith w WorkEnd.Worn last
+      (last : List Entry) × Gains last v x × LastEntries w WorkEnd.Worn last
   drew_worn w v u x a job is claim worn = (
     Claim w (Job job.ticket (job_key job) job.version) ∷ [],
     ap (λ (h : SeatState T Entry). plain h.mine) worn ∙ gains_one (Claim w (Job job.ticket (job_key job) job.version)) v u (subst (λ b. Adds (Claim w (claim_answer b)) v u) is claim),
@@ -87,7 +87,7 @@ module _ {T : Type 0} where
   pub goes_on : (made : Made T) (w : ℕ) (u v x : SeatState T Entry) → IsWorking made w u v → IsSeatOf made x → SameSeat v x → (r : Round) × Gains (entries_of w r) v x → IsWorking made w u x
   goes_on made w u v x k seat same added = record { seat = seat; same = same_both u v x k.same same; rounds = k.rounds ++ added.0 ∷ []; gains = round_more w k.rounds added.0 u v x k.gains added.1 }
 
-  pub ends : (made : Made T) (w : ℕ) (end : WorkEnd) (u v x : SeatState T Entry) → IsWorking made w u v → (last : List Entry) × Gains last v x × EndsWith w end last → Worked w end u x
+  pub ends : (made : Made T) (w : ℕ) (end : WorkEnd) (u v x : SeatState T Entry) → IsWorking made w u v → (last : List Entry) × Gains last v x × LastEntries w end last → Worked w end u x
   ends made w end u v x k added = worked w end k.rounds added.0 u v x k.gains added.1 added.2
 
   pub ends_same : (made : Made T) (w : ℕ) (u v x : SeatState T Entry) → IsWorking made w u v → SameSeat v x → SameSeat u x

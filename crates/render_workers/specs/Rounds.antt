@@ -26,16 +26,16 @@ entries_of w FoundNone = Claim w ClaimAnswer.Idle ∷ []
 entries_of w FoundMany = Claim w ClaimAnswer.Crowded ∷ []
 
 -- The entries after the last round: where the worker ends Stopped, its Claim that was answered so; where it ends Worn, nothing or a Job without its Finish
-abbrev pub EndsWith : ℕ → WorkEnd → List Entry → Type 0
-EndsWith w WorkEnd.Stopped last = last ≡ Claim w ClaimAnswer.Stopped ∷ []
-EndsWith w WorkEnd.Worn last = (last ≡ []) ⊎ ((ticket : ℕ) × (key : Key) × (version : ℕ) × (last ≡ Claim w (Job ticket key version) ∷ []))
+abbrev pub LastEntries : ℕ → WorkEnd → List Entry → Type 0
+LastEntries w WorkEnd.Stopped last = last ≡ Claim w ClaimAnswer.Stopped ∷ []
+LastEntries w WorkEnd.Worn last = (last ≡ []) ⊎ ((ticket : ℕ) × (key : Key) × (version : ℕ) × (last ≡ Claim w (Job ticket key version) ∷ []))
 
 -- the entries are those of rounds of worker w, and then those of its end
 pub record WorkOf (w : ℕ) (end : WorkEnd) (es : List Entry) : Type 0 where
   pub rounds : List Round
   pub last : List Entry
   pub are : es ≡ flat_map (entries_of w) rounds ++ last
-  pub ended : EndsWith w end last
+  pub ended : LastEntries w end last
 
 -- the seat has gained those entries of its own
 abbrev pub Gains : {T : Type 0} → List Entry → SeatState T Entry → SeatState T Entry → Type 0

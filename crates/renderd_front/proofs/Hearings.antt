@@ -4,7 +4,7 @@ use Rattle.std.proofs.lemmas.Bool.{false≢true}
 use Rattle.std.proofs.Math.Nat.{le_refl}
 use Rattle.renderd_protocol.specs.declared.messages.Request.{Request}
 use Rattle.renderd_protocol.specs.Messages.{found_in}
-use Rattle.renderd_protocol.specs.Stream.{taken}
+use Rattle.renderd_protocol.specs.Stream.{stream_read}
 use Rattle.renderd_protocol.proofs.Streams.{taken-append}
 use Rattle.farm_history.specs.declared.queues.Reply.{Reply}
 use Rattle.farm_history.specs.Entries.{Entry}
@@ -12,7 +12,7 @@ use Rattle.farm_history.specs.Lists.{without_first}
 use Rattle.front_rounds.specs.declared.fates.Fate.{Fate}
 use Rattle.front_rounds.specs.declared.fates.Fate.TheVariants.{Stays, Leaves}
 use Rattle.front_rounds.specs.declared.fates.Reason.TheVariants as reason
-use Rattle.front_rounds.specs.Rules.{Move, asked, text, each_whole, any_starves}
+use Rattle.front_rounds.specs.Rules.{Move, wants_of, answer_bytes, each_whole, any_starves}
 use Rattle.front_rounds.specs.Front.{Begins, Heard, HeardWhy, Replied, EachFits, does}
 use Rattle.renderd_front.specs.declared.asked.Asked.{Asked}
 use Rattle.renderd_front.specs.declared.waits.Talk.{Talk}
@@ -28,15 +28,15 @@ extended (Err e) b xs ys zs is off h = cc
 module _ (front : ℕ) (maps : List ℕ → Option ℕ) where
   -- requests that were done, as moves
 
-  asked_more : (acts : List Asked) (ms : List (Move Asked)) → asked (rules_of front maps) (does acts ++ ms) ≡ asked (rules_of front maps) ms ++ requests_of acts
-  asked_more [] ms = sym (append-nil (asked (rules_of front maps) ms))
-  asked_more (a ∷ acts) ms = ap (λ l. l ++ a.request ∷ []) (asked_more acts ms) ∙ append_assoc (asked (rules_of front maps) ms) (requests_of acts) (a.request ∷ [])
+  asked_more : (acts : List Asked) (ms : List (Move Asked)) → wants_of (rules_of front maps) (does acts ++ ms) ≡ wants_of (rules_of front maps) ms ++ requests_of acts
+  asked_more [] ms = sym (append-nil (wants_of (rules_of front maps) ms))
+  asked_more (a ∷ acts) ms = ap (λ l. l ++ a.request ∷ []) (asked_more acts ms) ∙ append_assoc (wants_of (rules_of front maps) ms) (requests_of acts) (a.request ∷ [])
 
-  text_more : (acts : List Asked) (ms : List (Move Asked)) → text (rules_of front maps) (does acts ++ ms) ≡ text (rules_of front maps) ms ++ said_by acts
-  text_more [] ms = sym (append-nil (text (rules_of front maps) ms))
+  text_more : (acts : List Asked) (ms : List (Move Asked)) → answer_bytes (rules_of front maps) (does acts ++ ms) ≡ answer_bytes (rules_of front maps) ms ++ said_by acts
+  text_more [] ms = sym (append-nil (answer_bytes (rules_of front maps) ms))
   text_more (a ∷ acts) ms =
       ap (λ l. l ++ said_to (answer_command a.answer) a.request) (text_more acts ms)
-      ∙ append_assoc (text (rules_of front maps) ms) (said_by acts) (said_to (answer_command a.answer) a.request)
+      ∙ append_assoc (answer_bytes (rules_of front maps) ms) (said_by acts) (said_to (answer_command a.answer) a.request)
 
   waiting_more : (acts : List Asked) (ms : List (Move Asked)) → waiting (does acts ++ ms) ≡ waits_after acts (waiting ms)
   waiting_more [] ms = refl
@@ -54,29 +54,29 @@ module _ (front : ℕ) (maps : List ℕ → Option ℕ) where
   all_whole [] = refl
   all_whole (m ∷ ms) = all_whole ms
 
-  why_at : (given : List ℕ) (acts : List Asked) (b : Bool) → is_bad (found_in (taken given).rest) ≡ b → HeardWhy (rules_of front maps) given (does acts) (cond b (Leaves reason.Unread) Stays)
+  why_at : (given : List ℕ) (acts : List Asked) (b : Bool) → is_bad (found_in (stream_read given).rest) ≡ b → HeardWhy (rules_of front maps) given (does acts) (cond b (Leaves reason.Unread) Stays)
   why_at given acts true is = (is, none_starves acts)
   why_at given acts false is = (is, none_starves acts)
 
-  module _ (c : ℕ) (piece : List ℕ) (mine mine' : List Entry) (talk : Talk) (given : List ℕ) (ms : List (Move Asked)) (k : Knows given ms talk) (all : asks_in (taken given).requests ≡ asked (rules_of front maps) ms) where
+  module _ (c : ℕ) (piece : List ℕ) (mine mine' : List Entry) (talk : Talk) (given : List ℕ) (ms : List (Move Asked)) (k : Knows given ms talk) (all : asks_in (stream_read given).requests ≡ wants_of (rules_of front maps) ms) where
     -- the connection's bytes with the piece
-    with_new : taken (given ++ piece) ≡ record { requests = (taken given).requests ++ (taken (talk.unread.items ++ piece)).requests; rest = (taken (talk.unread.items ++ piece)).rest }
+    with_new : stream_read (given ++ piece) ≡ record { requests = (stream_read given).requests ++ (stream_read (talk.unread.items ++ piece)).requests; rest = (stream_read (talk.unread.items ++ piece)).rest }
     with_new =
         taken-append (length given) given piece (le_refl (length given))
-        ∙ ap (λ u. record { requests = (taken given).requests ++ (taken (u ++ piece)).requests; rest = (taken (u ++ piece)).rest }) (sym k.unread)
+        ∙ ap (λ u. record { requests = (stream_read given).requests ++ (stream_read (u ++ piece)).requests; rest = (stream_read (u ++ piece)).rest }) (sym k.unread)
 
     -- the asks that stand in them
-    asks_new : asks_of (given ++ piece) ≡ asked (rules_of front maps) ms ++ asks_of (talk.unread.items ++ piece)
+    asks_new : asks_of (given ++ piece) ≡ wants_of (rules_of front maps) ms ++ asks_of (talk.unread.items ++ piece)
     asks_new =
         ap (λ t. asks_in t.requests) with_new
-        ∙ (asks_in-append (taken given).requests (taken (talk.unread.items ++ piece)).requests ∙ ap (λ l. l ++ asks_of (talk.unread.items ++ piece)) all)
+        ∙ (asks_in-append (stream_read given).requests (stream_read (talk.unread.items ++ piece)).requests ∙ ap (λ l. l ++ asks_of (talk.unread.items ++ piece)) all)
 
     asked_then : (acts : List Asked) (more : List Request) → asks_of (talk.unread.items ++ piece) ≡ requests_of acts ++ more
-        → asks_of (given ++ piece) ≡ asked (rules_of front maps) (does acts ++ ms) ++ more
+        → asks_of (given ++ piece) ≡ wants_of (rules_of front maps) (does acts ++ ms) ++ more
     asked_then acts more is =
         asks_new
-        ∙ (ap (λ l. asked (rules_of front maps) ms ++ l) is
-        ∙ (sym (append_assoc (asked (rules_of front maps) ms) (requests_of acts) more) ∙ ap (λ l. l ++ more) (sym (asked_more acts ms))))
+        ∙ (ap (λ l. wants_of (rules_of front maps) ms ++ l) is
+        ∙ (sym (append_assoc (wants_of (rules_of front maps) ms) (requests_of acts) more) ∙ ap (λ l. l ++ more) (sym (asked_more acts ms))))
 
     -- the hearing was given up
     pub heard_halts : (talk' : Talk) (said : List ℕ) → Halts front maps c (asks_of (talk.unread.items ++ piece)) mine mine' → Heard (rules_of front maps) Knows c piece mine mine' talk' said (Leaves reason.Starved) given ms
@@ -98,19 +98,19 @@ module _ (front : ℕ) (maps : List ℕ → Option ℕ) where
         → Heard (rules_of front maps) Knows c piece mine mine' talk' said (fate_at rest) given ms
     heard_all talk' rest said none unread x =
         let at = none_next rest none in
-        let left : (taken (given ++ piece)).rest ≡ rest = ap (λ t. t.rest) with_new ∙ (x.left ∙ at.1) in
+        let left : (stream_read (given ++ piece)).rest ≡ rest = ap (λ t. t.rest) with_new ∙ (x.left ∙ at.1) in
         let asks : asks_of (talk.unread.items ++ piece) ≡ requests_of x.made.acts =
         x.whole ∙ (ap (λ l. x.asks ++ l) at.0 ∙ (append-nil x.asks ∙ x.made.asks_are)) in
-        let all_asked : asks_of (given ++ piece) ≡ asked (rules_of front maps) (does x.made.acts ++ ms) =
-        asks_new ∙ (ap (λ l. asked (rules_of front maps) ms ++ l) asks ∙ sym (asked_more x.made.acts ms)) in
+        let all_asked : asks_of (given ++ piece) ≡ wants_of (rules_of front maps) (does x.made.acts ++ ms) =
+        asks_new ∙ (ap (λ l. wants_of (rules_of front maps) ms ++ l) asks ∙ sym (asked_more x.made.acts ms)) in
         record {
           acts = x.made.acts;
           mine_is = x.made.mine_is;
-          begins = inr ([], all_asked ∙ sym (append-nil (asked (rules_of front maps) (does x.made.acts ++ ms))));
+          begins = inr ([], all_asked ∙ sym (append-nil (wants_of (rules_of front maps) (does x.made.acts ++ ms))));
           fits = fit x.made.acts ms;
           why = subst (λ b. HeardWhy (rules_of front maps) (given ++ piece) (does x.made.acts) (cond b (Leaves reason.Unread) Stays)) (ap (λ r. is_bad (found_in r)) left)
-              (why_at (given ++ piece) x.made.acts (is_bad (found_in (taken (given ++ piece)).rest)) refl);
-          said_is = λ kept. text_more x.made.acts ms ∙ ap (λ l. text (rules_of front maps) ms ++ l) (sym x.made.said_is);
+              (why_at (given ++ piece) x.made.acts (is_bad (found_in (stream_read (given ++ piece)).rest)) refl);
+          said_is = λ kept. text_more x.made.acts ms ∙ ap (λ l. answer_bytes (rules_of front maps) ms ++ l) (sym x.made.said_is);
           asked_is = λ kept. all_asked;
           whole = λ kept. all_whole (does x.made.acts ++ ms);
           knows = λ kept. record { unread = unread ∙ sym left; waits = x.made.waits_are ∙ (ap (waits_after x.made.acts) k.waits ∙ sym (waiting_more x.made.acts ms)) };
@@ -159,7 +159,7 @@ module _ (front : ℕ) (maps : List ℕ → Option ℕ) where
 
   -- a new session
   pub begun : (talk : Talk) → talk.unread.items ≡ [] → talk.waits.items ≡ [] → Begins (rules_of front maps) Knows talk
-  unfolding taken found_in
+  unfolding stream_read found_in
   begun talk unread waits = record {
     knows = record { unread = unread; waits = ap pairs waits };
     wanted = refl;

@@ -7,7 +7,7 @@ use Rattle.renderd_protocol.specs.declared.messages.Request.{Request}
 use Rattle.renderd_protocol.specs.declared.messages.Found.{Found}
 use Rattle.renderd_protocol.specs.declared.messages.Found.TheVariants.{Message}
 use Rattle.renderd_protocol.specs.Messages.{found_in, is_version}
-use Rattle.renderd_protocol.specs.Stream.{taken}
+use Rattle.renderd_protocol.specs.Stream.{stream_read}
 use Rattle.renderd_protocol.proofs.Heads.{at_least_20, head_of}
 use Rattle.renderd_protocol.proofs.Streams.{taken_message, taken_none}
 use Rattle.farm_history.specs.Entries.{Entry}
@@ -33,7 +33,7 @@ asks_in-append (a ∷ ps) qs =
 module _ (rest : List ℕ) (r : Request) (len : ℕ) (found : found_in rest ≡ Message r len) where
   -- a message at the head
   asks_of_message : asks_of rest ≡ asks_in (r ∷ []) ++ asks_of (drop len rest)
-  asks_of_message = ap (λ t. asks_in t.requests) (taken_message rest r len found) ∙ asks_first r (taken (drop len rest)).requests
+  asks_of_message = ap (λ t. asks_in t.requests) (taken_message rest r len found) ∙ asks_first r (stream_read (drop len rest)).requests
 
   pub known_version : IsTrue (is_version r.ver)
   known_version = let head = head_of rest r len found in subst (λ (q : Request). IsTrue (is_version q.ver)) (sym head.request_is) head.is_message.version
@@ -89,5 +89,5 @@ module _ (front : ℕ) (maps : List ℕ → Option ℕ) (c : ℕ) (bytes : List 
         (halts_before front maps c (asks_in (r ∷ [])) (asks_of (drop len rest)) m1 m2 h))
 
 -- where no message stands next, all was asked
-pub none_next : (rest : List ℕ) → HasNoneNext rest → (asks_of rest ≡ []) × ((taken rest).rest ≡ rest)
+pub none_next : (rest : List ℕ) → HasNoneNext rest → (asks_of rest ≡ []) × ((stream_read rest).rest ≡ rest)
 none_next rest none = let e = taken_none rest none in (ap (λ t. asks_in t.requests) e, ap (λ t. t.rest) e)

@@ -5,7 +5,7 @@ use Rattle.renderd_protocol.specs.declared.messages.Request.{Request}
 use Rattle.renderd_protocol.specs.declared.messages.Found.{Found}
 use Rattle.renderd_protocol.specs.declared.messages.Found.TheVariants.{Message, NeedMore, BadVersion}
 use Rattle.renderd_protocol.specs.Messages.{found_in, wire_of}
-use Rattle.renderd_protocol.specs.Stream.{taken}
+use Rattle.renderd_protocol.specs.Stream.{stream_read}
 use Rattle.farm_history.specs.declared.queues.Conn.{Conn}
 use Rattle.farm_history.specs.declared.queues.Outcome.{Outcome}
 use Rattle.farm_history.specs.declared.queues.Outcome.TheVariants as outcome
@@ -37,12 +37,12 @@ is_bad (Message request len) = false
 is_bad NeedMore = false
 
 -- version 1 names the map `default`
-abbrev pub name_of : Request → List ℕ
-name_of r = cond (r.ver == 1) (codes "default") r.name.items
+abbrev pub asked_map : Request → List ℕ
+asked_map r = cond (r.ver == 1) (codes "default") r.name.items
 
 -- what is asked for, at a farm with these maps
 abbrev pub spot_of : (List ℕ → Option ℕ) → Request → Spot
-spot_of maps r = record { map = maps (name_of r); z = r.z; x = r.x; y = r.y }
+spot_of maps r = record { map = maps (asked_map r); z = r.z; x = r.x; y = r.y }
 
 -- the entry of an ask
 abbrev pub asks_by : Conn → Option Cmd → Spot → AskAnswer → List Entry
@@ -122,8 +122,8 @@ fits ms (Gets r behind) = is_empty behind
 abbrev pub rules_of : ℕ → (List ℕ → Option ℕ) → Rules Asked Request
 rules_of front maps = record {
   number = front;
-  wanted = λ given ws. asks_in (taken given).requests ≡ ws;
-  refuses = λ given. is_bad (found_in (taken given).rest);
+  wanted = λ given ws. asks_in (stream_read given).requests ≡ ws;
+  refuses = λ given. is_bad (found_in (stream_read given).rest);
   want = λ a. a.request;
   entries = λ c a. asks_by (record { front = front; number = c }) (command_of a.request.cmd) (spot_of maps a.request) a.answer;
   fits = fits;

@@ -7,7 +7,7 @@ use Rattle.byteorder.specs.Endian.{little_number}
 use Rattle.byteorder.specs.Numbers.{little_from-append}
 use Rattle.renderd_protocol.specs.declared.messages.Request.{Request}
 use Rattle.renderd_protocol.specs.declared.messages.Found.TheVariants.{Message, NeedMore, BadVersion}
-use Rattle.renderd_protocol.specs.Messages.{is_version, message_len, number_at, text_in, text_at, text_from, request_in, found_in}
+use Rattle.renderd_protocol.specs.Messages.{is_version, message_len, number_at, text_field, text_at, text_from, request_in, found_in}
 use Rattle.renderd_protocol.specs.Stream.{IsMessage, HasNoMessage}
 
 -- the versions are three
@@ -31,8 +31,8 @@ number_at-append place m more h =
 
 pub text_at-append : (place : ℕ) (m more : List ℕ) → place + 40 ≤ length m → text_at place (m ++ more) ≡ text_at place m
 text_at-append place m more h =
-    ap (λ xs. text_in (take 40 xs)) (drop-append-le place m more (omega arith))
-    ∙ ap text_in (take-append-le 40 (drop place m) more (omega (arith, length-drop place m)))
+    ap (λ xs. text_field (take 40 xs)) (drop-append-le place m more (omega arith))
+    ∙ ap text_field (take-append-le 40 (drop place m) more (omega (arith, length-drop place m)))
 
 by_test : (b : Bool) (x y : List ℕ) → (b ≡ true → x ≡ y) → cond b x [] ≡ cond b y []
 by_test true x y h = h refl

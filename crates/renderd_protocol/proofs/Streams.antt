@@ -6,7 +6,7 @@ use Rattle.renderd_protocol.specs.declared.messages.Request.{Request}
 use Rattle.renderd_protocol.specs.declared.messages.Found.{Found}
 use Rattle.renderd_protocol.specs.declared.messages.Found.TheVariants.{Message, NeedMore, BadVersion}
 use Rattle.renderd_protocol.specs.Messages.{message_len, number_at, request_in, found_in}
-use Rattle.renderd_protocol.specs.Stream.{IsMessage, joined, Splits, Taken, after_request, taken_at, taken_in, taken, with_piece, AnyPieces, TakesMessages, SplitsOneWay, FindsMessages}
+use Rattle.renderd_protocol.specs.Stream.{IsMessage, joined, Splits, StreamRead, after_request, taken_at, taken_in, stream_read, with_piece, AnyPieces, TakesMessages, SplitsOneWay, FindsMessages}
 use Rattle.renderd_protocol.proofs.Heads.{at_least_20, number_at-append, found_message, head_of, none_found}
 
 -- nothing is found in no bytes
@@ -26,7 +26,7 @@ shorter bytes request len h =
     let n = head.len_is in
     (omega arith, omega arith, omega arith)
 
-same_at : (later other : ℕ → Taken) (bytes : List ℕ) (f : Found)
+same_at : (later other : ℕ → StreamRead) (bytes : List ℕ) (f : Found)
     → ((request : Request) (len : ℕ) → f ≡ Message request len → later len ≡ other len)
     → taken_at later bytes f ≡ taken_at other bytes f
 same_at later other bytes (Message request len) h = ap (after_request request) (h request len refl)
@@ -57,8 +57,8 @@ enough_turns (suc j) (suc k) bytes h g =
 
 -- a message at the head is taken, and then what follows it
 pub taken_message : (bytes : List ℕ) (request : Request) (len : ℕ) → found_in bytes ≡ Message request len
-    → taken bytes ≡ after_request request (taken (drop len bytes))
-unfolding taken
+    → stream_read bytes ≡ after_request request (stream_read (drop len bytes))
+unfolding stream_read
 taken_message [] request len h = let n = nothing in cc
 taken_message (b ∷ bs) request len h =
     let s = shorter (b ∷ bs) request len h in
@@ -68,13 +68,13 @@ taken_message (b ∷ bs) request len h =
 
 -- where there is no message, nothing is taken
 pub taken_none : (bytes : List ℕ) → ((request : Request) (len : ℕ) → found_in bytes ≡ Message request len → ⊥)
-    → taken bytes ≡ record { requests = []; rest = bytes }
-unfolding taken
+    → stream_read bytes ≡ record { requests = []; rest = bytes }
+unfolding stream_read
 taken_none [] h = refl
 taken_none (b ∷ bs) h =
     none_at (λ n. taken_in (length bs) (drop n (b ∷ bs))) (b ∷ bs) (found_in (b ∷ bs)) h
   where
-    none_at : (later : ℕ → Taken) (bytes : List ℕ) (f : Found) → ((request : Request) (len : ℕ) → f ≡ Message request len → ⊥)
+    none_at : (later : ℕ → StreamRead) (bytes : List ℕ) (f : Found) → ((request : Request) (len : ℕ) → f ≡ Message request len → ⊥)
         → taken_at later bytes f ≡ record { requests = []; rest = bytes }
     none_at later bytes (Message request len) g = absurd (g request len refl)
     none_at later bytes NeedMore g = refl
@@ -94,60 +94,60 @@ found-append a b request len h =
 
 -- where no message is found, what was taken of the front leaves it whole
 piece_none : (a b : List ℕ) → ((request : Request) (len : ℕ) → found_in a ≡ Message request len → ⊥)
-    → taken (a ++ b) ≡ with_piece (taken a) b
+    → stream_read (a ++ b) ≡ with_piece (stream_read a) b
 piece_none a b h = sym (ap (λ t. with_piece t b) (taken_none a h))
 
 -- one message of the front, by the law for what follows it
 piece_message : (a b : List ℕ) (request : Request) (len : ℕ) → found_in a ≡ Message request len
-    → taken (drop len a ++ b) ≡ with_piece (taken (drop len a)) b
-    → taken (a ++ b) ≡ with_piece (taken a) b
+    → stream_read (drop len a ++ b) ≡ with_piece (stream_read (drop len a)) b
+    → stream_read (a ++ b) ≡ with_piece (stream_read a) b
 piece_message a b request len h later =
     let s = shorter a request len h in
     taken_message (a ++ b) request len (found-append a b request len h)
-    ∙ ap (λ xs. after_request request (taken xs)) (drop-append-le len a b s.1)
+    ∙ ap (λ xs. after_request request (stream_read xs)) (drop-append-le len a b s.1)
     ∙ ap (after_request request) later
     ∙ sym (ap (λ t. with_piece t b) (taken_message a request len h))
 
 piece_by : (a b : List ℕ) (f : Found) → found_in a ≡ f
-    → ((request : Request) (len : ℕ) → found_in a ≡ Message request len → taken (drop len a ++ b) ≡ with_piece (taken (drop len a)) b)
-    → taken (a ++ b) ≡ with_piece (taken a) b
+    → ((request : Request) (len : ℕ) → found_in a ≡ Message request len → stream_read (drop len a ++ b) ≡ with_piece (stream_read (drop len a)) b)
+    → stream_read (a ++ b) ≡ with_piece (stream_read a) b
 piece_by a b (Message request len) h later = piece_message a b request len h (later request len h)
 piece_by a b NeedMore h later = piece_none a b (λ request len e. cc)
 piece_by a b (BadVersion v) h later = piece_none a b (λ request len e. cc)
 
 -- taking of two pieces in turn is taking of both at once
-pub taken-append : (k : ℕ) (a b : List ℕ) → length a ≤ k → taken (a ++ b) ≡ with_piece (taken a) b
+pub taken-append : (k : ℕ) (a b : List ℕ) → length a ≤ k → stream_read (a ++ b) ≡ with_piece (stream_read a) b
 taken-append zero a b l = piece_by a b (found_in a) refl (λ request len h. absurd (let s = shorter a request len h in omega arith))
 taken-append (suc k) a b l =
     piece_by a b (found_in a) refl (λ request len h. let s = shorter a request len h in taken-append k (drop len a) b (omega arith))
 
 -- the pieces after a front
-pieces_from : (pieces : List (List ℕ)) (front : List ℕ) → fold with_piece (taken front) pieces ≡ taken (front ++ joined pieces)
-pieces_from [] front = ap taken (sym (append-nil front))
+pieces_from : (pieces : List (List ℕ)) (front : List ℕ) → fold with_piece (stream_read front) pieces ≡ stream_read (front ++ joined pieces)
+pieces_from [] front = ap stream_read (sym (append-nil front))
 pieces_from (piece ∷ pieces) front =
-    ap (λ (t : Taken). fold with_piece t pieces) (sym (taken-append (length front) front piece (omega arith)))
+    ap (λ (t : StreamRead). fold with_piece t pieces) (sym (taken-append (length front) front piece (omega arith)))
     ∙ pieces_from pieces (front ++ piece)
-    ∙ ap taken (append_assoc front piece (joined pieces))
+    ∙ ap stream_read (append_assoc front piece (joined pieces))
 
-no_piece : record { requests = []; rest = [] } ≡ taken []
-unfolding taken
+no_piece : record { requests = []; rest = [] } ≡ stream_read []
+unfolding stream_read
 no_piece = refl
 
 pub any_pieces : AnyPieces
-any_pieces pieces = ap (λ (t : Taken). fold with_piece t pieces) no_piece ∙ pieces_from pieces []
+any_pieces pieces = ap (λ (t : StreamRead). fold with_piece t pieces) no_piece ∙ pieces_from pieces []
 
 -- the whole messages behind what is taken
 record Origin (bytes : List ℕ) : Type 0 where
   messages : List (List ℕ)
-  splits : Splits bytes messages (taken bytes).rest
-  requests : (taken bytes).requests ≡ map request_in messages
+  splits : Splits bytes messages (stream_read bytes).rest
+  requests : (stream_read bytes).requests ≡ map request_in messages
 
 origin_none : (bytes : List ℕ) → ((request : Request) (len : ℕ) → found_in bytes ≡ Message request len → ⊥) → Origin bytes
 origin_none bytes h =
     let e = taken_none bytes h in
     record {
       messages = [];
-      splits = subst (λ (t : Taken). Splits bytes [] t.rest) (sym e) (record { whole = refl; each = tt; none_left = none_found bytes h });
+      splits = subst (λ (t : StreamRead). Splits bytes [] t.rest) (sym e) (record { whole = refl; each = tt; none_left = none_found bytes h });
       requests = ap (λ t. t.requests) e;
     }
 
@@ -155,15 +155,15 @@ origin_message : (bytes : List ℕ) (request : Request) (len : ℕ) → found_in
 origin_message bytes request len h later =
     let head = head_of bytes request len h in
     let e = taken_message bytes request len h in
-    let whole : bytes ≡ head.message ++ (joined later.messages ++ (taken (drop len bytes)).rest) =
+    let whole : bytes ≡ head.message ++ (joined later.messages ++ (stream_read (drop len bytes)).rest) =
     head.whole ∙ ap (λ xs. head.message ++ xs) (head.rest ∙ later.splits.whole) in
-    let grouped : bytes ≡ joined (head.message ∷ later.messages) ++ (taken (drop len bytes)).rest =
-    whole ∙ sym (append_assoc head.message (joined later.messages) (taken (drop len bytes)).rest) in
+    let grouped : bytes ≡ joined (head.message ∷ later.messages) ++ (stream_read (drop len bytes)).rest =
+    whole ∙ sym (append_assoc head.message (joined later.messages) (stream_read (drop len bytes)).rest) in
     record {
       messages = head.message ∷ later.messages;
-      splits = subst (λ (t : Taken). Splits bytes (head.message ∷ later.messages) t.rest) (sym e)
+      splits = subst (λ (t : StreamRead). Splits bytes (head.message ∷ later.messages) t.rest) (sym e)
           (record { whole = grouped; each = (head.is_message, later.splits.each); none_left = later.splits.none_left });
-      requests = ap (λ t. t.requests) e ∙ ap (λ r. r ∷ (taken (drop len bytes)).requests) head.request_is
+      requests = ap (λ t. t.requests) e ∙ ap (λ r. r ∷ (stream_read (drop len bytes)).requests) head.request_is
           ∙ ap (λ rs. request_in head.message ∷ rs) later.requests;
     }
 

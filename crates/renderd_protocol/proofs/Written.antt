@@ -9,18 +9,18 @@ use Rattle.byteorder.specs.Endian.{little_bytes}
 use Rattle.byteorder.specs.Numbers.{little_number-reads_back}
 use Rattle.renderd_protocol.specs.declared.messages.Request.{Request}
 use Rattle.renderd_protocol.specs.declared.messages.Found.TheVariants.{Message}
-use Rattle.renderd_protocol.specs.Messages.{is_version, message_len, number_at, is_text_byte, text_in, text_at, text_from, held, field_of, request_in, texts_of, wire_of, IsFieldText, IsCarried}
+use Rattle.renderd_protocol.specs.Messages.{is_version, message_len, number_at, is_text_byte, text_field, text_at, text_from, fixed_vector, field_of, request_in, texts_of, wire_of, IsFieldText, IsCarried}
 use Rattle.renderd_protocol.specs.Stream.{IsMessage, ReadsBack}
 use Rattle.renderd_protocol.proofs.Heads.{found_message, version_cases}
 
 -- the text before a NUL is read whole
 text_before : (k : ℕ) (text more : List ℕ) → length text ≤ k → list_all is_text_byte text ≡ true
-    → text_in (take k (text ++ 0 ∷ more)) ≡ text
+    → text_field (take k (text ++ 0 ∷ more)) ≡ text
 text_before zero [] more l h = refl
 text_before (suc k) [] more l h = refl
 text_before zero (b ∷ bs) more l h = absurd (omega arith)
 text_before (suc k) (b ∷ bs) more l h =
-    ap (λ t. cond t (b ∷ text_in (take k (bs ++ 0 ∷ more))) []) (and_parts (is_text_byte b) (list_all is_text_byte bs) h).0
+    ap (λ t. cond t (b ∷ text_field (take k (bs ++ 0 ∷ more))) []) (and_parts (is_text_byte b) (list_all is_text_byte bs) h).0
     ∙ ap (λ xs. b ∷ xs) (text_before k bs more (omega arith) (and_parts (is_text_byte b) (list_all is_text_byte bs) h).1)
 
 zeros : (n : ℕ) → 0 < n → replicate {A = ℕ} n 0 ≡ 0 ∷ replicate (n - 1) 0
@@ -33,9 +33,9 @@ field_parts text rest l =
     append_assoc text (replicate {A = ℕ} (41 - length text) 0) rest
     ∙ ap (λ xs. text ++ (xs ++ rest)) (zeros (41 - length text) (omega arith))
 
-pub text_of_field : (text rest : List ℕ) → IsFieldText text → text_in (take 40 (field_of text ++ rest)) ≡ text
+pub text_of_field : (text rest : List ℕ) → IsFieldText text → text_field (take 40 (field_of text ++ rest)) ≡ text
 text_of_field text rest is =
-    ap (λ xs. text_in (take 40 xs)) (field_parts text rest is.short)
+    ap (λ xs. text_field (take 40 xs)) (field_parts text rest is.short)
     ∙ text_before 40 text (replicate {A = ℕ} (41 - length text - 1) 0 ++ rest) is.short is.no_nul
 
 pub length-field_of : (text : List ℕ) → length text ≤ 40 → length (field_of text) ≡ 41
@@ -131,7 +131,7 @@ stands least place bytes text h e =
 
 -- the field at a place of the bytes, where what stands there is known
 text_is : (place : ℕ) (bytes text rest : List ℕ) → IsFieldText text → drop place bytes ≡ field_of text ++ rest → text_at place bytes ≡ text
-text_is place bytes text rest is e = ap (λ xs. text_in (take 40 xs)) e ∙ text_of_field text rest is
+text_is place bytes text rest is e = ap (λ xs. text_field (take 40 xs)) e ∙ text_of_field text rest is
 
 name_written : (r : Request) (cmd : ℕ) → IsCarried r → text_from 2 20 (wire_of r cmd) ≡ r.name.items
 name_written r cmd is =
@@ -181,7 +181,7 @@ options_written r cmd is =
 
 -- a request is its fields
 abbrev made : ℕ → ℕ → ℕ → ℕ → ℕ → List ℕ → List ℕ → List ℕ → Request
-made v c x y z n m o = record { ver = v; cmd = c; x = x; y = y; z = z; name = held n; mime = held m; options = held o }
+made v c x y z n m o = record { ver = v; cmd = c; x = x; y = y; z = z; name = fixed_vector n; mime = fixed_vector m; options = fixed_vector o }
 
 by_fields : (r : Request) (v cmd c x y z : ℕ) (n m o : List ℕ) → v ≡ r.ver → c ≡ cmd → x ≡ r.x → y ≡ r.y → z ≡ r.z
     → n ≡ r.name.items → m ≡ r.mime.items → o ≡ r.options.items → made v c x y z n m o ≡ record r { cmd = cmd }

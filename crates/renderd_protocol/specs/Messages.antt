@@ -26,21 +26,21 @@ abbrev pub is_text_byte : ℕ → Bool
 is_text_byte b = not (b == 0)
 
 -- the text that a field's bytes begin with: those before the first NUL, or all
-abbrev pub text_in : List ℕ → List ℕ
-text_in [] = []
-text_in (b ∷ bs) = if is_text_byte b then b ∷ text_in bs else []
+abbrev pub text_field : List ℕ → List ℕ
+text_field [] = []
+text_field (b ∷ bs) = if is_text_byte b then b ∷ text_field bs else []
 
 -- the text in the field at a place, at most 40 bytes
 abbrev pub text_at : ℕ → List ℕ → List ℕ
-text_at place bytes = text_in (take 40 (drop place bytes))
+text_at place bytes = text_field (take 40 (drop place bytes))
 
 -- the text of a field that stands in the versions from a least one on; empty in the others
 abbrev pub text_from : ℕ → ℕ → List ℕ → List ℕ
 text_from least place bytes = if nat_le least (number_at 0 bytes) then text_at place bytes else []
 
 -- a list as the fixed vector that holds it
-abbrev pub held : List ℕ → ArrayVec ℕ
-held text = record { items = text }
+abbrev pub fixed_vector : List ℕ → ArrayVec ℕ
+fixed_vector text = record { items = text }
 
 -- the request of a message, field by field. The padding counts for nothing: mod_tile writes `ima`
 -- into that of version 2.
@@ -51,9 +51,9 @@ request_in bytes = record {
   x = number_at 8 bytes;
   y = number_at 12 bytes;
   z = number_at 16 bytes;
-  name = held (text_from 2 20 bytes);
-  mime = held (text_from 3 61 bytes);
-  options = held (text_from 3 102 bytes);
+  name = fixed_vector (text_from 2 20 bytes);
+  mime = fixed_vector (text_from 3 61 bytes);
+  options = fixed_vector (text_from 3 102 bytes);
 }
 
 -- what stands at the head of the bytes: a whole message with its length, less than one, or a first

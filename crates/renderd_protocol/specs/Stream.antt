@@ -31,48 +31,48 @@ pub record Splits (bytes : List ℕ) (messages : List (List ℕ)) (rest : List �
   pub none_left : HasNoMessage rest
 
 -- what the reader of a connection holds: the requests so far, in order, and the bytes not used yet
-pub record Taken : Type 0 where
+pub record StreamRead : Type 0 where
   pub requests : List Request
   pub rest : List ℕ
 
 -- what is taken, with one more request in front
-abbrev pub after_request : Request → Taken → Taken
-after_request request taken = record { requests = request ∷ taken.requests; rest = taken.rest }
+abbrev pub after_request : Request → StreamRead → StreamRead
+after_request request stream_read = record { requests = request ∷ stream_read.requests; rest = stream_read.rest }
 
 -- what is taken, by what stands at the head of the bytes; `later` takes of the bytes after a length
-abbrev pub taken_at : (ℕ → Taken) → List ℕ → Found → Taken
+abbrev pub taken_at : (ℕ → StreamRead) → List ℕ → Found → StreamRead
 taken_at later bytes (Message request len) = after_request request (later len)
 taken_at later bytes NeedMore = record { requests = []; rest = bytes }
 taken_at later bytes (BadVersion version) = record { requests = []; rest = bytes }
 
 -- what is taken of the bytes, message by message, in at most so many turns
-abbrev pub taken_in : ℕ → List ℕ → Taken
+abbrev pub taken_in : ℕ → List ℕ → StreamRead
 taken_in zero bytes = record { requests = []; rest = bytes }
 taken_in (suc turns) bytes = taken_at (λ len. taken_in turns (drop len bytes)) bytes (found_in bytes)
 
 -- all that is taken of the bytes: no message is empty, so no more turns are needed than bytes
-unfoldable pub taken : List ℕ → Taken
-taken bytes = taken_in (length bytes) bytes
+unfoldable pub stream_read : List ℕ → StreamRead
+stream_read bytes = taken_in (length bytes) bytes
 
 -- the reader after one more piece: it takes all that its bytes give now
-abbrev pub with_piece : Taken → List ℕ → Taken
+abbrev pub with_piece : StreamRead → List ℕ → StreamRead
 with_piece before piece =
-    let now = taken (before.rest ++ piece) in
+    let now = stream_read (before.rest ++ piece) in
     record { requests = before.requests ++ now.requests; rest = now.rest }
 
 -- the reader after all pieces of a connection, from nothing
-abbrev pub taken_by_pieces : List (List ℕ) → Taken
+abbrev pub taken_by_pieces : List (List ℕ) → StreamRead
 taken_by_pieces pieces = fold with_piece (record { requests = []; rest = [] }) pieces
 
 -- **However the bytes of a connection are cut, the reader ends with the same requests and the same
 -- rest: those of the bytes as one piece.**
 abbrev pub AnyPieces : Type 0
-AnyPieces = (pieces : List (List ℕ)) → taken_by_pieces pieces ≡ taken (joined pieces)
+AnyPieces = (pieces : List (List ℕ)) → taken_by_pieces pieces ≡ stream_read (joined pieces)
 
 -- The requests that are taken are those of the whole messages that stand at the head of the bytes.
 abbrev pub TakesMessages : Type 0
-TakesMessages = (bytes : List ℕ) → (messages : List (List ℕ)) × Splits bytes messages (taken bytes).rest
-    × ((taken bytes).requests ≡ map request_in messages)
+TakesMessages = (bytes : List ℕ) → (messages : List (List ℕ)) × Splits bytes messages (stream_read bytes).rest
+    × ((stream_read bytes).requests ≡ map request_in messages)
 
 -- Bytes split into messages and a rest in one way alone.
 abbrev pub SplitsOneWay : Type 0

@@ -1,6 +1,6 @@
 //! From bytes to messages.
 ghost use Rattle.std.specs.Prelude.{◌≡◌, ◌+◌, ◌≤◌, ◌<◌, length, IsTrue};
-ghost use Rattle.renderd_protocol.specs.Messages.{is_version, message_len, number_at, text_in, text_at, text_from, request_in, found_in};
+ghost use Rattle.renderd_protocol.specs.Messages.{is_version, message_len, number_at, text_field, text_at, text_from, request_in, found_in};
 
 use crate::messages::{Found, Request, TEXT_BYTES};
 use arrayvec::ArrayVec;
@@ -56,7 +56,7 @@ fn read_number(bytes: &[u8], place: usize) -> u32
 #[tactic(auto, using(crate::proofs::Texts::text_more, crate::proofs::Texts::text_ends))]
 fn text_of(field: &[u8]) -> ArrayVec<u8, TEXT_BYTES>
     requires { length field.now ≤ TEXT_BYTES }
-    ensures { result.items ≡ text_in field.now }
+    ensures { result.items ≡ text_field field.now }
 {
     let mut text = ArrayVec::new();
     for byte in field {

@@ -13,7 +13,7 @@ use Rattle.farm_plan.specs.Plans.{Restyle, FarmPlan}
 use Rattle.farm_plan.specs.Drawings.{plan_of}
 use Rattle.resume_faults.specs.declared.faults.ResumeFault.{ResumeFault}
 use Rattle.resume_faults.specs.declared.faults.ResumeFault.TheVariants.{Maps}
-use Rattle.resume_faults.specs.Faults.{names_map, is_style_at, first_failing, styles_fault, updates_fault, kept_fault, shape_fault}
+use Rattle.resume_faults.specs.Faults.{names_map, is_style_at, first_failing, styles_fault, updates_fault, kept_fault, form_fault}
 
 pub failing_more : {X : Type 0} (test : ℕ → X → Bool) (fault : ℕ → ResumeFault) (xs : List X) (i : ℕ) (d : X) → i < length xs → test i (get_or xs i d) ≡ true → first_failing test fault i (drop i xs) ≡ first_failing test fault (i + 1) (drop (i + 1) xs)
 unfolding first_failing
@@ -66,7 +66,7 @@ pub record IsShaped (plan : FarmPlan) (s : Saving) : Type 0 where
   pub updates : updates_fault plan (length s.styles) s.updates ≡ None
   pub clean : kept_fault plan s.clean ≡ None
 
-pub shaped : (plan : FarmPlan) (s : Saving) → shape_fault plan s ≡ None → IsShaped plan s
+pub shaped : (plan : FarmPlan) (s : Saving) → form_fault plan s ≡ None → IsShaped plan s
 shaped plan s h = go (length s.styles == length plan.maps) refl (styles_fault plan s.styles) refl (updates_fault plan (length s.styles) s.updates) refl h
   where
     same : (a b : ℕ) → (a == b) ≡ true → a ≡ b

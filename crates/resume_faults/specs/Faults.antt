@@ -3,11 +3,11 @@ use Rattle.std.specs.Prelude.{ℕ, ◌+◌, Bool, true, false, ◌==◌, nat_lt,
 use Rattle.std.specs.Option.{option_or}
 use Rattle.farm_base.specs.declared.faults.ApplyFault.{ApplyFault}
 use Rattle.plain_data.specs.Features.{Layer}
-use Rattle.plain_data.specs.Data.{updated}
+use Rattle.plain_data.specs.Data.{update_result}
 use Rattle.farm_history.specs.declared.keys.Key.{Key}
 use Rattle.farm_history.specs.declared.keys.Kept.{Kept}
 use Rattle.farm_history.specs.declared.saved.Past.{Past}
-use Rattle.farm_history.specs.Replays.{Saving, number_of}
+use Rattle.farm_history.specs.Replays.{Saving, past_number}
 use Rattle.farm_plan.specs.Plans.{MapPlan, Restyle, FarmPlan}
 use Rattle.farm_plan.specs.Drawings.{update_of}
 use Rattle.resume_faults.specs.declared.faults.ResumeFault.{ResumeFault}
@@ -43,7 +43,7 @@ styles_fault plan styles = first_failing (is_style_at plan) (λ place. Number pl
 
 -- an update that is not in the table; its place is counted on from those of the styles
 abbrev pub updates_fault : FarmPlan → ℕ → List Past → Option ResumeFault
-updates_fault plan styles updates = first_failing (λ place c. nat_lt (number_of c) (length plan.updates)) (λ place. Number (styles + place)) 0 updates
+updates_fault plan styles updates = first_failing (λ place c. nat_lt (past_number c) (length plan.updates)) (λ place. Number (styles + place)) 0 updates
 
 -- a clean key that the plan does not have
 abbrev pub kept_fault : FarmPlan → List Kept → Option ResumeFault
@@ -55,25 +55,25 @@ refused_at place ApplyFault.NoMemory = ResumeFault.NoMemory
 refused_at place fault = Apply place fault
 
 -- the fault of one update, or what comes after it
-abbrev pub applied : ℕ → Result (List Layer) ApplyFault → (List Layer → Option ResumeFault) → Option ResumeFault
-applied place (Ok new) later = later new
-applied place (Err fault) later = Some (Apply place fault)
+abbrev pub update_fault : ℕ → Result (List Layer) ApplyFault → (List Layer → Option ResumeFault) → Option ResumeFault
+update_fault place (Ok new) later = later new
+update_fault place (Err fault) later = Some (Apply place fault)
 
 -- an update that is refused over the data that those before it leave
 unfoldable pub apply_fault : FarmPlan → List Layer → ℕ → List Past → Option ResumeFault
 apply_fault plan layers place [] = None
-apply_fault plan layers place (c ∷ cs) = applied place (updated (update_of plan (number_of c)) layers) (λ new. apply_fault plan new (place + 1) cs)
+apply_fault plan layers place (c ∷ cs) = update_fault place (update_result (update_of plan (past_number c)) layers) (λ new. apply_fault plan new (place + 1) cs)
 
 -- the first fault but those of the updates themselves: another number of maps, a number, a clean key
-abbrev pub shape_fault : FarmPlan → Saving → Option ResumeFault
-shape_fault plan s =
+abbrev pub form_fault : FarmPlan → Saving → Option ResumeFault
+form_fault plan s =
     if length s.styles == length plan.maps
     then option_or (styles_fault plan s.styles) (option_or (updates_fault plan (length s.styles) s.updates) (kept_fault plan s.clean))
     else Some (Maps (length s.styles))
 
 -- the first fault
 abbrev pub resume_fault : FarmPlan → Saving → Option ResumeFault
-resume_fault plan s = option_or (shape_fault plan s) (apply_fault plan plan.dataset 0 s.updates)
+resume_fault plan s = option_or (form_fault plan s) (apply_fault plan plan.dataset 0 s.updates)
 
 -- the fault of a refusal
 abbrev pub cause : Result (Unit {0}) ResumeFault → Option ResumeFault

@@ -1,7 +1,7 @@
 //! Why a farm is not resumed: the first fault of what was saved, over a plan.
 ghost use Rattle.std.specs.Prelude.{◌≡◌, ◌<◌, ◌+◌, ◌^◌, length, nat_lt};
-ghost use Rattle.farm_history.specs.Replays.{number_of};
-ghost use Rattle.resume_faults.specs.Faults.{can_show, cause, is_style_at, kept_fault, refused_at, shape_fault, styles_fault, updates_fault};
+ghost use Rattle.farm_history.specs.Replays.{past_number};
+ghost use Rattle.resume_faults.specs.Faults.{can_show, cause, is_style_at, kept_fault, refused_at, form_fault, styles_fault, updates_fault};
 
 use farm_base::{ApplyFault, NoMemory};
 use farm_history::Saved;
@@ -72,7 +72,7 @@ fn check_styles(setup: &Setup, styles: &[Option<u32>]) -> Result<(), ResumeFault
 
 /// The number of an update.
 fn number_of(past: Past) -> u32
-    ensures { result ≡ number_of past }
+    ensures { result ≡ past_number past }
 {
     match past {
         Past::Update(number) => number,
@@ -82,7 +82,7 @@ fn number_of(past: Past) -> u32
 
 /// Whether the update is in the table.
 fn has_update(setup: &Setup, past: Past) -> bool
-    ensures { result ≡ nat_lt (number_of past) (length setup.now.updates) }
+    ensures { result ≡ nat_lt (past_number past) (length setup.now.updates) }
 {
     setup.update(number_of(past)).is_some()
 }
@@ -125,7 +125,7 @@ fn check_clean(setup: &Setup, clean: &[Kept]) -> Result<(), ResumeFault>
 /// Whether what was saved is of such a plan, but for the faults of its updates. Err is the first fault.
 pub fn check(setup: &Setup, saved: &Saved) -> Result<(), ResumeFault>
     requires { length saved.now.styles + length saved.now.updates < 2 ^ 64 }
-    ensures { cause result ≡ shape_fault setup.now saved.now }
+    ensures { cause result ≡ form_fault setup.now saved.now }
 {
     let styles = saved.styles.len();
     if styles != setup.maps().len() {

@@ -36,8 +36,8 @@ abbrev pub end : List ℕ
 end = codes "\n"
 
 -- a word and a number, as a line
-abbrev pub numbered : List ℕ → ℕ → List ℕ
-numbered word n = word ++ decimal n ++ end
+abbrev pub number_line : List ℕ → ℕ → List ℕ
+number_line word n = word ++ decimal n ++ end
 
 -- ---- asks
 
@@ -54,10 +54,10 @@ why_number why.Dropped = 7
 -- the line of an ask
 abbrev pub ask_line : AskAnswer → List ℕ
 ask_line ask.Done = codes "done\n"
-ask_line (ask.Queued n) = numbered (codes "queued ") n
-ask_line (ask.Joined n) = numbered (codes "joined ") n
-ask_line (ask.Lifted n) = numbered (codes "lifted ") n
-ask_line (ask.NotDone reason) = numbered (codes "notdone ") (why_number reason)
+ask_line (ask.Queued n) = number_line (codes "queued ") n
+ask_line (ask.Joined n) = number_line (codes "joined ") n
+ask_line (ask.Lifted n) = number_line (codes "lifted ") n
+ask_line (ask.NotDone reason) = number_line (codes "notdone ") (why_number reason)
 ask_line ask.Silent = codes "silent\n"
 
 -- ---- drawings
@@ -103,21 +103,21 @@ nojob_line = codes "nojob\n"
 -- ---- changes
 
 -- the line of an update that does not fit the data, by its fault's number
-abbrev pub refused_line : ApplyFault → Option (List ℕ)
-refused_line (apply.NoLayer change) = Some (codes "refused 1\n")
-refused_line (apply.NoFeature change id) = Some (codes "refused 2\n")
-refused_line (apply.TooMany change) = Some (codes "refused 3\n")
-refused_line apply.NoMemory = None
+abbrev pub fault_line : ApplyFault → Option (List ℕ)
+fault_line (apply.NoLayer change) = Some (codes "refused 1\n")
+fault_line (apply.NoFeature change id) = Some (codes "refused 2\n")
+fault_line (apply.TooMany change) = Some (codes "refused 3\n")
+fault_line apply.NoMemory = None
 
 -- the line of an update
 abbrev pub update_line : Updated → Option (List ℕ)
-update_line (updated.Version v) = Some (numbered (codes "version ") v)
+update_line (updated.Version v) = Some (number_line (codes "version ") v)
 update_line updated.NoUpdate = Some (codes "noupdate\n")
-update_line (updated.Refused fault) = refused_line fault
+update_line (updated.Refused fault) = fault_line fault
 
 -- the line of a restyle
 abbrev pub restyle_line : Restyled → List ℕ
-restyle_line (restyled.Styled count) = numbered (codes "styled ") count
+restyle_line (restyled.Styled count) = number_line (codes "styled ") count
 restyle_line restyled.NoRestyle = codes "norestyle\n"
 
 -- a new data version, and how many clean metatiles became dirty
@@ -128,11 +128,11 @@ renewed_line v count = codes "version " ++ decimal v ++ codes " renewed " ++ dec
 abbrev pub renew_line : Renewed → Option (List ℕ)
 renew_line (renewed.Version v count) = Some (renewed_line v count)
 renew_line renewed.NoUpdate = Some (codes "noupdate\n")
-renew_line (renewed.Refused fault) = refused_line fault
+renew_line (renewed.Refused fault) = fault_line fault
 
 -- the line of an expired tile
 abbrev pub expire_line : ℕ → List ℕ
-expire_line count = numbered (codes "expired ") count
+expire_line count = number_line (codes "expired ") count
 
 -- the line where the numbers to be expired are those of no tile
 abbrev pub unservable_line : List ℕ
@@ -160,7 +160,7 @@ fetch_head (fetched.Dirty version bytes) = Some (tile_head (codes "dirty ") vers
 fetch_head fetched.Missing = Some (codes "missing\n")
 fetch_head fetched.Unservable = Some (codes "unservable\n")
 fetch_head fetched.Gone = Some (codes "gone\n")
-fetch_head (fetched.Spoilt fault) = Some (numbered (codes "spoilt ") (meta_number fault))
+fetch_head (fetched.Spoilt fault) = Some (number_line (codes "spoilt ") (meta_number fault))
 fetch_head fetched.GetFailed = Some (codes "getfailed\n")
 fetch_head fetched.NoMemory = None
 
@@ -181,8 +181,8 @@ fetch_text answer = with_rest (fetch_rest answer) (fetch_head answer)
 
 -- the line of a look
 abbrev pub look_line : Looked → List ℕ
-look_line (looked.Clean v) = numbered (codes "clean ") v
-look_line (looked.Dirty v) = numbered (codes "dirty ") v
+look_line (looked.Clean v) = number_line (codes "clean ") v
+look_line (looked.Dirty v) = number_line (codes "dirty ") v
 look_line looked.Missing = codes "missing\n"
 look_line looked.Unservable = codes "unservable\n"
 
@@ -202,7 +202,7 @@ collect_line collected.Empty = codes "empty\n"
 
 -- the line of a connection that was left
 abbrev pub leave_line : ℕ → List ℕ
-leave_line count = numbered (codes "left ") count
+leave_line count = number_line (codes "left ") count
 
 -- the line of the counts
 abbrev pub tally_line : Totals → List ℕ

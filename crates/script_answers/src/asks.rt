@@ -8,7 +8,7 @@ use std::alloc::Global;
 
 /// A word and a number, as a line.
 pub(crate) fn numbered(alloc: Global, word: &str, number: u64) -> Result<Text, NoMemory>
-    ensures { IfOk result (λ t. t ≡ spec.numbered word.now number) }
+    ensures { IfOk result (λ t. t ≡ spec.number_line word.now number) }
 {
     Ok(Text::from_string(format!(in alloc; "{word}{number}\n")?))
 }

@@ -9,7 +9,7 @@ use std::alloc::Global;
 
 /// An update that does not fit the data.
 fn refused_line(alloc: Global, fault: ApplyFault) -> Result<Text, NoMemory>
-    ensures { IfOk result (λ t. spec.refused_line fault ≡ Some t) }
+    ensures { IfOk result (λ t. spec.fault_line fault ≡ Some t) }
 {
     match fault {
         ApplyFault::NoLayer(_) => Text::of(alloc, "refused 1\n"),

@@ -14,9 +14,9 @@ use Rattle.call_ends.specs.Ends.{SinkAt}
 use Rattle.call_ends.specs.declared.stops.Stop.{Stop}
 use Rattle.farm_files.specs.Inputs.{Scripted}
 use Rattle.farm_left.specs.Left.{Leaves}
-use Rattle.script_command.specs.Scripts.{end_of, ScriptsOn, Scripts}
+use Rattle.script_command.specs.Scripts.{command_end, ScriptsOn, Scripts}
 
-pub ran_on : (plan : FarmPlan) (lines : List ScriptLine) (stands : List Entry → Type 0) (out out' : SinkAt) (failed : Bool) (how : ScriptEnd) (end : Result (Unit {0}) Stop) → end ≡ end_of failed how
+pub ran_on : (plan : FarmPlan) (lines : List ScriptLine) (stands : List Entry → Type 0) (out out' : SinkAt) (failed : Bool) (how : ScriptEnd) (end : Result (Unit {0}) Stop) → end ≡ command_end failed how
     → script.Runs plan lines [] stands out out' failed how → ScriptsOn plan lines stands out out' end
 ran_on plan lines stands out out' failed how end is run = record { failed = failed; how = how; run = run; end_is = is }
 

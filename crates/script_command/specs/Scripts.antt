@@ -17,18 +17,18 @@ use Rattle.farm_files.specs.Inputs.{Scripted}
 use Rattle.farm_left.specs.Left.{Leaves}
 
 -- how the command ends whose script ended so; where all its lines were run, it is told whether a call of the store failed
-abbrev pub end_of : Bool → ScriptEnd → Result (Unit {0}) Stop
-end_of false Done = Ok tt
-end_of true Done = Err stop.StoreFailed
-end_of failed SinkFailed = Err stop.SinkFailed
-end_of failed NoMemory = Err stop.NoMemory
+abbrev pub command_end : Bool → ScriptEnd → Result (Unit {0}) Stop
+command_end false Done = Ok tt
+command_end true Done = Err stop.StoreFailed
+command_end failed SinkFailed = Err stop.SinkFailed
+command_end failed NoMemory = Err stop.NoMemory
 
 -- the lines were run on a farm that stood for no events, until this end
 pub record ScriptsOn (plan : FarmPlan) (lines : List ScriptLine) (stands : List Entry → Type 0) (out out' : SinkAt) (end : Result (Unit {0}) Stop) : Type 0 where
   pub failed : Bool
   pub how : ScriptEnd
   pub run : script.Runs plan lines [] stands out out' failed how
-  pub end_is : end ≡ end_of failed how
+  pub end_is : end ≡ command_end failed how
 
 -- A script over a store, on a farm of its plan. In want of memory the farm may not be started; then nothing is put, and
 -- the store is as it was.

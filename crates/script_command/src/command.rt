@@ -4,7 +4,7 @@ ghost use Rattle.farm_plan.specs.Plans.{IsPlan};
 ghost use Rattle.farm_core.specs.Begins.{Begins};
 ghost use Rattle.farm_files.specs.Courses.{script_course};
 ghost use Rattle.farm_left.specs.Left.{Leaves};
-ghost use Rattle.script_command.specs.Scripts.{Scripts, ScriptsOn, Runs, end_of};
+ghost use Rattle.script_command.specs.Scripts.{Scripts, ScriptsOn, Runs, command_end};
 
 use call_ends::Stop;
 use farm_base::{Files, Sink};
@@ -16,7 +16,7 @@ use tile_store::TileStore;
 
 /// How the command ends whose script ran so.
 fn end_of(run: ScriptRun) -> Result<(), Stop>
-    ensures { result ≡ end_of run.failed run.end }
+    ensures { result ≡ command_end run.failed run.end }
 {
     match run.end {
         ScriptEnd::Done => {

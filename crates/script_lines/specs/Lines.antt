@@ -4,7 +4,7 @@ use Rattle.std.specs.Prelude.{ℕ, ◌^◌, nat_le, if◌then◌else◌, List, l
 use Rattle.std.specs.Option.{ok_or}
 use Rattle.std.specs.Str.{bytes_eq}
 use Rattle.line_words.specs.Cuts.{cut_at}
-use Rattle.line_words.specs.Numbers.{number_in}
+use Rattle.line_words.specs.Numbers.{decimal_below}
 use Rattle.reading.specs.Steps.{◌>>=◌, check}
 use Rattle.farm_history.specs.declared.asks.Cmd.{Cmd}
 use Rattle.farm_history.specs.declared.asks.Cmd.TheVariants as cmd
@@ -18,11 +18,11 @@ word_of fault text = ok_or (cut_at 32 text) fault
 
 -- a number of 32 bits
 abbrev pub number_of : ScriptFault → List ℕ → Result ℕ ScriptFault
-number_of fault word = ok_or (number_in (2 ^ 32) word) fault
+number_of fault word = ok_or (decimal_below (2 ^ 32) word) fault
 
 -- a ticket, a number of 64 bits
 abbrev pub ticket_of : ScriptFault → List ℕ → Result ℕ ScriptFault
-ticket_of fault word = ok_or (number_in (2 ^ 64) word) fault
+ticket_of fault word = ok_or (decimal_below (2 ^ 64) word) fault
 
 -- the command of a word
 abbrev pub cmd_of : List ℕ → Option Cmd
@@ -34,8 +34,8 @@ cmd_of word =
     if bytes_eq word (codes "dirty") then Some cmd.Dirty else None
 
 -- the name of a map, which need not be one of the farm: any word of at least one byte
-abbrev pub map_of : ScriptFault → List ℕ → Result (List ℕ) ScriptFault
-map_of fault word = check (nat_le 1 (length word)) fault >>= λ u. Ok word
+abbrev pub map_word : ScriptFault → List ℕ → Result (List ℕ) ScriptFault
+map_word fault word = check (nat_le 1 (length word)) fault >>= λ u. Ok word
 
 -- the three numbers of a tile: Z X Y
 unfoldable pub tile_of : ScriptFault → List ℕ → Result (ℕ × ℕ × ℕ) ScriptFault
@@ -51,7 +51,7 @@ tile_of fault text = do
 unfoldable pub place_of : ScriptFault → List ℕ → Result (List ℕ × (ℕ × ℕ × ℕ)) ScriptFault
 place_of fault text = do
   first ← word_of fault text
-  map ← map_of fault first.0
+  map ← map_word fault first.0
   tile ← tile_of fault first.1
   Ok (map, tile)
 
@@ -78,28 +78,28 @@ unfoldable pub expire_of : ScriptFault → List ℕ → Result ScriptLine Script
 expire_of fault text = tile_of fault text >>= λ tile. Ok (Expire tile.0 tile.1 tile.2)
 
 -- a line whose one word behind its name is a number
-abbrev pub numbered : (ℕ → ScriptLine) → ScriptFault → List ℕ → Result ScriptLine ScriptFault
-numbered line fault word = number_of fault word >>= λ n. Ok (line n)
+abbrev pub number_command : (ℕ → ScriptLine) → ScriptFault → List ℕ → Result ScriptLine ScriptFault
+number_command line fault word = number_of fault word >>= λ n. Ok (line n)
 
 -- a line whose one word behind its name is a ticket
-abbrev pub ticketed : (ℕ → ScriptLine) → ScriptFault → List ℕ → Result ScriptLine ScriptFault
-ticketed line fault word = ticket_of fault word >>= λ n. Ok (line n)
+abbrev pub ticket_command : (ℕ → ScriptLine) → ScriptFault → List ℕ → Result ScriptLine ScriptFault
+ticket_command line fault word = ticket_of fault word >>= λ n. Ok (line n)
 
 -- the line of this name with these words behind it; there is no line of another name
 unfoldable pub line_named : ScriptFault → List ℕ → List ℕ → Result ScriptLine ScriptFault
 line_named fault name rest =
     if bytes_eq name (codes "ask") then ask_of fault rest else
-    if bytes_eq name (codes "claim") then numbered Claim fault rest else
-    if bytes_eq name (codes "finish") then ticketed Finish fault rest else
-    if bytes_eq name (codes "cut") then ticketed Cut fault rest else
-    if bytes_eq name (codes "update") then numbered Update fault rest else
-    if bytes_eq name (codes "restyle") then numbered Restyle fault rest else
-    if bytes_eq name (codes "renew") then numbered Renew fault rest else
+    if bytes_eq name (codes "claim") then number_command Claim fault rest else
+    if bytes_eq name (codes "finish") then ticket_command Finish fault rest else
+    if bytes_eq name (codes "cut") then ticket_command Cut fault rest else
+    if bytes_eq name (codes "update") then number_command Update fault rest else
+    if bytes_eq name (codes "restyle") then number_command Restyle fault rest else
+    if bytes_eq name (codes "renew") then number_command Renew fault rest else
     if bytes_eq name (codes "expire") then expire_of fault rest else
     if bytes_eq name (codes "fetch") then fetch_of fault rest else
     if bytes_eq name (codes "look") then look_of fault rest else
-    if bytes_eq name (codes "collect") then numbered Collect fault rest else
-    if bytes_eq name (codes "leave") then numbered Leave fault rest else Err fault
+    if bytes_eq name (codes "collect") then number_command Collect fault rest else
+    if bytes_eq name (codes "leave") then number_command Leave fault rest else Err fault
 
 -- the line that is one word
 unfoldable pub line_alone : ScriptFault → List ℕ → Result ScriptLine ScriptFault

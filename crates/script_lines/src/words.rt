@@ -48,7 +48,7 @@ pub fn command(word: &str, fault: ScriptFault) -> Result<Cmd, ScriptFault>
 
 /// The name of a map.
 fn map(word: &str, fault: ScriptFault) -> Result<&str, ScriptFault>
-    ensures { seen (λ s. s.now) result ≡ spec.map_of fault word.entry.now }
+    ensures { seen (λ s. s.now) result ≡ spec.map_word fault word.entry.now }
 {
     if word.is_empty() {
         Err(fault)

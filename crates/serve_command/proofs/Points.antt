@@ -29,7 +29,7 @@ use Rattle.farm_headline.specs.Headline.{Headline}
 use Rattle.farm_runs.specs.Promise.{AreSeated, AreWorked}
 use Rattle.front_leaves.proofs.Laws.{marked}
 use Rattle.farm_setup.specs.Beginnings.{HasEmptied, ResumesFrom, saved_path}
-use Rattle.farm_ending.specs.Endings.{why_ended, is_worn, is_broken, is_wanting, put_end, TellsCounts}
+use Rattle.farm_ending.specs.Endings.{why_ended, is_worn, is_broken, is_wanting, end_after_put, TellsCounts}
 use Rattle.farm_ending.specs.Savings.{MaySave}
 use Rattle.farm_ending.proofs.Kept.{Keeps, keeps}
 use Rattle.serve_command.specs.Serves.{World, HasServed, fronts_of, end_of, is_worn_out}
@@ -196,7 +196,7 @@ module _ {D : Type 0} (state : D → Outside StoreTold) (s : Served) (store : D)
   as_saved : (end ≡ served.winds.saved) ⊎ (end ≡ Err stop.SinkFailed)
   as_saved = by_tally served.ends.tally served.winds.told
     where
-      by_put : (put : Result (Unit {0}) SinkFault) → end ≡ put_end put served.winds.saved → (end ≡ served.winds.saved) ⊎ (end ≡ Err stop.SinkFailed)
+      by_put : (put : Result (Unit {0}) SinkFault) → end ≡ end_after_put put served.winds.saved → (end ≡ served.winds.saved) ⊎ (end ≡ Err stop.SinkFailed)
       by_put (Ok done) is = inl is
       by_put (Err fault) is = inr is
 
@@ -290,7 +290,7 @@ module _ {D : Type 0} (state : D → Outside StoreTold) (s : Served) (store : D)
   end_is : (end ≡ served.winds.saved) ⊎ ((end ≡ Err stop.SinkFailed) × Rose old.out.faults new.out.faults)
   end_is = by_tally served.ends.tally served.winds.told
     where
-      by_put : (a : Totals) (put : Result (Unit {0}) SinkFault) → SinkPuts old.out new.out (tally_line a) put → end ≡ put_end put served.winds.saved
+      by_put : (a : Totals) (put : Result (Unit {0}) SinkFault) → SinkPuts old.out new.out (tally_line a) put → end ≡ end_after_put put served.winds.saved
           → (end ≡ served.winds.saved) ⊎ ((end ≡ Err stop.SinkFailed) × Rose old.out.faults new.out.faults)
       by_put a (Ok done) puts is = inl is
       by_put a (Err fault) puts is = inr (is, puts.3.1)

@@ -30,7 +30,7 @@ use Rattle.farm_runs.specs.Promise.{Ends, AreSeated, IsServed, AreWorked, IsStop
 use Rattle.front_leaves.specs.Fronts.{renderd_leaves, tiles_leave, control_leaves}
 use Rattle.farm_setup.specs.Beginnings.{ResumesFrom, saved_path}
 use Rattle.farm_setup.specs.Listens.{Listening}
-use Rattle.farm_ending.specs.Endings.{why_ended, put_end}
+use Rattle.farm_ending.specs.Endings.{why_ended, end_after_put}
 use Rattle.farm_ending.specs.Savings.{MaySave}
 use Rattle.serve_command.specs.Serves.{places, fronts_of, end_of, is_worn_out}
 
@@ -91,7 +91,7 @@ module _ {D : Type 0} (state : D → Outside StoreTold) where
       pub put : Result (Unit {0}) SinkFault
       pub puts : Puts out out' (tally_line tally) put
       pub otherwise : Result (Unit {0}) Stop
-      pub end_is : end ≡ put_end put otherwise
+      pub end_is : end ≡ end_after_put put otherwise
 
     abbrev pub CountsAreTold : SinkAt → SinkAt → Result (Unit {0}) Stop → Type 0
     CountsAreTold out out' end = (2 ^ 62 ≤ length closed.1) ⊎ LastIsTold out out' end

@@ -17,7 +17,7 @@ use Rattle.farm_threads.specs.Actors.{maps_in}
 use Rattle.farm_runs.specs.Promise.{Ends, RunsWell}
 use Rattle.front_leaves.specs.Fronts.{renderd_leaves, tiles_leave, control_leaves}
 use Rattle.farm_setup.specs.Beginnings.{HasBegun, CannotBegin}
-use Rattle.farm_setup.specs.Listens.{Place, Listening}
+use Rattle.farm_setup.specs.Listens.{ListenPlace, Listening}
 use Rattle.farm_ending.specs.Endings.{why_ended, WindsUp}
 use Rattle.serve_command.specs.declared.left.Left.{Left}
 use Rattle.serve_command.specs.declared.left.Left.TheVariants.{Store, Farm}
@@ -37,7 +37,7 @@ address_of (Some address) = address
 address_of None = []
 
 -- the ports that are listened on, in this order: each with its address, and what it shows before and after
-abbrev pub places : Config → EachFront (Outside PortsTold) → EachFront (Outside PortsTold) → List Place
+abbrev pub places : Config → EachFront (Outside PortsTold) → EachFront (Outside PortsTold) → List ListenPlace
 places config old new =
     (address_of config.renderd, old.renderd, new.renderd)
     ∷ (address_of config.tiles, old.tiles, new.tiles)

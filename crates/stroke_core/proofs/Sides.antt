@@ -10,7 +10,7 @@ use Rattle.plain_world.specs.declared.world.Point.{Point}
 use Rattle.plain_shapes.specs.declared.shapes.LineCap.{LineCap}
 use Rattle.plain_shapes.specs.declared.shapes.LineCap.TheVariants as with
 use Rattle.plain_world.specs.World.{InWorld}
-use Rattle.plain_shapes.specs.Strokes.{is_same, in_body, in_disk, before_start, past_end, kept, kept_after, on_bodies, on_joins, in_last_disk, past_last, on_caps, on_dot, on_kept, on_line, on_sides, on_disks, on_ring}
+use Rattle.plain_shapes.specs.Strokes.{is_same, in_body, in_disk, before_start, past_end, line_points, kept_after, on_bodies, on_joins, in_last_disk, past_last, on_caps, on_dot, on_kept, on_line, on_sides, on_disks, on_ring}
 use Rattle.stroke_core.specs.inner.Parts.{point_at, on_ends, on_long, on_parts}
 
 -- one side more
@@ -77,7 +77,7 @@ kept_after_within before [] h = h
 kept_after_within before (p ∷ ps) h =
     choose_within (is_same before p) p (kept_after p ps) (All-head InWorld p ps h) (kept_after_within p ps (All-tail InWorld p ps h))
 
-pub kept_within : (ps : List Point) → All InWorld ps → All InWorld (kept ps)
+pub kept_within : (ps : List Point) → All InWorld ps → All InWorld (line_points ps)
 kept_within [] h = h
 kept_within (p ∷ ps) h = All-cons InWorld p (kept_after p ps) (All-head InWorld p ps h) (kept_after_within p ps (All-tail InWorld p ps h))
 
@@ -149,7 +149,7 @@ parts_are half cap p [] c h = refl
 parts_are half cap p (q ∷ ps) c h = long_kept half cap p q ps c h
 
 -- the parts of the kept points are the line
-pub parts_kept : (half : ℕ) (cap : LineCap) (points : List Point) (c : Point) → on_parts half cap (kept points) c ≡ on_line half cap c points
+pub parts_kept : (half : ℕ) (cap : LineCap) (points : List Point) (c : Point) → on_parts half cap (line_points points) c ≡ on_line half cap c points
 parts_kept half cap [] c = refl
 parts_kept half cap (p ∷ ps) c = parts_are half cap p (kept_after p ps) c (kept_apart p ps)
 

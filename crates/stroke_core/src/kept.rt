@@ -1,6 +1,6 @@
 //! The points of a line without those that equal the one before.
 ghost use Rattle.std.specs.Prelude.{◌≡◌, ◌++◌, ◌∷◌, [], IfOk, OnOk, if◌then◌else◌};
-ghost use Rattle.plain_shapes.specs.Strokes.{is_same, kept, kept_after};
+ghost use Rattle.plain_shapes.specs.Strokes.{is_same, line_points, kept_after};
 
 use crate::segments::is_same;
 use farm_base::NoMemory;
@@ -29,7 +29,7 @@ fn keep(out: &mut Vec<Point>, first: Point, rest: &[Point]) -> Result<(), NoMemo
 
 /// The points of a line, each that equals the one before it left out.
 pub fn kept(alloc: Global, points: &[Point]) -> Result<Vec<Point>, NoMemory>
-    ensures { IfOk result (λ v. v.items ≡ kept points.now) }
+    ensures { IfOk result (λ v. v.items ≡ line_points points.now) }
 {
     let mut out = Vec::new(alloc);
     if points.is_empty() {

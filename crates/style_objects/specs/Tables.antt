@@ -176,8 +176,8 @@ abbrev pub raster_after : List RasterRef → Data → Result RasterRef StyleFaul
 raster_after before d = raster_of (length before) before d
 
 -- the map: its own keys, then its rasters, its styles and its layers
-unfoldable pub map_of : FilterReading → Data → Result MapStyle StyleFault
-map_of says d = do
+unfoldable pub map_object : FilterReading → Data → Result MapStyle StyleFault
+map_object says d = do
   u ← opened_as object.Map at_map d
   found_styles ← within most_styles (fault.Range at_map) (get (codes "styles") d)
   found_layers ← within most_map_layers (fault.Range at_map) (get (codes "layers") d)
@@ -193,7 +193,7 @@ map_of says d = do
 
 -- what the bytes of a style say, where filters are read so
 unfoldable pub style_by : FilterReading → List ℕ → Result MapStyle StyleFault
-style_by says bytes = ok_or (json_of bytes) fault.NotJson >>= map_of says
+style_by says bytes = ok_or (json_of bytes) fault.NotJson >>= map_object says
 
 -- The same, where filters are read by the function that reads their tokens one after another. By the grammar of
 -- filters there is one reading, and this is it (`law_styles_by_grammar`).

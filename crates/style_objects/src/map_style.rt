@@ -25,9 +25,9 @@ const WHITE: Colour = Colour {
     b: 255,
 };
 
-#[tactic(auto, unfolding(crate::specs::Tables::map_of))]
+#[tactic(auto, unfolding(crate::specs::Tables::map_object))]
 fn map_style(alloc: Global, object: &Value) -> Result<MapStyle, StyleFault>
-    ensures { Gives fault.NoMemory (λ x. x) (spec.map_of filter_of (view object.now)) result }
+    ensures { Gives fault.NoMemory (λ x. x) (spec.map_object filter_of (view object.now)) result }
 {
     let at = At::map();
     open(object, Object::Map, at)?;

@@ -10,13 +10,13 @@ use Rattle.tile_answers.specs.declared.faults.Fault.{Fault}
 use Rattle.tile_answers.specs.declared.faults.Fault.TheVariants as fault
 
 -- the head of an answer: its status, its body's kind and length, and more lines, which may be none
-unfoldable pub head : List ℕ → List ℕ → ℕ → List ℕ → List ℕ
-head status kind len more =
+unfoldable pub response_head : List ℕ → List ℕ → ℕ → List ℕ → List ℕ
+response_head status kind len more =
     codes "HTTP/1.1 " ++ (status ++ (codes "\r\nContent-Type: " ++ (kind ++ (codes "\r\nContent-Length: " ++ (decimal len
     ++ (codes "\r\n" ++ (more ++ codes "Connection: close\r\n\r\n")))))))
 
 abbrev pub answer : List ℕ → List ℕ → List ℕ → List ℕ → List ℕ
-answer status kind more body = head status kind (length body) more ++ body
+answer status kind more body = response_head status kind (length body) more ++ body
 
 -- an answer whose body is a text
 unfoldable pub text_answer : List ℕ → List ℕ → List ℕ
@@ -49,13 +49,13 @@ tile_answer fetched.GetFailed = fault_answer fault.Failed
 tile_answer fetched.NoMemory = []
 
 -- a word and a data version, as a line
-abbrev pub versioned : List ℕ → ℕ → List ℕ
-versioned word version = word ++ codes " " ++ decimal version ++ codes "\n"
+abbrev pub version_line : List ℕ → ℕ → List ℕ
+version_line word version = word ++ codes " " ++ decimal version ++ codes "\n"
 
 -- the answer to `/status`
 abbrev pub status_answer : Looked → List ℕ
-status_answer (looked.Clean version) = text_answer (codes "200 OK") (versioned (codes "clean") version)
-status_answer (looked.Dirty version) = text_answer (codes "200 OK") (versioned (codes "dirty") version)
+status_answer (looked.Clean version) = text_answer (codes "200 OK") (version_line (codes "clean") version)
+status_answer (looked.Dirty version) = text_answer (codes "200 OK") (version_line (codes "dirty") version)
 status_answer looked.Missing = text_answer (codes "200 OK") (codes "missing\n")
 status_answer looked.Unservable = fault_answer fault.NotFound
 

@@ -30,9 +30,9 @@ fn put_answer(
 }
 
 /// The head of an answer.
-#[tactic(auto, unfolding(crate::specs::Answers::head))]
+#[tactic(auto, unfolding(crate::specs::Answers::response_head))]
 fn head(alloc: Global, status: &str, kind: &str, len: usize, more: &str) -> Result<Text, NoMemory>
-    ensures { IfOk result (λ t. t ≡ spec.head status.now kind.now len more.now) }
+    ensures { IfOk result (λ t. t ≡ spec.response_head status.now kind.now len more.now) }
 {
     let head = format!(in alloc;
         "HTTP/1.1 {status}\r\nContent-Type: {kind}\r\nContent-Length: {len}\r\n{more}Connection: close\r\n\r\n"

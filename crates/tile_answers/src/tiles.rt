@@ -31,7 +31,7 @@ pub fn put_tile(alloc: Global, fetched: &Fetched, said: &mut Vec<u8>) -> Result<
 
 /// The line of a word and a data version.
 fn versioned(alloc: Global, word: &str, version: u64) -> Result<Text, NoMemory>
-    ensures { IfOk result (λ t. t ≡ spec.versioned word.now version) }
+    ensures { IfOk result (λ t. t ≡ spec.version_line word.now version) }
 {
     Ok(Text::from_string(format!(in alloc; "{word} {version}\n")?))
 }

@@ -7,9 +7,9 @@ use Rattle.farm_history.specs.declared.queues.Conn.{Conn}
 use Rattle.front_rounds.specs.declared.fates.Fate.{Fate}
 use Rattle.front_rounds.specs.declared.fates.Fate.TheVariants.{Stays, Leaves}
 use Rattle.front_rounds.specs.declared.fates.Reason.TheVariants as reason
-use Rattle.front_rounds.specs.Rules.{Move, Does, asked, text, each_whole, BeginsWanted}
+use Rattle.front_rounds.specs.Rules.{Move, Does, wants_of, answer_bytes, each_whole, BeginsWanted}
 use Rattle.front_rounds.specs.Front.{HeardWhy, Heard, Hears}
-use Rattle.tile_requests.specs.Heads.{shown, IsOpen}
+use Rattle.tile_requests.specs.Heads.{bytes_read, IsOpen}
 use Rattle.tile_pages.specs.declared.acts.Wish.{Wish}
 use Rattle.tile_pages.specs.declared.acts.Act.{Act}
 use Rattle.tile_pages.specs.declared.talks.Talk.{Talk}
@@ -20,30 +20,30 @@ use Rattle.tile_pages.proofs.Wishes.{asked_is, asks_stay, open_all, shown_twice,
 
 module _ (front : ℕ) (maps : List ℕ → Option ℕ) where
   -- the one wish that was asked, and what the bytes ask
-  wants_one : (given : List ℕ) (ms : List (Move Act)) (w : Wish) → wishes ms ≡ w ∷ [] → Asks maps (shown given) w → Wants maps given (asked (rules_of front maps) ms)
+  wants_one : (given : List ℕ) (ms : List (Move Act)) (w : Wish) → wishes ms ≡ w ∷ [] → Asks maps (bytes_read given) w → Wants maps given (wants_of (rules_of front maps) ms)
   wants_one given ms w e asks = subst (λ (ws : List Wish). Wants maps given ws) (sym (asked_is front maps ms ∙ e)) asks
 
-  one_wanted : (given : List ℕ) (ms : List (Move Act)) (w : Wish) → wishes ms ≡ w ∷ [] → Wants maps given (asked (rules_of front maps) ms) → Asks maps (shown given) w
+  one_wanted : (given : List ℕ) (ms : List (Move Act)) (w : Wish) → wishes ms ≡ w ∷ [] → Wants maps given (wants_of (rules_of front maps) ms) → Asks maps (bytes_read given) w
   one_wanted given ms w e wants = let P : List Wish → Type 0 = λ ws. Wants maps given ws in subst P (asked_is front maps ms ∙ e) wants
 
   -- all that is wanted is a beginning of it
   all_begins : (given : List ℕ) (ws : List Wish) → Wants maps given ws → BeginsWanted (rules_of front maps) given ws
   all_begins given ws wants = inr ([], subst (λ (vs : List Wish). Wants maps given vs) (sym (append-nil ws)) wants)
 
-  says_nothing : (ms : List (Move Act)) (said : List ℕ) → said ≡ [] → text (rules_of front maps) ms ≡ text (rules_of front maps) ms ++ said
-  says_nothing ms said e = sym (ap (λ (l : List ℕ). text (rules_of front maps) ms ++ l) e ∙ append-nil (text (rules_of front maps) ms))
+  says_nothing : (ms : List (Move Act)) (said : List ℕ) → said ≡ [] → answer_bytes (rules_of front maps) ms ≡ answer_bytes (rules_of front maps) ms ++ said
+  says_nothing ms said e = sym (ap (λ (l : List ℕ). answer_bytes (rules_of front maps) ms ++ l) e ∙ append-nil (answer_bytes (rules_of front maps) ms))
 
   -- a connection whose request was done has its bytes passed over
   pub hears_idle : (c : ℕ) (piece : List ℕ) (mine : List Entry) (talk : Talk) (said : List ℕ) → is_reading talk.stage ≡ false → said ≡ []
       → Hears (rules_of front maps) Knows c piece mine mine talk talk said Stays
   hears_idle c piece mine talk said idle empty given ms knows wants whole unread =
       let one = knows.once idle in
-      let stays : Wants maps (given ++ piece) (asked (rules_of front maps) ms) =
+      let stays : Wants maps (given ++ piece) (wants_of (rules_of front maps) ms) =
       wants_one (given ++ piece) ms one.0 one.1 (asks_stay maps given piece one.0 (one_wanted given ms one.0 one.1 wants)) in
       record {
         acts = [];
         mine_is = refl;
-        begins = all_begins (given ++ piece) (asked (rules_of front maps) ms) stays;
+        begins = all_begins (given ++ piece) (wants_of (rules_of front maps) ms) stays;
         fits = tt;
         why = (refl, refl);
         said_is = λ k. says_nothing ms said empty;
@@ -74,21 +74,21 @@ module _ (front : ℕ) (maps : List ℕ → Option ℕ) where
 
   -- more bytes are waited for
   pub hears_open : (c : ℕ) (piece : List ℕ) (mine : List Entry) (talk talk' : Talk) (said : List ℕ) → said ≡ [] → is_reading talk.stage ≡ true → talk'.stage ≡ talk.stage
-      → (length talk.head.items ≤ 8192 → talk'.head.items ≡ shown (talk.head.items ++ piece)) → IsOpen (shown talk'.head.items)
+      → (length talk.head.items ≤ 8192 → talk'.head.items ≡ bytes_read (talk.head.items ++ piece)) → IsOpen (bytes_read talk'.head.items)
       → Hears (rules_of front maps) Knows c piece mine mine talk talk' said Stays
   hears_open c piece mine talk talk' said empty reads same kept is given ms knows wants whole unread =
       let head = knows.head reads in
       let short : length given < 8192 = head.1 in
-      let kept_is : talk'.head.items ≡ shown (given ++ piece) =
-      subst (λ (h : List ℕ). length h ≤ 8192 → talk'.head.items ≡ shown (h ++ piece)) head.0 kept (omega arith) in
-      let opens : IsOpen (shown (given ++ piece)) = subst (λ (b : List ℕ). IsOpen b) (ap shown kept_is ∙ shown_twice (given ++ piece)) is in
+      let kept_is : talk'.head.items ≡ bytes_read (given ++ piece) =
+      subst (λ (h : List ℕ). length h ≤ 8192 → talk'.head.items ≡ bytes_read (h ++ piece)) head.0 kept (omega arith) in
+      let opens : IsOpen (bytes_read (given ++ piece)) = subst (λ (b : List ℕ). IsOpen b) (ap bytes_read kept_is ∙ shown_twice (given ++ piece)) is in
       let all = open_all (given ++ piece) opens in
       let none = asked_is front maps ms ∙ head.2 in
-      let still : Wants maps (given ++ piece) (asked (rules_of front maps) ms) = subst (λ (ws : List Wish). Wants maps (given ++ piece) ws) (sym none) opens in
+      let still : Wants maps (given ++ piece) (wants_of (rules_of front maps) ms) = subst (λ (ws : List Wish). Wants maps (given ++ piece) ws) (sym none) opens in
       record {
         acts = [];
         mine_is = refl;
-        begins = all_begins (given ++ piece) (asked (rules_of front maps) ms) still;
+        begins = all_begins (given ++ piece) (wants_of (rules_of front maps) ms) still;
         fits = tt;
         why = (refl, refl);
         said_is = λ k. says_nothing ms said empty;
@@ -120,25 +120,25 @@ module _ (front : ℕ) (maps : List ℕ → Option ℕ) where
 
   -- the wish that became whole was done
   hears_act : (c : Conn) (piece : List ℕ) (w : Wish) (mine mine' : List Entry) (talk talk' : Talk) (said : List ℕ) (fate : Fate) (a : Act) → c.front ≡ front
-      → is_reading talk.stage ≡ true → (length talk.head.items ≤ 8192 → talk'.head.items ≡ shown (talk.head.items ++ piece))
-      → Asks maps (shown talk'.head.items) w → DidWish c w mine mine' talk'.stage said fate a
+      → is_reading talk.stage ≡ true → (length talk.head.items ≤ 8192 → talk'.head.items ≡ bytes_read (talk.head.items ++ piece))
+      → Asks maps (bytes_read talk'.head.items) w → DidWish c w mine mine' talk'.stage said fate a
       → Hears (rules_of front maps) Knows c.number piece mine mine' talk talk' said fate
   hears_act c piece w mine mine' talk talk' said fate a own reads kept asks did given ms knows wants whole unread =
       let head = knows.head reads in
       let short : length given < 8192 = head.1 in
-      let kept_is : talk'.head.items ≡ shown (given ++ piece) =
-      subst (λ (h : List ℕ). length h ≤ 8192 → talk'.head.items ≡ shown (h ++ piece)) head.0 kept (omega arith) in
-      let asks_now : Asks maps (shown (given ++ piece)) w = subst (λ (b : List ℕ). Asks maps b w) (ap shown kept_is ∙ shown_twice (given ++ piece)) asks in
+      let kept_is : talk'.head.items ≡ bytes_read (given ++ piece) =
+      subst (λ (h : List ℕ). length h ≤ 8192 → talk'.head.items ≡ bytes_read (h ++ piece)) head.0 kept (omega arith) in
+      let asks_now : Asks maps (bytes_read (given ++ piece)) w = subst (λ (b : List ℕ). Asks maps b w) (ap bytes_read kept_is ∙ shown_twice (given ++ piece)) asks in
       let once : wishes (Does a ∷ ms) ≡ w ∷ [] = ap (λ (ws : List Wish). ws ++ want a ∷ []) head.2 ∙ ap (λ (v : Wish). v ∷ []) did.want_is in
-      let wanted : Wants maps (given ++ piece) (asked (rules_of front maps) (Does a ∷ ms)) = wants_one (given ++ piece) (Does a ∷ ms) w once asks_now in
+      let wanted : Wants maps (given ++ piece) (wants_of (rules_of front maps) (Does a ∷ ms)) = wants_one (given ++ piece) (Does a ∷ ms) w once asks_now in
       let unanswered : ends ms ≡ false = knows.ends ∙ reading_unanswered talk.stage reads in
       record {
         acts = a ∷ [];
         mine_is = did.mine_is ∙ ap (λ (n : ℕ). mine ++ entries_of (record { front = n; number = c.number }) a) own;
-        begins = all_begins (given ++ piece) (asked (rules_of front maps) (Does a ∷ ms)) wanted;
+        begins = all_begins (given ++ piece) (wants_of (rules_of front maps) (Does a ∷ ms)) wanted;
         fits = (did.fits, tt);
         why = why_heard (given ++ piece) a fate did.why;
-        said_is = λ k. ap (λ (t : List ℕ). text (rules_of front maps) ms ++ t) (sym (did.said_is k));
+        said_is = λ k. ap (λ (t : List ℕ). answer_bytes (rules_of front maps) ms ++ t) (sym (did.said_is k));
         asked_is = λ k. wanted;
         whole = λ k. and_from (whole_act a) (each_whole (rules_of front maps) ms) (did.whole k) whole;
         knows = λ k. record {
@@ -153,8 +153,8 @@ module _ (front : ℕ) (maps : List ℕ → Option ℕ) where
       no_both b e f = cc
 
   pub hears_wish : (c : Conn) (piece : List ℕ) (w : Wish) (mine mine' : List Entry) (talk talk' : Talk) (said : List ℕ) (fate : Fate) → c.front ≡ front
-      → is_reading talk.stage ≡ true → (length talk.head.items ≤ 8192 → talk'.head.items ≡ shown (talk.head.items ++ piece))
-      → Asks maps (shown talk'.head.items) w → DoesWish c w mine mine' talk'.stage said fate
+      → is_reading talk.stage ≡ true → (length talk.head.items ≤ 8192 → talk'.head.items ≡ bytes_read (talk.head.items ++ piece))
+      → Asks maps (bytes_read talk'.head.items) w → DoesWish c w mine mine' talk'.stage said fate
       → Hears (rules_of front maps) Knows c.number piece mine mine' talk talk' said fate
   hears_wish c piece w mine mine' talk talk' said fate own reads kept asks (inl idle) = hears_starved c.number piece mine mine' talk talk' said fate reads idle
   hears_wish c piece w mine mine' talk talk' said fate own reads kept asks (inr (a, did)) = hears_act c piece w mine mine' talk talk' said fate a own reads kept asks did

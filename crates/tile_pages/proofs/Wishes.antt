@@ -2,22 +2,22 @@
 use Rattle.std.proofs.Common.{◌≡◌, ℕ, ◌<◌, ◌≤◌, ◌-◌, List, [], ◌∷◌, ◌++◌, length, take, Bool, true, false, ◌&&◌, ◌||◌, eqb, eq-eqb, cond, ◌+◌, Option, Some, None, refl, sym, ap, subst, ◌∙◌, arith}
 use Rattle.std.proofs.lemmas.List.{take_all, length-take}
 use Rattle.std.proofs.Math.Seq.{take-append-add}
-use Rattle.tile_requests.specs.Heads.{shown, IsOpen, IsNothing, IsPart, IsFull}
+use Rattle.tile_requests.specs.Heads.{bytes_read, IsOpen, IsNothing, IsPart, IsFull}
 use Rattle.tile_requests.proofs.HeadTexts.{bad_stays, whole_stays}
 use Rattle.tile_requests.specs.declared.targets.Kind.{Kind}
 use Rattle.tile_requests.specs.declared.targets.Kind.TheVariants as kind
 use Rattle.farm_history.specs.declared.asks.Spot.{Spot}
-use Rattle.front_rounds.specs.Rules.{Move, Does, Gets, asked}
+use Rattle.front_rounds.specs.Rules.{Move, Does, Gets, wants_of}
 use Rattle.tile_pages.specs.declared.acts.Wish.{Wish}
 use Rattle.tile_pages.specs.declared.acts.Wish.TheVariants as wish
 use Rattle.tile_pages.specs.declared.acts.Act.{Act}
 use Rattle.tile_pages.specs.declared.talks.Stage.{Stage}
 use Rattle.tile_pages.specs.declared.talks.Stage.TheVariants.{Reading, Waiting, Answered}
 use Rattle.tile_pages.specs.Talks.{is_reading, is_answered, waits_in, spot_at}
-use Rattle.tile_pages.specs.Tiles.{GetsSpot, wish_of, Asks, want, wishes, unless, same_map, same_spot, rules_of}
+use Rattle.tile_pages.specs.Tiles.{GetsSpot, wish_of, Asks, want, wishes, still_waits, same_map, same_spot, rules_of}
 
 -- what was asked hangs on no map
-pub asked_is : (front : ℕ) (maps : List ℕ → Option ℕ) (ms : List (Move Act)) → asked (rules_of front maps) ms ≡ wishes ms
+pub asked_is : (front : ℕ) (maps : List ℕ → Option ℕ) (ms : List (Move Act)) → wants_of (rules_of front maps) ms ≡ wishes ms
 asked_is front maps [] = refl
 asked_is front maps (Does a ∷ ms) = ap (λ (ws : List Wish). ws ++ want a ∷ []) (asked_is front maps ms)
 asked_is front maps (Gets r behind ∷ ms) = asked_is front maps ms
@@ -28,7 +28,7 @@ asks_of maps bytes kind.Status s gets = gets
 asks_of maps bytes kind.Dirty s gets = gets
 
 -- what bytes ask they ask whatever follows
-pub asks_stay : (maps : List ℕ → Option ℕ) (given more : List ℕ) (w : Wish) → Asks maps (shown given) w → Asks maps (shown (given ++ more)) w
+pub asks_stay : (maps : List ℕ → Option ℕ) (given more : List ℕ) (w : Wish) → Asks maps (bytes_read given) w → Asks maps (bytes_read (given ++ more)) w
 asks_stay maps given more wish.Bad is = bad_stays given more is
 asks_stay maps given more wish.NotGet is = (is.0, whole_stays given more is.0 is.1, is.2)
 asks_stay maps given more wish.NoTarget is = (is.0, whole_stays given more is.0 is.1, is.2, is.3)
@@ -42,20 +42,20 @@ open_short bytes (IsNothing e) = subst (λ (b : List ℕ). length b < 8192) (sym
 open_short bytes (IsPart l none may) = l
 open_short bytes (IsFull l over more e) = l
 
-pub open_all : (given : List ℕ) → IsOpen (shown given) → (length given < 8192) × (shown given ≡ given)
+pub open_all : (given : List ℕ) → IsOpen (bytes_read given) → (length given < 8192) × (bytes_read given ≡ given)
 open_all given is =
-    let l = open_short (shown given) is in
+    let l = open_short (bytes_read given) is in
     let n : length given < 8192 = let e = length-take 8192 given in omega (arith, e, l) in
     (n, take_all 8192 given (omega arith))
 
 -- what is kept of a piece behind a head
-pub kept_is : (head piece : List ℕ) → length head ≤ 8192 → head ++ take (8192 - length head) piece ≡ shown (head ++ piece)
+pub kept_is : (head piece : List ℕ) → length head ≤ 8192 → head ++ take (8192 - length head) piece ≡ bytes_read (head ++ piece)
 kept_is head piece h =
     let all : length head + (8192 - length head) ≡ 8192 = omega arith in
     sym (take-append-add head piece (8192 - length head)) ∙ ap (λ (n : ℕ). take n (head ++ piece)) all
 
-pub shown_twice : (given : List ℕ) → shown (shown given) ≡ shown given
-shown_twice given = let e = length-take 8192 given in take_all 8192 (shown given) (omega (arith, e))
+pub shown_twice : (given : List ℕ) → bytes_read (bytes_read given) ≡ bytes_read given
+shown_twice given = let e = length-take 8192 given in take_all 8192 (bytes_read given) (omega (arith, e))
 
 -- a spot is the same as itself
 same_number : (n : ℕ) → eqb n n ≡ true
@@ -78,7 +78,7 @@ reading_unanswered (Waiting n s) e = refl
 reading_unanswered Answered e = cc
 
 -- an ask that waits, and a reply to another one or to that one
-pub unless_other : (n : ℕ) (o : Option (ℕ × Spot)) → spot_at n o ≡ None → unless n o ≡ o
+pub unless_other : (n : ℕ) (o : Option (ℕ × Spot)) → spot_at n o ≡ None → still_waits n o ≡ o
 unless_other n None e = refl
 unless_other n (Some p) e = other (eqb p.0 n) p e
   where
@@ -86,7 +86,7 @@ unless_other n (Some p) e = other (eqb p.0 n) p e
     other true p e = cc
     other false p e = refl
 
-pub unless_that : (n : ℕ) (s : Spot) (o : Option (ℕ × Spot)) → spot_at n o ≡ Some s → unless n o ≡ None
+pub unless_that : (n : ℕ) (s : Spot) (o : Option (ℕ × Spot)) → spot_at n o ≡ Some s → still_waits n o ≡ None
 unless_that n s None e = refl
 unless_that n s (Some p) e = that (eqb p.0 n) p s e
   where

@@ -15,8 +15,8 @@ use Rattle.front_rounds.specs.Parts.{is_cut}
 use Rattle.tile_requests.specs.declared.targets.Kind.{Kind}
 use Rattle.tile_requests.specs.declared.targets.Kind.TheVariants as kind
 use Rattle.tile_requests.specs.Targets.{Place}
-use Rattle.tile_requests.specs.Heads.{shown, IsOpen, IsBad}
-use Rattle.tile_requests.specs.Requests.{IsNotGet, GetsNone, Gets as GetsPlace}
+use Rattle.tile_requests.specs.Heads.{bytes_read, IsOpen, IsBad}
+use Rattle.tile_requests.specs.Requests.{IsNotGet, GetsNone, GetsTile as GetsPlace}
 use Rattle.tile_answers.specs.declared.faults.Fault.TheVariants as fault
 use Rattle.tile_answers.specs.Answers.{fault_answer, tile_answer, status_answer, dirty_answer}
 use Rattle.tile_pages.specs.declared.acts.Wish.{Wish}
@@ -53,8 +53,8 @@ Asks maps bytes (wish.Dirty s) = GetsSpot maps bytes kind.Dirty s
 
 -- a connection has one request: none stands in its bytes while more are waited for
 abbrev pub Wants : (List ℕ → Option ℕ) → List ℕ → List Wish → Type 0
-Wants maps given [] = IsOpen (shown given)
-Wants maps given (w ∷ []) = Asks maps (shown given) w
+Wants maps given [] = IsOpen (bytes_read given)
+Wants maps given (w ∷ []) = Asks maps (bytes_read given) w
 Wants maps given (w ∷ v ∷ ws) = ⊥
 
 -- ---- what is done
@@ -93,14 +93,14 @@ waits_by (act.Seen s l) = None
 waits_by (act.Marked s a) = None
 
 -- the ask that waits, unless it is that one
-abbrev pub unless : ℕ → Option (ℕ × Spot) → Option (ℕ × Spot)
-unless n None = None
-unless n (Some p) = cond (p.0 == n) None (Some p)
+abbrev pub still_waits : ℕ → Option (ℕ × Spot) → Option (ℕ × Spot)
+still_waits n None = None
+still_waits n (Some p) = cond (p.0 == n) None (Some p)
 
 abbrev pub waiting : List (Move Act) → Option (ℕ × Spot)
 waiting [] = None
 waiting (Does a ∷ ms) = waits_by a
-waiting (Gets r behind ∷ ms) = unless r.ask (waiting ms)
+waiting (Gets r behind ∷ ms) = still_waits r.ask (waiting ms)
 
 -- ---- which entries stand behind a Collect
 

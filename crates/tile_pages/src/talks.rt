@@ -1,6 +1,6 @@
 //! What is kept of a session.
 ghost use Rattle.std.specs.Prelude.{◌≡◌, ◌≤◌, ◌-◌, ◌++◌, OnOk, length, take};
-ghost use Rattle.tile_requests.specs.Heads.{shown};
+ghost use Rattle.tile_requests.specs.Heads.{bytes_read};
 ghost use Rattle.tile_pages.specs.Talks as spec;
 
 use farm_base::NoMemory;
@@ -53,7 +53,7 @@ pub(crate) fn spot_of_ask(stage: Stage, ask: u64) -> Option<Spot>
 
 /// The bytes of a connection that are read.
 pub(crate) fn read_part(bytes: &[u8]) -> &[u8]
-    ensures { result.now ≡ shown bytes.entry.now }
+    ensures { result.now ≡ bytes_read bytes.entry.now }
 {
     if bytes.len() <= HEAD_BYTES {
         return bytes;
@@ -64,7 +64,7 @@ pub(crate) fn read_part(bytes: &[u8]) -> &[u8]
 /// Puts a piece behind a head, as far as it is read.
 pub(crate) fn keep(head: &mut Vec<u8>, piece: &[u8]) -> Result<(), NoMemory>
     ensures { length head.old.items ≤ 8192
-        → OnOk result (head.new.items ≡ shown (head.old.items ++ piece.now)) }
+        → OnOk result (head.new.items ≡ bytes_read (head.old.items ++ piece.now)) }
 {
     head.extend_from_slice(part_for(piece, head.as_slice()))?;
     Ok(())

@@ -4,7 +4,7 @@ use Rattle.std.proofs.Math.Nat.{pow-le-pow_right}
 use Rattle.std.specs.Fmt.{decimal}
 use Rattle.plain_world.specs.declared.world.Meta.{Meta}
 use Rattle.plain_world.specs.World.{IsMeta}
-use Rattle.tile_paths.specs.Paths.{beside, five, in_folder, path_of}
+use Rattle.tile_paths.specs.Paths.{nibbles, five, in_folder, path_of}
 use Rattle.tile_paths.specs.declared.reading.Five.{Five}
 
 pub small_column : (m : Meta) → IsMeta m → m.x < 2 ^ 18
@@ -13,13 +13,13 @@ small_column m is = let p : 2 ^ m.z ≤ 2 ^ 18 = pow-le-pow_right {n = 2} (omega
 pub small_row : (m : Meta) → IsMeta m → m.y < 2 ^ 18
 small_row m is = let p : 2 ^ m.z ≤ 2 ^ 18 = pow-le-pow_right {n = 2} (omega arith) is.z_fits in let f = is.y_fits in omega arith
 
-pub small : (x y : ℕ) → beside x y < 256
+pub small : (x y : ℕ) → nibbles x y < 256
 small x y = omega arith
 
-upper : (x y : ℕ) → beside x y / 16 ≡ x % 16
+upper : (x y : ℕ) → nibbles x y / 16 ≡ x % 16
 upper x y = omega arith
 
-lower : (x y : ℕ) → beside x y % 16 ≡ y % 16
+lower : (x y : ℕ) → nibbles x y % 16 ≡ y % 16
 lower x y = omega arith
 
 -- four bits at a time
@@ -30,11 +30,11 @@ regrouped x h = omega arith
 -- the numbers of a metatile
 abbrev pub numbers : Meta → Five
 numbers m = record {
-  h4 = beside (m.x / 16 / 16 / 16 / 16) (m.y / 16 / 16 / 16 / 16);
-  h3 = beside (m.x / 16 / 16 / 16) (m.y / 16 / 16 / 16);
-  h2 = beside (m.x / 16 / 16) (m.y / 16 / 16);
-  h1 = beside (m.x / 16) (m.y / 16);
-  h0 = beside m.x m.y;
+  h4 = nibbles (m.x / 16 / 16 / 16 / 16) (m.y / 16 / 16 / 16 / 16);
+  h3 = nibbles (m.x / 16 / 16 / 16) (m.y / 16 / 16 / 16);
+  h2 = nibbles (m.x / 16 / 16) (m.y / 16 / 16);
+  h1 = nibbles (m.x / 16) (m.y / 16);
+  h0 = nibbles m.x m.y;
 }
 
 abbrev pub five_of : Meta → List ℕ

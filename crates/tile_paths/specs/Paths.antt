@@ -16,8 +16,8 @@ pub record IsName (name : List ℕ) : Type 0 where
   pub plain : IsTrue (list_all is_name_byte name)
 
 -- four bits of x beside four bits of y
-abbrev pub beside : ℕ → ℕ → ℕ
-beside x y = x % 16 * 16 + y % 16
+abbrev pub nibbles : ℕ → ℕ → ℕ
+nibbles x y = x % 16 * 16 + y % 16
 
 -- what stands in a folder of this name
 abbrev pub in_folder : List ℕ → List ℕ → List ℕ
@@ -33,8 +33,8 @@ unfoldable pub path_of : List ℕ → Meta → List ℕ
 path_of name m =
     in_folder name (in_folder (decimal m.z)
     (five
-    (beside (m.x / 16 / 16 / 16 / 16) (m.y / 16 / 16 / 16 / 16))
-    (beside (m.x / 16 / 16 / 16) (m.y / 16 / 16 / 16))
-    (beside (m.x / 16 / 16) (m.y / 16 / 16))
-    (beside (m.x / 16) (m.y / 16))
-    (beside m.x m.y)))
+    (nibbles (m.x / 16 / 16 / 16 / 16) (m.y / 16 / 16 / 16 / 16))
+    (nibbles (m.x / 16 / 16 / 16) (m.y / 16 / 16 / 16))
+    (nibbles (m.x / 16 / 16) (m.y / 16 / 16))
+    (nibbles (m.x / 16) (m.y / 16))
+    (nibbles m.x m.y)))

@@ -36,7 +36,7 @@ pub fn path(name: &str, m: Meta) -> ArrayString<80>
 
 /// Four bits of x beside four bits of y.
 fn beside(x: u32, y: u32) -> u32
-    ensures value { result ≡ spec.beside x y }
+    ensures value { result ≡ spec.nibbles x y }
     ensures small { result < 256 }
 {
     x % 16 * 16 + y % 16

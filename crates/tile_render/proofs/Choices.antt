@@ -13,7 +13,7 @@ use Rattle.plain_drawing.specs.declared.style.FilterMode.{FilterMode}
 use Rattle.plain_drawing.specs.declared.style.FilterMode.TheVariants.{All, First}
 use Rattle.plain_drawing.specs.Styles.{Rule, Style}
 use Rattle.plain_shapes.specs.Images.{Pixels}
-use Rattle.plain_drawing.specs.Rules.{matches, is_fallback, taken}
+use Rattle.plain_drawing.specs.Rules.{matches, is_fallback, first_or_all}
 use Rattle.plain_drawing.specs.Drawing.{Item, item_attrs}
 use Rattle.plain_drawing.specs.inner.Pictures.{with_symbolizer, with_item}
 use Rattle.tile_render.specs.inner.Chosen.{with_rule, with_chosen}
@@ -74,12 +74,12 @@ no_match p rules none =
 
 -- what is drawn where some Filter rule matches
 some_taken : (w : Window) (d : ℕ) (s : Style) (item : Item) (image : Pixels) (mode : FilterMode) → list_any (matches (item_attrs item) d) s.rules ≡ true → s.filter_mode ≡ mode
-    → fold (with_symbolizer w item) image (flat_map (λ r. r.symbolizers) (taken mode (filter (matches (item_attrs item) d) s.rules))) ≡ with_item w d s image item
+    → fold (with_symbolizer w item) image (flat_map (λ r. r.symbolizers) (first_or_all mode (filter (matches (item_attrs item) d) s.rules))) ≡ with_item w d s image item
 unfolding with_item
 some_taken w d s item image mode any is =
-    ap (λ m. fold (with_symbolizer w item) image (flat_map (λ r. r.symbolizers) (taken m (filter (matches (item_attrs item) d) s.rules)))) (sym is)
+    ap (λ m. fold (with_symbolizer w item) image (flat_map (λ r. r.symbolizers) (first_or_all m (filter (matches (item_attrs item) d) s.rules)))) (sym is)
     ∙ ap (λ b. fold (with_symbolizer w item) image (flat_map (λ r. r.symbolizers)
-    (if b then taken s.filter_mode (filter (matches (item_attrs item) d) s.rules) else filter (is_fallback d) s.rules))) (sym any)
+    (if b then first_or_all s.filter_mode (filter (matches (item_attrs item) d) s.rules) else filter (is_fallback d) s.rules))) (sym any)
 
 -- the rule and all that match behind it
 pub all_drawn : (w : Window) (d : ℕ) (s : Style) (item : Item) (image after : Pixels) (r : Rule) (rest : List Rule) → FirstMatch (matches (item_attrs item) d) s.rules r rest → s.filter_mode ≡ All
@@ -112,7 +112,7 @@ unfolding with_item
 fallbacks_drawn w d s item image none =
     chosen_all w item (is_fallback d) s.rules image
     ∙ ap (λ b. fold (with_symbolizer w item) image (flat_map (λ r. r.symbolizers)
-    (if b then taken s.filter_mode (filter (matches (item_attrs item) d) s.rules) else filter (is_fallback d) s.rules))) (sym none)
+    (if b then first_or_all s.filter_mode (filter (matches (item_attrs item) d) s.rules) else filter (is_fallback d) s.rules))) (sym none)
 
 -- one rule more of a loop: one that is not chosen, and one that is
 pub rule_passed : (w : Window) (item : Item) (p : Rule → Bool) (rules : List Rule) (i : ℕ) (r : Rule) (start now : Pixels) → i < length rules → r ≡ get_or rules i r → p r ≡ false

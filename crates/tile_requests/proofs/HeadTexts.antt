@@ -4,7 +4,7 @@ use Rattle.std.proofs.lemmas.List.{take-append-le, length-take}
 use Rattle.httparse.specs.Grammar.{ReadsRequest, NeverHasRequest}
 use Rattle.httparse.specs.Spans.{RequestOverflows, RequestExceeds}
 use Rattle.httparse.proofs.GrammarLemmas.{print_request-append, request_unique, ReadsRequest-append}
-use Rattle.tile_requests.specs.Heads.{shown, IsWhole, HasNoHead, begins_newline, ends_line, has_empty_line, IsBad, IsNever, IsLong, IsCrowded, IsNothing, IsPart, IsFull}
+use Rattle.tile_requests.specs.Heads.{bytes_read, IsWhole, HasNoHead, begins_newline, ends_line, has_empty_line, IsBad, IsNever, IsLong, IsCrowded, IsNothing, IsPart, IsFull}
 use Rattle.tile_requests.specs.Laws.{NoHeadUnlessWhole, OneHead, BadStays, WholeStays}
 
 -- bytes of which no continuation has a head of few headers have none
@@ -76,16 +76,16 @@ exceeds_more : (bytes extra : List ℕ) → RequestExceeds 32 bytes → RequestE
 exceeds_more bytes extra (front, rest, e, h, reads, many) =
     (front, rest ++ extra, ap (λ (b : List ℕ). b ++ extra) e ∙ append_assoc front rest extra, h, reads, many)
 
-bad_more : (given more : List ℕ) → IsBad (shown given) → IsBad (shown (given ++ more))
+bad_more : (given more : List ℕ) → IsBad (bytes_read given) → IsBad (bytes_read (given ++ more))
 bad_more given more (IsNever never) =
-    let on = shown_more 8192 given more in subst (λ (b : List ℕ). IsBad b) (sym on.1) (IsNever (never_more (shown given) on.0 never))
+    let on = shown_more 8192 given more in subst (λ (b : List ℕ). IsBad b) (sym on.1) (IsNever (never_more (bytes_read given) on.0 never))
 bad_more given more (IsLong l none) =
     let long : 8192 ≤ length given = let e = length-take 8192 given in omega (arith, e, l) in
     subst (λ (b : List ℕ). IsBad b) (sym (take-append-le 8192 given more long)) (IsLong l none)
 bad_more given more (IsCrowded over exceeds e) =
     let on = shown_more 8192 given more in
     subst (λ (b : List ℕ). IsBad b) (sym on.1)
-    (IsCrowded (overflows_more (shown given) on.0 over) (exceeds_more (shown given) on.0 exceeds) (empty_more (shown given) on.0 e))
+    (IsCrowded (overflows_more (bytes_read given) on.0 over) (exceeds_more (bytes_read given) on.0 exceeds) (empty_more (bytes_read given) on.0 e))
 
 pub bad_stays : BadStays
 bad_stays given more bad = bad_more given more bad
@@ -94,4 +94,4 @@ pub whole_stays : WholeStays
 whole_stays given more h is =
     let on = shown_more 8192 given more in
     subst (λ (b : List ℕ). IsWhole b h) (sym on.1)
-    (record { rest = is.rest ++ on.0; reads = ReadsRequest-append (shown given) h is.rest on.0 is.reads; few = is.few })
+    (record { rest = is.rest ++ on.0; reads = ReadsRequest-append (bytes_read given) h is.rest on.0 is.reads; few = is.few })

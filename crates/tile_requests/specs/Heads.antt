@@ -7,8 +7,8 @@ use Rattle.tile_requests.specs.declared.heads.Head.{Head}
 use Rattle.tile_requests.specs.declared.heads.Head.TheVariants.{Open, Bad, Whole}
 
 -- the bytes of a connection that are read
-abbrev pub shown : List ℕ → List ℕ
-shown given = take 8192 given
+abbrev pub bytes_read : List ℕ → List ℕ
+bytes_read given = take 8192 given
 
 -- the bytes begin with this head, which has at most 32 headers
 pub record IsWhole (bytes : List ℕ) (h : RequestHead) : Type 0 where

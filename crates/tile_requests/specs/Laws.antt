@@ -3,7 +3,7 @@ use Rattle.std.specs.Prelude.{◌≡◌, ℕ, List, ◌++◌}
 use Rattle.httparse.specs.Grammar.{RequestHead}
 use Rattle.tile_requests.specs.declared.targets.Kind.{Kind}
 use Rattle.tile_requests.specs.Targets.{Place, Names}
-use Rattle.tile_requests.specs.Heads.{shown, IsWhole, HasNoHead, IsOpen, IsBad}
+use Rattle.tile_requests.specs.Heads.{bytes_read, IsWhole, HasNoHead, IsOpen, IsBad}
 
 -- What is refused, and what is waited for, begins with no head of at most 32 headers.
 abbrev pub NoHeadUnlessWhole : Type 0
@@ -19,8 +19,8 @@ OneTarget = (target : List ℕ) (k l : Kind) (p q : Place) → Names target k p 
 
 -- What is refused stays so, whatever follows.
 abbrev pub BadStays : Type 0
-BadStays = (given more : List ℕ) → IsBad (shown given) → IsBad (shown (given ++ more))
+BadStays = (given more : List ℕ) → IsBad (bytes_read given) → IsBad (bytes_read (given ++ more))
 
 -- A whole head stays the same.
 abbrev pub WholeStays : Type 0
-WholeStays = (given more : List ℕ) (h : RequestHead) → IsWhole (shown given) h → IsWhole (shown (given ++ more)) h
+WholeStays = (given more : List ℕ) (h : RequestHead) → IsWhole (bytes_read given) h → IsWhole (bytes_read (given ++ more)) h

@@ -16,8 +16,8 @@ abbrev pub GetsNone : List ℕ → Type 0
 GetsNone bytes = (h : RequestHead) × IsWhole bytes h × (h.method ≡ codes "GET") × NamesNone h.target
 
 -- one that gets this of that tile
-abbrev pub Gets : List ℕ → Kind → Place → Type 0
-Gets bytes k p = (h : RequestHead) × IsWhole bytes h × (h.method ≡ codes "GET") × Names h.target k p
+abbrev pub GetsTile : List ℕ → Kind → Place → Type 0
+GetsTile bytes k p = (h : RequestHead) × IsWhole bytes h × (h.method ≡ codes "GET") × Names h.target k p
 
 -- what the bytes ask for
 abbrev pub Reads : List ℕ → Request → Type 0
@@ -25,7 +25,7 @@ Reads bytes Open = IsOpen bytes
 Reads bytes Bad = IsBad bytes
 Reads bytes NotGet = IsNotGet bytes
 Reads bytes NoTarget = GetsNone bytes
-Reads bytes (Get t) = Gets bytes t.kind (place_of t)
+Reads bytes (Get t) = GetsTile bytes t.kind (place_of t)
 
 -- what a head of that method and target asks for
 abbrev pub Targets : List ℕ → List ℕ → Request → Type 0

@@ -11,10 +11,10 @@ use Rattle.plain_shapes.specs.declared.shapes.LineCap.TheVariants as cap
 use Rattle.plain_drawing.specs.Styles.{is_paint}
 use Rattle.plain_drawing.specs.declared.style.Symbolizer.TheVariants as paint
 use Rattle.farm_plan.specs.Plans.{MapPlan, IsPlan, IsMapPlan, HasNamesApart, NamesMap}
-use Rattle.work_gen.specs.Work.{land, roads, spots, features_of, dataset_of, paint_of, colour_of, work_plan}
+use Rattle.work_gen.specs.Work.{land, roads, spots, work_features, dataset_of, paint_of, work_colour, work_plan}
 use Rattle.work_gen.proofs.Features.{features_few, features_distinct}
 
-layer_sound : (name : List ℕ) (seed layer n : ℕ) → is_name name ≡ true → n ≤ 100000 → IsLayer (record { name = name; features = features_of seed layer n })
+layer_sound : (name : List ℕ) (seed layer n : ℕ) → is_name name ≡ true → n ≤ 100000 → IsLayer (record { name = name; features = work_features seed layer n })
 layer_sound name seed layer n fits h = record {
   named = fits;
   few = omega (arith, features_few seed layer n);
@@ -41,7 +41,7 @@ paint_cases false false c = refl
 
 -- what a rule paints is within its ranges
 pub paint_passes : (r : ℕ) → is_paint (paint_of r) ≡ true
-paint_passes r = paint_cases (eqb (r / 4) 0) (eqb (r / 4) 1) (colour_of r)
+paint_passes r = paint_cases (eqb (r / 4) 0) (eqb (r / 4) 1) (work_colour r)
 
 one_map : (maps : List MapPlan) → length maps ≡ 1 → HasNamesApart maps
 one_map maps one i j a b p q e =

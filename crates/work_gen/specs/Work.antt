@@ -44,10 +44,10 @@ feature_at seed i = record {
 }
 
 -- the features of a layer, 0 to 2, among the first n: those whose number leaves the layer's over 3
-unfoldable pub features_of : ℕ → ℕ → ℕ → List Feature
-features_of seed layer zero = []
-features_of seed layer (suc n) =
-    if n % 3 == layer then features_of seed layer n ++ feature_at seed n ∷ [] else features_of seed layer n
+unfoldable pub work_features : ℕ → ℕ → ℕ → List Feature
+work_features seed layer zero = []
+work_features seed layer (suc n) =
+    if n % 3 == layer then work_features seed layer n ++ feature_at seed n ∷ [] else work_features seed layer n
 
 -- the names of the layers
 abbrev pub land : List ℕ
@@ -62,25 +62,25 @@ spots = codes "spots"
 -- the data: three layers of n features in all
 abbrev pub dataset_of : ℕ → ℕ → List Layer
 dataset_of seed n =
-    record { name = land; features = features_of seed 0 n } ∷
-    record { name = roads; features = features_of seed 1 n } ∷
-    record { name = spots; features = features_of seed 2 n } ∷ []
+    record { name = land; features = work_features seed 0 n } ∷
+    record { name = roads; features = work_features seed 1 n } ∷
+    record { name = spots; features = work_features seed 2 n } ∷ []
 
 -- ---- the style
 
 -- the colour of rule number r
-abbrev pub colour_of : ℕ → Colour
-colour_of r = record { r = 20 * r; g = 255 - 20 * r; b = 128 }
+abbrev pub work_colour : ℕ → Colour
+work_colour r = record { r = 20 * r; g = 255 - 20 * r; b = 128 }
 
 -- what rule number r paints: land is filled, roads are two pixels wide with round ends, spots six pixels wide and high
 abbrev pub paint_of : ℕ → Symbolizer
 paint_of r =
-    if r / 4 == 0 then paint.Polygon (colour_of r) 1000 else
-    if r / 4 == 1 then paint.Line (colour_of r) 200 1000 cap.Round else paint.Markers (colour_of r) 600 600 1000
+    if r / 4 == 0 then paint.Polygon (work_colour r) 1000 else
+    if r / 4 == 1 then paint.Line (work_colour r) 200 1000 cap.Round else paint.Markers (work_colour r) 600 600 1000
 
 -- rule number r holds where the kind is r modulo 4
-unfoldable pub rule_of : ℕ → Rule
-rule_of r = record {
+unfoldable pub work_rule : ℕ → Rule
+work_rule r = record {
   filter = Some (compare_tree (name_tree (codes "kind")) sign.Equal (number_tree (pos (r % 4))));
   else_filter = false;
   min_scale_denominator = 0;
@@ -89,19 +89,19 @@ rule_of r = record {
 }
 
 -- the style of a layer: four rules, the first of this number
-unfoldable pub style_of : List ℕ → ℕ → Style
-style_of name r = record { name = name; filter_mode = mode.All; rules = rule_of r ∷ rule_of (r + 1) ∷ rule_of (r + 2) ∷ rule_of (r + 3) ∷ [] }
+unfoldable pub work_style : List ℕ → ℕ → Style
+work_style name r = record { name = name; filter_mode = mode.All; rules = work_rule r ∷ work_rule (r + 1) ∷ work_rule (r + 2) ∷ work_rule (r + 3) ∷ [] }
 
 -- a layer that the style of its name draws at all scales
-unfoldable pub layer_of : List ℕ → LayerRef
-layer_of name = record { name = name; source = name; minimum_scale_denominator = 0; maximum_scale_denominator = None; styles = name ∷ [] }
+unfoldable pub work_layer : List ℕ → LayerRef
+work_layer name = record { name = name; source = name; minimum_scale_denominator = 0; maximum_scale_denominator = None; styles = name ∷ [] }
 
 -- the style: a white background, and the three layers, each in its own style
 unfoldable pub map_style : MapStyle
 map_style = record {
   background_color = record { r = 255; g = 255; b = 255 };
-  styles = style_of land 0 ∷ style_of roads 4 ∷ style_of spots 8 ∷ [];
-  layers = layer_of land ∷ layer_of roads ∷ layer_of spots ∷ [];
+  styles = work_style land 0 ∷ work_style roads 4 ∷ work_style spots 8 ∷ [];
+  layers = work_layer land ∷ work_layer roads ∷ work_layer spots ∷ [];
   rasters = [];
   grids = [];
 }
@@ -122,13 +122,13 @@ work_plan seed n = record {
 -- ---- the steps
 
 -- the spot of a zoom by two draws, around the world's middle
-abbrev pub spot_at : ℕ → ℕ → ℕ → Spot
-spot_at seed k z = record { map = Some 0; z = z; x = 2 ^ (z - 1) + draw seed k (2 ^ (z - 11)); y = 2 ^ (z - 1) + draw seed (k + 1) (2 ^ (z - 11)) }
+abbrev pub work_spot : ℕ → ℕ → ℕ → Spot
+work_spot seed k z = record { map = Some 0; z = z; x = 2 ^ (z - 1) + draw seed k (2 ^ (z - 11)); y = 2 ^ (z - 1) + draw seed (k + 1) (2 ^ (z - 11)) }
 
 -- step number k after the data of n features takes three draws; every fourth step expires its tile first
 unfoldable pub step_at : ℕ → ℕ → ℕ → Step
 step_at seed n k = record {
-  spot = spot_at seed (4 * n + 3 * k + 1) (11 + draw seed (4 * n + 3 * k) 4);
+  spot = work_spot seed (4 * n + 3 * k + 1) (11 + draw seed (4 * n + 3 * k) 4);
   expire = k % 4 == 3;
 }
 

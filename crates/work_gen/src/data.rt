@@ -103,9 +103,9 @@ struct ByLayer {
 #[tactic(auto, using(crate::proofs::Features::feature_of_layer, crate::proofs::Features::feature_of_other, crate::proofs::Features::no_feature))]
 fn features_by_layer(alloc: Global, seed: u64, count: u32) -> Result<ByLayer, NoMemory>
     requires { count ≤ 100000 }
-    ensures land { IfOk result (λ f. f.land.items ≡ spec.features_of seed 0 count) }
-    ensures roads { IfOk result (λ f. f.roads.items ≡ spec.features_of seed 1 count) }
-    ensures spots { IfOk result (λ f. f.spots.items ≡ spec.features_of seed 2 count) }
+    ensures land { IfOk result (λ f. f.land.items ≡ spec.work_features seed 0 count) }
+    ensures roads { IfOk result (λ f. f.roads.items ≡ spec.work_features seed 1 count) }
+    ensures spots { IfOk result (λ f. f.spots.items ≡ spec.work_features seed 2 count) }
 {
     let mut draws = Draws::behind(seed, 0);
     let mut land = Vec::new(alloc);

@@ -16,7 +16,7 @@ const OPAQUE: u32 = 1000;
 
 fn colour(number: u8) -> Colour
     requires { number < 12 }
-    ensures { result ≡ spec.colour_of number }
+    ensures { result ≡ spec.work_colour number }
 {
     Colour {
         r: 20 * number,
@@ -61,10 +61,10 @@ fn filter(alloc: Global, kind: u8) -> Result<Expr, NoMemory>
     Ok(Expr::Compare(name, CompareSign::Equal, number))
 }
 
-#[tactic(auto, unfolding(crate::specs::Work::rule_of), using(crate::proofs::Sound::paint_passes))]
+#[tactic(auto, unfolding(crate::specs::Work::work_rule), using(crate::proofs::Sound::paint_passes))]
 fn rule(alloc: Global, number: u8) -> Result<Rule, NoMemory>
     requires { number < 12 }
-    ensures { IfOk result (λ r. r ≡ spec.rule_of number) }
+    ensures { IfOk result (λ r. r ≡ spec.work_rule number) }
 {
     let mut symbolizers = Vec::new(alloc);
     symbolizers.push(paint(number))?;
@@ -79,18 +79,18 @@ fn rule(alloc: Global, number: u8) -> Result<Rule, NoMemory>
 
 fn add_rule(alloc: Global, rules: &mut Vec<Rule>, number: u8) -> Result<(), NoMemory>
     requires { number < 12 }
-    ensures { OnOk result (rules.new.items ≡ rules.old.items ++ spec.rule_of number ∷ []) }
+    ensures { OnOk result (rules.new.items ≡ rules.old.items ++ spec.work_rule number ∷ []) }
 {
     rules.push(rule(alloc, number)?)?;
     Ok(())
 }
 
 /// A style of four rules, the first of this number.
-#[tactic(auto, unfolding(crate::specs::Work::style_of))]
+#[tactic(auto, unfolding(crate::specs::Work::work_style))]
 fn style(alloc: Global, name: &str, first: u8) -> Result<Style, NoMemory>
     requires first { first ≤ 8 }
     requires fits { IsTrue (is_text_to 64 name.now) }
-    ensures { IfOk result (λ s. s ≡ spec.style_of name.now first) }
+    ensures { IfOk result (λ s. s ≡ spec.work_style name.now first) }
 {
     let mut rules = Vec::new(alloc);
     add_rule(alloc, &mut rules, first)?;
@@ -105,10 +105,10 @@ fn style(alloc: Global, name: &str, first: u8) -> Result<Style, NoMemory>
 }
 
 /// A layer that the style of its name draws at all scales.
-#[tactic(auto, unfolding(crate::specs::Work::layer_of))]
+#[tactic(auto, unfolding(crate::specs::Work::work_layer))]
 fn layer(alloc: Global, name: &str) -> Result<LayerRef, NoMemory>
     requires { IsTrue (is_text_to 64 name.now) }
-    ensures { IfOk result (λ l. l ≡ spec.layer_of name.now) }
+    ensures { IfOk result (λ l. l ≡ spec.work_layer name.now) }
 {
     let mut styles = Vec::new(alloc);
     styles.push(Text::of(alloc, name)?)?;
@@ -123,7 +123,7 @@ fn layer(alloc: Global, name: &str) -> Result<LayerRef, NoMemory>
 
 /// The styles of the three layers.
 fn styles(alloc: Global) -> Result<Vec<Style>, NoMemory>
-    ensures { IfOk result (λ v. v.items ≡ spec.style_of spec.land 0 ∷ spec.style_of spec.roads 4 ∷ spec.style_of spec.spots 8 ∷ []) }
+    ensures { IfOk result (λ v. v.items ≡ spec.work_style spec.land 0 ∷ spec.work_style spec.roads 4 ∷ spec.work_style spec.spots 8 ∷ []) }
 {
     let mut styles = Vec::new(alloc);
     styles.push(style(alloc, "land", 0)?)?;
@@ -134,7 +134,7 @@ fn styles(alloc: Global) -> Result<Vec<Style>, NoMemory>
 
 /// The three layers.
 fn layers(alloc: Global) -> Result<Vec<LayerRef>, NoMemory>
-    ensures { IfOk result (λ v. v.items ≡ spec.layer_of spec.land ∷ spec.layer_of spec.roads ∷ spec.layer_of spec.spots ∷ []) }
+    ensures { IfOk result (λ v. v.items ≡ spec.work_layer spec.land ∷ spec.work_layer spec.roads ∷ spec.work_layer spec.spots ∷ []) }
 {
     let mut layers = Vec::new(alloc);
     layers.push(layer(alloc, "land")?)?;
@@ -144,7 +144,7 @@ fn layers(alloc: Global) -> Result<Vec<LayerRef>, NoMemory>
 }
 
 /// A white map of three layers, each in the style of its name.
-#[tactic(auto, unfolding(crate::specs::Work::map_style, crate::specs::Work::style_of, crate::specs::Work::layer_of))]
+#[tactic(auto, unfolding(crate::specs::Work::map_style, crate::specs::Work::work_style, crate::specs::Work::work_layer))]
 pub fn map_style(alloc: Global) -> Result<MapStyle, NoMemory>
     ensures { IfOk result (λ s. s ≡ spec.map_style) }
 {

@@ -6,22 +6,22 @@ use Rattle.front_rounds.specs.declared.farm.Worn.{Worn}
 use Rattle.front_rounds.specs.declared.fates.Fate.{Fate}
 use Rattle.front_rounds.specs.declared.fates.Fate.TheVariants.{Stays, Leaves}
 use Rattle.front_rounds.specs.declared.fates.Reason.TheVariants as reason
-use Rattle.front_rounds.specs.Rules.{Move, asked, text, each_whole, any_starves}
+use Rattle.front_rounds.specs.Rules.{Move, wants_of, answer_bytes, each_whole, any_starves}
 use Rattle.front_rounds.specs.Front.{keeps, does, EachFits, with_acts}
 use Rattle.control_lines.specs.declared.acts.Line.{Line}
 use Rattle.control_lines.specs.declared.acts.Act.{Act}
 use Rattle.control_lines.specs.declared.hearing.Talk.{Talk}
-use Rattle.control_lines.specs.Lines.{read_on, read_all, begun, wants}
-use Rattle.control_lines.specs.Control.{rules_of, text_of, act_starves, total_of, expiries}
+use Rattle.control_lines.specs.Lines.{read_on, read_all, part_alone, wants}
+use Rattle.control_lines.specs.Control.{rules_of, act_text, act_starves, total_of, expiries}
 
 -- a text is said, or there is no memory for it
-pub data Says (text old new : List ℕ) (fate : Fate) : Type 0 where
-  Said : fate ≡ Stays → new ≡ old ++ text → Says text old new fate
-  Lacks : fate ≡ Leaves reason.Starved → Says text old new fate
+pub data Says (answer_bytes old new : List ℕ) (fate : Fate) : Type 0 where
+  Said : fate ≡ Stays → new ≡ old ++ answer_bytes → Says answer_bytes old new fate
+  Lacks : fate ≡ Leaves reason.Starved → Says answer_bytes old new fate
 
 -- the answer to a line that was done is said; or there is no memory for it; or there was none for what was done
 pub data Answers (lists : List (List Tile)) (a : Act) (old new : List ℕ) (fate : Fate) : Type 0 where
-  Gives : fate ≡ Stays → act_starves a ≡ false → new ≡ old ++ text_of lists a → Answers lists a old new fate
+  Gives : fate ≡ Stays → act_starves a ≡ false → new ≡ old ++ act_text lists a → Answers lists a old new fate
   Wants : fate ≡ Leaves reason.Starved → Answers lists a old new fate
   Starves : fate ≡ Leaves reason.NoMemory → act_starves a ≡ true → Answers lists a old new fate
 
@@ -75,18 +75,18 @@ module _ (number : ℕ) (lists : List (List Tile)) (c : ℕ) where
   pub record Did (lines : List Line) (mine mine' : List Entry) (said said' : List ℕ) (fate : Fate) : Type 0 where
     pub acts : List Act
     pub mine_is : mine' ≡ with_acts (rules_of number lists) c acts mine
-    pub begins : (more : List Line) × (lines ≡ asked (rules_of number lists) (does acts) ++ more)
+    pub begins : (more : List Line) × (lines ≡ wants_of (rules_of number lists) (does acts) ++ more)
     pub fits : EachFits (rules_of number lists) acts []
     pub why : DoneWhy acts fate
-    pub said_is : keeps fate ≡ true → said' ≡ said ++ text (rules_of number lists) (does acts)
-    pub asked_is : keeps fate ≡ true → lines ≡ asked (rules_of number lists) (does acts)
+    pub said_is : keeps fate ≡ true → said' ≡ said ++ answer_bytes (rules_of number lists) (does acts)
+    pub asked_is : keeps fate ≡ true → lines ≡ wants_of (rules_of number lists) (does acts)
     pub whole : keeps fate ≡ true → each_whole (rules_of number lists) (does acts) ≡ true
 
   -- these bytes were read behind a part of a line
   pub record Heeds (part bytes : List ℕ) (mine mine' : List Entry) (part' said said' : List ℕ) (fate : Fate) : Type 0 where
-    pub did : Did (wants (read_on (begun part) bytes)) mine mine' said said' (as_done fate)
-    pub why : LongWhy (read_on (begun part) bytes).long fate
-    pub part_is : keeps fate ≡ true → part' ≡ (read_on (begun part) bytes).part
+    pub did : Did (wants (read_on (part_alone part) bytes)) mine mine' said said' (as_done fate)
+    pub why : LongWhy (read_on (part_alone part) bytes).long fate
+    pub part_is : keeps fate ≡ true → part' ≡ (read_on (part_alone part) bytes).part
 
 -- what is kept of a session is right: the part of the line that has not ended
 abbrev pub Knows : List ℕ → List (Move Act) → Talk → Type 0

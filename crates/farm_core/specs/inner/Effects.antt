@@ -18,13 +18,13 @@ use Rattle.render_queues.specs.Tables.{Tables, next_of, after_take, after_end, i
 use Rattle.expiry_lists.specs.Marks.{MarksSeen, shown_key, mark_of, soil_marks, clean_marks}
 use Rattle.farm_plan.specs.Drawings.{key_path, update_of}
 use Rattle.plain_data.specs.Features.{Layer}
-use Rattle.plain_data.specs.Data.{Change, updated}
+use Rattle.plain_data.specs.Data.{Change, update_result}
 use Rattle.farm_history.specs.declared.saved.Past.{Past}
 use Rattle.farm_jobs.specs.Shared.{ShareSeen}
 use Rattle.farm_stands.specs.Seen.{Counts, FarmSeen}
 use Rattle.farm_stands.specs.Jobs.{JobSeen, job_key}
 use Rattle.farm_stands.specs.Reads.{ReadsTile, fetched_by}
-use Rattle.farm_stands.specs.inner.Events.{claimed, soil_taken, stale_tables, taken_at, turned}
+use Rattle.farm_stands.specs.inner.Events.{new_flight, soil_taken, stale_tables, taken_at, one_turn_more}
 
 -- ---- claims
 
@@ -42,14 +42,14 @@ pub record IsJobFor {D : Type 0} (farm : FarmSeen D) (worker : ℕ) (job : JobSe
 abbrev pub after_claim : {D : Type 0} → FarmSeen D → Key → FarmSeen D
 after_claim farm key = record farm {
   queues = after_take farm.queues (next_of farm.queues.lines);
-  taken = farm.taken ++ claimed farm.counts.jobs key farm.counts.version ∷ [];
+  taken = farm.taken ++ new_flight farm.counts.jobs key farm.counts.version ∷ [];
   counts = record farm.counts { jobs = farm.counts.jobs + 1 };
 }
 
 -- the farm after a drawing of the key began
 abbrev pub begins : {D : Type 0} → FarmSeen D → Key → FarmSeen D
 begins farm key = record farm {
-  taken = farm.taken ++ claimed farm.counts.jobs key farm.counts.version ∷ [];
+  taken = farm.taken ++ new_flight farm.counts.jobs key farm.counts.version ∷ [];
   counts = record farm.counts { jobs = farm.counts.jobs + 1 };
 }
 
@@ -133,13 +133,13 @@ pub record IsNext (own : ShareSeen) (layers : List Layer) (next : ShareSeen) (sp
 
 -- such a share, of the data after an update
 pub record Nexts (own : ShareSeen) (changes : List Change) (next : ShareSeen) (spares : List ShareSeen) (room : ℕ) : Type 0 where
-  pub applied : updated changes own.data_now ≡ Ok next.data_now
+  pub applied : update_result changes own.data_now ≡ Ok next.data_now
   pub shares : IsNext own next.data_now next spares room
 
 -- the update's data are the newest now, as one more version, and the update is noted
 abbrev pub Advances : {D : Type 0} → FarmSeen D → FarmSeen D → ℕ → Past → Type 0
 Advances old new n past =
-    (updated (update_of old.plan n) old.data_now ≡ Ok new.data_now)
+    (update_result (update_of old.plan n) old.data_now ≡ Ok new.data_now)
     × (new ≡ record old { data_now = new.data_now; changes = old.changes ++ past ∷ []; counts = record old.counts { version = old.counts.version + 1 } })
 
 -- ---- touches
@@ -155,7 +155,7 @@ pub record Soils {D : Type 0} (test : Key → Bool) (old new : FarmSeen D) (coun
 
 -- the farm after one more call, and nothing else
 abbrev pub turn : {D : Type 0} → FarmSeen D → FarmSeen D
-turn farm = record farm { counts = turned farm.counts }
+turn farm = record farm { counts = one_turn_more farm.counts }
 
 -- whether as many drawings are under way as there are workers, by the tables and by what the farm itself keeps, which are at one
 abbrev pub is_crowded : {D : Type 0} → FarmSeen D → Bool

@@ -1,6 +1,6 @@
 -- What a renew does to a farm, without a history.
 use Rattle.std.specs.Prelude.{ℕ, ◌+◌, ◌<◌, ◌≡◌, List, [], ◌∷◌, ◌++◌, All, length, slice_get, Ok}
-use Rattle.plain_data.specs.Data.{IsDataset, IsLayer, updated}
+use Rattle.plain_data.specs.Data.{IsDataset, IsLayer, update_result}
 use Rattle.geo_model.specs.declared.bounds.Bounds.{Bounds}
 use Rattle.reach_box.specs.Boxes.{IsBox}
 use Rattle.farm_history.specs.declared.saved.Past.{Past}
@@ -29,7 +29,7 @@ pub record Reaches {D : Type 0} (boxes : List Bounds) (old new : FarmSeen D) (co
 pub record Renews {D : Type 0} (old new : FarmSeen D) (number count : ℕ) : Type 0 where
   pub boxes : List Bounds
   pub names : Names old number boxes
-  pub applied : updated (update_of old.plan number) old.data_now ≡ Ok new.data_now
+  pub applied : update_result (update_of old.plan number) old.data_now ≡ Ok new.data_now
   pub marks : Expires (is_reached old.plan.maps boxes) old.marks.shown new.marks.shown count
   pub apart : 0 < length boxes → AreApart shown_key old.marks.shown
   pub rest : new ≡ record old {

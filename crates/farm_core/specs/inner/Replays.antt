@@ -4,19 +4,19 @@ use Rattle.farm_base.specs.Outside.{Outside}
 use Rattle.tile_store.specs.Stores.{StoreTold}
 use Rattle.farm_base.specs.declared.faults.ApplyFault.{ApplyFault}
 use Rattle.plain_world.specs.World.{IsMeta}
-use Rattle.plain_data.specs.Data.{updated}
+use Rattle.plain_data.specs.Data.{update_result}
 use Rattle.farm_history.specs.declared.keys.Kept.{Kept}
 use Rattle.farm_history.specs.declared.saved.Past.{Past}
 use Rattle.farm_history.specs.Entries.{Entry}
 use Rattle.farm_history.specs.Past.{is_stopped, flights, waiting, open_asks}
 use Rattle.farm_history.specs.Rules.{Legal}
-use Rattle.farm_history.specs.Replays.{Saving, number_of, replay_change, replay_keys}
+use Rattle.farm_history.specs.Replays.{Saving, past_number, replay_change, replay_keys}
 use Rattle.farm_plan.specs.Plans.{FarmPlan}
 use Rattle.farm_plan.specs.Drawings.{plan_of, update_of}
 use Rattle.expiry_lists.specs.Marks.{Shown, mark_of}
 use Rattle.farm_stands.specs.Seen.{FarmSeen}
 use Rattle.farm_stands.specs.Stands.{failures, StandsFor}
-use Rattle.farm_stands.specs.inner.Events.{no_counts, begun, replayed_counts}
+use Rattle.farm_stands.specs.inner.Events.{no_counts, new_farm, replayed_counts}
 use Rattle.resume_faults.specs.declared.faults.ResumeFault.{ResumeFault}
 use Rattle.resume_faults.specs.Given.{styles_given}
 use Rattle.resume_faults.specs.Faults.{can_show, refused_at}
@@ -42,7 +42,7 @@ pub record Stays {D : Type 0} (old new : FarmSeen D) : Type 0 where
 
 -- a farm of the plan over the store as its replay begins: its maps have been given the styles that were saved
 pub record IsAnew {D : Type 0} (plan : FarmPlan) (s : Saving) (store : D) (farm : FarmSeen D) : Type 0 where
-  pub is : farm ≡ record (begun plan (Some s) store s.styles farm.marks) { counts = record no_counts { turns = styles_given s.styles } }
+  pub is : farm ≡ record (new_farm plan (Some s) store s.styles farm.marks) { counts = record no_counts { turns = styles_given s.styles } }
   pub unmarked : farm.marks.shown ≡ []
 
 -- a clean metatile that the plan has
@@ -81,7 +81,7 @@ ReplaysChange old new (Past.Renew n) = (count : ℕ) × Renews (turn old) new n 
 
 -- a version was replayed: its clean metatiles, and then the update that ended it
 pub record ReplaysVersion {D : Type 0} (state : D → Outside StoreTold) (old new : FarmSeen D) (v : ℕ) (c : Past) (clean : List Kept) : Type 0 where
-  pub applied : updated (update_of old.plan (number_of c)) old.data_now ≡ Ok new.data_now
+  pub applied : update_result (update_of old.plan (past_number c)) old.data_now ≡ Ok new.data_now
   pub version : new.counts.version ≡ v + 1
   pub turns : new.counts.turns ≡ old.counts.turns + 4 * how_many_of v clean + 1
   pub fresh : IsFresh (v + 1) 0 clean new.marks.shown
@@ -91,4 +91,4 @@ pub record ReplaysVersion {D : Type 0} (state : D → Outside StoreTold) (old ne
 pub record RefusesAt {D : Type 0} (farm : FarmSeen D) (v : ℕ) (c : Past) (e : ResumeFault) : Type 0 where
   pub fault : ApplyFault
   pub is : e ≡ refused_at v fault
-  pub refused : fault ≢ ApplyFault.NoMemory → updated (update_of farm.plan (number_of c)) farm.data_now ≡ Err fault
+  pub refused : fault ≢ ApplyFault.NoMemory → update_result (update_of farm.plan (past_number c)) farm.data_now ≡ Err fault

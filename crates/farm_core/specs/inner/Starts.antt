@@ -6,7 +6,7 @@ use Rattle.farm_plan.specs.Plans.{FarmPlan}
 use Rattle.farm_jobs.specs.Shared.{ShareSeen}
 use Rattle.render_queues.specs.Tables.{Tables, no_tables}
 use Rattle.farm_stands.specs.Seen.{FarmSeen}
-use Rattle.farm_stands.specs.inner.Events.{begun}
+use Rattle.farm_stands.specs.inner.Events.{new_farm}
 
 -- the tables of a farm that begins, for so many maps and workers and these limits: no map has been given a style, nothing is drawn and nothing waits, and each worker's drawing has its place
 pub record AreFirst (maps : ℕ) (limits : Limits) (workers : ℕ) (styled : List (Option ℕ)) (taken : List Taken) (queues : Tables) (taken_room : ℕ) : Type 0 where
@@ -24,5 +24,5 @@ pub record AreParts (plan : FarmPlan) (own : ShareSeen) (spares : List ShareSeen
 
 -- a farm that begins with the plan over the store
 pub record IsStarted {D : Type 0} (plan : FarmPlan) (store : D) (farm : FarmSeen D) : Type 0 where
-  pub is : farm ≡ begun plan None store (replicate (length plan.maps) None) farm.marks
+  pub is : farm ≡ new_farm plan None store (replicate (length plan.maps) None) farm.marks
   pub unmarked : farm.marks.shown ≡ []

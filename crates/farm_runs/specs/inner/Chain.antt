@@ -21,9 +21,9 @@ use Rattle.farm_threads.specs.Actors.{Leaving, WorkBy, IsReady, HasEnded, AreSta
 
 module _ {T : Type 0} where
   -- the first seat after the workers' seats were joined into it, from the last one on
-  abbrev pub gathered : SeatState T Entry → List (Actor (SeatState T Entry)) → SeatState T Entry
-  gathered v [] = v
-  gathered v (a ∷ rest) = joining (gathered v rest) a.seat
+  abbrev pub first_seat_after : SeatState T Entry → List (Actor (SeatState T Entry)) → SeatState T Entry
+  first_seat_after v [] = v
+  first_seat_after v (a ∷ rest) = joining (first_seat_after v rest) a.seat
 
   -- what it notes of them
   abbrev pub notes : List (Actor (SeatState T Entry)) → List (ℕ × List (ℕ × Entry))
@@ -87,9 +87,9 @@ module _ {T : Type 0} where
 -- The end of a run: `own` is the first seat after the threads, `h` the same at the closing, which leaves the farm and the history
 pub record IsEnd {D : Type 0} (state : D → Outside StoreTold) (made : Made (Turned D)) (own : SeatState (Turned D) Entry) (crew : List (Actor (SeatState (Turned D) Entry))) (tally : Option Totals) (closed : FarmSeen D × List (ℕ × Entry)) : Type 0 where
   pub h : SeatState (Turned D) Entry
-  pub longer : StartsWith (gathered own crew).seen own.seen
-  pub tallies : IsTally tally (gathered own crew) h
-  pub same : SameSeat (gathered own crew) h
+  pub longer : StartsWith (first_seat_after own crew).seen own.seen
+  pub tallies : IsTally tally (first_seat_after own crew) h
+  pub same : SameSeat (first_seat_after own crew) h
   pub known : Knows h
   pub is_closed : IsClosed state made.about.limit made.about.first.value.farm h closed.0
   pub history : closed.1 ≡ h.seen

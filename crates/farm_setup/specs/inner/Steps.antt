@@ -14,7 +14,7 @@ use Rattle.farm_plan.specs.Plans.{FarmPlan}
 use Rattle.farm_stands.specs.Seen.{FarmSeen}
 use Rattle.farm_stands.specs.Stands.{StandsFor}
 use Rattle.farm_core.specs.Begins.{Begins, origin}
-use Rattle.farm_setup.specs.Beginnings.{Refusal, RefusesFor, resumed_by, saved_path}
+use Rattle.farm_setup.specs.Beginnings.{ResumeRefusal, RefusesFor, resumed_by, saved_path}
 
 -- why a call ends in which the store did not do what it was asked
 abbrev pub stop_of : StoreFault → Stop
@@ -35,7 +35,7 @@ pub record BeganWith {D : Type 0} (state : D → Outside StoreTold) (plan : Farm
 
 -- why none was
 abbrev pub Refuses : FarmPlan → Option (List ℕ) → Stop → Type 0
-Refuses plan found (stop.Refused line) = (why : Refusal) × (resumed_by plan found ≡ Err why) × RefusesFor why line
+Refuses plan found (stop.Refused line) = (why : ResumeRefusal) × (resumed_by plan found ≡ Err why) × RefusesFor why line
 Refuses plan found stop.NoMemory = Unit {0}
 Refuses plan found other = ⊥
 

@@ -25,7 +25,7 @@ use Rattle.farm_history.specs.Replays.{Saving}
 use Rattle.farm_plan.specs.Plans.{FarmPlan}
 use Rattle.farm_plan.specs.Drawings.{plan_of}
 use Rattle.render_queues.specs.OneQueue.{is_below}
-use Rattle.render_queues.specs.Tables.{Tables, no_tables, line_of, next_of, open_of, open_count, placed, joined, lifted, is_of_front}
+use Rattle.render_queues.specs.Tables.{Tables, no_tables, line_of, next_of, open_of, open_count, after_place, after_join, after_lift, is_of_front}
 use Rattle.expiry_lists.specs.Marks.{MarksSeen, mark_of}
 use Rattle.farm_stands.specs.Seen.{Counts, FarmSeen}
 
@@ -36,8 +36,8 @@ abbrev pub no_counts : Counts
 no_counts = record { turns = 0; stopped = false; version = 0; numbers = 0; jobs = 0; asks = 0; done = 0; stored = 0 }
 
 -- a farm as it begins, over a store, with these styles' numbers and marks
-abbrev pub begun : {D : Type 0} → FarmPlan → Option Saving → D → List (Option ℕ) → MarksSeen → FarmSeen D
-begun plan saved store st ms = record {
+abbrev pub new_farm : {D : Type 0} → FarmPlan → Option Saving → D → List (Option ℕ) → MarksSeen → FarmSeen D
+new_farm plan saved store st ms = record {
   plan = plan;
   saved = saved;
   first = store;
@@ -52,8 +52,8 @@ begun plan saved store st ms = record {
 }
 
 -- one more call
-abbrev pub turned : Counts → Counts
-turned c = record c { turns = c.turns + 1 }
+abbrev pub one_turn_more : Counts → Counts
+one_turn_more c = record c { turns = c.turns + 1 }
 
 -- ---- asks
 
@@ -92,15 +92,15 @@ waiter conn n = record { conn = conn; ask = n }
 
 -- the tables after an ask with that answer
 abbrev pub asked_tables : Tables → Queue → Key → Conn → AskAnswer → Tables
-asked_tables t own k conn (Queued n) = joined (placed t own k) k (Some (waiter conn n))
-asked_tables t own k conn (Joined n) = joined t k (Some (waiter conn n))
-asked_tables t own k conn (Lifted n) = joined (lifted t own k) k (Some (waiter conn n))
-asked_tables t own k conn (NotDone Deferred) = placed t Queue.Dirty k
+asked_tables t own k conn (Queued n) = after_join (after_place t own k) k (Some (waiter conn n))
+asked_tables t own k conn (Joined n) = after_join t k (Some (waiter conn n))
+asked_tables t own k conn (Lifted n) = after_join (after_lift t own k) k (Some (waiter conn n))
+asked_tables t own k conn (NotDone Deferred) = after_place t Queue.Dirty k
 asked_tables t own k conn _ = t
 
 -- the key goes last in the dirty queue where it has room
 abbrev pub with_dirty : Tables → Key → Tables
-with_dirty t k = if is_below t.lines.dirty then placed t Queue.Dirty k else t
+with_dirty t k = if is_below t.lines.dirty then after_place t Queue.Dirty k else t
 
 -- the tables after an ask with Dirty that touches its key: one that stands nowhere goes to the dirty queue
 abbrev pub marked_tables : Tables → Key → Tables
@@ -120,8 +120,8 @@ claim_at farm =
     else job_of (next_of farm.queues.lines) farm.counts.jobs farm.counts.version
 
 -- a drawing that is claimed now
-abbrev pub claimed : ℕ → Key → ℕ → Taken
-claimed ticket k version = record { ticket = ticket; key = k; version = version; touched = false }
+abbrev pub new_flight : ℕ → Key → ℕ → Taken
+new_flight ticket k version = record { ticket = ticket; key = k; version = version; touched = false }
 
 -- the drawing under way with that ticket
 abbrev pub taken_at : List Taken → ℕ → Option Taken

@@ -2,12 +2,12 @@
 use Rattle.std.specs.Prelude.{ℕ, Bool, ◌==◌, ◌||◌, if◌then◌else◌, List, [], ◌∷◌, ◌++◌, encode_utf8}
 use Rattle.filter_expr.specs.Trees.{Tree, sign_token}
 use Rattle.filter_expr.specs.Seen.{Part}
-use Rattle.filter_texts.specs.Written.{spelling, guarded, shown, tokens_in, put_behind, put_tokens}
+use Rattle.filter_texts.specs.Written.{spelling, parens_below, shown, tokens_in, put_behind, put_tokens}
 
 -- what was written, and a space behind it if it is not empty
-abbrev pub spaced : List ℕ → List ℕ
-spaced [] = []
-spaced (b ∷ bs) = (b ∷ bs) ++ 32 ∷ []
+abbrev pub with_space : List ℕ → List ℕ
+with_space [] = []
+with_space (b ∷ bs) = (b ∷ bs) ++ 32 ∷ []
 
 -- the characters that a backslash stands before: the single quote and the backslash
 abbrev pub is_escaped : ℕ → Bool
@@ -23,7 +23,7 @@ put_form e out = put_tokens out (tokens_in (shown e))
 
 -- a tree behind what was written, in parentheses where it binds more weakly than `l`
 abbrev pub put_tree : ℕ → Tree → List ℕ → List ℕ
-put_tree l e out = put_tokens out (tokens_in (guarded l (shown e)))
+put_tree l e out = put_tokens out (tokens_in (parens_below l (shown e)))
 
 -- trees, each behind the same word
 abbrev pub put_parts : List ℕ → ℕ → List Tree → List ℕ → List ℕ

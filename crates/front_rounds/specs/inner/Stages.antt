@@ -11,8 +11,8 @@ use Rattle.port_trait.specs.declared.events.PortEvent.TheVariants as event
 use Rattle.port_trait.specs.declared.events.SendFault.TheVariants as send_fault
 use Rattle.port_trait.specs.declared.ends.FrontEnd.{FrontEnd}
 use Rattle.port_trait.specs.declared.ends.FrontEnd.TheVariants as ended
-use Rattle.port_trait.specs.Told.{PortsTold, Hears as HearsEvent, heard, sent, closed}
-use Rattle.port_trait.specs.Boxes.{held, put_rest}
+use Rattle.port_trait.specs.Told.{PortsTold, Hears as HearsEvent, heard, after_send, after_close}
+use Rattle.port_trait.specs.Boxes.{rest_in, put_rest}
 use Rattle.front_rounds.specs.declared.fates.Fate.{Fate}
 use Rattle.front_rounds.specs.declared.fates.Fate.TheVariants.{Stays, Leaves}
 use Rattle.front_rounds.specs.declared.fates.Reason.{Reason}
@@ -102,17 +102,17 @@ OwesNone s = keeps s.fate ≡ true → s.owes ≡ false
 -- or no memory.
 pub data Settles (c : ℕ) (said : List ℕ) (fate fate' : Fate) (box box' : List (ℕ × List ℕ)) : Type 0 where
   Passes : keeps fate ≡ false → fate' ≡ fate → box' ≡ box → Settles c said fate fate' box box'
-  Holds : keeps fate ≡ true → fate' ≡ fate → box' ≡ put_rest box c (held box c ++ said) → length (held box c ++ said) ≤ 1048576 → Settles c said fate fate' box box'
-  Overflows : keeps fate ≡ true → fate' ≡ Leaves reason.Full → box' ≡ box → 1048576 < length (held box c ++ said) → Settles c said fate fate' box box'
+  Holds : keeps fate ≡ true → fate' ≡ fate → box' ≡ put_rest box c (rest_in box c ++ said) → length (rest_in box c ++ said) ≤ 1048576 → Settles c said fate fate' box box'
+  Overflows : keeps fate ≡ true → fate' ≡ Leaves reason.Full → box' ≡ box → 1048576 < length (rest_in box c ++ said) → Settles c said fate fate' box box'
   Starves : keeps fate ≡ true → fate' ≡ Leaves reason.Starved → box' ≡ box → Settles c said fate fate' box box'
 
 -- What an offer does: nothing is due; some bytes are left; all were taken; it failed; or there is no memory.
 abbrev pub Gives : ℕ → List ℕ → List (ℕ × List ℕ) → List (ℕ × List ℕ) → Option PortsTold → Option PortsTold → Gave → Type 0
 Gives c rest box box' told told' gave.Nothing = (length rest ≡ 0) × (box' ≡ box) × (told' ≡ told)
-Gives c rest box box' told told' gave.Part = (0 < length rest) × ((n : ℕ) × (n ≤ length rest) × (0 < length (drop n rest)) × (box' ≡ put_rest box c (drop n rest)) × (told' ≡ option_map (sent c rest (Ok n)) told))
-Gives c rest box box' told told' gave.All = (0 < length rest) × ((n : ℕ) × (n ≤ length rest) × (length (drop n rest) ≡ 0) × (box' ≡ put_rest box c (drop n rest)) × (told' ≡ option_map (sent c rest (Ok n)) told))
-Gives c rest box box' told told' gave.Failed = (0 < length rest) × (box' ≡ box) × (told' ≡ option_map (sent c rest (Err send_fault.Failed)) told)
-Gives c rest box box' told told' gave.NoMemory = (0 < length rest) × (box' ≡ box) × (told' ≡ option_map (sent c rest (Err send_fault.NoMemory)) told)
+Gives c rest box box' told told' gave.Part = (0 < length rest) × ((n : ℕ) × (n ≤ length rest) × (0 < length (drop n rest)) × (box' ≡ put_rest box c (drop n rest)) × (told' ≡ option_map (after_send c rest (Ok n)) told))
+Gives c rest box box' told told' gave.All = (0 < length rest) × ((n : ℕ) × (n ≤ length rest) × (length (drop n rest) ≡ 0) × (box' ≡ put_rest box c (drop n rest)) × (told' ≡ option_map (after_send c rest (Ok n)) told))
+Gives c rest box box' told told' gave.Failed = (0 < length rest) × (box' ≡ box) × (told' ≡ option_map (after_send c rest (Err send_fault.Failed)) told)
+Gives c rest box box' told told' gave.NoMemory = (0 < length rest) × (box' ≡ box) × (told' ≡ option_map (after_send c rest (Err send_fault.NoMemory)) told)
 
 -- whether bytes are left after a send
 abbrev pub part_or_all : List ℕ → Gave
@@ -130,7 +130,7 @@ fate_after gave.NoMemory done fate = Leaves reason.Starved
 
 -- a connection that is left is closed, if it is still open in the ports
 abbrev pub Shuts : ℕ → Reason → Option PortsTold → Option PortsTold → Type 0
-Shuts c why told told' = (is_up (Leaves why) ≡ true → told' ≡ option_map (closed c) told) × (is_up (Leaves why) ≡ false → told' ≡ told)
+Shuts c why told told' = (is_up (Leaves why) ≡ true → told' ≡ option_map (after_close c) told) × (is_up (Leaves why) ≡ false → told' ≡ told)
 
 -- the session of the connection, if it is there, is marked, and nothing else changes
 pub data MarksAt {T : Type 0} (e : PortEvent) (c : ℕ) (old new : SessionTable T) : Type 0 where
@@ -166,7 +166,7 @@ module _ {A W T : Type 0} (R : Rules A W) (K : List ℕ → List (Move A) → T 
   -- an offer to a session
   pub data OffersOne (s s' : Session T) (box box' : List (ℕ × List ℕ)) (told told' : Option PortsTold) : Type 0 where
     Idle : (s.owes ≡ true → keeps s.fate ≡ true → ⊥) → s' ≡ s → box' ≡ box → told' ≡ told → OffersOne s s' box box' told told'
-    Gives_it : s.owes ≡ true → keeps s.fate ≡ true → (g : Gave) (done : Bool) → Gives s.conn (held box s.conn) box box' told told' g
+    Gives_it : s.owes ≡ true → keeps s.fate ≡ true → (g : Gave) (done : Bool) → Gives s.conn (rest_in box s.conn) box box' told told' g
         → ((given : List ℕ) (ms : List (Move A)) → K given ms s.talk → done ≡ R.ends ms)
         → s' ≡ record s { owes = false; fate = fate_after g done s.fate } → OffersOne s s' box box' told told'
 

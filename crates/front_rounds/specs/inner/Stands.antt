@@ -3,12 +3,12 @@ use Rattle.std.specs.Prelude.{◌≡◌, ℕ, ◌-◌, ◌^◌, ◌≤◌, true,
 use Rattle.farm_history.specs.Lists.{Each}
 use Rattle.farm_history.specs.Entries.{Entry}
 use Rattle.port_trait.specs.Told.{PortsTold, IsOpen}
-use Rattle.port_trait.specs.Boxes.{HasRest, held}
+use Rattle.port_trait.specs.Boxes.{HasRest, rest_in}
 use Rattle.front_rounds.specs.declared.fates.Fate.{Fate}
 use Rattle.front_rounds.specs.declared.fates.Fate.TheVariants.{Stays, Leaves}
 use Rattle.front_rounds.specs.declared.sessions.Session.{Session}
 use Rattle.front_rounds.specs.declared.sessions.SessionTable.{SessionTable}
-use Rattle.front_rounds.specs.Rules.{Rules, Move, asked, text, each_whole}
+use Rattle.front_rounds.specs.Rules.{Rules, Move, wants_of, answer_bytes, each_whole}
 use Rattle.front_rounds.specs.Steps.{Step, there, own, starved_in}
 use Rattle.front_rounds.specs.Parts.{Part, part, due, must, Offered, Caused, Calm, Running, is_open, told_after, EachMayCome}
 use Rattle.front_rounds.specs.Rounds.{Sound, HasAll}
@@ -37,8 +37,8 @@ module _ {A W : Type 0} (R : Rules A W) where
 
   -- the numbers of a connection: no more were taken than answered, as the round began and since
   pub record Counts (p : Part A) : Type 0 where
-    pub low : p.took ≤ length (text R p.moves)
-    pub before : p.was ≤ length (text R p.moves)
+    pub low : p.took ≤ length (answer_bytes R p.moves)
+    pub before : p.was ≤ length (answer_bytes R p.moves)
     pub more : p.had ≤ p.took
     pub untaken : p.tried ≡ false → p.took ≡ p.had
 
@@ -46,7 +46,7 @@ module _ {A W T : Type 0} (R : Rules A W) (K : List ℕ → List (Move A) → T 
   -- a session whose bytes are kept, with its rest
   pub record Keeping (p : Part A) (s : Session T) (rest : List ℕ) : Type 0 where
     pub rest_is : rest ≡ due R p
-    pub asked_all : R.wanted p.given (asked R p.moves)
+    pub asked_all : R.wanted p.given (wants_of R p.moves)
     pub whole : each_whole R p.moves ≡ true
     pub knows : K p.given p.moves s.talk
     pub running : Running p
@@ -59,7 +59,7 @@ module _ {A W T : Type 0} (R : Rules A W) (K : List ℕ → List (Move A) → T 
     pub opening : is_up s.fate ≡ true → IsOpen s.conn told
     pub up : is_open p ≡ is_up s.fate
     pub counts : Counts R p
-    pub keeping : keeps s.fate ≡ true → Keeping p s (held box s.conn)
+    pub keeping : keeps s.fate ≡ true → Keeping p s (rest_in box s.conn)
     pub fate_fits : FateFits R p s.fate
     pub asked_all : asks_all s.fate ≡ true → HasAll R p
 

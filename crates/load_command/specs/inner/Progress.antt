@@ -25,7 +25,7 @@ use Rattle.script_text.specs.ScriptTexts.{has_failed}
 use Rattle.work_gen.specs.declared.stepping.Step.{Step}
 use Rattle.load_command.specs.declared.totals.Totals.{Totals}
 use Rattle.load_command.specs.declared.steps.StepSeen.{StepSeen}
-use Rattle.load_command.specs.Loads.{clean_tiles, byte_sum, Ends, IsLast, replied, IsStep, IsEventOf, IsLoad}
+use Rattle.load_command.specs.Loads.{clean_tiles, byte_sum, EndsClaim, IsLast, collect_entry, IsStep, IsEventOf, IsLoad}
 use Rattle.load_command.specs.Runs.{LoadsShort}
 
 -- how many events there were, and how many asks are open: a Collect that gives a reply makes it no more
@@ -45,12 +45,12 @@ BreaksOff s before after = (rest : List Entry) × (after ≡ rest ++ before) × 
 
 -- what was claimed was drawn and ended; whether its put failed is told. In want of memory it broke off
 abbrev pub Draws : Step → List Entry → Result Bool NoMemory → List Entry → Type 0
-Draws s before (Ok failed) after = (claimed : ClaimAnswer) × Ends claimed (Claim 0 claimed ∷ before) after × (has_failed after ≡ (failed || has_failed before))
+Draws s before (Ok failed) after = (claimed : ClaimAnswer) × EndsClaim claimed (Claim 0 claimed ∷ before) after × (has_failed after ≡ (failed || has_failed before))
 Draws s before (Err wanting) after = BreaksOff s before after
 
 -- the replies were collected, until there was none
 abbrev pub CollectsAll : List Entry → List Entry → Type 0
-CollectsAll before after = (replies : List Reply) × (last : Collected) × IsLast last × (after ≡ Collect 0 last ∷ (map replied replies ++ before))
+CollectsAll before after = (replies : List Reply) × (last : Collected) × IsLast last × (after ≡ Collect 0 last ∷ (map collect_entry replies ++ before))
 
 -- whether a fetch says that a call of the store failed
 abbrev pub is_failed_fetch : Fetched → Bool

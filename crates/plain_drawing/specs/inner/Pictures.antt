@@ -6,7 +6,7 @@ use Rattle.plain_data.specs.Features.{Layer}
 use Rattle.plain_drawing.specs.Styles.{Style, LayerRef, MapStyle}
 use Rattle.plain_shapes.specs.Images.{Pixels}
 use Rattle.plain_shapes.specs.inner.Canvas.{stepped}
-use Rattle.plain_drawing.specs.Rules.{drawn, is_active}
+use Rattle.plain_drawing.specs.Rules.{item_symbolizers, is_active}
 use Rattle.plain_drawing.specs.Drawing.{Item, item_attrs, symbolizer_at, items_of, style_named}
 
 -- the picture after one symbolizer on an item
@@ -15,7 +15,7 @@ with_symbolizer w item image s = stepped w (λ c d. symbolizer_at w.pixel item c
 
 -- after all that an item meets in a style
 unfoldable pub with_item : Window → ℕ → Style → Pixels → Item → Pixels
-with_item w denominator style image item = fold (with_symbolizer w item) image (drawn (item_attrs item) denominator style)
+with_item w denominator style image item = fold (with_symbolizer w item) image (item_symbolizers (item_attrs item) denominator style)
 
 -- after a style's pass over all items
 unfoldable pub with_style : Window → ℕ → List Item → Pixels → Style → Pixels

@@ -5,11 +5,11 @@ use Rattle.std.specs.List.{flat_map}
 use Rattle.turn_cell.specs.SeatStates.{Made, SeatState, IsSeatOf, SameSeat}
 use Rattle.render_workers.specs.declared.worker.WorkEnd.{WorkEnd}
 use Rattle.render_workers.specs.declared.worker.Next.{Next}
-use Rattle.render_workers.specs.Rounds.{Round, entries_of, EndsWith, Gains}
+use Rattle.render_workers.specs.Rounds.{Round, entries_of, LastEntries, Gains}
 
 -- the round gained the entries of a round, or those of an end
 abbrev pub AddsRound : {T : Type 0} → ℕ → Next → SeatState T Entry → SeatState T Entry → Type 0
-AddsRound w (Next.End end) v u = (last : List Entry) × Gains last v u × EndsWith w end last
+AddsRound w (Next.End end) v u = (last : List Entry) × Gains last v u × LastEntries w end last
 AddsRound w _ v u = (r : Round) × Gains (entries_of w r) v u
 
 -- where it ends Worn, the seat has the mark

@@ -3,7 +3,7 @@ use Rattle.std.specs.Prelude.{◌≡◌, ℕ, cond, List, [], ◌∷◌, ◌++�
 use Rattle.renderd_protocol.specs.declared.messages.Request.{Request}
 use Rattle.renderd_protocol.specs.declared.messages.Found.TheVariants.{Message}
 use Rattle.renderd_protocol.specs.Messages.{found_in}
-use Rattle.renderd_protocol.specs.Stream.{taken}
+use Rattle.renderd_protocol.specs.Stream.{stream_read}
 use Rattle.farm_history.specs.Entries.{Entry}
 use Rattle.front_rounds.specs.declared.fates.Fate.{Fate}
 use Rattle.front_rounds.specs.declared.fates.Fate.TheVariants.{Stays, Leaves}
@@ -24,7 +24,7 @@ pairs ws = map pair_of ws
 
 -- the asks that stand in the bytes
 abbrev pub asks_of : List ℕ → List Request
-asks_of bytes = asks_in (taken bytes).requests
+asks_of bytes = asks_in (stream_read bytes).requests
 
 -- Of asks that were made, the newest first: their requests, what was answered at once, and those that wait, behind others.
 
@@ -64,11 +64,11 @@ pub record Reads (front : ℕ) (maps : List ℕ → Option ℕ) (c : ℕ) (bytes
   pub asks : List Request
   pub made : Made front maps c asks mine mine' waits waits' said said'
   pub whole : asks_of bytes ≡ asks ++ asks_of rest
-  pub left : (taken bytes).rest ≡ (taken rest).rest
+  pub left : (stream_read bytes).rest ≡ (stream_read rest).rest
 
 -- what is kept of a connection is the bytes after its last whole message, and its asks that wait
 pub record Knows (given : List ℕ) (ms : List (Move Asked)) (talk : Talk) : Type 0 where
-  pub unread : talk.unread.items ≡ (taken given).rest
+  pub unread : talk.unread.items ≡ (stream_read given).rest
   pub waits : pairs talk.waits.items ≡ waiting ms
 
 -- what becomes of a connection whose bytes were read up to these

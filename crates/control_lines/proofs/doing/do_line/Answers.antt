@@ -48,4 +48,4 @@ pub returns-in-Ok-stop-clause-did : goal.returns-in-Ok-stop-clause-did
 returns-in-Ok-stop-clause-did g c = λ front conn.
     let a = act.Stops in
     did_at front c.args.lists.now conn c.args.line a _ _ _ _ c.say.result c.in-Stop.is refl refl c.in-Ok-stop.ensures.takes
-    (says_answer c.args.lists.now a (spec.text_of c.args.lists.now a) _ _ c.say.result refl refl c.say.ensures)
+    (says_answer c.args.lists.now a (spec.act_text c.args.lists.now a) _ _ c.say.result refl refl c.say.ensures)

@@ -3,7 +3,7 @@ use Rattle.std.proofs.Common.{◌∙◌, List, [], subst}
 use Rattle.plain_data.specs.Data.{Change}
 use Rattle.plain_data.specs.Reach.{feature_reaches}
 use Rattle.farm_plan.specs.Drawings.{features_in}
-use Rattle.farm_reach.specs.Boxes.{AreBoxesOf, met_by, met}
+use Rattle.farm_reach.specs.Boxes.{AreBoxesOf, met_by, features_met}
 use Rattle.farm_reach.proofs.Adding.{adds_more, adds_all, boxes_from}
 use Rattle.farm_reach.proofs.Naming.{met_named}
 use Rattle.farm_reach.proofs.boxes.named_boxes.Goals as goal
@@ -13,10 +13,10 @@ loop-change-preserved c =
     adds_more (λ (ch : Change). met_by (features_in c.args.snapshot.now ch.layer) ch) c.changes-change-items.result.now c.loop-change.change-index c.change-item.result [] c.loop-change.boxes.items c.add_named.new.boxes.items
     c.loop-change-test.true c.change-item.is c.loop-change.invariant c.in_ok-add_named.ensures
 
-all_met : (c : goal.After-loop-change) → AreBoxesOf (met c.args.snapshot.now c.args.update.now) c.loop-change.boxes.items
+all_met : (c : goal.After-loop-change) → AreBoxesOf (features_met c.args.snapshot.now c.args.update.now) c.loop-change.boxes.items
 all_met c =
-    subst (λ (cs : List Change). AreBoxesOf (met c.args.snapshot.now cs) c.loop-change.boxes.items) c.changes-change-items.ensures.value
-    (boxes_from (met c.args.snapshot.now c.changes-change-items.result.now) c.loop-change.boxes.items
+    subst (λ (cs : List Change). AreBoxesOf (features_met c.args.snapshot.now cs) c.loop-change.boxes.items) c.changes-change-items.ensures.value
+    (boxes_from (features_met c.args.snapshot.now c.changes-change-items.result.now) c.loop-change.boxes.items
     (adds_all (λ (ch : Change). met_by (features_in c.args.snapshot.now ch.layer) ch) c.changes-change-items.result.now c.loop-change.change-index [] c.loop-change.boxes.items c.loop-change-test.false c.loop-change.invariant))
 
 pub returns-clause-sound : goal.returns-clause-sound

@@ -2,7 +2,7 @@ use Rattle.std.proofs.Common.{◌≡◌, ◌≤◌, ◌+◌, ◌++◌, [], drop,
 use Rattle.filter_expr.specs.declared.tokens.Token.TheVariants as token
 use Rattle.filter_expr.specs.Trees.{is_unknown}
 use Rattle.filter_expr.specs.Spelling.{is_blank}
-use Rattle.filter_expr.specs.Lexing.{Taken, token_at, lexed}
+use Rattle.filter_expr.specs.Lexing.{Taken, token_at, tokens_from}
 use Rattle.filter_expr.proofs.Lexes.{placed_then, lexed_blank, lexed_unknown, lexed_token, lexed_end, token_least, token_most, unknown_is}
 use Rattle.filter_expr.proofs.lexer.tokens.Goals as goal
 
@@ -22,7 +22,7 @@ returns-then-unknown c =
     let made : c.of.result ≡ c.tokens.stream.items ++ placed_then c.in_ok-token.token c.tokens.at [] = search rules in
     made ∙ ap (λ t. c.tokens.stream.items ++ placed_then t c.tokens.at []) (unknown_is c.in_ok-token.token unknown)
     ∙ ap (λ l. c.tokens.stream.items ++ l) (sym (lexed_unknown c.as_bytes-bytes.result.now c.tokens.at c.tokens-test.true solid c.in_ok-token.token c.in_ok-token.count taken unknown))
-    ∙ c.tokens.invariant.read ∙ ap (λ l. lexed 0 0 l) c.as_bytes-bytes.ensures.value
+    ∙ c.tokens.invariant.read ∙ ap (λ l. tokens_from 0 0 l) c.as_bytes-bytes.ensures.value
 
 pub overflow_add-at-in-tokens : goal.overflow_add-at-in-tokens
 overflow_add-at-in-tokens c =
@@ -46,8 +46,8 @@ tokens-preserved c =
     let made : c.push_back.new.self.items ≡ c.tokens.stream.items ++ placed_then c.in_ok-token.token c.tokens.at [] = search rules in
     record {
       read =
-          ap (λ l. l ++ lexed (c.tokens.at + c.in_ok-token.count) 0 (drop (c.tokens.at + c.in_ok-token.count) c.as_bytes-bytes.result.now)) made
-          ∙ append_assoc c.tokens.stream.items (placed_then c.in_ok-token.token c.tokens.at []) (lexed (c.tokens.at + c.in_ok-token.count) 0 (drop (c.tokens.at + c.in_ok-token.count) c.as_bytes-bytes.result.now))
+          ap (λ l. l ++ tokens_from (c.tokens.at + c.in_ok-token.count) 0 (drop (c.tokens.at + c.in_ok-token.count) c.as_bytes-bytes.result.now)) made
+          ∙ append_assoc c.tokens.stream.items (placed_then c.in_ok-token.token c.tokens.at []) (tokens_from (c.tokens.at + c.in_ok-token.count) 0 (drop (c.tokens.at + c.in_ok-token.count) c.as_bytes-bytes.result.now))
           ∙ ap (λ l. c.tokens.stream.items ++ l) (sym (lexed_token c.as_bytes-bytes.result.now c.tokens.at c.tokens-test.true solid c.in_ok-token.token c.in_ok-token.count taken known))
           ∙ c.tokens.invariant.read;
       within = token_most c.as_bytes-bytes.result.now c.tokens.at c.tokens-test.true solid c.in_ok-token.token c.in_ok-token.count taken;
@@ -58,4 +58,4 @@ returns c =
     let ended : c.tokens.at ≡ length c.as_bytes-bytes.result.now = omega (arith, c.tokens-test.false, c.tokens.invariant.within) in
     let made : c.of-2.result ≡ c.tokens.stream.items ++ placed_then token.End c.tokens.at [] = search rules in
     made ∙ ap (λ l. c.tokens.stream.items ++ l) (sym (lexed_end c.as_bytes-bytes.result.now c.tokens.at ended))
-    ∙ c.tokens.invariant.read ∙ ap (λ l. lexed 0 0 l) c.as_bytes-bytes.ensures.value
+    ∙ c.tokens.invariant.read ∙ ap (λ l. tokens_from 0 0 l) c.as_bytes-bytes.ensures.value

@@ -3,7 +3,7 @@ use Rattle.std.specs.List.{prefix_len}
 use Rattle.std.specs.Str.{IsCharBoundary}
 use Rattle.std.proofs.lemmas.List.{take_all}
 use Rattle.std.proofs.lemmas.List.Sums.{prefix_len-le-length}
-use Rattle.filter_expr.specs.Lexing.{is_plain_byte, unescaped}
+use Rattle.filter_expr.specs.Lexing.{is_plain_byte, quoted_text}
 use Rattle.filter_expr.proofs.Lexes.{run_cut, plain_ends, escapes_go, escape_none, escape_past}
 use Rattle.filter_expr.proofs.lexer.unescaped.Goals as goal
 
@@ -32,9 +32,9 @@ escapes-preserved c = record {
       let count : c.run_len-count.result ≡ prefix_len is_plain_byte c.escapes.rest.now = search rules in
       let written : string_bytes c.push_str.new.self ≡ string_bytes c.escapes.out ++ take c.run_len-count.result c.escapes.rest.now = search rules in
       let kept : string_bytes c.push_str-in-escapes.new.self ≡ string_bytes c.push_str.new.self ++ take c.escaped_len-kept.result c.range_from-behind.result.now = search rules in
-      let parts : take c.escaped_len-kept.result c.range_from-behind.result.now ++ unescaped false c.range_from-rest.result.now ≡ unescaped true (drop (c.run_len-count.result + 1) c.escapes.rest.now) = search rules in
+      let parts : take c.escaped_len-kept.result c.range_from-behind.result.now ++ quoted_text false c.range_from-rest.result.now ≡ quoted_text true (drop (c.run_len-count.result + 1) c.escapes.rest.now) = search rules in
       escapes_go (string_bytes c.escapes.out) c.escapes.rest.now (take c.escaped_len-kept.result c.range_from-behind.result.now) c.range_from-rest.result.now
-      (string_bytes c.push_str.new.self) (string_bytes c.push_str-in-escapes.new.self) (unescaped false c.args.content.now) c.run_len-count.result c.escapes.invariant.read count
+      (string_bytes c.push_str.new.self) (string_bytes c.push_str-in-escapes.new.self) (quoted_text false c.args.content.now) c.run_len-count.result c.escapes.invariant.read count
       (omega (arith, count, prefix_len-le-length is_plain_byte c.escapes.rest.now, c.if-count-rest.false)) written kept parts;
   text = c.range_from-rest.utf8;
 }

@@ -1,6 +1,6 @@
 use Rattle.std.proofs.Common.{◌≡◌, ◌≤◌, ℕ, List, length, true, false, refl, sym, ap, subst, ◌∙◌, rules, arith}
 use Rattle.std.proofs.lemmas.List.{length-take}
-use Rattle.tile_requests.specs.Heads.{shown, IsOpen}
+use Rattle.tile_requests.specs.Heads.{bytes_read, IsOpen}
 use Rattle.tile_pages.specs.Talks.{is_reading}
 use Rattle.tile_pages.specs.Tiles.{Asks}
 use Rattle.tile_pages.proofs.Heards.{hears_idle, hears_starved, hears_open, hears_wish}
@@ -22,13 +22,13 @@ returns-in_default-wish_in-clause-heard g c =
     let reads : is_reading c.args.talk.now.stage ≡ true = search rules in
     let opens : IsOpen c.read_part.result.now = rw c.in_default-wish_in.is at c.wish_in.ensures in
     hears_open c.args.conn.front (g.M.Farm.map_at c.args.farm.now) c.args.conn.number c.args.piece.now _ c.args.talk.now _ _ c.requires.empty reads refl c.in-Ok.ensures
-    (subst (λ (b : List ℕ). IsOpen b) (c.read_part.ensures ∙ ap shown c.as_slice.ensures.value) opens)
+    (subst (λ (b : List ℕ). IsOpen b) (c.read_part.ensures ∙ ap bytes_read c.as_slice.ensures.value) opens)
 
 pub returns-clause-heard : goal.returns-clause-heard
 returns-clause-heard g c =
     let reads : is_reading c.args.talk.now.stage ≡ true = search rules in
     hears_wish c.args.conn.front (g.M.Farm.map_at c.args.farm.now) c.args.conn c.args.piece.now c.in-Some.wish _ _ c.args.talk.now _ _ _ refl reads c.in-Ok.ensures
-    (subst (λ (b : List ℕ). Asks (g.M.Farm.map_at c.args.farm.now) b c.in-Some.wish) (c.read_part.ensures ∙ ap shown c.as_slice.ensures.value) c.in-Some.ensures)
+    (subst (λ (b : List ℕ). Asks (g.M.Farm.map_at c.args.farm.now) b c.in-Some.wish) (c.read_part.ensures ∙ ap bytes_read c.as_slice.ensures.value) c.in-Some.ensures)
     c.serve_wish.ensures.does
 
 pub wish_in-requires : goal.wish_in-requires

@@ -1,7 +1,7 @@
 use Rattle.std.proofs.Common.{◌≡◌, ℕ, ◌^◌, List, ◌∷◌, ◌++◌, Some, None, sym, ap, ◌∙◌, arith}
 use Rattle.std.specs.Fmt.{decimal}
 use Rattle.std.proofs.lemmas.Str.Pattern.{split_after, split_parts}
-use Rattle.line_words.specs.Numbers.{number_in}
+use Rattle.line_words.specs.Numbers.{decimal_below}
 use Rattle.line_words.proofs.NumberTexts.{number_known, number_means}
 use Rattle.tile_requests.proofs.TargetTexts.{no_end}
 use Rattle.tile_requests.proofs.targets.read_number.Goals as goal
@@ -21,7 +21,7 @@ pub returns-in-Some-small_number-clause-every : goal.returns-in-Some-small_numbe
 returns-in-Some-small_number-clause-every c n rest small e =
     let apart = rw c.in-Some.is at
     (split_after c.args.end c.args.text.now (decimal n) rest c.split_once.result c.split_once.ensures.cases (omega arith) e (λ i l. no_end n c.args.end i small c.requires l)) in
-    let known : number_in (2 ^ 32) c.in-Some.digits.now ≡ Some n = number_known (2 ^ 32) n c.in-Some.digits.now small (omega arith) apart.0 in
+    let known : decimal_below (2 ^ 32) c.in-Some.digits.now ≡ Some n = number_known (2 ^ 32) n c.in-Some.digits.now small (omega arith) apart.0 in
     let same : Some c.in-Some-small_number.number ≡ Some n = sym c.in-Some-small_number.is ∙ c.small_number.ensures.value ∙ known in
     ((cc), apart.1)
 
@@ -29,6 +29,6 @@ pub returns-in-None-clause-every : goal.returns-in-None-clause-every
 returns-in-None-clause-every c n rest small e =
     let apart = rw c.in-Some.is at
     (split_after c.args.end c.args.text.now (decimal n) rest c.split_once.result c.split_once.ensures.cases (omega arith) e (λ i l. no_end n c.args.end i small c.requires l)) in
-    let known : number_in (2 ^ 32) c.in-Some.digits.now ≡ Some n = number_known (2 ^ 32) n c.in-Some.digits.now small (omega arith) apart.0 in
+    let known : decimal_below (2 ^ 32) c.in-Some.digits.now ≡ Some n = number_known (2 ^ 32) n c.in-Some.digits.now small (omega arith) apart.0 in
     let same : None ≡ Some n = sym c.in-None.is ∙ c.small_number.ensures.value ∙ known in
     cc

@@ -2,10 +2,10 @@
 use Rattle.std.proofs.Common.{◌≡◌, ◌≢◌, ℕ, ◌∙◌, List, Some, get_or, drop, length, sym, ap, subst, arith}
 use Rattle.std.proofs.lemmas.Option.{slice_get-get_or, get_or_from_slice_get}
 use Rattle.std.proofs.lemmas.List.{at_drop_more}
-use Rattle.plain_data.specs.Data.{updated}
+use Rattle.plain_data.specs.Data.{update_result}
 use Rattle.farm_history.specs.declared.saved.Past.{Past}
 use Rattle.farm_history.specs.Entries.{Entry}
-use Rattle.farm_history.specs.Replays.{number_of, replay_keys}
+use Rattle.farm_history.specs.Replays.{past_number, replay_keys}
 use Rattle.farm_plan.specs.Drawings.{plan_of, update_of}
 use Rattle.farm_plan.specs.Plans.{FarmPlan}
 use Rattle.farm_stands.specs.Seen.{FarmSeen}
@@ -57,7 +57,7 @@ loop-place-preserved g c =
       fresh = done.fresh;
       turns = omega (arith, long, split, so_far, more);
       fault = c.loop-place.invariant.fault ∙ fault_more c.args.self.now.plan c.loop-place.self.data_now c.replay_version.new.self.data_now place c.args.updates.now x c.loop-place-test.true own
-          (ap (λ (p : FarmPlan). updated (update_of p (number_of x)) c.loop-place.self.data_now) (sym c.loop-place.invariant.stays.plan) ∙ done.applied);
+          (ap (λ (p : FarmPlan). update_result (update_of p (past_number x)) c.loop-place.self.data_now) (sym c.loop-place.invariant.stays.plan) ∙ done.applied);
       replaying = λ h r. versions_more g.D.TileStore.state (plan_of c.args.self.now.plan) c.loop-place.self c.replay_version.new.self c.args.clean.now place c.args.updates.now x h (ap plan_of c.loop-place.invariant.stays.plan) c.loop-place-test.true own done (c.loop-place.invariant.replaying h r);
     }
 

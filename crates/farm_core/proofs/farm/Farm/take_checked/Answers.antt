@@ -4,7 +4,7 @@ use Rattle.std.proofs.lemmas.Result.{on_ok_weaker, IfErr-weaker}
 use Rattle.farm_plan.specs.Plans.{FarmPlan, IsPlan}
 use Rattle.farm_stands.specs.Seen.{FarmSeen}
 use Rattle.resume_faults.specs.declared.faults.ResumeFault.{ResumeFault}
-use Rattle.resume_faults.specs.Faults.{shape_fault, resume_fault}
+use Rattle.resume_faults.specs.Faults.{form_fault, resume_fault}
 use Rattle.resume_faults.proofs.Checked.{shaped}
 use Rattle.farm_core.specs.Begins.{Begins}
 use Rattle.farm_core.proofs.Resumed.{again}
@@ -24,7 +24,7 @@ replay_saved-requires-clause-anew g c = (again c.args.self.now.plan c.args.saved
 pub replay_saved-requires-clause-shape : goal.replay_saved-requires-clause-shape
 replay_saved-requires-clause-shape g c =
     let a = again c.args.self.now.plan c.args.saved.now c.args.self.now.store c.give_saved.new.self c.in-Ok.ensures.anew in
-    subst (λ (p : FarmPlan). shape_fault p c.args.saved.now ≡ None) (sym a.plan_is) c.requires.shape
+    subst (λ (p : FarmPlan). form_fault p c.args.saved.now ≡ None) (sym a.plan_is) c.requires.shape
 
 pub returns-in-Ok-clause-begins : goal.returns-in-Ok-clause-begins
 returns-in-Ok-clause-begins g c =

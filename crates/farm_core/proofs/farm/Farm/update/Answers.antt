@@ -1,7 +1,7 @@
 use Rattle.std.proofs.Common.{◌≡◌, ◌≢◌, length, sym, ap, ◌∙◌, subst}
 use Rattle.std.specs.Prelude.{Err, nat_lt}
 use Rattle.farm_base.specs.declared.faults.ApplyFault.{ApplyFault}
-use Rattle.plain_data.specs.Data.{updated}
+use Rattle.plain_data.specs.Data.{update_result}
 use Rattle.farm_history.specs.declared.saved.Past.{Past}
 use Rattle.farm_plan.specs.Drawings.{update_of}
 use Rattle.farm_stands.specs.Seen.{FarmSeen}
@@ -24,5 +24,5 @@ pub returns-in-Err-clause-step : goal.returns-in-Err-clause-step
 returns-in-Err-clause-step g c = λ told h s.
     let lt = ap {A = FarmSeen g.row.D.Denot} (λ f. nat_lt c.args.number (length f.plan.updates)) (sym c.count_turn.ensures.turned) ∙ sym c.if-not-has_update.ensures in
     update_refused g.D.TileStore.state told c.args.self.now c.advance.new.self h c.args.number c.in-Err.fault lt
-    (subst (λ (f : FarmSeen g.row.D.Denot). c.in-Err.fault ≢ ApplyFault.NoMemory → updated (update_of f.plan c.args.number) f.data_now ≡ Err c.in-Err.fault) c.count_turn.ensures.turned c.in-Err.ensures.refused)
+    (subst (λ (f : FarmSeen g.row.D.Denot). c.in-Err.fault ≢ ApplyFault.NoMemory → update_result (update_of f.plan c.args.number) f.data_now ≡ Err c.in-Err.fault) c.count_turn.ensures.turned c.in-Err.ensures.refused)
     (c.in-Err.ensures.same ∙ c.count_turn.ensures.turned) s

@@ -1,7 +1,7 @@
 use Rattle.std.proofs.Common.{rules, ◌≡◌, ◌<◌, ◌≤◌, true, Some, subst, sym, arith}
 use Rattle.std.specs.Prelude.{IsSome}
 use Rattle.render_queues.specs.OneQueue.{is_below}
-use Rattle.render_queues.specs.Tables.{Tables, line_of, lifted, standing, is_liftable, open_count}
+use Rattle.render_queues.specs.Tables.{Tables, line_of, after_lift, standing, is_liftable, open_count}
 use Rattle.render_queues.proofs.Sound.{sound_lifted, sound_joined, lifted_stands}
 use Rattle.render_queues.proofs.queues.Queues.lift.Goals as goal
 
@@ -16,6 +16,6 @@ invariant_of-self c =
       taken_room = c.self.invariant.taken_room;
       asks_room = omega (arith, c.add_ask.ensures.room, c.self.invariant.asks_room);
       ended_room = c.self.invariant.ended_room;
-      sound = rw (c.push.ensures, c.lift_out.ensures, c.add_ask.ensures.asks) (sound_joined (lifted t c.args.queue c.args.key) c.args.key (Some c.args.waiter) (lifted_stands t c.args.queue c.args.key) few
+      sound = rw (c.push.ensures, c.lift_out.ensures, c.add_ask.ensures.asks) (sound_joined (after_lift t c.args.queue c.args.key) c.args.key (Some c.args.waiter) (lifted_stands t c.args.queue c.args.key) few
           (sound_lifted t c.args.queue c.args.key waits c.requires.queue below c.self.invariant.sound));
     }

@@ -1,7 +1,7 @@
 use Rattle.std.proofs.Common.{rules, ◌≡◌, ◌<◌, ◌≤◌, true, None, subst, sym, arith}
 use Rattle.std.specs.Prelude.{IsSome}
 use Rattle.render_queues.specs.OneQueue.{is_below}
-use Rattle.render_queues.specs.Tables.{Tables, line_of, placed, standing, open_count}
+use Rattle.render_queues.specs.Tables.{Tables, line_of, after_place, standing, open_count}
 use Rattle.render_queues.proofs.Sound.{sound_placed, sound_joined, placed_stands}
 use Rattle.render_queues.proofs.queues.Queues.place.Goals as goal
 
@@ -16,6 +16,6 @@ invariant_of-self c =
       taken_room = c.self.invariant.taken_room;
       asks_room = omega (arith, c.add_ask.ensures.room, c.self.invariant.asks_room);
       ended_room = c.self.invariant.ended_room;
-      sound = rw (c.push.ensures, c.add_ask.ensures.asks) (sound_joined (placed t c.args.queue c.args.key) c.args.key c.args.waiter (placed_stands t c.args.queue c.args.key) few
+      sound = rw (c.push.ensures, c.add_ask.ensures.asks) (sound_joined (after_place t c.args.queue c.args.key) c.args.key c.args.waiter (placed_stands t c.args.queue c.args.key) few
           (sound_placed t c.args.queue c.args.key new below c.self.invariant.sound));
     }
