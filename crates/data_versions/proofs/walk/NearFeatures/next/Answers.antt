@@ -1,4 +1,4 @@
-use Rattle.std.proofs.Common.{◌+◌, ◌∷◌, ◌++◌, drop, ap, sym, ◌∙◌}
+use Rattle.std.proofs.Common.{◌+◌, ◌∷◌, ◌++◌, drop, refl, ap, sym, ◌∙◌, arith}
 use Rattle.std.proofs.lemmas.List.{take_rest}
 use Rattle.std.specs.Arc.{arc_value}
 use Rattle.data_versions.specs.Near.{is_near, all_near}
@@ -16,13 +16,15 @@ returns-in-Some c =
     ∙ ap (λ f. f ∷ all_near (drop (c.in-Some.place + 1) c.loop-place.here.now ++ joined c.loop-place.later.now) around) (sym c.index-here-place.is))
 
 pub invariant_of-self-in_default-split_first : goal.invariant_of-self-in_default-split_first
-invariant_of-self-in_default-split_first c = c.loop-place.invariant.kept
+invariant_of-self-in_default-split_first c = (c.loop-place.invariant.kept.0, omega arith)
 
 pub returns-in_default-split_first : goal.returns-in_default-split_first
 returns-in_default-split_first c =
-    let around = c.loop-place.self-inside.around in
-    c.loop-place.invariant.left ∙ ap (λ fs. all_near (c.loop-place.here.now ++ fs) around) (joined_none c.loop-place.later.now c.in_default-split_first.ensures.cases)
-    ∙ walk_ends (is_near around) c.loop-place.here.now (sym c.find_near.ensures.place ∙ c.in_default.is)
+    let around = c.loop-place.self-inside.around in (
+      c.loop-place.invariant.left ∙ ap (λ fs. all_near (c.loop-place.here.now ++ fs) around) (joined_none c.loop-place.later.now c.in_default-split_first.ensures.cases)
+          ∙ walk_ends (is_near around) c.loop-place.here.now (sym c.find_near.ensures.place ∙ c.in_default.is),
+      refl,
+    )
 
 pub loop-place-preserved : goal.loop-place-preserved
 loop-place-preserved c =
