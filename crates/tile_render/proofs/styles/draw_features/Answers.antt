@@ -28,5 +28,5 @@ loop-feature-preserved c = record {
 
 pub returns-clause-drawn : goal.returns-clause-drawn
 returns-clause-drawn c =
-    ap (λ fs. fold (with_item c.args.canvas.now.window c.args.denominator c.args.style.now) c.loop-feature.canvas.image (map feature fs)) (sym c.in_default.ensures)
+    ap (λ fs. fold (with_item c.args.canvas.now.window c.args.denominator c.args.style.now) c.loop-feature.canvas.image (map feature fs)) (sym c.in_default.ensures.0)
     ∙ c.loop-feature.invariant.drawn
