@@ -102,3 +102,20 @@ lines_more cols j c line out is so_far =
 
 pub no_lines : (cols : ℕ) (c : Colour) → [] ≡ flat_map pixel_bytes (replicate (0 * cols) c)
 no_lines cols c = let e : 0 ≡ 0 * cols = omega arith in ap (λ n. flat_map pixel_bytes (replicate n c)) e
+
+-- the colour at a place in the words of the code
+there_written : (k : ℕ) (ps : List Colour) → k < length ps
+    → slice_get ps k ≡ Some (record { r = get_or (flat_map pixel_bytes ps) (k * 3) 0; g = get_or (flat_map pixel_bytes ps) (k * 3 + 1) 0; b = get_or (flat_map pixel_bytes ps) (k * 3 + 2) 0 })
+there_written k [] inside = absurd (omega arith)
+there_written zero (p ∷ ps) inside = refl
+there_written (suc k) (p ∷ ps) inside =
+    let e : suc k * 3 ≡ suc (suc (suc (k * 3))) = omega arith in
+    let f : suc k * 3 + 1 ≡ suc (suc (suc (k * 3 + 1))) = omega arith in
+    let h : suc k * 3 + 2 ≡ suc (suc (suc (k * 3 + 2))) = omega arith in
+    let bs : List ℕ = flat_map pixel_bytes (p ∷ ps) in
+    there_written k ps (omega arith) ∙ sym (λ i. Some (record { r = get_or bs (e i) 0; g = get_or bs (f i) 0; b = get_or bs (h i) 0 }))
+
+pub there_bytes : (k : ℕ) (bytes : List ℕ) → flat_map pixel_bytes (colours bytes) ≡ bytes → k < length (colours bytes)
+    → slice_get (colours bytes) k ≡ Some (record { r = get_or bytes (k * 3) 0; g = get_or bytes (k * 3 + 1) 0; b = get_or bytes (k * 3 + 2) 0 })
+there_bytes k bytes kept inside =
+    there_written k (colours bytes) inside ∙ ap (λ bs. Some (record { r = get_or bs (k * 3) 0; g = get_or bs (k * 3 + 1) 0; b = get_or bs (k * 3 + 2) 0 })) kept

@@ -4,3 +4,4 @@ pub mod Cutting
 pub mod Texts
 pub mod RoundTrip
 pub mod Runs
+pub mod ByteRuns

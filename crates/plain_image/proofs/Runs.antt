@@ -1,5 +1,5 @@
 -- One more element of a run changed.
-use Rattle.std.proofs.Common.{◌≡◌, ℕ, suc, zero, ◌+◌, ◌-◌, ◌≤◌, List, [], ◌∷◌, ◌++◌, take, drop, set, map, refl, ap, ◌∙◌, sym, arith, Some}
+use Rattle.std.proofs.Common.{◌≡◌, ℕ, suc, zero, ◌+◌, ◌-◌, ◌≤◌, List, [], ◌∷◌, ◌++◌, length, take, drop, set, map, refl, ap, ◌∙◌, sym, arith, Some}
 use Rattle.std.specs.Prelude.{slice_get}
 use Rattle.plain_image.specs.Runs.{run_changed}
 
@@ -42,3 +42,11 @@ none f (suc n) (x ∷ xs) = ap (λ ys. x ∷ ys) (none f n xs)
 -- no place yet
 pub run_none : {X : Type 0} (f : X → X) (start : ℕ) (xs : List X) → xs ≡ run_changed f start (start - start) xs
 run_none f start xs = none f start xs ∙ ap (λ i. run_changed f start i xs) (let e : 0 ≡ start - start = omega arith in e)
+
+pub run_length : {X : Type 0} (f : X → X) (start count : ℕ) (xs : List X) → length (run_changed f start count xs) ≡ length xs
+run_length f zero zero xs = refl
+run_length f zero (suc n) [] = refl
+run_length f zero (suc n) (x ∷ xs) = ap suc (run_length f zero n xs)
+run_length f (suc s) zero [] = refl
+run_length f (suc s) (suc n) [] = refl
+run_length f (suc s) count (x ∷ xs) = ap suc (run_length f s count xs)

@@ -1,11 +1,14 @@
 //! The colours of a picture, kept as bytes: three for each colour, one behind another.
-ghost use Rattle.std.specs.Prelude.{◌≡◌, ℕ, ◌+◌, ◌*◌, ◌≤◌, ◌<◌, ◌++◌, length, take, drop, flat_map, replicate, slice_get, slice_set, Some, IfOk, OnOk, OnErr};
+ghost use Rattle.std.specs.Prelude.{◌≡◌, ℕ, ◌+◌, ◌-◌, ◌*◌, ◌≤◌, ◌<◌, ◌++◌, length, take, drop, flat_map, replicate, slice_get, slice_set, Some, IfOk, OnOk, OnErr};
 ghost use Rattle.plain_shapes.specs.declared.colour.Colour.{Colour};
 ghost use Rattle.plain_shapes.specs.Ppm.{pixel_bytes};
 ghost use Rattle.plain_shapes.specs.inner.Canvas.{cut_rows};
 ghost use Rattle.plain_image.specs.PpmText.{colours};
+ghost use Rattle.plain_image.specs.Runs.{run_changed};
+ghost use Rattle.plain_shapes.specs.Blending.{blend};
 ghost use Rattle.plain_world.specs.Limits.{most_side};
 
+use crate::blending;
 use farm_base::NoMemory;
 use plain_shapes::Colour;
 use std::alloc::Global;
@@ -131,6 +134,18 @@ impl Colours {
         self.bytes[k * 3] = c.r;
         self.bytes[k * 3 + 1] = c.g;
         self.bytes[k * 3 + 2] = c.b;
+    }
+
+    /// Paints the colours from the place `start` on and before the place `end` over with the colour `s`.
+    pub fn paint_run(&mut self, s: Colour, opacity: u32, start: usize, end: usize)
+        requires opacity { opacity ≤ 1000 }
+        requires order { start ≤ end }
+        requires inside { end ≤ length self.old }
+        requires few { length self.old ≤ most_side * most_side }
+        ensures painted { self.new ≡ run_changed (blend s opacity) start (end - start) self.old }
+        ensures len { length self.new ≡ length self.old }
+    {
+        blending::paint_run(s, opacity, start, end, &mut self.bytes);
     }
 
     /// Appends the bytes of `count` colours from the place `from` on.

@@ -1,6 +1,6 @@
 //! A picture: one colour for each pixel, by rows.
 use crate::colours::Colours;
-use crate::{Mask, pixels};
+use crate::{Mask, blending, pixels};
 use farm_base::NoMemory;
 use plain_shapes::Colour;
 use std::alloc::Global;
@@ -114,7 +114,7 @@ impl Image {
     {
         let place = j as usize * self.cols as usize + i as usize;
         let under = self.pixels.at(place);
-        self.pixels.put(place, pixels::over(c, opacity, under));
+        self.pixels.put(place, blending::over(c, opacity, under));
     }
 
     /// Paints the pixels of row `j` from the column `start` on and before the column `end`, which are
@@ -130,7 +130,7 @@ impl Image {
     {
         let west = j as usize * self.cols as usize;
         let from = west + start as usize;
-        pixels::paint_run(c, opacity, from, west + end as usize, &mut self.pixels);
+        self.pixels.paint_run(c, opacity, from, west + end as usize);
     }
 
     /// The image of a part of it: `cols` columns from `col` on and `rows` rows from `row` on. The part

@@ -1,6 +1,7 @@
 //! Masks and images by rows, and images as PPM texts.
 #![tactic(auto)]
 
+mod blending;
 mod colours;
 mod image;
 mod mask;

@@ -1,53 +1,14 @@
-//! The arithmetic of painting.
-ghost use Rattle.std.specs.Prelude.{◌≡◌, ℕ, ◌-◌, ◌*◌, ◌≤◌, ◌++◌, [], length, IfOk, flat_map, string_bytes};
+//! Pixels painted where bits cover them, and as the bytes of a PPM text.
+ghost use Rattle.std.specs.Prelude.{◌≡◌, ℕ, ◌*◌, ◌≤◌, ◌++◌, [], length, IfOk, flat_map, string_bytes};
 ghost use Rattle.plain_shapes.specs.inner.Canvas.{painted};
 ghost use Rattle.plain_shapes.specs.Ppm.{pixel_bytes, ppm};
-ghost use Rattle.plain_shapes.specs.Blending.{blend_channel, blend};
-ghost use Rattle.plain_image.specs.Runs.{run_changed};
 ghost use Rattle.plain_world.specs.Limits.{most_side};
 
+use crate::blending::over;
 use crate::colours::Colours;
 use farm_base::NoMemory;
 use plain_shapes::Colour;
 use std::alloc::Global;
-
-// One channel `s` painted over the channel `d`, rounded to the nearest.
-fn channel(s: u8, opacity: u32, d: u8) -> u8
-    requires { opacity ≤ 1000 }
-    ensures { result ≡ blend_channel opacity s d }
-{
-    ((u32::from(s) * opacity + u32::from(d) * (1000 - opacity) + 500) / 1000) as u8
-}
-
-/// The colour `s` painted over the colour `d`.
-pub fn over(s: Colour, opacity: u32, d: Colour) -> Colour
-    requires { opacity ≤ 1000 }
-    ensures { result ≡ blend s opacity d }
-{
-    if opacity == 1000 {
-        return s;
-    }
-    Colour {
-        r: channel(s.r, opacity, d.r),
-        g: channel(s.g, opacity, d.g),
-        b: channel(s.b, opacity, d.b),
-    }
-}
-
-/// Paints the pixels from the place `start` on and before the place `end` over with the colour `s`.
-pub fn paint_run(s: Colour, opacity: u32, start: usize, end: usize, pixels: &mut Colours)
-    requires opacity { opacity ≤ 1000 }
-    requires order { start ≤ end }
-    requires inside { end ≤ length pixels.old }
-    requires few { length pixels.old ≤ most_side * most_side }
-    ensures painted { pixels.new ≡ run_changed (blend s opacity) start (end - start) pixels.old }
-    ensures len { length pixels.new ≡ length pixels.old }
-{
-    for k in start..end {
-        let d = pixels.at(k);
-        pixels.put(k, over(s, opacity, d));
-    }
-}
 
 /// Paints the covered pixels.
 pub fn paint(covered: &[bool], s: Colour, opacity: u32, pixels: &mut Colours)
