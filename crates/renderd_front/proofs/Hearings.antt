@@ -16,7 +16,8 @@ use Rattle.front_rounds.specs.Rules.{Move, wants_of, answer_bytes, each_whole, a
 use Rattle.front_rounds.specs.Front.{Begins, Heard, HeardWhy, Replied, EachFits, does}
 use Rattle.renderd_front.specs.declared.asked.Asked.{Asked}
 use Rattle.renderd_front.specs.declared.waits.Talk.{Talk}
-use Rattle.renderd_front.specs.Renderd.{answer_command, asks_in, is_bad, is_wait, outcome_command, rules_of, said_for, said_to, number_in, with_wait, waiting}
+use Rattle.renderd_front.specs.Renderd.{answer_command, asks_in, is_bad, is_wait, outcome_command, rules_of, said_for, said_to, with_wait, waiting}
+use Rattle.farm_history.specs.Past.{number_in}
 use Rattle.renderd_front.specs.inner.Reads.{asks_of, fate_at, Halts, HasNoneNext, Knows, pairs, Reads, requests_of, said_by, waits_after}
 use Rattle.renderd_front.proofs.Streaming.{asks_in-append, none_next}
 

@@ -6,7 +6,8 @@ use Rattle.farm_history.specs.declared.asks.AskAnswer.{AskAnswer}
 use Rattle.farm_history.specs.Entries.{Entry, Ask}
 use Rattle.front_rounds.specs.Front.{with_acts}
 use Rattle.renderd_front.specs.declared.asked.Asked.{Asked}
-use Rattle.renderd_front.specs.Renderd.{answer_command, asks_by, command_of, number_in, said_to, spot_of, with_wait, rules_of}
+use Rattle.renderd_front.specs.Renderd.{answer_command, asks_by, command_of, said_to, spot_of, with_wait, rules_of}
+use Rattle.farm_history.specs.Past.{number_in}
 use Rattle.renderd_front.specs.inner.Reads.{requests_of, said_by, waits_after, Made, Halts}
 
 requests_of-append : (qs ps : List Asked) → requests_of (qs ++ ps) ≡ requests_of ps ++ requests_of qs

@@ -15,6 +15,7 @@ use Rattle.farm_history.specs.declared.asks.Cmd.TheVariants as cmd
 use Rattle.farm_history.specs.declared.asks.AskAnswer.{AskAnswer}
 use Rattle.farm_history.specs.declared.asks.AskAnswer.TheVariants as answer
 use Rattle.farm_history.specs.Entries.{Entry, Ask}
+use Rattle.farm_history.specs.Past.{number_in}
 use Rattle.farm_history.specs.Lists.{without_first}
 use Rattle.front_rounds.specs.Rules.{Rules, Move, Does, Gets}
 use Rattle.renderd_front.specs.declared.asked.Asked.{Asked}
@@ -66,15 +67,6 @@ said_to (Some command) r = wire_of r command
 said_to None r = []
 
 -- What is answered to a reply.
-
--- the number of an ask that waits
-abbrev pub number_in : AskAnswer → Option ℕ
-number_in (answer.Queued n) = Some n
-number_in (answer.Joined n) = Some n
-number_in (answer.Lifted n) = Some n
-number_in answer.Done = None
-number_in (answer.NotDone why) = None
-number_in answer.Silent = None
 
 -- the requests that wait, each with the number of its ask
 abbrev pub with_wait : Option ℕ → Request → List (ℕ × Request) → List (ℕ × Request)

@@ -3,7 +3,8 @@ ghost use Rattle.std.specs.Prelude.{◌≡◌, ◌+◌, ◌++◌, ◌∷◌, [],
 ghost use Rattle.front_rounds.specs.Calls.{SameSeat};
 ghost use Rattle.renderd_protocol.specs.Messages.{is_version, wire_of};
 ghost use Rattle.renderd_front.specs.declared.asking.Halt.{Halt};
-ghost use Rattle.renderd_front.specs.Renderd.{answer_command, asks_in, command_of, number_in, said_to, with_wait};
+ghost use Rattle.renderd_front.specs.Renderd.{answer_command, asks_in, command_of, said_to, with_wait};
+ghost use Rattle.farm_history.specs.Past.{number_in};
 ghost use Rattle.renderd_front.specs.inner.Reads.{Halts, Made, pairs};
 
 use crate::waits::Waiting;

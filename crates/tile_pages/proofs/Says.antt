@@ -21,7 +21,8 @@ use Rattle.tile_pages.specs.declared.acts.Act.TheVariants as act
 use Rattle.tile_pages.specs.declared.talks.Stage.{Stage}
 use Rattle.tile_pages.specs.declared.talks.Stage.TheVariants.{Waiting, Answered}
 use Rattle.tile_pages.specs.Talks.{is_reading, is_answered, waits_in}
-use Rattle.tile_pages.specs.Tiles.{number_in, is_refusal, refusal, want, entries_of, fits_act, whole_act, answer_of, is_answer, waits_by, starves_act}
+use Rattle.tile_pages.specs.Tiles.{is_refusal, refusal, want, entries_of, fits_act, whole_act, answer_of, is_answer, waits_by, starves_act}
+use Rattle.farm_history.specs.Past.{number_in}
 use Rattle.tile_pages.specs.Steps.{WhyOf, Says, Fetches, DoesWish}
 
 said_all : (text said : List ℕ) (fate : Fate) → fate ≡ Stays → said ≡ text → Says text said fate

@@ -5,11 +5,10 @@ use Rattle.std.specs.Option.{is_some, is_none}
 use Rattle.farm_history.specs.declared.queues.Conn.{Conn}
 use Rattle.farm_history.specs.declared.asks.Spot.{Spot}
 use Rattle.farm_history.specs.declared.asks.Cmd.TheVariants as cmd
-use Rattle.farm_history.specs.declared.asks.AskAnswer.{AskAnswer}
-use Rattle.farm_history.specs.declared.asks.AskAnswer.TheVariants as answer
 use Rattle.farm_history.specs.declared.answers.Fetched.{Fetched}
 use Rattle.farm_history.specs.declared.answers.Fetched.TheVariants as fetched
 use Rattle.farm_history.specs.Entries.{Entry, Ask, Fetch, Look}
+use Rattle.farm_history.specs.Past.{number_in}
 use Rattle.front_rounds.specs.Rules.{Rules, Move, Does, Gets}
 use Rattle.front_rounds.specs.Parts.{is_cut}
 use Rattle.tile_requests.specs.declared.targets.Kind.{Kind}
@@ -74,15 +73,6 @@ entries_of c (act.Asked s a) = Ask c cmd.Render s a ∷ []
 entries_of c (act.Served s a f) = Ask c cmd.Render s a ∷ Fetch s f ∷ []
 entries_of c (act.Seen s l) = Look s l ∷ []
 entries_of c (act.Marked s a) = Ask c cmd.Dirty s a ∷ []
-
--- the number of an ask that waits
-abbrev pub number_in : AskAnswer → Option ℕ
-number_in (answer.Queued n) = Some n
-number_in (answer.Joined n) = Some n
-number_in (answer.Lifted n) = Some n
-number_in answer.Done = None
-number_in (answer.NotDone why) = None
-number_in answer.Silent = None
 
 -- the ask that waits after the moves: its number and its spot
 abbrev pub waits_by : Act → Option (ℕ × Spot)

@@ -1,5 +1,6 @@
 //! One wish at the farm.
 ghost use Rattle.std.specs.Prelude.{◌≡◌, ◌+◌, ◌≤◌, [], true, false, length, OnErr, MatchResult};
+ghost use Rattle.farm_history.specs.Past as past;
 ghost use Rattle.front_rounds.specs.Calls.{SameSeat};
 ghost use Rattle.front_rounds.specs.Front.{fate_of};
 ghost use Rattle.tile_pages.specs.Tiles as spec;
@@ -141,7 +142,7 @@ fn serve_tile<R: Wait, M: Farm>(
 
 /// The number of an ask that waits.
 fn number_in(answer: AskAnswer) -> Option<u64>
-    ensures { result ≡ spec.number_in answer }
+    ensures { result ≡ past.number_in answer }
 {
     match answer {
         AskAnswer::Queued(number) => Some(number),

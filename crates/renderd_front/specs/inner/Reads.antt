@@ -13,7 +13,8 @@ use Rattle.front_rounds.specs.Front.{with_acts}
 use Rattle.renderd_front.specs.declared.asked.Asked.{Asked}
 use Rattle.renderd_front.specs.declared.waits.Waiting.{Waiting}
 use Rattle.renderd_front.specs.declared.waits.Talk.{Talk}
-use Rattle.renderd_front.specs.Renderd.{asks_in, answer_command, is_bad, number_in, said_to, waiting, with_wait, rules_of}
+use Rattle.renderd_front.specs.Renderd.{asks_in, answer_command, is_bad, said_to, waiting, with_wait, rules_of}
+use Rattle.farm_history.specs.Past.{number_in}
 
 -- an ask that waits: its number, and its request
 abbrev pub pair_of : Waiting → ℕ × Request
