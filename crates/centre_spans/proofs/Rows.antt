@@ -1,5 +1,5 @@
 -- Rows and columns outside a shape's stretches have no member.
-use Rattle.std.proofs.Common.{◌≡◌, ℕ, ◌+◌, ◌*◌, ◌/◌, ◌<◌, ◌≤◌, Bool, true, false, set, refl, ap, sym, subst, ◌∙◌, inl, inr, arith}
+use Rattle.std.proofs.Common.{◌≡◌, ℕ, zero, suc, ◌+◌, ◌-◌, ◌*◌, ◌/◌, ◌<◌, ◌≤◌, max, Bool, true, false, set, refl, ap, sym, subst, ◌∙◌, inl, inr, arith}
 use Rattle.std.specs.Prelude.{nat_le, nat_lt}
 use Rattle.std.proofs.Math.Nat.{mul-le-mul_right}
 use Rattle.std.proofs.lemmas.Bool.{cases_lt, le-leb, lt-leb, leb-true, leb-false, ltb-true, and_parts, false_from_ne_true}
@@ -10,6 +10,8 @@ use Rattle.plain_shapes.specs.Images.{Bits}
 use Rattle.plain_shapes.specs.inner.Canvas.{marked}
 use Rattle.plain_shapes.specs.inner.Canvas.{Reached}
 use Rattle.plain_shapes.proofs.Places.{reached_start, reached_skip, reached_yes, reached_end}
+use Rattle.plain_image.specs.Runs.{run_changed}
+use Rattle.plain_image.proofs.Runs.{run_none, set_more}
 use Rattle.centre_spans.specs.declared.shapes.Stretch.{Stretch}
 use Rattle.centre_spans.specs.Stretches.{InStretch, in_stretch}
 use Rattle.centre_spans.proofs.Edges.{inside}
@@ -97,15 +99,48 @@ member_at m w s j i left right ok col row low high from to exact =
     let ends = leb-false s.end c.x (sym (to i col) ∙ lt-leb right i high) in
     exact c (centre_in w i j ok col row) refl ∙ inside s c.x starts ends
 
--- one pixel of a row, a member
-pub row_more : (m : Point → Bool) (w : Window) (j i : ℕ) (start now next : Bits) → i < w.cols → j < w.rows → w.cols ≡ now.cols → m (centre w i j) ≡ true
-    → next ≡ record now { bits = set now.bits (j * now.cols + i) true }
-    → Reached m w (j * w.cols + i) start now → Reached m w (j * w.cols + (i + 1)) start next
-row_more m w j i start now next col row cols member is r =
-    let P : Bits → Type 0 = λ b. Reached m w (j * w.cols + (i + 1)) start b in
-    let at : record now { bits = set now.bits (j * w.cols + i) true } ≡ next =
-    ap (λ k. record now { bits = set now.bits (j * k + i) true }) cols ∙ sym is in
-    subst P at (reached_yes m w j i (j * w.cols + i) (j * w.cols + (i + 1)) start now refl (omega arith) col row member r)
+-- pixels of a row, all of them members
+some_more : (m : Point → Bool) (w : Window) (j from count : ℕ) (start now : Bits) → from + count ≤ w.cols → j < w.rows
+    → ((i : ℕ) → from ≤ i → i < from + count → m (centre w i j) ≡ true) → Reached m w (j * w.cols + from) start now
+    → Reached m w (j * w.cols + (from + count)) start (record now { bits = run_changed (λ _. true) (j * w.cols + from) count now.bits })
+some_more m w j from zero start now fits row members r =
+    let P : ℕ → Bits → Type 0 = λ n b. Reached m w n start b in
+    let place : ℕ = j * w.cols + from in
+    let all : place ≡ j * w.cols + (from + 0) = omega arith in
+    let none : place - place ≡ 0 = omega arith in
+    subst (λ n. P n (record now { bits = run_changed (λ _. true) place 0 now.bits })) all
+    (subst (P place) (ap (λ bs. record now { bits = bs }) (run_none (λ _. true) place now.bits ∙ ap (λ k. run_changed (λ _. true) place k now.bits) none)) r)
+some_more m w j from (suc n) start now fits row members r =
+    let place : ℕ = j * w.cols + from in
+    let before : Bits = record now { bits = run_changed (λ _. true) place n now.bits } in
+    let next : ℕ = j * w.cols + (from + suc n) in
+    let at : j * w.cols + (from + n) ≡ place + n = omega arith in
+    subst (λ b. Reached m w next start b)
+    (ap (λ k. record now { bits = set before.bits k true }) at ∙ ap (λ bs. record now { bits = bs }) (sym (set_more place n now.bits)))
+    (reached_yes m w j (from + n) (j * w.cols + (from + n)) next start before refl (omega arith) (omega arith) row (members (from + n) (omega arith) (omega arith))
+    (some_more m w j from n start now (omega arith) row (λ i low high. members i low (omega arith)) r))
+
+-- a run of a row set, all of whose centres are members
+pub run_more : (m : Point → Bool) (w : Window) (j cols from end : ℕ) (start now next : Bits) → cols ≡ w.cols → end ≤ w.cols → j < w.rows
+    → ((i : ℕ) → from ≤ i → i < end → m (centre w i j) ≡ true)
+    → next ≡ record now { bits = run_changed (λ _. true) (j * cols + from) (end - from) now.bits }
+    → Reached m w (j * w.cols + from) start now → Reached m w (j * w.cols + max from end) start next
+run_more m w j cols from end start now next across fits row members is r =
+    subst (λ b. Reached m w (j * w.cols + max from end) start b)
+    (ap (λ k. record now { bits = run_changed (λ _. true) (j * k + from) (end - from) now.bits }) (sym across) ∙ sym is)
+    (elim (cases_lt from end) [
+      | inl h ↦ (
+          let all : from + (end - from) ≡ max from end = omega arith in
+          let few : from + (end - from) ≤ w.cols = omega arith in
+          subst (λ n. Reached m w (j * w.cols + n) start (record now { bits = run_changed (λ _. true) (j * w.cols + from) (end - from) now.bits })) all
+          (some_more m w j from (end - from) start now few row (λ i low high. members i low (omega arith)) r))
+      | inr h ↦ (
+          let all : from ≡ max from end = omega arith in
+          let place : ℕ = j * w.cols + from in
+          let none : place - place ≡ end - from = omega arith in
+          subst (λ n. Reached m w (j * w.cols + n) start (record now { bits = run_changed (λ _. true) place (end - from) now.bits })) all
+          (subst (λ b. Reached m w place start b) (ap (λ bs. record now { bits = bs }) (run_none (λ _. true) place now.bits ∙ ap (λ k. run_changed (λ _. true) place k now.bits) none)) r))
+    ])
 
 -- the rows above the first one of the shape
 pub rows_start : (m : Point → Bool) (w : Window) (s : Stretch) (top : ℕ) (old : Bits) → IsWindow w → top ≤ w.rows

@@ -2,14 +2,14 @@
 ghost use Rattle.std.specs.Prelude.{◌≡◌, ℕ, ◌+◌, ◌*◌, ◌<◌, ◌≤◌, max, Bool, true};
 ghost use Rattle.plain_world.specs.declared.world.Point.{Point};
 ghost use Rattle.plain_world.specs.declared.world.Window.{Window};
-ghost use Rattle.plain_world.specs.World.{IsWindow, centre, centres};
+ghost use Rattle.plain_world.specs.World.{IsWindow, centre};
 ghost use Rattle.plain_shapes.specs.Images.{Bits};
-ghost use Rattle.plain_shapes.specs.inner.Canvas.{marked};
 ghost use Rattle.plain_shapes.specs.inner.Canvas.{Reached};
+ghost use Rattle.plain_image.specs.Surfaces.{Turns, Marks};
 
 use crate::shapes::Shape;
 use crate::sides::first_at;
-use plain_image::Mask;
+use plain_image::{Mask, Surface};
 use plain_world::Window;
 
 /// Sets the bits of row `j` from the column `from` on and before the column `end`.
@@ -22,39 +22,39 @@ pub fn set_run(j: u32, from: u32, end: u32, mask: &mut Mask)
     ensures cols { mask.new.cols ≡ mask.old.cols }
     ensures rows { mask.new.rows ≡ mask.old.rows }
 {
-    for i in from..end {
-        mask.set(i, j);
-    }
+    mask.cover(j, from, end);
 }
 
-// Sets the bits of row `j` whose centre the shape holds.
-fn mark_row<S: Shape>(shape: &S, w: Window, j: u32, mask: &mut Mask)
+// Covers the pixels of row `j` whose centre the shape holds.
+fn mark_row<S: Shape, K: Surface>(shape: &S, w: Window, j: u32, mask: &mut K)
     requires valid { S.valid shape.now }
     requires window { IsWindow w }
     requires row { j < w.rows }
-    requires cols { mask.old.cols ≡ w.cols }
-    requires rows { mask.old.rows ≡ w.rows }
-    ensures reached { (start : Bits) → Reached (S.holds shape.now) w (j * w.cols) start mask.old
-        → Reached (S.holds shape.now) w (j * w.cols + w.cols) start mask.new }
-    ensures cols { mask.new.cols ≡ mask.old.cols }
-    ensures rows { mask.new.rows ≡ mask.old.rows }
+    requires cols { K.cols mask.old ≡ w.cols }
+    requires rows { K.rows mask.old ≡ w.rows }
+    ensures reached { Turns K.shows (λ old new. (start : Bits) → Reached (S.holds shape.now) w (j * w.cols) start old
+        → Reached (S.holds shape.now) w (j * w.cols + w.cols) start new) mask.old mask.new }
+    ensures cols { K.cols mask.new ≡ K.cols mask.old }
+    ensures rows { K.rows mask.new ≡ K.rows mask.old }
 {
     let y = w.north + j * w.pixel + w.pixel / 2;
     let across = shape.columns(y);
     let left = first_at(w.west, w.pixel, w.cols, across.start);
     let right = first_at(w.west, w.pixel, w.cols, across.end);
-    set_run(j, left, right, mask);
+    mask.cover(j, left, right);
 }
 
-/// Sets the bits whose pixel centre the shape holds, and no other bit changes. Only rows within the
-/// shape's heights are entered, and in each of them only its own columns. The window is a tile's or a
-/// metatile's, and the mask has its sides.
-pub fn mark<S: Shape>(shape: &S, w: Window, mask: &mut Mask)
+/// Covers the pixels whose centre the shape holds, and no other pixel changes: of a mask, sets their bits.
+/// Only rows within the shape's heights are entered, and in each of them only its own columns. The window is
+/// a tile's or a metatile's, and the mask, or what stands for it, has its sides.
+pub fn mark<S: Shape, K: Surface>(shape: &S, w: Window, mask: &mut K)
     requires valid { S.valid shape.now }
     requires window { IsWindow w }
-    requires cols { mask.old.cols ≡ w.cols }
-    requires rows { mask.old.rows ≡ w.rows }
-    ensures { mask.new ≡ record mask.old { bits = marked (S.holds shape.now) (centres w) mask.old.bits } }
+    requires cols { K.cols mask.old ≡ w.cols }
+    requires rows { K.rows mask.old ≡ w.rows }
+    ensures marks { Marks K.shows (S.holds shape.now) w mask.old mask.new }
+    ensures cols { K.cols mask.new ≡ K.cols mask.old }
+    ensures rows { K.rows mask.new ≡ K.rows mask.old }
 {
     let down = shape.heights();
     let top = first_at(w.north, w.pixel, w.rows, down.start);

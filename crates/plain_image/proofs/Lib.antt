@@ -5,3 +5,4 @@ pub mod Texts
 pub mod RoundTrip
 pub mod Runs
 pub mod ByteRuns
+pub mod Marking

@@ -1,5 +1,5 @@
 -- One more element of a run changed.
-use Rattle.std.proofs.Common.{◌≡◌, ℕ, suc, zero, ◌+◌, ◌-◌, ◌≤◌, List, [], ◌∷◌, ◌++◌, length, take, drop, set, map, refl, ap, ◌∙◌, sym, arith, Some}
+use Rattle.std.proofs.Common.{◌≡◌, ℕ, suc, zero, ◌+◌, ◌-◌, ◌≤◌, Bool, true, List, [], ◌∷◌, ◌++◌, length, take, drop, set, map, refl, ap, ◌∙◌, sym, arith, Some}
 use Rattle.std.specs.Prelude.{slice_get}
 use Rattle.plain_image.specs.Runs.{run_changed}
 
@@ -50,3 +50,18 @@ run_length f zero (suc n) (x ∷ xs) = ap suc (run_length f zero n xs)
 run_length f (suc s) zero [] = refl
 run_length f (suc s) (suc n) [] = refl
 run_length f (suc s) count (x ∷ xs) = ap suc (run_length f s count xs)
+
+-- one more bit of a run set, whether the list has it or not
+pub set_more : (start count : ℕ) (bits : List Bool)
+    → run_changed (λ _. true) start (suc count) bits ≡ set (run_changed (λ _. true) start count bits) (start + count) true
+set_more zero zero [] = refl
+set_more zero zero (b ∷ bits) = refl
+set_more zero (suc n) [] = refl
+set_more zero (suc n) (b ∷ bits) =
+    let e : 0 + suc n ≡ suc (0 + n) = omega arith in
+    ap (λ bs. true ∷ bs) (set_more zero n bits) ∙ ap (λ k. set (run_changed (λ _. true) 0 (suc n) (b ∷ bits)) k true) (sym e)
+set_more (suc n) zero [] = refl
+set_more (suc n) (suc count) [] = refl
+set_more (suc n) count (b ∷ bits) =
+    let e : suc n + count ≡ suc (n + count) = omega arith in
+    ap (λ bs. b ∷ bs) (set_more n count bits) ∙ ap (λ k. set (run_changed (λ _. true) (suc n) count (b ∷ bits)) k true) (sym e)

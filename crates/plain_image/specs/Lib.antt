@@ -1,2 +1,3 @@
 pub mod PpmText
 pub mod Runs
+pub mod Surfaces

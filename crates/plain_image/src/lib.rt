@@ -9,8 +9,10 @@ mod parts;
 mod pixels;
 mod ppm;
 mod reading;
+mod surfaces;
 
 pub use image::Image;
 pub use mask::Mask;
 pub use ppm::read_ppm;
 pub use reading::PpmFault;
+pub use surfaces::Surface;

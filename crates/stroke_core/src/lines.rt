@@ -1,8 +1,9 @@
 //! Strokes of lines.
 ghost use Rattle.std.specs.Prelude.{◌≡◌, ◌≤◌, ◌<◌, ◌^◌, not, ◌&&◌, length, All, OnOk, OnErr};
-ghost use Rattle.plain_world.specs.World.{InWorld, IsWindow, centres};
-ghost use Rattle.plain_shapes.specs.inner.Canvas.{marked, SetsSome};
+ghost use Rattle.plain_world.specs.World.{InWorld, IsWindow};
+ghost use Rattle.plain_shapes.specs.inner.Canvas.{SetsSome};
 ghost use Rattle.plain_shapes.specs.Strokes.{is_same, in_body, before_start, past_end, on_sides, on_disks, on_dot, on_line, on_stroke};
+ghost use Rattle.plain_image.specs.Surfaces.{Turns, Marks};
 ghost use Rattle.stroke_core.specs.inner.Parts.{on_ends, on_long, on_parts};
 
 use crate::bodies::Body;
@@ -12,62 +13,70 @@ use crate::kept::kept;
 use crate::segments::segment_of;
 use centre_spans::mark;
 use farm_base::NoMemory;
-use plain_image::Mask;
+use plain_image::Surface;
 use plain_shapes::{LineCap, Path};
 use plain_world::{Point, Window};
 use std::alloc::Global;
 
-// Sets the bits of the body of the segment from `a` to `b`.
-fn mark_body(half: u32, a: Point, b: Point, w: Window, mask: &mut Mask)
+// Covers the pixels of the body of the segment from `a` to `b`.
+fn mark_body<K: Surface>(half: u32, a: Point, b: Point, w: Window, mask: &mut K)
     requires half { half ≤ 2 ^ 31 }
     requires a { InWorld a }
     requires b { InWorld b }
     requires window { IsWindow w }
-    requires cols { mask.old.cols ≡ w.cols }
-    requires rows { mask.old.rows ≡ w.rows }
-    ensures { mask.new ≡ record mask.old { bits = marked (λ c. not (is_same a b) && in_body half a b c) (centres w) mask.old.bits } }
+    requires cols { K.cols mask.old ≡ w.cols }
+    requires rows { K.rows mask.old ≡ w.rows }
+    ensures marks { Marks K.shows (λ c. not (is_same a b) && in_body half a b c) w mask.old mask.new }
+    ensures cols { K.cols mask.new ≡ K.cols mask.old }
+    ensures rows { K.rows mask.new ≡ K.rows mask.old }
 {
     let of = segment_of(half, a, b);
     mark(&Body { of }, w, mask);
 }
 
-// Sets the bits of the square cap before the start of the segment from `a` to `b`.
-fn mark_start(half: u32, a: Point, b: Point, w: Window, mask: &mut Mask)
+// Covers the pixels of the square cap before the start of the segment from `a` to `b`.
+fn mark_start<K: Surface>(half: u32, a: Point, b: Point, w: Window, mask: &mut K)
     requires half { half ≤ 2 ^ 31 }
     requires a { InWorld a }
     requires b { InWorld b }
     requires window { IsWindow w }
-    requires cols { mask.old.cols ≡ w.cols }
-    requires rows { mask.old.rows ≡ w.rows }
-    ensures { mask.new ≡ record mask.old { bits = marked (λ c. not (is_same a b) && before_start half a b c) (centres w) mask.old.bits } }
+    requires cols { K.cols mask.old ≡ w.cols }
+    requires rows { K.rows mask.old ≡ w.rows }
+    ensures marks { Marks K.shows (λ c. not (is_same a b) && before_start half a b c) w mask.old mask.new }
+    ensures cols { K.cols mask.new ≡ K.cols mask.old }
+    ensures rows { K.rows mask.new ≡ K.rows mask.old }
 {
     let of = segment_of(half, a, b);
     mark(&StartCap { of }, w, mask);
 }
 
-// Sets the bits of the square cap past the end of the segment from `a` to `b`.
-fn mark_end(half: u32, a: Point, b: Point, w: Window, mask: &mut Mask)
+// Covers the pixels of the square cap past the end of the segment from `a` to `b`.
+fn mark_end<K: Surface>(half: u32, a: Point, b: Point, w: Window, mask: &mut K)
     requires half { half ≤ 2 ^ 31 }
     requires a { InWorld a }
     requires b { InWorld b }
     requires window { IsWindow w }
-    requires cols { mask.old.cols ≡ w.cols }
-    requires rows { mask.old.rows ≡ w.rows }
-    ensures { mask.new ≡ record mask.old { bits = marked (λ c. not (is_same a b) && past_end half a b c) (centres w) mask.old.bits } }
+    requires cols { K.cols mask.old ≡ w.cols }
+    requires rows { K.rows mask.old ≡ w.rows }
+    ensures marks { Marks K.shows (λ c. not (is_same a b) && past_end half a b c) w mask.old mask.new }
+    ensures cols { K.cols mask.new ≡ K.cols mask.old }
+    ensures rows { K.rows mask.new ≡ K.rows mask.old }
 {
     let of = segment_of(half, a, b);
     mark(&EndCap { of }, w, mask);
 }
 
-/// Sets the bits of the bodies of the segments from `first` along the points.
-pub fn mark_sides(half: u32, first: Point, rest: &[Point], w: Window, mask: &mut Mask)
+/// Covers the pixels of the bodies of the segments from `first` along the points.
+pub fn mark_sides<K: Surface>(half: u32, first: Point, rest: &[Point], w: Window, mask: &mut K)
     requires half { half ≤ 2 ^ 31 }
     requires first { InWorld first }
     requires rest { All InWorld rest.now }
     requires window { IsWindow w }
-    requires cols { mask.old.cols ≡ w.cols }
-    requires rows { mask.old.rows ≡ w.rows }
-    ensures { mask.new ≡ record mask.old { bits = marked (on_sides half first rest.now) (centres w) mask.old.bits } }
+    requires cols { K.cols mask.old ≡ w.cols }
+    requires rows { K.rows mask.old ≡ w.rows }
+    ensures marks { Marks K.shows (on_sides half first rest.now) w mask.old mask.new }
+    ensures cols { K.cols mask.new ≡ K.cols mask.old }
+    ensures rows { K.rows mask.new ≡ K.rows mask.old }
 {
     let mut before = first;
     for p in rest {
@@ -76,22 +85,24 @@ pub fn mark_sides(half: u32, first: Point, rest: &[Point], w: Window, mask: &mut
     }
 }
 
-/// Sets the bits of the disks at the points.
-pub fn mark_disks(half: u32, points: &[Point], w: Window, mask: &mut Mask)
+/// Covers the pixels of the disks at the points.
+pub fn mark_disks<K: Surface>(half: u32, points: &[Point], w: Window, mask: &mut K)
     requires half { half ≤ 2 ^ 31 }
     requires points { All InWorld points.now }
     requires window { IsWindow w }
-    requires cols { mask.old.cols ≡ w.cols }
-    requires rows { mask.old.rows ≡ w.rows }
-    ensures { mask.new ≡ record mask.old { bits = marked (on_disks half points.now) (centres w) mask.old.bits } }
+    requires cols { K.cols mask.old ≡ w.cols }
+    requires rows { K.rows mask.old ≡ w.rows }
+    ensures marks { Marks K.shows (on_disks half points.now) w mask.old mask.new }
+    ensures cols { K.cols mask.new ≡ K.cols mask.old }
+    ensures rows { K.rows mask.new ≡ K.rows mask.old }
 {
     for p in points {
         mark(&Disk { half, p: *p }, w, mask);
     }
 }
 
-// Sets the bits of the caps of a line that begins from `a` to `b` and ends from `y` to `z`.
-fn mark_ends(
+// Covers the pixels of the caps of a line that begins from `a` to `b` and ends from `y` to `z`.
+fn mark_ends<K: Surface>(
     half: u32,
     cap: LineCap,
     a: Point,
@@ -99,7 +110,7 @@ fn mark_ends(
     y: Point,
     z: Point,
     w: Window,
-    mask: &mut Mask,
+    mask: &mut K,
 )
     requires half { half ≤ 2 ^ 31 }
     requires a { InWorld a }
@@ -107,9 +118,11 @@ fn mark_ends(
     requires y { InWorld y }
     requires z { InWorld z }
     requires window { IsWindow w }
-    requires cols { mask.old.cols ≡ w.cols }
-    requires rows { mask.old.rows ≡ w.rows }
-    ensures { mask.new ≡ record mask.old { bits = marked (on_ends half cap a b y z) (centres w) mask.old.bits } }
+    requires cols { K.cols mask.old ≡ w.cols }
+    requires rows { K.rows mask.old ≡ w.rows }
+    ensures marks { Marks K.shows (on_ends half cap a b y z) w mask.old mask.new }
+    ensures cols { K.cols mask.new ≡ K.cols mask.old }
+    ensures rows { K.rows mask.new ≡ K.rows mask.old }
 {
     match cap {
         LineCap::Butt => {}
@@ -124,14 +137,16 @@ fn mark_ends(
     }
 }
 
-// Sets the bits of a line of one point.
-fn mark_dot(half: u32, cap: LineCap, p: Point, w: Window, mask: &mut Mask)
+// Covers the pixels of a line of one point.
+fn mark_dot<K: Surface>(half: u32, cap: LineCap, p: Point, w: Window, mask: &mut K)
     requires half { half ≤ 2 ^ 31 }
     requires p { InWorld p }
     requires window { IsWindow w }
-    requires cols { mask.old.cols ≡ w.cols }
-    requires rows { mask.old.rows ≡ w.rows }
-    ensures { mask.new ≡ record mask.old { bits = marked (on_dot half cap p) (centres w) mask.old.bits } }
+    requires cols { K.cols mask.old ≡ w.cols }
+    requires rows { K.rows mask.old ≡ w.rows }
+    ensures marks { Marks K.shows (on_dot half cap p) w mask.old mask.new }
+    ensures cols { K.cols mask.new ≡ K.cols mask.old }
+    ensures rows { K.rows mask.new ≡ K.rows mask.old }
 {
     match cap {
         LineCap::Butt => {}
@@ -140,15 +155,17 @@ fn mark_dot(half: u32, cap: LineCap, p: Point, w: Window, mask: &mut Mask)
     }
 }
 
-// Sets the bits of a line of two points or more.
-fn mark_long(half: u32, cap: LineCap, ps: &[Point], w: Window, mask: &mut Mask)
+// Covers the pixels of a line of two points or more.
+fn mark_long<K: Surface>(half: u32, cap: LineCap, ps: &[Point], w: Window, mask: &mut K)
     requires half { half ≤ 2 ^ 31 }
     requires some { 2 ≤ length ps.now }
     requires points { All InWorld ps.now }
     requires window { IsWindow w }
-    requires cols { mask.old.cols ≡ w.cols }
-    requires rows { mask.old.rows ≡ w.rows }
-    ensures { mask.new ≡ record mask.old { bits = marked (on_long half cap ps.now) (centres w) mask.old.bits } }
+    requires cols { K.cols mask.old ≡ w.cols }
+    requires rows { K.rows mask.old ≡ w.rows }
+    ensures marks { Marks K.shows (on_long half cap ps.now) w mask.old mask.new }
+    ensures cols { K.cols mask.new ≡ K.cols mask.old }
+    ensures rows { K.rows mask.new ≡ K.rows mask.old }
 {
     let n = ps.len();
     mark_sides(half, ps[0], &ps[1..], w, mask);
@@ -156,14 +173,16 @@ fn mark_long(half: u32, cap: LineCap, ps: &[Point], w: Window, mask: &mut Mask)
     mark_ends(half, cap, ps[0], ps[1], ps[n - 2], ps[n - 1], w, mask);
 }
 
-// Sets the bits of a line none of whose points equals the one before.
-fn mark_line(half: u32, cap: LineCap, ps: &[Point], w: Window, mask: &mut Mask)
+// Covers the pixels of a line none of whose points equals the one before.
+fn mark_line<K: Surface>(half: u32, cap: LineCap, ps: &[Point], w: Window, mask: &mut K)
     requires half { half ≤ 2 ^ 31 }
     requires points { All InWorld ps.now }
     requires window { IsWindow w }
-    requires cols { mask.old.cols ≡ w.cols }
-    requires rows { mask.old.rows ≡ w.rows }
-    ensures { mask.new ≡ record mask.old { bits = marked (on_parts half cap ps.now) (centres w) mask.old.bits } }
+    requires cols { K.cols mask.old ≡ w.cols }
+    requires rows { K.rows mask.old ≡ w.rows }
+    ensures marks { Marks K.shows (on_parts half cap ps.now) w mask.old mask.new }
+    ensures cols { K.cols mask.new ≡ K.cols mask.old }
+    ensures rows { K.rows mask.new ≡ K.rows mask.old }
 {
     if ps.is_empty() {
         return;
@@ -175,52 +194,55 @@ fn mark_line(half: u32, cap: LineCap, ps: &[Point], w: Window, mask: &mut Mask)
     mark_long(half, cap, ps, w, mask);
 }
 
-// Sets the bits of one line.
-fn stroke_line(
+// Covers the pixels of one line.
+fn stroke_line<K: Surface>(
     alloc: Global,
     line: &Path,
     half: u32,
     cap: LineCap,
     w: Window,
-    mask: &mut Mask,
+    mask: &mut K,
 ) -> Result<(), NoMemory>
     requires half { half ≤ 2 ^ 31 }
     requires points { All InWorld line.now }
     requires window { IsWindow w }
-    requires cols { mask.old.cols ≡ w.cols }
-    requires rows { mask.old.rows ≡ w.rows }
-    ensures drawn { OnOk result (mask.new ≡ record mask.old { bits = marked (λ c. on_line half cap c line.now) (centres w) mask.old.bits }) }
+    requires cols { K.cols mask.old ≡ w.cols }
+    requires rows { K.rows mask.old ≡ w.rows }
+    ensures drawn { OnOk result (Marks K.shows (λ c. on_line half cap c line.now) w mask.old mask.new) }
     ensures refused { OnErr result (mask.new ≡ mask.old) }
+    ensures cols { K.cols mask.new ≡ K.cols mask.old }
+    ensures rows { K.rows mask.new ≡ K.rows mask.old }
 {
     let points = kept(alloc, &line.points)?;
     mark_line(half, cap, &points, w, mask);
     Ok(())
 }
 
-/// Sets the bits of the mask whose pixel centre lies on the stroke of one of the lines: in the body of a
+/// Covers the pixels whose centre lies on the stroke of one of the lines, of a mask by setting their bits: in the body of a
 /// segment, in the disk at an inner point, or in a cap (the stroke and cap shapes of Mapnik and AGG,
 /// with round joins). `half` is half the stroke's width in world units, at most `2^31`. A point that
 /// equals the one before it counts for nothing; of a line with one point left only the cap is drawn.
 ///
-/// No other bit changes. After `NoMemory` some of the bits that belong may be set, and no others. The
-/// points lie in the world, the window is a tile's or a metatile's, and the mask has its sides.
-pub fn stroke_lines(
+/// No other pixel changes. After `NoMemory` some of the pixels that belong may be covered, and no others.
+/// The points lie in the world, the window is a tile's or a metatile's, and the mask, or what stands for it,
+/// has its sides.
+pub fn stroke_lines<K: Surface>(
     alloc: Global,
     lines: &[Path],
     half: u32,
     cap: LineCap,
     w: Window,
-    mask: &mut Mask,
+    mask: &mut K,
 ) -> Result<(), NoMemory>
     requires half { half ≤ 2 ^ 31 }
     requires lines { All (All InWorld) lines.now }
     requires window { IsWindow w }
-    requires cols { mask.old.cols ≡ w.cols }
-    requires rows { mask.old.rows ≡ w.rows }
-    ensures drawn { OnOk result (mask.new ≡ record mask.old { bits = marked (on_stroke lines.now half cap) (centres w) mask.old.bits }) }
-    ensures refused { OnErr result (SetsSome (on_stroke lines.now half cap) w mask.old mask.new) }
-    ensures cols { mask.new.cols ≡ mask.old.cols }
-    ensures rows { mask.new.rows ≡ mask.old.rows }
+    requires cols { K.cols mask.old ≡ w.cols }
+    requires rows { K.rows mask.old ≡ w.rows }
+    ensures drawn { OnOk result (Marks K.shows (on_stroke lines.now half cap) w mask.old mask.new) }
+    ensures refused { OnErr result (Turns K.shows (λ old new. SetsSome (on_stroke lines.now half cap) w old new) mask.old mask.new) }
+    ensures cols { K.cols mask.new ≡ K.cols mask.old }
+    ensures rows { K.rows mask.new ≡ K.rows mask.old }
 {
     for line in lines {
         stroke_line(alloc, line, half, cap, w, mask)?;

@@ -34,7 +34,7 @@ at_skip f cs xs n (suc k) d fits off =
     ∙ at_off f cs xs (n + k) d (omega arith) (off (n + k) (omega arith) (omega arith))
     ∙ at_skip f cs xs n k d (omega arith) (λ p low high. off p low (omega arith))
 
-place_row : (p c r : ℕ) → 1 ≤ c → p < r * c → p / c < r
+pub place_row : (p c r : ℕ) → 1 ≤ c → p < r * c → p / c < r
 place_row p c r some lt = elim (cases_lt (p / c) r) [ inl h ↦ h | inr h ↦ absurd (omega (arith, mul-le-mul_right c h, div-add-mod p c)) ]
 
 -- past pixels that the step does not change

@@ -1,13 +1,15 @@
 -- What a symbolizer covers on a feature, as a mask of the region near it.
-use Rattle.std.proofs.Common.{List, [], ◌∷◌, subst, arith, refl, ◌≡◌, ◌+◌, ◌*◌, ◌/◌, ◌<◌, ℕ, Bool, false, ◌||◌, ap, sym, ◌∙◌, length, get_or, replicate}
+use Rattle.std.proofs.Common.{List, [], ◌∷◌, subst, arith, refl, ◌≡◌, ◌+◌, ◌*◌, ◌/◌, ◌<◌, ℕ, Bool, true, false, ◌||◌, ap, sym, ◌∙◌, length, get_or, replicate}
 use Rattle.std.specs.Prelude.{All, Some}
-use Rattle.std.proofs.lemmas.Bool.{false_from_ne_true}
+use Rattle.std.proofs.lemmas.Bool.{false_from_ne_true, true≢false}
 use Rattle.std.proofs.lemmas.Nat.{row_fits}
 use Rattle.std.proofs.lemmas.List.{get_or-map}
 use Rattle.plain_world.specs.declared.world.Point.{Point}
 use Rattle.plain_world.specs.declared.world.Window.{Window}
 use Rattle.plain_drawing.specs.declared.style.Symbolizer.{Symbolizer}
 use Rattle.plain_drawing.specs.declared.style.Symbolizer.TheVariants as paint
+use Rattle.plain_shapes.specs.declared.colour.Colour.{Colour}
+use Rattle.plain_shapes.specs.declared.shapes.LineCap.{LineCap}
 use Rattle.plain_shapes.specs.declared.shapes.Geometry.{Geometry}
 use Rattle.plain_shapes.specs.declared.shapes.Geometry.TheVariants as shape
 use Rattle.plain_world.specs.World.{InWorld, centre, centres}
@@ -27,7 +29,7 @@ use Rattle.tile_render.specs.declared.regions.Region.{Region}
 use Rattle.tile_render.specs.inner.Regions.{IsRegion, InRegion, region_window, Holds, HoldsCovered, Tells}
 use Rattle.tile_render.specs.declared.covers.CoveredPixels.{CoveredPixels}
 use Rattle.tile_render.specs.declared.covers.CoveredPixels.TheVariants.{Masked, Runs}
-use Rattle.tile_render.specs.inner.Covers.{mask_where, Shows, IsCover}
+use Rattle.tile_render.specs.inner.Covers.{is_points, mask_where, Shows, IsCover}
 
 -- a fresh mask with the members marked
 pub mask_made : (w : Window) (member covered : Point → Bool) (fresh mask : Bits) → ((c : Point) → covered c ≡ member c)
@@ -37,7 +39,7 @@ mask_made w member covered fresh mask same fresh_is mask_is =
     mask_is ∙ ap (λ (m : Bits). record m { bits = marked member (centres w) m.bits }) fresh_is ∙ ap (mask_where w) (λ i c. sym (same c) i)
 
 -- the mask of a region's pixels whose centres are members tells them, where the region has every pixel whose centre is one
-region_told : (w : Window) (p : Region) (member : Point → Bool) (bits : List Bool) → Holds w p member
+pub region_told : (w : Window) (p : Region) (member : Point → Bool) (bits : List Bool) → Holds w p member
     → bits ≡ marked member (centres (region_window w p)) (replicate (p.rows * p.cols) false) → Tells w p member bits
 region_told w p member bits holds is = record {
   at = λ j i hj hi.
@@ -110,3 +112,16 @@ pub points_inside : (g : Geometry) (points : List Point) → g ≡ shape.Points 
 points_inside g points is inside =
     let here : All (All InWorld) (points ∷ []) = subst (λ s. All (All InWorld) (parts_of s)) is inside in
     here 0 [] (omega arith)
+
+-- points have no strokes, and no other shape has marks
+pub points_unstroked : (pixel width opacity : ℕ) (colour : Colour) (cap : LineCap) (g : Geometry) (c : Point) → is_points g ≡ true
+    → covers pixel g c (paint.Line colour width opacity cap) ≡ false
+points_unstroked pixel width opacity colour cap (shape.Points points) c is = refl
+points_unstroked pixel width opacity colour cap (shape.Lines lines) c is = absurd (true≢false (sym is))
+points_unstroked pixel width opacity colour cap (shape.Polygon rings) c is = absurd (true≢false (sym is))
+
+pub others_unmarked : (pixel width height opacity : ℕ) (colour : Colour) (g : Geometry) (c : Point) → is_points g ≡ false
+    → covers pixel g c (paint.Markers colour width height opacity) ≡ false
+others_unmarked pixel width height opacity colour (shape.Points points) c is = absurd (true≢false is)
+others_unmarked pixel width height opacity colour (shape.Lines lines) c is = refl
+others_unmarked pixel width height opacity colour (shape.Polygon rings) c is = refl

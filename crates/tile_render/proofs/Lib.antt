@@ -1,3 +1,4 @@
+pub mod Brushing
 pub mod Changing
 pub mod Choices
 pub mod Covering

@@ -1,3 +1,4 @@
+pub mod Brushes
 pub mod Canvases
 pub mod Chosen
 pub mod Covers

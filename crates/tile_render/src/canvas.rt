@@ -1,10 +1,13 @@
 //! A window and its picture.
-use crate::covers::{Covered, CoveredPixels};
+use crate::brushes::Brush;
+use crate::covers::{Covered, CoveredPixels, cover_on};
 use crate::grids::blend_grid;
 use crate::painting::{paint_mask, paint_runs};
+use crate::regions::{Region, region_window};
 use crate::symbolizers::Paint;
 use farm_base::NoMemory;
-use plain_drawing::Grid;
+use geo_model::Feature;
+use plain_drawing::{Grid, Symbolizer};
 use plain_image::Image;
 use plain_shapes::Colour;
 use plain_world::Window;
@@ -29,15 +32,16 @@ impl Model for Canvas {
 }
 
 impl Canvas {
-    ghost use Rattle.std.specs.Prelude.{◌≡◌, ◌*◌, ◌≤◌, Bool, IfOk, replicate};
+    ghost use Rattle.std.specs.Prelude.{◌≡◌, ◌*◌, ◌≤◌, Bool, false, IsTrue, IfOk, OnOk, replicate};
     ghost use Rattle.plain_world.specs.declared.world.Point.{Point};
     ghost use Rattle.plain_world.specs.World.{IsWindow};
     ghost use Rattle.plain_shapes.specs.inner.Canvas.{stepped};
     ghost use Rattle.plain_drawing.specs.declared.style.Symbolizer.TheVariants as paint;
-    ghost use Rattle.plain_drawing.specs.Drawing.{raster_over};
+    ghost use Rattle.plain_drawing.specs.Styles.{is_paint};
+    ghost use Rattle.plain_drawing.specs.Drawing.{covers, raster_over};
     ghost use Rattle.tile_render.specs.inner.Canvases.{IsCanvas};
-    ghost use Rattle.tile_render.specs.inner.Covers.{Fits, Says};
-    ghost use Rattle.tile_render.specs.inner.Regions.{IsRegion, over_member};
+    ghost use Rattle.tile_render.specs.inner.Covers.{is_fill, Fits, Says};
+    ghost use Rattle.tile_render.specs.inner.Regions.{IsRegion, HoldsCovered, over_member};
 
     /// A canvas that is all of one colour, in a buffer that is used again.
     pub(crate) fn over(
@@ -95,6 +99,35 @@ impl Canvas {
                 paint_runs(self.window, region, places, paint, &mut self.image)
             }
         }
+    }
+
+    /// Paints in full opacity what the symbolizer, which fills nothing, covers of the feature in a region that
+    /// has all of it. Each part is painted as it is found, with no mask.
+    pub(crate) fn brush(
+        &mut self,
+        alloc: Global,
+        region: Region,
+        feature: &Feature,
+        symbolizer: Symbolizer,
+        colour: Colour,
+    ) -> Result<(), NoMemory>
+        requires paint { IsTrue (is_paint symbolizer) }
+        requires kind { is_fill symbolizer ≡ false }
+        requires region { IsRegion self.old.window region }
+        requires holds { HoldsCovered self.old.window region feature.now symbolizer }
+        ensures drawn { OnOk result (self.new.image ≡ stepped self.old.window
+            (over_member (λ c. covers self.old.window.pixel feature.now.geometry c symbolizer) colour 1000) self.old.image) }
+        ensures window { self.new.window ≡ self.old.window }
+    {
+        let near = region_window(self.window, region);
+        // Read for what it says of the picture: it has a pixel for each place.
+        let _cols = self.image.cols();
+        let mut brush = Brush {
+            image: &mut self.image,
+            region,
+            colour,
+        };
+        cover_on(alloc, near, feature, symbolizer, &mut brush)
     }
 
     /// Paints the grid over all pixels whose centres it holds.

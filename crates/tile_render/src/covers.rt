@@ -1,21 +1,24 @@
 //! Which pixels of a window a symbolizer covers on a feature.
-ghost use Rattle.std.specs.Prelude.{◌≡◌, ℕ, ◌*◌, ◌^◌, ◌≤◌, IsTrue, IfOk};
+ghost use Rattle.std.specs.Prelude.{◌≡◌, ℕ, ◌*◌, ◌^◌, ◌<◌, ◌≤◌, false, IsTrue, IfOk, OnOk, IfSome, MatchOption, ⊤};
 ghost use Rattle.drawing_reach.specs.inner.Spreads.{spread_across, spread_down};
-ghost use Rattle.plain_world.specs.World.{IsWindow};
+ghost use Rattle.plain_world.specs.declared.world.Point.{Point};
+ghost use Rattle.plain_world.specs.World.{IsWindow, centre};
 ghost use Rattle.plain_data.specs.Limits.{most_width};
 ghost use Rattle.plain_shapes.specs.declared.colour.Colour.{Colour};
 ghost use Rattle.plain_shapes.specs.Strokes.{half_of};
 ghost use Rattle.plain_drawing.specs.declared.style.Symbolizer.TheVariants as paint;
 ghost use Rattle.plain_drawing.specs.Styles.{is_paint};
+ghost use Rattle.plain_drawing.specs.Drawing.{covers};
+ghost use Rattle.plain_image.specs.Surfaces.{Turns, Marks};
 ghost use Rattle.tile_render.specs.inner.Regions.{IsRegion, HoldsCovered};
-ghost use Rattle.tile_render.specs.inner.Covers.{Shows, Covers};
+ghost use Rattle.tile_render.specs.inner.Covers.{is_fill, is_points, Shows, Covers};
 
 use crate::regions::{Region, region_near, region_window};
 use farm_base::NoMemory;
 use geo_model::Feature;
 use mark_core::mark_points;
 use plain_drawing::Symbolizer;
-use plain_image::Mask;
+use plain_image::{Mask, Surface};
 use plain_shapes::{Geometry, LineCap};
 use plain_world::Window;
 use raster_core::crossings;
@@ -87,58 +90,136 @@ fn fill(alloc: Global, w: Window, feature: &Feature) -> Result<Option<CoveredPix
     }
 }
 
-/// The pixels of lines that are stroked, or of the outlines of a polygon's rings; points have no strokes.
-fn stroke(
+/// Covers the pixels of lines that are stroked, or of the outlines of a polygon's rings; points have no strokes.
+fn stroke<K: Surface>(
     alloc: Global,
     w: Window,
     feature: &Feature,
     width: u64,
     cap: LineCap,
-) -> Result<Option<CoveredPixels>, NoMemory>
+    surface: &mut K,
+) -> Result<(), NoMemory>
     requires window { IsWindow w }
     requires width { width ≤ 100 * most_width }
-    ensures { (colour : Colour) (opacity : ℕ) → IfOk result (λ found. Shows w feature.now.geometry (paint.Line colour width opacity cap) found) }
+    requires cols { K.cols surface.old ≡ w.cols }
+    requires rows { K.rows surface.old ≡ w.rows }
+    ensures drawn { (colour : Colour) (opacity : ℕ) → OnOk result
+        (Marks K.shows (λ c. covers w.pixel feature.now.geometry c (paint.Line colour width opacity cap)) w surface.old surface.new) }
+    ensures shows { Turns K.shows (λ _ _. ⊤) surface.old surface.new }
 {
     let half = half_of(width, w.pixel);
     match feature.geometry() {
-        Geometry::Points(_) => Ok(None),
-        Geometry::Lines(lines) => {
-            let mut mask = Mask::new(alloc, w.cols, w.rows)?;
-            stroke_lines(alloc, lines.as_slice(), half, cap, w, &mut mask)?;
-            Ok(Some(CoveredPixels::Masked(mask)))
-        }
-        Geometry::Polygon(rings) => {
-            let mut mask = Mask::new(alloc, w.cols, w.rows)?;
-            stroke_rings(rings.as_slice(), half, w, &mut mask)?;
-            Ok(Some(CoveredPixels::Masked(mask)))
-        }
+        Geometry::Points(_) => Ok(()),
+        Geometry::Lines(lines) => stroke_lines(alloc, lines.as_slice(), half, cap, w, surface),
+        Geometry::Polygon(rings) => stroke_rings(rings.as_slice(), half, w, surface),
     }
 }
 
-/// The pixels of an ellipse at each point of a shape that is points; other shapes have no marks.
-fn mark(
-    alloc: Global,
-    w: Window,
-    feature: &Feature,
-    width: u64,
-    height: u64,
-) -> Result<Option<CoveredPixels>, NoMemory>
+/// Covers the pixels of an ellipse at each point of a shape that is points; other shapes have no marks.
+fn mark<K: Surface>(w: Window, feature: &Feature, width: u64, height: u64, surface: &mut K)
     requires window { IsWindow w }
     requires width { width ≤ 100 * most_width }
     requires height { height ≤ 100 * most_width }
-    ensures { (colour : Colour) (opacity : ℕ) → IfOk result (λ found. Shows w feature.now.geometry (paint.Markers colour width height opacity) found) }
+    requires cols { K.cols surface.old ≡ w.cols }
+    requires rows { K.rows surface.old ≡ w.rows }
+    ensures { (colour : Colour) (opacity : ℕ)
+        → Marks K.shows (λ c. covers w.pixel feature.now.geometry c (paint.Markers colour width height opacity)) w surface.old surface.new }
 {
     match feature.geometry() {
         Geometry::Points(points) => {
-            let mut mask = Mask::new(alloc, w.cols, w.rows)?;
             let a = half_of(width, w.pixel);
             let b = half_of(height, w.pixel);
-            mark_points(points, a, b, w, &mut mask);
-            Ok(Some(CoveredPixels::Masked(mask)))
+            mark_points(points, a, b, w, surface);
         }
-        Geometry::Lines(_) => Ok(None),
-        Geometry::Polygon(_) => Ok(None),
+        Geometry::Lines(_) => {}
+        Geometry::Polygon(_) => {}
     }
+}
+
+/// Whether the symbolizer fills polygons.
+pub(crate) fn is_fill(symbolizer: Symbolizer) -> bool
+    ensures { result ≡ is_fill symbolizer }
+{
+    match symbolizer {
+        Symbolizer::Polygon { .. } => true,
+        Symbolizer::Line { .. } => false,
+        Symbolizer::Markers { .. } => false,
+        Symbolizer::Raster { .. } => false,
+    }
+}
+
+/// Covers the pixels of a window whose centres the symbolizer, which fills nothing, covers on the feature.
+pub(crate) fn cover_on<K: Surface>(
+    alloc: Global,
+    w: Window,
+    feature: &Feature,
+    symbolizer: Symbolizer,
+    surface: &mut K,
+) -> Result<(), NoMemory>
+    requires window { IsWindow w }
+    requires paint { IsTrue (is_paint symbolizer) }
+    requires kind { is_fill symbolizer ≡ false }
+    requires cols { K.cols surface.old ≡ w.cols }
+    requires rows { K.rows surface.old ≡ w.rows }
+    ensures drawn { OnOk result (Marks K.shows (λ c. covers w.pixel feature.now.geometry c symbolizer) w surface.old surface.new) }
+    ensures shows { Turns K.shows (λ _ _. ⊤) surface.old surface.new }
+{
+    match symbolizer {
+        Symbolizer::Polygon { .. } => Ok(()),
+        Symbolizer::Line {
+            stroke_width,
+            stroke_linecap,
+            ..
+        } => stroke(alloc, w, feature, stroke_width, stroke_linecap, surface),
+        Symbolizer::Markers { width, height, .. } => {
+            mark(w, feature, width, height, surface);
+            Ok(())
+        }
+        Symbolizer::Raster { .. } => Ok(()),
+    }
+}
+
+/// Whether a shape is points.
+fn is_points(geometry: &Geometry) -> bool
+    ensures { result ≡ is_points geometry.now }
+{
+    match geometry {
+        Geometry::Points(_) => true,
+        Geometry::Lines(_) => false,
+        Geometry::Polygon(_) => false,
+    }
+}
+
+/// Whether the symbolizer covers shapes of this kind at all.
+fn suits(geometry: &Geometry, symbolizer: Symbolizer) -> bool
+    ensures { result ≡ false → (pixel : ℕ) (c : Point) → covers pixel geometry.now c symbolizer ≡ false }
+{
+    match symbolizer {
+        Symbolizer::Polygon { .. } => true,
+        Symbolizer::Line { .. } => !is_points(geometry),
+        Symbolizer::Markers { .. } => is_points(geometry),
+        Symbolizer::Raster { .. } => false,
+    }
+}
+
+/// The pixels of a symbolizer that fills nothing, in a mask; none where it covers no shape of that kind.
+fn masked(
+    alloc: Global,
+    w: Window,
+    feature: &Feature,
+    symbolizer: Symbolizer,
+) -> Result<Option<CoveredPixels>, NoMemory>
+    requires window { IsWindow w }
+    requires paint { IsTrue (is_paint symbolizer) }
+    requires kind { is_fill symbolizer ≡ false }
+    ensures { IfOk result (λ found. Shows w feature.now.geometry symbolizer found) }
+{
+    if !suits(feature.geometry(), symbolizer) {
+        return Ok(None);
+    }
+    let mut mask = Mask::new(alloc, w.cols, w.rows)?;
+    cover_on(alloc, w, feature, symbolizer, &mut mask)?;
+    Ok(Some(CoveredPixels::Masked(mask)))
 }
 
 /// Those of the window's pixels whose centres the symbolizer covers on the feature; none where it covers
@@ -155,18 +236,14 @@ fn covered_on(
 {
     match symbolizer {
         Symbolizer::Polygon { .. } => fill(alloc, w, feature),
-        Symbolizer::Line {
-            stroke_width,
-            stroke_linecap,
-            ..
-        } => stroke(alloc, w, feature, stroke_width, stroke_linecap),
-        Symbolizer::Markers { width, height, .. } => mark(alloc, w, feature, width, height),
+        Symbolizer::Line { .. } => masked(alloc, w, feature, symbolizer),
+        Symbolizer::Markers { .. } => masked(alloc, w, feature, symbolizer),
         Symbolizer::Raster { .. } => Ok(None),
     }
 }
 
-/// What is covered of a region that has all that is.
-fn cover_region(
+/// What is covered of a region that has all that is; nothing where there is none.
+pub(crate) fn cover(
     alloc: Global,
     w: Window,
     region: Region,
@@ -185,21 +262,16 @@ fn cover_region(
     }
 }
 
-/// Which pixels of the window the symbolizer covers on the feature; nothing where there is none. Only the
-/// region near the feature is looked at.
-pub(crate) fn cover(
-    alloc: Global,
-    w: Window,
-    feature: &Feature,
-    symbolizer: Symbolizer,
-) -> Result<Option<Covered>, NoMemory>
+/// The region near the feature, which has each pixel of the window whose centre the symbolizer covers on it;
+/// none where there is no such pixel.
+pub(crate) fn region_of(w: Window, feature: &Feature, symbolizer: Symbolizer) -> Option<Region>
     requires window { IsWindow w }
     requires paint { IsTrue (is_paint symbolizer) }
-    ensures { IfOk result (λ found. Covers w feature.now symbolizer found) }
+    ensures region { IfSome result (λ r. IsRegion w r) }
+    ensures holds { MatchOption result
+        ((j i : ℕ) → i < w.cols → j < w.rows → covers w.pixel feature.now.geometry (centre w i j) symbolizer ≡ false)
+        (λ r. HoldsCovered w r feature.now symbolizer) }
 {
     let (across, down) = spread(symbolizer, w.pixel);
-    match region_near(w, feature.bbox(), across, down) {
-        Some(region) => cover_region(alloc, w, region, feature, symbolizer),
-        None => Ok(None),
-    }
+    region_near(w, feature.bbox(), across, down)
 }

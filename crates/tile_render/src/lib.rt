@@ -1,6 +1,7 @@
 //! Tiles of a map: the drawing of a style over data, pixel by pixel.
 #![tactic(auto)]
 
+mod brushes;
 mod canvas;
 mod covers;
 mod grids;

@@ -1,16 +1,21 @@
 //! One symbolizer on one item.
-ghost use Rattle.std.specs.Prelude.{◌≡◌, ◌≤◌, IsTrue, OnOk};
+ghost use Rattle.std.specs.Prelude.{◌≡◌, ◌≤◌, ◌&&◌, not, nat_eq, IsTrue, OnOk};
 ghost use Rattle.plain_shapes.specs.declared.colour.Colour.{Colour};
 ghost use Rattle.plain_shapes.specs.Blending.{blend};
 ghost use Rattle.plain_drawing.specs.Styles.{is_paint};
 ghost use Rattle.plain_drawing.specs.Drawing.{raster, painted_over};
+ghost use Rattle.plain_drawing.specs.Drawing as drawing;
 ghost use Rattle.plain_drawing.specs.inner.Pictures.{with_symbolizer};
+ghost use Rattle.tile_render.specs.inner.Covers.{is_fill};
 ghost use Rattle.tile_render.specs.inner.Items.{item_of};
+ghost use Rattle.tile_render.specs.inner.Regions.{IsRegion, HoldsCovered};
 
 use crate::canvas::Canvas;
-use crate::covers::cover;
+use crate::covers::{cover, is_fill, region_of};
 use crate::items::Item;
+use crate::regions::Region;
 use farm_base::NoMemory;
+use geo_model::Feature;
 use plain_drawing::{Grid, Symbolizer};
 use plain_shapes::Colour;
 use std::alloc::Global;
@@ -66,6 +71,59 @@ fn draw_on_grid(grid: &Grid, symbolizer: Symbolizer, canvas: &mut Canvas)
     }
 }
 
+/// Whether the parts of what the symbolizer covers are painted one after another: in full opacity a pixel of
+/// two of them may be painted twice. Fills have runs that do not overlap, so they need no brush.
+fn is_brushed(symbolizer: Symbolizer, opacity: u32) -> bool
+    ensures { result ≡ (nat_eq opacity 1000 && not (is_fill symbolizer)) }
+{
+    opacity == 1000 && !is_fill(symbolizer)
+}
+
+/// Paints what the symbolizer covers of the feature in a region that has all of it: with a brush, or once all
+/// that is covered is known.
+fn draw_region(
+    alloc: Global,
+    region: Region,
+    feature: &Feature,
+    symbolizer: Symbolizer,
+    canvas: &mut Canvas,
+) -> Result<(), NoMemory>
+    requires paint { IsTrue (is_paint symbolizer) }
+    requires region { IsRegion canvas.old.window region }
+    requires holds { HoldsCovered canvas.old.window region feature.now symbolizer }
+    ensures drawn { OnOk result (canvas.new.image ≡ with_symbolizer canvas.old.window (drawing.feature feature.now) canvas.old.image symbolizer) }
+    ensures window { canvas.new.window ≡ canvas.old.window }
+{
+    let paint = paint_of(symbolizer);
+    if is_brushed(symbolizer, paint.opacity) {
+        return canvas.brush(alloc, region, feature, symbolizer, paint.colour);
+    }
+    match cover(alloc, canvas.window(), region, feature, symbolizer)? {
+        Some(covered) => {
+            canvas.paint(&covered, paint);
+            Ok(())
+        }
+        None => Ok(()),
+    }
+}
+
+/// Paints what the symbolizer covers of the feature.
+fn draw_on_feature(
+    alloc: Global,
+    feature: &Feature,
+    symbolizer: Symbolizer,
+    canvas: &mut Canvas,
+) -> Result<(), NoMemory>
+    requires paint { IsTrue (is_paint symbolizer) }
+    ensures drawn { OnOk result (canvas.new.image ≡ with_symbolizer canvas.old.window (drawing.feature feature.now) canvas.old.image symbolizer) }
+    ensures window { canvas.new.window ≡ canvas.old.window }
+{
+    match region_of(canvas.window(), feature, symbolizer) {
+        Some(region) => draw_region(alloc, region, feature, symbolizer, canvas),
+        None => Ok(()),
+    }
+}
+
 /// Paints what the symbolizer covers of the item.
 pub(crate) fn draw_symbolizer(
     alloc: Global,
@@ -78,15 +136,7 @@ pub(crate) fn draw_symbolizer(
     ensures window { canvas.new.window ≡ canvas.old.window }
 {
     match item {
-        Item::Feature(feature) => {
-            match cover(alloc, canvas.window(), feature, symbolizer)? {
-                Some(covered) => {
-                    canvas.paint(&covered, paint_of(symbolizer));
-                    Ok(())
-                }
-                None => Ok(()),
-            }
-        }
+        Item::Feature(feature) => draw_on_feature(alloc, feature, symbolizer, canvas),
         Item::Raster(grid) => {
             draw_on_grid(grid, symbolizer, canvas);
             Ok(())

@@ -1,14 +1,16 @@
 -- What a symbolizer covers of a window.
-use Rattle.std.specs.Prelude.{◌≡◌, ℕ, ◌*◌, ◌<◌, Bool, false, List, replicate, Option, Some, None}
+use Rattle.std.specs.Prelude.{◌≡◌, ℕ, ◌*◌, ◌<◌, Bool, true, false, List, replicate, Option, Some, None}
 use Rattle.std.specs.List.Sorted.{IsNonDecreasing}
 use Rattle.plain_world.specs.declared.world.Point.{Point}
 use Rattle.plain_world.specs.declared.world.Window.{Window}
 use Rattle.plain_world.specs.World.{centre, centres}
 use Rattle.plain_data.specs.Features.{Feature}
 use Rattle.plain_shapes.specs.declared.shapes.Geometry.{Geometry}
+use Rattle.plain_shapes.specs.declared.shapes.Geometry.TheVariants as shape
 use Rattle.plain_shapes.specs.Images.{Bits}
 use Rattle.plain_shapes.specs.inner.Canvas.{marked}
 use Rattle.plain_drawing.specs.declared.style.Symbolizer.{Symbolizer}
+use Rattle.plain_drawing.specs.declared.style.Symbolizer.TheVariants as paint
 use Rattle.plain_drawing.specs.Drawing.{covers}
 use Rattle.raster_core.specs.inner.Toggles.{AllInside}
 use Rattle.raster_core.specs.inner.Crossings.{Crossings}
@@ -17,6 +19,19 @@ use Rattle.tile_render.specs.declared.covers.Covered.{Covered}
 use Rattle.tile_render.specs.declared.covers.CoveredPixels.{CoveredPixels}
 use Rattle.tile_render.specs.declared.covers.CoveredPixels.TheVariants.{Masked, Runs}
 use Rattle.tile_render.specs.inner.Regions.{IsRegion, region_window, Holds, Tells}
+
+-- whether the symbolizer fills polygons
+abbrev pub is_fill : Symbolizer → Bool
+is_fill (paint.Polygon fill opacity) = true
+is_fill (paint.Line stroke width opacity cap) = false
+is_fill (paint.Markers fill width height opacity) = false
+is_fill (paint.Raster opacity) = false
+
+-- whether the shape is points
+abbrev pub is_points : Geometry → Bool
+is_points (shape.Points points) = true
+is_points (shape.Lines lines) = false
+is_points (shape.Polygon rings) = false
 
 -- the mask of a window's pixels whose centres are members
 abbrev pub mask_where : Window → (Point → Bool) → Bits

@@ -1,11 +1,10 @@
-use Rattle.std.proofs.Common.{not, ◌&&◌, ap, ◌∙◌}
-use Rattle.plain_world.specs.World.{centres}
-use Rattle.plain_shapes.specs.inner.Canvas.{marked}
+use Rattle.std.proofs.Common.{not, ◌&&◌, ap}
 use Rattle.plain_shapes.specs.Strokes.{is_same, past_end}
+use Rattle.plain_image.proofs.Marking.{marks_same}
 use Rattle.stroke_core.specs.declared.segments.Segment.{Segment}
 use Rattle.stroke_core.proofs.lines.mark_end.Goals as goal
 
-pub returns : goal.returns
-returns c =
-    c.mark.ensures
-    ∙ ap (λ (s : Segment). record c.args.mask.now { bits = marked (λ p. not (is_same s.a s.b) && past_end s.half s.a s.b p) (centres c.args.w) c.args.mask.now.bits }) c.segment_of-of.ensures.fields
+pub returns-clause-marks : goal.returns-clause-marks
+returns-clause-marks g c =
+    marks_same g.K.Surface.shows _ (λ p. not (is_same c.args.a c.args.b) && past_end c.args.half c.args.a c.args.b p) c.args.w c.args.mask.now c.mark.new.mask
+    (λ p. ap (λ (s : Segment). not (is_same s.a s.b) && past_end s.half s.a s.b p) c.segment_of-of.ensures.fields) c.mark.ensures.marks

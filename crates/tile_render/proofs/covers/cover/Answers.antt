@@ -1,12 +1,11 @@
-use Rattle.tile_render.proofs.Covering.{near_holds, none_covered}
+use Rattle.std.proofs.Common.{subst}
+use Rattle.std.specs.Prelude.{Option}
+use Rattle.tile_render.specs.declared.covers.CoveredPixels.{CoveredPixels}
+use Rattle.tile_render.specs.inner.Covers.{Shows}
+use Rattle.tile_render.proofs.Covering.{cover_made}
 use Rattle.tile_render.proofs.covers.cover.Goals as goal
 
-pub cover_region-requires-clause-holds : goal.cover_region-requires-clause-holds
-cover_region-requires-clause-holds c =
-    near_holds c.args.w c.in-Some.region c.args.feature.now c.args.symbolizer c.bbox.result c.spread-across.result.0 c.spread-across.result.1 c.bbox.ensures.least.holds
-    c.spread-across.ensures.across c.spread-across.ensures.down c.in-Some.ensures.holds
-
-pub returns-in-None : goal.returns-in-None
-returns-in-None c =
-    none_covered c.args.w c.args.feature.now c.args.symbolizer c.bbox.result c.spread-across.result.0 c.spread-across.result.1 c.bbox.ensures.least.holds
-    c.spread-across.ensures.across c.spread-across.ensures.down c.in-None.ensures.holds
+pub returns-in-Some : goal.returns-in-Some
+returns-in-Some c =
+    cover_made c.args.w c.args.feature.now c.args.symbolizer c.args.region c.region_window.result c.in-Some.pixels c.requires.region c.requires.holds c.region_window.ensures.value
+    (subst (λ (found : Option CoveredPixels). Shows c.region_window.result c.args.feature.now.geometry c.args.symbolizer found) c.in-Some.is c.in_ok-pixels.ensures)

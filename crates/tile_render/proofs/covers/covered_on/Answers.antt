@@ -10,13 +10,5 @@ pub returns-in-Polygon : goal.returns-in-Polygon
 returns-in-Polygon c =
     subst (λ (s : Symbolizer). IfOk c.fill.result (λ found. Shows c.args.w c.args.feature.now.geometry s found)) (sym c.in-Polygon.is) (c.fill.ensures c.in-Polygon.fill c.in-Polygon.fill_opacity)
 
-pub returns-in-Line : goal.returns-in-Line
-returns-in-Line c =
-    subst (λ (s : Symbolizer). IfOk c.stroke.result (λ found. Shows c.args.w c.args.feature.now.geometry s found)) (sym c.in-Line.is) (c.stroke.ensures c.in-Line.stroke c.in-Line.stroke_opacity)
-
-pub returns-in-Markers : goal.returns-in-Markers
-returns-in-Markers c =
-    subst (λ (s : Symbolizer). IfOk c.mark.result (λ found. Shows c.args.w c.args.feature.now.geometry s found)) (sym c.in-Markers.is) (c.mark.ensures c.in-Markers.fill c.in-Markers.opacity)
-
 pub returns-in-Raster : goal.returns-in-Raster
 returns-in-Raster c p = ap (covers c.args.w.pixel c.args.feature.now.geometry p) c.in-Raster.is ∙ raster_off c.args.w.pixel c.in-Raster.opacity c.args.feature.now.geometry p

@@ -2,26 +2,44 @@ use Rattle.std.proofs.Common.{◌∙◌, ap, sym}
 use Rattle.plain_drawing.specs.declared.style.Symbolizer.TheVariants as paint
 use Rattle.plain_shapes.specs.Strokes.{on_stroke, on_outline, half_of}
 use Rattle.plain_drawing.specs.Drawing.{covers}
-use Rattle.tile_render.proofs.Covering.{mask_made}
+use Rattle.plain_image.proofs.Marking.{turns_none, turns_same, marks_none, marks_same}
+use Rattle.tile_render.proofs.Steps.{on_ok, in_both, ok_of}
 use Rattle.tile_render.proofs.covers.stroke.Goals as goal
 
-pub returns-in-Points : goal.returns-in-Points
-returns-in-Points c colour opacity p = ap (λ g. covers c.args.w.pixel g p (paint.Line colour c.args.width opacity c.args.cap)) (sym c.geometry.ensures.value ∙ c.in-Points.is)
+pub returns-in-Points-clause-drawn : goal.returns-in-Points-clause-drawn
+returns-in-Points-clause-drawn g c colour opacity =
+    marks_none g.K.Surface.shows (λ p. covers c.args.w.pixel c.args.feature.now.geometry p (paint.Line colour c.args.width opacity c.args.cap)) c.args.w c.args.surface.now
+    (λ p. ap (λ s. covers c.args.w.pixel s p (paint.Line colour c.args.width opacity c.args.cap)) (sym c.geometry.ensures.value ∙ c.in-Points.is))
 
-pub returns-in_ok-stroke_lines-in-Lines : goal.returns-in_ok-stroke_lines-in-Lines
-returns-in_ok-stroke_lines-in-Lines c colour opacity =
-    mask_made c.args.w (on_stroke c.as_slice.result.now c.half_of-half.result c.args.cap) (λ p. covers c.args.w.pixel c.args.feature.now.geometry p (paint.Line colour c.args.width opacity c.args.cap))
-    c.in_ok-mask-in-Lines.mask c.stroke_lines.new.mask
-    (λ p. ap (λ g. covers c.args.w.pixel g p (paint.Line colour c.args.width opacity c.args.cap)) (sym c.geometry.ensures.value ∙ c.in-Lines.is)
+pub returns-in-Points-clause-shows : goal.returns-in-Points-clause-shows
+returns-in-Points-clause-shows g c = turns_none g.K.Surface.shows _ c.args.surface.now (λ a. tt)
+
+pub returns-in-Lines-clause-drawn : goal.returns-in-Lines-clause-drawn
+returns-in-Lines-clause-drawn g c colour opacity =
+    on_ok c.stroke_lines.result (λ marked.
+    marks_same g.K.Surface.shows (on_stroke c.as_slice.result.now c.half_of-half.result c.args.cap)
+    (λ p. covers c.args.w.pixel c.args.feature.now.geometry p (paint.Line colour c.args.width opacity c.args.cap)) c.args.w c.args.surface.now c.stroke_lines.new.mask
+    (λ p. sym (ap (λ s. covers c.args.w.pixel s p (paint.Line colour c.args.width opacity c.args.cap)) (sym c.geometry.ensures.value ∙ c.in-Lines.is)
     ∙ ap (λ ls. on_stroke ls (half_of c.args.width c.args.w.pixel) c.args.cap p) (sym c.as_slice.ensures)
-    ∙ ap (λ half. on_stroke c.as_slice.result.now half c.args.cap p) (sym c.half_of-half.ensures.value))
-    c.in_ok-mask-in-Lines.ensures c.in_ok-stroke_lines-in-Lines.ensures.drawn
+    ∙ ap (λ half. on_stroke c.as_slice.result.now half c.args.cap p) (sym c.half_of-half.ensures.value)))
+    marked) c.stroke_lines.ensures.drawn
 
-pub returns-in_ok-stroke_rings-in-Polygon : goal.returns-in_ok-stroke_rings-in-Polygon
-returns-in_ok-stroke_rings-in-Polygon c colour opacity =
-    mask_made c.args.w (on_outline c.as_slice-in-Polygon.result.now c.half_of-half.result) (λ p. covers c.args.w.pixel c.args.feature.now.geometry p (paint.Line colour c.args.width opacity c.args.cap))
-    c.in_ok-mask-in-Polygon.mask c.stroke_rings.new.mask
-    (λ p. ap (λ g. covers c.args.w.pixel g p (paint.Line colour c.args.width opacity c.args.cap)) (sym c.geometry.ensures.value ∙ c.in-Polygon.is)
+pub returns-in-Lines-clause-shows : goal.returns-in-Lines-clause-shows
+returns-in-Lines-clause-shows g c =
+    in_both c.stroke_lines.result
+    (turns_same g.K.Surface.shows _ _ c.args.surface.now c.stroke_lines.new.mask (λ a b p. tt))
+    (turns_same g.K.Surface.shows _ _ c.args.surface.now c.stroke_lines.new.mask (λ a b p. tt))
+    c.stroke_lines.ensures.drawn c.stroke_lines.ensures.refused
+
+pub returns-in-Polygon-clause-drawn : goal.returns-in-Polygon-clause-drawn
+returns-in-Polygon-clause-drawn g c colour opacity =
+    ok_of c.stroke_rings.result
+    (marks_same g.K.Surface.shows (on_outline c.as_slice-in-Polygon.result.now c.half_of-half.result)
+    (λ p. covers c.args.w.pixel c.args.feature.now.geometry p (paint.Line colour c.args.width opacity c.args.cap)) c.args.w c.args.surface.now c.stroke_rings.new.mask
+    (λ p. sym (ap (λ s. covers c.args.w.pixel s p (paint.Line colour c.args.width opacity c.args.cap)) (sym c.geometry.ensures.value ∙ c.in-Polygon.is)
     ∙ ap (λ ls. on_outline ls (half_of c.args.width c.args.w.pixel) p) (sym c.as_slice-in-Polygon.ensures)
-    ∙ ap (λ half. on_outline c.as_slice-in-Polygon.result.now half p) (sym c.half_of-half.ensures.value))
-    c.in_ok-mask-in-Polygon.ensures c.in_ok-stroke_rings-in-Polygon.ensures.drawn
+    ∙ ap (λ half. on_outline c.as_slice-in-Polygon.result.now half p) (sym c.half_of-half.ensures.value)))
+    c.stroke_rings.ensures.drawn)
+
+pub returns-in-Polygon-clause-shows : goal.returns-in-Polygon-clause-shows
+returns-in-Polygon-clause-shows g c = turns_same g.K.Surface.shows _ _ c.args.surface.now c.stroke_rings.new.mask (λ a b p. tt) c.stroke_rings.ensures.drawn
