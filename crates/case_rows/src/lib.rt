@@ -3,6 +3,10 @@
 //! its number. What is wanted is for readers, and for the script that makes the output wanted of this program.
 #![tactic(auto)]
 
+ghost use Rattle.std.specs.Prelude.{◌≡◌, ◌++◌, string_bytes, IfOk, IfSome};
+ghost use Rattle.case_rows.specs.Rows.{IsFrame, Stands};
+
+use line_words::cut;
 use std::alloc::{AllocError, Global};
 
 /// What the texts of a table stand in.
@@ -13,14 +17,22 @@ pub struct Frame<'a> {
 }
 
 /// The frame of a line, if it says one.
-pub fn frame_of(line: &str) -> Option<Frame<'_>> {
-    let around = line.strip_prefix("in ")?;
-    let (before, after) = around.split_once('%')?;
+pub fn frame_of(line: &str) -> Option<Frame<'_>>
+    ensures { IfSome result (λ f. IsFrame line.now f.before.now f.after.now) }
+{
+    let Some(around) = line.strip_prefix("in ") else {
+        return None;
+    };
+    let Some((before, after)) = cut(around, '%') else {
+        return None;
+    };
     Some(Frame { before, after })
 }
 
 /// The text of a line within the frame; none of a line without an arrow, or that counts no pieces.
-pub fn row(alloc: Global, frame: &Frame<'_>, line: &str) -> Result<Option<String>, AllocError> {
+pub fn row(alloc: Global, frame: &Frame<'_>, line: &str) -> Result<Option<String>, AllocError>
+    ensures { IfOk result (λ row. IfSome row (λ text. Stands (string_bytes text) frame.now.before.now frame.now.after.now)) }
+{
     if let Some((_, text)) = line.split_once(" <- ") {
         return Ok(Some(framed(alloc, frame, text)?));
     }
@@ -33,7 +45,9 @@ pub fn row(alloc: Global, frame: &Frame<'_>, line: &str) -> Result<Option<String
     }
 }
 
-fn framed(alloc: Global, frame: &Frame<'_>, text: &str) -> Result<String, AllocError> {
+fn framed(alloc: Global, frame: &Frame<'_>, text: &str) -> Result<String, AllocError>
+    ensures { IfOk result (λ whole. string_bytes whole ≡ frame.now.before.now ++ text.now ++ frame.now.after.now) }
+{
     format!(in alloc; "{}{text}{}", frame.before, frame.after)
 }
 

@@ -1,4 +1,8 @@
 //! What the tests share: maps and data read from texts, and pictures of one red box.
+ghost use Rattle.std.specs.Prelude.{◌≡◌, IfOk, Ok};
+ghost use Rattle.style_objects.specs.Tables as style;
+ghost use Rattle.geo_json.specs.DataTexts as texts;
+
 use data_versions::Snapshot;
 use geo_json::read_data;
 use plain_drawing::MapStyle;
@@ -7,19 +11,23 @@ use std::test::Fail;
 use style_objects::read_style;
 
 /// The map of a style text.
-pub fn map(alloc: Global, text: &str) -> Result<MapStyle, Fail> {
+pub(crate) fn map(alloc: Global, text: &str) -> Result<MapStyle, Fail>
+    ensures { IfOk result (λ m. style.style_in text.now ≡ Ok m) }
+{
     Ok(read_style(alloc, text.as_bytes())?)
 }
 
 /// The first version of the data of a text.
-pub fn data(alloc: Global, text: &str) -> Result<Snapshot, Fail> {
+pub(crate) fn data(alloc: Global, text: &str) -> Result<Snapshot, Fail>
+    ensures { IfOk result (λ d. texts.dataset_in text.now ≡ Ok d) }
+{
     let dataset = read_data(alloc, text.as_bytes())?;
     Ok(Snapshot::first(alloc, dataset)?)
 }
 
 /// Whether the pixels behind the head are `size` by `size`, and red from column `west` and row `north` on, before
 /// column `east` and row `south`, and white elsewhere.
-pub fn is_boxed(text: &[u8], head: &[u8], size: usize, bounds: [usize; 4]) -> bool {
+pub(crate) fn is_boxed(text: &[u8], head: &[u8], size: usize, bounds: [usize; 4]) -> bool {
     let [west, north, east, south] = bounds;
     let Some(pixels) = text.strip_prefix(head) else {
         return false;
