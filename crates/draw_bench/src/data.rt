@@ -62,7 +62,7 @@ fn features(alloc: Global, count: u32) -> Result<Vec<Feature>, NoMemory> {
 }
 
 /// Data of one layer with so many features: nothing where memory was wanting.
-pub fn snapshot(alloc: Global, name: &str, count: u32) -> Option<Snapshot> {
+pub(crate) fn snapshot(alloc: Global, name: &str, count: u32) -> Option<Snapshot> {
     let empty = Snapshot::first(alloc, bare(alloc, name).ok()??).ok()?;
     let put = features(alloc, count).ok()?;
     let update = puts(alloc, name, put).ok()??;

@@ -28,7 +28,7 @@ pub struct Drawn {
 
 impl Rounds {
     /// Reads the files and draws; nothing where a file is refused, the tile is none, or memory is wanting.
-    pub fn run<F: Files>(&self, alloc: Global, files: &mut F) -> Option<Drawn> {
+    pub(crate) fn run<F: Files>(&self, alloc: Global, files: &mut F) -> Option<Drawn> {
         let style = style_in(alloc, files, self.style.as_str())?;
         let Some(snapshot) = snapshot_in(alloc, files, self.data.as_str()) else {
             drop(style);

@@ -22,7 +22,7 @@ pub struct Random {
 
 impl Random {
     /// The numbers from a seed on.
-    pub fn new(seed: u64) -> Random {
+    pub(crate) fn new(seed: u64) -> Random {
         Random { state: seed }
     }
 
@@ -98,7 +98,11 @@ fn geometry(alloc: Global, random: &mut Random, sort: u64) -> Result<Geometry, N
 }
 
 /// The feature of an id, or none where its shape has a fault.
-pub fn feature(alloc: Global, random: &mut Random, id: u64) -> Result<Option<Feature>, NoMemory> {
+pub(crate) fn feature(
+    alloc: Global,
+    random: &mut Random,
+    id: u64,
+) -> Result<Option<Feature>, NoMemory> {
     let geometry = geometry(alloc, random, id % 3)?;
     let kind = Attr {
         name: Text::of(alloc, "kind")?,

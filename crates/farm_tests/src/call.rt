@@ -23,14 +23,14 @@ pub struct Ended {
 
 impl Ended {
     /// The call ended with this status and this line on err, and put nothing on out.
-    pub fn says(&self, rt: &impl Abort, status: u8, line: &str) {
+    pub(crate) fn says(&self, rt: &impl Abort, status: u8, line: &str) {
         assert_eq!(rt; self.status, status, "for {line}");
         assert!(rt; self.err.bytes() == line.as_bytes(), "for {line}");
         assert!(rt; self.out.bytes().is_empty(), "for {line}");
     }
 
     /// The call ended with 0, put exactly this on out, and nothing on err.
-    pub fn put(&self, rt: &impl Abort, text: &[u8]) {
+    pub(crate) fn put(&self, rt: &impl Abort, text: &[u8]) {
         assert_eq!(rt; self.status, 0);
         assert!(rt; self.out.bytes() == text);
         assert!(rt; self.err.bytes().is_empty());
@@ -52,7 +52,7 @@ pub const NONE: Faults<'static> = Faults {
 };
 
 /// Calls with these words over these files.
-pub fn call<R: Threads + Wait + Clock + Sync>(
+pub(crate) fn call<R: Threads + Wait + Clock + Sync>(
     rt: &R,
     alloc: Global,
     words: &[&str],

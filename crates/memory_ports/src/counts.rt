@@ -13,7 +13,7 @@ pub struct Counts {
 }
 
 impl Counts {
-    pub fn new(alloc: Global) -> Result<Arc<Counts, Global>, AllocError> {
+    pub(crate) fn new(alloc: Global) -> Result<Arc<Counts, Global>, AllocError> {
         Ok(Arc::new(
             alloc,
             Counts {
@@ -34,7 +34,7 @@ impl Counts {
     }
 
     /// Whether the front has sent so many bytes.
-    pub fn has_sent(&self, front: u32, bytes: u64) -> bool {
+    pub(crate) fn has_sent(&self, front: u32, bytes: u64) -> bool {
         let sent = match self.of(front) {
             Some(count) => count.load(Ordering::SeqCst),
             None => 0,
@@ -43,7 +43,7 @@ impl Counts {
     }
 
     /// Counts bytes that the front has sent.
-    pub fn add(&self, front: u32, bytes: u64) {
+    pub(crate) fn add(&self, front: u32, bytes: u64) {
         if let Some(count) = self.of(front) {
             count.fetch_add(bytes, Ordering::SeqCst);
         }

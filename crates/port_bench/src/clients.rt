@@ -24,7 +24,7 @@ pub enum Task {
 
 impl Task {
     /// How many connections there are.
-    pub fn connections(self) -> u32 {
+    pub(crate) fn connections(self) -> u32 {
         match self {
             Task::Echoes(many, _) => many,
             _ => 1,
@@ -32,7 +32,7 @@ impl Task {
     }
 
     /// How long the answer of the first piece is, where it is no echo.
-    pub fn large(self) -> u64 {
+    pub(crate) fn large(self) -> u64 {
         match self {
             Task::Large(bytes) => bytes,
             _ => 0,
@@ -59,7 +59,7 @@ impl Client for UnixStream {
 
 /// All that clients do on their connections, which they then close. How many echoes came that equal what
 /// was sent, or how many bytes of anything else.
-pub fn visit<S: Client>(alloc: Global, mut streams: Vec<S>, task: Task) -> io::Result<u64> {
+pub(crate) fn visit<S: Client>(alloc: Global, mut streams: Vec<S>, task: Task) -> io::Result<u64> {
     let mut room = vec![in alloc; 0u8; ROOM]?;
     if let Task::Echoes(_, rounds) = task {
         return echoes(streams.as_mut_slice(), rounds);

@@ -52,7 +52,7 @@ pub struct Echo<R> {
 
 impl<R: Net + Files> Echo<R> {
     /// A server that echoes.
-    pub fn new(alloc: Global, ports: SocketPorts<R>) -> Echo<R> {
+    pub(crate) fn new(alloc: Global, ports: SocketPorts<R>) -> Echo<R> {
         Echo {
             alloc,
             ports,

@@ -11,7 +11,7 @@ use std::time::{Duration, Instant};
 use std::{fs, io};
 
 /// Prints of each address whether it is listened at.
-pub fn show<R>(rt: &R, alloc: Global, ports: &mut SocketPorts<R>) -> io::Result<()>
+pub(crate) fn show<R>(rt: &R, alloc: Global, ports: &mut SocketPorts<R>) -> io::Result<()>
 where
     R: Print + Files + Net<Listener = TcpListener, Stream = TcpStream>,
 {
@@ -52,7 +52,7 @@ fn listen<R: Net + Files>(ports: &mut SocketPorts<R>, address: &str) -> &'static
 
 /// Rings a bell while ports wait, again and again, and prints what they heard; where rates are asked
 /// for also how long it took at most.
-pub fn show_bell<R: Threads + Sync + Clock + Print, P: Ports>(
+pub(crate) fn show_bell<R: Threads + Sync + Clock + Print, P: Ports>(
     rt: &R,
     alloc: Global,
     ports: &mut P,

@@ -32,7 +32,7 @@ impl Kind {
 }
 
 /// Shows what clients do, one thing after another, over sockets of one kind: false where the ports fail.
-pub fn show_all<R>(
+pub(crate) fn show_all<R>(
     rt: &R,
     alloc: Global,
     echo: &mut Echo<R>,

@@ -61,7 +61,7 @@ pub struct Case {
 }
 
 impl Case {
-    pub fn new(alloc: Global) -> Case {
+    pub(crate) fn new(alloc: Global) -> Case {
         Case {
             words: Vec::new(alloc),
             renderd: Side::new(alloc),
@@ -78,7 +78,12 @@ impl Case {
     }
 
     /// Takes a line of a case: its first word says what the others are.
-    pub fn take_line<F: Files>(&mut self, alloc: Global, files: &mut F, line: &str) -> Option<()> {
+    pub(crate) fn take_line<F: Files>(
+        &mut self,
+        alloc: Global,
+        files: &mut F,
+        line: &str,
+    ) -> Option<()> {
         let (name, rest) = cut(line, ' ')?;
         match name {
             "renderd" => step(alloc, &mut self.renderd, files, rest),

@@ -26,7 +26,7 @@ pub struct HoldGate<'a, R> {
 }
 
 impl<'a, R: Clock> HoldGate<'a, R> {
-    pub fn new(rt: &'a R, holds: Vec<Hold>) -> HoldGate<'a, R> {
+    pub(crate) fn new(rt: &'a R, holds: Vec<Hold>) -> HoldGate<'a, R> {
         HoldGate {
             rt,
             holds,
@@ -36,7 +36,7 @@ impl<'a, R: Clock> HoldGate<'a, R> {
     }
 
     /// Whether a drawing was let go though what it was held for had not come.
-    pub fn is_late(&self) -> bool {
+    pub(crate) fn is_late(&self) -> bool {
         self.late.load(Ordering::SeqCst)
     }
 

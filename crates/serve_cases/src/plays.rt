@@ -20,7 +20,7 @@ use tile_store::MemStore;
 const TURNS: u64 = 400_000;
 
 /// Runs the case and tells how it ended. None where its steps are in no order, a put on out fails, or memory runs out.
-pub fn play<R: Threads + Wait + Clock + Sync, F: Files, O: Sink>(
+pub(crate) fn play<R: Threads + Wait + Clock + Sync, F: Files, O: Sink>(
     rt: &R,
     alloc: Global,
     case: &mut Case,

@@ -36,7 +36,7 @@ pub struct Manner {
 }
 
 impl Manner {
-    pub fn of(case: &Case) -> Manner {
+    pub(crate) fn of(case: &Case) -> Manner {
         Manner {
             telling: case.telling,
             renderd: FrontManner::of(0, &case.renderd, case.telling),
@@ -60,7 +60,7 @@ pub struct Ended<'a> {
 
 /// Puts on `out` how the call ended, what it put on its own sinks, and of each front how it ended, what was not taken
 /// of its answers, and what was taken on each of its connections.
-pub fn tell<O: Sink>(
+pub(crate) fn tell<O: Sink>(
     alloc: Global,
     manner: Manner,
     ended: Ended<'_>,

@@ -72,7 +72,12 @@ fn read_work(rt: &(impl Env + Alloc)) -> io::Result<Option<Work>> {
 }
 
 /// Prints what one of so many took, where times are told.
-pub fn tell_time<R: Print>(rt: &R, work: Work, took: Duration, count: u32) -> io::Result<()> {
+pub(crate) fn tell_time<R: Print>(
+    rt: &R,
+    work: Work,
+    took: Duration,
+    count: u32,
+) -> io::Result<()> {
     if work.is_timed {
         let each = took.as_nanos().checked_div(u128::from(count)).unwrap_or(0);
         println!(rt; "{each} nanoseconds each")?;

@@ -73,7 +73,7 @@ fn lines<R: Clock + Print>(rt: &R, work: Work, marks: &mut Marks) -> io::Result<
 }
 
 /// The lines of the marks: false where memory was wanting.
-pub fn mark_lines<R: Clock + Print>(rt: &R, alloc: Global, work: Work) -> io::Result<bool> {
+pub(crate) fn mark_lines<R: Clock + Print>(rt: &R, alloc: Global, work: Work) -> io::Result<bool> {
     let mut marks = Marks::new(alloc);
     let told = lines(rt, work, &mut marks);
     drop(marks);

@@ -156,7 +156,7 @@ fn lines<R: Clock + Print>(rt: &R, work: Work, queues: &mut Queues) -> io::Resul
 }
 
 /// The lines of the queues: false where memory was wanting.
-pub fn queue_lines<R: Clock + Print>(rt: &R, alloc: Global, work: Work) -> io::Result<bool> {
+pub(crate) fn queue_lines<R: Clock + Print>(rt: &R, alloc: Global, work: Work) -> io::Result<bool> {
     let Ok(mut queues) = Queues::with_limits(alloc, LIMITS, 16) else {
         return Ok(false);
     };

@@ -46,7 +46,11 @@ fn applied_told(alloc: Global, old: &Snapshot, update: &Update) -> Result<String
 }
 
 /// The fault of the update, or a line for each layer after it.
-pub fn change_told(alloc: Global, old: &Snapshot, text: &[u8]) -> Result<String, AllocError> {
+pub(crate) fn change_told(
+    alloc: Global,
+    old: &Snapshot,
+    text: &[u8],
+) -> Result<String, AllocError> {
     match read_update(alloc, text) {
         Ok(update) => applied_told(alloc, old, &update),
         Err(fault) => fault_told(alloc, fault),

@@ -3,7 +3,7 @@ use farm_config::{ConfigFault, read_config};
 use std::alloc::{AllocError, Global};
 
 /// The first fault of a configuration's text, or that it is read.
-pub fn config_told(alloc: Global, text: &[u8]) -> Result<String, AllocError> {
+pub(crate) fn config_told(alloc: Global, text: &[u8]) -> Result<String, AllocError> {
     match read_config(alloc, text) {
         Ok(_) => String::from_str(alloc, "read"),
         Err(fault) => fault_told(alloc, fault),

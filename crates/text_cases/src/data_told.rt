@@ -15,7 +15,7 @@ fn geometry_number(fault: GeoFault) -> u32 {
 }
 
 /// The text of a fault of data or an update.
-pub fn fault_told(alloc: Global, fault: DataFault) -> Result<String, AllocError> {
+pub(crate) fn fault_told(alloc: Global, fault: DataFault) -> Result<String, AllocError> {
     match fault {
         DataFault::NotJson => String::from_str(alloc, "dataset 1"),
         DataFault::Shape(part, item) => format!(in alloc; "dataset 2 at {part} {item}"),
@@ -31,7 +31,7 @@ pub fn fault_told(alloc: Global, fault: DataFault) -> Result<String, AllocError>
 }
 
 /// The first fault of a text of data, or that it is read.
-pub fn data_told(alloc: Global, text: &[u8]) -> Result<String, AllocError> {
+pub(crate) fn data_told(alloc: Global, text: &[u8]) -> Result<String, AllocError> {
     match read_data(alloc, text) {
         Ok(_) => String::from_str(alloc, "read"),
         Err(fault) => fault_told(alloc, fault),
@@ -39,7 +39,7 @@ pub fn data_told(alloc: Global, text: &[u8]) -> Result<String, AllocError> {
 }
 
 /// The first fault of an update's text, or that it is read.
-pub fn update_told(alloc: Global, text: &[u8]) -> Result<String, AllocError> {
+pub(crate) fn update_told(alloc: Global, text: &[u8]) -> Result<String, AllocError> {
     match read_update(alloc, text) {
         Ok(_) => String::from_str(alloc, "read"),
         Err(fault) => fault_told(alloc, fault),

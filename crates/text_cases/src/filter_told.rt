@@ -152,7 +152,7 @@ fn tree_told(alloc: Global, e: &Expr) -> Result<String, AllocError> {
 }
 
 /// The tree of a filter text, or its fault.
-pub fn filter_told(alloc: Global, text: &str) -> Result<String, AllocError> {
+pub(crate) fn filter_told(alloc: Global, text: &str) -> Result<String, AllocError> {
     match parse(alloc, text) {
         Ok(e) => tree_told(alloc, &e),
         Err(fault) => refusal_told(alloc, fault),
@@ -168,7 +168,7 @@ fn text_of(alloc: Global, e: &Expr) -> Result<String, AllocError> {
 }
 
 /// What is written of the filter of a text, or its fault.
-pub fn written_told(alloc: Global, text: &str) -> Result<String, AllocError> {
+pub(crate) fn written_told(alloc: Global, text: &str) -> Result<String, AllocError> {
     match parse(alloc, text) {
         Ok(e) => text_of(alloc, &e),
         Err(fault) => refusal_told(alloc, fault),
@@ -176,7 +176,7 @@ pub fn written_told(alloc: Global, text: &str) -> Result<String, AllocError> {
 }
 
 /// The tree of what is written of the filter of a text, or the text's fault.
-pub fn again_told(alloc: Global, text: &str) -> Result<String, AllocError> {
+pub(crate) fn again_told(alloc: Global, text: &str) -> Result<String, AllocError> {
     match parse(alloc, text) {
         Ok(e) => {
             let written = text_of(alloc, &e)?;
@@ -187,7 +187,7 @@ pub fn again_told(alloc: Global, text: &str) -> Result<String, AllocError> {
 }
 
 /// The value of a filter text of these attributes, and whether it holds; or its fault.
-pub fn value_told(alloc: Global, text: &str, attrs: &[Attr]) -> Result<String, AllocError> {
+pub(crate) fn value_told(alloc: Global, text: &str, attrs: &[Attr]) -> Result<String, AllocError> {
     let e = match parse(alloc, text) {
         Ok(e) => e,
         Err(fault) => return refusal_told(alloc, fault),

@@ -17,7 +17,7 @@ fn unfolded(alloc: Global, text: &[u8]) -> Result<Vec<u8>, AllocError> {
 }
 
 /// The first line of an expiry list's text that is none, or that it is read.
-pub fn list_told(alloc: Global, text: &[u8]) -> Result<String, AllocError> {
+pub(crate) fn list_told(alloc: Global, text: &[u8]) -> Result<String, AllocError> {
     match read_list(alloc, unfolded(alloc, text)?.as_slice()) {
         Ok(_) => String::from_str(alloc, "read"),
         Err(ListFault::Line(number)) => format!(in alloc; "list 1 at line {number}"),
@@ -26,7 +26,7 @@ pub fn list_told(alloc: Global, text: &[u8]) -> Result<String, AllocError> {
 }
 
 /// The first line of a script's text that is none, or that it is read.
-pub fn script_told(alloc: Global, text: &[u8]) -> Result<String, AllocError> {
+pub(crate) fn script_told(alloc: Global, text: &[u8]) -> Result<String, AllocError> {
     match read_script(alloc, unfolded(alloc, text)?.as_slice()) {
         Ok(_) => String::from_str(alloc, "read"),
         Err(ScriptFault::Line(number)) => format!(in alloc; "script 1 at line {number}"),

@@ -24,7 +24,7 @@ fn written_alike(alloc: Global, saved: &Saved, text: &[u8]) -> Option<bool>
 }
 
 /// The fault of a saved farm's text, or that it is read and written again byte for byte.
-pub fn saved_told(alloc: Global, text: &[u8]) -> Result<String, AllocError> {
+pub(crate) fn saved_told(alloc: Global, text: &[u8]) -> Result<String, AllocError> {
     match read_saved(alloc, text) {
         Ok(saved) => match written_alike(alloc, &saved, text) {
             Some(true) => String::from_str(alloc, "read"),

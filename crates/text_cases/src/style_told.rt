@@ -52,7 +52,7 @@ fn fault_told(alloc: Global, fault: StyleFault) -> Result<String, AllocError> {
 }
 
 /// The first fault of a style's text, or that it is read.
-pub fn style_told(alloc: Global, text: &[u8]) -> Result<String, AllocError> {
+pub(crate) fn style_told(alloc: Global, text: &[u8]) -> Result<String, AllocError> {
     match read_style(alloc, text) {
         Ok(_) => String::from_str(alloc, "read"),
         Err(fault) => fault_told(alloc, fault),

@@ -47,7 +47,7 @@ impl Call<Counter> for Add {
 
 /// How many turns a cell has counted when that many threads took `each` of them: as many as its
 /// history has entries. Nothing where memory was wanting.
-pub fn count<R: Threads + Wait + Sync>(
+pub(crate) fn count<R: Threads + Wait + Sync>(
     rt: &R,
     alloc: Global,
     threads: usize,

@@ -7,7 +7,7 @@ use std::thread::{Threads, for_each_mut};
 
 /// How many turns a mutex has counted when that many threads took `each` of them. Nothing where
 /// memory was wanting.
-pub fn count<R: Threads + Wait + Sync>(
+pub(crate) fn count<R: Threads + Wait + Sync>(
     rt: &R,
     alloc: Global,
     threads: usize,
