@@ -5,7 +5,7 @@ ghost use Rattle.four_workers.specs.Crew.{IsActor, IsFront};
 
 use crate::feeding::feed;
 use crate::notes::Notes;
-use crate::one_seat::live;
+use crate::one_seat::{fetch, live, tell};
 use crate::plain::{Checked, check};
 use crate::plans::plan;
 use crate::working::work;
@@ -181,10 +181,7 @@ fn run_shared<R: Threads + Wait + Clock + Sync>(
         return None;
     };
     let mut actors = actors;
-    let notes = Mutex::new(Notes {
-        list: Vec::new(alloc),
-        is_cut: false,
-    });
+    let notes = Mutex::new(Notes::new(alloc));
     act_all(rt, alloc, &farm, &notes, actors.as_mut_slice());
     let finished = join_all(&farm, &mut first, actors);
     let closed = farm.close(first);
@@ -194,18 +191,27 @@ fn run_shared<R: Threads + Wait + Clock + Sync>(
 }
 
 /// Runs the feeder and the workers. Nothing where memory was wanting.
-pub fn run<R: Threads + Wait + Clock + Sync>(rt: &R, alloc: Global) -> Option<Left> {
+pub(crate) fn run<R: Threads + Wait + Clock + Sync>(rt: &R, alloc: Global) -> Option<Left> {
     let (farm, first) = share(alloc)?;
     run_shared(rt, alloc, farm, first)
 }
 
-/// The life of one metatile through the first seat that is split. Nothing where memory was wanting or a put failed.
-pub fn run_alone<R: Wait, O: Sink>(rt: &R, alloc: Global, out: &mut O) -> Option<()> {
+/// The life of one metatile through the first seat that is split. Nothing where memory was wanting, a put failed, or
+/// another answer came than the rules give.
+pub(crate) fn run_alone<R: Wait, O: Sink>(rt: &R, alloc: Global, out: &mut O) -> Option<()> {
     let (farm, first) = share(alloc)?;
     let mut first = first;
     let mut seat = farm.split(&mut first).unwrap();
-    let lived = live(rt, alloc, &farm, &mut seat, out);
+    let notes = Mutex::new(Notes::new(alloc));
+    live(rt, alloc, &farm, &mut seat, &notes);
+    let last = fetch(rt, alloc, &farm, &mut seat);
     farm.join(&mut first, seat);
     drop(farm.close(first));
-    lived
+    let Notes { list, is_cut } = notes.into_inner();
+    tell(alloc, list.as_slice(), last, out)?;
+    let checked = check(alloc, list.as_slice())?;
+    if is_cut || checked.wrong.is_some() {
+        return None;
+    }
+    Some(())
 }

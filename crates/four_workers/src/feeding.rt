@@ -1,6 +1,7 @@
 //! The feeder, which notes its turns.
 ghost use Rattle.plain_world.specs.World.{IsTile};
-ghost use Rattle.four_workers.specs.Crew.{IsFront};
+ghost use Rattle.farm_shared.specs.Shared.{lasts};
+ghost use Rattle.four_workers.specs.Crew.{IsFront, KeepsJobs};
 
 use crate::notes::{METATILES, Note, Notes, conn_of, spot_at, tile_at};
 use farm_history::{Cmd, Collected, Looked};
@@ -20,7 +21,7 @@ const PATIENCE: u32 = 20_000;
 const MOST_REPLIES: u32 = 4_096;
 
 /// The feeder asks for a metatile.
-fn ask<R: Wait, D: TileStore>(
+pub(crate) fn ask<R: Wait, D: TileStore>(
     rt: &R,
     farm: &SharedFarm<D>,
     seat: &mut Seat<D>,
@@ -28,7 +29,8 @@ fn ask<R: Wait, D: TileStore>(
     number: u32,
 )
     requires { IsFront farm.now seat.old }
-    ensures { IsFront farm.now seat.new }
+    ensures front { IsFront farm.now seat.new }
+    ensures jobs { KeepsJobs (lasts D.state farm.now) seat.old seat.new }
 {
     let mut notes = notes.lock(rt);
     if let Ok(answer) = farm.ask(rt, seat, conn_of(number), Cmd::Render, spot_at(number)) {
@@ -37,7 +39,7 @@ fn ask<R: Wait, D: TileStore>(
 }
 
 /// Whether there was a reply to collect.
-fn collect<R: Wait, D: TileStore>(
+pub(crate) fn collect<R: Wait, D: TileStore>(
     rt: &R,
     farm: &SharedFarm<D>,
     seat: &mut Seat<D>,
@@ -55,7 +57,7 @@ fn collect<R: Wait, D: TileStore>(
 }
 
 /// Expires a tile.
-fn expire<R: Wait, D: TileStore>(
+pub(crate) fn expire<R: Wait, D: TileStore>(
     rt: &R,
     farm: &SharedFarm<D>,
     seat: &mut Seat<D>,
@@ -64,7 +66,8 @@ fn expire<R: Wait, D: TileStore>(
 )
     requires tile { IsTile tile }
     requires seat { IsFront farm.now seat.old }
-    ensures { IsFront farm.now seat.new }
+    ensures front { IsFront farm.now seat.new }
+    ensures jobs { KeepsJobs (lasts D.state farm.now) seat.old seat.new }
 {
     let mut notes = notes.lock(rt);
     if let Ok(count) = farm.expire(rt, seat, tile) {
@@ -90,7 +93,7 @@ fn update<R: Wait, D: TileStore>(
 }
 
 /// Whether the metatile is clean.
-fn is_clean<R: Wait, D: TileStore>(
+pub(crate) fn is_clean<R: Wait, D: TileStore>(
     rt: &R,
     farm: &SharedFarm<D>,
     seat: &mut Seat<D>,
@@ -198,7 +201,7 @@ fn end<R: Wait, D: TileStore>(
 }
 
 /// Feeds the farm, waits until all is clean, and stops it. False where that took too long.
-pub fn feed<R: Wait + Clock, D: TileStore>(
+pub(crate) fn feed<R: Wait + Clock, D: TileStore>(
     rt: &R,
     alloc: Global,
     farm: &SharedFarm<D>,

@@ -23,7 +23,7 @@ fn main(rt: HostRuntime) -> io::Result<ExitCode> {
     let mut out = OutSink::new(rt.stdout());
     let lived = run_alone(&rt, rt.alloc(), &mut out);
     let (Some(()), Some(left)) = (lived, run(&rt, rt.alloc())) else {
-        eprintln!(&rt; "no memory")?;
+        eprintln!(&rt; "no memory, or a life with another answer than the rules give")?;
         return Ok(ExitCode::from(1));
     };
     let Left {

@@ -6,6 +6,7 @@ use farm_history::{
     AskAnswer, ClaimAnswer, Collected, Conn, Finished, Key, Looked, Spot, Tally, Updated,
 };
 use plain_world::{Meta, Tile};
+use std::alloc::Global;
 
 /// How many metatiles are asked for.
 pub const METATILES: u32 = 500;
@@ -33,7 +34,14 @@ pub struct Notes {
 }
 
 impl Notes {
-    pub fn add(&mut self, note: Note) {
+    pub(crate) fn new(alloc: Global) -> Notes {
+        Notes {
+            list: Vec::new(alloc),
+            is_cut: false,
+        }
+    }
+
+    pub(crate) fn add(&mut self, note: Note) {
         if self.list.push(note).is_err() {
             self.is_cut = true;
         }
@@ -41,7 +49,7 @@ impl Notes {
 }
 
 /// The metatile of that number: of zoom 12, 25 in a row.
-pub fn key_at(number: u32) -> Key {
+pub(crate) fn key_at(number: u32) -> Key {
     let meta = Meta {
         z: 12,
         x: 8 * (number % 25),
@@ -51,7 +59,7 @@ pub fn key_at(number: u32) -> Key {
 }
 
 /// A tile of that metatile.
-pub fn spot_at(number: u32) -> Spot {
+pub(crate) fn spot_at(number: u32) -> Spot {
     let Meta { z, x, y } = key_at(number).meta;
     Spot {
         map: Some(0),
@@ -63,7 +71,7 @@ pub fn spot_at(number: u32) -> Spot {
 
 /// The tile of zoom 8 or of zoom 13 that is expired behind the metatile of that number. The former overlaps four
 /// metatiles.
-pub fn tile_at(number: u32) -> Tile
+pub(crate) fn tile_at(number: u32) -> Tile
     ensures { IsTile result }
 {
     let (column, row) = (number % 25, number / 25 % 25);
@@ -83,7 +91,7 @@ pub fn tile_at(number: u32) -> Tile
 }
 
 /// The connection that asks for the metatile of that number.
-pub fn conn_of(number: u32) -> Conn
+pub(crate) fn conn_of(number: u32) -> Conn
     ensures { result.front ≡ 0 }
 {
     Conn { front: 0, number }

@@ -380,7 +380,7 @@ fn first_wrong(farm: &mut Plain, notes: &[Note]) -> Option<u64> {
 }
 
 /// Checks the turns of a farm that began with the first of them. Nothing where there was no memory to begin.
-pub fn check(alloc: Global, notes: &[Note]) -> Option<Checked> {
+pub(crate) fn check(alloc: Global, notes: &[Note]) -> Option<Checked> {
     let mut farm = Plain {
         places: vec![in alloc; NOWHERE; METATILES as usize].ok()?,
         opens: Vec::new(alloc),

@@ -34,7 +34,7 @@ fn white(alloc: Global) -> MapStyle {
 
 /// One map of small tiles, no features, and one update without a change, which may come often.
 #[tactic(auto, using(crate::proofs::SoundPlan::plan_sound))]
-pub fn plan(alloc: Global) -> Result<FarmPlan, NoMemory>
+pub(crate) fn plan(alloc: Global) -> Result<FarmPlan, NoMemory>
     ensures { IfOk result (λ p. IsPlan p) }
 {
     let mut maps = Vec::new(alloc);
@@ -50,12 +50,12 @@ pub fn plan(alloc: Global) -> Result<FarmPlan, NoMemory>
         maps,
         dataset: Dataset::of(Vec::new(alloc)),
         updates,
-        workers: 4,
+        workers: WORKERS,
         limits: Limits {
             prio: 32,
-            request: 32,
+            request: MOST_REQUESTS,
             low: 32,
-            dirty: 1000,
+            dirty: MOST_DIRTY,
             bulk: 32,
         },
         restyles: Vec::new(alloc),

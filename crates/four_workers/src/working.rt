@@ -1,16 +1,16 @@
 //! A worker that notes its turns.
 ghost use Rattle.std.specs.Prelude.{◌≡◌, IfSome};
-ghost use Rattle.farm_core.specs.Answers.{IfJob, IsDrawingOf};
+ghost use Rattle.farm_core.specs.Answers.{IfJob};
 ghost use Rattle.farm_stands.specs.Jobs.{IsValidJob};
 ghost use Rattle.turn_cell.specs.SeatStates.{IsSeatOf, SameSeat};
 ghost use Rattle.farm_shared.specs.Shared.{HasJob, lasts};
 
 use crate::notes::{Note, Notes};
-use farm_base::NoMemory;
-use farm_core::{Claimed, Drawn, Job};
+use farm_core::{Claimed, Job};
 use farm_history::ClaimAnswer;
 use farm_shared::{Seat, SharedFarm};
-use job_drawing::draw_job;
+use job_drawing::PictureBuffer;
+use render_workers::draw;
 use std::alloc::Global;
 use std::rt::Clock;
 use std::sync::{Mutex, Wait};
@@ -20,17 +20,6 @@ use tile_store::TileStore;
 
 /// How often a worker claims at most.
 const ROUNDS: u32 = 200_000;
-
-/// What is handed back of a job: the container of its metatile, or that there was no memory for it.
-pub fn draw(alloc: Global, job: &Job) -> Drawn
-    requires { IsValidJob job.now }
-    ensures { IsDrawingOf job.now result }
-{
-    match draw_job(alloc, job) {
-        Ok(bytes) => Drawn::Bytes(bytes),
-        Err(NoMemory) => Drawn::NoMemory,
-    }
-}
 
 /// What is noted of a claim.
 fn claim_note(claimed: &Claimed) -> Note {
@@ -43,7 +32,7 @@ fn claim_note(claimed: &Claimed) -> Note {
 }
 
 /// A claim. Nothing where all turns were drawn.
-fn claim<R: Wait, D: TileStore>(
+pub(crate) fn claim<R: Wait, D: TileStore>(
     rt: &R,
     farm: &SharedFarm<D>,
     seat: &mut Seat<D>,
@@ -62,25 +51,25 @@ fn claim<R: Wait, D: TileStore>(
     Some(claimed)
 }
 
-/// The end of a drawing: false where all turns were drawn.
-fn finish<R: Wait, D: TileStore>(
+/// Draws the job while no turn is taken, and hands the drawing back: false where all turns were drawn.
+pub(crate) fn draw_and_finish<R: Wait, D: TileStore>(
     rt: &R,
-    alloc: Global,
+    picture_buffer: &mut PictureBuffer,
     farm: &SharedFarm<D>,
     seat: &mut Seat<D>,
     notes: &Mutex<Notes>,
     job: Job,
-    drawn: Drawn,
 ) -> bool
     requires seat { IsSeatOf farm.now seat.old }
+    requires valid { IsValidJob job }
     requires job { HasJob (lasts D.state farm.now) seat.old.number seat.old.seen job }
-    requires drawn { IsDrawingOf job drawn }
     ensures seat { IsSeatOf farm.now seat.new }
     ensures same { SameSeat seat.old seat.new }
 {
     let ticket = job.ticket;
+    let drawn = draw(picture_buffer, &job);
     let mut notes = notes.lock(rt);
-    match farm.finish(rt, seat, alloc, job, drawn) {
+    match farm.finish(rt, seat, picture_buffer.alloc(), job, drawn) {
         Ok(answer) => {
             notes.add(Note::Finish(ticket, answer));
             true
@@ -89,10 +78,10 @@ fn finish<R: Wait, D: TileStore>(
     }
 }
 
-/// Claims, and draws what it is given while no turn is taken: whether it goes on.
+/// Claims, and draws what it is given: whether it goes on.
 fn round<R: Wait + Clock, D: TileStore>(
     rt: &R,
-    alloc: Global,
+    picture_buffer: &mut PictureBuffer,
     farm: &SharedFarm<D>,
     seat: &mut Seat<D>,
     notes: &Mutex<Notes>,
@@ -103,10 +92,7 @@ fn round<R: Wait + Clock, D: TileStore>(
     ensures same { SameSeat seat.old seat.new }
 {
     match claim(rt, farm, seat, notes, worker) {
-        Some(Claimed::Job(job)) => {
-            let drawn = draw(alloc, &job);
-            finish(rt, alloc, farm, seat, notes, job, drawn)
-        }
+        Some(Claimed::Job(job)) => draw_and_finish(rt, picture_buffer, farm, seat, notes, job),
         Some(Claimed::Idle | Claimed::Crowded) => {
             sleep(rt, Duration::from_millis(1));
             true
@@ -116,7 +102,7 @@ fn round<R: Wait + Clock, D: TileStore>(
 }
 
 /// Works until the farm is stopped.
-pub fn work<R: Wait + Clock, D: TileStore>(
+pub(crate) fn work<R: Wait + Clock, D: TileStore>(
     rt: &R,
     alloc: Global,
     farm: &SharedFarm<D>,
@@ -128,8 +114,9 @@ pub fn work<R: Wait + Clock, D: TileStore>(
     ensures seat { IsSeatOf farm.now seat.new }
     ensures same { SameSeat seat.old seat.new }
 {
+    let mut picture_buffer = PictureBuffer::new(alloc);
     for _ in 0..ROUNDS {
-        if !round(rt, alloc, farm, seat, notes, worker) {
+        if !round(rt, &mut picture_buffer, farm, seat, notes, worker) {
             return;
         }
     }
