@@ -32,6 +32,7 @@ use Rattle.serve_command.specs.Points.{ClosedFarm}
 use Rattle.serve_command.specs.declared.left.Left.{Left}
 use Rattle.serve_command.specs.declared.left.Left.TheVariants.{Store, Farm}
 use Rattle.farm_call.proofs.Asked.{asks_one}
+use Rattle.farm_call.proofs.Told.{if_told}
 use Rattle.farm_call.proofs.Whys.{Hinders, by_store}
 use Rattle.farm_call.proofs.Scripting.{scripts_stops, scripts_noticed}
 use Rattle.farm_call.proofs.Serving.{serves_stops, serves_noticed, serves_refused}
@@ -70,10 +71,6 @@ saved_refused {D} state (serves x) store old new is line did =
     let ran : Serves state x store old new (Err (stop.Refused line)) = subst (λ (d : D). Serves state x d old new (Err (stop.Refused line))) same did.2 in
     let r = serves_refused state x store old new is line ran in
     (x, refl, r.0, r.1, r.2, r.3, r.4, r.5)
-
-if_some : {A : Type 0} (o : Option A) (P : A → Type 0) → ((a : A) → o ≡ Some a → P a) → IfSome o P
-if_some (Some a) P h = h a refl
-if_some None P h = tt
 
 module _ {D : Type 0} (state : D → Outside StoreTold) (words : List (List ℕ)) (files files' : FilesAt) (store : D) (ports : EachFront (Outside PortsTold)) (world' : World D) (out err err' : SinkAt) (result : ℕ)
     (call : EndsWith (calls.Runs (Asks words) (Does state) files files' (over out store ports) world') err err' result) where
@@ -170,7 +167,7 @@ module _ {D : Type 0} (state : D → Outside StoreTold) (words : List (List ℕ)
           let same : did.0 ≡ store = (let e = did.1 in cc) in
           let ran : ServesTo state x store world world' call.end (Farm closed) =
           subst (λ (l : Left D). ServesTo state x store world world' call.end l) farm (subst (λ (d : D). Serves state x d world world' call.end) same did.2) in
-          (x, (c, asked, if_some files.told _ (λ t e. (told t e).0)), ran)
+          (x, (c, asked, if_told files.told _ (λ t e. (told t e).0)), ran)
 
       by_end : Ran (Asks words) (Does state) files files' world world' call.end → IsServed closed
       by_end (runs.worked c asked v told still did) = by_work c asked v told did

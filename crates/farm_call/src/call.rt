@@ -187,6 +187,35 @@ pub fn farm_main<
     ensures want_line { result.status ≡ 5
         → LineStands (E.state err.old).told (E.state err.new).told want_of_memory }
 {
+    done_and_told(rt, alloc, words, files, out, err, store, ports, gate)
+}
+
+// Does what the words ask for, and tells of its end: what all that the top call promises is shown of.
+fn done_and_told<
+    R: Threads + Wait + Clock + Sync,
+    F: Files,
+    O: Sink,
+    E: Sink,
+    D: TileStore + Send,
+    P: Ports + Send,
+    B: Bell + Send + Sync,
+    G: Gate + Sync,
+>(
+    rt: &R,
+    alloc: Global,
+    words: &[String],
+    files: &mut F,
+    out: &mut O,
+    err: &mut E,
+    store: D,
+    ports: &mut ThreePorts<P, B>,
+    gate: &G,
+) -> FarmEnd<D>
+    ensures { EndsWith (works.Runs (Asks (map string_bytes words.now)) (Does D.state) (F.state files.old) (F.state files.new)
+        (over (O.state out.old) store (three (P.state ports.old.renderd) (P.state ports.old.tiles) (P.state ports.old.control)))
+        (record { out = O.state out.new; left = result.left; fronts = result.fronts.items; ports = three (P.state ports.new.renderd) (P.state ports.new.tiles) (P.state ports.new.control) }))
+        (E.state err.old) (E.state err.new) result.status }
+{
     let done = command(rt, alloc, words, files, out, store, ports, gate);
     let status = report(err, &done.end);
     FarmEnd {
