@@ -20,12 +20,13 @@ const PATIENCE: u32 = 20_000;
 /// The most replies that may be left at the end.
 const MOST_REPLIES: u32 = 4_096;
 
-/// The feeder asks for a metatile.
+/// A connection asks for a metatile.
 pub(crate) fn ask<R: Wait, D: TileStore>(
     rt: &R,
     farm: &SharedFarm<D>,
     seat: &mut Seat<D>,
     notes: &Mutex<Notes>,
+    conn: u32,
     number: u32,
 )
     requires { IsFront farm.now seat.old }
@@ -33,8 +34,8 @@ pub(crate) fn ask<R: Wait, D: TileStore>(
     ensures jobs { KeepsJobs (lasts D.state farm.now) seat.old seat.new }
 {
     let mut notes = notes.lock(rt);
-    if let Ok(answer) = farm.ask(rt, seat, conn_of(number), Cmd::Render, spot_at(number)) {
-        notes.add(Note::Ask(number, answer));
+    if let Ok(answer) = farm.ask(rt, seat, conn_of(conn), Cmd::Render, spot_at(number)) {
+        notes.add(Note::Ask(conn, number, answer));
     }
 }
 
@@ -123,7 +124,7 @@ fn feed_all<R: Wait, D: TileStore>(
     ensures { IsFront farm.now seat.new }
 {
     for number in 0..METATILES {
-        ask(rt, farm, seat, notes, number);
+        ask(rt, farm, seat, notes, number, number);
         let _answer = collect(rt, farm, seat, notes);
         if number % 10 == 9 {
             expire(rt, farm, seat, notes, tile_at(number / 2));
@@ -148,7 +149,7 @@ fn settle<R: Wait + Clock, D: TileStore>(
     if is_clean(rt, farm, seat, notes, number) {
         return true;
     }
-    ask(rt, farm, seat, notes, number);
+    ask(rt, farm, seat, notes, number, number);
     for _ in 0..PATIENCE {
         sleep(rt, Duration::from_millis(1));
         if is_clean(rt, farm, seat, notes, number) {

@@ -11,10 +11,16 @@ use std::alloc::Global;
 /// How many metatiles are asked for.
 pub const METATILES: u32 = 500;
 
-/// A turn: what was asked of which metatile, by its number, and the answer.
+/// The number of the metatile of zoom 0, which is the whole world. It stands behind those that are asked for.
+pub const WORLD: u32 = METATILES;
+
+/// A tile of zoom 5.
+pub const WITHIN: Tile = Tile { z: 5, x: 3, y: 3 };
+
+/// A turn: what was asked of which metatile, by its number, and the answer; of an ask before it the connection's number.
 #[derive(Clone, Copy)]
 pub enum Note {
-    Ask(u32, AskAnswer),
+    Ask(u32, u32, AskAnswer),
     Collect(Collected),
     Claim(ClaimAnswer),
     Finish(u64, Finished),
@@ -48,8 +54,12 @@ impl Notes {
     }
 }
 
-/// The metatile of that number: of zoom 12, 25 in a row.
+/// The metatile of that number: of zoom 12, 25 in a row, or the world.
 pub(crate) fn key_at(number: u32) -> Key {
+    if number == WORLD {
+        let meta = Meta { z: 0, x: 0, y: 0 };
+        return Key { map: 0, meta };
+    }
     let meta = Meta {
         z: 12,
         x: 8 * (number % 25),
@@ -90,7 +100,7 @@ pub(crate) fn tile_at(number: u32) -> Tile
     }
 }
 
-/// The connection that asks for the metatile of that number.
+/// The connection of that number.
 pub(crate) fn conn_of(number: u32) -> Conn
     ensures { result.front ≡ 0 }
 {

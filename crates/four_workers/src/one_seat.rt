@@ -4,7 +4,7 @@ ghost use Rattle.turn_cell.specs.SeatStates.{IsSeatOf};
 ghost use Rattle.four_workers.specs.Crew.{IsFront};
 
 use crate::feeding::{ask, collect, expire, is_clean};
-use crate::notes::{Note, Notes, spot_at, tile_at};
+use crate::notes::{Note, Notes, WITHIN, WORLD, spot_at};
 use crate::working::{claim, draw_and_finish};
 use farm_base::{Sink, Text};
 use farm_core::Claimed;
@@ -31,8 +31,8 @@ fn draw_expired<R: Wait, D: TileStore>(
     let Some(Claimed::Job(job)) = claim(rt, farm, seat, notes, 0) else {
         return;
     };
-    expire(rt, farm, seat, notes, tile_at(0));
-    ask(rt, farm, seat, notes, 0);
+    expire(rt, farm, seat, notes, WITHIN);
+    ask(rt, farm, seat, notes, 2, WORLD);
     let _goes_on = draw_and_finish(rt, picture_buffer, farm, seat, notes, job);
 }
 
@@ -53,7 +53,7 @@ fn draw_anew<R: Wait, D: TileStore>(
     let _goes_on = draw_and_finish(rt, picture_buffer, farm, seat, notes, job);
 }
 
-/// The whole life of the metatile of number 0.
+/// The whole life of the metatile that is the world.
 pub(crate) fn live<R: Wait, D: TileStore>(
     rt: &R,
     alloc: Global,
@@ -65,19 +65,19 @@ pub(crate) fn live<R: Wait, D: TileStore>(
     ensures { IsFront farm.now seat.new }
 {
     let mut picture_buffer = PictureBuffer::new(alloc);
-    ask(rt, farm, seat, notes, 0);
-    ask(rt, farm, seat, notes, 0);
+    ask(rt, farm, seat, notes, 0, WORLD);
+    ask(rt, farm, seat, notes, 1, WORLD);
     draw_expired(rt, &mut picture_buffer, farm, seat, notes);
     for _ in 0..3 {
         let _replied = collect(rt, farm, seat, notes);
     }
-    ask(rt, farm, seat, notes, 0);
-    let _clean = is_clean(rt, farm, seat, notes, 0);
+    ask(rt, farm, seat, notes, 2, WORLD);
+    let _clean = is_clean(rt, farm, seat, notes, WORLD);
     draw_anew(rt, &mut picture_buffer, farm, seat, notes);
-    ask(rt, farm, seat, notes, 0);
+    ask(rt, farm, seat, notes, 2, WORLD);
 }
 
-/// The line of what a fetch of the metatile of number 0 is answered, without the tile's bytes. None where memory was
+/// The line of what a fetch of the world is answered, without the tile's bytes. None where memory was
 /// wanting.
 pub(crate) fn fetch<R: Wait, D: TileStore>(
     rt: &R,
@@ -88,7 +88,7 @@ pub(crate) fn fetch<R: Wait, D: TileStore>(
     requires { IsFront farm.now seat.old }
     ensures { IsSeatOf farm.now seat.new }
 {
-    let answer = farm.fetch(rt, seat, alloc, spot_at(0)).ok()?;
+    let answer = farm.fetch(rt, seat, alloc, spot_at(WORLD)).ok()?;
     let head = fetch_head(alloc, &answer).ok();
     drop(answer);
     head
@@ -97,7 +97,7 @@ pub(crate) fn fetch<R: Wait, D: TileStore>(
 /// The line of a turn's answer; none of a turn that a life has not. None where memory was wanting, too.
 fn line(alloc: Global, note: Note) -> Option<Text> {
     match note {
-        Note::Ask(_, answer) => ask_line(alloc, answer).ok(),
+        Note::Ask(_, _, answer) => ask_line(alloc, answer).ok(),
         Note::Collect(answer) => collect_line(alloc, answer).ok(),
         Note::Claim(answer) => claim_line(alloc, "default", answer).ok(),
         Note::Finish(_, answer) => finish_line(alloc, answer).ok(),

@@ -1,5 +1,5 @@
 //! A farm of lists that are walked: which answer the rules give to each turn.
-use crate::notes::{METATILES, Note, conn_of, key_at};
+use crate::notes::{METATILES, Note, WORLD, conn_of, key_at};
 use crate::plans::{MOST_DIRTY, MOST_REQUESTS, WORKERS};
 use farm_base::NoMemory;
 use farm_history::{
@@ -37,6 +37,7 @@ enum Stage {
 /// An ask that was given a number, which is its place in the list.
 #[derive(Clone, Copy)]
 struct Open {
+    conn: u32,
     number: u32,
     stage: Stage,
 }
@@ -95,7 +96,7 @@ fn meet(zoom: u32, one: u32, first: u32) -> bool {
 /// Whether the tile's square overlaps that of the metatile.
 fn overlaps(tile: Tile, number: u32) -> bool {
     let meta = key_at(number).meta;
-    meet(tile.z, tile.x, meta.x) && meet(tile.z, tile.y, meta.y)
+    number == WORLD || meet(tile.z, tile.x, meta.x) && meet(tile.z, tile.y, meta.y)
 }
 
 impl Plain {
@@ -162,7 +163,7 @@ impl Plain {
         }
     }
 
-    fn ask(&mut self, number: u32) -> Result<AskAnswer, NoMemory> {
+    fn ask(&mut self, conn: u32, number: u32) -> Result<AskAnswer, NoMemory> {
         let answer = self.answer(number);
         self.counts.asks = self.counts.asks.wrapping_add(1);
         match answer {
@@ -173,6 +174,7 @@ impl Plain {
         }
         if let AskAnswer::Queued(_) | AskAnswer::Lifted(_) | AskAnswer::Joined(_) = answer {
             self.opens.push(Open {
+                conn,
                 number,
                 stage: Stage::Waits,
             })?;
@@ -296,7 +298,7 @@ impl Plain {
         open.stage = Stage::Collected;
         self.counts.done = self.counts.done.wrapping_add(1);
         Collected::Reply(Reply {
-            conn: conn_of(open.number),
+            conn: conn_of(open.conn),
             ask,
             outcome: Outcome::Done,
         })
@@ -337,7 +339,7 @@ impl Plain {
     /// Whether the rules give the turn's answer.
     fn turn(&mut self, note: Note) -> Result<bool, NoMemory> {
         Ok(match note {
-            Note::Ask(number, answer) => answer == self.ask(number)?,
+            Note::Ask(conn, number, answer) => answer == self.ask(conn, number)?,
             Note::Claim(answer) => answer == self.claim(),
             Note::Finish(ticket, answer) => Some(answer) == self.finish(ticket),
             Note::Collect(answer) => answer == self.collect(),
@@ -382,7 +384,7 @@ fn first_wrong(farm: &mut Plain, notes: &[Note]) -> Option<u64> {
 /// Checks the turns of a farm that began with the first of them. Nothing where there was no memory to begin.
 pub(crate) fn check(alloc: Global, notes: &[Note]) -> Option<Checked> {
     let mut farm = Plain {
-        places: vec![in alloc; NOWHERE; METATILES as usize].ok()?,
+        places: vec![in alloc; NOWHERE; METATILES as usize + 1].ok()?,
         opens: Vec::new(alloc),
         moves: 0,
         jobs: 0,
