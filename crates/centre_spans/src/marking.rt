@@ -5,7 +5,7 @@ ghost use Rattle.plain_world.specs.declared.world.Window.{Window};
 ghost use Rattle.plain_world.specs.World.{IsWindow, centre};
 ghost use Rattle.plain_shapes.specs.Images.{Bits};
 ghost use Rattle.plain_shapes.specs.inner.Canvas.{Reached};
-ghost use Rattle.plain_image.specs.Surfaces.{Turns, Marks};
+ghost use Rattle.plain_image.specs.Surfaces.{Becomes, Marks};
 
 use crate::shapes::Shape;
 use crate::sides::first_at;
@@ -32,7 +32,7 @@ fn mark_row<S: Shape, K: Surface>(shape: &S, w: Window, j: u32, mask: &mut K)
     requires row { j < w.rows }
     requires cols { K.cols mask.old ≡ w.cols }
     requires rows { K.rows mask.old ≡ w.rows }
-    ensures reached { Turns K.shows (λ old new. (start : Bits) → Reached (S.holds shape.now) w (j * w.cols) start old
+    ensures reached { Becomes K.shows (λ old new. (start : Bits) → Reached (S.holds shape.now) w (j * w.cols) start old
         → Reached (S.holds shape.now) w (j * w.cols + w.cols) start new) mask.old mask.new }
     ensures cols { K.cols mask.new ≡ K.cols mask.old }
     ensures rows { K.rows mask.new ≡ K.rows mask.old }

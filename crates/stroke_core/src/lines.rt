@@ -3,7 +3,7 @@ ghost use Rattle.std.specs.Prelude.{◌≡◌, ◌≤◌, ◌<◌, ◌^◌, not,
 ghost use Rattle.plain_world.specs.World.{InWorld, IsWindow};
 ghost use Rattle.plain_shapes.specs.inner.Canvas.{SetsSome};
 ghost use Rattle.plain_shapes.specs.Strokes.{is_same, in_body, before_start, past_end, on_sides, on_disks, on_dot, on_line, on_stroke};
-ghost use Rattle.plain_image.specs.Surfaces.{Turns, Marks};
+ghost use Rattle.plain_image.specs.Surfaces.{Becomes, Marks};
 ghost use Rattle.stroke_core.specs.inner.Parts.{on_ends, on_long, on_parts};
 
 use crate::bodies::Body;
@@ -240,7 +240,7 @@ pub fn stroke_lines<K: Surface>(
     requires cols { K.cols mask.old ≡ w.cols }
     requires rows { K.rows mask.old ≡ w.rows }
     ensures drawn { OnOk result (Marks K.shows (on_stroke lines.now half cap) w mask.old mask.new) }
-    ensures refused { OnErr result (Turns K.shows (λ old new. SetsSome (on_stroke lines.now half cap) w old new) mask.old mask.new) }
+    ensures refused { OnErr result (Becomes K.shows (λ old new. SetsSome (on_stroke lines.now half cap) w old new) mask.old mask.new) }
     ensures cols { K.cols mask.new ≡ K.cols mask.old }
     ensures rows { K.rows mask.new ≡ K.rows mask.old }
 {

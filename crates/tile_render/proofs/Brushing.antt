@@ -13,13 +13,13 @@ use Rattle.plain_shapes.specs.Images.{Bits, Pixels, IsRaster}
 use Rattle.plain_shapes.specs.inner.Canvas.{at_centres, marked, stepped}
 use Rattle.plain_shapes.proofs.Places.{length-centres, get_or-centres}
 use Rattle.plain_image.specs.Runs.{run_changed}
-use Rattle.plain_image.specs.Surfaces.{Showing, Turns, Marks}
+use Rattle.plain_image.specs.Surfaces.{ShowsSome, Becomes, Marks}
 use Rattle.plain_image.proofs.Runs.{run_length}
 use Rattle.tile_render.specs.declared.regions.Region.{Region}
 use Rattle.tile_render.specs.declared.brushes.Brush.{Brush}
 use Rattle.tile_render.specs.inner.Regions.{IsRegion, InRegion, region_window, Holds, Tells, over_member}
 use Rattle.tile_render.specs.inner.Canvases.{IsCanvas}
-use Rattle.tile_render.specs.inner.Brushes.{brush_cols, brush_rows, IsOver, PaintedAt, IsBrushed}
+use Rattle.tile_render.specs.inner.Brushes.{brush_cols, brush_rows, IsOver, HasColour, ShowsBits}
 use Rattle.tile_render.proofs.Changing.{place_row}
 use Rattle.tile_render.proofs.Covering.{region_told}
 
@@ -138,7 +138,7 @@ full_over s d = λ i. record { r = channel s.r d.r i; g = channel s.g d.g i; b =
 pub run_painted : (r : Region) (colour : Colour) (bits next : List Bool) (start now after : Pixels) (j from end : ℕ) → IsOver r start → length bits ≡ r.rows * r.cols
     → j < r.rows → from ≤ end → end ≤ r.cols → next ≡ run_changed (λ _. true) (j * r.cols + from) (end - from) bits
     → after ≡ record now { pixels = run_changed (blend colour 1000) ((r.row + j) * now.cols + (r.col + from)) (r.col + end - (r.col + from)) now.pixels }
-    → PaintedAt r colour bits start now → PaintedAt r colour next start after
+    → HasColour r colour bits start now → HasColour r colour next start after
 run_painted r colour bits next start now after j from end over count hj order fits next_is after_is p = record {
   cols = ap (λ m. m.cols) after_is ∙ p.cols;
   rows = ap (λ m. m.rows) after_is ∙ p.rows;
@@ -215,7 +215,7 @@ unset n k = elim (cases_lt k n) [
 ]
 
 -- nothing is painted yet
-pub none_painted : (r : Region) (colour : Colour) (n : ℕ) (start : Pixels) → PaintedAt r colour (replicate n false) start start
+pub none_painted : (r : Region) (colour : Colour) (n : ℕ) (start : Pixels) → HasColour r colour (replicate n false) start start
 none_painted r colour n start = record {
   cols = refl;
   rows = refl;
@@ -254,7 +254,7 @@ in_or_out r u v = elim (cases_lt u r.col) [
 
 -- one pixel, where the bits tell the members
 pixel_is : (w : Window) (r : Region) (member : Point → Bool) (colour : Colour) (bits : List Bool) (start now : Pixels) (v u : ℕ) → start.cols ≡ w.cols → u < w.cols → v < w.rows
-    → Tells w r member bits → PaintedAt r colour bits start now
+    → Tells w r member bits → HasColour r colour bits start now
     → get_or now.pixels (v * start.cols + u) colour ≡ over_member member colour 1000 (centre w u v) (get_or start.pixels (v * start.cols + u) colour)
 pixel_is w r member colour bits start now v u cols hu hv tells p = one (member (centre w u v)) refl
   where
@@ -297,7 +297,7 @@ pixel_is w r member colour bits start now v u cols hu hv tells p = one (member (
 
 -- the picture with its covered pixels painted is that of the step
 pub all_painted : (w : Window) (r : Region) (member : Point → Bool) (colour : Colour) (bits : List Bool) (start now : Pixels) → IsRegion w r
-    → start.cols ≡ w.cols → start.rows ≡ w.rows → length start.pixels ≡ start.rows * start.cols → Tells w r member bits → PaintedAt r colour bits start now
+    → start.cols ≡ w.cols → start.rows ≡ w.rows → length start.pixels ≡ start.rows * start.cols → Tells w r member bits → HasColour r colour bits start now
     → now ≡ stepped w (over_member member colour 1000) start
 all_painted w r member colour bits start now ok cols rows count tells p = λ i. record { cols = p.cols i; rows = p.rows i; pixels = pixels i }
   where
@@ -338,8 +338,8 @@ pub brush_step : (start old new : Brush) (bits : Bits) (j from end : ℕ) → j 
       pixels = run_changed (blend old.colour 1000) ((old.region.row + j) * old.image.now.cols + (old.region.col + from))
           (old.region.col + end - (old.region.col + from)) old.image.now.pixels;
     }
-    → IsBrushed start old bits
-    → Showing (IsBrushed start) (λ next. next ≡ record bits { bits = run_changed (λ _. true) (j * brush_cols old + from) (end - from) bits.bits }) new
+    → ShowsBits start old bits
+    → ShowsSome (ShowsBits start) (λ next. next ≡ record bits { bits = run_changed (λ _. true) (j * brush_cols old + from) (end - from) bits.bits }) new
 brush_step start old new bits j from end row col order reference region colour is s =
     let r : Region = start.region in
     let image : Pixels = old.image.now in
@@ -376,7 +376,7 @@ over_picture w r image region canvas raster = record {
   raster = raster;
 }
 
-brush_fresh : (start : Brush) → IsOver start.region start.image.now → IsBrushed start start (fresh start.region)
+brush_fresh : (start : Brush) → IsOver start.region start.image.now → ShowsBits start start (fresh start.region)
 brush_fresh start over = record {
   reference = refl;
   region = refl;
@@ -387,14 +387,14 @@ brush_fresh start over = record {
 }
 
 -- whatever is painted, the brush keeps its picture, which keeps its sides
-pub brush_kept : (start now : Brush) → Turns IsBrushed (λ _ _. ⊤) start now → IsOver start.region start.image.now
+pub brush_kept : (start now : Brush) → Becomes ShowsBits (λ _ _. ⊤) start now → IsOver start.region start.image.now
     → (now.image.ghost_name ≡ start.image.ghost_name) × (now.image.now.cols ≡ start.image.now.cols) × (now.image.now.rows ≡ start.image.now.rows)
 brush_kept start now turns over =
     let made = turns start (fresh start.region) (brush_fresh start over) in
     (made.shown.reference, made.shown.painted.cols, made.shown.painted.rows)
 
 -- all that is covered of the region is painted
-pub brush_done : (w near : Window) (start now : Brush) (member : ℕ → Point → Bool) → Marks IsBrushed (member near.pixel) near start now
+pub brush_done : (w near : Window) (start now : Brush) (member : ℕ → Point → Bool) → Marks ShowsBits (member near.pixel) near start now
     → IsRegion w start.region → near ≡ region_window w start.region → start.image.now.cols ≡ w.cols → start.image.now.rows ≡ w.rows
     → IsOver start.region start.image.now → Holds w start.region (member w.pixel) → now.image.now ≡ stepped w (over_member (member w.pixel) start.colour 1000) start.image.now
 brush_done w near start now member marks ok near_is cols rows over holds =

@@ -13,13 +13,13 @@ pub(crate) struct Brush<'a> {
 }
 
 impl<'a> Surface for Brush<'a> {
-    ghost use Rattle.tile_render.specs.inner.Brushes.{brush_cols, brush_rows, IsBrushed};
+    ghost use Rattle.tile_render.specs.inner.Brushes.{brush_cols, brush_rows, ShowsBits};
 
     ghost cols = { brush_cols };
 
     ghost rows = { brush_rows };
 
-    ghost shows = { IsBrushed };
+    ghost shows = { ShowsBits };
 
     fn cover(&mut self, j: u32, from: u32, end: u32) {
         if from < end {

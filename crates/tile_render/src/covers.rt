@@ -9,7 +9,7 @@ ghost use Rattle.plain_shapes.specs.Strokes.{half_of};
 ghost use Rattle.plain_drawing.specs.declared.style.Symbolizer.TheVariants as paint;
 ghost use Rattle.plain_drawing.specs.Styles.{is_paint};
 ghost use Rattle.plain_drawing.specs.Drawing.{covers};
-ghost use Rattle.plain_image.specs.Surfaces.{Turns, Marks};
+ghost use Rattle.plain_image.specs.Surfaces.{Becomes, Marks};
 ghost use Rattle.tile_render.specs.inner.Regions.{IsRegion, HoldsCovered};
 ghost use Rattle.tile_render.specs.inner.Covers.{is_fill, is_points, Shows, Covers};
 
@@ -105,7 +105,7 @@ fn stroke<K: Surface>(
     requires rows { K.rows surface.old ≡ w.rows }
     ensures drawn { (colour : Colour) (opacity : ℕ) → OnOk result
         (Marks K.shows (λ c. covers w.pixel feature.now.geometry c (paint.Line colour width opacity cap)) w surface.old surface.new) }
-    ensures shows { Turns K.shows (λ _ _. ⊤) surface.old surface.new }
+    ensures shows { Becomes K.shows (λ _ _. ⊤) surface.old surface.new }
 {
     let half = half_of(width, w.pixel);
     match feature.geometry() {
@@ -162,7 +162,7 @@ pub(crate) fn cover_on<K: Surface>(
     requires cols { K.cols surface.old ≡ w.cols }
     requires rows { K.rows surface.old ≡ w.rows }
     ensures drawn { OnOk result (Marks K.shows (λ c. covers w.pixel feature.now.geometry c symbolizer) w surface.old surface.new) }
-    ensures shows { Turns K.shows (λ _ _. ⊤) surface.old surface.new }
+    ensures shows { Becomes K.shows (λ _ _. ⊤) surface.old surface.new }
 {
     match symbolizer {
         Symbolizer::Polygon { .. } => Ok(()),

@@ -73,7 +73,7 @@ fn draw_on_grid(grid: &Grid, symbolizer: Symbolizer, canvas: &mut Canvas)
 
 /// Whether the parts of what the symbolizer covers are painted one after another: in full opacity a pixel of
 /// two of them may be painted twice. Fills have runs that do not overlap, so they need no brush.
-fn is_brushed(symbolizer: Symbolizer, opacity: u32) -> bool
+fn takes_brush(symbolizer: Symbolizer, opacity: u32) -> bool
     ensures { result ≡ (nat_eq opacity 1000 && not (is_fill symbolizer)) }
 {
     opacity == 1000 && !is_fill(symbolizer)
@@ -95,7 +95,7 @@ fn draw_region(
     ensures window { canvas.new.window ≡ canvas.old.window }
 {
     let paint = paint_of(symbolizer);
-    if is_brushed(symbolizer, paint.opacity) {
+    if takes_brush(symbolizer, paint.opacity) {
         return canvas.brush(alloc, region, feature, symbolizer, paint.colour);
     }
     match cover(alloc, canvas.window(), region, feature, symbolizer)? {

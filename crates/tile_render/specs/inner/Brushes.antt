@@ -21,7 +21,7 @@ pub record IsOver (r : Region) (image : Pixels) : Type 0 where
   pub raster : IsRaster image.cols image.rows (length image.pixels)
 
 -- the picture now has the colour at the region's pixels whose bits are set, and is as it was at the start elsewhere
-pub record PaintedAt (r : Region) (colour : Colour) (bits : List Bool) (start now : Pixels) : Type 0 where
+pub record HasColour (r : Region) (colour : Colour) (bits : List Bool) (start now : Pixels) : Type 0 where
   pub cols : now.cols ≡ start.cols
   pub rows : now.rows ≡ start.rows
   pub count : length now.pixels ≡ length start.pixels
@@ -33,10 +33,10 @@ pub record PaintedAt (r : Region) (colour : Colour) (bits : List Bool) (start no
       → slice_index_or now.pixels (j * start.cols + i) colour ≡ slice_index_or start.pixels (j * start.cols + i) colour
 
 -- the brush now is the brush of the start, with the pixels painted whose bits are set
-pub record IsBrushed (start now : Brush) (bits : Bits) : Type 0 where
+pub record ShowsBits (start now : Brush) (bits : Bits) : Type 0 where
   pub reference : now.image.ghost_name ≡ start.image.ghost_name
   pub region : now.region ≡ start.region
   pub colour : now.colour ≡ start.colour
   pub over : IsOver start.region start.image.now
   pub count : length bits.bits ≡ start.region.rows * start.region.cols
-  pub painted : PaintedAt start.region start.colour bits.bits start.image.now now.image.now
+  pub painted : HasColour start.region start.colour bits.bits start.image.now now.image.now

@@ -2,8 +2,8 @@ use Rattle.std.proofs.Common.{refl, take, sym, subst, ◌∙◌}
 use Rattle.plain_shapes.specs.Images.{Bits}
 use Rattle.plain_shapes.specs.inner.Canvas.{SetsSome}
 use Rattle.plain_shapes.specs.Strokes.{on_line, on_stroke}
-use Rattle.plain_image.specs.Surfaces.{Turns}
-use Rattle.plain_image.proofs.Marking.{turns_same, marks_start, marks_more, marks_all}
+use Rattle.plain_image.specs.Surfaces.{Becomes}
+use Rattle.plain_image.proofs.Marking.{becomes_same, marks_start, marks_more, marks_all}
 use Rattle.stroke_core.proofs.Sides.{any_take, on_err}
 use Rattle.stroke_core.proofs.lines.stroke_lines.Goals as goal
 
@@ -27,8 +27,8 @@ pub returns-in_err-stroke_line-clause-refused : goal.returns-in_err-stroke_line-
 returns-in_err-stroke_line-clause-refused g c =
     let some : Bits → Bits → Type 0 = SetsSome (on_stroke c.args.lines.now c.args.half c.args.cap) c.args.w in
     on_err _ _
-    (subst (λ now. Turns g.K.Surface.shows some c.args.mask.now now) (sym c.in_err-stroke_line.ensures.refused)
-    (turns_same g.K.Surface.shows _ some c.args.mask.now c.loop-line.mask (λ old now is. record {
+    (subst (λ now. Becomes g.K.Surface.shows some c.args.mask.now now) (sym c.in_err-stroke_line.ensures.refused)
+    (becomes_same g.K.Surface.shows _ some c.args.mask.now c.loop-line.mask (λ old now is. record {
       chosen = on_stroke (take c.loop-line.line-index c.args.lines.now) c.args.half c.args.cap;
       belongs = λ p. any_take (on_line c.args.half c.args.cap p) c.loop-line.line-index c.args.lines.now;
       is = is;

@@ -2,7 +2,7 @@ use Rattle.std.proofs.Common.{◌∙◌, ap, sym}
 use Rattle.plain_drawing.specs.declared.style.Symbolizer.TheVariants as paint
 use Rattle.plain_shapes.specs.Strokes.{on_stroke, on_outline, half_of}
 use Rattle.plain_drawing.specs.Drawing.{covers}
-use Rattle.plain_image.proofs.Marking.{turns_none, turns_same, marks_none, marks_same}
+use Rattle.plain_image.proofs.Marking.{becomes_none, becomes_same, marks_none, marks_same}
 use Rattle.tile_render.proofs.Steps.{on_ok, in_both, ok_of}
 use Rattle.tile_render.proofs.covers.stroke.Goals as goal
 
@@ -12,7 +12,7 @@ returns-in-Points-clause-drawn g c colour opacity =
     (λ p. ap (λ s. covers c.args.w.pixel s p (paint.Line colour c.args.width opacity c.args.cap)) (sym c.geometry.ensures.value ∙ c.in-Points.is))
 
 pub returns-in-Points-clause-shows : goal.returns-in-Points-clause-shows
-returns-in-Points-clause-shows g c = turns_none g.K.Surface.shows _ c.args.surface.now (λ a. tt)
+returns-in-Points-clause-shows g c = becomes_none g.K.Surface.shows _ c.args.surface.now (λ a. tt)
 
 pub returns-in-Lines-clause-drawn : goal.returns-in-Lines-clause-drawn
 returns-in-Lines-clause-drawn g c colour opacity =
@@ -27,8 +27,8 @@ returns-in-Lines-clause-drawn g c colour opacity =
 pub returns-in-Lines-clause-shows : goal.returns-in-Lines-clause-shows
 returns-in-Lines-clause-shows g c =
     in_both c.stroke_lines.result
-    (turns_same g.K.Surface.shows _ _ c.args.surface.now c.stroke_lines.new.mask (λ a b p. tt))
-    (turns_same g.K.Surface.shows _ _ c.args.surface.now c.stroke_lines.new.mask (λ a b p. tt))
+    (becomes_same g.K.Surface.shows _ _ c.args.surface.now c.stroke_lines.new.mask (λ a b p. tt))
+    (becomes_same g.K.Surface.shows _ _ c.args.surface.now c.stroke_lines.new.mask (λ a b p. tt))
     c.stroke_lines.ensures.drawn c.stroke_lines.ensures.refused
 
 pub returns-in-Polygon-clause-drawn : goal.returns-in-Polygon-clause-drawn
@@ -42,4 +42,4 @@ returns-in-Polygon-clause-drawn g c colour opacity =
     c.stroke_rings.ensures.drawn)
 
 pub returns-in-Polygon-clause-shows : goal.returns-in-Polygon-clause-shows
-returns-in-Polygon-clause-shows g c = turns_same g.K.Surface.shows _ _ c.args.surface.now c.stroke_rings.new.mask (λ a b p. tt) c.stroke_rings.ensures.drawn
+returns-in-Polygon-clause-shows g c = becomes_same g.K.Surface.shows _ _ c.args.surface.now c.stroke_rings.new.mask (λ a b p. tt) c.stroke_rings.ensures.drawn

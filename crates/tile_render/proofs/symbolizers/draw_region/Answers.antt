@@ -11,12 +11,12 @@ use Rattle.tile_render.proofs.Steps.{on_ok}
 use Rattle.tile_render.proofs.symbolizers.draw_region.Goals as goal
 
 pub brush-requires-clause-kind : goal.brush-requires-clause-kind
-brush-requires-clause-kind c = not-true _ (and_parts _ _ (sym c.is_brushed.ensures ∙ c.if-is_brushed.true)).1
+brush-requires-clause-kind c = not-true _ (and_parts _ _ (sym c.takes_brush.ensures ∙ c.if-takes_brush.true)).1
 
-pub returns-then-is_brushed-clause-drawn : goal.returns-then-is_brushed-clause-drawn
-returns-then-is_brushed-clause-drawn c =
+pub returns-then-takes_brush-clause-drawn : goal.returns-then-takes_brush-clause-drawn
+returns-then-takes_brush-clause-drawn c =
     let paint = c.paint_of-paint.result in
-    let full = eqb-true paint.opacity 1000 (and_parts _ _ (sym c.is_brushed.ensures ∙ c.if-is_brushed.true)).0 in
+    let full = eqb-true paint.opacity 1000 (and_parts _ _ (sym c.takes_brush.ensures ∙ c.if-takes_brush.true)).0 in
     on_ok c.brush.result
     (painted_cover c.args.canvas.now.window c.args.feature.now c.args.symbolizer paint.colour 1000 c.args.canvas.now.image c.brush.new.self.image
     (λ d. c.paint_of-paint.ensures.value d ∙ ap (λ n. blend paint.colour n d) full)) c.brush.ensures.drawn
