@@ -1,10 +1,9 @@
 -- Colours side by side that are changed alike where they stand as bytes.
-use Rattle.std.proofs.Common.{◌≡◌, ℕ, ◌+◌, ◌-◌, ◌≤◌, ◌<◌, List, length, flat_map, ◌*◌, get_or, set, refl, ap, sym, ◌∙◌, Some}
+use Rattle.std.proofs.Common.{◌≡◌, ℕ, ◌+◌, ◌-◌, ◌≤◌, List, length, flat_map, ◌*◌, set, refl, ap, sym, ◌∙◌, Some}
 use Rattle.std.specs.Prelude.{slice_get}
 use Rattle.std.specs.Vec.{with_items}
 use Rattle.std.specs.declared.vec.Vec.{Vec}
 use Rattle.std.proofs.lemmas.List.{with_items_is}
-use Rattle.std.proofs.lemmas.Option.{slice_get-get_or}
 use Rattle.plain_shapes.specs.declared.colour.Colour.{Colour}
 use Rattle.plain_shapes.specs.Ppm.{pixel_bytes}
 use Rattle.plain_image.specs.PpmText.{colours}
@@ -23,14 +22,6 @@ pub bytes_more : (f : Colour → Colour) (start k : ℕ) (old : List Colour) (by
 bytes_more f start k old bytes next d c from so_far at is put =
     put ∙ ap (λ e. flat_map pixel_bytes (set (colours bytes) k e)) is
     ∙ ap (λ ps. flat_map pixel_bytes ps) (run_more f start k old (colours bytes) d from (colours_of bytes (run_changed f start (k - start) old) so_far) at)
-
--- the same where what stood there does not matter
-pub bytes_filled : (s : Colour) (start k : ℕ) (old : List Colour) (bytes next : List ℕ) → start ≤ k → k < length (colours bytes)
-    → bytes ≡ flat_map pixel_bytes (run_changed (λ (d : Colour). s) start (k - start) old)
-    → next ≡ flat_map pixel_bytes (set (colours bytes) k s) → next ≡ flat_map pixel_bytes (run_changed (λ (d : Colour). s) start (k + 1 - start) old)
-bytes_filled s start k old bytes next from inside so_far put =
-    put ∙ ap (λ ps. flat_map pixel_bytes ps) (run_more (λ (d : Colour). s) start k old (colours bytes) (get_or (colours bytes) k s) from
-    (colours_of bytes (run_changed (λ (d : Colour). s) start (k - start) old) so_far) (slice_get-get_or (colours bytes) k s inside))
 
 -- the same in the list of bytes that the slice is of
 pub list_painted : {Z : Type 0} (f : Colour → Colour) (start count : ℕ) (v : Vec ℕ Z) (bytes next : List ℕ) → flat_map pixel_bytes (colours v.items) ≡ v.items → bytes ≡ v.items

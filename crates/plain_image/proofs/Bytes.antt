@@ -1,7 +1,8 @@
 -- Colours as bytes, three each.
-use Rattle.std.proofs.Common.{◌≡◌, ℕ, suc, zero, ◌+◌, ◌*◌, ◌<◌, List, [], ◌∷◌, ◌++◌, length, take, drop, get_or, set, flat_map, replicate, refl, ap, sym, ◌∙◌, arith, Some}
+use Rattle.std.proofs.Common.{◌≡◌, ℕ, suc, zero, ◌+◌, ◌-◌, ◌*◌, ◌<◌, ◌≤◌, List, [], ◌∷◌, ◌++◌, length, take, drop, get_or, set, flat_map, replicate, refl, ap, sym, ◌∙◌, arith, Some}
 use Rattle.std.specs.Prelude.{slice_get}
 use Rattle.std.proofs.Math.Seq.{drop-nil}
+use Rattle.std.proofs.lemmas.List.{take-replicate, length-replicate}
 use Rattle.std.proofs.lemmas.Grind.{flat_map-append}
 use Rattle.plain_shapes.specs.declared.colour.Colour.{Colour}
 use Rattle.plain_shapes.specs.Ppm.{pixel_bytes}
@@ -35,7 +36,7 @@ thirds (suc n) (a ∷ []) h = absurd (omega arith)
 thirds (suc n) (a ∷ b ∷ []) h = absurd (omega arith)
 thirds (suc n) (a ∷ b ∷ c ∷ bs) h = (let r = thirds n bs (omega arith) in (ap (λ cs. a ∷ b ∷ c ∷ cs) (r.0), ap suc (r.1)))
 
-drop_bytes : (n : ℕ) (ps : List Colour) → drop (n * 3) (flat_map pixel_bytes ps) ≡ flat_map pixel_bytes (drop n ps)
+pub drop_bytes : (n : ℕ) (ps : List Colour) → drop (n * 3) (flat_map pixel_bytes ps) ≡ flat_map pixel_bytes (drop n ps)
 drop_bytes zero ps = refl
 drop_bytes (suc n) [] = drop-nil (suc n * 3)
 drop_bytes (suc n) (p ∷ ps) = let e : suc n * 3 ≡ suc (suc (suc (n * 3))) = omega arith in rw e (drop_bytes n ps)
@@ -44,7 +45,7 @@ take_none : (n : ℕ) → take n (flat_map pixel_bytes []) ≡ []
 take_none zero = refl
 take_none (suc n) = refl
 
-take_bytes : (n : ℕ) (ps : List Colour) → take (n * 3) (flat_map pixel_bytes ps) ≡ flat_map pixel_bytes (take n ps)
+pub take_bytes : (n : ℕ) (ps : List Colour) → take (n * 3) (flat_map pixel_bytes ps) ≡ flat_map pixel_bytes (take n ps)
 take_bytes zero ps = refl
 take_bytes (suc n) [] = take_none (suc n * 3)
 take_bytes (suc n) (p ∷ ps) = let e : suc n * 3 ≡ suc (suc (suc (n * 3))) = omega arith in rw e (ap (λ bs. p.r ∷ p.g ∷ p.b ∷ bs) (take_bytes n ps))
@@ -99,6 +100,22 @@ lines_more cols j c line out is so_far =
     ∙ sym (flat_map-append pixel_bytes (replicate (j * cols) c) (replicate cols c))
     ∙ ap (λ ps. flat_map pixel_bytes ps) (replicate_append (j * cols) cols c)
     ∙ ap (λ n. flat_map pixel_bytes (replicate n c)) e
+
+-- so many pixels, and then those that are missing of a longer line
+pub pixels_more : (m n : ℕ) (c : Colour) (bytes : List ℕ) → m ≤ n → bytes ≡ flat_map pixel_bytes (replicate m c)
+    → bytes ++ flat_map pixel_bytes (replicate (n - m) c) ≡ flat_map pixel_bytes (replicate n c)
+pixels_more m n c bytes le so_far =
+    let e : m + (n - m) ≡ n = omega arith in
+    ap (λ bs. bs ++ flat_map pixel_bytes (replicate (n - m) c)) so_far ∙ sym (flat_map-append pixel_bytes (replicate m c) (replicate (n - m) c))
+    ∙ ap (λ ps. flat_map pixel_bytes ps) (replicate_append m (n - m) c) ∙ ap (λ k. flat_map pixel_bytes (replicate k c)) e
+
+-- the first pixels of a line of one colour
+pub pixels_front : (m n : ℕ) (c : Colour) (bytes : List ℕ) → m ≤ n → bytes ≡ flat_map pixel_bytes (replicate n c) → take (m * 3) bytes ≡ flat_map pixel_bytes (replicate m c)
+pixels_front m n c bytes le is =
+    ap (λ bs. take (m * 3) bs) is ∙ take_bytes m (replicate n c) ∙ ap (λ ps. flat_map pixel_bytes ps) (take-replicate m n c le)
+
+pub pixels_length : (n : ℕ) (c : Colour) (bytes : List ℕ) → bytes ≡ flat_map pixel_bytes (replicate n c) → length bytes ≡ n * 3
+pixels_length n c bytes is = ap length is ∙ length_written (replicate n c) ∙ ap (λ k. k * 3) (length-replicate n c)
 
 pub no_lines : (cols : ℕ) (c : Colour) → [] ≡ flat_map pixel_bytes (replicate (0 * cols) c)
 no_lines cols c = let e : 0 ≡ 0 * cols = omega arith in ap (λ n. flat_map pixel_bytes (replicate n c)) e

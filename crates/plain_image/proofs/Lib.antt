@@ -5,4 +5,5 @@ pub mod Texts
 pub mod RoundTrip
 pub mod Runs
 pub mod ByteRuns
+pub mod ByteLines
 pub mod Marking

@@ -58,19 +58,6 @@ fn put_colour(bytes: &mut [u8], k: usize, c: Colour)
     bytes[k * 3 + 2] = c.b;
 }
 
-// Puts the colour `s` at each place from `start` on and before `end`.
-fn fill_run(s: Colour, start: usize, end: usize, bytes: &mut [u8])
-    requires kept { flat_map pixel_bytes (colours bytes.old) ≡ bytes.old }
-    requires order { start ≤ end }
-    requires inside { end ≤ length (colours bytes.old) }
-    requires few { length (colours bytes.old) ≤ most_side * most_side }
-    ensures { bytes.new ≡ flat_map pixel_bytes (run_changed (λ (d : Colour). s) start (end - start) (colours bytes.old)) }
-{
-    for k in start..end {
-        put_colour(bytes, k, s);
-    }
-}
-
 /// Paints the colours from the place `start` on and before the place `end` over with the colour `s`.
 /// The bytes are a slice that is taken once: a compiler must fear that a byte stored through a list
 /// changes the list's own fields, and would read these again after each.
@@ -82,9 +69,6 @@ pub fn paint_run(s: Colour, opacity: u32, start: usize, end: usize, bytes: &mut 
     requires few { length (colours bytes.old) ≤ most_side * most_side }
     ensures { bytes.new ≡ flat_map pixel_bytes (run_changed (blend s opacity) start (end - start) (colours bytes.old)) }
 {
-    if opacity == 1000 {
-        return fill_run(s, start, end, bytes);
-    }
     for k in start..end {
         let d = colour_at(bytes, k);
         put_colour(bytes, k, over(s, opacity, d));

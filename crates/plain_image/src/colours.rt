@@ -9,6 +9,7 @@ ghost use Rattle.plain_shapes.specs.Blending.{blend};
 ghost use Rattle.plain_world.specs.Limits.{most_side};
 
 use crate::blending;
+use crate::ready_line::ReadyLine;
 use farm_base::NoMemory;
 use plain_shapes::Colour;
 use std::alloc::Global;
@@ -146,6 +147,19 @@ impl Colours {
         ensures len { length self.new ≡ length self.old }
     {
         blending::paint_run(s, opacity, start, end, &mut self.bytes);
+    }
+
+    /// Copies the first pixels of a line that is ready to the places from `start` on and before `end`.
+    pub fn copy_run(&mut self, line: &ReadyLine, start: usize, end: usize)
+        requires order { start ≤ end }
+        requires ready { end - start ≤ line.now.1 }
+        requires inside { end ≤ length self.old }
+        requires few { length self.old ≤ most_side * most_side }
+        ensures painted { self.new ≡ run_changed (λ (d : Colour). line.now.0) start (end - start) self.old }
+        ensures len { length self.new ≡ length self.old }
+    {
+        let run = line.bytes(end - start);
+        self.bytes[start * 3..end * 3].copy_from_slice(run);
     }
 
     /// Appends the bytes of `count` colours from the place `from` on.

@@ -1,10 +1,14 @@
 //! A picture: one colour for each pixel, by rows.
 use crate::colours::Colours;
+use crate::ready_line::ReadyLine;
 use crate::{Mask, blending, pixels};
 use farm_base::NoMemory;
 use plain_shapes::Colour;
 use std::alloc::Global;
 use std::marker::Model;
+
+// An opaque run of so many pixels or more is copied. A shorter one takes no less time that way.
+const COPIED: usize = 8;
 
 /// An image, by rows. Contracts see its sides and its pixels, row by row. Its sides are 1 to 4,096.
 #[derive(Debug, Drop)]
@@ -12,6 +16,7 @@ pub struct Image {
     cols: u32,
     rows: u32,
     pixels: Colours,
+    line: ReadyLine,
 }
 
 impl Model for Image {
@@ -55,7 +60,7 @@ impl Image {
         ensures { IfOk result (λ m. m ≡ record { cols = cols; rows = rows; pixels = replicate (rows * cols) c }) }
     {
         let pixels = Colours::over(alloc, buffer, rows, cols, c)?;
-        Ok(Image { cols, rows, pixels })
+        Ok(Image::of_pixels(alloc, cols, rows, pixels))
     }
 
     /// The three bytes of each pixel, by rows.
@@ -128,9 +133,13 @@ impl Image {
           pixels = run_changed (blend c opacity) (j * self.old.cols + start) (end - start) self.old.pixels;
         } }
     {
-        let west = j as usize * self.cols as usize;
-        let from = west + start as usize;
-        self.pixels.paint_run(c, opacity, from, west + end as usize);
+        let from = j as usize * self.cols as usize + start as usize;
+        let count = (end - start) as usize;
+        if opacity == 1000 && count >= COPIED && self.line.prepare(c, count) {
+            self.pixels.copy_run(&self.line, from, from + count);
+        } else {
+            self.pixels.paint_run(c, opacity, from, from + count);
+        }
     }
 
     /// The image of a part of it: `cols` columns from `col` on and `rows` rows from `row` on. The part
@@ -150,7 +159,7 @@ impl Image {
         ensures { IfOk result (λ m. m ≡ cut_of self.now col row cols rows) }
     {
         let pixels = self.pixels.cut(alloc, self.cols, col, row, cols, rows)?;
-        Ok(Image { cols, rows, pixels })
+        Ok(Image::of_pixels(alloc, cols, rows, pixels))
     }
 
     /// The image as a binary PPM text (Netpbm's P6): `P6`, a newline, the columns, a space, the rows, a
@@ -183,10 +192,16 @@ impl Image {
     }
 
     /// The image of these pixels.
-    pub(crate) fn of_pixels(cols: u32, rows: u32, pixels: Colours) -> Image
+    pub(crate) fn of_pixels(alloc: Global, cols: u32, rows: u32, pixels: Colours) -> Image
         requires { IsRaster cols rows (length pixels) }
         ensures { result ≡ record { cols = cols; rows = rows; pixels = pixels } }
     {
-        Image { cols, rows, pixels }
+        let black = Colour { r: 0, g: 0, b: 0 };
+        Image {
+            cols,
+            rows,
+            pixels,
+            line: ReadyLine::new(alloc, black),
+        }
     }
 }

@@ -9,6 +9,7 @@ mod parts;
 mod pixels;
 mod ppm;
 mod reading;
+mod ready_line;
 mod surfaces;
 
 pub use image::Image;

@@ -1,9 +1,0 @@
-use Rattle.std.proofs.Common.{◌≡◌, ◌-◌, flat_map}
-use Rattle.plain_shapes.specs.declared.colour.Colour.{Colour}
-use Rattle.plain_shapes.specs.Ppm.{pixel_bytes}
-use Rattle.plain_image.specs.PpmText.{colours}
-use Rattle.plain_image.specs.Runs.{run_changed}
-use Rattle.plain_image.proofs.blending.fill_run.Given as goal
-
-abbrev pub invariant-loop-k : goal.invariant-loop-k
-invariant-loop-k l = l.bytes ≡ flat_map pixel_bytes (run_changed (λ (d : Colour). l.s) l.start (l.k - l.start) (colours l.fn.bytes))
