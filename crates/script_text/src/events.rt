@@ -1,12 +1,10 @@
 //! The lines that ask one event of a farm and leave what is in hand alone.
-ghost use Rattle.std.specs.Prelude.{◌≡◌, ◌<◌, ◌^◌, Bool, List, IfOk};
+ghost use Rattle.std.specs.Prelude.{◌≡◌, ◌<◌, ◌^◌, IfOk};
 ghost use Rattle.plain_world.specs.World.{IsTile};
-ghost use Rattle.farm_history.specs.Entries.{Entry};
-ghost use Rattle.farm_stands.specs.Stands.{StandsFor};
 ghost use Rattle.farm_core.specs.Answers.{Lasts};
 ghost use Rattle.script_lines.specs.declared.script.ScriptLine.TheVariants as line;
 ghost use Rattle.script_text.specs.ScriptTexts.{conn_of, spot_of};
-ghost use Rattle.script_text.specs.inner.Steps.{Enters};
+ghost use Rattle.script_text.specs.inner.Steps.{EntersFrom};
 
 use crate::said::{LineAnswer, fetch_said, said};
 use farm_base::{NoMemory, Text};
@@ -46,7 +44,7 @@ pub(crate) fn ask<D: TileStore>(
     place: (u32, u32, u32),
 ) -> Result<LineAnswer, NoMemory>
     requires { farm.old.counts.turns < 2 ^ 63 }
-    ensures step { (told : Bool) (g : List Entry) → StandsFor D.state told farm.old g → Enters D.state told farm.new farm.old.plan (line.Ask number cmd map.now place.0 place.1 place.2) g result }
+    ensures step { EntersFrom D.state farm.old farm.new (line.Ask number cmd map.now place.0 place.1 place.2) result }
     ensures kept { Lasts D.state farm.old farm.new }
 {
     let spot = spot_at(farm, map, place);
@@ -61,7 +59,7 @@ pub(crate) fn update<D: TileStore>(
     number: u32,
 ) -> Result<LineAnswer, NoMemory>
     requires { farm.old.counts.turns < 2 ^ 63 }
-    ensures step { (told : Bool) (g : List Entry) → StandsFor D.state told farm.old g → Enters D.state told farm.new farm.old.plan (line.Update number) g result }
+    ensures step { EntersFrom D.state farm.old farm.new (line.Update number) result }
     ensures kept { Lasts D.state farm.old farm.new }
 {
     let answer = farm.update(alloc, number);
@@ -75,7 +73,7 @@ pub(crate) fn restyle<D: TileStore>(
     number: u32,
 ) -> Result<LineAnswer, NoMemory>
     requires { farm.old.counts.turns < 2 ^ 63 }
-    ensures step { (told : Bool) (g : List Entry) → StandsFor D.state told farm.old g → Enters D.state told farm.new farm.old.plan (line.Restyle number) g result }
+    ensures step { EntersFrom D.state farm.old farm.new (line.Restyle number) result }
     ensures kept { Lasts D.state farm.old farm.new }
 {
     let answer = farm.restyle(number);
@@ -89,7 +87,7 @@ pub(crate) fn renew<D: TileStore>(
     number: u32,
 ) -> Result<LineAnswer, NoMemory>
     requires { farm.old.counts.turns < 2 ^ 63 }
-    ensures step { (told : Bool) (g : List Entry) → StandsFor D.state told farm.old g → Enters D.state told farm.new farm.old.plan (line.Renew number) g result }
+    ensures step { EntersFrom D.state farm.old farm.new (line.Renew number) result }
     ensures kept { Lasts D.state farm.old farm.new }
 {
     let answer = farm.renew(alloc, number);
@@ -104,7 +102,7 @@ pub(crate) fn expire<D: TileStore>(
 ) -> Result<LineAnswer, NoMemory>
     requires turns { farm.old.counts.turns < 2 ^ 63 }
     requires tile { IsTile t }
-    ensures step { (told : Bool) (g : List Entry) → StandsFor D.state told farm.old g → Enters D.state told farm.new farm.old.plan (line.Expire t.z t.x t.y) g result }
+    ensures step { EntersFrom D.state farm.old farm.new (line.Expire t.z t.x t.y) result }
     ensures kept { Lasts D.state farm.old farm.new }
 {
     let count = farm.expire(t);
@@ -119,7 +117,7 @@ pub(crate) fn fetch<D: TileStore>(
     place: (u32, u32, u32),
 ) -> Result<LineAnswer, NoMemory>
     requires { farm.old.counts.turns < 2 ^ 63 }
-    ensures step { (told : Bool) (g : List Entry) → StandsFor D.state told farm.old g → Enters D.state told farm.new farm.old.plan (line.Fetch map.now place.0 place.1 place.2) g result }
+    ensures step { EntersFrom D.state farm.old farm.new (line.Fetch map.now place.0 place.1 place.2) result }
     ensures kept { Lasts D.state farm.old farm.new }
 {
     let spot = spot_at(farm, map, place);
@@ -135,7 +133,7 @@ pub(crate) fn look<D: TileStore>(
     place: (u32, u32, u32),
 ) -> Result<LineAnswer, NoMemory>
     requires { farm.old.counts.turns < 2 ^ 63 }
-    ensures step { (told : Bool) (g : List Entry) → StandsFor D.state told farm.old g → Enters D.state told farm.new farm.old.plan (line.Look map.now place.0 place.1 place.2) g result }
+    ensures step { EntersFrom D.state farm.old farm.new (line.Look map.now place.0 place.1 place.2) result }
     ensures kept { Lasts D.state farm.old farm.new }
 {
     let spot = spot_at(farm, map, place);
@@ -150,7 +148,7 @@ pub(crate) fn collect<D: TileStore>(
     front: u32,
 ) -> Result<LineAnswer, NoMemory>
     requires { farm.old.counts.turns < 2 ^ 63 }
-    ensures step { (told : Bool) (g : List Entry) → StandsFor D.state told farm.old g → Enters D.state told farm.new farm.old.plan (line.Collect front) g result }
+    ensures step { EntersFrom D.state farm.old farm.new (line.Collect front) result }
     ensures kept { Lasts D.state farm.old farm.new }
 {
     let answer = farm.collect(front);
@@ -164,7 +162,7 @@ pub(crate) fn leave<D: TileStore>(
     number: u32,
 ) -> Result<LineAnswer, NoMemory>
     requires { farm.old.counts.turns < 2 ^ 63 }
-    ensures step { (told : Bool) (g : List Entry) → StandsFor D.state told farm.old g → Enters D.state told farm.new farm.old.plan (line.Leave number) g result }
+    ensures step { EntersFrom D.state farm.old farm.new (line.Leave number) result }
     ensures kept { Lasts D.state farm.old farm.new }
 {
     let count = farm.leave(conn_at(number));
@@ -174,7 +172,7 @@ pub(crate) fn leave<D: TileStore>(
 /// `tally`.
 pub(crate) fn tally<D: TileStore>(alloc: Global, farm: &mut Farm<D>) -> Result<LineAnswer, NoMemory>
     requires { farm.old.counts.turns < 2 ^ 63 }
-    ensures step { (told : Bool) (g : List Entry) → StandsFor D.state told farm.old g → Enters D.state told farm.new farm.old.plan line.Tally g result }
+    ensures step { EntersFrom D.state farm.old farm.new line.Tally result }
     ensures kept { Lasts D.state farm.old farm.new }
 {
     let totals = farm.tally();
@@ -184,7 +182,7 @@ pub(crate) fn tally<D: TileStore>(alloc: Global, farm: &mut Farm<D>) -> Result<L
 /// `stop`.
 pub(crate) fn stop<D: TileStore>(alloc: Global, farm: &mut Farm<D>) -> Result<LineAnswer, NoMemory>
     requires { farm.old.counts.turns < 2 ^ 63 }
-    ensures step { (told : Bool) (g : List Entry) → StandsFor D.state told farm.old g → Enters D.state told farm.new farm.old.plan line.Stop g result }
+    ensures step { EntersFrom D.state farm.old farm.new line.Stop result }
     ensures kept { Lasts D.state farm.old farm.new }
 {
     farm.stop();

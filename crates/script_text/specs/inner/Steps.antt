@@ -51,6 +51,10 @@ pub record Enters {D : Type 0} (state : D → Outside StoreTold) (told : Bool) (
   pub stands : StandsFor state told farm (e ∷ before)
   pub said : IfOk result (SaysEntry plan e)
 
+-- the line was entered, whatever history the farm stood for before it
+abbrev pub EntersFrom : {D : Type 0} → (D → Outside StoreTold) → FarmSeen D → FarmSeen D → ScriptLine → Result SaidSeen NoMemory → Type 0
+EntersFrom state old new l result = (told : Bool) (g : List Entry) → StandsFor state told old g → Enters state told new old.plan l g result
+
 -- the line was answered, with the jobs in hand before it and behind it; or it broke off
 abbrev pub Answers : {D : Type 0} → (D → Outside StoreTold) → Bool → FarmSeen D → FarmPlan → ScriptLine → List Entry → List JobSeen → List JobSeen → Result SaidSeen NoMemory → Type 0
 Answers state told farm plan l before hand hand' (Ok said) =
