@@ -1,11 +1,10 @@
 -- Each fault that a configuration may be refused for has a text.
-use Rattle.std.specs.Prelude.{ℕ, true, false, not, nat_le, nat_lt, List, [], length, codes, None, is_some, Result, IsTrue, Bool, refl, if◌then◌else◌, Ok, Err}
+use Rattle.std.specs.Prelude.{ℕ, false, not, nat_le, nat_lt, List, [], length, codes, None, is_some, Result, IsTrue, refl, Ok, Err}
 use Rattle.serde_json.specs.Data.{Data}
 use Rattle.serde_json.specs.Find.{get, as_str, as_array, as_bool}
 use Rattle.reading.specs.Json.{json_of}
-use Rattle.reading.specs.Lists.{list_after}
 use Rattle.reading.specs.Steps.{◌>>=◌}
-use Rattle.reading.specs.Values.{list, text}
+use Rattle.reading.specs.Values.{text}
 use Rattle.farm_config.specs.Addresses.{is_address}
 use Rattle.farm_config.specs.Configs.{MapEntry, map_has, map_place, greatest_limits, is_map_name, is_tile_size}
 use Rattle.farm_config.specs.Limits.{most_maps, most_zoom, most_files, most_workers, most_waiting, most_dirty}

@@ -1,5 +1,5 @@
 -- Each fault that a script or an expiry list may be refused for has a text.
-use Rattle.std.specs.Prelude.{ℕ, ◌+◌, ◌^◌, ◌==◌, nat_le, if◌then◌else◌, List, [], ◌∷◌, ◌++◌, length, codes, Option, Some, None, option_to_list, is_some, Result, Ok, Err, IsTrue, refl}
+use Rattle.std.specs.Prelude.{ℕ, ◌+◌, ◌^◌, nat_le, List, [], ◌∷◌, ◌++◌, length, codes, Option, Some, None, option_to_list, is_some, Result, Ok, IsTrue, refl}
 use Rattle.std.specs.Option.{ok_or}
 use Rattle.std.specs.Str.{bytes_eq, is_utf8}
 use Rattle.std.specs.Str.Lines.{lines}

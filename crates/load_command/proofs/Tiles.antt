@@ -1,6 +1,6 @@
 -- Each step asks for a tile.
 use Rattle.std.proofs.Common.{◌≡◌, ℕ, zero, suc, ◌+◌, ◌-◌, ◌*◌, ◌^◌, ◌<◌, ◌≤◌, subst, arith}
-use Rattle.std.proofs.Math.Nat.{pow-le-pow_right, mod-lt}
+use Rattle.std.proofs.Math.Nat.{mod-lt}
 use Rattle.std.proofs.lemmas.Nat.{pow_pos}
 use Rattle.plain_world.specs.World.{IsTile}
 use Rattle.farm_history.specs.Lists.{Each}

@@ -1,6 +1,6 @@
 -- A style's file and the files of its rasters, as its course.
 use Rattle.std.proofs.Common.{◌≡◌, ℕ, inl, List, refl, ap, subst}
-use Rattle.std.specs.Prelude.{Result, Ok, Err}
+use Rattle.std.specs.Prelude.{Ok}
 use Rattle.plain_drawing.specs.Grids.{Grid}
 use Rattle.plain_drawing.specs.Styles.{RasterRef, MapStyle}
 use Rattle.style_objects.specs.Tables.{style_in}

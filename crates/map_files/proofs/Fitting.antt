@@ -13,7 +13,7 @@ use Rattle.plain_image.specs.declared.reading.PpmFault.{PpmFault}
 use Rattle.raster_layers.specs.declared.grids.GridFault.TheVariants.{Size}
 use Rattle.call_ends.specs.Ends.{FilesAt}
 use Rattle.call_ends.specs.declared.stops.Stop.{Stop}
-use Rattle.input_files.specs.Course.{Course, made, refused, reads, ◌>>=◌, judged, file, each}
+use Rattle.input_files.specs.Course.{made, reads, ◌>>=◌, judged, file, each}
 use Rattle.input_files.specs.inner.Follows.{Follows, Says, Tells}
 use Rattle.input_files.proofs.Courses.{ended, Could, could_parts, followed_could}
 use Rattle.input_files.proofs.Judged.{file_checked, file_stops}

@@ -3,7 +3,6 @@ use Rattle.std.proofs.Common.{◌≡◌, ◌<◌, ℕ, zero, suc, ◌+◌, ◌*�
 use Rattle.std.specs.Prelude.{if◌then◌else◌, nat_lt}
 use Rattle.std.proofs.lemmas.Bool.{cases_Bool, lt-ltb, le-ltb, ltb-true, ltb-false}
 use Rattle.std.proofs.lemmas.List.{length-replicate}
-use Rattle.plain_shapes.specs.declared.colour.Colour.{Colour}
 use Rattle.plain_shapes.specs.Images.{Pixels}
 use Rattle.plain_shapes.specs.Ppm.{pixel_bytes}
 use Rattle.plain_image.specs.PpmText.{colours}

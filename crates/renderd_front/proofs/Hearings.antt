@@ -1,5 +1,5 @@
 -- What hearing a piece and taking a reply do.
-use Rattle.std.proofs.Common.{◌≡◌, ℕ, ◌≤◌, Bool, true, false, cond, List, [], ◌∷◌, ◌++◌, length, drop, find, if◌then◌else◌, Option, Result, Ok, Err, is_ok, is_err, refl, sym, ap, subst, ◌∙◌, inr, arith, append_assoc, append-nil}
+use Rattle.std.proofs.Common.{◌≡◌, ℕ, Bool, true, false, cond, List, [], ◌∷◌, ◌++◌, length, drop, find, if◌then◌else◌, Option, Result, Ok, Err, is_ok, is_err, refl, sym, ap, subst, ◌∙◌, inr, append_assoc, append-nil}
 use Rattle.std.proofs.lemmas.Bool.{false≢true}
 use Rattle.std.proofs.Math.Nat.{le_refl}
 use Rattle.renderd_protocol.specs.declared.messages.Request.{Request}

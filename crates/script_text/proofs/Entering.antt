@@ -1,6 +1,6 @@
 -- From the events of a farm to the answers of lines.
 use Rattle.std.proofs.Common.{◌≡◌, ℕ, ◌==◌, ◌||◌, inl, inr, Bool, true, false, List, [], ◌∷◌, ◌++◌, find, refl, sym, ap, subst, ◌∙◌}
-use Rattle.std.specs.Prelude.{Option, Some, None, Result, Ok, Err, IfOk, OnOk}
+use Rattle.std.specs.Prelude.{Some, Result, Ok, Err, IfOk, OnOk}
 use Rattle.farm_base.specs.Outside.{Outside}
 use Rattle.farm_base.specs.declared.memory.NoMemory.{NoMemory}
 use Rattle.tile_store.specs.Stores.{StoreTold}
@@ -17,11 +17,11 @@ use Rattle.farm_stands.specs.Seen.{FarmSeen}
 use Rattle.farm_stands.specs.Stands.{StandsFor}
 use Rattle.script_lines.specs.declared.script.ScriptLine.{ScriptLine}
 use Rattle.script_lines.specs.declared.script.ScriptLine.TheVariants as line
-use Rattle.script_answers.specs.Answers.{entry_text, claim_line}
+use Rattle.script_answers.specs.Answers.{claim_line}
 use Rattle.script_text.specs.ScriptTexts.{names_of, IsEntryOf, hand_after, HasEvent, HasNone, is_failed, has_failed, unheard, entered}
 use Rattle.script_text.specs.inner.Hands.{tickets, HandStands}
 use Rattle.script_text.specs.inner.Steps.{SaidSeen, SaysEntry, Enters, Answers}
-use Rattle.script_text.proofs.Holding.{hand_kept, hand_claimed, hand_ended, tickets_more, tickets_left, found_ticket, in_hand}
+use Rattle.script_text.proofs.Holding.{hand_kept, hand_claimed, hand_ended, tickets_more, tickets_left, found_ticket}
 
 -- what is noted of a failed call, with one entry more
 noted_with : (g : List Entry) (e : Entry) {failed : Bool} → failed ≡ is_failed e → has_failed (e ∷ g) ≡ (failed || has_failed g)

@@ -1,5 +1,5 @@
 -- The jobs in hand, line by line.
-use Rattle.std.proofs.Common.{◌≡◌, ℕ, ◌<◌, Bool, true, false, not, ◌||◌, cond, List, [], ◌∷◌, ◌++◌, map, filter, find, Option, Some, None, refl, sym, ap, subst, ◌∙◌, arith}
+use Rattle.std.proofs.Common.{◌≡◌, ℕ, ◌<◌, Bool, true, false, not, ◌||◌, cond, List, [], ◌∷◌, ◌++◌, map, filter, find, Some, None, refl, sym, ap, subst, ◌∙◌, arith}
 use Rattle.std.specs.Prelude.{◌==◌}
 use Rattle.std.specs.List.{list_any}
 use Rattle.std.proofs.lemmas.Bool.Decides.{nat_tests}
@@ -7,8 +7,8 @@ use Rattle.std.proofs.lemmas.List.{map-append}
 use Rattle.farm_history.specs.declared.answers.ClaimAnswer.TheVariants.{Job}
 use Rattle.farm_history.specs.declared.answers.Finished.{Finished}
 use Rattle.farm_history.specs.Entries.{Entry, Claim, Finish}
-use Rattle.farm_history.specs.Lists.{Each, Differ, without_first}
-use Rattle.farm_history.specs.Past.{Flight, flights, flight_in, jobs}
+use Rattle.farm_history.specs.Lists.{Each, without_first}
+use Rattle.farm_history.specs.Past.{Flight, flights, jobs}
 use Rattle.farm_history.specs.Rules.{Legal, Fits}
 use Rattle.farm_history.proofs.Apart.{job_is_next}
 use Rattle.farm_history.proofs.Flying.{ends_ticket}

@@ -1,5 +1,5 @@
 -- What no event changes, over events one after another.
-use Rattle.std.proofs.Common.{◌≡◌, refl, ◌∙◌}
+use Rattle.std.proofs.Common.{refl, ◌∙◌}
 use Rattle.farm_base.specs.Outside.{Outside}
 use Rattle.tile_store.specs.Stores.{StoreTold}
 use Rattle.farm_stands.specs.Seen.{FarmSeen}

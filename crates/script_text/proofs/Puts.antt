@@ -1,9 +1,9 @@
 -- Puts one after another are one put.
-use Rattle.std.proofs.Common.{◌≡◌, ℕ, ◌+◌, ◌≤◌, List, [], ◌∷◌, ◌++◌, length, take, refl, sym, ap, subst, ◌∙◌, arith, append_assoc}
+use Rattle.std.proofs.Common.{◌≡◌, ℕ, ◌+◌, List, [], ◌++◌, length, take, refl, sym, ap, subst, ◌∙◌, arith, append_assoc}
 use Rattle.std.specs.Prelude.{Option, Some, None, Result, Ok, Err, option_map}
 use Rattle.std.proofs.Math.Seq.{take-append-add}
 use Rattle.std.proofs.lemmas.List.{append-nil, length-append, take-append-le}
-use Rattle.farm_base.specs.Outside.{Outside, Puts, Counted, Rose}
+use Rattle.farm_base.specs.Outside.{Outside, Puts, Counted}
 use Rattle.farm_base.specs.declared.sinks.SinkFault.{SinkFault}
 
 told_then : (told : Option (List ℕ)) (a b : List ℕ) → option_map (λ (had : List ℕ). had ++ b) (option_map (λ (had : List ℕ). had ++ a) told) ≡ option_map (λ (had : List ℕ). had ++ (a ++ b)) told

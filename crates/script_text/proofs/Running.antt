@@ -1,6 +1,6 @@
 -- A script, line by line.
-use Rattle.std.proofs.Common.{◌≡◌, ℕ, ◌+◌, ◌^◌, ◌<◌, ◌≤◌, Bool, true, false, ◌||◌, List, [], ◌∷◌, ◌++◌, length, take, get_or, refl, sym, ap, subst, ◌∙◌, arith}
-use Rattle.std.specs.Prelude.{Option, Some, Result, Ok, Err, slice_get}
+use Rattle.std.proofs.Common.{◌≡◌, ℕ, ◌+◌, ◌^◌, ◌<◌, ◌≤◌, Bool, false, ◌||◌, List, [], ◌++◌, length, take, get_or, refl, sym, ap, subst, ◌∙◌, arith}
+use Rattle.std.specs.Prelude.{Some, Ok, Err, slice_get}
 use Rattle.std.proofs.lemmas.List.{length-take, take_all}
 use Rattle.std.proofs.lemmas.Option.{slice_get-get_or}
 use Rattle.std.proofs.Math.Bool.{or_assoc}
@@ -14,7 +14,6 @@ use Rattle.farm_plan.specs.Plans.{FarmPlan}
 use Rattle.farm_stands.specs.Jobs.{JobSeen}
 use Rattle.farm_stands.specs.Seen.{FarmSeen}
 use Rattle.farm_stands.specs.Stands.{StandsFor}
-use Rattle.farm_core.specs.Answers.{Lasts}
 use Rattle.script_lines.specs.declared.script.ScriptLine.{ScriptLine}
 use Rattle.script_text.specs.ScriptTexts.{has_failed, LinesText}
 use Rattle.script_text.specs.Runs.{RunsAll, RunsCut, RunsShort}

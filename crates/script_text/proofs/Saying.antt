@@ -1,6 +1,6 @@
 -- The answers of lines.
 use Rattle.std.proofs.Common.{◌≡◌, ℕ, Bool, true, false, List, refl, ap, sym, subst, ◌∙◌}
-use Rattle.std.specs.Prelude.{Option, Some, Result, Ok, Err, IfOk}
+use Rattle.std.specs.Prelude.{Some, Result, Ok, Err, IfOk}
 use Rattle.reading.specs.Steps.{seen}
 use Rattle.farm_base.specs.declared.memory.NoMemory.{NoMemory}
 use Rattle.farm_history.specs.declared.answers.Fetched.{Fetched}

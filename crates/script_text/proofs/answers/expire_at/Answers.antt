@@ -1,5 +1,4 @@
 use Rattle.std.proofs.Common.{refl, subst}
-use Rattle.std.specs.Prelude.{List, ℕ}
 use Rattle.plain_world.specs.declared.world.Tile.{Tile}
 use Rattle.script_lines.specs.declared.script.ScriptLine.TheVariants as line
 use Rattle.script_answers.specs.Answers.{unservable_line}

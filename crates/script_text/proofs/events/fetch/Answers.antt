@@ -1,4 +1,3 @@
-use Rattle.std.proofs.Common.{refl}
 use Rattle.farm_history.specs.Entries as entry
 use Rattle.script_text.proofs.Saying.{both_said, fetch_failed}
 use Rattle.script_text.proofs.events.fetch.Goals as goal

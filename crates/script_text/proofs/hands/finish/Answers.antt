@@ -1,12 +1,12 @@
-use Rattle.std.proofs.Common.{◌≡◌, ◌∙◌, refl, sym}
-use Rattle.std.specs.Prelude.{true, false}
+use Rattle.std.proofs.Common.{◌∙◌, refl, sym}
+use Rattle.std.specs.Prelude.{true}
 use Rattle.script_lines.specs.declared.script.ScriptLine.TheVariants as line
 use Rattle.script_answers.specs.Answers.{nojob_line}
 use Rattle.script_text.specs.ScriptTexts.{HasNone}
 use Rattle.script_text.specs.inner.Hands.{tickets}
 use Rattle.script_text.proofs.Entering.{answered_none, answered_end}
 use Rattle.script_text.proofs.Holding.{not_in_hand, none_taken, in_hand, taken_flies, taken_valid}
-use Rattle.script_text.proofs.Saying.{none_said, line_said, some_said, finish_failed}
+use Rattle.script_text.proofs.Saying.{none_said, some_said, finish_failed}
 use Rattle.script_text.proofs.hands.finish.Goals as goal
 
 pub returns-in-None-clause-step : goal.returns-in-None-clause-step

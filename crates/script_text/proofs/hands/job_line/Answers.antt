@@ -1,5 +1,5 @@
 use Rattle.std.proofs.Common.{◌≡◌, ap, sym, subst, ◌∙◌}
-use Rattle.std.specs.Prelude.{ℕ, List, Some, IfOk, option_map, slice_get}
+use Rattle.std.specs.Prelude.{ℕ, IfOk, option_map, slice_get}
 use Rattle.std.proofs.lemmas.Option.{slice_get-map}
 use Rattle.farm_history.specs.declared.keys.Key.{Key}
 use Rattle.farm_history.specs.declared.answers.ClaimAnswer.TheVariants.{Job}

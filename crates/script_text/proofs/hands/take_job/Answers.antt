@@ -1,4 +1,4 @@
-use Rattle.std.proofs.Common.{rules, arith, ◌∙◌, ◌≡◌, ap, sym, Some, None}
+use Rattle.std.proofs.Common.{rules, ◌∙◌, ◌≡◌, sym, Some, None}
 use Rattle.std.specs.List.{position}
 use Rattle.render_queues.proofs.Ends.{first_none, no_place, found_there, left_there}
 use Rattle.script_text.proofs.Holding.{of_ticket}

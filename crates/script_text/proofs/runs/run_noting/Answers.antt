@@ -1,8 +1,7 @@
-use Rattle.std.proofs.Common.{◌≡◌, ◌<◌, ◌≤◌, List, length, get_or, rules, refl, sym, subst, arith}
+use Rattle.std.proofs.Common.{◌≡◌, ◌<◌, ◌≤◌, List, length, get_or, rules, sym, subst}
 use Rattle.farm_plan.specs.Plans.{FarmPlan}
 use Rattle.script_lines.specs.declared.script.ScriptLine.{ScriptLine}
 use Rattle.script_text.specs.inner.Hands.{HandStands}
-use Rattle.script_text.specs.inner.Progress.{Goes}
 use Rattle.script_text.proofs.Lasting.{lasts_same, lasts_then}
 use Rattle.script_text.proofs.Running.{goes_first, goes_few, goes_more, goes_cut, goes_short, goes_all}
 use Rattle.script_text.proofs.runs.run_noting.Goals as goal

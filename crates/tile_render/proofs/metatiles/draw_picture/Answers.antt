@@ -1,4 +1,4 @@
-use Rattle.std.proofs.Common.{◌*◌, ◌∙◌, ap, sym, refl}
+use Rattle.std.proofs.Common.{◌∙◌, ap, refl}
 use Rattle.plain_drawing.specs.inner.Pictures.{with_map}
 use Rattle.plain_drawing.proofs.Steps.{one_colour}
 use Rattle.plain_drawing.proofs.Cuts.{tiles_cut}
