@@ -6,7 +6,8 @@
 # starts `tilefarm serve` in a folder of its own, with sixteen maps over 10,000 features that all lie in one metatile of
 # zoom 14, and measures: clean metatiles answered Done on one connection of renderd's protocol; clean tiles of 256
 # pixels over HTTP, one connection each; how long one ask takes; what 1,000 idle connections cost; the farm's memory
-# before and after all these asks; and metatiles over 200 of these features and over all, drawn with 1, 2 and 4 workers.
+# before and after all these asks; and metatiles over 200 of these features and over all, drawn with 1, 2 and 4 workers, with
+# tiles of 256 pixels, of which the store's puts take much of the time, and of 32, of which they take none.
 # The tiles lie in memory where the system has /dev/shm, so that no disk is measured; TMPDIR names another folder.
 # The client is benchmarks/serve_client.c, compiled by cc. With TILEFARM another program is measured.
 set -eu
@@ -62,10 +63,10 @@ for count in (200, 10000):
     write("data%d.json" % count, {"units": "world", "layers": kept})
 write("style.json", style)
 write("all.list", "14/8192/8192\n")
-for workers, count in ((w, c) for w in (1, 2, 4) for c in (200, 10000)):
+for workers, count, tile in ((w, c, t) for w in (1, 2, 4) for c in (200, 10000) for t in (32, 256)):
     names = ["m%d" % number for number in range(15)] + ["default"]
-    write("farm%d_%d.json" % (workers, count), {
-        "maps": [{"name": name, "style": "style.json", "tile": 256} for name in names],
+    write("farm%d_%d_%d.json" % (workers, count, tile), {
+        "maps": [{"name": name, "style": "style.json", "tile": tile} for name in names],
         "data": "data%d.json" % count, "expiries": ["all.list"], "workers": workers,
         "renderd": "unix:%s/renderd.sock" % folder, "tiles": "unix:%s/tiles.sock" % folder,
         "control": "unix:%s/control.sock" % folder,
@@ -76,17 +77,17 @@ client() { "$folder/client" "$@"; }
 control() { "$top/examples/clients/control" "unix:$folder/control.sock" "$@"; }
 memory() { awk '/^VmRSS/ { print $2 }' "/proc/$farm/status"; }
 rate() { awk '{ printf "%.0f", $1 / $2 }'; }
-row() { printf '%-64s %14s  %s\n' "$1" "$2" "$3"; }
+row() { printf '%-80s %14s  %s\n' "$1" "$2" "$3"; }
 
-# Starts a farm with so many workers over so many features, with the tiles at $tiles; waits until it listens.
+# Starts a farm with so many workers over so many features, with tiles of so many pixels, at $tiles; waits until it listens.
 start() {
-    python3 - "$folder/farm$1_$2.json" "$tiles" <<'PYTHON'
+    python3 - "$folder/farm$1_$2_$3.json" "$tiles" <<'PYTHON'
 import json, sys
 config = json.load(open(sys.argv[1]))
 config["tiles"] = sys.argv[2]
 json.dump(config, open(sys.argv[1], "w"))
 PYTHON
-    (cd "$folder" && exec "$program" serve "farm$1_$2.json" >out 2>err) &
+    (cd "$folder" && exec "$program" serve "farm$1_$2_$3.json" >out 2>err) &
     farm=$!
     for _ in $(seq 600); do
         control stats >/dev/null 2>&1 && return
@@ -109,7 +110,7 @@ tiles="tcp:127.0.0.1:$port"
 machine="$(sed -n 's/^model name[^:]*: //p' /proc/cpuinfo | head -n 1)"
 echo "$(date +%F), $(nproc) processors, $machine, load $(cut -d' ' -f1 /proc/loadavg)"
 
-start 4 10000
+start 4 10000 256
 tile='14 8192 8192'
 client done "$renderd" 1 1 $tile >/dev/null
 before="$(memory)"
@@ -146,14 +147,16 @@ again() {
         drawn "$1"
     done | sort -n | sed -n 3p
 }
-for features in 200 10000; do
-    for workers in 1 2 4; do
-        rm -rf "$folder/tiles"
-        start "$workers" "$features"
-        row "metatiles over $features features, zooms 11 to 14, $workers workers" "$(drawn 3)" "a second"
-        row "the same drawn again" "$(again 3)" "a second"
-        row "of zoom 14 alone, drawn again" "$(again 0)" "a second"
-        row "memory at the end" "$(memory)" "KiB"
-        stop
+for pixels in 256 32; do
+    for features in 200 10000; do
+        for workers in 1 2 4; do
+            rm -rf "$folder/tiles"
+            start "$workers" "$features" "$pixels"
+            row "metatiles over $features features, zooms 11 to 14, tiles of $pixels pixels, $workers workers" "$(drawn 3)" "a second"
+            row "the same drawn again" "$(again 3)" "a second"
+            row "of zoom 14 alone, drawn again" "$(again 0)" "a second"
+            row "memory at the end" "$(memory)" "KiB"
+            stop
+        done
     done
 done
