@@ -1,1 +1,2 @@
 pub mod KnownIds
+pub mod LentMembers

@@ -1,13 +1,13 @@
 //! Lists, read item by item.
 ghost use Rattle.std.specs.Prelude.{◌≡◌, ◌≤◌, ◌<◌, ◌++◌, ◌∷◌, [], ℕ, Bool, List, Result, length, IsTrue, IfOk};
 ghost use Rattle.serde_json.specs.Data.{Data};
-ghost use Rattle.serde_json.specs.View.{view, items_view};
+ghost use Rattle.json_values.specs.View.{view, items_view};
 ghost use Rattle.reading.specs.Steps.{Gives};
 ghost use Rattle.reading.specs.Lists.{list_of};
 ghost use Rattle.farm_base.specs.Earlier.{each_after};
 
 use crate::json::ReadFault;
-use serde_json::Value;
+use json_values::Value;
 use std::alloc::Global;
 
 /// Reads one item of a list, with the items before it.
@@ -48,7 +48,9 @@ pub fn read_list<R: ReadItem>(
     ensures kept { IfOk result (λ v. IsTrue (each_after (R.keeps reader.now) [] v.items)) }
     ensures count { IfOk result (λ v. length v.items ≤ length values.now) }
 {
-    let mut read = Vec::new(alloc);
+    let Ok(mut read) = Vec::with_capacity(alloc, values.len()) else {
+        return Err(R::Fault::no_memory());
+    };
     for value in values {
         match reader.read(alloc, read.as_slice(), value) {
             Ok(item) => match read.push(item) {
@@ -112,7 +114,9 @@ pub fn read_list_with<R: ReadKnown>(
     ensures count { IfOk result (λ v. length v.items ≤ length values.now) }
     ensures known { IfOk result (λ v. R.knows known.new v.items) }
 {
-    let mut read = Vec::new(alloc);
+    let Ok(mut read) = Vec::with_capacity(alloc, values.len()) else {
+        return Err(R::Fault::no_memory());
+    };
     for value in values {
         match reader.read(alloc, known, read.as_slice(), value) {
             Ok(item) => match read.push(item) {
