@@ -1,12 +1,12 @@
 -- Cuts and lines.
 use Rattle.std.proofs.Common.{◌≡◌, ℕ, suc, ◌+◌, ◌-◌, ◌<◌, ◌≤◌, List, [], ◌∷◌, length, take, drop, Bool, true, false, eqb, ltb, cond, Option, Some, None, refl, sym, ap, ◌∙◌, arith}
-use Rattle.std.specs.Prelude.{option_map, MatchOption}
+use Rattle.std.specs.Prelude.{option_map}
 use Rattle.std.specs.Borrow.{Bor}
-use Rattle.std.specs.List.{slice_split, onto_first, position_or_len, before_first, after_first}
+use Rattle.std.specs.List.{slice_split, position_or_len, before_first, after_first}
 use Rattle.std.specs.Str.Lines.{lines, lines_of_parts, strip_carriage_return}
 use Rattle.std.proofs.lemmas.Str.Pattern.{IsSplitOnceResult, split_once_first}
 use Rattle.std.proofs.lemmas.List.Splits.{slice_split_first, length-slice_split}
-use Rattle.std.proofs.lemmas.List.{take_all, length-drop}
+use Rattle.std.proofs.lemmas.List.{take_all, drop_all, length-drop}
 use Rattle.std.proofs.lemmas.Bool.Decides.{nat_tests}
 use Rattle.line_words.specs.Cuts.{cut_at}
 
@@ -60,7 +60,8 @@ lines_one [] some h = absurd (omega arith)
 lines_one (b ∷ bytes) some h =
     let more : eqb (suc (length bytes)) 0 ≡ false = grind (arith, nat_tests) in ap lines_of_parts (one_part (b ∷ bytes) h) ∙ rw more refl
 
-abbrev place : List ℕ → Option ℕ
+-- the place of the first newline
+abbrev pub place : List ℕ → Option ℕ
 place bytes = cond (ltb (position_or_len (λ b. eqb b 10) bytes) (length bytes)) (Some (position_or_len (λ b. eqb b 10) bytes)) None
 
 some_at : (t : Bool) (n end : ℕ) → cond t (Some n) None ≡ Some end → (t ≡ true) × (n ≡ end)
@@ -86,3 +87,10 @@ found_none bytes e =
 -- the rest of a list is all of it behind a place
 pub all_behind : (bytes : List ℕ) (n : ℕ) → n ≤ length bytes → take (length bytes - n) (drop n bytes) ≡ drop n bytes
 all_behind bytes n h = take_all (length bytes - n) (drop n bytes) (omega (arith, length-drop n bytes))
+
+-- what is behind the first newline, and that nothing is where there is none
+pub behind_at : (bytes : List ℕ) (end : ℕ) → position_or_len (λ b. eqb b 10) bytes ≡ end → drop (end + 1) bytes ≡ after_first (λ b. eqb b 10) bytes
+behind_at bytes end is = ap (λ n. drop (n + 1) bytes) (sym is)
+
+pub behind_none : (bytes : List ℕ) → length bytes ≤ position_or_len (λ b. eqb b 10) bytes → [] ≡ after_first (λ b. eqb b 10) bytes
+behind_none bytes h = sym (drop_all (position_or_len (λ b. eqb b 10) bytes + 1) bytes (omega arith))

@@ -1,5 +1,6 @@
 //! What stands before a byte and behind it, and the lines of a text.
-ghost use Rattle.std.specs.Prelude.{◌≡◌, ◌<◌, ◌∷◌, [], length, IfNone, IfSome, option_map};
+ghost use Rattle.std.specs.List.{after_first};
+ghost use Rattle.std.specs.Prelude.{◌≡◌, ◌==◌, ◌<◌, ◌∷◌, [], length, IfNone, IfSome, option_map};
 ghost use Rattle.std.specs.Str.Lines.{lines, strip_carriage_return};
 ghost use Rattle.line_words.specs.Cuts.{cut_at};
 
@@ -17,6 +18,7 @@ pub fn cut(text: &str, end: char) -> Option<(&str, &str)>
 pub fn first_line(bytes: &[u8]) -> Option<(&[u8], &[u8])>
     ensures none { IfNone result (lines bytes.entry.now ≡ []) }
     ensures some { IfSome result (λ p. lines bytes.entry.now ≡ p.0.now ∷ lines p.1.now) }
+    ensures behind { IfSome result (λ p. p.1.now ≡ after_first (λ b. b == 10) bytes.entry.now) }
     ensures less { IfSome result (λ p. length p.1.now < length bytes.entry.now) }
 {
     if bytes.is_empty() {

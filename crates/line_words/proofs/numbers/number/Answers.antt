@@ -1,4 +1,4 @@
-use Rattle.std.proofs.Common.{◌≡◌, ℕ, ◌^◌, Bool, Ok, Some, true, false, not, refl, sym, ap, ◌∙◌, ◌<◌, rules, arith}
+use Rattle.std.proofs.Common.{◌≡◌, ◌^◌, Bool, Ok, true, false, not, refl, sym, ap, ◌∙◌, ◌<◌, rules}
 use Rattle.std.specs.Fmt.{decimal}
 use Rattle.std.specs.Str.{bytes_eq}
 use Rattle.std.proofs.lemmas.Slice.Eq.{bytes_eq-Decides}

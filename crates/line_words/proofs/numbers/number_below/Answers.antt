@@ -1,5 +1,4 @@
-use Rattle.std.proofs.Common.{◌≡◌, ℕ, ◌^◌, Some, arith, sym, ◌∙◌}
-use Rattle.line_words.specs.Numbers.{decimal_below}
+use Rattle.std.proofs.Common.{◌≡◌, ◌^◌, Some, arith, sym, ◌∙◌}
 use Rattle.line_words.proofs.NumberTexts.{lesser_known, lesser_none}
 use Rattle.line_words.proofs.numbers.number_below.Goals as goal
 
