@@ -12,11 +12,11 @@ use Rattle.tile_paths.proofs.Numbers.{digits_only, no_slash}
 use Rattle.tile_paths.proofs.Bits.{small, numbers, five_of, high, low, high_is, low_is, path_parts}
 
 -- no byte of a text is c
-abbrev Lacks : ℕ → List ℕ → Type 0
+abbrev pub Lacks : ℕ → List ℕ → Type 0
 Lacks c text = (i : ℕ) → i < length text → get_or text i 0 ≢ c
 
 -- texts that are alike are alike before their first byte c, and behind it
-parted : (c : ℕ) (xs ys rest others : List ℕ) → Lacks c xs → Lacks c ys → xs ++ c ∷ rest ≡ ys ++ c ∷ others → (xs ≡ ys) × (rest ≡ others)
+pub parted : (c : ℕ) (xs ys rest others : List ℕ) → Lacks c xs → Lacks c ys → xs ++ c ∷ rest ≡ ys ++ c ∷ others → (xs ≡ ys) × (rest ≡ others)
 parted c [] [] rest others f g e = (refl, ap (drop 1) e)
 parted c [] (y ∷ ys) rest others f g e = absurd (g 0 (omega arith) (sym (ap (λ l. get_or l 0 0) e)))
 parted c (x ∷ xs) [] rest others f g e = absurd (f 0 (omega arith) (ap (λ l. get_or l 0 0) e))

@@ -1,8 +1,9 @@
 -- Targets: a target asks for one thing of one tile at most.
-use Rattle.std.proofs.Common.{◌≡◌, ◌≢◌, ℕ, suc, ◌<◌, ◌^◌, List, [], ◌∷◌, ◌++◌, length, drop, get_or, refl, sym, ap, ◌∙◌, arith}
+use Rattle.std.proofs.Common.{◌≡◌, ◌≢◌, ℕ, ◌<◌, ◌^◌, List, ◌∷◌, ◌++◌, length, drop, get_or, refl, sym, ap, ◌∙◌, arith}
 use Rattle.std.specs.Fmt.{decimal}
 use Rattle.std.proofs.lemmas.Fmt.{decimal_injective, decimal_is_IsNumeral}
 use Rattle.std.proofs.lemmas.Str.Parse.{digit_at}
+use Rattle.tile_paths.proofs.Alike.{parted}
 use Rattle.tile_paths.proofs.Numbers.{no_slash}
 use Rattle.tile_requests.specs.declared.targets.Kind.{Kind}
 use Rattle.tile_requests.specs.declared.targets.Kind.TheVariants as kind
@@ -12,20 +13,6 @@ use Rattle.tile_requests.specs.Laws.{OneTarget}
 -- no byte of the number is c, which is no digit
 pub no_end : (n c i : ℕ) → n < 2 ^ 32 → c < 48 → i < length (decimal n) → get_or (decimal n) i 0 ≢ c
 no_end n c i small low l e = let d = digit_at (decimal n) i (decimal_is_IsNumeral n (omega arith)).0.1 l in omega arith
-
--- no byte of a text is c
-abbrev Lacks : ℕ → List ℕ → Type 0
-Lacks c text = (i : ℕ) → i < length text → get_or text i 0 ≢ c
-
--- one text is found before the first byte c of another, and one behind it
-parted : (c : ℕ) (xs ys rest others : List ℕ) → Lacks c xs → Lacks c ys → xs ++ c ∷ rest ≡ ys ++ c ∷ others → (xs ≡ ys) × (rest ≡ others)
-parted c [] [] rest others f g e = (refl, ap (drop 1) e)
-parted c [] (y ∷ ys) rest others f g e = absurd (g 0 (omega arith) (sym (ap (λ l. get_or l 0 0) e)))
-parted c (x ∷ xs) [] rest others f g e = absurd (f 0 (omega arith) (ap (λ l. get_or l 0 0) e))
-parted c (x ∷ xs) (y ∷ ys) rest others f g e =
-    let same : x ≡ y = ap (λ l. get_or l 0 0) e in
-    let more = parted c xs ys rest others (λ i l. f (suc i) (omega arith)) (λ i l. g (suc i) (omega arith)) (ap (drop 1) e) in
-    (ap (λ a. a ∷ xs) same ∙ ap (λ l. y ∷ l) more.0, more.1)
 
 number_parted : (c m n : ℕ) (rest others : List ℕ) → c < 48 → m < 2 ^ 32 → n < 2 ^ 32 → decimal m ++ c ∷ rest ≡ decimal n ++ c ∷ others → (m ≡ n) × (rest ≡ others)
 number_parted c m n rest others low a b e =
