@@ -1,6 +1,7 @@
 -- Replies: one session as a reply comes for it, and all else.
 use Rattle.std.proofs.Common.{◌≡◌, ◌==◌, ◌<◌, ◌≤◌, ◌+◌, ℕ, Bool, true, false, ◌&&◌, ◌||◌, cond, List, [], ◌∷◌, ◌++◌, length, map, set, drop, Option, refl, sym, ap, subst, ◌∙◌, arith, nat_lt, append_assoc, length-append}
-use Rattle.std.proofs.lemmas.Bool.{lt-ltb, le-ltb, ltb-true}
+use Rattle.std.proofs.Math.Bool.{or-false}
+use Rattle.std.proofs.lemmas.Bool.{lt-ltb, le-ltb, ltb-true, or_parts}
 use Rattle.std.proofs.lemmas.List.{append-nil}
 use Rattle.farm_history.specs.Lists.{Each}
 use Rattle.farm_history.specs.Entries.{Entry, Collect}
@@ -25,7 +26,7 @@ use Rattle.front_rounds.specs.inner.Stands.{World, FateFits, Keeping, Counts, Si
 use Rattle.front_rounds.specs.inner.Stages.{IsAt, IsOffering, Settles, Passes, Holds, Overflows, Starves, AnswersOne, AnswersWorn, RepliesOne, Passed, Cuts, Answers, Collects, CanOffer, CutShort}
 use Rattle.front_rounds.proofs.Tables.{other, same, conns_set, conns_woken, each_set, each_none, each_woken, each_at}
 use Rattle.front_rounds.proofs.Rests.{at_put}
-use Rattle.front_rounds.proofs.Sitting.{clash, and_both, or_none, or_more, or_less, or_left, or_right, or_parts, none_said, within, beyond, due_grows, sits_as, others}
+use Rattle.front_rounds.proofs.Sitting.{clash, and_both, or_none, or_more, or_less, or_left, or_right, none_said, within, beyond, due_grows, sits_as, others}
 use Rattle.front_rounds.proofs.Heards.{holds_rest}
 use Rattle.front_rounds.proofs.Worlds.{settles_keys, settles_other}
 
@@ -252,11 +253,7 @@ module _ {A W T : Type 0} (R : Rules A W) (K : List ℕ → List (Move A) → T 
   owes_by : (r : Reply) (behind : List Entry) (p : Part A) (said : List ℕ) (owes : Bool) → R.says p.moves (Gets r behind) ≡ said → Counts R p
       → (owes ≡ true → must R p ≡ true) → (owes || (nat_lt 0 (length said) || false)) ≡ true → must R (got r behind p) ≡ true
   owes_by r behind p said true e n f h = must_more r behind p (f refl)
-  owes_by r behind p said false e n f h = must_said r behind p said e n (sym (or_false' (nat_lt 0 (length said))) ∙ h)
-    where
-      or_false' : (b : Bool) → (b || false) ≡ b
-      or_false' true = refl
-      or_false' false = refl
+  owes_by r behind p said false e n f h = must_said r behind p said e n (sym (or-false (nat_lt 0 (length said))) ∙ h)
 
   keeping_got : (told : Option PortsTold) (box box' : List (ℕ × List ℕ)) (p : Part A) (r : Reply) (behind : List Entry) (s s' : Session T) (said : List ℕ)
       → Say told box p r behind s s' said Stays → rest_in box' s'.conn ≡ rest_in box s'.conn ++ said → Keeping R K (got r behind p) s' (rest_in box' s'.conn)
@@ -401,9 +398,6 @@ module _ {A W T : Type 0} (R : Rules A W) (K : List ℕ → List (Move A) → T 
       })
       k refl (subst (λ c. Settles c h.said (worse s.fate h.fate) s'.fate box box') (sym h.conn) h.settles)
 
-  flip : (x c : ℕ) → (x ≡ c → ⊥) → c ≡ x → ⊥
-  flip x c n e = n (sym e)
-
   -- a Collect gave a reply, whatever became of its session
   got_by : (e : PortEvent) (start told : Option PortsTold) (ss : List (Step A)) (w : World T) (r : Reply) (behind : List Entry) (mine' : List Entry) (sessions : List (Session T))
       (box' : List (ℕ × List ℕ)) → Collects R K e start ss w → w.told ≡ told → mine' ≡ (w.mine ++ Collect R.number (collected.Reply r) ∷ []) ++ behind
@@ -440,7 +434,7 @@ module _ {A W T : Type 0} (R : Rules A W) (K : List ℕ → List (Move A) → T 
     got_by e start w.told ss w r [] mine' w.sessions w.box h refl (m ∙ sym (append-nil (w.mine ++ Collect R.number (collected.Reply r) ∷ [])))
         (alone r (part R ss r.conn.number).moves) refl refl
         (each_none (λ (s : Session T). Sits R K w.told w.box (part R ss s.conn) s) (λ (s : Session T). Sits R K w.told w.box (part R (Got r [] ∷ ss) s.conn) s) w.sessions r.conn.number
-        h.stands.each n (λ x ne q. subst (λ (v : Part A). Sits R K w.told w.box v x) (sym (other_part ss r [] x.conn (flip x.conn r.conn.number ne))) q)),
+        h.stands.each n (λ x ne q. subst (λ (v : Part A). Sits R K w.told w.box v x) (sym (other_part ss r [] x.conn (λ e. ne (sym e)))) q)),
   )
 
   -- a reply for a session, of which this became
@@ -456,7 +450,7 @@ module _ {A W T : Type 0} (R : Rules A W) (K : List ℕ → List (Move A) → T 
         (each_set (λ (x : Session T). Sits R K w.told w.box (part R ss x.conn) x) (λ (x : Session T). Sits R K w.told box' (part R (Got r behind ∷ ss) x.conn) x) w.sessions i s s' at
         h.stands.apart h.stands.each
         (λ x ne q. subst (λ (v : Part A). Sits R K w.told box' v x) (sym (other_part ss r behind x.conn (λ z. ne (sym z ∙ sym sc))))
-        (others R K w.told w.told w.box box' (part R ss x.conn) x q (rests x.conn (flip x.conn s.conn ne)) (λ o. o)))
+        (others R K w.told w.told w.box box' (part R ss x.conn) x q (rests x.conn (λ e. ne (sym e))) (λ o. o)))
         (subst (λ (v : Part A). Sits R K w.told box' v s') (sym (ap (λ d. part R (Got r behind ∷ ss) d) cs ∙ own_part ss r behind s.conn (sym sc))) sits)),
   )
 

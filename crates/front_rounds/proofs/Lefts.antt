@@ -91,9 +91,6 @@ module _ {A W T : Type 0} (R : Rules A W) (K : List ℕ → List (Move A) → T 
   asked_by told box p s reason.SentWhole h e = h.asked_all (ap asks_all e)
   asked_by told box p s reason.SendFailed h e = h.asked_all (ap asks_all e)
 
-  flip : (x c : ℕ) → (x ≡ c → ⊥) → c ≡ x → ⊥
-  flip x c n e = n (sym e)
-
   -- the connection of the session at this place is left
   pub left_one : (e : PortEvent) (stopped : Bool) (start told' : Option PortsTold) (w : World T) (i : ℕ) (s : Session T) (asks : ℕ) (why : Reason) (mine' : List Entry) (starved' : ℕ)
       → CanLeave R K e stopped start w → StandsAt w.sessions i s → s.fate ≡ Leaves why → mine' ≡ w.mine ++ Leave (record { front = R.number; number = s.conn }) asks ∷ []
@@ -126,7 +123,7 @@ module _ {A W T : Type 0} (R : Rules A W) (K : List ℕ → List (Move A) → T 
           counted = n ∙ ap (λ k. min (with_starved k why) (2 ^ 64 - 1)) st.counted ∙ counted_more (starved_in h.steps) why;
           apart = subst Apart (sym (conns_less w.sessions i s at st.apart)) (apart_remove (conns w.sessions) s.conn st.apart);
           each = each_less (λ (x : Session T). Sits R K w.told w.box (part R h.steps x.conn) x) (λ (x : Session T). Sits R K told' (without w.box s.conn) (part R h.steps x.conn) x) w.sessions i s at st.apart
-              st.each (λ x ne q. others R K w.told told' w.box (without w.box s.conn) (part R h.steps x.conn) x q (other_without w.box s.conn x.conn (flip x.conn s.conn ne))
+              st.each (λ x ne q. others R K w.told told' w.box (without w.box s.conn) (part R h.steps x.conn) x q (other_without w.box s.conn x.conn (λ e. ne (sym e)))
               (shut_open w.told told' s.conn x.conn (is_up (Leaves why)) sh.0 sh.1 ne));
         };
         time = leaving_at e stopped (phase h.steps) h.time;

@@ -1,5 +1,6 @@
 -- A connection is opened: it gets a session, or is closed.
 use Rattle.std.proofs.Common.{◌≡◌, ◌==◌, ◌<◌, ◌+◌, ◌-◌, ◌^◌, ℕ, suc, Bool, true, false, ◌&&◌, cond, List, [], ◌∷◌, ◌++◌, length, min, Option, Some, None, option_map, IfSome, refl, sym, ap, subst, ◌∙◌, arith, nat_lt}
+use Rattle.std.proofs.Math.Bool.{and-false}
 use Rattle.std.proofs.lemmas.Bool.{eqb-true, le-ltb}
 use Rattle.farm_history.specs.Entries.{Entry}
 use Rattle.port_trait.specs.declared.events.PortEvent.TheVariants as event
@@ -38,10 +39,6 @@ open_more : (o : Option PortsTold) (c d : ℕ) (piece : List ℕ) → (d ≡ c �
 open_more None c d piece n i = tt
 open_more (Some t) c d piece n i = ap (λ b. cond b true (t.is_open d)) (other d c n) ∙ i
 
-and_none : (b : Bool) → (b && false) ≡ false
-and_none true = refl
-and_none false = refl
-
 count_refused : (b : Bool) (n k starved : ℕ) → starved ≡ min n k → cond b (min (starved + 1) k) starved ≡ min (cond b (n + 1) n) k
 count_refused true n k starved e = ap (λ x. min (x + 1) k) e ∙ min_more n k
 count_refused false n k starved e = e
@@ -51,9 +48,6 @@ length_conns [] = refl
 length_conns (x ∷ xs) = ap (λ n. suc n) (length_conns xs)
 
 module _ {A W T : Type 0} (R : Rules A W) (K : List ℕ → List (Move A) → T → Type 0) where
-  flip : (x c : ℕ) → (x ≡ c → ⊥) → c ≡ x → ⊥
-  flip x c n e = n (sym e)
-
   -- it got no session
   pub refused : (c : ℕ) (piece : List ℕ) (start told told' : Option PortsTold) (w : World T) (starved' : ℕ) → (m : Comes R K (event.Opened c) piece start told w)
       → told' ≡ option_map (after_close c) told → starved' ≡ cond (nat_lt (length w.sessions) 1024) (min (w.starved + 1) (2 ^ 64 - 1)) w.starved
@@ -77,7 +71,7 @@ module _ {A W T : Type 0} (R : Rules A W) (K : List ℕ → List (Move A) → T 
           apart = st.apart;
           each = each_weaker (Resting R K w.told w.box m.steps) (λ (x : Session T). Sits R K told' w.box (part R ss x.conn) x) w.sessions
               (λ x q. subst (λ (v : Part A). Sits R K told' w.box v x)
-              (sym (ap (λ b. came R (event.Opened c) piece x.conn (cond b blank (part R m.steps x.conn))) (and_none (c == x.conn))))
+              (sym (ap (λ b. came R (event.Opened c) piece x.conn (cond b blank (part R m.steps x.conn))) (and-false (c == x.conn))))
               (roll_quiet R K w.told told' w.box (part R m.steps x.conn) x q.0 q.1
               (λ o. subst (IsOpen x.conn) (sym told_is) (still_open w.told c x.conn piece m.heard.0 o))))
               (resting R K (event.Opened c) piece start told w m);
@@ -129,7 +123,7 @@ module _ {A W T : Type 0} (R : Rules A W) (K : List ℕ → List (Move A) → T 
               (each_none (Resting R K w.told w.box m.steps) (λ (x : Session T). Sits R K told box' (part R ss x.conn) x) w.sessions c
               (resting R K (event.Opened c) piece start told w m) n
               (λ x ne q. subst (λ (v : Part A). Sits R K told box' v x)
-              (sym (ap (λ b. came R (event.Opened c) piece x.conn (cond (b && true) blank (part R m.steps x.conn))) (other c x.conn (flip x.conn c ne))))
+              (sym (ap (λ b. came R (event.Opened c) piece x.conn (cond (b && true) blank (part R m.steps x.conn))) (other c x.conn (λ e. ne (sym e)))))
               (others R K told told w.box box' (rolled R (part R m.steps x.conn).given false false false (part R m.steps x.conn)) x
               (roll_quiet R K w.told told w.box (part R m.steps x.conn) x q.0 q.1
               (λ o. subst (IsOpen x.conn) (sym m.heard.1) (open_more w.told c x.conn piece ne o)))

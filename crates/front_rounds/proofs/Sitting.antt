@@ -1,5 +1,6 @@
 -- One session, as something happens to it.
-use Rattle.std.proofs.Common.{◌≡◌, ◌<◌, ◌≤◌, ◌+◌, ℕ, Bool, true, false, ◌&&◌, ◌||◌, List, [], ◌∷◌, ◌++◌, length, drop, Option, Some, None, option_map, refl, sym, ap, subst, ◌∙◌, arith, nat_lt, length-append}
+use Rattle.std.proofs.Common.{◌≡◌, ◌<◌, ◌≤◌, ◌+◌, ℕ, Bool, true, false, not, ◌&&◌, ◌||◌, List, [], ◌∷◌, ◌++◌, length, drop, Option, Some, None, option_map, refl, sym, ap, subst, ◌∙◌, arith, nat_lt, length-append}
+use Rattle.std.proofs.Math.Bool.{and_assoc}
 use Rattle.std.proofs.lemmas.Bool.{ltb-false, lt-ltb, le-ltb}
 use Rattle.std.proofs.lemmas.Bool.Decides.{nat_tests}
 use Rattle.std.proofs.lemmas.List.{drop-append-le, length-drop}
@@ -23,14 +24,6 @@ pub or_none : (b c : Bool) → b ≡ false → c ≡ false → (b || c) ≡ fals
 or_none true c h k = clash h
 or_none false c h k = k
 
-pub or_false : (b : Bool) → (b || false) ≡ b
-or_false true = refl
-or_false false = refl
-
-pub or_assoc : (a b c : Bool) → (a || (b || c)) ≡ ((a || b) || c)
-or_assoc true b c = refl
-or_assoc false b c = refl
-
 pub or_more : (a b b' : Bool) → (b ≡ true → b' ≡ true) → (a || b) ≡ true → (a || b') ≡ true
 or_more true b b' f h = refl
 or_more false b b' f h = f h
@@ -53,17 +46,13 @@ pub and_both : (a b : Bool) → a ≡ true → b ≡ true → (a && b) ≡ true
 and_both true b h k = k
 and_both false b h k = clash (sym h)
 
-pub and_assoc : (a b c : Bool) → (a && (b && c)) ≡ ((a && b) && c)
-and_assoc true b c = refl
-and_assoc false b c = refl
-
 pub or_cases : (a b : Bool) → (a || b) ≡ true → (a ≡ false → b ≡ true)
 or_cases true b h e = clash e
 or_cases false b h e = h
 
-pub or_parts : (a b : Bool) → (a || b) ≡ false → (a ≡ false) × (b ≡ false)
-or_parts true b h = clash h
-or_parts false b h = (refl, h)
+pub lost_up : (b : Bool) → not (b || true) ≡ false
+lost_up true = refl
+lost_up false = refl
 
 -- what is told of one connection stays
 pub open_map : (o : Option PortsTold) (f : PortsTold → PortsTold) (c : ℕ) → ((t : PortsTold) → (f t).is_open c ≡ t.is_open c) → IsOpen c o → IsOpen c (option_map f o)
@@ -112,7 +101,7 @@ module _ {A W : Type 0} (R : Rules A W) where
   pub whole_acts : (acts : List A) (ms : List (Move A)) → each_whole R (does acts ++ ms) ≡ (wholes acts ms && each_whole R ms)
   whole_acts [] ms = refl
   whole_acts (a ∷ acts) ms =
-      ap (λ b. R.whole (does acts ++ ms) (Does a) && b) (whole_acts acts ms) ∙ and_assoc (R.whole (does acts ++ ms) (Does a)) (wholes acts ms) (each_whole R ms)
+      ap (λ b. R.whole (does acts ++ ms) (Does a) && b) (whole_acts acts ms) ∙ sym (and_assoc (R.whole (does acts ++ ms) (Does a)) (wholes acts ms) (each_whole R ms))
 
   -- after these requests
   abbrev pub moved_by : List A → Part A → Part A

@@ -37,7 +37,7 @@ tail_off false t h = h
 pub not_first : (c d : ℕ) (cs : List ℕ) → has (d ∷ cs) c ≡ false → (d ≡ c → ⊥) × (has cs c ≡ false)
 not_first c d cs h = (differs d c (head_off (d == c) (has cs c) h), tail_off (d == c) (has cs c) h)
 
-has_more : (b t : Bool) → t ≡ true → cond b true t ≡ true
+pub has_more : (b t : Bool) → t ≡ true → cond b true t ≡ true
 has_more true t h = refl
 has_more false t h = h
 

@@ -1,5 +1,6 @@
 -- What the ports tell of a connection after the steps.
 use Rattle.std.proofs.Common.{◌≡◌, ◌==◌, ◌≤◌, ◌+◌, ℕ, Bool, true, false, not, ◌&&◌, ◌||◌, cond, List, [], ◌∷◌, ◌++◌, length, take, Option, Some, None, IfSome, refl, sym, ap, subst, ◌∙◌, arith, append_assoc, length-append}
+use Rattle.std.proofs.Math.Bool.{and-false}
 use Rattle.std.proofs.lemmas.Bool.{eqb-true}
 use Rattle.std.proofs.lemmas.List.{append-nil, take-append-le, length-drop}
 use Rattle.std.proofs.Math.Seq.{take-add}
@@ -12,8 +13,8 @@ use Rattle.front_rounds.specs.Parts.{Part, part, due, came, after_move, with_try
 use Rattle.front_rounds.specs.Rounds.{Sound, AllKept, OpensNew}
 use Rattle.front_rounds.specs.Serving.{TellsOf}
 use Rattle.front_rounds.specs.inner.Sessions.{Apart}
-use Rattle.front_rounds.proofs.Tables.{same, flipped, apart_snoc, apart_remove}
-use Rattle.front_rounds.proofs.Sitting.{clash}
+use Rattle.front_rounds.proofs.Tables.{same, flipped, has_more, apart_snoc, apart_remove}
+use Rattle.front_rounds.proofs.Sitting.{clash, lost_up}
 
 nil_front : (xs ys : List ℕ) → xs ++ ys ≡ [] → xs ≡ []
 nil_front [] ys h = refl
@@ -23,19 +24,11 @@ and_true : (b : Bool) → (b && true) ≡ b
 and_true true = refl
 and_true false = refl
 
-and_false : (b : Bool) → (b && false) ≡ false
-and_false true = refl
-and_false false = refl
-
 -- ---- lists of connections
-
-first_or : (b v : Bool) → v ≡ true → cond b true v ≡ true
-first_or true v h = refl
-first_or false v h = h
 
 has_last : (cs : List ℕ) (c d : ℕ) → (d == c) ≡ true → has (cs ++ d ∷ []) c ≡ true
 has_last [] c d h = ap (λ b. cond b true false) h
-has_last (x ∷ cs) c d h = first_or (x == c) (has (cs ++ d ∷ []) c) (has_last cs c d h)
+has_last (x ∷ cs) c d h = has_more (x == c) (has (cs ++ d ∷ []) c) (has_last cs c d h)
 
 has_before : (cs : List ℕ) (c d : ℕ) → (d == c) ≡ false → has (cs ++ d ∷ []) c ≡ has cs c
 has_before [] c d h = ap (λ b. cond b true false) h
@@ -242,7 +235,7 @@ module _ {A W : Type 0} (R : Rules A W) where
     where
       by_test : (b : Bool) → (d == c) ≡ b → cond (c == d) false (t.is_open c) ≡ (has (there ss) c && not ((d == c) || false))
       by_test true e =
-          ap (λ v. cond v false (t.is_open c)) (ap (λ x. c == x) (eqb-true d c e) ∙ same c) ∙ sym (and_false (has (there ss) c)) ∙ ap (λ v. has (there ss) c && not (v || false)) (sym e)
+          ap (λ v. cond v false (t.is_open c)) (ap (λ x. c == x) (eqb-true d c e) ∙ same c) ∙ sym (and-false (has (there ss) c)) ∙ ap (λ v. has (there ss) c && not (v || false)) (sym e)
       by_test false e =
           ap (λ v. cond v false (t.is_open c)) (flipped d c e) ∙ h c refl ∙ sym (and_true (has (there ss) c)) ∙ ap (λ v. has (there ss) c && not (v || false)) (sym e)
   open_came ss (event.Bytes d) piece kept t c m h = h c refl ∙ sym (and_true (has (there ss) c))
@@ -261,10 +254,6 @@ module _ {A W : Type 0} (R : Rules A W) where
   open_called true p = refl
   open_called false p = refl
 
-  lost_not : (b : Bool) → not (b || true) ≡ false
-  lost_not true = refl
-  lost_not false = refl
-
   open_try : (t : PortsTold) (c d : ℕ) (taken : Option ℕ) (bytes : List ℕ) (p : Part A) (x : Bool) → (d ≡ c → p.failed ≡ false) → t.is_open c ≡ (x && is_open p)
       → (after_send d bytes (send_answer taken) t).is_open c ≡ (x && is_open (cond (d == c) (with_try R taken p) p))
   open_try t c d (Some n) bytes p x f h = by_test (d == c) refl
@@ -276,7 +265,7 @@ module _ {A W : Type 0} (R : Rules A W) where
     where
       by_test : (b : Bool) → (d == c) ≡ b → cond (c == d) false (t.is_open c) ≡ (x && is_open (cond b (with_try R None p) p))
       by_test true e =
-          ap (λ v. cond v false (t.is_open c)) (ap (λ v. c == v) (eqb-true d c e) ∙ same c) ∙ sym (and_false x) ∙ ap (λ v. x && v) (sym (lost_not p.lost))
+          ap (λ v. cond v false (t.is_open c)) (ap (λ v. c == v) (eqb-true d c e) ∙ same c) ∙ sym (and-false x) ∙ ap (λ v. x && v) (sym (lost_up p.lost))
       by_test false e = ap (λ v. cond v false (t.is_open c)) (flipped d c e) ∙ h
 
   open_left : (ss : List (Step A)) (t : PortsTold) (c d : ℕ) → Apart (there ss) → t.is_open c ≡ (has (there ss) c && is_open (part R ss c))
@@ -285,7 +274,7 @@ module _ {A W : Type 0} (R : Rules A W) where
     where
       closes : (b : Bool) → t.is_open c ≡ (has (there ss) c && b) → (cond b (after_close c t) t).is_open c ≡ false
       closes true k = ap (λ v. cond v false (t.is_open c)) (same c)
-      closes false k = k ∙ and_false (has (there ss) c)
+      closes false k = k ∙ and-false (has (there ss) c)
 
       stays : (b : Bool) → (d == c) ≡ false → (cond b (after_close d t) t).is_open c ≡ t.is_open c
       stays true e = ap (λ v. cond v false (t.is_open c)) (flipped d c e)

@@ -23,7 +23,7 @@ use Rattle.front_rounds.specs.inner.Stands.{World, FateFits, Counts, Sits}
 use Rattle.front_rounds.specs.inner.Stages.{IsOffering, OwesNone, OffersOne, Idle, Gives_it, Gives, fate_after, part_or_all, CanOffer, CanLeave}
 use Rattle.front_rounds.proofs.Tables.{other, same, has_at, conns_set, each_set, each_at, each_snoc}
 use Rattle.front_rounds.proofs.Rests.{at_put, other_put, keys_put}
-use Rattle.front_rounds.proofs.Sitting.{clash, and_both, no_bytes, sits_as, others}
+use Rattle.front_rounds.proofs.Sitting.{clash, and_both, lost_up, no_bytes, sits_as, others}
 use Rattle.front_rounds.proofs.Heards.{holds_rest}
 use Rattle.front_rounds.proofs.Worlds.{told_more, open_by}
 use Rattle.front_rounds.proofs.Gots.{keeps_up, keeps_asks}
@@ -45,10 +45,6 @@ ends_at e stopped (Leaving f x) h = absurd h
 and_false : (a b : Bool) → b ≡ false → (a && b) ≡ false
 and_false true b h = h
 and_false false b h = refl
-
-lost_up : (b : Bool) → not (b || true) ≡ false
-lost_up true = refl
-lost_up false = refl
 
 unlost : (a b : Bool) → not (a || b) ≡ true → not (a || false) ≡ true
 unlost true b h = h
@@ -154,9 +150,6 @@ module _ {A W T : Type 0} (R : Rules A W) (K : List ℕ → List (Move A) → T 
       sits_as R K told box p (given s (Leaves reason.Starved)) (Leaves reason.Starved) refl h.rest_there
       (λ _. h.opening (keeps_up s.fate k)) (h.up ∙ keeps_up s.fate k) h.counts (λ q. clash (sym q)) (h.keeping k).running (λ q. clash (sym q))
 
-  flip : (x c : ℕ) → (x ≡ c → ⊥) → c ≡ x → ⊥
-  flip x c n e = n (sym e)
-
   -- one session changed, and no step was made
   unstepped : (e : PortEvent) (stopped : Bool) (start : Option PortsTold) (w : World T) (i : ℕ) (s s' : Session T) → (h : CanOffer R K e stopped start w) → StandsAt w.sessions i s
       → s'.conn ≡ s.conn → Sits R K w.told w.box (part R h.steps s.conn) s'
@@ -208,8 +201,8 @@ module _ {A W T : Type 0} (R : Rules A W) (K : List ℕ → List (Move A) → T 
           each = each_set (λ (x : Session T). Sits R K w.told w.box (part R h.steps x.conn) x) (λ (x : Session T). Sits R K told' box' (part R ss x.conn) x) w.sessions i s s' at st.apart
               st.each
               (λ x ne q. subst (λ (v : Part A). Sits R K told' box' v x)
-              (sym (ap (λ b. cond b (with_try R taken (part R h.steps x.conn)) (part R h.steps x.conn)) (other s.conn x.conn (flip x.conn s.conn ne))))
-              (others R K w.told told' w.box box' (part R h.steps x.conn) x q (rests x.conn (flip x.conn s.conn ne)) (opens x.conn (flip x.conn s.conn ne))))
+              (sym (ap (λ b. cond b (with_try R taken (part R h.steps x.conn)) (part R h.steps x.conn)) (other s.conn x.conn (λ e. ne (sym e)))))
+              (others R K w.told told' w.box box' (part R h.steps x.conn) x q (rests x.conn (λ e. ne (sym e))) (opens x.conn (λ e. ne (sym e)))))
               (subst (λ (v : Part A). Sits R K told' box' v s')
               (sym (ap (λ d. part R ss d) sc ∙ ap (λ b. cond b (with_try R taken (part R h.steps s.conn)) (part R h.steps s.conn)) (same s.conn))) sits);
         };

@@ -1,5 +1,6 @@
 -- A step more: what all sessions and all else make of it.
 use Rattle.std.proofs.Common.{◌≡◌, ◌==◌, ◌-◌, ◌^◌, ℕ, true, false, Bool, ◌&&◌, ◌||◌, IfSome, cond, List, [], ◌∷◌, ◌++◌, length, map, min, set, Option, Some, None, option_map, refl, sym, ap, subst, ◌∙◌, append_assoc, inl, inr, ◌⊎◌}
+use Rattle.std.proofs.Math.Bool.{or_assoc, and_assoc}
 use Rattle.farm_history.specs.Lists.{Each}
 use Rattle.farm_history.specs.Entries.{Entry}
 use Rattle.port_trait.specs.declared.events.PortEvent.{PortEvent}
@@ -19,7 +20,7 @@ use Rattle.front_rounds.specs.inner.Stands.{World, world, IsAtRest, Sits, Stands
 use Rattle.front_rounds.specs.inner.Stages.{IsAt, Settles, Passes, Holds, Overflows, Starves, HearsOne, HearsWorn, Comes, HasBegun, CutShort, marked, MarksAt, Absent, Marks}
 use Rattle.front_rounds.proofs.Tables.{same, other, conns_set, conns_woken, each_set, each_none, each_weaker, each_both, each_woken, each_conn, each_at}
 use Rattle.front_rounds.proofs.Rests.{other_put, keys_put}
-use Rattle.front_rounds.proofs.Sitting.{clash, or_assoc, and_assoc, open_map, rolled, wholes, moved_by, others, calm_of, kept_of, roll_quiet, roll_called, roll_ended, roll_lost}
+use Rattle.front_rounds.proofs.Sitting.{clash, open_map, rolled, wholes, moved_by, others, calm_of, kept_of, roll_quiet, roll_called, roll_ended, roll_lost}
 use Rattle.front_rounds.proofs.Heards.{heard_of, heard_sits}
 
 map_map : (o : Option PortsTold) (f g : PortsTold → PortsTold) → option_map f (option_map g o) ≡ option_map (λ t. f (g t)) o
@@ -152,9 +153,9 @@ module _ {A W : Type 0} (R : Rules A W) where
   moved_once : (a : A) (acts : List A) (p : Part A) → after_move R (Does a) (moved_by R acts p) ≡ moved_by R (a ∷ acts) p
   moved_once a acts p =
       ap (λ b. record p { moves = Does a ∷ (does acts ++ p.moves); starved = b; complete = R.whole (does acts ++ p.moves) (Does a) && (wholes R acts p.moves && p.complete) })
-      (or_assoc (R.starves (Does a)) (any_starves R (does acts)) p.starved)
+      (sym (or_assoc (R.starves (Does a)) (any_starves R (does acts)) p.starved))
       ∙ ap (λ b. record p { moves = Does a ∷ (does acts ++ p.moves); starved = any_starves R (does (a ∷ acts)) || p.starved; complete = b })
-      (and_assoc (R.whole (does acts ++ p.moves) (Does a)) (wholes R acts p.moves) p.complete)
+      (sym (and_assoc (R.whole (does acts ++ p.moves) (Does a)) (wholes R acts p.moves) p.complete))
 
   part_dids : (c : ℕ) (acts : List A) (ss : List (Step A)) → part R (dids c acts ++ ss) c ≡ moved_by R acts (part R ss c)
   part_dids c [] ss = refl
@@ -251,9 +252,6 @@ module _ {A W T : Type 0} (R : Rules A W) (K : List ℕ → List (Move A) → T 
       subst (λ (q : Part A). Sits R K told w.box q x) (sym is)
       (roll_quiet R K w.told told w.box (part R m.steps x.conn) x r.0 r.1 (open_by w.told told (heard e piece) x.conn m.heard.1 op))
 
-  flip : (x c : ℕ) → (x ≡ c → ⊥) → c ≡ x → ⊥
-  flip x c n e = n (sym e)
-
   -- a piece came on a connection that is not there
   pub bytes_none : (c : ℕ) (piece : List ℕ) (start told : Option PortsTold) (w : World T) → (m : Comes R K (event.Bytes c) piece start told w)
       → has (conns w.sessions) c ≡ false → HasBegun R K (event.Bytes c) start (record w { told = told })
@@ -262,7 +260,7 @@ module _ {A W T : Type 0} (R : Rules A W) (K : List ℕ → List (Move A) → T 
     stands = begun (event.Bytes c) piece start told w w.sessions m tt tt refl
         (each_none (Resting w.told w.box m.steps) (λ (s : Session T). Sits R K told w.box (part R (Came (event.Bytes c) piece false ∷ m.steps) s.conn) s) w.sessions c
         (resting (event.Bytes c) piece start told w m) n
-        (λ x ne r. quiet (event.Bytes c) piece start told w m x r (quiet_bytes R (part R m.steps x.conn) piece c x.conn (flip x.conn c ne)) (λ t. refl)));
+        (λ x ne r. quiet (event.Bytes c) piece start told w m x r (quiet_bytes R (part R m.steps x.conn) piece c x.conn (λ e. ne (sym e))) (λ t. refl)));
     time = refl;
   }
 
@@ -296,10 +294,10 @@ module _ {A W T : Type 0} (R : Rules A W) (K : List ℕ → List (Move A) → T 
           each = each_set (Resting w.told w.box m.steps) (λ (x : Session T). Sits R K told box' (part R (dids R s.conn hd.acts ++ ss) x.conn) x) w.sessions i s s' at st.apart
               (resting (event.Bytes c) piece start told w m)
               (λ x ne q. subst (λ (v : Part A). Sits R K told box' v x)
-              (sym (part_others R s.conn hd.acts ss x.conn (flip x.conn s.conn ne) ∙ quiet_bytes R (part R m.steps x.conn) piece c x.conn (λ e. ne (sym (sc ∙ e)))))
+              (sym (part_others R s.conn hd.acts ss x.conn (λ e. ne (sym e)) ∙ quiet_bytes R (part R m.steps x.conn) piece c x.conn (λ e. ne (sym (sc ∙ e)))))
               (others R K told told w.box box' (rolled R (part R m.steps x.conn).given false false false (part R m.steps x.conn)) x
               (roll_quiet R K w.told told w.box (part R m.steps x.conn) x q.0 q.1 (opens x.conn))
-              (settles_other s.conn h.said h.fate s'.fate w.box box' x.conn h.settles (flip x.conn s.conn ne)) (λ o. o)))
+              (settles_other s.conn h.said h.fate s'.fate w.box box' x.conn h.settles (λ e. ne (sym e))) (λ o. o)))
               (subst (λ (v : Part A). Sits R K told box' v s')
               (sym (ap (λ d. part R (dids R s.conn hd.acts ++ ss) d) h.conn ∙ part_dids R s.conn hd.acts ss ∙ ap (moved_by R hd.acts) part_is))
               (heard_sits R K w.told told w.box box' p s s' piece w.mine mine' r.0 r.1 (opens s.conn) h));
