@@ -16,7 +16,7 @@ use Rattle.tile_pages.specs.declared.talks.Talk.{Talk}
 use Rattle.tile_pages.specs.Talks.{is_reading, is_answered, waits_in}
 use Rattle.tile_pages.specs.Tiles.{Asks, Wants, want, entries_of, whole_act, is_answer, starves_act, ends, wishes, rules_of, Knows}
 use Rattle.tile_pages.specs.Steps.{WhyOf, IsIdle, DidWish, DoesWish}
-use Rattle.tile_pages.proofs.Wishes.{asked_is, asks_stay, open_all, shown_twice, reading_unanswered}
+use Rattle.tile_pages.proofs.Wishes.{asked_is, asks_stay, no_both, open_all, shown_twice, reading_unanswered}
 
 module _ (front : ℕ) (maps : List ℕ → Option ℕ) where
   -- the one wish that was asked, and what the bytes ask
@@ -51,9 +51,6 @@ module _ (front : ℕ) (maps : List ℕ → Option ℕ) where
         whole = λ k. whole;
         knows = λ k. record { head = λ e. absurd (no_both (is_reading talk.stage) e idle); once = knows.once; waits = knows.waits; ends = knows.ends };
       }
-    where
-      no_both : (b : Bool) → b ≡ true → b ≡ false → ⊥
-      no_both b e f = cc
 
   -- nothing was done, for want of memory or as all turns are drawn
   pub hears_starved : (c : ℕ) (piece : List ℕ) (mine mine' : List Entry) (talk talk' : Talk) (said : List ℕ) (fate : Fate) → is_reading talk.stage ≡ true
@@ -101,9 +98,6 @@ module _ (front : ℕ) (maps : List ℕ → Option ℕ) where
           ends = knows.ends ∙ ap is_answered (sym same);
         };
       }
-    where
-      no_both : (b : Bool) → b ≡ true → b ≡ false → ⊥
-      no_both b e f = cc
 
   -- why a session goes on or is left, of one act alone
   why_heard : (given : List ℕ) (a : Act) (fate : Fate) → WhyOf (starves_act a) fate → HeardWhy (rules_of front maps) given (Does a ∷ []) fate
@@ -148,9 +142,6 @@ module _ (front : ℕ) (maps : List ℕ → Option ℕ) where
           ends = ap (λ (b : Bool). is_answer a || b) unanswered ∙ or-false (is_answer a) ∙ did.ends k;
         };
       }
-    where
-      no_both : (b : Bool) → b ≡ true → b ≡ false → ⊥
-      no_both b e f = cc
 
   pub hears_wish : (c : Conn) (piece : List ℕ) (w : Wish) (mine mine' : List Entry) (talk talk' : Talk) (said : List ℕ) (fate : Fate) → c.front ≡ front
       → is_reading talk.stage ≡ true → (length talk.head.items ≤ 8192 → talk'.head.items ≡ bytes_read (talk.head.items ++ piece))

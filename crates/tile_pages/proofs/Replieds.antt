@@ -1,5 +1,5 @@
 -- Taking a reply, by cases.
-use Rattle.std.proofs.Common.{◌≡◌, ℕ, List, [], ◌∷◌, Bool, true, false, ◌||◌, Option, Some, None, inl, inr, refl, sym, ap, subst, ◌∙◌, append-nil}
+use Rattle.std.proofs.Common.{◌≡◌, ℕ, List, [], ◌∷◌, true, false, ◌||◌, Option, Some, None, inl, inr, refl, sym, ap, subst, ◌∙◌, append-nil}
 use Rattle.std.specs.Option.{is_none}
 use Rattle.std.proofs.lemmas.Bool.{or_right, false≢true}
 use Rattle.farm_history.specs.Entries.{Entry, Fetch}
@@ -18,7 +18,7 @@ use Rattle.tile_pages.specs.declared.talks.Stage.TheVariants.{Answered}
 use Rattle.tile_pages.specs.Talks.{is_reading, is_answered, waits_in, spot_at}
 use Rattle.tile_pages.specs.Tiles.{fits_behind, is_no_memory, waiting, rules_of, Knows}
 use Rattle.tile_pages.specs.Steps.{WhyOf, IsIdle, DidFetch, Fetches}
-use Rattle.tile_pages.proofs.Wishes.{same_self, unless_other, unless_that, waiting_read}
+use Rattle.tile_pages.proofs.Wishes.{no_both, same_self, unless_other, unless_that, waiting_read}
 
 module _ (front : ℕ) (maps : List ℕ → Option ℕ) where
   -- no request waits for the reply
@@ -74,9 +74,6 @@ module _ (front : ℕ) (maps : List ℕ → Option ℕ) where
           ends = ap is_answered (sym stage);
         };
       }
-    where
-      no_both : (b : Bool) → b ≡ true → b ≡ false → ⊥
-      no_both b e f = cc
 
   -- nothing was fetched, as all turns are drawn
   replies_worn : (reply : Reply) (mine mine' : List Entry) (talk talk' : Talk) (said : List ℕ) (fate : Fate) → IsIdle mine mine' fate

@@ -16,6 +16,10 @@ use Rattle.tile_pages.specs.declared.talks.Stage.TheVariants.{Reading, Waiting, 
 use Rattle.tile_pages.specs.Talks.{is_reading, is_answered, waits_in, spot_at}
 use Rattle.tile_pages.specs.Tiles.{GetsSpot, wish_of, Asks, want, wishes, still_waits, same_map, same_spot, rules_of}
 
+-- no test is passed and failed
+pub no_both : (b : Bool) → b ≡ true → b ≡ false → ⊥
+no_both b e f = cc
+
 -- what was asked hangs on no map
 pub asked_is : (front : ℕ) (maps : List ℕ → Option ℕ) (ms : List (Move Act)) → wants_of (rules_of front maps) ms ≡ wishes ms
 asked_is front maps [] = refl
