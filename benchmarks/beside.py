@@ -302,4 +302,5 @@ def main():
             print(row % (name, z, number(got["mapnik"]), number(got["raw"]), number(got["ours"]), ratio(got["mapnik"], got["ours"]), ratio(got["ours"], got["raw"]), peak), flush=True)
 
 
-main()
+if __name__ == "__main__":
+    main()
