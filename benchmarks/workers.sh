@@ -1,5 +1,5 @@
 #!/usr/bin/env bash
-# How the workers of a farm scale, with no sockets, no client and no disk: metatiles a second with 1, 2 and 4 workers.
+# How the workers of a farm scale, with no sockets, no client and no store: metatiles a second with 1, 2 and 4 workers.
 #
 #   benchmarks/workers.sh [quick]        (with `quick` a tenth of the rounds)
 #
@@ -44,7 +44,7 @@ PYTHON
 
 # The metatiles a second of one run with tiles of so many pixels, over so many features, with so many workers.
 rate() {
-    local rounds=3
+    local rounds=6
     [ "$1" = 256 ] || rounds=40
     (cd "$folder" && "$program" "farm$1_$2_$3.json" $(((rounds + part - 1) / part))) | sed -n 's/.* \([0-9]*\) a second$/\1/p'
 }

@@ -5,6 +5,7 @@ ghost use Rattle.turn_cell.specs.SeatStates.{IsSeatOf, first_of};
 ghost use Rattle.work_bench.specs.Crew.{IsActor};
 
 use crate::feeding::{Rounds, feed};
+use crate::stores::NoStore;
 use crossbeam_utils::sync::{Parker, Unparker};
 use farm_base::{Bells, NoBell, NoMemory, OpenGate};
 use farm_core::Farm;
@@ -17,7 +18,7 @@ use std::rt::Clock;
 use std::sync::Wait;
 use std::thread::{Threads, for_each_mut};
 use std::time::Duration;
-use tile_store::{MemStore, TileStore};
+use tile_store::TileStore;
 
 /// A thread for each of more actors than there may be.
 const THREADS: usize = 32;
@@ -39,17 +40,13 @@ pub struct Actor<S> {
     pub took: Option<Duration>,
 }
 
-/// A shared farm of the plan over an empty store, and its first seat.
+/// A shared farm of the plan, and its first seat.
 #[tactic(auto, using(crate::proofs::Shares::is_short))]
-fn share(alloc: Global, plan: FarmPlan) -> Option<(SharedFarm<MemStore>, Seat<MemStore>)>
+fn share(alloc: Global, plan: FarmPlan) -> Option<(SharedFarm<NoStore>, Seat<NoStore>)>
     requires { IsPlan plan }
     ensures { IfSome result (λ made. IsSeatOf made.0 made.1 × (made.1 ≡ first_of made.0)) }
 {
-    let Ok(store) = MemStore::new(alloc, Vec::new(alloc), Vec::new(alloc), Vec::new(alloc)) else {
-        drop(plan);
-        return None;
-    };
-    let Ok(farm) = Farm::start(alloc, plan, store) else {
+    let Ok(farm) = Farm::start(alloc, plan, NoStore) else {
         return None;
     };
     SharedFarm::new(alloc, farm).ok()
@@ -65,11 +62,11 @@ fn nap_for(alloc: Global, sleepers: &mut Vec<Unparker>) -> Result<Parker, NoMemo
 /// The feeder and so many workers, with seats that are split from the first.
 fn actors_of(
     alloc: Global,
-    farm: &SharedFarm<MemStore>,
-    first: &mut Seat<MemStore>,
+    farm: &SharedFarm<NoStore>,
+    first: &mut Seat<NoStore>,
     sleepers: &mut Vec<Unparker>,
     count: u32,
-) -> Option<Vec<Actor<Seat<MemStore>>>>
+) -> Option<Vec<Actor<Seat<NoStore>>>>
     requires seat { IsSeatOf farm.now first.old }
     requires first { first.old ≡ first_of farm.now }
     ensures { IfSome result (λ actors. All (λ a. IsActor farm.now a) actors.items) }
@@ -152,8 +149,8 @@ fn act_all<R: Threads + Wait + Clock + Sync, D: TileStore + Send>(
 fn run_shared<R: Threads + Wait + Clock + Sync>(
     rt: &R,
     alloc: Global,
-    farm: &SharedFarm<MemStore>,
-    first: &mut Seat<MemStore>,
+    farm: &SharedFarm<NoStore>,
+    first: &mut Seat<NoStore>,
     count: u32,
     rounds: Rounds,
 ) -> Option<Duration>

@@ -1,9 +1,9 @@
-//! How many metatiles a second the workers of a shared farm draw, with no sockets, no client and no disk.
+//! How many metatiles a second the workers of a shared farm draw, with no sockets, no client and no store.
 //!
-//! `work_bench CONFIG ROUNDS` runs a farm of that configuration over a store in memory: a feeder and the workers,
-//! each in a thread of its own. In each round the feeder expires the world and then asks for the metatiles of zooms
-//! 14 to 11 at the middle of the world, on every map, as many at once as may wait, until all are answered Done. The
-//! time is that of all rounds, from the first ask to the last reply.
+//! `work_bench CONFIG ROUNDS` runs a farm of that configuration over a store that keeps nothing: a feeder and the
+//! workers, each in a thread of its own. In each round the feeder expires the world and then asks for the metatiles
+//! of zooms 14 to 11 at the middle of the world, on every map, as many at once as may wait, until all are answered
+//! Done. The time is that of all rounds, from the first ask to the last reply.
 #![tactic(auto)]
 
 ghost use Rattle.std.specs.Prelude.{◌<◌};
@@ -12,6 +12,7 @@ ghost use Rattle.farm_plan.specs.Plans.{IsPlan};
 mod crew;
 mod feeding;
 mod plans;
+mod stores;
 
 use crate::crew::run;
 use crate::feeding::Rounds;

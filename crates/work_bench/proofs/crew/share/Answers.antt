@@ -1,5 +1,5 @@
 use Rattle.work_bench.proofs.Shares.{may_share}
 use Rattle.work_bench.proofs.crew.share.Goals as goal
 
-pub new-requires-5-clause-stands : goal.new-requires-5-clause-stands
-new-requires-5-clause-stands c = may_share _ c.args.plan c.in-Ok.store c.in-Ok-start.farm c.in-Ok-start.ensures.begins
+pub new-requires-clause-stands : goal.new-requires-clause-stands
+new-requires-clause-stands c = may_share _ c.args.plan _ c.in-Ok.farm c.in-Ok.ensures.begins
