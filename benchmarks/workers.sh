@@ -16,7 +16,7 @@ part=1
 
 if [ ! -x "$program" ]; then
     echo "workers.sh: building work_bench (the first time takes some minutes)" >&2
-    (cd "$top/crates/work_bench" && PATH="$PATH:/opt/rattle/bin" rt run </dev/null >/dev/null 2>&1) || [ -x "$program" ]
+    (cd "$top/crates/work_bench" && PATH="$PATH:/opt/rattle/bin" rt run </dev/null >/dev/null)
 fi
 folder="$(mktemp -d)"
 trap 'rm -rf "$folder"' EXIT

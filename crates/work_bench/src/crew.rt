@@ -59,7 +59,7 @@ fn nap_for(alloc: Global, sleepers: &mut Vec<Unparker>) -> Result<Parker, NoMemo
     Ok(nap)
 }
 
-/// The feeder and so many workers, with seats that are split from the first.
+/// So many actors, with seats that are split from the first.
 fn actors_of(
     alloc: Global,
     farm: &SharedFarm<NoStore>,
