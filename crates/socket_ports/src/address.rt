@@ -7,7 +7,7 @@ use std::{fs, io, rt};
 
 /// Listens at `tcp:a.b.c.d:port` or at `unix:` and a path, which is not empty: the system takes an empty
 /// one for a name of its own choice.
-pub fn listen<R: Net + rt::Files>(rt: &R, address: &str) -> io::Result<Listener> {
+pub(crate) fn listen<R: Net + rt::Files>(rt: &R, address: &str) -> io::Result<Listener> {
     if let Some(place) = address.strip_prefix("tcp:") {
         let Ok(place) = place.parse::<SocketAddrV4>() else {
             return Err(io::Error::from(io::ErrorKind::InvalidInput));

@@ -51,7 +51,7 @@ fn is_passing(error: &io::Error) -> bool {
 
 impl Link {
     /// A connection of this number whose readiness to read is asked for.
-    pub fn new(conn: u32, mut stream: Stream, registry: &Registry) -> io::Result<Link> {
+    pub(crate) fn new(conn: u32, mut stream: Stream, registry: &Registry) -> io::Result<Link> {
         stream.register(registry, Token(conn as usize))?;
         Ok(Link {
             conn,
@@ -66,13 +66,13 @@ impl Link {
         })
     }
 
-    pub fn conn(&self) -> u32 {
+    pub(crate) fn conn(&self) -> u32 {
         self.conn
     }
 
     /// Notes what the system says of the connection. Whether it is to be queued: there is something, and
     /// it does not stand in the queue.
-    pub fn note(&mut self, readable: bool, closing: bool, writable: bool) -> bool {
+    pub(crate) fn note(&mut self, readable: bool, closing: bool, writable: bool) -> bool {
         self.readable = self.readable || readable || closing;
         self.closing = self.closing || closing;
         self.writable = self.writable || writable;
@@ -86,13 +86,13 @@ impl Link {
     }
 
     /// Whether the connection stays in the queue.
-    pub fn stays(&mut self) -> bool {
+    pub(crate) fn stays(&mut self) -> bool {
         self.queued = self.is_ready();
         self.queued
     }
 
     /// Whether it takes bytes again after a short send; says so once.
-    pub fn take_writable(&mut self) -> bool {
+    pub(crate) fn take_writable(&mut self) -> bool {
         let again = self.short && self.writable && !self.ended;
         if again {
             self.short = false;
@@ -103,7 +103,7 @@ impl Link {
 
     /// Reads a piece into the room. After a read of less than the room takes there is nothing more,
     /// until the system says so again.
-    pub fn read(&mut self, room: &mut Vec<u8>) -> Heard
+    pub(crate) fn read(&mut self, room: &mut Vec<u8>) -> Heard
         ensures { HasPiece result room.new.items }
     {
         room.clear();
@@ -134,7 +134,7 @@ impl Link {
 
     /// Writes as much as the system takes at once. Readiness to write is asked for only where bytes are
     /// left.
-    pub fn write(&mut self, registry: &Registry, bytes: &[u8]) -> io::Result<usize>
+    pub(crate) fn write(&mut self, registry: &Registry, bytes: &[u8]) -> io::Result<usize>
         ensures { IfOk result (λ n. n ≤ length bytes.now) }
     {
         let count = match self.stream.write(bytes) {

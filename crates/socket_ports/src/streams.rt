@@ -13,7 +13,7 @@ pub enum Listener {
 }
 
 impl Listener {
-    pub fn register(&mut self, registry: &Registry, token: Token) -> io::Result<()> {
+    pub(crate) fn register(&mut self, registry: &Registry, token: Token) -> io::Result<()> {
         match self {
             Listener::Tcp(listener) => registry.register(listener, token, Interest::READABLE),
             Listener::Unix(listener) => registry.register(listener, token, Interest::READABLE),
@@ -22,7 +22,7 @@ impl Listener {
 
     /// The next connection. Over TCP a small answer is sent at once, though an earlier one was not
     /// acknowledged.
-    pub fn accept(&self) -> io::Result<Stream> {
+    pub(crate) fn accept(&self) -> io::Result<Stream> {
         match self {
             Listener::Tcp(listener) => {
                 let (stream, _peer) = listener.accept()?;
@@ -45,14 +45,14 @@ pub enum Stream {
 }
 
 impl Stream {
-    pub fn register(&mut self, registry: &Registry, token: Token) -> io::Result<()> {
+    pub(crate) fn register(&mut self, registry: &Registry, token: Token) -> io::Result<()> {
         match self {
             Stream::Tcp(stream) => registry.register(stream, token, Interest::READABLE),
             Stream::Unix(stream) => registry.register(stream, token, Interest::READABLE),
         }
     }
 
-    pub fn reregister(
+    pub(crate) fn reregister(
         &mut self,
         registry: &Registry,
         token: Token,
@@ -64,7 +64,7 @@ impl Stream {
         }
     }
 
-    pub fn read(&mut self, room: &mut [u8]) -> io::Result<usize>
+    pub(crate) fn read(&mut self, room: &mut [u8]) -> io::Result<usize>
         ensures { IfOk result (λ n. n ≤ length room.new) }
     {
         match self {
@@ -73,7 +73,7 @@ impl Stream {
         }
     }
 
-    pub fn write(&mut self, bytes: &[u8]) -> io::Result<usize>
+    pub(crate) fn write(&mut self, bytes: &[u8]) -> io::Result<usize>
         ensures { IfOk result (λ n. n ≤ length bytes.now) }
     {
         match self {
