@@ -8,7 +8,7 @@
 # middle of the world, so that each metatile that is drawn shows all of them. Each figure is a median of interleaved
 # runs, behind those of 2 and 4 workers stands how many times that of 1 they are. REPEATS sets how many runs a median is
 # taken of (5), and WORK_BENCH names another build of crates/work_bench.
-set -eu
+set -euo pipefail # a run that did not draw every metatile ends the script
 top="$(cd "$(dirname "${BASH_SOURCE[0]}")/.." && pwd)"
 program="${WORK_BENCH:-$top/crates/work_bench/out/work_bench}"
 part=1
@@ -16,7 +16,7 @@ part=1
 
 if [ ! -x "$program" ]; then
     echo "workers.sh: building work_bench (the first time takes some minutes)" >&2
-    (cd "$top/crates/work_bench" && PATH="$PATH:/opt/rattle/bin" rt run </dev/null >/dev/null)
+    (cd "$top/crates/work_bench" && PATH="$PATH:/opt/rattle/bin" rt run </dev/null >/dev/null) || [ -x "$program" ]
 fi
 folder="$(mktemp -d)"
 trap 'rm -rf "$folder"' EXIT
