@@ -1,9 +1,9 @@
 -- The lines of a script, one after another.
-use Rattle.std.proofs.Common.{◌≡◌, ℕ, ◌+◌, ◌<◌, ◌≤◌, List, [], ◌∷◌, ◌++◌, Bool, true, false, leb, Option, Some, None, Result, Ok, Err, refl, sym, ap, ◌∙◌, subst, append-nil, arith}
+use Rattle.std.proofs.Common.{◌≡◌, ℕ, ◌+◌, ◌<◌, ◌≤◌, List, [], ◌∷◌, ◌++◌, true, false, leb, Option, None, Result, Ok, Err, refl, sym, ap, ◌∙◌, subst, append-nil, arith}
 use Rattle.std.specs.Prelude.{option_to_list}
 use Rattle.std.specs.Str.Lines.{lines}
 use Rattle.std.proofs.lemmas.Bool.Decides.{nat_tests}
-use Rattle.reading.specs.Steps.{◌>>=◌, check}
+use Rattle.reading.specs.Steps.{◌>>=◌}
 use Rattle.script_lines.specs.declared.script.ScriptFault.{ScriptFault}
 use Rattle.script_lines.specs.declared.script.ScriptFault.TheVariants.{Line}
 use Rattle.script_lines.specs.declared.script.ScriptLine.{ScriptLine}

@@ -1,6 +1,7 @@
 -- Lines that are UTF-8, and lines that are not.
-use Rattle.std.proofs.Common.{◌≡◌, ℕ, List, Bool, true, false, Result, Ok, Err, refl, sym, ap, ◌∙◌}
+use Rattle.std.proofs.Common.{◌≡◌, ℕ, List, Ok, Err, refl}
 use Rattle.std.specs.Str.{is_utf8, IsUtf8}
+use Rattle.std.proofs.lemmas.Bool.{false_from_ne_true}
 use Rattle.std.proofs.lemmas.Str.{IsUtf8-from_is_utf8, is_utf8-from_IsUtf8}
 use Rattle.script_lines.specs.declared.script.ScriptFault.{ScriptFault}
 use Rattle.script_lines.specs.Scripts.{text_of}
@@ -9,10 +10,6 @@ pub text_known : (fault : ScriptFault) (line : List ℕ) → IsUtf8 line → tex
 unfolding text_of
 text_known fault line is = rw (is_utf8-from_IsUtf8 line is) refl
 
-not_utf8 : (b : Bool) → (b ≡ true → ⊥) → b ≡ false
-not_utf8 true h = absurd (h refl)
-not_utf8 false h = refl
-
 pub text_unknown : (fault : ScriptFault) (line : List ℕ) → (IsUtf8 line → ⊥) → text_of fault line ≡ Err fault
 unfolding text_of
-text_unknown fault line other = rw (not_utf8 (is_utf8 line) (λ e. other (IsUtf8-from_is_utf8 line e))) refl
+text_unknown fault line other = rw (false_from_ne_true (is_utf8 line) (λ e. other (IsUtf8-from_is_utf8 line e))) refl

@@ -1,7 +1,6 @@
-use Rattle.std.proofs.Common.{◌≡◌, ◌+◌, ◌≤◌, ◌++◌, ◌∷◌, [], length, length-append, Ok, Some, refl, ap, ◌∙◌, arith}
-use Rattle.std.specs.Str.Lines.{lines}
+use Rattle.std.proofs.Common.{◌≡◌, ◌+◌, ◌++◌, ◌∷◌, [], length, length-append, Ok, Some, refl, ap, ◌∙◌, arith}
 use Rattle.script_lines.specs.declared.script.ScriptFault.TheVariants.{Line}
-use Rattle.script_lines.specs.Scripts.{line_read, lines_after, script_in}
+use Rattle.script_lines.specs.Scripts.{line_read, script_in}
 use Rattle.script_lines.proofs.Loop.{script_starts, script_more, script_skipped, script_long}
 use Rattle.script_lines.proofs.scripts.read_script.Goals as goal
 
