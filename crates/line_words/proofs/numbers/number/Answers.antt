@@ -1,6 +1,7 @@
-use Rattle.std.proofs.Common.{◌≡◌, ◌^◌, Bool, Ok, true, false, not, refl, sym, ap, ◌∙◌, ◌<◌, rules}
+use Rattle.std.proofs.Common.{◌≡◌, ◌^◌, Ok, true, false, not, sym, ap, ◌∙◌, ◌<◌, rules}
 use Rattle.std.specs.Fmt.{decimal}
 use Rattle.std.specs.Str.{bytes_eq}
+use Rattle.std.proofs.lemmas.Bool.{not-false}
 use Rattle.std.proofs.lemmas.Slice.Eq.{bytes_eq-Decides}
 use Rattle.std.proofs.lemmas.Fmt.{parse-decimal}
 use Rattle.line_words.proofs.NumberTexts.{number_known, number_none}
@@ -20,13 +21,9 @@ returns-then-ne c = sym (number_none (2 ^ 64) c.args.text.now (λ n h e.
     let bad : true ≡ false = c.if-ne.ensures ∙ ap not equal in
     cc))
 
-unnot : (b : Bool) → not b ≡ false → b ≡ true
-unnot true e = refl
-unnot false e = cc
-
 pub returns : goal.returns
 returns c =
     let fits : c.in-Ok.number < 2 ^ 64 = search rules in
-    let equal : bytes_eq c.format.result.now c.args.text.now ≡ true = unnot (bytes_eq c.format.result.now c.args.text.now) (sym c.if-ne.ensures) in
+    let equal : bytes_eq c.format.result.now c.args.text.now ≡ true = not-false (bytes_eq c.format.result.now c.args.text.now) (sym c.if-ne.ensures) in
     let text : c.format.result.now ≡ c.args.text.now = (bytes_eq-Decides c.format.result.now c.args.text.now).0 equal in
     sym (number_known (2 ^ 64) c.in-Ok.number c.args.text.now fits fits (sym text ∙ c.format.ensures.text))
