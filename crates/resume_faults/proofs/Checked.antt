@@ -1,8 +1,8 @@
 -- The first fault of what was saved, as the loops find it, and what holds where there is none.
-use Rattle.std.proofs.Common.{◌≡◌, ℕ, ◌+◌, ◌<◌, ◌≤◌, Bool, true, false, cond, ◌==◌, List, [], ◌∷◌, length, get_or, drop, slice_get, Option, Some, None, option_map, Result, Ok, Err, refl, ap, ◌∙◌, arith}
+use Rattle.std.proofs.Common.{◌≡◌, ℕ, ◌+◌, ◌<◌, ◌≤◌, Bool, true, false, cond, ◌==◌, List, [], ◌∷◌, length, get_or, drop, slice_get, Option, Some, None, option_map, Result, Ok, Err, refl, ap, ◌∙◌}
 use Rattle.std.specs.Option.{option_or}
 use Rattle.std.specs.Result.{IsErrAnd, IfErr}
-use Rattle.std.proofs.lemmas.Bool.Decides.{nat_tests}
+use Rattle.std.proofs.lemmas.Bool.{eqb-true}
 use Rattle.std.proofs.lemmas.List.{drop_more, drop_all}
 use Rattle.std.proofs.lemmas.Option.{slice_get-map}
 use Rattle.farm_history.specs.Lists.{Each}
@@ -69,15 +69,12 @@ pub record IsShaped (plan : FarmPlan) (s : Saving) : Type 0 where
 pub shaped : (plan : FarmPlan) (s : Saving) → form_fault plan s ≡ None → IsShaped plan s
 shaped plan s h = go (length s.styles == length plan.maps) refl (styles_fault plan s.styles) refl (updates_fault plan (length s.styles) s.updates) refl h
   where
-    same : (a b : ℕ) → (a == b) ≡ true → a ≡ b
-    same a b e = grind (arith, nat_tests)
-
     go : (b : Bool) → (length s.styles == length plan.maps) ≡ b → (x : Option ResumeFault) → styles_fault plan s.styles ≡ x → (y : Option ResumeFault) → updates_fault plan (length s.styles) s.updates ≡ y →
         cond b (option_or x (option_or y (kept_fault plan s.clean))) (Some (Maps (length s.styles))) ≡ None → IsShaped plan s
     go false e x ex y ey h = cc
     go true e (Some f) ex y ey h = cc
     go true e None ex (Some f) ey h = cc
-    go true e None ex None ey h = record { maps = same (length s.styles) (length plan.maps) e; styles = ex; updates = ey; clean = h }
+    go true e None ex None ey h = record { maps = eqb-true (length s.styles) (length plan.maps) e; styles = ex; updates = ey; clean = h }
 
 -- what is known of a refusal
 pub if_err : {A E : Type 0} (r : Result A E) (q p : E → Type 0) → IsErrAnd r q → ((e : E) → q e → p e) → IfErr r p
