@@ -1,6 +1,7 @@
 -- Expiries of what boxes reach, one after another.
 use Rattle.std.proofs.Common.{◌≡◌, ℕ, ◌+◌, ◌^◌, ◌<◌, ◌≤◌, min, Bool, true, false, ◌||◌, ◌&&◌, ◌==◌, nat_lt, List, [], ◌∷◌, length, take, get_or, slice_get, Option, Some, None, refl, sym, ap, ◌∙◌, subst, arith}
 use Rattle.std.specs.List.{list_any}
+use Rattle.std.proofs.lemmas.Bool.{eqb-true}
 use Rattle.std.proofs.lemmas.Bool.Decides.{nat_tests}
 use Rattle.std.proofs.lemmas.List.{take_all}
 use Rattle.std.proofs.lemmas.List.Folds.{list_any_more}
@@ -56,14 +57,11 @@ zoom_here m h kz z same = grind (arith, nat_tests)
 zoom_other : (m h other : Bool) (kz z : ℕ) → (kz == z) ≡ false → ((m && (nat_lt kz z && h)) || (m && ((kz == z) && other))) ≡ (m && (nat_lt kz (z + 1) && h))
 zoom_other m h other kz z differs = grind (arith, nat_tests)
 
-equal : (a b : ℕ) → (a == b) ≡ true → a ≡ b
-equal a b same = grind (arith, nat_tests)
-
 zoom_test : (m : Bool) (h : ℕ → Bool) (kz z : ℕ) → ((m && (nat_lt kz z && h kz)) || (m && ((kz == z) && h z))) ≡ (m && (nat_lt kz (z + 1) && h kz))
 zoom_test m h kz z = go (kz == z) refl
   where
     go : (b : Bool) → (kz == z) ≡ b → ((m && (nat_lt kz z && h kz)) || (m && ((kz == z) && h z))) ≡ (m && (nat_lt kz (z + 1) && h kz))
-    go true e = let same : kz ≡ z = equal kz z e in ap (λ x. (m && (nat_lt kz z && h kz)) || (m && ((kz == z) && x))) (ap h (sym same)) ∙ zoom_here m (h kz) kz z same
+    go true e = let same : kz ≡ z = eqb-true kz z e in ap (λ x. (m && (nat_lt kz z && h kz)) || (m && ((kz == z) && x))) (ap h (sym same)) ∙ zoom_here m (h kz) kz z same
     go false e = zoom_other m (h kz) (h z) kz z e
 
 -- what a box reaches of a map, at the zooms below this one
@@ -140,7 +138,7 @@ map_test : (r q : Bool) (km i : ℕ) → (i ≡ km → q ≡ r) → ((nat_lt km 
 map_test r q km i by = go (i == km) refl
   where
     go : (b : Bool) → (i == km) ≡ b → ((nat_lt km i && r) || ((i == km) && q)) ≡ (nat_lt km (i + 1) && r)
-    go true e = let same : i ≡ km = equal i km e in ap (λ x. (nat_lt km i && r) || ((i == km) && x)) (by same) ∙ map_here r km i same
+    go true e = let same : i ≡ km = eqb-true i km e in ap (λ x. (nat_lt km i && r) || ((i == km) && x)) (by same) ∙ map_here r km i same
     go false e = map_other r q km i e
 
 pub map_more : (maps : List MapPlan) (boxes : List Bounds) (i : ℕ) (mp : MapPlan) (old before after : List Shown) (m n total : ℕ) → slice_get maps i ≡ Some mp → Expires (of_boxes i mp.tile boxes) before after n → total ≡ min (m + n) most_told →

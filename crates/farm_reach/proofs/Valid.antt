@@ -1,8 +1,9 @@
 -- Updates keep layers valid: of a layer that keeps its limits and whose features have ids of their own, so does what an update makes of it.
-use Rattle.std.proofs.Common.{◌≡◌, ℕ, ◌+◌, ◌≤◌, Bool, true, false, ◌||◌, not, cond, List, [], ◌∷◌, ◌++◌, filter, fold, length, All, Option, Some, None, Result, Ok, Err, refl, sym, ap, ap₂, ◌∙◌, subst, arith}
+use Rattle.std.proofs.Common.{◌≡◌, ℕ, ◌+◌, ◌≤◌, Bool, true, false, not, cond, List, [], ◌∷◌, ◌++◌, filter, fold, length, All, Option, Some, None, Result, Ok, Err, refl, sym, ap, ap₂, ◌∙◌, subst, arith}
 use Rattle.std.specs.Prelude.{nat_eq, nat_lt, option_map}
 use Rattle.std.specs.Str.{bytes_eq}
 use Rattle.std.specs.List.{AllByRecursion, IsDistinct}
+use Rattle.std.proofs.lemmas.Bool.{eqb-true, or_parts}
 use Rattle.std.proofs.lemmas.Bool.Decides.{nat_tests}
 use Rattle.std.proofs.lemmas.List.{map-append}
 use Rattle.std.proofs.lemmas.List.Elements.{recursion_from_All, All-from_recursion}
@@ -18,12 +19,6 @@ use Rattle.farm_plan.specs.Drawings.{update_of, kept_or, data_step, data_of}
 
 turned : (a b : ℕ) → nat_eq a b ≡ false → nat_eq b a ≡ false
 turned a b h = grind (arith, nat_tests)
-
-left_false : (a b : Bool) → (a || b) ≡ false → a ≡ false
-left_false a b h = grind arith
-
-right_false : (a b : Bool) → (a || b) ≡ false → b ≡ false
-right_false a b h = grind arith
 
 -- none of the ids is among those held
 abbrev AreNew : List ℕ → List ℕ → Type 0
@@ -41,8 +36,8 @@ distinct_append : (xs ys : List ℕ) → IsDistinct nat_eq xs → IsDistinct nat
 distinct_append [] ys a b new = b
 distinct_append (x ∷ xs) ys a b new =
     IsDistinct-cons nat_eq x (xs ++ ys)
-    (each_append (λ y. nat_eq x y ≡ false) xs ys (IsDistinct-head nat_eq x xs a) (each_more (λ id. has_id (x ∷ xs) id ≡ false) (λ y. nat_eq x y ≡ false) ys (λ y h. turned y x (left_false (nat_eq y x) (has_id xs y) h)) new))
-    (distinct_append xs ys (IsDistinct-tail nat_eq x xs a) b (each_more (λ id. has_id (x ∷ xs) id ≡ false) (λ id. has_id xs id ≡ false) ys (λ y h. right_false (nat_eq y x) (has_id xs y) h) new))
+    (each_append (λ y. nat_eq x y ≡ false) xs ys (IsDistinct-head nat_eq x xs a) (each_more (λ id. has_id (x ∷ xs) id ≡ false) (λ y. nat_eq x y ≡ false) ys (λ y h. turned y x (or_parts (nat_eq y x) (has_id xs y) h).0) new))
+    (distinct_append xs ys (IsDistinct-tail nat_eq x xs a) b (each_more (λ id. has_id (x ∷ xs) id ≡ false) (λ id. has_id xs id ≡ false) ys (λ y h. (or_parts (nat_eq y x) (has_id xs y) h).1) new))
 
 -- ---- what a change makes of a layer's features
 
@@ -62,15 +57,12 @@ distinct_filter t (f ∷ fs) h = go (t f) (IsDistinct-head nat_eq f.id (ids_of f
     go true head rest = IsDistinct-cons nat_eq f.id (ids_of (filter t fs)) (each_filter (λ y. nat_eq f.id y ≡ false) t fs head) rest
     go false head rest = rest
 
-same_id : (a b : ℕ) → nat_eq a b ≡ true → a ≡ b
-same_id a b h = grind (arith, nat_tests)
-
 last_id : (puts : List Feature) (id : ℕ) (other : Feature) → other.id ≡ id → (last_put puts id other).id ≡ id
 last_id [] id other is = is
 last_id (f ∷ later) id other is = go (nat_eq f.id id) refl (λ o e. last_id later id o e)
   where
     go : (b : Bool) → nat_eq f.id id ≡ b → ((o : Feature) → o.id ≡ id → (last_put later id o).id ≡ id) → (cond b (last_put later id f) (last_put later id other)).id ≡ id
-    go true e rest = rest f (same_id f.id id e)
+    go true e rest = rest f (eqb-true f.id id e)
     go false e rest = rest other is
 
 replaced_ids : (puts fs : List Feature) → ids_of (puts_in_place puts fs) ≡ ids_of fs
@@ -87,8 +79,8 @@ added_new held (f ∷ later) = go (has_id held f.id) refl (added_new held later)
     go true here same more = same
     go false new same more = (
       subst (λ id. IsDistinct nat_eq (id ∷ ids_of (put_features (f.id ∷ held) later))) (sym (last_id later f.id f refl))
-          (IsDistinct-cons nat_eq f.id (ids_of (put_features (f.id ∷ held) later)) (each_more (λ id. has_id (f.id ∷ held) id ≡ false) (λ y. nat_eq f.id y ≡ false) (ids_of (put_features (f.id ∷ held) later)) (λ y h. turned y f.id (left_false (nat_eq y f.id) (has_id held y) h)) more.1) more.0),
-      (subst (λ id. has_id held id ≡ false) (sym (last_id later f.id f refl)) new, each_more (λ id. has_id (f.id ∷ held) id ≡ false) (λ id. has_id held id ≡ false) (ids_of (put_features (f.id ∷ held) later)) (λ y h. right_false (nat_eq y f.id) (has_id held y) h) more.1),
+          (IsDistinct-cons nat_eq f.id (ids_of (put_features (f.id ∷ held) later)) (each_more (λ id. has_id (f.id ∷ held) id ≡ false) (λ y. nat_eq f.id y ≡ false) (ids_of (put_features (f.id ∷ held) later)) (λ y h. turned y f.id (or_parts (nat_eq y f.id) (has_id held y) h).0) more.1) more.0),
+      (subst (λ id. has_id held id ≡ false) (sym (last_id later f.id f refl)) new, each_more (λ id. has_id (f.id ∷ held) id ≡ false) (λ id. has_id held id ≡ false) (ids_of (put_features (f.id ∷ held) later)) (λ y h. (or_parts (nat_eq y f.id) (has_id held y) h).1) more.1),
     )
 
 changed_distinct : (c : Change) (fs : List Feature) → IsDistinct nat_eq (ids_of fs) → IsDistinct nat_eq (ids_of (with_change c fs))
