@@ -2,6 +2,7 @@
 use Rattle.std.proofs.Common.{◌≡◌, ℕ, Bool, true, false, not, cond, List, ◌∷◌, length, take, drop, slice_get, Option, Some, None, is_some, Result, Ok, Err, refl, sym, ap, ap₂, ◌∙◌, subst, arith}
 use Rattle.std.specs.Prelude.{IfSome, MatchBool}
 use Rattle.std.specs.Bool.{OnTrue}
+use Rattle.std.proofs.lemmas.Bool.{false_from_ne_true}
 use Rattle.farm_base.specs.declared.faults.MetaFault.{MetaFault}
 use Rattle.farm_base.specs.Outside.{Outside}
 use Rattle.tile_store.specs.Stores.{StoreTold}
@@ -112,10 +113,6 @@ told_text plan since told g spot before now Q s is tells q = go now.told q (s.is
     go None q some h = let never : false ≡ true = some in cc
     go (Some t) q some h = (t, q, h (key_of spot) before is)
 
-told_false : (told : Bool) → (told ≡ true → ⊥) → told ≡ false
-told_false true h = absurd (h refl)
-told_false false h = refl
-
 on_true : {X : Type 0} (b : Bool) → (b ≡ true → X) → OnTrue b X
 on_true true h = h refl
 on_true false h = tt
@@ -134,9 +131,9 @@ read_fits plan since told g spot before old new (Ok bytes) at s is reads = go (i
     go : (b : Bool) → is_touched_after (plan_of plan) g (length before) (key_of spot) ≡ b → ReadFits (plan_of plan) told g spot before (cond (not b) (Fetched.Clean (version before) bytes) (Fetched.Dirty (version before) bytes))
     go true touched = (touched, refl, on_true told drawn)
     go false untouched = (untouched, refl, on_true told drawn)
-read_fits plan since told g spot before old new (Err Fetched.Gone) at s is reads = told_false told (λ tells. let t = told_text plan since told g spot before old _ s is tells reads.1 in let never : None ≡ Some (text_before plan before (key_of spot)) = sym t.1 ∙ t.2 in cc)
+read_fits plan since told g spot before old new (Err Fetched.Gone) at s is reads = false_from_ne_true told (λ tells. let t = told_text plan since told g spot before old _ s is tells reads.1 in let never : None ≡ Some (text_before plan before (key_of spot)) = sym t.1 ∙ t.2 in cc)
 read_fits plan since told g spot before old new (Err (Fetched.Spoilt fault)) at s is reads =
-    told_false told (λ tells. let t = told_text plan since told g spot before old _ s is tells reads.1 in
+    false_from_ne_true told (λ tells. let t = told_text plan since told g spot before old _ s is tells reads.1 in
     not_spoilt plan spot (style_after (plan_of plan) before (map_of spot)) (data_of plan (data_after before)) _ _ fault (comes plan spot (style_after (plan_of plan) before (map_of spot)) (data_of plan (data_after before)) at) t.2 t.1)
 read_fits plan since told g spot before old new (Err Fetched.GetFailed) at s is reads = tt
 read_fits plan since told g spot before old new (Err Fetched.NoMemory) at s is reads = tt
