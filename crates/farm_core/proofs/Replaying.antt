@@ -2,6 +2,7 @@
 use Rattle.std.proofs.Common.{◌≡◌, ℕ, zero, suc, ◌+◌, ◌*◌, ◌/◌, ◌%◌, ◌<◌, ◌≤◌, Bool, true, false, ◌||◌, ◌&&◌, cond, ◌==◌, nat_lt, nat_le, List, [], ◌∷◌, length, get_or, drop, slice_get, Option, Some, None, is_some, option_map, refl, sym, ap, ◌∙◌, subst, arith}
 use Rattle.std.specs.List.{list_any}
 use Rattle.std.specs.Prelude.{MatchBool}
+use Rattle.std.proofs.lemmas.Bool.{eqb-true}
 use Rattle.std.proofs.lemmas.Bool.Decides.{nat_tests}
 use Rattle.std.proofs.lemmas.List.{at_drop_more, at_drop_all}
 use Rattle.std.proofs.lemmas.Option.{slice_get_within}
@@ -63,12 +64,9 @@ next_left v n j len lt h = grind (arith, nat_tests)
 
 one_place : (xs : List Kept) (i j : ℕ) (x y : Kept) → slice_get xs i ≡ Some x → slice_get xs j ≡ Some y → (i == j) ≡ true → x ≡ y
 one_place xs i j x y at_i at_j same =
-    let here : i ≡ j = equal i j same in
+    let here : i ≡ j = eqb-true i j same in
     let both : Some x ≡ Some y = sym at_i ∙ (ap (slice_get xs) here ∙ at_j) in
     cc
-  where
-    equal : (a b : ℕ) → (a == b) ≡ true → a ≡ b
-    equal a b h = grind (arith, nat_tests)
 
 -- after one more entry
 pub fresh_more : {D : Type 0} (v i : ℕ) (clean : List Kept) (old new : FarmSeen D) (x : Kept) → AreApart (λ (k : Kept). k.key) clean → slice_get clean i ≡ Some x → ReplaysAt v old new x → IsFresh v i clean old.marks.shown → IsFresh v (i + 1) clean new.marks.shown
@@ -84,11 +82,8 @@ fresh_more {D} v i clean old new x apart at_i replays fresh j y at_j left = go (
         place false e = e
         place true e = let same : x ≡ y = one_place clean i j x y at_i at_j e in left_elsewhere v i j y.version left (ap (λ (k : Kept). k.version) (sym same) ∙ is)
 
-    equal : (a b : ℕ) → (a == b) ≡ true → a ≡ b
-    equal a b h = grind (arith, nat_tests)
-
     go : (b : Bool) → (x.version == v) ≡ b → MatchBool b (Replayed old new x) (new ≡ old) → mark_of new.marks.shown y.key ≡ None
-    go true e r = r.marks y.key ∙ (ap (λ b. cond b (Some (record { version = old.counts.version; clean = true })) (mark_of old.marks.shown y.key)) (apart_places clean i j x y apart at_i at_j (other (equal x.version v e))) ∙ was)
+    go true e r = r.marks y.key ∙ (ap (λ b. cond b (Some (record { version = old.counts.version; clean = true })) (mark_of old.marks.shown y.key)) (apart_places clean i j x y apart at_i at_j (other (eqb-true x.version v e))) ∙ was)
     go false e r = ap (λ (f : FarmSeen D). mark_of f.marks.shown y.key) r ∙ was
 
 pub fresh_next : (v : ℕ) (clean : List Kept) (i : ℕ) (shown : List Shown) → length clean ≤ i → IsFresh v i clean shown → IsFresh (v + 1) 0 clean shown
@@ -178,13 +173,10 @@ module _ {D : Type 0} (state : D → Outside StoreTold) where
   at_step : (v : ℕ) (old new : FarmSeen D) (g : List Entry) (x : Kept) → CanReplay old.plan x → (x.version ≡ v → mark_of old.marks.shown x.key ≡ None) → ReplaysAt v old new x → IsReplaying state old g → IsReplaying state new (cond (x.version == v) (replay_key x.key g) g)
   at_step v old new g x can fresh replays r = go (x.version == v) refl replays
     where
-      equal : (a b : ℕ) → (a == b) ≡ true → a ≡ b
-      equal a b h = grind (arith, nat_tests)
-
       go : (b : Bool) → (x.version == v) ≡ b → MatchBool b (Replayed old new x) (new ≡ old) → IsReplaying state new (cond b (replay_key x.key g) g)
       go true e d =
           subst (λ (f : FarmSeen D). IsReplaying state f (replay_key x.key g)) (sym d.rest)
-          (from_replays _ _ (replay_key_step state old g x.key new.marks (is_served old.plan x can) (unseen old g x.key r (fresh (equal x.version v e))) d.marks (to_replays old g r)))
+          (from_replays _ _ (replay_key_step state old g x.key new.marks (is_served old.plan x can) (unseen old g x.key r (fresh (eqb-true x.version v e))) d.marks (to_replays old g r)))
       go false e d = subst (λ (f : FarmSeen D). IsReplaying state f g) (sym d) r
 
   -- so far the farm stands for a history, to which the entries before place i were added

@@ -3,6 +3,7 @@ use Rattle.std.proofs.Common.{◌≡◌, ℕ, zero, suc, ◌<◌, ◌≤◌, inl
 use Rattle.std.specs.Prelude.{Some, slice_get, nat_le}
 use Rattle.std.specs.List.{list_all}
 use Rattle.std.specs.Str.{bytes_eq}
+use Rattle.std.proofs.lemmas.Bool.{not-true, and_parts, or_parts}
 use Rattle.std.proofs.lemmas.Bool.Decides.{nat_tests}
 use Rattle.std.proofs.lemmas.List.Elements.{All-cons, All-nil}
 use Rattle.std.proofs.lemmas.Slice.Eq.{bytes_eq-Decides}
@@ -22,28 +23,6 @@ use Rattle.map_files.specs.Courses.{style_course}
 use Rattle.farm_files.specs.Courses.{map_course, restyle_course, update_course, list_course, inputs_course, map_course_by, restyle_course_by, inputs_course_by}
 use Rattle.farm_files.specs.Inputs.{FarmInputs}
 use Rattle.farm_files.proofs.Steps.{with_maps, with_restyles, with_layers, with_updates, inputs_with}
-
--- ---- tests
-
-and_left : (a b : Bool) → (a && b) ≡ true → a ≡ true
-and_left true b h = refl
-and_left false b h = absurd (cc)
-
-and_right : (a b : Bool) → (a && b) ≡ true → b ≡ true
-and_right true b h = h
-and_right false b h = absurd (cc)
-
-not_true : (b : Bool) → not b ≡ true → b ≡ false
-not_true true h = absurd (cc)
-not_true false h = refl
-
-or_left : (a b : Bool) → (a || b) ≡ false → a ≡ false
-or_left true b h = absurd (cc)
-or_left false b h = refl
-
-or_right : (a b : Bool) → (a || b) ≡ false → b ≡ false
-or_right true b h = absurd (cc)
-or_right false b h = h
 
 -- ---- lists that were made one by one
 
@@ -101,24 +80,24 @@ record Fits (before : List MapEntry) (m : MapEntry) : Type 0 where
 
 fits_of : (before : List MapEntry) (m : MapEntry) → map_fits before m ≡ true → Fits before m
 fits_of before m h =
-    let three = and_left (is_map_name m.name && is_tile_size m.tile && nat_le m.max_zoom 18) (not (map_has m.name before)) h in
-    let two = and_left (is_map_name m.name && is_tile_size m.tile) (nat_le m.max_zoom 18) three in
+    let three = (and_parts (is_map_name m.name && is_tile_size m.tile && nat_le m.max_zoom 18) (not (map_has m.name before)) h).0 in
+    let two = (and_parts (is_map_name m.name && is_tile_size m.tile) (nat_le m.max_zoom 18) three).0 in
     record {
-      named = and_left (is_map_name m.name) (is_tile_size m.tile) two;
-      sized = and_right (is_map_name m.name) (is_tile_size m.tile) two;
-      zooms = and_right (is_map_name m.name && is_tile_size m.tile) (nat_le m.max_zoom 18) three;
-      apart = not_true (map_has m.name before) (and_right (is_map_name m.name && is_tile_size m.tile && nat_le m.max_zoom 18) (not (map_has m.name before)) h);
+      named = (and_parts (is_map_name m.name) (is_tile_size m.tile) two).0;
+      sized = (and_parts (is_map_name m.name) (is_tile_size m.tile) two).1;
+      zooms = (and_parts (is_map_name m.name && is_tile_size m.tile) (nat_le m.max_zoom 18) three).1;
+      apart = not-true (map_has m.name before) (and_parts (is_map_name m.name && is_tile_size m.tile && nat_le m.max_zoom 18) (not (map_has m.name before)) h).1;
     }
 
 name_of : (name : List ℕ) → is_map_name name ≡ true → IsName name
 name_of name h =
-    let two = and_left (nat_le 1 (length name) && nat_le (length name) 40) (list_all is_name_byte name) h in
-    let low = and_left (nat_le 1 (length name)) (nat_le (length name) 40) two in
-    let high = and_right (nat_le 1 (length name)) (nat_le (length name) 40) two in
+    let two = (and_parts (nat_le 1 (length name) && nat_le (length name) 40) (list_all is_name_byte name) h).0 in
+    let low = (and_parts (nat_le 1 (length name)) (nat_le (length name) 40) two).0 in
+    let high = (and_parts (nat_le 1 (length name)) (nat_le (length name) 40) two).1 in
     record {
       some = grind (arith, nat_tests);
       short = grind (arith, nat_tests);
-      plain = and_right (nat_le 1 (length name) && nat_le (length name) 40) (list_all is_name_byte name) h;
+      plain = (and_parts (nat_le 1 (length name) && nat_le (length name) 40) (list_all is_name_byte name) h).1;
     }
 
 one_map : (before : List MapEntry) (m : MapEntry) (p : MapPlan) → map_fits before m ≡ true → IsOf m p → IsMapPlan p
@@ -137,8 +116,8 @@ each_map before [] [] h are = All-nil IsMapPlan
 each_map before [] (p ∷ ps) h are = absurd are
 each_map before (m ∷ ms) [] h are = absurd are
 each_map before (m ∷ ms) (p ∷ ps) h are =
-    All-cons IsMapPlan p ps (one_map before m p (and_left (map_fits before m) (each_after map_fits (before ++ m ∷ []) ms) h) are.0)
-    (each_map (before ++ m ∷ []) ms ps (and_right (map_fits before m) (each_after map_fits (before ++ m ∷ []) ms) h) are.1)
+    All-cons IsMapPlan p ps (one_map before m p (and_parts (map_fits before m) (each_after map_fits (before ++ m ∷ []) ms) h).0 are.0)
+    (each_map (before ++ m ∷ []) ms ps (and_parts (map_fits before m) (each_after map_fits (before ++ m ∷ []) ms) h).1 are.1)
 
 -- ---- names apart
 
@@ -149,19 +128,19 @@ no_earlier before [] (p ∷ ps) i b h are at = absurd are
 no_earlier before (m ∷ ms) [] i b h are at = absurd are
 no_earlier before (m ∷ ms) (p ∷ ps) zero b h are at =
     let same : p ≡ b = cc in
-    let fits = fits_of before m (and_left (map_fits before m) (each_after map_fits (before ++ m ∷ []) ms) h) in
+    let fits = fits_of before m (and_parts (map_fits before m) (each_after map_fits (before ++ m ∷ []) ms) h).0 in
     ap (λ (n : List ℕ). map_has n before) (ap (λ (q : MapPlan). q.name) (sym same) ∙ are.0.0) ∙ fits.apart
 no_earlier before (m ∷ ms) (p ∷ ps) (suc i) b h are at =
-    let later = no_earlier (before ++ m ∷ []) ms ps i b (and_right (map_fits before m) (each_after map_fits (before ++ m ∷ []) ms) h) are.1 at in
-    or_left (map_has b.name before) (map_has b.name (m ∷ [])) (sym (any-append (λ (x : MapEntry). bytes_eq x.name b.name) before (m ∷ [])) ∙ later)
+    let later = no_earlier (before ++ m ∷ []) ms ps i b (and_parts (map_fits before m) (each_after map_fits (before ++ m ∷ []) ms) h).1 are.1 at in
+    (or_parts (map_has b.name before) (map_has b.name (m ∷ [])) (sym (any-append (λ (x : MapEntry). bytes_eq x.name b.name) before (m ∷ [])) ∙ later)).0
 
 -- and of no other
 other_than : (before ms : List MapEntry) (m : MapEntry) (p : MapPlan) (ps : List MapPlan) (i : ℕ) (b : MapPlan) → each_after map_fits (before ++ m ∷ []) ms ≡ true → IsOf m p → AreOf ms ps
     → slice_get ps i ≡ Some b → p.name ≡ b.name → ⊥
 other_than before ms m p ps i b h is are at same =
     let none = no_earlier (before ++ m ∷ []) ms ps i b h are at in
-    let last = or_right (map_has b.name before) (map_has b.name (m ∷ [])) (sym (any-append (λ (x : MapEntry). bytes_eq x.name b.name) before (m ∷ [])) ∙ none) in
-    let differs = or_left (bytes_eq m.name b.name) false last in
+    let last = (or_parts (map_has b.name before) (map_has b.name (m ∷ [])) (sym (any-append (λ (x : MapEntry). bytes_eq x.name b.name) before (m ∷ [])) ∙ none)).1 in
+    let differs = (or_parts (bytes_eq m.name b.name) false last).0 in
     let equal : bytes_eq m.name b.name ≡ true = (bytes_eq-Decides m.name b.name).1 (sym is.0 ∙ same) in
     cc
 
@@ -172,19 +151,19 @@ names_apart before (m ∷ ms) [] h are i j a b at to same = absurd are
 names_apart before (m ∷ ms) (p ∷ ps) h are zero zero a b at to same = refl
 names_apart before (m ∷ ms) (p ∷ ps) h are zero (suc j) a b at to same =
     let is : p ≡ a = cc in
-    absurd (other_than before ms m p ps j b (and_right (map_fits before m) (each_after map_fits (before ++ m ∷ []) ms) h) are.0 are.1 to (ap (λ (q : MapPlan). q.name) is ∙ same))
+    absurd (other_than before ms m p ps j b (and_parts (map_fits before m) (each_after map_fits (before ++ m ∷ []) ms) h).1 are.0 are.1 to (ap (λ (q : MapPlan). q.name) is ∙ same))
 names_apart before (m ∷ ms) (p ∷ ps) h are (suc i) zero a b at to same =
     let is : p ≡ b = cc in
-    absurd (other_than before ms m p ps i a (and_right (map_fits before m) (each_after map_fits (before ++ m ∷ []) ms) h) are.0 are.1 at (ap (λ (q : MapPlan). q.name) is ∙ sym same))
+    absurd (other_than before ms m p ps i a (and_parts (map_fits before m) (each_after map_fits (before ++ m ∷ []) ms) h).1 are.0 are.1 at (ap (λ (q : MapPlan). q.name) is ∙ sym same))
 names_apart before (m ∷ ms) (p ∷ ps) h are (suc i) (suc j) a b at to same =
-    ap (λ (n : ℕ). suc n) (names_apart (before ++ m ∷ []) ms ps (and_right (map_fits before m) (each_after map_fits (before ++ m ∷ []) ms) h) are.1 i j a b at to same)
+    ap (λ (n : ℕ). suc n) (names_apart (before ++ m ∷ []) ms ps (and_parts (map_fits before m) (each_after map_fits (before ++ m ∷ []) ms) h).1 are.1 i j a b at to same)
 
 -- ---- limits and restyles
 
 from_1 : (n most : ℕ) → is_limit_to most n ≡ true → IsFrom1 n most
 from_1 n most h =
-    let low = and_left (nat_le 1 n) (nat_le n most) h in
-    let high = and_right (nat_le 1 n) (nat_le n most) h in
+    let low = (and_parts (nat_le 1 n) (nat_le n most) h).0 in
+    let high = (and_parts (nat_le 1 n) (nat_le n most) h).1 in
     record { some = grind (arith, nat_tests); few = grind (arith, nat_tests) }
 
 limits_of : (l : Limits) → are_limits l ≡ true → AreLimits l
@@ -194,15 +173,15 @@ limits_of l h =
     let c = is_limit_to 32 l.low in
     let d = is_limit_to 1000 l.dirty in
     let e = is_limit_to 32 l.bulk in
-    let h4 = and_left (a && b && c && d) e h in
-    let h3 = and_left (a && b && c) d h4 in
-    let h2 = and_left (a && b) c h3 in
+    let h4 = (and_parts (a && b && c && d) e h).0 in
+    let h3 = (and_parts (a && b && c) d h4).0 in
+    let h2 = (and_parts (a && b) c h3).0 in
     record {
-      prio = from_1 l.prio 32 (and_left a b h2);
-      request = from_1 l.request 32 (and_right a b h2);
-      low = from_1 l.low 32 (and_right (a && b) c h3);
-      dirty = from_1 l.dirty 1000 (and_right (a && b && c) d h4);
-      bulk = from_1 l.bulk 32 (and_right (a && b && c && d) e h);
+      prio = from_1 l.prio 32 (and_parts a b h2).0;
+      request = from_1 l.request 32 (and_parts a b h2).1;
+      low = from_1 l.low 32 (and_parts (a && b) c h3).1;
+      dirty = from_1 l.dirty 1000 (and_parts (a && b && c) d h4).1;
+      bulk = from_1 l.bulk 32 (and_parts (a && b && c && d) e h).1;
     }
 
 restyle_of : (r : RestyleEntry) (p : Restyle) → Could (restyle_course r) p → p.map ≡ r.map
@@ -214,11 +193,11 @@ restyles_of maps [] ps known h = subst (λ (qs : List Restyle). All (NamesMap ma
 restyles_of maps (r ∷ rs) ps known h =
     let one = could_parts (restyle_course r) (λ y. each restyle_course rs >>= λ zs. made (y ∷ zs)) ps h in
     let rest = could_parts (each restyle_course rs) (λ zs. made (one.0 ∷ zs)) ps one.2 in
-    let below = and_left (restyle_known (length maps) r) (list_all (restyle_known (length maps)) rs) known in
+    let below = (and_parts (restyle_known (length maps) r) (list_all (restyle_known (length maps)) rs) known).0 in
     let is = restyle_of r one.0 one.1 in
     let names : one.0.map < length maps = grind (arith, nat_tests) in
     subst (λ (qs : List Restyle). All (NamesMap maps) qs) (sym rest.2)
-    (All-cons (NamesMap maps) one.0 rest.0 names (restyles_of maps rs rest.0 (and_right (restyle_known (length maps) r) (list_all (restyle_known (length maps)) rs) known) rest.1))
+    (All-cons (NamesMap maps) one.0 rest.0 names (restyles_of maps rs rest.0 (and_parts (restyle_known (length maps) r) (list_all (restyle_known (length maps)) rs) known).1 rest.1))
 
 -- ---- the plan
 

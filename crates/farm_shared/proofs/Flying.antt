@@ -1,6 +1,7 @@
 -- Where a seat's Claim gave a ticket and the seat has no Finish of it, the ticket is that of a drawing under way.
-use Rattle.std.proofs.Common.{◌≡◌, ℕ, ◌<◌, ◌≤◌, Bool, true, false, ◌&&◌, ◌||◌, cond, ◌==◌, List, [], ◌∷◌, ◌++◌, find, Option, Some, None, refl, sym, ap, ◌∙◌, subst, arith}
+use Rattle.std.proofs.Common.{◌≡◌, ℕ, ◌<◌, ◌≤◌, Bool, true, false, ◌&&◌, cond, ◌==◌, List, [], ◌∷◌, ◌++◌, find, Option, Some, None, refl, sym, ap, ◌∙◌, subst, arith}
 use Rattle.std.specs.Option.{option_or}
+use Rattle.std.proofs.lemmas.Bool.{or_parts}
 use Rattle.std.proofs.lemmas.Bool.Decides.{nat_tests}
 use Rattle.std.proofs.lemmas.List.Folds.{find-append}
 use Rattle.farm_history.specs.declared.keys.Key.{Key}
@@ -88,10 +89,6 @@ same_test : (e : Entry) (t : ℕ) → ends_ticket e t ≡ false → ends e t ≡
 same_test (Finish u drawn answer) t other = other
 same_test e t other = refl
 
-or_false : (a b : Bool) → (a || b) ≡ false → (a ≡ false) × (b ≡ false)
-or_false true b e = cc
-or_false false b e = (refl, e)
-
 -- a Finish of the ticket would be its claimer's own
 ends_other : (g : List (ℕ × Entry)) (n s : ℕ) (e : Entry) (t : ℕ) → SeatFits g s e → claimer g t ≡ Some n → ((s == n) && ends_ticket e t) ≡ false → ends_ticket e t ≡ false
 ends_other g n s (Finish u drawn answer) t fits claimed unended = go (u == t) refl
@@ -116,7 +113,7 @@ flying p told o n worker t v k [] before legal seated unended = begins_away p to
 flying p told o n worker t v k (x ∷ since) before legal seated unended =
     let g : List (ℕ × Entry) = since ++ (n, Claim worker (Job t k v)) ∷ before in
     let h : List Entry = plain g ++ o in
-    let apart = or_false ((x.0 == n) && ends_ticket x.1 t) (is_ended_by n t g) unended in
+    let apart = or_parts ((x.0 == n) && ends_ticket x.1 t) (is_ended_by n t g) unended in
     let a = flying p told o n worker t v k since before legal.1 seated.1 apart.1 in
     let other = ends_other g n x.0 x.1 t seated.0 a.claimed apart.0 in
     let later = other_ticket p told h x.1 t legal.0 a.below in

@@ -5,3 +5,4 @@ pub mod Replying
 pub mod Steps
 pub mod Given
 pub mod Beginning
+pub mod Shares

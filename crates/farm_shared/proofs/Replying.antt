@@ -1,5 +1,6 @@
 -- A reply to a front is to an ask among the entries of its own seat.
-use Rattle.std.proofs.Common.{◌≡◌, ◌≢◌, ℕ, suc, ◌+◌, ◌<◌, ◌≤◌, Bool, true, false, ◌&&◌, ◌||◌, cond, ◌==◌, nat_lt, List, [], ◌∷◌, ◌++◌, length, filter, Option, Some, None, refl, sym, ap, ◌∙◌, subst, arith}
+use Rattle.std.proofs.Common.{◌≡◌, ◌≢◌, ℕ, suc, ◌+◌, ◌<◌, ◌≤◌, Bool, true, false, ◌&&◌, cond, ◌==◌, nat_lt, List, [], ◌∷◌, ◌++◌, length, filter, Option, Some, None, refl, sym, ap, ◌∙◌, subst, arith}
+use Rattle.std.proofs.lemmas.Bool.{or_parts}
 use Rattle.std.proofs.lemmas.Bool.Decides.{nat_tests}
 use Rattle.farm_history.specs.declared.keys.Key.{Key}
 use Rattle.farm_history.specs.declared.queues.Conn.{Conn}
@@ -55,10 +56,6 @@ passes m a h own e false same_asked same_left o = record {
   not_left = λ left. o.not_left (sym (same_left h (length a.before) a.conn) ∙ left);
 }
 
-or_false : (a b : Bool) → (a || b) ≡ false → (a ≡ false) × (b ≡ false)
-or_false true b e = cc
-or_false false b e = (refl, e)
-
 -- a Leave of any connection
 leaves : (m : ℕ) (a : Numbered) (h own : List Entry) (c : Conn) (count : ℕ) (b : Bool) → Owns m a h own → Owns m a (Leave c count ∷ h) (cond b (Leave c count ∷ own) own)
 unfolding ask_numbered is_left_after
@@ -69,7 +66,7 @@ leaves m a h own c count true o = record {
   inner = let lt = o.inner in omega arith;
   outer = let lt = o.outer in omega arith;
   not_left = λ left.
-      let parts = or_false (same_conn c a.conn && nat_lt (length a.before) (length h)) (is_left_after h (length a.before) a.conn) left in
+      let parts = or_parts (same_conn c a.conn && nat_lt (length a.before) (length h)) (is_left_after h (length a.before) a.conn) left in
       let lt = o.outer in
       let after : nat_lt (length a.before) (length h) ≡ true = grind (arith, nat_tests) in
       let other : same_conn c a.conn ≡ false = let apart = parts.0 in grind arith in
@@ -82,7 +79,7 @@ leaves m a h own c count false o = record {
   conn_is = o.conn_is;
   inner = o.inner;
   outer = let lt = o.outer in omega arith;
-  not_left = λ left. o.not_left (or_false (same_conn c a.conn && nat_lt (length a.before) (length h)) (is_left_after h (length a.before) a.conn) left).1;
+  not_left = λ left. o.not_left (or_parts (same_conn c a.conn && nat_lt (length a.before) (length h)) (is_left_after h (length a.before) a.conn) left).1;
 }
 
 -- an ask, by the number that it was given
@@ -129,8 +126,8 @@ owns n m a o (x ∷ g) begun seated front other is = owns_more n m x.0 a g (plai
 -- what was not replied in the whole was not replied among the own entries
 unreplied_more : (m : ℕ) (h own : List Entry) (e : Entry) (b : Bool) → is_replied (e ∷ h) m ≡ false → (is_replied h m ≡ false → is_replied own m ≡ false) → is_replied (cond b (e ∷ own) own) m ≡ false
 unfolding is_replied
-unreplied_more m h own (Collect front (Collected.Reply r)) true un ih = let parts = or_false (r.ask == m) (is_replied h m) un in rw parts.0 (ih parts.1)
-unreplied_more m h own (Collect front (Collected.Reply r)) false un ih = ih (or_false (r.ask == m) (is_replied h m) un).1
+unreplied_more m h own (Collect front (Collected.Reply r)) true un ih = let parts = or_parts (r.ask == m) (is_replied h m) un in rw parts.0 (ih parts.1)
+unreplied_more m h own (Collect front (Collected.Reply r)) false un ih = ih (or_parts (r.ask == m) (is_replied h m) un).1
 unreplied_more m h own e true un ih = ih un
 unreplied_more m h own e false un ih = ih un
 

@@ -1,3 +1,2 @@
-mod Shares
 mod SoundPlan
 mod Turning

@@ -42,7 +42,7 @@ pub struct Left {
 }
 
 /// A shared farm of the plan over an empty store, and its first seat.
-#[tactic(auto, using(crate::proofs::Shares::is_short))]
+#[tactic(auto, using(farm_shared::proofs::Shares::is_short))]
 fn share(alloc: Global) -> Option<(SharedFarm<MemStore>, Seat<MemStore>)>
     ensures { IfSome result (λ made. IsSeatOf made.0 made.1 × (made.1 ≡ first_of made.0)) }
 {

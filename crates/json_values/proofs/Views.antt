@@ -1,5 +1,6 @@
 -- What a list of members is seen as, member by member.
-use Rattle.std.proofs.Common.{◌≡◌, ℕ, List, [], ◌∷◌, ◌++◌, map, Bool, true, false, cond, Option, Some, Vec, Global, String, Ordering, Less, Equal, Greater, string_bytes, nat_cmp, is_eq, bytes_eq, true≢false, refl, sym, ap, ◌∙◌, subst, rules}
+use Rattle.std.proofs.Common.{◌≡◌, ℕ, ◌+◌, ◌<◌, List, [], ◌∷◌, ◌++◌, length, take, get_or, map, Bool, true, false, cond, Option, Some, Vec, Global, String, Ordering, Less, Equal, Greater, string_bytes, nat_cmp, is_eq, bytes_eq, true≢false, refl, sym, ap, ◌∙◌, subst, rules}
+use Rattle.std.proofs.lemmas.List.{take_more}
 use Rattle.std.proofs.lemmas.Cmp.{nat_list_cmp_total, tied_itself}
 use Rattle.std.proofs.lemmas.Map.Text.{is_eq-slice_cmp}
 use Rattle.std.proofs.lemmas.Slice.Eq.{bytes_eq-Decides}
@@ -76,3 +77,10 @@ found_after q k d ms false e = get_member-put_other q k d ms (λ same. true≢fa
 pub get_member-push : (q : List ℕ) (es : List Entry) (m : Entry)
     → get_member q (members_view (es ++ m ∷ [])) ≡ cond (bytes_eq (string_bytes m.0) q) (Some (view m.1)) (get_member q (members_view es))
 get_member-push q es m = ap (get_member q) (members_view-push es m.0 m.1) ∙ found_after q (string_bytes m.0) (view m.1) (members_view es) (bytes_eq (string_bytes m.0) q) refl
+
+-- the same of the members before one place and of those before the next
+pub get_member-more : (q : List ℕ) (es : List Entry) (n i : ℕ) (m : Entry) → n ≡ i + 1 → i < length es → m ≡ get_or es i m
+    → get_member q (members_view (take n es)) ≡ cond (bytes_eq (string_bytes m.0) q) (Some (view m.1)) (get_member q (members_view (take i es)))
+get_member-more q es n i m next inside is =
+    let front : take n es ≡ take i es ++ m ∷ [] = ap (λ k. take k es) next ∙ take_more es i m inside ∙ ap (λ y. take i es ++ y ∷ []) (sym is) in
+    ap (λ ys. get_member q (members_view ys)) front ∙ get_member-push q (take i es) m

@@ -41,7 +41,7 @@ pub struct Actor<S> {
 }
 
 /// A shared farm of the plan, and its first seat.
-#[tactic(auto, using(crate::proofs::Shares::is_short))]
+#[tactic(auto, using(farm_shared::proofs::Shares::is_short))]
 fn share(alloc: Global, plan: FarmPlan) -> Option<(SharedFarm<NoStore>, Seat<NoStore>)>
     requires { IsPlan plan }
     ensures { IfSome result (λ made. IsSeatOf made.0 made.1 × (made.1 ≡ first_of made.0)) }

@@ -1,4 +1,4 @@
-use Rattle.four_workers.proofs.Shares.{may_share}
+use Rattle.farm_shared.proofs.Shares.{may_share}
 use Rattle.four_workers.proofs.crew.share.Goals as goal
 
 pub new-requires-5-clause-stands : goal.new-requires-5-clause-stands

@@ -1,9 +1,8 @@
-use Rattle.std.proofs.Common.{◌≡◌, ◌+◌, ◌-◌, [], ◌∷◌, ◌++◌, take, Bool, true, false, cond, Some, string_bytes, sym, ap, ◌∙◌, arith}
-use Rattle.std.proofs.lemmas.List.{take_more}
+use Rattle.std.proofs.Common.{◌≡◌, ◌-◌, Bool, true, false, cond, take, Some, string_bytes, sym, ap, ◌∙◌, arith}
 use Rattle.std.specs.Str.{bytes_eq}
 use Rattle.serde_json.specs.Find.{get_member}
 use Rattle.json_values.specs.View.{view, members_view}
-use Rattle.json_values.proofs.Views.{get_member-push}
+use Rattle.json_values.proofs.Views.{get_member-more}
 use Rattle.json_values.proofs.value.last.Goals as goal
 
 pub returns-then-eq : goal.returns-then-eq
@@ -12,12 +11,9 @@ returns-then-eq c =
     let i = c.loop-left.left - 1 in
     let m = c.index-members-left.result in
     let key = c.args.key.now in
-    let next : c.loop-left.left ≡ i + 1 = omega arith in
-    let front : take c.loop-left.left xs ≡ take i xs ++ m ∷ [] = ap (λ k. take k xs) next ∙ take_more xs i m (omega arith) ∙ ap (λ y. take i xs ++ y ∷ []) (sym c.index-members-left.is) in
-    let step = c.loop-left.invariant.0 ∙ ap (λ ys. get_member key (members_view ys)) front ∙ get_member-push key (take i xs) m in
-    let pick = λ (b : Bool). cond b (Some (view m.1)) (get_member key (members_view (take i xs))) in
+    let step = get_member-more key xs c.loop-left.left i m (omega arith) (omega arith) c.index-members-left.is in
     let same : bytes_eq (string_bytes m.0) key ≡ true = grind arith in
-    sym (step ∙ ap pick same)
+    sym (c.loop-left.invariant.0 ∙ step ∙ ap (λ (b : Bool). cond b (Some (view m.1)) (get_member key (members_view (take i xs)))) same)
 
 pub loop-left-preserved : goal.loop-left-preserved
 loop-left-preserved c =
@@ -25,9 +21,6 @@ loop-left-preserved c =
     let i = c.loop-left.left - 1 in
     let m = c.index-members-left.result in
     let key = c.args.key.now in
-    let next : c.loop-left.left ≡ i + 1 = omega arith in
-    let front : take c.loop-left.left xs ≡ take i xs ++ m ∷ [] = ap (λ k. take k xs) next ∙ take_more xs i m (omega arith) ∙ ap (λ y. take i xs ++ y ∷ []) (sym c.index-members-left.is) in
-    let step = c.loop-left.invariant.0 ∙ ap (λ ys. get_member key (members_view ys)) front ∙ get_member-push key (take i xs) m in
-    let pick = λ (b : Bool). cond b (Some (view m.1)) (get_member key (members_view (take i xs))) in
+    let step = get_member-more key xs c.loop-left.left i m (omega arith) (omega arith) c.index-members-left.is in
     let other : bytes_eq (string_bytes m.0) key ≡ false = grind arith in
-    (step ∙ ap pick other, omega arith)
+    (c.loop-left.invariant.0 ∙ step ∙ ap (λ (b : Bool). cond b (Some (view m.1)) (get_member key (members_view (take i xs)))) other, omega arith)

@@ -1,4 +1,4 @@
-use Rattle.work_bench.proofs.Shares.{may_share}
+use Rattle.farm_shared.proofs.Shares.{may_share}
 use Rattle.work_bench.proofs.crew.share.Goals as goal
 
 pub new-requires-clause-stands : goal.new-requires-clause-stands

@@ -1,4 +1,4 @@
--- A farm that was started may be shared.
+-- A farm that was started with nothing resumed may be shared.
 use Rattle.std.proofs.Common.{◌≡◌, ◌<◌, ◌^◌, Bool, true, [], length, None, sym, ap, subst, arith}
 use Rattle.std.specs.Option.{is_some}
 use Rattle.farm_base.specs.Outside.{Outside}
