@@ -1,5 +1,6 @@
 #!/usr/bin/env bash
-# How the workers of a farm scale, with no sockets, no client and no store: metatiles a second with 1, 2 and 4 workers.
+# How the workers of a farm scale, with no sockets, no client and no store: metatiles a second with 1, 2 and 4 workers,
+# while nothing else is to be done.
 #
 #   benchmarks/workers.sh [quick]        (with `quick` a tenth of the rounds)
 #

@@ -4,10 +4,11 @@ ghost use Rattle.farm_plan.specs.Plans.{IsPlan};
 ghost use Rattle.turn_cell.specs.SeatStates.{IsSeatOf, first_of};
 ghost use Rattle.work_bench.specs.Crew.{IsActor};
 
-use crate::feeding::{Rounds, feed};
+use crate::countdown::{Countdown, CountingBell};
+use crate::feeding::{Feeder, Rounds, feed};
 use crate::stores::NoStore;
 use crossbeam_utils::sync::{Parker, Unparker};
-use farm_base::{Bells, NoBell, NoMemory, OpenGate};
+use farm_base::{Bells, NoMemory, OpenGate};
 use farm_core::Farm;
 use farm_plan::FarmPlan;
 use farm_shared::{Alarms, Seat, SharedFarm, cross};
@@ -23,20 +24,13 @@ use tile_store::TileStore;
 /// A thread for each of more actors than there may be.
 const THREADS: usize = 32;
 
-/// The bells of fronts that are not there.
-const NO_BELLS: Bells<NoBell> = Bells {
-    renderd: NoBell,
-    tiles: NoBell,
-    control: NoBell,
-};
-
 /// The feeder, at place 0, or a worker, with its seat and what it sleeps on.
 #[derive(Drop)]
 pub struct Actor<S> {
     pub place: u32,
     pub seat: S,
     pub nap: Parker,
-    /// How long the rounds of the feeder took, once all their metatiles were Done.
+    /// How long the rounds of the feeder took, once all their metatiles were drawn.
     pub took: Option<Duration>,
 }
 
@@ -90,12 +84,13 @@ fn actors_of(
     Some(actors)
 }
 
-/// An actor in its thread, once all have begun. It wakes all when it has ended.
+/// An actor in its thread, once all have begun. It wakes all workers when it has ended.
 fn act<R: Wait + Clock, D: TileStore>(
     rt: &R,
     alloc: Global,
     farm: &SharedFarm<D>,
     barrier: &StartBarrier,
+    countdown: &Countdown,
     rounds: Rounds,
     actor: &mut Actor<Seat<D>>,
 )
@@ -104,12 +99,26 @@ fn act<R: Wait + Clock, D: TileStore>(
     if !barrier.begin(rt) {
         return;
     }
+    let Some((_, workers)) = barrier.sleepers.as_slice().split_first() else {
+        return;
+    };
+    let bells = Bells {
+        renderd: CountingBell(Some(countdown)),
+        tiles: CountingBell(None),
+        control: CountingBell(None),
+    };
     let alarms = Alarms {
-        workers: barrier.sleepers.as_slice(),
-        bells: &NO_BELLS,
+        workers,
+        bells: &bells,
     };
     if actor.place == 0 {
-        actor.took = feed(rt, farm, &mut actor.seat, &actor.nap, &alarms, rounds);
+        let feeder = Feeder {
+            workers,
+            countdown,
+            nap: &actor.nap,
+            rounds,
+        };
+        actor.took = feed(rt, farm, &mut actor.seat, feeder);
     } else {
         work(
             rt,
@@ -131,6 +140,7 @@ fn act_all<R: Threads + Wait + Clock + Sync, D: TileStore + Send>(
     alloc: Global,
     farm: &SharedFarm<D>,
     barrier: &StartBarrier,
+    countdown: &Countdown,
     rounds: Rounds,
     actors: &mut [Actor<Seat<D>>],
 )
@@ -141,7 +151,7 @@ fn act_all<R: Threads + Wait + Clock + Sync, D: TileStore + Send>(
         rt,
         actors,
         THREADS,
-        &|_, actor| { act(rt, alloc, farm, barrier, rounds, actor) },
+        &|_, actor| { act(rt, alloc, farm, barrier, countdown, rounds, actor) },
     );
 }
 
@@ -159,12 +169,21 @@ fn run_shared<R: Threads + Wait + Clock + Sync>(
 {
     let mut sleepers = Vec::new(alloc);
     let mut actors = actors_of(alloc, farm, first, &mut sleepers, count)?;
+    let countdown = Countdown::new(actors.first()?.nap.unparker().clone().ok()?);
     let barrier = StartBarrier::new(u64::from(count), sleepers);
-    act_all(rt, alloc, farm, &barrier, rounds, actors.as_mut_slice());
+    act_all(
+        rt,
+        alloc,
+        farm,
+        &barrier,
+        &countdown,
+        rounds,
+        actors.as_mut_slice(),
+    );
     actors.first()?.took
 }
 
-/// How long the rounds took on a farm of the plan. Nothing where a metatile was not Done, or memory, a thread or the
+/// How long the rounds took on a farm of the plan. Nothing where a metatile was not drawn, or memory, a thread or the
 /// clock was wanting.
 pub(crate) fn run<R: Threads + Wait + Clock + Sync>(
     rt: &R,

@@ -1,11 +1,10 @@
 //! The feeder.
 ghost use Rattle.work_bench.specs.Crew.{IsFront};
 
-use crossbeam_utils::sync::Parker;
-use farm_base::NoBell;
-use farm_history::{AskAnswer, Cmd, Collected, Conn, Outcome, Spot};
-use farm_shared::{Alarms, Seat, SharedFarm};
-use plain_world::Tile;
+use crate::countdown::Countdown;
+use crossbeam_utils::sync::{Parker, Unparker};
+use farm_history::{AskAnswer, Cmd, Conn, Looked, Spot};
+use farm_shared::{Seat, SharedFarm};
 use std::rt::Clock;
 use std::sync::Wait;
 use std::time::{Duration, Instant};
@@ -16,14 +15,11 @@ pub const ZOOMS: u32 = 4;
 
 const DEEPEST: u32 = 14;
 
-const WORLD: Tile = Tile { z: 0, x: 0, y: 0 };
-
-/// How many rounds there are, how many metatiles a round has, and how many asks are open at once.
+/// How many rounds there are, and how many metatiles a round has.
 #[derive(Clone, Copy)]
 pub struct Rounds {
     pub count: u32,
     pub metatiles: u32,
-    pub open: u32,
 }
 
 impl Rounds {
@@ -31,6 +27,15 @@ impl Rounds {
     pub(crate) fn all(self) -> u64 {
         u64::from(self.count) * u64::from(self.metatiles)
     }
+}
+
+/// What the feeder wakes and sleeps on.
+#[derive(Clone, Copy)]
+pub struct Feeder<'a> {
+    pub workers: &'a [Unparker],
+    pub countdown: &'a Countdown,
+    pub nap: &'a Parker,
+    pub rounds: Rounds,
 }
 
 /// The tile at the middle of the world that is the one of that number in a round: four zooms of each map.
@@ -45,121 +50,106 @@ fn spot_at(number: u32) -> Spot {
     }
 }
 
-/// Asks for the metatile of that number, and wakes the workers: whether it waits now.
-fn ask<R: Wait, D: TileStore>(
-    rt: &R,
-    farm: &SharedFarm<D>,
-    seat: &mut Seat<D>,
-    alarms: &Alarms<'_, NoBell>,
-    number: u32,
-) -> bool
+/// Asks for the metatile of that number to be drawn anew: whether it was asked for.
+fn ask<R: Wait, D: TileStore>(rt: &R, farm: &SharedFarm<D>, seat: &mut Seat<D>, number: u32) -> bool
     requires { IsFront farm.now seat.old }
     ensures { IsFront farm.now seat.new }
 {
     let conn = Conn { front: 0, number };
-    let answer = farm.ask(rt, seat, conn, Cmd::Render, spot_at(number));
-    alarms.ring_all();
-    matches!(answer, Ok(AskAnswer::Queued(_)))
+    let answer = farm.ask(rt, seat, conn, Cmd::Dirty, spot_at(number));
+    matches!(answer, Ok(AskAnswer::Silent))
 }
 
-/// Waits for a reply: whether it is Done.
-fn wait_done<R: Wait, D: TileStore>(
+/// Asks for all metatiles of a round, and wakes a worker at each of the first: whether all were asked for.
+fn ask_all<R: Wait, D: TileStore>(
     rt: &R,
     farm: &SharedFarm<D>,
     seat: &mut Seat<D>,
-    nap: &Parker,
+    feeder: Feeder<'_>,
 ) -> bool
     requires { IsFront farm.now seat.old }
     ensures { IsFront farm.now seat.new }
 {
-    for _ in rt.forever() {
-        match farm.collect(rt, seat, 0) {
-            Ok(Collected::Reply(reply)) => return reply.outcome == Outcome::Done,
-            Ok(Collected::Empty) => nap.park(rt),
-            _ => return false,
-        }
-    }
-    unreachable!()
-}
-
-/// Waits for so many replies: whether all are Done.
-fn wait_all<R: Wait, D: TileStore>(
-    rt: &R,
-    farm: &SharedFarm<D>,
-    seat: &mut Seat<D>,
-    nap: &Parker,
-    replies: u32,
-) -> bool
-    requires { IsFront farm.now seat.old }
-    ensures { IsFront farm.now seat.new }
-{
-    for _ in 0..replies {
-        if !wait_done(rt, farm, seat, nap) {
+    for number in 0..feeder.rounds.metatiles {
+        if !ask(rt, farm, seat, number) {
             return false;
+        }
+        if let Some(worker) = feeder.workers.get(number as usize) {
+            worker.unpark();
         }
     }
     true
 }
 
-/// Asks for all metatiles of a round, and waits until all are answered: whether all are Done.
-fn run_round<R: Wait, D: TileStore>(
+/// Whether all metatiles of a round are clean.
+fn are_clean<R: Wait, D: TileStore>(
     rt: &R,
     farm: &SharedFarm<D>,
     seat: &mut Seat<D>,
-    nap: &Parker,
-    alarms: &Alarms<'_, NoBell>,
     rounds: Rounds,
 ) -> bool
     requires { IsFront farm.now seat.old }
     ensures { IsFront farm.now seat.new }
 {
     for number in 0..rounds.metatiles {
-        if number >= rounds.open && !wait_done(rt, farm, seat, nap) {
-            return false;
-        }
-        if !ask(rt, farm, seat, alarms, number) {
+        if !matches!(farm.look(rt, seat, spot_at(number)), Ok(Looked::Clean(_))) {
             return false;
         }
     }
-    let open = rounds.open.min(rounds.metatiles);
-    wait_all(rt, farm, seat, nap, open)
+    true
 }
 
-/// How long all rounds take, if all metatiles are Done.
-fn run_rounds<R: Wait + Clock, D: TileStore>(
+/// How long a round takes, from its first ask to the end of its last drawing, if all its metatiles are clean then.
+fn run_round<R: Wait + Clock, D: TileStore>(
     rt: &R,
     farm: &SharedFarm<D>,
     seat: &mut Seat<D>,
-    nap: &Parker,
-    alarms: &Alarms<'_, NoBell>,
-    rounds: Rounds,
+    feeder: Feeder<'_>,
 ) -> Option<Duration>
     requires { IsFront farm.now seat.old }
     ensures { IsFront farm.now seat.new }
 {
+    feeder.countdown.begin(u64::from(feeder.rounds.metatiles));
     let began = Instant::now(rt).ok()?;
-    for _ in 0..rounds.count {
-        if farm.expire(rt, seat, WORLD).is_err()
-            || !run_round(rt, farm, seat, nap, alarms, rounds)
-        {
-            return None;
-        }
+    if !ask_all(rt, farm, seat, feeder) {
+        return None;
     }
-    began.elapsed(rt).ok()
+    feeder.countdown.wait(rt, feeder.nap);
+    let took = began.elapsed(rt).ok()?;
+    if are_clean(rt, farm, seat, feeder.rounds) {
+        Some(took)
+    } else {
+        None
+    }
 }
 
-/// Feeds the farm and stops it: how long the rounds took, if all metatiles were Done.
+/// How long all rounds take together, if all metatiles were drawn.
+fn run_rounds<R: Wait + Clock, D: TileStore>(
+    rt: &R,
+    farm: &SharedFarm<D>,
+    seat: &mut Seat<D>,
+    feeder: Feeder<'_>,
+) -> Option<Duration>
+    requires { IsFront farm.now seat.old }
+    ensures { IsFront farm.now seat.new }
+{
+    let mut took = Duration::ZERO;
+    for _ in 0..feeder.rounds.count {
+        took = took.checked_add(run_round(rt, farm, seat, feeder)?)?;
+    }
+    Some(took)
+}
+
+/// Feeds the farm and stops it: how long the rounds took, if all metatiles were drawn.
 pub(crate) fn feed<R: Wait + Clock, D: TileStore>(
     rt: &R,
     farm: &SharedFarm<D>,
     seat: &mut Seat<D>,
-    nap: &Parker,
-    alarms: &Alarms<'_, NoBell>,
-    rounds: Rounds,
+    feeder: Feeder<'_>,
 ) -> Option<Duration>
     requires { IsFront farm.now seat.old }
 {
-    let took = run_rounds(rt, farm, seat, nap, alarms, rounds);
+    let took = run_rounds(rt, farm, seat, feeder);
     let _stopped = farm.stop(rt, seat);
     took
 }

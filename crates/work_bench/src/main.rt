@@ -1,14 +1,16 @@
 //! How many metatiles a second the workers of a shared farm draw, with no sockets, no client and no store.
 //!
 //! `work_bench CONFIG ROUNDS` runs a farm of that configuration over a store that keeps nothing: a feeder and the
-//! workers, each in a thread of its own. In each round the feeder expires the world and then asks for the metatiles
-//! of zooms 14 to 11 at the middle of the world, on every map, as many at once as may wait, until all are answered
-//! Done. The time is that of all rounds, from the first ask to the last reply.
+//! workers, each in a thread of its own. In each round the feeder asks for the metatiles of zooms 14 to 11 at
+//! the middle of the world, on every map, to be drawn anew. While they are drawn it sleeps, and at
+//! the last one it wakes and sees that all are clean. The time is that of the rounds, each from its first ask to the end
+//! of its last drawing.
 #![tactic(auto)]
 
 ghost use Rattle.std.specs.Prelude.{◌<◌};
 ghost use Rattle.farm_plan.specs.Plans.{IsPlan};
 
+mod countdown;
 mod crew;
 mod feeding;
 mod plans;

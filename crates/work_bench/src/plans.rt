@@ -28,13 +28,12 @@ pub(crate) fn plan_in<F: Files>(alloc: Global, files: &mut F, name: &str) -> Opt
     }
 }
 
-/// So many rounds on a farm of the plan.
+/// So many rounds on a farm of the plan, each of metatiles that may all wait at once.
 pub(crate) fn rounds_of(plan: &FarmPlan, count: u32) -> Rounds
     requires { IsPlan plan.now }
 {
     Rounds {
         count,
-        metatiles: plan.maps.len() as u32 * ZOOMS,
-        open: plan.limits.request,
+        metatiles: (plan.maps.len() as u32 * ZOOMS).min(plan.limits.dirty),
     }
 }

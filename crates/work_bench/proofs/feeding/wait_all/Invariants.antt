@@ -1,5 +1,0 @@
-use Rattle.work_bench.specs.Crew.{IsFront}
-use Rattle.work_bench.proofs.feeding.wait_all.Given as goal
-
-abbrev pub invariant-loop : goal.invariant-loop
-invariant-loop g l = IsFront l.farm l.seat
