@@ -173,6 +173,14 @@ impl Image {
         pixels::bytes_after(alloc, head.as_str(), &self.pixels)
     }
 
+    /// Appends its text, as `write_ppm` gives it.
+    pub fn put_ppm(&self, out: &mut Vec<u8>) -> Result<(), NoMemory>
+        ensures { OnOk result (out.new.items ≡ out.old.items ++ ppm self.now.cols self.now.rows self.now.pixels) }
+    {
+        let head = pixels::head_of(*out.allocator(), self.cols, self.rows)?;
+        pixels::put_after(head.as_str(), &self.pixels, out)
+    }
+
     /// Appends the text of a part of it, which is inside, as `cut` and then `write_ppm` give it.
     pub fn put_part(
         &self,
