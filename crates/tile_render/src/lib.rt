@@ -7,6 +7,7 @@ mod covers;
 mod grids;
 mod items;
 mod layers;
+mod loads;
 mod metatiles;
 mod painting;
 mod regions;
@@ -15,5 +16,6 @@ mod styles;
 mod symbolizers;
 mod tiles;
 
+pub use loads::is_light;
 pub use metatiles::{DrawnMeta, draw_meta, draw_picture};
-pub use tiles::draw_tile;
+pub use tiles::{draw_tile, draw_tile_picture};

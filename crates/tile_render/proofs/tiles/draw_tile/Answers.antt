@@ -1,16 +1,6 @@
-use Rattle.std.proofs.Common.{◌∙◌, ap, refl}
-use Rattle.plain_drawing.specs.inner.Pictures.{with_map}
-use Rattle.plain_drawing.proofs.Steps.{drawn_tile, one_colour}
+use Rattle.std.proofs.Common.{◌∙◌}
 use Rattle.tile_render.proofs.Steps.{if_ok}
 use Rattle.tile_render.proofs.tiles.draw_tile.Goals as goal
 
 pub returns : goal.returns
-returns c =
-    if_ok _ _ c.write_ppm.result
-    (λ v e. drawn_tile c.args.style.now c.args.size c.args.t c.args.snapshot.now c.window-w.result c.denominator-scale.result
-    (one_colour c.window-w.result c.args.style.now.background_color) c.image.result.now v.items
-    c.window-w.ensures.value c.denominator-scale.ensures.value refl
-    (c.image.ensures.value ∙ c.in_ok-draw_map.ensures.drawn
-    ∙ ap (λ m. with_map m.window c.denominator-scale.result c.args.style.now c.args.snapshot.now m.image) c.in_ok-canvas.ensures
-    ∙ ap (λ s. with_map c.window-w.result c.denominator-scale.result c.args.style.now c.args.snapshot.now (one_colour c.window-w.result s.background_color)) c.style.view_is) e)
-    c.write_ppm.ensures.text
+returns c = if_ok _ _ c.write_ppm.result (λ v e. e ∙ c.in_ok-image.ensures) c.write_ppm.ensures.text
