@@ -1,7 +1,7 @@
 //! The tiles of a metatile in their places, also of a ring of very many points, and a map without its grids.
 ghost use Rattle.std.specs.Prelude.{◌<◌, ◌^◌};
 ghost use Rattle.plain_data.specs.Data.{IsLayer};
-ghost use Rattle.plain_world.specs.World.{IsMeta};
+ghost use Rattle.plain_world.specs.World.{IsMeta, IsTileSize};
 
 use crate::drawings::{data, is_boxed, map};
 use data_versions::{Dataset, Layer, Snapshot};
@@ -45,13 +45,15 @@ const BLUE: &str = r#"{"background-color":"blue","styles":[],"layers":[]}"#;
 fn encoded(
     alloc: Global,
     style: &MapStyle,
+    size: u32,
     meta: Meta,
     snapshot: &Snapshot,
 ) -> Result<Vec<u8>, NoMemory>
-    requires { IsMeta meta }
+    requires size { IsTileSize size }
+    requires meta { IsMeta meta }
 {
     law_drawn_container();
-    let drawn = draw_meta(alloc, style, 16, meta, snapshot)?;
+    let drawn = draw_meta(alloc, style, size, meta, snapshot)?;
     encode(alloc, drawn.meta, drawn.tiles.as_slice())
 }
 
@@ -66,8 +68,21 @@ fn a_container_from_a_used_buffer(rt: HostRuntime) -> Result<(), Fail> {
     let mut buffer = PictureBuffer::new(alloc);
     let larger = draw_container(&mut buffer, &blue, 32, meta, &snapshot)?;
     let container = draw_container(&mut buffer, &style, 16, meta, &snapshot)?;
-    let wanted = encoded(alloc, &style, meta, &snapshot)?;
+    let wanted = encoded(alloc, &style, 16, meta, &snapshot)?;
     assert!(rt; larger.len() > container.len() && container == wanted);
+    Ok(())
+}
+
+// Each of the tiles has a picture of its own, in one buffer.
+#[test]
+fn large_tiles_of_few_data(rt: HostRuntime) -> Result<(), Fail> {
+    let alloc = rt.alloc();
+    let style = map(alloc, RED)?;
+    let snapshot = data(alloc, SQUARE)?;
+    let meta = Meta { z: 1, x: 0, y: 0 };
+    let mut buffer = PictureBuffer::new(alloc);
+    let container = draw_container(&mut buffer, &style, 256, meta, &snapshot)?;
+    assert!(rt; container == encoded(alloc, &style, 256, meta, &snapshot)?);
     Ok(())
 }
 
