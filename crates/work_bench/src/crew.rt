@@ -4,11 +4,10 @@ ghost use Rattle.farm_plan.specs.Plans.{IsPlan};
 ghost use Rattle.turn_cell.specs.SeatStates.{IsSeatOf, first_of};
 ghost use Rattle.work_bench.specs.Crew.{IsActor};
 
-use crate::countdown::{Countdown, CountingBell};
-use crate::feeding::{Feeder, Rounds, feed};
+use crate::feeding::{Drawn, Rounds, feed};
 use crate::stores::NoStore;
 use crossbeam_utils::sync::{Parker, Unparker};
-use farm_base::{Bells, NoMemory, OpenGate};
+use farm_base::{Bells, NoBell, NoMemory, OpenGate};
 use farm_core::Farm;
 use farm_plan::FarmPlan;
 use farm_shared::{Alarms, Seat, SharedFarm, cross};
@@ -18,11 +17,17 @@ use std::alloc::Global;
 use std::rt::Clock;
 use std::sync::Wait;
 use std::thread::{Threads, for_each_mut};
-use std::time::Duration;
 use tile_store::TileStore;
 
 /// A thread for each of more actors than there may be.
 const THREADS: usize = 32;
+
+/// The bells of fronts that are not there.
+const NO_BELLS: Bells<NoBell> = Bells {
+    renderd: NoBell,
+    tiles: NoBell,
+    control: NoBell,
+};
 
 /// The feeder, at place 0, or a worker, with its seat and what it sleeps on.
 #[derive(Drop)]
@@ -30,8 +35,8 @@ pub struct Actor<S> {
     pub place: u32,
     pub seat: S,
     pub nap: Parker,
-    /// How long the rounds of the feeder took, once all their metatiles were drawn.
-    pub took: Option<Duration>,
+    /// What was drawn for the feeder, in the end.
+    pub drawn: Option<Drawn>,
 }
 
 /// A shared farm of the plan, and its first seat.
@@ -75,7 +80,7 @@ fn actors_of(
             place,
             seat,
             nap,
-            took: None,
+            drawn: None,
         };
         if actors.push(actor).is_err() {
             return None;
@@ -90,7 +95,6 @@ fn act<R: Wait + Clock, D: TileStore>(
     alloc: Global,
     farm: &SharedFarm<D>,
     barrier: &StartBarrier,
-    countdown: &Countdown,
     rounds: Rounds,
     actor: &mut Actor<Seat<D>>,
 )
@@ -102,23 +106,12 @@ fn act<R: Wait + Clock, D: TileStore>(
     let Some((_, workers)) = barrier.sleepers.as_slice().split_first() else {
         return;
     };
-    let bells = Bells {
-        renderd: CountingBell(Some(countdown)),
-        tiles: CountingBell(None),
-        control: CountingBell(None),
-    };
     let alarms = Alarms {
         workers,
-        bells: &bells,
+        bells: &NO_BELLS,
     };
     if actor.place == 0 {
-        let feeder = Feeder {
-            workers,
-            countdown,
-            nap: &actor.nap,
-            rounds,
-        };
-        actor.took = feed(rt, farm, &mut actor.seat, feeder);
+        actor.drawn = feed(rt, farm, &mut actor.seat, workers, rounds);
     } else {
         work(
             rt,
@@ -140,7 +133,6 @@ fn act_all<R: Threads + Wait + Clock + Sync, D: TileStore + Send>(
     alloc: Global,
     farm: &SharedFarm<D>,
     barrier: &StartBarrier,
-    countdown: &Countdown,
     rounds: Rounds,
     actors: &mut [Actor<Seat<D>>],
 )
@@ -151,11 +143,11 @@ fn act_all<R: Threads + Wait + Clock + Sync, D: TileStore + Send>(
         rt,
         actors,
         THREADS,
-        &|_, actor| { act(rt, alloc, farm, barrier, countdown, rounds, actor) },
+        &|_, actor| { act(rt, alloc, farm, barrier, rounds, actor) },
     );
 }
 
-/// How long the rounds took on the shared farm with so many actors.
+/// What was drawn on the shared farm with so many actors.
 fn run_shared<R: Threads + Wait + Clock + Sync>(
     rt: &R,
     alloc: Global,
@@ -163,41 +155,32 @@ fn run_shared<R: Threads + Wait + Clock + Sync>(
     first: &mut Seat<NoStore>,
     count: u32,
     rounds: Rounds,
-) -> Option<Duration>
+) -> Option<Drawn>
     requires seat { IsSeatOf farm.now first.old }
     requires first { first.old ≡ first_of farm.now }
 {
     let mut sleepers = Vec::new(alloc);
     let mut actors = actors_of(alloc, farm, first, &mut sleepers, count)?;
-    let countdown = Countdown::new(actors.first()?.nap.unparker().clone().ok()?);
     let barrier = StartBarrier::new(u64::from(count), sleepers);
-    act_all(
-        rt,
-        alloc,
-        farm,
-        &barrier,
-        &countdown,
-        rounds,
-        actors.as_mut_slice(),
-    );
-    actors.first()?.took
+    act_all(rt, alloc, farm, &barrier, rounds, actors.as_mut_slice());
+    actors.first()?.drawn
 }
 
-/// How long the rounds took on a farm of the plan. Nothing where a metatile was not drawn, or memory, a thread or the
+/// What was drawn on a farm of the plan. Nothing where the drawing ended before all rounds were drawn, or memory, a thread or the
 /// clock was wanting.
 pub(crate) fn run<R: Threads + Wait + Clock + Sync>(
     rt: &R,
     alloc: Global,
     plan: FarmPlan,
     rounds: Rounds,
-) -> Option<Duration>
+) -> Option<Drawn>
     requires { IsPlan plan }
 {
     let count = plan.workers + 1;
     let (farm, first) = share(alloc, plan)?;
     let mut first = first;
-    let took = run_shared(rt, alloc, &farm, &mut first, count, rounds);
+    let drawn = run_shared(rt, alloc, &farm, &mut first, count, rounds);
     drop(first);
     drop(farm);
-    took
+    drawn
 }

@@ -1,12 +1,12 @@
 //! The feeder.
 ghost use Rattle.work_bench.specs.Crew.{IsFront};
 
-use crate::countdown::Countdown;
-use crossbeam_utils::sync::{Parker, Unparker};
-use farm_history::{AskAnswer, Cmd, Conn, Looked, Spot};
+use crossbeam_utils::sync::Unparker;
+use farm_history::{AskAnswer, Cmd, Conn, Spot};
 use farm_shared::{Seat, SharedFarm};
 use std::rt::Clock;
 use std::sync::Wait;
+use std::thread::sleep;
 use std::time::{Duration, Instant};
 use tile_store::TileStore;
 
@@ -15,27 +15,33 @@ pub const ZOOMS: u32 = 4;
 
 const DEEPEST: u32 = 14;
 
-/// How many rounds there are, and how many metatiles a round has.
+/// How long the feeder sleeps before it looks again, in microseconds.
+const PAUSE: u64 = 250;
+
+/// How often it looks in vain before it gives up.
+const PATIENCE: u32 = 100_000;
+
+/// How many rounds there are, and how many metatiles a round has: two portions.
 #[derive(Clone, Copy)]
 pub struct Rounds {
     pub count: u32,
-    pub metatiles: u32,
+    pub portion: u32,
 }
 
 impl Rounds {
     /// How many metatiles all rounds have.
-    pub(crate) fn all(self) -> u64 {
-        u64::from(self.count) * u64::from(self.metatiles)
+    fn all(self) -> u64 {
+        u64::from(self.count)
+            .saturating_mul(2)
+            .saturating_mul(u64::from(self.portion))
     }
 }
 
-/// What the feeder wakes and sleeps on.
+/// How many metatiles were drawn, and how long it took.
 #[derive(Clone, Copy)]
-pub struct Feeder<'a> {
-    pub workers: &'a [Unparker],
-    pub countdown: &'a Countdown,
-    pub nap: &'a Parker,
-    pub rounds: Rounds,
+pub struct Drawn {
+    pub metatiles: u64,
+    pub took: Duration,
 }
 
 /// The tile at the middle of the world that is the one of that number in a round: four zooms of each map.
@@ -60,96 +66,88 @@ fn ask<R: Wait, D: TileStore>(rt: &R, farm: &SharedFarm<D>, seat: &mut Seat<D>, 
     matches!(answer, Ok(AskAnswer::Silent))
 }
 
-/// Asks for all metatiles of a round, and wakes a worker at each of the first: whether all were asked for.
-fn ask_all<R: Wait, D: TileStore>(
+/// Asks for one of the two portions of the metatiles, and wakes the workers: whether all were asked for.
+fn ask_portion<R: Wait, D: TileStore>(
     rt: &R,
     farm: &SharedFarm<D>,
     seat: &mut Seat<D>,
-    feeder: Feeder<'_>,
+    workers: &[Unparker],
+    portion: u32,
+    second: bool,
 ) -> bool
     requires { IsFront farm.now seat.old }
     ensures { IsFront farm.now seat.new }
 {
-    for number in 0..feeder.rounds.metatiles {
-        if !ask(rt, farm, seat, number) {
+    let first = if second { portion } else { 0 };
+    for number in 0..portion {
+        if !ask(rt, farm, seat, first.saturating_add(number)) {
             return false;
         }
-        if let Some(worker) = feeder.workers.get(number as usize) {
-            worker.unpark();
-        }
+    }
+    for worker in workers {
+        worker.unpark();
     }
     true
 }
 
-/// Whether all metatiles of a round are clean.
-fn are_clean<R: Wait, D: TileStore>(
+/// Asks for metatiles as they are drawn, until so many were: how many they are then. Nothing where the drawing ends before.
+fn draw_all<R: Wait + Clock, D: TileStore>(
     rt: &R,
     farm: &SharedFarm<D>,
     seat: &mut Seat<D>,
+    workers: &[Unparker],
     rounds: Rounds,
-) -> bool
+) -> Option<u64>
     requires { IsFront farm.now seat.old }
     ensures { IsFront farm.now seat.new }
 {
-    for number in 0..rounds.metatiles {
-        if !matches!(farm.look(rt, seat, spot_at(number)), Ok(Looked::Clean(_))) {
-            return false;
+    let mut asked = 0_u64;
+    let mut second = false;
+    let mut before = 0_u64;
+    let mut looks = 0_u32;
+    for _ in rt.forever() {
+        let stored = farm.tally(rt, seat).ok()?.stored;
+        if stored >= rounds.all() {
+            return Some(stored);
         }
+        looks = if stored == before {
+            looks.saturating_add(1)
+        } else {
+            0
+        };
+        before = stored;
+        if looks >= PATIENCE {
+            return None;
+        }
+        if asked.saturating_sub(stored) > u64::from(rounds.portion) {
+            sleep(rt, Duration::from_micros(PAUSE));
+            continue;
+        }
+        if !ask_portion(rt, farm, seat, workers, rounds.portion, second) {
+            return None;
+        }
+        asked = asked.saturating_add(u64::from(rounds.portion));
+        second = !second;
     }
-    true
+    unreachable!()
 }
 
-/// How long a round takes, from its first ask to the end of its last drawing, if all its metatiles are clean then.
-fn run_round<R: Wait + Clock, D: TileStore>(
-    rt: &R,
-    farm: &SharedFarm<D>,
-    seat: &mut Seat<D>,
-    feeder: Feeder<'_>,
-) -> Option<Duration>
-    requires { IsFront farm.now seat.old }
-    ensures { IsFront farm.now seat.new }
-{
-    feeder.countdown.begin(u64::from(feeder.rounds.metatiles));
-    let began = Instant::now(rt).ok()?;
-    if !ask_all(rt, farm, seat, feeder) {
-        return None;
-    }
-    feeder.countdown.wait(rt, feeder.nap);
-    let took = began.elapsed(rt).ok()?;
-    if are_clean(rt, farm, seat, feeder.rounds) {
-        Some(took)
-    } else {
-        None
-    }
-}
-
-/// How long all rounds take together, if all metatiles were drawn.
-fn run_rounds<R: Wait + Clock, D: TileStore>(
-    rt: &R,
-    farm: &SharedFarm<D>,
-    seat: &mut Seat<D>,
-    feeder: Feeder<'_>,
-) -> Option<Duration>
-    requires { IsFront farm.now seat.old }
-    ensures { IsFront farm.now seat.new }
-{
-    let mut took = Duration::ZERO;
-    for _ in 0..feeder.rounds.count {
-        took = took.checked_add(run_round(rt, farm, seat, feeder)?)?;
-    }
-    Some(took)
-}
-
-/// Feeds the farm and stops it: how long the rounds took, if all metatiles were drawn.
+/// Feeds the farm and stops it: how many metatiles were drawn, and how long it took.
 pub(crate) fn feed<R: Wait + Clock, D: TileStore>(
     rt: &R,
     farm: &SharedFarm<D>,
     seat: &mut Seat<D>,
-    feeder: Feeder<'_>,
-) -> Option<Duration>
+    workers: &[Unparker],
+    rounds: Rounds,
+) -> Option<Drawn>
     requires { IsFront farm.now seat.old }
 {
-    let took = run_rounds(rt, farm, seat, feeder);
+    let began = Instant::now(rt).ok()?;
+    let metatiles = draw_all(rt, farm, seat, workers, rounds);
+    let took = began.elapsed(rt).ok();
     let _stopped = farm.stop(rt, seat);
-    took
+    Some(Drawn {
+        metatiles: metatiles?,
+        took: took?,
+    })
 }

@@ -1,23 +1,21 @@
 //! How many metatiles a second the workers of a shared farm draw, with no sockets, no client and no store.
 //!
 //! `work_bench CONFIG ROUNDS` runs a farm of that configuration over a store that keeps nothing: a feeder and the
-//! workers, each in a thread of its own. In each round the feeder asks for the metatiles of zooms 14 to 11 at
-//! the middle of the world, on every map, to be drawn anew. While they are drawn it sleeps, and at
-//! the last one it wakes and sees that all are clean. The time is that of the rounds, each from its first ask to the end
-//! of its last drawing.
+//! workers, each in a thread of its own. The feeder asks for the metatiles of zooms 14 to 11 at the middle of the world,
+//! on every map, to be drawn anew, in two halves and each again as soon as it was drawn, so that there is always one to
+//! be drawn; between it sleeps. It ends when as many were drawn as all rounds have.
 #![tactic(auto)]
 
 ghost use Rattle.std.specs.Prelude.{◌<◌};
 ghost use Rattle.farm_plan.specs.Plans.{IsPlan};
 
-mod countdown;
 mod crew;
 mod feeding;
 mod plans;
 mod stores;
 
 use crate::crew::run;
-use crate::feeding::Rounds;
+use crate::feeding::Drawn;
 use crate::plans::{plan_in, rounds_of};
 use farm_base::DiskFiles;
 use farm_plan::FarmPlan;
@@ -79,10 +77,9 @@ fn report<R: Threads + Wait + Clock + Print + Sync>(
 {
     let workers = plan.workers;
     let rounds = rounds_of(&plan, count);
-    let Some(took) = run(rt, alloc, plan, rounds) else {
+    let Some(Drawn { metatiles, took }) = run(rt, alloc, plan, rounds) else {
         return Ok(false);
     };
-    let metatiles = rounds.all();
     let micros = micros_of(took);
     println!(rt;
         "{workers} workers: {metatiles} metatiles in {} ms, {} a second",

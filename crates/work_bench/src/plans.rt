@@ -34,6 +34,6 @@ pub(crate) fn rounds_of(plan: &FarmPlan, count: u32) -> Rounds
 {
     Rounds {
         count,
-        metatiles: (plan.maps.len() as u32 * ZOOMS).min(plan.limits.dirty),
+        portion: (plan.maps.len() as u32 * ZOOMS).min(plan.limits.dirty) / 2,
     }
 }

@@ -1,5 +1,5 @@
 use Rattle.work_bench.specs.Crew.{IsFront}
-use Rattle.work_bench.proofs.feeding.run_rounds.Given as goal
+use Rattle.work_bench.proofs.feeding.draw_all.Given as goal
 
 abbrev pub invariant-loop : goal.invariant-loop
 invariant-loop g l = IsFront l.farm l.seat
