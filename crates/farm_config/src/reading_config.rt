@@ -113,7 +113,7 @@ fn config(alloc: Global, object: &Value) -> Result<Config, ConfigFault>
 
 /// Reads a configuration: what its text says, or the first fault in reading order.
 ///
-/// The object is read key by key in the order of the table in `docs/config.md`, a list entry by entry.
+/// The object is read key by key in the order of the table in `docs/operate/config.md`, a list entry by entry.
 /// Of a list that is too long the entries within its limit are read first, and the first entry past it
 /// is Range; a list of maps without an entry is Range after it was read.
 #[tactic(auto, unfolding(crate::specs::Tables::config_in))]

@@ -19,7 +19,7 @@ use std::alloc::Global;
 const DEPTH: u32 = 64;
 
 /// The filter that a text says. The form of filters is that of Mapnik's filter expressions, with
-/// binding strengths of this farm's own; `docs/filters.md` has the grammar. A text that is no filter
+/// binding strengths of this farm's own; `docs/maps/filters.md` has the grammar. A text that is no filter
 /// is answered by its first fault, whose place is a byte of the text or its length. Want of memory may
 /// come instead of either. Linear in the text, and no deeper than the filter nests.
 pub fn parse(alloc: Global, text: &str) -> Result<Expr, FilterFault>

@@ -56,7 +56,7 @@ fn map_style(alloc: Global, object: &Value) -> Result<MapStyle, StyleFault>
 /// them. The map object is read first with its own keys, then the rasters, the styles and the layers,
 /// each in order; a style before its rules, a rule before its symbolizers. Of each object: Shape where
 /// it is no object; Unsupported for an unknown key; Range where a list in it passes its limit; then its
-/// keys in the order of the table in `docs/styles.md`.
+/// keys in the order of the table in `docs/maps/styles.md`.
 pub fn read_style(alloc: Global, bytes: &[u8]) -> Result<MapStyle, StyleFault>
     // The answer is what the text says, where filters are what the grammar of filters says,
     ensures grammar { (says : FilterReading) → SaysGrammar says
