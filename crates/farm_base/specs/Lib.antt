@@ -1,4 +1,5 @@
 pub mod Digits
 pub mod Earlier
 pub mod InMemory
+pub mod Limits
 pub mod Outside

@@ -1,23 +1,31 @@
-//! What every crate of the farm shares: want of memory, texts, bytes and attribute values, the traits
-//! of the outside with their forms in memory and over the real files and streams, and bells and gates.
+//! What every crate of the farm shares: want of memory, turns that are used up, limits, texts, bytes and
+//! attribute values, the traits of the outside with their forms in memory and over the real files and
+//! streams, and bells and gates.
 #![tactic(auto)]
 
 mod bells;
 mod disk;
 mod faults;
 mod files;
+mod limits;
 mod listed;
 mod memory;
 mod sinks;
 mod texts;
+mod turns;
 mod values;
 
 pub use bells::{Bell, Bells, Gate, NoBell, OpenGate};
 pub use disk::{DiskFiles, OutSink};
 pub use faults::{ApplyFault, MetaFault};
 pub use files::{FailedCall, FileFault, Files, MemFiles};
+pub use limits::{
+    MOST_ASKS, MOST_ASKS_OF_ONE, MOST_CONTROL_BYTES, MOST_HEAD_BYTES, MOST_HEAD_FIELDS, MOST_LINES,
+    MOST_PIECE_BYTES, MOST_REST_BYTES, MOST_SESSIONS, MOST_TURNS,
+};
 pub use listed::Listed;
 pub use memory::NoMemory;
 pub use sinks::{MemSink, Sink, SinkFault};
 pub use texts::{Bytes, Text};
+pub use turns::Worn;
 pub use values::{Attr, Value};

@@ -75,13 +75,6 @@ impl Bytes {
         Bytes { inner: bytes }
     }
 
-    /// The vector with these bytes; takes no memory.
-    pub fn into_vec(self) -> Vec<u8>
-        ensures { result.items ≡ self }
-    {
-        self.inner
-    }
-
     /// The bytes themselves; takes no memory.
     pub fn as_slice(&self) -> &[u8]
         ensures { result.now ≡ self.now }
