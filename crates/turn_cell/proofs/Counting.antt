@@ -1,47 +1,34 @@
 -- How long a history is, by the numbers that have entries in it.
-use Rattle.std.proofs.Common.{◌≡◌, ℕ, zero, suc, ◌+◌, ◌<◌, ◌≤◌, List, [], ◌∷◌, length, sym, refl, ap, ◌∙◌, subst, arith, cond, eqb, eq-eqb, ne_eqb}
+use Rattle.std.proofs.Common.{◌≡◌, ℕ, zero, suc, ◌+◌, ◌≤◌, List, [], ◌∷◌, length, sym, refl, ap, ◌∙◌, subst, arith, cond, eq-eqb, ne_eqb}
 use mathlib.Core.Logic.{dite}
 use native.Mathlib.Decide.{ℕ_discrete, dec_le}
 use Rattle.turn_cell.specs.Turns.{by, NoneAbove}
 use Rattle.turn_cell.specs.Cell.{below}
 use Rattle.turn_cell.specs.SeatStates.{Made, SeatState, first_of, split_left, joining, Knows}
+use Rattle.turn_cell.proofs.Sums.{only, only-same, only-below, below_suc}
 
 below-sum : (f g h : ℕ → ℕ) → ((k : ℕ) → f k ≡ g k + h k) → (n : ℕ) → below f n ≡ below g n + below h n
 below-sum f g h each zero = refl
-below-sum f g h each (suc n) = omega (arith, below-sum f g h each n, each n)
+below-sum f g h each (suc n) = omega (arith, below_suc f n, below_suc g n, below_suc h n, below-sum f g h each n, each n)
 
 below-none : (n : ℕ) → below (λ _. 0) n ≡ 0
 below-none zero = refl
-below-none (suc n) = omega (arith, below-none n)
-
--- 1 where the number is x
-here : ℕ → ℕ → ℕ
-here x k = cond (eqb x k) 1 0
-
-below-here : (x n : ℕ) → (n ≤ x → below (here x) n ≡ 0) × (x < n → below (here x) n ≡ 1)
-unfolding here
-below-here x zero = ((λ _. refl), λ h. absurd (omega arith))
-below-here x (suc n) =
-    let before = below-here x n in
-    dite (ℕ_discrete x n)
-    (λ e. let one : here x n ≡ 1 = ap (λ b. cond b 1 0) (eq-eqb x n e) in let none = before.0 (omega arith) in ((λ h. absurd (omega arith)), λ h. omega arith))
-    (λ ne. let none : here x n ≡ 0 = ap (λ b. cond b 1 0) (ne_eqb x n ne) in ((λ h. omega (arith, before.0 (omega arith))), λ h. omega (arith, before.1 (omega arith))))
+below-none (suc n) = omega (arith, below_suc (λ _. 0) n, below-none n)
 
 module _ {E : Type 0} where
-  one_more : (x : ℕ × E) (xs : List (ℕ × E)) (k : ℕ) → length (by k (x ∷ xs)) ≡ here x.0 k + length (by k xs)
-  unfolding here
+  one_more : (x : ℕ × E) (xs : List (ℕ × E)) (k : ℕ) → length (by k (x ∷ xs)) ≡ only x.0 k + length (by k xs)
   one_more x xs k = dite (ℕ_discrete x.0 k)
-      (λ e. let yes = eq-eqb x.0 k e in ap (λ b. length (cond b (x ∷ by k xs) (by k xs))) yes ∙ (let one : here x.0 k ≡ 1 = ap (λ b. cond b 1 0) yes in omega arith))
-      (λ ne. let no = ne_eqb x.0 k ne in ap (λ b. length (cond b (x ∷ by k xs) (by k xs))) no ∙ (let none : here x.0 k ≡ 0 = ap (λ b. cond b 1 0) no in omega arith))
+      (λ e. let yes = eq-eqb x.0 k e in ap (λ b. length (cond b (x ∷ by k xs) (by k xs))) yes ∙ (let one : only x.0 k ≡ 1 = ap (λ b. cond b 1 0) yes in omega arith))
+      (λ ne. let no = ne_eqb x.0 k ne in ap (λ b. length (cond b (x ∷ by k xs) (by k xs))) no ∙ (let none : only x.0 k ≡ 0 = ap (λ b. cond b 1 0) no in omega arith))
 
   -- a history without entries of numbers above n is as long as the entries of the numbers up to n are together
   pub length-numbers : (n : ℕ) (log : List (ℕ × E)) → NoneAbove n log → length log ≡ below (λ k. length (by k log)) (suc n)
   length-numbers n [] none = sym (below-none (suc n))
   length-numbers n (x ∷ xs) none =
       let inside : x.0 ≤ n = dite (dec_le x.0 n) (λ le. le)
-      (λ out. let gone = none x.0 (omega arith) in absurd (omega (arith, ap length gone, one_more x xs x.0, (below-here x.0 (suc x.0)).1 (omega arith), (below-here x.0 x.0).0 (omega arith)))) in
+      (λ out. let gone = none x.0 (omega arith) in absurd (omega (arith, ap length gone, one_more x xs x.0, only-same x.0))) in
       let later : NoneAbove n xs = λ k out. empty (by k xs) (let gone = none k out in omega (arith, ap length gone, one_more x xs k)) in
-      omega (arith, length-numbers n xs later, below-sum (λ k. length (by k (x ∷ xs))) (here x.0) (λ k. length (by k xs)) (one_more x xs) (suc n), (below-here x.0 (suc n)).1 (omega arith))
+      omega (arith, length-numbers n xs later, below-sum (λ k. length (by k (x ∷ xs))) (only x.0) (λ k. length (by k xs)) (one_more x xs) (suc n), only-below x.0 (suc n) (omega arith))
     where
       empty : {A : Type 0} (l : List A) → length l ≡ 0 → l ≡ []
       empty [] e = refl

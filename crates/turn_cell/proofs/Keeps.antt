@@ -1,5 +1,5 @@
 -- Each kind of step of a turn keeps the rule.
-use Rattle.std.proofs.Common.{◌≡◌, ℕ, ◌+◌, ◌%◌, ◌^◌, ◌<◌, ◌≤◌, ◌≢◌, true, false, List, [], ◌∷◌, ◌++◌, length, get_or, set, sym, refl, ap, ◌∙◌, subst, arith, cond, eqb, eq-eqb, ne_eqb, Option, Some, length-set, length-append}
+use Rattle.std.proofs.Common.{◌≡◌, ℕ, ◌+◌, ◌%◌, ◌^◌, ◌<◌, ◌≤◌, ◌≢◌, true, false, List, [], ◌∷◌, ◌++◌, length, get_or, set, sum_by, sym, refl, ap, ◌∙◌, subst, arith, cond, eqb, eq-eqb, ne_eqb, Option, Some, length-set, length-append}
 use Rattle.std.proofs.lemmas.List.{append-nil}
 use mathlib.Core.Logic.{dite}
 use native.Mathlib.Decide.{ℕ_discrete}
@@ -10,11 +10,11 @@ use prog.Atomic.{either}
 use Rattle.atomic_table.specs.Table.{step, keeps, takes, gives, Allows}
 use Rattle.atomic_table.proofs.Lists.{set_here, set_else, set_again, exchanged}
 use Rattle.turn_cell.specs.Turns.{HasJoined, NoneAbove}
-use Rattle.turn_cell.specs.Cell.{total, below, Sat, Moment, Fits, Kept}
+use Rattle.turn_cell.specs.Cell.{below, Sat, Moment, Fits, Kept}
 use Rattle.turn_cell.specs.Plays.{after_draw, limit_of, drew, holding, looked, counting, counted_as, leaving, served, learned, KnowsJoined, KnowsStrangers}
 use Rattle.turn_cell.specs.declared.view.Terms.{Terms}
 use Rattle.turn_cell.specs.declared.view.View.{View}
-use Rattle.turn_cell.proofs.Sums.{below_more}
+use Rattle.turn_cell.proofs.Sums.{below_next}
 use Rattle.turn_cell.proofs.Logs.{by-own, by-other, starts_more, starts_through, none_before}
 use Rattle.turn_cell.proofs.Facts.{differ, live_spent, Some-injective, set_at, same_at, St, cell, apart, joined_apart, number_le, ticket_below, none_holds, log_length, kept}
 
@@ -86,7 +86,7 @@ module _ {T E L : Type 0} (stands : T → List (ℕ × E) → Type 0) (lasting :
       (ap (λ (ws : List ℕ). set ws 0 (r + 1)) o.words) (omega arith) o.slots
       (λ k u ne at_k. let f = o.fits k u at_k in record { sees = f.sees; own = f.own; worn = λ h. let reached = f.worn h in omega arith; holds = f.holds; counts = f.counts; spent = f.spent; heard = f.heard; first = f.first })
       (record { sees = fit.sees; own = fit.own; worn = λ h. let reached = fit.worn h in omega arith; holds = λ h. absurd (differ (sym h ∙ out)); counts = fit.counts; spent = λ h. absurd (live_spent live h); heard = fit.heard; first = fit.first })
-      (λ f. let none-before : total f v.tickets ≡ 0 = ap (total f) none-yet in omega (arith, below_more f r, ap (below f) is, ap f is)) (omega arith)
+      (λ f. let none-before : sum_by f v.tickets ≡ 0 = ap (sum_by f) none-yet in omega (arith, below_next f r, ap (below f) is, ap f is)) (omega arith)
       (λ free. o.home (λ k u at_k. dite (ℕ_discrete k id)
       (λ e. ap (λ (x : View T E). x.holds) (sym (same_at s.views id k v u e me at_k)) ∙ out)
       (λ ne. free k u (set_else s.views id k w ne ∙ at_k))))
@@ -264,7 +264,7 @@ module _ {T E L : Type 0} (stands : T → List (ℕ × E) → Type 0) (lasting :
               heard = fit.heard;
               first = fit.first;
             })
-            (λ f. let had = ap (total f) has.0 in omega (arith, below_more f o.now.serving)) (omega arith)
+            (λ f. let had = ap (sum_by f) has.0 in omega (arith, below_next f o.now.serving)) (omega arith)
             (λ free. (y, set_here s.homes 0 (some (Some y)) (omega arith), subst (λ (l : List (ℕ × E)). stands y l) has.1 stood, lasts))
             o.past o.strangers,
         refl,

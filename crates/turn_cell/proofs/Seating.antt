@@ -1,5 +1,6 @@
 -- Making a cell, splitting and joining seats keep the rule, and what the rule says of a cell that is closed.
-use Rattle.std.proofs.Common.{◌≡◌, ℕ, zero, suc, ◌+◌, ◌^◌, ◌<◌, ◌≤◌, ◌≢◌, ◌⊎◌, Bool, true, false, ◌||◌, List, [], ◌∷◌, ◌++◌, length, set, sym, refl, ap, ◌∙◌, subst, inl, inr, ⊎_elim, arith, Option, Some, None}
+use Rattle.std.proofs.Common.{◌≡◌, ℕ, zero, suc, ◌+◌, ◌^◌, ◌<◌, ◌≤◌, ◌≢◌, ◌⊎◌, Bool, true, false, ◌||◌, List, [], ◌∷◌, ◌++◌, length, set, sum_by, sym, refl, ap, ◌∙◌, subst, inl, inr, ⊎_elim, arith, Option, Some, None}
+use Rattle.std.proofs.lemmas.List.Sums.{sum_by-append}
 use mathlib.Core.Logic.{dite}
 use native.Mathlib.Decide.{ℕ_discrete, dec_le}
 use mathlib.Core.Option.{some, some-injective, some-ne-none}
@@ -7,11 +8,11 @@ use lib.ListN.{get_elem?}
 use Rattle.atomic_table.specs.Table.{opening, Splits, Joins, Final, Seen}
 use Rattle.atomic_table.proofs.Lists.{at_set, set_else, at_snoc, at_longer}
 use Rattle.turn_cell.specs.Turns.{by, StartsWith}
-use Rattle.turn_cell.specs.Cell.{total, below, if_some, named, gone, drawn, newcomer, Moment, Fits, Kept}
+use Rattle.turn_cell.specs.Cell.{below, if_some, named, gone, drawn, newcomer, Moment, Fits, Kept}
 use Rattle.turn_cell.specs.Plays.{split_first, split_new, joining_views, spent}
 use Rattle.turn_cell.specs.declared.view.Terms.{Terms}
 use Rattle.turn_cell.specs.declared.view.View.{View}
-use Rattle.turn_cell.proofs.Sums.{total-append, total-set, terms_le, total-none, some_term, total-ones, below-ones, only, only-is, below-one}
+use Rattle.turn_cell.proofs.Sums.{sum_changed, two_within, weightless, weighty, sum-ones, below_suc, below-each, only, only-is, only-below}
 use Rattle.turn_cell.proofs.Logs.{starts_longer, longer_starts_left, longer_starts_right, by-longer_left, by-longer_right, none_before, whole}
 use Rattle.turn_cell.proofs.Facts.{differ, live_spent, Some-injective, same_at, St, named-live}
 
@@ -125,15 +126,16 @@ module _ {T E L : Type 0} (stands : T → List (ℕ × E) → Type 0) (lasting :
               first = λ h. absurd (differ (sym h));
             }))
             (at_snoc vs right u k at_k);
-        tickets = λ f. omega (arith, total-append (drawn f) vs (right ∷ []), total-set (drawn f) s.views id v left me, o.tickets f);
+        tickets = λ f. omega (arith, sum_by-append (drawn f) vs (right ∷ []), sum_changed (drawn f) s.views id v left me, o.tickets f);
         numbers = λ f.
             let mine : named f left ≡ f v.number = named-live f left a live in
             let was : named f v ≡ f v.number = named-live f v a live in
             let theirs : named f right ≡ f (v.splits + 1) = named-live f right a live in
+            let next : o.now.splits + 1 ≡ suc o.now.splits = omega arith in
             let more : below f (suc (o.now.splits + 1)) ≡ below f (suc o.now.splits) + f (v.splits + 1) =
-            ap (λ n. below f n + f (o.now.splits + 1)) (let e : o.now.splits + 1 ≡ suc o.now.splits = omega arith in e) ∙ ap (λ n. below f (suc o.now.splits) + f n) (sym new_number) in
-            omega (arith, total-append (named f) vs (right ∷ []), total-set (named f) s.views id v left me, o.numbers f);
-        counted = omega (arith, total-append (λ (u : View T E). u.counted) vs (right ∷ []), total-set (λ (u : View T E). u.counted) s.views id v left me, o.counted);
+            below_suc f (o.now.splits + 1) ∙ ap (λ n. below f n + f (o.now.splits + 1)) next ∙ ap (λ n. below f (suc o.now.splits) + f n) (sym new_number) in
+            omega (arith, more, sum_by-append (named f) vs (right ∷ []), sum_changed (named f) s.views id v left me, o.numbers f);
+        counted = omega (arith, sum_by-append (λ (u : View T E). u.counted) vs (right ∷ []), sum_changed (λ (u : View T E). u.counted) s.views id v left me, o.counted);
         home = λ free. o.home (λ k u at_k. dite (ℕ_discrete k id)
             (λ e. ap (λ (x : View T E). x.holds) (sym (same_at s.views id k v u e me at_k)) ∙ out)
             (λ ne. free k u (at_longer vs (right ∷ []) k u (set_else s.views id k left ne ∙ at_k))));
@@ -205,12 +207,12 @@ module _ {T E L : Type 0} (stands : T → List (ℕ × E) → Type 0) (lasting :
             })
             (at_set s.views id k both u t.1))
             (at_set vs other k spent u at_k);
-        tickets = λ f. let none-left : total f w.tickets ≡ 0 = ap (total f) none-drawn in
-            omega (arith, total-set (drawn f) vs other w spent them, total-set (drawn f) s.views id v both me, o.tickets f);
+        tickets = λ f. let none-left : sum_by f w.tickets ≡ 0 = ap (sum_by f) none-drawn in
+            omega (arith, sum_changed (drawn f) vs other w spent them, sum_changed (drawn f) s.views id v both me, o.tickets f);
         numbers = λ f.
             let theirs : named f w ≡ f w.number = named-live f w a live' in
-            omega (arith, total-set (named f) vs other w spent them, total-set (named f) s.views id v both me, o.numbers f, total-append (gone f) o.now.joined (entry ∷ []));
-        counted = omega (arith, total-set (λ (u : View T E). u.counted) vs other w spent them, total-set (λ (u : View T E). u.counted) s.views id v both me, o.counted);
+            omega (arith, sum_changed (named f) vs other w spent them, sum_changed (named f) s.views id v both me, o.numbers f, sum_by-append (gone f) o.now.joined (entry ∷ []));
+        counted = omega (arith, sum_changed (λ (u : View T E). u.counted) vs other w spent them, sum_changed (λ (u : View T E). u.counted) s.views id v both me, o.counted);
         home = λ free. o.home (λ k u at_k. dite (ℕ_discrete k id)
             (λ e. ap (λ (x : View T E). x.holds) (sym (same_at s.views id k v u e me at_k)) ∙ out)
             (λ ne. dite (ℕ_discrete k other)
@@ -232,32 +234,32 @@ module _ {T E L : Type 0} (stands : T → List (ℕ × E) → Type 0) (lasting :
       let ones : ℕ → ℕ = λ _. 1 in
       let joins : length o.now.joined ≡ o.now.splits = ap length (sym f1.2) ∙ all-joined ∙ f1.1 in
       let mine : named ones v ≡ 1 = named-live ones v a live in
-      let lone : total (named ones) s.views ≡ 1 = omega (arith, o.numbers ones, total-ones o.now.joined, below-ones (suc o.now.splits)) in
+      let lone : sum_by (named ones) s.views ≡ 1 = omega (arith, o.numbers ones, sum-ones o.now.joined, below-each (suc o.now.splits)) in
       let others_spent : (k : ℕ) (u : View T E) → k ≢ id → get_elem? s.views k ≡ some u → u.about ≡ None = λ k u ne at_k.
-      none_weighs u.about (omega (arith, terms_le (named ones) s.views id k v u ne me at_k)) in
+      none_weighs u.about (omega (arith, two_within (named ones) s.views id k v u ne me at_k)) in
       let no_holder : (k : ℕ) (u : View T E) → get_elem? s.views k ≡ some u → u.holds ≡ false = λ k u at_k. dite (ℕ_discrete k id)
       (λ e. ap (λ (x : View T E). x.holds) (sym (same_at s.views id k v u e me at_k)) ∙ out)
       (λ ne. ((o.fits k u at_k).spent (others_spent k u ne at_k)).1) in
       let no_ticket : (k : ℕ) (u : View T E) → get_elem? s.views k ≡ some u → drawn ones u ≡ 0 = λ k u at_k. dite (ℕ_discrete k id)
-      (λ e. ap (drawn ones) (sym (same_at s.views id k v u e me at_k)) ∙ ap (total ones) none-drawn)
-      (λ ne. ap (total ones) ((o.fits k u at_k).spent (others_spent k u ne at_k)).0) in
+      (λ e. ap (drawn ones) (sym (same_at s.views id k v u e me at_k)) ∙ ap (sum_by ones) none-drawn)
+      (λ ne. ap (sum_by ones) ((o.fits k u at_k).spent (others_spent k u ne at_k)).0) in
       let no_count : (k : ℕ) (u : View T E) → get_elem? s.views k ≡ some u → u.counted ≡ 0 = λ k u at_k. (o.fits k u at_k).counts (no_holder k u at_k) in
-      let all_served : o.now.serving ≡ o.now.ticket = omega (arith, o.tickets ones, total-none (drawn ones) s.views no_ticket, below-ones o.now.serving, below-ones o.now.ticket) in
-      let all_counted : length log ≡ o.now.serving = omega (arith, o.counted, total-none (λ (u : View T E). u.counted) s.views no_count) in
+      let all_served : o.now.serving ≡ o.now.ticket = omega (arith, o.tickets ones, weightless (drawn ones) s.views no_ticket, below-each o.now.serving, below-each o.now.ticket) in
+      let all_counted : length log ≡ o.now.serving = omega (arith, o.counted, weightless (λ (u : View T E). u.counted) s.views no_count) in
       let own = fit.own a live in
       let of_seat : (n : ℕ) → v.number ≡ n → by n log ≡ by n v.seen = λ n e. subst (λ (k : ℕ). by k log ≡ by k v.seen) e (own.1 ∙ sym own.2) in
       let each : (n : ℕ) → by n log ≡ by n v.seen = λ n. dite (dec_le n o.now.splits)
       (λ inside.
       let f : ℕ → ℕ = only n in
-      let one : below f (suc o.now.splits) ≡ 1 = below-one n (suc o.now.splits) (omega arith) in
-      dite (ℕ_discrete (total (named f) s.views) 0)
+      let one : below f (suc o.now.splits) ≡ 1 = only-below n (suc o.now.splits) (omega arith) in
+      dite (ℕ_discrete (sum_by (named f) s.views) 0)
       (λ none-live.
-      let t = some_term (gone f) o.now.joined (omega (arith, o.numbers f)) in
+      let t = weighty (gone f) o.now.joined (omega (arith, o.numbers f)) in
       let p : ℕ × List (ℕ × E) = t.1 in
       let is : p.0 ≡ n = only-is n p.0 t.3 in
       subst (λ (k : ℕ). by k log ≡ by k v.seen) is (o.past t.0 p t.2 ∙ sym (f1.3 t.0 p t.2)))
       (λ some-live.
-      let t = some_term (named f) s.views (omega arith) in
+      let t = weighty (named f) s.views (omega arith) in
       let u : View T E = t.1 in
       dite (ℕ_discrete t.0 id)
       (λ e. let same : v ≡ u = same_at s.views id t.0 v u e me t.2 in of_seat n (ap (λ (x : View T E). x.number) same ∙ only-is n u.number (weighs_some (f u.number) u.about t.3)))

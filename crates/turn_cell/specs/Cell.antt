@@ -1,7 +1,8 @@
 -- The rule of the cell's table: what holds at every moment of the three words, of the value and of what all seats have seen.
 -- The words are the next ticket to draw (0), the ticket that is served (1) and the number of entries (2). The one slot has the
 -- value, or nothing while a turn has it.
-use Rattle.std.specs.Prelude.{◌≡◌, ℕ, zero, suc, ◌+◌, ◌^◌, ◌≤◌, true, false, List, [], ◌∷◌, length, Option, Some, None}
+use Rattle.std.specs.Prelude.{◌≡◌, ℕ, suc, ◌+◌, ◌^◌, ◌≤◌, true, false, List, [], ◌∷◌, map, length, sum, sum_by, Option, Some, None}
+use Rattle.std.specs.List.{range_with_len}
 use mathlib.Core.Option.{some}
 use lib.ListN.{get_elem?}
 use Rattle.atomic_table.specs.Table.{State, Me}
@@ -9,15 +10,9 @@ use Rattle.turn_cell.specs.Turns.{by, StartsWith, HasJoined, NoneAbove}
 use Rattle.turn_cell.specs.declared.view.Terms.{Terms}
 use Rattle.turn_cell.specs.declared.view.View.{View}
 
--- a weight, added up over a list
-abbrev pub total : {A : Type 0} → (A → ℕ) → List A → ℕ
-total f [] = 0
-total f (x ∷ xs) = f x + total f xs
-
 -- a weight, added up over the numbers below n
 abbrev pub below : (ℕ → ℕ) → ℕ → ℕ
-below f zero = 0
-below f (suc n) = below f n + f n
+below f n = sum (map f (range_with_len 0 n))
 
 -- a number where there is something, and 0 where there is nothing
 abbrev pub if_some : {A : Type 0} → ℕ → Option A → ℕ
@@ -34,7 +29,7 @@ gone f p = f p.0
 
 -- the weight of the tickets that a seat has
 abbrev pub drawn : {T E : Type 0} → (ℕ → ℕ) → View T E → ℕ
-drawn f v = total f v.tickets
+drawn f v = sum_by f v.tickets
 
 -- what a step's caller knows and has: the view, and the value while it is out
 abbrev pub Sat : Type 0 → Type 0 → Type 0
@@ -83,11 +78,11 @@ module _ {T E L : Type 0} (stands : T → List (ℕ × E) → Type 0) (lasting :
     pub slots : length s.homes ≡ 1
     pub fits : (j : ℕ) (v : View T E) → get_elem? s.views j ≡ some v → Fits about now j v
     -- the tickets from the one that is served to below the next one are with the seats, each with one
-    pub tickets : (f : ℕ → ℕ) → below f now.serving + total (drawn f) s.views ≡ below f now.ticket
+    pub tickets : (f : ℕ → ℕ) → below f now.serving + sum_by (drawn f) s.views ≡ below f now.ticket
     -- the numbers from 0 to the splits are those of the seats and of the joined, each once
-    pub numbers : (f : ℕ → ℕ) → total (named f) s.views + total (gone f) now.joined ≡ below f (suc now.splits)
+    pub numbers : (f : ℕ → ℕ) → sum_by (named f) s.views + sum_by (gone f) now.joined ≡ below f (suc now.splits)
     -- there are as many entries as turns were served, and one more from the step that counts to the step that serves
-    pub counted : length now.log ≡ now.serving + total (λ v. v.counted) s.views
+    pub counted : length now.log ≡ now.serving + sum_by (λ v. v.counted) s.views
     pub home : ((j : ℕ) (v : View T E) → get_elem? s.views j ≡ some v → v.holds ≡ false) → AtHome about now.log s.homes
     -- a joined number has no entry but those at its end, and a number above the splits has none
     pub past : HasJoined now.joined now.log
