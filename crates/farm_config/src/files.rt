@@ -1,6 +1,6 @@
 //! Lists of files: updates and expiry lists.
 ghost use Rattle.std.specs.Prelude.{◌≡◌, ◌≤◌, ◌<◌, ◌^◌, [], nat_lt, length, IfOk, IsTrue, option_map};
-ghost use Rattle.json_values.specs.View.{view, items_view};
+ghost use Rattle.serde_json.specs.View.{view, items_view};
 ghost use Rattle.reading.specs.Lists.{list_of};
 ghost use Rattle.reading.specs.Steps.{Gives};
 ghost use Rattle.reading.specs.Values.{or_value};
@@ -12,8 +12,8 @@ use crate::fault::ConfigFault;
 use crate::kinds::a_file;
 use crate::limits::MOST_FILES;
 use farm_base::Text;
-use json_values::Value;
 use reading::{ReadItem, list, read_list};
+use serde_json::Value;
 use std::alloc::Global;
 
 #[derive(Drop)]

@@ -1,7 +1,7 @@
 //! The kinds of values in a configuration, and each at its key.
 ghost use Rattle.std.specs.Prelude.{◌≡◌, ◌≤◌, ◌<◌, ◌^◌, IsTrue, IfOk, false, None, option_map};
 ghost use Rattle.serde_json.specs.Find.{get};
-ghost use Rattle.json_values.specs.View.{view};
+ghost use Rattle.serde_json.specs.View.{view};
 ghost use Rattle.reading.specs.Steps.{seen, Gives};
 ghost use Rattle.reading.specs.Values.{needed, or_value};
 ghost use Rattle.farm_config.specs.Configs as plain;
@@ -11,8 +11,8 @@ ghost use Rattle.farm_config.specs.declared.fault.ConfigFault.TheVariants as fau
 use crate::addresses::is_address;
 use crate::fault::ConfigFault;
 use farm_base::Text;
-use json_values::Value;
 use reading::{text, whole_number};
+use serde_json::Value;
 use std::alloc::Global;
 use tile_paths::is_name;
 

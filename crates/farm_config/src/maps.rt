@@ -1,6 +1,6 @@
 //! The maps of a configuration.
 ghost use Rattle.std.specs.Prelude.{◌≡◌, ◌≤◌, ◌<◌, ◌^◌, ◌&&◌, [], nat_lt, length, IfOk, IfSome, IsTrue, option_map};
-ghost use Rattle.json_values.specs.View.{view, items_view};
+ghost use Rattle.serde_json.specs.View.{view, items_view};
 ghost use Rattle.farm_base.specs.Earlier.{each_after};
 ghost use Rattle.reading.specs.Lists.{list_of};
 ghost use Rattle.reading.specs.Steps.{Gives};
@@ -17,8 +17,8 @@ use crate::limits::{MOST_MAPS, MOST_ZOOM};
 use crate::opening::open_map;
 use arrayvec::ArrayString;
 use farm_base::Text;
-use json_values::Value;
 use reading::{ReadItem, list, read_list};
+use serde_json::Value;
 use std::alloc::Global;
 
 fn map_has(name: &str, maps: &[MapEntry]) -> bool

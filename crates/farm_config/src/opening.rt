@@ -1,13 +1,13 @@
 //! The objects of a configuration.
 ghost use Rattle.std.specs.Prelude.{◌≡◌};
-ghost use Rattle.json_values.specs.View.{view};
+ghost use Rattle.serde_json.specs.View.{view};
 ghost use Rattle.reading.specs.Values.{opened};
 ghost use Rattle.farm_config.specs.Tables as spec;
 ghost use Rattle.farm_config.specs.declared.fault.ConfigFault.TheVariants as fault;
 
 use crate::fault::ConfigFault;
-use json_values::Value;
 use reading::opened;
+use serde_json::Value;
 
 /// The configuration itself, whose key has the number 0.
 pub fn open_config(object: &Value) -> Result<(), ConfigFault>

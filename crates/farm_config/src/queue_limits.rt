@@ -1,6 +1,6 @@
 //! The limits of the queues.
 ghost use Rattle.std.specs.Prelude.{◌≡◌, IfOk, IsTrue, option_map};
-ghost use Rattle.json_values.specs.View.{view};
+ghost use Rattle.serde_json.specs.View.{view};
 ghost use Rattle.reading.specs.Values.{or_value};
 ghost use Rattle.farm_config.specs.Configs as plain;
 ghost use Rattle.farm_config.specs.Tables as spec;
@@ -10,7 +10,7 @@ use crate::kinds::number_or;
 use crate::limits::{MOST_DIRTY, MOST_WAITING};
 use crate::opening::open_limits;
 use farm_history::Limits;
-use json_values::Value;
+use serde_json::Value;
 
 const GREATEST: Limits = Limits {
     prio: MOST_WAITING,

@@ -1,7 +1,7 @@
 //! The whole text.
 ghost use Rattle.std.specs.Prelude.{◌≡◌, ◌≤◌, length, IfOk, IsTrue};
 ghost use Rattle.std.specs.List.{list_all};
-ghost use Rattle.json_values.specs.View.{view};
+ghost use Rattle.serde_json.specs.View.{view};
 ghost use Rattle.reading.specs.Steps.{Gives};
 ghost use Rattle.farm_config.specs.Configs.{are_limits, restyle_known};
 ghost use Rattle.farm_config.specs.Limits.{most_maps, most_files, most_workers};
@@ -20,8 +20,8 @@ use crate::queue_limits::limits_or_greatest;
 use crate::restyles::restyles;
 use farm_base::Text;
 use farm_history::Limits;
-use json_values::Value;
 use reading::read_json;
+use serde_json::Value;
 use std::alloc::Global;
 
 /// How the farm serves.

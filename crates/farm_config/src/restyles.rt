@@ -1,7 +1,7 @@
 //! The restyles of a configuration.
 ghost use Rattle.std.specs.Prelude.{◌≡◌, ◌≤◌, ◌<◌, ◌^◌, ◌&&◌, [], nat_lt, length, codes, IfOk, IsTrue, option_map};
 ghost use Rattle.std.specs.List.{list_all};
-ghost use Rattle.json_values.specs.View.{view, items_view};
+ghost use Rattle.serde_json.specs.View.{view, items_view};
 ghost use Rattle.reading.specs.Lists.{list_of};
 ghost use Rattle.reading.specs.Steps.{seen, Gives};
 ghost use Rattle.reading.specs.Values.{needed, or_value, text};
@@ -18,8 +18,8 @@ use crate::limits::MOST_FILES;
 use crate::maps::map_place;
 use crate::opening::open_restyle;
 use farm_base::Text;
-use json_values::Value;
 use reading::{ReadItem, list, read_list, text};
+use serde_json::Value;
 use std::alloc::Global;
 
 /// The name that a restyle gives of its map.

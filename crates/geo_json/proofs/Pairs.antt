@@ -1,8 +1,8 @@
 -- Arrays of another length than a point has.
 use Rattle.std.proofs.Common.{◌≡◌, ◌≤◌, ◌<◌, length, List, [], ◌∷◌, refl, arith}
 use Rattle.std.specs.Prelude.{Err}
-use Rattle.json_values.specs.View.{items_view}
-use Rattle.json_values.specs.declared.value.Value.{Value}
+use Rattle.serde_json.specs.View.{items_view}
+use Rattle.serde_json.specs.declared.value.Value.{Value}
 use Rattle.geo_json.specs.declared.faults.DataFault.{DataFault}
 use Rattle.geo_json.specs.declared.coordinates.Units.{Units}
 use Rattle.geo_json.specs.Coordinates.{pair_of}

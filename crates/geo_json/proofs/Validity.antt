@@ -10,9 +10,9 @@ use Rattle.std.proofs.lemmas.List.Elements.{All-from_recursion, All-push}
 use Rattle.std.proofs.lemmas.Map.Keys.{IsDistinct-push}
 use Rattle.std.proofs.lemmas.Cmp.{nat_list_eq_equiv, nat_eq_equiv}
 use Rattle.std.proofs.lemmas.Bool.{and_parts, not-true}
-use Rattle.json_values.specs.declared.value.Value.{Value}
+use Rattle.serde_json.specs.declared.value.Value.{Value}
 use Rattle.serde_json.specs.Events.{items_len}
-use Rattle.json_values.specs.View.{items_view}
+use Rattle.serde_json.specs.View.{items_view}
 use Rattle.farm_base.specs.Earlier.{each_after}
 use Rattle.plain_data.specs.Features.{Feature, Layer}
 use Rattle.plain_data.specs.Data.{Change, is_name, has_id, ids_of, names_of, IsLayer, IsDataset, IsChange, IsUpdate}

@@ -1,19 +1,17 @@
 //! Attributes of features.
-ghost use Rattle.std.specs.Prelude.{◌≡◌, [], false, IfErr, IfOk};
-ghost use Rattle.json_values.specs.View.{view, members_view};
+ghost use Rattle.std.specs.Prelude.{◌≡◌, [], false, IfOk};
+ghost use Rattle.serde_json.specs.View.{view, members_view};
 ghost use Rattle.geo_model.specs.Shapes.{has_double_name};
 ghost use Rattle.reading.specs.Steps.{Gives};
 ghost use Rattle.geo_json.specs.Attributes as spec;
-ghost use Rattle.geo_json.specs.inner.LentMembers.{lent_view};
 ghost use Rattle.geo_json.specs.declared.faults.DataFault.TheVariants as fault;
 
 use crate::faults::DataFault;
 use crate::openings::is_name;
 use farm_base::{Attr, Text};
-use json_values::Value;
 use reading::signed;
+use serde_json::{Map, Value};
 use std::alloc::Global;
-use std::collections::BTreeMap;
 
 fn attr_value(alloc: Global, value: &Value, shape: DataFault) -> Result<farm_base::Value, DataFault>
     ensures { Gives fault.NoMemory (λ v. v) (spec.attr_value shape (view value.now)) result }
@@ -44,32 +42,17 @@ fn attr(alloc: Global, key: &str, value: &Value, shape: DataFault) -> Result<Att
     })
 }
 
-/// The members in the order of their keys; of a key that comes more than once the last value.
-fn by_key<'a>(
-    alloc: Global,
-    members: &'a [(String, Value)],
-) -> Result<BTreeMap<&'a str, &'a Value>, DataFault>
-    ensures value { IfOk result (λ m. lent_view m.entries ≡ members_view members.now) }
-    ensures refused { IfErr result (λ e. e ≡ fault.NoMemory) }
-{
-    let mut found = BTreeMap::new(alloc);
-    for member in members {
-        found.insert(member.0.as_str(), &member.1)?;
-    }
-    Ok(found)
-}
-
 fn attrs(
     alloc: Global,
-    members: &BTreeMap<&str, &Value>,
+    members: &Map<String, Value>,
     shape: DataFault,
 ) -> Result<Vec<Attr>, DataFault>
-    ensures value { Gives fault.NoMemory (λ v. v.items) (spec.attrs_after shape [] (lent_view members.now.entries)) result }
+    ensures value { Gives fault.NoMemory (λ v. v.items) (spec.attrs_after shape [] (members_view members.now.entries)) result }
     ensures apart { IfOk result (λ v. has_double_name v.items ≡ false) }
 {
     let mut attrs = Vec::new(alloc);
     for (key, value) in members {
-        match attr(alloc, *key, *value, shape) {
+        match attr(alloc, key.as_str(), value, shape) {
             Ok(attr) => attrs.push(attr)?,
             Err(fault) => return Err(fault),
         }
@@ -84,10 +67,7 @@ fn attrs_of(alloc: Global, value: &Value, shape: DataFault) -> Result<Vec<Attr>,
     ensures apart { IfOk result (λ v. has_double_name v.items ≡ false) }
 {
     match value.as_object() {
-        Some(members) => {
-            let members = by_key(alloc, members)?;
-            attrs(alloc, &members, shape)
-        }
+        Some(members) => attrs(alloc, members, shape),
         None => Err(shape),
     }
 }

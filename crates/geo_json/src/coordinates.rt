@@ -1,13 +1,13 @@
 //! The units of a text, and points in them.
 ghost use Rattle.std.specs.Prelude.{◌≡◌};
-ghost use Rattle.json_values.specs.View.{view};
+ghost use Rattle.serde_json.specs.View.{view};
 ghost use Rattle.geo_json.specs.Coordinates as spec;
 
 use crate::faults::DataFault;
-use json_values::Value;
 use merc_fixed::{x_from_cm, y_from_cm};
 use plain_world::Point;
 use reading::{list, signed, text};
+use serde_json::Value;
 
 /// What the coordinates of a text count.
 #[derive(Clone, Copy, Debug, PartialEq, Eq)]

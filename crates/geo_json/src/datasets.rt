@@ -2,7 +2,7 @@
 ghost use Rattle.std.specs.Prelude.{◌≡◌, ◌≤◌, ◌<◌, ◌^◌, [], ℕ, nat_le, length, IfOk, IsTrue};
 ghost use Rattle.std.specs.Str.{bytes_eq};
 ghost use Rattle.serde_json.specs.Events.{items_len};
-ghost use Rattle.json_values.specs.View.{view, items_view};
+ghost use Rattle.serde_json.specs.View.{view, items_view};
 ghost use Rattle.farm_base.specs.Earlier.{each_after};
 ghost use Rattle.reading.specs.Lists.{list_of};
 ghost use Rattle.reading.specs.Steps.{Gives};
@@ -17,9 +17,9 @@ use crate::feature_texts::new_features;
 use crate::openings::{name_at, open};
 use data_versions::{Dataset, Layer};
 use farm_base::Text;
-use json_values::Value;
 use plain_data::{MOST_DATA_LAYERS, MOST_FEATURES};
 use reading::{ReadItem, list, read_json, read_list};
+use serde_json::Value;
 use std::alloc::Global;
 
 /// The dataset that the bytes say, or the first fault in reading order. Reading goes by place: a layer's own

@@ -1,6 +1,6 @@
 //! Features of a text.
 ghost use Rattle.std.specs.Prelude.{◌≡◌, ◌≤◌, ◌<◌, ◌++◌, ◌∷◌, [], ℕ, true, false, length, codes, IfOk, IsTrue};
-ghost use Rattle.json_values.specs.View.{view, items_view};
+ghost use Rattle.serde_json.specs.View.{view, items_view};
 ghost use Rattle.farm_base.specs.Earlier.{each_after};
 ghost use Rattle.geo_model.specs.Shapes.{has_double_name};
 ghost use Rattle.reading.specs.Lists.{list_of};
@@ -21,9 +21,9 @@ use crate::geometries::geometry;
 use crate::openings::open;
 use farm_base::Attr;
 use geo_model::{Feature, make_feature};
-use json_values::Value;
 use plain_shapes::Geometry;
 use reading::{ReadItem, ReadKnown, read_list, read_list_with, whole_number};
+use serde_json::Value;
 use std::alloc::Global;
 use std::collections::BTreeSet;
 

@@ -1,6 +1,6 @@
 //! Shapes of features.
 ghost use Rattle.std.specs.Prelude.{◌≡◌, ◌≤◌, ◌<◌, ◌^◌, ℕ, true, length};
-ghost use Rattle.json_values.specs.View.{view, items_view};
+ghost use Rattle.serde_json.specs.View.{view, items_view};
 ghost use Rattle.reading.specs.Lists.{list_of};
 ghost use Rattle.reading.specs.Steps.{Gives};
 ghost use Rattle.geo_json.specs.Coordinates.{point_of};
@@ -12,10 +12,10 @@ use crate::coordinates::{Units, point};
 use crate::faults::DataFault;
 use crate::openings::open;
 use farm_base::Listed;
-use json_values::Value;
 use plain_shapes::{Geometry, Path};
 use plain_world::Point;
 use reading::{ReadItem, list, read_list};
+use serde_json::Value;
 use std::alloc::Global;
 
 fn points(

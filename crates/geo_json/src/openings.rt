@@ -1,14 +1,14 @@
 //! What the objects of data and updates have in common.
 ghost use Rattle.std.specs.Prelude.{◌≡◌, map, IfOk, IsTrue};
-ghost use Rattle.json_values.specs.View.{view};
+ghost use Rattle.serde_json.specs.View.{view};
 ghost use Rattle.plain_data.specs.Data.{is_name};
 ghost use Rattle.reading.specs.Steps.{seen};
 ghost use Rattle.geo_json.specs.Openings as spec;
 
 use crate::faults::DataFault;
-use json_values::Value;
 use plain_data::MOST_NAME_BYTES;
 use reading::{opened, text};
+use serde_json::Value;
 
 /// Whether the name has 1 to 64 bytes.
 pub(crate) fn is_name(name: &str) -> bool

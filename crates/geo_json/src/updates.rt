@@ -2,7 +2,7 @@
 ghost use Rattle.std.specs.Prelude.{◌≡◌, ◌≤◌, ◌<◌, ◌^◌, [], ℕ, codes, length, true, IfOk, IsTrue};
 ghost use Rattle.serde_json.specs.Data.{no_items};
 ghost use Rattle.serde_json.specs.Find.{get};
-ghost use Rattle.json_values.specs.View.{view, items_view};
+ghost use Rattle.serde_json.specs.View.{view, items_view};
 ghost use Rattle.farm_base.specs.Earlier.{each_after};
 ghost use Rattle.reading.specs.Lists.{list_of};
 ghost use Rattle.reading.specs.Steps.{Gives, seen};
@@ -19,9 +19,9 @@ use crate::feature_texts::{features, id_of};
 use crate::openings::{name_at, open};
 use data_versions::{Change, Update};
 use farm_base::Text;
-use json_values::Value;
 use plain_data::MOST_FEATURES;
 use reading::{ReadItem, list, read_json, read_list};
+use serde_json::Value;
 use std::alloc::Global;
 
 /// The update that the bytes say, or the first fault in reading order. Reading goes by place: a change's own

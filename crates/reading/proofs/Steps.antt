@@ -4,9 +4,9 @@ use Rattle.std.specs.List.{list_all}
 use Rattle.std.proofs.Common.{◌∙◌, sym, ap}
 use Rattle.std.proofs.lemmas.List.{drop_more, drop_all, append-nil, append_assoc}
 use Rattle.std.proofs.Math.Bool.{true-and, and-true, and_assoc}
-use Rattle.json_values.specs.declared.value.Value.{Value}
+use Rattle.serde_json.specs.declared.value.Value.{Value}
 use Rattle.serde_json.specs.Data.{Data}
-use Rattle.json_values.specs.View.{view, items_view}
+use Rattle.serde_json.specs.View.{view, items_view}
 use Rattle.reading.specs.Steps.{◌>>=◌}
 use Rattle.reading.specs.Lists.{list_after}
 use Rattle.farm_base.specs.Earlier.{each_after}

@@ -1,4 +1,4 @@
--- The value of a text, from what reading it says of the bytes.
+-- The value of a text, from what serde_json says of the bytes.
 use Rattle.std.specs.Prelude.{◌≡◌, ℕ, Bool, true, false, cond, List, Some, None, refl}
 use Rattle.std.specs.Str.{is_utf8, IsUtf8}
 use Rattle.std.proofs.lemmas.Str.{IsUtf8-from_is_utf8, is_utf8-from_IsUtf8}

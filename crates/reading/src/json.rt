@@ -1,11 +1,11 @@
 //! A text of bytes as a JSON value.
 ghost use Rattle.std.specs.Prelude.{◌≡◌};
 ghost use Rattle.std.specs.Option.{ok_or};
-ghost use Rattle.json_values.specs.View.{view};
+ghost use Rattle.serde_json.specs.View.{view};
 ghost use Rattle.reading.specs.Json.{json_of};
 ghost use Rattle.reading.specs.Steps.{Gives};
 
-use json_values::{Refused, Value};
+use serde_json::Value;
 use std::alloc::Global;
 
 /// What a reader answers where it has no value.
@@ -24,7 +24,12 @@ pub fn read_json<E: ReadFault>(alloc: Global, bytes: &[u8], not_json: E) -> Resu
 {
     match Value::from_slice(alloc, bytes) {
         Ok(value) => Ok(value),
-        Err(Refused::NotJson) => Err(not_json),
-        Err(Refused::NoMemory) => Err(E::no_memory()),
+        Err(error) => {
+            if error.is_memory() {
+                Err(E::no_memory())
+            } else {
+                Err(not_json)
+            }
+        }
     }
 }

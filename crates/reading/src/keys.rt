@@ -2,10 +2,11 @@
 ghost use Rattle.std.specs.Prelude.{◌≡◌, map, string_bytes};
 ghost use Rattle.std.specs.List.{list_any, list_all};
 ghost use Rattle.std.specs.Str.{bytes_eq};
-ghost use Rattle.json_values.specs.View.{view, members_view};
+ghost use Rattle.std.specs.BTreeMap.{keys};
+ghost use Rattle.serde_json.specs.View.{view, members_view};
 ghost use Rattle.reading.specs.Values as spec;
 
-use json_values::Value;
+use serde_json::{Map, Value};
 
 // Whether the name is one of those.
 fn is_any(names: &[&str], name: &str) -> bool
@@ -20,16 +21,14 @@ fn is_one_of(names: &[&str], name: &str) -> bool
     is_any(names, name)
 }
 
-fn has_only(members: &[(String, Value)], names: &[&str]) -> bool
-    ensures { result ≡ list_all (λ m. spec.is_one_of (map (λ s. s.now) names.now) (string_bytes m.0)) members.now }
+fn has_only(members: &Map<String, Value>, names: &[&str]) -> bool
+    ensures { result ≡ list_all (λ k. spec.is_one_of (map (λ s. s.now) names.now) (string_bytes k)) (keys members.now) }
 {
-    members
-        .iter()
-        .all(|member| is_one_of(names, member.0.as_str()))
+    members.keys().all(|key| is_one_of(names, key.as_str()))
 }
 
-fn are_known(members: &[(String, Value)], names: &[&str]) -> bool
-    ensures { result ≡ spec.members_known (map (λ s. s.now) names.now) (members_view members.now) }
+fn are_known(members: &Map<String, Value>, names: &[&str]) -> bool
+    ensures { result ≡ spec.members_known (map (λ s. s.now) names.now) (members_view members.now.entries) }
 {
     has_only(members, names)
 }

@@ -1,13 +1,13 @@
 //! Lists, read item by item.
 ghost use Rattle.std.specs.Prelude.{◌≡◌, ◌≤◌, ◌<◌, ◌++◌, ◌∷◌, [], ℕ, Bool, List, Result, length, IsTrue, IfOk};
 ghost use Rattle.serde_json.specs.Data.{Data};
-ghost use Rattle.json_values.specs.View.{view, items_view};
+ghost use Rattle.serde_json.specs.View.{view, items_view};
 ghost use Rattle.reading.specs.Steps.{Gives};
 ghost use Rattle.reading.specs.Lists.{list_of};
 ghost use Rattle.farm_base.specs.Earlier.{each_after};
 
 use crate::json::ReadFault;
-use json_values::Value;
+use serde_json::Value;
 use std::alloc::Global;
 
 /// Reads one item of a list, with the items before it.

@@ -1,10 +1,10 @@
 //! Values that take no memory: texts, whole numbers, and the items of lists.
 ghost use Rattle.std.specs.Prelude.{◌≡◌, ◌≤◌, ◌<◌, ◌^◌, length, IfOk, IfSome, option_map};
-ghost use Rattle.json_values.specs.View.{view, items_view};
+ghost use Rattle.serde_json.specs.View.{view, items_view};
 ghost use Rattle.reading.specs.Steps.{seen};
 ghost use Rattle.reading.specs.Values as spec;
 
-use json_values::Value;
+use serde_json::Value;
 
 /// The text, or the fault where the value is none.
 pub fn text<E: Drop>(value: &Value, fault: E) -> Result<&str, E>

@@ -1,11 +1,11 @@
 //! The keys of the objects of a style text.
 ghost use Rattle.std.specs.Prelude.{◌≡◌, map};
-ghost use Rattle.json_values.specs.View.{view};
+ghost use Rattle.serde_json.specs.View.{view};
 ghost use Rattle.style_objects.specs.Keys as spec;
 
 use crate::fault::{At, StyleFault};
-use json_values::Value;
 use reading::opened;
+use serde_json::Value;
 
 /// The objects of a style text.
 #[derive(Clone, Copy, Debug, PartialEq, Eq)]

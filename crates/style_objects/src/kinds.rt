@@ -1,7 +1,7 @@
 //! The kinds of values in a style text, and each at its key.
 ghost use Rattle.std.specs.Prelude.{◌≡◌, ◌≤◌, ◌&&◌, ◌^◌, not, false, IsTrue, IfOk, IfSome, length, Some, None, option_map, is_some};
 ghost use Rattle.serde_json.specs.Find.{get};
-ghost use Rattle.json_values.specs.View.{view, items_view};
+ghost use Rattle.serde_json.specs.View.{view, items_view};
 ghost use Rattle.plain_filters.specs.Filters.{tree_of};
 ghost use Rattle.filter_expr.specs.FilterTexts.{filter_of};
 ghost use Rattle.plain_drawing.specs.Styles.{is_text_to, is_width, is_opacity};
@@ -14,12 +14,12 @@ ghost use Rattle.style_objects.specs.declared.fault.StyleFault.TheVariants as fa
 
 use crate::fault::{At, StyleFault};
 use filter_expr::{Expr, FilterFault, parse};
-use json_values::Value;
 use paint_texts::{Colour, hundredths, thousandths};
 use plain_data::MOST_WIDTH;
 use plain_drawing::FilterMode;
 use plain_shapes::LineCap;
 use reading::{text, whole_number};
+use serde_json::Value;
 use std::alloc::Global;
 
 #[tactic(auto, unfolding(crate::specs::Kinds::a_colour))]

@@ -1,7 +1,7 @@
 //! The layers of a map.
 ghost use Rattle.std.specs.Prelude.{◌≡◌, ◌≤◌, ◌<◌, ◌^◌, [], length, IsTrue, IfOk};
 ghost use Rattle.std.specs.List.{list_all};
-ghost use Rattle.json_values.specs.View.{view, items_view};
+ghost use Rattle.serde_json.specs.View.{view, items_view};
 ghost use Rattle.farm_base.specs.Earlier.{each_after};
 ghost use Rattle.plain_drawing.specs.Styles.{layer_apart};
 ghost use Rattle.plain_drawing.specs.Styles as plain;
@@ -16,10 +16,10 @@ use crate::keys::{Object, open};
 use crate::kinds::{a_text_to, bound_or_none, scale_or_zero, text_to};
 use crate::style_list::style_has;
 use farm_base::Text;
-use json_values::Value;
 use plain_data::MOST_NAME_BYTES;
 use plain_drawing::{LayerRef, Style};
 use reading::{ReadItem, list, read_list};
+use serde_json::Value;
 use std::alloc::Global;
 
 // The names of a layer's styles.

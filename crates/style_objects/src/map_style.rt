@@ -1,6 +1,6 @@
 //! The map, and the whole text.
 ghost use Rattle.std.specs.Prelude.{◌≡◌};
-ghost use Rattle.json_values.specs.View.{view};
+ghost use Rattle.serde_json.specs.View.{view};
 ghost use Rattle.filter_expr.specs.FilterTexts.{filter_of};
 ghost use Rattle.reading.specs.Steps.{Gives};
 ghost use Rattle.style_objects.specs.FilterReadings.{FilterReading, SaysGrammar};
@@ -13,10 +13,10 @@ use crate::kinds::{colour_or, list_or_none};
 use crate::layers::layers;
 use crate::rasters::rasters;
 use crate::style_list::styles;
-use json_values::Value;
 use paint_texts::Colour;
 use plain_drawing::{MOST_MAP_LAYERS, MOST_RASTERS, MOST_STYLES, MapStyle};
 use reading::{read_json, within};
+use serde_json::Value;
 use std::alloc::Global;
 
 const WHITE: Colour = Colour {

@@ -1,6 +1,6 @@
 //! The rasters of a map.
 ghost use Rattle.std.specs.Prelude.{◌≡◌, ◌≤◌, [], length, IsTrue, IfOk};
-ghost use Rattle.json_values.specs.View.{view, items_view};
+ghost use Rattle.serde_json.specs.View.{view, items_view};
 ghost use Rattle.farm_base.specs.Earlier.{each_after};
 ghost use Rattle.plain_drawing.specs.Styles.{raster_apart};
 ghost use Rattle.plain_drawing.specs.Styles as plain;
@@ -14,10 +14,10 @@ use crate::fault::{At, StyleFault};
 use crate::keys::{Object, open};
 use crate::kinds::{number_at, text_to};
 use farm_base::Text;
-use json_values::Value;
 use plain_data::MOST_NAME_BYTES;
 use plain_drawing::{MOST_FILE_BYTES, RasterRef};
 use reading::{ReadItem, read_list};
+use serde_json::Value;
 use std::alloc::Global;
 
 fn raster_has(name: &str, rasters: &[RasterRef]) -> bool

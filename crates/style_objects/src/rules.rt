@@ -1,7 +1,7 @@
 //! The rules of a style.
 ghost use Rattle.std.specs.Prelude.{◌≡◌, ◌≤◌, ◌&&◌, length, true, not, option_map, is_some, IsTrue, IfOk, IfSome};
 ghost use Rattle.std.specs.List.{list_all};
-ghost use Rattle.json_values.specs.View.{view, items_view};
+ghost use Rattle.serde_json.specs.View.{view, items_view};
 ghost use Rattle.plain_filters.specs.Filters.{tree_of};
 ghost use Rattle.filter_expr.specs.FilterTexts.{filter_of};
 ghost use Rattle.reading.specs.Lists.{list_of};
@@ -17,9 +17,9 @@ use crate::keys::{Object, open};
 use crate::kinds::{bound_or_none, else_or_false, filter_or_none, scale_or_zero};
 use crate::symbolizers::symbolizers;
 use filter_expr::Expr;
-use json_values::Value;
 use plain_drawing::{MOST_SYMBOLIZERS, Rule, Symbolizer};
 use reading::{ReadItem, read_list, within};
+use serde_json::Value;
 use std::alloc::Global;
 
 // A rule's filter, and whether it is an ElseFilter rule.

@@ -1,6 +1,6 @@
 //! The styles of a map.
 ghost use Rattle.std.specs.Prelude.{◌≡◌, ◌≤◌, [], length, IsTrue, IfOk};
-ghost use Rattle.json_values.specs.View.{view, items_view};
+ghost use Rattle.serde_json.specs.View.{view, items_view};
 ghost use Rattle.farm_base.specs.Earlier.{each_after};
 ghost use Rattle.filter_expr.specs.FilterTexts.{filter_of};
 ghost use Rattle.plain_drawing.specs.Styles.{style_apart};
@@ -16,10 +16,10 @@ use crate::keys::{Object, open};
 use crate::kinds::{mode_or_all, text_to};
 use crate::rules::rules;
 use farm_base::Text;
-use json_values::Value;
 use plain_data::MOST_NAME_BYTES;
 use plain_drawing::{MOST_RULES, Style};
 use reading::{ReadItem, read_list, within};
+use serde_json::Value;
 use std::alloc::Global;
 
 /// Whether a style of this name is among them.

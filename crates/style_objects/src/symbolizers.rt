@@ -1,7 +1,7 @@
 //! The symbolizers of a rule.
 ghost use Rattle.std.specs.Prelude.{◌≡◌, ◌≤◌, [], length, codes, IsTrue, IfOk};
 ghost use Rattle.std.specs.List.{list_all};
-ghost use Rattle.json_values.specs.View.{view, items_view};
+ghost use Rattle.serde_json.specs.View.{view, items_view};
 ghost use Rattle.farm_base.specs.Earlier.{each_after};
 ghost use Rattle.plain_drawing.specs.Styles.{is_paint};
 ghost use Rattle.reading.specs.Lists.{list_of};
@@ -17,10 +17,10 @@ use crate::keys::{Object, open};
 use crate::kinds::{
     any_text_or_none, cap_or_butt, colour_at, colour_or, opacity_or_full, width_at, width_or,
 };
-use json_values::Value;
 use paint_texts::Colour;
 use plain_drawing::Symbolizer;
 use reading::{ReadItem, read_list, text};
+use serde_json::Value;
 use std::alloc::Global;
 
 const GRAY: Colour = Colour {

@@ -1,5 +1,5 @@
 use Rattle.std.proofs.Common.{sym, subst}
-use Rattle.json_values.specs.View.{view}
+use Rattle.serde_json.specs.View.{view}
 use Rattle.reading.specs.Steps.{Gives}
 use Rattle.farm_config.specs.declared.fault.ConfigFault.TheVariants as fault
 use Rattle.farm_config.proofs.Parts.{in_parts}

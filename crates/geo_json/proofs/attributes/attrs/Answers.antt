@@ -9,19 +9,19 @@ pub returns-in-Err-clause-value : goal.returns-in-Err-clause-value
 returns-in-Err-clause-value c = λ n.
     let left = rest_more deref_pair c.loop-key.key-iterator c.next.new.self c.next.result (c.in-Some.key, c.in-Some.value) c.in-Some.is c.next.ensures.steps in
     attrs_fails c.args.shape c.loop-key.attrs.items c.in-Some.key.now c.in-Some.value.now c.loop-key.key-iterator c.next.new.self c.in-Err.fault _ left
-    (c.in-Err.ensures.value n) c.loop-key.invariant.told
+    (rw c.as_str.ensures.value at (c.in-Err.ensures.value n)) c.loop-key.invariant.told
 
 pub loop-key-preserved : goal.loop-key-preserved
 loop-key-preserved c =
     let left = rest_more deref_pair c.loop-key.key-iterator c.next.new.self c.next.result (c.in-Some.key, c.in-Some.value) c.in-Some.is c.next.ensures.steps in
-    let given = c.in-Ok.ensures.value in
+    let given = rw c.as_str.ensures.value at c.in-Ok.ensures.value in
     record {
       can = tt;
       ends = tt;
       told = attrs_more c.args.shape c.loop-key.attrs.items c.push.new.self.items c.in-Some.key.now c.in-Some.value.now c.loop-key.key-iterator c.next.new.self
           c.in-Ok.attr _ c.in_ok-push-in-Ok.ensures.items left given c.loop-key.invariant.told;
       names = names_more c.loop-key.attrs.items c.push.new.self.items c.in-Some.key.now c.in-Some.value.now c.loop-key.key-iterator c.next.new.self
-          c.in-Ok.attr _ c.in_ok-push-in-Ok.ensures.items left c.in-Ok.ensures.named c.loop-key.invariant.names;
+          c.in-Ok.attr _ c.in_ok-push-in-Ok.ensures.items left (c.in-Ok.ensures.named ∙ c.as_str.ensures.value) c.loop-key.invariant.names;
     }
 
 pub returns-clause-value : goal.returns-clause-value

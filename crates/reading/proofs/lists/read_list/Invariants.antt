@@ -1,5 +1,5 @@
 use Rattle.std.specs.Prelude.{◌≡◌, ◌≤◌, [], length, drop, IsTrue}
-use Rattle.json_values.specs.View.{items_view}
+use Rattle.serde_json.specs.View.{items_view}
 use Rattle.reading.specs.Lists.{list_after}
 use Rattle.farm_base.specs.Earlier.{each_after}
 use Rattle.reading.proofs.lists.read_list.Given as goal

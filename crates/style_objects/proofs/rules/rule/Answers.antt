@@ -1,5 +1,5 @@
 use Rattle.std.proofs.Common.{sym, subst}
-use Rattle.json_values.specs.View.{view}
+use Rattle.serde_json.specs.View.{view}
 use Rattle.filter_expr.specs.FilterTexts.{filter_of}
 use Rattle.reading.specs.Steps.{Gives}
 use Rattle.style_objects.specs.declared.fault.StyleFault.TheVariants as fault
