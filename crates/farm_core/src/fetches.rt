@@ -17,13 +17,10 @@ use farm_base::{Bytes, MetaFault};
 use farm_jobs::serve;
 use farm_plan::{Fetched, Key, Looked, Mark, Spot};
 use merc_fixed::index_place;
-use meta_container::entry_in;
+use meta_container::{HEAD_BYTES, entry_in};
 use plain_world::{Meta, Tile};
 use std::alloc::Global;
 use tile_store::{StoreFault, TileStore};
-
-/// How many bytes of a container stand before its tiles.
-const HEAD: u32 = 532;
 
 /// What a fetch is answered where the store refused a read.
 fn refused(fault: StoreFault) -> Fetched
@@ -47,7 +44,7 @@ fn read_tile<D: TileStore>(
     requires place { meta_of tile ≡ meta }
     ensures { ReadsTile (D.state store.old) (D.state store.new) path.now meta (index_place tile) result }
 {
-    let head = match store.get_part(alloc, path, 0, HEAD) {
+    let head = match store.get_part(alloc, path, 0, HEAD_BYTES as u32) {
         Ok(Some(head)) => head,
         Ok(None) => return Err(Fetched::Gone),
         Err(fault) => return Err(refused(fault)),

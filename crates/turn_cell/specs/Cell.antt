@@ -1,7 +1,8 @@
 -- The rule of the cell's table: what holds at every moment of the three words, of the value and of what all seats have seen.
 -- The words are the next ticket to draw (0), the ticket that is served (1) and the number of entries (2). The one slot has the
 -- value, or nothing while a turn has it.
-use Rattle.std.specs.Prelude.{◌≡◌, ℕ, zero, suc, ◌+◌, ◌^◌, ◌≤◌, true, false, List, [], ◌∷◌, length, Option, Some, None}
+use Rattle.std.specs.Prelude.{◌≡◌, ℕ, zero, suc, ◌+◌, ◌≤◌, true, false, List, [], ◌∷◌, length, Option, Some, None}
+use Rattle.farm_base.specs.Limits.{most_turns}
 use mathlib.Core.Option.{some}
 use lib.ListN.{get_elem?}
 use Rattle.atomic_table.specs.Table.{State, Me}
@@ -79,7 +80,7 @@ module _ {T E L : Type 0} (stands : T → List (ℕ × E) → Type 0) (lasting :
     pub now : Moment E
     pub words : s.words ≡ now.ticket ∷ now.serving ∷ length now.log ∷ []
     pub few : now.ticket ≤ about.limit
-    pub small : about.limit ≤ 2 ^ 62
+    pub small : about.limit ≤ most_turns
     pub slots : length s.homes ≡ 1
     pub fits : (j : ℕ) (v : View T E) → get_elem? s.views j ≡ some v → Fits about now j v
     -- the tickets from the one that is served to below the next one are with the seats, each with one
