@@ -140,9 +140,9 @@ impl<D: TileStore> Farm<D> {
     /// The bytes of a spot's tile, as the store holds them, with how its metatile stands. It reads the head of
     /// the metatile's container and, by it, the tile's part. Unservable and Missing as `look`; GetFailed where a
     /// read Failed; NoMemory where one found none; Gone where one found nothing; Spoilt where the head is none,
-    /// with its first fault, or where the part is cut off: each exactly as what the store holds says. Where the
-    /// store has told what it holds since the start neither Gone nor Spoilt comes, and the bytes are the plain
-    /// drawing in the style and over the data of the claim of what is shown.
+    /// with its first fault, or where the part is cut off: each, where the store tells what it holds, exactly as
+    /// that says. Where the store has told it since the start neither Gone nor Spoilt comes, and the bytes are
+    /// the plain drawing in the style and over the data of the claim of what is shown.
     pub fn fetch(&mut self, alloc: Global, spot: Spot) -> Fetched
         requires { self.old.counts.turns < 2 ^ 63 }
         ensures step { (told : Bool) (h : List Entry) → StandsFor D.state told self.old h → StandsFor D.state told self.new (Fetch spot result ∷ h) }
