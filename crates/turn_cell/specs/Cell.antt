@@ -1,11 +1,11 @@
 -- The rule of the cell's table: what holds at every moment of the three words, of the value and of what all seats have seen.
 -- The words are the next ticket to draw (0), the ticket that is served (1) and the number of entries (2). The one slot has the
 -- value, or nothing while a turn has it.
-use Rattle.std.specs.Prelude.{◌≡◌, ℕ, zero, suc, ◌+◌, ◌≤◌, true, false, List, [], ◌∷◌, length, Option, Some, None}
-use Rattle.farm_base.specs.Limits.{most_turns}
+use Rattle.std.specs.Prelude.{◌≡◌, ℕ, zero, suc, ◌+◌, ◌^◌, ◌≤◌, true, false, List, [], ◌∷◌, length, Option, Some, None}
 use mathlib.Core.Option.{some}
 use lib.ListN.{get_elem?}
 use Rattle.atomic_table.specs.Table.{State, Me}
+use Rattle.farm_base.specs.Limits.{most_turns}
 use Rattle.turn_cell.specs.Turns.{by, StartsWith, HasJoined, NoneAbove}
 use Rattle.turn_cell.specs.declared.view.Terms.{Terms}
 use Rattle.turn_cell.specs.declared.view.View.{View}
