@@ -33,12 +33,6 @@ abbrev pub PutsMade : SinkAt → SinkAt → Result (Vec ℕ Global) Stop → Res
 PutsMade old new (Ok v) result = PutsAll old new v.items result
 PutsMade old new (Err s) result = (result ≡ Err s) × (new ≡ old)
 
--- the words ask for no command that there is: nothing is read or put
-pub record Refuses (files files' : FilesAt) (out out' : SinkAt) (result : Result (Unit {0}) Stop) : Type 0 where
-  pub ends : result ≡ Err stop.Words
-  pub files_same : files' ≡ files
-  pub out_same : out' ≡ out
-
 -- the status, or 4 where a line could not be put on err
 abbrev pub told_status : ℕ → Result (Unit {0}) SinkFault → ℕ
 told_status status (Ok done) = status

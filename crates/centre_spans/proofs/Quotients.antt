@@ -4,6 +4,13 @@ use Rattle.std.specs.Prelude.{nat_le}
 use Rattle.std.proofs.Math.Nat.{mul-le-mul_left, mul-le-mul_right, div-add-mod, mod-lt}
 use Rattle.std.proofs.lemmas.Bool.{cases_lt, le-leb, lt-leb}
 
+-- a factor that is not zero is cancelled
+pub cancel : (m n k : ℕ) → 1 ≤ k → m * k ≤ n * k → m ≤ n
+cancel m n k some h = elim (cases_lt n m) [
+  | inl p ↦ (let q : n + 1 ≤ m = omega arith in absurd (omega (arith, mul-le-mul_right k q)))
+  | inr p ↦ p
+]
+
 -- the quotient rounded up is at most x exactly where the number is at most h times x
 pub up_le : (n h x : ℕ) → 0 < h → nat_le (n / h + min 1 (n % h)) x ≡ nat_le n (h * x)
 up_le n h x some = elim (cases_lt x (n / h + min 1 (n % h))) [

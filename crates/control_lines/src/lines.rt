@@ -1,10 +1,9 @@
 //! What a line says.
 ghost use Rattle.std.specs.Prelude.{◌≡◌, option_map};
-ghost use Rattle.std.specs.Str.Lines.{strip_carriage_return};
 ghost use Rattle.control_lines.specs.Lines as spec;
 
 use crate::acts::Line;
-use line_words::{cut, small_number};
+use line_words::{cut, small_number, without_return};
 use std::str;
 
 /// The line of this name with these words behind it.
@@ -53,16 +52,6 @@ fn text(bytes: &[u8]) -> Option<&str>
     match str::from_utf8(bytes) {
         Ok(text) => Some(text),
         Err(_) => None,
-    }
-}
-
-/// The line without the carriage return at its end, if it has one.
-fn without_return(line: &[u8]) -> &[u8]
-    ensures { result.now ≡ strip_carriage_return line.entry.now }
-{
-    match line {
-        [front @ .., b'\r'] => front,
-        _ => line,
     }
 }
 

@@ -1,5 +1,5 @@
 //! The real files and streams by their traits.
-use farm_base::{DiskFiles, FileFault, Files, OutSink, Sink, SinkFault};
+use farm_base::{DiskFiles, FileFault, Files, OutSink, Sink, SinkFault, read_to_end};
 use std::alloc::Global;
 use std::fs;
 use std::io::{self, Write};
@@ -63,4 +63,12 @@ fn files_are_read(rt: HostRuntime) -> Result<(), Fail> {
     assert!(rt; files.read(alloc, "folder/file")?.as_slice() == b"bytes".as_slice());
     fs::remove_dir_all(&rt, "folder")?;
     Ok(())
+}
+
+#[test]
+fn a_longer_file_is_refused(rt: HostRuntime) {
+    let alloc = rt.alloc();
+    let four = read_to_end(alloc, b"four".as_slice(), 4);
+    assert!(rt; matches!(&four, Ok(bytes) if bytes.as_slice() == b"four".as_slice()));
+    assert!(rt; is_failed(&read_to_end(alloc, b"fives".as_slice(), 4)));
 }

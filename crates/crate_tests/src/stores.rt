@@ -1,8 +1,9 @@
 //! The two stores by their trait.
 use std::alloc::Global;
-use std::fs;
 use std::process::Abort;
+use std::rt::Files;
 use std::test::Fail;
+use std::{fs, io};
 use tile_store::{FileStore, MemStore, StoreFault, TileStore};
 
 /// What a get gave, as a slice.
@@ -63,6 +64,50 @@ fn memory_and_files_hold(rt: HostRuntime) -> Result<(), Fail> {
     let mut files = FileStore::new(rt.clone()?);
     holds(&rt, &mut files, alloc);
     gets(&rt, &mut files, alloc, "map/0/0/0/0/0/0.meta", b"xy");
+    fs::remove_dir_all(&rt, "tiles")?;
+    Ok(())
+}
+
+/// What the system refuses is Failed, and counted.
+fn refuses<S: TileStore>(rt: &impl Abort, store: &mut S, alloc: Global, path: &str) {
+    let before = store.faults();
+    assert_eq!(rt; store.put(alloc, path, b"x"), Err(StoreFault::Failed));
+    assert!(rt;
+        slice(&store.get(alloc, path)) == Err(StoreFault::Failed),
+        "get of {path}"
+    );
+    assert!(rt;
+        slice(&store.get_part(alloc, path, 0, 1)) == Err(StoreFault::Failed),
+        "part of {path}"
+    );
+    assert_eq!(rt; store.faults(), before + 3);
+}
+
+fn is_missing<R: Files>(rt: &R, name: &str) -> bool {
+    match fs::open(rt, name) {
+        Ok(_) => false,
+        Err(error) => error.kind() == io::ErrorKind::NotFound,
+    }
+}
+
+#[test]
+fn the_system_refuses(rt: HostRuntime) -> Result<(), Fail> {
+    let alloc = rt.alloc();
+    let _left_by_an_earlier_run = fs::remove_dir_all(&rt, "tiles");
+    let mut files = FileStore::new(rt.clone()?);
+    assert_eq!(rt; files.put(alloc, "one", b"one"), Ok(()));
+    assert!(rt;
+        is_missing(&rt, "tiles/one.new"),
+        "written beside and renamed"
+    );
+    refuses(&rt, &mut files, alloc, "one/below_a_file");
+    fs::create_dir(&rt, "tiles/folder")?;
+    refuses(&rt, &mut files, alloc, "folder");
+    assert!(rt;
+        is_missing(&rt, "tiles/folder.new"),
+        "nothing is left of a put that failed"
+    );
+    gets(&rt, &mut files, alloc, "one", b"one");
     fs::remove_dir_all(&rt, "tiles")?;
     Ok(())
 }

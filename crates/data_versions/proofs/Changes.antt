@@ -7,15 +7,8 @@ use Rattle.std.proofs.lemmas.List.{length-map, map-append, drop_all}
 use Rattle.std.proofs.lemmas.List.Folds.{list_any-append}
 use Rattle.plain_data.specs.Features.{Feature}
 use Rattle.plain_data.specs.Data.{has_id, ids_of, without_ids, last_put, puts_in_place, put_features, with_puts, first_missing, is_too_many}
+use Rattle.geo_model.proofs.Boxes.{no_left, no_right}
 use Rattle.data_versions.specs.inner.Slots.{without, replaced_by, with_put}
-
-no_left : (a b : Bool) → (a || b) ≡ false → a ≡ false
-no_left true b h = h
-no_left false b h = refl
-
-no_right : (a b : Bool) → (a || b) ≡ false → b ≡ false
-no_right true b h = cc
-no_right false b h = h
 
 flip : (a b : ℕ) → nat_eq a b ≡ nat_eq b a
 flip a b = grind (arith, nat_tests)

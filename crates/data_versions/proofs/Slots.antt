@@ -13,15 +13,8 @@ use Rattle.std.proofs.lemmas.List.Elements.{filter_map-append}
 use Rattle.data_versions.specs.declared.slot.Slot.{Slot}
 use Rattle.plain_data.specs.Features.{Feature}
 use Rattle.plain_data.specs.Data.{has_id, ids_of}
+use Rattle.geo_model.proofs.Boxes.{no_left, no_right}
 use Rattle.data_versions.specs.inner.Slots.{standing_in, standing, slot_id, KnowsPlaces, StandsNowhere, without, replaced_by, with_put}
-
-no_left : (a b : Bool) → (a || b) ≡ false → a ≡ false
-no_left true b h = h
-no_left false b h = refl
-
-no_right : (a b : Bool) → (a || b) ≡ false → b ≡ false
-no_right true b h = cc
-no_right false b h = h
 
 or_true : (a b : Bool) → b ≡ true → (a || b) ≡ true
 or_true true b h = refl

@@ -1,6 +1,7 @@
 //! A layer while an update changes it.
 ghost use Rattle.std.specs.Prelude.{◌≡◌, ◌≤◌, ◌<◌, ◌∷◌, ◌++◌, [], true, false, nat_eq, length, IfOk, OnOk};
 ghost use Rattle.std.specs.List.{IsDistinct};
+ghost use Rattle.plain_data.specs.Limits.{most_features};
 ghost use Rattle.plain_data.specs.Data.{has_id, ids_of};
 ghost use Rattle.data_versions.specs.inner.Slots.{without, replaced_by, with_put};
 ghost use Rattle.data_versions.specs.inner.Chunks.{joined};
@@ -38,19 +39,20 @@ pub(crate) struct LayerEdit<'a> {
 impl<'a> Model for LayerEdit<'a> {
     ghost use Rattle.std.specs.Prelude.{◌≡◌, ◌≤◌, List, length};
     ghost use Rattle.plain_data.specs.Features.{Feature};
+    ghost use Rattle.plain_data.specs.Limits.{most_features};
     ghost use Rattle.data_versions.specs.inner.Slots.{standing, HasOld, KnowsPlaces};
 
     ghost Value = { List Feature };
 
     ghost view = { λ b. standing b.slots.items };
 
-    ghost invariant = { λ b. KnowsPlaces b.all_noted b.places b.layer.now.features b.slots.items × (b.count ≡ length (standing b.slots.items)) × (b.count ≤ 1000000) × HasOld b.slots.items b.layer.now.features };
+    ghost invariant = { λ b. KnowsPlaces b.all_noted b.places b.layer.now.features b.slots.items × (b.count ≡ length (standing b.slots.items)) × (b.count ≤ most_features) × HasOld b.slots.items b.layer.now.features };
 }
 
 impl<'a> LayerEdit<'a> {
     /// The features of a layer.
     pub(crate) fn of(alloc: Global, layer: &'a ChunkedLayer) -> Result<LayerEdit<'a>, NoMemory>
-        requires few { length layer.now.features ≤ 1000000 }
+        requires few { length layer.now.features ≤ most_features }
         requires distinct { IsDistinct nat_eq (ids_of layer.now.features) }
         ensures { IfOk result (λ b. b ≡ layer.now.features) }
     {
@@ -83,7 +85,7 @@ impl<'a> LayerEdit<'a> {
     #[tactic(auto, using(crate::proofs::Slots::standing_distinct))]
     pub(crate) fn len(&self) -> usize
         ensures count { result ≡ length self.now }
-        ensures few { length self.now ≤ 1000000 }
+        ensures few { length self.now ≤ most_features }
         ensures distinct { IsDistinct nat_eq (ids_of self.now) }
     {
         self.count
@@ -115,7 +117,7 @@ impl<'a> LayerEdit<'a> {
     /// Puts a feature of a new id at the end.
     fn add(&mut self, feature: &'a Feature) -> Result<(), NoMemory>
         requires fresh { has_id (ids_of self.old) feature.now.id ≡ false }
-        requires room { length self.old < 1000000 }
+        requires room { length self.old < most_features }
         ensures { OnOk result (self.new ≡ self.old ++ feature.now ∷ []) }
     {
         let place = self.slots.len();
@@ -157,7 +159,7 @@ impl<'a> LayerEdit<'a> {
     /// Puts a feature, in place of the one of its id or last. False where it is new and the layer is full.
     pub(crate) fn put(&mut self, feature: &'a Feature) -> Result<bool, NoMemory>
         ensures done { IfOk result (λ fits. fits ≡ true → self.new ≡ with_put feature.now self.old) }
-        ensures full { IfOk result (λ fits. fits ≡ false → (has_id (ids_of self.old) feature.now.id ≡ false) × (1000000 ≤ length self.old)) }
+        ensures full { IfOk result (λ fits. fits ≡ false → (has_id (ids_of self.old) feature.now.id ≡ false) × (most_features ≤ length self.old)) }
     {
         if self.replace(feature) {
             return Ok(true);

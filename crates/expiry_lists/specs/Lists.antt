@@ -4,6 +4,7 @@ use Rattle.std.specs.Prelude.{ℕ, ◌+◌, ◌^◌, ◌&&◌, nat_le, nat_lt, i
 use Rattle.std.specs.Option.{ok_or}
 use Rattle.std.specs.Str.{is_utf8}
 use Rattle.std.specs.Str.Lines.{lines}
+use Rattle.farm_base.specs.Limits.{most_lines}
 use Rattle.line_words.specs.Cuts.{cut_at}
 use Rattle.line_words.specs.Numbers.{decimal_below}
 use Rattle.reading.specs.Steps.{◌>>=◌, check}
@@ -42,11 +43,11 @@ unfoldable pub line_read : ListFault → List ℕ → Result (Option Tile) ListF
 line_read fault [] = Ok None
 line_read fault (b ∷ bs) = text_of fault (b ∷ bs) >>= λ text. tile_of fault text >>= λ t. Ok (Some t)
 
--- the lines from this number on, after those that were read before; there is no line after 1,000,000
+-- the lines from this number on, after those that were read before; no more than a list may have
 unfoldable pub lines_after : ℕ → List Tile → List (List ℕ) → Result (List Tile) ListFault
 lines_after number before [] = Ok before
 lines_after number before (line ∷ rest) =
-    check (nat_le number 1000000) (Line number) >>= λ u. line_read (Line number) line >>= λ t. lines_after (number + 1) (before ++ option_to_list t) rest
+    check (nat_le number most_lines) (Line number) >>= λ u. line_read (Line number) line >>= λ t. lines_after (number + 1) (before ++ option_to_list t) rest
 
 -- what the bytes of an expiry list say; lines are counted from 1, the empty ones too
 unfoldable pub list_in : List ℕ → Result (List Tile) ListFault

@@ -1,19 +1,18 @@
 //! Expiry lists: the tiles of a text, one a line.
 ghost use Rattle.std.specs.Prelude.{◌≡◌, ◌≤◌, length, All, IfOk, IfSome};
+ghost use Rattle.farm_base.specs.Limits.{most_lines};
 ghost use Rattle.reading.specs.Steps.{Gives, seen};
 ghost use Rattle.plain_world.specs.World.{IsTile};
 ghost use Rattle.expiry_lists.specs.Lists as spec;
 ghost use Rattle.expiry_lists.specs.declared.faults.ListFault.TheVariants as fault;
 
 use crate::faults::ListFault;
+use farm_base::MOST_LINES;
 use line_words::{cut, first_line, small_number};
 use plain_world::Tile;
 use std::alloc::Global;
 use std::marker::Model;
 use std::str;
-
-/// How many lines a list may have, the empty ones included.
-const MOST_LINES: u32 = 1_000_000;
 
 /// The tiles of an expiry list, in order, at most 1,000,000. Contracts see it as the list of them.
 #[derive(Debug, Drop)]
@@ -103,7 +102,7 @@ fn read_line(line: &[u8], fault: ListFault) -> Result<Option<Tile>, ListFault>
 pub fn read_list(alloc: Global, bytes: &[u8]) -> Result<Vec<Tile>, ListFault>
     ensures value { Gives fault.NoMemory (λ v. v.items) (spec.list_in bytes.now) result }
     ensures valid { IfOk result (λ v. All IsTile v.items) }
-    ensures few { IfOk result (λ v. length v.items ≤ 1000000) }
+    ensures few { IfOk result (λ v. length v.items ≤ most_lines) }
 {
     let mut tiles = Vec::new(alloc);
     let mut rest = bytes;

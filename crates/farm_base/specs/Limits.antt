@@ -1,6 +1,10 @@
 -- The limits at the farm's edge. Code that keeps to them cites the constants of the same names.
 use Rattle.std.specs.Prelude.{ℕ, ◌^◌}
 
+-- the most bytes of a file that is read whole
+abbrev pub most_file_bytes : ℕ
+most_file_bytes = 2 ^ 31
+
 -- the most lines of a script or of a list of tiles: a line's place among them has 32 bits
 abbrev pub most_lines : ℕ
 most_lines = 1000000

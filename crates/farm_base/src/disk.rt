@@ -1,17 +1,16 @@
 //! The real files and streams as files and sinks. They do not tell what they hold; what is proved of
 //! them is that they count their failures.
-ghost use Rattle.std.specs.Prelude.{◌≡◌, ℕ, ◌≤◌, ◌^◌, length, IfOk, OnOk};
+ghost use Rattle.std.specs.Prelude.{◌≡◌, ℕ, ◌≤◌, length, IfOk, OnOk};
 ghost use Rattle.std.specs.Io.KnownBytes.{Appends};
+ghost use Rattle.farm_base.specs.Limits.{most_file_bytes};
 ghost use Rattle.farm_base.specs.Outside.{Reads, Puts, untold};
 
 use crate::files::{FileFault, Files};
+use crate::limits::MOST_FILE_BYTES;
 use crate::sinks::{Sink, SinkFault};
 use std::alloc::Global;
 use std::io::{self, Read, Write};
 use std::{fs, rt};
-
-/// A longer file is not read.
-const LONGEST: usize = 1 << 31;
 
 /// The files of the system, through a runtime.
 #[derive(Drop)]
@@ -40,7 +39,7 @@ impl<R: rt::Files> Files for DiskFiles<R> {
     /// `2^31` bytes.
     fn read(&mut self, alloc: Global, name: &str) -> Result<Vec<u8>, FileFault>
         ensures state { Reads (untold self.old.faults) (untold self.new.faults) name.now result }
-        ensures short { IfOk result (λ v. length v.items ≤ 2 ^ 31) }
+        ensures short { IfOk result (λ v. length v.items ≤ most_file_bytes) }
     {
         match whole(alloc, &self.rt, name) {
             Ok(bytes) => Ok(bytes),
@@ -53,16 +52,23 @@ impl<R: rt::Files> Files for DiskFiles<R> {
     }
 }
 
-// One byte more than the longest file shows that a file is longer.
 fn whole<R: rt::Files>(alloc: Global, files: &R, name: &str) -> Result<Vec<u8>, FileFault>
-    ensures { IfOk result (λ v. length v.items ≤ 2 ^ 31) }
+    ensures { IfOk result (λ v. length v.items ≤ most_file_bytes) }
 {
     let file = fs::open(files, name).map_err(|e| fault(&e))?;
+    read_to_end(alloc, file, MOST_FILE_BYTES)
+}
+
+/// All that a reader gives. Failed where it refuses, or gives more than `most` bytes.
+pub fn read_to_end<F: Read + Drop>(alloc: Global, from: F, most: u32) -> Result<Vec<u8>, FileFault>
+    ensures { IfOk result (λ v. length v.items ≤ most) }
+{
     let mut bytes = Vec::new(alloc);
-    file.take(LONGEST as u64 + 1)
+    // One byte more than the most shows that there are more.
+    from.take(u64::from(most) + 1)
         .read_to_end(&mut bytes)
         .map_err(|e| fault(&e))?;
-    if bytes.len() > LONGEST {
+    if bytes.len() > most as usize {
         return Err(FileFault::Failed);
     }
     Ok(bytes)

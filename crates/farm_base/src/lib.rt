@@ -16,12 +16,12 @@ mod turns;
 mod values;
 
 pub use bells::{Bell, Bells, Gate, NoBell, OpenGate};
-pub use disk::{DiskFiles, OutSink};
+pub use disk::{DiskFiles, OutSink, read_to_end};
 pub use faults::{ApplyFault, MetaFault};
 pub use files::{FailedCall, FileFault, Files, MemFiles};
 pub use limits::{
-    MOST_ASKS, MOST_ASKS_OF_ONE, MOST_CONTROL_BYTES, MOST_HEAD_BYTES, MOST_HEAD_FIELDS, MOST_LINES,
-    MOST_PIECE_BYTES, MOST_REST_BYTES, MOST_SESSIONS, MOST_TURNS,
+    MOST_ASKS, MOST_ASKS_OF_ONE, MOST_CONTROL_BYTES, MOST_FILE_BYTES, MOST_HEAD_BYTES,
+    MOST_HEAD_FIELDS, MOST_LINES, MOST_PIECE_BYTES, MOST_REST_BYTES, MOST_SESSIONS, MOST_TURNS,
 };
 pub use listed::Listed;
 pub use memory::NoMemory;

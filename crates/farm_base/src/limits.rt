@@ -1,5 +1,8 @@
 //! The limits at the farm's edge.
 
+/// The most bytes of a file that is read whole.
+pub const MOST_FILE_BYTES: u32 = 1 << 31;
+
 /// The most lines of a script or of a list of tiles: a line's place among them has 32 bits.
 pub const MOST_LINES: u32 = 1_000_000;
 
@@ -10,7 +13,7 @@ pub const MOST_TURNS: u64 = 1 << 62;
 pub const MOST_ASKS_OF_ONE: u32 = 64;
 
 /// The most asks that wait for a reply.
-pub const MOST_ASKS: usize = 4_096;
+pub const MOST_ASKS: u32 = 4_096;
 
 /// The most connections that a front has open.
 pub const MOST_SESSIONS: usize = 1_024;

@@ -1,16 +1,17 @@
 -- A farm as its replay begins: its maps have been given the styles that were saved, and nothing else has happened.
-use Rattle.std.proofs.Common.{◌≡◌, ℕ, ◌+◌, ◌-◌, ◌^◌, ◌<◌, ◌≤◌, min, Bool, true, false, List, [], ◌∷◌, ◌++◌, length, replicate, map, filter, slice_get, Option, Some, None, is_some, refl, sym, ap, ◌∙◌, subst, arith}
+use Rattle.std.proofs.Common.{◌≡◌, ℕ, ◌+◌, ◌-◌, ◌^◌, ◌<◌, ◌≤◌, min, Bool, true, false, List, [], ◌∷◌, length, replicate, map, filter, slice_get, Option, Some, None, is_some, refl, sym, ap, ◌∙◌, subst, arith}
 use Rattle.std.specs.Prelude.{IfSome}
 use Rattle.farm_base.specs.Outside.{Outside}
 use Rattle.tile_store.specs.Stores.{StoreTold}
 use Rattle.farm_history.specs.declared.answers.Restyled.TheVariants.{Styled}
-use Rattle.farm_history.specs.Entries.{Entry, Finish, Restyle}
+use Rattle.farm_history.specs.Entries.{Entry, Restyle}
 use Rattle.farm_history.specs.Plans.{Plan}
 use Rattle.farm_history.specs.Past.{is_stopped, data_after, style_after, flights, jobs, claimed_keys, shown, waiting, numbers, Numbered, open_asks, replies_to, asks_made, done_asks, stored_drawings}
 use Rattle.farm_history.specs.Laws.{flight_key}
 use Rattle.farm_history.specs.Seen.{has_no_end, mark_at, in_queue}
 use Rattle.farm_history.specs.Replays.{Saving, changes_after, replay_styles}
 use Rattle.farm_history.proofs.Counts.{count-cons}
+use Rattle.farm_history.proofs.Redrawn.{replies_none}
 use Rattle.farm_history.proofs.Resumed.{IsBare, styles_bare, styles_at, style_place}
 use Rattle.std.proofs.lemmas.Option.{slice_get-get_or}
 use Rattle.farm_plan.specs.Plans.{FarmPlan, IsPlan}
@@ -75,12 +76,6 @@ unfolding replay_styles failures
 failures_styles plan [] g = refl
 failures_styles plan (None ∷ styles) g = failures_styles plan styles g
 failures_styles plan (Some n ∷ styles) g = failures_styles plan styles (Restyle n (Styled 0) ∷ g)
-
-replies_none : (h : List Entry) → replies_to [] h ≡ []
-unfolding replies_to
-replies_none [] = refl
-replies_none (Finish t drawn answer ∷ g) = ap (λ xs. xs ++ []) (replies_none g)
-replies_none (_ ∷ g) = replies_none g
 
 bare_none : (p : Plan) (told : Bool) → IsBare p told []
 unfolding is_stopped flights waiting open_asks claimed_keys shown data_after

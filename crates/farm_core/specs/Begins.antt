@@ -1,5 +1,6 @@
 -- How a farm begins: what it keeps for good, and the history that it stands for.
-use Rattle.std.specs.Prelude.{ℕ, ◌^◌, ◌<◌, ◌≡◌, Bool, true, List, [], length, Option, Some, None, is_some, IfSome}
+use Rattle.std.specs.Prelude.{ℕ, ◌<◌, ◌≡◌, Bool, true, List, [], length, Option, Some, None, is_some, IfSome}
+use Rattle.farm_base.specs.Limits.{most_turns}
 use Rattle.farm_base.specs.Outside.{Outside}
 use Rattle.tile_store.specs.Stores.{StoreTold}
 use Rattle.farm_history.specs.Entries.{Entry}
@@ -31,6 +32,6 @@ pub record Begins {D : Type 0} (state : D → Outside StoreTold) (plan : FarmPla
 
 -- a history with which a farm may begin: it leaves room for all turns, no drawing is under way, and no ask in it is of a running farm's front
 pub record BeginsWell (h : List Entry) : Type 0 where
-  pub short : length h < 2 ^ 62
+  pub short : length h < most_turns
   pub unflown : flights h ≡ []
   pub asks : (m : ℕ) (a : Numbered) → ask_numbered h m ≡ Some a → a.conn.front ≡ replay_front

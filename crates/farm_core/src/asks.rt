@@ -1,5 +1,6 @@
 //! Asks: a connection asks for a metatile, or marks it dirty.
 ghost use Rattle.std.specs.Prelude.{◌≡◌, ◌<◌, ◌≤◌, ◌+◌, ◌^◌, Bool, List, ◌∷◌, ◌||◌, nat_le, is_some, IfSome, if◌then◌else◌};
+ghost use Rattle.farm_base.specs.Limits.{most_asks, most_asks_of_one};
 ghost use Rattle.farm_history.specs.Plans.{is_dirty_command, is_in, is_lifting, is_servable, key_of, own_queue, same_queue};
 ghost use Rattle.farm_history.specs.declared.queues.Queue.{Queue};
 ghost use Rattle.farm_history.specs.Rules.{answer_of_waiting};
@@ -15,16 +16,11 @@ ghost use Rattle.farm_plan.specs.Spots.{IsKeyOf};
 ghost use Rattle.farm_stands.specs.inner.Events.{asked_tables, marked_tables, waits_at};
 
 use crate::farm::Farm;
+use farm_base::{MOST_ASKS, MOST_ASKS_OF_ONE};
 use farm_jobs::{is_overtaken, serve, touch_key};
 use farm_plan::{AskAnswer, Cmd, Conn, Key, Mark, Queue, Spot, Waiter, Why};
 use render_queues::{Queues, Standing};
 use tile_store::TileStore;
-
-/// How many asks of one connection may be open.
-const MOST_OF_ONE: u32 = 64;
-
-/// How many asks may be open in all.
-const MOST: u32 = 4096;
 
 /// The queue of a command.
 fn own_queue(cmd: Cmd) -> Queue
@@ -208,9 +204,9 @@ fn is_numbered(answer: AskAnswer) -> bool
 impl<D> Farm<D> {
     /// Whether the connection, or all together, have as many open asks as may be.
     fn has_backlog(&self, conn: Conn) -> bool
-        ensures { result ≡ (nat_le 64 (open_of self.now.queues conn) || nat_le 4096 (open_count self.now.queues)) }
+        ensures { result ≡ (nat_le most_asks_of_one (open_of self.now.queues conn) || nat_le most_asks (open_count self.now.queues)) }
     {
-        MOST_OF_ONE <= self.queues.asks_of(conn) || MOST <= self.queues.asks()
+        MOST_ASKS_OF_ONE <= self.queues.asks_of(conn) || MOST_ASKS <= self.queues.asks()
     }
 
     /// What an ask for a metatile with a render command is answered, before any stop.

@@ -30,6 +30,7 @@ pub struct Farm<D> {
     pub(crate) version: u64,
     pub(crate) changes: Vec<Past>,
     pub(crate) styled: Vec<Option<u32>>,
+    // The drawings under way. The queues hold their keys too: there a key stands once, waiting or taken.
     pub(crate) taken: Vec<Taken>,
     pub(crate) queues: Queues,
     pub(crate) marks: Marks,

@@ -17,13 +17,10 @@ use farm_base::{Bytes, MetaFault};
 use farm_jobs::serve;
 use farm_plan::{Fetched, Key, Looked, Mark, Spot};
 use merc_fixed::index_place;
-use meta_container::entry_in;
+use meta_container::{HEAD_BYTES, entry_in};
 use plain_world::{Meta, Tile};
 use std::alloc::Global;
 use tile_store::{StoreFault, TileStore};
-
-/// How many bytes of a container stand before its tiles.
-const HEAD: u32 = 532;
 
 /// What a fetch is answered where the store refused a read.
 fn refused(fault: StoreFault) -> Fetched
@@ -47,7 +44,7 @@ fn read_tile<D: TileStore>(
     requires place { meta_of tile ≡ meta }
     ensures { ReadsTile (D.state store.old) (D.state store.new) path.now meta (index_place tile) result }
 {
-    let head = match store.get_part(alloc, path, 0, HEAD) {
+    let head = match store.get_part(alloc, path, 0, HEAD_BYTES as u32) {
         Ok(Some(head)) => head,
         Ok(None) => return Err(Fetched::Gone),
         Err(fault) => return Err(refused(fault)),
@@ -143,9 +140,9 @@ impl<D: TileStore> Farm<D> {
     /// The bytes of a spot's tile, as the store holds them, with how its metatile stands. It reads the head of
     /// the metatile's container and, by it, the tile's part. Unservable and Missing as `look`; GetFailed where a
     /// read Failed; NoMemory where one found none; Gone where one found nothing; Spoilt where the head is none,
-    /// with its first fault, or where the part is cut off: each exactly as what the store holds says. Where the
-    /// store has told what it holds since the start neither Gone nor Spoilt comes, and the bytes are the plain
-    /// drawing in the style and over the data of the claim of what is shown.
+    /// with its first fault, or where the part is cut off: each, where the store tells what it holds, exactly as
+    /// that says. Where the store has told it since the start neither Gone nor Spoilt comes, and the bytes are
+    /// the plain drawing in the style and over the data of the claim of what is shown.
     pub fn fetch(&mut self, alloc: Global, spot: Spot) -> Fetched
         requires { self.old.counts.turns < 2 ^ 63 }
         ensures step { (told : Bool) (h : List Entry) → StandsFor D.state told self.old h → StandsFor D.state told self.new (Fetch spot result ∷ h) }

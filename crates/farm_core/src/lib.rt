@@ -22,8 +22,8 @@ pub use farm::Farm;
 pub use farm_history::Saved;
 pub use farm_jobs::Job;
 pub use farm_plan::{
-    AskAnswer, Cmd, Collected, Conn, FarmPlan, Fetched, Finished, Kept, Limits, Looked, MapPlan,
-    Outcome, Past, Renewed, Reply, Restyle, Restyled, Spot, Tally, Updated, Why,
+    AskAnswer, Cmd, Collected, Conn, FarmPlan, Fetched, Finished, Kept, Key, Limits, Looked,
+    MapPlan, Outcome, Past, Renewed, Reply, Restyle, Restyled, Spot, Tally, Updated, Why,
 };
 pub use finishes::Drawn;
 pub use resume_faults::ResumeFault;

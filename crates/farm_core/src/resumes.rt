@@ -1,5 +1,6 @@
 //! How a farm begins anew from what was saved of it.
 ghost use Rattle.std.specs.Prelude.{◌≡◌, ◌≢◌, ◌<◌, ◌+◌, ◌-◌, ◌*◌, ◌^◌, List, true, Some, None, Err, length, IfErr, IfOk, OnErr, OnOk};
+ghost use Rattle.farm_base.specs.Limits.{most_turns};
 ghost use Rattle.farm_base.specs.declared.faults.ApplyFault.{ApplyFault};
 ghost use Rattle.plain_world.specs.World.{IsMeta};
 ghost use Rattle.plain_data.specs.Data.{update_result};
@@ -127,7 +128,7 @@ impl<D: TileStore> Farm<D> {
         requires rise { are_rising clean.now ≡ true }
         requires fresh { IsFresh version 0 clean.now self.old.marks.shown }
         requires known { past_number past < length self.old.plan.updates }
-        requires turns { self.old.counts.turns + 4 * how_many_of version clean.now < 2 ^ 62 }
+        requires turns { self.old.counts.turns + 4 * how_many_of version clean.now < most_turns }
         ensures done { OnOk result (ReplaysVersion D.state self.old self.new version past clean.now) }
         ensures refused { IfErr result (RefusesAt self.old version past) }
         ensures stays { Stays self.old self.new }
@@ -146,7 +147,7 @@ impl<D: TileStore> Farm<D> {
         requires keys { Each (CanReplay self.old.plan) clean.now }
         requires rise { are_rising clean.now ≡ true }
         requires fresh { IsFresh 0 0 clean.now self.old.marks.shown }
-        requires turns { self.old.counts.turns + length updates.now + 4 * length clean.now < 2 ^ 62 }
+        requires turns { self.old.counts.turns + length updates.now + 4 * length clean.now < most_turns }
         ensures replayed { OnOk result ((g : List Entry) → IsReplaying D.state self.old g → IsReplaying D.state self.new (replay_from (plan_of self.old.plan) clean.now 0 updates.now g)) }
         ensures fits { OnOk result (apply_fault self.old.plan self.old.data_now 0 updates.now ≡ None) }
         ensures refused { IfErr result (λ e. e ≢ ResumeFault.NoMemory → apply_fault self.old.plan self.old.data_now 0 updates.now ≡ Some e) }
@@ -166,7 +167,7 @@ impl<D: TileStore> Farm<D> {
         requires anew { IsAnew self.old.plan saved.now self.old.store self.old }
         requires saved { IsSaving saved.now }
         requires shape { form_fault self.old.plan saved.now ≡ None }
-        requires short { length saved.now.updates + 4 * length saved.now.clean < 2 ^ 62 - 16 }
+        requires short { length saved.now.updates + 4 * length saved.now.clean < most_turns - 16 }
         ensures begins { OnOk result (Begins D.state self.old.plan (Some saved.now) self.old.store self.new) }
         ensures fits { OnOk result (resume_fault self.old.plan saved.now ≡ None) }
         ensures refused { IfErr result (λ e. e ≢ ResumeFault.NoMemory → resume_fault self.old.plan saved.now ≡ Some e) }
@@ -182,7 +183,7 @@ impl<D: TileStore> Farm<D> {
         requires started { IsStarted self.old.plan self.old.store self.old }
         requires saved { IsSaving saved.now }
         requires shape { form_fault self.old.plan saved.now ≡ None }
-        requires short { length saved.now.updates + 4 * length saved.now.clean < 2 ^ 62 - 16 }
+        requires short { length saved.now.updates + 4 * length saved.now.clean < most_turns - 16 }
         ensures begins { OnOk result (Begins D.state self.old.plan (Some saved.now) self.old.store self.new) }
         ensures fits { OnOk result (resume_fault self.old.plan saved.now ≡ None) }
         ensures refused { IfErr result (λ e. e ≢ ResumeFault.NoMemory → resume_fault self.old.plan saved.now ≡ Some e) }
@@ -200,7 +201,7 @@ impl<D: TileStore> Farm<D> {
         requires plan { IsPlan self.old.plan }
         requires started { IsStarted self.old.plan self.old.store self.old }
         requires saved { IsSaving saved.now }
-        requires short { length saved.now.updates + 4 * length saved.now.clean < 2 ^ 62 - 16 }
+        requires short { length saved.now.updates + 4 * length saved.now.clean < most_turns - 16 }
         ensures begins { OnOk result (Begins D.state self.old.plan (Some saved.now) self.old.store self.new) }
         ensures fits { OnOk result (resume_fault self.old.plan saved.now ≡ None) }
         ensures refused { IfErr result (λ e. e ≢ ResumeFault.NoMemory → resume_fault self.old.plan saved.now ≡ Some e) }
@@ -226,7 +227,7 @@ impl<D: TileStore> Farm<D> {
     ) -> Result<Farm<D>, (D, ResumeFault)>
         requires plan { IsPlan plan }
         requires saved { IsSaving saved.now }
-        requires short { length saved.now.updates + 4 * length saved.now.clean < 2 ^ 62 - 16 }
+        requires short { length saved.now.updates + 4 * length saved.now.clean < most_turns - 16 }
         ensures begins { IfOk result (Begins D.state plan (Some saved.now) store) }
         ensures well { IfOk result (λ f. BeginsWell (replay (plan_of plan) saved.now)) }
         ensures fits { IfOk result (λ f. resume_fault plan saved.now ≡ None) }

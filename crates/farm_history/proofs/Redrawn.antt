@@ -68,7 +68,7 @@ collect_fits : (g : List Entry) (r : Reply) (front : ℕ) → due_replies g fron
 collect_fits g r front is = sym (ap (λ rs. collect_from rs (is_stopped g)) is)
 
 -- no asks, no replies
-replies_none : (h : List Entry) → replies_to [] h ≡ []
+pub replies_none : (h : List Entry) → replies_to [] h ≡ []
 unfolding replies_to
 replies_none [] = refl
 replies_none (Finish t drawn answer ∷ g) = ap (λ xs. xs ++ []) (replies_none g)

@@ -1,6 +1,7 @@
 -- Which answer each event has, given what came before it; legal histories.
 use Rattle.std.specs.Prelude.{ℕ, ◌+◌, ◌<◌, ◌≤◌, Bool, true, false, ◌&&◌, ◌||◌, not, ◌==◌, nat_le, if◌then◌else◌, ◌≡◌, List, [], ◌∷◌, length, Option, Some, None, MatchBool}
 use Rattle.std.specs.Bool.{OnTrue}
+use Rattle.farm_base.specs.Limits.{most_asks, most_asks_of_one}
 use Rattle.farm_base.specs.declared.faults.ApplyFault.{ApplyFault}
 use Rattle.farm_history.specs.declared.keys.Key.{Key}
 use Rattle.farm_history.specs.declared.queues.Conn.{Conn}
@@ -81,7 +82,7 @@ tests_of p g conn command spot = record {
   stopped = is_stopped g;
   servable = is_servable p spot;
   clean = is_clean p g (key_of spot);
-  backlog = nat_le 64 (how_many_of conn (open_asks g)) || nat_le 4096 (length (open_asks g));
+  backlog = nat_le most_asks_of_one (how_many_of conn (open_asks g)) || nat_le most_asks (length (open_asks g));
   overtaken = is_overtaken p g (key_of spot);
   flies = flies g (key_of spot);
   liftable = is_lifting command && (waits_in_queue (waiting p g) Queue.Dirty (key_of spot) || waits_in_queue (waiting p g) Queue.Bulk (key_of spot));

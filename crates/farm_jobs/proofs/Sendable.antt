@@ -1,4 +1,4 @@
--- What a share and a job hold crosses threads, since each of its fields does.
+-- What a share holds crosses threads, since each of its fields does.
 use denote.Param.Send.{IsSend, IsSync, struct_send, struct_sync, recorded_send, recorded_sync, view_send, view_sync, sendable}
 use denote.Struct.Declared.{shape}
 use Rattle.std.proofs.Crossing as any
@@ -6,11 +6,8 @@ use Rattle.data_versions.specs.contracts.dataset.Update as update
 use Rattle.data_versions.specs.contracts.snapshot.Snapshot as snapshot
 use Rattle.farm_plan.specs.contracts.plans.MapPlan as map_plan
 use Rattle.farm_plan.specs.contracts.plans.Restyle as restyle
-use Rattle.farm_jobs.specs.contracts.jobs.Job as job
-use Rattle.farm_jobs.specs.contracts.jobs.Job.TheInside as job_in
 use Rattle.farm_jobs.specs.contracts.shares.Setup as setup
 use Rattle.farm_jobs.specs.contracts.shares.Setup.TheInside as setup_in
-use Rattle.farm_jobs.specs.contracts.shares.Share as share
 
 pub setup_send : IsSend map_plan.the_row → IsSend snapshot.the_row → IsSend update.the_row → IsSend restyle.the_row → IsSend setup.the_row
 setup_send m s u r = view_send _ _ _ _ _ (recorded_send _ _ setup_in.the_type.to setup_in.the_type.to_one
@@ -19,11 +16,3 @@ setup_send m s u r = view_send _ _ _ _ _ (recorded_send _ _ setup_in.the_type.to
 pub setup_sync : IsSync map_plan.the_row → IsSync snapshot.the_row → IsSync update.the_row → IsSync restyle.the_row → IsSync setup.the_row
 setup_sync m s u r = view_sync _ _ _ _ _ (recorded_sync _ _ setup_in.the_type.to setup_in.the_type.to_one
     (struct_sync (shape setup_in.the_type) (any.Vec-sync _ m, (s, (any.Vec-sync _ u, (search sendable, (search sendable depth 14, (any.Vec-sync _ r, tt))))))))
-
-pub job_send : IsSend share.the_row → IsSend job.the_row
-job_send s = view_send _ _ _ _ _ (recorded_send _ _ job_in.the_type.to job_in.the_type.to_one
-    (struct_send (shape job_in.the_type) (search sendable, (search sendable, (search sendable, (search sendable depth 14, (search sendable, (search sendable, (search sendable depth 14, (s, tt))))))))))
-
-pub job_sync : IsSync share.the_row → IsSync job.the_row
-job_sync s = view_sync _ _ _ _ _ (recorded_sync _ _ job_in.the_type.to job_in.the_type.to_one
-    (struct_sync (shape job_in.the_type) (search sendable, (search sendable, (search sendable, (search sendable depth 14, (search sendable, (search sendable, (search sendable depth 14, (s, tt))))))))))

@@ -3,7 +3,6 @@
 ghost use Rattle.std.specs.Thread.{IsSend, IsSync};
 ghost use Rattle.data_versions.specs.contracts.dataset.Update as update;
 ghost use Rattle.data_versions.specs.contracts.snapshot.Snapshot as snapshot;
-ghost use Rattle.farm_jobs.specs.contracts.jobs.Job as job;
 ghost use Rattle.farm_jobs.specs.contracts.shares.Setup as setup;
 ghost use Rattle.farm_jobs.specs.contracts.shares.Share as share;
 ghost use Rattle.farm_jobs.specs.contracts.taken.Taken as taken;
@@ -74,14 +73,6 @@ pub fn cross_share()
     cross_snapshot();
     sends::<Share>();
     syncs::<Share>();
-}
-
-/// A drawing to be made crosses threads.
-pub fn cross_job()
-    ensures send { IsSend job.the_row }
-    ensures sync { IsSync job.the_row }
-{
-    cross_share();
 }
 
 /// A drawing under way crosses threads.

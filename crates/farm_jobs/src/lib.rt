@@ -8,7 +8,7 @@ mod serving;
 mod shares;
 mod taken;
 
-pub use crossing::{cross_job, cross_share, cross_taken};
+pub use crossing::{cross_share, cross_taken};
 pub use jobs::Job;
 pub use serving::serve;
 pub use shares::{Setup, Share, make_shares};

@@ -1,5 +1,6 @@
 //! From a text to what is saved.
-ghost use Rattle.std.specs.Prelude.{◌≡◌, ◌<◌, ◌≤◌, ◌+◌, ◌*◌, ◌-◌, ◌^◌, length, IfOk};
+ghost use Rattle.std.specs.Prelude.{◌≡◌, ◌<◌, ◌≤◌, ◌+◌, ◌*◌, ◌-◌, length, IfOk};
+ghost use Rattle.farm_base.specs.Limits.{most_turns};
 ghost use Rattle.reading.specs.Steps.{Gives};
 ghost use Rattle.farm_saved.specs.Reading as spec;
 ghost use Rattle.farm_saved.specs.Savings.{IsSaving};
@@ -52,7 +53,7 @@ fn saved(alloc: Global, bytes: &[u8]) -> Result<Saved, SavedFault>
 pub fn read_saved(alloc: Global, bytes: &[u8]) -> Result<Saved, SavedFault>
     ensures value { Gives fault.NoMemory (λ s. s) (spec.saved_in bytes.now) result }
     ensures sound { IfOk result (λ s. IsSaving s) }
-    ensures few { IfOk result (λ s. length s.updates + 4 * length s.clean < 2 ^ 62 - 16) }
+    ensures few { IfOk result (λ s. length s.updates + 4 * length s.clean < most_turns - 16) }
 {
     saved(alloc, bytes)
 }

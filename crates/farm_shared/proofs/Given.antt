@@ -13,7 +13,7 @@ use Rattle.farm_core.specs.Answers.{IfJob, claim_answer}
 use Rattle.turn_cell.specs.Turns.{by}
 use Rattle.turn_cell.proofs.Logs.{by-own}
 use Rattle.turn_cell.specs.SeatStates.{Made, SeatState, Closes, Took, worn_out}
-use Rattle.turn_cell.specs.declared.call.Worn.{Worn}
+use Rattle.farm_base.specs.declared.turns.Worn.{Worn}
 use Rattle.farm_shared.specs.declared.turned.LastingPart.{LastingPart}
 use Rattle.farm_shared.specs.declared.turned.Turned.{Turned}
 use Rattle.farm_shared.specs.Seats.{plain, ends_ticket, is_ended_by}

@@ -1,6 +1,7 @@
 //! The shared farm and its seats.
-ghost use Rattle.std.specs.Prelude.{◌≡◌, ◌<◌, ◌^◌, Bool, true, [], length, map, position, IfErr, IfOk, IsOkAnd};
+ghost use Rattle.std.specs.Prelude.{◌≡◌, ◌<◌, Bool, true, [], length, map, position, IfErr, IfOk, IsOkAnd};
 ghost use Rattle.std.specs.Str.{bytes_eq};
+ghost use Rattle.farm_base.specs.Limits.{most_turns};
 ghost use Rattle.farm_stands.specs.Stands.{StandsFor};
 ghost use Rattle.farm_shared.specs.inner.Turns.{AreNames};
 ghost use Rattle.farm_core.specs.Begins.{origin};
@@ -10,16 +11,13 @@ ghost use Rattle.turn_cell.specs.Turns.{StartsWith};
 
 use crate::closed::Closed;
 use crate::turned::Turned;
-use farm_base::{NoMemory, Text};
+use farm_base::{MOST_TURNS, NoMemory, Text};
 use farm_core::Farm;
 use std::alloc::Global;
 use std::marker::Model;
 use std::snapshot::Snapshot;
 use tile_store::TileStore;
 use turn_cell::TurnCell;
-
-/// How many turns a shared farm has at most.
-const LIMIT: u64 = 1 << 62;
 
 /// The right to take turns of one shared farm, and what is known of its history. It has no bytes.
 #[derive(Drop)]
@@ -99,15 +97,15 @@ impl<D: TileStore> SharedFarm<D> {
     pub fn new(alloc: Global, farm: Farm<D>) -> Result<(SharedFarm<D>, Seat<D>), Farm<D>>
         requires stands { (told : Bool) → MayTell D.state (lasting_of D.state farm) told
             → StandsFor D.state told farm (origin farm.plan farm.saved) }
-        requires short { length (origin farm.plan farm.saved) < 2 ^ 62 }
-        ensures farm { IfOk result (λ made. (made.0.about.limit ≡ 2 ^ 62) × (made.0.about.first.value.farm ≡ farm)) }
+        requires short { length (origin farm.plan farm.saved) < most_turns }
+        ensures farm { IfOk result (λ made. (made.0.about.limit ≡ most_turns) × (made.0.about.first.value.farm ≡ farm)) }
         ensures seat { IfOk result (λ made. IsSeatOf made.0 made.1 × (made.1 ≡ first_of made.0)) }
         ensures err { IfErr result (λ back. back ≡ farm) }
     {
         let Ok(texts) = names_of(alloc, &farm) else {
             return Err(farm);
         };
-        match TurnCell::new(alloc, Turned { farm }, LIMIT) {
+        match TurnCell::new(alloc, Turned { farm }, MOST_TURNS) {
             Ok((cell, seat)) => Ok((
                 SharedFarm {
                     cell,

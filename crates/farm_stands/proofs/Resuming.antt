@@ -10,7 +10,7 @@ use Rattle.farm_history.specs.declared.saved.Past.{Past}
 use Rattle.farm_history.specs.declared.answers.Updated.{Updated}
 use Rattle.farm_history.specs.declared.answers.Renewed.{Renewed}
 use Rattle.farm_history.specs.declared.answers.Restyled.TheVariants.{Styled}
-use Rattle.farm_history.specs.Entries.{Entry, Update, Renew, Restyle, Finish}
+use Rattle.farm_history.specs.Entries.{Entry, Update, Renew, Restyle}
 use Rattle.farm_history.specs.Plans.{Plan, AreApart, same_key}
 use Rattle.farm_history.specs.Past.{is_stopped, data_after, version, jobs, numbers, asks_made, done_asks, stored_drawings, shown, clean_count, Numbered, replies_to}
 use Rattle.farm_history.specs.Rules.{Fits}
@@ -20,7 +20,7 @@ use Rattle.farm_history.specs.Replays.{Saving, replay_key, replay_change, past_n
 use Rattle.farm_history.proofs.Lists.{same_key-true}
 use Rattle.farm_history.proofs.Keyed.{IsServed}
 use Rattle.farm_history.proofs.Since.{ChangeFits}
-use Rattle.farm_history.proofs.Redrawn.{IsQuiet, redrawn_quiet, redrawn_shown, redrawn_other, redrawn_touched, redrawn_untouched, redrawn_data, redrawn_style}
+use Rattle.farm_history.proofs.Redrawn.{IsQuiet, redrawn_quiet, redrawn_shown, redrawn_other, redrawn_touched, redrawn_untouched, redrawn_data, redrawn_style, replies_none}
 use Rattle.farm_history.proofs.Resumed.{change_legal}
 use Rattle.farm_plan.specs.Plans.{FarmPlan, IsPlan, Restyle as PlanStyle}
 use Rattle.farm_plan.specs.Drawings.{update_of, data_of, reaches_of, plan_of}
@@ -36,12 +36,6 @@ pub record Replays {D : Type 0} (state : D → Outside StoreTold) (farm : FarmSe
   pub quiet : (told : Bool) → IsQuiet (plan_of farm.plan) told g
   pub stands : StandsFor state false farm g
   pub unfailed : failures farm.plan g ≡ []
-
-replies_none : (h : List Entry) → replies_to [] h ≡ []
-unfolding replies_to
-replies_none [] = refl
-replies_none (Finish t drawn answer ∷ g) = ap (λ xs. xs ++ []) (replies_none g)
-replies_none (_ ∷ g) = replies_none g
 
 -- tables in which nothing stands go on to any history after which nothing does
 queues_idle : (plan : FarmPlan) (t : Tables) (g h : List Entry) → IsQuiet (plan_of plan) false g → IsQuiet (plan_of plan) false h → QueuesStand plan t g → QueuesStand plan t h

@@ -7,7 +7,6 @@ ghost use Rattle.farm_words.specs.Forms.{Answers};
 
 use crate::command::{Command, WordsFault};
 use farm_base::Text;
-use itoa::Buffer;
 use merc_fixed::tile;
 use plain_world::Tile;
 use std::alloc::Global;
@@ -17,14 +16,7 @@ fn number(text: &str) -> Option<u64>
     ensures some { IfSome result (λ n. (text.now ≡ decimal n) × (n < 2 ^ 64)) }
     ensures every { (n : ℕ) → n < 2 ^ 64 → text.now ≡ decimal n → result ≡ Some n }
 {
-    let Ok(number) = text.parse::<u64>() else {
-        return None;
-    };
-    let mut digits = Buffer::new();
-    if digits.format(number) != text {
-        return None;
-    }
-    Some(number)
+    line_words::number(text)
 }
 
 /// The same for numbers of 32 bits.
@@ -32,10 +24,7 @@ fn small_number(text: &str) -> Option<u32>
     ensures some { IfSome result (λ n. text.now ≡ decimal n) }
     ensures every { (n : ℕ) → n < 2 ^ 32 → text.now ≡ decimal n → result ≡ Some n }
 {
-    match number(text) {
-        Some(number) if number < 1 << 32 => Some(number as u32),
-        _ => None,
-    }
+    line_words::small_number(text)
 }
 
 /// The named tile size that the text spells.

@@ -51,11 +51,11 @@ all_larger (p ∷ path) a b w h = (larger_holds a b p w h.0, all_larger path a b
 
 -- all parts
 
-parts_larger : (parts : List (List Point)) (b : Bounds) → Within b (fold (fold box_with) b parts)
+pub parts_larger : (parts : List (List Point)) (b : Bounds) → Within b (fold (fold box_with) b parts)
 parts_larger [] b = within_self b
 parts_larger (path ∷ parts) b = within_both b (fold box_with b path) (fold (fold box_with) (fold box_with b path) parts) (path_larger path b) (parts_larger parts (fold box_with b path))
 
-parts_hold : (parts : List (List Point)) (b : Bounds) → AllByRecursion (All (InBounds (fold (fold box_with) b parts))) parts
+pub parts_hold : (parts : List (List Point)) (b : Bounds) → AllByRecursion (All (InBounds (fold (fold box_with) b parts))) parts
 parts_hold [] b = tt
 parts_hold (path ∷ parts) b = (
   All-from_recursion (InBounds (fold (fold box_with) (fold box_with b path) parts)) path
@@ -96,11 +96,11 @@ least_bounds g shape = record {
       (recursion_from_All (All (InBounds other)) (parts_of g) holds);
 }
 
-no_left : (a b : Bool) → (a || b) ≡ false → a ≡ false
+pub no_left : (a b : Bool) → (a || b) ≡ false → a ≡ false
 no_left true b h = h
 no_left false b h = refl
 
-no_right : (a b : Bool) → (a || b) ≡ false → b ≡ false
+pub no_right : (a b : Bool) → (a || b) ≡ false → b ≡ false
 no_right true b h = cc
 no_right false b h = h
 

@@ -6,6 +6,6 @@ mod cuts;
 mod laws;
 mod numbers;
 
-pub use cuts::{cut, first_line};
+pub use cuts::{cut, first_line, without_return};
 pub use laws::law_numbers;
 pub use numbers::{number, number_below, small_number};

@@ -1,5 +1,6 @@
 //! One step of generated work.
 ghost use Rattle.std.specs.Prelude.{◌≡◌, ◌≢◌, ◌<◌, ◌+◌, ◌^◌, ◌||◌, Bool, List, true, false};
+ghost use Rattle.farm_base.specs.Limits.{most_turns};
 ghost use Rattle.plain_world.specs.World.{IsTile};
 ghost use Rattle.farm_history.specs.Entries.{Entry};
 ghost use Rattle.farm_history.specs.Plans.{tile_of};
@@ -35,7 +36,7 @@ pub(crate) struct StepSeen {
 
 /// Expires the step's tile, if it is so marked.
 fn expire_marked<D: TileStore>(farm: &mut Farm<D>, step: Step)
-    requires stands { (told : Bool) × (g : List Entry) × StandsFor D.state told farm.old g × (weight g < 2 ^ 62) }
+    requires stands { (told : Bool) × (g : List Entry) × StandsFor D.state told farm.old g × (weight g < most_turns) }
     requires tile { IsTile (tile_of step.spot) }
     ensures grows { (told : Bool) (g : List Entry) → StandsFor D.state told farm.old g → Grows D.state told farm.new (weight g + 1) (Expires step g) }
     ensures kept { Lasts D.state farm.old farm.new }
@@ -72,7 +73,7 @@ fn draw_next<D: TileStore>(
     picture_buffer: &mut PictureBuffer,
     farm: &mut Farm<D>,
 ) -> Result<bool, NoMemory>
-    requires stands { (told : Bool) × (g : List Entry) × StandsFor D.state told farm.old g × (weight g < 2 ^ 62) }
+    requires stands { (told : Bool) × (g : List Entry) × StandsFor D.state told farm.old g × (weight g < most_turns) }
     ensures grows { (told : Bool) (g : List Entry) (step : Step) → StandsFor D.state told farm.old g → Grows D.state told farm.new (weight g + 2) (Draws step g result) }
     ensures kept { Lasts D.state farm.old farm.new }
 {
@@ -93,7 +94,7 @@ fn draw_next<D: TileStore>(
 
 /// Collects the replies of front 0 until there is none.
 fn collect_all<D: TileStore>(farm: &mut Farm<D>)
-    requires stands { (told : Bool) × (g : List Entry) × StandsFor D.state told farm.old g × (weight g < 2 ^ 62) }
+    requires stands { (told : Bool) × (g : List Entry) × StandsFor D.state told farm.old g × (weight g < most_turns) }
     ensures grows { (told : Bool) (g : List Entry) → StandsFor D.state told farm.old g → Grows D.state told farm.new (weight g + 1) (CollectsAll g) }
     ensures kept { Lasts D.state farm.old farm.new }
 {
@@ -134,7 +135,7 @@ fn fetch_one<D: TileStore>(
     spot: Spot,
     lost: bool,
 ) -> Result<StepSeen, NoMemory>
-    requires stands { (told : Bool) × (g : List Entry) × StandsFor D.state told farm.old g × (weight g < 2 ^ 62) }
+    requires stands { (told : Bool) × (g : List Entry) × StandsFor D.state told farm.old g × (weight g < most_turns) }
     ensures grows { (told : Bool) (g : List Entry) → StandsFor D.state told farm.old g → Grows D.state told farm.new (weight g + 1) (FetchesOne spot lost g result) }
     ensures kept { Lasts D.state farm.old farm.new }
 {

@@ -6,18 +6,12 @@ use Rattle.std.proofs.lemmas.Bool.{cases_lt, le-leb, lt-leb, leb-true, leb-false
 use Rattle.plain_world.specs.declared.world.Point.{Point}
 use Rattle.plain_shapes.specs.Strokes.{in_mark}
 use Rattle.plain_shapes.proofs.Signs.{square-less, root_le, square_below}
-use Rattle.centre_spans.proofs.Quotients.{down_le}
+use Rattle.centre_spans.proofs.Quotients.{cancel, down_le}
 
 pub mark_is : (a b : ℕ) (c p : Point) (x y : ℕ) → x ≡ c.x - p.x + (p.x - c.x) → y ≡ c.y - p.y + (p.y - c.y)
     → (nat_le 1 a && nat_le 1 b && nat_le (x * x * (b * b) + y * y * (a * a)) (a * a * (b * b))) ≡ in_mark a b c p
 unfolding in_mark
 mark_is a b c p x y e f = rw (square-less c.x p.x x e, square-less c.y p.y y f) refl
-
-cancel : (m n k : ℕ) → 1 ≤ k → m * k ≤ n * k → m ≤ n
-cancel m n k some h = elim (cases_lt n m) [
-  | inl p ↦ (let q : n + 1 ≤ m = omega arith in absurd (omega (arith, mul-le-mul_right k q)))
-  | inr p ↦ p
-]
 
 pub some_square : (a : ℕ) → 1 ≤ a → 1 ≤ a * a
 some_square a h = square_below 1 a h

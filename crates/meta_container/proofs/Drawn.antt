@@ -1,12 +1,12 @@
 -- The drawings of a metatile's tiles: how many, how long, and which stands at a tile's place.
-use Rattle.std.proofs.Common.{◌≡◌, ℕ, zero, suc, ◌+◌, ◌*◌, ◌/◌, ◌%◌, ◌<◌, ◌≤◌, true, ◌&&◌, List, [], ◌∷◌, ◌++◌, length, get_or, map, flat_map, Ok, refl, sym, ap, subst, ◌∙◌, arith, length-append}
+use Rattle.std.proofs.Common.{◌≡◌, ℕ, ◌+◌, ◌*◌, ◌/◌, ◌%◌, ◌<◌, ◌≤◌, true, ◌&&◌, List, [], ◌∷◌, ◌++◌, length, get_or, map, flat_map, Ok, refl, sym, ap, subst, ◌∙◌, arith, length-append}
 use Rattle.std.specs.Prelude.{codes}
-use Rattle.std.specs.List.{range_with_len, list_all}
+use Rattle.std.specs.List.{list_all}
 use Rattle.std.specs.Fmt.{decimal}
 use Rattle.std.proofs.Math.Nat.{mul-le-mul_right, mul-le-mul}
 use Rattle.std.proofs.lemmas.Bool.{lt-ltb, eq-eqb}
 use Rattle.std.proofs.lemmas.Fmt.{length-decimal-le}
-use Rattle.std.proofs.lemmas.List.{length-map, get_or-map, get_or_append_left, get_or-append-add}
+use Rattle.std.proofs.lemmas.List.{length-map, get_or-map}
 use Rattle.std.proofs.lemmas.List.FromFn.{length-map-range_with_len, get_or-map-range_with_len}
 use Rattle.std.proofs.lemmas.List.Sums.{sum_by-cons}
 use Rattle.plain_shapes.specs.declared.colour.Colour.{Colour}
@@ -18,37 +18,13 @@ use Rattle.plain_drawing.specs.Styles.{MapStyle}
 use Rattle.plain_shapes.specs.Ppm.{pixel_bytes, ppm}
 use Rattle.plain_drawing.specs.Drawing as drawing
 use Rattle.plain_drawing.specs.Metatiles.{tile_at, column_of, tiles_in, tiles_of}
-use Rattle.plain_shapes.proofs.Places.{length-centres}
+use Rattle.plain_shapes.proofs.Places.{length_pieces, get_or_pieces, length-centres}
 use Rattle.plain_world.proofs.Windows.{size_bounds}
 use Rattle.meta_container.specs.Container.{bytes_of, is_stored, rank}
 use Rattle.meta_container.specs.Heads.{all_of_size}
 use Rattle.meta_container.specs.Laws.{tile_of}
 use Rattle.meta_container.specs.Drawn.{DrawnAreTiles, DrawnInPlace, DrawnComeBack}
 use Rattle.meta_container.proofs.Written.{tiles_come_back}
-
--- n pieces of one length, laid end to end
-length_pieces : {X : Type 0} (f : ℕ → List X) (m : ℕ) → ((k : ℕ) → length (f k) ≡ m) → (a n : ℕ) → length (flat_map f (range_with_len a n)) ≡ n * m
-length_pieces f m each a zero = omega arith
-length_pieces f m each a (suc n) =
-    length-append (f a) (flat_map f (range_with_len (a + 1) n)) ∙ omega (arith, each a, length_pieces f m each (a + 1) n)
-
-get_or_pieces : {X : Type 0} (f : ℕ → List X) (m : ℕ) → ((k : ℕ) → length (f k) ≡ m) → (a n j i : ℕ) (d : X) → i < m → j < n
-    → get_or (flat_map f (range_with_len a n)) (j * m + i) d ≡ get_or (f (a + j)) i d
-get_or_pieces f m each a zero j i d p q = absurd (omega arith)
-get_or_pieces f m each a (suc n) zero i d p q =
-    let e : 0 * m + i ≡ i = omega arith in
-    let e0 : a ≡ a + 0 = omega arith in
-    let lt : i < length (f a) = omega (arith, each a) in
-    ap (λ k. get_or (f a ++ flat_map f (range_with_len (a + 1) n)) k d) e
-    ∙ get_or_append_left (f a) (flat_map f (range_with_len (a + 1) n)) d i lt
-    ∙ ap (λ k. get_or (f k) i d) e0
-get_or_pieces f m each a (suc n) (suc j) i d p q =
-    let e : suc j * m + i ≡ length (f a) + (j * m + i) = omega (arith, each a) in
-    let e1 : a + 1 + j ≡ a + suc j = omega arith in
-    ap (λ k. get_or (f a ++ flat_map f (range_with_len (a + 1) n)) k d) e
-    ∙ get_or-append-add (f a) (flat_map f (range_with_len (a + 1) n)) (j * m + i) d
-    ∙ get_or_pieces f m each (a + 1) n j i d p (omega arith)
-    ∙ ap (λ k. get_or (f k) i d) e1
 
 -- the tiles of a metatile
 length_column : (m : Meta) (col : ℕ) → length (column_of m col) ≡ tiles_across m

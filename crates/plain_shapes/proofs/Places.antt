@@ -14,12 +14,12 @@ use Rattle.plain_shapes.specs.Images.{Bits}
 use Rattle.plain_shapes.specs.inner.Canvas.{marked, Reached}
 
 -- n pieces of one length, laid end to end
-length_pieces : {X : Type 0} (f : ℕ → List X) (m : ℕ) → ((k : ℕ) → length (f k) ≡ m) → (a n : ℕ) → length (flat_map f (range_with_len a n)) ≡ n * m
+pub length_pieces : {X : Type 0} (f : ℕ → List X) (m : ℕ) → ((k : ℕ) → length (f k) ≡ m) → (a n : ℕ) → length (flat_map f (range_with_len a n)) ≡ n * m
 length_pieces f m each a zero = omega arith
 length_pieces f m each a (suc n) =
     length-append (f a) (flat_map f (range_with_len (a + 1) n)) ∙ omega (arith, each a, length_pieces f m each (a + 1) n)
 
-get_or_pieces : {X : Type 0} (f : ℕ → List X) (m : ℕ) → ((k : ℕ) → length (f k) ≡ m) → (a n j i : ℕ) (d : X) → i < m → j < n
+pub get_or_pieces : {X : Type 0} (f : ℕ → List X) (m : ℕ) → ((k : ℕ) → length (f k) ≡ m) → (a n j i : ℕ) (d : X) → i < m → j < n
     → get_or (flat_map f (range_with_len a n)) (j * m + i) d ≡ get_or (f (a + j)) i d
 get_or_pieces f m each a zero j i d p q = absurd (omega arith)
 get_or_pieces f m each a (suc n) zero i d p q =

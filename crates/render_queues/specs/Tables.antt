@@ -1,6 +1,7 @@
 -- What waits, what is taken and what has ended, as plain lists.
 use Rattle.std.specs.Prelude.{ℕ, ◌+◌, ◌≤◌, Bool, true, false, not, ◌&&◌, ◌==◌, nat_lt, ◌≡◌, if◌then◌else◌, List, [], ◌∷◌, ◌++◌, length, map, filter, count_by, slice_get, Option, Some, None, option_map}
 use Rattle.std.specs.Option.{option_or}
+use Rattle.farm_base.specs.Limits.{most_asks}
 use Rattle.farm_history.specs.declared.keys.Key.{Key}
 use Rattle.farm_history.specs.declared.queues.Conn.{Conn}
 use Rattle.farm_history.specs.declared.queues.Limits.{Limits}
@@ -193,4 +194,4 @@ pub record AreSound (t : Tables) : Type 0 where
   pub awaited : (key : Key) → stands_often key t ≡ 0 → chain_length key t ≡ 0
   pub within : (queue : Queue) → IsWithin (line_of t.lines queue)
   pub few_taken : length t.taken ≤ t.workers
-  pub few_asks : open_count t ≤ 4096
+  pub few_asks : open_count t ≤ most_asks

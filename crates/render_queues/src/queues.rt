@@ -1,6 +1,7 @@
 //! The tables of a farm and their calls.
 ghost use Rattle.std.specs.Prelude.{◌≡◌, ◌<◌, true, nat_lt, if◌then◌else◌, find, length, option_map, IsSome, None, Some, IfOk};
 ghost use Rattle.std.specs.Vec.{vec_capacity};
+ghost use Rattle.farm_base.specs.Limits.{most_asks};
 ghost use Rattle.farm_history.specs.Lists.{without_first};
 ghost use Rattle.farm_history.specs.Plans.{is_in};
 ghost use Rattle.render_queues.specs.OneQueue.{is_below, without};
@@ -10,13 +11,10 @@ use crate::asks::{Asked, add_ask, asks_of, drop_asks_of, drop_asks_on, reply_all
 use crate::lines::Lines;
 use crate::replies::{drop_replies, first_reply, replies_of};
 use crate::standing::Standing;
-use farm_base::NoMemory;
+use farm_base::{MOST_ASKS, NoMemory};
 use farm_history::{Conn, Key, Limits, Outcome, Queue, Reply, Waiter};
 use std::alloc::Global;
 use std::marker::Model;
-
-/// How many asks may be open in all.
-const MOST_ASKS: usize = 4096;
 
 /// What waits in the five queues, what is taken, who waits for it, and the replies to those whose metatile
 /// has ended. Its tables are made by `with_limits`, and no later call takes memory.
@@ -35,6 +33,7 @@ pub struct Queues {
 impl Model for Queues {
     ghost use Rattle.std.specs.Prelude.{◌≤◌};
     ghost use Rattle.std.specs.Vec.{vec_capacity};
+    ghost use Rattle.farm_base.specs.Limits.{most_asks};
     ghost use Rattle.render_queues.specs.Tables.{Tables, AreSound};
 
     ghost Value = { Tables };
@@ -49,8 +48,8 @@ impl Model for Queues {
 
     ghost invariant = { λ q. record {
       taken_room : q.workers ≤ vec_capacity q.taken;
-      asks_room : 4096 ≤ vec_capacity q.asks;
-      ended_room : 4096 ≤ vec_capacity q.ended;
+      asks_room : most_asks ≤ vec_capacity q.asks;
+      ended_room : most_asks ≤ vec_capacity q.ended;
       sound : AreSound (record {
         lines = q.lines;
         workers = q.workers;
@@ -82,8 +81,8 @@ impl Queues {
         ensures { IfOk result (λ q. q ≡ no_tables limits workers) }
     {
         let taken = Vec::with_capacity(alloc, workers as usize)?;
-        let asks = Vec::with_capacity(alloc, MOST_ASKS)?;
-        let ended = Vec::with_capacity(alloc, MOST_ASKS)?;
+        let asks = Vec::with_capacity(alloc, MOST_ASKS as usize)?;
+        let ended = Vec::with_capacity(alloc, MOST_ASKS as usize)?;
         let lines = Lines::with_limits(alloc, limits)?;
         Ok(Queues {
             lines,
@@ -124,7 +123,7 @@ impl Queues {
     /// queue is at its limit; then nothing changes.
     pub fn place(&mut self, key: Key, queue: Queue, waiter: Option<Waiter>) -> bool
         requires new { standing self.old key ≡ None }
-        requires few { IsSome waiter → open_count self.old < 4096 }
+        requires few { IsSome waiter → open_count self.old < most_asks }
         ensures room { result ≡ is_below (line_of self.old.lines queue) }
         ensures tables { self.new ≡ (if is_below (line_of self.old.lines queue) then after_join (after_place self.old queue key) key waiter else self.old) }
     {
@@ -139,7 +138,7 @@ impl Queues {
     /// Puts the waiter last in the chain of the metatile.
     pub fn join(&mut self, key: Key, waiter: Waiter)
         requires stands { IsSome (standing self.old key) }
-        requires few { open_count self.old < 4096 }
+        requires few { open_count self.old < most_asks }
         ensures { self.new ≡ after_join self.old key (Some waiter) }
     {
         add_ask(&mut self.asks, key, Some(waiter));
@@ -150,7 +149,7 @@ impl Queues {
     pub fn lift(&mut self, key: Key, queue: Queue, waiter: Waiter) -> bool
         requires waits { is_liftable (standing self.old key) ≡ true }
         requires queue { takes_lifted queue ≡ true }
-        requires few { open_count self.old < 4096 }
+        requires few { open_count self.old < most_asks }
         ensures room { result ≡ is_below (line_of self.old.lines queue) }
         ensures tables { self.new ≡ (if is_below (line_of self.old.lines queue) then after_join (after_lift self.old queue key) key (Some waiter) else self.old) }
     {

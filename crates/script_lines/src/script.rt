@@ -46,13 +46,14 @@ pub struct Script {
 
 impl Model for Script {
     ghost use Rattle.std.specs.Prelude.{List, length, ◌≤◌};
+    ghost use Rattle.farm_base.specs.Limits.{most_lines};
     ghost use Rattle.script_lines.specs.declared.script.ScriptLine.{ScriptLine};
 
     ghost Value = { List ScriptLine };
 
     ghost view = { λ s. s.lines.items };
 
-    ghost invariant = { λ s. length s.lines.items ≤ 1000000 };
+    ghost invariant = { λ s. length s.lines.items ≤ most_lines };
 }
 
 /// Why a text is no script.

@@ -6,11 +6,9 @@ ghost use Rattle.script_lines.specs.declared.script.ScriptFault.TheVariants as f
 
 use crate::lines::read_line;
 use crate::script::{Script, ScriptFault};
+use farm_base::MOST_LINES;
 use line_words::first_line;
 use std::alloc::Global;
-
-/// How many lines a script may have, the skipped ones included.
-const MOST_LINES: u32 = 1_000_000;
 
 /// Reads a script: its lines that are not skipped, or the first line that is none. Lines end with a
 /// newline, which the last may lack; one carriage return before it is dropped. Empty lines and those that

@@ -1,5 +1,6 @@
 //! A whole script.
-ghost use Rattle.std.specs.Prelude.{◌≡◌, ◌<◌, ◌^◌, Bool, List};
+ghost use Rattle.std.specs.Prelude.{◌≡◌, ◌<◌, Bool, List};
+ghost use Rattle.farm_base.specs.Limits.{most_turns};
 ghost use Rattle.farm_history.specs.Entries.{Entry};
 ghost use Rattle.farm_stands.specs.Stands.{StandsFor};
 ghost use Rattle.farm_core.specs.Answers.{Lasts};
@@ -31,7 +32,7 @@ pub fn run_noting<D: TileStore, O: Sink>(
     script: &Script,
     out: &mut O,
 ) -> ScriptRun
-    requires few { farm.old.counts.turns < 2 ^ 62 }
+    requires few { farm.old.counts.turns < most_turns }
     requires stands { (told : Bool) × (g : List Entry) × StandsFor D.state told farm.old g }
     ensures run { (told : Bool) (g : List Entry) → StandsFor D.state told farm.old g
         → Runs farm.old.plan script.now g (λ h. StandsFor D.state told farm.new h) (O.state out.old) (O.state out.new) result.failed result.end }
@@ -73,7 +74,7 @@ pub fn run<D: TileStore, O: Sink>(
     script: &Script,
     out: &mut O,
 ) -> ScriptEnd
-    requires few { farm.old.counts.turns < 2 ^ 62 }
+    requires few { farm.old.counts.turns < most_turns }
     requires stands { (told : Bool) × (g : List Entry) × StandsFor D.state told farm.old g }
     ensures run { (told : Bool) (g : List Entry) → StandsFor D.state told farm.old g
         → (failed : Bool) × Runs farm.old.plan script.now g (λ h. StandsFor D.state told farm.new h) (O.state out.old) (O.state out.new) failed result }

@@ -1,11 +1,12 @@
 -- What a body, a disk or a cap holds lies near its points: in boxes, and in a row's span of columns.
 use Rattle.std.proofs.Common.{◌≡◌, ◌==◌, ℕ, ◌+◌, ◌-◌, ◌*◌, ◌≤◌, min, max, true, false, ◌&&◌, refl, ap, ◌∙◌, inl, inr, arith}
 use Rattle.std.specs.Prelude.{nat_le, nat_lt, ◌⊎◌}
-use Rattle.std.proofs.Math.Nat.{mul-le-mul, mul-le-mul_left, mul-le-mul_right}
+use Rattle.std.proofs.Math.Nat.{mul-le-mul, mul-le-mul_left}
 use Rattle.std.proofs.lemmas.Bool.{cases_lt, leb-true, and_parts, and_cases, eqb-false}
 use Rattle.plain_world.specs.declared.world.Point.{Point}
 use Rattle.plain_shapes.specs.Strokes.{is_same, is_near, in_body, in_disk, before_start, past_end, in_block}
 use Rattle.plain_shapes.proofs.Signs.{root_le, square_below}
+use Rattle.centre_spans.proofs.Quotients.{cancel}
 use Rattle.stroke_core.proofs.Products.{along_is, beside_is, long_is}
 use Rattle.stroke_core.proofs.Testing.{near_is, body_is, start_is, end_is, disk_is, block_is}
 
@@ -35,12 +36,6 @@ gap_square : (m n d : ℕ) → d ≡ gap m n → d * d + (m * n + n * m) ≡ m *
 gap_square m n d e = elim (gap_cases m n d e) [
   | inl h ↦ (let p = ap (λ t. t * n) h in let q = ap (λ t. n * t) h in let r = ap (λ t. t * t) h in omega arith)
   | inr h ↦ (let p = ap (λ t. t * m) h in let q = ap (λ t. m * t) h in let r = ap (λ t. t * t) h in omega arith)
-]
-
-cancel : (m n k : ℕ) → 1 ≤ k → m * k ≤ n * k → m ≤ n
-cancel m n k some h = elim (cases_lt n m) [
-  | inl p ↦ (let q : n + 1 ≤ m = omega arith in absurd (omega (arith, mul-le-mul_right k q)))
-  | inr p ↦ p
 ]
 
 some_square : (a : ℕ) → 1 ≤ a → 1 ≤ a * a

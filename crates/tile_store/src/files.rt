@@ -1,6 +1,7 @@
 //! The store in files of the system, under the folder `tiles`. It does not tell what it holds; what is
 //! proved of it is that it counts its failures and which paths it refuses.
-ghost use Rattle.std.specs.Prelude.{◌≡◌, ◌≤◌, ◌^◌, ℕ, false, length, Err, IfOk, IfSome};
+ghost use Rattle.std.specs.Prelude.{◌≡◌, ◌≤◌, ℕ, false, length, Err, IfOk, IfSome};
+ghost use Rattle.farm_base.specs.Limits.{most_file_bytes};
 ghost use Rattle.farm_base.specs.Outside.{untold};
 ghost use Rattle.tile_store.specs.declared.stores.StoreFault.TheVariants.{Failed};
 ghost use Rattle.tile_store.specs.Stores.{Puts, Gets, whole, part};
@@ -9,20 +10,19 @@ ghost use Rattle.tile_store.specs.Files as spec;
 ghost use Rattle.tile_store.specs.Files.{is_own_path};
 
 use crate::stores::{StoreFault, TileStore};
+use farm_base::{MOST_FILE_BYTES, read_to_end};
 use std::alloc::Global;
 use std::fs::{self, OpenFile};
 use std::io::{self, Read, Seek, SeekFrom};
 use std::path::Path;
 use std::rt;
 
-/// A longer file is not read whole.
-const LONGEST: u64 = 1 << 31;
-
 /// Files under the folder `tiles` of the folder that the program runs in. A put writes a file beside
-/// the one of its path, which has its name and `.new`, and renames it, so that a reader never sees half
-/// of a put; folders are made as needed. So that no put meets the file of another path, paths with a
-/// part between slashes that is empty, `.` or `..` or ends in `.new` are not taken: every call with one
-/// is Failed, and so is one with a path that is a folder or lies below a file.
+/// the one of its path, which has its name and `.new`, and renames it, so that a reader is not meant to
+/// see half of a put; where the writing or the renaming fails, the file beside is removed. Folders are
+/// made as needed. So that no put meets the file of another path, paths with a part between slashes that
+/// is empty, `.` or `..` or ends in `.new` are not taken: every call with one is Failed. So is what the
+/// system refuses, as a path that is a folder or lies below a file.
 #[derive(Drop)]
 pub struct FileStore<R> {
     rt: R,
@@ -70,7 +70,7 @@ impl<R: rt::Files> TileStore for FileStore<R> {
     fn get(&mut self, alloc: Global, path: &str) -> Result<Option<Vec<u8>>, StoreFault>
         ensures state { Gets whole (untold self.old.faults) (untold self.new.faults) path.now result }
         ensures taken { is_own_path path.now ≡ false → result ≡ Err Failed }
-        ensures at_most { IfOk result (λ found. IfSome found (λ v. length v.items ≤ 2 ^ 31)) }
+        ensures at_most { IfOk result (λ found. IfSome found (λ v. length v.items ≤ most_file_bytes)) }
     {
         let answer = read_whole(alloc, &self.rt, path);
         self.counted(answer)
@@ -129,7 +129,8 @@ fn name_of(alloc: Global, path: &str) -> Result<String, StoreFault>
     Ok(format!(in alloc; "tiles/{path}")?)
 }
 
-/// Writes the bytes beside the path's file, in a folder that is made as needed, and renames the file.
+/// Writes the bytes beside the path's file, in a folder that is made as needed, and renames that file.
+/// Where either fails it is removed, since a full disk would stay full of what no path leads to.
 fn write_beside<R: rt::Files>(
     alloc: Global,
     files: &R,
@@ -143,8 +144,17 @@ fn write_beside<R: rt::Files>(
     if let Some(folder) = Path::new(name.as_str()).parent() {
         fs::create_dir_all(files, folder).map_err(|e| fault(&e))?;
     }
-    fs::write(files, beside.as_str(), bytes).map_err(|e| fault(&e))?;
-    fs::rename(files, beside.as_str(), name.as_str()).map_err(|e| fault(&e))
+    let written = replace(files, name.as_str(), beside.as_str(), bytes);
+    if written.is_err() {
+        let _was_there = fs::remove_file(files, beside.as_str());
+    }
+    written.map_err(|e| fault(&e))
+}
+
+/// Makes the file of this name have the bytes, by way of the file beside it.
+fn replace<R: rt::Files>(files: &R, name: &str, beside: &str, bytes: &[u8]) -> io::Result<()> {
+    fs::write(files, beside, bytes)?;
+    fs::rename(files, beside, name)
 }
 
 /// The file of the path; `None` where there is nothing, and Failed where there is a folder.
@@ -164,26 +174,19 @@ fn open<R: rt::Files>(alloc: Global, files: &R, path: &str) -> Result<Option<R::
     Ok(Some(file))
 }
 
-/// The bytes of the path's file. One byte more than the longest shows that a file is longer.
+/// The bytes of the path's file.
 fn read_whole<R: rt::Files>(
     alloc: Global,
     files: &R,
     path: &str,
 ) -> Result<Option<Vec<u8>>, StoreFault>
-    ensures short { IfOk result (λ found. IfSome found (λ v. length v.items ≤ 2 ^ 31)) }
+    ensures short { IfOk result (λ found. IfSome found (λ v. length v.items ≤ most_file_bytes)) }
     ensures taken { is_own_path path.now ≡ false → result ≡ Err Failed }
 {
     let Some(file) = open(alloc, files, path)? else {
         return Ok(None);
     };
-    let mut bytes = Vec::new(alloc);
-    file.take(LONGEST + 1)
-        .read_to_end(&mut bytes)
-        .map_err(|e| fault(&e))?;
-    if bytes.len() as u64 > LONGEST {
-        return Err(StoreFault::Failed);
-    }
-    Ok(Some(bytes))
+    Ok(Some(read_to_end(alloc, file, MOST_FILE_BYTES)?))
 }
 
 /// The bytes of the path's file from the offset on, at most `len` of them.

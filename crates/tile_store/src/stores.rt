@@ -3,7 +3,7 @@ ghost use Rattle.std.specs.Prelude.{◌≡◌, ◌≤◌, ℕ, length, Option, I
 ghost use Rattle.farm_base.specs.Outside.{Outside};
 ghost use Rattle.tile_store.specs.Stores.{StoreTold, Puts, Gets, whole, part};
 
-use farm_base::NoMemory;
+use farm_base::{FileFault, NoMemory};
 use std::alloc::{AllocError, AllocFailed, Global};
 
 /// Why a call on a store gave no answer.
@@ -22,6 +22,15 @@ impl From<NoMemory> for StoreFault {
 
     fn from(_refused: NoMemory) -> StoreFault {
         StoreFault::NoMemory
+    }
+}
+
+impl From<FileFault> for StoreFault {
+    fn from(fault: FileFault) -> StoreFault {
+        match fault {
+            FileFault::Failed => StoreFault::Failed,
+            FileFault::NoMemory => StoreFault::NoMemory,
+        }
     }
 }
 

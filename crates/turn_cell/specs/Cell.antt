@@ -6,6 +6,7 @@ use Rattle.std.specs.List.{range_with_len}
 use mathlib.Core.Option.{some}
 use lib.ListN.{get_elem?}
 use Rattle.atomic_table.specs.Table.{State, Me}
+use Rattle.farm_base.specs.Limits.{most_turns}
 use Rattle.turn_cell.specs.Turns.{by, StartsWith, HasJoined, NoneAbove}
 use Rattle.turn_cell.specs.declared.view.Terms.{Terms}
 use Rattle.turn_cell.specs.declared.view.View.{View}
@@ -74,7 +75,7 @@ module _ {T E L : Type 0} (stands : T → List (ℕ × E) → Type 0) (lasting :
     pub now : Moment E
     pub words : s.words ≡ now.ticket ∷ now.serving ∷ length now.log ∷ []
     pub few : now.ticket ≤ about.limit
-    pub small : about.limit ≤ 2 ^ 62
+    pub small : about.limit ≤ most_turns
     pub slots : length s.homes ≡ 1
     pub fits : (j : ℕ) (v : View T E) → get_elem? s.views j ≡ some v → Fits about now j v
     -- the tickets from the one that is served to below the next one are with the seats, each with one

@@ -1,5 +1,6 @@
 -- What each kind of step tells the seat that makes it: of the step, the seat before, the number found and the seat after.
-use Rattle.std.specs.Prelude.{◌≡◌, ◌≢◌, ℕ, ◌+◌, ◌^◌, ◌<◌, ◌≤◌, ◌==◌, nat_le, ◌||◌, cond, true, false, List, [], ◌∷◌, ◌++◌, length, Option, Some, None}
+use Rattle.std.specs.Prelude.{◌≡◌, ◌≢◌, ℕ, ◌+◌, ◌<◌, ◌≤◌, ◌==◌, nat_le, ◌||◌, cond, true, false, List, [], ◌∷◌, ◌++◌, length, Option, Some, None}
+use Rattle.farm_base.specs.Limits.{most_turns}
 use mathlib.Core.Option.{some}
 use lib.ListN.{get_elem?}
 use Rattle.atomic_table.specs.Table.{Step, rest}
@@ -91,7 +92,7 @@ module _ {T E L : Type 0} (stands : T → List (ℕ × E) → Type 0) (lasting :
   -- the value is out with the seat: it stands for the history, which the seat has now seen, and has the cell's lasting part
   abbrev pub Gets : Sat T E → Sat T E → Type 0
   Gets m n = (x : T) × (log : List (ℕ × E)) × (n ≡ (holding m.0 log, (0, Some x) ∷ m.1)) × stands x log
-      × ((a : Terms T) → m.0.about ≡ Some a → (lasting x ≡ lasting a.first.value) × (length log < a.limit) × (a.limit ≤ 2 ^ 62))
+      × ((a : Terms T) → m.0.about ≡ Some a → (lasting x ≡ lasting a.first.value) × (length log < a.limit) × (a.limit ≤ most_turns))
       × Follows m.0.number m.0.seen log × KnowsJoined m.0 log × KnowsStrangers m.0 log
 
   -- a look whether the seat's ticket is served: if it is, the value comes to the seat, and else nothing changes

@@ -1,5 +1,6 @@
 -- What a turn is, over plain lists. A history is a list of pairs, a seat's number and an entry, in the order in which the turns were counted.
-use Rattle.std.specs.Prelude.{◌≡◌, ℕ, ◌^◌, ◌<◌, ◌==◌, List, [], ◌∷◌, ◌++◌, length, filter}
+use Rattle.std.specs.Prelude.{◌≡◌, ℕ, ◌<◌, ◌==◌, List, [], ◌∷◌, ◌++◌, length, filter}
+use Rattle.farm_base.specs.Limits.{most_turns}
 use mathlib.Core.Option.{some}
 use lib.ListN.{get_elem?}
 
@@ -28,7 +29,7 @@ module _ {T E L : Type 0} (stands : T → List (ℕ × E) → Type 0) (lasting :
   -- a call may run on the value: it stands for a history that begins with all that seat n has seen and has no other entry of it, the
   -- history is not full, and the call's need holds
   abbrev pub IsDue : (ℕ → List (ℕ × E) → L → Type 0) → T → ℕ → List (ℕ × E) → List (ℕ × E) → Type 0
-  IsDue need x n seen log = stands x log × Follows n seen log × (length log < 2 ^ 62) × need n seen (lasting x)
+  IsDue need x n seen log = stands x log × Follows n seen log × (length log < most_turns) × need n seen (lasting x)
 
   -- some seat with some history may run the call on the value
   abbrev pub Ready : (ℕ → List (ℕ × E) → L → Type 0) → T → Type 0

@@ -16,10 +16,6 @@ pub trait StandsFor {
     ghost stands: { Self → List (ℕ × Self.Entry) → Type 0 };
 }
 
-/// The cell's limit of turns was drawn. The call was not run.
-#[derive(Clone, Copy, Debug, PartialEq, Eq)]
-pub struct Worn;
-
 /// A call that takes one turn of a value. It is let go where the cell is worn, so it is `Drop`.
 pub trait Call<T: StandsFor>: Drop {
     /// What the caller is answered.

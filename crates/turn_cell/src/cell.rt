@@ -1,12 +1,13 @@
 //! The cell, its seats, and what is left when it is closed.
-ghost use Rattle.std.specs.Prelude.{◌≡◌, ◌^◌, ◌≤◌, true, [], IfOk, IfErr, IsOkAnd, MatchResult};
+ghost use Rattle.std.specs.Prelude.{◌≡◌, ◌≤◌, true, [], IfOk, IfErr, IsOkAnd, MatchResult};
+ghost use Rattle.farm_base.specs.Limits.{most_turns};
 ghost use Rattle.turn_cell.specs.SeatStates.{IsSeatOf, first_of, SameSeat, worn_out, split_left, split_right, joining, Knows, IsWhole, Took, Closes};
 ghost use Rattle.turn_cell.specs.Turns.{StartsWith};
 
-use crate::call::{Call, StandsFor, Worn};
+use crate::call::{Call, StandsFor};
 use crate::inner::{Core, Place};
 use crate::view::Terms;
-use farm_base::NoMemory;
+use farm_base::{NoMemory, Worn};
 use std::alloc::Global;
 use std::marker::Model;
 use std::snapshot::Snapshot;
@@ -64,7 +65,7 @@ impl<T: StandsFor> TurnCell<T> {
     /// number 0. Where memory is wanting the value comes back.
     pub fn new(alloc: Global, value: T, limit: u64) -> Result<(TurnCell<T>, Seat<T>), T>
         requires stands { T.stands value [] }
-        requires limit { limit ≤ 2 ^ 62 }
+        requires limit { limit ≤ most_turns }
         ensures cell { IfOk result
             (λ made. (made.0.about.limit ≡ limit) × (made.0.about.first.value ≡ value)) }
         ensures seat { IfOk result (λ made. IsSeatOf made.0 made.1 × (made.1 ≡ first_of made.0)) }

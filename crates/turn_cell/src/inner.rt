@@ -1,15 +1,17 @@
 //! The cell's table and the steps of a turn, one function each.
-ghost use Rattle.std.specs.Prelude.{◌≡◌, ℕ, ◌+◌, ◌^◌, ◌<◌, ◌≤◌, true, false, length, [], ◌∷◌, Some, None, IfOk, IfErr, MatchResult};
+ghost use Rattle.std.specs.Prelude.{◌≡◌, ℕ, ◌+◌, ◌<◌, ◌≤◌, true, false, length, [], ◌∷◌, Some, None, IfOk, IfErr, MatchResult};
+ghost use Rattle.farm_base.specs.Limits.{most_turns};
 ghost use Rattle.turn_cell.specs.Cell.{newcomer};
 ghost use Rattle.turn_cell.specs.SeatStates.{seat_state, Took, Closes, IsWhole, worn_out, joining};
 ghost use Rattle.turn_cell.specs.Plays.{counting, leaving, split_first, split_new, joining_views, KnowsJoined, KnowsStrangers};
 ghost use Rattle.turn_cell.specs.Turns.{StartsWith};
 ghost use Rattle.turn_cell.specs.inner.Words.{IsIdle, KnowsAll, with_ticket, with_mark, Entered};
 
-use crate::call::{Call, StandsFor, Worn};
+use crate::call::{Call, StandsFor};
 use crate::rule::{Count, Cut, Draw, InTurn, Learn, Look, Merge, Said, Serve};
 use crate::view::{Terms, View};
 use atomic_table::{Refused, Table};
+use farm_base::Worn;
 use std::alloc::Global;
 use std::marker::Brand;
 use std::snapshot::Snapshot;
@@ -48,7 +50,7 @@ impl<T: StandsFor> Core<T> {
         limit: u64,
     ) -> Result<(Core<T>, Place<T, T::Entry>), T>
         requires stands { T.stands value [] }
-        requires limit { limit ≤ 2 ^ 62 }
+        requires limit { limit ≤ most_turns }
         ensures cell { IfOk result
             (λ made.
             (made.0.table.shared.key.limit ≡ limit)

@@ -8,6 +8,7 @@ mod inner;
 mod rule;
 mod view;
 
-pub use call::{Call, StandsFor, Worn};
+pub use call::{Call, StandsFor};
 pub use cell::{ClosedCell, Seat, TurnCell};
+pub use farm_base::Worn;
 pub use view::Terms;

@@ -15,6 +15,7 @@ pub struct Step {
     pub expire: bool,
 }
 
+/// Any step will do: it fills the places of an `ArrayVec` before their own steps stand there.
 impl Default for Step {
     fn default() -> Step {
         Step {

@@ -1,6 +1,7 @@
 -- What an ask is answered, by what the farm keeps.
 use Rattle.std.specs.Prelude.{◌+◌, ◌<◌, ◌≡◌, Bool, true, false, ◌&&◌, ◌||◌, nat_le, if◌then◌else◌, is_some, IsSome, Option, Some, None, MatchBool}
 use Rattle.std.specs.List.{list_any}
+use Rattle.farm_base.specs.Limits.{most_asks, most_asks_of_one}
 use Rattle.farm_history.specs.declared.keys.Key.{Key}
 use Rattle.farm_history.specs.declared.queues.Conn.{Conn}
 use Rattle.farm_history.specs.declared.asks.Cmd.{Cmd}
@@ -25,7 +26,7 @@ use Rattle.farm_stands.specs.inner.Events.{waits_at, soil_taken, marked_tables, 
 abbrev pub answer_at : {D : Type 0} → FarmSeen D → Conn → Cmd → Key → AskAnswer
 answer_at farm conn command k =
     if is_clean_mark (mark_of farm.marks.shown k) then AskAnswer.Done
-    else if nat_le 64 (open_of farm.queues conn) || nat_le 4096 (open_count farm.queues) then NotDone Backlog
+    else if nat_le most_asks_of_one (open_of farm.queues conn) || nat_le most_asks (open_count farm.queues) then NotDone Backlog
     else if list_any (λ (x : seen.Taken). same_key x.key k && x.touched) farm.taken then NotDone Overtaken
     else if is_in k farm.queues.taken then Joined farm.counts.numbers
     else answer_of_waiting
@@ -35,9 +36,9 @@ answer_at farm conn command k =
 
 -- what the tables must be for the change that an answer makes
 abbrev pub Needs : Tables → Queue → Key → AskAnswer → Type 0
-Needs t own k (Queued n) = (standing t k ≡ None) × (open_count t < 4096) × (is_below (line_of t.lines own) ≡ true)
-Needs t own k (Joined n) = IsSome (standing t k) × (open_count t < 4096)
-Needs t own k (Lifted n) = (is_liftable (standing t k) ≡ true) × (takes_lifted own ≡ true) × (open_count t < 4096) × (is_below (line_of t.lines own) ≡ true)
+Needs t own k (Queued n) = (standing t k ≡ None) × (open_count t < most_asks) × (is_below (line_of t.lines own) ≡ true)
+Needs t own k (Joined n) = IsSome (standing t k) × (open_count t < most_asks)
+Needs t own k (Lifted n) = (is_liftable (standing t k) ≡ true) × (takes_lifted own ≡ true) × (open_count t < most_asks) × (is_below (line_of t.lines own) ≡ true)
 Needs t own k (NotDone Deferred) = (standing t k ≡ None) × (is_below t.lines.dirty ≡ true)
 Needs t own k _ = Unit {0}
 

@@ -1,5 +1,6 @@
 -- The steps of a beginning.
-use Rattle.std.specs.Prelude.{◌≡◌, ◌⊎◌, ℕ, ◌<◌, ◌^◌, Bool, List, [], length, Option, Result, Ok, Err}
+use Rattle.std.specs.Prelude.{◌≡◌, ◌⊎◌, ℕ, ◌<◌, Bool, List, [], length, Option, Result, Ok, Err}
+use Rattle.farm_base.specs.Limits.{most_turns}
 use Rattle.farm_base.specs.Outside.{Outside}
 use Rattle.farm_base.specs.declared.memory.NoMemory.{NoMemory}
 use Rattle.tile_store.specs.Stores.{StoreTold, Puts}
@@ -31,7 +32,7 @@ pub record BeganWith {D : Type 0} (state : D → Outside StoreTold) (plan : Farm
   pub saved : Option Saving
   pub said : resumed_by plan found ≡ Ok saved
   pub begins : Begins state plan saved store farm
-  pub short : length (origin plan saved) < 2 ^ 62
+  pub short : length (origin plan saved) < most_turns
 
 -- why none was
 abbrev pub Refuses : FarmPlan → Option (List ℕ) → Stop → Type 0

@@ -1,6 +1,7 @@
 -- What each event makes of a farm's counts, its queues and its drawings under way, and what the farm itself tells of an ask.
 use Rattle.std.specs.Prelude.{ℕ, ◌+◌, Bool, true, false, ◌&&◌, ◌||◌, not, ◌==◌, nat_le, if◌then◌else◌, List, [], length, map, filter, find, Option, Some, None, is_some}
 use Rattle.std.specs.List.{list_any}
+use Rattle.farm_base.specs.Limits.{most_asks, most_asks_of_one}
 use Rattle.farm_history.specs.declared.keys.Key.{Key}
 use Rattle.farm_history.specs.declared.queues.Conn.{Conn}
 use Rattle.farm_history.specs.declared.queues.Queue.{Queue}
@@ -76,7 +77,7 @@ tests_at farm conn command spot = record {
   stopped = farm.counts.stopped;
   servable = is_servable (plan_of farm.plan) spot;
   clean = is_clean_mark (mark_of farm.marks.shown (key_of spot));
-  backlog = nat_le 64 (open_of farm.queues conn) || nat_le 4096 (open_count farm.queues);
+  backlog = nat_le most_asks_of_one (open_of farm.queues conn) || nat_le most_asks (open_count farm.queues);
   overtaken = list_any (λ (x : Taken). same_key x.key (key_of spot) && x.touched) farm.taken;
   flies = is_in (key_of spot) farm.queues.taken;
   liftable = is_lifting command && (is_in (key_of spot) farm.queues.lines.dirty.keys || is_in (key_of spot) farm.queues.lines.bulk.keys);

@@ -1,5 +1,6 @@
 -- The words of the contracts inside the crate, which see a seat with its ticket and with the value that is out.
-use Rattle.std.specs.Prelude.{◌≡◌, ℕ, ◌^◌, ◌<◌, ◌≤◌, true, false, List, [], ◌∷◌, length, None}
+use Rattle.std.specs.Prelude.{◌≡◌, ℕ, ◌<◌, ◌≤◌, true, false, List, [], ◌∷◌, length, None}
+use Rattle.farm_base.specs.Limits.{most_turns}
 use Rattle.turn_cell.specs.Turns.{Follows}
 use Rattle.turn_cell.specs.Cell.{Sat}
 use Rattle.turn_cell.specs.Plays.{KnowsOwn, KnowsJoined, KnowsStrangers, holding}
@@ -31,4 +32,4 @@ module _ {T E L : Type 0} (stands : T → List (ℕ × E) → Type 0) (lasting :
   -- the value is in the caller's hands, and the slot is empty and out with the seat
   abbrev pub Entered : Terms T → Sat T E → T → Sat T E → Type 0
   Entered about m x n = (log : List (ℕ × E)) × (n ≡ (holding m.0 log, (0, None) ∷ [])) × stands x log × (lasting x ≡ lasting about.first.value)
-      × (length log < about.limit) × (about.limit ≤ 2 ^ 62) × Follows m.0.number m.0.seen log × KnowsJoined m.0 log × KnowsStrangers m.0 log
+      × (length log < about.limit) × (about.limit ≤ most_turns) × Follows m.0.number m.0.seen log × KnowsJoined m.0 log × KnowsStrangers m.0 log
