@@ -50,8 +50,8 @@ impl Model for Pending {
     ghost invariant = { λ p. p.start ≤ length p.bytes.items };
 }
 
-/// Takes so many bytes out at the front, without memory.
-fn drop_front(bytes: &mut Vec<u8>, count: usize)
+/// Takes so many bytes out at the front, of which there are as many; takes no memory.
+pub fn drop_front(bytes: &mut Vec<u8>, count: usize)
     requires { count ≤ length bytes.old.items }
     ensures { bytes.new.items ≡ drop count bytes.old.items }
 {
