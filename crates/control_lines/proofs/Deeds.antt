@@ -4,6 +4,7 @@ use Rattle.std.proofs.lemmas.Bool.{ne_eqb, and_from, or_from, or_left, and_parts
 use Rattle.std.proofs.lemmas.Grind.{take_at_read}
 use Rattle.std.proofs.lemmas.List.{append-nil, take-append-drop}
 use Rattle.std.proofs.Math.Bool.{or_assoc}
+use Rattle.farm_base.specs.Limits.{most_control_bytes}
 use Rattle.plain_world.specs.declared.world.Tile.{Tile}
 use Rattle.farm_history.specs.Entries.{Entry}
 use Rattle.front_rounds.specs.declared.fates.Fate.{Fate}
@@ -87,21 +88,21 @@ module _ (number : ℕ) (lists : List (List Tile)) (c : ℕ) where
     mine_is = m;
     begins = (lines, refl);
     fits = tt;
-    why = tt;
+    why = refl;
     said_is = λ k. clash (sym k);
     asked_is = λ k. clash (sym k);
     whole = λ k. clash (sym k);
   }
 
   -- a request was done, of which a turn was worn or the answer found no memory
-  pub did_part : (a : Act) (mine mine' : List Entry) (said said' : List ℕ) → act_fits lists a ≡ true → mine' ≡ mine ++ entries_of lists a
+  pub did_part : (a : Act) (mine mine' : List Entry) (said said' : List ℕ) → act_fits lists a ≡ true → mine' ≡ mine ++ entries_of lists a → act_starves a ≡ false
       → Did number lists c (line_done a ∷ []) mine mine' said said' (Leaves reason.Starved)
-  did_part a mine mine' said said' f m = record {
+  did_part a mine mine' said said' f m s = record {
     acts = a ∷ [];
     mine_is = m;
     begins = ([], refl);
     fits = (f, tt);
-    why = tt;
+    why = or_from (act_starves a) false s refl;
     said_is = λ k. clash (sym k);
     asked_is = λ k. clash (sym k);
     whole = λ k. clash (sym k);
@@ -137,7 +138,7 @@ module _ (number : ℕ) (lists : List (List Tile)) (c : ℕ) where
   pub did_one : (a : Act) (mine mine' : List Entry) (said said' : List ℕ) (fate : Fate) → act_fits lists a ≡ true → act_whole lists a ≡ true → mine' ≡ mine ++ entries_of lists a
       → Answers lists a said said' fate → Did number lists c (line_done a ∷ []) mine mine' said said' fate
   did_one a mine mine' said said' fate f w m (Gives q s e) = subst (Did number lists c (line_done a ∷ []) mine mine' said said') (sym q) (did_whole a mine mine' said said' f w m s e)
-  did_one a mine mine' said said' fate f w m (Wants q) = subst (Did number lists c (line_done a ∷ []) mine mine' said said') (sym q) (did_part a mine mine' said said' f m)
+  did_one a mine mine' said said' fate f w m (Wants q s) = subst (Did number lists c (line_done a ∷ []) mine mine' said said') (sym q) (did_part a mine mine' said said' f m s)
   did_one a mine mine' said said' fate f w m (Starves q s) = subst (Did number lists c (line_done a ∷ []) mine mine' said said') (sym q) (did_starved a mine mine' said said' f m s)
 
   pub did_at : (l : Line) (a : Act) (mine mine' : List Entry) (said said' : List ℕ) (fate : Fate) → l ≡ line_done a → act_fits lists a ≡ true → act_whole lists a ≡ true
@@ -149,7 +150,7 @@ module _ (number : ℕ) (lists : List (List Tile)) (c : ℕ) where
   why_both acts before Stays n w = starves_both acts before ∙ or_from (any_starves R (does acts)) (any_starves R (does before)) w n
   why_both acts before (Leaves reason.Unread) n w = absurd w
   why_both acts before (Leaves reason.NoMemory) n w = starves_both acts before ∙ or_left (any_starves R (does acts)) (any_starves R (does before)) w
-  why_both acts before (Leaves reason.Starved) n w = tt
+  why_both acts before (Leaves reason.Starved) n w = starves_both acts before ∙ or_from (any_starves R (does acts)) (any_starves R (does before)) w n
   why_both acts before (Leaves reason.Ended) n w = absurd w
   why_both acts before (Leaves reason.Lost) n w = absurd w
   why_both acts before (Leaves reason.Cut) n w = absurd w
@@ -292,19 +293,19 @@ module _ (number : ℕ) (lists : List (List Tile)) (c : ℕ) where
       subst (λ x. Heeds number lists c part (x ∷ []) mine mine' [] said said' fate) (sym e)
       (record { did = done_same (line_in part ∷ []) mine mine' said said' fate h; why = not_long h.acts fate h.why; part_is = λ _. refl })
 
-  byte_long : (part : List ℕ) (b : ℕ) → (b ≡ 10 → ⊥) → nat_lt (length part) 64 ≡ false → read_on (part_alone part) (b ∷ []) ≡ record { lines = []; part = part; long = true }
+  byte_long : (part : List ℕ) (b : ℕ) → (b ≡ 10 → ⊥) → nat_lt (length part) most_control_bytes ≡ false → read_on (part_alone part) (b ∷ []) ≡ record { lines = []; part = part; long = true }
   byte_long part b n l =
-      ap (λ v. cond v (record { lines = part ∷ []; part = []; long = false }) (cond (nat_lt (length part) 64) (record { lines = []; part = part ++ b ∷ []; long = false }) (record { lines = []; part = part; long = true })))
+      ap (λ v. cond v (record { lines = part ∷ []; part = []; long = false }) (cond (nat_lt (length part) most_control_bytes) (record { lines = []; part = part ++ b ∷ []; long = false }) (record { lines = []; part = part; long = true })))
       (ne_eqb b 10 n)
       ∙ ap (λ v. cond v (record { lines = []; part = part ++ b ∷ []; long = false }) (record { lines = []; part = part; long = true })) l
 
-  byte_more : (part : List ℕ) (b : ℕ) → (b ≡ 10 → ⊥) → nat_lt (length part) 64 ≡ true → read_on (part_alone part) (b ∷ []) ≡ part_alone (part ++ b ∷ [])
+  byte_more : (part : List ℕ) (b : ℕ) → (b ≡ 10 → ⊥) → nat_lt (length part) most_control_bytes ≡ true → read_on (part_alone part) (b ∷ []) ≡ part_alone (part ++ b ∷ [])
   byte_more part b n l =
-      ap (λ v. cond v (record { lines = part ∷ []; part = []; long = false }) (cond (nat_lt (length part) 64) (part_alone (part ++ b ∷ [])) (record { lines = []; part = part; long = true })))
+      ap (λ v. cond v (record { lines = part ∷ []; part = []; long = false }) (cond (nat_lt (length part) most_control_bytes) (part_alone (part ++ b ∷ [])) (record { lines = []; part = part; long = true })))
       (ne_eqb b 10 n)
       ∙ ap (λ v. cond v (part_alone (part ++ b ∷ [])) (record { lines = []; part = part; long = true })) l
 
-  pub heeds_end : (part : List ℕ) (b : ℕ) (mine : List Entry) (said said' : List ℕ) (fate : Fate) → (b ≡ 10 → ⊥) → nat_lt (length part) 64 ≡ false
+  pub heeds_end : (part : List ℕ) (b : ℕ) (mine : List Entry) (said said' : List ℕ) (fate : Fate) → (b ≡ 10 → ⊥) → nat_lt (length part) most_control_bytes ≡ false
       → Did number lists c (line.Bad ∷ []) mine mine said said' (as_done fate) → LongWhy true fate → Heeds number lists c part (b ∷ []) mine mine part said said' fate
   heeds_end part b mine said said' fate n l h w =
       let is = byte_long part b n l in
@@ -314,7 +315,7 @@ module _ (number : ℕ) (lists : List (List Tile)) (c : ℕ) where
         part_is = λ _. sym (ap (λ (v : Reading). v.part) is);
       }
 
-  heeds_byte : (part : List ℕ) (b : ℕ) (mine : List Entry) (said : List ℕ) → (b ≡ 10 → ⊥) → nat_lt (length part) 64 ≡ true → Heeds number lists c part (b ∷ []) mine mine (part ++ b ∷ []) said said Stays
+  heeds_byte : (part : List ℕ) (b : ℕ) (mine : List Entry) (said : List ℕ) → (b ≡ 10 → ⊥) → nat_lt (length part) most_control_bytes ≡ true → Heeds number lists c part (b ∷ []) mine mine (part ++ b ∷ []) said said Stays
   heeds_byte part b mine said n l =
       let is = byte_more part b n l in
       record {
@@ -327,7 +328,7 @@ module _ (number : ℕ) (lists : List (List Tile)) (c : ℕ) where
   heeds_lost part part' bytes mine said said' =
       record { did = did_worn (wants (read_on (part_alone part) bytes)) mine mine said said' refl; why = tt; part_is = λ k. clash (sym k) }
 
-  pub heeds_kept : (part part' : List ℕ) (b : ℕ) (mine : List Entry) (said : List ℕ) (fate : Fate) → (b ≡ 10 → ⊥) → nat_lt (length part) 64 ≡ true → Says (b ∷ []) part part' fate
+  pub heeds_kept : (part part' : List ℕ) (b : ℕ) (mine : List Entry) (said : List ℕ) (fate : Fate) → (b ≡ 10 → ⊥) → nat_lt (length part) most_control_bytes ≡ true → Says (b ∷ []) part part' fate
       → Heeds number lists c part (b ∷ []) mine mine part' said said fate
   heeds_kept part part' b mine said fate n l (Said q e) =
       subst (Heeds number lists c part (b ∷ []) mine mine part' said said) (sym q)
@@ -373,7 +374,7 @@ module _ (number : ℕ) (lists : List (List Tile)) (c : ℕ) where
   why_front long given acts Stays e d l = (e ∙ l, d)
   why_front long given acts (Leaves reason.Unread) e d l = (e ∙ l, d)
   why_front long given acts (Leaves reason.NoMemory) e d l = d
-  why_front long given acts (Leaves reason.Starved) e d l = tt
+  why_front long given acts (Leaves reason.Starved) e d l = d
   why_front long given acts (Leaves reason.Ended) e d l = absurd d
   why_front long given acts (Leaves reason.Lost) e d l = absurd d
   why_front long given acts (Leaves reason.Cut) e d l = absurd d

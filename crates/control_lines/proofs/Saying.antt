@@ -10,7 +10,7 @@ use Rattle.farm_history.specs.declared.answers.Updated.TheVariants as updated
 use Rattle.farm_history.specs.declared.answers.Renewed.{Renewed}
 use Rattle.farm_history.specs.declared.answers.Renewed.TheVariants as renewed
 use Rattle.farm_history.specs.Entries.{Entry, Expire}
-use Rattle.front_rounds.specs.declared.farm.Worn.{Worn}
+use Rattle.farm_base.specs.declared.turns.Worn.{Worn}
 use Rattle.front_rounds.specs.declared.fates.Fate.{Fate}
 use Rattle.front_rounds.specs.declared.fates.Fate.TheVariants.{Leaves}
 use Rattle.front_rounds.specs.declared.fates.Reason.TheVariants as reason
@@ -41,7 +41,7 @@ renew_given (renewed.Refused fault) t h = has_line fault t h
 
 pub says_answer : (lists : List (List Tile)) (a : Act) (text old new : List ℕ) (fate : Fate) → act_text lists a ≡ text → act_starves a ≡ false → Says text old new fate → Answers lists a old new fate
 says_answer lists a text old new fate t s (Said q e) = Gives q s (e ∙ ap (λ xs. old ++ xs) (sym t))
-says_answer lists a text old new fate t s (Lacks q) = Wants q
+says_answer lists a text old new fate t s (Lacks q) = Wants q s
 
 pub says_update : (lists : List (List Tile)) (n : ℕ) (answer : Updated) (t old new : List ℕ) (fate : Fate) → update_text answer ≡ Some t → Says t old new fate
     → Answers lists (Updates n answer) old new fate
@@ -118,4 +118,4 @@ module _ (front : ℕ) (lists : List (List Tile)) (c : ℕ) where
       let is : tiles_at lists n ≡ tiles = ap tiles_or_none g in
       did_part front lists c (Expires n counts) mine mine' old new
       (le-leb (length counts) (length (tiles_at lists n)) (subst (λ ts. length counts ≤ length ts) (sym is) l))
-      (m ∙ ap (λ ts. mine ++ expiries ts counts) (sym is))
+      (m ∙ ap (λ ts. mine ++ expiries ts counts) (sym is)) refl

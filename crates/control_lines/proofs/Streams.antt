@@ -1,6 +1,7 @@
 -- Bytes that are read one piece after another.
 use Rattle.std.proofs.Common.{◌≡◌, ◌==◌, ℕ, Bool, true, false, cond, nat_lt, List, [], ◌∷◌, ◌++◌, length, map, refl, sym, ap, ◌∙◌, append_assoc}
 use Rattle.std.proofs.lemmas.List.{append-nil}
+use Rattle.farm_base.specs.Limits.{most_control_bytes}
 use Rattle.control_lines.specs.declared.acts.Line.{Line}
 use Rattle.control_lines.specs.declared.acts.Line.TheVariants as line
 use Rattle.control_lines.specs.Lines.{Reading, with_byte, read_on, part_alone, line_in, wants}
@@ -44,7 +45,7 @@ from_by ls part b ys false false f = read_none ls part ys ∙ behind_none ls par
 
 pub read_from : (ls : List (List ℕ)) (part ys : List ℕ) → read_on (opened ls part) ys ≡ behind ls (read_on (part_alone part) ys)
 read_from ls part [] = behind_none ls part false
-read_from ls part (b ∷ ys) = from_by ls part b ys (b == 10) (nat_lt (length part) 64) (λ ms p. read_from ms p ys)
+read_from ls part (b ∷ ys) = from_by ls part b ys (b == 10) (nat_lt (length part) most_control_bytes) (λ ms p. read_from ms p ys)
 
 -- the requests behind these lines
 map_both : (ls ms : List (List ℕ)) → map line_in (ls ++ ms) ≡ map line_in ls ++ map line_in ms

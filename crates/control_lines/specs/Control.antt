@@ -11,7 +11,7 @@ use Rattle.farm_history.specs.declared.answers.Renewed.{Renewed}
 use Rattle.farm_history.specs.declared.answers.Renewed.TheVariants as renewed
 use Rattle.farm_history.specs.declared.answers.Tally.{Tally as Totals}
 use Rattle.farm_history.specs.Entries.{Entry, Update, Restyle, Renew, Expire, Stop, Tally}
-use Rattle.front_rounds.specs.Rules.{Rules, Move, Does, Gets}
+use Rattle.front_rounds.specs.Rules.{Rules, Move, Does, Gets, is_empty}
 use Rattle.script_answers.specs.Answers.{number_line as line_with, fault_line, renewed_line, expire_line, tally_line, stop_line}
 use Rattle.control_lines.specs.declared.acts.Line.{Line}
 use Rattle.control_lines.specs.declared.acts.Line.TheVariants as line
@@ -21,23 +21,28 @@ use Rattle.control_lines.specs.Lines.{read_all, wants}
 
 -- ---- answers; want of memory has none
 
+-- the answer to `update N`
 abbrev pub update_text : Updated → Option (List ℕ)
 update_text (updated.Version v) = Some (line_with (codes "version ") v)
 update_text updated.NoUpdate = Some (codes "no update\n")
 update_text (updated.Refused fault) = fault_line fault
 
+-- the answer to `restyle N`
 abbrev pub restyle_text : Restyled → List ℕ
 restyle_text (restyled.Styled count) = line_with (codes "styled ") count
 restyle_text restyled.NoRestyle = codes "no restyle\n"
 
+-- the answer to `renew N`
 abbrev pub renew_text : Renewed → Option (List ℕ)
 renew_text (renewed.Version v count) = Some (renewed_line v count)
 renew_text renewed.NoUpdate = Some (codes "no update\n")
 renew_text (renewed.Refused fault) = fault_line fault
 
+-- the answer to `stats`
 abbrev pub tally_text : Totals → List ℕ
 tally_text totals = tally_line totals
 
+-- the answer to `expire N`, by the sum of its counts
 abbrev pub expired_text : ℕ → List ℕ
 expired_text total = expire_line total
 
@@ -51,15 +56,18 @@ abbrev pub expire_text : Option (List Tile) → List ℕ → List ℕ
 expire_text None counts = codes "no list\n"
 expire_text (Some tiles) counts = expired_text (min (total_of counts) (2 ^ 64 - 1))
 
+-- the answer to a line that says nothing
 abbrev pub bad_text : List ℕ
 bad_text = codes "bad line\n"
 
+-- the bytes of a text, if there is one
 abbrev pub said_or_none : Option (List ℕ) → List ℕ
 said_or_none None = []
 said_or_none (Some text) = text
 
 -- ---- entries
 
+-- the tiles of a list, if there is one
 abbrev pub tiles_or_none : Option (List Tile) → List Tile
 tiles_or_none None = []
 tiles_or_none (Some tiles) = tiles
@@ -74,14 +82,14 @@ expiries [] counts = []
 expiries (t ∷ tiles) [] = []
 expiries (t ∷ tiles) (k ∷ counts) = Expire t k ∷ expiries tiles counts
 
+-- the update was refused for want of memory
 abbrev pub is_no_memory : ApplyFault → Bool
 is_no_memory apply.NoMemory = true
-is_no_memory (apply.NoLayer change) = false
-is_no_memory (apply.NoFeature change id) = false
-is_no_memory (apply.TooMany change) = false
+is_no_memory _ = false
 
 -- ---- what was done at a line
 
+-- the line that was done
 abbrev pub line_done : Act → Line
 line_done (Updates n answer) = line.Update n
 line_done (Restyles n answer) = line.Restyle n
@@ -91,11 +99,8 @@ line_done (Counts totals) = line.Stats
 line_done Stops = line.Stop
 line_done Refuses = line.Bad
 
-abbrev pub is_nil : {X : Type 0} → List X → Bool
-is_nil [] = true
-is_nil (x ∷ xs) = false
-
 module _ (lists : List (List Tile)) where
+  -- the entries of what was done
   abbrev pub entries_of : Act → List Entry
   entries_of (Updates n answer) = Update n answer ∷ []
   entries_of (Restyles n answer) = Restyle n answer ∷ []
@@ -105,6 +110,7 @@ module _ (lists : List (List Tile)) where
   entries_of Stops = Stop ∷ []
   entries_of Refuses = []
 
+  -- the bytes that are answered to it
   abbrev pub act_text : Act → List ℕ
   act_text (Updates n answer) = said_or_none (update_text answer)
   act_text (Restyles n answer) = restyle_text answer
@@ -114,60 +120,50 @@ module _ (lists : List (List Tile)) where
   act_text Stops = stop_line
   act_text Refuses = bad_text
 
-  -- no more tiles were expired than the list has, and whether all were
+  -- no more tiles were expired than the list has
   abbrev pub act_fits : Act → Bool
   act_fits (Expires n counts) = nat_le (length counts) (length (tiles_at lists n))
-  act_fits (Updates n answer) = true
-  act_fits (Restyles n answer) = true
-  act_fits (Renews n answer) = true
-  act_fits (Counts totals) = true
-  act_fits Stops = true
-  act_fits Refuses = true
+  act_fits _ = true
 
+  -- all tiles of the list were expired
   abbrev pub act_whole : Act → Bool
   act_whole (Expires n counts) = length counts == length (tiles_at lists n)
-  act_whole (Updates n answer) = true
-  act_whole (Restyles n answer) = true
-  act_whole (Renews n answer) = true
-  act_whole (Counts totals) = true
-  act_whole Stops = true
-  act_whole Refuses = true
+  act_whole _ = true
 
   -- ---- as rules
 
   -- No ask is made, so no reply comes; one that came would stand alone.
   abbrev pub move_fits : Move Act → Bool
   move_fits (Does a) = act_fits a
-  move_fits (Gets r behind) = is_nil behind
+  move_fits (Gets r behind) = is_empty behind
 
+  -- and so of a move
   abbrev pub move_whole : Move Act → Bool
   move_whole (Does a) = act_whole a
   move_whole (Gets r behind) = true
 
+  -- the bytes that are answered to a move
   abbrev pub move_text : Move Act → List ℕ
   move_text (Does a) = act_text a
   move_text (Gets r behind) = []
 
+-- an update found no memory
 abbrev pub update_starves : Updated → Bool
-update_starves (updated.Version v) = false
-update_starves updated.NoUpdate = false
 update_starves (updated.Refused fault) = is_no_memory fault
+update_starves _ = false
 
+-- a renew found no memory
 abbrev pub renew_starves : Renewed → Bool
-renew_starves (renewed.Version v count) = false
-renew_starves renewed.NoUpdate = false
 renew_starves (renewed.Refused fault) = is_no_memory fault
+renew_starves _ = false
 
 -- an update or a renew found no memory
 abbrev pub act_starves : Act → Bool
 act_starves (Updates n answer) = update_starves answer
 act_starves (Renews n answer) = renew_starves answer
-act_starves (Restyles n answer) = false
-act_starves (Expires n counts) = false
-act_starves (Counts totals) = false
-act_starves Stops = false
-act_starves Refuses = false
+act_starves _ = false
 
+-- and so of a move
 abbrev pub move_starves : Move Act → Bool
 move_starves (Does a) = act_starves a
 move_starves (Gets r behind) = false

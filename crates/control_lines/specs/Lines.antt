@@ -2,6 +2,7 @@
 use Rattle.std.specs.Prelude.{ℕ, ◌^◌, ◌==◌, Bool, true, false, cond, nat_lt, if◌then◌else◌, List, [], ◌∷◌, ◌++◌, length, map, codes, Option, Some, None}
 use Rattle.std.specs.Str.{bytes_eq, is_utf8}
 use Rattle.std.specs.Str.Lines.{strip_carriage_return}
+use Rattle.farm_base.specs.Limits.{most_control_bytes}
 use Rattle.line_words.specs.Cuts.{cut_at}
 use Rattle.line_words.specs.Numbers.{decimal_below}
 use Rattle.control_lines.specs.declared.acts.Line.{Line}
@@ -21,7 +22,7 @@ abbrev pub with_byte : Reading → ℕ → Reading
 with_byte r b =
     cond r.long r
     (cond (b == 10) (record { lines = r.lines ++ r.part ∷ []; part = []; long = false })
-    (cond (nat_lt (length r.part) 64) (record { lines = r.lines; part = r.part ++ b ∷ []; long = false })
+    (cond (nat_lt (length r.part) most_control_bytes) (record { lines = r.lines; part = r.part ++ b ∷ []; long = false })
     (record { lines = r.lines; part = r.part; long = true })))
 
 -- these bytes more

@@ -2,8 +2,9 @@
 use crate::acts::{Act, Line};
 use crate::hearing::{Talk, hear_piece};
 use expiry_lists::TileList;
+use farm_base::Worn;
 use farm_history::Reply;
-use front_rounds::{Farm, Fate, Front, Worn};
+use front_rounds::{Farm, Fate, Front};
 use std::alloc::Global;
 use std::sync::Wait;
 
@@ -29,7 +30,7 @@ impl<'a, M: Farm> Front<M> for Control<'a> {
 
     ghost knows = { Knows };
 
-    ghost alone = { λ _ _ _ _. refl };
+    ghost alone = { λ _ _ _ _. (refl, refl) };
 
     fn number(&self, _farm: &M) -> u32 {
         self.front

@@ -4,7 +4,8 @@ ghost use Rattle.front_rounds.specs.Calls.{SameSeat};
 ghost use Rattle.plain_world.specs.World.{IsTile};
 ghost use Rattle.control_lines.specs.inner.Doing.{Expired};
 
-use front_rounds::{Farm, Worn};
+use farm_base::Worn;
+use front_rounds::Farm;
 use plain_world::Tile;
 use std::sync::Wait;
 

@@ -1,5 +1,6 @@
 //! Bytes are read, and the lines that become whole by them are done.
 ghost use Rattle.std.specs.Prelude.{◌≡◌, ◌∷◌, [], ℕ, List, true, OnErr, length, nat_lt};
+ghost use Rattle.farm_base.specs.Limits.{most_control_bytes};
 ghost use Rattle.front_rounds.specs.Calls.{SameSeat};
 ghost use Rattle.front_rounds.specs.Front.{fate_of};
 ghost use Rattle.plain_world.specs.declared.world.Tile.{Tile};
@@ -10,12 +11,10 @@ ghost use Rattle.control_lines.specs.inner.Doing.{Did, LongWhy, Says, as_done, H
 use crate::doing::{do_bad, do_line};
 use crate::lines::line_in;
 use expiry_lists::TileList;
-use front_rounds::{Farm, Fate, Reason, Worn};
+use farm_base::{MOST_CONTROL_BYTES, Worn};
+use front_rounds::{Farm, Fate, Reason};
 use std::alloc::Global;
 use std::sync::Wait;
-
-/// The most bytes of a line, without its newline.
-const LONGEST: usize = 64;
 
 /// What is kept of a session: the part of the line that has not ended.
 #[derive(Drop)]
@@ -37,9 +36,9 @@ fn too_long(said: &mut Vec<u8>) -> Fate
 
 /// Whether a line that begins so may have another byte.
 fn is_short(part: &Vec<u8>) -> bool
-    ensures { result ≡ nat_lt (length part.now.items) 64 }
+    ensures { result ≡ nat_lt (length part.now.items) most_control_bytes }
 {
-    part.as_slice().len() < LONGEST
+    part.as_slice().len() < MOST_CONTROL_BYTES
 }
 
 /// Puts a byte behind a part of a line, if there is memory for it.

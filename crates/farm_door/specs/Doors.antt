@@ -1,13 +1,11 @@
 -- What fronts know of the seats of a shared farm.
-use Rattle.std.specs.Prelude.{ℕ, List, position, Option, Result, Ok, Err}
+use Rattle.std.specs.Prelude.{ℕ, List, position, Option}
 use Rattle.std.specs.Str.{bytes_eq}
 use Rattle.farm_history.specs.Entries.{Entry}
 use Rattle.turn_cell.specs.SeatStates.{Made, SeatState, IsSeatOf, Knows}
-use Rattle.turn_cell.specs.declared.call.Worn.{Worn as CellWorn}
 use Rattle.farm_shared.specs.declared.turned.Turned.{Turned}
 use Rattle.farm_shared.specs.Seats.{plain}
 use Rattle.front_rounds.specs.Calls.{Seats}
-use Rattle.front_rounds.specs.declared.farm.Worn.{Worn}
 use Rattle.farm_door.specs.declared.door.Place.{Place}
 
 -- A seat of this farm has seen a history in which its own entries stand and no others of its number. What stays of it over its turns
@@ -24,8 +22,3 @@ seats_of made = record {
 -- the place of the map of a name, in the farm that was shared
 abbrev pub maps_of : {D : Type 0} → Made (Turned D) → List ℕ → Option ℕ
 maps_of made name = position (λ m. bytes_eq m.name name) made.about.first.value.farm.plan.maps
-
--- the answer of a turn, with the fronts' word for a worn farm
-abbrev pub from_front : {T : Type 0} → Result T CellWorn → Result T Worn
-from_front (Ok answer) = Ok answer
-from_front (Err worn) = Err (record {})

@@ -1,15 +1,12 @@
 //! The door.
-ghost use Rattle.std.specs.Prelude.{◌≡◌};
-ghost use Rattle.farm_door.specs.Doors.{from_front};
-
 use crossbeam_utils::sync::Unparker;
-use farm_base::Bell;
+use farm_base::{Bell, Worn};
 use farm_history::{
     AskAnswer, Cmd, Collected, Conn, Event, Fetched, Looked, Renewed, Restyled, Spot, Tally,
     Updated, Why,
 };
 use farm_shared::{Alarms, Seat, SharedFarm};
-use front_rounds::{Farm, Worn};
+use front_rounds::Farm;
 use plain_world::Tile;
 use std::alloc::Global;
 use std::collections::LinkedList;
@@ -57,16 +54,6 @@ fn may_queue(answer: Result<AskAnswer, Worn>) -> bool {
     )
 }
 
-/// The answer of a turn, with the fronts' word for a worn farm.
-fn for_front<T>(answer: Result<T, farm_shared::Worn>) -> Result<T, Worn>
-    ensures { result ≡ from_front answer }
-{
-    match answer {
-        Ok(answer) => Ok(answer),
-        Err(_worn) => Err(Worn),
-    }
-}
-
 impl<'a, D: TileStore, B: Bell> Farm for Door<'a, D, B> {
     ghost use Rattle.farm_door.specs.Doors.{maps_of, seats_of};
 
@@ -90,17 +77,17 @@ impl<'a, D: TileStore, B: Bell> Farm for Door<'a, D, B> {
         cmd: Cmd,
         spot: Spot,
     ) -> Result<AskAnswer, Worn> {
-        let answer = for_front(self.farm.ask(rt, seat, conn, cmd, spot));
+        let answer = self.farm.ask(rt, seat, conn, cmd, spot);
         wake_for(answer, self.alarms.workers);
         answer
     }
 
     fn collect<R: Wait>(&self, rt: &R, seat: &mut Seat<D>, front: u32) -> Result<Collected, Worn> {
-        for_front(self.farm.collect(rt, seat, front))
+        self.farm.collect(rt, seat, front)
     }
 
     fn leave<R: Wait>(&self, rt: &R, seat: &mut Seat<D>, conn: Conn) -> Result<u32, Worn> {
-        for_front(self.farm.leave(rt, seat, conn))
+        self.farm.leave(rt, seat, conn)
     }
 
     fn fetch<R: Wait>(
@@ -110,11 +97,11 @@ impl<'a, D: TileStore, B: Bell> Farm for Door<'a, D, B> {
         seat: &mut Seat<D>,
         spot: Spot,
     ) -> Result<Fetched, Worn> {
-        for_front(self.farm.fetch(rt, seat, alloc, spot))
+        self.farm.fetch(rt, seat, alloc, spot)
     }
 
     fn look<R: Wait>(&self, rt: &R, seat: &mut Seat<D>, spot: Spot) -> Result<Looked, Worn> {
-        for_front(self.farm.look(rt, seat, spot))
+        self.farm.look(rt, seat, spot)
     }
 
     fn update<R: Wait>(
@@ -124,7 +111,7 @@ impl<'a, D: TileStore, B: Bell> Farm for Door<'a, D, B> {
         seat: &mut Seat<D>,
         number: u32,
     ) -> Result<Updated, Worn> {
-        for_front(self.farm.update(rt, seat, alloc, number))
+        self.farm.update(rt, seat, alloc, number)
     }
 
     fn renew<R: Wait>(
@@ -134,23 +121,23 @@ impl<'a, D: TileStore, B: Bell> Farm for Door<'a, D, B> {
         seat: &mut Seat<D>,
         number: u32,
     ) -> Result<Renewed, Worn> {
-        for_front(self.farm.renew(rt, seat, alloc, number))
+        self.farm.renew(rt, seat, alloc, number)
     }
 
     fn restyle<R: Wait>(&self, rt: &R, seat: &mut Seat<D>, number: u32) -> Result<Restyled, Worn> {
-        for_front(self.farm.restyle(rt, seat, number))
+        self.farm.restyle(rt, seat, number)
     }
 
     fn expire<R: Wait>(&self, rt: &R, seat: &mut Seat<D>, tile: Tile) -> Result<u64, Worn> {
-        for_front(self.farm.expire(rt, seat, tile))
+        self.farm.expire(rt, seat, tile)
     }
 
     fn tally<R: Wait>(&self, rt: &R, seat: &mut Seat<D>) -> Result<Tally, Worn> {
-        for_front(self.farm.tally(rt, seat))
+        self.farm.tally(rt, seat)
     }
 
     fn stop<R: Wait>(&self, rt: &R, seat: &mut Seat<D>) -> Result<(), Worn> {
-        let answer = for_front(self.farm.stop(rt, seat));
+        let answer = self.farm.stop(rt, seat);
         self.alarms.ring_all();
         answer
     }

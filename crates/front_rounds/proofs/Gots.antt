@@ -3,6 +3,7 @@ use Rattle.std.proofs.Common.{◌≡◌, ◌==◌, ◌<◌, ◌≤◌, ◌+◌, 
 use Rattle.std.proofs.Math.Bool.{or-false}
 use Rattle.std.proofs.lemmas.Bool.{lt-ltb, le-ltb, ltb-true, or_parts}
 use Rattle.std.proofs.lemmas.List.{append-nil}
+use Rattle.farm_base.specs.Limits.{most_rest_bytes}
 use Rattle.farm_history.specs.Lists.{Each}
 use Rattle.farm_history.specs.Entries.{Entry, Collect}
 use Rattle.farm_history.specs.declared.queues.Reply.{Reply}
@@ -140,24 +141,24 @@ module _ {A W T : Type 0} (R : Rules A W) (K : List ℕ → List (Move A) → T 
   full_more : (r : Reply) (behind : List Entry) (p : Part A) → is_full R p ≡ true → is_full R (got r behind p) ≡ true
   full_more r behind p h =
       let g = grows r behind p in
-      let l = ltb-true (p.had + 1048576) (length (answer_bytes R p.moves)) h in
-      lt-ltb (p.had + 1048576) (length (answer_bytes R (Gets r behind ∷ p.moves))) (omega (arith, g, l))
+      let l = ltb-true (p.had + most_rest_bytes) (length (answer_bytes R p.moves)) h in
+      lt-ltb (p.had + most_rest_bytes) (length (answer_bytes R (Gets r behind ∷ p.moves))) (omega (arith, g, l))
 
   running_got : (r : Reply) (behind : List Entry) (p : Part A) → Running p → Running (got r behind p)
   running_got r behind p h = record { ended = h.ended; lost = h.lost; sends = h.sends; sent = h.sent }
 
   -- a cause stays
-  caused_more : (r : Reply) (behind : List Entry) (p : Part A) (f : Fate) → keeps f ≡ false → FateFits R p f → FateFits R (got r behind p) f
-  caused_more r behind p Stays k h = clash k
-  caused_more r behind p (Leaves reason.Unread) k h = clash k
-  caused_more r behind p (Leaves reason.Ended) k h = h
-  caused_more r behind p (Leaves reason.Lost) k h = h
-  caused_more r behind p (Leaves reason.Cut) k h = or_right (is_cut {A = A} (Gets r behind)) p.cut h
-  caused_more r behind p (Leaves reason.Full) k h = full_more r behind p h
-  caused_more r behind p (Leaves reason.SentWhole) k h = h
-  caused_more r behind p (Leaves reason.SendFailed) k h = h
-  caused_more r behind p (Leaves reason.NoMemory) k h = or_right (R.starves (Gets r behind)) p.starved h
-  caused_more r behind p (Leaves reason.Starved) k h = running_got r behind p h
+  caused_more : (r : Reply) (behind : List Entry) (p : Part A) (f : Fate) → R.starves (Gets r behind) ≡ false → keeps f ≡ false → FateFits R p f → FateFits R (got r behind p) f
+  caused_more r behind p Stays n k h = clash k
+  caused_more r behind p (Leaves reason.Unread) n k h = clash k
+  caused_more r behind p (Leaves reason.Ended) n k h = h
+  caused_more r behind p (Leaves reason.Lost) n k h = h
+  caused_more r behind p (Leaves reason.Cut) n k h = or_right (is_cut {A = A} (Gets r behind)) p.cut h
+  caused_more r behind p (Leaves reason.Full) n k h = full_more r behind p h
+  caused_more r behind p (Leaves reason.SentWhole) n k h = h
+  caused_more r behind p (Leaves reason.SendFailed) n k h = h
+  caused_more r behind p (Leaves reason.NoMemory) n k h = or_right (R.starves (Gets r behind)) p.starved h
+  caused_more r behind p (Leaves reason.Starved) n k h = (running_got r behind p h.0, or_none (R.starves (Gets r behind)) p.starved n h.1)
 
   -- a reply that is passed over may lack entries
   excused_by : (r : Reply) (p : Part A) (f : Fate) → keeps f ≡ false → asks_all f ≡ true → FateFits R p f → Untried R p → is_excused (Gets r []) p ≡ true
@@ -181,11 +182,11 @@ module _ {A W T : Type 0} (R : Rules A W) (K : List ℕ → List (Move A) → T 
   complete_got r behind p e c = and_both (is_excused (Gets r behind) p || R.whole p.moves (Gets r behind)) p.complete e c
 
   -- a reply is passed over
-  passed_sits : (told : Option PortsTold) (box : List (ℕ × List ℕ)) (p : Part A) (s : Session T) (r : Reply) → Sits R K told box p s → keeps s.fate ≡ false
+  passed_sits : (told : Option PortsTold) (box : List (ℕ × List ℕ)) (p : Part A) (s : Session T) (r : Reply) → R.starves (Gets r []) ≡ false → Sits R K told box p s → keeps s.fate ≡ false
       → Untried R p → Sits R K told box (got r [] p) s
-  passed_sits told box p s r h k u =
+  passed_sits told box p s r n h k u =
       sits_as R K told box (got r [] p) s s.fate refl h.rest_there h.opening h.up (counts_got r [] p h.counts) (λ e. clash (sym e ∙ k))
-      (caused_more r [] p s.fate k h.fate_fits)
+      (caused_more r [] p s.fate n k h.fate_fits)
       (λ a. let all = h.asked_all a in
       (all.0, complete_got r [] p (or_left (is_excused (Gets r []) p) (R.whole p.moves (Gets r [])) (excused_by r p s.fate k a h.fate_fits u)) all.1))
 
@@ -266,6 +267,7 @@ module _ {A W T : Type 0} (R : Rules A W) (K : List ℕ → List (Move A) → T 
         whole = ap (λ b. b && each_whole R p.moves) (h.whole refl) ∙ k.whole;
         knows = h.knows refl;
         running = running_got r behind p k.running;
+        memory = or_none (R.starves (Gets r behind)) p.starved h.why k.memory;
         owed = λ o. (h.untried, owes_by r behind p said s.owes (h.said_is refl) h.counts (λ q. (k.owed q).1) (sym h.owes ∙ o));
         offered = λ o m t.
             let parts = or_parts s.owes (nat_lt 0 (length said) || false) (sym h.owes ∙ o) in
@@ -283,7 +285,7 @@ module _ {A W T : Type 0} (R : Rules A W) (K : List ℕ → List (Move A) → T 
       (λ q. clash (sym q)) (or_left (R.starves (Gets r behind)) p.starved h.why) (λ q. clash (sym q))
   said_passes told box p r behind s s' said (Leaves reason.Starved) h k n e =
       sits_as R K told box (got r behind p) s' (Leaves reason.Starved) e h.has (λ _. h.op) h.opened (counts_got r behind p h.counts)
-      (λ q. clash (sym q)) (running_got r behind p h.keep.running) (λ q. clash (sym q))
+      (λ q. clash (sym q)) (running_got r behind p h.keep.running, or_none (R.starves (Gets r behind)) p.starved h.why h.keep.memory) (λ q. clash (sym q))
   said_passes told box p r behind s s' said (Leaves reason.Unread) h k n e = absurd h.why
   said_passes told box p r behind s s' said (Leaves reason.Ended) h k n e = absurd h.why
   said_passes told box p r behind s s' said (Leaves reason.Lost) h k n e = absurd h.why
@@ -294,14 +296,14 @@ module _ {A W T : Type 0} (R : Rules A W) (K : List ℕ → List (Move A) → T 
 
   -- what fits a kept fate goes on to fit it
   fits_got : (told : Option PortsTold) (box : List (ℕ × List ℕ)) (p : Part A) (r : Reply) (behind : List Entry) (s s' : Session T) (said : List ℕ) (f : Fate)
-      → Say told box p r behind s s' said Stays → keeps f ≡ true → FateFits R p f → length (answer_bytes R (Gets r behind ∷ p.moves)) ≤ p.took + 1048576 → FateFits R (got r behind p) f
+      → Say told box p r behind s s' said Stays → keeps f ≡ true → FateFits R p f → length (answer_bytes R (Gets r behind ∷ p.moves)) ≤ p.took + most_rest_bytes → FateFits R (got r behind p) f
   fits_got told box p r behind s s' said Stays h k fits l =
       let same : p.took ≡ p.had = h.counts.untaken h.untried in
       record {
         ended = fits.ended;
         lost = fits.lost;
         cut = or_none (is_cut {A = A} (Gets r behind)) p.cut h.uncut fits.cut;
-        full = le-ltb (p.had + 1048576) (length (answer_bytes R (Gets r behind ∷ p.moves))) (omega (arith, same, l));
+        full = le-ltb (p.had + most_rest_bytes) (length (answer_bytes R (Gets r behind ∷ p.moves))) (omega (arith, same, l));
         read = fits.read;
         sent = fits.sent;
         sends = fits.sends;
@@ -331,12 +333,12 @@ module _ {A W T : Type 0} (R : Rules A W) (K : List ℕ → List (Move A) → T 
   kept_is m old (Leaves reason.SendFailed) w k = absurd w
 
   said_holds : (told : Option PortsTold) (box : List (ℕ × List ℕ)) (p : Part A) (r : Reply) (behind : List Entry) (s s' : Session T) (said : List ℕ)
-      → Say told box p r behind s s' said Stays → keeps s.fate ≡ true → s'.fate ≡ s.fate → length (rest_in box s'.conn ++ said) ≤ 1048576
+      → Say told box p r behind s s' said Stays → keeps s.fate ≡ true → s'.fate ≡ s.fate → length (rest_in box s'.conn ++ said) ≤ most_rest_bytes
       → Sits R K told (put_rest box s'.conn (rest_in box s'.conn ++ said)) (got r behind p) s'
   said_holds told box p r behind s s' said h k e l =
       let box' = put_rest box s'.conn (rest_in box s'.conn ++ said) in
       let short = within R p.took (answer_bytes R p.moves) said (answer_bytes R (Gets r behind ∷ p.moves)) h.counts.low (text_is r behind p said (h.said_is refl))
-      (subst (λ (xs : List ℕ). length (xs ++ said) ≤ 1048576) h.keep.rest_is l) in
+      (subst (λ (xs : List ℕ). length (xs ++ said) ≤ most_rest_bytes) h.keep.rest_is l) in
       sits_as R K told box' (got r behind p) s' s.fate e (rest_in box s'.conn ++ said, at_put box s'.conn (rest_in box s'.conn ++ said) h.has) (λ _. h.op)
       (h.opened ∙ sym (keeps_up s.fate k)) (counts_got r behind p h.counts)
       (λ _. keeping_got told box box' p r behind s s' said h (holds_rest R K box s'.conn (rest_in box s'.conn ++ said) h.has))
@@ -344,19 +346,19 @@ module _ {A W T : Type 0} (R : Rules A W) (K : List ℕ → List (Move A) → T 
       (λ _. (h.keep.asked_all, complete_got r behind p (or_right (is_excused (Gets r behind) p) (R.whole p.moves (Gets r behind)) (h.whole refl)) h.complete))
 
   said_full : (told : Option PortsTold) (box : List (ℕ × List ℕ)) (p : Part A) (r : Reply) (behind : List Entry) (s s' : Session T) (said : List ℕ)
-      → Say told box p r behind s s' said Stays → s'.fate ≡ Leaves reason.Full → 1048576 < length (rest_in box s'.conn ++ said) → Sits R K told box (got r behind p) s'
+      → Say told box p r behind s s' said Stays → s'.fate ≡ Leaves reason.Full → most_rest_bytes < length (rest_in box s'.conn ++ said) → Sits R K told box (got r behind p) s'
   said_full told box p r behind s s' said h e l =
       let long = beyond R p.took (answer_bytes R p.moves) said (answer_bytes R (Gets r behind ∷ p.moves)) h.counts.low (text_is r behind p said (h.said_is refl))
-      (subst (λ (xs : List ℕ). 1048576 < length (xs ++ said)) h.keep.rest_is l) in
+      (subst (λ (xs : List ℕ). most_rest_bytes < length (xs ++ said)) h.keep.rest_is l) in
       let same : p.took ≡ p.had = h.counts.untaken h.untried in
       sits_as R K told box (got r behind p) s' (Leaves reason.Full) e h.has (λ _. h.op) h.opened (counts_got r behind p h.counts)
-      (λ q. clash (sym q)) (lt-ltb (p.had + 1048576) (length (answer_bytes R (Gets r behind ∷ p.moves))) (omega (arith, same, long))) (λ q. clash (sym q))
+      (λ q. clash (sym q)) (lt-ltb (p.had + most_rest_bytes) (length (answer_bytes R (Gets r behind ∷ p.moves))) (omega (arith, same, long))) (λ q. clash (sym q))
 
-  said_starves : (told : Option PortsTold) (box : List (ℕ × List ℕ)) (p : Part A) (r : Reply) (behind : List Entry) (s s' : Session T) (said : List ℕ) (f : Fate)
-      → Say told box p r behind s s' said f → s'.fate ≡ Leaves reason.Starved → Sits R K told box (got r behind p) s'
-  said_starves told box p r behind s s' said f h e =
+  said_starves : (told : Option PortsTold) (box : List (ℕ × List ℕ)) (p : Part A) (r : Reply) (behind : List Entry) (s s' : Session T) (said : List ℕ)
+      → Say told box p r behind s s' said Stays → s'.fate ≡ Leaves reason.Starved → Sits R K told box (got r behind p) s'
+  said_starves told box p r behind s s' said h e =
       sits_as R K told box (got r behind p) s' (Leaves reason.Starved) e h.has (λ _. h.op) h.opened (counts_got r behind p h.counts)
-      (λ q. clash (sym q)) (running_got r behind p h.keep.running) (λ q. clash (sym q))
+      (λ q. clash (sym q)) (running_got r behind p h.keep.running, or_none (R.starves (Gets r behind)) p.starved h.why h.keep.memory) (λ q. clash (sym q))
 
   said_by : (told : Option PortsTold) (box box' : List (ℕ × List ℕ)) (p : Part A) (r : Reply) (behind : List Entry) (s s' : Session T) (said : List ℕ) (f f' : Fate)
       → Say told box p r behind s s' said f → keeps s.fate ≡ true → s'.fate ≡ f' → Settles s'.conn said (worse s.fate f) f' box box' → Sits R K told box' (got r behind p) s'
@@ -370,8 +372,10 @@ module _ {A W T : Type 0} (R : Rules A W) (K : List ℕ → List (Move A) → T 
       let is = kept_is (Gets r behind) s.fate f h.why n in
       subst (λ (x : List (ℕ × List ℕ)). Sits R K told x (got r behind p) s') (sym b)
       (said_full told box p r behind s s' said (subst (Say told box p r behind s s' said) is h) (e ∙ q) l)
-  said_by told box box' p r behind s s' said f f' h k e (Starves n q b) =
-      subst (λ (x : List (ℕ × List ℕ)). Sits R K told x (got r behind p) s') (sym b) (said_starves told box p r behind s s' said f h (e ∙ q))
+  said_by told box box' p r behind s s' said f f' h k e (Starves n q b l) =
+      let is = kept_is (Gets r behind) s.fate f h.why n in
+      subst (λ (x : List (ℕ × List ℕ)). Sits R K told x (got r behind p) s') (sym b)
+      (said_starves told box p r behind s s' said (subst (Say told box p r behind s s' said) is h) (e ∙ q))
 
   -- a reply is answered
   answered_sits : (told : Option PortsTold) (box box' : List (ℕ × List ℕ)) (p : Part A) (s s' : Session T) (r : Reply) (mine mine' : List Entry)
@@ -432,7 +436,7 @@ module _ {A W T : Type 0} (R : Rules A W) (K : List ℕ → List (Move A) → T 
   got_none e start ss w r mine' alone h m n = (
     Got r [] ∷ ss,
     got_by e start w.told ss w r [] mine' w.sessions w.box h refl (m ∙ sym (append-nil (w.mine ++ Collect R.number (collected.Reply r) ∷ [])))
-        (alone r (part R ss r.conn.number).moves) refl refl
+        (alone r (part R ss r.conn.number).moves).0 refl refl
         (each_none (λ (s : Session T). Sits R K w.told w.box (part R ss s.conn) s) (λ (s : Session T). Sits R K w.told w.box (part R (Got r [] ∷ ss) s.conn) s) w.sessions r.conn.number
         h.stands.each n (λ x ne q. subst (λ (v : Part A). Sits R K w.told w.box v x) (sym (other_part ss r [] x.conn (λ e. ne (sym e)))) q)),
   )
@@ -461,13 +465,13 @@ module _ {A W T : Type 0} (R : Rules A W) (K : List ℕ → List (Move A) → T 
   got_one e start ss w r mine1 mine' i s s' box' alone h m at sc (Passed k me se be) =
       let sits = each_at (λ (x : Session T). Sits R K w.told w.box (part R ss x.conn) x) w.sessions i s at h.stands.each in
       got_at e start ss w r [] mine' i s s' box' h (me ∙ m ∙ sym (append-nil (w.mine ++ Collect R.number (collected.Reply r) ∷ []))) at sc (ap (λ (x : Session T). x.conn) se)
-      (alone r (part R ss s.conn).moves) (ap keys be) (λ d n. ap (λ (x : List (ℕ × List ℕ)). rest_at x d) be)
+      (alone r (part R ss s.conn).moves).0 (ap keys be) (λ d n. ap (λ (x : List (ℕ × List ℕ)). rest_at x d) be)
       (subst (λ (x : Session T). Sits R K w.told box' (got r [] (part R ss s.conn)) x) (sym se)
-      (subst (λ (x : List (ℕ × List ℕ)). Sits R K w.told x (got r [] (part R ss s.conn)) s) (sym be) (passed_sits w.told w.box (part R ss s.conn) s r sits k (untried R ss s.conn h.stands.sound (gathers_at e (phase ss) h.time)))))
+      (subst (λ (x : List (ℕ × List ℕ)). Sits R K w.told x (got r [] (part R ss s.conn)) s) (sym be) (passed_sits w.told w.box (part R ss s.conn) s r (alone r (part R ss s.conn).moves).1 sits k (untried R ss s.conn h.stands.sound (gathers_at e (phase ss) h.time)))))
   got_one e start ss w r mine1 mine' i s s' box' alone h m at sc (Cuts k oe me se be) =
       let sits = each_at (λ (x : Session T). Sits R K w.told w.box (part R ss x.conn) x) w.sessions i s at h.stands.each in
       got_at e start ss w r [] mine' i s s' box' h (me ∙ m ∙ sym (append-nil (w.mine ++ Collect R.number (collected.Reply r) ∷ []))) at sc (ap (λ (x : Session T). x.conn) se)
-      (alone r (part R ss s.conn).moves) (ap keys be) (λ d n. ap (λ (x : List (ℕ × List ℕ)). rest_at x d) be)
+      (alone r (part R ss s.conn).moves).0 (ap keys be) (λ d n. ap (λ (x : List (ℕ × List ℕ)). rest_at x d) be)
       (subst (λ (x : Session T). Sits R K w.told box' (got r [] (part R ss s.conn)) x) (sym se)
       (subst (λ (x : List (ℕ × List ℕ)). Sits R K w.told x (got r [] (part R ss s.conn)) (record s { fate = Leaves reason.Cut })) (sym be)
       (cut_sits w.told w.box (part R ss s.conn) s r sits k oe)))
@@ -532,7 +536,7 @@ module _ {A W T : Type 0} (R : Rules A W) (K : List ℕ → List (Move A) → T 
   called_fits p (Leaves reason.SentWhole) h = h
   called_fits p (Leaves reason.SendFailed) h = h
   called_fits p (Leaves reason.NoMemory) h = h
-  called_fits p (Leaves reason.Starved) h = record { ended = h.ended; lost = h.lost; sends = h.sends; sent = h.sent }
+  called_fits p (Leaves reason.Starved) h = (record { ended = h.0.ended; lost = h.0.lost; sends = h.0.sends; sent = h.0.sent }, h.1)
 
   called_sits : (told : Option PortsTold) (box : List (ℕ × List ℕ)) (p : Part A) (s : Session T) → Sits R K told box p s → p.tried ≡ false
       → Sits R K told box (record p { called = true }) (woken s)
@@ -540,7 +544,7 @@ module _ {A W T : Type 0} (R : Rules A W) (K : List ℕ → List (Move A) → T 
       sits_as R K told box (record p { called = true }) (woken s) s.fate refl h.rest_there h.opening h.up
       (record { low = h.counts.low; before = h.counts.before; more = h.counts.more; untaken = h.counts.untaken })
       (λ e. let k = h.keeping e in
-      record { rest_is = k.rest_is; asked_all = k.asked_all; whole = k.whole; knows = k.knows; running = record { ended = k.running.ended; lost = k.running.lost; sends = k.running.sends; sent = k.running.sent }; owed = λ _. (u, refl); offered = λ q. clash q })
+      record { rest_is = k.rest_is; asked_all = k.asked_all; whole = k.whole; knows = k.knows; running = record { ended = k.running.ended; lost = k.running.lost; sends = k.running.sends; sent = k.running.sent }; memory = k.memory; owed = λ _. (u, refl); offered = λ q. clash q })
       (called_fits p s.fate h.fate_fits) h.asked_all
 
   pub through_stopped : (e : PortEvent) (start : Option PortsTold) (ss : List (Step A)) (w : World T) (mine' : List Entry) → Collects R K e start ss w

@@ -1,6 +1,7 @@
 -- One session, as a piece is heard on it.
 use Rattle.std.proofs.Common.{◌≡◌, ◌<◌, ◌≤◌, ◌+◌, ℕ, true, false, ◌||◌, List, ◌++◌, length, Option, refl, sym, ap, subst, ◌∙◌, arith, nat_lt, length-append}
 use Rattle.std.proofs.lemmas.Bool.{lt-ltb, le-ltb}
+use Rattle.farm_base.specs.Limits.{most_rest_bytes}
 use Rattle.port_trait.specs.Told.{PortsTold, IsOpen}
 use Rattle.port_trait.specs.Boxes.{put_rest, HasRest, rest_in, rest_of}
 use Rattle.farm_history.specs.Entries.{Entry}
@@ -48,6 +49,19 @@ module _ {A W T : Type 0} (R : Rules A W) (K : List ℕ → List (Move A) → T 
       ∙ ap (λ b. b || R.refuses given) (grew_by (length (answer_bytes R p.moves)) (length said))
       ∙ ap (λ b. nat_lt 0 (length said) || b) r
 
+  -- no entry of requests that keep their session says that memory is wanting
+  unstarved : (given : List ℕ) (acts : List A) (f : Fate) → keeps f ≡ true → HeardWhy R given (does acts) f → (any_starves R (does acts) || false) ≡ false
+  unstarved given acts Stays k w = or_none (any_starves R (does acts)) false w.1 refl
+  unstarved given acts (Leaves reason.Unread) k w = or_none (any_starves R (does acts)) false w.1 refl
+  unstarved given acts (Leaves reason.NoMemory) k w = clash (sym k)
+  unstarved given acts (Leaves reason.Starved) k w = clash (sym k)
+  unstarved given acts (Leaves reason.Ended) k w = clash (sym k)
+  unstarved given acts (Leaves reason.Lost) k w = clash (sym k)
+  unstarved given acts (Leaves reason.Cut) k w = clash (sym k)
+  unstarved given acts (Leaves reason.Full) k w = clash (sym k)
+  unstarved given acts (Leaves reason.SentWhole) k w = clash (sym k)
+  unstarved given acts (Leaves reason.SendFailed) k w = clash (sym k)
+
   keeping_then : (told : Option PortsTold) (box box' : List (ℕ × List ℕ)) (p : Part A) (acts : List A) (given : List ℕ) (s' : Session T) (said : List ℕ) (f : Fate)
       → Hear told box box' p acts given s' said f → keeps f ≡ true → R.refuses given ≡ is_unread f → rest_in box' s'.conn ≡ rest_in box s'.conn ++ said
       → Keeping R K (after_it p acts given) s' (rest_in box' s'.conn)
@@ -59,6 +73,7 @@ module _ {A W T : Type 0} (R : Rules A W) (K : List ℕ → List (Move A) → T 
         whole = h.whole k;
         knows = h.knows k;
         running = record { ended = refl; lost = refl; sends = refl; sent = refl };
+        memory = unstarved given acts f k h.why;
         owed = λ o. (refl, must_is ∙ sym h.owes ∙ o);
         offered = λ o m t. clash (sym m ∙ must_is ∙ sym h.owes ∙ o);
       }
@@ -72,7 +87,7 @@ module _ {A W T : Type 0} (R : Rules A W) (K : List ℕ → List (Move A) → T 
       (λ q. clash (sym q)) (or_left (any_starves R (does acts)) false h.why) (λ q. clash (sym q))
   heard_passes told box p acts given s' said (Leaves reason.Starved) h k e =
       sits_as R K told box (after_it p acts given) s' (Leaves reason.Starved) e h.has (λ _. h.op) refl (counts_then p acts given h.counts)
-      (λ q. clash (sym q)) (record { ended = refl; lost = refl; sends = refl; sent = refl }) (λ q. clash (sym q))
+      (λ q. clash (sym q)) (record { ended = refl; lost = refl; sends = refl; sent = refl }, or_none (any_starves R (does acts)) false h.why refl) (λ q. clash (sym q))
   heard_passes told box p acts given s' said (Leaves reason.Ended) h k e = absurd h.why
   heard_passes told box p acts given s' said (Leaves reason.Lost) h k e = absurd h.why
   heard_passes told box p acts given s' said (Leaves reason.Cut) h k e = absurd h.why
@@ -85,12 +100,12 @@ module _ {A W T : Type 0} (R : Rules A W) (K : List ℕ → List (Move A) → T 
 
   heard_holds : (told : Option PortsTold) (box : List (ℕ × List ℕ)) (p : Part A) (acts : List A) (given : List ℕ) (s' : Session T) (said : List ℕ) (f : Fate)
       → Hear told box (put_rest box s'.conn (rest_in box s'.conn ++ said)) p acts given s' said f → keeps f ≡ true → s'.fate ≡ f
-      → length (rest_in box s'.conn ++ said) ≤ 1048576
+      → length (rest_in box s'.conn ++ said) ≤ most_rest_bytes
       → Sits R K told (put_rest box s'.conn (rest_in box s'.conn ++ said)) (after_it p acts given) s'
   heard_holds told box p acts given s' said Stays h k e l =
       let box' = put_rest box s'.conn (rest_in box s'.conn ++ said) in
       let short = within R p.took (answer_bytes R p.moves) said (answer_bytes R (does acts ++ p.moves)) h.counts.low (h.said_is refl)
-      (subst (λ (xs : List ℕ). length (xs ++ said) ≤ 1048576) h.rest_is l) in
+      (subst (λ (xs : List ℕ). length (xs ++ said) ≤ most_rest_bytes) h.rest_is l) in
       sits_as R K told box' (after_it p acts given) s' Stays e (rest_in box s'.conn ++ said, at_put box s'.conn (rest_in box s'.conn ++ said) h.has) (λ _. h.op) refl
       (counts_then p acts given h.counts)
       (λ _. keeping_then told box box' p acts given s' said Stays h refl h.why.0 (holds_rest box s'.conn (rest_in box s'.conn ++ said) h.has))
@@ -98,7 +113,7 @@ module _ {A W T : Type 0} (R : Rules A W) (K : List ℕ → List (Move A) → T 
         ended = refl;
         lost = refl;
         cut = refl;
-        full = le-ltb (p.took + 1048576) (length (answer_bytes R (does acts ++ p.moves))) short;
+        full = le-ltb (p.took + most_rest_bytes) (length (answer_bytes R (does acts ++ p.moves))) short;
         read = h.why.0;
         sent = refl;
         sends = refl;
@@ -121,19 +136,19 @@ module _ {A W T : Type 0} (R : Rules A W) (K : List ℕ → List (Move A) → T 
   heard_holds told box p acts given s' said (Leaves reason.SendFailed) h k e l = clash (sym k)
 
   heard_full : (told : Option PortsTold) (box : List (ℕ × List ℕ)) (p : Part A) (acts : List A) (given : List ℕ) (s' : Session T) (said : List ℕ) (f : Fate)
-      → Hear told box box p acts given s' said f → keeps f ≡ true → s'.fate ≡ Leaves reason.Full → 1048576 < length (rest_in box s'.conn ++ said)
+      → Hear told box box p acts given s' said f → keeps f ≡ true → s'.fate ≡ Leaves reason.Full → most_rest_bytes < length (rest_in box s'.conn ++ said)
       → Sits R K told box (after_it p acts given) s'
   heard_full told box p acts given s' said f h k e l =
       let long = beyond R p.took (answer_bytes R p.moves) said (answer_bytes R (does acts ++ p.moves)) h.counts.low (h.said_is k)
-      (subst (λ (xs : List ℕ). 1048576 < length (xs ++ said)) h.rest_is l) in
+      (subst (λ (xs : List ℕ). most_rest_bytes < length (xs ++ said)) h.rest_is l) in
       sits_as R K told box (after_it p acts given) s' (Leaves reason.Full) e h.has (λ _. h.op) refl (counts_then p acts given h.counts)
-      (λ q. clash (sym q)) (lt-ltb (p.took + 1048576) (length (answer_bytes R (does acts ++ p.moves))) long) (λ q. clash (sym q))
+      (λ q. clash (sym q)) (lt-ltb (p.took + most_rest_bytes) (length (answer_bytes R (does acts ++ p.moves))) long) (λ q. clash (sym q))
 
   heard_starves : (told : Option PortsTold) (box : List (ℕ × List ℕ)) (p : Part A) (acts : List A) (given : List ℕ) (s' : Session T) (said : List ℕ) (f : Fate)
-      → Hear told box box p acts given s' said f → s'.fate ≡ Leaves reason.Starved → Sits R K told box (after_it p acts given) s'
-  heard_starves told box p acts given s' said f h e =
+      → Hear told box box p acts given s' said f → keeps f ≡ true → s'.fate ≡ Leaves reason.Starved → Sits R K told box (after_it p acts given) s'
+  heard_starves told box p acts given s' said f h k e =
       sits_as R K told box (after_it p acts given) s' (Leaves reason.Starved) e h.has (λ _. h.op) refl (counts_then p acts given h.counts)
-      (λ q. clash (sym q)) (record { ended = refl; lost = refl; sends = refl; sent = refl }) (λ q. clash (sym q))
+      (λ q. clash (sym q)) (record { ended = refl; lost = refl; sends = refl; sent = refl }, unstarved given acts f k h.why) (λ q. clash (sym q))
 
   heard_by : (told : Option PortsTold) (box box' : List (ℕ × List ℕ)) (p : Part A) (acts : List A) (given : List ℕ) (s' : Session T) (said : List ℕ) (f f' : Fate)
       → ((b : List (ℕ × List ℕ)) → Hear told box b p acts given s' said f) → s'.fate ≡ f' → Settles s'.conn said f f' box box'
@@ -144,8 +159,8 @@ module _ {A W T : Type 0} (R : Rules A W) (K : List ℕ → List (Move A) → T 
       subst (λ (x : List (ℕ × List ℕ)). Sits R K told x (after_it p acts given) s') (sym b) (heard_holds told box p acts given s' said f (h (put_rest box s'.conn (rest_in box s'.conn ++ said))) k (e ∙ q) l)
   heard_by told box box' p acts given s' said f f' h e (Overflows k q b l) =
       subst (λ (x : List (ℕ × List ℕ)). Sits R K told x (after_it p acts given) s') (sym b) (heard_full told box p acts given s' said f (h box) k (e ∙ q) l)
-  heard_by told box box' p acts given s' said f f' h e (Starves k q b) =
-      subst (λ (x : List (ℕ × List ℕ)). Sits R K told x (after_it p acts given) s') (sym b) (heard_starves told box p acts given s' said f (h box) (e ∙ q))
+  heard_by told box box' p acts given s' said f f' h e (Starves k q b l) =
+      subst (λ (x : List (ℕ × List ℕ)). Sits R K told x (after_it p acts given) s') (sym b) (heard_starves told box p acts given s' said f (h box) k (e ∙ q))
 
   -- what was heard
   pub heard_of : (was : Option PortsTold) (box box' : List (ℕ × List ℕ)) (p : Part A) (s s' : Session T) (piece : List ℕ) (mine mine' : List Entry)

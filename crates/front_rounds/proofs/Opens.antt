@@ -2,6 +2,7 @@
 use Rattle.std.proofs.Common.{◌≡◌, ◌==◌, ◌<◌, ◌+◌, ◌-◌, ◌^◌, ℕ, suc, Bool, true, false, ◌&&◌, cond, List, [], ◌∷◌, ◌++◌, length, min, Option, Some, None, option_map, IfSome, refl, sym, ap, subst, ◌∙◌, arith, nat_lt}
 use Rattle.std.proofs.Math.Bool.{and-false}
 use Rattle.std.proofs.lemmas.Bool.{eqb-true, le-ltb}
+use Rattle.farm_base.specs.Limits.{most_rest_bytes, most_sessions}
 use Rattle.farm_history.specs.Entries.{Entry}
 use Rattle.port_trait.specs.declared.events.PortEvent.TheVariants as event
 use Rattle.port_trait.specs.Told.{PortsTold, IsOpen, MayCome, heard, after_close}
@@ -50,7 +51,7 @@ length_conns (x ∷ xs) = ap (λ n. suc n) (length_conns xs)
 module _ {A W T : Type 0} (R : Rules A W) (K : List ℕ → List (Move A) → T → Type 0) where
   -- it got no session
   pub refused : (c : ℕ) (piece : List ℕ) (start told told' : Option PortsTold) (w : World T) (starved' : ℕ) → (m : Comes R K (event.Opened c) piece start told w)
-      → told' ≡ option_map (after_close c) told → starved' ≡ cond (nat_lt (length w.sessions) 1024) (min (w.starved + 1) (2 ^ 64 - 1)) w.starved
+      → told' ≡ option_map (after_close c) told → starved' ≡ cond (nat_lt (length w.sessions) most_sessions) (min (w.starved + 1) (2 ^ 64 - 1)) w.starved
       → HasBegun R K (event.Opened c) start (record w { told = told'; starved = starved' })
   refused c piece start told told' w starved' m t n =
       let st = m.can.stands in
@@ -66,8 +67,8 @@ module _ {A W T : Type 0} (R : Rules A W) (K : List ℕ → List (Move A) → T 
           conns_are = st.conns_are;
           keys_are = st.keys_are;
           sound = (record { time = m.can.time; begins = tt; before = all_kept R K start m.steps w st m.can.rested; room = λ h. clash (sym h) }, st.sound);
-          counted = n ∙ count_refused (nat_lt (length w.sessions) 1024) (starved_in m.steps) (2 ^ 64 - 1) w.starved st.counted
-              ∙ ap (λ k. min (cond (nat_lt k 1024) (starved_in m.steps + 1) (starved_in m.steps)) (2 ^ 64 - 1)) (sym (length_conns w.sessions) ∙ ap length st.conns_are);
+          counted = n ∙ count_refused (nat_lt (length w.sessions) most_sessions) (starved_in m.steps) (2 ^ 64 - 1) w.starved st.counted
+              ∙ ap (λ k. min (cond (nat_lt k most_sessions) (starved_in m.steps + 1) (starved_in m.steps)) (2 ^ 64 - 1)) (sym (length_conns w.sessions) ∙ ap length st.conns_are);
           apart = st.apart;
           each = each_weaker (Resting R K w.told w.box m.steps) (λ (x : Session T). Sits R K told' w.box (part R ss x.conn) x) w.sessions
               (λ x q. subst (λ (v : Part A). Sits R K told' w.box v x)
@@ -91,15 +92,16 @@ module _ {A W T : Type 0} (R : Rules A W) (K : List ℕ → List (Move A) → T 
         whole = refl;
         knows = b.knows;
         running = record { ended = refl; lost = refl; sends = refl; sent = refl };
+        memory = refl;
         owed = λ e. clash (sym e);
         offered = λ _ m t. clash (sym m ∙ or_none (nat_lt 0 0) (R.refuses []) refl b.read);
       })
-      (record { ended = refl; lost = refl; cut = refl; full = le-ltb (0 + 1048576) 0 (omega arith); read = b.read; sent = refl; sends = refl; memory = refl })
+      (record { ended = refl; lost = refl; cut = refl; full = le-ltb (0 + most_rest_bytes) 0 (omega arith); read = b.read; sent = refl; sends = refl; memory = refl })
       (λ _. (b.wanted, refl))
 
   -- it got one
   pub admitted : (c : ℕ) (piece : List ℕ) (start told : Option PortsTold) (w : World T) (talk : T) → (m : Comes R K (event.Opened c) piece start told w) → Begins R K talk
-      → length w.sessions < 1024 → has (conns w.sessions) c ≡ false
+      → length w.sessions < most_sessions → has (conns w.sessions) c ≡ false
       → HasBegun R K (event.Opened c) start (record w { told = told; sessions = w.sessions ++ newcomer c talk ∷ []; box = w.box ++ (c, []) ∷ [] })
   admitted c piece start told w talk m b l n =
       let st = m.can.stands in
@@ -146,14 +148,14 @@ module _ {A W T : Type 0} (R : Rules A W) (K : List ℕ → List (Move A) → T 
 
   pub opened_no : (c : ℕ) (piece : List ℕ) (start told told' was : Option PortsTold) (mine : List Entry) (old mid new : SessionTable T) → Comes R K (event.Opened c) piece start told (world was mine old)
       → Admits R K c old mid false → told' ≡ option_map (after_close c) told → new.sessions.items ≡ mid.sessions.items → new.outbox ≡ mid.outbox
-      → new.starved ≡ cond (nat_lt (length mid.sessions.items) 1024) (min (mid.starved + 1) (2 ^ 64 - 1)) mid.starved
+      → new.starved ≡ cond (nat_lt (length mid.sessions.items) most_sessions) (min (mid.starved + 1) (2 ^ 64 - 1)) mid.starved
       → HasBegun R K (event.Opened c) start (world told' mine new)
   opened_no c piece start told told' was mine old mid new m (se, be, te) t sn bn tn =
       subst (λ (v : List (Session T)). HasBegun R K (event.Opened c) start (record { told = told'; mine = mine; sessions = v; box = new.outbox; starved = new.starved })) (sym (sn ∙ se))
       (subst (λ (v : List (ℕ × List ℕ)). HasBegun R K (event.Opened c) start (record { told = told'; mine = mine; sessions = old.sessions.items; box = v; starved = new.starved })) (sym (bn ∙ be))
       (refused c piece start told told' (world was mine old) new.starved m t
-      (tn ∙ ap (λ (xs : List (Session T)). cond (nat_lt (length xs) 1024) (min (mid.starved + 1) (2 ^ 64 - 1)) mid.starved) se
-      ∙ ap (λ (n : ℕ). cond (nat_lt (length old.sessions.items) 1024) (min (n + 1) (2 ^ 64 - 1)) n) te)))
+      (tn ∙ ap (λ (xs : List (Session T)). cond (nat_lt (length xs) most_sessions) (min (mid.starved + 1) (2 ^ 64 - 1)) mid.starved) se
+      ∙ ap (λ (n : ℕ). cond (nat_lt (length old.sessions.items) most_sessions) (min (n + 1) (2 ^ 64 - 1)) n) te)))
 
   -- the outbox has the connections of the sessions
   pub opened_keys : (c : ℕ) (piece : List ℕ) (start told : Option PortsTold) (w : World T) → Comes R K (event.Opened c) piece start told w → keys w.box ≡ conns w.sessions

@@ -4,6 +4,7 @@ use Rattle.std.proofs.Math.Bool.{and_assoc}
 use Rattle.std.proofs.lemmas.Bool.{ltb-false, lt-ltb, le-ltb}
 use Rattle.std.proofs.lemmas.Bool.Decides.{nat_tests}
 use Rattle.std.proofs.lemmas.List.{drop-append-le, length-drop}
+use Rattle.farm_base.specs.Limits.{most_rest_bytes}
 use Rattle.port_trait.specs.Told.{PortsTold, IsOpen}
 use Rattle.port_trait.specs.Boxes.{rest_at, HasRest, rest_in, rest_of}
 use Rattle.front_rounds.specs.declared.fates.Fate.{Fate}
@@ -119,16 +120,16 @@ module _ {A W : Type 0} (R : Rules A W) where
   due_grows took before said now l e = ap (drop took) e ∙ drop-append-le took before said l
 
   -- a rest within its limit
-  pub within : (took : ℕ) (before said now : List ℕ) → took ≤ length before → now ≡ before ++ said → length (drop took before ++ said) ≤ 1048576
-      → length now ≤ took + 1048576
+  pub within : (took : ℕ) (before said now : List ℕ) → took ≤ length before → now ≡ before ++ said → length (drop took before ++ said) ≤ most_rest_bytes
+      → length now ≤ took + most_rest_bytes
   within took before said now l e h =
       let a = length-append (drop took before) said in
       let b = length-drop took before in
       let c = ap length e ∙ length-append before said in
       omega (arith, a, b, c, h, l)
 
-  pub beyond : (took : ℕ) (before said now : List ℕ) → took ≤ length before → now ≡ before ++ said → 1048576 < length (drop took before ++ said)
-      → took + 1048576 < length now
+  pub beyond : (took : ℕ) (before said now : List ℕ) → took ≤ length before → now ≡ before ++ said → most_rest_bytes < length (drop took before ++ said)
+      → took + most_rest_bytes < length now
   beyond took before said now l e h =
       let a = length-append (drop took before) said in
       let b = length-drop took before in
@@ -173,9 +174,9 @@ module _ {A W T : Type 0} (R : Rules A W) (K : List ℕ → List (Move A) → T 
 
   -- the rest of a session at rest is within its limit
   small_of : (told : Option PortsTold) (box : List (ℕ × List ℕ)) (p : Part A) (s : Session T) → Sits R K told box p s → IsAtRest s
-      → length (answer_bytes R p.moves) ≤ p.took + 1048576
+      → length (answer_bytes R p.moves) ≤ p.took + most_rest_bytes
   small_of told box p s h r =
-      let full = ltb-false (p.had + 1048576) (length (answer_bytes R p.moves)) (calm_of told box p s h r).full in
+      let full = ltb-false (p.had + most_rest_bytes) (length (answer_bytes R p.moves)) (calm_of told box p s h r).full in
       let more = h.counts.more in
       omega (arith, full, more)
 
@@ -188,7 +189,7 @@ module _ {A W T : Type 0} (R : Rules A W) (K : List ℕ → List (Move A) → T 
     ended = refl;
     lost = refl;
     cut = refl;
-    full = le-ltb (p.took + 1048576) (length (answer_bytes R p.moves)) (small_of told box p s h r);
+    full = le-ltb (p.took + most_rest_bytes) (length (answer_bytes R p.moves)) (small_of told box p s h r);
     read = (calm_of told box p s h r).read;
     sent = refl;
     sends = refl;
@@ -210,6 +211,7 @@ module _ {A W T : Type 0} (R : Rules A W) (K : List ℕ → List (Move A) → T 
         whole = k.whole;
         knows = k.knows;
         running = record { ended = refl; lost = refl; sends = refl; sent = refl };
+        memory = refl;
         owed = λ e. clash (sym e ∙ r.1);
         offered = λ _ m t. clash (sym m ∙ quiet);
       })
@@ -228,6 +230,7 @@ module _ {A W T : Type 0} (R : Rules A W) (K : List ℕ → List (Move A) → T 
         whole = k.whole;
         knows = k.knows;
         running = record { ended = refl; lost = refl; sends = refl; sent = refl };
+        memory = refl;
         owed = λ e. (refl, refl);
         offered = λ e. clash e;
       })

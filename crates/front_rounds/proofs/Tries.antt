@@ -84,6 +84,7 @@ module _ {A W T : Type 0} (R : Rules A W) (K : List ℕ → List (Move A) → T 
         whole = kept.whole;
         knows = kept.knows;
         running = kept.running;
+        memory = kept.memory;
         owed = λ e. clash (sym e);
         offered = λ _ m t. sym kept.rest_is ∙ no_bytes (rest_in box s.conn) z;
       })
@@ -120,6 +121,7 @@ module _ {A W T : Type 0} (R : Rules A W) (K : List ℕ → List (Move A) → T 
         whole = kept.whole;
         knows = kept.knows;
         running = record { ended = kept.running.ended; lost = kept.running.lost; sends = refl; sent = e };
+        memory = kept.memory;
         owed = λ q. clash (sym q);
         offered = λ _ m t. clash t;
       })
@@ -148,7 +150,7 @@ module _ {A W T : Type 0} (R : Rules A W) (K : List ℕ → List (Move A) → T 
       → Sits R K told box p (given s (Leaves reason.Starved))
   lacked_sits told box p s h k =
       sits_as R K told box p (given s (Leaves reason.Starved)) (Leaves reason.Starved) refl h.rest_there
-      (λ _. h.opening (keeps_up s.fate k)) (h.up ∙ keeps_up s.fate k) h.counts (λ q. clash (sym q)) (h.keeping k).running (λ q. clash (sym q))
+      (λ _. h.opening (keeps_up s.fate k)) (h.up ∙ keeps_up s.fate k) h.counts (λ q. clash (sym q)) ((h.keeping k).running, (h.keeping k).memory) (λ q. clash (sym q))
 
   -- one session changed, and no step was made
   unstepped : (e : PortEvent) (stopped : Bool) (start : Option PortsTold) (w : World T) (i : ℕ) (s s' : Session T) → (h : CanOffer R K e stopped start w) → StandsAt w.sessions i s

@@ -91,13 +91,13 @@ pub settles_keys : (c : ℕ) (said : List ℕ) (f f' : Fate) (box box' : List (�
 settles_keys c said f f' box box' (Passes k q b) = ap keys b
 settles_keys c said f f' box box' (Holds k q b l) = ap keys b ∙ keys_put box c (rest_in box c ++ said)
 settles_keys c said f f' box box' (Overflows k q b l) = ap keys b
-settles_keys c said f f' box box' (Starves k q b) = ap keys b
+settles_keys c said f f' box box' (Starves k q b l) = ap keys b
 
 pub settles_other : (c : ℕ) (said : List ℕ) (f f' : Fate) (box box' : List (ℕ × List ℕ)) (d : ℕ) → Settles c said f f' box box' → (c ≡ d → ⊥) → rest_at box' d ≡ rest_at box d
 settles_other c said f f' box box' d (Passes k q b) n = ap (λ (x : List (ℕ × List ℕ)). rest_at x d) b
 settles_other c said f f' box box' d (Holds k q b l) n = ap (λ (x : List (ℕ × List ℕ)). rest_at x d) b ∙ other_put box c (rest_in box c ++ said) d n
 settles_other c said f f' box box' d (Overflows k q b l) n = ap (λ (x : List (ℕ × List ℕ)). rest_at x d) b
-settles_other c said f f' box box' d (Starves k q b) n = ap (λ (x : List (ℕ × List ℕ)). rest_at x d) b
+settles_other c said f f' box box' d (Starves k q b l) n = ap (λ (x : List (ℕ × List ℕ)). rest_at x d) b
 
 module _ {A W : Type 0} (R : Rules A W) where
   -- parts as a round begins

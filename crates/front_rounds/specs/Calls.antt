@@ -1,7 +1,7 @@
 -- The words of a front's calls on the farm: what contracts know of a seat, and what a turn leaves of it.
 use Rattle.std.specs.Prelude.{◌≡◌, ℕ, Bool, true, List, [], ◌∷◌, ◌++◌, Result, Ok, Err}
 use Rattle.farm_history.specs.Entries.{Entry}
-use Rattle.front_rounds.specs.declared.farm.Worn.{Worn}
+use Rattle.farm_base.specs.declared.turns.Worn.{Worn}
 
 -- what contracts know of a farm's seats: S is a seat, P what stays of it over its turns
 pub record Seats (S P : Type 0) : Type 1 where

@@ -2,7 +2,7 @@
 use Rattle.std.specs.Prelude.{◌≡◌, ℕ, Bool, true, false, List, [], ◌∷◌, ◌++◌, Result, Ok, Err}
 use Rattle.farm_history.specs.declared.queues.Reply.{Reply}
 use Rattle.farm_history.specs.Entries.{Entry}
-use Rattle.front_rounds.specs.declared.farm.Worn.{Worn}
+use Rattle.farm_base.specs.declared.turns.Worn.{Worn}
 use Rattle.front_rounds.specs.declared.fates.Fate.{Fate}
 use Rattle.front_rounds.specs.declared.fates.Fate.TheVariants.{Stays, Leaves}
 use Rattle.front_rounds.specs.declared.fates.Reason.TheVariants as reason
@@ -12,14 +12,7 @@ use Rattle.front_rounds.specs.Rules.{Rules, Move, Does, Gets, wants_of, answer_b
 abbrev pub keeps : Fate → Bool
 keeps Stays = true
 keeps (Leaves reason.Unread) = true
-keeps (Leaves reason.Ended) = false
-keeps (Leaves reason.Lost) = false
-keeps (Leaves reason.Cut) = false
-keeps (Leaves reason.Full) = false
-keeps (Leaves reason.SentWhole) = false
-keeps (Leaves reason.SendFailed) = false
-keeps (Leaves reason.NoMemory) = false
-keeps (Leaves reason.Starved) = false
+keeps (Leaves _) = false
 
 -- a worn turn ends the connection's part, of which nothing more is said
 abbrev pub fate_of : Result Fate Worn → Fate
@@ -47,29 +40,20 @@ module _ {A W : Type 0} (R : Rules A W) where
   HeardWhy given new Stays = (R.refuses given ≡ false) × (any_starves R new ≡ false)
   HeardWhy given new (Leaves reason.Unread) = (R.refuses given ≡ true) × (any_starves R new ≡ false)
   HeardWhy given new (Leaves reason.NoMemory) = any_starves R new ≡ true
-  HeardWhy given new (Leaves reason.Starved) = Unit {0}
-  HeardWhy given new (Leaves reason.Ended) = ⊥
-  HeardWhy given new (Leaves reason.Lost) = ⊥
-  HeardWhy given new (Leaves reason.Cut) = ⊥
-  HeardWhy given new (Leaves reason.Full) = ⊥
-  HeardWhy given new (Leaves reason.SentWhole) = ⊥
-  HeardWhy given new (Leaves reason.SendFailed) = ⊥
+  HeardWhy given new (Leaves reason.Starved) = any_starves R new ≡ false
+  HeardWhy given new (Leaves _) = ⊥
 
+  -- after a reply, it stays or is left for want of memory
   abbrev pub RepliedWhy : Move A → Fate → Type 0
   RepliedWhy m Stays = R.starves m ≡ false
   RepliedWhy m (Leaves reason.NoMemory) = R.starves m ≡ true
-  RepliedWhy m (Leaves reason.Starved) = Unit {0}
-  RepliedWhy m (Leaves reason.Unread) = ⊥
-  RepliedWhy m (Leaves reason.Ended) = ⊥
-  RepliedWhy m (Leaves reason.Lost) = ⊥
-  RepliedWhy m (Leaves reason.Cut) = ⊥
-  RepliedWhy m (Leaves reason.Full) = ⊥
-  RepliedWhy m (Leaves reason.SentWhole) = ⊥
-  RepliedWhy m (Leaves reason.SendFailed) = ⊥
+  RepliedWhy m (Leaves reason.Starved) = R.starves m ≡ false
+  RepliedWhy m (Leaves _) = ⊥
 
-  -- A reply to a connection whose front doesn't hear it any more stands alone: nothing is wrong with that.
+  -- A reply to a connection whose front doesn't hear it any more stands alone: nothing is wrong with that, and no
+  -- entry of it says that memory is wanting.
   abbrev pub MayStandAlone : Type 0
-  MayStandAlone = (reply : Reply) (ms : List (Move A)) → R.fits ms (Gets reply []) ≡ true
+  MayStandAlone = (reply : Reply) (ms : List (Move A)) → (R.fits ms (Gets reply []) ≡ true) × (R.starves (Gets reply []) ≡ false)
 
 module _ {A W T : Type 0} (R : Rules A W) (K : List ℕ → List (Move A) → T → Type 0) where
   -- a new session
@@ -91,6 +75,7 @@ module _ {A W T : Type 0} (R : Rules A W) (K : List ℕ → List (Move A) → T 
     pub whole : keeps fate ≡ true → each_whole R (does acts ++ ms) ≡ true
     pub knows : keeps fate ≡ true → K (given ++ piece) (does acts ++ ms) talk'
 
+  -- hearing a piece on a connection of which the front keeps what is right
   abbrev pub Hears : ℕ → List ℕ → List Entry → List Entry → T → T → List ℕ → Fate → Type 0
   Hears c piece mine mine' talk talk' said fate =
       (given : List ℕ) (ms : List (Move A)) → K given ms talk → R.wanted given (wants_of R ms) → each_whole R ms ≡ true → R.refuses given ≡ false
@@ -106,6 +91,7 @@ module _ {A W T : Type 0} (R : Rules A W) (K : List ℕ → List (Move A) → T 
     pub whole : keeps fate ≡ true → R.whole ms (Gets reply behind) ≡ true
     pub knows : keeps fate ≡ true → K given (Gets reply behind ∷ ms) talk'
 
+  -- taking a reply on one
   abbrev pub Replies : Reply → List Entry → List Entry → T → T → List ℕ → Fate → Type 0
   Replies reply mine mine' talk talk' said fate =
       (given : List ℕ) (ms : List (Move A)) → K given ms talk → Replied reply mine mine' talk' said fate given ms

@@ -1,5 +1,6 @@
 -- What stands of one connection after a front's steps.
 use Rattle.std.specs.Prelude.{◌≡◌, ℕ, ◌+◌, ◌==◌, Bool, true, false, not, ◌&&◌, ◌||◌, cond, List, [], ◌∷◌, ◌++◌, length, drop, Option, Some, None, Result, Ok, Err, nat_lt, nat_le}
+use Rattle.farm_base.specs.Limits.{most_rest_bytes}
 use Rattle.port_trait.specs.declared.events.PortEvent.{PortEvent}
 use Rattle.port_trait.specs.declared.events.PortEvent.TheVariants as event
 use Rattle.port_trait.specs.declared.events.SendFault.{SendFault}
@@ -34,62 +35,34 @@ pub record Part (A : Type 0) : Type 0 where
   -- each move has all its entries, but for the replies that may lack them
   pub complete : Bool
 
+-- the event is the Opened of this connection
 abbrev pub opens : PortEvent → ℕ → Bool
 opens (event.Opened d) c = d == c
-opens (event.Bytes d) c = false
-opens (event.Writable d) c = false
-opens (event.Ended d) c = false
-opens (event.Lost d) c = false
-opens event.Woken c = false
-opens event.Finished c = false
-opens event.Broken c = false
-opens event.NoMemory c = false
+opens _ c = false
 
+-- the event is its Ended
 abbrev pub ends_at : PortEvent → ℕ → Bool
 ends_at (event.Ended d) c = d == c
-ends_at (event.Opened d) c = false
-ends_at (event.Bytes d) c = false
-ends_at (event.Writable d) c = false
-ends_at (event.Lost d) c = false
-ends_at event.Woken c = false
-ends_at event.Finished c = false
-ends_at event.Broken c = false
-ends_at event.NoMemory c = false
+ends_at _ c = false
 
+-- the event is its Lost
 abbrev pub loses : PortEvent → ℕ → Bool
 loses (event.Lost d) c = d == c
-loses (event.Opened d) c = false
-loses (event.Bytes d) c = false
-loses (event.Writable d) c = false
-loses (event.Ended d) c = false
-loses event.Woken c = false
-loses event.Finished c = false
-loses event.Broken c = false
-loses event.NoMemory c = false
+loses _ c = false
 
--- the event has every connection offered its bytes, or this one
+-- the event has every connection offered its bytes, or is the Writable of this one
 abbrev pub calls : PortEvent → ℕ → Bool
 calls (event.Writable d) c = d == c
 calls event.Woken c = true
 calls event.Finished c = true
-calls (event.Opened d) c = false
-calls (event.Bytes d) c = false
-calls (event.Ended d) c = false
-calls (event.Lost d) c = false
-calls event.Broken c = false
-calls event.NoMemory c = false
+calls _ c = false
 
+-- the bytes that came on this connection, with the piece where the event brings it
 abbrev pub with_bytes : PortEvent → List ℕ → ℕ → List ℕ → List ℕ
 with_bytes (event.Bytes d) piece c given = cond (d == c) (given ++ piece) given
-with_bytes (event.Opened d) piece c given = given
-with_bytes (event.Writable d) piece c given = given
-with_bytes (event.Ended d) piece c given = given
-with_bytes (event.Lost d) piece c given = given
-with_bytes event.Woken piece c given = given
-with_bytes event.Finished piece c given = given
-with_bytes event.Broken piece c given = given
-with_bytes event.NoMemory piece c given = given
+with_bytes _ piece c given = given
 
+-- the move is a reply to an ask that was cut
 abbrev pub is_cut : {A : Type 0} → Move A → Bool
 is_cut (Does a) = false
 is_cut (Gets r behind) = elim r.outcome [ outcome.Cut ↦ true | outcome.Done ↦ false | outcome.NotDone ↦ false ]
@@ -104,6 +77,7 @@ abbrev pub taken_by : Option ℕ → ℕ
 taken_by (Some n) = n
 taken_by None = 0
 
+-- the send failed
 abbrev pub send_failed : Option ℕ → Bool
 send_failed (Some n) = false
 send_failed None = true
@@ -125,22 +99,14 @@ module _ {A : Type 0} where
     pub sends : p.failed ≡ false
     pub sent : p.sent_whole ≡ false
 
--- it is open in the ports, as long as it is there
+-- it is open in the ports, as long as it is there: it was not lost, and no send on it failed
 abbrev pub is_open : {A : Type 0} → Part A → Bool
 is_open p = not (p.lost || p.failed)
 
 -- a connection that was refused at its Opened is closed
 abbrev pub shut_out : PortEvent → Bool → PortsTold → PortsTold
 shut_out (event.Opened c) false t = after_close c t
-shut_out (event.Opened c) true t = t
-shut_out (event.Bytes c) kept t = t
-shut_out (event.Writable c) kept t = t
-shut_out (event.Ended c) kept t = t
-shut_out (event.Lost c) kept t = t
-shut_out event.Woken kept t = t
-shut_out event.Finished kept t = t
-shut_out event.Broken kept t = t
-shut_out event.NoMemory kept t = t
+shut_out _ _ t = t
 
 module _ {A W : Type 0} (R : Rules A W) where
   -- the bytes that were answered and not taken
@@ -179,7 +145,7 @@ module _ {A W : Type 0} (R : Rules A W) where
   abbrev pub with_try : Option ℕ → Part A → Part A
   with_try taken p = record p { took = p.took + taken_by taken; tried = true; failed = send_failed taken; sent_whole = R.ends p.moves && nat_le (length (answer_bytes R p.moves)) (p.took + taken_by taken) }
 
-  -- after one more step
+  -- after one more step; that a connection is left changes nothing of what stands of it
   abbrev pub after : Step A → ℕ → Part A → Part A
   after (Came e piece kept) c p = came e piece c (cond (opens e c && kept) blank p)
   after (Did d a) c p = cond (d == c) (after_move (Does a) p) p
@@ -198,21 +164,15 @@ module _ {A W : Type 0} (R : Rules A W) where
   abbrev pub told_after : List (Step A) → PortsTold → PortsTold
   told_after [] t = t
   told_after (Came e piece kept ∷ ss) t = shut_out e kept (heard e piece (told_after ss t))
-  told_after (Did c a ∷ ss) t = told_after ss t
-  told_after (Got r behind ∷ ss) t = told_after ss t
-  told_after (Through stopped ∷ ss) t = told_after ss t
   told_after (Tried c taken ∷ ss) t = after_send c (due (part ss c)) (send_answer taken) (told_after ss t)
   told_after (Left c asks why ∷ ss) t = cond (is_open (part ss c)) (after_close c (told_after ss t)) (told_after ss t)
+  told_after (_ ∷ ss) t = told_after ss t
 
   -- each event came as ports that told this may give it
   abbrev pub EachMayCome : List (Step A) → PortsTold → Type 0
   EachMayCome [] t = Unit {0}
   EachMayCome (Came e piece kept ∷ ss) t = MayCome e (told_after ss t) × EachMayCome ss t
-  EachMayCome (Did c a ∷ ss) t = EachMayCome ss t
-  EachMayCome (Got r behind ∷ ss) t = EachMayCome ss t
-  EachMayCome (Through stopped ∷ ss) t = EachMayCome ss t
-  EachMayCome (Tried c taken ∷ ss) t = EachMayCome ss t
-  EachMayCome (Left c asks why ∷ ss) t = EachMayCome ss t
+  EachMayCome (_ ∷ ss) t = EachMayCome ss t
 
   -- bytes were answered to it in the newest round
   abbrev pub grew : Part A → Bool
@@ -224,7 +184,7 @@ module _ {A W : Type 0} (R : Rules A W) where
 
   -- with what was answered in the newest round its rest passed 1,048,576 bytes
   abbrev pub is_full : Part A → Bool
-  is_full p = nat_lt (p.had + 1048576) (length (answer_bytes R p.moves))
+  is_full p = nat_lt (p.had + most_rest_bytes) (length (answer_bytes R p.moves))
 
   -- where there is a reason and nothing was offered, nothing was due
   abbrev pub Offered : Part A → Type 0
@@ -240,7 +200,7 @@ module _ {A W : Type 0} (R : Rules A W) where
   Caused p reason.SentWhole = p.sent_whole ≡ true
   Caused p reason.SendFailed = p.failed ≡ true
   Caused p reason.NoMemory = p.starved ≡ true
-  Caused p reason.Starved = Running p
+  Caused p reason.Starved = Running p × (p.starved ≡ false)
 
   -- nothing in the newest round closes it
   pub record Calm (p : Part A) : Type 0 where

@@ -1,5 +1,6 @@
 -- Which step a front may make after those before it: its rounds, and what holds of each connection in them.
 use Rattle.std.specs.Prelude.{◌≡◌, ℕ, ◌<◌, ◌≤◌, Bool, true, false, List, [], ◌∷◌, ◌++◌, length, Option, IfSome}
+use Rattle.farm_base.specs.Limits.{most_sessions}
 use Rattle.port_trait.specs.declared.events.PortEvent.{PortEvent}
 use Rattle.port_trait.specs.declared.events.PortEvent.TheVariants as event
 use Rattle.front_rounds.specs.declared.fates.Reason.{Reason}
@@ -10,27 +11,14 @@ use Rattle.front_rounds.specs.Parts.{Part, part, due, must, Offered, Caused, Cal
 
 -- Want of memory of the ports, and their end as a whole, begin no round.
 abbrev pub BeginsRound : PortEvent → Type 0
-BeginsRound (event.Opened c) = Unit {0}
-BeginsRound (event.Bytes c) = Unit {0}
-BeginsRound (event.Writable c) = Unit {0}
-BeginsRound (event.Ended c) = Unit {0}
-BeginsRound (event.Lost c) = Unit {0}
-BeginsRound event.Woken = Unit {0}
-BeginsRound event.Finished = Unit {0}
 BeginsRound event.Broken = ⊥
 BeginsRound event.NoMemory = ⊥
+BeginsRound _ = Unit {0}
 
 -- the event opens a connection that is not among these
 abbrev pub OpensNew : PortEvent → List ℕ → Type 0
 OpensNew (event.Opened c) cs = has cs c ≡ false
-OpensNew (event.Bytes c) cs = ⊥
-OpensNew (event.Writable c) cs = ⊥
-OpensNew (event.Ended c) cs = ⊥
-OpensNew (event.Lost c) cs = ⊥
-OpensNew event.Woken cs = ⊥
-OpensNew event.Finished cs = ⊥
-OpensNew event.Broken cs = ⊥
-OpensNew event.NoMemory cs = ⊥
+OpensNew _ cs = ⊥
 
 module _ {A W : Type 0} (R : Rules A W) where
   -- What holds of a connection that is there as a round ends: all that its bytes ask was asked and has all its
@@ -48,14 +36,7 @@ module _ {A W : Type 0} (R : Rules A W) where
   -- a connection that is left for what stood in its bytes alone was offered its bytes once
   abbrev pub LastTry : Part A → Reason → Type 0
   LastTry p reason.Unread = Offered R p
-  LastTry p reason.Ended = Unit {0}
-  LastTry p reason.Lost = Unit {0}
-  LastTry p reason.Cut = Unit {0}
-  LastTry p reason.Full = Unit {0}
-  LastTry p reason.SentWhole = Unit {0}
-  LastTry p reason.SendFailed = Unit {0}
-  LastTry p reason.NoMemory = Unit {0}
-  LastTry p reason.Starved = Unit {0}
+  LastTry _ _ = Unit {0}
 
   -- all that its bytes ask was asked, and each move has all its entries but for the replies that may lack them
   abbrev pub HasAll : Part A → Type 0
@@ -66,12 +47,7 @@ module _ {A W : Type 0} (R : Rules A W) where
   AskedAll p reason.Full = Unit {0}
   AskedAll p reason.NoMemory = Unit {0}
   AskedAll p reason.Starved = Unit {0}
-  AskedAll p reason.Ended = HasAll p
-  AskedAll p reason.Lost = HasAll p
-  AskedAll p reason.Cut = HasAll p
-  AskedAll p reason.Unread = HasAll p
-  AskedAll p reason.SentWhole = HasAll p
-  AskedAll p reason.SendFailed = HasAll p
+  AskedAll p _ = HasAll p
 
   -- A request that was done: it became whole by the round's event, it is the next of those that stand in the bytes,
   -- and it has entries that fit.
@@ -104,7 +80,7 @@ module _ {A W : Type 0} (R : Rules A W) where
     pub time : MayBegin (phase ss)
     pub begins : BeginsRound e
     pub before : AllKept ss
-    pub room : kept ≡ true → (length (there ss) < 1024) × OpensNew e (there ss)
+    pub room : kept ≡ true → (length (there ss) < most_sessions) × OpensNew e (there ss)
 
   -- the step may be made after those before it
   abbrev pub StepFits : Step A → List (Step A) → Type 0

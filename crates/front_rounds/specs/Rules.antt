@@ -5,6 +5,11 @@ use Rattle.std.specs.Prelude.{◌≡◌, ℕ, Bool, true, false, ◌&&◌, ◌||
 use Rattle.farm_history.specs.declared.queues.Reply.{Reply}
 use Rattle.farm_history.specs.Entries.{Entry}
 
+-- the list is empty
+abbrev pub is_empty : {A : Type 0} → List A → Bool
+is_empty [] = true
+is_empty (x ∷ xs) = false
+
 -- What happens on a connection: a request was done, with the answers that it got; or a reply to one of its
 -- asks was collected, with the entries directly behind that Collect.
 pub data Move (A : Type 0) : Type 0 where

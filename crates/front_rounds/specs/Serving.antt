@@ -9,7 +9,7 @@ use Rattle.port_trait.specs.Told.{PortsTold, heard}
 use Rattle.farm_history.specs.Entries.{Entry, Stop}
 use Rattle.farm_history.specs.Lists.{Each}
 use Rattle.front_rounds.specs.Rules.{Rules, answer_bytes}
-use Rattle.front_rounds.specs.Steps.{Step, Phase, Fresh, Hearing, Collecting, Offering, Leaving, phase, MayBegin, there, has, own, starved_in}
+use Rattle.front_rounds.specs.Steps.{Step, Phase, Offering, Leaving, phase, MayBegin, there, has, own, starved_in}
 use Rattle.front_rounds.specs.Parts.{part, due, is_open, told_after}
 use Rattle.front_rounds.specs.Rounds.{Sound, AllKept}
 
@@ -17,17 +17,13 @@ use Rattle.front_rounds.specs.Rounds.{Sound, AllKept}
 abbrev pub EndsAt : PortEvent → Bool → Phase → Type 0
 EndsAt e stopped (Offering f was) = (f ≡ e) × (was ≡ stopped)
 EndsAt e stopped (Leaving f was) = (f ≡ e) × (was ≡ stopped)
-EndsAt e stopped Fresh = ⊥
-EndsAt e stopped (Hearing f) = ⊥
-EndsAt e stopped (Collecting f) = ⊥
+EndsAt _ _ _ = ⊥
 
 -- the last Collect of the newest round was answered Stopped
 abbrev pub StopsAt : Phase → Type 0
 StopsAt (Offering f was) = was ≡ true
 StopsAt (Leaving f was) = was ≡ true
-StopsAt Fresh = ⊥
-StopsAt (Hearing f) = ⊥
-StopsAt (Collecting f) = ⊥
+StopsAt _ = ⊥
 
 -- the ports broke as a whole, or not: it is the last line of their record, and no round
 abbrev pub with_break : Bool → PortsTold → PortsTold
@@ -37,10 +33,8 @@ with_break false t = t
 -- a front whose ports broke ends Broken, but where its Stop was worn
 abbrev pub BreakFits : FrontEnd → Bool → Type 0
 BreakFits ended.Broken broke = broke ≡ true
-BreakFits ended.Finished broke = broke ≡ false
-BreakFits ended.Stopped broke = broke ≡ false
-BreakFits ended.NoMemory broke = broke ≡ false
 BreakFits ended.Worn broke = Unit {0}
+BreakFits _ broke = broke ≡ false
 
 module _ {A W : Type 0} (R : Rules A W) where
   -- the rests are those of the connections that are there, in the order in which they were opened: all bytes that
@@ -59,10 +53,7 @@ module _ {A W : Type 0} (R : Rules A W) where
   -- where a turn was worn, what the rests are is free, but for the front's number in them
   abbrev pub RestsFit : FrontEnd → List (Step A) → List Rest → Type 0
   RestsFit ended.Worn ss rests = Each (λ (r : Rest). r.front ≡ R.number) rests
-  RestsFit ended.Finished ss rests = rests ≡ rests_of ss
-  RestsFit ended.Stopped ss rests = rests ≡ rests_of ss
-  RestsFit ended.Broken ss rests = rests ≡ rests_of ss
-  RestsFit ended.NoMemory ss rests = rests ≡ rests_of ss
+  RestsFit _ ss rests = rests ≡ rests_of ss
 
   -- What ports that told t before tell of a connection after the steps. The bytes taken since are a beginning of its
   -- answers. It is open exactly where it is there and has not failed, if it was not open before.

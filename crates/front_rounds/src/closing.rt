@@ -13,10 +13,11 @@ ghost use Rattle.front_rounds.specs.inner.Stages.{CanLeave, IsOver, CutShort, Sh
 ghost use Rattle.port_trait.specs.Told.{PortsTold, IsOpen};
 ghost use Rattle.port_trait.specs.declared.events.PortEvent.{PortEvent};
 
-use crate::farm::{Farm, Worn};
+use crate::farm::Farm;
 use crate::fates::{Fate, Reason};
 use crate::front::Front;
 use crate::sessions::{Session, SessionTable};
+use farm_base::Worn;
 use farm_history::Conn;
 use port_trait::Ports;
 use std::sync::Wait;

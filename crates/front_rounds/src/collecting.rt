@@ -9,11 +9,12 @@ ghost use Rattle.port_trait.specs.Boxes.{HasRest};
 ghost use Rattle.port_trait.specs.Told.{PortsTold};
 ghost use Rattle.port_trait.specs.declared.events.PortEvent.{PortEvent};
 
-use crate::farm::{Farm, Worn};
+use crate::farm::Farm;
 use crate::fates::{Fate, Reason};
 use crate::front::Front;
 use crate::hearing::{is_kept, owes_after, settle, wake_all};
 use crate::sessions::{Session, SessionTable, place_of};
+use farm_base::Worn;
 use farm_history::{Collected, Outcome, Reply};
 use port_trait::Outbox;
 use std::alloc::Global;

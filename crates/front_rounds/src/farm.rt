@@ -4,16 +4,13 @@ ghost use Rattle.farm_history.specs.Entries as entry;
 ghost use Rattle.front_rounds.specs.Calls.{Seats, Turns};
 ghost use Rattle.plain_world.specs.World.{IsTile};
 
+use farm_base::Worn;
 use farm_history::{
     AskAnswer, Cmd, Collected, Conn, Fetched, Looked, Renewed, Restyled, Spot, Tally, Updated,
 };
 use plain_world::Tile;
 use std::alloc::Global;
 use std::sync::Wait;
-
-/// The farm's limit of turns was drawn; the call was not run.
-#[derive(Clone, Copy, Debug, PartialEq, Eq)]
-pub struct Worn;
 
 /// A farm that is shared, as far as a front calls it. Each call but `map_of` is one turn on the front's
 /// seat, and puts its entry behind the seat's own; it may wait. Worn comes only where the limit of turns

@@ -6,8 +6,9 @@ ghost use Rattle.front_rounds.specs.Front.{Begins, Hears, Replies, Ends, MayStan
 ghost use Rattle.farm_history.specs.declared.queues.Outcome.TheVariants as outcome;
 ghost use Rattle.std.specs.Prelude.{◌≢◌};
 
-use crate::farm::{Farm, Worn};
+use crate::farm::Farm;
 use crate::fates::Fate;
+use farm_base::Worn;
 use farm_history::Reply;
 use std::alloc::Global;
 use std::sync::Wait;

@@ -1,5 +1,6 @@
 //! A round begins: its event, and the requests that become whole by it.
 ghost use Rattle.std.specs.Prelude.{◌≡◌, ◌+◌, ◌-◌, ◌^◌, ◌++◌, ◌∷◌, [], true, false, ℕ, List, Option, None, MatchResult, OnErr, OnOk, cond, min, map, nat_lt, length, option_map};
+ghost use Rattle.farm_base.specs.Limits.{most_sessions};
 ghost use Rattle.farm_history.specs.Entries.{Entry};
 ghost use Rattle.front_rounds.specs.Calls.{SameSeat};
 ghost use Rattle.front_rounds.specs.Rounds.{BeginsRound};
@@ -11,17 +12,14 @@ ghost use Rattle.port_trait.specs.Boxes.{HasRest, rest_at};
 ghost use Rattle.port_trait.specs.Told.{PortsTold, IsOpen, after_close};
 ghost use Rattle.port_trait.specs.declared.events.PortEvent.TheVariants as event;
 
-use crate::farm::{Farm, Worn};
+use crate::farm::Farm;
 use crate::fates::{Fate, Reason};
 use crate::front::Front;
 use crate::sessions::{Session, SessionTable, place_of};
-use farm_base::NoMemory;
+use farm_base::{MOST_SESSIONS, NoMemory, Worn};
 use port_trait::{BoxFault, Outbox, PortEvent, Ports};
 use std::alloc::Global;
 use std::sync::Wait;
-
-/// The most sessions of a front.
-const SESSIONS: usize = 1_024;
 
 /// Whether the bytes of a session are still kept and answered.
 pub fn is_kept(fate: Fate) -> bool
@@ -166,7 +164,7 @@ fn admit<M: Farm, F: Front<M>>(
     requires { keys table.old.outbox ≡ conns table.old.sessions.items }
     ensures { Admits (F.rules front.now farm.now) F.knows conn table.old table.new result }
 {
-    if table.sessions.len() >= SESSIONS {
+    if table.sessions.len() >= MOST_SESSIONS {
         return false;
     }
     match place_of(table.sessions.as_slice(), conn) {
@@ -180,9 +178,9 @@ fn admit<M: Farm, F: Front<M>>(
 
 /// The count of the starved after a connection was refused.
 fn refused_after(starved: u64, there: usize) -> u64
-    ensures { result ≡ cond (nat_lt there 1024) (min (starved + 1) (2 ^ 64 - 1)) starved }
+    ensures { result ≡ cond (nat_lt there most_sessions) (min (starved + 1) (2 ^ 64 - 1)) starved }
 {
-    if there < SESSIONS {
+    if there < MOST_SESSIONS {
         starved.saturating_add(1)
     } else {
         starved
@@ -196,7 +194,7 @@ fn refuse<T, P: Ports>(table: &mut SessionTable<T>, ports: &mut P, conn: u32)
     ensures count { (P.state ports.new).faults ≡ (P.state ports.old).faults }
     ensures sessions { table.new.sessions.items ≡ table.old.sessions.items }
     ensures outbox { table.new.outbox ≡ table.old.outbox }
-    ensures starved { table.new.starved ≡ cond (nat_lt (length table.old.sessions.items) 1024) (min (table.old.starved + 1) (2 ^ 64 - 1)) table.old.starved }
+    ensures starved { table.new.starved ≡ cond (nat_lt (length table.old.sessions.items) most_sessions) (min (table.old.starved + 1) (2 ^ 64 - 1)) table.old.starved }
 {
     ports.close(conn);
     table.starved = refused_after(table.starved, table.sessions.len());

@@ -13,7 +13,7 @@ mod offering;
 mod rounds;
 mod sessions;
 
-pub use farm::{Farm, Worn};
+pub use farm::Farm;
 pub use fates::{Fate, Reason};
 pub use front::Front;
 pub use rounds::serve;

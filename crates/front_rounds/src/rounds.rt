@@ -13,11 +13,12 @@ ghost use Rattle.port_trait.specs.Told.{PortsTold};
 
 use crate::closing::close_all;
 use crate::collecting::collect_all;
-use crate::farm::{Farm, Worn};
+use crate::farm::Farm;
 use crate::front::Front;
 use crate::hearing::take_event;
 use crate::offering::offer_all;
 use crate::sessions::SessionTable;
+use farm_base::Worn;
 use port_trait::{FrontDone, FrontEnd, PortEvent, Ports};
 use std::alloc::Global;
 use std::sync::Wait;

@@ -1,6 +1,7 @@
 -- What an outbox keeps: pairs of a connection and its rest, the bytes that were answered and not yet
 -- taken. Each word speaks of the first pair of a connection.
 use Rattle.std.specs.Prelude.{◌≡◌, ◌<◌, ◌≤◌, ◌==◌, ℕ, List, [], ◌∷◌, ◌++◌, length, drop, Option, Some, None, Result, Ok, Err, cond}
+use Rattle.farm_base.specs.Limits.{most_rest_bytes}
 use Rattle.port_trait.specs.declared.events.SendFault.{SendFault}
 use Rattle.port_trait.specs.declared.ends.Rest.{Rest}
 use Rattle.port_trait.specs.declared.outbox.BoxFault.{BoxFault}
@@ -35,11 +36,11 @@ abbrev pub rest_in : List (ℕ × List ℕ) → ℕ → List ℕ
 rest_in box c = rest_of (rest_at box c)
 
 -- An answer of bytes to a connection. Ok has put them behind its rest; Full comes exactly where the
--- rest would pass 1,048,576 bytes; a refusal changes nothing.
+-- rest would pass 1,048,576 bytes, whether there is memory or not; a refusal changes nothing.
 abbrev pub Answered : List (ℕ × List ℕ) → ℕ → List ℕ → Result (Unit {0}) BoxFault → List (ℕ × List ℕ) → Type 0
-Answered box c bytes (Ok done) new = (new ≡ put_rest box c (rest_in box c ++ bytes)) × (length (rest_in box c ++ bytes) ≤ 1048576)
-Answered box c bytes (Err fault.Full) new = (new ≡ box) × (1048576 < length (rest_in box c ++ bytes))
-Answered box c bytes (Err fault.NoMemory) new = new ≡ box
+Answered box c bytes (Ok done) new = (new ≡ put_rest box c (rest_in box c ++ bytes)) × (length (rest_in box c ++ bytes) ≤ most_rest_bytes)
+Answered box c bytes (Err fault.Full) new = (new ≡ box) × (most_rest_bytes < length (rest_in box c ++ bytes))
+Answered box c bytes (Err fault.NoMemory) new = (new ≡ box) × (length (rest_in box c ++ bytes) ≤ most_rest_bytes)
 
 -- One send of the whole rest. What was taken is gone from its front; a refusal of the send is handed on
 -- and the rest stays.

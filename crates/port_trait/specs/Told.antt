@@ -1,5 +1,6 @@
 -- What ports tell of themselves, and what a call on them may do.
 use Rattle.std.specs.Prelude.{◌≡◌, ◌<◌, ◌≤◌, ◌+◌, ◌==◌, ◌^◌, ℕ, Bool, true, false, List, [], ◌∷◌, ◌++◌, length, take, Option, Some, None, IfSome, option_map, Result, Ok, Err, cond}
+use Rattle.farm_base.specs.Limits.{most_piece_bytes}
 use Rattle.farm_base.specs.Outside.{Counted}
 use Rattle.port_trait.specs.declared.events.PortEvent.{PortEvent}
 use Rattle.port_trait.specs.declared.events.PortEvent.TheVariants as event
@@ -39,23 +40,17 @@ MayCome (event.Bytes c) t = IsAlive c t
 MayCome (event.Writable c) t = IsAlive c t
 MayCome (event.Ended c) t = IsAlive c t
 MayCome (event.Lost c) t = IsAlive c t
-MayCome event.Woken t = Unit {0}
-MayCome event.Finished t = Unit {0}
-MayCome event.Broken t = Unit {0}
-MayCome event.NoMemory t = Unit {0}
+MayCome _ _ = Unit {0}
 
 -- What ports tell after an event. Each is a line of the record, with the piece at Bytes and no bytes
 -- at the others; want of memory alone is none and changes nothing.
 abbrev pub heard : PortEvent → List ℕ → PortsTold → PortsTold
 heard (event.Opened c) piece t = record (with_record_line (item.Heard (event.Opened c) []) t) { opened = c + 1; is_open = put t.is_open c true }
 heard (event.Bytes c) piece t = with_record_line (item.Heard (event.Bytes c) piece) t
-heard (event.Writable c) piece t = with_record_line (item.Heard (event.Writable c) []) t
 heard (event.Ended c) piece t = record (with_record_line (item.Heard (event.Ended c) []) t) { ended = put t.ended c true }
 heard (event.Lost c) piece t = record (with_record_line (item.Heard (event.Lost c) []) t) { is_open = put t.is_open c false }
-heard event.Woken piece t = with_record_line (item.Heard event.Woken []) t
-heard event.Finished piece t = with_record_line (item.Heard event.Finished []) t
-heard event.Broken piece t = with_record_line (item.Heard event.Broken []) t
 heard event.NoMemory piece t = t
+heard e piece t = with_record_line (item.Heard e []) t
 
 -- An event with its piece. Whether the ports tell stays.
 abbrev pub Hears : PortEvent → List ℕ → Option PortsTold → Option PortsTold → Type 0
@@ -63,15 +58,8 @@ Hears e piece old new = IfSome old (MayCome e) × (new ≡ option_map (heard e p
 
 -- a piece has 1 to 4,096 bytes
 abbrev pub IsPieceOf : PortEvent → List ℕ → Type 0
-IsPieceOf (event.Bytes c) piece = (0 < length piece) × (length piece ≤ 4096)
-IsPieceOf (event.Opened c) piece = Unit {0}
-IsPieceOf (event.Writable c) piece = Unit {0}
-IsPieceOf (event.Ended c) piece = Unit {0}
-IsPieceOf (event.Lost c) piece = Unit {0}
-IsPieceOf event.Woken piece = Unit {0}
-IsPieceOf event.Finished piece = Unit {0}
-IsPieceOf event.Broken piece = Unit {0}
-IsPieceOf event.NoMemory piece = Unit {0}
+IsPieceOf (event.Bytes c) piece = (0 < length piece) × (length piece ≤ most_piece_bytes)
+IsPieceOf _ piece = Unit {0}
 
 -- What ports tell after a send of these bytes. Ok has taken so many from their front; after Failed the
 -- connection is lost; want of memory is no line and changes nothing.
@@ -110,13 +98,7 @@ IsOpen c told = IfSome told (λ t. t.is_open c ≡ true)
 abbrev pub EventCounts : ℕ → ℕ → PortEvent → Type 0
 EventCounts before now (event.Lost c) = Counted before now
 EventCounts before now event.Broken = Counted before now
-EventCounts before now (event.Opened c) = now ≡ before
-EventCounts before now (event.Bytes c) = now ≡ before
-EventCounts before now (event.Writable c) = now ≡ before
-EventCounts before now (event.Ended c) = now ≡ before
-EventCounts before now event.Woken = now ≡ before
-EventCounts before now event.Finished = now ≡ before
-EventCounts before now event.NoMemory = now ≡ before
+EventCounts before now _ = now ≡ before
 
 -- the count of faults over a send: it rises where the send failed, and else it stays
 abbrev pub SendCounts : {T : Type 0} → ℕ → ℕ → Result T SendFault → Type 0

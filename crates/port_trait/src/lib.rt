@@ -12,5 +12,5 @@ mod ports;
 pub use ends::{FrontDone, FrontEnd, Rest};
 pub use events::{PortEvent, PortFault, PortItem, SendFault};
 pub use laws::law_connections_stand_once;
-pub use outbox::{BoxFault, Outbox};
+pub use outbox::{BoxFault, Outbox, drop_front};
 pub use ports::{Ports, ThreePorts};

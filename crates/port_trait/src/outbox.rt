@@ -8,12 +8,9 @@ ghost use Rattle.port_trait.specs.inner.Places.{Here};
 use crate::ends::Rest;
 use crate::events::SendFault;
 use crate::ports::Ports;
-use farm_base::{Bytes, NoMemory};
+use farm_base::{Bytes, MOST_REST_BYTES, NoMemory};
 use std::alloc::{AllocError, Global};
 use std::marker::Model;
-
-/// The greatest number of bytes of a rest.
-const LIMIT: usize = 1_048_576;
 
 /// Why an answer was not put into an outbox; after either nothing has changed.
 #[derive(Clone, Copy, Debug, PartialEq, Eq)]
@@ -53,8 +50,8 @@ impl Model for Pending {
     ghost invariant = { λ p. p.start ≤ length p.bytes.items };
 }
 
-/// Takes so many bytes out at the front, without memory.
-fn drop_front(bytes: &mut Vec<u8>, count: usize)
+/// Takes so many bytes out at the front, of which there are as many; takes no memory.
+pub fn drop_front(bytes: &mut Vec<u8>, count: usize)
     requires { count ≤ length bytes.old.items }
     ensures { bytes.new.items ≡ drop count bytes.old.items }
 {
@@ -131,12 +128,13 @@ pub struct Outbox {
 
 impl Model for Outbox {
     ghost use Rattle.std.specs.Prelude.{◌≡◌, ℕ, List, [], ◌≤◌, length, All, vec_len, vec_capacity};
+    ghost use Rattle.farm_base.specs.Limits.{most_rest_bytes};
 
     ghost Value = { List (ℕ × List ℕ) };
 
     ghost view = { λ b. b.items.items };
 
-    ghost invariant = { λ b. All (λ (p : ℕ × List ℕ). length p.1 ≤ 1048576) b.items.items × (b.rests.items ≡ []) × (vec_len b.items ≤ vec_capacity b.rests) };
+    ghost invariant = { λ b. All (λ (p : ℕ × List ℕ). length p.1 ≤ most_rest_bytes) b.items.items × (b.rests.items ≡ []) × (vec_len b.items ≤ vec_capacity b.rests) };
 }
 
 /// The place of the connection's first pair.
@@ -195,7 +193,7 @@ impl Outbox {
         ensures { Answered self.old conn bytes.now result self.new }
     {
         let place = there(self.items.as_slice(), conn);
-        if LIMIT - self.items[place].rest().len() < bytes.len() {
+        if MOST_REST_BYTES - self.items[place].rest().len() < bytes.len() {
             return Err(BoxFault::Full);
         }
         self.items[place].add(bytes)?;

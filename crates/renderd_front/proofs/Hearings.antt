@@ -86,7 +86,7 @@ module _ (front : ℕ) (maps : List ℕ → Option ℕ) where
       mine_is = h.mine_is;
       begins = inr (h.more, asked_then h.acts h.more h.asks_are);
       fits = fit h.acts ms;
-      why = tt;
+      why = none_starves h.acts;
       said_is = λ off. absurd (false≢true off);
       asked_is = λ off. absurd (false≢true off);
       whole = λ off. absurd (false≢true off);
@@ -152,7 +152,7 @@ module _ (front : ℕ) (maps : List ℕ → Option ℕ) where
       behind = [];
       mine_is = sym (append-nil mine);
       fits = refl;
-      why = tt;
+      why = refl;
       said_is = λ off. absurd (false≢true off);
       whole = λ off. absurd (false≢true off);
       knows = λ off. absurd (false≢true off);

@@ -3,7 +3,7 @@ use Rattle.std.specs.Prelude.{◌≡◌, ℕ, Bool, true, false, ◌==◌, cond,
 use Rattle.std.specs.Option.{is_some}
 use Rattle.renderd_protocol.specs.declared.messages.Request.{Request}
 use Rattle.renderd_protocol.specs.declared.messages.Found.{Found}
-use Rattle.renderd_protocol.specs.declared.messages.Found.TheVariants.{Message, NeedMore, BadVersion}
+use Rattle.renderd_protocol.specs.declared.messages.Found.TheVariants.{BadVersion}
 use Rattle.renderd_protocol.specs.Messages.{found_in, wire_of}
 use Rattle.renderd_protocol.specs.Stream.{stream_read}
 use Rattle.farm_history.specs.declared.queues.Conn.{Conn}
@@ -17,7 +17,7 @@ use Rattle.farm_history.specs.declared.asks.AskAnswer.TheVariants as answer
 use Rattle.farm_history.specs.Entries.{Entry, Ask}
 use Rattle.farm_history.specs.Past.{number_in}
 use Rattle.farm_history.specs.Lists.{without_first}
-use Rattle.front_rounds.specs.Rules.{Rules, Move, Does, Gets}
+use Rattle.front_rounds.specs.Rules.{Rules, Move, Does, Gets, is_empty}
 use Rattle.renderd_front.specs.declared.asked.Asked.{Asked}
 
 -- Which asks stand in the bytes.
@@ -34,8 +34,7 @@ asks_in (r ∷ rs) = cond (is_some (command_of r.cmd)) (r ∷ asks_in rs) (asks_
 -- an unknown version stands next
 abbrev pub is_bad : Found → Bool
 is_bad (BadVersion version) = true
-is_bad (Message request len) = false
-is_bad NeedMore = false
+is_bad _ = false
 
 -- version 1 names the map `default`
 abbrev pub asked_map : Request → List ℕ
@@ -56,10 +55,7 @@ asks_by conn None spot a = []
 abbrev pub answer_command : AskAnswer → Option ℕ
 answer_command answer.Done = Some 3
 answer_command (answer.NotDone why) = Some 4
-answer_command (answer.Queued n) = None
-answer_command (answer.Joined n) = None
-answer_command (answer.Lifted n) = None
-answer_command answer.Silent = None
+answer_command _ = None
 
 -- an answer repeats its request, with a command of its own
 abbrev pub said_to : Option ℕ → Request → List ℕ
@@ -96,10 +92,7 @@ said_for command None = []
 
 -- The front.
 
-abbrev pub is_empty : List Entry → Bool
-is_empty [] = true
-is_empty (e ∷ es) = false
-
+-- the bytes that are answered to a move
 abbrev pub says : List (Move Asked) → Move Asked → List ℕ
 says ms (Does a) = said_to (answer_command a.answer) a.request
 says ms (Gets r behind) = said_for (outcome_command r.outcome) (find (is_wait r.ask) (waiting ms))

@@ -1,13 +1,13 @@
 //! The renderd front.
-ghost use Rattle.std.specs.Prelude.{◌≡◌, ◌≤◌, drop, length};
-
 use crate::asked::Asked;
 use crate::asking::Halt;
 use crate::messages::{fate_at, read_all};
 use crate::replies::answer_reply;
 use crate::waits::Talk;
+use farm_base::Worn;
 use farm_history::{Conn, Reply};
-use front_rounds::{Farm, Fate, Front, Reason, Worn};
+use front_rounds::{Farm, Fate, Front, Reason};
+use port_trait::drop_front;
 use renderd_protocol::Request;
 use std::alloc::Global;
 use std::sync::Wait;
@@ -16,16 +16,6 @@ use std::sync::Wait;
 #[derive(Clone, Copy)]
 pub struct Renderd {
     pub front: u32,
-}
-
-/// Takes so many bytes out at the front, without memory.
-fn drop_front(bytes: &mut Vec<u8>, count: usize)
-    requires { count ≤ length bytes.old.items }
-    ensures { bytes.new.items ≡ drop count bytes.old.items }
-{
-    let left = bytes.len() - count;
-    bytes.rotate_left(count);
-    bytes.truncate(left);
 }
 
 impl<M: Farm> Front<M> for Renderd {
@@ -43,7 +33,7 @@ impl<M: Farm> Front<M> for Renderd {
 
     ghost knows = { Knows };
 
-    ghost alone = { λ _ _ _ _. refl };
+    ghost alone = { λ _ _ _ _. (refl, refl) };
 
     fn number(&self, _farm: &M) -> u32 {
         self.front

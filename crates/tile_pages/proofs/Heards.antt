@@ -2,6 +2,7 @@
 use Rattle.std.proofs.Common.{◌≡◌, ℕ, ◌<◌, ◌≤◌, List, [], ◌∷◌, ◌++◌, length, Bool, true, false, ◌||◌, Option, inl, inr, refl, sym, ap, subst, ◌∙◌, arith, append-nil}
 use Rattle.std.proofs.lemmas.Bool.{and_from, false≢true}
 use Rattle.std.proofs.Math.Bool.{or-false}
+use Rattle.farm_base.specs.Limits.{most_head_bytes}
 use Rattle.farm_history.specs.Entries.{Entry}
 use Rattle.farm_history.specs.declared.queues.Conn.{Conn}
 use Rattle.front_rounds.specs.declared.fates.Fate.{Fate}
@@ -62,7 +63,7 @@ module _ (front : ℕ) (maps : List ℕ → Option ℕ) where
         mine_is = idle.0;
         begins = inl (asked_is front maps ms ∙ (knows.head reads).2);
         fits = tt;
-        why = tt;
+        why = refl;
         said_is = λ k. absurd (false≢true k);
         asked_is = λ k. absurd (false≢true k);
         whole = λ k. absurd (false≢true k);
@@ -71,13 +72,13 @@ module _ (front : ℕ) (maps : List ℕ → Option ℕ) where
 
   -- more bytes are waited for
   pub hears_open : (c : ℕ) (piece : List ℕ) (mine : List Entry) (talk talk' : Talk) (said : List ℕ) → said ≡ [] → is_reading talk.stage ≡ true → talk'.stage ≡ talk.stage
-      → (length talk.head.items ≤ 8192 → talk'.head.items ≡ bytes_read (talk.head.items ++ piece)) → IsOpen (bytes_read talk'.head.items)
+      → (length talk.head.items ≤ most_head_bytes → talk'.head.items ≡ bytes_read (talk.head.items ++ piece)) → IsOpen (bytes_read talk'.head.items)
       → Hears (rules_of front maps) Knows c piece mine mine talk talk' said Stays
   hears_open c piece mine talk talk' said empty reads same kept is given ms knows wants whole unread =
       let head = knows.head reads in
-      let short : length given < 8192 = head.1 in
+      let short : length given < most_head_bytes = head.1 in
       let kept_is : talk'.head.items ≡ bytes_read (given ++ piece) =
-      subst (λ (h : List ℕ). length h ≤ 8192 → talk'.head.items ≡ bytes_read (h ++ piece)) head.0 kept (omega arith) in
+      subst (λ (h : List ℕ). length h ≤ most_head_bytes → talk'.head.items ≡ bytes_read (h ++ piece)) head.0 kept (omega arith) in
       let opens : IsOpen (bytes_read (given ++ piece)) = subst (λ (b : List ℕ). IsOpen b) (ap bytes_read kept_is ∙ shown_twice (given ++ piece)) is in
       let all = open_all (given ++ piece) opens in
       let none = asked_is front maps ms ∙ head.2 in
@@ -103,7 +104,7 @@ module _ (front : ℕ) (maps : List ℕ → Option ℕ) where
   why_heard : (given : List ℕ) (a : Act) (fate : Fate) → WhyOf (starves_act a) fate → HeardWhy (rules_of front maps) given (Does a ∷ []) fate
   why_heard given a Stays e = (refl, or-false (starves_act a) ∙ e)
   why_heard given a (Leaves reason.NoMemory) e = or-false (starves_act a) ∙ e
-  why_heard given a (Leaves reason.Starved) e = tt
+  why_heard given a (Leaves reason.Starved) e = or-false (starves_act a) ∙ e
   why_heard given a (Leaves reason.Ended) e = e
   why_heard given a (Leaves reason.Lost) e = e
   why_heard given a (Leaves reason.Cut) e = e
@@ -114,14 +115,14 @@ module _ (front : ℕ) (maps : List ℕ → Option ℕ) where
 
   -- the wish that became whole was done
   hears_act : (c : Conn) (piece : List ℕ) (w : Wish) (mine mine' : List Entry) (talk talk' : Talk) (said : List ℕ) (fate : Fate) (a : Act) → c.front ≡ front
-      → is_reading talk.stage ≡ true → (length talk.head.items ≤ 8192 → talk'.head.items ≡ bytes_read (talk.head.items ++ piece))
+      → is_reading talk.stage ≡ true → (length talk.head.items ≤ most_head_bytes → talk'.head.items ≡ bytes_read (talk.head.items ++ piece))
       → Asks maps (bytes_read talk'.head.items) w → DidWish c w mine mine' talk'.stage said fate a
       → Hears (rules_of front maps) Knows c.number piece mine mine' talk talk' said fate
   hears_act c piece w mine mine' talk talk' said fate a own reads kept asks did given ms knows wants whole unread =
       let head = knows.head reads in
-      let short : length given < 8192 = head.1 in
+      let short : length given < most_head_bytes = head.1 in
       let kept_is : talk'.head.items ≡ bytes_read (given ++ piece) =
-      subst (λ (h : List ℕ). length h ≤ 8192 → talk'.head.items ≡ bytes_read (h ++ piece)) head.0 kept (omega arith) in
+      subst (λ (h : List ℕ). length h ≤ most_head_bytes → talk'.head.items ≡ bytes_read (h ++ piece)) head.0 kept (omega arith) in
       let asks_now : Asks maps (bytes_read (given ++ piece)) w = subst (λ (b : List ℕ). Asks maps b w) (ap bytes_read kept_is ∙ shown_twice (given ++ piece)) asks in
       let once : wishes (Does a ∷ ms) ≡ w ∷ [] = ap (λ (ws : List Wish). ws ++ want a ∷ []) head.2 ∙ ap (λ (v : Wish). v ∷ []) did.want_is in
       let wanted : Wants maps (given ++ piece) (wants_of (rules_of front maps) (Does a ∷ ms)) = wants_one (given ++ piece) (Does a ∷ ms) w once asks_now in
@@ -144,7 +145,7 @@ module _ (front : ℕ) (maps : List ℕ → Option ℕ) where
       }
 
   pub hears_wish : (c : Conn) (piece : List ℕ) (w : Wish) (mine mine' : List Entry) (talk talk' : Talk) (said : List ℕ) (fate : Fate) → c.front ≡ front
-      → is_reading talk.stage ≡ true → (length talk.head.items ≤ 8192 → talk'.head.items ≡ bytes_read (talk.head.items ++ piece))
+      → is_reading talk.stage ≡ true → (length talk.head.items ≤ most_head_bytes → talk'.head.items ≡ bytes_read (talk.head.items ++ piece))
       → Asks maps (bytes_read talk'.head.items) w → DoesWish c w mine mine' talk'.stage said fate
       → Hears (rules_of front maps) Knows c.number piece mine mine' talk talk' said fate
   hears_wish c piece w mine mine' talk talk' said fate own reads kept asks (inl idle) = hears_starved c.number piece mine mine' talk talk' said fate reads idle

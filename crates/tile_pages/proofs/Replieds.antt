@@ -44,7 +44,7 @@ module _ (front : ℕ) (maps : List ℕ → Option ℕ) where
   why_replied : (reply : Reply) (s : Spot) (f : Fetched) (fate : Fate) → WhyOf (is_no_memory f) fate → RepliedWhy (rules_of front maps) (Gets reply (Fetch s f ∷ [])) fate
   why_replied reply s f Stays e = e
   why_replied reply s f (Leaves reason.NoMemory) e = e
-  why_replied reply s f (Leaves reason.Starved) e = tt
+  why_replied reply s f (Leaves reason.Starved) e = e
   why_replied reply s f (Leaves reason.Ended) e = e
   why_replied reply s f (Leaves reason.Lost) e = e
   why_replied reply s f (Leaves reason.Cut) e = e
@@ -84,7 +84,7 @@ module _ (front : ℕ) (maps : List ℕ → Option ℕ) where
         behind = [];
         mine_is = idle.0 ∙ sym (append-nil mine);
         fits = refl;
-        why = tt;
+        why = refl;
         said_is = λ k. absurd (false≢true k);
         whole = λ k. absurd (false≢true k);
         knows = λ k. absurd (false≢true k);

@@ -30,7 +30,7 @@ said_all text said fate e is = record { why = subst (λ (f : Fate). WhyOf false 
 
 said_none : (text said : List ℕ) (fate : Fate) → fate ≡ Leaves reason.Starved → Says text said fate
 said_none text said fate e =
-    subst (λ (f : Fate). Says text said f) (sym e) (record { why = tt; said_is = λ k. absurd (false≢true k) })
+    subst (λ (f : Fate). Says text said f) (sym e) (record { why = refl; said_is = λ k. absurd (false≢true k) })
 
 -- a put that found memory has said its text
 pub put_says : {A E : Type 0} (r : Result A E) (text old said : List ℕ) (fate : Fate) → old ≡ [] → OnOk r (said ≡ old ++ text)
@@ -108,7 +108,7 @@ did_fetch c s a mine mid mine' stage said fate none is e (inl idle) =
         want_is = refl;
         mine_is = idle.0 ∙ is;
         fits = refl;
-        why = subst (λ (f : Fate). WhyOf false f) (sym idle.1) tt;
+        why = subst (λ (f : Fate). WhyOf false f) (sym idle.1) refl;
         said_is = λ k. absurd (false≢true (ap keeps (sym idle.1) ∙ k));
         whole = λ k. absurd (false≢true (ap keeps (sym idle.1) ∙ k));
         read = λ k. absurd (false≢true (ap keeps (sym idle.1) ∙ k));

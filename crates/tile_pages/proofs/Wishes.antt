@@ -2,6 +2,7 @@
 use Rattle.std.proofs.Common.{◌≡◌, ℕ, ◌<◌, ◌≤◌, ◌-◌, List, [], ◌∷◌, ◌++◌, length, take, Bool, true, false, eqb, eq-eqb, cond, ◌+◌, Option, Some, None, refl, sym, ap, subst, ◌∙◌, arith}
 use Rattle.std.proofs.lemmas.List.{take_all, length-take}
 use Rattle.std.proofs.Math.Seq.{take-append-add}
+use Rattle.farm_base.specs.Limits.{most_head_bytes}
 use Rattle.tile_requests.specs.Heads.{bytes_read, IsOpen, IsNothing, IsPart, IsFull}
 use Rattle.tile_requests.proofs.HeadTexts.{bad_stays, whole_stays}
 use Rattle.tile_requests.specs.declared.targets.Kind.{Kind}
@@ -41,25 +42,25 @@ asks_stay maps given more (wish.Status s) is = (is.0, (is.1.0, whole_stays given
 asks_stay maps given more (wish.Dirty s) is = (is.0, (is.1.0, whole_stays given more is.1.0 is.1.1, is.1.2, is.1.3), is.2)
 
 -- while more is waited for, all bytes are read
-open_short : (bytes : List ℕ) → IsOpen bytes → length bytes < 8192
-open_short bytes (IsNothing e) = subst (λ (b : List ℕ). length b < 8192) (sym e) (omega arith)
+open_short : (bytes : List ℕ) → IsOpen bytes → length bytes < most_head_bytes
+open_short bytes (IsNothing e) = subst (λ (b : List ℕ). length b < most_head_bytes) (sym e) (omega arith)
 open_short bytes (IsPart l none may) = l
 open_short bytes (IsFull l over more e) = l
 
-pub open_all : (given : List ℕ) → IsOpen (bytes_read given) → (length given < 8192) × (bytes_read given ≡ given)
+pub open_all : (given : List ℕ) → IsOpen (bytes_read given) → (length given < most_head_bytes) × (bytes_read given ≡ given)
 open_all given is =
     let l = open_short (bytes_read given) is in
-    let n : length given < 8192 = let e = length-take 8192 given in omega (arith, e, l) in
-    (n, take_all 8192 given (omega arith))
+    let n : length given < most_head_bytes = let e = length-take most_head_bytes given in omega (arith, e, l) in
+    (n, take_all most_head_bytes given (omega arith))
 
 -- what is kept of a piece behind a head
-pub kept_is : (head piece : List ℕ) → length head ≤ 8192 → head ++ take (8192 - length head) piece ≡ bytes_read (head ++ piece)
+pub kept_is : (head piece : List ℕ) → length head ≤ most_head_bytes → head ++ take (most_head_bytes - length head) piece ≡ bytes_read (head ++ piece)
 kept_is head piece h =
-    let all : length head + (8192 - length head) ≡ 8192 = omega arith in
-    sym (take-append-add head piece (8192 - length head)) ∙ ap (λ (n : ℕ). take n (head ++ piece)) all
+    let all : length head + (most_head_bytes - length head) ≡ most_head_bytes = omega arith in
+    sym (take-append-add head piece (most_head_bytes - length head)) ∙ ap (λ (n : ℕ). take n (head ++ piece)) all
 
 pub shown_twice : (given : List ℕ) → bytes_read (bytes_read given) ≡ bytes_read given
-shown_twice given = let e = length-take 8192 given in take_all 8192 (bytes_read given) (omega (arith, e))
+shown_twice given = let e = length-take most_head_bytes given in take_all most_head_bytes (bytes_read given) (omega (arith, e))
 
 -- a spot is the same as itself
 same_number : (n : ℕ) → eqb n n ≡ true

@@ -25,14 +25,8 @@ Finds maps bytes (Some w) = Asks maps bytes w
 abbrev pub WhyOf : Bool → Fate → Type 0
 WhyOf starved Stays = starved ≡ false
 WhyOf starved (Leaves reason.NoMemory) = starved ≡ true
-WhyOf starved (Leaves reason.Starved) = Unit {0}
-WhyOf starved (Leaves reason.Ended) = ⊥
-WhyOf starved (Leaves reason.Lost) = ⊥
-WhyOf starved (Leaves reason.Cut) = ⊥
-WhyOf starved (Leaves reason.Full) = ⊥
-WhyOf starved (Leaves reason.Unread) = ⊥
-WhyOf starved (Leaves reason.SentWhole) = ⊥
-WhyOf starved (Leaves reason.SendFailed) = ⊥
+WhyOf starved (Leaves reason.Starved) = starved ≡ false
+WhyOf starved (Leaves _) = ⊥
 
 -- a text was said, or there was no memory for it
 pub record Says (text said : List ℕ) (fate : Fate) : Type 0 where
@@ -54,6 +48,7 @@ pub record DidFetch (s : Spot) (mine mine' : List Entry) (said : List ℕ) (fate
   pub why : WhyOf (is_no_memory f) fate
   pub said_is : keeps fate ≡ true → said ≡ tile_answer f
 
+-- the tile was fetched, or the turn was worn
 abbrev pub Fetches : Spot → List Entry → List Entry → List ℕ → Fate → Type 0
 Fetches s mine mine' said fate = IsIdle mine mine' fate ⊎ ((f : Fetched) × DidFetch s mine mine' said fate f)
 
@@ -69,5 +64,6 @@ pub record DidWish (c : Conn) (w : Wish) (mine mine' : List Entry) (stage : Stag
   pub waits : keeps fate ≡ true → waits_by a ≡ waits_in stage
   pub ends : keeps fate ≡ true → is_answer a ≡ is_answered stage
 
+-- the wish was done, or the turn was worn
 abbrev pub DoesWish : Conn → Wish → List Entry → List Entry → Stage → List ℕ → Fate → Type 0
 DoesWish c w mine mine' stage said fate = IsIdle mine mine' fate ⊎ ((a : Act) × DidWish c w mine mine' stage said fate a)

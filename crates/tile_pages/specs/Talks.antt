@@ -4,21 +4,20 @@ use Rattle.farm_history.specs.declared.asks.Spot.{Spot}
 use Rattle.tile_pages.specs.declared.talks.Stage.{Stage}
 use Rattle.tile_pages.specs.declared.talks.Stage.TheVariants.{Reading, Waiting, Answered}
 
+-- the head is still read
 abbrev pub is_reading : Stage → Bool
 is_reading Reading = true
-is_reading (Waiting n s) = false
-is_reading Answered = false
+is_reading _ = false
 
+-- the request was answered
 abbrev pub is_answered : Stage → Bool
-is_answered Reading = false
-is_answered (Waiting n s) = false
 is_answered Answered = true
+is_answered _ = false
 
 -- the ask that waits: its number and its spot
 abbrev pub waits_in : Stage → Option (ℕ × Spot)
-waits_in Reading = None
 waits_in (Waiting n s) = Some (n, s)
-waits_in Answered = None
+waits_in _ = None
 
 -- the spot, where that ask waits
 abbrev pub spot_at : ℕ → Option (ℕ × Spot) → Option Spot

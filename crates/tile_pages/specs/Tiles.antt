@@ -2,6 +2,7 @@
 -- answered to it.
 use Rattle.std.specs.Prelude.{◌≡◌, ℕ, ◌<◌, ◌==◌, Bool, true, false, cond, not, ◌&&◌, ◌||◌, List, [], ◌∷◌, ◌++◌, length, Option, Some, None, option_map}
 use Rattle.std.specs.Option.{is_some, is_none}
+use Rattle.farm_base.specs.Limits.{most_head_bytes}
 use Rattle.farm_history.specs.declared.queues.Conn.{Conn}
 use Rattle.farm_history.specs.declared.asks.Spot.{Spot}
 use Rattle.farm_history.specs.declared.asks.Cmd.TheVariants as cmd
@@ -9,7 +10,7 @@ use Rattle.farm_history.specs.declared.answers.Fetched.{Fetched}
 use Rattle.farm_history.specs.declared.answers.Fetched.TheVariants as fetched
 use Rattle.farm_history.specs.Entries.{Entry, Ask, Fetch, Look}
 use Rattle.farm_history.specs.Past.{number_in}
-use Rattle.front_rounds.specs.Rules.{Rules, Move, Does, Gets}
+use Rattle.front_rounds.specs.Rules.{Rules, Move, Does, Gets, is_empty}
 use Rattle.front_rounds.specs.Parts.{is_cut}
 use Rattle.tile_requests.specs.declared.targets.Kind.{Kind}
 use Rattle.tile_requests.specs.declared.targets.Kind.TheVariants as kind
@@ -54,7 +55,7 @@ Asks maps bytes (wish.Dirty s) = GetsSpot maps bytes kind.Dirty s
 abbrev pub Wants : (List ℕ → Option ℕ) → List ℕ → List Wish → Type 0
 Wants maps given [] = IsOpen (bytes_read given)
 Wants maps given (w ∷ []) = Asks maps (bytes_read given) w
-Wants maps given (w ∷ v ∷ ws) = ⊥
+Wants maps given _ = ⊥
 
 -- ---- what is done
 
@@ -74,19 +75,17 @@ entries_of c (act.Served s a f) = Ask c cmd.Render s a ∷ Fetch s f ∷ []
 entries_of c (act.Seen s l) = Look s l ∷ []
 entries_of c (act.Marked s a) = Ask c cmd.Dirty s a ∷ []
 
--- the ask that waits after the moves: its number and its spot
+-- the ask that waits after the act: its number and its spot
 abbrev pub waits_by : Act → Option (ℕ × Spot)
 waits_by (act.Asked s a) = option_map (λ n. (n, s)) (number_in a)
-waits_by (act.Refused w) = None
-waits_by (act.Served s a f) = None
-waits_by (act.Seen s l) = None
-waits_by (act.Marked s a) = None
+waits_by _ = None
 
 -- the ask that waits, unless it is that one
 abbrev pub still_waits : ℕ → Option (ℕ × Spot) → Option (ℕ × Spot)
 still_waits n None = None
 still_waits n (Some p) = cond (p.0 == n) None (Some p)
 
+-- the ask that waits after the moves
 abbrev pub waiting : List (Move Act) → Option (ℕ × Spot)
 waiting [] = None
 waiting (Does a ∷ ms) = waits_by a
@@ -94,12 +93,13 @@ waiting (Gets r behind ∷ ms) = still_waits r.ask (waiting ms)
 
 -- ---- which entries stand behind a Collect
 
+-- both are the same map, or none
 abbrev pub same_map : Option ℕ → Option ℕ → Bool
 same_map None None = true
-same_map None (Some n) = false
-same_map (Some m) None = false
 same_map (Some m) (Some n) = m == n
+same_map _ _ = false
 
+-- both are the same spot
 abbrev pub same_spot : Spot → Spot → Bool
 same_spot s t = same_map s.map t.map && (s.z == t.z && (s.x == t.x && s.y == t.y))
 
@@ -111,42 +111,29 @@ is_fetch s e = false
 -- none, or the Fetch of the spot that waited
 abbrev pub fits_behind : Option Spot → List Entry → Bool
 fits_behind o [] = true
-fits_behind None (e ∷ es) = false
 fits_behind (Some s) (e ∷ []) = is_fetch s e
-fits_behind (Some s) (e ∷ d ∷ es) = false
-
-abbrev pub is_empty : List Entry → Bool
-is_empty [] = true
-is_empty (e ∷ es) = false
+fits_behind _ _ = false
 
 -- ---- what is answered
 
+-- a fetch found no memory
 abbrev pub is_no_memory : Fetched → Bool
 is_no_memory fetched.NoMemory = true
-is_no_memory (fetched.Clean v b) = false
-is_no_memory (fetched.Dirty v b) = false
-is_no_memory fetched.Missing = false
-is_no_memory fetched.Unservable = false
-is_no_memory fetched.Gone = false
-is_no_memory (fetched.Spoilt why) = false
-is_no_memory fetched.GetFailed = false
+is_no_memory _ = false
 
 -- the answer to a wish of which nothing is asked
 abbrev pub refusal : Wish → List ℕ
 refusal wish.Bad = fault_answer fault.BadRequest
 refusal wish.NotGet = fault_answer fault.NotAllowed
 refusal wish.NoTarget = fault_answer fault.NotFound
-refusal (wish.Tile s) = []
-refusal (wish.Status s) = []
-refusal (wish.Dirty s) = []
+refusal _ = []
 
+-- nothing is asked of the farm for it
 abbrev pub is_refusal : Wish → Bool
 is_refusal wish.Bad = true
 is_refusal wish.NotGet = true
 is_refusal wish.NoTarget = true
-is_refusal (wish.Tile s) = false
-is_refusal (wish.Status s) = false
-is_refusal (wish.Dirty s) = false
+is_refusal _ = false
 
 -- the answer to what was done: none where the tile is still to be fetched
 abbrev pub answer_of : Act → List ℕ
@@ -161,6 +148,7 @@ abbrev pub answer_behind : List Entry → List ℕ
 answer_behind (Fetch s f ∷ es) = tile_answer f
 answer_behind es = []
 
+-- the Fetch behind a Collect found no memory
 abbrev pub starves_behind : List Entry → Bool
 starves_behind (Fetch s f ∷ es) = is_no_memory f
 starves_behind es = false
@@ -171,10 +159,9 @@ starves_behind es = false
 abbrev pub fits_act : Act → Bool
 fits_act (act.Refused w) = is_refusal w
 fits_act (act.Served s a f) = is_none (number_in a)
-fits_act (act.Asked s a) = true
-fits_act (act.Seen s l) = true
-fits_act (act.Marked s a) = true
+fits_act _ = true
 
+-- the move may be made after those before it
 abbrev pub fits : List (Move Act) → Move Act → Bool
 fits ms (Does a) = fits_act a
 fits ms (Gets r behind) = fits_behind (spot_at r.ask (waiting ms)) behind
@@ -182,27 +169,24 @@ fits ms (Gets r behind) = fits_behind (spot_at r.ask (waiting ms)) behind
 -- an ask without its Fetch is whole where it waits
 abbrev pub whole_act : Act → Bool
 whole_act (act.Asked s a) = is_some (number_in a)
-whole_act (act.Refused w) = true
-whole_act (act.Served s a f) = true
-whole_act (act.Seen s l) = true
-whole_act (act.Marked s a) = true
+whole_act _ = true
 
 -- a reply for which a tile waits has its Fetch, but where it is Cut
 abbrev pub whole_move : List (Move Act) → Move Act → Bool
 whole_move ms (Does a) = whole_act a
 whole_move ms (Gets r behind) = is_none (spot_at r.ask (waiting ms)) || (not (is_empty behind) || is_cut {A = Act} (Gets r behind))
 
+-- the bytes that are answered to a move
 abbrev pub says : List (Move Act) → Move Act → List ℕ
 says ms (Does a) = answer_of a
 says ms (Gets r behind) = answer_behind behind
 
+-- the tile was fetched at once, and no memory found
 abbrev pub starves_act : Act → Bool
 starves_act (act.Served s a f) = is_no_memory f
-starves_act (act.Refused w) = false
-starves_act (act.Asked s a) = false
-starves_act (act.Seen s l) = false
-starves_act (act.Marked s a) = false
+starves_act _ = false
 
+-- an entry of the move was answered with want of memory
 abbrev pub starves : Move Act → Bool
 starves (Does a) = starves_act a
 starves (Gets r behind) = starves_behind behind
@@ -210,11 +194,9 @@ starves (Gets r behind) = starves_behind behind
 -- the request was answered
 abbrev pub is_answer : Act → Bool
 is_answer (act.Asked s a) = false
-is_answer (act.Refused w) = true
-is_answer (act.Served s a f) = true
-is_answer (act.Seen s l) = true
-is_answer (act.Marked s a) = true
+is_answer _ = true
 
+-- with these moves the request was answered
 abbrev pub ends : List (Move Act) → Bool
 ends [] = false
 ends (Does a ∷ ms) = is_answer a || ends ms
@@ -246,7 +228,7 @@ wishes (Gets r behind ∷ ms) = wishes ms
 -- While the head is read, all bytes are kept, and nothing was asked; then one wish was. The ask that waits is kept,
 -- and whether all was answered.
 pub record Knows (given : List ℕ) (ms : List (Move Act)) (talk : Talk) : Type 0 where
-  pub head : is_reading talk.stage ≡ true → (talk.head.items ≡ given) × (length given < 8192) × (wishes ms ≡ [])
+  pub head : is_reading talk.stage ≡ true → (talk.head.items ≡ given) × (length given < most_head_bytes) × (wishes ms ≡ [])
   pub once : is_reading talk.stage ≡ false → (w : Wish) × (wishes ms ≡ w ∷ [])
   pub waits : waiting ms ≡ waits_in talk.stage
   pub ends : ends ms ≡ is_answered talk.stage

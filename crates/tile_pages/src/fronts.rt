@@ -5,8 +5,9 @@ ghost use Rattle.tile_pages.specs.Tiles.{rules_of, Knows};
 use crate::acts::{Act, Wish};
 use crate::hearing::{hear_piece, take_reply};
 use crate::talks::{Stage, Talk, is_answered};
+use farm_base::Worn;
 use farm_history::{Conn, Reply};
-use front_rounds::{Farm, Fate, Front, Worn};
+use front_rounds::{Farm, Fate, Front};
 use std::alloc::Global;
 use std::sync::Wait;
 
@@ -73,5 +74,5 @@ impl<M: Farm> Front<M> for Tiles {
         is_answered(talk.stage)
     }
 
-    ghost alone = { λ tiles farm reply ms. refl };
+    ghost alone = { λ tiles farm reply ms. (refl, refl) };
 }

@@ -6,8 +6,9 @@ ghost use Rattle.tile_pages.specs.Tiles.{rules_of, Knows};
 
 use crate::serving::{fetch_and_say, serve_wish, wish_in};
 use crate::talks::{Stage, Talk, is_reading, keep, read_part, spot_of_ask};
+use farm_base::Worn;
 use farm_history::{Conn, Reply};
-use front_rounds::{Farm, Fate, Reason, Worn};
+use front_rounds::{Farm, Fate, Reason};
 use std::alloc::Global;
 use std::sync::Wait;
 

@@ -1,5 +1,6 @@
 //! One wish at the farm.
 ghost use Rattle.std.specs.Prelude.{◌≡◌, ◌+◌, ◌≤◌, [], true, false, length, OnErr, MatchResult};
+ghost use Rattle.farm_base.specs.Limits.{most_head_bytes};
 ghost use Rattle.farm_history.specs.Past as past;
 ghost use Rattle.front_rounds.specs.Calls.{SameSeat};
 ghost use Rattle.front_rounds.specs.Front.{fate_of};
@@ -10,9 +11,9 @@ ghost use Rattle.tile_pages.specs.declared.acts.Wish.TheVariants as wish;
 
 use crate::acts::Wish;
 use crate::talks::Stage;
-use farm_base::NoMemory;
+use farm_base::{NoMemory, Worn};
 use farm_history::{AskAnswer, Cmd, Conn, Fetched, Spot};
-use front_rounds::{Farm, Fate, Reason, Worn};
+use front_rounds::{Farm, Fate, Reason};
 use std::alloc::Global;
 use std::sync::Wait;
 use tile_answers::{Fault, put_dirty, put_fault, put_status, put_tile};
@@ -20,7 +21,7 @@ use tile_requests::{Kind, Request, read_request};
 
 /// The wish that stands in the bytes; `None` while more are waited for.
 pub(crate) fn wish_in<M: Farm>(farm: &M, bytes: &[u8]) -> Option<Wish>
-    requires { length bytes.now ≤ 8192 }
+    requires { length bytes.now ≤ most_head_bytes }
     ensures { Finds (M.map_at farm.now) bytes.now result }
 {
     match read_request(bytes) {

@@ -1,13 +1,11 @@
 //! What is kept of a session.
 ghost use Rattle.std.specs.Prelude.{◌≡◌, ◌≤◌, ◌-◌, ◌++◌, OnOk, length, take};
+ghost use Rattle.farm_base.specs.Limits.{most_head_bytes};
 ghost use Rattle.tile_requests.specs.Heads.{bytes_read};
 ghost use Rattle.tile_pages.specs.Talks as spec;
 
-use farm_base::NoMemory;
+use farm_base::{MOST_HEAD_BYTES, NoMemory};
 use farm_history::Spot;
-
-/// No more bytes of a connection are read.
-const HEAD_BYTES: usize = 8192;
 
 /// How far a session is.
 #[derive(Clone, Copy)]
@@ -55,15 +53,15 @@ pub(crate) fn spot_of_ask(stage: Stage, ask: u64) -> Option<Spot>
 pub(crate) fn read_part(bytes: &[u8]) -> &[u8]
     ensures { result.now ≡ bytes_read bytes.entry.now }
 {
-    if bytes.len() <= HEAD_BYTES {
+    if bytes.len() <= MOST_HEAD_BYTES {
         return bytes;
     }
-    &bytes[..HEAD_BYTES]
+    &bytes[..MOST_HEAD_BYTES]
 }
 
 /// Puts a piece behind a head, as far as it is read.
 pub(crate) fn keep(head: &mut Vec<u8>, piece: &[u8]) -> Result<(), NoMemory>
-    ensures { length head.old.items ≤ 8192
+    ensures { length head.old.items ≤ most_head_bytes
         → OnOk result (head.new.items ≡ bytes_read (head.old.items ++ piece.now)) }
 {
     head.extend_from_slice(part_for(piece, head.as_slice()))?;
@@ -72,9 +70,9 @@ pub(crate) fn keep(head: &mut Vec<u8>, piece: &[u8]) -> Result<(), NoMemory>
 
 /// The part of a piece that is read behind a head.
 fn part_for<'a>(piece: &'a [u8], head: &[u8]) -> &'a [u8]
-    ensures { result.now ≡ take (8192 - length head.now) piece.entry.now }
+    ensures { result.now ≡ take (most_head_bytes - length head.now) piece.entry.now }
 {
-    let room = HEAD_BYTES.saturating_sub(head.len());
+    let room = MOST_HEAD_BYTES.saturating_sub(head.len());
     if piece.len() <= room {
         return piece;
     }

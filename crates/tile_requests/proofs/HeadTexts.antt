@@ -1,6 +1,7 @@
 -- Heads: none where bytes are refused or waited for, one at most, and the same whatever follows.
 use Rattle.std.proofs.Common.{◌≡◌, ℕ, zero, suc, ◌<◌, ◌≤◌, List, [], ◌∷◌, ◌++◌, length, take, Bool, true, false, eqb, ◌&&◌, ◌||◌, refl, sym, ap, subst, ◌∙◌, arith, append_assoc, length-append}
 use Rattle.std.proofs.lemmas.List.{take-append-le, length-take}
+use Rattle.farm_base.specs.Limits.{most_head_bytes, most_head_fields}
 use Rattle.httparse.specs.Grammar.{ReadsRequest, NeverHasRequest}
 use Rattle.httparse.specs.Spans.{RequestOverflows, RequestExceeds}
 use Rattle.httparse.proofs.GrammarLemmas.{print_request-append, request_unique, ReadsRequest-append}
@@ -8,11 +9,11 @@ use Rattle.tile_requests.specs.Heads.{bytes_read, IsWhole, HasNoHead, begins_new
 use Rattle.tile_requests.specs.Laws.{NoHeadUnlessWhole, OneHead, BadStays, WholeStays}
 
 -- bytes of which no continuation has a head of few headers have none
-overflown : (bytes : List ℕ) → RequestOverflows 32 bytes → HasNoHead bytes
+overflown : (bytes : List ℕ) → RequestOverflows most_head_fields bytes → HasNoHead bytes
 overflown bytes over h is =
     let reads : ReadsRequest (bytes ++ []) h (is.rest ++ []) = ReadsRequest-append bytes h is.rest [] is.reads in
-    let many : 32 < length h.fields = over [] h (is.rest ++ []) reads in
-    let few : length h.fields ≤ 32 = is.few in
+    let many : most_head_fields < length h.fields = over [] h (is.rest ++ []) reads in
+    let few : length h.fields ≤ most_head_fields = is.few in
     omega arith
 
 never_now : (bytes : List ℕ) → NeverHasRequest bytes → HasNoHead bytes
@@ -66,24 +67,24 @@ empty_more (b ∷ bytes) more e =
     either true false false s t e f g = g e
     either false q r s t e f g = g e
 
-overflows_more : (bytes extra : List ℕ) → RequestOverflows 32 bytes → RequestOverflows 32 (bytes ++ extra)
+overflows_more : (bytes extra : List ℕ) → RequestOverflows most_head_fields bytes → RequestOverflows most_head_fields (bytes ++ extra)
 overflows_more bytes extra over more h rest reads = over (extra ++ more) h rest (subst (λ (b : List ℕ). ReadsRequest b h rest) (append_assoc bytes extra more) reads)
 
 never_more : (bytes extra : List ℕ) → NeverHasRequest bytes → NeverHasRequest (bytes ++ extra)
 never_more bytes extra never more h rest reads = never (extra ++ more) h rest (subst (λ (b : List ℕ). ReadsRequest b h rest) (append_assoc bytes extra more) reads)
 
-exceeds_more : (bytes extra : List ℕ) → RequestExceeds 32 bytes → RequestExceeds 32 (bytes ++ extra)
+exceeds_more : (bytes extra : List ℕ) → RequestExceeds most_head_fields bytes → RequestExceeds most_head_fields (bytes ++ extra)
 exceeds_more bytes extra (front, rest, e, h, reads, many) =
     (front, rest ++ extra, ap (λ (b : List ℕ). b ++ extra) e ∙ append_assoc front rest extra, h, reads, many)
 
 bad_more : (given more : List ℕ) → IsBad (bytes_read given) → IsBad (bytes_read (given ++ more))
 bad_more given more (IsNever never) =
-    let on = shown_more 8192 given more in subst (λ (b : List ℕ). IsBad b) (sym on.1) (IsNever (never_more (bytes_read given) on.0 never))
+    let on = shown_more most_head_bytes given more in subst (λ (b : List ℕ). IsBad b) (sym on.1) (IsNever (never_more (bytes_read given) on.0 never))
 bad_more given more (IsLong l none) =
-    let long : 8192 ≤ length given = let e = length-take 8192 given in omega (arith, e, l) in
-    subst (λ (b : List ℕ). IsBad b) (sym (take-append-le 8192 given more long)) (IsLong l none)
+    let long : most_head_bytes ≤ length given = let e = length-take most_head_bytes given in omega (arith, e, l) in
+    subst (λ (b : List ℕ). IsBad b) (sym (take-append-le most_head_bytes given more long)) (IsLong l none)
 bad_more given more (IsCrowded over exceeds e) =
-    let on = shown_more 8192 given more in
+    let on = shown_more most_head_bytes given more in
     subst (λ (b : List ℕ). IsBad b) (sym on.1)
     (IsCrowded (overflows_more (bytes_read given) on.0 over) (exceeds_more (bytes_read given) on.0 exceeds) (empty_more (bytes_read given) on.0 e))
 
@@ -92,6 +93,6 @@ bad_stays given more bad = bad_more given more bad
 
 pub whole_stays : WholeStays
 whole_stays given more h is =
-    let on = shown_more 8192 given more in
+    let on = shown_more most_head_bytes given more in
     subst (λ (b : List ℕ). IsWhole b h) (sym on.1)
     (record { rest = is.rest ++ on.0; reads = ReadsRequest-append (bytes_read given) h is.rest on.0 is.reads; few = is.few })

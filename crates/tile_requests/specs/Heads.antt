@@ -1,6 +1,7 @@
 -- The heads of requests, as `httparse` reads them. Its answer is no function of the bytes: where these have more
 -- than 32 headers, or end within a target, it may refuse at once or later. So what is said here is a relation.
 use Rattle.std.specs.Prelude.{◌≡◌, ℕ, ◌<◌, ◌≤◌, ◌==◌, Bool, true, false, ◌&&◌, ◌||◌, List, [], ◌∷◌, length, take}
+use Rattle.farm_base.specs.Limits.{most_head_bytes, most_head_fields}
 use Rattle.httparse.specs.Grammar.{RequestHead, ReadsRequest, NeverHasRequest, MayBecomeRequest}
 use Rattle.httparse.specs.Spans.{RequestOverflows, RequestExceeds}
 use Rattle.tile_requests.specs.declared.heads.Head.{Head}
@@ -8,13 +9,13 @@ use Rattle.tile_requests.specs.declared.heads.Head.TheVariants.{Open, Bad, Whole
 
 -- the bytes of a connection that are read
 abbrev pub bytes_read : List ℕ → List ℕ
-bytes_read given = take 8192 given
+bytes_read given = take most_head_bytes given
 
 -- the bytes begin with this head, which has at most 32 headers
 pub record IsWhole (bytes : List ℕ) (h : RequestHead) : Type 0 where
   pub rest : List ℕ
   pub reads : ReadsRequest bytes h rest
-  pub few : length h.fields ≤ 32
+  pub few : length h.fields ≤ most_head_fields
 
 -- they begin with no such head
 abbrev pub HasNoHead : List ℕ → Type 0
@@ -38,15 +39,15 @@ has_empty_line (b ∷ bytes) = (b == 10 && ends_line bytes) || has_empty_line by
 -- most 32 headers; or there are more than 32 headers, and an empty line.
 pub data IsBad (bytes : List ℕ) : Type 0 where
   IsNever : NeverHasRequest bytes → IsBad bytes
-  IsLong : 8192 ≤ length bytes → HasNoHead bytes → IsBad bytes
-  IsCrowded : RequestOverflows 32 bytes → RequestExceeds 32 bytes → has_empty_line bytes ≡ true → IsBad bytes
+  IsLong : most_head_bytes ≤ length bytes → HasNoHead bytes → IsBad bytes
+  IsCrowded : RequestOverflows most_head_fields bytes → RequestExceeds most_head_fields bytes → has_empty_line bytes ≡ true → IsBad bytes
 
 -- More bytes are waited for: none came; or they are the beginning of a head; or there are more than 32 headers, and
 -- no empty line.
 pub data IsOpen (bytes : List ℕ) : Type 0 where
   IsNothing : bytes ≡ [] → IsOpen bytes
-  IsPart : length bytes < 8192 → HasNoHead bytes → MayBecomeRequest bytes → IsOpen bytes
-  IsFull : length bytes < 8192 → RequestOverflows 32 bytes → RequestExceeds 32 bytes → has_empty_line bytes ≡ false → IsOpen bytes
+  IsPart : length bytes < most_head_bytes → HasNoHead bytes → MayBecomeRequest bytes → IsOpen bytes
+  IsFull : length bytes < most_head_bytes → RequestOverflows most_head_fields bytes → RequestExceeds most_head_fields bytes → has_empty_line bytes ≡ false → IsOpen bytes
 
 abbrev pub open_unless : Bool → Head
 open_unless true = Bad

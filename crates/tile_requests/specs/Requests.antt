@@ -29,8 +29,7 @@ Reads bytes (Get t) = GetsTile bytes t.kind (place_of t)
 
 -- what a head of that method and target asks for
 abbrev pub Targets : List ℕ → List ℕ → Request → Type 0
-Targets method target Open = ⊥
-Targets method target Bad = ⊥
 Targets method target NotGet = method ≢ codes "GET"
 Targets method target NoTarget = (method ≡ codes "GET") × NamesNone target
 Targets method target (Get t) = (method ≡ codes "GET") × Names target t.kind (place_of t)
+Targets method target _ = ⊥

@@ -1,16 +1,12 @@
 //! The heads of requests, as `httparse` reads them.
 ghost use Rattle.std.specs.Prelude.{◌≡◌, ◌≤◌, ℕ, List, length};
+ghost use Rattle.farm_base.specs.Limits.{most_head_bytes};
 ghost use Rattle.tile_requests.specs.Heads.{IsOpen, IsBad, ReadsHead};
 ghost use Rattle.tile_requests.specs.Heads as spec;
 
+use farm_base::{MOST_HEAD_BYTES, MOST_HEAD_FIELDS};
 use httparse::spans::{EMPTY_HEADER_SPAN, parse_request};
 use httparse::{Error, Status};
-
-/// No more bytes of a connection are read.
-pub const HEAD_BYTES: usize = 8192;
-
-/// A head has no more headers than this.
-pub const HEADERS: usize = 32;
 
 /// A head as far as it came.
 #[derive(Clone, Copy, Debug)]
@@ -25,11 +21,11 @@ pub enum Head<'a> {
 
 /// The head that the bytes begin with.
 pub fn read_head(bytes: &[u8]) -> Head<'_>
-    requires { length bytes.now ≤ 8192 }
+    requires { length bytes.now ≤ most_head_bytes }
     ensures { ReadsHead bytes.entry.now result }
 {
-    let mut headers = [EMPTY_HEADER_SPAN; HEADERS];
-    let is_all = bytes.len() == HEAD_BYTES;
+    let mut headers = [EMPTY_HEADER_SPAN; MOST_HEAD_FIELDS];
+    let is_all = bytes.len() == MOST_HEAD_BYTES;
     match parse_request(bytes, &mut headers) {
         Ok(Status::Complete(head)) => Head::Whole(head.method.of(bytes), head.path.of(bytes)),
         Ok(Status::Partial) => open_unless(is_all),

@@ -7,7 +7,6 @@ mod laws;
 mod requests;
 mod targets;
 
-pub use heads::{HEAD_BYTES, HEADERS};
 pub use laws::{law_one_request, law_stays};
 pub use requests::{Request, read_request};
 pub use targets::{Kind, Target, read_target};

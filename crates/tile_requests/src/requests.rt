@@ -1,5 +1,6 @@
 //! What a connection's bytes ask for.
 ghost use Rattle.std.specs.Prelude.{◌≡◌, ◌≤◌, ◌↔◌, IsTrue, length, codes, IsUtf8};
+ghost use Rattle.farm_base.specs.Limits.{most_head_bytes};
 ghost use Rattle.tile_requests.specs.Requests.{Reads, Targets};
 
 use crate::heads::{Head, read_head};
@@ -26,7 +27,7 @@ pub enum Request<'a> {
 /// where no bytes can follow that make a head, where all 8,192 bytes are there and no head of at most 32
 /// headers, and where there are more headers and an empty line. What stands behind the head is not read.
 pub fn read_request(bytes: &[u8]) -> Request<'_>
-    requires { length bytes.now ≤ 8192 }
+    requires { length bytes.now ≤ most_head_bytes }
     ensures { Reads bytes.entry.now result }
 {
     match read_head(bytes) {

@@ -2,7 +2,7 @@
 use Rattle.std.specs.Prelude.{◌≡◌, ℕ, ◌-◌, ◌^◌, ◌≤◌, Bool, true, false, List, [], ◌++◌, length, min, Result, Ok, Err}
 use Rattle.plain_world.specs.declared.world.Tile.{Tile}
 use Rattle.farm_history.specs.Entries.{Entry}
-use Rattle.front_rounds.specs.declared.farm.Worn.{Worn}
+use Rattle.farm_base.specs.declared.turns.Worn.{Worn}
 use Rattle.front_rounds.specs.declared.fates.Fate.{Fate}
 use Rattle.front_rounds.specs.declared.fates.Fate.TheVariants.{Stays, Leaves}
 use Rattle.front_rounds.specs.declared.fates.Reason.TheVariants as reason
@@ -22,7 +22,7 @@ pub data Says (answer_bytes old new : List ℕ) (fate : Fate) : Type 0 where
 -- the answer to a line that was done is said; or there is no memory for it; or there was none for what was done
 pub data Answers (lists : List (List Tile)) (a : Act) (old new : List ℕ) (fate : Fate) : Type 0 where
   Gives : fate ≡ Stays → act_starves a ≡ false → new ≡ old ++ act_text lists a → Answers lists a old new fate
-  Wants : fate ≡ Leaves reason.Starved → Answers lists a old new fate
+  Wants : fate ≡ Leaves reason.Starved → act_starves a ≡ false → Answers lists a old new fate
   Starves : fate ≡ Leaves reason.NoMemory → act_starves a ≡ true → Answers lists a old new fate
 
 -- so many of the tiles were expired, all of them where no turn was worn; the answer is the sum of the counts
@@ -37,39 +37,20 @@ LongWhy long Stays = long ≡ false
 LongWhy long (Leaves reason.Unread) = long ≡ true
 LongWhy long (Leaves reason.NoMemory) = Unit {0}
 LongWhy long (Leaves reason.Starved) = Unit {0}
-LongWhy long (Leaves reason.Ended) = ⊥
-LongWhy long (Leaves reason.Lost) = ⊥
-LongWhy long (Leaves reason.Cut) = ⊥
-LongWhy long (Leaves reason.Full) = ⊥
-LongWhy long (Leaves reason.SentWhole) = ⊥
-LongWhy long (Leaves reason.SendFailed) = ⊥
+LongWhy long (Leaves _) = ⊥
 
 -- how its last request left the session: one that is too long is answered as any other
 abbrev pub as_done : Fate → Fate
 as_done (Leaves reason.Unread) = Stays
-as_done Stays = Stays
-as_done (Leaves reason.NoMemory) = Leaves reason.NoMemory
-as_done (Leaves reason.Starved) = Leaves reason.Starved
-as_done (Leaves reason.Ended) = Leaves reason.Ended
-as_done (Leaves reason.Lost) = Leaves reason.Lost
-as_done (Leaves reason.Cut) = Leaves reason.Cut
-as_done (Leaves reason.Full) = Leaves reason.Full
-as_done (Leaves reason.SentWhole) = Leaves reason.SentWhole
-as_done (Leaves reason.SendFailed) = Leaves reason.SendFailed
+as_done f = f
 
 module _ (number : ℕ) (lists : List (List Tile)) (c : ℕ) where
   -- why a session goes on after its requests, or does not
   abbrev pub DoneWhy : List Act → Fate → Type 0
   DoneWhy acts Stays = any_starves (rules_of number lists) (does acts) ≡ false
   DoneWhy acts (Leaves reason.NoMemory) = any_starves (rules_of number lists) (does acts) ≡ true
-  DoneWhy acts (Leaves reason.Starved) = Unit {0}
-  DoneWhy acts (Leaves reason.Unread) = ⊥
-  DoneWhy acts (Leaves reason.Ended) = ⊥
-  DoneWhy acts (Leaves reason.Lost) = ⊥
-  DoneWhy acts (Leaves reason.Cut) = ⊥
-  DoneWhy acts (Leaves reason.Full) = ⊥
-  DoneWhy acts (Leaves reason.SentWhole) = ⊥
-  DoneWhy acts (Leaves reason.SendFailed) = ⊥
+  DoneWhy acts (Leaves reason.Starved) = any_starves (rules_of number lists) (does acts) ≡ false
+  DoneWhy acts (Leaves _) = ⊥
 
   -- Of these requests the first were done, the newest first in acts; all of them where the session goes on.
   pub record Did (lines : List Line) (mine mine' : List Entry) (said said' : List ℕ) (fate : Fate) : Type 0 where

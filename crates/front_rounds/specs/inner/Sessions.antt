@@ -7,6 +7,7 @@ use Rattle.front_rounds.specs.declared.fates.Reason.TheVariants as reason
 use Rattle.front_rounds.specs.declared.sessions.Session.{Session}
 use Rattle.front_rounds.specs.Steps.{has}
 
+-- the connections of sessions
 abbrev pub conns : {T : Type 0} → List (Session T) → List ℕ
 conns ss = map (λ s. s.conn) ss
 
@@ -31,43 +32,24 @@ HasConn {T} ss i c = (s : Session T) × (StandsAt ss i s) × (s.conn ≡ c)
 abbrev pub is_up : Fate → Bool
 is_up (Leaves reason.Lost) = false
 is_up (Leaves reason.SendFailed) = false
-is_up Stays = true
-is_up (Leaves reason.Unread) = true
-is_up (Leaves reason.Ended) = true
-is_up (Leaves reason.Cut) = true
-is_up (Leaves reason.Full) = true
-is_up (Leaves reason.SentWhole) = true
-is_up (Leaves reason.NoMemory) = true
-is_up (Leaves reason.Starved) = true
+is_up _ = true
 
 -- all that its bytes ask was asked
 abbrev pub asks_all : Fate → Bool
 asks_all (Leaves reason.Full) = false
 asks_all (Leaves reason.NoMemory) = false
 asks_all (Leaves reason.Starved) = false
-asks_all Stays = true
-asks_all (Leaves reason.Unread) = true
-asks_all (Leaves reason.Ended) = true
-asks_all (Leaves reason.Lost) = true
-asks_all (Leaves reason.Cut) = true
-asks_all (Leaves reason.SentWhole) = true
-asks_all (Leaves reason.SendFailed) = true
+asks_all _ = true
 
+-- the session stays
 abbrev pub stays : Fate → Bool
 stays Stays = true
 stays (Leaves why) = false
 
+-- what stands next in its bytes ends it
 abbrev pub is_unread : Fate → Bool
 is_unread (Leaves reason.Unread) = true
-is_unread Stays = false
-is_unread (Leaves reason.Ended) = false
-is_unread (Leaves reason.Lost) = false
-is_unread (Leaves reason.Cut) = false
-is_unread (Leaves reason.Full) = false
-is_unread (Leaves reason.SentWhole) = false
-is_unread (Leaves reason.SendFailed) = false
-is_unread (Leaves reason.NoMemory) = false
-is_unread (Leaves reason.Starved) = false
+is_unread _ = false
 
 -- of an earlier fate and a later one: the later, if it is an end
 abbrev pub worse : Fate → Fate → Fate
@@ -86,6 +68,7 @@ woken s = record s { owes = true }
 abbrev pub newcomer : {T : Type 0} → ℕ → T → Session T
 newcomer c talk = record { conn = c; talk = talk; fate = Stays; owes = false }
 
+-- the session is left
 abbrev pub leaves : Fate → Bool
 leaves Stays = false
 leaves (Leaves why) = true
@@ -94,5 +77,6 @@ leaves (Leaves why) = true
 abbrev pub IsLeaving : {T : Type 0} → List (Session T) → ℕ → ℕ → Reason → Type 0
 IsLeaving {T} ss i c why = (s : Session T) × (StandsAt ss i s) × (s.conn ≡ c) × (s.fate ≡ Leaves why)
 
+-- a session that stays
 abbrev pub StaysOn : {T : Type 0} → Session T → Type 0
 StaysOn s = s.fate ≡ Stays

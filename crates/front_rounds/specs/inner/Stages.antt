@@ -1,5 +1,6 @@
 -- The stages of a round: what each does to the steps and to all that is told by them.
 use Rattle.std.specs.Prelude.{◌≡◌, ℕ, ◌<◌, ◌≤◌, Bool, true, false, ◌⊎◌, List, [], ◌∷◌, ◌++◌, length, drop, set, Option, Some, None, option_map, IfSome, Ok, Err, ◌-◌, ◌^◌, min}
+use Rattle.farm_base.specs.Limits.{most_rest_bytes, most_sessions}
 use Rattle.farm_history.specs.Lists.{Each}
 use Rattle.farm_history.specs.Entries.{Entry, Stop}
 use Rattle.farm_history.specs.declared.queues.Reply.{Reply}
@@ -22,7 +23,7 @@ use Rattle.front_rounds.specs.declared.sessions.SessionTable.{SessionTable}
 use Rattle.front_rounds.specs.declared.offering.Gave.{Gave}
 use Rattle.front_rounds.specs.declared.offering.Gave.TheVariants as gave
 use Rattle.front_rounds.specs.Rules.{Rules, Move}
-use Rattle.front_rounds.specs.Steps.{Step, has, Phase, Fresh, Hearing, Collecting, Offering, Leaving, phase, MayBegin, own, starved_in}
+use Rattle.front_rounds.specs.Steps.{Step, has, Phase, Hearing, Collecting, Offering, phase, MayBegin, own, starved_in}
 use Rattle.front_rounds.specs.Parts.{told_after, EachMayCome}
 use Rattle.front_rounds.specs.Rounds.{Sound}
 use Rattle.front_rounds.specs.Serving.{EndsAt}
@@ -34,65 +35,40 @@ use Rattle.front_rounds.specs.inner.Stands.{World, Stands, IsAtRest}
 abbrev pub EndsEarly : PortEvent → Option FrontEnd → Type 0
 EndsEarly event.Broken end = end ≡ Some ended.Broken
 EndsEarly event.NoMemory end = end ≡ Some ended.NoMemory
-EndsEarly (event.Opened c) end = end ≡ None
-EndsEarly (event.Bytes c) end = end ≡ None
-EndsEarly (event.Writable c) end = end ≡ None
-EndsEarly (event.Ended c) end = end ≡ None
-EndsEarly (event.Lost c) end = end ≡ None
-EndsEarly event.Woken end = end ≡ None
-EndsEarly event.Finished end = end ≡ None
+EndsEarly _ end = end ≡ None
 
 -- how a front ends after a round
 abbrev pub end_of : PortEvent → Bool → Option FrontEnd
 end_of e true = Some ended.Stopped
 end_of event.Finished false = Some ended.Finished
-end_of event.Broken false = None
-end_of event.NoMemory false = None
-end_of (event.Opened c) false = None
-end_of (event.Bytes c) false = None
-end_of (event.Writable c) false = None
-end_of (event.Ended c) false = None
-end_of (event.Lost c) false = None
-end_of event.Woken false = None
+end_of _ false = None
 
--- the stop at a front's end, which may be worn: none at Finished
+-- the stop at a front's end, which may be worn
 abbrev pub Stopping : FrontEnd → FrontEnd → List Entry → List Entry → Bool → Type 0
 Stopping end end' mine mine' worn = ((end' ≡ end) × (mine' ≡ mine ++ Stop ∷ [])) ⊎ ((end' ≡ ended.Worn) × (mine' ≡ mine) × (worn ≡ true))
 
+-- what a front does at its end: it stops the farm, but where its ports finished
 abbrev pub StopsAfter : FrontEnd → FrontEnd → List Entry → List Entry → Bool → Type 0
 StopsAfter ended.Finished end' mine mine' worn = (end' ≡ ended.Finished) × (mine' ≡ mine)
-StopsAfter ended.Stopped end' mine mine' worn = Stopping ended.Stopped end' mine mine' worn
-StopsAfter ended.Broken end' mine mine' worn = Stopping ended.Broken end' mine mine' worn
-StopsAfter ended.NoMemory end' mine mine' worn = Stopping ended.NoMemory end' mine mine' worn
-StopsAfter ended.Worn end' mine mine' worn = Stopping ended.Worn end' mine mine' worn
+StopsAfter end end' mine mine' worn = Stopping end end' mine mine' worn
 
 -- a session as its Writable, its Ended or its Lost leaves it
 abbrev pub marked : {T : Type 0} → PortEvent → Session T → Session T
 marked (event.Writable c) s = record s { owes = true }
 marked (event.Ended c) s = record s { fate = Leaves reason.Ended }
 marked (event.Lost c) s = record s { fate = Leaves reason.Lost }
-marked (event.Opened c) s = s
-marked (event.Bytes c) s = s
-marked event.Woken s = s
-marked event.Finished s = s
-marked event.Broken s = s
-marked event.NoMemory s = s
+marked _ s = s
 
 -- the round of this event hears or collects
 abbrev pub IsAt : PortEvent → Phase → Type 0
 IsAt e (Hearing f) = f ≡ e
 IsAt e (Collecting f) = f ≡ e
-IsAt e Fresh = ⊥
-IsAt e (Offering f stopped) = ⊥
-IsAt e (Leaving f stopped) = ⊥
+IsAt _ _ = ⊥
 
 -- the round of this event, whose last Collect was answered so, offers bytes
 abbrev pub IsOffering : PortEvent → Bool → Phase → Type 0
 IsOffering e stopped (Offering f was) = (f ≡ e) × (was ≡ stopped)
-IsOffering e stopped Fresh = ⊥
-IsOffering e stopped (Hearing f) = ⊥
-IsOffering e stopped (Collecting f) = ⊥
-IsOffering e stopped (Leaving f was) = ⊥
+IsOffering _ _ _ = ⊥
 
 -- no session owes an offer that is kept
 abbrev pub OwesNone : {T : Type 0} → Session T → Type 0
@@ -102,9 +78,9 @@ OwesNone s = keeps s.fate ≡ true → s.owes ≡ false
 -- or no memory.
 pub data Settles (c : ℕ) (said : List ℕ) (fate fate' : Fate) (box box' : List (ℕ × List ℕ)) : Type 0 where
   Passes : keeps fate ≡ false → fate' ≡ fate → box' ≡ box → Settles c said fate fate' box box'
-  Holds : keeps fate ≡ true → fate' ≡ fate → box' ≡ put_rest box c (rest_in box c ++ said) → length (rest_in box c ++ said) ≤ 1048576 → Settles c said fate fate' box box'
-  Overflows : keeps fate ≡ true → fate' ≡ Leaves reason.Full → box' ≡ box → 1048576 < length (rest_in box c ++ said) → Settles c said fate fate' box box'
-  Starves : keeps fate ≡ true → fate' ≡ Leaves reason.Starved → box' ≡ box → Settles c said fate fate' box box'
+  Holds : keeps fate ≡ true → fate' ≡ fate → box' ≡ put_rest box c (rest_in box c ++ said) → length (rest_in box c ++ said) ≤ most_rest_bytes → Settles c said fate fate' box box'
+  Overflows : keeps fate ≡ true → fate' ≡ Leaves reason.Full → box' ≡ box → most_rest_bytes < length (rest_in box c ++ said) → Settles c said fate fate' box box'
+  Starves : keeps fate ≡ true → fate' ≡ Leaves reason.Starved → box' ≡ box → length (rest_in box c ++ said) ≤ most_rest_bytes → Settles c said fate fate' box box'
 
 -- What an offer does: nothing is due; some bytes are left; all were taken; it failed; or there is no memory.
 abbrev pub Gives : ℕ → List ℕ → List (ℕ × List ℕ) → List (ℕ × List ℕ) → Option PortsTold → Option PortsTold → Gave → Type 0
@@ -257,6 +233,6 @@ module _ {A W T : Type 0} (R : Rules A W) (K : List ℕ → List (Move A) → T 
 
   -- a connection that is not there got a session; or nothing changed
   abbrev pub Admits : ℕ → SessionTable T → SessionTable T → Bool → Type 0
-  Admits c old new true = (talk : T) × (Begins R K talk) × (length old.sessions.items < 1024) × (has (conns old.sessions.items) c ≡ false) × (new.sessions.items ≡ old.sessions.items ++ newcomer c talk ∷ [])
+  Admits c old new true = (talk : T) × (Begins R K talk) × (length old.sessions.items < most_sessions) × (has (conns old.sessions.items) c ≡ false) × (new.sessions.items ≡ old.sessions.items ++ newcomer c talk ∷ [])
       × (new.outbox ≡ old.outbox ++ (c, []) ∷ []) × (new.starved ≡ old.starved)
   Admits c old new false = (new.sessions.items ≡ old.sessions.items) × (new.outbox ≡ old.outbox) × (new.starved ≡ old.starved)

@@ -23,6 +23,7 @@ pub record World (T : Type 0) : Type 0 where
   pub box : List (ℕ × List ℕ)
   pub starved : ℕ
 
+-- a front's table, its own entries and what its ports tell, as one
 abbrev pub world : {T : Type 0} → Option PortsTold → List Entry → SessionTable T → World T
 world told mine table = record { told = told; mine = mine; sessions = table.sessions.items; box = table.outbox; starved = table.starved }
 
@@ -31,6 +32,7 @@ abbrev pub IsAtRest : {T : Type 0} → Session T → Type 0
 IsAtRest s = (s.fate ≡ Stays) × (s.owes ≡ false)
 
 module _ {A W : Type 0} (R : Rules A W) where
+  -- a session stays where nothing closes its connection, and leaves with its cause
   abbrev pub FateFits : Part A → Fate → Type 0
   FateFits p Stays = Calm R p
   FateFits p (Leaves why) = Caused R p why
@@ -50,6 +52,7 @@ module _ {A W T : Type 0} (R : Rules A W) (K : List ℕ → List (Move A) → T 
     pub whole : each_whole R p.moves ≡ true
     pub knows : K p.given p.moves s.talk
     pub running : Running p
+    pub memory : p.starved ≡ false
     pub owed : s.owes ≡ true → (p.tried ≡ false) × (must R p ≡ true)
     pub offered : s.owes ≡ false → Offered R p
 

@@ -1,5 +1,6 @@
 use Rattle.std.proofs.Common.{◌≡◌, ◌≤◌, ℕ, List, length, true, false, refl, sym, ap, subst, ◌∙◌, rules, arith}
 use Rattle.std.proofs.lemmas.List.{length-take}
+use Rattle.farm_base.specs.Limits.{most_head_bytes}
 use Rattle.tile_requests.specs.Heads.{bytes_read, IsOpen}
 use Rattle.tile_pages.specs.Talks.{is_reading}
 use Rattle.tile_pages.specs.Tiles.{Asks}
@@ -33,4 +34,4 @@ returns-clause-heard g c =
 
 pub wish_in-requires : goal.wish_in-requires
 wish_in-requires g c =
-    let e = length-take 8192 c.as_slice.result.now in subst (λ (b : List ℕ). length b ≤ 8192) (sym c.read_part.ensures) (omega (arith, e))
+    let e = length-take most_head_bytes c.as_slice.result.now in subst (λ (b : List ℕ). length b ≤ most_head_bytes) (sym c.read_part.ensures) (omega (arith, e))
