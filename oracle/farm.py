@@ -17,7 +17,8 @@ how often each answer and each refusal comes in a folder's cases. A line of a fo
 
 and may end with `puts N..` and then `gets N..`: which calls of the store, counted from 0, are to fail. A row is
 written as those of `oracle/texts.py` are, and `\\n` and `\\r` in it are line ends. What a row wants is what its text
-says of the file, or `ok`; the command ends with status 1 where another thing comes.
+says of the file, or `ok`; the command ends with status 1 where another thing comes. Before the answers of a line stands
+`case` with the line, and before that of a row `row TABLE:LINE`.
 
 Tiles are drawn by `tilefarm.py`. It needs Python 3 and nothing else.
 """
@@ -791,31 +792,37 @@ def calls_after(words, sign):
 
 
 def rows_told(folder, kind, table, names):
-    """Each row of a table as one file of a run, with what it wants."""
-    for wanted, text in texts.rows_of(tilefarm.read(folder, table).decode()):
+    """Each row of a table as one file of a run, with its name and what it wants."""
+    for number, wanted, text in texts.rows_of(tilefarm.read(folder, table).decode()):
         data = text.replace("\\n", "\n").replace("\\r", "\r").encode()
         name = kind[:-1]
         words = ["script", name, names[0]] if kind == "configs" else ["script", names[0], name]
         told = run(Files(folder, names, {name: data}), words)
         found = told[1].decode().replace("tilefarm: %s: " % name, "").strip() or "ok"
-        yield told, None if found == wanted else "%s: %s wanted of %s, not %s" % (table, wanted, text[:200], found)
+        at = "%s:%d" % (table, number)
+        yield "row %s\n" % at, told, None if found == wanted else "%s: %s wanted of %s, not %s" % (at, wanted, text[:200], found)
 
 
 def told_cases(folder):
-    """What each case puts on out and err and its status, and what else its table wanted."""
+    """Of each case the lines that name it, what it puts on out and err and its status, and what else its table wanted."""
     for line in tilefarm.read(folder, "cases").decode().splitlines():
+        named = "case %s\n" % line
         words, gets = calls_after(line.split(" "), "gets")
         words, puts = calls_after(words, "puts")
-        if words[0] in ("configs", "scripts"):
-            yield from rows_told(folder, words[0], words[1], words[2:])
-        else:
-            yield run(Files(folder), words, puts, gets), None
+        if words[0] not in ("configs", "scripts"):
+            yield named, run(Files(folder), words, puts, gets), None
+            continue
+        for row, told, want in rows_told(folder, words[0], words[1], words[2:]):
+            yield named + row, told, want
+            named = ""
+        if named:
+            raise ValueError("no row in " + words[1])
 
 
 def cases(folder):
     wrong = 0
-    for (out, err, status), want in told_cases(folder):
-        sys.stdout.buffer.write(out + err + b"status %d\n" % status)
+    for named, (out, err, status), want in told_cases(folder):
+        sys.stdout.buffer.write(named.encode() + out + err + b"status %d\n" % status)
         sys.stdout.buffer.flush()
         if want:
             print(want, file=sys.stderr)
@@ -826,7 +833,7 @@ def cases(folder):
 def answers(folder):
     """How often each answer comes: numbers that are places or counts are left out."""
     counts = collections.Counter()
-    for (out, err, status), _ in told_cases(folder):
+    for _, (out, err, status), _ in told_cases(folder):
         place = 0
         while place < len(out):
             end = out.index(b"\n", place)

@@ -1,13 +1,13 @@
 #!/usr/bin/env python3
-"""What texts of styles, data, updates, filters, configurations, scripts, expiry lists, saved farms and paths are read
-as, written a second time, from the formats alone.
+"""What texts of styles, data, updates, filters, configurations, scripts, expiry lists, containers, saved farms and paths
+are read as, written a second time, from the formats alone.
 
 It is no part of the product. The wanted output of the crate `text_cases` is made by it, from the repository's top by
 
     python3 oracle/texts.py crates/text_cases/data > crates/text_cases/stdout
 
-and it ends with status 1 where a row wants what it does not read: the wants were worked out by hand, so each row has
-two sources that know nothing of the program. The folder's file `cases` has a line for each file:
+and it ends with status 1 where a row wants what it does not read, or a table has no row: the wants were worked out by
+hand, so each row has two sources that know nothing of the program. The folder's file `cases` has a line for each file:
 
     KIND rows FILE          FILE is a table of texts: `in A%B` says what the texts after it stand in, at the `%`;
                             `WANTED <- TEXT` is a text, and `WANTED <* COUNT SEPARATOR PIECE` one of COUNT pieces,
@@ -19,8 +19,9 @@ two sources that know nothing of the program. The folder's file `cases` has a li
                             alike, behind the byte's place and its value
 
 Each text gives one line: its first fault, or that it is read; of a filter its tree or its value, of an update the
-layers after it, and of a path its metatile. A table's wants are of all that is read, object by object. It needs Python
-3 and nothing else.
+layers after it, of an expiry list its tiles, of a container its entries, and of a path its metatile. Before it stands
+`case` with the line of `cases`, and before each text of a table `row FILE:LINE`. A table's wants are of all that is
+read, object by object. It needs Python 3 and nothing else.
 """
 
 import os
@@ -408,6 +409,22 @@ def list_told(data):
     return ["tiles %d" % len(made)] + made
 
 
+# --- Containers -------------------------------------------------------------------------------------------------
+
+
+def meta_told(data):
+    """The metatile of a container and its entries; a fault tells what it is of."""
+    number = lambda at: int.from_bytes(data[at : at + 4], "little")
+    try:
+        lines = tilefarm.listing_of(data).decode().splitlines()
+    except Refused as fault:
+        of = {"meta 1": " of %d" % len(data), "meta 4": " of %d" % number(4)}
+        of["meta 5"] = " of %d %d %d" % (number(8), number(12), number(16))
+        of["meta 6"] = " at %s" % fault.place
+        raise Refused(str(fault) + of.get(str(fault), ""))
+    return ["metatile " + lines[0]] + ["place %s at %s of %s" % tuple(line.split(" ")) for line in lines[1:]]
+
+
 # --- Paths of metatiles -----------------------------------------------------------------------------------------
 
 
@@ -478,7 +495,7 @@ def saved_told(data):
 
 # of these the program writes no more than that they are read: what is read of them is drawn, or run, by the programs
 # that run commands, and a saved farm is written again byte for byte
-BRIEF = ("style", "data", "update", "config", "script", "list", "saved")
+BRIEF = ("style", "data", "update", "config", "script", "saved")
 
 
 def told(kind, data, old):
@@ -486,7 +503,7 @@ def told(kind, data, old):
     plain = {"style": style_told, "data": data_told, "update": update_told}
     plain.update({"filter": filter_told, "written": written_told, "again": again_told})
     plain.update({"config": config_told, "script": script_told, "list": list_told})
-    plain.update({"path": metatile_told, "saved": saved_told})
+    plain.update({"path": metatile_told, "saved": saved_told, "meta": meta_told})
     try:
         if kind in plain:
             lines = plain[kind](data)
@@ -498,51 +515,72 @@ def told(kind, data, old):
 
 
 def rows_of(text):
-    """What each row of a table wants, and its text."""
+    """The number of each row's line in a table, what the row wants, and its text."""
     before = after = ""
-    for line in text.split("\n"):
+    for number, line in enumerate(text.split("\n"), 1):
         if line.startswith("in "):
             before, after = line[3:].split("%")
         elif " <- " in line:
             wanted, piece = line.split(" <- ", 1)
-            yield wanted, before + piece + after
+            yield number, wanted, before + piece + after
         elif " <* " in line:
             wanted, recipe = line.split(" <* ", 1)
             count, separator, piece = recipe.split(" ", 2)
-            pieces = [piece.replace("#", str(number), 1) for number in range(int(count))]
-            yield wanted, before + separator.join(pieces) + after
+            pieces = [piece.replace("#", str(place), 1) for place in range(int(count))]
+            yield number, wanted, before + separator.join(pieces) + after
+
+
+def beginnings(kind, data, old):
+    """What the proper beginnings of a text are told by, once where they are told alike."""
+    last = None
+    for length in range(len(data)):
+        line = told(kind, data[:length], old)[1]
+        if line != last:
+            yield line
+        last = line
+
+
+def changes(kind, data, old):
+    """What a text is told by with each value of each of its bytes in turn."""
+    for place in range(len(data)):
+        last = None
+        for byte in range(256):
+            line = told(kind, data[:place] + bytes([byte]) + data[place + 1 :], old)[1]
+            if line != last:
+                yield "%d %d %s" % (place, byte, line)
+            last = line
+
+
+def table(kind, name, data, old, is_known):
+    """The rows of a table; the number of those that want something else, and one where there is none."""
+    count = wrong = 0
+    for number, wanted, text in rows_of(data.decode()):
+        lines, line = told(kind, text.encode(), old)
+        print("row %s:%d\n%s" % (name, number, line))
+        count += 1
+        if not is_known and wanted not in lines:
+            print("%s:%d: %s wanted of %s, not %s" % (name, number, wanted, text[:200], lines[:20]), file=sys.stderr)
+            wrong += 1
+    if not count:
+        print("%s: no row" % name, file=sys.stderr)
+    return wrong or not count
 
 
 def cases(folder):
     read = lambda name: open(os.path.join(folder, name), "rb").read()
     old, known, wrong = read("old.data"), set(), 0
     for line in read("cases").decode().splitlines():
+        print("case " + line)
         kind, form, name = line.split(" ")
-        data, last = read(name), None
+        data = read(name)
         if form == "whole":
             print(told(kind, data, old)[1])
-        elif form == "beginnings":
-            for length in range(len(data)):
-                line = told(kind, data[:length], old)[1]
-                if line != last:
-                    print(line)
-                last = line
-        elif form == "changes":
-            for place in range(len(data)):
-                last = None
-                for byte in range(256):
-                    line = told(kind, data[:place] + bytes([byte]) + data[place + 1 :], old)[1]
-                    if line != last:
-                        print(place, byte, line)
-                    last = line
-        else:
-            for wanted, text in rows_of(data.decode()):
-                lines, line = told(kind, text.encode(), old)
-                print(line)
-                if name not in known and wanted not in lines:
-                    print("%s: %s wanted of %s, not %s" % (name, wanted, text, lines), file=sys.stderr)
-                    wrong += 1
+        elif form == "rows":
+            wrong += table(kind, name, data, old, name in known)
             known.add(name)
+        else:
+            for made in {"beginnings": beginnings, "changes": changes}[form](kind, data, old):
+                print(made)
     return wrong
 
 

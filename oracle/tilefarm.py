@@ -6,6 +6,7 @@ the wanted output of the crate `drawn_cases` is made by it, from the repository'
 
     python3 oracle/tilefarm.py cases crates/drawn_cases/data > crates/drawn_cases/stdout
 
+with `case` and the line of `cases` before each answer;
 and one command is run by `python3 oracle/tilefarm.py render STYLE DATA T Z X Y` or `.. meta FILE`. Every pixel is
 computed by itself: for each pixel's centre, through layers, styles, features, rules and symbolizers in order.
 It needs Python 3 and nothing else.
@@ -28,7 +29,11 @@ COLOURS = {
 
 
 class Refused(Exception):
-    """A file's first fault, as its text."""
+    """A file's first fault, as its text, and the place that it speaks of beside it."""
+
+    def __init__(self, text, place=None):
+        super().__init__(text)
+        self.place = place
 
 
 class Ended(Exception):
@@ -869,7 +874,7 @@ def listing_of(data):
         if size == 0:
             continue
         if offset < 532 or offset + size > len(data):
-            raise Refused("meta 6")
+            raise Refused("meta 6", place)
         lines.append("%d %d %d" % (place, offset, size))
     return "".join(line + "\n" for line in lines).encode()
 
@@ -899,7 +904,7 @@ def main(words):
     if len(words) == 2 and words[0] == "cases":
         for line in read(words[1], "cases").decode().splitlines():
             out, err, status = run(words[1], line.split(" "))
-            sys.stdout.buffer.write(out + err + b"status %d\n" % status)
+            sys.stdout.buffer.write(b"case %s\n" % line.encode() + out + err + b"status %d\n" % status)
             sys.stdout.buffer.flush()
         out, err, _status = run(words[1], read(words[1], "../args").decode().splitlines())
         sys.stdout.buffer.write(out + err)

@@ -3,7 +3,8 @@
 //!
 //! A line `configs TABLE FILE..` or `scripts TABLE FILE..` runs `script` once for each row of the table, with the row
 //! as the configuration or the script and these files alone beside it. `puts N..` and then `gets N..` at a line's end
-//! are the calls of the store that are to fail.
+//! are the calls of the store that are to fail. Before the answers stands `case` with the line, and before that of a row
+//! `row TABLE:LINE`.
 #![tactic(auto)]
 
 use case_rows::{Frame, frame_of, row};
@@ -17,8 +18,8 @@ use std::sync::Wait;
 use std::thread::Threads;
 use tile_store::MemStore;
 
-/// Runs the cases, and writes of each what it puts on out, then what it puts on err, then its status; `None` where
-/// the cases cannot be read, a put on out fails, or memory runs out.
+/// Runs the cases, and writes of each its line, what it puts on out, then what it puts on err, then its status; `None`
+/// where the cases cannot be read, a put on out fails, or memory runs out.
 pub fn run_cases<R: Threads + Wait + Clock + Sync, F: Files, O: Sink>(
     threads: &R,
     alloc: Global,
@@ -27,9 +28,14 @@ pub fn run_cases<R: Threads + Wait + Clock + Sync, F: Files, O: Sink>(
 ) -> Option<()> {
     let cases = files.read(alloc, "cases").ok()?;
     for line in str::from_utf8(cases.as_slice()).ok()?.lines() {
+        put_line(format!(in alloc; "case {line}\n").ok()?, out)?;
         case(threads, alloc, line, files, out)?;
     }
     Some(())
+}
+
+fn put_line<O: Sink>(line: String, out: &mut O) -> Option<()> {
+    out.put(line.as_bytes()).ok()
 }
 
 fn case<R: Threads + Wait + Clock + Sync, F: Files, O: Sink>(
@@ -89,8 +95,7 @@ fn answer<R: Threads + Wait + Clock + Sync, F: Files, O: Sink>(
         &mut err,
     )?;
     out.put(err.bytes()).ok()?;
-    let last = format!(in alloc; "status {status}\n").ok()?;
-    out.put(last.as_bytes()).ok()
+    put_line(format!(in alloc; "status {status}\n").ok()?, out)
 }
 
 fn words_of(alloc: Global, line: &str) -> Option<Vec<String>> {
@@ -128,9 +133,10 @@ fn status_of<R: Threads + Wait + Clock + Sync, F: Files, O: Sink>(
     Some(end.into_status())
 }
 
-// How the rows of a table are run: the words, the name that a row has as a file, and the files beside it.
+// How the rows of a table are run: its name, the words, the name that a row has as a file, and the files beside it.
 #[derive(Clone, Copy)]
 struct Frames<'a> {
+    table: &'a str,
     words: &'a str,
     row: &'a str,
     beside: &'a str,
@@ -152,6 +158,7 @@ fn table<R: Threads + Wait + Clock + Sync, F: Files, O: Sink>(
     if kind == "configs" {
         let words = format!(in alloc; "script config {other}").ok()?;
         let way = Frames {
+            table: name,
             words: words.as_str(),
             row: "config",
             beside,
@@ -160,6 +167,7 @@ fn table<R: Threads + Wait + Clock + Sync, F: Files, O: Sink>(
     }
     let words = format!(in alloc; "script {other} script").ok()?;
     let way = Frames {
+        table: name,
         words: words.as_str(),
         row: "script",
         beside,
@@ -180,13 +188,30 @@ fn each_row<R: Threads + Wait + Clock + Sync, F: Files, O: Sink>(
         before: "",
         after: "",
     };
-    for line in text.lines() {
-        match frame_of(line) {
+    let mut number = 0u32;
+    for text in text.lines() {
+        number = number.saturating_add(1);
+        match frame_of(text) {
             Some(next) => around = next,
-            None => one_row(threads, alloc, way, &around, line, files, out)?,
+            None => {
+                let line = Line {
+                    around,
+                    number,
+                    text,
+                };
+                one_row(threads, alloc, way, line, files, out)?;
+            }
         }
     }
     Some(())
+}
+
+// A line of a table, with what its text stands in.
+#[derive(Clone, Copy)]
+struct Line<'a> {
+    around: Frame<'a>,
+    number: u32,
+    text: &'a str,
 }
 
 // The row of a line, if it is one.
@@ -194,22 +219,21 @@ fn one_row<R: Threads + Wait + Clock + Sync, F: Files, O: Sink>(
     threads: &R,
     alloc: Global,
     way: &Frames<'_>,
-    around: &Frame<'_>,
-    line: &str,
+    line: Line<'_>,
     files: &mut F,
     out: &mut O,
 ) -> Option<()> {
-    match row(alloc, around, line).ok()? {
-        Some(found) => {
-            let mut alone = files_with(alloc, way, found.as_str(), files)?;
-            let failing = Failing {
-                puts: Vec::new(alloc),
-                gets: Vec::new(alloc),
-            };
-            answer(threads, alloc, way.words, &mut alone, failing, out)
-        }
-        None => Some(()),
-    }
+    let Some(found) = row(alloc, &line.around, line.text).ok()? else {
+        return Some(());
+    };
+    let mut alone = files_with(alloc, way, found.as_str(), files)?;
+    let (table, number) = (way.table, line.number);
+    put_line(format!(in alloc; "row {table}:{number}\n").ok()?, out)?;
+    let failing = Failing {
+        puts: Vec::new(alloc),
+        gets: Vec::new(alloc),
+    };
+    answer(threads, alloc, way.words, &mut alone, failing, out)
 }
 
 // The row as a file, and those beside it.

@@ -7,4 +7,6 @@ mod messages;
 #[cfg(test)]
 mod outside;
 #[cfg(test)]
+mod places;
+#[cfg(test)]
 mod stores;

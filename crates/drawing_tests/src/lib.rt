@@ -1,6 +1,6 @@
 //! Drawings that no command reaches: a metatile's tiles in their places, one of very many points, and a map
-//! whose grids are not bound; the bits of a mask; and an update of very many ids. The tiles that a command draws
-//! are those of the program `drawn_cases`.
+//! whose grids are not bound; the bits of a mask; an update of very many ids; and values that were worked out by
+//! hand. The tiles that a command draws are those of the program `drawn_cases`.
 #![tactic(auto)]
 
 #[cfg(test)]
@@ -9,5 +9,7 @@ mod drawings;
 mod masks;
 #[cfg(test)]
 mod metatiles;
+#[cfg(test)]
+mod rows;
 #[cfg(test)]
 mod updates;

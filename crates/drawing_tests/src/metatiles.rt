@@ -16,10 +16,10 @@ use std::alloc::Global;
 use std::test::Fail;
 use tile_render::{draw_meta, draw_tile};
 
-const RED: &str =
+pub(crate) const RED: &str =
     r#"{"styles":[{"name":"s","rules":[{"symbolizers":[{"symbolizer":"PolygonSymbolizer","fill":"red"}]}]}],"layers":[{"name":"l","source":"land","styles":["s"]}]}"#;
 
-const SQUARE: &str =
+pub(crate) const SQUARE: &str =
     r#"{"units":"world","layers":[{"name":"land","features":[{"id":1,"geometry":{"polygon":[[[268435456,268435456],[805306368,268435456],[805306368,805306368],[268435456,805306368]]]}}]}]}"#;
 
 #[test]

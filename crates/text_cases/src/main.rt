@@ -1,7 +1,9 @@
-//! Reads the texts of styles, data, updates, filters, configurations, scripts, expiry lists, saved farms and paths that
-//! stand in files, and writes of each one line: its first fault, or that it is read; of a filter its tree or its value,
-//! and of an update the layers after it. What is wanted of it was computed by another program, which was written from the
-//! formats alone, and agrees with what the tables want of each text.
+//! Reads the texts of styles, data, updates, filters, configurations, scripts, expiry lists, containers, saved farms and
+//! paths that stand in files, and writes of each one line: its first fault, or that it is read; of a filter its tree or
+//! its value, of an update the layers after it, of an expiry list its tiles, and of a container its entries. Before that
+//! stand the line of the file `cases`, and of a text in a table the table and its line there. What is wanted of it was
+//! computed by another program, which was written from the formats alone, and agrees with what the tables want of each
+//! text.
 #![tactic(auto)]
 
 mod change_told;
@@ -9,6 +11,7 @@ mod config_told;
 mod data_told;
 mod filter_told;
 mod lines_told;
+mod meta_told;
 mod path_told;
 mod saved_told;
 mod style_told;
@@ -18,6 +21,7 @@ use crate::config_told::config_told;
 use crate::data_told::{data_told, update_told};
 use crate::filter_told::{again_told, filter_told, value_told, written_told};
 use crate::lines_told::{list_told, script_told};
+use crate::meta_told::meta_told;
 use crate::path_told::path_told;
 use crate::saved_told::saved_told;
 use crate::style_told::style_told;
@@ -61,30 +65,38 @@ fn case<F: Files, O: Sink>(
     let (kind, rest) = line.split_once(' ')?;
     let (form, name) = rest.split_once(' ')?;
     let bytes = files.read(alloc, name).ok()?;
+    put_line(&format!(in alloc; "case {line}").ok()?, out)?;
+    let bytes = bytes.as_slice();
     match form {
-        "rows" => table(alloc, kind, bytes.as_slice(), old, out),
-        "beginnings" => beginnings(alloc, kind, bytes.as_slice(), old, out),
-        "changes" => changes(alloc, kind, bytes.as_slice(), old, out),
-        "whole" => put(alloc, &told(alloc, kind, bytes.as_slice(), old)?, out),
+        "rows" => table(alloc, Rows { kind, name, bytes }, old, out),
+        "beginnings" => beginnings(alloc, kind, bytes, old, out),
+        "changes" => changes(alloc, kind, bytes, old, out),
+        "whole" => put(alloc, &told(alloc, kind, bytes, old)?, out),
         _ => None,
     }
 }
 
-fn table<O: Sink>(
-    alloc: Global,
-    kind: &str,
-    bytes: &[u8],
-    old: &Snapshot,
-    out: &mut O,
-) -> Option<()> {
+// The file of a table, and of which kind its texts are.
+#[derive(Clone, Copy)]
+struct Rows<'a> {
+    kind: &'a str,
+    name: &'a str,
+    bytes: &'a [u8],
+}
+
+fn table<O: Sink>(alloc: Global, given: Rows<'_>, old: &Snapshot, out: &mut O) -> Option<()> {
+    let Rows { kind, name, bytes } = given;
     let mut around = Frame {
         before: "",
         after: "",
     };
+    let mut number = 0u32;
     for line in str::from_utf8(bytes).ok()?.lines() {
+        number = number.saturating_add(1);
         if let Some(next) = frame_of(line) {
             around = next;
         } else if let Some(text) = row(alloc, &around, line).ok()? {
+            put_line(&format!(in alloc; "row {name}:{number}").ok()?, out)?;
             put(alloc, &told(alloc, kind, text.as_bytes(), old)?, out)?;
         }
     }
@@ -150,6 +162,7 @@ fn told(alloc: Global, kind: &str, text: &[u8], old: &Snapshot) -> Option<String
         "config" => config_told(alloc, text),
         "script" => script_told(alloc, text),
         "list" => list_told(alloc, text),
+        "meta" => meta_told(alloc, text),
         "saved" => saved_told(alloc, text),
         _ => letters_told(alloc, kind, str::from_utf8(text).ok()?, old),
     };
@@ -193,6 +206,10 @@ fn put<O: Sink>(alloc: Global, told: &String, out: &mut O) -> Option<()> {
         }
         all.push_str(line).ok()?;
     }
-    all.push_str("\n").ok()?;
-    out.put(all.as_str().as_bytes()).ok()
+    put_line(&all, out)
+}
+
+fn put_line<O: Sink>(line: &String, out: &mut O) -> Option<()> {
+    out.put(line.as_str().as_bytes()).ok()?;
+    out.put(b"\n").ok()
 }

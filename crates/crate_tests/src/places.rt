@@ -1,0 +1,81 @@
+//! Where a tile stands: its metatile's path, its place there, and its pair in a container's head; and the ends of the
+//! Mercator coordinates.
+use farm_base::MetaFault;
+use merc_fixed::{index_place, meta_of, tile, x_from_cm, y_from_cm};
+use meta_container::{Entry, HEAD_BYTES, entry_in};
+use plain_world::Meta;
+use std::alloc::Global;
+use std::test::Fail;
+use tile_paths::{is_name, path};
+
+// The metatile of the tile 10/535/340, and the tile's place in it.
+fn place() -> Option<(Meta, u32)> {
+    let t = tile(10, 535, 340)?;
+    Some((meta_of(t), index_place(t)))
+}
+
+fn is_path(name: &str, wanted: &str) -> Option<bool> {
+    let m = meta_of(tile(10, 535, 340)?);
+    Some(is_name(name) && path(name, m).as_str() == wanted)
+}
+
+#[test]
+fn a_tile_s_path_and_place(rt: HostRuntime) -> Result<(), Fail> {
+    let m = Meta {
+        z: 10,
+        x: 528,
+        y: 336,
+    };
+    assert_eq!(rt; place(), Some((m, 60)));
+    assert_eq!(rt;
+        is_path("default", "default/10/0/0/33/21/0.meta"),
+        Some(true)
+    );
+    Ok(())
+}
+
+#[test]
+fn the_ends_of_the_coordinates(rt: HostRuntime) -> Result<(), Fail> {
+    assert_eq!(rt; x_from_cm(0), Some(536870912));
+    assert_eq!(rt; x_from_cm(2003750837), Some(1073741824));
+    assert_eq!(rt; x_from_cm(-2003750834), Some(0));
+    assert_eq!(rt; x_from_cm(2003750838), None);
+    assert_eq!(rt; x_from_cm(-2003750835), None);
+    assert_eq!(rt; y_from_cm(0), Some(536870912));
+    assert_eq!(rt; y_from_cm(2003750834), Some(0));
+    Ok(())
+}
+
+// The head of a container of the tile 0/0/0 alone, which has 781 bytes.
+fn head(alloc: Global) -> Result<Vec<u8>, Fail> {
+    let mut bytes = Vec::from_slice(alloc, b"META")?;
+    bytes.extend_from_slice(&[64, 0, 0, 0, 0, 0, 0, 0, 0, 0, 0, 0, 0, 0, 0, 0])?;
+    bytes.extend_from_slice(&[0x14, 2, 0, 0, 0x0d, 3, 0, 0])?;
+    for _ in 0..504 {
+        bytes.push(0)?;
+    }
+    Ok(bytes)
+}
+
+fn entry_of_the_world(head: &[u8]) -> Option<Result<Entry, MetaFault>> {
+    let t = tile(0, 0, 0)?;
+    Some(entry_in(head, meta_of(t), t))
+}
+
+#[test]
+fn an_entry_from_the_head(rt: HostRuntime) -> Result<(), Fail> {
+    let bytes = head(rt.alloc())?;
+    let entry = Entry {
+        place: 0,
+        offset: 532,
+        size: 781,
+    };
+    assert_eq!(rt; bytes.len(), HEAD_BYTES);
+    assert_eq!(rt; entry_of_the_world(bytes.as_slice()), Some(Ok(entry)));
+    let short = bytes.as_slice().get(..531);
+    assert_eq!(rt;
+        short.and_then(entry_of_the_world),
+        Some(Err(MetaFault::Short(531)))
+    );
+    Ok(())
+}

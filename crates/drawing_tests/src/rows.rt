@@ -1,0 +1,179 @@
+//! Values that were worked out by hand: places in a layer that was changed, the bytes of containers that were written,
+//! a picture that is read back, and a point that just reaches a square.
+ghost use Rattle.plain_world.specs.World.{IsMeta};
+
+use crate::drawings::{data, map};
+use crate::metatiles::{RED, SQUARE};
+use data_versions::{Snapshot, apply};
+use geo_json::read_update;
+use merc_fixed::{meta_of, tile, tile_square};
+use meta_container::{Entry, entry_in, tile_in};
+use meta_drawing::{PictureBuffer, draw_container};
+use plain_image::{Image, read_ppm};
+use plain_shapes::Colour;
+use plain_world::{Meta, Tile};
+use reach_box::reaches;
+use std::alloc::Global;
+use std::test::Fail;
+use tile_render::draw_tile;
+
+// The points with the ids 1 to 600, each at its id.
+fn points(alloc: Global) -> Result<Snapshot, Fail> {
+    let mut text = String::from_str(
+        alloc,
+        r#"{"units":"world","layers":[{"name":"land","features":["#,
+    )?;
+    for id in 1..601u32 {
+        if id > 1 {
+            text.push_str(",")?;
+        }
+        text.push_str(format!(in alloc; "{}\"id\":{id},", "{")?.as_str())?;
+        text.push_str(r#""geometry":{"points":[["#)?;
+        text.push_str(format!(in alloc; "{id},0]]{}", "}}")?.as_str())?;
+    }
+    text.push_str("]}]}")?;
+    data(alloc, text.as_str())
+}
+
+const CHANGE: &str =
+    r#"{"units":"world","changes":[{"layer":"land","remove":[300],"put":[{"id":5,"geometry":{"points":[[5,0]]}},{"id":1000,"geometry":{"points":[[1000,0]]}}]}]}"#;
+
+fn changed(alloc: Global, old: &Snapshot) -> Result<Snapshot, Fail> {
+    let update = read_update(alloc, CHANGE.as_bytes())?;
+    Ok(apply(alloc, old, &update)?)
+}
+
+fn place_of(snapshot: &Snapshot, id: u64) -> Option<u32> {
+    snapshot.layer("land")?.place_of(id)
+}
+
+// The first place of a feature at this point.
+fn place_at(snapshot: &Snapshot, x: u32) -> Option<u32> {
+    snapshot.layer("land")?.next_near(0, x, 0, x, 0)
+}
+
+fn count(snapshot: &Snapshot) -> Option<u32> {
+    Some(snapshot.layer("land")?.len())
+}
+
+// 300 goes, 5 is put into its own place, and 1000 behind all others.
+#[test]
+fn places_in_a_changed_layer(rt: HostRuntime) -> Result<(), Fail> {
+    let alloc = rt.alloc();
+    let old = points(alloc)?;
+    let new = changed(alloc, &old)?;
+    assert_eq!(rt; count(&new), Some(600));
+    assert_eq!(rt; place_of(&new, 5), Some(4));
+    assert_eq!(rt; place_of(&new, 301), Some(299));
+    assert_eq!(rt; place_of(&new, 1000), Some(599));
+    assert_eq!(rt; place_at(&new, 1000), Some(599));
+    assert_eq!(rt; place_at(&new, 300), None);
+    assert_eq!(rt; place_of(&old, 300), Some(299));
+    assert_eq!(rt; place_at(&old, 300), Some(299));
+    Ok(())
+}
+
+// The square in red as a metatile of 16 pixels a tile.
+fn container(alloc: Global, m: Meta) -> Result<Vec<u8>, Fail>
+    requires { IsMeta m }
+{
+    let style = map(alloc, RED)?;
+    let snapshot = data(alloc, SQUARE)?;
+    let mut buffer = PictureBuffer::new(alloc);
+    Ok(draw_container(&mut buffer, &style, 16, m, &snapshot)?)
+}
+
+// `META`, the count 64, x, y and z, and the tile at place 0: from byte 532 on, 781 bytes.
+const HEAD: [u8; 28] = [
+    0x4d, 0x45, 0x54, 0x41, 0x40, 0, 0, 0, 0, 0, 0, 0, 0, 0, 0, 0, 0, 0, 0, 0, 0x14, 2, 0, 0, 0x0d,
+    3, 0, 0,
+];
+
+// Whether nothing stands at the other 63 places.
+fn is_alone(bytes: &[u8]) -> bool {
+    bytes.iter().skip(28).take(504).all(|byte| *byte == 0)
+}
+
+#[test]
+fn the_container_of_the_world(rt: HostRuntime) -> Result<(), Fail> {
+    let bytes = container(rt.alloc(), Meta { z: 0, x: 0, y: 0 })?;
+    assert_eq!(rt; bytes.len(), 1313);
+    assert!(rt; bytes.as_slice().starts_with(HEAD.as_slice()) && is_alone(bytes.as_slice()));
+    Ok(())
+}
+
+// Where the tile 2/2/1 stands in the bytes, and what stands there.
+fn found(bytes: &[u8]) -> Option<(Entry, &[u8])> {
+    let t = tile(2, 2, 1)?;
+    let entry = entry_in(bytes, meta_of(t), t).ok()?;
+    Some((entry, tile_in(bytes, meta_of(t), t).ok()?))
+}
+
+// Sixteen tiles of 781 bytes; the ninth is the second of the third column.
+#[test]
+fn the_container_of_sixteen_tiles(rt: HostRuntime) -> Result<(), Fail> {
+    let alloc = rt.alloc();
+    let bytes = container(alloc, Meta { z: 2, x: 0, y: 0 })?;
+    assert_eq!(rt; bytes.len(), 13028);
+    let style = map(alloc, RED)?;
+    let snapshot = data(alloc, SQUARE)?;
+    let drawn = draw_tile(alloc, &style, 16, Tile { z: 2, x: 2, y: 1 }, &snapshot)?;
+    let entry = Entry {
+        place: 17,
+        offset: 7561,
+        size: 781,
+    };
+    assert!(rt; found(bytes.as_slice()) == Some((entry, drawn.as_slice())));
+    Ok(())
+}
+
+fn is_coloured(image: &Image, i: u32, j: u32, c: Colour) -> bool {
+    i < image.cols() && j < image.rows() && image.pixel(i, j) == c
+}
+
+// What a tile's text says: the square has the columns and rows 4 to 11.
+#[test]
+fn a_tile_read_back(rt: HostRuntime) -> Result<(), Fail> {
+    let alloc = rt.alloc();
+    let style = map(alloc, RED)?;
+    let snapshot = data(alloc, SQUARE)?;
+    let text = draw_tile(alloc, &style, 16, Tile { z: 0, x: 0, y: 0 }, &snapshot)?;
+    let image = read_ppm(alloc, text.as_slice())?;
+    assert!(rt; image.cols() == 16 && image.rows() == 16);
+    for j in 0..16 {
+        for i in 0..16 {
+            let g = if i >= 4 && i <= 11 && j >= 4 && j <= 11 {
+                0
+            } else {
+                255
+            };
+            let wanted = Colour { r: 255, g, b: g };
+            assert!(rt; is_coloured(&image, i, j, wanted), "column {i}, row {j}");
+        }
+    }
+    Ok(())
+}
+
+const AT_64_PIXELS: &str =
+    r#"{"units":"world","layers":[{"name":"land","features":[{"id":1,"geometry":{"points":[[268435456,0]]}}]}]}"#;
+
+const A_UNIT_FARTHER: &str =
+    r#"{"units":"world","layers":[{"name":"land","features":[{"id":1,"geometry":{"points":[[268435455,0]]}}]}]}"#;
+
+// Whether the one feature reaches the square of the tile 1/1/0, at zoom 4 with 16 pixels a tile.
+fn reaches_east(snapshot: &Snapshot) -> Option<bool> {
+    let square = tile_square(tile(1, 1, 0)?);
+    let land = snapshot.layer("land")?;
+    Some(reaches(land.get(0)?, 16, 4, square))
+}
+
+// The square begins at x = 2^29, and there 64 pixels are 2^28 units.
+#[test]
+fn a_point_that_just_reaches_a_square(rt: HostRuntime) -> Result<(), Fail> {
+    let alloc = rt.alloc();
+    let near = data(alloc, AT_64_PIXELS)?;
+    let far = data(alloc, A_UNIT_FARTHER)?;
+    assert_eq!(rt; reaches_east(&near), Some(true));
+    assert_eq!(rt; reaches_east(&far), Some(false));
+    Ok(())
+}
