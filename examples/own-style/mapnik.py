@@ -155,6 +155,8 @@ def line(values, place):
         made["stroke-width"] = width
     if values.get("stroke-linecap") in ("butt", "round", "square"):
         made["stroke-linecap"] = values["stroke-linecap"]
+    elif "stroke-linecap" in values:
+        leave(place, "stroke-linecap=%s" % values["stroke-linecap"])
     if values.get("stroke-linejoin", "round") != "round":
         leave(place, "stroke-linejoin=%s: joins are round" % values["stroke-linejoin"])
     return made
@@ -263,6 +265,12 @@ def main(words):
     made["styles"] = [style(s) for s in root.findall("Style")]
     names = [s["name"] for s in made["styles"]]
     made["layers"] = [l for l in (layer(e, names) for e in root.findall("Layer")) if l is not None]
+    taken = set()  # Mapnik lets layers have one name, the farm does not; their sources stay
+    for each in made["layers"]:
+        name, number = each["name"], 2
+        while each["name"] in taken:
+            each["name"], number = "%s %d" % (name, number), number + 1
+        taken.add(each["name"])
     for child in root:
         if child.tag not in ("Style", "Layer"):
             leave("map", child.tag)
