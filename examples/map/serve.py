@@ -10,6 +10,12 @@ LIBRARIES = "/usr/share/javascript"  # where Debian's libjs-leaflet is
 
 
 class Page(http.server.SimpleHTTPRequestHandler):
+    def handle(self):
+        try:
+            super().handle()
+        except ConnectionError:
+            pass  # the browser went on without this tile
+
     def do_GET(self):
         if not re.fullmatch(r"/[a-z0-9_-]+/\d+/\d+/\d+\.ppm(/status)?", self.path):
             return super().do_GET()
