@@ -132,7 +132,7 @@ def with_nginx(farm, report):
 
     report.part("nginx with the page's cache")
     path_line, rest = cached.split("\n", 1)
-    server = plain.replace("listen 8080;\n", "listen 8080;\n" + rest)
+    server = plain.replace("        proxy_pass ", rest + "        proxy_pass ")
     port = trial.free_port()
     with Server(nginx(folder, path_line + "\n" + server, port), "tcp:127.0.0.1:%d" % port, report) as address:
         told = [get(address, TARGET).heads.get("X-Cache") for _ in range(2)]
