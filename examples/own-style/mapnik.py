@@ -5,14 +5,16 @@
 
 It takes Map, Style, Rule, Filter, ElseFilter, scale denominators, PolygonSymbolizer, LineSymbolizer,
 MarkersSymbolizer and Layer, their values as attributes or as CssParameter. A layer's source is its name: make
-the data with one layer of that name for each. What the farm does not draw is left out, and each thing that is
-left out is named on standard error with the place where it stands. A rule that loses all its symbolizers
-stays, since it still decides which features meet an ElseFilter. It needs Python's standard library alone.
+the data with one layer of that name for each; by which command, is told on standard error. What the farm does not
+draw is left out, and each thing that is left out is named there with the place where it stands. A rule that loses
+all its symbolizers stays, since it still decides which features meet an ElseFilter. It needs Python's standard
+library alone.
 """
 
 import colorsys
 import json
 import re
+import shlex
 import sys
 import xml.etree.ElementTree as tree
 
@@ -41,6 +43,7 @@ slategray 708090 slategrey 708090 snow fffafa springgreen 00ff7f steelblue 4682b
 tomato ff6347 turquoise 40e0d0 violet ee82ee wheat f5deb3 whitesmoke f5f5f5 yellowgreen 9acd32""".split()
 COLOURS = {name: "#" + value for name, value in zip(COLOURS[::2], COLOURS[1::2])}
 OWN = "aqua black blue fuchsia gray green lime maroon navy olive purple red silver teal white yellow".split()
+CAPS = {"0": "butt", "1": "square", "2": "round"}  # as Mapnik's save_map writes them
 WORDS = {"eq": "=", "neq": "!=", "lt": "<", "le": "<=", "gt": ">", "ge": ">="}
 
 
@@ -153,16 +156,23 @@ def line(values, place):
     width = number_of(values, "stroke-width", place, 0.01, 64)
     if width is not None:
         made["stroke-width"] = width
-    if values.get("stroke-linecap") in ("butt", "round", "square"):
-        made["stroke-linecap"] = values["stroke-linecap"]
-    if values.get("stroke-linejoin", "round") != "round":
+    cap = values.get("stroke-linecap", "butt")
+    if CAPS.get(cap, cap) in CAPS.values():
+        made.update({"stroke-linecap": CAPS.get(cap, cap)} if "stroke-linecap" in values else {})
+    else:
+        leave(place, "stroke-linecap=%s" % cap)
+    if values.get("stroke-linejoin", "round") not in ("round", "2"):
         leave(place, "stroke-linejoin=%s: joins are round" % values["stroke-linejoin"])
     return made
 
 
 def markers(values, place):
     made = {"symbolizer": "MarkersSymbolizer"}
-    leave_rest(values, ["fill", "fill-opacity", "opacity", "width", "height"], place)
+    same = {"allow-overlap": "true", "marker-type": "ellipse", "stroke-width": "0", "placement": "point"}  # what the farm does
+    known = [key for key, value in same.items() if values.get(key) == value]
+    leave_rest(values, known + ["allow-overlap", "fill", "fill-opacity", "opacity", "width", "height"], place)
+    if values.get("allow-overlap") != "true":
+        leave(place, "allow-overlap is not true: Mapnik leaves out markers that overlap, the farm draws them all")
     values = dict({"fill": "blue"}, **values)  # Mapnik's own colour and size where none are told
     if not painted(made, values, "fill", "fill-opacity", "opacity", place):
         return None
@@ -250,19 +260,77 @@ def layer(element, names):
     return made
 
 
+def data_of(element):
+    """Where a layer's data are: the parameters of its Datasource and its coordinates, or None."""
+    found = element.find("Datasource")
+    if found is None:
+        return None
+    values = {child.get("name", ""): (child.text or "").strip() for child in found}
+    return dict(values, srs=element.get("srs", ""))
+
+
+def tell_source(name, data):
+    """Tells which data the source needs, and by which command they come out of a file."""
+    path, srs = data.get("file", ""), data["srs"]
+    if not path:
+        where = ["%s=%s" % (key, data[key]) for key in sorted(data) if key not in ("srs", "password") and data[key]]
+        print("source %s: its data are not in a file, but in %s" % (name, " ".join(where)), file=sys.stderr)
+        return
+    if data.get("type") == "shape" and not path.endswith(".shp"):
+        path += ".shp"
+    words = ["ogr2ogr", "-f", "GeoJSON"] + (["-s_srs", srs] if srs else []) + ["-t_srs", "EPSG:4326"]
+    words += ["-oo", "ENCODING=%s" % data["encoding"]] if data.get("encoding") else []
+    line = " ".join(shlex.quote(word) for word in words + [name + ".geojson", path])
+    print("source %s: make its data with: %s" % (name, line), file=sys.stderr)
+
+
+def layers(elements, names):
+    """The layers. Mapnik lets several have one name, the farm does not: later ones get a number, and keep the source
+    of the first where their data are the same."""
+    made, taken, sources = [], set(), {}
+    for element in elements:
+        each = layer(element, names)
+        if each is None:
+            continue
+        name, number, data = each["name"], 2, data_of(element)
+        while each["name"] in taken:
+            each["name"], number = "%s %d" % (name, number), number + 1
+        taken.add(each["name"])
+        key = name, tuple(sorted((data or {}).items()))
+        if data is not None and key not in sources:
+            tell_source(each["name"], data)
+        each["source"] = sources.setdefault(key, each["name"])
+        made.append(each)
+    return made
+
+
+def read(path):
+    """The map's element; a file that is no style of Mapnik ends the program with one line."""
+    try:
+        root = tree.parse(path).getroot()
+    except (OSError, tree.ParseError, ValueError, LookupError) as fault:
+        sys.exit("%s: cannot be read as Mapnik's XML: %s" % (path, fault))
+    if root.tag != "Map":
+        sys.exit("%s: cannot be read as Mapnik's XML: it begins with %s in place of Map" % (path, root.tag))
+    return root
+
+
 def main(words):
     if len(words) != 1 or words[0].startswith("-"):
         sys.exit(__doc__.strip())
-    root = tree.parse(words[0]).getroot()
+    root = read(words[0])
     made = {}
     background = root.get("background-color", root.get("bgcolor"))
     colour = colour_of(background, "map") if background else None
     if colour is not None:
         made["background-color"] = colour[0]
     leave_rest(root.attrib, ["background-color", "bgcolor", "srs"], "map")
+    srs = root.get("srs", "")
+    if srs and not re.search(r"\+proj=merc|:(3857|900913)$", srs):
+        leave("map", "srs=%s: the farm draws in Web Mercator" % srs)
     made["styles"] = [style(s) for s in root.findall("Style")]
     names = [s["name"] for s in made["styles"]]
-    made["layers"] = [l for l in (layer(e, names) for e in root.findall("Layer")) if l is not None]
+    made["layers"] = layers(root.findall("Layer"), names)
     for child in root:
         if child.tag not in ("Style", "Layer"):
             leave("map", child.tag)
