@@ -2,15 +2,15 @@
 ghost use Rattle.std.specs.Prelude.{◌≡◌, ◌+◌, []};
 ghost use Rattle.farm_base.specs.Outside.{Counted};
 ghost use Rattle.port_trait.specs.declared.ends.FrontEnd.TheVariants as ended;
-ghost use Rattle.front_rounds.specs.Serving.{Serves};
+ghost use Rattle.front_rounds.specs.Serving.{FrontRun};
 ghost use Rattle.turn_cell.specs.SeatStates.{IsSeatOf, Knows, SameSeat};
 ghost use Rattle.farm_shared.specs.Seats.{plain};
-ghost use Rattle.control_lines.specs.Control.{rules_of};
+ghost use Rattle.control_lines.specs.Control.{control_rules};
 
 use control_lines::Control;
 use expiry_lists::TileList;
 use farm_base::Bell;
-use farm_door::Door;
+use farm_door::FarmAdapter;
 use farm_shared::{Alarms, Seat, SharedFarm};
 use port_trait::{FrontDone, Ports};
 use std::alloc::Global;
@@ -37,9 +37,9 @@ pub fn serve<R: Wait, D: TileStore, B: Bell, P: Ports>(
     ensures seat { IsSeatOf farm.now seat.new }
     ensures same { SameSeat seat.old seat.new }
     ensures known { Knows seat.new }
-    ensures served { Serves (rules_of front lists.now) (P.state ports.old).told (P.state ports.new).told (plain seat.new.mine) result.end result.rests.items result.starved seat.new.worn }
+    ensures served { FrontRun (control_rules front lists.now) (P.state ports.old).told (P.state ports.new).told (plain seat.new.mine) result.end result.rests.items result.starved seat.new.worn }
     ensures broken { result.end ≡ ended.Broken → Counted (P.state ports.old).faults (P.state ports.new).faults }
 {
-    let door = Door { farm, alarms };
-    front_rounds::serve(rt, alloc, &Control { front, lists }, &door, seat, ports)
+    let adapter = FarmAdapter { farm, alarms };
+    front_rounds::serve(rt, alloc, &Control { front, lists }, &adapter, seat, ports)
 }

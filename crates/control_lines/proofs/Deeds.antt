@@ -7,24 +7,24 @@ use Rattle.std.proofs.Math.Bool.{or_assoc}
 use Rattle.farm_base.specs.Limits.{most_control_bytes}
 use Rattle.plain_world.specs.declared.world.Tile.{Tile}
 use Rattle.farm_history.specs.Entries.{Entry}
-use Rattle.front_rounds.specs.declared.fates.Fate.{Fate}
-use Rattle.front_rounds.specs.declared.fates.Fate.TheVariants.{Stays, Leaves}
-use Rattle.front_rounds.specs.declared.fates.Reason.TheVariants as reason
+use Rattle.front_rounds.specs.declared.dispositions.Disposition.{Disposition}
+use Rattle.front_rounds.specs.declared.dispositions.Disposition.TheVariants.{Stays, Leaves}
+use Rattle.front_rounds.specs.declared.dispositions.Reason.TheVariants as reason
 use Rattle.front_rounds.specs.Rules.{Rules, Move, wants_of, answer_bytes, each_whole, any_starves}
 use Rattle.front_rounds.specs.Front.{keeps, does, EachFits, with_acts, Heard, HeardWhy}
 use Rattle.control_lines.specs.declared.acts.Line.{Line}
 use Rattle.control_lines.specs.declared.acts.Line.TheVariants as line
 use Rattle.control_lines.specs.declared.acts.Act.{Act}
-use Rattle.control_lines.specs.declared.hearing.Talk.{Talk}
+use Rattle.control_lines.specs.declared.hearing.ConnState.{ConnState}
 use Rattle.control_lines.specs.Lines.{Reading, read_on, read_all, part_alone, wants, line_in}
-use Rattle.control_lines.specs.Control.{rules_of, line_done, entries_of, act_text, act_fits, act_whole, act_starves}
+use Rattle.control_lines.specs.Control.{control_rules, line_done, control_entries, act_text, act_fits, act_whole, act_starves}
 use Rattle.control_lines.specs.inner.Doing.{Says, Said, Lacks, Answers, Gives, Wants, Starves, DoneWhy, Did, LongWhy, as_done, Heeds, Knows}
 use Rattle.control_lines.proofs.Streams.{read_both, read_more, read_shut, wants_more, wants_begin}
 
 clash : {X : Type 0} → true ≡ false → X
 clash h = cc
 
-done_keeps : (fate : Fate) → keeps fate ≡ true → keeps (as_done fate) ≡ true
+done_keeps : (disposition : Disposition) → keeps disposition ≡ true → keeps (as_done disposition) ≡ true
 done_keeps Stays k = refl
 done_keeps (Leaves reason.Unread) k = refl
 done_keeps (Leaves reason.NoMemory) k = k
@@ -38,7 +38,7 @@ done_keeps (Leaves reason.SendFailed) k = k
 
 module _ (number : ℕ) (lists : List (List Tile)) (c : ℕ) where
   abbrev R : Rules Act Line
-  R = rules_of number lists
+  R = control_rules number lists
 
   -- requests behind others
   asked_both : (acts before : List Act) → wants_of R (does (acts ++ before)) ≡ wants_of R (does before) ++ wants_of R (does acts)
@@ -53,7 +53,7 @@ module _ (number : ℕ) (lists : List (List Tile)) (c : ℕ) where
 
   entries_both : (acts before : List Act) (mine : List Entry) → with_acts R c (acts ++ before) mine ≡ with_acts R c acts (with_acts R c before mine)
   entries_both [] before mine = refl
-  entries_both (a ∷ acts) before mine = ap (λ es. es ++ entries_of lists a) (entries_both acts before mine)
+  entries_both (a ∷ acts) before mine = ap (λ es. es ++ control_entries lists a) (entries_both acts before mine)
 
   fits_both : (acts before : List Act) → EachFits R acts [] → EachFits R before [] → EachFits R (acts ++ before) []
   fits_both [] before f g = g
@@ -69,84 +69,84 @@ module _ (number : ℕ) (lists : List (List Tile)) (c : ℕ) where
   whole_both (a ∷ acts) before f g = and_from (act_whole lists a) (each_whole R (does (acts ++ before))) (and_parts (act_whole lists a) _ f).0 (whole_both acts before (and_parts (act_whole lists a) _ f).1 g)
 
   -- nothing is asked
-  pub did_none : (mine : List Entry) (said : List ℕ) → Did number lists c [] mine mine said said Stays
-  did_none mine said = record {
+  pub did_none : (mine : List Entry) (response : List ℕ) → Did number lists c [] mine mine response response Stays
+  did_none mine response = record {
     acts = [];
     mine_is = refl;
     begins = ([], refl);
     fits = tt;
     why = refl;
-    said_is = λ _. sym (append-nil said);
+    response_is = λ _. sym (append-nil response);
     asked_is = λ _. refl;
     whole = λ _. refl;
   }
 
   -- a turn was worn, and nothing was done
-  pub did_worn : (lines : List Line) (mine mine' : List Entry) (said said' : List ℕ) → mine' ≡ mine → Did number lists c lines mine mine' said said' (Leaves reason.Starved)
-  did_worn lines mine mine' said said' m = record {
+  pub did_worn : (lines : List Line) (mine mine' : List Entry) (response response' : List ℕ) → mine' ≡ mine → Did number lists c lines mine mine' response response' (Leaves reason.Starved)
+  did_worn lines mine mine' response response' m = record {
     acts = [];
     mine_is = m;
     begins = (lines, refl);
     fits = tt;
     why = refl;
-    said_is = λ k. clash (sym k);
+    response_is = λ k. clash (sym k);
     asked_is = λ k. clash (sym k);
     whole = λ k. clash (sym k);
   }
 
   -- a request was done, of which a turn was worn or the answer found no memory
-  pub did_part : (a : Act) (mine mine' : List Entry) (said said' : List ℕ) → act_fits lists a ≡ true → mine' ≡ mine ++ entries_of lists a → act_starves a ≡ false
-      → Did number lists c (line_done a ∷ []) mine mine' said said' (Leaves reason.Starved)
-  did_part a mine mine' said said' f m s = record {
+  pub did_part : (a : Act) (mine mine' : List Entry) (response response' : List ℕ) → act_fits lists a ≡ true → mine' ≡ mine ++ control_entries lists a → act_starves a ≡ false
+      → Did number lists c (line_done a ∷ []) mine mine' response response' (Leaves reason.Starved)
+  did_part a mine mine' response response' f m s = record {
     acts = a ∷ [];
     mine_is = m;
     begins = ([], refl);
     fits = (f, tt);
     why = or_from (act_starves a) false s refl;
-    said_is = λ k. clash (sym k);
+    response_is = λ k. clash (sym k);
     asked_is = λ k. clash (sym k);
     whole = λ k. clash (sym k);
   }
 
-  did_starved : (a : Act) (mine mine' : List Entry) (said said' : List ℕ) → act_fits lists a ≡ true → mine' ≡ mine ++ entries_of lists a → act_starves a ≡ true
-      → Did number lists c (line_done a ∷ []) mine mine' said said' (Leaves reason.NoMemory)
-  did_starved a mine mine' said said' f m s = record {
+  did_starved : (a : Act) (mine mine' : List Entry) (response response' : List ℕ) → act_fits lists a ≡ true → mine' ≡ mine ++ control_entries lists a → act_starves a ≡ true
+      → Did number lists c (line_done a ∷ []) mine mine' response response' (Leaves reason.NoMemory)
+  did_starved a mine mine' response response' f m s = record {
     acts = a ∷ [];
     mine_is = m;
     begins = ([], refl);
     fits = (f, tt);
     why = or_left (act_starves a) false s;
-    said_is = λ k. clash (sym k);
+    response_is = λ k. clash (sym k);
     asked_is = λ k. clash (sym k);
     whole = λ k. clash (sym k);
   }
 
-  did_whole : (a : Act) (mine mine' : List Entry) (said said' : List ℕ) → act_fits lists a ≡ true → act_whole lists a ≡ true → mine' ≡ mine ++ entries_of lists a → act_starves a ≡ false
-      → said' ≡ said ++ act_text lists a → Did number lists c (line_done a ∷ []) mine mine' said said' Stays
-  did_whole a mine mine' said said' f w m s e = record {
+  did_whole : (a : Act) (mine mine' : List Entry) (response response' : List ℕ) → act_fits lists a ≡ true → act_whole lists a ≡ true → mine' ≡ mine ++ control_entries lists a → act_starves a ≡ false
+      → response' ≡ response ++ act_text lists a → Did number lists c (line_done a ∷ []) mine mine' response response' Stays
+  did_whole a mine mine' response response' f w m s e = record {
     acts = a ∷ [];
     mine_is = m;
     begins = ([], refl);
     fits = (f, tt);
     why = or_from (act_starves a) false s refl;
-    said_is = λ _. e;
+    response_is = λ _. e;
     asked_is = λ _. refl;
     whole = λ _. and_from (act_whole lists a) true w refl;
   }
 
   -- a request was done
-  pub did_one : (a : Act) (mine mine' : List Entry) (said said' : List ℕ) (fate : Fate) → act_fits lists a ≡ true → act_whole lists a ≡ true → mine' ≡ mine ++ entries_of lists a
-      → Answers lists a said said' fate → Did number lists c (line_done a ∷ []) mine mine' said said' fate
-  did_one a mine mine' said said' fate f w m (Gives q s e) = subst (Did number lists c (line_done a ∷ []) mine mine' said said') (sym q) (did_whole a mine mine' said said' f w m s e)
-  did_one a mine mine' said said' fate f w m (Wants q s) = subst (Did number lists c (line_done a ∷ []) mine mine' said said') (sym q) (did_part a mine mine' said said' f m s)
-  did_one a mine mine' said said' fate f w m (Starves q s) = subst (Did number lists c (line_done a ∷ []) mine mine' said said') (sym q) (did_starved a mine mine' said said' f m s)
+  pub did_one : (a : Act) (mine mine' : List Entry) (response response' : List ℕ) (disposition : Disposition) → act_fits lists a ≡ true → act_whole lists a ≡ true → mine' ≡ mine ++ control_entries lists a
+      → Answers lists a response response' disposition → Did number lists c (line_done a ∷ []) mine mine' response response' disposition
+  did_one a mine mine' response response' disposition f w m (Gives q s e) = subst (Did number lists c (line_done a ∷ []) mine mine' response response') (sym q) (did_whole a mine mine' response response' f w m s e)
+  did_one a mine mine' response response' disposition f w m (Wants q s) = subst (Did number lists c (line_done a ∷ []) mine mine' response response') (sym q) (did_part a mine mine' response response' f m s)
+  did_one a mine mine' response response' disposition f w m (Starves q s) = subst (Did number lists c (line_done a ∷ []) mine mine' response response') (sym q) (did_starved a mine mine' response response' f m s)
 
-  pub did_at : (l : Line) (a : Act) (mine mine' : List Entry) (said said' : List ℕ) (fate : Fate) → l ≡ line_done a → act_fits lists a ≡ true → act_whole lists a ≡ true
-      → mine' ≡ mine ++ entries_of lists a → Answers lists a said said' fate → Did number lists c (l ∷ []) mine mine' said said' fate
-  did_at l a mine mine' said said' fate e f w m s =
-      subst (λ (k : Line). Did number lists c (k ∷ []) mine mine' said said' fate) (sym e) (did_one a mine mine' said said' fate f w m s)
+  pub did_at : (l : Line) (a : Act) (mine mine' : List Entry) (response response' : List ℕ) (disposition : Disposition) → l ≡ line_done a → act_fits lists a ≡ true → act_whole lists a ≡ true
+      → mine' ≡ mine ++ control_entries lists a → Answers lists a response response' disposition → Did number lists c (l ∷ []) mine mine' response response' disposition
+  did_at l a mine mine' response response' disposition e f w m s =
+      subst (λ (k : Line). Did number lists c (k ∷ []) mine mine' response response' disposition) (sym e) (did_one a mine mine' response response' disposition f w m s)
 
-  why_both : (acts before : List Act) (fate : Fate) → any_starves R (does before) ≡ false → DoneWhy number lists c acts fate → DoneWhy number lists c (acts ++ before) fate
+  why_both : (acts before : List Act) (disposition : Disposition) → any_starves R (does before) ≡ false → DoneWhy number lists c acts disposition → DoneWhy number lists c (acts ++ before) disposition
   why_both acts before Stays n w = starves_both acts before ∙ or_from (any_starves R (does acts)) (any_starves R (does before)) w n
   why_both acts before (Leaves reason.Unread) n w = absurd w
   why_both acts before (Leaves reason.NoMemory) n w = starves_both acts before ∙ or_left (any_starves R (does acts)) (any_starves R (does before)) w
@@ -159,9 +159,9 @@ module _ (number : ℕ) (lists : List (List Tile)) (c : ℕ) where
   why_both acts before (Leaves reason.SendFailed) n w = absurd w
 
   -- requests behind requests
-  pub did_then : (xs ys : List Line) (mine mid mine' : List Entry) (said saying said' : List ℕ) (fate : Fate) → Did number lists c xs mine mid said saying Stays
-      → Did number lists c ys mid mine' saying said' fate → Did number lists c (xs ++ ys) mine mine' said said' fate
-  did_then xs ys mine mid mine' said saying said' fate h k = record {
+  pub did_then : (xs ys : List Line) (mine mid mine' : List Entry) (response saying response' : List ℕ) (disposition : Disposition) → Did number lists c xs mine mid response saying Stays
+      → Did number lists c ys mid mine' saying response' disposition → Did number lists c (xs ++ ys) mine mine' response response' disposition
+  did_then xs ys mine mid mine' response saying response' disposition h k = record {
     acts = k.acts ++ h.acts;
     mine_is = k.mine_is ∙ ap (with_acts R c k.acts) h.mine_is ∙ sym (entries_both k.acts h.acts mine);
     begins = (
@@ -170,42 +170,42 @@ module _ (number : ℕ) (lists : List (List Tile)) (c : ℕ) where
           ∙ ap (λ ls. ls ++ k.begins.0) (sym (asked_both k.acts h.acts)),
     );
     fits = fits_both k.acts h.acts k.fits h.fits;
-    why = why_both k.acts h.acts fate h.why k.why;
-    said_is = λ e. k.said_is e ∙ ap (λ xs. xs ++ answer_bytes R (does k.acts)) (h.said_is refl) ∙ append_assoc said (answer_bytes R (does h.acts)) (answer_bytes R (does k.acts))
-        ∙ ap (λ xs. said ++ xs) (sym (text_both k.acts h.acts));
+    why = why_both k.acts h.acts disposition h.why k.why;
+    response_is = λ e. k.response_is e ∙ ap (λ xs. xs ++ answer_bytes R (does k.acts)) (h.response_is refl) ∙ append_assoc response (answer_bytes R (does h.acts)) (answer_bytes R (does k.acts))
+        ∙ ap (λ xs. response ++ xs) (sym (text_both k.acts h.acts));
     asked_is = λ e. ap (λ ls. ls ++ ys) (h.asked_is refl) ∙ ap (λ ls. wants_of R (does h.acts) ++ ls) (k.asked_is e) ∙ sym (asked_both k.acts h.acts);
     whole = λ e. whole_both k.acts h.acts (k.whole e) (h.whole refl);
   }
 
   -- more requests that are not done
-  did_cut : (xs ys : List Line) (mine mine' : List Entry) (said said' : List ℕ) (fate : Fate) → keeps fate ≡ false → Did number lists c xs mine mine' said said' fate
-      → Did number lists c (xs ++ ys) mine mine' said said' fate
-  did_cut xs ys mine mine' said said' fate n h = record {
+  did_cut : (xs ys : List Line) (mine mine' : List Entry) (response response' : List ℕ) (disposition : Disposition) → keeps disposition ≡ false → Did number lists c xs mine mine' response response' disposition
+      → Did number lists c (xs ++ ys) mine mine' response response' disposition
+  did_cut xs ys mine mine' response response' disposition n h = record {
     acts = h.acts;
     mine_is = h.mine_is;
     begins = (h.begins.0 ++ ys, ap (λ ls. ls ++ ys) h.begins.1 ∙ append_assoc (wants_of R (does h.acts)) h.begins.0 ys);
     fits = h.fits;
     why = h.why;
-    said_is = λ k. clash (sym k ∙ n);
+    response_is = λ k. clash (sym k ∙ n);
     asked_is = λ k. clash (sym k ∙ n);
     whole = λ k. clash (sym k ∙ n);
   }
 
   -- how a request leaves a session
-  pub done_same : (lines : List Line) (mine mine' : List Entry) (said said' : List ℕ) (fate : Fate) → Did number lists c lines mine mine' said said' fate
-      → Did number lists c lines mine mine' said said' (as_done fate)
-  done_same lines mine mine' said said' Stays h = h
-  done_same lines mine mine' said said' (Leaves reason.Unread) h = absurd h.why
-  done_same lines mine mine' said said' (Leaves reason.NoMemory) h = h
-  done_same lines mine mine' said said' (Leaves reason.Starved) h = h
-  done_same lines mine mine' said said' (Leaves reason.Ended) h = h
-  done_same lines mine mine' said said' (Leaves reason.Lost) h = h
-  done_same lines mine mine' said said' (Leaves reason.Cut) h = h
-  done_same lines mine mine' said said' (Leaves reason.Full) h = h
-  done_same lines mine mine' said said' (Leaves reason.SentWhole) h = h
-  done_same lines mine mine' said said' (Leaves reason.SendFailed) h = h
+  pub done_same : (lines : List Line) (mine mine' : List Entry) (response response' : List ℕ) (disposition : Disposition) → Did number lists c lines mine mine' response response' disposition
+      → Did number lists c lines mine mine' response response' (as_done disposition)
+  done_same lines mine mine' response response' Stays h = h
+  done_same lines mine mine' response response' (Leaves reason.Unread) h = absurd h.why
+  done_same lines mine mine' response response' (Leaves reason.NoMemory) h = h
+  done_same lines mine mine' response response' (Leaves reason.Starved) h = h
+  done_same lines mine mine' response response' (Leaves reason.Ended) h = h
+  done_same lines mine mine' response response' (Leaves reason.Lost) h = h
+  done_same lines mine mine' response response' (Leaves reason.Cut) h = h
+  done_same lines mine mine' response response' (Leaves reason.Full) h = h
+  done_same lines mine mine' response response' (Leaves reason.SentWhole) h = h
+  done_same lines mine mine' response response' (Leaves reason.SendFailed) h = h
 
-  pub not_long : (acts : List Act) (fate : Fate) → DoneWhy number lists c acts fate → LongWhy false fate
+  pub not_long : (acts : List Act) (disposition : Disposition) → DoneWhy number lists c acts disposition → LongWhy false disposition
   not_long acts Stays h = refl
   not_long acts (Leaves reason.Unread) h = absurd h
   not_long acts (Leaves reason.NoMemory) h = tt
@@ -217,7 +217,7 @@ module _ (number : ℕ) (lists : List (List Tile)) (c : ℕ) where
   not_long acts (Leaves reason.SentWhole) h = absurd h
   not_long acts (Leaves reason.SendFailed) h = absurd h
 
-  pub too_long : (acts : List Act) (fate : Fate) → (fate ≡ Stays → ⊥) → DoneWhy number lists c acts fate → LongWhy true fate
+  pub too_long : (acts : List Act) (disposition : Disposition) → (disposition ≡ Stays → ⊥) → DoneWhy number lists c acts disposition → LongWhy true disposition
   too_long acts Stays n h = absurd (n refl)
   too_long acts (Leaves reason.Unread) n h = absurd h
   too_long acts (Leaves reason.NoMemory) n h = tt
@@ -231,13 +231,13 @@ module _ (number : ℕ) (lists : List (List Tile)) (c : ℕ) where
 
   -- ---- bytes
 
-  pub heeds_none : (part : List ℕ) (mine : List Entry) (said : List ℕ) → Heeds number lists c part [] mine mine part said said Stays
-  heeds_none part mine said = record { did = did_none mine said; why = refl; part_is = λ _. refl }
+  pub heeds_none : (part : List ℕ) (mine : List Entry) (response : List ℕ) → Heeds number lists c part [] mine mine part response response Stays
+  heeds_none part mine response = record { did = did_none mine response; why = refl; part_is = λ _. refl }
 
   -- bytes behind bytes
-  pub heeds_then : (part mid part' xs ys : List ℕ) (mine min2 mine' : List Entry) (said saying said' : List ℕ) (fate : Fate) → Heeds number lists c part xs mine min2 mid said saying Stays
-      → Heeds number lists c mid ys min2 mine' part' saying said' fate → Heeds number lists c part (xs ++ ys) mine mine' part' said said' fate
-  heeds_then part mid part' xs ys mine min2 mine' said saying said' fate h k =
+  pub heeds_then : (part mid part' xs ys : List ℕ) (mine min2 mine' : List Entry) (response saying response' : List ℕ) (disposition : Disposition) → Heeds number lists c part xs mine min2 mid response saying Stays
+      → Heeds number lists c mid ys min2 mine' part' saying response' disposition → Heeds number lists c part (xs ++ ys) mine mine' part' response response' disposition
+  heeds_then part mid part' xs ys mine min2 mine' response saying response' disposition h k =
       let r = read_on (part_alone part) xs in
       let s = read_on (part_alone mid) ys in
       let is : read_on (part_alone part) (xs ++ ys) ≡ read_on r ys = read_both (part_alone part) xs ys in
@@ -245,53 +245,53 @@ module _ (number : ℕ) (lists : List (List Tile)) (c : ℕ) where
       ap wants is ∙ wants_more r ys h.why ∙ ap (λ p. wants r ++ wants (read_on (part_alone p) ys)) (sym (h.part_is refl)) in
       let rest = is ∙ read_more r ys h.why in
       record {
-        did = subst (λ ls. Did number lists c ls mine mine' said said' (as_done fate)) (sym lines) (did_then (wants r) (wants s) mine min2 mine' said saying said' (as_done fate) h.did k.did);
-        why = subst (λ b. LongWhy b fate) (sym (ap (λ (v : Reading). v.long) rest ∙ ap (λ p. (read_on (part_alone p) ys).long) (sym (h.part_is refl)))) k.why;
+        did = subst (λ ls. Did number lists c ls mine mine' response response' (as_done disposition)) (sym lines) (did_then (wants r) (wants s) mine min2 mine' response saying response' (as_done disposition) h.did k.did);
+        why = subst (λ b. LongWhy b disposition) (sym (ap (λ (v : Reading). v.long) rest ∙ ap (λ p. (read_on (part_alone p) ys).long) (sym (h.part_is refl)))) k.why;
         part_is = λ e. k.part_is e ∙ sym (ap (λ (v : Reading). v.part) rest ∙ ap (λ p. (read_on (part_alone p) ys).part) (sym (h.part_is refl)));
       }
 
-  heeds_cut : (part part' xs ys : List ℕ) (mine mine' : List Entry) (said said' : List ℕ) (fate : Fate) → keeps (as_done fate) ≡ false → keeps fate ≡ false → ((b : Bool) → LongWhy b fate)
-      → Heeds number lists c part xs mine mine' part' said said' fate → Heeds number lists c part (xs ++ ys) mine mine' part' said said' fate
-  heeds_cut part part' xs ys mine mine' said said' fate n m w h =
+  heeds_cut : (part part' xs ys : List ℕ) (mine mine' : List Entry) (response response' : List ℕ) (disposition : Disposition) → keeps (as_done disposition) ≡ false → keeps disposition ≡ false → ((b : Bool) → LongWhy b disposition)
+      → Heeds number lists c part xs mine mine' part' response response' disposition → Heeds number lists c part (xs ++ ys) mine mine' part' response response' disposition
+  heeds_cut part part' xs ys mine mine' response response' disposition n m w h =
       let r = read_on (part_alone part) xs in
       let more = wants_begin r ys in
       record {
-        did = subst (λ ls. Did number lists c ls mine mine' said said' (as_done fate)) (sym (ap wants (read_both (part_alone part) xs ys) ∙ more.1)) (did_cut (wants r) more.0 mine mine' said said' (as_done fate) n h.did);
+        did = subst (λ ls. Did number lists c ls mine mine' response response' (as_done disposition)) (sym (ap wants (read_both (part_alone part) xs ys) ∙ more.1)) (did_cut (wants r) more.0 mine mine' response response' (as_done disposition) n h.did);
         why = w (read_on (part_alone part) (xs ++ ys)).long;
         part_is = λ k. clash (sym k ∙ m);
       }
 
-  heeds_long : (part part' xs ys : List ℕ) (mine mine' : List Entry) (said said' : List ℕ) → Heeds number lists c part xs mine mine' part' said said' (Leaves reason.Unread)
-      → Heeds number lists c part (xs ++ ys) mine mine' part' said said' (Leaves reason.Unread)
-  heeds_long part part' xs ys mine mine' said said' h =
+  heeds_long : (part part' xs ys : List ℕ) (mine mine' : List Entry) (response response' : List ℕ) → Heeds number lists c part xs mine mine' part' response response' (Leaves reason.Unread)
+      → Heeds number lists c part (xs ++ ys) mine mine' part' response response' (Leaves reason.Unread)
+  heeds_long part part' xs ys mine mine' response response' h =
       let r = read_on (part_alone part) xs in
       let is : read_on (part_alone part) (xs ++ ys) ≡ r = read_both (part_alone part) xs ys ∙ read_shut r ys h.why in
       record {
-        did = subst (λ (v : Reading). Did number lists c (wants v) mine mine' said said' Stays) (sym is) h.did;
+        did = subst (λ (v : Reading). Did number lists c (wants v) mine mine' response response' Stays) (sym is) h.did;
         why = ap (λ (v : Reading). v.long) is ∙ h.why;
         part_is = λ k. h.part_is k ∙ sym (ap (λ (v : Reading). v.part) is);
       }
 
   -- the bytes behind those at which a session was ended are not read
-  pub heeds_rest : (part part' xs ys : List ℕ) (mine mine' : List Entry) (said said' : List ℕ) (fate : Fate) → (fate ≡ Stays → ⊥) → Heeds number lists c part xs mine mine' part' said said' fate
-      → Heeds number lists c part (xs ++ ys) mine mine' part' said said' fate
-  heeds_rest part part' xs ys mine mine' said said' Stays n h = absurd (n refl)
-  heeds_rest part part' xs ys mine mine' said said' (Leaves reason.Unread) n h = heeds_long part part' xs ys mine mine' said said' h
-  heeds_rest part part' xs ys mine mine' said said' (Leaves reason.NoMemory) n h = heeds_cut part part' xs ys mine mine' said said' (Leaves reason.NoMemory) refl refl (λ b. tt) h
-  heeds_rest part part' xs ys mine mine' said said' (Leaves reason.Starved) n h = heeds_cut part part' xs ys mine mine' said said' (Leaves reason.Starved) refl refl (λ b. tt) h
-  heeds_rest part part' xs ys mine mine' said said' (Leaves reason.Ended) n h = absurd h.why
-  heeds_rest part part' xs ys mine mine' said said' (Leaves reason.Lost) n h = absurd h.why
-  heeds_rest part part' xs ys mine mine' said said' (Leaves reason.Cut) n h = absurd h.why
-  heeds_rest part part' xs ys mine mine' said said' (Leaves reason.Full) n h = absurd h.why
-  heeds_rest part part' xs ys mine mine' said said' (Leaves reason.SentWhole) n h = absurd h.why
-  heeds_rest part part' xs ys mine mine' said said' (Leaves reason.SendFailed) n h = absurd h.why
+  pub heeds_rest : (part part' xs ys : List ℕ) (mine mine' : List Entry) (response response' : List ℕ) (disposition : Disposition) → (disposition ≡ Stays → ⊥) → Heeds number lists c part xs mine mine' part' response response' disposition
+      → Heeds number lists c part (xs ++ ys) mine mine' part' response response' disposition
+  heeds_rest part part' xs ys mine mine' response response' Stays n h = absurd (n refl)
+  heeds_rest part part' xs ys mine mine' response response' (Leaves reason.Unread) n h = heeds_long part part' xs ys mine mine' response response' h
+  heeds_rest part part' xs ys mine mine' response response' (Leaves reason.NoMemory) n h = heeds_cut part part' xs ys mine mine' response response' (Leaves reason.NoMemory) refl refl (λ b. tt) h
+  heeds_rest part part' xs ys mine mine' response response' (Leaves reason.Starved) n h = heeds_cut part part' xs ys mine mine' response response' (Leaves reason.Starved) refl refl (λ b. tt) h
+  heeds_rest part part' xs ys mine mine' response response' (Leaves reason.Ended) n h = absurd h.why
+  heeds_rest part part' xs ys mine mine' response response' (Leaves reason.Lost) n h = absurd h.why
+  heeds_rest part part' xs ys mine mine' response response' (Leaves reason.Cut) n h = absurd h.why
+  heeds_rest part part' xs ys mine mine' response response' (Leaves reason.Full) n h = absurd h.why
+  heeds_rest part part' xs ys mine mine' response response' (Leaves reason.SentWhole) n h = absurd h.why
+  heeds_rest part part' xs ys mine mine' response response' (Leaves reason.SendFailed) n h = absurd h.why
 
   -- one byte behind a part of a line
-  pub heeds_line : (part : List ℕ) (b : ℕ) (mine mine' : List Entry) (said said' : List ℕ) (fate : Fate) → b ≡ 10 → Did number lists c (line_in part ∷ []) mine mine' said said' fate
-      → Heeds number lists c part (b ∷ []) mine mine' [] said said' fate
-  heeds_line part b mine mine' said said' fate e h =
-      subst (λ x. Heeds number lists c part (x ∷ []) mine mine' [] said said' fate) (sym e)
-      (record { did = done_same (line_in part ∷ []) mine mine' said said' fate h; why = not_long h.acts fate h.why; part_is = λ _. refl })
+  pub heeds_line : (part : List ℕ) (b : ℕ) (mine mine' : List Entry) (response response' : List ℕ) (disposition : Disposition) → b ≡ 10 → Did number lists c (line_in part ∷ []) mine mine' response response' disposition
+      → Heeds number lists c part (b ∷ []) mine mine' [] response response' disposition
+  heeds_line part b mine mine' response response' disposition e h =
+      subst (λ x. Heeds number lists c part (x ∷ []) mine mine' [] response response' disposition) (sym e)
+      (record { did = done_same (line_in part ∷ []) mine mine' response response' disposition h; why = not_long h.acts disposition h.why; part_is = λ _. refl })
 
   byte_long : (part : List ℕ) (b : ℕ) → (b ≡ 10 → ⊥) → nat_lt (length part) most_control_bytes ≡ false → read_on (part_alone part) (b ∷ []) ≡ record { lines = []; part = part; long = true }
   byte_long part b n l =
@@ -305,52 +305,52 @@ module _ (number : ℕ) (lists : List (List Tile)) (c : ℕ) where
       (ne_eqb b 10 n)
       ∙ ap (λ v. cond v (part_alone (part ++ b ∷ [])) (record { lines = []; part = part; long = true })) l
 
-  pub heeds_end : (part : List ℕ) (b : ℕ) (mine : List Entry) (said said' : List ℕ) (fate : Fate) → (b ≡ 10 → ⊥) → nat_lt (length part) most_control_bytes ≡ false
-      → Did number lists c (line.Bad ∷ []) mine mine said said' (as_done fate) → LongWhy true fate → Heeds number lists c part (b ∷ []) mine mine part said said' fate
-  heeds_end part b mine said said' fate n l h w =
+  pub heeds_end : (part : List ℕ) (b : ℕ) (mine : List Entry) (response response' : List ℕ) (disposition : Disposition) → (b ≡ 10 → ⊥) → nat_lt (length part) most_control_bytes ≡ false
+      → Did number lists c (line.Bad ∷ []) mine mine response response' (as_done disposition) → LongWhy true disposition → Heeds number lists c part (b ∷ []) mine mine part response response' disposition
+  heeds_end part b mine response response' disposition n l h w =
       let is = byte_long part b n l in
       record {
-        did = subst (λ (v : Reading). Did number lists c (wants v) mine mine said said' (as_done fate)) (sym is) h;
-        why = subst (λ (v : Reading). LongWhy v.long fate) (sym is) w;
+        did = subst (λ (v : Reading). Did number lists c (wants v) mine mine response response' (as_done disposition)) (sym is) h;
+        why = subst (λ (v : Reading). LongWhy v.long disposition) (sym is) w;
         part_is = λ _. sym (ap (λ (v : Reading). v.part) is);
       }
 
-  heeds_byte : (part : List ℕ) (b : ℕ) (mine : List Entry) (said : List ℕ) → (b ≡ 10 → ⊥) → nat_lt (length part) most_control_bytes ≡ true → Heeds number lists c part (b ∷ []) mine mine (part ++ b ∷ []) said said Stays
-  heeds_byte part b mine said n l =
+  heeds_byte : (part : List ℕ) (b : ℕ) (mine : List Entry) (response : List ℕ) → (b ≡ 10 → ⊥) → nat_lt (length part) most_control_bytes ≡ true → Heeds number lists c part (b ∷ []) mine mine (part ++ b ∷ []) response response Stays
+  heeds_byte part b mine response n l =
       let is = byte_more part b n l in
       record {
-        did = subst (λ (v : Reading). Did number lists c (wants v) mine mine said said Stays) (sym is) (did_none mine said);
+        did = subst (λ (v : Reading). Did number lists c (wants v) mine mine response response Stays) (sym is) (did_none mine response);
         why = ap (λ (v : Reading). v.long) is;
         part_is = λ _. sym (ap (λ (v : Reading). v.part) is);
       }
 
-  pub heeds_lost : (part part' bytes : List ℕ) (mine : List Entry) (said said' : List ℕ) → Heeds number lists c part bytes mine mine part' said said' (Leaves reason.Starved)
-  heeds_lost part part' bytes mine said said' =
-      record { did = did_worn (wants (read_on (part_alone part) bytes)) mine mine said said' refl; why = tt; part_is = λ k. clash (sym k) }
+  pub heeds_lost : (part part' bytes : List ℕ) (mine : List Entry) (response response' : List ℕ) → Heeds number lists c part bytes mine mine part' response response' (Leaves reason.Starved)
+  heeds_lost part part' bytes mine response response' =
+      record { did = did_worn (wants (read_on (part_alone part) bytes)) mine mine response response' refl; why = tt; part_is = λ k. clash (sym k) }
 
-  pub heeds_kept : (part part' : List ℕ) (b : ℕ) (mine : List Entry) (said : List ℕ) (fate : Fate) → (b ≡ 10 → ⊥) → nat_lt (length part) most_control_bytes ≡ true → Says (b ∷ []) part part' fate
-      → Heeds number lists c part (b ∷ []) mine mine part' said said fate
-  heeds_kept part part' b mine said fate n l (Said q e) =
-      subst (Heeds number lists c part (b ∷ []) mine mine part' said said) (sym q)
-      (subst (λ p. Heeds number lists c part (b ∷ []) mine mine p said said Stays) (sym e) (heeds_byte part b mine said n l))
-  heeds_kept part part' b mine said fate n l (Lacks q) =
-      subst (Heeds number lists c part (b ∷ []) mine mine part' said said) (sym q) (heeds_lost part part' (b ∷ []) mine said said)
+  pub heeds_kept : (part part' : List ℕ) (b : ℕ) (mine : List Entry) (response : List ℕ) (disposition : Disposition) → (b ≡ 10 → ⊥) → nat_lt (length part) most_control_bytes ≡ true → Says (b ∷ []) part part' disposition
+      → Heeds number lists c part (b ∷ []) mine mine part' response response disposition
+  heeds_kept part part' b mine response disposition n l (Said q e) =
+      subst (Heeds number lists c part (b ∷ []) mine mine part' response response) (sym q)
+      (subst (λ p. Heeds number lists c part (b ∷ []) mine mine p response response Stays) (sym e) (heeds_byte part b mine response n l))
+  heeds_kept part part' b mine response disposition n l (Lacks q) =
+      subst (Heeds number lists c part (b ∷ []) mine mine part' response response) (sym q) (heeds_lost part part' (b ∷ []) mine response response)
 
   -- one byte more of a piece
-  pub heeds_on : (part mid part' piece : List ℕ) (i d : ℕ) (mine min2 mine' : List Entry) (said saying said' : List ℕ) (fate : Fate) → i < length piece
-      → Heeds number lists c part (take i piece) mine min2 mid said saying Stays → Heeds number lists c mid (get_or piece i d ∷ []) min2 mine' part' saying said' fate
-      → Heeds number lists c part (take (i + 1) piece) mine mine' part' said said' fate
-  heeds_on part mid part' piece i d mine min2 mine' said saying said' fate l h k =
-      subst (λ xs. Heeds number lists c part xs mine mine' part' said said' fate) (sym (take_at_read piece i d l).1)
-      (heeds_then part mid part' (take i piece) (get_or piece i d ∷ []) mine min2 mine' said saying said' fate h k)
+  pub heeds_on : (part mid part' piece : List ℕ) (i d : ℕ) (mine min2 mine' : List Entry) (response saying response' : List ℕ) (disposition : Disposition) → i < length piece
+      → Heeds number lists c part (take i piece) mine min2 mid response saying Stays → Heeds number lists c mid (get_or piece i d ∷ []) min2 mine' part' saying response' disposition
+      → Heeds number lists c part (take (i + 1) piece) mine mine' part' response response' disposition
+  heeds_on part mid part' piece i d mine min2 mine' response saying response' disposition l h k =
+      subst (λ xs. Heeds number lists c part xs mine mine' part' response response' disposition) (sym (take_at_read piece i d l).1)
+      (heeds_then part mid part' (take i piece) (get_or piece i d ∷ []) mine min2 mine' response saying response' disposition h k)
 
   -- the last byte that is read of a piece
-  pub heeds_stop : (part mid part' piece : List ℕ) (i d : ℕ) (mine min2 mine' : List Entry) (said saying said' : List ℕ) (fate : Fate) → i < length piece → (fate ≡ Stays → ⊥)
-      → Heeds number lists c part (take i piece) mine min2 mid said saying Stays → Heeds number lists c mid (get_or piece i d ∷ []) min2 mine' part' saying said' fate
-      → Heeds number lists c part piece mine mine' part' said said' fate
-  heeds_stop part mid part' piece i d mine min2 mine' said saying said' fate l n h k =
-      subst (λ xs. Heeds number lists c part xs mine mine' part' said said' fate) (take-append-drop (i + 1) piece)
-      (heeds_rest part part' (take (i + 1) piece) (drop (i + 1) piece) mine mine' said said' fate n (heeds_on part mid part' piece i d mine min2 mine' said saying said' fate l h k))
+  pub heeds_stop : (part mid part' piece : List ℕ) (i d : ℕ) (mine min2 mine' : List Entry) (response saying response' : List ℕ) (disposition : Disposition) → i < length piece → (disposition ≡ Stays → ⊥)
+      → Heeds number lists c part (take i piece) mine min2 mid response saying Stays → Heeds number lists c mid (get_or piece i d ∷ []) min2 mine' part' saying response' disposition
+      → Heeds number lists c part piece mine mine' part' response response' disposition
+  heeds_stop part mid part' piece i d mine min2 mine' response saying response' disposition l n h k =
+      subst (λ xs. Heeds number lists c part xs mine mine' part' response response' disposition) (take-append-drop (i + 1) piece)
+      (heeds_rest part part' (take (i + 1) piece) (drop (i + 1) piece) mine mine' response response' disposition n (heeds_on part mid part' piece i d mine min2 mine' response saying response' disposition l h k))
 
   -- ---- as the front is asked
 
@@ -370,7 +370,7 @@ module _ (number : ℕ) (lists : List (List Tile)) (c : ℕ) where
   whole_front [] ms f g = g
   whole_front (a ∷ acts) ms f g = and_from (act_whole lists a) (each_whole R (does acts ++ ms)) (and_parts (act_whole lists a) _ f).0 (whole_front acts ms (and_parts (act_whole lists a) _ f).1 g)
 
-  why_front : (long : Bool) (given : List ℕ) (acts : List Act) (fate : Fate) → (read_all given).long ≡ long → DoneWhy number lists c acts (as_done fate) → LongWhy long fate → HeardWhy R given (does acts) fate
+  why_front : (long : Bool) (given : List ℕ) (acts : List Act) (disposition : Disposition) → (read_all given).long ≡ long → DoneWhy number lists c acts (as_done disposition) → LongWhy long disposition → HeardWhy R given (does acts) disposition
   why_front long given acts Stays e d l = (e ∙ l, d)
   why_front long given acts (Leaves reason.Unread) e d l = (e ∙ l, d)
   why_front long given acts (Leaves reason.NoMemory) e d l = d
@@ -382,12 +382,12 @@ module _ (number : ℕ) (lists : List (List Tile)) (c : ℕ) where
   why_front long given acts (Leaves reason.SentWhole) e d l = absurd d
   why_front long given acts (Leaves reason.SendFailed) e d l = absurd d
 
-  pub heard_by : (piece : List ℕ) (mine mine' : List Entry) (talk talk' : Talk) (said : List ℕ) (fate : Fate) (given : List ℕ) (ms : List (Move Act))
-      → Heeds number lists c talk.part.items piece mine mine' talk'.part.items [] said fate → Knows given ms talk → wants (read_all given) ≡ wants_of R ms → each_whole R ms ≡ true
-      → (read_all given).long ≡ false → Heard R Knows c piece mine mine' talk' said fate given ms
-  heard_by piece mine mine' talk talk' said fate given ms h k w v l =
+  pub heard_by : (piece : List ℕ) (mine mine' : List Entry) (conn_state conn_state' : ConnState) (response : List ℕ) (disposition : Disposition) (given : List ℕ) (ms : List (Move Act))
+      → Heeds number lists c conn_state.part.items piece mine mine' conn_state'.part.items [] response disposition → Knows given ms conn_state → wants (read_all given) ≡ wants_of R ms → each_whole R ms ≡ true
+      → (read_all given).long ≡ false → Heard R Knows c piece mine mine' conn_state' response disposition given ms
+  heard_by piece mine mine' conn_state conn_state' response disposition given ms h k w v l =
       let r = read_all given in
-      let s = read_on (part_alone talk.part.items) piece in
+      let s = read_on (part_alone conn_state.part.items) piece in
       let is : read_all (given ++ piece) ≡ read_on r piece = read_both (part_alone []) given piece in
       let lines : wants (read_all (given ++ piece)) ≡ wants_of R ms ++ wants s =
       ap wants is ∙ wants_more r piece l ∙ ap (λ p. wants r ++ wants (read_on (part_alone p) piece)) (sym k) ∙ ap (λ ls. ls ++ wants s) w in
@@ -403,9 +403,9 @@ module _ (number : ℕ) (lists : List (List Tile)) (c : ℕ) where
               ∙ ap (λ ls. ls ++ h.did.begins.0) (sym (asked_front h.did.acts ms)),
         );
         fits = fits_front h.did.acts ms h.did.fits;
-        why = why_front s.long (given ++ piece) h.did.acts fate long h.did.why h.why;
-        said_is = λ e. text_front h.did.acts ms ∙ ap (λ xs. answer_bytes R ms ++ xs) (sym (h.did.said_is (done_keeps fate e)));
-        asked_is = λ e. lines ∙ ap (λ ls. wants_of R ms ++ ls) (h.did.asked_is (done_keeps fate e)) ∙ sym (asked_front h.did.acts ms);
-        whole = λ e. whole_front h.did.acts ms (h.did.whole (done_keeps fate e)) v;
+        why = why_front s.long (given ++ piece) h.did.acts disposition long h.did.why h.why;
+        response_is = λ e. text_front h.did.acts ms ∙ ap (λ xs. answer_bytes R ms ++ xs) (sym (h.did.response_is (done_keeps disposition e)));
+        asked_is = λ e. lines ∙ ap (λ ls. wants_of R ms ++ ls) (h.did.asked_is (done_keeps disposition e)) ∙ sym (asked_front h.did.acts ms);
+        whole = λ e. whole_front h.did.acts ms (h.did.whole (done_keeps disposition e)) v;
         knows = λ e. h.part_is e ∙ sym part;
       }

@@ -11,14 +11,14 @@ use Rattle.farm_history.specs.declared.answers.Renewed.{Renewed}
 use Rattle.farm_history.specs.declared.answers.Renewed.TheVariants as renewed
 use Rattle.farm_history.specs.Entries.{Entry, Expire}
 use Rattle.farm_base.specs.declared.turns.Worn.{Worn}
-use Rattle.front_rounds.specs.declared.fates.Fate.{Fate}
-use Rattle.front_rounds.specs.declared.fates.Fate.TheVariants.{Leaves}
-use Rattle.front_rounds.specs.declared.fates.Reason.TheVariants as reason
+use Rattle.front_rounds.specs.declared.dispositions.Disposition.{Disposition}
+use Rattle.front_rounds.specs.declared.dispositions.Disposition.TheVariants.{Leaves}
+use Rattle.front_rounds.specs.declared.dispositions.Reason.TheVariants as reason
 use Rattle.script_answers.specs.Answers.{fault_line}
 use Rattle.control_lines.specs.declared.acts.Line.TheVariants as line
 use Rattle.control_lines.specs.declared.acts.Act.{Act}
 use Rattle.control_lines.specs.declared.acts.Act.TheVariants.{Updates, Renews, Expires}
-use Rattle.control_lines.specs.Control.{update_text, renew_text, said_or_none, is_no_memory, update_starves, renew_starves, expired_text, expire_text, act_text, act_starves, tiles_or_none, tiles_at, total_of, expiries}
+use Rattle.control_lines.specs.Control.{update_text, renew_text, response_or_none, is_no_memory, update_starves, renew_starves, expired_text, expire_text, act_text, act_starves, tiles_or_none, tiles_at, total_of, expiries}
 use Rattle.control_lines.specs.inner.Doing.{Says, Said, Lacks, Answers, Gives, Wants, Expired, Did}
 use Rattle.control_lines.proofs.Deeds.{did_one, did_part}
 
@@ -39,17 +39,17 @@ renew_given (renewed.Version v count) t h = refl
 renew_given renewed.NoUpdate t h = refl
 renew_given (renewed.Refused fault) t h = has_line fault t h
 
-pub says_answer : (lists : List (List Tile)) (a : Act) (text old new : List ℕ) (fate : Fate) → act_text lists a ≡ text → act_starves a ≡ false → Says text old new fate → Answers lists a old new fate
-says_answer lists a text old new fate t s (Said q e) = Gives q s (e ∙ ap (λ xs. old ++ xs) (sym t))
-says_answer lists a text old new fate t s (Lacks q) = Wants q s
+pub says_answer : (lists : List (List Tile)) (a : Act) (text old new : List ℕ) (disposition : Disposition) → act_text lists a ≡ text → act_starves a ≡ false → Says text old new disposition → Answers lists a old new disposition
+says_answer lists a text old new disposition t s (Said q e) = Gives q s (e ∙ ap (λ xs. old ++ xs) (sym t))
+says_answer lists a text old new disposition t s (Lacks q) = Wants q s
 
-pub says_update : (lists : List (List Tile)) (n : ℕ) (answer : Updated) (t old new : List ℕ) (fate : Fate) → update_text answer ≡ Some t → Says t old new fate
-    → Answers lists (Updates n answer) old new fate
-says_update lists n answer t old new fate u s = says_answer lists (Updates n answer) t old new fate (ap said_or_none u) (update_given answer t u) s
+pub says_update : (lists : List (List Tile)) (n : ℕ) (answer : Updated) (t old new : List ℕ) (disposition : Disposition) → update_text answer ≡ Some t → Says t old new disposition
+    → Answers lists (Updates n answer) old new disposition
+says_update lists n answer t old new disposition u s = says_answer lists (Updates n answer) t old new disposition (ap response_or_none u) (update_given answer t u) s
 
-pub says_renew : (lists : List (List Tile)) (n : ℕ) (answer : Renewed) (t old new : List ℕ) (fate : Fate) → renew_text answer ≡ Some t → Says t old new fate
-    → Answers lists (Renews n answer) old new fate
-says_renew lists n answer t old new fate u s = says_answer lists (Renews n answer) t old new fate (ap said_or_none u) (renew_given answer t u) s
+pub says_renew : (lists : List (List Tile)) (n : ℕ) (answer : Renewed) (t old new : List ℕ) (disposition : Disposition) → renew_text answer ≡ Some t → Says t old new disposition
+    → Answers lists (Renews n answer) old new disposition
+says_renew lists n answer t old new disposition u s = says_answer lists (Renews n answer) t old new disposition (ap response_or_none u) (renew_given answer t u) s
 
 -- ---- expiries
 
@@ -94,23 +94,23 @@ expiring_more tiles i d mine mid mine' total k total' l (counts, n, m, s) e t =
     )
 
 module _ (front : ℕ) (lists : List (List Tile)) (c : ℕ) where
-  pub expire_none : (n : ℕ) (mine : List Entry) (old new : List ℕ) (fate : Fate) → slice_get lists n ≡ None → Says (codes "no list\n") old new fate
-      → Did front lists c (line.Expire n ∷ []) mine mine old new fate
-  expire_none n mine old new fate g s =
-      did_one front lists c (Expires n []) mine mine old new fate (le-leb 0 (length (tiles_at lists n)) (omega arith))
+  pub expire_none : (n : ℕ) (mine : List Entry) (old new : List ℕ) (disposition : Disposition) → slice_get lists n ≡ None → Says (codes "no list\n") old new disposition
+      → Did front lists c (line.Expire n ∷ []) mine mine old new disposition
+  expire_none n mine old new disposition g s =
+      did_one front lists c (Expires n []) mine mine old new disposition (le-leb 0 (length (tiles_at lists n)) (omega arith))
       (eq-eqb 0 (length (tiles_at lists n)) (sym (ap (λ o. length (tiles_or_none o)) g)))
       (sym (append-nil mine) ∙ ap (λ es. mine ++ es) (sym (expiries_none (tiles_at lists n))))
-      (says_answer lists (Expires n []) (codes "no list\n") old new fate (ap (λ o. expire_text o []) g) refl s)
+      (says_answer lists (Expires n []) (codes "no list\n") old new disposition (ap (λ o. expire_text o []) g) refl s)
 
-  pub expire_some : (n total : ℕ) (tiles : List Tile) (mine mine' : List Entry) (old new : List ℕ) (fate : Fate) → slice_get lists n ≡ Some tiles → Expired tiles mine mine' (Ok total)
-      → Says (expired_text total) old new fate → Did front lists c (line.Expire n ∷ []) mine mine' old new fate
-  expire_some n total tiles mine mine' old new fate g (counts, l, m, t) s =
+  pub expire_some : (n total : ℕ) (tiles : List Tile) (mine mine' : List Entry) (old new : List ℕ) (disposition : Disposition) → slice_get lists n ≡ Some tiles → Expired tiles mine mine' (Ok total)
+      → Says (expired_text total) old new disposition → Did front lists c (line.Expire n ∷ []) mine mine' old new disposition
+  expire_some n total tiles mine mine' old new disposition g (counts, l, m, t) s =
       let is : tiles_at lists n ≡ tiles = ap tiles_or_none g in
-      did_one front lists c (Expires n counts) mine mine' old new fate
+      did_one front lists c (Expires n counts) mine mine' old new disposition
       (le-leb (length counts) (length (tiles_at lists n)) (subst (λ ts. length counts ≤ length ts) (sym is) (omega (arith, l))))
       (eq-eqb (length counts) (length (tiles_at lists n)) (l ∙ ap length (sym is)))
       (m ∙ ap (λ ts. mine ++ expiries ts counts) (sym is))
-      (says_answer lists (Expires n counts) (expired_text total) old new fate (ap (λ o. expire_text o counts) g ∙ ap expired_text (sym t)) refl s)
+      (says_answer lists (Expires n counts) (expired_text total) old new disposition (ap (λ o. expire_text o counts) g ∙ ap expired_text (sym t)) refl s)
 
   pub expire_worn : (n : ℕ) (w : Worn) (tiles : List Tile) (mine mine' : List Entry) (old new : List ℕ) → slice_get lists n ≡ Some tiles → Expired tiles mine mine' (Err w)
       → Did front lists c (line.Expire n ∷ []) mine mine' old new (Leaves reason.Starved)

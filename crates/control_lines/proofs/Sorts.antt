@@ -11,7 +11,7 @@ use Rattle.farm_history.specs.Entries.{Entry, Update, Restyle, Renew, Expire, St
 use Rattle.front_rounds.specs.Rules.{Move, Gets}
 use Rattle.control_lines.specs.declared.acts.Act.{Act}
 use Rattle.control_lines.specs.declared.acts.Act.TheVariants.{Updates, Restyles, Renews, Expires, Counts, Stops, Refuses}
-use Rattle.control_lines.specs.Control.{rules_of, tiles_at, expiries}
+use Rattle.control_lines.specs.Control.{control_rules, tiles_at, expiries}
 
 -- a test that no entry of a control line passes
 pub record PassesNone (q : Entry → Bool) : Type 0 where
@@ -28,7 +28,7 @@ none_expires q p (t ∷ tiles) [] = refl
 none_expires q p (t ∷ tiles) (k ∷ counts) = ap (λ b. b || list_any q (expiries tiles counts)) (p.expire t k) ∙ none_expires q p tiles counts
 
 -- the entries of a line are Updates, Restyles, Renews, Expires, Tallies and Stops
-pub kinds : (front : ℕ) (lists : List (List Tile)) (q : Entry → Bool) → PassesNone q → (c : ℕ) (a : Act) → list_any q ((rules_of front lists).entries c a) ≡ false
+pub kinds : (front : ℕ) (lists : List (List Tile)) (q : Entry → Bool) → PassesNone q → (c : ℕ) (a : Act) → list_any q ((control_rules front lists).entries c a) ≡ false
 kinds front lists q p c (Updates n a) = ap (λ b. b || false) (p.update n a)
 kinds front lists q p c (Restyles n a) = ap (λ b. b || false) (p.restyle n a)
 kinds front lists q p c (Renews n a) = ap (λ b. b || false) (p.renew n a)
@@ -38,6 +38,6 @@ kinds front lists q p c Stops = ap (λ b. b || false) p.stop
 kinds front lists q p c Refuses = refl
 
 -- nothing stands behind the Collect of a reply
-pub stands_alone : (front : ℕ) (lists : List (List Tile)) (ms : List (Move Act)) (r : Reply) (behind : List Entry) → (rules_of front lists).fits ms (Gets r behind) ≡ true → behind ≡ []
+pub stands_alone : (front : ℕ) (lists : List (List Tile)) (ms : List (Move Act)) (r : Reply) (behind : List Entry) → (control_rules front lists).fits ms (Gets r behind) ≡ true → behind ≡ []
 stands_alone front lists ms r [] h = refl
 stands_alone front lists ms r (e ∷ es) h = cc

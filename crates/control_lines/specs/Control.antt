@@ -61,9 +61,9 @@ abbrev pub bad_text : List ℕ
 bad_text = codes "bad line\n"
 
 -- the bytes of a text, if there is one
-abbrev pub said_or_none : Option (List ℕ) → List ℕ
-said_or_none None = []
-said_or_none (Some text) = text
+abbrev pub response_or_none : Option (List ℕ) → List ℕ
+response_or_none None = []
+response_or_none (Some text) = text
 
 -- ---- entries
 
@@ -101,20 +101,20 @@ line_done Refuses = line.Bad
 
 module _ (lists : List (List Tile)) where
   -- the entries of what was done
-  abbrev pub entries_of : Act → List Entry
-  entries_of (Updates n answer) = Update n answer ∷ []
-  entries_of (Restyles n answer) = Restyle n answer ∷ []
-  entries_of (Renews n answer) = Renew n answer ∷ []
-  entries_of (Expires n counts) = expiries (tiles_at lists n) counts
-  entries_of (Counts totals) = Tally totals ∷ []
-  entries_of Stops = Stop ∷ []
-  entries_of Refuses = []
+  abbrev pub control_entries : Act → List Entry
+  control_entries (Updates n answer) = Update n answer ∷ []
+  control_entries (Restyles n answer) = Restyle n answer ∷ []
+  control_entries (Renews n answer) = Renew n answer ∷ []
+  control_entries (Expires n counts) = expiries (tiles_at lists n) counts
+  control_entries (Counts totals) = Tally totals ∷ []
+  control_entries Stops = Stop ∷ []
+  control_entries Refuses = []
 
   -- the bytes that are answered to it
   abbrev pub act_text : Act → List ℕ
-  act_text (Updates n answer) = said_or_none (update_text answer)
+  act_text (Updates n answer) = response_or_none (update_text answer)
   act_text (Restyles n answer) = restyle_text answer
-  act_text (Renews n answer) = said_or_none (renew_text answer)
+  act_text (Renews n answer) = response_or_none (renew_text answer)
   act_text (Expires n counts) = expire_text (slice_get lists n) counts
   act_text (Counts totals) = tally_text totals
   act_text Stops = stop_line
@@ -169,13 +169,13 @@ move_starves (Does a) = act_starves a
 move_starves (Gets r behind) = false
 
 -- **What the control front of this number makes of a connection**, with the tile lists of its `expire N`.
-abbrev pub rules_of : ℕ → List (List Tile) → Rules Act Line
-rules_of number lists = record {
+abbrev pub control_rules : ℕ → List (List Tile) → Rules Act Line
+control_rules number lists = record {
   number = number;
   wanted = λ given ws. wants (read_all given) ≡ ws;
   refuses = λ given. (read_all given).long;
   want = line_done;
-  entries = λ c a. entries_of lists a;
+  entries = λ c a. control_entries lists a;
   fits = λ ms m. move_fits lists m;
   whole = λ ms m. move_whole lists m;
   says = λ ms m. move_text lists m;

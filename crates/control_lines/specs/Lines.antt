@@ -41,8 +41,8 @@ read_all given = read_on (part_alone []) given
 -- ---- what a line says
 
 -- the line that is one word
-unfoldable pub line_alone : List ℕ → Line
-line_alone word =
+unfoldable pub command_alone : List ℕ → Line
+command_alone word =
     if bytes_eq word (codes "stats") then line.Stats else
     if bytes_eq word (codes "stop") then line.Stop else line.Bad
 
@@ -52,25 +52,25 @@ with_number make None = line.Bad
 with_number make (Some n) = make n
 
 -- the line of this name with these words behind it
-unfoldable pub line_named : List ℕ → List ℕ → Line
-line_named name words =
+unfoldable pub command_named : List ℕ → List ℕ → Line
+command_named name words =
     if bytes_eq name (codes "update") then with_number line.Update (decimal_below (2 ^ 32) words) else
     if bytes_eq name (codes "restyle") then with_number line.Restyle (decimal_below (2 ^ 32) words) else
     if bytes_eq name (codes "renew") then with_number line.Renew (decimal_below (2 ^ 32) words) else
     if bytes_eq name (codes "expire") then with_number line.Expire (decimal_below (2 ^ 32) words) else line.Bad
 
 -- a line that is cut at its first space, if it has one
-abbrev pub line_cut : List ℕ → Option (List ℕ × List ℕ) → Line
-line_cut text None = line_alone text
-line_cut text (Some p) = line_named p.0 p.1
+abbrev pub command_cut : List ℕ → Option (List ℕ × List ℕ) → Line
+command_cut text None = command_alone text
+command_cut text (Some p) = command_named p.0 p.1
 
 -- a line in words
 unfoldable pub control_line : List ℕ → Line
-control_line text = line_cut text (cut_at 32 text)
+control_line text = command_cut text (cut_at 32 text)
 
 -- bytes as a text
-unfoldable pub text_of : List ℕ → Option (List ℕ)
-text_of bytes = if is_utf8 bytes then Some bytes else None
+unfoldable pub utf8_text : List ℕ → Option (List ℕ)
+utf8_text bytes = if is_utf8 bytes then Some bytes else None
 
 -- bytes that are no text are a bad line
 abbrev pub text_says : Option (List ℕ) → Line
@@ -79,7 +79,7 @@ text_says (Some text) = control_line text
 
 -- what a line says; one carriage return at its end is dropped
 abbrev pub line_in : List ℕ → Line
-line_in bytes = text_says (text_of (strip_carriage_return bytes))
+line_in bytes = text_says (utf8_text (strip_carriage_return bytes))
 
 -- the requests in what was read: what its lines say, and a bad line for the one that is too long
 abbrev pub wants : Reading → List Line

@@ -7,17 +7,17 @@ ghost use Rattle.control_lines.specs.inner.Doing.{Says, Answers};
 
 use farm_base::{ApplyFault, NoMemory, Text};
 use farm_history::{Renewed, Restyled, Tally, Updated};
-use front_rounds::{Fate, Reason};
+use front_rounds::{Disposition, Reason};
 use script_answers::{expire_line, renew_line, restyle_line, tally_line, update_line};
 use std::alloc::Global;
 
 /// Says a text, if there is memory for it.
-pub fn say(said: &mut Vec<u8>, text: &str) -> Fate
-    ensures { Says text.now said.old.items said.new.items result }
+pub fn say(response: &mut Vec<u8>, text: &str) -> Disposition
+    ensures { Says text.now response.old.items response.new.items result }
 {
-    match said.extend_from_slice(text.as_bytes()) {
-        Ok(()) => Fate::Stays,
-        Err(_) => Fate::Leaves(Reason::Starved),
+    match response.extend_from_slice(text.as_bytes()) {
+        Ok(()) => Disposition::Stays,
+        Err(_) => Disposition::Leaves(Reason::Starved),
     }
 }
 
@@ -87,64 +87,64 @@ fn renew_starves(answer: Renewed) -> bool
 }
 
 /// Says what an update was answered.
-pub fn say_update(alloc: Global, answer: Updated, said: &mut Vec<u8>) -> Fate
-    ensures { (lists : List (List Tile)) (n : ℕ) → Answers lists (act.Updates n answer) said.old.items said.new.items result }
+pub fn say_update(alloc: Global, answer: Updated, response: &mut Vec<u8>) -> Disposition
+    ensures { (lists : List (List Tile)) (n : ℕ) → Answers lists (act.Updates n answer) response.old.items response.new.items result }
 {
     match update_text(alloc, answer) {
-        Ok(text) => say(said, text.as_str()),
+        Ok(text) => say(response, text.as_str()),
         Err(NoMemory) => {
             if update_starves(answer) {
-                Fate::Leaves(Reason::NoMemory)
+                Disposition::Leaves(Reason::NoMemory)
             } else {
-                Fate::Leaves(Reason::Starved)
+                Disposition::Leaves(Reason::Starved)
             }
         }
     }
 }
 
 /// Says what an update that expires what it reaches was answered.
-pub fn say_renew(alloc: Global, answer: Renewed, said: &mut Vec<u8>) -> Fate
-    ensures { (lists : List (List Tile)) (n : ℕ) → Answers lists (act.Renews n answer) said.old.items said.new.items result }
+pub fn say_renew(alloc: Global, answer: Renewed, response: &mut Vec<u8>) -> Disposition
+    ensures { (lists : List (List Tile)) (n : ℕ) → Answers lists (act.Renews n answer) response.old.items response.new.items result }
 {
     match renew_text(alloc, answer) {
-        Ok(text) => say(said, text.as_str()),
+        Ok(text) => say(response, text.as_str()),
         Err(NoMemory) => {
             if renew_starves(answer) {
-                Fate::Leaves(Reason::NoMemory)
+                Disposition::Leaves(Reason::NoMemory)
             } else {
-                Fate::Leaves(Reason::Starved)
+                Disposition::Leaves(Reason::Starved)
             }
         }
     }
 }
 
 /// Says a text that was made, if there was memory for it.
-fn say_made(said: &mut Vec<u8>, text: Result<Text, NoMemory>) -> Fate
-    ensures { (words : List ℕ) → IfOk text (λ t. t ≡ words) → Says words said.old.items said.new.items result }
+fn say_made(response: &mut Vec<u8>, text: Result<Text, NoMemory>) -> Disposition
+    ensures { (words : List ℕ) → IfOk text (λ t. t ≡ words) → Says words response.old.items response.new.items result }
 {
     match text {
-        Ok(text) => say(said, text.as_str()),
-        Err(NoMemory) => Fate::Leaves(Reason::Starved),
+        Ok(text) => say(response, text.as_str()),
+        Err(NoMemory) => Disposition::Leaves(Reason::Starved),
     }
 }
 
 /// Says what a restyle was answered.
-pub fn say_restyle(alloc: Global, answer: Restyled, said: &mut Vec<u8>) -> Fate
-    ensures { Says (spec.restyle_text answer) said.old.items said.new.items result }
+pub fn say_restyle(alloc: Global, answer: Restyled, response: &mut Vec<u8>) -> Disposition
+    ensures { Says (spec.restyle_text answer) response.old.items response.new.items result }
 {
-    say_made(said, restyle_text(alloc, answer))
+    say_made(response, restyle_text(alloc, answer))
 }
 
 /// Says the farm's counts.
-pub fn say_tally(alloc: Global, answer: Tally, said: &mut Vec<u8>) -> Fate
-    ensures { Says (spec.tally_text answer) said.old.items said.new.items result }
+pub fn say_tally(alloc: Global, answer: Tally, response: &mut Vec<u8>) -> Disposition
+    ensures { Says (spec.tally_text answer) response.old.items response.new.items result }
 {
-    say_made(said, tally_line(alloc, answer))
+    say_made(response, tally_line(alloc, answer))
 }
 
 /// Says how many clean metatiles the tiles of a list made dirty.
-pub fn say_expired(alloc: Global, total: u64, said: &mut Vec<u8>) -> Fate
-    ensures { Says (spec.expired_text total) said.old.items said.new.items result }
+pub fn say_expired(alloc: Global, total: u64, response: &mut Vec<u8>) -> Disposition
+    ensures { Says (spec.expired_text total) response.old.items response.new.items result }
 {
-    say_made(said, expire_line(alloc, total))
+    say_made(response, expire_line(alloc, total))
 }

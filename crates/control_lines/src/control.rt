@@ -1,10 +1,10 @@
 //! The control front, as one of the three.
 use crate::acts::{Act, Line};
-use crate::hearing::{Talk, hear_piece};
+use crate::hearing::{ConnState, hear_piece};
 use expiry_lists::TileList;
 use farm_base::Worn;
 use farm_history::Reply;
-use front_rounds::{Farm, Fate, Front};
+use front_rounds::{Farm, Disposition, Front};
 use std::alloc::Global;
 use std::sync::Wait;
 
@@ -17,16 +17,16 @@ pub struct Control<'a> {
 
 impl<'a, M: Farm> Front<M> for Control<'a> {
     ghost use Rattle.std.specs.Prelude.{refl};
-    ghost use Rattle.control_lines.specs.Control.{rules_of};
+    ghost use Rattle.control_lines.specs.Control.{control_rules};
     ghost use Rattle.control_lines.specs.inner.Doing.{Knows};
 
-    type Talk = Talk;
+    type ConnState = ConnState;
 
     type Want = Line;
 
     type Act = Act;
 
-    ghost rules = { λ control _. rules_of control.front control.lists.now };
+    ghost rules = { λ control _. control_rules control.front control.lists.now };
 
     ghost knows = { Knows };
 
@@ -36,8 +36,8 @@ impl<'a, M: Farm> Front<M> for Control<'a> {
         self.front
     }
 
-    fn begin(&self, alloc: Global, _farm: &M) -> Talk {
-        Talk {
+    fn begin(&self, alloc: Global, _farm: &M) -> ConnState {
+        ConnState {
             part: Vec::new(alloc),
         }
     }
@@ -49,19 +49,19 @@ impl<'a, M: Farm> Front<M> for Control<'a> {
         farm: &M,
         seat: &mut M::Seat,
         _conn: u32,
-        talk: &mut Talk,
+        conn_state: &mut ConnState,
         piece: &[u8],
-        said: &mut Vec<u8>,
-    ) -> Result<Fate, Worn> {
+        response: &mut Vec<u8>,
+    ) -> Result<Disposition, Worn> {
         hear_piece(
             rt,
             alloc,
             farm,
             seat,
             self.lists,
-            &mut talk.part,
+            &mut conn_state.part,
             piece,
-            said,
+            response,
         )
     }
 
@@ -72,14 +72,14 @@ impl<'a, M: Farm> Front<M> for Control<'a> {
         _alloc: Global,
         _farm: &M,
         _seat: &mut M::Seat,
-        _talk: &mut Talk,
+        _conn_state: &mut ConnState,
         _reply: Reply,
         _said: &mut Vec<u8>,
-    ) -> Result<Fate, Worn> {
-        Ok(Fate::Stays)
+    ) -> Result<Disposition, Worn> {
+        Ok(Disposition::Stays)
     }
 
-    fn is_done(&self, _farm: &M, _talk: &Talk) -> bool {
+    fn is_done(&self, _farm: &M, _conn_state: &ConnState) -> bool {
         false
     }
 }

@@ -4,7 +4,7 @@ ghost use Rattle.plain_world.specs.World.{IsTile};
 ghost use Rattle.plain_world.specs.declared.world.Tile.{Tile};
 ghost use Rattle.farm_history.specs.Entries.{Entry};
 ghost use Rattle.front_rounds.specs.Calls.{SameSeat};
-ghost use Rattle.front_rounds.specs.Front.{fate_of};
+ghost use Rattle.front_rounds.specs.Front.{disposition_of};
 ghost use Rattle.control_lines.specs.inner.Doing.{Did};
 ghost use Rattle.control_lines.specs.declared.acts.Line.TheVariants as line_is;
 
@@ -13,7 +13,7 @@ use crate::answers::{say, say_expired, say_renew, say_restyle, say_tally, say_up
 use crate::expiring::expire_all;
 use expiry_lists::TileList;
 use farm_base::Worn;
-use front_rounds::{Farm, Fate};
+use front_rounds::{Farm, Disposition};
 use plain_world::Tile;
 use std::alloc::Global;
 use std::sync::Wait;
@@ -37,30 +37,30 @@ fn do_expire<R: Wait, M: Farm>(
     seat: &mut M::Seat,
     lists: &[TileList],
     number: u32,
-    said: &mut Vec<u8>,
-) -> Result<Fate, Worn>
+    response: &mut Vec<u8>,
+) -> Result<Disposition, Worn>
     requires { (M.seats farm.now).is_seat seat.old }
     ensures seat { SameSeat (M.seats farm.now) seat.old seat.new }
     ensures worn { OnErr result ((M.seats farm.now).worn seat.new ≡ true) }
     ensures did { (front : ℕ) (c : ℕ)
         → Did front lists.now c (line_is.Expire number ∷ []) ((M.seats farm.now).mine seat.old)
-        ((M.seats farm.now).mine seat.new) said.old.items said.new.items (fate_of result) }
+        ((M.seats farm.now).mine seat.new) response.old.items response.new.items (disposition_of result) }
 {
     let Some(tiles) = list_at(lists, number) else {
-        return Ok(say(said, "no list\n"));
+        return Ok(say(response, "no list\n"));
     };
     let Ok(total) = expire_all(rt, farm, seat, tiles) else {
         return Err(Worn);
     };
-    Ok(say_expired(alloc, total, said))
+    Ok(say_expired(alloc, total, response))
 }
 
 /// A line that is none.
-pub fn do_bad(said: &mut Vec<u8>) -> Fate
+pub fn do_bad(response: &mut Vec<u8>) -> Disposition
     ensures { (front : ℕ) (lists : List (List Tile)) (c : ℕ) (mine : List Entry)
-        → Did front lists c (line_is.Bad ∷ []) mine mine said.old.items said.new.items result }
+        → Did front lists c (line_is.Bad ∷ []) mine mine response.old.items response.new.items result }
 {
-    say(said, "bad line\n")
+    say(response, "bad line\n")
 }
 
 /// Does what a line asks for, and says the answer.
@@ -71,47 +71,47 @@ pub fn do_line<R: Wait, M: Farm>(
     seat: &mut M::Seat,
     lists: &[TileList],
     line: Line,
-    said: &mut Vec<u8>,
-) -> Result<Fate, Worn>
+    response: &mut Vec<u8>,
+) -> Result<Disposition, Worn>
     requires { (M.seats farm.now).is_seat seat.old }
     ensures seat { SameSeat (M.seats farm.now) seat.old seat.new }
     ensures worn { OnErr result ((M.seats farm.now).worn seat.new ≡ true) }
     ensures did { (front : ℕ) (c : ℕ)
         → Did front lists.now c (line ∷ []) ((M.seats farm.now).mine seat.old)
-        ((M.seats farm.now).mine seat.new) said.old.items said.new.items (fate_of result) }
+        ((M.seats farm.now).mine seat.new) response.old.items response.new.items (disposition_of result) }
 {
     match line {
         Line::Update(number) => {
             let Ok(answer) = farm.update(rt, alloc, seat, number) else {
                 return Err(Worn);
             };
-            Ok(say_update(alloc, answer, said))
+            Ok(say_update(alloc, answer, response))
         }
         Line::Restyle(number) => {
             let Ok(answer) = farm.restyle(rt, seat, number) else {
                 return Err(Worn);
             };
-            Ok(say_restyle(alloc, answer, said))
+            Ok(say_restyle(alloc, answer, response))
         }
         Line::Renew(number) => {
             let Ok(answer) = farm.renew(rt, alloc, seat, number) else {
                 return Err(Worn);
             };
-            Ok(say_renew(alloc, answer, said))
+            Ok(say_renew(alloc, answer, response))
         }
-        Line::Expire(number) => do_expire(rt, alloc, farm, seat, lists, number, said),
+        Line::Expire(number) => do_expire(rt, alloc, farm, seat, lists, number, response),
         Line::Stats => {
             let Ok(totals) = farm.tally(rt, seat) else {
                 return Err(Worn);
             };
-            Ok(say_tally(alloc, totals, said))
+            Ok(say_tally(alloc, totals, response))
         }
         Line::Stop => {
             let Ok(()) = farm.stop(rt, seat) else {
                 return Err(Worn);
             };
-            Ok(say(said, "stopping\n"))
+            Ok(say(response, "stopping\n"))
         }
-        Line::Bad => Ok(do_bad(said)),
+        Line::Bad => Ok(do_bad(response)),
     }
 }

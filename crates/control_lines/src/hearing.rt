@@ -2,7 +2,7 @@
 ghost use Rattle.std.specs.Prelude.{◌≡◌, ◌∷◌, [], ℕ, List, true, OnErr, length, nat_lt};
 ghost use Rattle.farm_base.specs.Limits.{most_control_bytes};
 ghost use Rattle.front_rounds.specs.Calls.{SameSeat};
-ghost use Rattle.front_rounds.specs.Front.{fate_of};
+ghost use Rattle.front_rounds.specs.Front.{disposition_of};
 ghost use Rattle.plain_world.specs.declared.world.Tile.{Tile};
 ghost use Rattle.farm_history.specs.Entries.{Entry};
 ghost use Rattle.control_lines.specs.declared.acts.Line.TheVariants as line_is;
@@ -12,25 +12,25 @@ use crate::doing::{do_bad, do_line};
 use crate::lines::line_in;
 use expiry_lists::TileList;
 use farm_base::{MOST_CONTROL_BYTES, Worn};
-use front_rounds::{Farm, Fate, Reason};
+use front_rounds::{Farm, Disposition, Reason};
 use std::alloc::Global;
 use std::sync::Wait;
 
 /// What is kept of a session: the part of the line that has not ended.
 #[derive(Drop)]
-pub struct Talk {
+pub struct ConnState {
     pub part: Vec<u8>,
 }
 
 /// A line that is too long is answered, and its connection is read no more.
-fn too_long(said: &mut Vec<u8>) -> Fate
+fn too_long(response: &mut Vec<u8>) -> Disposition
     ensures did { (front : ℕ) (lists : List (List Tile)) (c : ℕ) (mine : List Entry)
-        → Did front lists c (line_is.Bad ∷ []) mine mine said.old.items said.new.items (as_done result) }
+        → Did front lists c (line_is.Bad ∷ []) mine mine response.old.items response.new.items (as_done result) }
     ensures long { LongWhy true result }
 {
-    match do_bad(said) {
-        Fate::Stays => Fate::Leaves(Reason::Unread),
-        Fate::Leaves(why) => Fate::Leaves(why),
+    match do_bad(response) {
+        Disposition::Stays => Disposition::Leaves(Reason::Unread),
+        Disposition::Leaves(why) => Disposition::Leaves(why),
     }
 }
 
@@ -42,12 +42,12 @@ fn is_short(part: &Vec<u8>) -> bool
 }
 
 /// Puts a byte behind a part of a line, if there is memory for it.
-fn keep(part: &mut Vec<u8>, byte: u8) -> Fate
+fn keep(part: &mut Vec<u8>, byte: u8) -> Disposition
     ensures { Says (byte ∷ []) part.old.items part.new.items result }
 {
     match part.push(byte) {
-        Ok(()) => Fate::Stays,
-        Err(_) => Fate::Leaves(Reason::Starved),
+        Ok(()) => Disposition::Stays,
+        Err(_) => Disposition::Leaves(Reason::Starved),
     }
 }
 
@@ -60,23 +60,23 @@ fn take_byte<R: Wait, M: Farm>(
     lists: &[TileList],
     part: &mut Vec<u8>,
     byte: u8,
-    said: &mut Vec<u8>,
-) -> Result<Fate, Worn>
+    response: &mut Vec<u8>,
+) -> Result<Disposition, Worn>
     requires { (M.seats farm.now).is_seat seat.old }
     ensures seat { SameSeat (M.seats farm.now) seat.old seat.new }
     ensures worn { OnErr result ((M.seats farm.now).worn seat.new ≡ true) }
     ensures heeds { (front : ℕ) (c : ℕ)
-        → Heeds front lists.now c part.old.items (byte ∷ []) ((M.seats farm.now).mine seat.old) ((M.seats farm.now).mine seat.new) part.new.items said.old.items said.new.items (fate_of result) }
+        → Heeds front lists.now c part.old.items (byte ∷ []) ((M.seats farm.now).mine seat.old) ((M.seats farm.now).mine seat.new) part.new.items response.old.items response.new.items (disposition_of result) }
 {
     if byte == b'\n' {
         let line = line_in(part.as_slice());
         part.clear();
-        return do_line(rt, alloc, farm, seat, lists, line, said);
+        return do_line(rt, alloc, farm, seat, lists, line, response);
     }
     if is_short(part) {
         return Ok(keep(part, byte));
     }
-    Ok(too_long(said))
+    Ok(too_long(response))
 }
 
 /// A piece of bytes behind a part of a line.
@@ -88,22 +88,22 @@ pub fn hear_piece<R: Wait, M: Farm>(
     lists: &[TileList],
     part: &mut Vec<u8>,
     piece: &[u8],
-    said: &mut Vec<u8>,
-) -> Result<Fate, Worn>
+    response: &mut Vec<u8>,
+) -> Result<Disposition, Worn>
     requires { (M.seats farm.now).is_seat seat.old }
     ensures seat { SameSeat (M.seats farm.now) seat.old seat.new }
     ensures worn { OnErr result ((M.seats farm.now).worn seat.new ≡ true) }
     ensures heeds { (front : ℕ) (c : ℕ)
-        → Heeds front lists.now c part.old.items piece.now ((M.seats farm.now).mine seat.old) ((M.seats farm.now).mine seat.new) part.new.items said.old.items said.new.items (fate_of result) }
+        → Heeds front lists.now c part.old.items piece.now ((M.seats farm.now).mine seat.old) ((M.seats farm.now).mine seat.new) part.new.items response.old.items response.new.items (disposition_of result) }
 {
     for byte in piece {
-        let Ok(fate) = take_byte(rt, alloc, farm, seat, lists, part, *byte, said) else {
+        let Ok(disposition) = take_byte(rt, alloc, farm, seat, lists, part, *byte, response) else {
             return Err(Worn);
         };
-        match fate {
-            Fate::Stays => {}
-            Fate::Leaves(why) => return Ok(Fate::Leaves(why)),
+        match disposition {
+            Disposition::Stays => {}
+            Disposition::Leaves(why) => return Ok(Disposition::Leaves(why)),
         }
     }
-    Ok(Fate::Stays)
+    Ok(Disposition::Stays)
 }

@@ -7,9 +7,9 @@ use line_words::{cut, small_number, without_return};
 use std::str;
 
 /// The line of this name with these words behind it.
-#[tactic(auto, unfolding(crate::specs::Lines::line_named))]
+#[tactic(auto, unfolding(crate::specs::Lines::command_named))]
 fn named(name: &str, words: &str) -> Line
-    ensures { result ≡ spec.line_named name.now words.now }
+    ensures { result ≡ spec.command_named name.now words.now }
 {
     let Some(number) = small_number(words) else {
         return Line::Bad;
@@ -24,9 +24,9 @@ fn named(name: &str, words: &str) -> Line
 }
 
 /// The line that is one word.
-#[tactic(auto, unfolding(crate::specs::Lines::line_alone))]
+#[tactic(auto, unfolding(crate::specs::Lines::command_alone))]
 fn alone(word: &str) -> Line
-    ensures { result ≡ spec.line_alone word.now }
+    ensures { result ≡ spec.command_alone word.now }
 {
     match word {
         "stats" => Line::Stats,
@@ -45,9 +45,9 @@ fn control_line(text: &str) -> Line
     }
 }
 
-#[tactic(auto, unfolding(crate::specs::Lines::text_of), using(crate::proofs::Texts::text_known, crate::proofs::Texts::text_unknown))]
+#[tactic(auto, unfolding(crate::specs::Lines::utf8_text), using(crate::proofs::Texts::text_known, crate::proofs::Texts::text_unknown))]
 fn text(bytes: &[u8]) -> Option<&str>
-    ensures { option_map (λ s. s.now) result ≡ spec.text_of bytes.entry.now }
+    ensures { option_map (λ s. s.now) result ≡ spec.utf8_text bytes.entry.now }
 {
     match str::from_utf8(bytes) {
         Ok(text) => Some(text),

@@ -21,7 +21,7 @@ use Rattle.plain_drawing.specs.Styles.{Rule, Style, LayerRef, RasterRef, MapStyl
 use Rattle.plain_drawing.specs.Grids.{Grid}
 use Rattle.plain_shapes.specs.Ppm.{ppm}
 use Rattle.plain_drawing.specs.Rules.{denominator_of, item_symbolizers}
-use Rattle.plain_drawing.specs.Drawing.{pixel_of, covers, tile_of}
+use Rattle.plain_drawing.specs.Drawing.{pixel_of, covers, drawn_tile}
 
 -- ---- colours and pictures
 
@@ -209,4 +209,4 @@ over_white west east = rows 8 (replicate 8 west ++ replicate 8 east) ++ rows 8 (
 
 -- the tile of the world of a map with these data
 abbrev pub drawn_world : MapStyle → List Layer → List ℕ
-drawn_world m data_layers = tile_of m 16 world data_layers
+drawn_world m data_layers = drawn_tile m 16 world data_layers

@@ -11,8 +11,8 @@ use Rattle.farm_history.proofs.Lists.{same_key-true, same_key-self, same_key-sym
 use Rattle.expiry_lists.specs.declared.nodes.Node.{Node}
 use Rattle.expiry_lists.specs.Marks.{Shown, shown_key, mark_of, touched_by}
 use Rattle.expiry_lists.specs.inner.Nodes.{node_of, node_mark, is_clean, has_node, shown_before, shown_of}
-use Rattle.expiry_lists.specs.inner.Walks.{Soils}
-use Rattle.expiry_lists.proofs.Soiling.{NoneOf, soils_none, soils_here, soils_other}
+use Rattle.expiry_lists.specs.inner.Walks.{Dirties}
+use Rattle.expiry_lists.proofs.Dirtying.{NoneOf, dirties_none, dirties_here, dirties_other}
 
 -- no two of the table have one key
 abbrev pub Distinct : List (Key × Node) → Type 0
@@ -135,15 +135,15 @@ insert-unmarked (e ∷ es) key w new none = go (λ is. insert-unmarked es key w 
 weight_of : Option Mark → ℕ
 weight_of o = cond (is_clean o) 1 0
 
-pub set-soils : (es : List (Key × Node)) → Distinct es → (key : Key) (n w : Node) → node_of es key ≡ Some n → w.mark ≡ option_map (touched_by true) n.mark →
-    Soils (same_key key) (shown_of es) (shown_of (set_value (same_key key) es w)) (cond (is_clean n.mark) 1 0)
+pub set-dirties : (es : List (Key × Node)) → Distinct es → (key : Key) (n w : Node) → node_of es key ≡ Some n → w.mark ≡ option_map (touched_by true) n.mark →
+    Dirties (same_key key) (shown_of es) (shown_of (set_value (same_key key) es w)) (cond (is_clean n.mark) 1 0)
 unfolding IsDistinct
-set-soils [] apart key n w found same = cc
-set-soils (e ∷ es) apart key n w found same = go (λ is. set-soils es apart.1 key n w is same) (same_key key e.0) refl found
+set-dirties [] apart key n w found same = cc
+set-dirties (e ∷ es) apart key n w found same = go (λ is. set-dirties es apart.1 key n w is same) (same_key key e.0) refl found
   where
-    go : (node_of es key ≡ Some n → Soils (same_key key) (shown_of es) (shown_of (set_value (same_key key) es w)) (cond (is_clean n.mark) 1 0)) →
+    go : (node_of es key ≡ Some n → Dirties (same_key key) (shown_of es) (shown_of (set_value (same_key key) es w)) (cond (is_clean n.mark) 1 0)) →
         (b : Bool) → same_key key e.0 ≡ b → cond b (Some e.1) (node_of es key) ≡ Some n →
-        Soils (same_key key) (shown_before e.0 e.1.mark (shown_of es)) (shown_of (cond b ((e.0, w) ∷ es) (e ∷ set_value (same_key key) es w))) (cond (is_clean n.mark) 1 0)
+        Dirties (same_key key) (shown_before e.0 e.1.mark (shown_of es)) (shown_of (cond b ((e.0, w) ∷ es) (e ∷ set_value (same_key key) es w))) (cond (is_clean n.mark) 1 0)
     go ih true here is =
         let own : n ≡ e.1 = cc in
         let marks : n.mark ≡ e.1.mark = ap (λ (x : Node). x.mark) own in
@@ -155,19 +155,19 @@ set-soils (e ∷ es) apart key n w found same = go (λ is. set-soils es apart.1 
         none : NoneOf (same_key key) (shown_of es)
         none = each-map _ _ (shown_of es) (λ s apart' clean. subst (λ (x : Key). same_key x s.key ≡ false) (sym key_is) apart') (shown_apart e.0 es apart.0)
 
-        first : (o : Option Mark) → Soils (same_key key) (shown_before e.0 o (shown_of es)) (shown_before e.0 (option_map (touched_by true) o) (shown_of es)) (cond (is_clean o) 1 0)
-        first None = soils_none (same_key key) (shown_of es) none
-        first (Some m) = soils_here (same_key key) (record { key = e.0; mark = m }) here (soils_none (same_key key) (shown_of es) none)
+        first : (o : Option Mark) → Dirties (same_key key) (shown_before e.0 o (shown_of es)) (shown_before e.0 (option_map (touched_by true) o) (shown_of es)) (cond (is_clean o) 1 0)
+        first None = dirties_none (same_key key) (shown_of es) none
+        first (Some m) = dirties_here (same_key key) (record { key = e.0; mark = m }) here (dirties_none (same_key key) (shown_of es) none)
     go ih false other is = rest e.1.mark (ih is)
       where
-        rest : (o : Option Mark) → Soils (same_key key) (shown_of es) (shown_of (set_value (same_key key) es w)) (cond (is_clean n.mark) 1 0) →
-            Soils (same_key key) (shown_before e.0 o (shown_of es)) (shown_before e.0 o (shown_of (set_value (same_key key) es w))) (cond (is_clean n.mark) 1 0)
+        rest : (o : Option Mark) → Dirties (same_key key) (shown_of es) (shown_of (set_value (same_key key) es w)) (cond (is_clean n.mark) 1 0) →
+            Dirties (same_key key) (shown_before e.0 o (shown_of es)) (shown_before e.0 o (shown_of (set_value (same_key key) es w))) (cond (is_clean n.mark) 1 0)
         rest None ih = ih
-        rest (Some m) ih = soils_other (same_key key) (record { key = e.0; mark = m }) other ih
+        rest (Some m) ih = dirties_other (same_key key) (record { key = e.0; mark = m }) other ih
 
 -- where the key has no node, there is nothing to expire
-pub absent_soils : (es : List (Key × Node)) → Distinct es → (key : Key) → node_of es key ≡ None → Soils (same_key key) (shown_of es) (shown_of es) 0
-absent_soils es apart key gone = soils_none (same_key key) (shown_of es) (each-map (Marked es) _ (shown_of es) other (all_marked es apart))
+pub absent_dirties : (es : List (Key × Node)) → Distinct es → (key : Key) → node_of es key ≡ None → Dirties (same_key key) (shown_of es) (shown_of es) 0
+absent_dirties es apart key gone = dirties_none (same_key key) (shown_of es) (each-map (Marked es) _ (shown_of es) other (all_marked es apart))
   where
     other : (s : Shown) → Marked es s → s.mark.clean ≡ true → same_key key s.key ≡ false
     other s is clean = go (same_key key s.key) refl

@@ -8,7 +8,7 @@ pub mod Over
 pub mod Quarters
 pub mod Saving
 pub mod Showing
-pub mod Soiling
+pub mod Dirtying
 pub mod Texts
 pub mod Tiles
 pub mod Walked

@@ -8,7 +8,7 @@ use Rattle.expiry_lists.specs.declared.nodes.Node.{Node}
 use Rattle.expiry_lists.specs.Marks.{Shown}
 use Rattle.expiry_lists.specs.inner.Nodes.{parent, node_of, node_live, is_clean, is_live, shown_of, IsTree, Quieter}
 use Rattle.expiry_lists.specs.inner.Walks.{child, is_under, IsNode, Walks}
-use Rattle.expiry_lists.proofs.Soiling.{NoneOf}
+use Rattle.expiry_lists.proofs.Dirtying.{NoneOf}
 use Rattle.expiry_lists.proofs.Finding.{Distinct, Marked, all_marked}
 use Rattle.expiry_lists.proofs.Quarters.{parent-child, child-parent}
 

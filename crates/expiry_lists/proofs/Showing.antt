@@ -12,7 +12,7 @@ use Rattle.expiry_lists.specs.inner.Nodes.{has_node, node_of, node_mark, shown_o
 use Rattle.expiry_lists.specs.inner.Waking.{path_len, Wakes}
 use Rattle.expiry_lists.specs.inner.Tiles.{is_of_maps}
 use Rattle.expiry_lists.proofs.Finding.{Distinct, Marked, all_marked, marked_there, mark_found}
-use Rattle.expiry_lists.proofs.Soiling.{AgreeOn}
+use Rattle.expiry_lists.proofs.Dirtying.{AgreeOn}
 
 no_mark : (o : Option Node) → is_some o ≡ false → node_mark o ≡ None
 no_mark None gone = refl

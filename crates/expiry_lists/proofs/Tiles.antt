@@ -18,7 +18,7 @@ use Rattle.expiry_lists.specs.Marks.{is_of_map, is_picked, is_in_box}
 use Rattle.expiry_lists.specs.inner.Nodes.{node_of, is_live, shown_of, IsTree}
 use Rattle.expiry_lists.specs.inner.Tiles.{world_key, is_flat, key_over, is_of_maps}
 use Rattle.expiry_lists.specs.inner.Walks.{child, is_under, is_above, IsNode, Walks}
-use Rattle.expiry_lists.proofs.Soiling.{AgreeOn, NoneOf}
+use Rattle.expiry_lists.proofs.Dirtying.{AgreeOn, NoneOf}
 use Rattle.expiry_lists.proofs.Finding.{Distinct, Marked, all_marked, marked_there}
 use Rattle.expiry_lists.proofs.Live.{OnGrid, node_on_grid, under_deep, none_under}
 use Rattle.expiry_lists.proofs.Walked.{walks_then, walks_agree, walks_none}

@@ -9,31 +9,31 @@ use Rattle.expiry_lists.specs.declared.nodes.Node.{Node}
 use Rattle.expiry_lists.specs.Marks.{touched_by}
 use Rattle.expiry_lists.specs.inner.Nodes.{parent, node_of, node_live, is_clean, has_node, is_live, shown_of, IsTree}
 use Rattle.expiry_lists.specs.inner.Walks.{Walks}
-use Rattle.expiry_lists.proofs.Soiling.{AgreeOn, NoneOf, soils_then, soils_agree, soils_none, clean_marks-le}
-use Rattle.expiry_lists.proofs.Finding.{Distinct, set-soils, absent_soils, length-shown_of}
+use Rattle.expiry_lists.proofs.Dirtying.{AgreeOn, NoneOf, dirties_then, dirties_agree, dirties_none, clean_marks-le}
+use Rattle.expiry_lists.proofs.Finding.{Distinct, set-dirties, absent_dirties, length-shown_of}
 use Rattle.expiry_lists.proofs.Writing.{Fits, set-writes, written_tree, written_quieter, as_live_fits, quiet_fits}
 
 pub walks_then : {p q : Key → Bool} {a b c : List (Key × Node)} {m n : ℕ} → Walks p a b m → Walks q b c n → Walks (λ k. p k || q k) a c (m + n)
 walks_then first second = record {
-  soils = soils_then first.soils second.soils;
+  dirties = dirties_then first.dirties second.dirties;
   tree = second.tree;
   there = λ k. second.there k ∙ first.there k;
   quieter = λ k live. first.quieter k (second.quieter k live);
 }
 
 pub walks_agree : {p : Key → Bool} (q : Key → Bool) {a b : List (Key × Node)} {n : ℕ} → AgreeOn p q (shown_of a) → Walks p a b n → Walks q a b n
-walks_agree q same w = record { soils = soils_agree q same w.soils; tree = w.tree; there = w.there; quieter = w.quieter }
+walks_agree q same w = record { dirties = dirties_agree q same w.dirties; tree = w.tree; there = w.there; quieter = w.quieter }
 
 pub walks_none : (p : Key → Bool) (a : List (Key × Node)) → NoneOf p (shown_of a) → IsTree a → Walks p a a 0
-walks_none p a none tree = record { soils = soils_none p (shown_of a) none; tree = tree; there = λ k. refl; quieter = λ k live. live }
+walks_none p a none tree = record { dirties = dirties_none p (shown_of a) none; tree = tree; there = λ k. refl; quieter = λ k live. live }
 
 -- the count of an expiry is at most the number of nodes
 pub walks_few : {p : Key → Bool} {a b : List (Key × Node)} {n : ℕ} → Walks p a b n → n ≤ length a
-walks_few {p} {a} {b} {n} w = omega (arith, w.soils.counted, clean_marks-le p (shown_of a), length-shown_of a)
+walks_few {p} {a} {b} {n} w = omega (arith, w.dirties.counted, clean_marks-le p (shown_of a), length-shown_of a)
 
 -- where the key has no node
 pub walks_absent : (a : List (Key × Node)) (key : Key) → Distinct a → node_of a key ≡ None → IsTree a → Walks (same_key key) a a 0
-walks_absent a key apart gone tree = record { soils = absent_soils a apart key gone; tree = tree; there = λ k. refl; quieter = λ k live. live }
+walks_absent a key apart gone tree = record { dirties = absent_dirties a apart key gone; tree = tree; there = λ k. refl; quieter = λ k live. live }
 
 module _ (a : List (Key × Node)) (key : Key) (n w : Node) (apart : Distinct a) (found : node_of a key ≡ Some n) (mark : w.mark ≡ option_map (touched_by true) n.mark) (tree : IsTree a) where
   there_now : has_node a key ≡ true
@@ -55,15 +55,15 @@ module _ (a : List (Key × Node)) (key : Key) (n w : Node) (apart : Distinct a) 
 
   walks_write : Fits a key w → (w.live ≡ true → n.live ≡ true) → Walks (same_key key) a (set_value (same_key key) a w) (cond (is_clean n.mark) 1 0)
   walks_write fits as_live = record {
-    soils = set-soils a apart key n w found mark;
+    dirties = set-dirties a apart key n w found mark;
     tree = written_tree a (set_value (same_key key) a w) key w (set-writes a key w there_now) tree fits;
     there = same_keys;
     quieter = written_quieter a (set_value (same_key key) a w) key w (set-writes a key w there_now) (λ live. ap node_live found ∙ as_live live);
   }
 
   -- the mark made dirty, and the node as live as it was
-  pub walks_soil_one : w.live ≡ n.live → Walks (same_key key) a (set_value (same_key key) a w) (cond (is_clean n.mark) 1 0)
-  walks_soil_one same =
+  pub walks_mark_one_dirty : w.live ≡ n.live → Walks (same_key key) a (set_value (same_key key) a w) (cond (is_clean n.mark) 1 0)
+  walks_mark_one_dirty same =
       walks_write (as_live_fits a key n w found same (λ deep clean. let never : false ≡ true = sym dirty ∙ clean in cc) tree) (λ live. sym same ∙ live)
 
   -- the mark made dirty, and the node not live, where none below is live

@@ -30,12 +30,12 @@ abbrev pub touched_by : Bool → Mark → Mark
 touched_by touched m = record { version = m.version; clean = not touched && m.clean }
 
 -- one that is shown, after an expiry of the keys that pass the test
-abbrev pub soil_mark : (Key → Bool) → Shown → Shown
-soil_mark test s = record { key = s.key; mark = touched_by (test s.key) s.mark }
+abbrev pub dirtied_mark : (Key → Bool) → Shown → Shown
+dirtied_mark test s = record { key = s.key; mark = touched_by (test s.key) s.mark }
 
 -- what is shown, after an expiry of the keys that pass the test: each of them is dirty, and all else is as it was
-abbrev pub soil_marks : (Key → Bool) → List Shown → List Shown
-soil_marks test shown = map (soil_mark test) shown
+abbrev pub dirtied_marks : (Key → Bool) → List Shown → List Shown
+dirtied_marks test shown = map (dirtied_mark test) shown
 
 -- how many clean ones pass the test
 abbrev pub clean_marks : (Key → Bool) → List Shown → ℕ

@@ -33,9 +33,9 @@ impl Model for TileList {
 }
 
 /// The words of a line.
-#[tactic(auto, unfolding(crate::specs::Lists::text_of), using(crate::proofs::Texts::text_known, crate::proofs::Texts::text_unknown))]
+#[tactic(auto, unfolding(crate::specs::Lists::list_bytes), using(crate::proofs::Texts::text_known, crate::proofs::Texts::text_unknown))]
 fn text(line: &[u8], fault: ListFault) -> Result<&str, ListFault>
-    ensures { seen (λ s. s.now) result ≡ spec.text_of fault line.entry.now }
+    ensures { seen (λ s. s.now) result ≡ spec.list_bytes fault line.entry.now }
 {
     match str::from_utf8(line) {
         Ok(text) => Ok(text),
@@ -45,13 +45,13 @@ fn text(line: &[u8], fault: ListFault) -> Result<&str, ListFault>
 
 /// What stands before the first slash and behind it.
 fn word(text: &str, fault: ListFault) -> Result<(&str, &str), ListFault>
-    ensures { seen (λ p. (p.0.now, p.1.now)) result ≡ spec.word_of fault text.entry.now }
+    ensures { seen (λ p. (p.0.now, p.1.now)) result ≡ spec.list_word fault text.entry.now }
 {
     cut(text, '/').ok_or(fault)
 }
 
 fn number(word: &str, fault: ListFault) -> Result<u32, ListFault>
-    ensures { result ≡ spec.number_of fault word.now }
+    ensures { result ≡ spec.list_number fault word.now }
 {
     small_number(word).ok_or(fault)
 }
@@ -69,9 +69,9 @@ fn tile_at(z: u32, x: u32, y: u32) -> Option<Tile>
 }
 
 /// The tile of a line `z/x/y`.
-#[tactic(auto, unfolding(crate::specs::Lists::tile_of))]
+#[tactic(auto, unfolding(crate::specs::Lists::list_tile))]
 fn tile(text: &str, fault: ListFault) -> Result<Tile, ListFault>
-    ensures value { result ≡ spec.tile_of fault text.now }
+    ensures value { result ≡ spec.list_tile fault text.now }
     ensures valid { IfOk result IsTile }
 {
     let (z, rest) = word(text, fault)?;
@@ -83,9 +83,9 @@ fn tile(text: &str, fault: ListFault) -> Result<Tile, ListFault>
 }
 
 /// The tile of a line; nothing where the line is empty.
-#[tactic(auto, unfolding(crate::specs::Lists::line_read))]
+#[tactic(auto, unfolding(crate::specs::Lists::list_line))]
 fn read_line(line: &[u8], fault: ListFault) -> Result<Option<Tile>, ListFault>
-    ensures value { result ≡ spec.line_read fault line.now }
+    ensures value { result ≡ spec.list_line fault line.now }
     ensures valid { IfOk result (λ o. IfSome o IsTile) }
 {
     if line.is_empty() {

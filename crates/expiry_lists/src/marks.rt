@@ -6,13 +6,13 @@ ghost use Rattle.farm_history.specs.Plans.{same_key, overlaps, AreApart};
 ghost use Rattle.farm_history.specs.Replays.{are_rising, kept_of, kept_version};
 ghost use Rattle.plain_world.specs.World.{IsMeta, IsTile};
 ghost use Rattle.expiry_lists.specs.Boxes.{rectangle};
-ghost use Rattle.expiry_lists.specs.Marks.{shown_key, mark_of, soil_marks, clean_marks, is_of_map, is_in_box, clean_version};
+ghost use Rattle.expiry_lists.specs.Marks.{shown_key, mark_of, dirtied_marks, clean_marks, is_of_map, is_in_box, clean_version};
 
 use crate::boxes::Rectangle;
 use crate::keeping::{clean_entries, sort_by_key};
-use crate::nodes::{Nodes, mark_at, soil_one};
+use crate::nodes::{Nodes, mark_at, mark_one_dirty};
 use crate::waking::{put_mark, wake};
-use crate::walks::{soil_map, soil_map_box, soil_maps};
+use crate::walks::{mark_map_dirty, mark_map_box_dirty, mark_maps_dirty};
 use farm_base::NoMemory;
 use farm_history::{Kept, Key, Mark};
 use indexmap::IndexMap;
@@ -103,24 +103,24 @@ impl Marks {
     /// Makes dirty what overlaps the tile, on every map and zoom, and counts what was clean of it.
     pub fn expire(&mut self, t: Tile) -> u64
         requires { IsTile t }
-        ensures shown { self.new.shown ≡ soil_marks (overlaps t) self.old.shown }
+        ensures shown { self.new.shown ≡ dirtied_marks (overlaps t) self.old.shown }
         ensures count { result ≡ clean_marks (overlaps t) self.old.shown }
         ensures apart { AreApart shown_key self.old.shown }
         ensures room { self.new.room ≡ self.old.room }
     {
         let _count = self.nodes.len();
-        soil_maps(&mut self.nodes, &self.maps, t)
+        mark_maps_dirty(&mut self.nodes, &self.maps, t)
     }
 
     /// Makes dirty what is shown of the map, and counts what was clean of it.
     pub fn expire_map(&mut self, map: u32) -> u64
-        ensures shown { self.new.shown ≡ soil_marks (is_of_map map) self.old.shown }
+        ensures shown { self.new.shown ≡ dirtied_marks (is_of_map map) self.old.shown }
         ensures count { result ≡ clean_marks (is_of_map map) self.old.shown }
         ensures apart { AreApart shown_key self.old.shown }
         ensures room { self.new.room ≡ self.old.room }
     {
         let _count = self.nodes.len();
-        soil_map(&mut self.nodes, map)
+        mark_map_dirty(&mut self.nodes, map)
     }
 
     /// Makes dirty what is shown of the map at zoom `z` where the metatile's square holds a point of the
@@ -138,7 +138,7 @@ impl Marks {
         requires across { west ≤ east }
         requires down { north ≤ south }
         ensures shown { let b = rectangle west north east south in
-            self.new.shown ≡ soil_marks (is_in_box map z b) self.old.shown }
+            self.new.shown ≡ dirtied_marks (is_in_box map z b) self.old.shown }
         ensures count { let b = rectangle west north east south in
             result ≡ clean_marks (is_in_box map z b) self.old.shown }
         ensures apart { AreApart shown_key self.old.shown }
@@ -151,17 +151,17 @@ impl Marks {
             east,
             south,
         };
-        soil_map_box(&mut self.nodes, map, z, b)
+        mark_map_box_dirty(&mut self.nodes, map, z, b)
     }
 
     /// Makes a key dirty, where it is shown.
     pub fn expire_one(&mut self, key: Key)
-        ensures shown { self.new.shown ≡ soil_marks (same_key key) self.old.shown }
+        ensures shown { self.new.shown ≡ dirtied_marks (same_key key) self.old.shown }
         ensures apart { AreApart shown_key self.old.shown }
         ensures room { self.new.room ≡ self.old.room }
     {
         let _count = self.nodes.len();
-        let _count = soil_one(&mut self.nodes, key);
+        let _count = mark_one_dirty(&mut self.nodes, key);
     }
 
     /// What is clean, with its versions, by map, zoom, column and row.

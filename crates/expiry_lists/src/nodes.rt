@@ -35,7 +35,7 @@ pub fn mark_at(nodes: &Nodes, key: Key) -> Option<Mark>
 }
 
 /// Makes the mark of a key dirty, and counts what was clean: 0 or 1.
-pub fn soil_one(nodes: &mut Nodes, key: Key) -> u64
+pub fn mark_one_dirty(nodes: &mut Nodes, key: Key) -> u64
     requires { IsTree nodes.old.entries }
     ensures walks { Walks (same_key key) nodes.old.entries nodes.new.entries result }
     ensures room { spare nodes.new ≡ spare nodes.old }
@@ -45,7 +45,7 @@ pub fn soil_one(nodes: &mut Nodes, key: Key) -> u64
         return 0;
     };
     let was = *node;
-    *node = was.soiled();
+    *node = was.dirtied();
     was.clean_count()
 }
 
@@ -65,14 +65,14 @@ pub fn settle(nodes: &mut Nodes, key: Key) -> u64
     let was = *node;
     *node = Node {
         live: false,
-        ..was.soiled()
+        ..was.dirtied()
     };
     was.clean_count()
 }
 
 impl Node {
     /// The node with its mark, if any, dirty.
-    fn soiled(self) -> Node
+    fn dirtied(self) -> Node
         ensures { result ≡ record self { mark = option_map (touched_by true) self.mark } }
     {
         let mark = self.mark.map(|mark| Mark {

@@ -9,7 +9,7 @@ ghost use Rattle.expiry_lists.specs.inner.Tiles.{world_key, is_flat, key_over, i
 ghost use Rattle.expiry_lists.specs.inner.Walks.{child, is_under, is_above, IsNode, Walks};
 
 use crate::boxes::{Rectangle, holds_some};
-use crate::nodes::{Nodes, is_live, settle, soil_one};
+use crate::nodes::{Nodes, is_live, settle, mark_one_dirty};
 use farm_history::Key;
 use merc_fixed::meta_square;
 use plain_world::{Meta, Tile};
@@ -57,7 +57,7 @@ pub fn parent(key: Key) -> Key
 
 /// Makes the key and all below it dirty, and counts what was clean. It goes down over live nodes alone,
 /// and leaves none live.
-pub fn soil_below(nodes: &mut Nodes, top: Key) -> u64
+pub fn mark_below_dirty(nodes: &mut Nodes, top: Key) -> u64
     requires node { IsNode top }
     requires tree { IsTree nodes.old.entries }
     ensures walks { Walks (is_under (18 - top.meta.z) top) nodes.old.entries nodes.new.entries result }
@@ -71,16 +71,16 @@ pub fn soil_below(nodes: &mut Nodes, top: Key) -> u64
     if !is_live(nodes, top) {
         return 0;
     }
-    let first = soil_below(nodes, child(top, 0));
-    let second = soil_below(nodes, child(top, 1));
-    let third = soil_below(nodes, child(top, 2));
-    let fourth = soil_below(nodes, child(top, 3));
+    let first = mark_below_dirty(nodes, child(top, 0));
+    let second = mark_below_dirty(nodes, child(top, 1));
+    let third = mark_below_dirty(nodes, child(top, 2));
+    let fourth = mark_below_dirty(nodes, child(top, 3));
     let own = settle(nodes, top);
     first + second + third + fourth + own
 }
 
 /// Makes all keys above the key dirty, and counts what was clean.
-pub fn soil_above(nodes: &mut Nodes, low: Key) -> u64
+pub fn mark_above_dirty(nodes: &mut Nodes, low: Key) -> u64
     requires node { IsNode low }
     requires tree { IsTree nodes.old.entries }
     ensures walks { Walks (is_above (low.meta.z - 3) low) nodes.old.entries nodes.new.entries result }
@@ -91,13 +91,13 @@ pub fn soil_above(nodes: &mut Nodes, low: Key) -> u64
         return 0;
     }
     let up = parent(low);
-    let above = soil_above(nodes, up);
-    above + soil_one(nodes, up)
+    let above = mark_above_dirty(nodes, up);
+    above + mark_one_dirty(nodes, up)
 }
 
 /// Makes dirty the keys of zoom `z` at or below the key whose squares hold a point of the rectangle, and
 /// counts what was clean. It goes down over live nodes alone whose squares hold a point of it.
-pub fn soil_box(nodes: &mut Nodes, top: Key, z: u32, b: Rectangle) -> u64
+pub fn mark_box_dirty(nodes: &mut Nodes, top: Key, z: u32, b: Rectangle) -> u64
     requires node { IsNode top }
     requires above { top.meta.z ≤ z }
     requires zoom { z ≤ 18 }
@@ -114,12 +114,12 @@ pub fn soil_box(nodes: &mut Nodes, top: Key, z: u32, b: Rectangle) -> u64
         return 0;
     }
     if top.meta.z == z {
-        return soil_one(nodes, top);
+        return mark_one_dirty(nodes, top);
     }
-    let first = soil_box(nodes, child(top, 0), z, b);
-    let second = soil_box(nodes, child(top, 1), z, b);
-    let third = soil_box(nodes, child(top, 2), z, b);
-    let fourth = soil_box(nodes, child(top, 3), z, b);
+    let first = mark_box_dirty(nodes, child(top, 0), z, b);
+    let second = mark_box_dirty(nodes, child(top, 1), z, b);
+    let third = mark_box_dirty(nodes, child(top, 2), z, b);
+    let fourth = mark_box_dirty(nodes, child(top, 3), z, b);
     first + second + third + fourth
 }
 
@@ -154,20 +154,20 @@ fn key_over(map: u32, t: Tile) -> Key
 }
 
 /// Makes the map's keys of zooms 0, 1 and 2 dirty, and counts what was clean.
-fn soil_flat(nodes: &mut Nodes, map: u32) -> u64
+fn mark_flat_dirty(nodes: &mut Nodes, map: u32) -> u64
     requires { IsTree nodes.old.entries }
     ensures walks { Walks (is_flat map) nodes.old.entries nodes.new.entries result }
     ensures room { spare nodes.new ≡ spare nodes.old }
 {
     let _count = nodes.len();
-    let first = soil_one(nodes, world_key(map, 0));
-    let second = soil_one(nodes, world_key(map, 1));
-    let third = soil_one(nodes, world_key(map, 2));
+    let first = mark_one_dirty(nodes, world_key(map, 0));
+    let second = mark_one_dirty(nodes, world_key(map, 1));
+    let third = mark_one_dirty(nodes, world_key(map, 2));
     first + second + third
 }
 
 /// Makes the map's keys dirty whose squares overlap the tile's, and counts what was clean.
-fn soil_tile(nodes: &mut Nodes, map: u32, t: Tile) -> u64
+fn mark_tile_dirty(nodes: &mut Nodes, map: u32, t: Tile) -> u64
     requires tile { IsTile t }
     requires tree { IsTree nodes.old.entries }
     ensures walks { Walks (λ k. is_of_map map k && overlaps t k) nodes.old.entries nodes.new.entries result }
@@ -175,14 +175,14 @@ fn soil_tile(nodes: &mut Nodes, map: u32, t: Tile) -> u64
 {
     let _count = nodes.len();
     let top = key_over(map, t);
-    let flat = soil_flat(nodes, map);
-    let above = soil_above(nodes, top);
-    let below = soil_below(nodes, top);
+    let flat = mark_flat_dirty(nodes, map);
+    let above = mark_above_dirty(nodes, top);
+    let below = mark_below_dirty(nodes, top);
     flat + above + below
 }
 
 /// Makes the keys of these maps dirty whose squares overlap the tile's, and counts what was clean.
-pub fn soil_maps(nodes: &mut Nodes, maps: &[u32], t: Tile) -> u64
+pub fn mark_maps_dirty(nodes: &mut Nodes, maps: &[u32], t: Tile) -> u64
     requires tile { IsTile t }
     requires tree { IsTree nodes.old.entries }
     ensures walks { Walks (λ k. is_of_maps maps.now k && overlaps t k)
@@ -192,26 +192,26 @@ pub fn soil_maps(nodes: &mut Nodes, maps: &[u32], t: Tile) -> u64
     let _count = nodes.len();
     let mut count = 0;
     for map in maps {
-        count += soil_tile(nodes, *map, t);
+        count += mark_tile_dirty(nodes, *map, t);
     }
     count
 }
 
 /// Makes the map's keys dirty, and counts what was clean.
-pub fn soil_map(nodes: &mut Nodes, map: u32) -> u64
+pub fn mark_map_dirty(nodes: &mut Nodes, map: u32) -> u64
     requires { IsTree nodes.old.entries }
     ensures walks { Walks (is_of_map map) nodes.old.entries nodes.new.entries result }
     ensures room { spare nodes.new ≡ spare nodes.old }
 {
     let _count = nodes.len();
-    let flat = soil_flat(nodes, map);
-    let below = soil_below(nodes, world_key(map, ROOT_ZOOM));
+    let flat = mark_flat_dirty(nodes, map);
+    let below = mark_below_dirty(nodes, world_key(map, ROOT_ZOOM));
     flat + below
 }
 
 /// Makes the map's keys of that zoom dirty whose squares hold a point of the rectangle, and counts what was
 /// clean.
-pub fn soil_map_box(nodes: &mut Nodes, map: u32, z: u32, b: Rectangle) -> u64
+pub fn mark_map_box_dirty(nodes: &mut Nodes, map: u32, z: u32, b: Rectangle) -> u64
     requires zoom { z ≤ 18 }
     requires tree { IsTree nodes.old.entries }
     ensures walks { Walks (is_in_box map z b) nodes.old.entries nodes.new.entries result }
@@ -219,11 +219,11 @@ pub fn soil_map_box(nodes: &mut Nodes, map: u32, z: u32, b: Rectangle) -> u64
 {
     let _count = nodes.len();
     if z >= ROOT_ZOOM {
-        return soil_box(nodes, world_key(map, ROOT_ZOOM), z, b);
+        return mark_box_dirty(nodes, world_key(map, ROOT_ZOOM), z, b);
     }
     let key = world_key(map, z);
     if holds_some(b, meta_square(key.meta)) {
-        soil_one(nodes, key)
+        mark_one_dirty(nodes, key)
     } else {
         0
     }

@@ -26,7 +26,7 @@ use Rattle.farm_threads.specs.declared.each_front.EachFront.{EachFront}
 use Rattle.farm_shared.specs.declared.turned.LastingPart.{LastingPart}
 use Rattle.farm_setup.specs.Listens.{ListenEnds, Listening, listen_end}
 use Rattle.farm_setup.specs.Beginnings.{CannotBegin, IsSavedIn, ResumeRefusal, RefusesFor}
-use Rattle.farm_ending.specs.Endings.{is_worn, is_broken, is_wanting, end_after_put, TellsCounts}
+use Rattle.farm_ending.specs.Endings.{is_front_worn, is_broken, is_wanting, end_after_put, TellsCounts}
 use Rattle.farm_ending.specs.Savings.{MaySave}
 use Rattle.serve_command.specs.Serves.{World, HasServed, NotServed, WhyNot, Serves, ServesTo, places, fronts_of, is_worn_out}
 use Rattle.serve_command.specs.Serves as serves
@@ -223,7 +223,7 @@ module _ {D : Type 0} (state : D → Outside StoreTold) (s : Served) (store : D)
           | inl failed ↦ subst Why (sym failed.0) (lost_there failed.1)
           | inr (inl none) ↦ subst Why (sym none) tt
           | inr (inr why) ↦
-              elim (pick_cases (is_worn_out h.ends || list_any is_worn (map serves.end_of (fronts_of h.done))) (list_any is_broken (map serves.end_of (fronts_of h.done))) (list_any is_wanting (map serves.end_of (fronts_of h.done))) q why) [
+              elim (pick_cases (is_worn_out h.ends || list_any is_front_worn (map serves.end_of (fronts_of h.done))) (list_any is_broken (map serves.end_of (fronts_of h.done))) (list_any is_wanting (map serves.end_of (fronts_of h.done))) q why) [
                 | inl turns ↦ subst Why (sym turns) (closed, new_left, turns_gone (ended ∙ ap fails turns))
                 | inr (inl broken) ↦ subst Why (sym broken.0) (broke broken.1)
                 | inr (inr none) ↦ subst Why (sym none) tt
@@ -246,7 +246,7 @@ module _ {D : Type 0} (state : D → Outside StoreTold) (s : Served) (store : D)
                 | inl failed ↦ let e = failed.0 in cc
                 | inr (inl none) ↦ cc
                 | inr (inr why) ↦
-                    elim (pick_cases (is_worn_out h.ends || list_any is_worn (map serves.end_of (fronts_of h.done))) (list_any is_broken (map serves.end_of (fronts_of h.done))) (list_any is_wanting (map serves.end_of (fronts_of h.done))) (stop.Refused line) why) [
+                    elim (pick_cases (is_worn_out h.ends || list_any is_front_worn (map serves.end_of (fronts_of h.done))) (list_any is_broken (map serves.end_of (fronts_of h.done))) (list_any is_wanting (map serves.end_of (fronts_of h.done))) (stop.Refused line) why) [
                       | inl turns ↦ cc
                       | inr (inl broken) ↦ let e = broken.0 in cc
                       | inr (inr none) ↦ cc

@@ -7,7 +7,7 @@ use Rattle.reading.specs.Steps.{◌>>=◌}
 use Rattle.reading.specs.Values.{needed, or_value, opened}
 use Rattle.farm_config.specs.Configs.{Config, greatest_limits}
 use Rattle.farm_config.specs.Limits.{most_workers}
-use Rattle.farm_config.specs.Kinds.{a_file, a_number, an_address, a_truth}
+use Rattle.farm_config.specs.Kinds.{a_file, number_within, an_address, a_truth}
 use Rattle.farm_config.specs.Tables.{config_keys, config_of, maps_of, files_of, limits_of, restyles_of}
 use Rattle.farm_config.specs.declared.config.RestyleEntry.{RestyleEntry}
 use Rattle.farm_config.specs.declared.fault.ConfigFault.TheVariants.{Shape}
@@ -38,7 +38,7 @@ unfolding config_of config_by_parts service_of start_of
 in_parts d = λ i.
     opened (Shape 0) (Shape 0) config_keys d >>= λ u. needed (Shape 1) maps_of (get (codes "maps") d) >>= λ maps. needed (Shape 2) (a_file 2) (get (codes "data") d) >>= λ dataset.
     or_value [] (files_of 3) (get (codes "updates") d) >>= λ updates. or_value [] (files_of 4) (get (codes "expiries") d) >>= λ expiries.
-    grouped (or_value 2 (a_number 5 1 most_workers) (get (codes "workers") d)) (or_value greatest_limits limits_of (get (codes "limits") d))
+    grouped (or_value 2 (number_within 5 1 most_workers) (get (codes "workers") d)) (or_value greatest_limits limits_of (get (codes "limits") d))
     (or_value None (an_address 7) (get (codes "renderd") d)) (or_value None (an_address 8) (get (codes "tiles") d)) (or_value None (an_address 9) (get (codes "control") d))
     (or_value [] (restyles_of maps) (get (codes "restyles") d)) (or_value false (a_truth 11) (get (codes "resume") d))
     (λ s e. record { maps = maps; dataset = dataset; updates = updates; expiries = expiries; workers = s.workers; limits = s.limits; renderd = s.renderd; tiles = s.tiles; control = s.control; restyles = e.0; resume = e.1 }) i

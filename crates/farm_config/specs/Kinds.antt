@@ -20,8 +20,8 @@ unfoldable pub a_map_name : ℕ → Data → Result (List ℕ) ConfigFault
 a_map_name key d = text (Shape key) d >>= λ s. if is_map_name s then Ok s else Err (Shape key)
 
 -- a whole number within two bounds
-unfoldable pub a_number : ℕ → ℕ → ℕ → Data → Result ℕ ConfigFault
-a_number key low high d = whole_number (Shape key) (Range key) low high d
+unfoldable pub number_within : ℕ → ℕ → ℕ → Data → Result ℕ ConfigFault
+number_within key low high d = whole_number (Shape key) (Range key) low high d
 
 -- the size of a tile
 unfoldable pub a_tile_size : ℕ → Data → Result ℕ ConfigFault

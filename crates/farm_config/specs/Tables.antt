@@ -11,7 +11,7 @@ use Rattle.reading.specs.Values.{needed, or_value, list, text, opened}
 use Rattle.farm_history.specs.declared.queues.Limits.{Limits}
 use Rattle.farm_config.specs.Configs.{MapEntry, Config, map_has, map_place, greatest_limits}
 use Rattle.farm_config.specs.Limits.{most_maps, most_zoom, most_files, most_workers, most_waiting, most_dirty}
-use Rattle.farm_config.specs.Kinds.{a_file, a_map_name, a_number, a_tile_size, an_address, a_truth}
+use Rattle.farm_config.specs.Kinds.{a_file, a_map_name, number_within, a_tile_size, an_address, a_truth}
 use Rattle.farm_config.specs.declared.config.RestyleEntry.{RestyleEntry}
 use Rattle.farm_config.specs.declared.fault.ConfigFault.{ConfigFault}
 use Rattle.farm_config.specs.declared.fault.ConfigFault.TheVariants.{NotJson, Shape, Range, Double}
@@ -28,7 +28,7 @@ map_entry place before d = do
   name ← needed (Shape 1) (a_map_name 1) (get (codes "name") d)
   style ← needed (Shape 1) (a_file 1) (get (codes "style") d)
   tile ← needed (Shape 1) (a_tile_size 1) (get (codes "tile") d)
-  max_zoom ← or_value most_zoom (a_number 1 0 most_zoom) (get (codes "maxzoom") d)
+  max_zoom ← or_value most_zoom (number_within 1 0 most_zoom) (get (codes "maxzoom") d)
   u ← check (not (map_has name before)) (Double place)
   Ok (record { name = name; style = style; tile = tile; max_zoom = max_zoom })
 
@@ -62,11 +62,11 @@ limit_keys = codes "prio" ∷ codes "request" ∷ codes "low" ∷ codes "dirty" 
 unfoldable pub limits_of : Data → Result Limits ConfigFault
 limits_of d = do
   u ← opened (Shape 6) (Shape 6) limit_keys d
-  prio ← or_value most_waiting (a_number 6 1 most_waiting) (get (codes "prio") d)
-  request ← or_value most_waiting (a_number 6 1 most_waiting) (get (codes "request") d)
-  low ← or_value most_waiting (a_number 6 1 most_waiting) (get (codes "low") d)
-  dirty ← or_value most_dirty (a_number 6 1 most_dirty) (get (codes "dirty") d)
-  bulk ← or_value most_waiting (a_number 6 1 most_waiting) (get (codes "bulk") d)
+  prio ← or_value most_waiting (number_within 6 1 most_waiting) (get (codes "prio") d)
+  request ← or_value most_waiting (number_within 6 1 most_waiting) (get (codes "request") d)
+  low ← or_value most_waiting (number_within 6 1 most_waiting) (get (codes "low") d)
+  dirty ← or_value most_dirty (number_within 6 1 most_dirty) (get (codes "dirty") d)
+  bulk ← or_value most_waiting (number_within 6 1 most_waiting) (get (codes "bulk") d)
   Ok (record { prio = prio; request = request; low = low; dirty = dirty; bulk = bulk })
 
 -- the keys that a restyle may have
@@ -101,7 +101,7 @@ config_of d = do
   dataset ← needed (Shape 2) (a_file 2) (get (codes "data") d)
   updates ← or_value [] (files_of 3) (get (codes "updates") d)
   expiries ← or_value [] (files_of 4) (get (codes "expiries") d)
-  workers ← or_value 2 (a_number 5 1 most_workers) (get (codes "workers") d)
+  workers ← or_value 2 (number_within 5 1 most_workers) (get (codes "workers") d)
   limits ← or_value greatest_limits limits_of (get (codes "limits") d)
   renderd ← or_value None (an_address 7) (get (codes "renderd") d)
   tiles ← or_value None (an_address 8) (get (codes "tiles") d)

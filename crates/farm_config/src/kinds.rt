@@ -64,9 +64,9 @@ pub fn map_name_at<'a>(object: &'a Value, name: &str, key: u32) -> Result<&'a st
     }
 }
 
-#[tactic(auto, unfolding(crate::specs::Kinds::a_number))]
+#[tactic(auto, unfolding(crate::specs::Kinds::number_within))]
 fn a_number(value: &Value, key: u32, low: u32, high: u32) -> Result<u32, ConfigFault>
-    ensures value { result ≡ spec.a_number key low high (view value.now) }
+    ensures value { result ≡ spec.number_within key low high (view value.now) }
     ensures low { IfOk result (λ n. low ≤ n) }
     ensures high { IfOk result (λ n. n ≤ high) }
 {
@@ -92,7 +92,7 @@ pub fn number_or(
 ) -> Result<u32, ConfigFault>
     requires low { low ≤ absent }
     requires high { absent ≤ high }
-    ensures value { result ≡ or_value absent (spec.a_number key low high) (get name.now (view object.now)) }
+    ensures value { result ≡ or_value absent (spec.number_within key low high) (get name.now (view object.now)) }
     ensures low { IfOk result (λ n. low ≤ n) }
     ensures high { IfOk result (λ n. n ≤ high) }
 {
@@ -107,7 +107,7 @@ fn is_tile_size(n: u32) -> bool
     matches!(n, 16 | 32 | 64 | 128 | 256 | 512)
 }
 
-#[tactic(auto, unfolding(crate::specs::Kinds::a_tile_size, crate::specs::Kinds::a_number))]
+#[tactic(auto, unfolding(crate::specs::Kinds::a_tile_size, crate::specs::Kinds::number_within))]
 fn a_tile_size(value: &Value, key: u32) -> Result<u32, ConfigFault>
     ensures value { result ≡ spec.a_tile_size key (view value.now) }
     ensures fits { IfOk result (λ n. IsTrue (plain.is_tile_size n)) }

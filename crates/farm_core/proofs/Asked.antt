@@ -21,7 +21,7 @@ use Rattle.farm_stands.specs.Seen.{FarmSeen}
 use Rattle.farm_stands.specs.Stands.{StandsFor}
 use Rattle.farm_stands.specs.inner.Events.{tests_at, asked_tables, one_turn_more}
 use Rattle.farm_stands.proofs.Asking.{ask_render_step, ask_unmarked_step, ask_marked_step}
-use Rattle.farm_stands.proofs.Marking.{soil_at}
+use Rattle.farm_stands.proofs.Marking.{dirtied_at}
 use Rattle.farm_core.specs.inner.Asks.{answer_at, rendered_at, rendered_counts, noted_tables, Dirties, Dirtied}
 use Rattle.farm_core.specs.inner.Effects.{turn}
 
@@ -79,7 +79,7 @@ module _ {D : Type 0} (state : D → Outside StoreTold) where
       StandsFor state told old h → StandsFor state told new (Ask conn command spot Silent ∷ h)
   marked told old new h conn command spot dirty running on d s =
       subst (λ (f : FarmSeen D). StandsFor state told f (Ask conn command spot Silent ∷ h)) (sym d.rest)
-      (ask_marked_step state told old h conn command spot new.marks dirty running on (λ k. ap (λ ms. mark_of ms k) d.shown ∙ soil_at (same_key (key_of spot)) old.marks.shown k) s)
+      (ask_marked_step state told old h conn command spot new.marks dirty running on (λ k. ap (λ ms. mark_of ms k) d.shown ∙ dirtied_at (same_key (key_of spot)) old.marks.shown k) s)
 
   pub ask_dirty : (told : Bool) (old new : FarmSeen D) (h : List Entry) (conn : Conn) (command : Cmd) (spot : Spot) (served : Option Key) → is_dirty_command command ≡ true →
       is_some served ≡ is_servable (plan_of old.plan) spot → IfSome served (λ k. k ≡ key_of spot) → Dirtied (turn old) new served → StandsFor state told old h → StandsFor state told new (Ask conn command spot Silent ∷ h)

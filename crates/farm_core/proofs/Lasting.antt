@@ -7,7 +7,7 @@ use Rattle.farm_base.specs.Outside.{Outside}
 use Rattle.plain_world.specs.declared.world.Meta.{Meta}
 use Rattle.tile_store.specs.declared.stores.StoreFault.{StoreFault}
 use Rattle.tile_store.specs.declared.stores.StoreFault.TheVariants.{Failed, NoMemory}
-use Rattle.tile_store.specs.Stores.{StoreTold, Puts, Stored, PutFailed, with_failed_get}
+use Rattle.tile_store.specs.Stores.{StoreTold, StorePuts, Stored, PutFailed, with_failed_get}
 use Rattle.farm_history.specs.declared.keys.Key.{Key}
 use Rattle.farm_history.specs.declared.keys.Mark.{Mark}
 use Rattle.farm_history.specs.declared.answers.Fetched.{Fetched}
@@ -40,7 +40,7 @@ saved_apart plan k at same =
     let never : false ≡ true = meta_end (codes "farm.saved") ends.0 (same ∙ ends.1) in
     cc
 
-puts_saved : (old new : Outside StoreTold) (path bytes : List ℕ) (r : Result (Unit {0}) StoreFault) → codes "farm.saved" ≢ path → Puts old new path bytes r → at_saved new ≡ at_saved old
+puts_saved : (old new : Outside StoreTold) (path bytes : List ℕ) (r : Result (Unit {0}) StoreFault) → codes "farm.saved" ≢ path → StorePuts old new path bytes r → at_saved new ≡ at_saved old
 puts_saved old new path bytes (Ok done) apart p = go old.told new.told p.0
   where
     go : (a b : Option StoreTold) → MatchOption a (b ≡ None) (λ before. (now : StoreTold) × (b ≡ Some now) × Stored before now path bytes) → saved_in b ≡ saved_in a

@@ -6,7 +6,7 @@ use Rattle.plain_world.specs.World.{index_place}
 use Rattle.farm_history.specs.declared.answers.Fetched.{Fetched}
 use Rattle.farm_history.specs.declared.asks.Spot.{Spot}
 use Rattle.farm_history.specs.declared.keys.Mark.{Mark}
-use Rattle.farm_history.specs.Plans.{is_servable, key_of, tile_of}
+use Rattle.farm_history.specs.Plans.{is_servable, key_of, spot_tile}
 use Rattle.farm_plan.specs.Drawings.{plan_of}
 use Rattle.expiry_lists.specs.Marks.{mark_of}
 use Rattle.farm_stands.specs.Seen.{FarmSeen}
@@ -22,7 +22,7 @@ module _ {D : Type 0} (state : D → Outside StoreTold) (old new : FarmSeen D) (
       subst (λ b. Reads state old new spot Fetched.Missing b (mark_of old.marks.shown (key_of spot))) (sym on)
       (subst (λ (o : Option Mark). Reads state old new spot Fetched.Missing true o) (sym none) (refl, ap (λ (f : FarmSeen D). f.store) same))
 
-  pub tile_read : (mark : Mark) (answer : Fetched) → is_servable (plan_of old.plan) spot ≡ true → mark_of old.marks.shown (key_of spot) ≡ Some mark → Fetches state (turn old) new (key_of spot) (index_place (tile_of spot)) mark answer →
+  pub tile_read : (mark : Mark) (answer : Fetched) → is_servable (plan_of old.plan) spot ≡ true → mark_of old.marks.shown (key_of spot) ≡ Some mark → Fetches state (turn old) new (key_of spot) (index_place (spot_tile spot)) mark answer →
       Reads state old new spot answer (is_servable (plan_of old.plan) spot) (mark_of old.marks.shown (key_of spot))
   tile_read mark answer on marked f =
       subst (λ b. Reads state old new spot answer b (mark_of old.marks.shown (key_of spot))) (sym on)

@@ -14,7 +14,7 @@ use Rattle.farm_history.specs.declared.answers.Renewed.{Renewed}
 use Rattle.farm_history.specs.Entries.{Entry, Claim, Renew}
 use Rattle.farm_history.specs.Plans.{AreApart, same_key, is_in}
 use Rattle.farm_history.specs.Past.{data_after, shown, is_clean, claimed_keys}
-use Rattle.farm_history.specs.Seen.{Taken, soiled, mark_at}
+use Rattle.farm_history.specs.Seen.{Taken, dirtied, mark_at}
 use Rattle.farm_history.proofs.Lists.{same_key-true, same_key-sym, each-all, any-filter_off, apart-filter}
 use Rattle.farm_history.proofs.Keyed.{shown_served}
 use Rattle.farm_plan.specs.Plans.{MapPlan, FarmPlan}
@@ -22,15 +22,15 @@ use Rattle.farm_plan.specs.Drawings.{update_of, reaches_of, plan_of}
 use Rattle.farm_plan.specs.Spots.{IsKeyOf}
 use Rattle.farm_plan.proofs.Spots.{served_key}
 use Rattle.expiry_lists.specs.Marks.{MarksSeen, Shown, shown_key, mark_of, clean_marks}
-use Rattle.expiry_lists.proofs.Soiling.{soils_none}
+use Rattle.expiry_lists.proofs.Dirtying.{dirties_none}
 use Rattle.farm_reach.specs.Boxes.{boxes_reach_map}
 use Rattle.farm_reach.specs.Marks.{is_met_by, is_reached, Expires}
 use Rattle.farm_reach.proofs.Reached.{reached_is, boxes_are}
 use Rattle.farm_reach.proofs.Valid.{data_valid}
 use Rattle.farm_stands.specs.Seen.{FarmSeen}
 use Rattle.farm_stands.specs.Stands.{StandsFor}
-use Rattle.farm_stands.specs.inner.Events.{updated_counts, soil_taken}
-use Rattle.farm_stands.proofs.Marking.{soil_at, marks_counted}
+use Rattle.farm_stands.specs.inner.Events.{updated_counts, dirtied_taken}
+use Rattle.farm_stands.proofs.Marking.{dirtied_at, marks_counted}
 use Rattle.farm_stands.proofs.Changing.{renew_step, renew_refused_step, renew_unknown_step}
 use Rattle.farm_core.specs.inner.Effects.{turn, Advances}
 use Rattle.farm_core.specs.inner.Renews.{Names, Reaches, Renews}
@@ -40,12 +40,12 @@ use Rattle.farm_core.proofs.Rooms.{count_few}
 
 -- what the loops over drawings and marks did
 pub reached_told : {D : Type 0} (f : FarmSeen D) (boxes : List Bounds) (p : FarmPlan) (maps : List MapPlan) (ts : List Taken) (ms : MarksSeen) (count : ℕ) → p ≡ f.plan → maps ≡ f.plan.maps → 1 ≤ length f.plan.maps →
-    ts ≡ soil_taken (λ k. boxes_reach_map boxes (slice_get p.maps k.map) k.meta) f.taken → Expires (is_reached maps boxes) f.marks.shown ms.shown count → (0 < length maps → 0 < length boxes → AreApart shown_key f.marks.shown) →
+    ts ≡ dirtied_taken (λ k. boxes_reach_map boxes (slice_get p.maps k.map) k.meta) f.taken → Expires (is_reached maps boxes) f.marks.shown ms.shown count → (0 < length maps → 0 < length boxes → AreApart shown_key f.marks.shown) →
     Reaches boxes f (record f { taken = ts; marks = ms }) count
 reached_told f boxes p maps ts ms count plan_is maps_are some taken_is expires apart = record {
   marks = subst (λ (m : List MapPlan). Expires (is_reached m boxes) f.marks.shown ms.shown count) maps_are expires;
   apart = λ box. apart (subst (λ (m : List MapPlan). 0 < length m) (sym maps_are) (omega (arith, some))) box;
-  rest = ap (λ (t : List Taken). record f { taken = t; marks = ms }) (taken_is ∙ ap (λ (q : FarmPlan). soil_taken (λ k. boxes_reach_map boxes (slice_get q.maps k.map) k.meta) f.taken) plan_is);
+  rest = ap (λ (t : List Taken). record f { taken = t; marks = ms }) (taken_is ∙ ap (λ (q : FarmPlan). dirtied_taken (λ k. boxes_reach_map boxes (slice_get q.maps k.map) k.meta) f.taken) plan_is);
 }
 
 -- the next data and what was touched
@@ -60,7 +60,7 @@ renews_from {D} old mid new n count boxes names a reaches = record {
     data_now = d;
     changes = old.changes ++ Past.Renew n ∷ [];
     counts = record old.counts { version = old.counts.version + 1 };
-    taken = soil_taken (λ k. boxes_reach_map boxes (slice_get old.plan.maps k.map) k.meta) old.taken;
+    taken = dirtied_taken (λ k. boxes_reach_map boxes (slice_get old.plan.maps k.map) k.meta) old.taken;
     marks = new.marks;
   }) (sym data_same);
 }
@@ -110,7 +110,7 @@ once_same k ss = ap (option_map (λ (s : Shown). s.mark)) (once_found k ss)
 
 -- no clean one passes a test that none passes
 pub none_clean : (test : Key → Bool) (ss : List Shown) → ((k : Key) → test k ≡ false) → 0 ≡ clean_marks test ss
-none_clean test ss none = (soils_none test ss (each-all (λ (x : Shown). x.mark.clean ≡ true → test x.key ≡ false) ss (λ x clean. none x.key))).counted
+none_clean test ss none = (dirties_none test ss (each-all (λ (x : Shown). x.mark.clean ≡ true → test x.key ≡ false) ss (λ x clean. none x.key))).counted
 
 -- no more is claimed than there are entries
 claimed_few : (h : List Entry) → length (claimed_keys h) ≤ length h
@@ -175,21 +175,21 @@ module _ {D : Type 0} (state : D → Outside StoreTold) where
     pub same_marks : (k : Key) → is_some (mark_of old.marks.shown k) ≡ true → is_reached old.plan.maps r.boxes k ≡ reaches_of old.plan old.data_now n k
     same_marks k some = reached_is old.plan r.boxes k (marked_key told old h k s some) ∙ same_taken k
 
-    pub marks_after : (k : Key) → mark_of new.marks.shown k ≡ option_map (soiled (is_reached old.plan.maps r.boxes k)) (mark_of old.marks.shown k)
-    marks_after k = ap (λ ms. mark_of ms k) r.marks.shown ∙ soil_at (is_reached old.plan.maps r.boxes) old.marks.shown k
+    pub marks_after : (k : Key) → mark_of new.marks.shown k ≡ option_map (dirtied (is_reached old.plan.maps r.boxes k)) (mark_of old.marks.shown k)
+    marks_after k = ap (λ ms. mark_of ms k) r.marks.shown ∙ dirtied_at (is_reached old.plan.maps r.boxes) old.marks.shown k
 
     pub new_is : new ≡ record old {
       counts = updated_counts old.counts;
       data_now = new.data_now;
       changes = old.changes ++ Past.Renew n ∷ [];
-      taken = soil_taken (reaches_of old.plan old.data_now n) old.taken;
+      taken = dirtied_taken (reaches_of old.plan old.data_now n) old.taken;
       marks = new.marks;
     }
     new_is = r.rest ∙ ap (λ (t : Key → Bool). record old {
       counts = updated_counts old.counts;
       data_now = new.data_now;
       changes = old.changes ++ Past.Renew n ∷ [];
-      taken = soil_taken t old.taken;
+      taken = dirtied_taken t old.taken;
       marks = new.marks;
     }) (λ i k. same_taken k i)
 
@@ -202,7 +202,7 @@ module _ {D : Type 0} (state : D → Outside StoreTold) where
         (subst (λ (x : ℕ). StandsFor state told new (Renew n (Renewed.Version (old.counts.version + 1) x) ∷ h)) (sym counted)
         (subst (λ (f : FarmSeen D). StandsFor state told f (Renew n (Renewed.Version (old.counts.version + 1) (clean_marks (is_reached old.plan.maps r.boxes) rows)) ∷ h)) (sym new_is)
         (renew_step state told (record old { marks = record { shown = rows; room = old.marks.room } }) h n new.data_now (is_reached old.plan.maps r.boxes) new.marks lt r.applied apart
-        (λ k some. same_marks k (sym (ap is_some (same k)) ∙ some)) (λ k. marks_after k ∙ ap (option_map (soiled (is_reached old.plan.maps r.boxes k))) (sym (same k)))
+        (λ k some. same_marks k (sym (ap is_some (same k)) ∙ some)) (λ k. marks_after k ∙ ap (option_map (dirtied (is_reached old.plan.maps r.boxes k))) (sym (same k)))
         (other_rows told old h rows same s))))
 
     pub renew_done : (v : ℕ) → n < length old.plan.updates → v ≡ new.counts.version → old.counts.turns < 2 ^ 63 → StandsFor state told new (Renew n (Renewed.Version v count) ∷ h)

@@ -15,7 +15,7 @@ use Rattle.farm_history.specs.Entries.{Entry}
 use Rattle.farm_history.specs.Lists.{Each}
 use Rattle.farm_history.specs.Plans.{AreApart, same_key}
 use Rattle.farm_history.specs.Past.{shown}
-use Rattle.farm_history.specs.Seen.{soiled, mark_at}
+use Rattle.farm_history.specs.Seen.{dirtied, mark_at}
 use Rattle.farm_history.specs.Replays.{past_number, lowest, replay_key, replay_keys, replay_change}
 use Rattle.farm_history.proofs.Lists.{same_key-sym}
 use Rattle.farm_history.proofs.Counts.{count-cons}
@@ -213,7 +213,7 @@ module _ {D : Type 0} (state : D → Outside StoreTold) where
       subst (λ (f : FarmSeen D). IsReplaying state f (replay_change (plan_of old.plan) (Past.Renew n) g)) (sym (new_is state false old new g n count c r.stands))
       (from_replays _ _ (replay_renew_step state (record old { marks = record { shown = rows; room = old.marks.room } }) g n new.data_now (is_reached old.plan.maps c.boxes) new.marks lt c.applied apart
       (λ k some. same_marks state false old new g n count c r.stands k (sym (ap is_some (same k)) ∙ some))
-      (λ k. marks_after state false old new g n count c r.stands k ∙ ap (option_map (soiled (is_reached old.plan.maps c.boxes k))) (sym (same k)))
+      (λ k. marks_after state false old new g n count c r.stands k ∙ ap (option_map (dirtied (is_reached old.plan.maps c.boxes k))) (sym (same k)))
       (with_rows old g rows same r)))
 
   -- an update that was made again

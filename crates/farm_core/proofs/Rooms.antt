@@ -24,7 +24,7 @@ use Rattle.farm_plan.specs.Plans.{FarmPlan, IsPlan}
 use Rattle.farm_plan.specs.Spots.{IsKeyOf}
 use Rattle.farm_stands.specs.Seen.{Counts}
 use Rattle.farm_jobs.specs.Shared.{ShareSeen}
-use Rattle.farm_stands.specs.inner.Events.{taken_at, untaken, waits_at, with_dirty, stale_tables, asked_tables, marked_tables, soil_taken}
+use Rattle.farm_stands.specs.inner.Events.{taken_at, untaken, waits_at, with_dirty, stale_tables, asked_tables, marked_tables, dirtied_taken}
 use Rattle.farm_core.specs.inner.Effects.{IsNext}
 use Rattle.farm_core.specs.inner.Rooms.{ticket_of, how_many_at, AreSpares, AreKeysOf, IsRoomy}
 
@@ -373,9 +373,9 @@ differ_over f (x ∷ xs) same differ = (other xs ∙ ap (λ n. list_any (λ (y :
     other (y ∷ ys) = ap (λ n. (n == (f x).ticket) || list_any (λ (z : Taken). z.ticket == (f x).ticket) (map f ys)) (same y) ∙ ap (λ b. (y.ticket == (f x).ticket) || b) (other ys)
 
 -- an event touches drawings under way
-pub room_soil : (own : ShareSeen) (test : Key → Bool) (spares : List ShareSeen) (taken : List Taken) (queues : Tables) (styled : List (Option ℕ)) (counts : Counts) (spares_room taken_room : ℕ) →
-    IsRoomy own spares taken queues styled counts spares_room taken_room → IsRoomy own spares (soil_taken test taken) queues styled counts spares_room taken_room
-room_soil own test spares taken queues styled counts spares_room taken_room r =
+pub room_dirtied : (own : ShareSeen) (test : Key → Bool) (spares : List ShareSeen) (taken : List Taken) (queues : Tables) (styled : List (Option ℕ)) (counts : Counts) (spares_room taken_room : ℕ) →
+    IsRoomy own spares taken queues styled counts spares_room taken_room → IsRoomy own spares (dirtied_taken test taken) queues styled counts spares_room taken_room
+room_dirtied own test spares taken queues styled counts spares_room taken_room r =
     let t = r.are_taken in
     record {
       is_plan = r.is_plan;
@@ -394,10 +394,10 @@ room_soil own test spares taken queues styled counts spares_room taken_room r =
       taken_fit = r.taken_fit;
     }
   where
-    as_many : (xs : List Taken) → how_many_at counts.version (soil_taken test xs) ≡ how_many_at counts.version xs
+    as_many : (xs : List Taken) → how_many_at counts.version (dirtied_taken test xs) ≡ how_many_at counts.version xs
     as_many [] = refl
     as_many (x ∷ xs) =
-        let a = count-cons (λ (y : Taken). y.version == counts.version) (overtaken_by test x) (soil_taken test xs) in
+        let a = count-cons (λ (y : Taken). y.version == counts.version) (overtaken_by test x) (dirtied_taken test xs) in
         let b = count-cons (λ (y : Taken). y.version == counts.version) x xs in
         omega (arith, a, b, as_many xs)
 
@@ -427,13 +427,13 @@ whole_back {X = X} xs ys n a b =
     take_whole (z ∷ zs) = ap (λ ws. z ∷ ws) (take_whole zs)
 
 -- the drawings under way after the touch was written over them
-pub touched_back : (test : Key → Bool) (ys xs : List Taken) (n : ℕ) → xs ≡ soil_taken test ys → length ys ≡ n → take n (xs ++ drop (length xs) ys) ≡ soil_taken test ys
+pub touched_back : (test : Key → Bool) (ys xs : List Taken) (n : ℕ) → xs ≡ dirtied_taken test ys → length ys ≡ n → take n (xs ++ drop (length xs) ys) ≡ dirtied_taken test ys
 touched_back test ys xs n is len = whole_back xs ys n (ap length is ∙ length-map ys (overtaken_by test) ∙ len) len ∙ is
 
 pub room_touched : (own : ShareSeen) (test : Key → Bool) (spares : List ShareSeen) (taken xs : List Taken) (queues : Tables) (styled : List (Option ℕ)) (counts : Counts) (spares_room taken_room : ℕ) →
-    IsRoomy own spares taken queues styled counts spares_room taken_room → xs ≡ soil_taken test taken → IsRoomy own spares xs queues styled counts spares_room taken_room
+    IsRoomy own spares taken queues styled counts spares_room taken_room → xs ≡ dirtied_taken test taken → IsRoomy own spares xs queues styled counts spares_room taken_room
 room_touched own test spares taken xs queues styled counts spares_room taken_room r is =
-    subst (λ (ts : List Taken). IsRoomy own spares ts queues styled counts spares_room taken_room) (sym is) (room_soil own test spares taken queues styled counts spares_room taken_room r)
+    subst (λ (ts : List Taken). IsRoomy own spares ts queues styled counts spares_room taken_room) (sym is) (room_dirtied own test spares taken queues styled counts spares_room taken_room r)
 
 -- the last of the spare shares is the farm's own
 pub last_alike : (own : ShareSeen) (spares front : List ShareSeen) (share : ShareSeen) → Each (λ (s : ShareSeen). s ≡ own) spares → spares ≡ front ++ share ∷ [] → share ≡ own

@@ -6,7 +6,7 @@ use Rattle.std.proofs.lemmas.List.{length-map}
 use Rattle.std.proofs.lemmas.Option.{slice_get_within}
 use Rattle.farm_base.specs.Outside.{Outside}
 use Rattle.farm_base.specs.declared.faults.ApplyFault.{ApplyFault}
-use Rattle.tile_store.specs.Stores.{StoreTold, Puts}
+use Rattle.tile_store.specs.Stores.{StoreTold, StorePuts}
 use Rattle.plain_world.specs.declared.world.Tile.{Tile}
 use Rattle.plain_world.specs.World.{index_place}
 use Rattle.plain_data.specs.Data.{update_result}
@@ -26,7 +26,7 @@ use Rattle.farm_history.specs.declared.answers.Collected.{Collected}
 use Rattle.farm_history.specs.declared.answers.Looked.{Looked}
 use Rattle.farm_history.specs.declared.answers.Tally.{Tally as Totals}
 use Rattle.farm_history.specs.Entries.{Entry, Claim, Finish, Update, Restyle, Expire, Fetch, Look, Collect, Leave, Stop, Tally}
-use Rattle.farm_history.specs.Plans.{Waits, is_servable, same_key, key_of, tile_of, overlaps}
+use Rattle.farm_history.specs.Plans.{Waits, is_servable, same_key, key_of, spot_tile, overlaps}
 use Rattle.farm_history.specs.Past.{flights}
 use Rattle.farm_history.specs.Laws.{flight_key}
 use Rattle.farm_history.specs.Rules.{job_of}
@@ -43,10 +43,10 @@ use Rattle.farm_stands.specs.inner.Events.{claim_at, collected_by, look_at, stal
 use Rattle.farm_stands.proofs.Claiming.{claim_none_step, claim_job_step, job_carries}
 use Rattle.farm_stands.proofs.Changing.{update_step, update_refused_step, update_unknown_step, restyle_step, restyle_unknown_step, expire_step}
 use Rattle.farm_stands.proofs.Finishing.{finish_stored_step, finish_lost_step, finish_cut_step}
-use Rattle.farm_stands.proofs.Marking.{soil_at}
+use Rattle.farm_stands.proofs.Marking.{dirtied_at}
 use Rattle.farm_stands.proofs.Reading.{fetch_unservable_step, fetch_missing_step, fetch_read_step, look_step}
 use Rattle.farm_stands.proofs.Replying.{collect_none_step, collect_reply_step, leave_step, stop_step, tally_step}
-use Rattle.farm_core.specs.inner.Effects.{Advances, Claims, Collects, Fetches, Keeps, Soils, after_claim, is_crowded, turn}
+use Rattle.farm_core.specs.inner.Effects.{Advances, Claims, Collects, Fetches, Keeps, Dirties, after_claim, is_crowded, turn}
 
 -- the place that was written holds what was written, and others what they held
 get_set : {X : Type 0} (xs : List X) (i j : ℕ) (x : X) → i < length xs → slice_get (slice_set xs i x) j ≡ cond (i == j) (Some x) (slice_get xs j)
@@ -149,7 +149,7 @@ module _ {D : Type 0} (state : D → Outside StoreTold) where
       subst (λ (f : FarmSeen D). StandsFor state told f (Finish job.ticket true (Finished.Stored clean) ∷ h)) (sym k.3)
       (subst (λ (b : Bool). StandsFor state told (record old { counts = stored_counts old.counts; taken = untaken job.ticket old.taken; marks = new.marks; queues = stale_tables b (after_end old.queues (job_key job) Outcome.Done) (job_key job); store = new.store }) (Finish job.ticket true (Finished.Stored clean) ∷ h)) k.0
       (finish_stored_step state told old h job clean new.marks new.store flight cleaned
-      (subst (λ (bs : List ℕ). Puts (state old.store) (state new.store) (key_path old.plan (job_key job)) bs (Ok tt)) drawn k.1)
+      (subst (λ (bs : List ℕ). StorePuts (state old.store) (state new.store) (key_path old.plan (job_key job)) bs (Ok tt)) drawn k.1)
       (subst (λ (b : Bool). (x : Key) → mark_of new.marks.shown x ≡ (cond (same_key (job_key job) x) (Some (record { version = job.version; clean = b })) (mark_of old.marks.shown x))) (sym k.0) k.2) s))
   finish_kept told old new h job touched bytes Finished.PutFailed flight is drawn k s =
       subst (λ (f : FarmSeen D). StandsFor state told f (Finish job.ticket true Finished.PutFailed ∷ h)) (sym k.2)
@@ -181,23 +181,23 @@ module _ {D : Type 0} (state : D → Outside StoreTold) where
 
   -- ---- touches
 
-  pub expire_told : (told : Bool) (old new : FarmSeen D) (h : List Entry) (tile : Tile) (count : ℕ) → Soils (overlaps tile) (turn old) new count → StandsFor state told old h → StandsFor state told new (Expire tile count ∷ h)
+  pub expire_told : (told : Bool) (old new : FarmSeen D) (h : List Entry) (tile : Tile) (count : ℕ) → Dirties (overlaps tile) (turn old) new count → StandsFor state told old h → StandsFor state told new (Expire tile count ∷ h)
   expire_told told old new h tile count c s =
       subst (λ (n : ℕ). StandsFor state told new (Expire tile n ∷ h)) (sym c.count_is)
       (subst (λ (f : FarmSeen D). StandsFor state told f (Expire tile (clean_marks (overlaps tile) old.marks.shown) ∷ h)) (sym c.rest)
-      (expire_step state told old h tile new.marks c.apart (λ k. ap (λ ms. mark_of ms k) c.shown ∙ soil_at (overlaps tile) old.marks.shown k) s))
+      (expire_step state told old h tile new.marks c.apart (λ k. ap (λ ms. mark_of ms k) c.shown ∙ dirtied_at (overlaps tile) old.marks.shown k) s))
 
   restyle_done : (told : Bool) (old new : FarmSeen D) (h : List Entry) (n count : ℕ) (r : PlanStyle) → slice_get old.plan.restyles n ≡ Some r → r.map < length old.styled →
-      Soils (is_of_map r.map) (record (turn old) { styled = slice_set old.styled r.map (Some n) }) new count → StandsFor state told old h → StandsFor state told new (Restyle n (Restyled.Styled count) ∷ h)
+      Dirties (is_of_map r.map) (record (turn old) { styled = slice_set old.styled r.map (Some n) }) new count → StandsFor state told old h → StandsFor state told new (Restyle n (Restyled.Styled count) ∷ h)
   restyle_done told old new h n count r is lt c s =
       subst (λ (m : ℕ). StandsFor state told new (Restyle n (Restyled.Styled m) ∷ h)) (sym c.count_is)
       (subst (λ (f : FarmSeen D). StandsFor state told f (Restyle n (Restyled.Styled (clean_marks (is_of_map r.map) old.marks.shown)) ∷ h)) (sym c.rest)
       (restyle_step state told old h n r (is_of_map r.map) (slice_set old.styled r.map (Some n)) new.marks is c.apart (λ k shown. refl)
       (λ m in_table. get_set old.styled r.map m (Some n) lt)
-      (λ k. ap (λ ms. mark_of ms k) c.shown ∙ soil_at (is_of_map r.map) old.marks.shown k) s))
+      (λ k. ap (λ ms. mark_of ms k) c.shown ∙ dirtied_at (is_of_map r.map) old.marks.shown k) s))
 
   pub restyle_told : (told : Bool) (old new : FarmSeen D) (h : List Entry) (n count m : ℕ) → Some m ≡ option_map (λ (r : PlanStyle). r.map) (slice_get old.plan.restyles n) → m < length old.plan.maps →
-      Soils (is_of_map m) (record (turn old) { styled = slice_set old.styled m (Some n) }) new count → StandsFor state told old h → StandsFor state told new (Restyle n (Restyled.Styled count) ∷ h)
+      Dirties (is_of_map m) (record (turn old) { styled = slice_set old.styled m (Some n) }) new count → StandsFor state told old h → StandsFor state told new (Restyle n (Restyled.Styled count) ∷ h)
   restyle_told told old new h n count m is lt c s = go (slice_get old.plan.restyles n) refl is
     where
       within : m < length old.styled
@@ -208,7 +208,7 @@ module _ {D : Type 0} (state : D → Outside StoreTold) where
       go (Some r) e some =
           let same : m ≡ r.map = cc in
           restyle_done told old new h n count r e (subst (λ k. k < length old.styled) same within)
-          (subst (λ k. Soils (is_of_map k) (record (turn old) { styled = slice_set old.styled k (Some n) }) new count) same c) s
+          (subst (λ k. Dirties (is_of_map k) (record (turn old) { styled = slice_set old.styled k (Some n) }) new count) same c) s
 
   pub restyle_unknown : (told : Bool) (old new : FarmSeen D) (h : List Entry) (n : ℕ) → None ≡ option_map (λ (r : PlanStyle). r.map) (slice_get old.plan.restyles n) → new ≡ turn old → StandsFor state told old h → StandsFor state told new (Restyle n Restyled.NoRestyle ∷ h)
   restyle_unknown told old new h n none same s =
@@ -231,7 +231,7 @@ module _ {D : Type 0} (state : D → Outside StoreTold) where
   fetch_missing told old new h spot same on none s = subst (λ (f : FarmSeen D). StandsFor state told f (Fetch spot Fetched.Missing ∷ h)) (sym same) (fetch_missing_step state told old h spot on none s)
 
   pub fetch_read : (told : Bool) (old new : FarmSeen D) (h : List Entry) (spot : Spot) (mark : Mark) (answer : Fetched) → is_servable (plan_of old.plan) spot ≡ true → mark_of old.marks.shown (key_of spot) ≡ Some mark →
-      Fetches state (turn old) new (key_of spot) (index_place (tile_of spot)) mark answer → StandsFor state told old h → StandsFor state told new (Fetch spot answer ∷ h)
+      Fetches state (turn old) new (key_of spot) (index_place (spot_tile spot)) mark answer → StandsFor state told old h → StandsFor state told new (Fetch spot answer ∷ h)
   fetch_read told old new h spot mark answer on marked f s =
       subst (λ (a : Fetched). StandsFor state told new (Fetch spot a ∷ h)) (sym f.answer_is)
       (subst (λ (x : FarmSeen D). StandsFor state told x (Fetch spot (fetched_by mark f.read) ∷ h)) (sym f.rest) (fetch_read_step state told old h spot mark f.read new.store on marked f.reads s))

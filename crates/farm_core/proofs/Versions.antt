@@ -8,12 +8,12 @@ use Rattle.farm_history.specs.declared.keys.Key.{Key}
 use Rattle.farm_history.specs.declared.keys.Kept.{Kept}
 use Rattle.farm_history.specs.declared.saved.Past.{Past}
 use Rattle.farm_history.specs.Entries.{Entry}
-use Rattle.farm_history.specs.Seen.{soiled}
+use Rattle.farm_history.specs.Seen.{dirtied}
 use Rattle.farm_history.specs.Replays.{past_number, replay_keys, replay_change}
 use Rattle.farm_plan.specs.Plans.{FarmPlan}
 use Rattle.farm_plan.specs.Drawings.{plan_of, update_of}
 use Rattle.expiry_lists.specs.Marks.{mark_of}
-use Rattle.farm_stands.proofs.Marking.{soil_at}
+use Rattle.farm_stands.proofs.Marking.{dirtied_at}
 use Rattle.farm_reach.specs.Marks.{is_reached}
 use Rattle.farm_stands.specs.Seen.{FarmSeen}
 use Rattle.farm_core.specs.inner.Replays.{IsReplaying, Stays, IsFresh, how_many_of, ReplaysChange, ReplaysVersion}
@@ -35,7 +35,7 @@ turns_of {D} old new (Past.Renew n) d = ap (λ (f : FarmSeen D). f.counts.turns)
 unshown : {D : Type 0} (old new : FarmSeen D) (c : Past) (k : Key) → ReplaysChange old new c → mark_of old.marks.shown k ≡ None → mark_of new.marks.shown k ≡ None
 unshown {D} old new (Past.Update n) k d none = ap (λ (f : FarmSeen D). mark_of f.marks.shown k) d.1 ∙ none
 unshown {D} old new (Past.Renew n) k d none =
-    ap (λ ms. mark_of ms k) d.1.marks.shown ∙ (soil_at (is_reached old.plan.maps d.1.boxes) old.marks.shown k ∙ ap (option_map (soiled (is_reached old.plan.maps d.1.boxes k))) none)
+    ap (λ ms. mark_of ms k) d.1.marks.shown ∙ (dirtied_at (is_reached old.plan.maps d.1.boxes) old.marks.shown k ∙ ap (option_map (dirtied (is_reached old.plan.maps d.1.boxes k))) none)
 
 pub version_done : {D : Type 0} (state : D → Outside StoreTold) (old mid new : FarmSeen D) (v : ℕ) (c : Past) (clean : List Kept) →
     v ≡ old.counts.version → past_number c < length old.plan.updates → ((g : List Entry) → IsReplaying state old g → IsReplaying state mid (replay_keys v clean g)) →

@@ -7,7 +7,7 @@ use Rattle.farm_history.specs.declared.answers.ClaimAnswer.{ClaimAnswer}
 use Rattle.farm_history.specs.declared.answers.Fetched.{Fetched}
 use Rattle.farm_history.specs.declared.asks.Spot.{Spot}
 use Rattle.farm_history.specs.declared.keys.Mark.{Mark}
-use Rattle.farm_history.specs.Plans.{key_of, tile_of}
+use Rattle.farm_history.specs.Plans.{key_of, spot_tile}
 use Rattle.farm_plan.specs.Drawings.{key_path}
 use Rattle.farm_core.specs.declared.claims.Claimed.{Claimed}
 use Rattle.farm_core.specs.declared.finishes.Drawn.{Drawn}
@@ -53,4 +53,4 @@ abbrev pub Reads : {D : Type 0} → (D → Outside StoreTold) → FarmSeen D →
 Reads state old new spot answer false mark = (answer ≡ Fetched.Unservable) × (new.store ≡ old.store)
 Reads state old new spot answer true None = (answer ≡ Fetched.Missing) × (new.store ≡ old.store)
 Reads state old new spot answer true (Some mark) =
-    (read : Result (List ℕ) Fetched) × ReadsTile (state old.store) (state new.store) (key_path old.plan (key_of spot)) (key_of spot).meta (index_place (tile_of spot)) read × (answer ≡ fetched_by mark read)
+    (read : Result (List ℕ) Fetched) × ReadsTile (state old.store) (state new.store) (key_path old.plan (key_of spot)) (key_of spot).meta (index_place (spot_tile spot)) read × (answer ≡ fetched_by mark read)

@@ -6,7 +6,7 @@ ghost use Rattle.farm_stands.specs.Stands.{StandsFor};
 ghost use Rattle.plain_world.specs.World.{IsTile};
 ghost use Rattle.farm_history.specs.Plans.{overlaps};
 ghost use Rattle.expiry_lists.specs.Marks.{is_of_map};
-ghost use Rattle.farm_core.specs.inner.Effects.{Soils};
+ghost use Rattle.farm_core.specs.inner.Effects.{Dirties};
 
 use crate::farm::Farm;
 use farm_jobs::{touch_map, touch_tile};
@@ -16,17 +16,17 @@ use tile_store::TileStore;
 
 impl<D> Farm<D> {
     /// Touches what the tile overlaps, and counts what was clean of it.
-    fn soil_tile(&mut self, tile: Tile) -> u64
+    fn mark_tile_dirty(&mut self, tile: Tile) -> u64
         requires { IsTile tile }
-        ensures { Soils (overlaps tile) self.old self.new result }
+        ensures { Dirties (overlaps tile) self.old self.new result }
     {
         touch_tile(self.taken.as_mut_slice(), tile);
         self.marks.expire(tile)
     }
 
     /// Touches what is of the map, and counts what was clean of it.
-    fn soil_map(&mut self, map: u32) -> u64
-        ensures { Soils (is_of_map map) self.old self.new result }
+    fn mark_map_dirty(&mut self, map: u32) -> u64
+        ensures { Dirties (is_of_map map) self.old self.new result }
     {
         touch_map(self.taken.as_mut_slice(), map);
         self.marks.expire_map(map)
@@ -62,7 +62,7 @@ impl<D: TileStore> Farm<D> {
         ensures kept { Lasts D.state self.old self.new }
     {
         self.count_turn();
-        self.soil_tile(t)
+        self.mark_tile_dirty(t)
     }
 
     /// Gives a map the style of the number, which is of that map; all of the map is touched. Answers Styled with
@@ -77,7 +77,7 @@ impl<D: TileStore> Farm<D> {
         match self.styled_map(number) {
             Some(map) => {
                 self.give_style(map, number);
-                Restyled::Styled(self.soil_map(map))
+                Restyled::Styled(self.mark_map_dirty(map))
             }
             None => Restyled::NoRestyle,
         }

@@ -2,7 +2,7 @@
 ghost use Rattle.std.specs.Prelude.{◌≡◌, ◌<◌, ◌==◌, Bool, false, List, Some, codes, length, option_map, position, slice_get};
 ghost use Rattle.std.specs.Str.{bytes_eq};
 ghost use Rattle.std.specs.List.{ends_with};
-ghost use Rattle.tile_store.specs.Stores.{Puts};
+ghost use Rattle.tile_store.specs.Stores.{StorePuts};
 ghost use Rattle.farm_history.specs.Entries.{Entry};
 ghost use Rattle.farm_stands.specs.Stands.{StandsFor};
 
@@ -123,7 +123,7 @@ impl<D: TileStore> Farm<D> {
     /// where the store's count of faults rose.
     pub fn put_beside(&mut self, alloc: Global, path: &str, bytes: &[u8]) -> Result<(), StoreFault>
         requires { ends_with (λ a b. a == b) path.now (codes ".meta") ≡ false }
-        ensures store { Puts (D.state self.old.store) (D.state self.new.store) path.now bytes.now result }
+        ensures store { StorePuts (D.state self.old.store) (D.state self.new.store) path.now bytes.now result }
         ensures farm { self.new ≡ record self.old { store = self.new.store } }
         ensures stands { (told : Bool) (h : List Entry) → StandsFor D.state told self.old h → StandsFor D.state told self.new h }
     {

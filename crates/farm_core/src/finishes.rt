@@ -4,7 +4,7 @@ ghost use Rattle.farm_history.specs.declared.queues.Outcome.{Outcome};
 ghost use Rattle.farm_history.specs.Plans.{is_in};
 ghost use Rattle.farm_plan.specs.Spots.{IsKeyOf};
 ghost use Rattle.farm_plan.specs.Drawings.{key_path};
-ghost use Rattle.tile_store.specs.Stores.{Puts};
+ghost use Rattle.tile_store.specs.Stores.{StorePuts};
 ghost use Rattle.render_queues.specs.Tables.{after_end};
 ghost use Rattle.farm_jobs.specs.Shared.{ShareSeen};
 ghost use Rattle.farm_core.specs.inner.Effects.{IsTaken, Keeps, MarksBut, one_stored};
@@ -112,7 +112,7 @@ impl<D: TileStore> Farm<D> {
     /// Puts a metatile's container at its path.
     fn put(&mut self, alloc: Global, key: Key, bytes: &[u8]) -> Result<(), StoreFault>
         requires { IsKeyOf self.old.plan key }
-        ensures store { Puts (D.state self.old.store) (D.state self.new.store) (key_path self.old.plan key) bytes.now result }
+        ensures store { StorePuts (D.state self.old.store) (D.state self.new.store) (key_path self.old.plan key) bytes.now result }
         ensures farm { self.new ≡ record self.old { store = self.new.store } }
     {
         let path = self.own.setup().path(key);

@@ -18,7 +18,7 @@ use crate::farm::Farm;
 use farm_base::{ApplyFault, NoMemory};
 use farm_jobs::{Setup, Taken, overtaken};
 use farm_plan::{Key, Past, Renewed};
-use farm_reach::{boxes_reach, named_boxes, soil_maps};
+use farm_reach::{boxes_reach, named_boxes, mark_maps_dirty};
 use geo_model::Bounds;
 use std::alloc::Global;
 use tile_store::TileStore;
@@ -56,12 +56,12 @@ impl<D> Farm<D> {
     }
 
     /// Touches what the boxes reach, and counts what was clean of it.
-    fn soil_reached(&mut self, boxes: &[Bounds]) -> u64
+    fn mark_reached_dirty(&mut self, boxes: &[Bounds]) -> u64
         requires { Each IsBox boxes.now }
         ensures { Reaches boxes.now self.old self.new result }
     {
         touch_reached(self.taken.as_mut_slice(), self.own.setup(), boxes);
-        soil_maps(&mut self.marks, self.own.setup().maps(), boxes)
+        mark_maps_dirty(&mut self.marks, self.own.setup().maps(), boxes)
     }
 
     /// Applies the update of the number, notes it as a renew, and touches what it reaches; tells how many
@@ -77,7 +77,7 @@ impl<D> Farm<D> {
             return Err(ApplyFault::NoMemory);
         };
         self.advance(alloc, number, Past::Renew(number))?;
-        Ok(self.soil_reached(boxes.as_slice()))
+        Ok(self.mark_reached_dirty(boxes.as_slice()))
     }
 }
 

@@ -1,6 +1,6 @@
 //! The shared farm as the fronts call it.
 #![tactic(auto)]
 
-mod door;
+mod adapter;
 
-pub use door::{Door, Place};
+pub use adapter::{FarmAdapter, Place};

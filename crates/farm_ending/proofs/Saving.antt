@@ -2,7 +2,7 @@
 use Rattle.std.proofs.Common.{◌≡◌, ℕ, Bool, false, List, sym, ap, subst}
 use Rattle.std.specs.Prelude.{Result, Ok, Err}
 use Rattle.farm_base.specs.Outside.{Outside}
-use Rattle.tile_store.specs.Stores.{StoreTold, Puts}
+use Rattle.tile_store.specs.Stores.{StoreTold, StorePuts}
 use Rattle.tile_store.specs.declared.stores.StoreFault.{StoreFault}
 use Rattle.tile_store.specs.declared.stores.StoreFault.TheVariants as fault
 use Rattle.call_ends.specs.declared.stops.Stop.{Stop}
@@ -24,14 +24,14 @@ module _ {D : Type 0} (state : D → Outside StoreTold) (closed : FarmSeen D × 
 
   module _ (saving : Saving) (sound : (told : Bool) (h : List Entry) → StandsFor state told closed.0 h → IsSaved (plan_of closed.0.plan) h saving) (text : List ℕ) (is : text ≡ saved_bytes saving) where
     -- the text of what is kept was put, with this answer
-    puts_saved : (new : FarmSeen D) (answer : Result (Unit {0}) StoreFault) → Puts (state closed.0.store) (state new.store) saved_path text answer → PutsSaved state closed.0 new closed.1 answer
+    puts_saved : (new : FarmSeen D) (answer : Result (Unit {0}) StoreFault) → StorePuts (state closed.0.store) (state new.store) saved_path text answer → PutsSaved state closed.0 new closed.1 answer
     puts_saved new answer puts = record {
       saving = saving;
       saved = sound false (past (lasting_of state closed.0) closed.1) stands;
-      puts = subst (λ (t : List ℕ). Puts (state closed.0.store) (state new.store) saved_path t answer) is puts;
+      puts = subst (λ (t : List ℕ). StorePuts (state closed.0.store) (state new.store) saved_path t answer) is puts;
     }
 
-    went : (new : FarmSeen D) (answer : Result (Unit {0}) StoreFault) → Puts (state closed.0.store) (state new.store) saved_path text answer → SavesTo state closed.0 new closed.1 (end_of answer)
+    went : (new : FarmSeen D) (answer : Result (Unit {0}) StoreFault) → StorePuts (state closed.0.store) (state new.store) saved_path text answer → SavesTo state closed.0 new closed.1 (end_of answer)
     went new (Ok done) puts = puts_saved new (Ok tt) puts
     went new (Err fault.Failed) puts = puts_saved new (Err fault.Failed) puts
     went new (Err fault.NoMemory) puts = puts

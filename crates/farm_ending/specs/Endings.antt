@@ -18,9 +18,9 @@ use Rattle.farm_ending.specs.Savings.{MaySave}
 -- ---- why a run ended
 
 -- whether a front that ended so is one of these
-abbrev pub is_worn : FrontEnd → Bool
-is_worn Worn = true
-is_worn _ = false
+abbrev pub is_front_worn : FrontEnd → Bool
+is_front_worn Worn = true
+is_front_worn _ = false
 
 abbrev pub is_broken : FrontEnd → Bool
 is_broken Broken = true
@@ -33,7 +33,7 @@ is_wanting _ = false
 -- How a call ends whose fronts ended so, before anything is saved; `worn` says that the run itself or a worker met that all turns were drawn. The first that holds
 abbrev pub why_ended : Bool → List FrontEnd → Result (Unit {0}) Stop
 why_ended worn ends =
-    if worn || list_any is_worn ends
+    if worn || list_any is_front_worn ends
     then Err stop.TurnsUsedUp
     else (if list_any is_broken ends then Err stop.PortsFailed else (if list_any is_wanting ends then Err stop.NoMemory else Ok tt))
 

@@ -1,7 +1,7 @@
 -- What is saved of a farm that stopped in order, so that a later one may begin where it stopped.
 use Rattle.std.specs.Prelude.{◌≡◌, ℕ, Bool, true, false, List, Result, Ok, Err}
 use Rattle.farm_base.specs.Outside.{Outside}
-use Rattle.tile_store.specs.Stores.{StoreTold, Puts}
+use Rattle.tile_store.specs.Stores.{StoreTold, StorePuts}
 use Rattle.tile_store.specs.declared.stores.StoreFault.{StoreFault}
 use Rattle.tile_store.specs.declared.stores.StoreFault.TheVariants as fault
 use Rattle.call_ends.specs.declared.stops.Stop.{Stop}
@@ -19,7 +19,7 @@ module _ {D : Type 0} (state : D → Outside StoreTold) where
   pub record PutsSaved (farm farm' : FarmSeen D) (log : List (ℕ × Entry)) (answer : Result (Unit {0}) StoreFault) : Type 0 where
     pub saving : Saving
     pub saved : IsSaved (plan_of farm.plan) (past (lasting_of state farm) log) saving
-    pub puts : Puts (state farm.store) (state farm'.store) saved_path (saved_bytes saving) answer
+    pub puts : StorePuts (state farm.store) (state farm'.store) saved_path (saved_bytes saving) answer
 
   -- how the saving went: the put was done; it failed; or memory was wanting, and the store shows what it showed
   abbrev pub SavesTo : FarmSeen D → FarmSeen D → List (ℕ × Entry) → Result (Unit {0}) Stop → Type 0

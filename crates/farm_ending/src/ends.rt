@@ -8,7 +8,7 @@ use port_trait::FrontEnd;
 
 /// Whether a front ended since all turns were drawn.
 fn any_worn(ends: &[FrontEnd]) -> bool
-    ensures { result ≡ list_any spec.is_worn ends.now }
+    ensures { result ≡ list_any spec.is_front_worn ends.now }
 {
     ends.iter().any(|end| matches!(end, FrontEnd::Worn))
 }

@@ -10,7 +10,7 @@ use Rattle.farm_history.specs.declared.answers.Finished.{Finished}
 use Rattle.farm_history.specs.declared.answers.Finished.TheVariants.{Stored}
 use Rattle.farm_history.specs.declared.answers.Fetched.{Fetched}
 use Rattle.farm_history.specs.Entries.{Entry, Claim, Finish, Fetch, EachMoment, EachPast}
-use Rattle.farm_history.specs.Plans.{Plan, AreApart, same_key, key_of, map_of, tile_of}
+use Rattle.farm_history.specs.Plans.{Plan, AreApart, same_key, key_of, map_of, spot_tile}
 use Rattle.farm_history.specs.Past.{Flight, flights, flight_in, jobs, data_after, style_after}
 use Rattle.farm_history.specs.Rules.{FlightFits, Fits, Legal}
 use Rattle.farm_history.specs.Laws.{flight_key, GapAt, DoneAt, DoneReply}
@@ -137,8 +137,8 @@ clean_tile plan told g spot v bytes valid legal =
       is_plain = λ tells. record {
         map = m.map;
         is_map = m.is_map;
-        bytes_are = s.bytes_are tells ∙ (ap (λ o. tile_in plan (slice_get plan.maps (map_of spot)) o (tile_of spot) (data_of plan (data_after s.before))) (sym c.same_style)
-            ∙ ap (λ (o : Option MapPlan). tile_in plan o (style_after (plan_of plan) g (map_of spot)) (tile_of spot) (data_of plan (data_after s.before))) m.is_map);
+        bytes_are = s.bytes_are tells ∙ (ap (λ o. tile_in plan (slice_get plan.maps (map_of spot)) o (spot_tile spot) (data_of plan (data_after s.before))) (sym c.same_style)
+            ∙ ap (λ (o : Option MapPlan). tile_in plan o (style_after (plan_of plan) g (map_of spot)) (spot_tile spot) (data_of plan (data_after s.before))) m.is_map);
       };
     }
 

@@ -2,7 +2,7 @@
 -- `told` says that the store tells what it holds; what is said of bytes needs it, and nothing else does.
 use Rattle.std.specs.Prelude.{ℕ, Bool, true, false, ◌≡◌, ◌==◌, List, ◌∷◌, ◌++◌, length, slice_get, Some}
 use Rattle.std.specs.List.{list_any}
-use Rattle.plain_drawing.specs.Drawing as drawing
+use Rattle.plain_drawing.specs.Drawing.{drawn_tile}
 use Rattle.farm_history.specs.declared.keys.Key.{Key}
 use Rattle.farm_history.specs.declared.queues.Conn.{Conn}
 use Rattle.farm_history.specs.declared.queues.Reply.{Reply}
@@ -15,7 +15,7 @@ use Rattle.farm_history.specs.declared.answers.Finished.TheVariants.{Stored}
 use Rattle.farm_history.specs.declared.answers.Fetched.{Fetched}
 use Rattle.farm_history.specs.declared.answers.Collected.{Collected}
 use Rattle.farm_history.specs.Entries.{Entry, Ask, Claim, Finish, Fetch, Collect}
-use Rattle.farm_history.specs.Plans.{key_of, map_of, tile_of}
+use Rattle.farm_history.specs.Plans.{key_of, map_of, spot_tile}
 use Rattle.farm_history.specs.Past.{data_after, version, style_after, is_touched_after, is_clean}
 use Rattle.farm_history.specs.Rules.{Legal}
 use Rattle.farm_history.specs.Laws.{is_stored_in, StaysDirty, IsStoredFor}
@@ -37,7 +37,7 @@ is_finished_in entries ticket = list_any (is_finish_of ticket) entries
 pub record IsPlainTile (plan : FarmPlan) (g before : List Entry) (spot : Spot) (bytes : List ℕ) : Type 0 where
   pub map : MapPlan
   pub is_map : slice_get plan.maps (map_of spot) ≡ Some map
-  pub bytes_are : bytes ≡ drawing.tile_of (styled_as plan map (style_after (plan_of plan) g (map_of spot))) map.tile (tile_of spot) (data_of plan (data_after before))
+  pub bytes_are : bytes ≡ drawn_tile (styled_as plan map (style_after (plan_of plan) g (map_of spot))) map.tile (spot_tile spot) (data_of plan (data_after before))
 
 -- a Claim gave the drawing of the tile's metatile, and it was stored; since that Claim nothing has touched the metatile; the version that is sent is that of the data before the Claim; and the bytes are the plain drawing over those data
 pub record IsCleanTile (plan : FarmPlan) (told : Bool) (g : List Entry) (spot : Spot) (sent : ℕ) (bytes : List ℕ) : Type 0 where

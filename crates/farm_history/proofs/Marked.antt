@@ -8,20 +8,20 @@ use Rattle.farm_history.specs.Lists.{Each}
 use Rattle.farm_history.specs.Entries.{Entry}
 use Rattle.farm_history.specs.Plans.{Plan, AreApart, own_key, same_key, is_in}
 use Rattle.farm_history.specs.Past.{shown, is_fresh, is_clean, clean_count}
-use Rattle.farm_history.specs.Seen.{soiled, mark_at, mark_after, mark_in, is_clean_mark}
+use Rattle.farm_history.specs.Seen.{dirtied, mark_at, mark_after, mark_in, is_clean_mark}
 use Rattle.farm_history.proofs.Lists.{same_key-self, same_key-true, same_key-sym, each-map}
 use Rattle.farm_history.proofs.Counts.{clean_counted}
 use Rattle.farm_history.proofs.Opens.{count-map, count-agree}
 
--- what is found after each row was soiled is what was found, soiled
-pub soiled_marks : {R : Type 0} (key : R → Key) (mark : R → Option Mark) (soil : R → R) (test : Key → Bool) → ((r : R) → key (soil r) ≡ key r) → ((r : R) → mark (soil r) ≡ option_map (soiled (test (key r))) (mark r)) →
-    (rows : List R) (k : Key) → mark_in key mark (map soil rows) k ≡ option_map (soiled (test k)) (mark_in key mark rows k)
-soiled_marks key mark soil test keys marks [] k = refl
-soiled_marks {R} key mark soil test keys marks (r ∷ rows) k = rw (keys r) (go (same_key k (key r)) refl (soiled_marks key mark soil test keys marks rows k))
+-- what is found after each row was dirtied is what was found, dirtied
+pub dirtied_rows : {R : Type 0} (key : R → Key) (mark : R → Option Mark) (dirty_row : R → R) (test : Key → Bool) → ((r : R) → key (dirty_row r) ≡ key r) → ((r : R) → mark (dirty_row r) ≡ option_map (dirtied (test (key r))) (mark r)) →
+    (rows : List R) (k : Key) → mark_in key mark (map dirty_row rows) k ≡ option_map (dirtied (test k)) (mark_in key mark rows k)
+dirtied_rows key mark dirty_row test keys marks [] k = refl
+dirtied_rows {R} key mark dirty_row test keys marks (r ∷ rows) k = rw (keys r) (go (same_key k (key r)) refl (dirtied_rows key mark dirty_row test keys marks rows k))
   where
-    go : (b : Bool) → same_key k (key r) ≡ b → mark_in key mark (map soil rows) k ≡ option_map (soiled (test k)) (mark_in key mark rows k) →
-        option_and_then mark (cond b (Some (soil r)) (find (λ x. same_key k (key x)) (map soil rows))) ≡ option_map (soiled (test k)) (option_and_then mark (cond b (Some r) (find (λ x. same_key k (key x)) rows)))
-    go true same ih = marks r ∙ ap (λ j. option_map (soiled (test j)) (mark r)) (sym (same_key-true k (key r) same))
+    go : (b : Bool) → same_key k (key r) ≡ b → mark_in key mark (map dirty_row rows) k ≡ option_map (dirtied (test k)) (mark_in key mark rows k) →
+        option_and_then mark (cond b (Some (dirty_row r)) (find (λ x. same_key k (key x)) (map dirty_row rows))) ≡ option_map (dirtied (test k)) (option_and_then mark (cond b (Some r) (find (λ x. same_key k (key x)) rows)))
+    go true same ih = marks r ∙ ap (λ j. option_map (dirtied (test j)) (mark r)) (sym (same_key-true k (key r) same))
     go false other ih = ih
 
 -- where the keys of the rows differ, each row is the one that its key finds

@@ -11,7 +11,7 @@ use Rattle.farm_history.specs.Entries.{Entry, Claim, Finish}
 use Rattle.farm_history.specs.Plans.{Plan, same_key}
 use Rattle.farm_history.specs.Past.{Flight, version, flights, flight_in, shown, touches, is_touched_after}
 use Rattle.farm_history.specs.Rules.{EndFits}
-use Rattle.farm_history.specs.Seen.{soiled, mark_at, mark_after, taken_of, overtaken_by, taken_after}
+use Rattle.farm_history.specs.Seen.{dirtied, mark_at, mark_after, taken_of, overtaken_by, taken_after}
 use Rattle.farm_history.specs.Lists.{Each}
 use Rattle.farm_history.proofs.Lists.{map-filter}
 use Rattle.farm_history.proofs.Places.{flights_earlier, shown_earlier, untouched}
@@ -27,25 +27,25 @@ pub touched_more : (p : Plan) (g : List Entry) (e : Entry) (place : ℕ) (k : Ke
 unfolding is_touched_after
 touched_more p g e place k lt = let now : nat_lt place (length g) ≡ true = grind (arith, nat_tests) in grind arith
 
-mark_more : (p : Plan) (g : List Entry) (e : Entry) (k : Key) (s : Option (List Entry)) → ((before : List Entry) → s ≡ Some before → length before < length g) → mark_at p (e ∷ g) k s ≡ option_map (soiled (touches p g e k)) (mark_at p g k s)
+mark_more : (p : Plan) (g : List Entry) (e : Entry) (k : Key) (s : Option (List Entry)) → ((before : List Entry) → s ≡ Some before → length before < length g) → mark_at p (e ∷ g) k s ≡ option_map (dirtied (touches p g e k)) (mark_at p g k s)
 mark_more p g e k None earlier = refl
 mark_more p g e k (Some before) earlier =
     let t = touched_more p g e (length before) k (earlier before refl) in
     ap (λ b. Some (record { version = version before; clean = b })) (grind arith)
 
 -- an entry that is no Finish makes the marks dirty whose keys it touches, and changes nothing else of them
-pub mark_soiled : (p : Plan) (g : List Entry) (e : Entry) (k : Key) → is_finish e ≡ false → mark_after p (e ∷ g) k ≡ option_map (soiled (touches p g e k)) (mark_after p g k)
+pub mark_dirtied : (p : Plan) (g : List Entry) (e : Entry) (k : Key) → is_finish e ≡ false → mark_after p (e ∷ g) k ≡ option_map (dirtied (touches p g e k)) (mark_after p g k)
 unfolding shown
-mark_soiled p g (Finish t drawn answer) k no_finish = let never : true ≡ false = no_finish in cc
-mark_soiled p g e k no_finish = mark_more p g e k (shown g k) (shown_earlier g k)
+mark_dirtied p g (Finish t drawn answer) k no_finish = let never : true ≡ false = no_finish in cc
+mark_dirtied p g e k no_finish = mark_more p g e k (shown g k) (shown_earlier g k)
 
 -- and where it doesn't touch the key, the mark stays
-soiled_not : (m : Option Mark) → option_map (soiled false) m ≡ m
-soiled_not None = refl
-soiled_not (Some m) = refl
+dirtied_not : (m : Option Mark) → option_map (dirtied false) m ≡ m
+dirtied_not None = refl
+dirtied_not (Some m) = refl
 
 pub mark_quiet : (p : Plan) (g : List Entry) (e : Entry) (k : Key) → is_finish e ≡ false → touches p g e k ≡ false → mark_after p (e ∷ g) k ≡ mark_after p g k
-mark_quiet p g e k no_finish quiet = mark_soiled p g e k no_finish ∙ (ap (λ b. option_map (soiled b) (mark_after p g k)) quiet ∙ soiled_not (mark_after p g k))
+mark_quiet p g e k no_finish quiet = mark_dirtied p g e k no_finish ∙ (ap (λ b. option_map (dirtied b) (mark_after p g k)) quiet ∙ dirtied_not (mark_after p g k))
 
 -- a drawing that is stored gives its key a mark
 pub mark_stored : (p : Plan) (g : List Entry) (t : ℕ) (drawn clean : Bool) (f : Flight) → flight_in (flights g) t ≡ Some f → EndFits p g f drawn (Stored clean) → mark_after p (Finish t drawn (Stored clean) ∷ g) f.key ≡ Some (record { version = version f.before; clean = clean })
@@ -94,8 +94,8 @@ taken_more p g e (f ∷ fs) earlier =
     ap₂ (λ x xs. x ∷ xs) here (taken_more p g e fs earlier.1)
 
 -- an entry that is neither a Claim answered Job nor a Finish touches the drawings whose keys it touches
-pub taken_soiled : (p : Plan) (g : List Entry) (e : Entry) → flights (e ∷ g) ≡ flights g → taken_after p (e ∷ g) ≡ map (overtaken_by (touches p g e)) (taken_after p g)
-taken_soiled p g e same = ap (map (taken_of p (e ∷ g))) same ∙ taken_more p g e (flights g) (flights_earlier g)
+pub taken_dirtied : (p : Plan) (g : List Entry) (e : Entry) → flights (e ∷ g) ≡ flights g → taken_after p (e ∷ g) ≡ map (overtaken_by (touches p g e)) (taken_after p g)
+taken_dirtied p g e same = ap (map (taken_of p (e ∷ g))) same ∙ taken_more p g e (flights g) (flights_earlier g)
 
 taken_same : (p : Plan) (g : List Entry) (e : Entry) (fs : List Flight) → ((k : Key) → touches p g e k ≡ false) → map (taken_of p (e ∷ g)) fs ≡ map (taken_of p g) fs
 taken_same p g e [] quiet = refl

@@ -8,7 +8,7 @@ use Rattle.farm_history.specs.declared.answers.Renewed.{Renewed}
 use Rattle.farm_history.specs.declared.answers.Restyled.TheVariants.{Styled}
 use Rattle.farm_history.specs.declared.answers.Fetched.{Fetched}
 use Rattle.farm_history.specs.Entries.{Entry, Claim, Update, Renew, Restyle, Fetch}
-use Rattle.farm_history.specs.Plans.{Plan, key_of, map_of, tile_of, is_servable}
+use Rattle.farm_history.specs.Plans.{Plan, key_of, map_of, spot_tile, is_servable}
 use Rattle.farm_history.specs.Past.{data_after, version, style_after, drawn_after, touches, is_touched_after}
 use Rattle.farm_history.specs.Rules.{Fits, Legal}
 use Rattle.farm_history.specs.Laws.{has_plain_update, IsLocal, LawNow}
@@ -22,7 +22,7 @@ drawn_step p spot (Update n _) g local servable untouched renewed = refl
 drawn_step p spot (Renew n (Renewed.Version v count)) g local servable untouched renewed = local spot (style_after p g (map_of spot)) (data_after g) n servable untouched
 drawn_step p spot (Renew n _) g local servable untouched renewed = refl
 drawn_step p spot (Restyle n (Styled count)) g local servable untouched renewed =
-    ap (λ b. p.drawing (map_of spot) (cond b (Some n) (style_after p g (map_of spot))) (tile_of spot) (data_after g)) untouched
+    ap (λ b. p.drawing (map_of spot) (cond b (Some n) (style_after p g (map_of spot))) (spot_tile spot) (data_after g)) untouched
 drawn_step p spot (Restyle n _) g local servable untouched renewed = refl
 drawn_step p spot _ g local servable untouched renewed = refl
 

@@ -13,7 +13,7 @@ use Rattle.farm_history.specs.declared.answers.Fetched.{Fetched}
 use Rattle.farm_history.specs.declared.answers.Updated.{Updated}
 use Rattle.farm_history.specs.declared.answers.Collected.{Collected}
 use Rattle.farm_history.specs.Entries.{Entry, Ask, Claim, Finish, Update, Fetch, Collect, Leave, EachMoment, EachPast}
-use Rattle.farm_history.specs.Plans.{Plan, AreApart, same_key, same_conn, key_of, map_of, tile_of, is_servable}
+use Rattle.farm_history.specs.Plans.{Plan, AreApart, same_key, same_conn, key_of, map_of, spot_tile, is_servable}
 use Rattle.farm_history.specs.Past.{Flight, version, drawn_after, flights, flight_in, flies, is_on, is_touched_after, is_clean, waits, number_in, Numbered}
 use Rattle.farm_history.specs.Rules.{Legal}
 
@@ -203,7 +203,7 @@ abbrev pub IsLocal : Plan → Type 0
 IsLocal p = (spot : Spot) (style : Option ℕ) (data_numbers : List ℕ) (n : ℕ) →
     is_servable p spot ≡ true →
     p.reaches data_numbers n (key_of spot) ≡ false →
-    p.drawing (map_of spot) style (tile_of spot) (data_numbers ++ n ∷ []) ≡ p.drawing (map_of spot) style (tile_of spot) data_numbers
+    p.drawing (map_of spot) style (spot_tile spot) (data_numbers ++ n ∷ []) ≡ p.drawing (map_of spot) style (spot_tile spot) data_numbers
 
 -- where the entry sends a tile as clean, its bytes are those that the plan draws in the style and over the data of that moment
 abbrev pub NowAt : Plan → List Entry → Entry → Type 0

@@ -20,7 +20,7 @@ use Rattle.farm_history.specs.declared.answers.Restyled.TheVariants.{Styled}
 use Rattle.farm_history.specs.declared.answers.Collected.{Collected}
 use Rattle.farm_history.specs.declared.answers.Tally.{Tally as Totals}
 use Rattle.farm_history.specs.Entries.{Entry, Ask, Claim, Finish, Update, Renew, Restyle, Expire, Collect, Leave, Stop}
-use Rattle.farm_history.specs.Plans.{Plan, Waits, same_key, same_conn, is_in, key_of, map_of, tile_of, is_servable, overlaps, is_style_of, is_dirty_command, own_queue, waits_in, without_key, has_room}
+use Rattle.farm_history.specs.Plans.{Plan, Waits, same_key, same_conn, is_in, key_of, map_of, spot_tile, is_servable, overlaps, is_style_of, is_dirty_command, own_queue, waits_in, without_key, has_room}
 
 -- whether a Stop stands in the history
 unfoldable pub is_stopped : List Entry → Bool
@@ -47,7 +47,7 @@ style_after p (_ ∷ g) map = style_after p g map
 
 -- the bytes that the plan draws of a spot's tile, in the map's style and over the data after the history
 abbrev pub drawn_after : Plan → List Entry → Spot → List ℕ
-drawn_after p h spot = p.drawing (map_of spot) (style_after p h (map_of spot)) (tile_of spot) (data_after h)
+drawn_after p h spot = p.drawing (map_of spot) (style_after p h (map_of spot)) (spot_tile spot) (data_after h)
 
 -- a drawing under way: its ticket, its key, and what came before its Claim
 pub record Flight : Type 0 where

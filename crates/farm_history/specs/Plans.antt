@@ -64,8 +64,8 @@ abbrev pub own_key : Key → Key
 own_key k = k
 
 -- the tile of a spot
-abbrev pub tile_of : Spot → Tile
-tile_of spot = record { z = spot.z; x = spot.x; y = spot.y }
+abbrev pub spot_tile : Spot → Tile
+spot_tile spot = record { z = spot.z; x = spot.x; y = spot.y }
 
 -- the map that is given, or the first
 abbrev pub map_or_first : Option ℕ → ℕ
@@ -78,7 +78,7 @@ map_of spot = map_or_first spot.map
 
 -- the key of a spot: its map, and the metatile of its tile
 abbrev pub key_of : Spot → Key
-key_of spot = record { map = map_of spot; meta = meta_of (tile_of spot) }
+key_of spot = record { map = map_of spot; meta = meta_of (spot_tile spot) }
 
 -- whether there is a limit, and n is at most that
 abbrev pub is_at_most : ℕ → Option ℕ → Bool

@@ -29,8 +29,8 @@ is_clean_mark None = false
 is_clean_mark (Some m) = m.clean
 
 -- a mark after an entry that touches its key, or does not
-abbrev pub soiled : Bool → Mark → Mark
-soiled touching m = record { version = m.version; clean = not touching && m.clean }
+abbrev pub dirtied : Bool → Mark → Mark
+dirtied touching m = record { version = m.version; clean = not touching && m.clean }
 
 -- a drawing under way, as it is kept: its ticket, its key, the version before its Claim, and whether an entry after its Claim touches the key
 pub record Taken : Type 0 where

@@ -7,7 +7,7 @@ use Rattle.plain_world.specs.declared.world.Tile.{Tile}
 use Rattle.plain_world.specs.declared.world.Meta.{Meta}
 use Rattle.plain_world.specs.World.{IsTile, meta_of}
 use Rattle.farm_history.specs.declared.asks.Spot.{Spot}
-use Rattle.farm_history.specs.Plans.{is_servable, is_at_most, greatest_zoom, tile_of, map_of, map_or_first, key_of}
+use Rattle.farm_history.specs.Plans.{is_servable, is_at_most, greatest_zoom, spot_tile, map_of, map_or_first, key_of}
 use Rattle.farm_plan.specs.Plans.{MapPlan, FarmPlan, IsMapPlan, IsPlan}
 use Rattle.farm_plan.specs.Drawings.{plan_of}
 use Rattle.farm_plan.specs.Spots.{IsKeyOf}
@@ -34,7 +34,7 @@ on_map plan spot place mp is found =
 pub too_deep : (plan : FarmPlan) (spot : Spot) (place : ℕ) (mp : MapPlan) → spot.map ≡ Some place → slice_get plan.maps place ≡ Some mp → mp.max_zoom < spot.z → is_servable (plan_of plan) spot ≡ false
 too_deep plan spot place mp is found deep = on_map plan spot place mp is found ∙ grind (arith, nat_tests)
 
-pub no_tile : (plan : FarmPlan) (spot : Spot) (place : ℕ) (mp : MapPlan) → IsPlan plan → spot.map ≡ Some place → slice_get plan.maps place ≡ Some mp → spot.z ≤ mp.max_zoom → (IsTile (tile_of spot) → ⊥) → is_servable (plan_of plan) spot ≡ false
+pub no_tile : (plan : FarmPlan) (spot : Spot) (place : ℕ) (mp : MapPlan) → IsPlan plan → spot.map ≡ Some place → slice_get plan.maps place ≡ Some mp → spot.z ≤ mp.max_zoom → (IsTile (spot_tile spot) → ⊥) → is_servable (plan_of plan) spot ≡ false
 no_tile plan spot place mp valid is found fits none = on_map plan spot place mp is found ∙ go (nat_lt spot.x (2 ^ spot.z)) (nat_lt spot.y (2 ^ spot.z)) refl refl
   where
     low : spot.z ≤ 18
@@ -45,12 +45,12 @@ no_tile plan spot place mp valid is found fits none = on_map plan spot place mp 
     go true false x y = grind arith
     go false d x y = grind arith
 
-pub served : (plan : FarmPlan) (spot : Spot) (place : ℕ) (mp : MapPlan) → spot.map ≡ Some place → slice_get plan.maps place ≡ Some mp → spot.z ≤ mp.max_zoom → IsTile (tile_of spot) → is_servable (plan_of plan) spot ≡ true
+pub served : (plan : FarmPlan) (spot : Spot) (place : ℕ) (mp : MapPlan) → spot.map ≡ Some place → slice_get plan.maps place ≡ Some mp → spot.z ≤ mp.max_zoom → IsTile (spot_tile spot) → is_servable (plan_of plan) spot ≡ true
 served plan spot place mp is found fits tile = on_map plan spot place mp is found ∙ (let x = tile.x_fits in let y = tile.y_fits in grind (arith, nat_tests))
 
 pub served_key : (plan : FarmPlan) (spot : Spot) → IsPlan plan → is_servable (plan_of plan) spot ≡ true → IsKeyOf plan (key_of spot)
 served_key plan spot valid on = key_is plan spot (spot_of plan spot valid on)
 
 -- the key of a spot, made of its parts
-pub key_made : (spot : Spot) (place : ℕ) (t : Tile) (m : Meta) → spot.map ≡ Some place → t ≡ tile_of spot → m ≡ meta_of t → record { map = place; meta = m } ≡ key_of spot
+pub key_made : (spot : Spot) (place : ℕ) (t : Tile) (m : Meta) → spot.map ≡ Some place → t ≡ spot_tile spot → m ≡ meta_of t → record { map = place; meta = m } ≡ key_of spot
 key_made spot place t m is made meta = let same : map_of spot ≡ place = ap (λ (o : Option ℕ). map_or_first o) is in cc

@@ -5,7 +5,7 @@ use Rattle.std.specs.Str.{bytes_eq}
 use Rattle.std.proofs.lemmas.Bool.Decides.{nat_tests}
 use Rattle.farm_base.specs.declared.faults.ApplyFault.{ApplyFault}
 use Rattle.plain_data.specs.Features.{Feature, Layer}
-use Rattle.plain_data.specs.Data.{Change, has_id, ids_of, without_ids, last_put, puts_in_place, put_features, with_change, changed_layer, layers_after, change_fault, unless, changed_from, update_result}
+use Rattle.plain_data.specs.Data.{Change, has_id, ids_of, without_ids, last_put, puts_in_place, put_features, with_change, changed_layer, layers_after, change_fault, unless_refused, changed_from, update_result}
 use Rattle.farm_history.specs.Lists.{Each}
 use Rattle.farm_history.proofs.Lists.{each-join, each-over, each-filter, each-map, filter-append, filter-agree, filter-filter, filter-none}
 use Rattle.farm_plan.specs.Drawings.{features_in, names_id, named_by, named}
@@ -145,7 +145,7 @@ changed_from_same q place [] layers new is off name = let same : layers ≡ new 
 changed_from_same q place (c ∷ later) layers new is off name =
     go (change_fault place c layers) is (λ e. changed_from_same q (place + 1) later (layers_after c layers) new e (still_off q c layers later off.0.puts off.1) name)
   where
-    go : (o : Option ApplyFault) → unless o (changed_from (place + 1) later (layers_after c layers)) ≡ Ok new →
+    go : (o : Option ApplyFault) → unless_refused o (changed_from (place + 1) later (layers_after c layers)) ≡ Ok new →
         (changed_from (place + 1) later (layers_after c layers) ≡ Ok new → filter q (features_in new name) ≡ filter q (features_in (layers_after c layers) name)) →
         filter q (features_in new name) ≡ filter q (features_in layers name)
     go (Some fault) never ih = let e : Err fault ≡ Ok new = never in cc

@@ -2,7 +2,7 @@
 use Rattle.std.proofs.Common.{◌≡◌, ℕ, zero, suc, Bool, true, false, ◌&&◌, nat_lt, Option, Some, None, List, refl, ap, ◌∙◌, [], ◌∷◌, ◌++◌, cond, filter, append-nil, lit<, lit≤, arith, ◌<◌, subst, slice_get, option_map}
 use Rattle.std.proofs.lemmas.Bool.Decides.{nat_tests}
 use Rattle.farm_history.specs.declared.keys.Key.{Key}
-use Rattle.farm_history.specs.Plans.{same_key, key_of, map_of, tile_of, is_at_most, greatest_zoom, is_servable, overlaps, is_style_of, next}
+use Rattle.farm_history.specs.Plans.{same_key, key_of, map_of, spot_tile, is_at_most, greatest_zoom, is_servable, overlaps, is_style_of, next}
 use Rattle.farm_history.specs.Past.{is_stopped, data_after, style_after, flights, jobs, claimed_keys, shown, is_touched_after, waiting, numbers, open_asks, is_ended_after, replies_to, asks_made, done_asks, stored_drawings}
 use Rattle.farm_history.specs.Rules.{answer_of_waiting, answer_by, Fits, Legal}
 use Rattle.farm_history.specs.Laws.{has_plain_update, IsLocal}
@@ -106,7 +106,7 @@ not_told known n k false past unreached =
 pub renewed_local : IsLocal renewed
 unfolding renewed is_servable
 renewed_local spot style known n servable unreached =
-    ap (bytes_of (map_of spot) style (tile_of spot)) (not_told known n (key_of spot) (nat_lt 18 spot.z) (not_past spot.map spot.z _ servable) unreached)
+    ap (bytes_of (map_of spot) style (spot_tile spot)) (not_told known n (key_of spot) (nat_lt 18 spot.z) (not_past spot.map spot.z _ servable) unreached)
 
 pub renewed_only : has_plain_update renewed_one ≡ false
 unfolding renewed_one two_drawn has_plain_update

@@ -19,9 +19,9 @@ use Rattle.plain_data.specs.Reach.{Reaches, feature_reaches}
 use Rattle.plain_drawing.specs.Styles.{Style, LayerRef, MapStyle, KeepsRanges}
 use Rattle.plain_drawing.specs.Grids.{Grid}
 use Rattle.plain_drawing.specs.Rules.{denominator_of, is_active}
-use Rattle.plain_drawing.specs.Drawing.{tile_of, feature, features_of, grid_or_features, items_of, style_named}
+use Rattle.plain_drawing.specs.Drawing.{drawn_tile, feature, features_of, grid_or_features, items_of, style_named}
 use Rattle.plain_drawing.specs.inner.Pictures.{with_item, with_style, with_layer, with_map}
-use Rattle.plain_drawing.proofs.Steps.{one_colour, drawn_tile}
+use Rattle.plain_drawing.proofs.Steps.{one_colour, drawn_as_tile}
 use Rattle.drawing_reach.proofs.Edges.{by_edges}
 use Rattle.drawing_reach.proofs.Unreached.{unreached}
 use Rattle.std.proofs.lemmas.List.Elements.{recursion_from_All}
@@ -119,10 +119,10 @@ tile_text : MapStyle → ℕ → Tile → Pixels → List ℕ
 tile_text style size t p = ppm p.cols p.rows p.pixels
 
 tile_drawn : (style : MapStyle) (size : ℕ) (t : Tile) (a : List Layer) →
-    tile_text style size t (with_map (window_of t size) (denominator_of t.z size) style a (one_colour (window_of t size) style.background_color)) ≡ tile_of style size t a
+    tile_text style size t (with_map (window_of t size) (denominator_of t.z size) style a (one_colour (window_of t size) style.background_color)) ≡ drawn_tile style size t a
 unfolding tile_text
 tile_drawn style size t a =
-    drawn_tile style size t a (window_of t size) (denominator_of t.z size) (one_colour (window_of t size) style.background_color)
+    drawn_as_tile style size t a (window_of t size) (denominator_of t.z size) (one_colour (window_of t size) style.background_color)
     (with_map (window_of t size) (denominator_of t.z size) style a (one_colour (window_of t size) style.background_color)) _ refl refl refl refl refl
 
 pub same_tile : LawLocal
@@ -232,7 +232,7 @@ styled_ranged plan place mp (Some n) ranged is = go (slice_get plan.restyles n) 
 -- an update that names no feature which reaches the metatile leaves the metatile's tiles
 updated_tile : (style : MapStyle) (size : ℕ) (t : Tile) (changes : List Change) (layers : List Layer) (result : Result (List Layer) ApplyFault) → IsRanged style → IsTileSize size → IsTile t →
     update_result changes layers ≡ result → any_reaches (named layers changes) size (meta_of t) ≡ false →
-    tile_of style size t (kept_or layers result) ≡ tile_of style size t layers
+    drawn_tile style size t (kept_or layers result) ≡ drawn_tile style size t layers
 updated_tile style size t changes layers (Err fault) ranged sizes tile is off = refl
 updated_tile style size t changes layers (Ok new) ranged sizes tile is off =
     same_tile style size t new layers ranged sizes tile
@@ -250,12 +250,12 @@ pub local : LawUpdatesLocal
 unfolding plan_of reaches_of
 local plan valid ranged spot styled numbers n servable off =
     let s = spot_of plan spot valid servable in
-    let t = plans.tile_of spot in
+    let t = plans.spot_tile spot in
     let layers = data_of plan numbers in
     let style = styled_as plan s.map styled in
     let far : any_reaches (named layers (update_of plan n)) s.map.tile (meta_of t) ≡ false =
     sym (ap (λ (o : Option MapPlan). any_reaches_map (named layers (update_of plan n)) o (meta_of t)) s.is_map) ∙ off in
     ap (λ (o : Option MapPlan). tile_in plan o styled t (data_of plan (numbers ++ n ∷ []))) s.is_map
-    ∙ ap (tile_of style s.map.tile t) (data_more plan numbers n)
+    ∙ ap (drawn_tile style s.map.tile t) (data_more plan numbers n)
     ∙ updated_tile style s.map.tile t (update_of plan n) layers (update_result (update_of plan n) layers) (styled_ranged plan (map_of spot) s.map styled ranged s.is_map) s.valid.sized s.tile refl far
     ∙ sym (ap (λ (o : Option MapPlan). tile_in plan o styled t layers) s.is_map)

@@ -3,7 +3,7 @@ use Rattle.std.proofs.Common.{◌≡◌, ℕ, true, List, [], ◌∷◌, Option,
 use Rattle.farm_history.specs.declared.asks.Spot.{Spot}
 use Rattle.farm_history.specs.declared.answers.Fetched.{Fetched}
 use Rattle.farm_history.specs.Entries.{Entry, Fetch, EachMoment}
-use Rattle.farm_history.specs.Plans.{tile_of, map_of, is_servable}
+use Rattle.farm_history.specs.Plans.{spot_tile, map_of, is_servable}
 use Rattle.farm_history.specs.Past.{data_after, style_after, drawn_after}
 use Rattle.farm_history.specs.Rules.{Fits, Legal}
 use Rattle.farm_history.specs.Laws.{NowAt}
@@ -22,7 +22,7 @@ drawn_now plan g spot bytes valid servable e =
     record {
       map = s.map;
       is_map = s.is_map;
-      bytes_are = e ∙ ap (λ (o : Option MapPlan). tile_in plan o (style_after (plan_of plan) g (map_of spot)) (tile_of spot) (data_of plan (data_after g))) s.is_map;
+      bytes_are = e ∙ ap (λ (o : Option MapPlan). tile_in plan o (style_after (plan_of plan) g (map_of spot)) (spot_tile spot) (data_of plan (data_after g))) s.is_map;
     }
 
 each_now : (plan : FarmPlan) (h : List Entry) → IsPlan plan → Legal (plan_of plan) true h → EachMoment (NowAt (plan_of plan)) h → EachMoment (IsSentNow plan) h

@@ -9,7 +9,7 @@ use Rattle.plain_drawing.specs.Drawing as drawing
 use Rattle.farm_history.specs.declared.asks.Spot.{Spot}
 use Rattle.farm_history.specs.declared.answers.Fetched.{Fetched}
 use Rattle.farm_history.specs.Entries.{Entry, Fetch, EachMoment}
-use Rattle.farm_history.specs.Plans.{tile_of, map_of}
+use Rattle.farm_history.specs.Plans.{spot_tile, map_of}
 use Rattle.farm_history.specs.Past.{data_after, style_after}
 use Rattle.farm_history.specs.Rules.{Legal}
 use Rattle.farm_history.specs.Laws.{IsLocal, has_plain_update}
@@ -27,14 +27,14 @@ AreAlikeNear size t a b = (name : List ℕ) → reaching size t (features_in a n
 -- Data whose layers have, name by name, the same features that reach a tile draw the same tile, in every style whose symbolizers keep their ranges
 abbrev pub LawLocal : Type 0
 LawLocal = (style : MapStyle) (size : ℕ) (t : Tile) (a b : List Layer) → IsRanged style → IsTileSize size → IsTile t →
-    AreAlikeNear size t a b → drawing.tile_of style size t a ≡ drawing.tile_of style size t b
+    AreAlikeNear size t a b → drawing.drawn_tile style size t a ≡ drawing.drawn_tile style size t b
 
 -- A feature that does not reach a tile changes no byte of it, wherever it stands in its layer
 abbrev pub LawPassedOver : Type 0
 LawPassedOver = (style : MapStyle) (size : ℕ) (t : Tile) (below above : List Layer) (name : List ℕ) (before after : List Feature) (f : Feature) →
     IsRanged style → IsTileSize size → IsTile t → feature_reaches f size t.z (tile_square t) ≡ false →
-    drawing.tile_of style size t (below ++ record { name = name; features = before ++ f ∷ after } ∷ above)
-    ≡ drawing.tile_of style size t (below ++ record { name = name; features = before ++ after } ∷ above)
+    drawing.drawn_tile style size t (below ++ record { name = name; features = before ++ f ∷ after } ∷ above)
+    ≡ drawing.drawn_tile style size t (below ++ record { name = name; features = before ++ after } ∷ above)
 
 -- The drawing of each valid plan is local: an update that names no feature which reaches a metatile, old or new, changes no byte of its tiles
 abbrev pub LawUpdatesLocal : Type 0
@@ -44,7 +44,7 @@ LawUpdatesLocal = (plan : FarmPlan) → IsPlan plan → AreRanged plan → IsLoc
 pub record IsDrawnNow (plan : FarmPlan) (g : List Entry) (spot : Spot) (bytes : List ℕ) : Type 0 where
   pub map : MapPlan
   pub is_map : slice_get plan.maps (map_of spot) ≡ Some map
-  pub bytes_are : bytes ≡ drawing.tile_of (styled_as plan map (style_after (plan_of plan) g (map_of spot))) map.tile (tile_of spot) (data_of plan (data_after g))
+  pub bytes_are : bytes ≡ drawing.drawn_tile (styled_as plan map (style_after (plan_of plan) g (map_of spot))) map.tile (spot_tile spot) (data_of plan (data_after g))
 
 -- where the entry sends a tile as clean, its bytes are its plain drawing at that moment
 abbrev pub IsSentNow : FarmPlan → List Entry → Entry → Type 0

@@ -7,7 +7,7 @@ use Rattle.std.proofs.lemmas.List.Elements.{All-get_or}
 use Rattle.plain_world.specs.World.{IsMeta, meta_of}
 use Rattle.farm_history.specs.declared.keys.Key.{Key}
 use Rattle.farm_history.specs.declared.asks.Spot.{Spot}
-use Rattle.farm_history.specs.Plans.{tile_of, key_of, is_servable, is_at_most}
+use Rattle.farm_history.specs.Plans.{spot_tile, key_of, is_servable, is_at_most}
 use Rattle.farm_history.specs.Replays.{lowest}
 use Rattle.farm_history.proofs.Keyed.{IsServed}
 use Rattle.farm_plan.specs.Plans.{MapPlan, FarmPlan, IsMapPlan, IsPlan}
@@ -51,7 +51,7 @@ spot_of plan spot valid h = go spot.map spot.z spot.x spot.y h
         }
 
 -- the metatile of a tile is one
-pub meta_is : (plan : FarmPlan) (spot : Spot) → IsSpotOf plan spot → IsMeta (meta_of (tile_of spot))
+pub meta_is : (plan : FarmPlan) (spot : Spot) → IsSpotOf plan spot → IsMeta (meta_of (spot_tile spot))
 meta_is plan spot s =
     let t = s.tile in
     record {

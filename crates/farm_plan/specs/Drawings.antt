@@ -87,7 +87,7 @@ styled_as plan mp (Some n) = style_or mp.style (slice_get plan.restyles n)
 -- a map's tile in the style of that number, which is the plain drawing; nothing without a map
 abbrev pub tile_in : FarmPlan → Option MapPlan → Option ℕ → Tile → List Layer → List ℕ
 tile_in plan None styled t layers = []
-tile_in plan (Some mp) styled t layers = drawing.tile_of (styled_as plan mp styled) mp.tile t layers
+tile_in plan (Some mp) styled t layers = drawing.drawn_tile (styled_as plan mp styled) mp.tile t layers
 
 -- a map's metatile in the style of that number: the container of its tiles' plain drawings; nothing without a map
 abbrev pub meta_in : FarmPlan → Option MapPlan → Option ℕ → Meta → List Layer → List ℕ

@@ -3,7 +3,7 @@ use Rattle.std.specs.Prelude.{◌≡◌, slice_get, Some}
 use Rattle.plain_world.specs.World.{IsTile, IsMeta}
 use Rattle.farm_history.specs.declared.keys.Key.{Key}
 use Rattle.farm_history.specs.declared.asks.Spot.{Spot}
-use Rattle.farm_history.specs.Plans.{tile_of, map_of}
+use Rattle.farm_history.specs.Plans.{spot_tile, map_of}
 use Rattle.farm_plan.specs.Plans.{MapPlan, FarmPlan, IsMapPlan}
 
 -- a key of the plan: a map of it, and a metatile
@@ -18,4 +18,4 @@ pub record IsSpotOf (plan : FarmPlan) (spot : Spot) : Type 0 where
   pub map : MapPlan
   pub is_map : slice_get plan.maps (map_of spot) ≡ Some map
   pub valid : IsMapPlan map
-  pub tile : IsTile (tile_of spot)
+  pub tile : IsTile (spot_tile spot)

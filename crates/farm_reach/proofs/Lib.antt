@@ -1,5 +1,5 @@
 pub mod Adding
 pub mod Naming
-pub mod Soiled
+pub mod Dirtied
 pub mod Reached
 pub mod Valid

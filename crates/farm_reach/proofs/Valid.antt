@@ -10,7 +10,7 @@ use Rattle.std.proofs.lemmas.List.Elements.{recursion_from_All, All-from_recursi
 use Rattle.std.proofs.lemmas.Map.Keys.{IsDistinct-head, IsDistinct-tail, IsDistinct-cons}
 use Rattle.farm_base.specs.declared.faults.ApplyFault.{ApplyFault}
 use Rattle.plain_data.specs.Features.{Feature, Layer}
-use Rattle.plain_data.specs.Data.{Change, has_id, ids_of, without_ids, last_put, puts_in_place, put_features, with_change, first_missing, is_too_many, removal_or_put, features_fault, layer_named, fault_at, change_fault, changed_layer, layers_after, unless, changed_from, update_result, IsLayer}
+use Rattle.plain_data.specs.Data.{Change, has_id, ids_of, without_ids, last_put, puts_in_place, put_features, with_change, first_missing, is_too_many, removal_or_put, features_fault, layer_named, fault_at, change_fault, changed_layer, layers_after, unless_refused, changed_from, update_result, IsLayer}
 use Rattle.plain_data.specs.Limits.{most_features}
 use Rattle.farm_plan.specs.Plans.{FarmPlan}
 use Rattle.farm_plan.specs.Drawings.{update_of, kept_or, data_step, data_of}
@@ -121,7 +121,7 @@ unfolding changed_from
 valid_from place [] old new each is = let same : old ≡ new = cc in subst (AllByRecursion IsLayer) same each
 valid_from place (c ∷ later) old new each is = go (change_fault place c old) refl is (λ valid done. valid_from (place + 1) later (layers_after c old) new valid done)
   where
-    go : (o : Option ApplyFault) → change_fault place c old ≡ o → unless o (changed_from (place + 1) later (layers_after c old)) ≡ Ok new → (AllByRecursion IsLayer (layers_after c old) → changed_from (place + 1) later (layers_after c old) ≡ Ok new → AllByRecursion IsLayer new) → AllByRecursion IsLayer new
+    go : (o : Option ApplyFault) → change_fault place c old ≡ o → unless_refused o (changed_from (place + 1) later (layers_after c old)) ≡ Ok new → (AllByRecursion IsLayer (layers_after c old) → changed_from (place + 1) later (layers_after c old) ≡ Ok new → AllByRecursion IsLayer new) → AllByRecursion IsLayer new
     go (Some fault) e done rest = cc
     go None e done rest = rest (all_layers place c old each e) done
 

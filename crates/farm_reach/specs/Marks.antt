@@ -6,7 +6,7 @@ use Rattle.geo_model.specs.declared.bounds.Bounds.{Bounds}
 use Rattle.reach_box.specs.Boxes.{reach_of}
 use Rattle.expiry_lists.specs.declared.boxes.Rectangle.{Rectangle}
 use Rattle.expiry_lists.specs.Boxes.{rectangle, holds_some}
-use Rattle.expiry_lists.specs.Marks.{Shown, soil_marks, clean_marks}
+use Rattle.expiry_lists.specs.Marks.{Shown, dirtied_marks, clean_marks}
 use Rattle.farm_history.specs.declared.keys.Key.{Key}
 use Rattle.farm_plan.specs.Plans.{MapPlan}
 
@@ -33,5 +33,5 @@ most_told = 2 ^ 64 - 1
 
 -- the marks after an expiry of the keys that pass the test, and how many were clean, as far as that can be told
 pub record Expires (test : Key → Bool) (old new : List Shown) (count : ℕ) : Type 0 where
-  pub shown : new ≡ soil_marks test old
+  pub shown : new ≡ dirtied_marks test old
   pub count_is : count ≡ min (clean_marks test old) most_told

@@ -3,7 +3,7 @@
 #![tactic(auto)]
 
 mod boxes;
-mod soils;
+mod dirties;
 
 pub use boxes::{boxes_reach, named_boxes};
-pub use soils::soil_maps;
+pub use dirties::mark_maps_dirty;

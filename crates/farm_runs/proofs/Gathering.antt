@@ -6,8 +6,8 @@ use Rattle.farm_history.specs.Lists.{Each}
 use Rattle.turn_cell.specs.Turns.{by, HasJoined}
 use Rattle.turn_cell.specs.SeatStates.{Made, SeatState}
 use Rattle.render_workers.specs.declared.worker.WorkEnd.{WorkEnd}
-use Rattle.farm_threads.specs.declared.crew.Actor.{Actor}
-use Rattle.farm_runs.specs.Promise.{is_worn}
+use Rattle.farm_threads.specs.declared.pool.Actor.{Actor}
+use Rattle.farm_runs.specs.Promise.{is_worker_worn}
 use Rattle.farm_runs.specs.inner.Chain.{first_seat_after, notes, Numbered, ends_in, IsSpent}
 
 -- of each joined number the history has just its entries
@@ -23,55 +23,55 @@ pub each_right : {X : Type 0} (P : X → Type 0) (xs ys : List X) → Each P (xs
 each_right P [] ys each = each
 each_right P (x ∷ xs) ys each = each_right P xs ys each.1
 
-ended_worn : (end : Option WorkEnd) → is_worn end ≡ true → end ≡ Some WorkEnd.Worn
+ended_worn : (end : Option WorkEnd) → is_worker_worn end ≡ true → end ≡ Some WorkEnd.Worn
 ended_worn (Some WorkEnd.Worn) is = refl
 ended_worn (Some WorkEnd.Stopped) is = cc
 ended_worn None is = cc
 
 module _ {T : Type 0} where
-  pub gathered_number : (v : SeatState T Entry) (crew : List (Actor (SeatState T Entry))) → (first_seat_after v crew).number ≡ v.number
+  pub gathered_number : (v : SeatState T Entry) (pool : List (Actor (SeatState T Entry))) → (first_seat_after v pool).number ≡ v.number
   gathered_number v [] = refl
   gathered_number v (a ∷ rest) = gathered_number v rest
 
-  pub gathered_mine : (v : SeatState T Entry) (crew : List (Actor (SeatState T Entry))) → (first_seat_after v crew).mine ≡ v.mine
+  pub gathered_mine : (v : SeatState T Entry) (pool : List (Actor (SeatState T Entry))) → (first_seat_after v pool).mine ≡ v.mine
   gathered_mine v [] = refl
   gathered_mine v (a ∷ rest) = gathered_mine v rest
 
-  pub gathered_first : (v : SeatState T Entry) (crew : List (Actor (SeatState T Entry))) → (first_seat_after v crew).first ≡ v.first
+  pub gathered_first : (v : SeatState T Entry) (pool : List (Actor (SeatState T Entry))) → (first_seat_after v pool).first ≡ v.first
   gathered_first v [] = refl
   gathered_first v (a ∷ rest) = gathered_first v rest
 
-  pub gathered_splits : (v : SeatState T Entry) (crew : List (Actor (SeatState T Entry))) → (first_seat_after v crew).splits ≡ v.splits
+  pub gathered_splits : (v : SeatState T Entry) (pool : List (Actor (SeatState T Entry))) → (first_seat_after v pool).splits ≡ v.splits
   gathered_splits v [] = refl
   gathered_splits v (a ∷ rest) = gathered_splits v rest
 
-  pub gathered_joined : (v : SeatState T Entry) (crew : List (Actor (SeatState T Entry))) → (first_seat_after v crew).joined ≡ v.joined ++ notes crew
+  pub gathered_joined : (v : SeatState T Entry) (pool : List (Actor (SeatState T Entry))) → (first_seat_after v pool).joined ≡ v.joined ++ notes pool
   gathered_joined v [] = sym (append-nil v.joined)
   gathered_joined v (a ∷ rest) = ap (λ l. l ++ (a.seat.number, a.seat.mine) ∷ []) (gathered_joined v rest) ∙ append_assoc v.joined (notes rest) ((a.seat.number, a.seat.mine) ∷ [])
 
-  pub notes_length : (crew : List (Actor (SeatState T Entry))) → length (notes crew) ≡ length crew
+  pub notes_length : (pool : List (Actor (SeatState T Entry))) → length (notes pool) ≡ length pool
   notes_length [] = refl
   notes_length (a ∷ rest) = let long = length-append (notes rest) ((a.seat.number, a.seat.mine) ∷ []) in let ih = notes_length rest in omega arith
 
   -- marks are passed on
-  pub gathered_mark : (v : SeatState T Entry) (crew : List (Actor (SeatState T Entry))) → v.worn ≡ true → (first_seat_after v crew).worn ≡ true
+  pub gathered_mark : (v : SeatState T Entry) (pool : List (Actor (SeatState T Entry))) → v.worn ≡ true → (first_seat_after v pool).worn ≡ true
   gathered_mark v [] mark = mark
   gathered_mark v (a ∷ rest) mark = ap (λ b. b || a.seat.worn) (gathered_mark v rest mark)
 
-  pub crew_mark : (made : Made T) (v : SeatState T Entry) (crew : List (Actor (SeatState T Entry))) → Each (IsSpent made) crew → list_any is_worn (ends_in crew) ≡ true → (first_seat_after v crew).worn ≡ true
-  crew_mark made v [] each any = cc
-  crew_mark made v (a ∷ rest) each any = go (is_worn a.end) refl (crew_mark made v rest each.1) any
+  pub pool_mark : (made : Made T) (v : SeatState T Entry) (pool : List (Actor (SeatState T Entry))) → Each (IsSpent made) pool → list_any is_worker_worn (ends_in pool) ≡ true → (first_seat_after v pool).worn ≡ true
+  pool_mark made v [] each any = cc
+  pool_mark made v (a ∷ rest) each any = go (is_worker_worn a.end) refl (pool_mark made v rest each.1) any
     where
       right : (b c : Bool) → c ≡ true → (b || c) ≡ true
       right true c is = refl
       right false c is = is
 
-      go : (b : Bool) → is_worn a.end ≡ b → (list_any is_worn (ends_in rest) ≡ true → (first_seat_after v rest).worn ≡ true) → (b || list_any is_worn (ends_in rest)) ≡ true → ((first_seat_after v rest).worn || a.seat.worn) ≡ true
+      go : (b : Bool) → is_worker_worn a.end ≡ b → (list_any is_worker_worn (ends_in rest) ≡ true → (first_seat_after v rest).worn ≡ true) → (b || list_any is_worker_worn (ends_in rest)) ≡ true → ((first_seat_after v rest).worn || a.seat.worn) ≡ true
       go true is ih any = right (first_seat_after v rest).worn a.seat.worn (each.0.worn (ended_worn a.end is))
       go false is ih any = ap (λ b. b || a.seat.worn) (ih any)
 
   -- what is noted of each worker is so of it
-  pub each_noted : (log : List (ℕ × Entry)) (crew : List (Actor (SeatState T Entry))) → Each (λ p. by p.0 log ≡ p.1) (notes crew) → Each (λ a. by a.seat.number log ≡ a.seat.mine) crew
+  pub each_noted : (log : List (ℕ × Entry)) (pool : List (Actor (SeatState T Entry))) → Each (λ p. by p.0 log ≡ p.1) (notes pool) → Each (λ a. by a.seat.number log ≡ a.seat.mine) pool
   each_noted log [] each = tt
   each_noted log (a ∷ rest) each =
       ((each_right _ (notes rest) ((a.seat.number, a.seat.mine) ∷ []) each).0, each_noted log rest (each_left _ (notes rest) ((a.seat.number, a.seat.mine) ∷ []) each))
@@ -84,7 +84,7 @@ module _ {T : Type 0} where
     pub end_is : actor.end ≡ end
     pub holds : Q actor
 
-  pub at_place : (Q : Actor (SeatState T Entry) → Type 0) (k w : ℕ) (end : Option WorkEnd) (crew : List (Actor (SeatState T Entry))) → Numbered k crew → Each Q crew → slice_get (ends_in crew) w ≡ Some end → IsAt Q (k + w) end
+  pub at_place : (Q : Actor (SeatState T Entry) → Type 0) (k w : ℕ) (end : Option WorkEnd) (pool : List (Actor (SeatState T Entry))) → Numbered k pool → Each Q pool → slice_get (ends_in pool) w ≡ Some end → IsAt Q (k + w) end
   at_place Q k w end [] numbered each is = cc
   at_place Q k zero end (a ∷ rest) numbered each is = record {
     actor = a;
@@ -95,8 +95,8 @@ module _ {T : Type 0} where
   }
   at_place Q k (suc w) end (a ∷ rest) numbered each is = subst (λ n. IsAt Q n end) (let e : (k + 1) + w ≡ k + suc w = omega arith in e) (at_place Q (k + 1) w end rest numbered.2 each.1 is)
 
-  -- of a worker's number, that of one of the crew
-  pub at_number : (Q : Actor (SeatState T Entry) → Type 0) (k w : ℕ) (crew : List (Actor (SeatState T Entry))) → Numbered k crew → Each Q crew → w < length crew → (end : Option WorkEnd) × IsAt Q (k + w) end
+  -- of a worker's number, that of one of the pool
+  pub at_number : (Q : Actor (SeatState T Entry) → Type 0) (k w : ℕ) (pool : List (Actor (SeatState T Entry))) → Numbered k pool → Each Q pool → w < length pool → (end : Option WorkEnd) × IsAt Q (k + w) end
   at_number Q k w [] numbered each lt = absurd (omega arith)
   at_number Q k zero (a ∷ rest) numbered each lt = (a.end, at_place Q k zero a.end (a ∷ rest) numbered each refl)
   at_number Q k (suc w) (a ∷ rest) numbered each lt =

@@ -26,14 +26,14 @@ use Rattle.render_workers.specs.declared.worker.WorkEnd.{WorkEnd}
 use Rattle.farm_headline.specs.Headline.{Headline}
 use Rattle.farm_headline.proofs.Sentences.{headline}
 use Rattle.farm_threads.specs.declared.each_front.EachFront.{EachFront}
-use Rattle.farm_threads.specs.declared.crew.Actor.{Actor}
-use Rattle.farm_threads.specs.Actors.{Leaving, AreOfFront, WorkBy, with_posts}
-use Rattle.farm_runs.specs.Promise.{Ends, own_entries, is_worn, AreSeated, IsServed, AreWorked, IsStop, RunsWell}
+use Rattle.farm_threads.specs.declared.pool.Actor.{Actor}
+use Rattle.farm_threads.specs.Actors.{Leaving, AreOfFront, WorkBy, with_front_seats}
+use Rattle.farm_runs.specs.Promise.{Ends, own_entries, is_worker_worn, AreSeated, IsServed, AreWorked, IsStop, RunsWell}
 use Rattle.farm_runs.specs.inner.Chain.{first_seat_after, notes, ends_in, IsTally, HasLeft, IsSpent, Ran}
 use Rattle.farm_runs.proofs.Settling.{gives, Settled, landed}
 use Rattle.farm_runs.proofs.Owners.{quiet, front_settled, own_settled, worker_settled, is_stop, worker_unstopped}
 use Rattle.farm_runs.proofs.Stopping.{ends_front, never_stops, OwnStop, own_stop}
-use Rattle.farm_runs.proofs.Gathering.{each_joined, each_right, gathered_number, gathered_mine, gathered_first, gathered_splits, gathered_joined, gathered_mark, crew_mark, each_noted, IsAt, at_place}
+use Rattle.farm_runs.proofs.Gathering.{each_joined, each_right, gathered_number, gathered_mine, gathered_first, gathered_splits, gathered_joined, gathered_mark, pool_mark, each_noted, IsAt, at_place}
 
 -- every entry that a front leaves is a front's
 abbrev pub IsFronts : ℕ → Leaving → Type 0
@@ -85,110 +85,110 @@ module _ {D : Type 0} (state : D → Outside StoreTold) (made : Made (Turned D))
   tally_last u h None a zero_is is same = cc
 
   -- What is known at the end: the last seat h, and all before it.
-  pub record Chain (leaves leaves' leaves'' : Leaving) (start own h : Sat) (crew : List (Actor Sat)) (told told' : EachFront (Outside PortsTold)) (done : EachFront FrontDone) (worn stopped : Bool) (tally : Option Totals) (farm : FarmSeen D) : Type 0 where
+  pub record Chain (leaves leaves' leaves'' : Leaving) (start own h : Sat) (pool : List (Actor Sat)) (told told' : EachFront (Outside PortsTold)) (done : EachFront FrontDone) (worn stopped : Bool) (tally : Option Totals) (farm : FarmSeen D) : Type 0 where
     pub limit : made.about.limit ≡ 2 ^ 62
-    pub as_many : length crew ≡ made.about.first.value.farm.plan.workers
-    pub ran : Ran made leaves leaves' leaves'' start own crew told told' done stopped
-    pub worn_is : worn ≡ list_any is_worn (ends_in crew)
+    pub as_many : length pool ≡ made.about.first.value.farm.plan.workers
+    pub ran : Ran made leaves leaves' leaves'' start own pool told told' done stopped
+    pub worn_is : worn ≡ list_any is_worker_worn (ends_in pool)
     pub kinds : IsFronts 0 leaves
     pub kinds' : IsFronts 1 leaves'
     pub kinds'' : IsFronts 2 leaves''
-    pub longer : StartsWith (first_seat_after own crew).seen own.seen
-    pub tallies : IsTally tally (first_seat_after own crew) h
-    pub same : SameSeat (first_seat_after own crew) h
+    pub longer : StartsWith (first_seat_after own pool).seen own.seen
+    pub tallies : IsTally tally (first_seat_after own pool) h
+    pub same : SameSeat (first_seat_after own pool) h
     pub known : Knows h
     pub closed : IsClosed state made.about.limit made.about.first.value.farm h farm
 
-  module _ (leaves leaves' leaves'' : Leaving) (start own h : Sat) (crew : List (Actor Sat)) (told told' : EachFront (Outside PortsTold)) (done : EachFront FrontDone) (worn stopped : Bool) (tally : Option Totals) (farm : FarmSeen D)
-      (c : Chain leaves leaves' leaves'' start own h crew told told' done worn stopped tally farm) where
+  module _ (leaves leaves' leaves'' : Leaving) (start own h : Sat) (pool : List (Actor Sat)) (told told' : EachFront (Outside PortsTold)) (done : EachFront FrontDone) (worn stopped : Bool) (tally : Option Totals) (farm : FarmSeen D)
+      (c : Chain leaves leaves' leaves'' start own h pool told told' done worn stopped tally farm) where
     abbrev ends_are : Ends
     ends_are = record { worn = worn; stopped = stopped; tally = tally }
 
     abbrev before : Sat
-    before = with_posts start c.ran.posts
+    before = with_front_seats start c.ran.seats
 
     own_number : own.number ≡ 0
     own_number = c.ran.ended.same.0 ∙ c.ran.start_is.number
 
-    last_number : (first_seat_after own crew).number ≡ 0
-    last_number = gathered_number own crew ∙ own_number
+    last_number : (first_seat_after own pool).number ≡ 0
+    last_number = gathered_number own pool ∙ own_number
 
     -- the marks of a worn cell come to the last seat
     own_marked : own.worn ≡ true → h.worn ≡ true
-    own_marked mark = tally_mark (first_seat_after own crew) h tally c.tallies (gathered_mark own crew mark)
+    own_marked mark = tally_mark (first_seat_after own pool) h tally c.tallies (gathered_mark own pool mark)
 
     full : h.worn ≡ true → 2 ^ 62 ≤ length h.seen
     full mark = subst (λ n. n ≤ length h.seen) c.limit (c.closed.worn mark)
 
-    front_marked : (with_posts start c.ran.posts).worn ≡ true → 2 ^ 62 ≤ length h.seen
-    front_marked mark = full (own_marked (stop_mark (with_posts start c.ran.posts) own stopped c.ran.ended.stops mark))
+    front_marked : (with_front_seats start c.ran.seats).worn ≡ true → 2 ^ 62 ≤ length h.seen
+    front_marked mark = full (own_marked (stop_mark (with_front_seats start c.ran.seats) own stopped c.ran.ended.stops mark))
 
     -- whose the entries are
     own_by : by 0 h.seen ≡ h.mine
     own_by = subst (λ n. by n h.seen ≡ h.mine) (c.same.0 ∙ last_number) c.known.0
 
-    own_mine : plain (first_seat_after own crew).mine ≡ own_entries stopped None
-    own_mine = ap plain (gathered_mine own crew) ∙ stop_mine (with_posts start c.ran.posts) own stopped c.ran.start_is.unused c.ran.ended.stops
+    own_mine : plain (first_seat_after own pool).mine ≡ own_entries stopped None
+    own_mine = ap plain (gathered_mine own pool) ∙ stop_mine (with_front_seats start c.ran.seats) own stopped c.ran.start_is.unused c.ran.ended.stops
 
-    splits_are : h.splits ≡ 3 + length (ends_in crew)
-    splits_are = c.same.2 ∙ (gathered_splits own crew ∙ (c.ran.ended.same.2 ∙ (c.ran.start_is.splits ∙ ap (λ n. 3 + n) (sym (length-map crew (λ a. a.end))))))
+    splits_are : h.splits ≡ 3 + length (ends_in pool)
+    splits_are = c.same.2 ∙ (gathered_splits own pool ∙ (c.ran.ended.same.2 ∙ (c.ran.start_is.splits ∙ ap (λ n. 3 + n) (sym (length-map pool (λ a. a.end))))))
 
     is_first : h.first ≡ true
-    is_first = c.same.1 ∙ (gathered_first own crew ∙ (c.ran.ended.same.1 ∙ c.ran.start_is.is_first))
+    is_first = c.same.1 ∙ (gathered_first own pool ∙ (c.ran.ended.same.1 ∙ c.ran.start_is.is_first))
 
-    none_above : NoneAbove (3 + length (ends_in crew)) h.seen
+    none_above : NoneAbove (3 + length (ends_in pool)) h.seen
     none_above = subst (λ n. NoneAbove n h.seen) splits_are (c.known.2 is_first)
 
-    workers_are : length (ends_in crew) ≡ made.about.first.value.farm.plan.workers
-    workers_are = length-map crew (λ a. a.end) ∙ c.as_many
+    workers_are : length (ends_in pool) ≡ made.about.first.value.farm.plan.workers
+    workers_are = length-map pool (λ a. a.end) ∙ c.as_many
 
     seated : AreSeated made.about.first.value.farm.plan.workers ends_are h.seen
     seated = record {
-      own = ap plain own_by ∙ tally_mine (first_seat_after own crew) h stopped tally own_mine c.tallies;
+      own = ap plain own_by ∙ tally_mine (first_seat_after own pool) h stopped tally own_mine c.tallies;
       none_above = subst (λ n. NoneAbove (3 + n) h.seen) workers_are none_above;
-      unstopped = λ none. full (own_marked (unstopped_mark (with_posts start c.ran.posts) own stopped c.ran.ended.stops none));
-      untallied = λ none. full (lost_mark (first_seat_after own crew) h tally c.tallies none);
-      last = λ a is. tally_last (first_seat_after own crew) h tally a last_number c.tallies is;
+      unstopped = λ none. full (own_marked (unstopped_mark (with_front_seats start c.ran.seats) own stopped c.ran.ended.stops none));
+      untallied = λ none. full (lost_mark (first_seat_after own pool) h tally c.tallies none);
+      last = λ a is. tally_last (first_seat_after own pool) h tally a last_number c.tallies is;
     }
 
     -- what was joined
     abbrev fronts_joined : List (ℕ × List (ℕ × Entry))
-    fronts_joined = (c.ran.posts.renderd.number, c.ran.posts.renderd.mine) ∷ (c.ran.posts.tiles.number, c.ran.posts.tiles.mine) ∷ (c.ran.posts.control.number, c.ran.posts.control.mine) ∷ []
+    fronts_joined = (c.ran.seats.renderd.number, c.ran.seats.renderd.mine) ∷ (c.ran.seats.tiles.number, c.ran.seats.tiles.mine) ∷ (c.ran.seats.control.number, c.ran.seats.control.mine) ∷ []
 
-    joined_are : h.joined ≡ fronts_joined ++ notes crew
+    joined_are : h.joined ≡ fronts_joined ++ notes pool
     joined_are =
-        c.same.3 ∙ (gathered_joined own crew ∙ ap (λ l. l ++ notes crew) (c.ran.ended.same.3
-        ∙ ap (λ l. ((l ++ (c.ran.posts.renderd.number, c.ran.posts.renderd.mine) ∷ []) ++ (c.ran.posts.tiles.number, c.ran.posts.tiles.mine) ∷ []) ++ (c.ran.posts.control.number, c.ran.posts.control.mine) ∷ []) c.ran.start_is.unjoined))
+        c.same.3 ∙ (gathered_joined own pool ∙ ap (λ l. l ++ notes pool) (c.ran.ended.same.3
+        ∙ ap (λ l. ((l ++ (c.ran.seats.renderd.number, c.ran.seats.renderd.mine) ∷ []) ++ (c.ran.seats.tiles.number, c.ran.seats.tiles.mine) ∷ []) ++ (c.ran.seats.control.number, c.ran.seats.control.mine) ∷ []) c.ran.start_is.unjoined))
 
-    each_is : Each (λ p. by p.0 h.seen ≡ p.1) (fronts_joined ++ notes crew)
-    each_is = each_joined (fronts_joined ++ notes crew) h.seen (subst (λ l. HasJoined l h.seen) joined_are (c.known.1 is_first))
+    each_is : Each (λ p. by p.0 h.seen ≡ p.1) (fronts_joined ++ notes pool)
+    each_is = each_joined (fronts_joined ++ notes pool) h.seen (subst (λ l. HasJoined l h.seen) joined_are (c.known.1 is_first))
 
-    served : (n : ℕ) (l : Leaving) (t u : Outside PortsTold) (d : FrontDone) (post : Sat) → HasLeft made n l t u d post → by post.number h.seen ≡ post.mine → (post.worn ≡ true → 2 ^ 62 ≤ length h.seen) →
+    served : (n : ℕ) (l : Leaving) (t u : Outside PortsTold) (d : FrontDone) (front_seat : Sat) → HasLeft made n l t u d front_seat → by front_seat.number h.seen ≡ front_seat.mine → (front_seat.worn ≡ true → 2 ^ 62 ≤ length h.seen) →
         IsServed l t u d (plain (by n h.seen)) (length h.seen)
-    served n l t u d post left is mark = record {
-      worn = post.worn;
-      left = subst (λ es. l t u es d post.worn) (ap plain (sym is) ∙ ap (λ m. plain (by m h.seen)) left.number) left.left;
+    served n l t u d front_seat left is mark = record {
+      worn = front_seat.worn;
+      left = subst (λ es. l t u es d front_seat.worn) (ap plain (sym is) ∙ ap (λ m. plain (by m h.seen)) left.number) left.left;
       worn_out = mark;
     }
 
     renderd : IsServed leaves told.renderd told'.renderd done.renderd (plain (by 1 h.seen)) (length h.seen)
-    renderd = served 1 leaves told.renderd told'.renderd done.renderd c.ran.posts.renderd c.ran.renderd each_is.0
-        (λ mark. front_marked (or_left _ _ (or_left _ _ (or_right start.worn c.ran.posts.renderd.worn mark))))
+    renderd = served 1 leaves told.renderd told'.renderd done.renderd c.ran.seats.renderd c.ran.renderd each_is.0
+        (λ mark. front_marked (or_left _ _ (or_left _ _ (or_right start.worn c.ran.seats.renderd.worn mark))))
 
     tiles : IsServed leaves' told.tiles told'.tiles done.tiles (plain (by 2 h.seen)) (length h.seen)
-    tiles = served 2 leaves' told.tiles told'.tiles done.tiles c.ran.posts.tiles c.ran.tiles each_is.1.0
-        (λ mark. front_marked (or_left _ _ (or_right _ c.ran.posts.tiles.worn mark)))
+    tiles = served 2 leaves' told.tiles told'.tiles done.tiles c.ran.seats.tiles c.ran.tiles each_is.1.0
+        (λ mark. front_marked (or_left _ _ (or_right _ c.ran.seats.tiles.worn mark)))
 
     control : IsServed leaves'' told.control told'.control done.control (plain (by 3 h.seen)) (length h.seen)
-    control = served 3 leaves'' told.control told'.control done.control c.ran.posts.control c.ran.control each_is.1.1.0
-        (λ mark. front_marked (or_right _ c.ran.posts.control.worn mark))
+    control = served 3 leaves'' told.control told'.control done.control c.ran.seats.control c.ran.control each_is.1.1.0
+        (λ mark. front_marked (or_right _ c.ran.seats.control.worn mark))
 
     -- the workers
     abbrev IsDone : Actor Sat → Type 0
     IsDone a = IsSpent made a × (by a.seat.number h.seen ≡ a.seat.mine)
 
-    each_done : Each IsDone crew
-    each_done = each-both _ _ crew c.ran.spent (each_noted h.seen crew (each_right _ fronts_joined (notes crew) each_is))
+    each_done : Each IsDone pool
+    each_done = each-both _ _ pool c.ran.spent (each_noted h.seen pool (each_right _ fronts_joined (notes pool) each_is))
 
     work_at : (w : ℕ) (end : Option WorkEnd) → IsAt IsDone w end → WorkBy w end (plain (by (w + 4) h.seen))
     work_at w end at =
@@ -197,53 +197,53 @@ module _ {D : Type 0} (state : D → Outside StoreTold) (made : Made (Turned D))
         (subst (λ o. WorkBy w o (plain at.actor.seat.mine)) at.end_is
         (subst (λ n. WorkBy n at.actor.end (plain at.actor.seat.mine)) at.worker at.holds.0.work)))
 
-    at_zero : (w : ℕ) (end : Option WorkEnd) → slice_get (ends_in crew) w ≡ Some end → IsAt IsDone w end
-    at_zero w end is = subst (λ n. IsAt IsDone n end) (let e : 0 + w ≡ w = omega arith in e) (at_place IsDone 0 w end crew c.ran.numbered each_done is)
+    at_zero : (w : ℕ) (end : Option WorkEnd) → slice_get (ends_in pool) w ≡ Some end → IsAt IsDone w end
+    at_zero w end is = subst (λ n. IsAt IsDone n end) (let e : 0 + w ≡ w = omega arith in e) (at_place IsDone 0 w end pool c.ran.numbered each_done is)
 
     -- every seat settles its tickets where no worker ended worn
-    fine_at : (w : ℕ) (end : Option WorkEnd) (ends : List (Option WorkEnd)) → slice_get ends w ≡ Some end → list_any is_worn ends ≡ false → is_worn end ≡ false
+    fine_at : (w : ℕ) (end : Option WorkEnd) (ends : List (Option WorkEnd)) → slice_get ends w ≡ Some end → list_any is_worker_worn ends ≡ false → is_worker_worn end ≡ false
     fine_at w end [] is fine = cc
-    fine_at zero end (x ∷ ends) is fine = let same : x ≡ end = cc in subst (λ o. is_worn o ≡ false) same (grind arith)
+    fine_at zero end (x ∷ ends) is fine = let same : x ≡ end = cc in subst (λ o. is_worker_worn o ≡ false) same (grind arith)
     fine_at (suc w) end (x ∷ ends) is fine = fine_at w end ends is (grind arith)
 
-    worker_at : (w : ℕ) → list_any is_worn (ends_in crew) ≡ false → w < length (ends_in crew) → Settled (plain (by (w + 4) h.seen))
-    worker_at w fine lt = go (slice_get (ends_in crew) w) refl
+    worker_at : (w : ℕ) → list_any is_worker_worn (ends_in pool) ≡ false → w < length (ends_in pool) → Settled (plain (by (w + 4) h.seen))
+    worker_at w fine lt = go (slice_get (ends_in pool) w) refl
       where
-        go : (o : Option (Option WorkEnd)) → slice_get (ends_in crew) w ≡ o → Settled (plain (by (w + 4) h.seen))
-        go None is = absurd (let long = slice_get_long (ends_in crew) w is in omega arith)
-        go (Some end) is = worker_settled w end _ (fine_at w end (ends_in crew) is fine) (work_at w end (at_zero w end is))
+        go : (o : Option (Option WorkEnd)) → slice_get (ends_in pool) w ≡ o → Settled (plain (by (w + 4) h.seen))
+        go None is = absurd (let long = slice_get_long (ends_in pool) w is in omega arith)
+        go (Some end) is = worker_settled w end _ (fine_at w end (ends_in pool) is fine) (work_at w end (at_zero w end is))
 
-    beyond : (n : ℕ) → 3 + length (ends_in crew) < n → Settled (plain (by n h.seen))
+    beyond : (n : ℕ) → 3 + length (ends_in pool) < n → Settled (plain (by n h.seen))
     beyond n lt = quiet (plain (by n h.seen)) (λ t. ap (λ l. gives t (plain l)) (none_above n lt))
 
-    settled : list_any is_worn (ends_in crew) ≡ false → (n : ℕ) → Settled (plain (by n h.seen))
+    settled : list_any is_worker_worn (ends_in pool) ≡ false → (n : ℕ) → Settled (plain (by n h.seen))
     settled fine zero = subst Settled (sym seated.own) (own_settled stopped tally)
     settled fine (suc zero) = front_settled 0 _ done.renderd.end (c.kinds told.renderd told'.renderd _ done.renderd renderd.worn renderd.left)
     settled fine (suc (suc zero)) = front_settled 1 _ done.tiles.end (c.kinds' told.tiles told'.tiles _ done.tiles tiles.worn tiles.left)
     settled fine (suc (suc (suc zero))) = front_settled 2 _ done.control.end (c.kinds'' told.control told'.control _ done.control control.worn control.left)
-    settled fine (suc (suc (suc (suc w)))) = go (nat_lt w (length (ends_in crew))) refl
+    settled fine (suc (suc (suc (suc w)))) = go (nat_lt w (length (ends_in pool))) refl
       where
         same : w + 4 ≡ suc (suc (suc (suc w)))
         same = omega arith
 
-        go : (b : Bool) → nat_lt w (length (ends_in crew)) ≡ b → Settled (plain (by (suc (suc (suc (suc w)))) h.seen))
+        go : (b : Bool) → nat_lt w (length (ends_in pool)) ≡ b → Settled (plain (by (suc (suc (suc (suc w)))) h.seen))
         go true is = subst (λ n. Settled (plain (by n h.seen))) same (worker_at w fine (grind (arith, nat_tests)))
-        go false is = beyond (suc (suc (suc (suc w)))) (let ge : length (ends_in crew) ≤ w = grind (arith, nat_tests) in omega arith)
+        go false is = beyond (suc (suc (suc (suc w)))) (let ge : length (ends_in pool) ≤ w = grind (arith, nat_tests) in omega arith)
 
     untold : MayTell state (lasting_of state farm) false
     untold never = cc
 
-    none_flying : list_any is_worn (ends_in crew) ≡ false → flights (past (lasting_of state farm) h.seen) ≡ []
+    none_flying : list_any is_worker_worn (ends_in pool) ≡ false → flights (past (lasting_of state farm) h.seen) ≡ []
     none_flying fine =
         landed (plan_of farm.plan) false _ c.closed.after.begun.unflown h.seen (c.closed.after.each false untold).legal c.closed.after.seated (settled fine)
 
     worked : AreWorked made.about.first.value.farm.plan.workers worn h.seen (past (lasting_of state made.about.first.value.farm) h.seen)
     worked = record {
-      ended = ends_in crew;
+      ended = ends_in pool;
       as_many = workers_are;
       each = λ w end is. work_at w end (at_zero w end is);
       worn_is = c.worn_is;
-      worn_out = λ any. full (tally_mark (first_seat_after own crew) h tally c.tallies (crew_mark made own crew c.ran.spent (sym c.worn_is ∙ any)));
+      worn_out = λ any. full (tally_mark (first_seat_after own pool) h tally c.tallies (pool_mark made own pool c.ran.spent (sym c.worn_is ∙ any)));
       landed = λ fine. subst (λ l. flights (past l h.seen) ≡ []) c.closed.kept (none_flying (sym c.worn_is ∙ fine));
     }
 
@@ -251,19 +251,19 @@ module _ {D : Type 0} (state : D → Outside StoreTold) (made : Made (Turned D))
     before_joined : Each (λ p. by p.0 before.seen ≡ p.1) fronts_joined
     before_joined =
         each_joined fronts_joined before.seen
-        (subst (λ l. HasJoined l before.seen) (ap (λ l. ((l ++ (c.ran.posts.renderd.number, c.ran.posts.renderd.mine) ∷ []) ++ (c.ran.posts.tiles.number, c.ran.posts.tiles.mine) ∷ []) ++ (c.ran.posts.control.number, c.ran.posts.control.mine) ∷ []) c.ran.start_is.unjoined)
+        (subst (λ l. HasJoined l before.seen) (ap (λ l. ((l ++ (c.ran.seats.renderd.number, c.ran.seats.renderd.mine) ∷ []) ++ (c.ran.seats.tiles.number, c.ran.seats.tiles.mine) ∷ []) ++ (c.ran.seats.control.number, c.ran.seats.control.mine) ∷ []) c.ran.start_is.unjoined)
         (c.ran.ended.known_before.1 c.ran.start_is.is_first))
 
     -- all entries of the fronts had been seen before the run's own Stop
-    seen_all : (n : ℕ) (post : Sat) → post.number ≡ n → by post.number h.seen ≡ post.mine → by post.number before.seen ≡ post.mine → by n h.seen ≡ by n before.seen
-    seen_all n post is all then = subst (λ m. by m h.seen ≡ by m before.seen) is (all ∙ sym then)
+    seen_all : (n : ℕ) (front_seat : Sat) → front_seat.number ≡ n → by front_seat.number h.seen ≡ front_seat.mine → by front_seat.number before.seen ≡ front_seat.mine → by n h.seen ≡ by n before.seen
+    seen_all n front_seat is all then = subst (λ m. by m h.seen ≡ by m before.seen) is (all ∙ sym then)
 
     tally_goes_on : (u w : Sat) (t : Option Totals) → IsTally t u w → StartsWith w.seen u.seen
     tally_goes_on u w (Some a) is = let f = is.follows.0 in (f.0 ++ (u.number, Tally a) ∷ [], is.seen ∙ (ap (λ l. l ++ (u.number, Tally a) ∷ []) f.1 ∙ append_assoc u.seen f.0 ((u.number, Tally a) ∷ [])))
     tally_goes_on u w None is = ([], ap (λ (x : Sat). x.seen) is ∙ sym (append-nil u.seen))
 
     after_own : StartsWith h.seen own.seen
-    after_own = starts_through h.seen (first_seat_after own crew).seen own.seen (tally_goes_on (first_seat_after own crew) h tally c.tallies) c.longer
+    after_own = starts_through h.seen (first_seat_after own pool).seen own.seen (tally_goes_on (first_seat_after own pool) h tally c.tallies) c.longer
 
     stop_at : (v w : Sat) → v.number ≡ 0 → by v.number v.seen ≡ [] → Adds Stop v w → StartsWith h.seen w.seen → OwnStop h.seen v.seen
     stop_at v w zero_is none is later =
@@ -280,25 +280,25 @@ module _ {D : Type 0} (state : D → Outside StoreTold) (made : Made (Turned D))
     own_stops false is same = cc
 
     worker_none : (n : ℕ) → list_any is_stop (plain (by (suc (suc (suc (suc n)))) h.seen)) ≡ false
-    worker_none w = go (nat_lt w (length (ends_in crew))) refl
+    worker_none w = go (nat_lt w (length (ends_in pool))) refl
       where
         same : w + 4 ≡ suc (suc (suc (suc w)))
         same = omega arith
 
-        at : (o : Option (Option WorkEnd)) → w < length (ends_in crew) → slice_get (ends_in crew) w ≡ o → list_any is_stop (plain (by (w + 4) h.seen)) ≡ false
-        at None lt is = absurd (let long = slice_get_long (ends_in crew) w is in omega arith)
+        at : (o : Option (Option WorkEnd)) → w < length (ends_in pool) → slice_get (ends_in pool) w ≡ o → list_any is_stop (plain (by (w + 4) h.seen)) ≡ false
+        at None lt is = absurd (let long = slice_get_long (ends_in pool) w is in omega arith)
         at (Some end) lt is = worker_unstopped w end _ (work_at w end (at_zero w end is))
 
-        go : (b : Bool) → nat_lt w (length (ends_in crew)) ≡ b → list_any is_stop (plain (by (suc (suc (suc (suc w)))) h.seen)) ≡ false
-        go true is = subst (λ n. list_any is_stop (plain (by n h.seen)) ≡ false) same (at (slice_get (ends_in crew) w) (grind (arith, nat_tests)) refl)
-        go false is = ap (λ l. list_any is_stop (plain l)) (none_above (suc (suc (suc (suc w)))) (let ge : length (ends_in crew) ≤ w = grind (arith, nat_tests) in omega arith))
+        go : (b : Bool) → nat_lt w (length (ends_in pool)) ≡ b → list_any is_stop (plain (by (suc (suc (suc (suc w)))) h.seen)) ≡ false
+        go true is = subst (λ n. list_any is_stop (plain (by n h.seen)) ≡ false) same (at (slice_get (ends_in pool) w) (grind (arith, nat_tests)) refl)
+        go false is = ap (λ l. list_any is_stop (plain l)) (none_above (suc (suc (suc (suc w)))) (let ge : length (ends_in pool) ≤ w = grind (arith, nat_tests) in omega arith))
 
     own_last : (xs ys : List (ℕ × Entry)) → h.seen ≡ xs ++ (0, Stop) ∷ ys → (k : ℕ) → (0 == k) ≡ false → by k h.seen ≡ by k before.seen → by k ys ≡ []
     own_last xs ys is = own_stop stopped tally h.seen before.seen xs ys seated.own (own_stops stopped c.ran.ended.stops) is
 
     stops : (xs ys : List (ℕ × Entry)) (n : ℕ) → h.seen ≡ xs ++ (n, Stop) ∷ ys → IsStop done n ys
     stops xs ys zero is =
-        inr (inr (refl, own_last xs ys is 1 refl (seen_all 1 c.ran.posts.renderd c.ran.renderd.number each_is.0 before_joined.0), own_last xs ys is 2 refl (seen_all 2 c.ran.posts.tiles c.ran.tiles.number each_is.1.0 before_joined.1.0), own_last xs ys is 3 refl (seen_all 3 c.ran.posts.control c.ran.control.number each_is.1.1.0 before_joined.1.1.0)))
+        inr (inr (refl, own_last xs ys is 1 refl (seen_all 1 c.ran.seats.renderd c.ran.renderd.number each_is.0 before_joined.0), own_last xs ys is 2 refl (seen_all 2 c.ran.seats.tiles c.ran.tiles.number each_is.1.0 before_joined.1.0), own_last xs ys is 3 refl (seen_all 3 c.ran.seats.control c.ran.control.number each_is.1.1.0 before_joined.1.1.0)))
     stops xs ys (suc zero) is =
         let e = ends_front 0 1 done.renderd.end h.seen xs ys (λ never. cc) is (c.kinds told.renderd told'.renderd _ done.renderd renderd.worn renderd.left) in
         inr (inl (omega arith, omega arith, e.0, e.1))

@@ -8,9 +8,9 @@ use Rattle.farm_history.specs.Lists.{Each}
 use Rattle.port_trait.specs.declared.ends.FrontEnd.{FrontEnd}
 use Rattle.farm_shared.specs.Seats.{gives_ticket, ends_ticket}
 use Rattle.render_workers.specs.declared.worker.WorkEnd.{WorkEnd}
-use Rattle.render_workers.specs.Rounds.{Round, Drew, FoundNone, FoundMany, entries_of, LastEntries, WorkOf}
+use Rattle.render_workers.specs.Rounds.{Round, Drew, FoundNone, FoundMany, round_entries, LastEntries, WorkOf}
 use Rattle.farm_threads.specs.Actors.{IsOfFront, AreOfFront, WorkBy}
-use Rattle.farm_runs.specs.Promise.{own_entries, is_worn}
+use Rattle.farm_runs.specs.Promise.{own_entries, is_worker_worn}
 use Rattle.farm_runs.proofs.Settling.{gives, ends, Settled}
 
 -- what gives no ticket settles all
@@ -44,7 +44,7 @@ own_settled false None = quiet (own_entries false None) (λ t. refl)
 
 -- Workers.
 
-round_settles : (w t : ℕ) (r : Round) → gives t (entries_of w r) ≡ ends t (entries_of w r)
+round_settles : (w t : ℕ) (r : Round) → gives t (round_entries w r) ≡ ends t (round_entries w r)
 round_settles w t (Drew ticket key version drawn answer) = go (ticket == t)
   where
     go : (b : Bool) → (b || (false || false)) ≡ (false || (b || false))
@@ -53,26 +53,26 @@ round_settles w t (Drew ticket key version drawn answer) = go (ticket == t)
 round_settles w t FoundNone = refl
 round_settles w t FoundMany = refl
 
-rounds_settle : (w t : ℕ) (rs : List Round) → gives t (flat_map (entries_of w) rs) ≡ ends t (flat_map (entries_of w) rs)
+rounds_settle : (w t : ℕ) (rs : List Round) → gives t (flat_map (round_entries w) rs) ≡ ends t (flat_map (round_entries w) rs)
 rounds_settle w t [] = refl
 rounds_settle w t (r ∷ rs) =
-    list_any-append (λ e. gives_ticket e t) (entries_of w r) (flat_map (entries_of w) rs)
-    ∙ (ap₂ (λ a b. a || b) (round_settles w t r) (rounds_settle w t rs) ∙ sym (list_any-append (λ e. ends_ticket e t) (entries_of w r) (flat_map (entries_of w) rs)))
+    list_any-append (λ e. gives_ticket e t) (round_entries w r) (flat_map (round_entries w) rs)
+    ∙ (ap₂ (λ a b. a || b) (round_settles w t r) (rounds_settle w t rs) ∙ sym (list_any-append (λ e. ends_ticket e t) (round_entries w r) (flat_map (round_entries w) rs)))
 
 stopped_settled : (w : ℕ) (es : List Entry) → WorkOf w WorkEnd.Stopped es → Settled es
 stopped_settled w es work t given =
-    let split = list_any-append (λ e. gives_ticket e t) (flat_map (entries_of w) work.rounds) work.last in
+    let split = list_any-append (λ e. gives_ticket e t) (flat_map (round_entries w) work.rounds) work.last in
     let last : gives t work.last ≡ false = ap (gives t) work.ended in
-    let there : gives t (flat_map (entries_of w) work.rounds) ≡ true = settle (gives t (flat_map (entries_of w) work.rounds)) (gives t work.last) last (sym split ∙ (ap (gives t) (sym work.are) ∙ given)) in
+    let there : gives t (flat_map (round_entries w) work.rounds) ≡ true = settle (gives t (flat_map (round_entries w) work.rounds)) (gives t work.last) last (sym split ∙ (ap (gives t) (sym work.are) ∙ given)) in
     ap (ends t) work.are
-    ∙ (list_any-append (λ e. ends_ticket e t) (flat_map (entries_of w) work.rounds) work.last
+    ∙ (list_any-append (λ e. ends_ticket e t) (flat_map (round_entries w) work.rounds) work.last
     ∙ ap (λ b. b || ends t work.last) (sym (rounds_settle w t work.rounds) ∙ there))
   where
     settle : (a b : Bool) → b ≡ false → (a || b) ≡ true → a ≡ true
     settle true b none is = refl
     settle false b none is = let never = sym is ∙ none in cc
 
-pub worker_settled : (w : ℕ) (end : Option WorkEnd) (es : List Entry) → is_worn end ≡ false → WorkBy w end es → Settled es
+pub worker_settled : (w : ℕ) (end : Option WorkEnd) (es : List Entry) → is_worker_worn end ≡ false → WorkBy w end es → Settled es
 worker_settled w None es fine none = quiet es (λ t. ap (gives t) none)
 worker_settled w (Some WorkEnd.Stopped) es fine work = stopped_settled w es work
 worker_settled w (Some WorkEnd.Worn) es fine work = cc
@@ -83,14 +83,14 @@ abbrev pub is_stop : Entry → Bool
 is_stop Stop = true
 is_stop _ = false
 
-round_unstopped : (w : ℕ) (r : Round) → list_any is_stop (entries_of w r) ≡ false
+round_unstopped : (w : ℕ) (r : Round) → list_any is_stop (round_entries w r) ≡ false
 round_unstopped w (Drew ticket key version drawn answer) = refl
 round_unstopped w FoundNone = refl
 round_unstopped w FoundMany = refl
 
-rounds_unstopped : (w : ℕ) (rs : List Round) → list_any is_stop (flat_map (entries_of w) rs) ≡ false
+rounds_unstopped : (w : ℕ) (rs : List Round) → list_any is_stop (flat_map (round_entries w) rs) ≡ false
 rounds_unstopped w [] = refl
-rounds_unstopped w (r ∷ rs) = list_any-append is_stop (entries_of w r) (flat_map (entries_of w) rs) ∙ ap₂ (λ a b. a || b) (round_unstopped w r) (rounds_unstopped w rs)
+rounds_unstopped w (r ∷ rs) = list_any-append is_stop (round_entries w r) (flat_map (round_entries w) rs) ∙ ap₂ (λ a b. a || b) (round_unstopped w r) (rounds_unstopped w rs)
 
 last_unstopped : (w : ℕ) (end : WorkEnd) (last : List Entry) → LastEntries w end last → list_any is_stop last ≡ false
 last_unstopped w WorkEnd.Stopped last is = ap (list_any is_stop) is
@@ -100,4 +100,4 @@ last_unstopped w WorkEnd.Worn last (inr (ticket, key, version, is)) = ap (list_a
 pub worker_unstopped : (w : ℕ) (end : Option WorkEnd) (es : List Entry) → WorkBy w end es → list_any is_stop es ≡ false
 worker_unstopped w None es none = ap (list_any is_stop) none
 worker_unstopped w (Some end) es work =
-    ap (list_any is_stop) work.are ∙ (list_any-append is_stop (flat_map (entries_of w) work.rounds) work.last ∙ ap₂ (λ a b. a || b) (rounds_unstopped w work.rounds) (last_unstopped w end work.last work.ended))
+    ap (list_any is_stop) work.are ∙ (list_any-append is_stop (flat_map (round_entries w) work.rounds) work.last ∙ ap₂ (λ a b. a || b) (rounds_unstopped w work.rounds) (last_unstopped w end work.last work.ended))

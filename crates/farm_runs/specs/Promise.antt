@@ -34,10 +34,10 @@ own_entries false (Some a) = Tally a ∷ []
 own_entries false None = []
 
 -- whether a worker ended since all turns were drawn
-abbrev pub is_worn : Option WorkEnd → Bool
-is_worn (Some WorkEnd.Worn) = true
-is_worn (Some WorkEnd.Stopped) = false
-is_worn None = false
+abbrev pub is_worker_worn : Option WorkEnd → Bool
+is_worker_worn (Some WorkEnd.Worn) = true
+is_worker_worn (Some WorkEnd.Stopped) = false
+is_worker_worn None = false
 
 -- the end of front n, which is 1, 2 or 3
 abbrev pub end_of_front : EachFront FrontDone → ℕ → FrontEnd
@@ -64,7 +64,7 @@ pub record AreWorked (workers : ℕ) (worn : Bool) (H : List (ℕ × Entry)) (h 
   pub ended : List (Option WorkEnd)
   pub as_many : length ended ≡ workers
   pub each : (w : ℕ) (end : Option WorkEnd) → slice_get ended w ≡ Some end → WorkBy w end (plain (by (w + 4) H))
-  pub worn_is : worn ≡ list_any is_worn ended
+  pub worn_is : worn ≡ list_any is_worker_worn ended
   pub worn_out : worn ≡ true → 2 ^ 62 ≤ length H
   pub landed : worn ≡ false → flights h ≡ []
 

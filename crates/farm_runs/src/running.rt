@@ -10,7 +10,7 @@ ghost use Rattle.farm_runs.specs.Promise.{RunsWell};
 ghost use Rattle.farm_runs.specs.inner.Chain.{IsSet};
 
 use crate::ending::close_run;
-use crate::seating::{Naps, naps_for, seat_crew, seat_posts};
+use crate::seating::{Parking, parking_for, seat_pool, seat_fronts};
 use crossbeam_utils::sync::Parker;
 use farm_base::{Bell, Gate};
 use farm_core::Farm;
@@ -46,25 +46,25 @@ fn set_seats<D: TileStore>(
     farm: &SharedFarm<D>,
     own: Seat<D>,
     parkers: Vec<Parker>,
-    crew: Vec<Actor<Seat<D>>>,
+    pool: Vec<Actor<Seat<D>>>,
 ) -> RunSeats<Seat<D>>
     requires own { own ≡ first_of farm.now }
     requires seat { IsSeatOf farm.now own }
     requires few { vec_len parkers ≤ 16 }
-    requires room { vec_len parkers ≤ vec_capacity crew }
-    requires empty { crew.items ≡ [] }
+    requires room { vec_len parkers ≤ vec_capacity pool }
+    requires empty { pool.items ≡ [] }
     ensures { IsSet farm.now (vec_len parkers) result }
 {
     let mut own = own;
-    let mut crew = crew;
-    let posts = seat_posts(farm, &mut own);
-    seat_crew(farm, &mut own, parkers, &mut crew);
+    let mut pool = pool;
+    let seats = seat_fronts(farm, &mut own);
+    seat_pool(farm, &mut own, parkers, &mut pool);
     RunSeats {
         front_seats: FrontSeats {
             own,
-            posts: Some(posts),
+            seats: Some(seats),
         },
-        crew,
+        pool,
     }
 }
 
@@ -86,9 +86,9 @@ fn act<
     ports: &mut ThreePorts<P, B>,
     gate: &T,
 ) -> Run<D>
-    requires set { IsSet farm (length run_seats.crew.items) run_seats }
+    requires set { IsSet farm (length run_seats.pool.items) run_seats }
     requires limit { farm.about.limit ≡ 2 ^ 62 }
-    requires workers { length run_seats.crew.items ≡ farm.about.first.value.farm.plan.workers }
+    requires workers { length run_seats.pool.items ≡ farm.about.first.value.farm.plan.workers }
     requires renderd { F.number actors.now.fronts.renderd ≡ 0 }
     requires tiles { G.number actors.now.fronts.tiles ≡ 1 }
     requires control { H.number actors.now.fronts.control ≡ 2 }
@@ -103,9 +103,9 @@ fn act<
 {
     let mut run_seats = run_seats;
     let (fronts, stopped) = run(rt, actors, &farm, &mut run_seats, ports, gate);
-    let RunSeats { front_seats, crew } = run_seats;
-    let FrontSeats { own, posts: _ } = front_seats;
-    let (closed, tally, worn) = close_run(rt, farm, own, crew);
+    let RunSeats { front_seats, pool } = run_seats;
+    let FrontSeats { own, seats: _ } = front_seats;
+    let (closed, tally, worn) = close_run(rt, farm, own, pool);
     Run {
         closed,
         fronts,
@@ -152,19 +152,19 @@ pub fn run_farm<
         r.fronts (record { worn = r.worn; stopped = r.stopped; tally = r.tally })) }
     ensures back { IfErr result (λ f. (f ≡ farm) × (ports.new ≡ ports.old)) }
 {
-    let Ok(naps) = naps_for(alloc, workers) else {
+    let Ok(parking) = parking_for(alloc, workers) else {
         return Err(farm);
     };
-    let Ok(crew) = Vec::with_capacity(alloc, workers as usize) else {
+    let Ok(pool) = Vec::with_capacity(alloc, workers as usize) else {
         return Err(farm);
     };
     let (shared, own) = SharedFarm::new(alloc, farm)?;
-    let Naps { parkers, sleepers } = naps;
+    let Parking { parkers, sleepers } = parking;
     let actors = RunActors {
         fronts,
         barrier: StartBarrier::new(workers as u64 + 3, sleepers),
         alloc,
     };
-    let run_seats = set_seats(&shared, own, parkers, crew);
+    let run_seats = set_seats(&shared, own, parkers, pool);
     Ok(act(rt, shared, &actors, run_seats, ports, gate))
 }

@@ -1,7 +1,7 @@
 //! The seats of a run.
 ghost use Rattle.std.specs.Prelude.{◌≡◌, ◌≤◌, ◌+◌, true, [], All, length, None, IfOk};
 ghost use Rattle.std.specs.Vec.{vec_capacity, vec_len};
-ghost use Rattle.farm_threads.specs.Actors.{IsPost, IsReady};
+ghost use Rattle.farm_threads.specs.Actors.{IsFrontSeat, IsReady};
 ghost use Rattle.farm_runs.specs.inner.Chain.{IsStart, Numbered};
 ghost use Rattle.turn_cell.specs.SeatStates.{IsSeatOf, Knows, split_left, split_right};
 
@@ -14,13 +14,13 @@ use tile_store::TileStore;
 
 /// What the workers sleep on, and what wakes them.
 #[derive(Drop)]
-pub struct Naps {
+pub struct Parking {
     pub parkers: Vec<Parker>,
     pub sleepers: Vec<Unparker>,
 }
 
 /// As many of both as there are workers.
-pub fn naps_for(alloc: Global, workers: u32) -> Result<Naps, NoMemory>
+pub fn parking_for(alloc: Global, workers: u32) -> Result<Parking, NoMemory>
     ensures { IfOk result (λ n. vec_len n.parkers ≡ workers) }
 {
     let mut parkers = Vec::new(alloc);
@@ -30,7 +30,7 @@ pub fn naps_for(alloc: Global, workers: u32) -> Result<Naps, NoMemory>
         sleepers.push(parker.unparker().clone()?)?;
         parkers.push(parker)?;
     }
-    Ok(Naps { parkers, sleepers })
+    Ok(Parking { parkers, sleepers })
 }
 
 /// A seat split from the first.
@@ -48,14 +48,14 @@ fn take_seat<D: TileStore>(farm: &SharedFarm<D>, own: &mut Seat<D>) -> Seat<D>
 }
 
 /// The seats of the fronts, which are the first to be split.
-pub fn seat_posts<D: TileStore>(farm: &SharedFarm<D>, own: &mut Seat<D>) -> EachFront<Seat<D>>
+pub fn seat_fronts<D: TileStore>(farm: &SharedFarm<D>, own: &mut Seat<D>) -> EachFront<Seat<D>>
     requires seat { IsSeatOf farm.now own.old }
     requires first { own.old.first ≡ true }
     requires unsplit { own.old.splits ≡ 0 }
     ensures own { own.new ≡ split_left (split_left (split_left own.old)) }
-    ensures renderd { IsPost farm.now 0 result.renderd }
-    ensures tiles { IsPost farm.now 1 result.tiles }
-    ensures control { IsPost farm.now 2 result.control }
+    ensures renderd { IsFrontSeat farm.now 0 result.renderd }
+    ensures tiles { IsFrontSeat farm.now 1 result.tiles }
+    ensures control { IsFrontSeat farm.now 2 result.control }
 {
     let renderd = take_seat(farm, own);
     let tiles = take_seat(farm, own);
@@ -68,32 +68,32 @@ pub fn seat_posts<D: TileStore>(farm: &SharedFarm<D>, own: &mut Seat<D>) -> Each
 }
 
 /// The workers, each with a seat that is split next and with something to sleep on; there is room for all of them.
-pub fn seat_crew<D: TileStore>(
+pub fn seat_pool<D: TileStore>(
     farm: &SharedFarm<D>,
     own: &mut Seat<D>,
     parkers: Vec<Parker>,
-    crew: &mut Vec<Actor<Seat<D>>>,
+    pool: &mut Vec<Actor<Seat<D>>>,
 )
     requires own { IsStart farm.now 0 own.old }
     requires few { vec_len parkers ≤ 16 }
-    requires room { vec_len parkers ≤ vec_capacity crew.old }
-    requires empty { crew.old.items ≡ [] }
+    requires room { vec_len parkers ≤ vec_capacity pool.old }
+    requires empty { pool.old.items ≡ [] }
     ensures own { IsStart farm.now (vec_len parkers) own.new }
-    ensures long { length crew.new.items ≡ vec_len parkers }
-    ensures ready { All (λ a. IsReady farm.now a) crew.new.items }
-    ensures numbered { Numbered 0 crew.new.items }
+    ensures long { length pool.new.items ≡ vec_len parkers }
+    ensures ready { All (λ a. IsReady farm.now a) pool.new.items }
+    ensures numbered { Numbered 0 pool.new.items }
 {
     let mut parkers = parkers;
     let mut worker = 0;
-    while let Some(nap) = parkers.pop() {
+    while let Some(parker) = parkers.pop() {
         let seat = take_seat(farm, own);
         let actor = Actor {
             worker,
             seat,
-            nap,
+            parker,
             end: None,
         };
-        let Ok(()) = crew.push(actor) else {
+        let Ok(()) = pool.push(actor) else {
             unreachable!()
         };
         worker += 1;

@@ -51,8 +51,8 @@ past_in short before bytes = do
   Ok (past_of kind.0 number.0, number.1)
 
 -- a metatile
-abbrev pub is_meta : Meta → Bool
-is_meta m = nat_le m.z 18 && nat_lt m.x (2 ^ m.z) && nat_lt m.y (2 ^ m.z) && m.x % 8 == 0 && m.y % 8 == 0
+abbrev pub is_kept_meta : Meta → Bool
+is_kept_meta m = nat_le m.z 18 && nat_lt m.x (2 ^ m.z) && nat_lt m.y (2 ^ m.z) && m.x % 8 == 0 && m.y % 8 == 0
 
 -- the key comes behind that of the entry before it, if there is one
 abbrev pub is_behind : Option Kept → Key → Bool
@@ -65,7 +65,7 @@ last_of kept = slice_get kept (length kept - 1)
 
 -- an entry may stand behind those before it: it is of a metatile, its version is at most the number of updates, and its key comes behind theirs
 unfoldable pub is_kept : ℕ → List Kept → Kept → Bool
-is_kept updates before k = is_meta k.key.meta && nat_le k.version updates && is_behind (last_of before) k.key
+is_kept updates before k = is_kept_meta k.key.meta && nat_le k.version updates && is_behind (last_of before) k.key
 
 -- the fields of a clean entry: map, zoom, column, row and version
 unfoldable pub fields_in : SavedFault → List ℕ → Result (Kept × List ℕ) SavedFault

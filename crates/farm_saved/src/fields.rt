@@ -109,7 +109,7 @@ fn fields(bytes: &[u8], short: SavedFault) -> Result<(Kept, &[u8]), SavedFault>
 }
 
 fn is_meta(m: Meta) -> bool
-    ensures { result ≡ spec.is_meta m }
+    ensures { result ≡ spec.is_kept_meta m }
 {
     m.z <= 18 && m.x < 1 << m.z && m.y < 1 << m.z && m.x % 8 == 0 && m.y % 8 == 0
 }

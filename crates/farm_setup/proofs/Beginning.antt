@@ -3,7 +3,7 @@ use Rattle.std.proofs.Common.{◌≡◌, ℕ, inl, inr, ◌<◌, ◌^◌, Bool, 
 use Rattle.std.specs.Prelude.{Option, Some, None, Result, Ok, Err, Vec, IfSome, option_map}
 use Rattle.std.specs.declared.alloc.Global.{Global}
 use Rattle.farm_base.specs.Outside.{Outside}
-use Rattle.tile_store.specs.Stores.{StoreTold, Gets, Puts, whole}
+use Rattle.tile_store.specs.Stores.{StoreTold, Gets, StorePuts, whole}
 use Rattle.tile_store.specs.declared.stores.StoreFault.{StoreFault}
 use Rattle.tile_store.specs.declared.stores.StoreFault.TheVariants as fault
 use Rattle.call_ends.specs.declared.stops.Stop.{Stop}
@@ -64,7 +64,7 @@ module _ {D : Type 0} (state : D → Outside StoreTold) (plan : FarmPlan) where
         plan_is = ap (λ (f : FarmSeen D). f.plan) empties.1 ∙ began.begins.plan_is;
         resumes = record { found = found; stands = stands; said = began.said ∙ ap Ok (sym (ap (λ (f : FarmSeen D). f.saved) empties.1 ∙ began.begins.saved_is)) };
         first_shows = ap (λ (f : FarmSeen D). state f.first) empties.1 ∙ ap state began.begins.first_is ∙ shows;
-        emptied = subst (λ (at : Outside StoreTold). Puts at (state new.store) saved_path [] (Ok tt)) (ap state began.begins.store_is ∙ shows) empties.0;
+        emptied = subst (λ (at : Outside StoreTold). StorePuts at (state new.store) saved_path [] (Ok tt)) (ap state began.begins.store_is ∙ shows) empties.0;
         after = after_put middle began.saved old new began.begins began.short empties.1 empties.2;
       }
 
@@ -87,10 +87,10 @@ module _ {D : Type 0} (state : D → Outside StoreTold) (plan : FarmPlan) where
           at : state old.store ≡ state store
           at = ap state began.begins.store_is ∙ shows
 
-          by_fault : (f : StoreFault) (why : Stop) → Puts (state old.store) (state back) saved_path [] (Err f) → why ≡ stop_of f → CannotBegin (state store) plan true (state back) why
+          by_fault : (f : StoreFault) (why : Stop) → StorePuts (state old.store) (state back) saved_path [] (Err f) → why ≡ stop_of f → CannotBegin (state store) plan true (state back) why
           by_fault fault.Failed why puts is =
               subst (CannotBegin (state store) plan true (state back)) (sym is)
-              (refl, inr (began.saved, record { found = found; stands = stands; said = began.said }, subst (λ (a : Outside StoreTold). Puts a (state back) saved_path [] (Err fault.Failed)) at puts))
+              (refl, inr (began.saved, record { found = found; stands = stands; said = began.said }, subst (λ (a : Outside StoreTold). StorePuts a (state back) saved_path [] (Err fault.Failed)) at puts))
           by_fault fault.NoMemory why puts is = subst (CannotBegin (state store) plan true (state back)) (sym is) (puts ∙ at)
 
       -- a farm began by what was found, and then it was emptied, or not
@@ -118,9 +118,9 @@ begun_new state plan store (Ok farm) began = begun_anew state plan store store r
 begun_new state plan store (Err back) began = cannot_start state plan store store refl back.0 back.1 refl began.0 began.1
 
 -- what was found was not emptied
-pub not_emptied : {D : Type 0} (state : D → Outside StoreTold) (old new : FarmSeen D) (back : D) (f : StoreFault) (why : Stop) → Puts (state old.store) (state new.store) saved_path [] (Err f) → back ≡ new.store → why ≡ stop_of f
+pub not_emptied : {D : Type 0} (state : D → Outside StoreTold) (old new : FarmSeen D) (back : D) (f : StoreFault) (why : Stop) → StorePuts (state old.store) (state new.store) saved_path [] (Err f) → back ≡ new.store → why ≡ stop_of f
     → Empties state old (Err (back, why))
-not_emptied {D} state old new back f why puts same is = (f, subst (λ (d : D). Puts (state old.store) (state d) saved_path [] (Err f)) (sym same) puts, is)
+not_emptied {D} state old new back f why puts same is = (f, subst (λ (d : D). StorePuts (state old.store) (state d) saved_path [] (Err f)) (sym same) puts, is)
 
 -- what is saved could not be had
 pub cannot_get : (plan : FarmPlan) (old new : Outside StoreTold) (f : StoreFault) → Gets whole old new saved_path (Err f) → CannotBegin old plan true new (stop_of f)

@@ -17,11 +17,11 @@ use Rattle.resume_faults.specs.Faults.{resume_fault}
 use Rattle.resume_faults.specs.declared.faults.ResumeFault.{ResumeFault}
 use Rattle.resume_faults.specs.declared.faults.ResumeFault.TheVariants as fault
 use Rattle.farm_stands.specs.Seen.{FarmSeen}
-use Rattle.farm_setup.specs.Beginnings.{ResumeRefusal, unread, unfit, refusal_text, resumed_by, judged, resumed_or_unfit, resume_text}
+use Rattle.farm_setup.specs.Beginnings.{ResumeRefusal, unread, unfit, refusal_text, resumed_by, judged_saving, resumed_or_unfit, resume_text}
 use Rattle.farm_setup.specs.inner.Steps.{Tells, BeganBy, Refuses}
 
 -- bytes that were found are judged
-resumed_some : (plan : FarmPlan) (bytes : List ℕ) → 0 < length bytes → resumed_by plan (Some bytes) ≡ judged plan (saved_in bytes)
+resumed_some : (plan : FarmPlan) (bytes : List ℕ) → 0 < length bytes → resumed_by plan (Some bytes) ≡ judged_saving plan (saved_in bytes)
 resumed_some plan [] some = absurd (omega (arith, some))
 resumed_some plan (b ∷ bytes) some = refl
 
@@ -47,14 +47,14 @@ module _ (plan : FarmPlan) (bytes : List ℕ) (some : 0 < length bytes) where
       → Refuses plan (Some bytes) s
   not_read why text s means said tells =
       refuses plan (Some bytes) (unread why) text s tells said
-      (λ t is. resumed_some plan bytes some ∙ ap (judged plan) (means (λ e. saved_memory t (subst (λ (w : SavedFault). saved_text w ≡ Some t) e is))))
+      (λ t is. resumed_some plan bytes some ∙ ap (judged_saving plan) (means (λ e. saved_memory t (subst (λ (w : SavedFault). saved_text w ≡ Some t) e is))))
 
   -- it is not of such a plan
   pub not_fitting : (saving : Saving) → saved_in bytes ≡ Ok saving → (why : ResumeFault) (text : Result (List ℕ) NoMemory) (s : Stop) → (why ≢ fault.NoMemory → resume_fault plan saving ≡ Some why)
       → IfOk text (λ t. resume_text why ≡ Some t) → Tells text s → Refuses plan (Some bytes) s
   not_fitting saving means why text s is_fault said tells =
       refuses plan (Some bytes) (unfit why) text s tells said
-      (λ t is. resumed_some plan bytes some ∙ ap (judged plan) means ∙ ap (resumed_or_unfit saving) (is_fault (λ e. resume_memory t (subst (λ (w : ResumeFault). resume_text w ≡ Some t) e is))))
+      (λ t is. resumed_some plan bytes some ∙ ap (judged_saving plan) means ∙ ap (resumed_or_unfit saving) (is_fault (λ e. resume_memory t (subst (λ (w : ResumeFault). resume_text w ≡ Some t) e is))))
 
 -- no bytes are as nothing
 refuses_none : (plan : FarmPlan) (why : Stop) → Refuses plan None why → Refuses plan (Some []) why

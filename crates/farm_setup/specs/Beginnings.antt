@@ -1,7 +1,7 @@
 -- How a farm is begun over a store: anew, or where another one stopped in order.
 use Rattle.std.specs.Prelude.{◌≡◌, ◌⊎◌, ℕ, Bool, true, false, List, [], ◌∷◌, codes, Option, Some, None, Result, Ok, Err, IfSome}
 use Rattle.farm_base.specs.Outside.{Outside}
-use Rattle.tile_store.specs.Stores.{StoreTold, Gets, Puts, whole}
+use Rattle.tile_store.specs.Stores.{StoreTold, Gets, StorePuts, whole}
 use Rattle.tile_store.specs.declared.stores.StoreFault.TheVariants.{Failed}
 use Rattle.call_ends.specs.Stops.{refused_line}
 use Rattle.call_ends.specs.declared.stops.Stop.{Stop}
@@ -47,15 +47,15 @@ resumed_or_unfit s None = Ok (Some s)
 resumed_or_unfit s (Some why) = Err (unfit why)
 
 -- what is resumed by a farm of the plan, or the first fault
-abbrev pub judged : FarmPlan → Result Saving SavedFault → Result (Option Saving) ResumeRefusal
-judged plan (Ok s) = resumed_or_unfit s (resume_fault plan s)
-judged plan (Err why) = Err (unread why)
+abbrev pub judged_saving : FarmPlan → Result Saving SavedFault → Result (Option Saving) ResumeRefusal
+judged_saving plan (Ok s) = resumed_or_unfit s (resume_fault plan s)
+judged_saving plan (Err why) = Err (unread why)
 
 -- what a farm of the plan is resumed from, by what was found of a saved one: by nothing and by no bytes it begins anew. Or the first fault
 abbrev pub resumed_by : FarmPlan → Option (List ℕ) → Result (Option Saving) ResumeRefusal
 resumed_by plan None = Ok None
 resumed_by plan (Some []) = Ok None
-resumed_by plan (Some (b ∷ bytes)) = judged plan (saved_in (b ∷ bytes))
+resumed_by plan (Some (b ∷ bytes)) = judged_saving plan (saved_in (b ∷ bytes))
 
 -- What is saved in a store, for a farm of the plan: what it is resumed from, or the first fault. Where the store tells, it is by what stands there; and else by what it answered
 pub record IsSavedIn (at : Outside StoreTold) (plan : FarmPlan) (says : Result (Option Saving) ResumeRefusal) : Type 0 where
@@ -77,7 +77,7 @@ ResumesFrom at plan true saved = IsSavedIn at plan (Ok saved)
 -- the store then: where it is to resume, no bytes were put in the place of what was saved
 abbrev pub HasEmptied : Bool → Outside StoreTold → Outside StoreTold → Type 0
 HasEmptied false at at' = at' ≡ at
-HasEmptied true at at' = Puts at at' saved_path [] (Ok tt)
+HasEmptied true at at' = StorePuts at at' saved_path [] (Ok tt)
 
 -- A farm of the plan was begun over the store, and nothing has happened to it since; `resume` says whether it is to resume
 pub record HasBegun {D : Type 0} (state : D → Outside StoreTold) (plan : FarmPlan) (resume : Bool) (store : D) (farm : FarmSeen D) : Type 0 where
@@ -94,7 +94,7 @@ abbrev pub CannotBegin : Outside StoreTold → FarmPlan → Bool → Outside Sto
 CannotBegin at plan resume at' (stop.Refused line) =
     (resume ≡ true) × (why : ResumeRefusal) × IsSavedIn at plan (Err why) × RefusesFor why line × (at' ≡ at)
 CannotBegin at plan resume at' stop.StoreFailed =
-    (resume ≡ true) × (Gets whole at at' saved_path (Err Failed) ⊎ ((saved : Option Saving) × IsSavedIn at plan (Ok saved) × Puts at at' saved_path [] (Err Failed)))
+    (resume ≡ true) × (Gets whole at at' saved_path (Err Failed) ⊎ ((saved : Option Saving) × IsSavedIn at plan (Ok saved) × StorePuts at at' saved_path [] (Err Failed)))
 CannotBegin at plan resume at' stop.NoMemory = at' ≡ at
 CannotBegin at plan resume at' other = ⊥
 

@@ -1,7 +1,7 @@
 //! What is left of a shared farm.
 ghost use Rattle.std.specs.Prelude.{◌≡◌, ◌==◌, ℕ, Bool, false, List, codes, IfOk};
 ghost use Rattle.std.specs.List.{ends_with};
-ghost use Rattle.tile_store.specs.Stores.{Puts};
+ghost use Rattle.tile_store.specs.Stores.{StorePuts};
 ghost use Rattle.farm_history.specs.Entries.{Entry};
 ghost use Rattle.farm_history.specs.Replays.{IsSaved};
 ghost use Rattle.farm_plan.specs.Drawings.{plan_of};
@@ -52,7 +52,7 @@ impl<D: TileStore> Closed<D> {
     /// where the store's count of faults rose.
     pub fn put_beside(&mut self, alloc: Global, path: &str, bytes: &[u8]) -> Result<(), StoreFault>
         requires { ends_with (λ a b. a == b) path.now (codes ".meta") ≡ false }
-        ensures store { Puts (D.state self.old.0.store) (D.state self.new.0.store) path.now bytes.now result }
+        ensures store { StorePuts (D.state self.old.0.store) (D.state self.new.0.store) path.now bytes.now result }
         ensures farm { self.new ≡ (record self.old.0 { store = self.new.0.store }, self.old.1) }
         ensures stands { (log : List (ℕ × Entry)) → IsAfter D.state self.old.0 log → IsAfter D.state self.new.0 log }
     {

@@ -14,7 +14,7 @@ use Rattle.farm_history.specs.Entries.{Entry, Ask}
 use Rattle.farm_history.specs.Plans.{Plan, same_key, is_in, key_of, is_servable, is_dirty_command, is_lifting, own_queue, waits_in_queue}
 use Rattle.farm_history.specs.Past.{is_stopped, data_after, style_after, flights, shown, is_clean, is_overtaken, waiting, numbers, open_asks, how_many_of, asks_made, done_asks, stored_drawings, jobs, touches}
 use Rattle.farm_history.specs.Rules.{answer_by, tests_of, ask_rule, Fits}
-use Rattle.farm_history.specs.Seen.{soiled, Taken, taken_of, is_clean_mark}
+use Rattle.farm_history.specs.Seen.{dirtied, Taken, taken_of, is_clean_mark}
 use Rattle.farm_history.specs.Replays.{changes_after}
 use Rattle.farm_history.proofs.Lists.{same_key-self}
 use Rattle.farm_history.proofs.Apart.{ask_dirty, ask_render, kept}
@@ -24,7 +24,7 @@ use Rattle.render_queues.specs.Tables.{open_of, open_count}
 use Rattle.expiry_lists.specs.Marks.{MarksSeen, mark_of}
 use Rattle.farm_stands.specs.Seen.{FarmSeen}
 use Rattle.farm_stands.specs.Stands.{failures, StandsFor}
-use Rattle.farm_stands.specs.inner.Events.{one_turn_more, asked_counts, tests_at, asked_tables, marked_tables, soil_taken}
+use Rattle.farm_stands.specs.inner.Events.{one_turn_more, asked_counts, tests_at, asked_tables, marked_tables, dirtied_taken}
 use Rattle.farm_stands.proofs.Storing.{store_quiet}
 use Rattle.farm_stands.proofs.Counting.{IsUncounted, counts_turn, counts_ask}
 use Rattle.farm_stands.proofs.Lining.{any-map}
@@ -131,8 +131,8 @@ ask_unmarked_step state told farm g conn command spot dirty off s =
 
 -- an ask with Dirty of a spot that can be served: its key is touched, and goes to the dirty queue if it stands nowhere
 pub ask_marked_step : {D : Type 0} (state : D → Outside StoreTold) (told : Bool) (farm : FarmSeen D) (g : List Entry) (conn : Conn) (command : Cmd) (spot : Spot) (ms : MarksSeen) → is_dirty_command command ≡ true → farm.counts.stopped ≡ false → is_servable (plan_of farm.plan) spot ≡ true →
-    ((k : Key) → mark_of ms.shown k ≡ option_map (soiled (same_key (key_of spot) k)) (mark_of farm.marks.shown k)) → StandsFor state told farm g →
-    StandsFor state told (record farm { counts = one_turn_more farm.counts; taken = soil_taken (same_key (key_of spot)) farm.taken; marks = ms; queues = marked_tables farm.queues (key_of spot) }) (Ask conn command spot Silent ∷ g)
+    ((k : Key) → mark_of ms.shown k ≡ option_map (dirtied (same_key (key_of spot) k)) (mark_of farm.marks.shown k)) → StandsFor state told farm g →
+    StandsFor state told (record farm { counts = one_turn_more farm.counts; taken = dirtied_taken (same_key (key_of spot)) farm.taken; marks = ms; queues = marked_tables farm.queues (key_of spot) }) (Ask conn command spot Silent ∷ g)
 unfolding Fits flights data_after changes_after style_after shown failures
 ask_marked_step state told farm g conn command spot ms dirty running servable marks s =
     touching state told farm g e (same_key (key_of spot)) (one_turn_more farm.counts) farm.data_now farm.changes farm.styled ms (marked_tables farm.queues (key_of spot)) s refl tests refl

@@ -19,18 +19,18 @@ use Rattle.farm_history.specs.Entries.{Entry, Update, Renew, Restyle, Expire}
 use Rattle.farm_history.specs.Plans.{Plan, AreApart, holds, is_style_of, overlaps}
 use Rattle.farm_history.specs.Past.{is_stopped, data_after, style_after, flights, jobs, numbers, asks_made, done_asks, stored_drawings, shown, waiting, open_asks, is_ended_after, replies_to, clean_count}
 use Rattle.farm_history.specs.Rules.{UpdateFits, RenewFits, Fits}
-use Rattle.farm_history.specs.Seen.{soiled}
+use Rattle.farm_history.specs.Seen.{dirtied}
 use Rattle.farm_history.specs.Replays.{changes_after}
 use Rattle.farm_plan.specs.Plans.{FarmPlan, Restyle as PlanStyle}
 use Rattle.farm_plan.specs.Drawings.{update_of, kept_or, fault_in, data_step, data_of, reaches_of, plan_of}
 use Rattle.expiry_lists.specs.Marks.{MarksSeen, shown_key, mark_of, clean_marks}
 use Rattle.farm_stands.specs.Seen.{FarmSeen}
 use Rattle.farm_stands.specs.Stands.{failures, StandsFor}
-use Rattle.farm_stands.specs.inner.Events.{one_turn_more, updated_counts, soil_taken}
+use Rattle.farm_stands.specs.inner.Events.{one_turn_more, updated_counts, dirtied_taken}
 use Rattle.farm_stands.proofs.Storing.{store_quiet}
 use Rattle.farm_stands.proofs.Counting.{counts_turn, counts_update, counts_renew}
 use Rattle.farm_stands.proofs.Queueing.{queues_quiet}
-use Rattle.farm_stands.proofs.Marking.{soil_agree, clean_agree, marks_counted}
+use Rattle.farm_stands.proofs.Marking.{dirtied_agree, clean_agree, marks_counted}
 use Rattle.farm_stands.proofs.Stepping.{idle_step, changing, touching}
 
 -- ---- data
@@ -88,15 +88,15 @@ update_unknown_step state told farm g n past s = idle_step state told farm g (Up
 
 -- An update that fits and expires what it reaches. The marks may be found by another test, which agrees with that on each key that is shown.
 pub renew_step : {D : Type 0} (state : D → Outside StoreTold) (told : Bool) (farm : FarmSeen D) (g : List Entry) (n : ℕ) (new : List Layer) (test : Key → Bool) (ms : MarksSeen) → n < length farm.plan.updates → update_result (update_of farm.plan n) farm.data_now ≡ Ok new → AreApart shown_key farm.marks.shown →
-    ((k : Key) → is_some (mark_of farm.marks.shown k) ≡ true → test k ≡ reaches_of farm.plan farm.data_now n k) → ((k : Key) → mark_of ms.shown k ≡ option_map (soiled (test k)) (mark_of farm.marks.shown k)) → StandsFor state told farm g →
-    StandsFor state told (record farm { counts = updated_counts farm.counts; data_now = new; changes = farm.changes ++ Past.Renew n ∷ []; taken = soil_taken (reaches_of farm.plan farm.data_now n) farm.taken; marks = ms })
+    ((k : Key) → is_some (mark_of farm.marks.shown k) ≡ true → test k ≡ reaches_of farm.plan farm.data_now n k) → ((k : Key) → mark_of ms.shown k ≡ option_map (dirtied (test k)) (mark_of farm.marks.shown k)) → StandsFor state told farm g →
+    StandsFor state told (record farm { counts = updated_counts farm.counts; data_now = new; changes = farm.changes ++ Past.Renew n ∷ []; taken = dirtied_taken (reaches_of farm.plan farm.data_now n) farm.taken; marks = ms })
     (Renew n (Renewed.Version (farm.counts.version + 1) (clean_marks test farm.marks.shown)) ∷ g)
 unfolding Fits data_after changes_after style_after flights shown failures waiting open_asks is_ended_after replies_to plan_of
 renew_step state told farm g n new test ms lt fits apart agree marks s =
     touching state told farm g e reach (updated_counts farm.counts) new (farm.changes ++ Past.Renew n ∷ []) farm.styled ms farm.queues s refl (λ k. ap (λ layers. reaches_of farm.plan layers n k) (sym s.data_is)) refl
     (lt, no_fault state told farm g n new fits s, ap (λ v. v + 1) s.counts_are.version_is, counted) (counts_renew farm.counts g n (farm.counts.version + 1) (clean_marks test farm.marks.shown) s.counts_are)
     (data_more farm.plan (data_after g) n farm.data_now new fits s.data_is) (ap (λ cs. cs ++ Past.Renew n ∷ []) s.changes_are) s.styles_are
-    (λ k. marks k ∙ soil_agree test reach (mark_of farm.marks.shown k) k (agree k))
+    (λ k. marks k ∙ dirtied_agree test reach (mark_of farm.marks.shown k) k (agree k))
     (queues_quiet farm.plan farm.queues g e refl refl refl refl s.queues_are) (store_quiet farm.plan (state farm.first).faults told g e (state farm.store) refl (λ k. refl) s.store_is)
   where
     reach : Key → Bool
@@ -140,13 +140,13 @@ style_there plan n r is = subst (λ m. n < m) (sym (length-map plan.restyles (λ
 -- a style that its map is given: all of the map is touched. The marks may be found by another test, which agrees with that on each key that is shown.
 pub restyle_step : {D : Type 0} (state : D → Outside StoreTold) (told : Bool) (farm : FarmSeen D) (g : List Entry) (n : ℕ) (r : PlanStyle) (test : Key → Bool) (st : List (Option ℕ)) (ms : MarksSeen) → slice_get farm.plan.restyles n ≡ Some r → AreApart shown_key farm.marks.shown →
     ((k : Key) → is_some (mark_of farm.marks.shown k) ≡ true → test k ≡ (r.map == k.map)) → ((m : ℕ) → m < length farm.plan.maps → slice_get st m ≡ cond (r.map == m) (Some (Some n)) (slice_get farm.styled m)) →
-    ((k : Key) → mark_of ms.shown k ≡ option_map (soiled (test k)) (mark_of farm.marks.shown k)) → StandsFor state told farm g →
-    StandsFor state told (record farm { counts = one_turn_more farm.counts; styled = st; taken = soil_taken (λ k. r.map == k.map) farm.taken; marks = ms }) (Restyle n (Styled (clean_marks test farm.marks.shown)) ∷ g)
+    ((k : Key) → mark_of ms.shown k ≡ option_map (dirtied (test k)) (mark_of farm.marks.shown k)) → StandsFor state told farm g →
+    StandsFor state told (record farm { counts = one_turn_more farm.counts; styled = st; taken = dirtied_taken (λ k. r.map == k.map) farm.taken; marks = ms }) (Restyle n (Styled (clean_marks test farm.marks.shown)) ∷ g)
 unfolding Fits data_after changes_after style_after flights shown failures waiting open_asks is_ended_after replies_to is_stopped numbers jobs asks_made done_asks stored_drawings
 restyle_step state told farm g n r test st ms is apart agree styles marks s =
     touching state told farm g e own (one_turn_more farm.counts) farm.data_now farm.changes st ms farm.queues s refl (λ k. style_map farm.plan n k.map r is) refl
     (in_table, counted) (counts_turn farm.counts g e (record { stopped_same = refl; version_same = refl; numbers_same = refl; jobs_same = refl; asks_same = refl; done_same = refl; stored_same = refl }) s.counts_are)
-    s.data_is s.changes_are styled_now (λ k. marks k ∙ soil_agree test own (mark_of farm.marks.shown k) k (agree k))
+    s.data_is s.changes_are styled_now (λ k. marks k ∙ dirtied_agree test own (mark_of farm.marks.shown k) k (agree k))
     (queues_quiet farm.plan farm.queues g e refl refl refl refl s.queues_are) (store_quiet farm.plan (state farm.first).faults told g e (state farm.store) refl (λ k. refl) s.store_is)
   where
     own : Key → Bool
@@ -177,8 +177,8 @@ restyle_unknown_step state told farm g n past s =
 
 -- ---- expiries
 
-pub expire_step : {D : Type 0} (state : D → Outside StoreTold) (told : Bool) (farm : FarmSeen D) (g : List Entry) (tile : Tile) (ms : MarksSeen) → AreApart shown_key farm.marks.shown → ((k : Key) → mark_of ms.shown k ≡ option_map (soiled (overlaps tile k)) (mark_of farm.marks.shown k)) → StandsFor state told farm g →
-    StandsFor state told (record farm { counts = one_turn_more farm.counts; taken = soil_taken (overlaps tile) farm.taken; marks = ms }) (Expire tile (clean_marks (overlaps tile) farm.marks.shown) ∷ g)
+pub expire_step : {D : Type 0} (state : D → Outside StoreTold) (told : Bool) (farm : FarmSeen D) (g : List Entry) (tile : Tile) (ms : MarksSeen) → AreApart shown_key farm.marks.shown → ((k : Key) → mark_of ms.shown k ≡ option_map (dirtied (overlaps tile k)) (mark_of farm.marks.shown k)) → StandsFor state told farm g →
+    StandsFor state told (record farm { counts = one_turn_more farm.counts; taken = dirtied_taken (overlaps tile) farm.taken; marks = ms }) (Expire tile (clean_marks (overlaps tile) farm.marks.shown) ∷ g)
 unfolding Fits data_after changes_after style_after flights shown failures waiting open_asks is_ended_after replies_to is_stopped numbers jobs asks_made done_asks stored_drawings
 expire_step state told farm g tile ms apart marks s =
     touching state told farm g e (overlaps tile) (one_turn_more farm.counts) farm.data_now farm.changes farm.styled ms farm.queues s refl (λ k. refl) refl

@@ -2,7 +2,7 @@
 use Rattle.std.proofs.Common.{◌≡◌, ℕ, Bool, true, false, not, cond, if◌then◌else◌, ◌==◌, List, ◌∷◌, length, Option, Some, None, option_map, Ok, Err, refl, sym, ap, ◌∙◌, subst}
 use Rattle.farm_base.specs.Outside.{Outside}
 use Rattle.tile_store.specs.declared.stores.StoreFault.TheVariants.{Failed}
-use Rattle.tile_store.specs.Stores.{StoreTold, Puts}
+use Rattle.tile_store.specs.Stores.{StoreTold, StorePuts}
 use Rattle.farm_history.specs.declared.keys.Key.{Key}
 use Rattle.farm_history.specs.declared.keys.Mark.{Mark}
 use Rattle.farm_history.specs.declared.queues.Outcome.{Outcome}
@@ -66,7 +66,7 @@ here p k j e h mark old new is own other = go (same_key k j) is own other
 
 -- A drawing that was stored. `touched` is what the farm keeps of it.
 pub finish_stored_step : {D : Type 0} (state : D → Outside StoreTold) (told : Bool) (farm : FarmSeen D) (h : List Entry) (job : JobSeen) (clean : Bool) (ms : MarksSeen) (d : D) → IsFlight farm.plan h job → ((x : Taken) → taken_at farm.taken job.ticket ≡ Some x → clean ≡ not x.touched) →
-    Puts (state farm.store) (state d) (key_path farm.plan (job_key job)) (job_text job) (Ok tt) → ((k : Key) → mark_of ms.shown k ≡ (if same_key (job_key job) k then Some (record { version = job.version; clean = clean }) else mark_of farm.marks.shown k)) → StandsFor state told farm h →
+    StorePuts (state farm.store) (state d) (key_path farm.plan (job_key job)) (job_text job) (Ok tt) → ((k : Key) → mark_of ms.shown k ≡ (if same_key (job_key job) k then Some (record { version = job.version; clean = clean }) else mark_of farm.marks.shown k)) → StandsFor state told farm h →
     StandsFor state told (record farm { counts = stored_counts farm.counts; taken = untaken job.ticket farm.taken; marks = ms; queues = stale_tables clean (after_end farm.queues (job_key job) Outcome.Done) (job_key job); store = d }) (Finish job.ticket true (Stored clean) ∷ h)
 unfolding waiting
 finish_stored_step state told farm h job clean ms d i cleaned puts marks s =
@@ -89,8 +89,8 @@ finish_stored_step state told farm h job clean ms d i cleaned puts marks s =
     fits : clean ≡ not (is_touched_after p h (length f.before) f.key)
     fits = cleaned (taken_of p h f) (ap (λ xs. taken_at xs job.ticket) s.taken_are ∙ (find-map (taken_of p h) (λ (x : Taken). x.ticket == job.ticket) (flights h) ∙ ap (option_map (taken_of p h)) i.is_flight))
 
-    put : Puts (state farm.store) (state d) (key_path farm.plan f.key) (text_before farm.plan f.before f.key) (Ok tt)
-    put = subst (λ bytes. Puts (state farm.store) (state d) (key_path farm.plan f.key) bytes (Ok tt)) (text_is farm.plan h job i) (subst (λ (k : Key). Puts (state farm.store) (state d) (key_path farm.plan k) (job_text job) (Ok tt)) (sym i.key_is) puts)
+    put : StorePuts (state farm.store) (state d) (key_path farm.plan f.key) (text_before farm.plan f.before f.key) (Ok tt)
+    put = subst (λ bytes. StorePuts (state farm.store) (state d) (key_path farm.plan f.key) bytes (Ok tt)) (text_is farm.plan h job i) (subst (λ (k : Key). StorePuts (state farm.store) (state d) (key_path farm.plan k) (job_text job) (Ok tt)) (sym i.key_is) puts)
 
     marked : (k : Key) → mark_of ms.shown k ≡ mark_after p (e ∷ h) k
     marked k = here p (job_key job) k e h (Some (record { version = job.version; clean = clean })) (mark_of farm.marks.shown k) (mark_of ms.shown k) (marks k)
@@ -109,14 +109,14 @@ uncounted_end t drawn Finished.NoMemory h other = record { stopped_same = refl; 
 
 -- One that the store refused.
 pub finish_lost_step : {D : Type 0} (state : D → Outside StoreTold) (told : Bool) (farm : FarmSeen D) (h : List Entry) (job : JobSeen) (bytes : List ℕ) (ms : MarksSeen) (d : D) → IsFlight farm.plan h job →
-    Puts (state farm.store) (state d) (key_path farm.plan (job_key job)) bytes (Err Failed) → ((k : Key) → mark_of ms.shown k ≡ (if same_key (job_key job) k then None else mark_of farm.marks.shown k)) → StandsFor state told farm h →
+    StorePuts (state farm.store) (state d) (key_path farm.plan (job_key job)) bytes (Err Failed) → ((k : Key) → mark_of ms.shown k ≡ (if same_key (job_key job) k then None else mark_of farm.marks.shown k)) → StandsFor state told farm h →
     StandsFor state told (record farm { counts = one_turn_more farm.counts; taken = untaken job.ticket farm.taken; marks = ms; queues = after_end farm.queues (job_key job) Outcome.NotDone; store = d }) (Finish job.ticket true PutFailed ∷ h)
 unfolding waiting
 finish_lost_step state told farm h job bytes ms d i puts marks s =
     ended state told farm h job.ticket true PutFailed f (one_turn_more farm.counts) ms (after_end farm.queues (job_key job) Outcome.NotDone) d i.is_flight tt
     (counts_turn farm.counts h e (uncounted_end job.ticket true PutFailed h (λ clean is. cc)) s.counts_are) marked
     (subst (λ (k : Key). QueuesStand farm.plan (after_end farm.queues k Outcome.NotDone) (e ∷ h)) i.key_is (queues_end farm.plan farm.queues h job.ticket true PutFailed f (tickets_differ p told h s.legal) (kept p told h s.legal).single i.is_flight refl s.queues_are))
-    (store_lost farm.plan (state farm.first).faults told h job.ticket true f bytes (state farm.store) (state d) s.valid s.legal i.is_flight (subst (λ (k : Key). Puts (state farm.store) (state d) (key_path farm.plan k) bytes (Err Failed)) (sym i.key_is) puts) s.store_is) s
+    (store_lost farm.plan (state farm.first).faults told h job.ticket true f bytes (state farm.store) (state d) s.valid s.legal i.is_flight (subst (λ (k : Key). StorePuts (state farm.store) (state d) (key_path farm.plan k) bytes (Err Failed)) (sym i.key_is) puts) s.store_is) s
   where
     p : Plan
     p = plan_of farm.plan

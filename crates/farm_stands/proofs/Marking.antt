@@ -7,12 +7,12 @@ use Rattle.farm_history.specs.declared.keys.Mark.{Mark}
 use Rattle.farm_history.specs.Entries.{Entry}
 use Rattle.farm_history.specs.Plans.{Plan, AreApart, same_key}
 use Rattle.farm_history.specs.Past.{shown, is_fresh, is_clean, clean_count, touches}
-use Rattle.farm_history.specs.Seen.{soiled, mark_at, mark_after, mark_in, is_clean_mark}
+use Rattle.farm_history.specs.Seen.{dirtied, mark_at, mark_after, mark_in, is_clean_mark}
 use Rattle.farm_history.proofs.Lists.{same_key-self}
 use Rattle.farm_history.proofs.Counts.{count-cons}
-use Rattle.farm_history.proofs.Marks.{is_finish, mark_soiled}
-use Rattle.farm_history.proofs.Marked.{soiled_marks, counted_marks}
-use Rattle.expiry_lists.specs.Marks.{Shown, shown_key, mark_of, soil_mark, soil_marks, clean_marks}
+use Rattle.farm_history.proofs.Marks.{is_finish, mark_dirtied}
+use Rattle.farm_history.proofs.Marked.{dirtied_rows, counted_marks}
+use Rattle.expiry_lists.specs.Marks.{Shown, shown_key, mark_of, dirtied_mark, dirtied_marks, clean_marks}
 
 abbrev mark_here : Shown → Option Mark
 mark_here s = Some s.mark
@@ -26,14 +26,14 @@ in_is rows k = go (find (λ (s : Shown). same_key k s.key) rows)
     go (Some s) = refl
 
 -- what touches keys makes their marks dirty
-pub soil_at : (test : Key → Bool) (rows : List Shown) (k : Key) → mark_of (soil_marks test rows) k ≡ option_map (soiled (test k)) (mark_of rows k)
-soil_at test rows k =
-    sym (in_is (soil_marks test rows) k) ∙ (soiled_marks shown_key mark_here (soil_mark test) test (λ s. refl) (λ s. refl) rows k ∙ ap (option_map (soiled (test k))) (in_is rows k))
+pub dirtied_at : (test : Key → Bool) (rows : List Shown) (k : Key) → mark_of (dirtied_marks test rows) k ≡ option_map (dirtied (test k)) (mark_of rows k)
+dirtied_at test rows k =
+    sym (in_is (dirtied_marks test rows) k) ∙ (dirtied_rows shown_key mark_here (dirtied_mark test) test (λ s. refl) (λ s. refl) rows k ∙ ap (option_map (dirtied (test k))) (in_is rows k))
 
 -- tests that agree on what is shown do the same
-pub soil_agree : (test also : Key → Bool) (m : Option Mark) (k : Key) → (is_some m ≡ true → test k ≡ also k) → option_map (soiled (test k)) m ≡ option_map (soiled (also k)) m
-soil_agree test also None k agree = refl
-soil_agree test also (Some m) k agree = ap (λ b. Some (soiled b m)) (agree refl)
+pub dirtied_agree : (test also : Key → Bool) (m : Option Mark) (k : Key) → (is_some m ≡ true → test k ≡ also k) → option_map (dirtied (test k)) m ≡ option_map (dirtied (also k)) m
+dirtied_agree test also None k agree = refl
+dirtied_agree test also (Some m) k agree = ap (λ b. Some (dirtied b m)) (agree refl)
 
 -- each that is shown has a mark
 found_some : (rows : List Shown) (s : Shown) → list_any (λ (x : Shown). same_key s.key x.key) rows ≡ true → is_some (mark_of rows s.key) ≡ true
@@ -57,9 +57,9 @@ clean_agree test also rows agree = count_agree test also rows rows agree (λ s h
 
 -- the marks after an entry that touches the keys which pass the test
 pub marks_touched : (p : Plan) (g : List Entry) (e : Entry) (test : Key → Bool) (old new : List Shown) → is_finish e ≡ false → ((k : Key) → touches p g e k ≡ test k) →
-    ((k : Key) → mark_of new k ≡ option_map (soiled (test k)) (mark_of old k)) → ((k : Key) → mark_of old k ≡ mark_after p g k) → (k : Key) → mark_of new k ≡ mark_after p (e ∷ g) k
+    ((k : Key) → mark_of new k ≡ option_map (dirtied (test k)) (mark_of old k)) → ((k : Key) → mark_of old k ≡ mark_after p g k) → (k : Key) → mark_of new k ≡ mark_after p (e ∷ g) k
 marks_touched p g e test old new no_finish tests marks are k =
-    marks k ∙ (ap₂ (λ b m. option_map (soiled b) m) (sym (tests k)) (are k) ∙ sym (mark_soiled p g e k no_finish))
+    marks k ∙ (ap₂ (λ b m. option_map (dirtied b) m) (sym (tests k)) (are k) ∙ sym (mark_dirtied p g e k no_finish))
 
 -- and how many of them were clean
 pub marks_counted : (p : Plan) (g : List Entry) (test : Key → Bool) (rows : List Shown) → AreApart shown_key rows → ((k : Key) → mark_of rows k ≡ mark_after p g k) → clean_count p g test ≡ clean_marks test rows

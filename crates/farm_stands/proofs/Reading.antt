@@ -15,7 +15,7 @@ use Rattle.plain_drawing.specs.Metatiles.{tiles_of}
 use Rattle.meta_container.specs.declared.container.Entry.{Entry as Span}
 use Rattle.meta_container.specs.Container.{head_len, container_of}
 use Rattle.meta_container.specs.Reading.{entry_found}
-use Rattle.meta_container.specs.Laws.{tile_of as tile_at}
+use Rattle.meta_container.specs.Laws.{meta_tile as tile_at}
 use Rattle.meta_container.proofs.Written.{entries_come_back}
 use Rattle.meta_container.proofs.Drawn.{drawn_are_tiles, drawn_in_place}
 use Rattle.farm_history.specs.declared.keys.Key.{Key}
@@ -24,7 +24,7 @@ use Rattle.farm_history.specs.declared.asks.Spot.{Spot}
 use Rattle.farm_history.specs.declared.answers.Fetched.{Fetched}
 use Rattle.farm_history.specs.declared.answers.Looked.{Looked}
 use Rattle.farm_history.specs.Entries.{Entry, Fetch, Look}
-use Rattle.farm_history.specs.Plans.{Plan, key_of, map_of, tile_of, is_servable}
+use Rattle.farm_history.specs.Plans.{Plan, key_of, map_of, spot_tile, is_servable}
 use Rattle.farm_history.specs.Past.{is_stopped, data_after, version, style_after, drawn_after, flights, jobs, numbers, asks_made, done_asks, stored_drawings, shown, waiting, open_asks, is_ended_after, replies_to, is_touched_after}
 use Rattle.farm_history.specs.Rules.{ReadFits, ShownFits, look_at as look_of, look_rule, Fits}
 use Rattle.farm_history.specs.Seen.{mark_at, mark_after, waiting_asks, outbox}
@@ -48,8 +48,8 @@ use Rattle.farm_stands.proofs.Stepping.{LeavesAll, quiet, is_idle, idle, idle_st
 -- in the container of a spot's metatile the tile's entry is found, and its part is the tile's drawing
 record Comes (plan : FarmPlan) (spot : Spot) (styled : Option ℕ) (layers : List Layer) (text : List ℕ) : Type 0 where
   entry : Span
-  is_entry : entry_found (take head_len text) (key_of spot).meta (index_place (tile_of spot)) ≡ Ok entry
-  part_is : take entry.size (drop entry.offset text) ≡ tile_in plan (slice_get plan.maps (map_of spot)) styled (tile_of spot) layers
+  is_entry : entry_found (take head_len text) (key_of spot).meta (index_place (spot_tile spot)) ≡ Ok entry
+  part_is : take entry.size (drop entry.offset text) ≡ tile_in plan (slice_get plan.maps (map_of spot)) styled (spot_tile spot) layers
   size_is : entry.size ≡ length (take entry.size (drop entry.offset text))
 
 comes : (plan : FarmPlan) (spot : Spot) (styled : Option ℕ) (layers : List Layer) → IsSpotOf plan spot → Comes plan spot styled layers (container_bytes plan (key_of spot) styled layers)
@@ -61,10 +61,10 @@ comes plan spot styled layers at = subst (λ text. Comes plan spot styled layers
 })
   where
     m : Meta
-    m = meta_of (tile_of spot)
+    m = meta_of (spot_tile spot)
 
     t : Tile
-    t = tile_of spot
+    t = spot_tile spot
 
     style : MapStyle
     style = styled_as plan at.map styled
@@ -84,20 +84,20 @@ one_entry : (x y : Span) → ◌≡◌ {A = Result Span MetaFault} (Ok x) (Ok y)
 one_entry x y e = cc
 
 -- so a part that is read of it is the drawing
-part_drawn : (plan : FarmPlan) (spot : Spot) (styled : Option ℕ) (layers : List Layer) (text bytes : List ℕ) (content : Option (List ℕ)) → Comes plan spot styled layers text → content ≡ Some text → IsTilePart content (key_of spot).meta (index_place (tile_of spot)) bytes →
-    bytes ≡ tile_in plan (slice_get plan.maps (map_of spot)) styled (tile_of spot) layers
+part_drawn : (plan : FarmPlan) (spot : Spot) (styled : Option ℕ) (layers : List Layer) (text bytes : List ℕ) (content : Option (List ℕ)) → Comes plan spot styled layers text → content ≡ Some text → IsTilePart content (key_of spot).meta (index_place (spot_tile spot)) bytes →
+    bytes ≡ tile_in plan (slice_get plan.maps (map_of spot)) styled (spot_tile spot) layers
 part_drawn plan spot styled layers text bytes content c held part =
     let same : text ≡ part.held = one_text text part.held (sym held ∙ part.is_held) in
-    let found : ◌≡◌ {A = Result Span MetaFault} (Ok c.entry) (Ok part.entry) = sym c.is_entry ∙ (ap (λ (x : List ℕ). entry_found (take head_len x) (key_of spot).meta (index_place (tile_of spot))) same ∙ part.is_entry) in
+    let found : ◌≡◌ {A = Result Span MetaFault} (Ok c.entry) (Ok part.entry) = sym c.is_entry ∙ (ap (λ (x : List ℕ). entry_found (take head_len x) (key_of spot).meta (index_place (spot_tile spot))) same ∙ part.is_entry) in
     let entry : c.entry ≡ part.entry = one_entry c.entry part.entry found in
     part.bytes_are ∙ (ap₂ (λ (x : Span) (y : List ℕ). take x.size (drop x.offset y)) (sym entry) (sym same) ∙ c.part_is)
 
 -- and it is not spoilt
-not_spoilt : (plan : FarmPlan) (spot : Spot) (styled : Option ℕ) (layers : List Layer) (text : List ℕ) (content : Option (List ℕ)) (fault : MetaFault) → Comes plan spot styled layers text → content ≡ Some text → IsSpoilt content (key_of spot).meta (index_place (tile_of spot)) fault → ⊥
+not_spoilt : (plan : FarmPlan) (spot : Spot) (styled : Option ℕ) (layers : List Layer) (text : List ℕ) (content : Option (List ℕ)) (fault : MetaFault) → Comes plan spot styled layers text → content ≡ Some text → IsSpoilt content (key_of spot).meta (index_place (spot_tile spot)) fault → ⊥
 not_spoilt plan spot styled layers text content fault c held spoilt =
     let same : text ≡ spoilt.held = one_text text spoilt.held (sym held ∙ spoilt.is_held) in
-    let found : entry_found (take head_len spoilt.held) (key_of spot).meta (index_place (tile_of spot)) ≡ Ok c.entry = ap (λ (x : List ℕ). entry_found (take head_len x) (key_of spot).meta (index_place (tile_of spot))) (sym same) ∙ c.is_entry in
-    let by = subst (SpoiltBy spoilt.held (index_place (tile_of spot)) fault) found spoilt.spoilt in
+    let found : entry_found (take head_len spoilt.held) (key_of spot).meta (index_place (spot_tile spot)) ≡ Ok c.entry = ap (λ (x : List ℕ). entry_found (take head_len x) (key_of spot).meta (index_place (spot_tile spot))) (sym same) ∙ c.is_entry in
+    let by = subst (SpoiltBy spoilt.held (index_place (spot_tile spot)) fault) found spoilt.spoilt in
     let short = by.1 in
     let whole : c.entry.size ≡ length (take c.entry.size (drop c.entry.offset spoilt.held)) = c.size_is ∙ ap (λ (x : List ℕ). length (take c.entry.size (drop c.entry.offset x))) same in
     absurd (omega (arith, short, whole))
@@ -118,7 +118,7 @@ on_true true h = h refl
 on_true false h = tt
 
 read_fits : (plan : FarmPlan) (since : ℕ) (told : Bool) (g : List Entry) (spot : Spot) (before : List Entry) (old new : Outside StoreTold) (read : Result (List ℕ) Fetched) → IsSpotOf plan spot → StoreStands plan since told g old → shown g (key_of spot) ≡ Some before →
-    ReadsTile old new (key_path plan (key_of spot)) (key_of spot).meta (index_place (tile_of spot)) read →
+    ReadsTile old new (key_path plan (key_of spot)) (key_of spot).meta (index_place (spot_tile spot)) read →
     ReadFits (plan_of plan) told g spot before (fetched_by (record { version = version before; clean = not (is_touched_after (plan_of plan) g (length before) (key_of spot)) }) read)
 unfolding plan_of
 read_fits plan since told g spot before old new (Ok bytes) at s is reads = go (is_touched_after (plan_of plan) g (length before) (key_of spot)) refl
@@ -181,7 +181,7 @@ fetch_missing_step state told farm g spot on none s =
     p = plan_of farm.plan
 
 -- the store after a read: as it was, or with one more failed call
-store_read : (plan : FarmPlan) (since : ℕ) (told : Bool) (g : List Entry) (spot : Spot) (m : Mark) (old new : Outside StoreTold) (read : Result (List ℕ) Fetched) → IsPlan plan → is_servable (plan_of plan) spot ≡ true → ReadsTile old new (key_path plan (key_of spot)) (key_of spot).meta (index_place (tile_of spot)) read →
+store_read : (plan : FarmPlan) (since : ℕ) (told : Bool) (g : List Entry) (spot : Spot) (m : Mark) (old new : Outside StoreTold) (read : Result (List ℕ) Fetched) → IsPlan plan → is_servable (plan_of plan) spot ≡ true → ReadsTile old new (key_path plan (key_of spot)) (key_of spot).meta (index_place (spot_tile spot)) read →
     StoreStands plan since told g old → StoreStands plan since told (Fetch spot (fetched_by m read) ∷ g) new
 unfolding failures shown
 store_read plan since told g spot m old new (Ok bytes) valid on reads s = go m.clean
@@ -194,7 +194,7 @@ store_read plan since told g spot m old new (Err answer) valid on reads s = go a
     still : (a : Fetched) → is_idle (Fetch spot a) ≡ true → new ≡ old → StoreStands plan since told (Fetch spot a ∷ g) new
     still a is same = let i = idle plan g (Fetch spot a) is in store_quiet plan since told g (Fetch spot a) new i.same_failures i.same_shown (subst (StoreStands plan since told g) (sym same) s)
 
-    go : (a : Fetched) → ReadsTile old new (key_path plan (key_of spot)) (key_of spot).meta (index_place (tile_of spot)) (Err a) → StoreStands plan since told (Fetch spot a ∷ g) new
+    go : (a : Fetched) → ReadsTile old new (key_path plan (key_of spot)) (key_of spot).meta (index_place (spot_tile spot)) (Err a) → StoreStands plan since told (Fetch spot a ∷ g) new
     go Fetched.Gone r = still Fetched.Gone refl r.0
     go (Fetched.Spoilt fault) r = still (Fetched.Spoilt fault) refl r.0
     go Fetched.GetFailed r = store_ungot plan since told g spot old new valid on r.0 r.1 s
@@ -224,7 +224,7 @@ fetch_rest plan g spot answer = record {
 
 -- a fetch of what is shown, as the read of its container gave it
 pub fetch_read_step : {D : Type 0} (state : D → Outside StoreTold) (told : Bool) (farm : FarmSeen D) (g : List Entry) (spot : Spot) (m : Mark) (read : Result (List ℕ) Fetched) (d : D) → is_servable (plan_of farm.plan) spot ≡ true → mark_of farm.marks.shown (key_of spot) ≡ Some m →
-    ReadsTile (state farm.store) (state d) (key_path farm.plan (key_of spot)) (key_of spot).meta (index_place (tile_of spot)) read → StandsFor state told farm g →
+    ReadsTile (state farm.store) (state d) (key_path farm.plan (key_of spot)) (key_of spot).meta (index_place (spot_tile spot)) read → StandsFor state told farm g →
     StandsFor state told (record farm { counts = one_turn_more farm.counts; store = d }) (Fetch spot (fetched_by m read) ∷ g)
 unfolding Fits
 fetch_read_step state told farm g spot m read d on marked reads s =

@@ -15,7 +15,7 @@ use Rattle.farm_history.specs.Plans.{Plan, AreApart, same_key}
 use Rattle.farm_history.specs.Past.{is_stopped, data_after, version, jobs, numbers, asks_made, done_asks, stored_drawings, shown, clean_count, Numbered, replies_to}
 use Rattle.farm_history.specs.Rules.{Fits}
 use Rattle.farm_history.specs.Laws.{flight_key}
-use Rattle.farm_history.specs.Seen.{has_no_end, soiled, mark_at, mark_after, in_queue, waiting_asks, outbox}
+use Rattle.farm_history.specs.Seen.{has_no_end, dirtied, mark_at, mark_after, in_queue, waiting_asks, outbox}
 use Rattle.farm_history.specs.Replays.{Saving, replay_key, replay_change, past_number, changes_after}
 use Rattle.farm_history.proofs.Lists.{same_key-true}
 use Rattle.farm_history.proofs.Keyed.{IsServed}
@@ -28,7 +28,7 @@ use Rattle.render_queues.specs.Tables.{Tables}
 use Rattle.expiry_lists.specs.Marks.{MarksSeen, shown_key, mark_of, clean_marks}
 use Rattle.farm_stands.specs.Seen.{Counts, FarmSeen}
 use Rattle.farm_stands.specs.Stands.{waits_key, asked_of, failures, Accounts, HoldsShown, CountsStand, QueuesStand, StoreStands, StandsFor}
-use Rattle.farm_stands.specs.inner.Events.{one_turn_more, updated_counts, replayed_counts, soil_taken}
+use Rattle.farm_stands.specs.inner.Events.{one_turn_more, updated_counts, replayed_counts, dirtied_taken}
 use Rattle.farm_stands.proofs.Changing.{no_fault, update_step, renew_step, restyle_step}
 
 -- a farm in the midst of its replay: nothing waits, flies or is open, the history is legal whatever is told of the store, and the farm stands for it but for what the store holds
@@ -175,8 +175,8 @@ replay_update_step state farm g n new lt fits r = record {
 
 -- A renew that is made again.
 pub replay_renew_step : {D : Type 0} (state : D → Outside StoreTold) (farm : FarmSeen D) (g : List Entry) (n : ℕ) (new : List Layer) (test : Key → Bool) (ms : MarksSeen) → n < length farm.plan.updates → update_result (update_of farm.plan n) farm.data_now ≡ Ok new → AreApart shown_key farm.marks.shown →
-    ((k : Key) → is_some (mark_of farm.marks.shown k) ≡ true → test k ≡ reaches_of farm.plan farm.data_now n k) → ((k : Key) → mark_of ms.shown k ≡ option_map (soiled (test k)) (mark_of farm.marks.shown k)) → Replays state farm g →
-    Replays state (record farm { counts = updated_counts farm.counts; data_now = new; changes = farm.changes ++ Past.Renew n ∷ []; taken = soil_taken (reaches_of farm.plan farm.data_now n) farm.taken; marks = ms }) (replay_change (plan_of farm.plan) (Past.Renew n) g)
+    ((k : Key) → is_some (mark_of farm.marks.shown k) ≡ true → test k ≡ reaches_of farm.plan farm.data_now n k) → ((k : Key) → mark_of ms.shown k ≡ option_map (dirtied (test k)) (mark_of farm.marks.shown k)) → Replays state farm g →
+    Replays state (record farm { counts = updated_counts farm.counts; data_now = new; changes = farm.changes ++ Past.Renew n ∷ []; taken = dirtied_taken (reaches_of farm.plan farm.data_now n) farm.taken; marks = ms }) (replay_change (plan_of farm.plan) (Past.Renew n) g)
 replay_renew_step state farm g n new test ms lt fits apart agree marks r = record {
   quiet = λ told. change_legal (plan_of farm.plan) told (Past.Renew n) g (fits_again state farm g (Past.Renew n) new lt fits r.stands) (r.quiet told);
   stands = as_fits state _ g n (farm.counts.version + 1) (clean_marks test farm.marks.shown) (renew_step state false farm g n new test ms lt fits apart agree marks r.stands);
@@ -186,11 +186,11 @@ replay_renew_step state farm g n new test ms lt fits apart agree marks r = recor
 -- A style that its map is given again, before anything is shown.
 pub replay_style_step : {D : Type 0} (state : D → Outside StoreTold) (farm : FarmSeen D) (g : List Entry) (n : ℕ) (s : PlanStyle) (st : List (Option ℕ)) → slice_get farm.plan.restyles n ≡ Some s → farm.marks.shown ≡ [] →
     ((m : ℕ) → m < length farm.plan.maps → slice_get st m ≡ cond (s.map == m) (Some (Some n)) (slice_get farm.styled m)) → ((told : Bool) → IsQuiet (plan_of farm.plan) told (Restyle n (Styled 0) ∷ g)) → Replays state farm g →
-    Replays state (record farm { counts = one_turn_more farm.counts; styled = st; taken = soil_taken (λ k. s.map == k.map) farm.taken }) (Restyle n (Styled 0) ∷ g)
+    Replays state (record farm { counts = one_turn_more farm.counts; styled = st; taken = dirtied_taken (λ k. s.map == k.map) farm.taken }) (Restyle n (Styled 0) ∷ g)
 replay_style_step state farm g n s st is none styles now r = record {
   quiet = now;
-  stands = subst (λ count. StandsFor state false (record farm { counts = one_turn_more farm.counts; styled = st; taken = soil_taken (λ k. s.map == k.map) farm.taken }) (Restyle n (Styled count) ∷ g)) (ap (clean_marks own) none)
-      (restyle_step state false farm g n s own st farm.marks is (subst (AreApart shown_key) (sym none) tt) (λ k there. refl) styles (λ k. ap (λ rows. mark_of rows k) none ∙ sym (ap (λ rows. option_map (soiled (own k)) (mark_of rows k)) none)) r.stands);
+  stands = subst (λ count. StandsFor state false (record farm { counts = one_turn_more farm.counts; styled = st; taken = dirtied_taken (λ k. s.map == k.map) farm.taken }) (Restyle n (Styled count) ∷ g)) (ap (clean_marks own) none)
+      (restyle_step state false farm g n s own st farm.marks is (subst (AreApart shown_key) (sym none) tt) (λ k there. refl) styles (λ k. ap (λ rows. mark_of rows k) none ∙ sym (ap (λ rows. option_map (dirtied (own k)) (mark_of rows k)) none)) r.stands);
   unfailed = style_unfailed farm.plan n 0 g ∙ r.unfailed;
 }
   where

@@ -4,7 +4,7 @@ use Rattle.std.specs.Prelude.{codes, IfSome}
 use Rattle.std.specs.List.{ends_with}
 use Rattle.farm_base.specs.Outside.{Outside}
 use Rattle.tile_store.specs.declared.stores.StoreFault.{StoreFault}
-use Rattle.tile_store.specs.Stores.{StoreTold, Puts}
+use Rattle.tile_store.specs.Stores.{StoreTold, StorePuts}
 use Rattle.farm_history.specs.declared.queues.Queue.{Queue}
 use Rattle.farm_history.specs.declared.queues.Limits.{Limits}
 use Rattle.farm_history.specs.Entries.{Entry}
@@ -64,7 +64,7 @@ start_step state told plan saved store st ms valid styles empty counted tells = 
 }
 
 -- a put at a path that does not end in `.meta` changes nothing that the farm stands for
-pub beside_step : {D : Type 0} (state : D → Outside StoreTold) (told : Bool) (farm : FarmSeen D) (h : List Entry) (path bytes : List ℕ) (d : D) (r : Result (Unit {0}) StoreFault) → ends_with (λ a b. a == b) path (codes ".meta") ≡ false → Puts (state farm.store) (state d) path bytes r →
+pub beside_step : {D : Type 0} (state : D → Outside StoreTold) (told : Bool) (farm : FarmSeen D) (h : List Entry) (path bytes : List ℕ) (d : D) (r : Result (Unit {0}) StoreFault) → ends_with (λ a b. a == b) path (codes ".meta") ≡ false → StorePuts (state farm.store) (state d) path bytes r →
     StandsFor state told farm h → StandsFor state told (record farm { store = d }) h
 beside_step state told farm h path bytes d r beside puts s = record {
   valid = s.valid;

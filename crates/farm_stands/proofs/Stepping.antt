@@ -14,16 +14,16 @@ use Rattle.farm_history.specs.declared.answers.Collected.{Collected}
 use Rattle.farm_history.specs.Entries.{Entry, Ask, Claim, Finish, Update, Renew, Restyle, Expire, Fetch, Collect, Leave, Stop}
 use Rattle.farm_history.specs.Past.{is_stopped, data_after, style_after, flights, jobs, numbers, asks_made, done_asks, stored_drawings, shown, waiting, open_asks, is_ended_after, replies_to, touches}
 use Rattle.farm_history.specs.Rules.{Fits}
-use Rattle.farm_history.specs.Seen.{soiled, waiting_asks, outbox}
+use Rattle.farm_history.specs.Seen.{dirtied, waiting_asks, outbox}
 use Rattle.farm_history.specs.Replays.{changes_after}
-use Rattle.farm_history.proofs.Marks.{is_finish, mark_quiet, taken_soiled, taken_quiet}
+use Rattle.farm_history.proofs.Marks.{is_finish, mark_quiet, taken_dirtied, taken_quiet}
 use Rattle.farm_plan.specs.Plans.{FarmPlan}
 use Rattle.farm_plan.specs.Drawings.{plan_of, data_of}
 use Rattle.render_queues.specs.Tables.{Tables}
 use Rattle.expiry_lists.specs.Marks.{MarksSeen, mark_of}
 use Rattle.farm_stands.specs.Seen.{Counts, FarmSeen}
 use Rattle.farm_stands.specs.Stands.{failures, CountsStand, QueuesStand, StoreStands, StandsFor}
-use Rattle.farm_stands.specs.inner.Events.{one_turn_more, soil_taken}
+use Rattle.farm_stands.specs.inner.Events.{one_turn_more, dirtied_taken}
 use Rattle.farm_stands.proofs.Storing.{store_quiet}
 use Rattle.farm_stands.proofs.Counting.{IsUncounted, counts_turn}
 use Rattle.farm_stands.proofs.Queueing.{queues_quiet}
@@ -77,8 +77,8 @@ same_tests q r same = λ i k. same k i
 pub touching : {D : Type 0} (state : D → Outside StoreTold) (told : Bool) (farm : FarmSeen D) (g : List Entry) (e : Entry) (test : Key → Bool) (c : Counts) (d : List Layer) (cs : List Past) (st : List (Option ℕ)) (ms : MarksSeen) (t : Tables) →
     StandsFor state told farm g → is_finish e ≡ false → ((k : Key) → touches (plan_of farm.plan) g e k ≡ test k) → flights (e ∷ g) ≡ flights g → Fits (plan_of farm.plan) told g e →
     CountsStand c (e ∷ g) → d ≡ data_of farm.plan (data_after (e ∷ g)) → cs ≡ changes_after (e ∷ g) → ((m : ℕ) → m < length farm.plan.maps → slice_get st m ≡ Some (style_after (plan_of farm.plan) (e ∷ g) m)) →
-    ((k : Key) → mark_of ms.shown k ≡ option_map (soiled (test k)) (mark_of farm.marks.shown k)) → QueuesStand farm.plan t (e ∷ g) → StoreStands farm.plan (state farm.first).faults told (e ∷ g) (state farm.store) →
-    StandsFor state told (record farm { counts = c; data_now = d; changes = cs; styled = st; taken = soil_taken test farm.taken; marks = ms; queues = t }) (e ∷ g)
+    ((k : Key) → mark_of ms.shown k ≡ option_map (dirtied (test k)) (mark_of farm.marks.shown k)) → QueuesStand farm.plan t (e ∷ g) → StoreStands farm.plan (state farm.first).faults told (e ∷ g) (state farm.store) →
+    StandsFor state told (record farm { counts = c; data_now = d; changes = cs; styled = st; taken = dirtied_taken test farm.taken; marks = ms; queues = t }) (e ∷ g)
 touching state told farm g e test c d cs st ms t stands no_finish tests same_flights fits counts data_now changes styles marks queues stored = record {
   valid = stands.valid;
   legal = (fits, stands.legal);
@@ -86,7 +86,7 @@ touching state told farm g e test c d cs st ms t stands no_finish tests same_fli
   data_is = data_now;
   changes_are = changes;
   styles_are = styles;
-  taken_are = ap₂ soil_taken (sym (same_tests (touches (plan_of farm.plan) g e) test tests)) stands.taken_are ∙ sym (taken_soiled (plan_of farm.plan) g e same_flights);
+  taken_are = ap₂ dirtied_taken (sym (same_tests (touches (plan_of farm.plan) g e) test tests)) stands.taken_are ∙ sym (taken_dirtied (plan_of farm.plan) g e same_flights);
   marks_are = marks_touched (plan_of farm.plan) g e test farm.marks.shown ms.shown no_finish tests marks stands.marks_are;
   queues_are = queues;
   store_is = stored;

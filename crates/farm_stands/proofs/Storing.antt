@@ -9,7 +9,7 @@ use Rattle.farm_base.specs.Outside.{Outside, Counted}
 use Rattle.tile_store.specs.declared.stores.StoreFault.{StoreFault}
 use Rattle.tile_store.specs.declared.stores.StoreFault.TheVariants.{Failed, NoMemory}
 use Rattle.tile_store.specs.Stores as store
-use Rattle.tile_store.specs.Stores.{StoreTold, failed_put, failed_get, with_failed_get, Puts}
+use Rattle.tile_store.specs.Stores.{StoreTold, failed_put, failed_get, with_failed_get, StorePuts}
 use Rattle.farm_history.specs.declared.keys.Key.{Key}
 use Rattle.farm_history.specs.declared.asks.Spot.{Spot}
 use Rattle.farm_history.specs.declared.answers.Finished.{Finished}
@@ -105,7 +105,7 @@ goes_on (Some b) n P Q R m step q = subst (λ x. IfSome x R) (sym m.1) (step b m
 
 -- A drawing that is stored.
 pub store_put : (plan : FarmPlan) (since : ℕ) (told : Bool) (g : List Entry) (t : ℕ) (clean : Bool) (f : Flight) (old new : Outside StoreTold) → IsPlan plan → Legal (plan_of plan) told g → flight_in (flights g) t ≡ Some f →
-    Puts old new (key_path plan f.key) (text_before plan f.before f.key) (Ok tt) → StoreStands plan since told g old → StoreStands plan since told (Finish t true (Stored clean) ∷ g) new
+    StorePuts old new (key_path plan f.key) (text_before plan f.before f.key) (Ok tt) → StoreStands plan since told g old → StoreStands plan since told (Finish t true (Stored clean) ∷ g) new
 unfolding failures shown
 store_put plan since told g t clean f old new valid legal is puts s = record {
   counted = subst (λ n. min (since + length (failures plan g)) (2 ^ 64 - 1) ≤ n) (sym puts.1) s.counted;
@@ -138,7 +138,7 @@ store_put plan since told g t clean f old new valid legal is puts s = record {
 
 -- One that the store refused.
 pub store_lost : (plan : FarmPlan) (since : ℕ) (told : Bool) (g : List Entry) (t : ℕ) (drawn : Bool) (f : Flight) (bytes : List ℕ) (old new : Outside StoreTold) → IsPlan plan → Legal (plan_of plan) told g → flight_in (flights g) t ≡ Some f →
-    Puts old new (key_path plan f.key) bytes (Err Failed) → StoreStands plan since told g old → StoreStands plan since told (Finish t drawn PutFailed ∷ g) new
+    StorePuts old new (key_path plan f.key) bytes (Err Failed) → StoreStands plan since told g old → StoreStands plan since told (Finish t drawn PutFailed ∷ g) new
 unfolding failures shown
 store_lost plan since told g t drawn f bytes old new valid legal is puts s = record {
   counted = one_counted plan since g e call old.faults new.faults more puts.1 s.counted;
@@ -216,7 +216,7 @@ beside_path : (plan : FarmPlan) (path : List ℕ) (k : Key) → IsKeyOf plan k �
 beside_path plan path k at beside = λ e. let ends = path_ends plan k at in let meta = on_meta path ends.0 true (sym e ∙ ends.1) in let never : true ≡ false = sym meta ∙ beside in cc
 
 pub store_beside : (plan : FarmPlan) (since : ℕ) (told : Bool) (g : List Entry) (path bytes : List ℕ) (old new : Outside StoreTold) (r : Result (Unit {0}) StoreFault) → IsPlan plan → Legal (plan_of plan) told g → ends_with (λ a b. a == b) path (codes ".meta") ≡ false →
-    Puts old new path bytes r → StoreStands plan since told g old → StoreStands plan since told g new
+    StorePuts old new path bytes r → StoreStands plan since told g old → StoreStands plan since told g new
 store_beside plan since told g path bytes old new (Ok done) valid legal beside puts s = record {
   counted = subst (λ n. min (since + length (failures plan g)) (2 ^ 64 - 1) ≤ n) (sym puts.1) s.counted;
   accounts = goes_on old.told new.told (λ b n. store.Stored b n path bytes) (Accounts plan since g) (Accounts plan since g) puts.0 (λ b n st a. record {

@@ -8,7 +8,7 @@ use Rattle.farm_shared.specs.Seats.{plain}
 use Rattle.farm_shared.specs.Shared.{Adds}
 use Rattle.render_workers.specs.declared.worker.WorkEnd.{WorkEnd}
 use Rattle.render_workers.specs.Rounds.{Worked, WorkOf}
-use Rattle.farm_threads.specs.declared.crew.Actor.{Actor}
+use Rattle.farm_threads.specs.declared.pool.Actor.{Actor}
 use Rattle.farm_threads.specs.Actors.{IsUnbegun, WorkBy, IsReady, HasWorked}
 
 module _ {T : Type 0} where

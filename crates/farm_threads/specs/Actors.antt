@@ -15,7 +15,7 @@ use Rattle.farm_shared.specs.Shared.{Adds}
 use Rattle.render_workers.specs.declared.worker.WorkEnd.{WorkEnd}
 use Rattle.render_workers.specs.Rounds.{WorkOf}
 use Rattle.farm_threads.specs.declared.each_front.EachFront.{EachFront}
-use Rattle.farm_threads.specs.declared.crew.Actor.{Actor}
+use Rattle.farm_threads.specs.declared.pool.Actor.{Actor}
 use Rattle.farm_threads.specs.declared.together.FrontSeats.{FrontSeats}
 
 -- Fronts.
@@ -63,12 +63,12 @@ WorkBy w (Some end) es = WorkOf w end es
 -- Seats.
 
 -- the first seat after the seats of the three fronts were joined into it
-abbrev pub with_posts : {T : Type 0} → SeatState T Entry → EachFront (SeatState T Entry) → SeatState T Entry
-with_posts v posts = joining (joining (joining v posts.renderd) posts.tiles) posts.control
+abbrev pub with_front_seats : {T : Type 0} → SeatState T Entry → EachFront (SeatState T Entry) → SeatState T Entry
+with_front_seats v seats = joining (joining (joining v seats.renderd) seats.tiles) seats.control
 
 module _ {T : Type 0} (made : Made T) where
   -- the seat of front n before the front begins
-  pub record IsPost (n : ℕ) (v : SeatState T Entry) : Type 0 where
+  pub record IsFrontSeat (n : ℕ) (v : SeatState T Entry) : Type 0 where
     pub seat : IsSeatOf made v
     pub known : Knows v
     pub number : v.number ≡ n + 1
@@ -97,12 +97,12 @@ module _ {T : Type 0} (made : Made T) where
   -- The end of the fronts.
 
   -- The first seat has joined the seats of the fronts, and has then stopped the farm. True where the Stop was entered, false where all turns were drawn
-  pub record HasEnded (v w : SeatState T Entry) (posts : EachFront (SeatState T Entry)) (entered : Bool) : Type 0 where
+  pub record HasEnded (v w : SeatState T Entry) (seats : EachFront (SeatState T Entry)) (entered : Bool) : Type 0 where
     pub seat : IsSeatOf made w
-    pub same : SameSeat (with_posts v posts) w
+    pub same : SameSeat (with_front_seats v seats) w
     pub known : Knows w
-    pub known_before : Knows (with_posts v posts)
-    pub stops : MatchBool entered (Adds Stop (with_posts v posts) w) (w ≡ worn_out (with_posts v posts))
+    pub known_before : Knows (with_front_seats v seats)
+    pub stops : MatchBool entered (Adds Stop (with_front_seats v seats) w) (w ≡ worn_out (with_front_seats v seats))
 
   -- A run.
 
@@ -110,16 +110,16 @@ module _ {T : Type 0} (made : Made T) where
   pub record AreStanding (n m k : ℕ) (front_seats : FrontSeats (SeatState T Entry)) : Type 0 where
     pub own : IsSeatOf made front_seats.own
     pub is_first : front_seats.own.first ≡ true
-    pub posts : EachFront (SeatState T Entry)
-    pub are : front_seats.posts ≡ Some posts
-    pub renderd : IsPost n posts.renderd
-    pub tiles : IsPost m posts.tiles
-    pub control : IsPost k posts.control
+    pub seats : EachFront (SeatState T Entry)
+    pub are : front_seats.seats ≡ Some seats
+    pub renderd : IsFrontSeat n seats.renderd
+    pub tiles : IsFrontSeat m seats.tiles
+    pub control : IsFrontSeat k seats.control
 
   -- The fronts have served through their seats, and left what they leave; then these were joined into the first seat, which stopped the farm
   pub record HaveServed (leaves leaves' leaves'' : Leaving) (old new : FrontSeats (SeatState T Entry)) (told told' : EachFront (Outside PortsTold)) (done : EachFront FrontDone) (entered : Bool) : Type 0 where
     pub began : EachFront (SeatState T Entry)
-    pub are : old.posts ≡ Some began
+    pub are : old.seats ≡ Some began
     pub ended : EachFront (SeatState T Entry)
     pub renderd : HasServed leaves began.renderd ended.renderd told.renderd told'.renderd done.renderd
     pub tiles : HasServed leaves' began.tiles ended.tiles told.tiles told'.tiles done.tiles

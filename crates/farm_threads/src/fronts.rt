@@ -1,7 +1,7 @@
 //! Three fronts in three threads, and what follows when they have ended.
 ghost use Rattle.std.specs.Prelude.{◌≡◌, true, []};
 ghost use Rattle.std.specs.Thread.{IsSend, IsSync};
-ghost use Rattle.farm_threads.specs.Actors.{HasEnded, HasServed, IsPost, IsUnbegun, with_posts, maps_of};
+ghost use Rattle.farm_threads.specs.Actors.{HasEnded, HasServed, IsFrontSeat, IsUnbegun, with_front_seats, maps_of};
 ghost use Rattle.farm_shared.specs.Seats.{plain};
 ghost use Rattle.turn_cell.specs.SeatStates.{IsSeatOf, Knows, SameSeat};
 
@@ -43,7 +43,7 @@ fn turn_away<R: Wait, D: TileStore>(
 }
 
 /// A front in its thread: it serves where all actors have begun. When it has ended all are woken.
-fn serve_post<R: Wait + Clock, D: TileStore, F: Serving, P: Ports, B: Bell>(
+fn serve_front<R: Wait + Clock, D: TileStore, F: Serving, P: Ports, B: Bell>(
     rt: &R,
     alloc: Global,
     front: &F,
@@ -53,7 +53,7 @@ fn serve_post<R: Wait + Clock, D: TileStore, F: Serving, P: Ports, B: Bell>(
     barrier: &StartBarrier,
     bells: &Bells<B>,
 ) -> FrontDone
-    requires { IsPost farm.now (F.number front.now) seat.old }
+    requires { IsFrontSeat farm.now (F.number front.now) seat.old }
     ensures { HasServed farm.now (F.leaves front.now (maps_of farm.now)) seat.old seat.new
         (P.state ports.old) (P.state ports.new) result }
 {
@@ -87,11 +87,11 @@ fn serve_renderd<
     ports: &mut P,
     bells: &Bells<B>,
 ) -> FrontDone
-    requires { IsPost farm.now (F.number actors.now.fronts.renderd) seat.old }
+    requires { IsFrontSeat farm.now (F.number actors.now.fronts.renderd) seat.old }
     ensures { HasServed farm.now (F.leaves actors.now.fronts.renderd (maps_of farm.now)) seat.old
         seat.new (P.state ports.old) (P.state ports.new) result }
 {
-    serve_post(
+    serve_front(
         rt,
         actors.alloc,
         &actors.fronts.renderd,
@@ -120,11 +120,11 @@ fn serve_tiles<
     ports: &mut P,
     bells: &Bells<B>,
 ) -> FrontDone
-    requires { IsPost farm.now (G.number actors.now.fronts.tiles) seat.old }
+    requires { IsFrontSeat farm.now (G.number actors.now.fronts.tiles) seat.old }
     ensures { HasServed farm.now (G.leaves actors.now.fronts.tiles (maps_of farm.now)) seat.old
         seat.new (P.state ports.old) (P.state ports.new) result }
 {
-    serve_post(
+    serve_front(
         rt,
         actors.alloc,
         &actors.fronts.tiles,
@@ -153,11 +153,11 @@ fn serve_control<
     ports: &mut P,
     bells: &Bells<B>,
 ) -> FrontDone
-    requires { IsPost farm.now (H.number actors.now.fronts.control) seat.old }
+    requires { IsFrontSeat farm.now (H.number actors.now.fronts.control) seat.old }
     ensures { HasServed farm.now (H.leaves actors.now.fronts.control (maps_of farm.now)) seat.old
         seat.new (P.state ports.old) (P.state ports.new) result }
 {
-    serve_post(
+    serve_front(
         rt,
         actors.alloc,
         &actors.fronts.control,
@@ -170,7 +170,7 @@ fn serve_control<
 }
 
 /// The three fronts, each in a thread of its own, through its own seat and on its own ports.
-pub fn serve_posts<
+pub fn serve_fronts<
     R: Threads + Wait + Clock + Sync,
     D: TileStore + Send,
     F: Serving + Sync,
@@ -182,30 +182,30 @@ pub fn serve_posts<
     rt: &R,
     actors: &RunActors<F, G, H>,
     farm: &SharedFarm<D>,
-    posts: &mut EachFront<Seat<D>>,
+    seats: &mut EachFront<Seat<D>>,
     p: &mut P,
     q: &mut P,
     r: &mut P,
     bells: &Bells<B>,
 ) -> EachFront<FrontDone>
-    requires renderd { IsPost farm.now (F.number actors.now.fronts.renderd) posts.old.renderd }
-    requires tiles { IsPost farm.now (G.number actors.now.fronts.tiles) posts.old.tiles }
-    requires control { IsPost farm.now (H.number actors.now.fronts.control) posts.old.control }
+    requires renderd { IsFrontSeat farm.now (F.number actors.now.fronts.renderd) seats.old.renderd }
+    requires tiles { IsFrontSeat farm.now (G.number actors.now.fronts.tiles) seats.old.tiles }
+    requires control { IsFrontSeat farm.now (H.number actors.now.fronts.control) seats.old.control }
     ensures renderd { HasServed farm.now (F.leaves actors.now.fronts.renderd (maps_of farm.now))
-        posts.old.renderd posts.new.renderd (P.state p.old) (P.state p.new) result.renderd }
+        seats.old.renderd seats.new.renderd (P.state p.old) (P.state p.new) result.renderd }
     ensures tiles { HasServed farm.now (G.leaves actors.now.fronts.tiles (maps_of farm.now))
-        posts.old.tiles posts.new.tiles (P.state q.old) (P.state q.new) result.tiles }
+        seats.old.tiles seats.new.tiles (P.state q.old) (P.state q.new) result.tiles }
     ensures control { HasServed farm.now (H.leaves actors.now.fronts.control (maps_of farm.now))
-        posts.old.control posts.new.control (P.state r.old) (P.state r.new) result.control }
+        seats.old.control seats.new.control (P.state r.old) (P.state r.new) result.control }
 {
     cross::<D>();
-    let one = &mut posts.renderd;
-    let two = &mut posts.tiles;
-    let three = &mut posts.control;
+    let one = &mut seats.renderd;
+    let two = &mut seats.tiles;
+    let three = &mut seats.control;
     let (renderd, (tiles, control)) = join_mut(
         rt,
         &mut || -> FrontDone
-            requires { IsPost farm.now (F.number actors.now.fronts.renderd) one.now }
+            requires { IsFrontSeat farm.now (F.number actors.now.fronts.renderd) one.now }
             ensures { HasServed farm.entry.now
                 (F.leaves actors.entry.now.fronts.renderd (maps_of farm.entry.now)) one.entry.now
                 one.exit.now (P.state p.entry.now) (P.state p.exit.now) result }
@@ -213,8 +213,8 @@ pub fn serve_posts<
         &mut || -> (FrontDone, FrontDone)
             requires { IsSync R.row × IsSync B.row × IsSend P.row × IsSend D.row × IsSync F.row
                 × IsSync G.row × IsSync H.row
-                × IsPost farm.now (G.number actors.now.fronts.tiles) two.now
-                × IsPost farm.now (H.number actors.now.fronts.control) three.now }
+                × IsFrontSeat farm.now (G.number actors.now.fronts.tiles) two.now
+                × IsFrontSeat farm.now (H.number actors.now.fronts.control) three.now }
             ensures { HasServed farm.entry.now
                 (G.leaves actors.entry.now.fronts.tiles (maps_of farm.entry.now)) two.entry.now
                 two.exit.now (P.state q.entry.now) (P.state q.exit.now) result.0
@@ -226,14 +226,14 @@ pub fn serve_posts<
             join_mut(
                 rt,
                 &mut || -> FrontDone
-                    requires { IsPost farm.now (G.number actors.now.fronts.tiles) two.now }
+                    requires { IsFrontSeat farm.now (G.number actors.now.fronts.tiles) two.now }
                     ensures { HasServed farm.entry.now
                         (G.leaves actors.entry.now.fronts.tiles (maps_of farm.entry.now))
                         two.entry.now two.exit.now (P.state q.entry.now)
                         (P.state q.exit.now) result }
                 { serve_tiles(rt, actors, farm, two, q, bells) },
                 &mut || -> FrontDone
-                    requires { IsPost farm.now (H.number actors.now.fronts.control) three.now }
+                    requires { IsFrontSeat farm.now (H.number actors.now.fronts.control) three.now }
                     ensures { HasServed farm.entry.now
                         (H.leaves actors.entry.now.fronts.control (maps_of farm.entry.now))
                         three.entry.now three.exit.now (P.state r.entry.now)
@@ -255,20 +255,20 @@ pub fn end_fronts<R: Wait, D: TileStore>(
     rt: &R,
     farm: &SharedFarm<D>,
     own: &mut Seat<D>,
-    posts: EachFront<Seat<D>>,
+    seats: EachFront<Seat<D>>,
 ) -> bool
     requires own { IsSeatOf farm.now own.old }
     requires first { own.old.first ≡ true }
-    requires renderd { IsSeatOf farm.now posts.renderd }
-    requires tiles { IsSeatOf farm.now posts.tiles }
-    requires control { IsSeatOf farm.now posts.control }
-    ensures { HasEnded farm.now own.old own.new posts result }
+    requires renderd { IsSeatOf farm.now seats.renderd }
+    requires tiles { IsSeatOf farm.now seats.tiles }
+    requires control { IsSeatOf farm.now seats.control }
+    ensures { HasEnded farm.now own.old own.new seats result }
 {
     let EachFront {
         renderd,
         tiles,
         control,
-    } = posts;
+    } = seats;
     farm.join(own, renderd);
     farm.join(own, tiles);
     farm.join(own, control);

@@ -3,14 +3,14 @@
 #![tactic(auto)]
 
 mod barrier;
-mod crew;
+mod pool;
 mod each_front;
 mod fronts;
 mod serving;
 mod together;
 
 pub use barrier::StartBarrier;
-pub use crew::Actor;
+pub use pool::Actor;
 pub use each_front::{EachFront, Fronts, RunActors};
 pub use serving::Serving;
 pub use together::{FrontSeats, RunSeats, run};

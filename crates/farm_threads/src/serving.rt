@@ -5,7 +5,7 @@ ghost use Rattle.farm_history.specs.Entries.{Entry};
 ghost use Rattle.port_trait.specs.declared.ends.FrontDone.{FrontDone};
 ghost use Rattle.port_trait.specs.declared.ends.FrontEnd.TheVariants.{Worn};
 ghost use Rattle.port_trait.specs.Told.{PortsTold};
-ghost use Rattle.farm_threads.specs.Actors.{AreOfFront, HasServed, IsPost, IsUnbegun, maps_of};
+ghost use Rattle.farm_threads.specs.Actors.{AreOfFront, HasServed, IsFrontSeat, IsUnbegun, maps_of};
 
 use farm_base::Bell;
 use farm_shared::{Alarms, Seat, SharedFarm};
@@ -32,7 +32,7 @@ pub trait Serving {
         ports: &mut P,
         alarms: &Alarms<'_, B>,
     ) -> FrontDone
-        requires { IsPost farm.now (number self.now) seat.old }
+        requires { IsFrontSeat farm.now (number self.now) seat.old }
         ensures { HasServed farm.now (leaves self.now (maps_of farm.now)) seat.old seat.new (P.state ports.old) (P.state ports.new) result };
 
     /// Its entries are a front's.

@@ -4,12 +4,12 @@ ghost use Rattle.std.specs.Thread.{IsSend, IsSync};
 ghost use Rattle.farm_history.specs.Entries.{Entry};
 ghost use Rattle.turn_cell.specs.SeatStates.{SeatState};
 ghost use Rattle.farm_shared.specs.declared.turned.Turned.{Turned};
-ghost use Rattle.farm_threads.specs.declared.crew.Actor.{Actor};
+ghost use Rattle.farm_threads.specs.declared.pool.Actor.{Actor};
 ghost use Rattle.farm_threads.specs.Actors.{AreStanding, HasWorked, HaveServed, IsReady, maps_of, three};
 
-use crate::crew::{Actor, work_all};
+use crate::pool::{Actor, work_all};
 use crate::each_front::{EachFront, RunActors};
-use crate::fronts::{end_fronts, serve_posts};
+use crate::fronts::{end_fronts, serve_fronts};
 use crate::serving::Serving;
 use farm_base::{Bell, Bells, Gate};
 use farm_shared::{Alarms, Seat, SharedFarm, cross};
@@ -23,14 +23,14 @@ use tile_store::TileStore;
 #[derive(Drop)]
 pub struct FrontSeats<S> {
     pub own: S,
-    pub posts: Option<EachFront<S>>,
+    pub seats: Option<EachFront<S>>,
 }
 
 /// All seats of a run.
 #[derive(Drop)]
 pub struct RunSeats<S> {
     pub front_seats: FrontSeats<S>,
-    pub crew: Vec<Actor<S>>,
+    pub pool: Vec<Actor<S>>,
 }
 
 /// The fronts, through their seats.
@@ -60,12 +60,12 @@ fn serve_slot<
         (three (P.state p.old) (P.state q.old) (P.state r.old))
         (three (P.state p.new) (P.state q.new) (P.state r.new)) result.0 result.1 }
 {
-    let Some(posts) = front_seats.posts.take() else {
+    let Some(seats) = front_seats.seats.take() else {
         unreachable!()
     };
-    let mut posts = posts;
-    let done = serve_posts(rt, actors, farm, &mut posts, p, q, r, bells);
-    let entered = end_fronts(rt, farm, &mut front_seats.own, posts);
+    let mut seats = seats;
+    let done = serve_fronts(rt, actors, farm, &mut seats, p, q, r, bells);
+    let entered = end_fronts(rt, farm, &mut front_seats.own, seats);
     let alarms = Alarms {
         workers: actors.barrier.sleepers.as_slice(),
         bells,
@@ -94,15 +94,15 @@ pub fn run<
     ports: &mut ThreePorts<P, B>,
     gate: &T,
 ) -> (EachFront<FrontDone>, bool)
-    requires crew { All (λ a. IsReady farm.now a) run_seats.old.crew.items }
+    requires pool { All (λ a. IsReady farm.now a) run_seats.old.pool.items }
     requires front_seats { AreStanding farm.now (F.number actors.now.fronts.renderd)
         (G.number actors.now.fronts.tiles)
         (H.number actors.now.fronts.control) run_seats.old.front_seats }
-    ensures long { length run_seats.new.crew.items ≡ length run_seats.old.crew.items }
-    ensures crew { (i : ℕ) (d : Actor (SeatState (Turned D) Entry))
-        → i < length run_seats.old.crew.items
-        → HasWorked farm.now (slice_index_or run_seats.old.crew.items i d)
-        (slice_index_or run_seats.new.crew.items i d) }
+    ensures long { length run_seats.new.pool.items ≡ length run_seats.old.pool.items }
+    ensures pool { (i : ℕ) (d : Actor (SeatState (Turned D) Entry))
+        → i < length run_seats.old.pool.items
+        → HasWorked farm.now (slice_index_or run_seats.old.pool.items i d)
+        (slice_index_or run_seats.new.pool.items i d) }
     ensures fronts { HaveServed farm.now (F.leaves actors.now.fronts.renderd (maps_of farm.now))
         (G.leaves actors.now.fronts.tiles (maps_of farm.now))
         (H.leaves actors.now.fronts.control (maps_of farm.now)) run_seats.old.front_seats
@@ -116,7 +116,7 @@ pub fn run<
     let p = &mut ports.renderd;
     let q = &mut ports.tiles;
     let r = &mut ports.control;
-    let crew = &mut run_seats.crew;
+    let pool = &mut run_seats.pool;
     let front_seats = &mut run_seats.front_seats;
     let barrier = &actors.barrier;
     let alloc = actors.alloc;
@@ -124,13 +124,13 @@ pub fn run<
         rt,
         &mut || -> ()
             requires { IsSync R.row × IsSync B.row × IsSync T.row × IsSend D.row
-                × All (λ a. IsReady farm.now a) crew.now.items }
-            ensures long { length crew.exit.now.items ≡ length crew.entry.now.items }
+                × All (λ a. IsReady farm.now a) pool.now.items }
+            ensures long { length pool.exit.now.items ≡ length pool.entry.now.items }
             ensures each { (i : ℕ) (d : Actor (SeatState (Turned D) Entry))
-                → i < length crew.entry.now.items
-                → HasWorked farm.entry.now (slice_index_or crew.entry.now.items i d)
-                (slice_index_or crew.exit.now.items i d) }
-        { work_all(rt, alloc, farm, crew.as_mut_slice(), gate, barrier, bells) },
+                → i < length pool.entry.now.items
+                → HasWorked farm.entry.now (slice_index_or pool.entry.now.items i d)
+                (slice_index_or pool.exit.now.items i d) }
+        { work_all(rt, alloc, farm, pool.as_mut_slice(), gate, barrier, bells) },
         &mut || -> (EachFront<FrontDone>, bool)
             requires { IsSync R.row × IsSync B.row × IsSend P.row × IsSend D.row × IsSync F.row
                 × IsSync G.row × IsSync H.row

@@ -8,7 +8,7 @@ use Rattle.reading.specs.Values.{text}
 use Rattle.farm_config.specs.Addresses.{is_address}
 use Rattle.farm_config.specs.Configs.{MapEntry, map_has, map_place, greatest_limits, is_map_name, is_tile_size}
 use Rattle.farm_config.specs.Limits.{most_maps, most_zoom, most_files, most_workers, most_waiting, most_dirty}
-use Rattle.farm_config.specs.Kinds.{a_file, a_map_name, a_number, a_tile_size, an_address, a_truth}
+use Rattle.farm_config.specs.Kinds.{a_file, a_map_name, number_within, a_tile_size, an_address, a_truth}
 use Rattle.farm_config.specs.Tables.{map_keys, map_entry, map_after, maps_of, file_after, files_of, limit_keys, limits_of, restyle_keys, restyle_after, restyles_of, config_keys, config_of, config_in}
 use Rattle.farm_config.specs.declared.config.RestyleEntry.{RestyleEntry}
 use Rattle.farm_config.specs.declared.fault.ConfigFault.{ConfigFault}
@@ -33,8 +33,8 @@ map_name_told : (key : ℕ) (d : Data) → Told (a_map_name key d)
 unfolding a_map_name
 map_name_told key d = step HasText _ _ (has HasText (as_str d) (Shape key) refl) (λ s. either HasText (is_map_name s) (Ok s) (Err (Shape key)) tt refl)
 
-number_told : (key low high : ℕ) (d : Data) → Told (a_number key low high d)
-unfolding a_number
+number_told : (key low high : ℕ) (d : Data) → Told (number_within key low high d)
+unfolding number_within
 number_told key low high d = wholes HasText (Shape key) (Range key) low high d refl refl
 
 size_told : (key : ℕ) (d : Data) → Told (a_tile_size key d)
@@ -59,7 +59,7 @@ map_told place before d =
     step HasText _ _ (needs HasText (Shape 1) (a_map_name 1) (get (codes "name") d) refl (map_name_told 1)) (λ name.
     step HasText _ _ (needs HasText (Shape 1) (a_file 1) (get (codes "style") d) refl (file_told 1)) (λ style.
     step HasText _ _ (needs HasText (Shape 1) (a_tile_size 1) (get (codes "tile") d) refl (size_told 1)) (λ tile.
-    step HasText _ _ (may HasText most_zoom (a_number 1 0 most_zoom) (get (codes "maxzoom") d) (number_told 1 0 most_zoom)) (λ zoom.
+    step HasText _ _ (may HasText most_zoom (number_within 1 0 most_zoom) (get (codes "maxzoom") d) (number_told 1 0 most_zoom)) (λ zoom.
     step HasText _ _ (checks HasText (not (map_has name before)) (Double place) refl) (λ v. tt)))))))
 
 maps_told : (d : Data) → Told (maps_of d)
@@ -81,11 +81,11 @@ limits_told : (d : Data) → Told (limits_of d)
 unfolding limits_of
 limits_told d =
     step HasText _ _ (opens HasText (Shape 6) (Shape 6) limit_keys d refl refl) (λ u.
-    step HasText _ _ (may HasText most_waiting (a_number 6 1 most_waiting) (get (codes "prio") d) (number_told 6 1 most_waiting)) (λ prio.
-    step HasText _ _ (may HasText most_waiting (a_number 6 1 most_waiting) (get (codes "request") d) (number_told 6 1 most_waiting)) (λ request.
-    step HasText _ _ (may HasText most_waiting (a_number 6 1 most_waiting) (get (codes "low") d) (number_told 6 1 most_waiting)) (λ low.
-    step HasText _ _ (may HasText most_dirty (a_number 6 1 most_dirty) (get (codes "dirty") d) (number_told 6 1 most_dirty)) (λ dirty.
-    step HasText _ _ (may HasText most_waiting (a_number 6 1 most_waiting) (get (codes "bulk") d) (number_told 6 1 most_waiting)) (λ bulk. tt))))))
+    step HasText _ _ (may HasText most_waiting (number_within 6 1 most_waiting) (get (codes "prio") d) (number_told 6 1 most_waiting)) (λ prio.
+    step HasText _ _ (may HasText most_waiting (number_within 6 1 most_waiting) (get (codes "request") d) (number_told 6 1 most_waiting)) (λ request.
+    step HasText _ _ (may HasText most_waiting (number_within 6 1 most_waiting) (get (codes "low") d) (number_told 6 1 most_waiting)) (λ low.
+    step HasText _ _ (may HasText most_dirty (number_within 6 1 most_dirty) (get (codes "dirty") d) (number_told 6 1 most_dirty)) (λ dirty.
+    step HasText _ _ (may HasText most_waiting (number_within 6 1 most_waiting) (get (codes "bulk") d) (number_told 6 1 most_waiting)) (λ bulk. tt))))))
 
 restyle_told : (maps : List MapEntry) (before : List RestyleEntry) (d : Data) → Told (restyle_after maps before d)
 unfolding restyle_after
@@ -108,7 +108,7 @@ config_told d =
     step HasText _ _ (needs HasText (Shape 2) (a_file 2) (get (codes "data") d) refl (file_told 2)) (λ dataset.
     step HasText _ _ (may HasText [] (files_of 3) (get (codes "updates") d) (files_told 3)) (λ updates.
     step HasText _ _ (may HasText [] (files_of 4) (get (codes "expiries") d) (files_told 4)) (λ expiries.
-    step HasText _ _ (may HasText 2 (a_number 5 1 most_workers) (get (codes "workers") d) (number_told 5 1 most_workers)) (λ workers.
+    step HasText _ _ (may HasText 2 (number_within 5 1 most_workers) (get (codes "workers") d) (number_told 5 1 most_workers)) (λ workers.
     step HasText _ _ (may HasText greatest_limits limits_of (get (codes "limits") d) limits_told) (λ limits.
     step HasText _ _ (may HasText None (an_address 7) (get (codes "renderd") d) (address_told 7)) (λ renderd.
     step HasText _ _ (may HasText None (an_address 8) (get (codes "tiles") d) (address_told 8)) (λ tiles.

@@ -20,9 +20,9 @@ use Rattle.geo_json.specs.declared.coordinates.Units.{Units}
 use Rattle.geo_json.specs.declared.coordinates.Units.TheVariants.{Centimetres}
 use Rattle.geo_json.specs.Attributes.{attr_value, attr_of, attrs_after, attrs_of, attrs_at}
 use Rattle.geo_json.specs.Coordinates.{units_named, units_at, pair_of, point_of}
-use Rattle.geo_json.specs.DataTexts.{has_layer, layer_said, layer_after, layers_of, dataset_in}
+use Rattle.geo_json.specs.DataTexts.{has_layer, layer_said, data_layer_after, layers_of, dataset_in}
 use Rattle.geo_json.specs.FeatureTexts.{id_of, made_unless, made_of, feature_of, is_new, new_feature_after}
-use Rattle.geo_json.specs.Geometries.{path_of, paths_of, one_shape, geometry_of}
+use Rattle.geo_json.specs.Geometries.{path_points, paths_of, one_shape, geometry_of}
 use Rattle.geo_json.specs.Openings.{object_of, name_of, name_at}
 use Rattle.fault_texts.specs.DataFaults.{data_text}
 use Rattle.fault_texts.specs.Told.{DataAreTold}
@@ -99,8 +99,8 @@ point_told : (units : Units) (shape : DataFault) → HasText shape → (d : Data
 unfolding point_of
 point_told units shape h d = step HasText _ _ (list_told shape h d) (pair_told units shape h)
 
-path_told : (units : Units) (shape : DataFault) → HasText shape → (d : Data) → Told (path_of units shape d)
-unfolding path_of
+path_told : (units : Units) (shape : DataFault) → HasText shape → (d : Data) → Told (path_points units shape d)
+unfolding path_points
 path_told units shape h d = step HasText _ _ (list_told shape h d) (λ items. lists HasText _ [] items (λ before p. point_told units shape h p))
 
 paths_told : (units : Units) (shape : DataFault) → HasText shape → (d : Data) → Told (paths_of units shape d)
@@ -172,7 +172,7 @@ layers_told d =
     step HasText _ _ (object_told (fault.Shape 0 0) refl _ d) (λ u.
     step HasText _ _ (units_told (fault.Shape 0 0) refl d) (λ units.
     step HasText _ _ (needs HasText (fault.Shape 0 0) (list (fault.Shape 0 0)) (get (codes "layers") d) refl (list_told (fault.Shape 0 0) refl)) (λ items.
-    lists HasText (layer_after units) [] items (λ before e. layer_told units (length before) before e))))
+    lists HasText (data_layer_after units) [] items (λ before e. layer_told units (length before) before e))))
 
 in_told : (bytes : List ℕ) → Told (dataset_in bytes)
 unfolding dataset_in

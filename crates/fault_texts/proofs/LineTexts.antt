@@ -10,7 +10,7 @@ use Rattle.plain_world.specs.declared.world.Tile.{Tile}
 use Rattle.expiry_lists.specs.Lists as list
 use Rattle.expiry_lists.specs.declared.faults.ListFault.{ListFault}
 use Rattle.expiry_lists.specs.declared.faults.ListFault.TheVariants.{Line}
-use Rattle.script_lines.specs.Lines.{cmd_of, tile_of, place_of, ask_of, fetch_of, look_of, expire_of, line_named, line_alone, line_cut, script_line_of}
+use Rattle.script_lines.specs.Lines.{cmd_of, line_tile, place_of, ask_of, fetch_of, look_of, expire_of, line_named, line_alone, line_cut, script_line_of}
 use Rattle.script_lines.specs.Scripts.{is_skipped, text_of, line_read, lines_after, script_in}
 use Rattle.script_lines.specs.declared.script.ScriptFault.{ScriptFault}
 use Rattle.script_lines.specs.declared.script.ScriptFault.TheVariants as script
@@ -28,8 +28,8 @@ ListText e = IsTrue (is_some (list_text e))
 abbrev ListTold : {A : Type 0} → Result A ListFault → Type 0
 ListTold r = OnFault ListText r
 
-tile_told : (fault : ListFault) → ListText fault → (text : List ℕ) → ListTold (list.tile_of fault text)
-unfolding list.tile_of
+tile_told : (fault : ListFault) → ListText fault → (text : List ℕ) → ListTold (list.list_tile fault text)
+unfolding list.list_tile
 tile_told fault h text =
     step ListText _ _ (has ListText (cut_at 47 text) fault h) (λ first.
     step ListText _ _ (has ListText (cut_at 47 first.1) fault h) (λ second.
@@ -38,15 +38,15 @@ tile_told fault h text =
     step ListText _ _ (has ListText (decimal_below (2 ^ 32) second.1) fault h) (λ y.
     has ListText (list.tile_if_any z x y) fault h)))))
 
-list_line_told : (fault : ListFault) → ListText fault → (line : List ℕ) → ListTold (list.line_read fault line)
-unfolding list.line_read list.text_of
+list_line_told : (fault : ListFault) → ListText fault → (line : List ℕ) → ListTold (list.list_line fault line)
+unfolding list.list_line list.list_bytes
 list_line_told fault h [] = tt
 list_line_told fault h (b ∷ bs) =
     step ListText _ _ (step ListText _ _ (checks ListText (is_utf8 (b ∷ bs)) fault h) (λ u. tt)) (λ text.
     step ListText _ _ (tile_told fault h text) (λ t. tt))
 
-list_lines_told : (number : ℕ) (before : List Tile) (rest : List (List ℕ)) → ListTold (list.lines_after number before rest)
-unfolding list.lines_after
+list_lines_told : (number : ℕ) (before : List Tile) (rest : List (List ℕ)) → ListTold (list.list_lines_after number before rest)
+unfolding list.list_lines_after
 list_lines_told number before [] = tt
 list_lines_told number before (line ∷ rest) =
     step ListText _ _ (checks ListText (nat_le number 1000000) (Line number) refl) (λ u.
@@ -67,8 +67,8 @@ HasText e = IsTrue (is_some (script_text e))
 abbrev Told : {A : Type 0} → Result A ScriptFault → Type 0
 Told r = OnFault HasText r
 
-numbers_told : (fault : ScriptFault) → HasText fault → (text : List ℕ) → Told (tile_of fault text)
-unfolding tile_of
+numbers_told : (fault : ScriptFault) → HasText fault → (text : List ℕ) → Told (line_tile fault text)
+unfolding line_tile
 numbers_told fault h text =
     step HasText _ _ (has HasText (cut_at 32 text) fault h) (λ first.
     step HasText _ _ (has HasText (cut_at 32 first.1) fault h) (λ second.

@@ -24,7 +24,7 @@ use Rattle.style_objects.specs.declared.keys.Object.TheVariants as object
 use Rattle.style_objects.specs.Keys.{keys_of, opened_as}
 use Rattle.style_objects.specs.Kinds.{in_grammar, a_colour, a_scale, a_bound, an_opacity, a_width, a_text_to, any_text, a_mode, a_cap, a_number, filter_at, a_filter, is_true, an_else, list_or_none}
 use Rattle.style_objects.specs.Places.{at_map, at_style, at_rule, at_symbolizer, at_layer, at_raster}
-use Rattle.style_objects.specs.Tables.{white, gray, black, polygon_of, line_symbolizer_of, markers_of, raster_symbolizer_of, symbolizer_named, symbolizer_of, symbolizer_after, filters_of, rule_of, rule_after, style_of, style_after, style_name_of, layer_of, layer_after, raster_of, raster_after, map_object, style_by, style_in}
+use Rattle.style_objects.specs.Tables.{white, gray, black, polygon_of, line_symbolizer_of, markers_of, raster_symbolizer_of, symbolizer_named, symbolizer_of, symbolizer_after, filters_of, rule_of, rule_after, style_of, style_object_after, style_name_of, layer_of, layer_ref_after, raster_of, raster_after, map_object, style_by, style_in}
 use Rattle.fault_texts.specs.StyleFaults.{style_text}
 use Rattle.fault_texts.specs.Told.{StylesAreTold}
 use Rattle.fault_texts.proofs.Steps.{OnFault, of_fault, step, either, checks, has, needs, may, opens, few, wholes, lists}
@@ -228,8 +228,8 @@ map_told d =
     step HasText _ _ (has HasText found_layers (fault.Shape at_map) refl) (λ layer_items.
     step HasText _ _ (rasters_told at_map found_rasters (get (codes "rasters") d)) (λ raster_items.
     step HasText _ _ (lists HasText raster_after [] raster_items (λ before e. raster_told (length before) before e)) (λ rasters.
-    step HasText _ _ (lists HasText (style_after filter_of) [] style_items (λ before e. style_told (length before) before e)) (λ styles.
-    step HasText _ _ (lists HasText (layer_after styles) [] layer_items (λ before e. layer_told styles (length before) before e)) (λ layers. tt)))))))))))
+    step HasText _ _ (lists HasText (style_object_after filter_of) [] style_items (λ before e. style_told (length before) before e)) (λ styles.
+    step HasText _ _ (lists HasText (layer_ref_after styles) [] layer_items (λ before e. layer_told styles (length before) before e)) (λ layers. tt)))))))))))
 
 in_told : (bytes : List ℕ) → Told (style_in bytes)
 unfolding style_by

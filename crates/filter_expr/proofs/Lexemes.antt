@@ -12,7 +12,7 @@ use Rattle.filter_expr.specs.declared.tokens.Token.{Token}
 use Rattle.filter_expr.specs.declared.tokens.Token.TheVariants as token
 use Rattle.filter_expr.specs.Trees.{is_unknown}
 use Rattle.farm_base.specs.Digits.{is_digit}
-use Rattle.filter_expr.specs.Spelling.{is_letter, is_word_byte, is_quote, is_escaped, is_attribute_byte, IsDigits, digits_number, IsQuoting, Spells, begins_with, lengthens, EndsBefore, StandsFirst}
+use Rattle.filter_expr.specs.Spelling.{is_letter, is_word_byte, is_quote, is_escaped, is_attribute_byte, IsDigits, digits_number, IsQuoting, SpellsToken, begins_with, lengthens, EndsBefore, StandsFirst}
 use Rattle.filter_expr.specs.Lexing.{Taken, nothing, number_token, number_token_at, word_token, word_at, name_token_at, longer, quoting_len, quoted_text, quoted_of, quoted_at, single, less_at, sign_at, first_byte, token_at}
 use Rattle.filter_expr.proofs.Spelled.{wrong, split_bool, end_digits, end_words, run_all, run_stops, run_first}
 
@@ -39,11 +39,11 @@ begins_run test p b bs v h g = ap (begins_with test) (run_first p b bs h) ∙ g
 some_first : (xs : List ℕ) (b : ℕ) (ys : List ℕ) → xs ≡ b ∷ ys → xs ≢ []
 some_first xs b ys e n = wrong (ap (begins_with (λ _. true)) (sym n ∙ e))
 
-number_spells : (us : List ℕ) → IsDigits us → Spells (number_token us) us
+number_spells : (us : List ℕ) → IsDigits us → SpellsToken (number_token us) us
 unfolding number_token
 number_spells us d = by (nat_lt (digits_number us) (2 ^ 63)) refl
   where
-    by : (b : Bool) → nat_lt (digits_number us) (2 ^ 63) ≡ b → Spells (if b then token.Number (pos (digits_number us)) else token.OutOfRange) us
+    by : (b : Bool) → nat_lt (digits_number us) (2 ^ 63) ≡ b → SpellsToken (if b then token.Number (pos (digits_number us)) else token.OutOfRange) us
     by true e = (d, refl, ltb-true (digits_number us) (2 ^ 63) e)
     by false e = (d, ltb-false (digits_number us) (2 ^ 63) e)
 
@@ -56,15 +56,15 @@ number_good b bs h = record {
   );
 }
 
-ladder : (w x : List ℕ) (t r : Token) → (w ≡ x → Spells t w) → (is_unknown r ≡ false → Spells r w) → is_unknown (if bytes_eq w x then t else r) ≡ false →
-    Spells (if bytes_eq w x then t else r) w
+ladder : (w x : List ℕ) (t r : Token) → (w ≡ x → SpellsToken t w) → (is_unknown r ≡ false → SpellsToken r w) → is_unknown (if bytes_eq w x then t else r) ≡ false →
+    SpellsToken (if bytes_eq w x then t else r) w
 ladder w x t r h g = by (bytes_eq w x) refl
   where
-    by : (b : Bool) → bytes_eq w x ≡ b → is_unknown (if b then t else r) ≡ false → Spells (if b then t else r) w
+    by : (b : Bool) → bytes_eq w x ≡ b → is_unknown (if b then t else r) ≡ false → SpellsToken (if b then t else r) w
     by true e _ = h ((bytes_eq-Decides w x).0 e)
     by false e u = g u
 
-word_spells : (w : List ℕ) → is_unknown (word_token w) ≡ false → Spells (word_token w) w
+word_spells : (w : List ℕ) → is_unknown (word_token w) ≡ false → SpellsToken (word_token w) w
 unfolding word_token
 word_spells w =
     ladder w (codes "true") token.True _ (λ q. q)
@@ -193,10 +193,10 @@ quoted_good q bs h = by (quoting_len q false bs) (closed_at q false bs)
 
 -- ---- signs
 
-one_good : (k b : ℕ) (bs : List ℕ) (t : Token) → (b == k) ≡ true → Spells t (k ∷ []) → EndsBefore (k ∷ []) bs → Good (b ∷ bs) (t, 1)
+one_good : (k b : ℕ) (bs : List ℕ) (t : Token) → (b == k) ≡ true → SpellsToken t (k ∷ []) → EndsBefore (k ∷ []) bs → Good (b ∷ bs) (t, 1)
 one_good k b bs t e s h = good_at (b ∷ bs) t 1 (k ∷ []) bs (ap (λ x. x ∷ []) (eqb-true b k e)) refl (s, h)
 
-two_good : (k j b : ℕ) (bs : List ℕ) (t : Token) → (b == k) ≡ true → (first_byte bs == suc j) ≡ true → Spells t (k ∷ suc j ∷ []) → ((more : List ℕ) → EndsBefore (k ∷ suc j ∷ []) more) → Good (b ∷ bs) (t, 2)
+two_good : (k j b : ℕ) (bs : List ℕ) (t : Token) → (b == k) ≡ true → (first_byte bs == suc j) ≡ true → SpellsToken t (k ∷ suc j ∷ []) → ((more : List ℕ) → EndsBefore (k ∷ suc j ∷ []) more) → Good (b ∷ bs) (t, 2)
 two_good k j b [] t e g s h = absurd (omega (arith, eqb-true 0 (suc j) g))
 two_good k j b (c ∷ cs) t e g s h =
     good_at (b ∷ c ∷ cs) t 2 (k ∷ suc j ∷ []) cs (ap (λ x. x ∷ c ∷ []) (eqb-true b k e) ∙ ap (λ x. k ∷ x ∷ []) (eqb-true c (suc j) g)) refl (s, h cs)
@@ -222,7 +222,7 @@ single_good b bs =
     (step 40 token.Open _ refl (alone (codes "(") (λ _. refl) bs)
     (step 41 token.Close token.Unknown refl (alone (codes ")") (λ _. refl) bs) (good_nothing (b ∷ bs))))))))
   where
-    step : (k : ℕ) (t r : Token) → Spells t (k ∷ []) → EndsBefore (k ∷ []) bs → Good (b ∷ bs) (r, 1) → Good (b ∷ bs) (if b == k then t else r, 1)
+    step : (k : ℕ) (t r : Token) → SpellsToken t (k ∷ []) → EndsBefore (k ∷ []) bs → Good (b ∷ bs) (r, 1) → Good (b ∷ bs) (if b == k then t else r, 1)
     step k t r s h g = by (b == k) refl
       where
         by : (v : Bool) → (b == k) ≡ v → Good (b ∷ bs) (if v then t else r, 1)

@@ -9,7 +9,7 @@ use Rattle.plain_filters.specs.declared.CompareSign.TheVariants as «compare»
 use Rattle.filter_expr.specs.declared.tokens.Token.{Token}
 use Rattle.filter_expr.specs.declared.tokens.Token.TheVariants as token
 use Rattle.farm_base.specs.Digits.{is_digit}
-use Rattle.filter_expr.specs.Spelling.{is_letter, is_word_byte, is_quote, is_escaped, is_attribute_byte, IsDigits, digits_number, IsQuoting, Spells, signs, begins_with, EndsBefore}
+use Rattle.filter_expr.specs.Spelling.{is_letter, is_word_byte, is_quote, is_escaped, is_attribute_byte, IsDigits, digits_number, IsQuoting, SpellsToken, signs, begins_with, EndsBefore}
 use Rattle.filter_expr.specs.Lexing.{Taken, nothing, number_token, number_token_at, word_token, word_at, name_token_at, longer, quoting_len, quoted_text, quoted_of, quoted_at, single, less_at, sign_at, first_byte, token_at}
 
 pub wrong : false ≡ true → ⊥
@@ -263,7 +263,7 @@ either_found : (t : Token) (v w us more : List ℕ) → (us ≡ v) ⊎ (us ≡ w
 either_found t v w us more (inl q) f g e = found_at t v us more q f e
 either_found t v w us more (inr q) f g e = found_at t w us more q g e
 
-pub token_complete : (t : Token) (us more : List ℕ) → Spells t us → EndsBefore us more → Found t us more
+pub token_complete : (t : Token) (us more : List ℕ) → SpellsToken t us → EndsBefore us more → Found t us more
 unfolding token_at word_token sign_at less_at single number_token
 token_complete (token.Name n) us more s e =
     subst (λ l. Found (token.Name n) l more) (sym s.0) record { at = name_found n more s.1 s.2 ∙ ap (λ m. taken (token.Name n) m) (name_length n) }

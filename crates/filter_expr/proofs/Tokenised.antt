@@ -9,7 +9,7 @@ use Rattle.filter_expr.specs.declared.tokens.Token.TheVariants as token
 use Rattle.filter_expr.specs.declared.tokens.PlacedToken.{PlacedToken}
 use Rattle.filter_expr.specs.Trees.{is_unknown}
 use Rattle.farm_base.specs.Digits.{is_digit}
-use Rattle.filter_expr.specs.Spelling.{is_blank, is_quote, IsDigits, begins_with, Spells, StandsFirst, AreTokens, TokensOf}
+use Rattle.filter_expr.specs.Spelling.{is_blank, is_quote, IsDigits, begins_with, SpellsToken, StandsFirst, AreTokens, TokensOf}
 use Rattle.filter_expr.specs.Lexing.{Taken, token_at, tokens_from}
 use Rattle.filter_expr.proofs.Spelled.{wrong, split_bool, token_complete, both_true, not_equal}
 use Rattle.filter_expr.proofs.Lexemes.{token_good}
@@ -72,7 +72,7 @@ none_there : (b : ℕ) (bs : List ℕ) → is_unknown (token_at (b ∷ bs)).0 �
 none_there b bs u t vs ws e s =
     let found : ◌≡◌ {A = Taken} (token_at (vs ++ ws)) (t, length vs) = (token_complete t vs ws s.0 s.1).at in
     let unknown : is_unknown t ≡ true = sym (ap (λ (r : Taken). is_unknown r.0) (ap token_at e ∙ found)) ∙ u in
-    subst (λ x. Spells x vs) (unknown_is t unknown) s.0
+    subst (λ x. SpellsToken x vs) (unknown_is t unknown) s.0
 
 end_lexed : (at : ℕ) → tokens_from at 0 [] ≡ placed_then token.End at []
 unfolding tokens_from
@@ -144,7 +144,7 @@ either_solid b c v w us (inl e) h g = solid_is b v us e h
 either_solid b c v w us (inr e) h g = solid_is c w us e g
 
 -- a spelling has a first byte, and it is no blank
-pub first_solid : (t : Token) (us : List ℕ) → Spells t us → Solid us
+pub first_solid : (t : Token) (us : List ℕ) → SpellsToken t us → Solid us
 first_solid (token.Name n) us s = solid_is 91 (n ++ 93 ∷ []) us s.0 refl
 first_solid (token.Quoted t) us s = solid_is s.0 (s.1 ++ s.0 ∷ []) us s.2 (quote_solid s.0 s.3)
 first_solid (token.Number z) us s = digits_solid us s.0
@@ -181,7 +181,7 @@ drop_front : (us more : List ℕ) → drop (length us) (us ++ more) ≡ more
 drop_front [] more = refl
 drop_front (b ∷ us) more = drop_front us more
 
-known_token : (t : Token) (us : List ℕ) → Spells t us → is_unknown t ≡ false
+known_token : (t : Token) (us : List ℕ) → SpellsToken t us → is_unknown t ≡ false
 known_token token.Unknown us s = absurd s
 known_token _ us s = refl
 
@@ -234,7 +234,7 @@ pub tokens_stopped : (ts : List PlacedToken) (at : ℕ) (bs : List ℕ) → AreT
 tokens_stopped [] at bs h = h
 tokens_stopped (s ∷ others) at bs h = by others h.6 (tokens_stopped others)
   where
-    known_goes : (t : Token) (us : List ℕ) → Spells t us → is_stop t ≡ false
+    known_goes : (t : Token) (us : List ℕ) → SpellsToken t us → is_stop t ≡ false
     known_goes token.End us s = absurd s
     known_goes token.Unknown us s = absurd s
     known_goes _ us s = refl

@@ -53,32 +53,32 @@ IsQuoting q (c ∷ cs) us =
     × (((us ≡ c ∷ vs) × (c ≢ q) × (c ≢ 92)) ⊎ ((us ≡ 92 ∷ c ∷ vs) × IsTrue (is_escaped c)))
 
 -- the bytes spell the token
-abbrev pub Spells : Token → List ℕ → Type 0
-Spells (token.Name n) us = (us ≡ 91 ∷ (n ++ 93 ∷ [])) × (n ≢ []) × IsTrue (list_all is_attribute_byte n)
-Spells (token.Quoted t) us = (q : ℕ) × (vs : List ℕ) × (us ≡ q ∷ (vs ++ q ∷ [])) × IsTrue (is_quote q) × IsQuoting q t vs
-Spells (token.Number z) us = IsDigits us × (z ≡ pos (digits_number us)) × (digits_number us < 2 ^ 63)
-Spells token.OutOfRange us = IsDigits us × (2 ^ 63 ≤ digits_number us)
-Spells token.True us = us ≡ codes "true"
-Spells token.False us = us ≡ codes "false"
-Spells token.Null us = us ≡ codes "null"
-Spells token.And us = (us ≡ codes "and") ⊎ (us ≡ codes "&&")
-Spells token.Or us = (us ≡ codes "or") ⊎ (us ≡ codes "||")
-Spells token.Not us = (us ≡ codes "not") ⊎ (us ≡ codes "!")
-Spells (token.Compare compare.Equal) us = us ≡ codes "="
-Spells (token.Compare compare.Unequal) us = (us ≡ codes "!=") ⊎ (us ≡ codes "<>")
-Spells (token.Compare compare.Less) us = us ≡ codes "<"
-Spells (token.Compare compare.LessEqual) us = us ≡ codes "<="
-Spells (token.Compare compare.Greater) us = us ≡ codes ">"
-Spells (token.Compare compare.GreaterEqual) us = us ≡ codes ">="
-Spells token.Plus us = us ≡ codes "+"
-Spells token.Minus us = us ≡ codes "-"
-Spells token.Times us = us ≡ codes "*"
-Spells token.Divide us = us ≡ codes "/"
-Spells token.Rest us = us ≡ codes "%"
-Spells token.Open us = us ≡ codes "("
-Spells token.Close us = us ≡ codes ")"
-Spells token.End us = ⊥
-Spells token.Unknown us = ⊥
+abbrev pub SpellsToken : Token → List ℕ → Type 0
+SpellsToken (token.Name n) us = (us ≡ 91 ∷ (n ++ 93 ∷ [])) × (n ≢ []) × IsTrue (list_all is_attribute_byte n)
+SpellsToken (token.Quoted t) us = (q : ℕ) × (vs : List ℕ) × (us ≡ q ∷ (vs ++ q ∷ [])) × IsTrue (is_quote q) × IsQuoting q t vs
+SpellsToken (token.Number z) us = IsDigits us × (z ≡ pos (digits_number us)) × (digits_number us < 2 ^ 63)
+SpellsToken token.OutOfRange us = IsDigits us × (2 ^ 63 ≤ digits_number us)
+SpellsToken token.True us = us ≡ codes "true"
+SpellsToken token.False us = us ≡ codes "false"
+SpellsToken token.Null us = us ≡ codes "null"
+SpellsToken token.And us = (us ≡ codes "and") ⊎ (us ≡ codes "&&")
+SpellsToken token.Or us = (us ≡ codes "or") ⊎ (us ≡ codes "||")
+SpellsToken token.Not us = (us ≡ codes "not") ⊎ (us ≡ codes "!")
+SpellsToken (token.Compare compare.Equal) us = us ≡ codes "="
+SpellsToken (token.Compare compare.Unequal) us = (us ≡ codes "!=") ⊎ (us ≡ codes "<>")
+SpellsToken (token.Compare compare.Less) us = us ≡ codes "<"
+SpellsToken (token.Compare compare.LessEqual) us = us ≡ codes "<="
+SpellsToken (token.Compare compare.Greater) us = us ≡ codes ">"
+SpellsToken (token.Compare compare.GreaterEqual) us = us ≡ codes ">="
+SpellsToken token.Plus us = us ≡ codes "+"
+SpellsToken token.Minus us = us ≡ codes "-"
+SpellsToken token.Times us = us ≡ codes "*"
+SpellsToken token.Divide us = us ≡ codes "/"
+SpellsToken token.Rest us = us ≡ codes "%"
+SpellsToken token.Open us = us ≡ codes "("
+SpellsToken token.Close us = us ≡ codes ")"
+SpellsToken token.End us = ⊥
+SpellsToken token.Unknown us = ⊥
 
 -- ---- where a spelling ends
 
@@ -107,7 +107,7 @@ EndsBefore us (b ∷ bs) = lengthens us b ≡ false
 
 -- the token stands at the front: its spelling, which is as long as can be, and what follows it
 abbrev pub StandsFirst : Token → List ℕ → List ℕ → Type 0
-StandsFirst t us more = Spells t us × EndsBefore us more
+StandsFirst t us more = SpellsToken t us × EndsBefore us more
 
 -- ---- the tokens of a text
 

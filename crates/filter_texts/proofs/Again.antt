@@ -14,7 +14,7 @@ use Rattle.filter_expr.specs.declared.tokens.PlacedToken.{PlacedToken}
 use Rattle.filter_expr.specs.Trees.{Kind, Tree, Terms, leaf, negation, negative, comparison, chain, parens, no_terms, term, or_chain, and_chain, sum_chain, product_chain, joins, sign_token, is_leaf, bare, bare_terms, nesting, nesting_terms, InRange, TermsInRange}
 use Rattle.filter_expr.specs.Seen.{shape}
 use Rattle.farm_base.specs.Digits.{is_digit, number_after}
-use Rattle.filter_expr.specs.Spelling.{IsDigits, digits_number, IsQuoting, Spells, begins_with, EndsBefore, AreTokens, TokensOf}
+use Rattle.filter_expr.specs.Spelling.{IsDigits, digits_number, IsQuoting, SpellsToken, begins_with, EndsBefore, AreTokens, TokensOf}
 use Rattle.filter_expr.specs.Grammar.{IsSpelled, AreSpelled, kind_strength, strength, IsMany, Stands, StandTerms}
 use Rattle.filter_expr.specs.Filters.{IsFilter, FilterOf}
 use Rattle.filter_texts.specs.Written.{escaped_text, spelling, parens_below, shown, shown_terms, tokens_in, tokens_of_terms, put_tokens, filter_text, ReadsAgain, AnswersAgain, IsKnownByText}
@@ -147,7 +147,7 @@ mutual
 
 -- the token is spelled as it is written
 abbrev Said : Token → Type 0
-Said t = Spells t (spelling t)
+Said t = SpellsToken t (spelling t)
 
 abbrev AllSaid : List Token → Type 0
 AllSaid [] = Unit {0}
@@ -231,7 +231,7 @@ number_said n h =
     ((some_list (decimal n) d.some, d.digits), ap pos (sym d.value), omega (arith, d.value, h))
 
 -- what some bytes spell can be written
-said : (t : Token) (us : List ℕ) → Spells t us → is_leaf t ≡ true → Said t
+said : (t : Token) (us : List ℕ) → SpellsToken t us → is_leaf t ≡ true → Said t
 said (token.Name n) us s e = (refl, s.1, s.2)
 said (token.Quoted t) us s e = (39, escaped_text t, refl, refl, quoting t)
 said (token.Number z) us s e = subst (λ x. Said (token.Number x)) (sym s.1) (number_said (digits_number us) s.2)
@@ -257,7 +257,7 @@ compare_said compare.GreaterEqual = refl
 -- each token of the list is spelled somewhere
 abbrev Heard : List PlacedToken → Type 0
 Heard [] = Unit {0}
-Heard (s ∷ ss) = ((us : List ℕ) × Spells s.token us) × Heard ss
+Heard (s ∷ ss) = ((us : List ℕ) × SpellsToken s.token us) × Heard ss
 
 heard_first : (xs ys : List PlacedToken) → Heard (xs ++ ys) → Heard xs
 heard_first [] ys h = tt
@@ -278,7 +278,7 @@ mutual
   shown_said : (e : Tree) (l : ℕ) (us : List PlacedToken) → Stands l e → InRange e → IsSpelled e us → Heard us → AllSaid (tokens_in (shown e))
   shown_said (leaf t) l us s r p h =
       let heard : Heard (p.0 ∷ []) = subst Heard p.1 h in
-      (said t heard.0.0 (subst (λ x. Spells x heard.0.0) p.2 heard.0.1) r, tt)
+      (said t heard.0.0 (subst (λ x. SpellsToken x heard.0.0) p.2 heard.0.1) r, tt)
   shown_said (negation e) l us s r p h =
       let heard : Heard (p.0 ∷ p.1) = subst Heard p.2 h in
       (inl refl, guarded_said 2 (shown e) (shown_said e 2 p.1 s.1 r p.4 heard.1))

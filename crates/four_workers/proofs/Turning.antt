@@ -8,7 +8,7 @@ use Rattle.turn_cell.specs.SeatStates.{SeatState, SameSeat, worn_out}
 use Rattle.farm_shared.specs.declared.turned.LastingPart.{LastingPart}
 use Rattle.farm_shared.specs.Seats.{ends_ticket, is_ended_by}
 use Rattle.farm_shared.specs.Shared.{Adds, HasJob}
-use Rattle.four_workers.specs.Crew.{KeepsJobs}
+use Rattle.four_workers.specs.Pool.{KeepsJobs}
 use Rattle.farm_shared.proofs.Orders.{reverse_more, ended_by}
 
 -- a job is the seat's to finish until the seat finishes it

@@ -1,7 +1,7 @@
 //! The feeder, which notes its turns.
 ghost use Rattle.plain_world.specs.World.{IsTile};
 ghost use Rattle.farm_shared.specs.Shared.{lasts};
-ghost use Rattle.four_workers.specs.Crew.{IsFront, KeepsJobs};
+ghost use Rattle.four_workers.specs.Pool.{IsFront, KeepsJobs};
 
 use crate::notes::{METATILES, Note, Notes, conn_of, spot_at, tile_at};
 use farm_history::{Cmd, Collected, Looked};

@@ -5,7 +5,7 @@
 //! whether it is the one that the farm's rules give. What is printed is the same however the threads run.
 #![tactic(auto)]
 
-mod crew;
+mod pool;
 mod feeding;
 mod notes;
 mod one_seat;
@@ -13,7 +13,7 @@ mod plain;
 mod plans;
 mod working;
 
-use crate::crew::{Left, run, run_alone};
+use crate::pool::{Left, run, run_alone};
 use crate::notes::METATILES;
 use farm_base::OutSink;
 use std::io;

@@ -1,7 +1,7 @@
 //! The life of one metatile through the first seat that is split: it is expired while it is drawn, and asked for again.
 //! Each turn is noted, and its answer told as a script would be answered.
 ghost use Rattle.turn_cell.specs.SeatStates.{IsSeatOf};
-ghost use Rattle.four_workers.specs.Crew.{IsFront};
+ghost use Rattle.four_workers.specs.Pool.{IsFront};
 
 use crate::feeding::{ask, collect, expire, is_clean};
 use crate::notes::{Note, Notes, WITHIN, WORLD, spot_at};

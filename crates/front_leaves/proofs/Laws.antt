@@ -16,11 +16,11 @@ use Rattle.front_rounds.specs.Steps.{Step, Came, Did, Got, Through, Tried, Left,
 use Rattle.front_rounds.specs.Rounds.{Sound}
 use Rattle.front_rounds.specs.Serving.{EndHasCause, BreakFits, RestsFit, TellsOf, with_break}
 use Rattle.front_rounds.specs.Parts.{told_after}
-use Rattle.renderd_front.specs.Renderd.{rules_of as renderd_rules}
+use Rattle.renderd_front.specs.Renderd.{renderd_rules}
 use Rattle.renderd_front.proofs.Sorts as renderd
-use Rattle.control_lines.specs.Control.{rules_of as control_rules}
+use Rattle.control_lines.specs.Control.{control_rules}
 use Rattle.control_lines.proofs.Sorts as control
-use Rattle.tile_pages.specs.Tiles.{rules_of as tile_rules}
+use Rattle.tile_pages.specs.Tiles.{tile_rules}
 use Rattle.tile_pages.proofs.OwnEntries as tiles
 use Rattle.farm_threads.specs.Actors.{IsOfFront, AreOfFront, IsUnbegun}
 use Rattle.front_leaves.specs.Fronts.{FrontLeaves, renderd_leaves, tiles_leave, control_leaves}

@@ -7,15 +7,15 @@ use Rattle.port_trait.specs.declared.ends.FrontDone.{FrontDone}
 use Rattle.port_trait.specs.declared.ends.FrontEnd.{FrontEnd}
 use Rattle.port_trait.specs.Told.{PortsTold}
 use Rattle.front_rounds.specs.Rules.{Rules}
-use Rattle.front_rounds.specs.Serving.{Serves}
-use Rattle.renderd_front.specs.Renderd.{rules_of as renderd_rules}
-use Rattle.tile_pages.specs.Tiles.{rules_of as tile_rules}
-use Rattle.control_lines.specs.Control.{rules_of as control_rules}
+use Rattle.front_rounds.specs.Serving.{FrontRun}
+use Rattle.renderd_front.specs.Renderd.{renderd_rules}
+use Rattle.tile_pages.specs.Tiles.{tile_rules}
+use Rattle.control_lines.specs.Control.{control_rules}
 use Rattle.farm_threads.specs.Actors.{Leaving}
 
 -- What a front with these rules leaves: its own entries, what its ports tell and what it hands back are those of its rounds; and it ends Broken only where its ports' count of faults rose
 pub record FrontLeaves {A W : Type 0} (R : Rules A W) (shown after : Outside PortsTold) (es : List Entry) (done : FrontDone) (worn : Bool) : Type 0 where
-  pub served : Serves R shown.told after.told es done.end done.rests.items done.starved worn
+  pub served : FrontRun R shown.told after.told es done.end done.rests.items done.starved worn
   pub broken : done.end ≡ FrontEnd.Broken → Counted shown.faults after.faults
 
 -- the renderd front, number 0, of a farm that has the maps of these names

@@ -13,9 +13,9 @@ use Rattle.farm_history.specs.declared.answers.Collected.TheVariants as collecte
 use Rattle.port_trait.specs.declared.events.PortEvent.{PortEvent}
 use Rattle.port_trait.specs.Told.{PortsTold, IsOpen}
 use Rattle.port_trait.specs.Boxes.{rest_at, put_rest, HasRest, rest_in}
-use Rattle.front_rounds.specs.declared.fates.Fate.{Fate}
-use Rattle.front_rounds.specs.declared.fates.Fate.TheVariants.{Stays, Leaves}
-use Rattle.front_rounds.specs.declared.fates.Reason.TheVariants as reason
+use Rattle.front_rounds.specs.declared.dispositions.Disposition.{Disposition}
+use Rattle.front_rounds.specs.declared.dispositions.Disposition.TheVariants.{Stays, Leaves}
+use Rattle.front_rounds.specs.declared.dispositions.Reason.TheVariants as reason
 use Rattle.front_rounds.specs.declared.sessions.Session.{Session}
 use Rattle.front_rounds.specs.Rules.{Rules, Move, Does, Gets, answer_bytes, each_whole}
 use Rattle.front_rounds.specs.Steps.{Step, Came, Did, Got, Through, Tried, Left, Phase, Fresh, Hearing, Collecting, Offering, Leaving, phase, collecting, offering, leaving, Gathers, Offers, IsThrough, has}
@@ -23,11 +23,11 @@ use Rattle.front_rounds.specs.Parts.{Part, part, after_move, must, is_full, is_c
 use Rattle.front_rounds.specs.Rounds.{Sound}
 use Rattle.front_rounds.specs.Front.{keeps, RepliedWhy, MayStandAlone}
 use Rattle.front_rounds.specs.inner.Sessions.{conns, keys, Apart, StandsAt, is_up, asks_all, worse, owing, woken}
-use Rattle.front_rounds.specs.inner.Stands.{World, FateFits, Keeping, Counts, Sits}
+use Rattle.front_rounds.specs.inner.Stands.{World, DispositionFits, Keeping, Counts, Sits}
 use Rattle.front_rounds.specs.inner.Stages.{IsAt, IsOffering, Settles, Passes, Holds, Overflows, Starves, AnswersOne, AnswersWorn, RepliesOne, Passed, Cuts, Answers, Collects, CanOffer, CutShort}
 use Rattle.front_rounds.proofs.Tables.{other, same, conns_set, conns_woken, each_set, each_none, each_woken, each_at}
 use Rattle.front_rounds.proofs.Rests.{at_put}
-use Rattle.front_rounds.proofs.Sitting.{clash, and_both, or_none, or_more, or_less, or_left, or_right, none_said, within, beyond, due_grows, sits_as, others}
+use Rattle.front_rounds.proofs.Sitting.{clash, and_both, or_none, or_more, or_less, or_left, or_right, no_response, within, beyond, due_grows, sits_as, others}
 use Rattle.front_rounds.proofs.Heards.{holds_rest}
 use Rattle.front_rounds.proofs.Worlds.{settles_keys, settles_other}
 
@@ -81,7 +81,7 @@ not_left Fresh h k = h
 not_left (Offering f x) h k = h
 not_left (Leaving f x) h k = h
 
-pub keeps_asks : (f : Fate) → keeps f ≡ true → asks_all f ≡ true
+pub keeps_asks : (f : Disposition) → keeps f ≡ true → asks_all f ≡ true
 keeps_asks Stays k = refl
 keeps_asks (Leaves reason.Unread) k = refl
 keeps_asks (Leaves reason.Ended) k = clash (sym k)
@@ -93,7 +93,7 @@ keeps_asks (Leaves reason.SendFailed) k = clash (sym k)
 keeps_asks (Leaves reason.NoMemory) k = clash (sym k)
 keeps_asks (Leaves reason.Starved) k = clash (sym k)
 
-pub keeps_up : (f : Fate) → keeps f ≡ true → is_up f ≡ true
+pub keeps_up : (f : Disposition) → keeps f ≡ true → is_up f ≡ true
 keeps_up Stays k = refl
 keeps_up (Leaves reason.Unread) k = refl
 keeps_up (Leaves reason.Ended) k = refl
@@ -148,7 +148,7 @@ module _ {A W T : Type 0} (R : Rules A W) (K : List ℕ → List (Move A) → T 
   running_got r behind p h = record { ended = h.ended; lost = h.lost; sends = h.sends; sent = h.sent }
 
   -- a cause stays
-  caused_more : (r : Reply) (behind : List Entry) (p : Part A) (f : Fate) → R.starves (Gets r behind) ≡ false → keeps f ≡ false → FateFits R p f → FateFits R (got r behind p) f
+  caused_more : (r : Reply) (behind : List Entry) (p : Part A) (f : Disposition) → R.starves (Gets r behind) ≡ false → keeps f ≡ false → DispositionFits R p f → DispositionFits R (got r behind p) f
   caused_more r behind p Stays n k h = clash k
   caused_more r behind p (Leaves reason.Unread) n k h = clash k
   caused_more r behind p (Leaves reason.Ended) n k h = h
@@ -161,7 +161,7 @@ module _ {A W T : Type 0} (R : Rules A W) (K : List ℕ → List (Move A) → T 
   caused_more r behind p (Leaves reason.Starved) n k h = (running_got r behind p h.0, or_none (R.starves (Gets r behind)) p.starved n h.1)
 
   -- a reply that is passed over may lack entries
-  excused_by : (r : Reply) (p : Part A) (f : Fate) → keeps f ≡ false → asks_all f ≡ true → FateFits R p f → Untried R p → is_excused (Gets r []) p ≡ true
+  excused_by : (r : Reply) (p : Part A) (f : Disposition) → keeps f ≡ false → asks_all f ≡ true → DispositionFits R p f → Untried R p → is_excused (Gets r []) p ≡ true
   excused_by r p Stays k a h u = clash k
   excused_by r p (Leaves reason.Unread) k a h u = clash k
   excused_by r p (Leaves reason.Ended) k a h u = or_left p.ended (p.lost || (p.cut || is_cut {A = A} (Gets r []))) h
@@ -182,13 +182,13 @@ module _ {A W T : Type 0} (R : Rules A W) (K : List ℕ → List (Move A) → T 
   complete_got r behind p e c = and_both (is_excused (Gets r behind) p || R.whole p.moves (Gets r behind)) p.complete e c
 
   -- a reply is passed over
-  passed_sits : (told : Option PortsTold) (box : List (ℕ × List ℕ)) (p : Part A) (s : Session T) (r : Reply) → R.starves (Gets r []) ≡ false → Sits R K told box p s → keeps s.fate ≡ false
+  passed_sits : (told : Option PortsTold) (box : List (ℕ × List ℕ)) (p : Part A) (s : Session T) (r : Reply) → R.starves (Gets r []) ≡ false → Sits R K told box p s → keeps s.disposition ≡ false
       → Untried R p → Sits R K told box (got r [] p) s
   passed_sits told box p s r n h k u =
-      sits_as R K told box (got r [] p) s s.fate refl h.rest_there h.opening h.up (counts_got r [] p h.counts) (λ e. clash (sym e ∙ k))
-      (caused_more r [] p s.fate n k h.fate_fits)
+      sits_as R K told box (got r [] p) s s.disposition refl h.rest_there h.opening h.up (counts_got r [] p h.counts) (λ e. clash (sym e ∙ k))
+      (caused_more r [] p s.disposition n k h.disposition_fits)
       (λ a. let all = h.asked_all a in
-      (all.0, complete_got r [] p (or_left (is_excused (Gets r []) p) (R.whole p.moves (Gets r [])) (excused_by r p s.fate k a h.fate_fits u)) all.1))
+      (all.0, complete_got r [] p (or_left (is_excused (Gets r []) p) (R.whole p.moves (Gets r [])) (excused_by r p s.disposition k a h.disposition_fits u)) all.1))
 
   cut_is : (r : Reply) (behind : List Entry) → r.outcome ≡ outcome.Cut → is_cut {A = A} (Gets r behind) ≡ true
   cut_is r behind e = ap (λ (o : Outcome). elim o as (λ _. Bool) [ outcome.Cut ↦ true | outcome.Done ↦ false | outcome.NotDone ↦ false ]) e
@@ -204,18 +204,18 @@ module _ {A W T : Type 0} (R : Rules A W) (K : List ℕ → List (Move A) → T 
       (or_right p.lost (p.cut || is_cut {A = A} (Gets r [])) (or_right p.cut (is_cut {A = A} (Gets r [])) h))
 
   -- a reply ends the session
-  cut_sits : (told : Option PortsTold) (box : List (ℕ × List ℕ)) (p : Part A) (s : Session T) (r : Reply) → Sits R K told box p s → keeps s.fate ≡ true
-      → r.outcome ≡ outcome.Cut → Sits R K told box (got r [] p) (record s { fate = Leaves reason.Cut })
+  cut_sits : (told : Option PortsTold) (box : List (ℕ × List ℕ)) (p : Part A) (s : Session T) (r : Reply) → Sits R K told box p s → keeps s.disposition ≡ true
+      → r.outcome ≡ outcome.Cut → Sits R K told box (got r [] p) (record s { disposition = Leaves reason.Cut })
   cut_sits told box p s r h k e =
-      sits_as R K told box (got r [] p) (record s { fate = Leaves reason.Cut }) (Leaves reason.Cut) refl h.rest_there (λ _. h.opening (keeps_up s.fate k))
-      (h.up ∙ keeps_up s.fate k) (counts_got r [] p h.counts) (λ q. clash (sym q)) (or_left (is_cut {A = A} (Gets r [])) p.cut (cut_is r [] e))
+      sits_as R K told box (got r [] p) (record s { disposition = Leaves reason.Cut }) (Leaves reason.Cut) refl h.rest_there (λ _. h.opening (keeps_up s.disposition k))
+      (h.up ∙ keeps_up s.disposition k) (counts_got r [] p h.counts) (λ q. clash (sym q)) (or_left (is_cut {A = A} (Gets r [])) p.cut (cut_is r [] e))
       (λ _. (
         (h.keeping k).asked_all,
-        complete_got r [] p (or_left (is_excused (Gets r []) p) (R.whole p.moves (Gets r [])) (cut_excuses r p (cut_is r [] e))) (h.asked_all (keeps_asks s.fate k)).1,
+        complete_got r [] p (or_left (is_excused (Gets r []) p) (R.whole p.moves (Gets r [])) (cut_excuses r p (cut_is r [] e))) (h.asked_all (keeps_asks s.disposition k)).1,
       ))
 
   -- all that is known as a reply was answered
-  record Say (told : Option PortsTold) (box : List (ℕ × List ℕ)) (p : Part A) (r : Reply) (behind : List Entry) (s s' : Session T) (said : List ℕ) (f : Fate) : Type 0 where
+  record Say (told : Option PortsTold) (box : List (ℕ × List ℕ)) (p : Part A) (r : Reply) (behind : List Entry) (s s' : Session T) (response : List ℕ) (f : Disposition) : Type 0 where
     has : HasRest box s'.conn
     op : IsOpen s'.conn told
     opened : is_open p ≡ true
@@ -223,16 +223,16 @@ module _ {A W T : Type 0} (R : Rules A W) (K : List ℕ → List (Move A) → T 
     untried : p.tried ≡ false
     keep : Keeping R K p s (rest_in box s'.conn)
     complete : p.complete ≡ true
-    fits : FateFits R p s.fate
+    fits : DispositionFits R p s.disposition
     why : RepliedWhy R (Gets r behind) f
-    said_is : keeps f ≡ true → R.says p.moves (Gets r behind) ≡ said
+    response_is : keeps f ≡ true → R.says p.moves (Gets r behind) ≡ response
     whole : keeps f ≡ true → R.whole p.moves (Gets r behind) ≡ true
-    knows : keeps f ≡ true → K p.given (Gets r behind ∷ p.moves) s'.talk
+    knows : keeps f ≡ true → K p.given (Gets r behind ∷ p.moves) s'.conn_state
     uncut : is_cut {A = A} (Gets r behind) ≡ false
-    owes : s'.owes ≡ owing s.owes said Stays
+    owes : s'.owes ≡ owing s.owes response Stays
 
-  text_is : (r : Reply) (behind : List Entry) (p : Part A) (said : List ℕ) → R.says p.moves (Gets r behind) ≡ said → answer_bytes R (Gets r behind ∷ p.moves) ≡ answer_bytes R p.moves ++ said
-  text_is r behind p said e = ap (λ xs. answer_bytes R p.moves ++ xs) e
+  text_is : (r : Reply) (behind : List Entry) (p : Part A) (response : List ℕ) → R.says p.moves (Gets r behind) ≡ response → answer_bytes R (Gets r behind ∷ p.moves) ≡ answer_bytes R p.moves ++ response
+  text_is r behind p response e = ap (λ xs. answer_bytes R p.moves ++ xs) e
 
   must_more : (r : Reply) (behind : List Entry) (p : Part A) → must R p ≡ true → must R (got r behind p) ≡ true
   must_more r behind p h =
@@ -242,62 +242,62 @@ module _ {A W T : Type 0} (R : Rules A W) (K : List ℕ → List (Move A) → T 
       let g = grows r behind p in
       lt-ltb p.was (length (answer_bytes R (Gets r behind ∷ p.moves))) (omega (arith, l, g))) e) h
 
-  must_said : (r : Reply) (behind : List Entry) (p : Part A) (said : List ℕ) → R.says p.moves (Gets r behind) ≡ said → Counts R p → nat_lt 0 (length said) ≡ true
+  must_respond : (r : Reply) (behind : List Entry) (p : Part A) (response : List ℕ) → R.says p.moves (Gets r behind) ≡ response → Counts R p → nat_lt 0 (length response) ≡ true
       → must R (got r behind p) ≡ true
-  must_said r behind p said e n h =
-      let l = ltb-true 0 (length said) h in
-      let t = ap length (text_is r behind p said e) ∙ length-append (answer_bytes R p.moves) said in
+  must_respond r behind p response e n h =
+      let l = ltb-true 0 (length response) h in
+      let t = ap length (text_is r behind p response e) ∙ length-append (answer_bytes R p.moves) response in
       let before = n.before in
       or_right p.called (nat_lt p.was (length (answer_bytes R (Gets r behind ∷ p.moves))) || R.refuses p.given)
       (or_left (nat_lt p.was (length (answer_bytes R (Gets r behind ∷ p.moves)))) (R.refuses p.given) (lt-ltb p.was (length (answer_bytes R (Gets r behind ∷ p.moves))) (omega (arith, l, t, before))))
 
-  owes_by : (r : Reply) (behind : List Entry) (p : Part A) (said : List ℕ) (owes : Bool) → R.says p.moves (Gets r behind) ≡ said → Counts R p
-      → (owes ≡ true → must R p ≡ true) → (owes || (nat_lt 0 (length said) || false)) ≡ true → must R (got r behind p) ≡ true
-  owes_by r behind p said true e n f h = must_more r behind p (f refl)
-  owes_by r behind p said false e n f h = must_said r behind p said e n (sym (or-false (nat_lt 0 (length said))) ∙ h)
+  owes_by : (r : Reply) (behind : List Entry) (p : Part A) (response : List ℕ) (owes : Bool) → R.says p.moves (Gets r behind) ≡ response → Counts R p
+      → (owes ≡ true → must R p ≡ true) → (owes || (nat_lt 0 (length response) || false)) ≡ true → must R (got r behind p) ≡ true
+  owes_by r behind p response true e n f h = must_more r behind p (f refl)
+  owes_by r behind p response false e n f h = must_respond r behind p response e n (sym (or-false (nat_lt 0 (length response))) ∙ h)
 
-  keeping_got : (told : Option PortsTold) (box box' : List (ℕ × List ℕ)) (p : Part A) (r : Reply) (behind : List Entry) (s s' : Session T) (said : List ℕ)
-      → Say told box p r behind s s' said Stays → rest_in box' s'.conn ≡ rest_in box s'.conn ++ said → Keeping R K (got r behind p) s' (rest_in box' s'.conn)
-  keeping_got told box box' p r behind s s' said h e =
+  keeping_got : (told : Option PortsTold) (box box' : List (ℕ × List ℕ)) (p : Part A) (r : Reply) (behind : List Entry) (s s' : Session T) (response : List ℕ)
+      → Say told box p r behind s s' response Stays → rest_in box' s'.conn ≡ rest_in box s'.conn ++ response → Keeping R K (got r behind p) s' (rest_in box' s'.conn)
+  keeping_got told box box' p r behind s s' response h e =
       let k = h.keep in
-      let is = text_is r behind p said (h.said_is refl) in
+      let is = text_is r behind p response (h.response_is refl) in
       record {
-        rest_is = e ∙ ap (λ xs. xs ++ said) k.rest_is ∙ sym (due_grows R p.took (answer_bytes R p.moves) said (answer_bytes R (Gets r behind ∷ p.moves)) h.counts.low is);
+        rest_is = e ∙ ap (λ xs. xs ++ response) k.rest_is ∙ sym (due_grows R p.took (answer_bytes R p.moves) response (answer_bytes R (Gets r behind ∷ p.moves)) h.counts.low is);
         asked_all = k.asked_all;
         whole = ap (λ b. b && each_whole R p.moves) (h.whole refl) ∙ k.whole;
         knows = h.knows refl;
         running = running_got r behind p k.running;
         memory = or_none (R.starves (Gets r behind)) p.starved h.why k.memory;
-        owed = λ o. (h.untried, owes_by r behind p said s.owes (h.said_is refl) h.counts (λ q. (k.owed q).1) (sym h.owes ∙ o));
+        owed = λ o. (h.untried, owes_by r behind p response s.owes (h.response_is refl) h.counts (λ q. (k.owed q).1) (sym h.owes ∙ o));
         offered = λ o m t.
-            let parts = or_parts s.owes (nat_lt 0 (length said) || false) (sym h.owes ∙ o) in
-            let none = none_said said (or_parts (nat_lt 0 (length said)) false parts.1).0 in
+            let parts = or_parts s.owes (nat_lt 0 (length response) || false) (sym h.owes ∙ o) in
+            let none = no_response response (or_parts (nat_lt 0 (length response)) false parts.1).0 in
             let text_same : answer_bytes R (Gets r behind ∷ p.moves) ≡ answer_bytes R p.moves = is ∙ ap (λ xs. answer_bytes R p.moves ++ xs) none ∙ append-nil (answer_bytes R p.moves) in
             ap (drop p.took) text_same
             ∙ k.offered parts.0 (sym (ap (λ xs. p.called || (nat_lt p.was (length xs) || R.refuses p.given)) text_same) ∙ m) t;
       }
 
-  said_passes : (told : Option PortsTold) (box : List (ℕ × List ℕ)) (p : Part A) (r : Reply) (behind : List Entry) (s s' : Session T) (said : List ℕ) (f : Fate)
-      → Say told box p r behind s s' said f → keeps s.fate ≡ true → keeps (worse s.fate f) ≡ false → s'.fate ≡ worse s.fate f → Sits R K told box (got r behind p) s'
-  said_passes told box p r behind s s' said Stays h k n e = clash (sym k ∙ n)
-  said_passes told box p r behind s s' said (Leaves reason.NoMemory) h k n e =
+  response_passes : (told : Option PortsTold) (box : List (ℕ × List ℕ)) (p : Part A) (r : Reply) (behind : List Entry) (s s' : Session T) (response : List ℕ) (f : Disposition)
+      → Say told box p r behind s s' response f → keeps s.disposition ≡ true → keeps (worse s.disposition f) ≡ false → s'.disposition ≡ worse s.disposition f → Sits R K told box (got r behind p) s'
+  response_passes told box p r behind s s' response Stays h k n e = clash (sym k ∙ n)
+  response_passes told box p r behind s s' response (Leaves reason.NoMemory) h k n e =
       sits_as R K told box (got r behind p) s' (Leaves reason.NoMemory) e h.has (λ _. h.op) h.opened (counts_got r behind p h.counts)
       (λ q. clash (sym q)) (or_left (R.starves (Gets r behind)) p.starved h.why) (λ q. clash (sym q))
-  said_passes told box p r behind s s' said (Leaves reason.Starved) h k n e =
+  response_passes told box p r behind s s' response (Leaves reason.Starved) h k n e =
       sits_as R K told box (got r behind p) s' (Leaves reason.Starved) e h.has (λ _. h.op) h.opened (counts_got r behind p h.counts)
       (λ q. clash (sym q)) (running_got r behind p h.keep.running, or_none (R.starves (Gets r behind)) p.starved h.why h.keep.memory) (λ q. clash (sym q))
-  said_passes told box p r behind s s' said (Leaves reason.Unread) h k n e = absurd h.why
-  said_passes told box p r behind s s' said (Leaves reason.Ended) h k n e = absurd h.why
-  said_passes told box p r behind s s' said (Leaves reason.Lost) h k n e = absurd h.why
-  said_passes told box p r behind s s' said (Leaves reason.Cut) h k n e = absurd h.why
-  said_passes told box p r behind s s' said (Leaves reason.Full) h k n e = absurd h.why
-  said_passes told box p r behind s s' said (Leaves reason.SentWhole) h k n e = absurd h.why
-  said_passes told box p r behind s s' said (Leaves reason.SendFailed) h k n e = absurd h.why
+  response_passes told box p r behind s s' response (Leaves reason.Unread) h k n e = absurd h.why
+  response_passes told box p r behind s s' response (Leaves reason.Ended) h k n e = absurd h.why
+  response_passes told box p r behind s s' response (Leaves reason.Lost) h k n e = absurd h.why
+  response_passes told box p r behind s s' response (Leaves reason.Cut) h k n e = absurd h.why
+  response_passes told box p r behind s s' response (Leaves reason.Full) h k n e = absurd h.why
+  response_passes told box p r behind s s' response (Leaves reason.SentWhole) h k n e = absurd h.why
+  response_passes told box p r behind s s' response (Leaves reason.SendFailed) h k n e = absurd h.why
 
-  -- what fits a kept fate goes on to fit it
-  fits_got : (told : Option PortsTold) (box : List (ℕ × List ℕ)) (p : Part A) (r : Reply) (behind : List Entry) (s s' : Session T) (said : List ℕ) (f : Fate)
-      → Say told box p r behind s s' said Stays → keeps f ≡ true → FateFits R p f → length (answer_bytes R (Gets r behind ∷ p.moves)) ≤ p.took + most_rest_bytes → FateFits R (got r behind p) f
-  fits_got told box p r behind s s' said Stays h k fits l =
+  -- what fits a kept disposition goes on to fit it
+  fits_got : (told : Option PortsTold) (box : List (ℕ × List ℕ)) (p : Part A) (r : Reply) (behind : List Entry) (s s' : Session T) (response : List ℕ) (f : Disposition)
+      → Say told box p r behind s s' response Stays → keeps f ≡ true → DispositionFits R p f → length (answer_bytes R (Gets r behind ∷ p.moves)) ≤ p.took + most_rest_bytes → DispositionFits R (got r behind p) f
+  fits_got told box p r behind s s' response Stays h k fits l =
       let same : p.took ≡ p.had = h.counts.untaken h.untried in
       record {
         ended = fits.ended;
@@ -309,18 +309,18 @@ module _ {A W T : Type 0} (R : Rules A W) (K : List ℕ → List (Move A) → T 
         sends = fits.sends;
         memory = or_none (R.starves (Gets r behind)) p.starved h.why fits.memory;
       }
-  fits_got told box p r behind s s' said (Leaves reason.Unread) h k fits l = fits
-  fits_got told box p r behind s s' said (Leaves reason.NoMemory) h k fits l = clash (sym k)
-  fits_got told box p r behind s s' said (Leaves reason.Starved) h k fits l = clash (sym k)
-  fits_got told box p r behind s s' said (Leaves reason.Ended) h k fits l = clash (sym k)
-  fits_got told box p r behind s s' said (Leaves reason.Lost) h k fits l = clash (sym k)
-  fits_got told box p r behind s s' said (Leaves reason.Cut) h k fits l = clash (sym k)
-  fits_got told box p r behind s s' said (Leaves reason.Full) h k fits l = clash (sym k)
-  fits_got told box p r behind s s' said (Leaves reason.SentWhole) h k fits l = clash (sym k)
-  fits_got told box p r behind s s' said (Leaves reason.SendFailed) h k fits l = clash (sym k)
+  fits_got told box p r behind s s' response (Leaves reason.Unread) h k fits l = fits
+  fits_got told box p r behind s s' response (Leaves reason.NoMemory) h k fits l = clash (sym k)
+  fits_got told box p r behind s s' response (Leaves reason.Starved) h k fits l = clash (sym k)
+  fits_got told box p r behind s s' response (Leaves reason.Ended) h k fits l = clash (sym k)
+  fits_got told box p r behind s s' response (Leaves reason.Lost) h k fits l = clash (sym k)
+  fits_got told box p r behind s s' response (Leaves reason.Cut) h k fits l = clash (sym k)
+  fits_got told box p r behind s s' response (Leaves reason.Full) h k fits l = clash (sym k)
+  fits_got told box p r behind s s' response (Leaves reason.SentWhole) h k fits l = clash (sym k)
+  fits_got told box p r behind s s' response (Leaves reason.SendFailed) h k fits l = clash (sym k)
 
   -- a reply that keeps its session says nothing but Stays
-  kept_is : (m : Move A) (old f : Fate) → RepliedWhy R m f → keeps (worse old f) ≡ true → f ≡ Stays
+  kept_is : (m : Move A) (old f : Disposition) → RepliedWhy R m f → keeps (worse old f) ≡ true → f ≡ Stays
   kept_is m old Stays w k = refl
   kept_is m old (Leaves reason.NoMemory) w k = clash (sym k)
   kept_is m old (Leaves reason.Starved) w k = clash (sym k)
@@ -332,75 +332,75 @@ module _ {A W T : Type 0} (R : Rules A W) (K : List ℕ → List (Move A) → T 
   kept_is m old (Leaves reason.SentWhole) w k = absurd w
   kept_is m old (Leaves reason.SendFailed) w k = absurd w
 
-  said_holds : (told : Option PortsTold) (box : List (ℕ × List ℕ)) (p : Part A) (r : Reply) (behind : List Entry) (s s' : Session T) (said : List ℕ)
-      → Say told box p r behind s s' said Stays → keeps s.fate ≡ true → s'.fate ≡ s.fate → length (rest_in box s'.conn ++ said) ≤ most_rest_bytes
-      → Sits R K told (put_rest box s'.conn (rest_in box s'.conn ++ said)) (got r behind p) s'
-  said_holds told box p r behind s s' said h k e l =
-      let box' = put_rest box s'.conn (rest_in box s'.conn ++ said) in
-      let short = within R p.took (answer_bytes R p.moves) said (answer_bytes R (Gets r behind ∷ p.moves)) h.counts.low (text_is r behind p said (h.said_is refl))
-      (subst (λ (xs : List ℕ). length (xs ++ said) ≤ most_rest_bytes) h.keep.rest_is l) in
-      sits_as R K told box' (got r behind p) s' s.fate e (rest_in box s'.conn ++ said, at_put box s'.conn (rest_in box s'.conn ++ said) h.has) (λ _. h.op)
-      (h.opened ∙ sym (keeps_up s.fate k)) (counts_got r behind p h.counts)
-      (λ _. keeping_got told box box' p r behind s s' said h (holds_rest R K box s'.conn (rest_in box s'.conn ++ said) h.has))
-      (fits_got told box p r behind s s' said s.fate h k h.fits short)
+  said_holds : (told : Option PortsTold) (box : List (ℕ × List ℕ)) (p : Part A) (r : Reply) (behind : List Entry) (s s' : Session T) (response : List ℕ)
+      → Say told box p r behind s s' response Stays → keeps s.disposition ≡ true → s'.disposition ≡ s.disposition → length (rest_in box s'.conn ++ response) ≤ most_rest_bytes
+      → Sits R K told (put_rest box s'.conn (rest_in box s'.conn ++ response)) (got r behind p) s'
+  said_holds told box p r behind s s' response h k e l =
+      let box' = put_rest box s'.conn (rest_in box s'.conn ++ response) in
+      let short = within R p.took (answer_bytes R p.moves) response (answer_bytes R (Gets r behind ∷ p.moves)) h.counts.low (text_is r behind p response (h.response_is refl))
+      (subst (λ (xs : List ℕ). length (xs ++ response) ≤ most_rest_bytes) h.keep.rest_is l) in
+      sits_as R K told box' (got r behind p) s' s.disposition e (rest_in box s'.conn ++ response, at_put box s'.conn (rest_in box s'.conn ++ response) h.has) (λ _. h.op)
+      (h.opened ∙ sym (keeps_up s.disposition k)) (counts_got r behind p h.counts)
+      (λ _. keeping_got told box box' p r behind s s' response h (holds_rest R K box s'.conn (rest_in box s'.conn ++ response) h.has))
+      (fits_got told box p r behind s s' response s.disposition h k h.fits short)
       (λ _. (h.keep.asked_all, complete_got r behind p (or_right (is_excused (Gets r behind) p) (R.whole p.moves (Gets r behind)) (h.whole refl)) h.complete))
 
-  said_full : (told : Option PortsTold) (box : List (ℕ × List ℕ)) (p : Part A) (r : Reply) (behind : List Entry) (s s' : Session T) (said : List ℕ)
-      → Say told box p r behind s s' said Stays → s'.fate ≡ Leaves reason.Full → most_rest_bytes < length (rest_in box s'.conn ++ said) → Sits R K told box (got r behind p) s'
-  said_full told box p r behind s s' said h e l =
-      let long = beyond R p.took (answer_bytes R p.moves) said (answer_bytes R (Gets r behind ∷ p.moves)) h.counts.low (text_is r behind p said (h.said_is refl))
-      (subst (λ (xs : List ℕ). most_rest_bytes < length (xs ++ said)) h.keep.rest_is l) in
+  said_full : (told : Option PortsTold) (box : List (ℕ × List ℕ)) (p : Part A) (r : Reply) (behind : List Entry) (s s' : Session T) (response : List ℕ)
+      → Say told box p r behind s s' response Stays → s'.disposition ≡ Leaves reason.Full → most_rest_bytes < length (rest_in box s'.conn ++ response) → Sits R K told box (got r behind p) s'
+  said_full told box p r behind s s' response h e l =
+      let long = beyond R p.took (answer_bytes R p.moves) response (answer_bytes R (Gets r behind ∷ p.moves)) h.counts.low (text_is r behind p response (h.response_is refl))
+      (subst (λ (xs : List ℕ). most_rest_bytes < length (xs ++ response)) h.keep.rest_is l) in
       let same : p.took ≡ p.had = h.counts.untaken h.untried in
       sits_as R K told box (got r behind p) s' (Leaves reason.Full) e h.has (λ _. h.op) h.opened (counts_got r behind p h.counts)
       (λ q. clash (sym q)) (lt-ltb (p.had + most_rest_bytes) (length (answer_bytes R (Gets r behind ∷ p.moves))) (omega (arith, same, long))) (λ q. clash (sym q))
 
-  said_starves : (told : Option PortsTold) (box : List (ℕ × List ℕ)) (p : Part A) (r : Reply) (behind : List Entry) (s s' : Session T) (said : List ℕ)
-      → Say told box p r behind s s' said Stays → s'.fate ≡ Leaves reason.Starved → Sits R K told box (got r behind p) s'
-  said_starves told box p r behind s s' said h e =
+  said_starves : (told : Option PortsTold) (box : List (ℕ × List ℕ)) (p : Part A) (r : Reply) (behind : List Entry) (s s' : Session T) (response : List ℕ)
+      → Say told box p r behind s s' response Stays → s'.disposition ≡ Leaves reason.Starved → Sits R K told box (got r behind p) s'
+  said_starves told box p r behind s s' response h e =
       sits_as R K told box (got r behind p) s' (Leaves reason.Starved) e h.has (λ _. h.op) h.opened (counts_got r behind p h.counts)
       (λ q. clash (sym q)) (running_got r behind p h.keep.running, or_none (R.starves (Gets r behind)) p.starved h.why h.keep.memory) (λ q. clash (sym q))
 
-  said_by : (told : Option PortsTold) (box box' : List (ℕ × List ℕ)) (p : Part A) (r : Reply) (behind : List Entry) (s s' : Session T) (said : List ℕ) (f f' : Fate)
-      → Say told box p r behind s s' said f → keeps s.fate ≡ true → s'.fate ≡ f' → Settles s'.conn said (worse s.fate f) f' box box' → Sits R K told box' (got r behind p) s'
-  said_by told box box' p r behind s s' said f f' h k e (Passes n q b) =
-      subst (λ (x : List (ℕ × List ℕ)). Sits R K told x (got r behind p) s') (sym b) (said_passes told box p r behind s s' said f h k n (e ∙ q))
-  said_by told box box' p r behind s s' said f f' h k e (Holds n q b l) =
-      let is = kept_is (Gets r behind) s.fate f h.why n in
+  response_by : (told : Option PortsTold) (box box' : List (ℕ × List ℕ)) (p : Part A) (r : Reply) (behind : List Entry) (s s' : Session T) (response : List ℕ) (f f' : Disposition)
+      → Say told box p r behind s s' response f → keeps s.disposition ≡ true → s'.disposition ≡ f' → Settles s'.conn response (worse s.disposition f) f' box box' → Sits R K told box' (got r behind p) s'
+  response_by told box box' p r behind s s' response f f' h k e (Passes n q b) =
+      subst (λ (x : List (ℕ × List ℕ)). Sits R K told x (got r behind p) s') (sym b) (response_passes told box p r behind s s' response f h k n (e ∙ q))
+  response_by told box box' p r behind s s' response f f' h k e (Holds n q b l) =
+      let is = kept_is (Gets r behind) s.disposition f h.why n in
       subst (λ (x : List (ℕ × List ℕ)). Sits R K told x (got r behind p) s') (sym b)
-      (said_holds told box p r behind s s' said (subst (Say told box p r behind s s' said) is h) k (e ∙ q ∙ ap (worse s.fate) is) l)
-  said_by told box box' p r behind s s' said f f' h k e (Overflows n q b l) =
-      let is = kept_is (Gets r behind) s.fate f h.why n in
+      (said_holds told box p r behind s s' response (subst (Say told box p r behind s s' response) is h) k (e ∙ q ∙ ap (worse s.disposition) is) l)
+  response_by told box box' p r behind s s' response f f' h k e (Overflows n q b l) =
+      let is = kept_is (Gets r behind) s.disposition f h.why n in
       subst (λ (x : List (ℕ × List ℕ)). Sits R K told x (got r behind p) s') (sym b)
-      (said_full told box p r behind s s' said (subst (Say told box p r behind s s' said) is h) (e ∙ q) l)
-  said_by told box box' p r behind s s' said f f' h k e (Starves n q b l) =
-      let is = kept_is (Gets r behind) s.fate f h.why n in
+      (said_full told box p r behind s s' response (subst (Say told box p r behind s s' response) is h) (e ∙ q) l)
+  response_by told box box' p r behind s s' response f f' h k e (Starves n q b l) =
+      let is = kept_is (Gets r behind) s.disposition f h.why n in
       subst (λ (x : List (ℕ × List ℕ)). Sits R K told x (got r behind p) s') (sym b)
-      (said_starves told box p r behind s s' said (subst (Say told box p r behind s s' said) is h) (e ∙ q))
+      (said_starves told box p r behind s s' response (subst (Say told box p r behind s s' response) is h) (e ∙ q))
 
   -- a reply is answered
   answered_sits : (told : Option PortsTold) (box box' : List (ℕ × List ℕ)) (p : Part A) (s s' : Session T) (r : Reply) (mine mine' : List Entry)
-      → (sits : Sits R K told box p s) → p.tried ≡ false → (k : keeps s.fate ≡ true) → (r.outcome ≡ outcome.Cut → ⊥) → (h : AnswersOne R K r mine mine' s s' box box')
+      → (sits : Sits R K told box p s) → p.tried ≡ false → (k : keeps s.disposition ≡ true) → (r.outcome ≡ outcome.Cut → ⊥) → (h : AnswersOne R K r mine mine' s s' box box')
       → Sits R K told box' (got r (h.replied p.given p.moves (sits.keeping k).knows).behind p) s'
   answered_sits told box box' p s s' r mine mine' sits u k n h =
       let rp = h.replied p.given p.moves (sits.keeping k).knows in
-      said_by told box box' p r rp.behind s s' h.said h.fate s'.fate
+      response_by told box box' p r rp.behind s s' h.response h.disposition s'.disposition
       (record {
         has = subst (HasRest box) (sym h.conn) sits.rest_there;
-        op = subst (λ c. IsOpen c told) (sym h.conn) (sits.opening (keeps_up s.fate k));
-        opened = sits.up ∙ keeps_up s.fate k;
+        op = subst (λ c. IsOpen c told) (sym h.conn) (sits.opening (keeps_up s.disposition k));
+        opened = sits.up ∙ keeps_up s.disposition k;
         counts = sits.counts;
         untried = u;
         keep = subst (λ c. Keeping R K p s (rest_in box c)) (sym h.conn) (sits.keeping k);
-        complete = (sits.asked_all (keeps_asks s.fate k)).1;
-        fits = sits.fate_fits;
+        complete = (sits.asked_all (keeps_asks s.disposition k)).1;
+        fits = sits.disposition_fits;
         why = rp.why;
-        said_is = rp.said_is;
+        response_is = rp.response_is;
         whole = rp.whole;
         knows = rp.knows;
         uncut = cut_by r.outcome n;
         owes = h.owes;
       })
-      k refl (subst (λ c. Settles c h.said (worse s.fate h.fate) s'.fate box box') (sym h.conn) h.settles)
+      k refl (subst (λ c. Settles c h.response (worse s.disposition h.disposition) s'.disposition box box') (sym h.conn) h.settles)
 
   -- a Collect gave a reply, whatever became of its session
   got_by : (e : PortEvent) (start told : Option PortsTold) (ss : List (Step A)) (w : World T) (r : Reply) (behind : List Entry) (mine' : List Entry) (sessions : List (Session T))
@@ -473,15 +473,15 @@ module _ {A W T : Type 0} (R : Rules A W) (K : List ℕ → List (Move A) → T 
       got_at e start ss w r [] mine' i s s' box' h (me ∙ m ∙ sym (append-nil (w.mine ++ Collect R.number (collected.Reply r) ∷ []))) at sc (ap (λ (x : Session T). x.conn) se)
       (alone r (part R ss s.conn).moves).0 (ap keys be) (λ d n. ap (λ (x : List (ℕ × List ℕ)). rest_at x d) be)
       (subst (λ (x : Session T). Sits R K w.told box' (got r [] (part R ss s.conn)) x) (sym se)
-      (subst (λ (x : List (ℕ × List ℕ)). Sits R K w.told x (got r [] (part R ss s.conn)) (record s { fate = Leaves reason.Cut })) (sym be)
+      (subst (λ (x : List (ℕ × List ℕ)). Sits R K w.told x (got r [] (part R ss s.conn)) (record s { disposition = Leaves reason.Cut })) (sym be)
       (cut_sits w.told w.box (part R ss s.conn) s r sits k oe)))
   got_one e start ss w r mine1 mine' i s s' box' alone h m at sc (Answers k n a) =
       let p = part R ss s.conn in
       let sits = each_at (λ (x : Session T). Sits R K w.told w.box (part R ss x.conn) x) w.sessions i s at h.stands.each in
       let rp = a.replied p.given p.moves (sits.keeping k).knows in
       got_at e start ss w r rp.behind mine' i s s' box' h (rp.mine_is ∙ ap (λ es. es ++ rp.behind) m) at sc a.conn rp.fits
-      (settles_keys s.conn a.said (worse s.fate a.fate) s'.fate w.box box' a.settles)
-      (λ d ne. settles_other s.conn a.said (worse s.fate a.fate) s'.fate w.box box' d a.settles ne)
+      (settles_keys s.conn a.response (worse s.disposition a.disposition) s'.disposition w.box box' a.settles)
+      (λ d ne. settles_other s.conn a.response (worse s.disposition a.disposition) s'.disposition w.box box' d a.settles ne)
       (answered_sits w.told w.box box' p s s' r mine1 mine' sits (untried R ss s.conn h.stands.sound (gathers_at e (phase ss) h.time)).0 k n a)
 
   -- a turn was worn at the Collect, or while its reply was answered
@@ -526,7 +526,7 @@ module _ {A W T : Type 0} (R : Rules A W) (K : List ℕ → List (Move A) → T 
     time = offering_at e false (phase ss) h.time;
   }
 
-  called_fits : (p : Part A) (f : Fate) → FateFits R p f → FateFits R (record p { called = true }) f
+  called_fits : (p : Part A) (f : Disposition) → DispositionFits R p f → DispositionFits R (record p { called = true }) f
   called_fits p Stays h = record { ended = h.ended; lost = h.lost; cut = h.cut; full = h.full; read = h.read; sent = h.sent; sends = h.sends; memory = h.memory }
   called_fits p (Leaves reason.Unread) h = h
   called_fits p (Leaves reason.Ended) h = h
@@ -541,11 +541,11 @@ module _ {A W T : Type 0} (R : Rules A W) (K : List ℕ → List (Move A) → T 
   called_sits : (told : Option PortsTold) (box : List (ℕ × List ℕ)) (p : Part A) (s : Session T) → Sits R K told box p s → p.tried ≡ false
       → Sits R K told box (record p { called = true }) (woken s)
   called_sits told box p s h u =
-      sits_as R K told box (record p { called = true }) (woken s) s.fate refl h.rest_there h.opening h.up
+      sits_as R K told box (record p { called = true }) (woken s) s.disposition refl h.rest_there h.opening h.up
       (record { low = h.counts.low; before = h.counts.before; more = h.counts.more; untaken = h.counts.untaken })
       (λ e. let k = h.keeping e in
       record { rest_is = k.rest_is; asked_all = k.asked_all; whole = k.whole; knows = k.knows; running = record { ended = k.running.ended; lost = k.running.lost; sends = k.running.sends; sent = k.running.sent }; memory = k.memory; owed = λ _. (u, refl); offered = λ q. clash q })
-      (called_fits p s.fate h.fate_fits) h.asked_all
+      (called_fits p s.disposition h.disposition_fits) h.asked_all
 
   pub through_stopped : (e : PortEvent) (start : Option PortsTold) (ss : List (Step A)) (w : World T) (mine' : List Entry) → Collects R K e start ss w
       → mine' ≡ w.mine ++ Collect R.number collected.Stopped ∷ [] → CanOffer R K e true start (record w { mine = mine'; sessions = map woken w.sessions })

@@ -5,9 +5,9 @@ use Rattle.farm_history.specs.Entries.{Entry, Leave}
 use Rattle.port_trait.specs.declared.events.PortEvent.{PortEvent}
 use Rattle.port_trait.specs.Told.{PortsTold, IsOpen, after_close}
 use Rattle.port_trait.specs.Boxes.{without, HasRest}
-use Rattle.front_rounds.specs.declared.fates.Fate.TheVariants.{Stays, Leaves}
-use Rattle.front_rounds.specs.declared.fates.Reason.{Reason}
-use Rattle.front_rounds.specs.declared.fates.Reason.TheVariants as reason
+use Rattle.front_rounds.specs.declared.dispositions.Disposition.TheVariants.{Stays, Leaves}
+use Rattle.front_rounds.specs.declared.dispositions.Reason.{Reason}
+use Rattle.front_rounds.specs.declared.dispositions.Reason.TheVariants as reason
 use Rattle.front_rounds.specs.declared.sessions.Session.{Session}
 use Rattle.front_rounds.specs.Rules.{Rules, Move}
 use Rattle.front_rounds.specs.Steps.{Left, Phase, Fresh, Hearing, Collecting, Offering, Leaving, phase, leaving, IsThrough, there, has, remove, starved_in, with_starved}
@@ -16,7 +16,7 @@ use Rattle.front_rounds.specs.Rounds.{LastTry, AskedAll}
 use Rattle.front_rounds.specs.Serving.{EndsAt}
 use Rattle.front_rounds.specs.Front.{keeps}
 use Rattle.front_rounds.specs.inner.Sessions.{conns, Apart, StandsAt, IsLeaving, is_up, asks_all}
-use Rattle.front_rounds.specs.inner.Stands.{World, IsAtRest, FateFits, Sits}
+use Rattle.front_rounds.specs.inner.Stands.{World, IsAtRest, DispositionFits, Sits}
 use Rattle.front_rounds.specs.inner.Stages.{OwesNone, CanLeave, IsOver, CutShort, Shuts}
 use Rattle.front_rounds.proofs.Tables.{other, has_at, conns_less, each_less, each_at, each_both, each_weaker, apart_remove}
 use Rattle.front_rounds.proofs.Rests.{other_without, keys_without}
@@ -69,7 +69,7 @@ shut_open told told' c d true f k n o = open_by told told' (after_close c) d (f 
 shut_open told told' c d false f k n o = subst (IsOpen d) (sym (k refl)) o
 
 module _ {A W T : Type 0} (R : Rules A W) (K : List ℕ → List (Move A) → T → Type 0) where
-  last_by : (told : Option PortsTold) (box : List (ℕ × List ℕ)) (p : Part A) (s : Session T) (why : Reason) → Sits R K told box p s → s.fate ≡ Leaves why → OwesNone s → LastTry R p why
+  last_by : (told : Option PortsTold) (box : List (ℕ × List ℕ)) (p : Part A) (s : Session T) (why : Reason) → Sits R K told box p s → s.disposition ≡ Leaves why → OwesNone s → LastTry R p why
   last_by told box p s reason.Unread h e n = let k = ap keeps e in (h.keeping k).offered (n k)
   last_by told box p s reason.Ended h e n = tt
   last_by told box p s reason.Lost h e n = tt
@@ -80,7 +80,7 @@ module _ {A W T : Type 0} (R : Rules A W) (K : List ℕ → List (Move A) → T 
   last_by told box p s reason.NoMemory h e n = tt
   last_by told box p s reason.Starved h e n = tt
 
-  asked_by : (told : Option PortsTold) (box : List (ℕ × List ℕ)) (p : Part A) (s : Session T) (why : Reason) → Sits R K told box p s → s.fate ≡ Leaves why → AskedAll R p why
+  asked_by : (told : Option PortsTold) (box : List (ℕ × List ℕ)) (p : Part A) (s : Session T) (why : Reason) → Sits R K told box p s → s.disposition ≡ Leaves why → AskedAll R p why
   asked_by told box p s reason.Full h e = tt
   asked_by told box p s reason.NoMemory h e = tt
   asked_by told box p s reason.Starved h e = tt
@@ -93,7 +93,7 @@ module _ {A W T : Type 0} (R : Rules A W) (K : List ℕ → List (Move A) → T 
 
   -- the connection of the session at this place is left
   pub left_one : (e : PortEvent) (stopped : Bool) (start told' : Option PortsTold) (w : World T) (i : ℕ) (s : Session T) (asks : ℕ) (why : Reason) (mine' : List Entry) (starved' : ℕ)
-      → CanLeave R K e stopped start w → StandsAt w.sessions i s → s.fate ≡ Leaves why → mine' ≡ w.mine ++ Leave (record { front = R.number; number = s.conn }) asks ∷ []
+      → CanLeave R K e stopped start w → StandsAt w.sessions i s → s.disposition ≡ Leaves why → mine' ≡ w.mine ++ Leave (record { front = R.number; number = s.conn }) asks ∷ []
       → Shuts s.conn why w.told told' → starved' ≡ min (with_starved w.starved why) (2 ^ 64 - 1)
       → CanLeave R K e stopped start (record { told = told'; mine = mine'; sessions = take i w.sessions ++ drop (suc i) w.sessions; box = without w.box s.conn; starved = starved' })
   left_one e stopped start told' w i s asks why mine' starved' h at f m sh n =
@@ -114,7 +114,7 @@ module _ {A W T : Type 0} (R : Rules A W) (K : List ℕ → List (Move A) → T 
             record {
               time = through_at e stopped (phase h.steps) h.time;
               is_there = is_there;
-              caused = subst (FateFits R p) f sits.fate_fits;
+              caused = subst (DispositionFits R p) f sits.disposition_fits;
               last_try = last_by w.told w.box p s why sits f (each_at OwesNone w.sessions i s at h.offered);
               asked_all = asked_by w.told w.box p s why sits f;
             },
@@ -138,18 +138,18 @@ module _ {A W T : Type 0} (R : Rules A W) (K : List ℕ → List (Move A) → T 
   rest_of_leave e stopped start w i s h at = (each_at (λ (x : Session T). Sits R K w.told w.box (part R h.steps x.conn) x) w.sessions i s at h.stands.each).rest_there
 
   pub open_of_leave : (e : PortEvent) (stopped : Bool) (start : Option PortsTold) (w : World T) (i : ℕ) (s : Session T) (why : Reason) → CanLeave R K e stopped start w → StandsAt w.sessions i s
-      → s.fate ≡ Leaves why → is_up (Leaves why) ≡ true → IsOpen s.conn w.told
+      → s.disposition ≡ Leaves why → is_up (Leaves why) ≡ true → IsOpen s.conn w.told
   open_of_leave e stopped start w i s why h at f u =
       (each_at (λ (x : Session T). Sits R K w.told w.box (part R h.steps x.conn) x) w.sessions i s at h.stands.each).opening (ap is_up f ∙ u)
 
   -- none leaves any more
-  pub over : (e : PortEvent) (stopped : Bool) (start : Option PortsTold) (w : World T) → CanLeave R K e stopped start w → Each (λ (s : Session T). s.fate ≡ Stays) w.sessions → IsOver R K e stopped start w
+  pub over : (e : PortEvent) (stopped : Bool) (start : Option PortsTold) (w : World T) → CanLeave R K e stopped start w → Each (λ (s : Session T). s.disposition ≡ Stays) w.sessions → IsOver R K e stopped start w
   over e stopped start w h n = record {
     steps = h.steps;
     stands = h.stands;
     time = h.time;
-    rested = each_weaker (λ (s : Session T). OwesNone s × (s.fate ≡ Stays)) IsAtRest w.sessions (λ s b. (b.1, b.0 (ap keeps b.1)))
-        (each_both OwesNone (λ (s : Session T). s.fate ≡ Stays) w.sessions h.offered n);
+    rested = each_weaker (λ (s : Session T). OwesNone s × (s.disposition ≡ Stays)) IsAtRest w.sessions (λ s b. (b.1, b.0 (ap keeps b.1)))
+        (each_both OwesNone (λ (s : Session T). s.disposition ≡ Stays) w.sessions h.offered n);
   }
 
   -- in terms of what is left of the table

@@ -7,7 +7,7 @@ use Rattle.farm_history.specs.Entries.{Entry}
 use Rattle.port_trait.specs.declared.events.PortEvent.TheVariants as event
 use Rattle.port_trait.specs.Told.{PortsTold, IsOpen, MayCome, heard, after_close}
 use Rattle.port_trait.specs.Boxes.{rest_at, rest_of}
-use Rattle.front_rounds.specs.declared.fates.Fate.TheVariants.{Stays}
+use Rattle.front_rounds.specs.declared.dispositions.Disposition.TheVariants.{Stays}
 use Rattle.front_rounds.specs.declared.sessions.Session.{Session}
 use Rattle.front_rounds.specs.declared.sessions.SessionTable.{SessionTable}
 use Rattle.front_rounds.specs.Rules.{Rules, Move}
@@ -81,10 +81,10 @@ module _ {A W T : Type 0} (R : Rules A W) (K : List ℕ → List (Move A) → T 
       }
 
   -- a new session
-  new_sits : (c : ℕ) (piece : List ℕ) (told : Option PortsTold) (box : List (ℕ × List ℕ)) (talk : T) → Begins R K talk → IsOpen c told → rest_at box c ≡ Some []
-      → Sits R K told box (came R (event.Opened c) piece c blank) (newcomer c talk)
-  new_sits c piece told box talk b o r =
-      sits_as R K told box (came R (event.Opened c) piece c blank) (newcomer c talk) Stays refl ([], r) (λ _. o) refl
+  new_sits : (c : ℕ) (piece : List ℕ) (told : Option PortsTold) (box : List (ℕ × List ℕ)) (conn_state : T) → Begins R K conn_state → IsOpen c told → rest_at box c ≡ Some []
+      → Sits R K told box (came R (event.Opened c) piece c blank) (newcomer c conn_state)
+  new_sits c piece told box conn_state b o r =
+      sits_as R K told box (came R (event.Opened c) piece c blank) (newcomer c conn_state) Stays refl ([], r) (λ _. o) refl
       (record { low = omega arith; before = omega arith; more = omega arith; untaken = λ _. refl })
       (λ _. record {
         rest_is = ap rest_of r;
@@ -100,10 +100,10 @@ module _ {A W T : Type 0} (R : Rules A W) (K : List ℕ → List (Move A) → T 
       (λ _. (b.wanted, refl))
 
   -- it got one
-  pub admitted : (c : ℕ) (piece : List ℕ) (start told : Option PortsTold) (w : World T) (talk : T) → (m : Comes R K (event.Opened c) piece start told w) → Begins R K talk
+  pub admitted : (c : ℕ) (piece : List ℕ) (start told : Option PortsTold) (w : World T) (conn_state : T) → (m : Comes R K (event.Opened c) piece start told w) → Begins R K conn_state
       → length w.sessions < most_sessions → has (conns w.sessions) c ≡ false
-      → HasBegun R K (event.Opened c) start (record w { told = told; sessions = w.sessions ++ newcomer c talk ∷ []; box = w.box ++ (c, []) ∷ [] })
-  admitted c piece start told w talk m b l n =
+      → HasBegun R K (event.Opened c) start (record w { told = told; sessions = w.sessions ++ newcomer c conn_state ∷ []; box = w.box ++ (c, []) ∷ [] })
+  admitted c piece start told w conn_state m b l n =
       let st = m.can.stands in
       let ss : List (Step A) = Came (event.Opened c) piece true ∷ m.steps in
       let box' = w.box ++ (c, []) ∷ [] in
@@ -116,12 +116,12 @@ module _ {A W T : Type 0} (R : Rules A W) (K : List ℕ → List (Move A) → T 
           entries = st.entries;
           telling = told_more start w.told told (heard (event.Opened c) piece) (told_after R m.steps) st.telling m.heard.1;
           coming = came_may R start w.told (event.Opened c) piece true m.steps st.telling m.heard.0 st.coming;
-          conns_are = conns_snoc w.sessions (newcomer c talk) ∙ ap (λ cs. cs ++ c ∷ []) st.conns_are;
+          conns_are = conns_snoc w.sessions (newcomer c conn_state) ∙ ap (λ cs. cs ++ c ∷ []) st.conns_are;
           keys_are = keys_snoc w.box c ∙ ap (λ cs. cs ++ c ∷ []) st.keys_are;
           sound = (record { time = m.can.time; begins = tt; before = all_kept R K start m.steps w st m.can.rested; room = λ _. (omega (arith, l, count, size), ap (λ cs. has cs c) (sym st.conns_are) ∙ n) }, st.sound);
           counted = st.counted;
-          apart = subst Apart (sym (conns_snoc w.sessions (newcomer c talk))) (apart_snoc (conns w.sessions) c st.apart n);
-          each = each_snoc (λ (x : Session T). Sits R K told box' (part R ss x.conn) x) w.sessions (newcomer c talk)
+          apart = subst Apart (sym (conns_snoc w.sessions (newcomer c conn_state))) (apart_snoc (conns w.sessions) c st.apart n);
+          each = each_snoc (λ (x : Session T). Sits R K told box' (part R ss x.conn) x) w.sessions (newcomer c conn_state)
               (each_none (Resting R K w.told w.box m.steps) (λ (x : Session T). Sits R K told box' (part R ss x.conn) x) w.sessions c
               (resting R K (event.Opened c) piece start told w m) n
               (λ x ne q. subst (λ (v : Part A). Sits R K told box' v x)
@@ -130,9 +130,9 @@ module _ {A W T : Type 0} (R : Rules A W) (K : List ℕ → List (Move A) → T 
               (roll_quiet R K w.told told w.box (part R m.steps x.conn) x q.0 q.1
               (λ o. subst (IsOpen x.conn) (sym m.heard.1) (open_more w.told c x.conn piece ne o)))
               (kept_snoc w.box c x.conn q.0.rest_there) (λ o. o))))
-              (subst (λ (v : Part A). Sits R K told box' v (newcomer c talk))
+              (subst (λ (v : Part A). Sits R K told box' v (newcomer c conn_state))
               (sym (ap (λ b. came R (event.Opened c) piece c (cond (b && true) blank (part R m.steps c))) (same c)))
-              (new_sits c piece told box' talk b (subst (IsOpen c) (sym m.heard.1) (just_open w.told c piece)) (at_snoc w.box c (none_keyed w.box c no_key))));
+              (new_sits c piece told box' conn_state b (subst (IsOpen c) (sym m.heard.1) (just_open w.told c piece)) (at_snoc w.box c (none_keyed w.box c no_key))));
         };
         time = refl;
       }
@@ -140,11 +140,11 @@ module _ {A W T : Type 0} (R : Rules A W) (K : List ℕ → List (Move A) → T 
   -- in terms of the table
   pub opened_yes : (c : ℕ) (piece : List ℕ) (start told was : Option PortsTold) (mine : List Entry) (old new : SessionTable T) → Comes R K (event.Opened c) piece start told (world was mine old)
       → Admits R K c old new true → HasBegun R K (event.Opened c) start (world told mine new)
-  opened_yes c piece start told was mine old new m (talk, b, l, n, se, be, te) =
+  opened_yes c piece start told was mine old new m (conn_state, b, l, n, se, be, te) =
       subst (λ (v : List (Session T)). HasBegun R K (event.Opened c) start (record { told = told; mine = mine; sessions = v; box = new.outbox; starved = new.starved })) (sym se)
-      (subst (λ (v : List (ℕ × List ℕ)). HasBegun R K (event.Opened c) start (record { told = told; mine = mine; sessions = old.sessions.items ++ newcomer c talk ∷ []; box = v; starved = new.starved })) (sym be)
-      (subst (λ (v : ℕ). HasBegun R K (event.Opened c) start (record { told = told; mine = mine; sessions = old.sessions.items ++ newcomer c talk ∷ []; box = old.outbox ++ (c, []) ∷ []; starved = v })) (sym te)
-      (admitted c piece start told (world was mine old) talk m b l n)))
+      (subst (λ (v : List (ℕ × List ℕ)). HasBegun R K (event.Opened c) start (record { told = told; mine = mine; sessions = old.sessions.items ++ newcomer c conn_state ∷ []; box = v; starved = new.starved })) (sym be)
+      (subst (λ (v : ℕ). HasBegun R K (event.Opened c) start (record { told = told; mine = mine; sessions = old.sessions.items ++ newcomer c conn_state ∷ []; box = old.outbox ++ (c, []) ∷ []; starved = v })) (sym te)
+      (admitted c piece start told (world was mine old) conn_state m b l n)))
 
   pub opened_no : (c : ℕ) (piece : List ℕ) (start told told' was : Option PortsTold) (mine : List Entry) (old mid new : SessionTable T) → Comes R K (event.Opened c) piece start told (world was mine old)
       → Admits R K c old mid false → told' ≡ option_map (after_close c) told → new.sessions.items ≡ mid.sessions.items → new.outbox ≡ mid.outbox

@@ -7,16 +7,16 @@ use Rattle.std.proofs.lemmas.List.{drop-append-le, length-drop}
 use Rattle.farm_base.specs.Limits.{most_rest_bytes}
 use Rattle.port_trait.specs.Told.{PortsTold, IsOpen}
 use Rattle.port_trait.specs.Boxes.{rest_at, HasRest, rest_in, rest_of}
-use Rattle.front_rounds.specs.declared.fates.Fate.{Fate}
-use Rattle.front_rounds.specs.declared.fates.Fate.TheVariants.{Stays, Leaves}
-use Rattle.front_rounds.specs.declared.fates.Reason.TheVariants as reason
+use Rattle.front_rounds.specs.declared.dispositions.Disposition.{Disposition}
+use Rattle.front_rounds.specs.declared.dispositions.Disposition.TheVariants.{Stays, Leaves}
+use Rattle.front_rounds.specs.declared.dispositions.Reason.TheVariants as reason
 use Rattle.front_rounds.specs.declared.sessions.Session.{Session}
 use Rattle.front_rounds.specs.Rules.{Rules, Move, Does, answer_bytes, each_whole, any_starves}
 use Rattle.front_rounds.specs.Parts.{Part, must, is_open, Calm}
 use Rattle.front_rounds.specs.Rounds.{HasAll}
 use Rattle.front_rounds.specs.Front.{keeps, does}
 use Rattle.front_rounds.specs.inner.Sessions.{is_up, asks_all, woken}
-use Rattle.front_rounds.specs.inner.Stands.{IsAtRest, FateFits, Keeping, Counts, Sits}
+use Rattle.front_rounds.specs.inner.Stands.{IsAtRest, DispositionFits, Keeping, Counts, Sits}
 
 pub clash : {X : Type 0} → true ≡ false → X
 clash h = cc
@@ -66,9 +66,9 @@ not_less n = le-ltb n n (omega arith)
 pub grew_by : (n k : ℕ) → nat_lt n (n + k) ≡ nat_lt 0 k
 grew_by n k = grind (arith, nat_tests)
 
-pub none_said : (said : List ℕ) → nat_lt 0 (length said) ≡ false → said ≡ []
-none_said [] h = refl
-none_said (b ∷ said) h = clash (sym (lt-ltb 0 (length (b ∷ said)) (omega arith)) ∙ h)
+pub no_response : (response : List ℕ) → nat_lt 0 (length response) ≡ false → response ≡ []
+no_response [] h = refl
+no_response (b ∷ response) h = clash (sym (lt-ltb 0 (length (b ∷ response)) (omega arith)) ∙ h)
 
 pub no_bytes : (bytes : List ℕ) → length bytes ≡ 0 → bytes ≡ []
 no_bytes [] h = refl
@@ -116,31 +116,31 @@ module _ {A W : Type 0} (R : Rules A W) where
       omega (arith, more, e)
 
   -- the rest grows by what is said
-  pub due_grows : (took : ℕ) (before said now : List ℕ) → took ≤ length before → now ≡ before ++ said → drop took now ≡ drop took before ++ said
-  due_grows took before said now l e = ap (drop took) e ∙ drop-append-le took before said l
+  pub due_grows : (took : ℕ) (before response now : List ℕ) → took ≤ length before → now ≡ before ++ response → drop took now ≡ drop took before ++ response
+  due_grows took before response now l e = ap (drop took) e ∙ drop-append-le took before response l
 
   -- a rest within its limit
-  pub within : (took : ℕ) (before said now : List ℕ) → took ≤ length before → now ≡ before ++ said → length (drop took before ++ said) ≤ most_rest_bytes
+  pub within : (took : ℕ) (before response now : List ℕ) → took ≤ length before → now ≡ before ++ response → length (drop took before ++ response) ≤ most_rest_bytes
       → length now ≤ took + most_rest_bytes
-  within took before said now l e h =
-      let a = length-append (drop took before) said in
+  within took before response now l e h =
+      let a = length-append (drop took before) response in
       let b = length-drop took before in
-      let c = ap length e ∙ length-append before said in
+      let c = ap length e ∙ length-append before response in
       omega (arith, a, b, c, h, l)
 
-  pub beyond : (took : ℕ) (before said now : List ℕ) → took ≤ length before → now ≡ before ++ said → most_rest_bytes < length (drop took before ++ said)
+  pub beyond : (took : ℕ) (before response now : List ℕ) → took ≤ length before → now ≡ before ++ response → most_rest_bytes < length (drop took before ++ response)
       → took + most_rest_bytes < length now
-  beyond took before said now l e h =
-      let a = length-append (drop took before) said in
+  beyond took before response now l e h =
+      let a = length-append (drop took before) response in
       let b = length-drop took before in
-      let c = ap length e ∙ length-append before said in
+      let c = ap length e ∙ length-append before response in
       omega (arith, a, b, c, h, l)
 
 module _ {A W T : Type 0} (R : Rules A W) (K : List ℕ → List (Move A) → T → Type 0) where
-  -- a session by its fate
-  pub sits_as : (told : Option PortsTold) (box : List (ℕ × List ℕ)) (p : Part A) (s : Session T) (f : Fate) → s.fate ≡ f
+  -- a session by its disposition
+  pub sits_as : (told : Option PortsTold) (box : List (ℕ × List ℕ)) (p : Part A) (s : Session T) (f : Disposition) → s.disposition ≡ f
       → HasRest box s.conn → (is_up f ≡ true → IsOpen s.conn told) → is_open p ≡ is_up f → Counts R p
-      → (keeps f ≡ true → Keeping R K p s (rest_in box s.conn)) → FateFits R p f → (asks_all f ≡ true → HasAll R p)
+      → (keeps f ≡ true → Keeping R K p s (rest_in box s.conn)) → DispositionFits R p f → (asks_all f ≡ true → HasAll R p)
       → Sits R K told box p s
   sits_as told box p s f e rest op up counts keep fits all = record {
     rest_there = rest;
@@ -148,7 +148,7 @@ module _ {A W T : Type 0} (R : Rules A W) (K : List ℕ → List (Move A) → T 
     up = up ∙ sym (ap is_up e);
     counts = counts;
     keeping = λ k. keep (sym (ap keeps e) ∙ k);
-    fate_fits = subst (FateFits R p) (sym e) fits;
+    disposition_fits = subst (DispositionFits R p) (sym e) fits;
     asked_all = λ a. all (sym (ap asks_all e) ∙ a);
   }
 
@@ -161,12 +161,12 @@ module _ {A W T : Type 0} (R : Rules A W) (K : List ℕ → List (Move A) → T 
     up = h.up;
     counts = h.counts;
     keeping = λ k. subst (λ (r : Option (List ℕ)). Keeping R K p s (rest_of r)) (sym e) (h.keeping k);
-    fate_fits = h.fate_fits;
+    disposition_fits = h.disposition_fits;
     asked_all = h.asked_all;
   }
 
   pub calm_of : (told : Option PortsTold) (box : List (ℕ × List ℕ)) (p : Part A) (s : Session T) → Sits R K told box p s → IsAtRest s → Calm R p
-  calm_of told box p s h r = subst (FateFits R p) r.0 h.fate_fits
+  calm_of told box p s h r = subst (DispositionFits R p) r.0 h.disposition_fits
 
   pub kept_of : (told : Option PortsTold) (box : List (ℕ × List ℕ)) (p : Part A) (s : Session T) → Sits R K told box p s → IsAtRest s
       → Keeping R K p s (rest_in box s.conn)
@@ -238,15 +238,15 @@ module _ {A W T : Type 0} (R : Rules A W) (K : List ℕ → List (Move A) → T 
 
   -- a round begins with its Ended, or its Lost
   pub roll_ended : (told told' : Option PortsTold) (box : List (ℕ × List ℕ)) (p : Part A) (s : Session T) → Sits R K told box p s → IsAtRest s
-      → (IsOpen s.conn told → IsOpen s.conn told') → Sits R K told' box (rolled R p.given true false false p) (record s { fate = Leaves reason.Ended })
+      → (IsOpen s.conn told → IsOpen s.conn told') → Sits R K told' box (rolled R p.given true false false p) (record s { disposition = Leaves reason.Ended })
   roll_ended told told' box p s h r o =
       let k = kept_of told box p s h r in
-      sits_as told' box (rolled R p.given true false false p) (record s { fate = Leaves reason.Ended }) (Leaves reason.Ended) refl h.rest_there
+      sits_as told' box (rolled R p.given true false false p) (record s { disposition = Leaves reason.Ended }) (Leaves reason.Ended) refl h.rest_there
       (λ _. o (h.opening (ap is_up r.0))) refl (rolled_counts p.given true false false p h.counts) (λ e. clash (sym e)) refl (λ _. (k.asked_all, k.whole))
 
   pub roll_lost : (told told' : Option PortsTold) (box : List (ℕ × List ℕ)) (p : Part A) (s : Session T) → Sits R K told box p s → IsAtRest s
-      → Sits R K told' box (rolled R p.given false true false p) (record s { fate = Leaves reason.Lost })
+      → Sits R K told' box (rolled R p.given false true false p) (record s { disposition = Leaves reason.Lost })
   roll_lost told told' box p s h r =
       let k = kept_of told box p s h r in
-      sits_as told' box (rolled R p.given false true false p) (record s { fate = Leaves reason.Lost }) (Leaves reason.Lost) refl h.rest_there
+      sits_as told' box (rolled R p.given false true false p) (record s { disposition = Leaves reason.Lost }) (Leaves reason.Lost) refl h.rest_there
       (λ e. clash (sym e)) refl (rolled_counts p.given false true false p h.counts) (λ e. clash (sym e)) refl (λ _. (k.asked_all, k.whole))

@@ -5,9 +5,9 @@ use Rattle.std.specs.List.{position, position_or_len}
 use Rattle.std.proofs.lemmas.Bool.Decides.{nat_tests}
 use Rattle.std.proofs.lemmas.List.Recursion.{is_position_or_len}
 use Rattle.farm_history.specs.Lists.{Each}
-use Rattle.front_rounds.specs.declared.fates.Fate.{Fate}
-use Rattle.front_rounds.specs.declared.fates.Fate.TheVariants.{Stays, Leaves}
-use Rattle.front_rounds.specs.declared.fates.Reason.{Reason}
+use Rattle.front_rounds.specs.declared.dispositions.Disposition.{Disposition}
+use Rattle.front_rounds.specs.declared.dispositions.Disposition.TheVariants.{Stays, Leaves}
+use Rattle.front_rounds.specs.declared.dispositions.Reason.{Reason}
 use Rattle.front_rounds.specs.declared.sessions.Session.{Session}
 use Rattle.front_rounds.specs.Steps.{has, remove}
 use Rattle.front_rounds.specs.inner.Sessions.{conns, Apart, StandsAt, HasConn, IsLeaving, StaysOn, leaves, woken}
@@ -97,7 +97,7 @@ none_by : (b : Bool) (n m : ℕ) → n ≤ m → cond b 0 (1 + n) ≡ suc m → 
 none_by true n m l h = absurd (omega (arith, h))
 none_by false n m l h = (refl, omega (arith, h))
 
-stays_is : (f : Fate) → leaves f ≡ false → f ≡ Stays
+stays_is : (f : Disposition) → leaves f ≡ false → f ≡ Stays
 stays_is Stays h = refl
 stays_is (Leaves why) h = cc
 
@@ -295,15 +295,15 @@ module _ {T : Type 0} where
   get_any (y ∷ ys) (suc i) x d h = get_any ys i x d (omega (arith, h.0), h.1)
 
   -- a session that leaves does not stay
-  pub stays_not : (ss : List (Session T)) (i : ℕ) (x d : Session T) → StandsAt ss i x → leaves x.fate ≡ true → (get_or ss i d).fate ≡ Stays → ⊥
+  pub stays_not : (ss : List (Session T)) (i : ℕ) (x d : Session T) → StandsAt ss i x → leaves x.disposition ≡ true → (get_or ss i d).disposition ≡ Stays → ⊥
   stays_not ss i x d h l s =
-      let e : leaves x.fate ≡ false = ap (λ (y : Session T). leaves y.fate) (sym (get_any ss i x d h)) ∙ ap leaves s in
+      let e : leaves x.disposition ≡ false = ap (λ (y : Session T). leaves y.disposition) (sym (get_any ss i x d h)) ∙ ap leaves s in
       let q : true ≡ false = sym l ∙ e in
       cc
 
-  pub leaving_is : (ss : List (Session T)) (i : ℕ) (x d d' : Session T) (why : Reason) → StandsAt ss i x → (get_or ss i d').fate ≡ Leaves why → IsLeaving ss i (get_or ss i d).conn why
+  pub leaving_is : (ss : List (Session T)) (i : ℕ) (x d d' : Session T) (why : Reason) → StandsAt ss i x → (get_or ss i d').disposition ≡ Leaves why → IsLeaving ss i (get_or ss i d).conn why
   leaving_is ss i x d d' why h f =
-      (x, h, sym (ap (λ (y : Session T). y.conn) (get_any ss i x d h)), ap (λ (y : Session T). y.fate) (sym (get_any ss i x d' h)) ∙ f)
+      (x, h, sym (ap (λ (y : Session T). y.conn) (get_any ss i x d h)), ap (λ (y : Session T). y.disposition) (sym (get_any ss i x d' h)) ∙ f)
 
-  pub all_stay : (ss : List (Session T)) → Each (λ (s : Session T). leaves s.fate ≡ false) ss → Each StaysOn ss
-  all_stay ss e = each_weaker (λ (s : Session T). leaves s.fate ≡ false) StaysOn ss (λ s h. stays_is s.fate h) e
+  pub all_stay : (ss : List (Session T)) → Each (λ (s : Session T). leaves s.disposition ≡ false) ss → Each StaysOn ss
+  all_stay ss e = each_weaker (λ (s : Session T). leaves s.disposition ≡ false) StaysOn ss (λ s h. stays_is s.disposition h) e

@@ -7,9 +7,9 @@ use Rattle.port_trait.specs.declared.events.PortEvent.{PortEvent}
 use Rattle.port_trait.specs.declared.events.SendFault.TheVariants as send_fault
 use Rattle.port_trait.specs.Told.{PortsTold, IsOpen, after_send}
 use Rattle.port_trait.specs.Boxes.{rest_at, rest_of, put_rest, HasRest, rest_in, Offered}
-use Rattle.front_rounds.specs.declared.fates.Fate.{Fate}
-use Rattle.front_rounds.specs.declared.fates.Fate.TheVariants.{Stays, Leaves}
-use Rattle.front_rounds.specs.declared.fates.Reason.TheVariants as reason
+use Rattle.front_rounds.specs.declared.dispositions.Disposition.{Disposition}
+use Rattle.front_rounds.specs.declared.dispositions.Disposition.TheVariants.{Stays, Leaves}
+use Rattle.front_rounds.specs.declared.dispositions.Reason.TheVariants as reason
 use Rattle.front_rounds.specs.declared.sessions.Session.{Session}
 use Rattle.front_rounds.specs.declared.offering.Gave.{Gave}
 use Rattle.front_rounds.specs.declared.offering.Gave.TheVariants as gave
@@ -19,8 +19,8 @@ use Rattle.front_rounds.specs.Parts.{Part, part, due, must, with_try, send_answe
 use Rattle.front_rounds.specs.Serving.{EndsAt}
 use Rattle.front_rounds.specs.Front.{keeps}
 use Rattle.front_rounds.specs.inner.Sessions.{keys, Apart, StandsAt, is_up}
-use Rattle.front_rounds.specs.inner.Stands.{World, FateFits, Counts, Sits}
-use Rattle.front_rounds.specs.inner.Stages.{IsOffering, OwesNone, OffersOne, Idle, Gives_it, Gives, fate_after, part_or_all, CanOffer, CanLeave}
+use Rattle.front_rounds.specs.inner.Stands.{World, DispositionFits, Counts, Sits}
+use Rattle.front_rounds.specs.inner.Stages.{IsOffering, OwesNone, OffersOne, Idle, Gives_it, Gives, disposition_after, part_or_all, CanOffer, CanLeave}
 use Rattle.front_rounds.proofs.Tables.{other, same, has_at, conns_set, each_set, each_at, each_snoc}
 use Rattle.front_rounds.proofs.Rests.{at_put, other_put, keys_put}
 use Rattle.front_rounds.proofs.Sitting.{clash, and_both, lost_up, no_bytes, sits_as, others}
@@ -56,8 +56,8 @@ starved_told (Some t) c rest = refl
 
 module _ {A W T : Type 0} (R : Rules A W) (K : List ℕ → List (Move A) → T → Type 0) where
   -- the session after its offer
-  abbrev given : Session T → Fate → Session T
-  given s f = record s { owes = false; fate = f }
+  abbrev given : Session T → Disposition → Session T
+  given s f = record s { owes = false; disposition = f }
 
   counts_try : (n : ℕ) (p : Part A) → Counts R p → n ≤ length (due R p) → Counts R (with_try R (Some n) p)
   counts_try n p h l =
@@ -73,11 +73,11 @@ module _ {A W T : Type 0} (R : Rules A W) (K : List ℕ → List (Move A) → T 
       record { low = omega (arith, low); before = h.before; more = omega (arith, more); untaken = λ e. clash e }
 
   -- nothing was due
-  nothing_sits : (told : Option PortsTold) (box : List (ℕ × List ℕ)) (p : Part A) (s : Session T) → Sits R K told box p s → keeps s.fate ≡ true
-      → length (rest_in box s.conn) ≡ 0 → Sits R K told box p (given s s.fate)
+  nothing_sits : (told : Option PortsTold) (box : List (ℕ × List ℕ)) (p : Part A) (s : Session T) → Sits R K told box p s → keeps s.disposition ≡ true
+      → length (rest_in box s.conn) ≡ 0 → Sits R K told box p (given s s.disposition)
   nothing_sits told box p s h k z =
       let kept = h.keeping k in
-      sits_as R K told box p (given s s.fate) s.fate refl h.rest_there h.opening h.up h.counts
+      sits_as R K told box p (given s s.disposition) s.disposition refl h.rest_there h.opening h.up h.counts
       (λ _. record {
         rest_is = kept.rest_is;
         asked_all = kept.asked_all;
@@ -88,11 +88,11 @@ module _ {A W T : Type 0} (R : Rules A W) (K : List ℕ → List (Move A) → T 
         owed = λ e. clash (sym e);
         offered = λ _ m t. sym kept.rest_is ∙ no_bytes (rest_in box s.conn) z;
       })
-      h.fate_fits h.asked_all
+      h.disposition_fits h.asked_all
 
-  -- what fits a fate goes on to fit it, where not all was taken or not all is answered
-  fits_try : (n : ℕ) (p : Part A) (f : Fate) → keeps f ≡ true → FateFits R p f
-      → (R.ends p.moves && nat_le (length (answer_bytes R p.moves)) (p.took + n)) ≡ false → FateFits R (with_try R (Some n) p) f
+  -- what fits a disposition goes on to fit it, where not all was taken or not all is answered
+  fits_try : (n : ℕ) (p : Part A) (f : Disposition) → keeps f ≡ true → DispositionFits R p f
+      → (R.ends p.moves && nat_le (length (answer_bytes R p.moves)) (p.took + n)) ≡ false → DispositionFits R (with_try R (Some n) p) f
   fits_try n p Stays k h e = record { ended = h.ended; lost = h.lost; cut = h.cut; full = h.full; read = h.read; sent = e; sends = refl; memory = h.memory }
   fits_try n p (Leaves reason.Unread) k h e = h
   fits_try n p (Leaves reason.NoMemory) k h e = clash (sym k)
@@ -105,15 +105,15 @@ module _ {A W T : Type 0} (R : Rules A W) (K : List ℕ → List (Move A) → T 
   fits_try n p (Leaves reason.SendFailed) k h e = clash (sym k)
 
   -- some bytes were taken, and the session goes on as it was
-  taken_sits : (told told' : Option PortsTold) (box : List (ℕ × List ℕ)) (p : Part A) (s : Session T) (n : ℕ) → Sits R K told box p s → keeps s.fate ≡ true
+  taken_sits : (told told' : Option PortsTold) (box : List (ℕ × List ℕ)) (p : Part A) (s : Session T) (n : ℕ) → Sits R K told box p s → keeps s.disposition ≡ true
       → n ≤ length (rest_in box s.conn) → (IsOpen s.conn told → IsOpen s.conn told')
       → (R.ends p.moves && nat_le (length (answer_bytes R p.moves)) (p.took + n)) ≡ false
-      → Sits R K told' (put_rest box s.conn (drop n (rest_in box s.conn))) (with_try R (Some n) p) (given s s.fate)
+      → Sits R K told' (put_rest box s.conn (drop n (rest_in box s.conn))) (with_try R (Some n) p) (given s s.disposition)
   taken_sits told told' box p s n h k l o e =
       let kept = h.keeping k in
       let box' = put_rest box s.conn (drop n (rest_in box s.conn)) in
-      sits_as R K told' box' (with_try R (Some n) p) (given s s.fate) s.fate refl (drop n (rest_in box s.conn), at_put box s.conn (drop n (rest_in box s.conn)) h.rest_there)
-      (λ u. o (h.opening u)) (unlost p.lost p.failed (h.up ∙ keeps_up s.fate k) ∙ sym (keeps_up s.fate k))
+      sits_as R K told' box' (with_try R (Some n) p) (given s s.disposition) s.disposition refl (drop n (rest_in box s.conn), at_put box s.conn (drop n (rest_in box s.conn)) h.rest_there)
+      (λ u. o (h.opening u)) (unlost p.lost p.failed (h.up ∙ keeps_up s.disposition k) ∙ sym (keeps_up s.disposition k))
       (counts_try n p h.counts (subst (λ (xs : List ℕ). n ≤ length xs) kept.rest_is l))
       (λ _. record {
         rest_is = holds_rest R K box s.conn (drop n (rest_in box s.conn)) h.rest_there ∙ ap (drop n) kept.rest_is ∙ drop-drop n p.took (answer_bytes R p.moves);
@@ -125,10 +125,10 @@ module _ {A W T : Type 0} (R : Rules A W) (K : List ℕ → List (Move A) → T 
         owed = λ q. clash (sym q);
         offered = λ _ m t. clash t;
       })
-      (fits_try n p s.fate k h.fate_fits e) h.asked_all
+      (fits_try n p s.disposition k h.disposition_fits e) h.asked_all
 
   -- all was taken, and all is answered
-  whole_sits : (told told' : Option PortsTold) (box : List (ℕ × List ℕ)) (p : Part A) (s : Session T) (n : ℕ) → Sits R K told box p s → keeps s.fate ≡ true
+  whole_sits : (told told' : Option PortsTold) (box : List (ℕ × List ℕ)) (p : Part A) (s : Session T) (n : ℕ) → Sits R K told box p s → keeps s.disposition ≡ true
       → n ≤ length (rest_in box s.conn) → (IsOpen s.conn told → IsOpen s.conn told')
       → (R.ends p.moves && nat_le (length (answer_bytes R p.moves)) (p.took + n)) ≡ true
       → Sits R K told' (put_rest box s.conn (drop n (rest_in box s.conn))) (with_try R (Some n) p) (given s (Leaves reason.SentWhole))
@@ -136,21 +136,21 @@ module _ {A W T : Type 0} (R : Rules A W) (K : List ℕ → List (Move A) → T 
       let kept = h.keeping k in
       sits_as R K told' (put_rest box s.conn (drop n (rest_in box s.conn))) (with_try R (Some n) p) (given s (Leaves reason.SentWhole)) (Leaves reason.SentWhole) refl
       (drop n (rest_in box s.conn), at_put box s.conn (drop n (rest_in box s.conn)) h.rest_there)
-      (λ _. o (h.opening (keeps_up s.fate k))) (unlost p.lost p.failed (h.up ∙ keeps_up s.fate k))
+      (λ _. o (h.opening (keeps_up s.disposition k))) (unlost p.lost p.failed (h.up ∙ keeps_up s.disposition k))
       (counts_try n p h.counts (subst (λ (xs : List ℕ). n ≤ length xs) kept.rest_is l))
-      (λ q. clash (sym q)) e (λ _. (kept.asked_all, (h.asked_all (keeps_asks s.fate k)).1))
+      (λ q. clash (sym q)) e (λ _. (kept.asked_all, (h.asked_all (keeps_asks s.disposition k)).1))
 
-  failed_sits : (told' : Option PortsTold) (told : Option PortsTold) (box : List (ℕ × List ℕ)) (p : Part A) (s : Session T) → Sits R K told box p s → keeps s.fate ≡ true
+  failed_sits : (told' : Option PortsTold) (told : Option PortsTold) (box : List (ℕ × List ℕ)) (p : Part A) (s : Session T) → Sits R K told box p s → keeps s.disposition ≡ true
       → Sits R K told' box (with_try R None p) (given s (Leaves reason.SendFailed))
   failed_sits told' told box p s h k =
       sits_as R K told' box (with_try R None p) (given s (Leaves reason.SendFailed)) (Leaves reason.SendFailed) refl h.rest_there
-      (λ q. clash (sym q)) (lost_up p.lost) (counts_fail p h.counts) (λ q. clash (sym q)) refl (λ _. ((h.keeping k).asked_all, (h.asked_all (keeps_asks s.fate k)).1))
+      (λ q. clash (sym q)) (lost_up p.lost) (counts_fail p h.counts) (λ q. clash (sym q)) refl (λ _. ((h.keeping k).asked_all, (h.asked_all (keeps_asks s.disposition k)).1))
 
-  lacked_sits : (told : Option PortsTold) (box : List (ℕ × List ℕ)) (p : Part A) (s : Session T) → Sits R K told box p s → keeps s.fate ≡ true
+  lacked_sits : (told : Option PortsTold) (box : List (ℕ × List ℕ)) (p : Part A) (s : Session T) → Sits R K told box p s → keeps s.disposition ≡ true
       → Sits R K told box p (given s (Leaves reason.Starved))
   lacked_sits told box p s h k =
       sits_as R K told box p (given s (Leaves reason.Starved)) (Leaves reason.Starved) refl h.rest_there
-      (λ _. h.opening (keeps_up s.fate k)) (h.up ∙ keeps_up s.fate k) h.counts (λ q. clash (sym q)) ((h.keeping k).running, (h.keeping k).memory) (λ q. clash (sym q))
+      (λ _. h.opening (keeps_up s.disposition k)) (h.up ∙ keeps_up s.disposition k) h.counts (λ q. clash (sym q)) ((h.keeping k).running, (h.keeping k).memory) (λ q. clash (sym q))
 
   -- one session changed, and no step was made
   unstepped : (e : PortEvent) (stopped : Bool) (start : Option PortsTold) (w : World T) (i : ℕ) (s s' : Session T) → (h : CanOffer R K e stopped start w) → StandsAt w.sessions i s
@@ -226,23 +226,23 @@ module _ {A W T : Type 0} (R : Rules A W) (K : List ℕ → List (Move A) → T 
       let b = ap length e ∙ length-drop p.took (answer_bytes R p.moves) in
       and_false (R.ends p.moves) (nat_le (length (answer_bytes R p.moves)) (p.took + n)) (lt-leb (length (answer_bytes R p.moves)) (p.took + n) (omega (arith, a, b, z, l)))
 
-  all_by : (done : Bool) (told told' : Option PortsTold) (box : List (ℕ × List ℕ)) (p : Part A) (s : Session T) (n : ℕ) → Sits R K told box p s → keeps s.fate ≡ true
+  all_by : (done : Bool) (told told' : Option PortsTold) (box : List (ℕ × List ℕ)) (p : Part A) (s : Session T) (n : ℕ) → Sits R K told box p s → keeps s.disposition ≡ true
       → n ≤ length (rest_in box s.conn) → (IsOpen s.conn told → IsOpen s.conn told')
       → (R.ends p.moves && nat_le (length (answer_bytes R p.moves)) (p.took + n)) ≡ done
-      → Sits R K told' (put_rest box s.conn (drop n (rest_in box s.conn))) (with_try R (Some n) p) (given s (fate_after gave.All done s.fate))
+      → Sits R K told' (put_rest box s.conn (drop n (rest_in box s.conn))) (with_try R (Some n) p) (given s (disposition_after gave.All done s.disposition))
   all_by true told told' box p s n h k l o e = whole_sits told told' box p s n h k l o e
   all_by false told told' box p s n h k l o e = taken_sits told told' box p s n h k l o e
 
   -- an offer to one session
   pub gave_by : (e : PortEvent) (stopped : Bool) (start told' : Option PortsTold) (w : World T) (i : ℕ) (s s' : Session T) (box' : List (ℕ × List ℕ)) (g : Gave) (done : Bool)
-      → CanOffer R K e stopped start w → StandsAt w.sessions i s → s.owes ≡ true → keeps s.fate ≡ true → Gives s.conn (rest_in w.box s.conn) w.box box' w.told told' g
-      → ((given : List ℕ) (ms : List (Move A)) → K given ms s.talk → done ≡ R.ends ms) → s' ≡ record s { owes = false; fate = fate_after g done s.fate }
+      → CanOffer R K e stopped start w → StandsAt w.sessions i s → s.owes ≡ true → keeps s.disposition ≡ true → Gives s.conn (rest_in w.box s.conn) w.box box' w.told told' g
+      → ((given : List ℕ) (ms : List (Move A)) → K given ms s.conn_state → done ≡ R.ends ms) → s' ≡ record s { owes = false; disposition = disposition_after g done s.disposition }
       → CanOffer R K e stopped start (record { told = told'; mine = w.mine; sessions = set w.sessions i s'; box = box'; starved = w.starved })
   gave_by e stopped start told' w i s s' box' gave.Nothing done h at o k (z, b, t) d is =
       let sits = each_at (λ (x : Session T). Sits R K w.told w.box (part R h.steps x.conn) x) w.sessions i s at h.stands.each in
       subst (λ (v : World T). CanOffer R K e stopped start v) (ap (λ (v : Option PortsTold × (List (ℕ × List ℕ) × Session T)). record { told = v.0; mine = w.mine; sessions = set w.sessions i v.1.1; box = v.1.0; starved = w.starved })
-      (let q : ◌≡◌ {A = Option PortsTold × (List (ℕ × List ℕ) × Session T)} (w.told, (w.box, given s s.fate)) (told', (box', s')) = cc in q))
-      (unstepped e stopped start w i s (given s s.fate) h at refl (nothing_sits w.told w.box (part R h.steps s.conn) s sits k z))
+      (let q : ◌≡◌ {A = Option PortsTold × (List (ℕ × List ℕ) × Session T)} (w.told, (w.box, given s s.disposition)) (told', (box', s')) = cc in q))
+      (unstepped e stopped start w i s (given s s.disposition) h at refl (nothing_sits w.told w.box (part R h.steps s.conn) s sits k z))
   gave_by e stopped start told' w i s s' box' gave.NoMemory done h at o k (z, b, t) d is =
       let sits = each_at (λ (x : Session T). Sits R K w.told w.box (part R h.steps x.conn) x) w.sessions i s at h.stands.each in
       let same_told = t ∙ starved_told w.told s.conn (rest_in w.box s.conn) in
@@ -270,7 +270,7 @@ module _ {A W T : Type 0} (R : Rules A W) (K : List ℕ → List (Move A) → T 
       (ap keys b ∙ keys_put w.box s.conn (drop n (rest_in w.box s.conn))) (λ d ne. ap (λ (x : List (ℕ × List ℕ)). rest_at x d) b ∙ other_put w.box s.conn (drop n (rest_in w.box s.conn)) d ne)
       (λ d ne. open_by w.told told' (after_send s.conn (rest_in w.box s.conn) (Ok n)) d t (λ v. refl))
       (subst (λ (x : Session T). Sits R K told' box' (with_try R (Some n) (part R h.steps s.conn)) x) (sym is)
-      (subst (λ (x : List (ℕ × List ℕ)). Sits R K told' x (with_try R (Some n) (part R h.steps s.conn)) (given s s.fate)) (sym b)
+      (subst (λ (x : List (ℕ × List ℕ)). Sits R K told' x (with_try R (Some n) (part R h.steps s.conn)) (given s s.disposition)) (sym b)
       (taken_sits w.told told' w.box (part R h.steps s.conn) s n sits k l (open_by w.told told' (after_send s.conn (rest_in w.box s.conn) (Ok n)) s.conn t (λ v. refl))
       (part_left (part R h.steps s.conn) n (rest_in w.box s.conn) kept.rest_is sits.counts.low rem))))
   gave_by e stopped start told' w i s s' box' gave.All done h at o k (z, (n, l, rem, b, t)) d is =
@@ -285,7 +285,7 @@ module _ {A W T : Type 0} (R : Rules A W) (K : List ℕ → List (Move A) → T 
       (ap keys b ∙ keys_put w.box s.conn (drop n (rest_in w.box s.conn))) (λ d ne. ap (λ (x : List (ℕ × List ℕ)). rest_at x d) b ∙ other_put w.box s.conn (drop n (rest_in w.box s.conn)) d ne)
       (λ d ne. open_by w.told told' (after_send s.conn (rest_in w.box s.conn) (Ok n)) d t (λ v. refl))
       (subst (λ (x : Session T). Sits R K told' box' (with_try R (Some n) p) x) (sym is)
-      (subst (λ (x : List (ℕ × List ℕ)). Sits R K told' x (with_try R (Some n) p) (given s (fate_after gave.All done s.fate))) (sym b)
+      (subst (λ (x : List (ℕ × List ℕ)). Sits R K told' x (with_try R (Some n) p) (given s (disposition_after gave.All done s.disposition))) (sym b)
       (all_by done w.told told' w.box p s n sits k l opens (end_done s p n (rest_in w.box s.conn) done kept.rest_is sits.counts.low rem (d p.given p.moves kept.knows)))))
 
   pub offered_one : (e : PortEvent) (stopped : Bool) (start told' : Option PortsTold) (w : World T) (i : ℕ) (s s' : Session T) (box' : List (ℕ × List ℕ))
@@ -299,12 +299,12 @@ module _ {A W T : Type 0} (R : Rules A W) (K : List ℕ → List (Move A) → T 
   offered_one e stopped start told' w i s s' box' h at (Gives_it o k g done gv d is) = gave_by e stopped start told' w i s s' box' g done h at o k gv d is
 
   -- a session owes no offer after one
-  owes_by : (f : Fate) (o : Bool) → (o ≡ true → keeps f ≡ true → ⊥) → keeps f ≡ true → o ≡ false
+  owes_by : (f : Disposition) (o : Bool) → (o ≡ true → keeps f ≡ true → ⊥) → keeps f ≡ true → o ≡ false
   owes_by f true n k = absurd (n refl k)
   owes_by f false n k = refl
 
   pub owes_none : (s s' : Session T) (box box' : List (ℕ × List ℕ)) (told told' : Option PortsTold) → OffersOne R K s s' box box' told told' → OwesNone s'
-  owes_none s s' box box' told told' (Idle n se be te) = subst (λ (x : Session T). OwesNone x) (sym se) (owes_by s.fate s.owes n)
+  owes_none s s' box box' told told' (Idle n se be te) = subst (λ (x : Session T). OwesNone x) (sym se) (owes_by s.disposition s.owes n)
   owes_none s s' box box' told told' (Gives_it o k g done gv d is) = λ _. ap (λ (x : Session T). x.owes) is
 
 -- the offer of a rest that is not empty
@@ -338,7 +338,7 @@ module _ {A W T : Type 0} (R : Rules A W) (K : List ℕ → List (Move A) → T 
   rest_of_offer e stopped start w i s h at = (each_at (λ (x : Session T). Sits R K w.told w.box (part R h.steps x.conn) x) w.sessions i s at h.stands.each).rest_there
 
   pub open_of_offer : (e : PortEvent) (stopped : Bool) (start : Option PortsTold) (w : World T) (i : ℕ) (s : Session T) → CanOffer R K e stopped start w → StandsAt w.sessions i s
-      → is_up s.fate ≡ true → IsOpen s.conn w.told
+      → is_up s.disposition ≡ true → IsOpen s.conn w.told
   open_of_offer e stopped start w i s h at u = (each_at (λ (x : Session T). Sits R K w.told w.box (part R h.steps x.conn) x) w.sessions i s at h.stands.each).opening u
 
   pub can_leave : (e : PortEvent) (stopped : Bool) (start : Option PortsTold) (w : World T) (n : ℕ) → CanOffer R K e stopped start w → length w.sessions ≤ n → Each OwesNone (take n w.sessions) → CanLeave R K e stopped start w

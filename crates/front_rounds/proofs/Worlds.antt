@@ -7,7 +7,7 @@ use Rattle.port_trait.specs.declared.events.PortEvent.{PortEvent}
 use Rattle.port_trait.specs.declared.events.PortEvent.TheVariants as event
 use Rattle.port_trait.specs.Told.{PortsTold, MayCome, IsOpen, heard}
 use Rattle.port_trait.specs.Boxes.{rest_at, HasRest, rest_in}
-use Rattle.front_rounds.specs.declared.fates.Fate.{Fate}
+use Rattle.front_rounds.specs.declared.dispositions.Disposition.{Disposition}
 use Rattle.front_rounds.specs.declared.sessions.Session.{Session}
 use Rattle.front_rounds.specs.declared.sessions.SessionTable.{SessionTable}
 use Rattle.front_rounds.specs.Rules.{Rules, Move, Does, wants_of, BeginsWanted, any_starves}
@@ -87,17 +87,17 @@ plain_refused event.Broken p n there = refl
 plain_refused event.NoMemory p n there = refl
 
 -- what settles changes nothing of others
-pub settles_keys : (c : ℕ) (said : List ℕ) (f f' : Fate) (box box' : List (ℕ × List ℕ)) → Settles c said f f' box box' → keys box' ≡ keys box
-settles_keys c said f f' box box' (Passes k q b) = ap keys b
-settles_keys c said f f' box box' (Holds k q b l) = ap keys b ∙ keys_put box c (rest_in box c ++ said)
-settles_keys c said f f' box box' (Overflows k q b l) = ap keys b
-settles_keys c said f f' box box' (Starves k q b l) = ap keys b
+pub settles_keys : (c : ℕ) (response : List ℕ) (f f' : Disposition) (box box' : List (ℕ × List ℕ)) → Settles c response f f' box box' → keys box' ≡ keys box
+settles_keys c response f f' box box' (Passes k q b) = ap keys b
+settles_keys c response f f' box box' (Holds k q b l) = ap keys b ∙ keys_put box c (rest_in box c ++ response)
+settles_keys c response f f' box box' (Overflows k q b l) = ap keys b
+settles_keys c response f f' box box' (Starves k q b l) = ap keys b
 
-pub settles_other : (c : ℕ) (said : List ℕ) (f f' : Fate) (box box' : List (ℕ × List ℕ)) (d : ℕ) → Settles c said f f' box box' → (c ≡ d → ⊥) → rest_at box' d ≡ rest_at box d
-settles_other c said f f' box box' d (Passes k q b) n = ap (λ (x : List (ℕ × List ℕ)). rest_at x d) b
-settles_other c said f f' box box' d (Holds k q b l) n = ap (λ (x : List (ℕ × List ℕ)). rest_at x d) b ∙ other_put box c (rest_in box c ++ said) d n
-settles_other c said f f' box box' d (Overflows k q b l) n = ap (λ (x : List (ℕ × List ℕ)). rest_at x d) b
-settles_other c said f f' box box' d (Starves k q b l) n = ap (λ (x : List (ℕ × List ℕ)). rest_at x d) b
+pub settles_other : (c : ℕ) (response : List ℕ) (f f' : Disposition) (box box' : List (ℕ × List ℕ)) (d : ℕ) → Settles c response f f' box box' → (c ≡ d → ⊥) → rest_at box' d ≡ rest_at box d
+settles_other c response f f' box box' d (Passes k q b) n = ap (λ (x : List (ℕ × List ℕ)). rest_at x d) b
+settles_other c response f f' box box' d (Holds k q b l) n = ap (λ (x : List (ℕ × List ℕ)). rest_at x d) b ∙ other_put box c (rest_in box c ++ response) d n
+settles_other c response f f' box box' d (Overflows k q b l) n = ap (λ (x : List (ℕ × List ℕ)). rest_at x d) b
+settles_other c response f f' box box' d (Starves k q b l) n = ap (λ (x : List (ℕ × List ℕ)). rest_at x d) b
 
 module _ {A W : Type 0} (R : Rules A W) where
   -- parts as a round begins
@@ -284,7 +284,7 @@ module _ {A W T : Type 0} (R : Rules A W) (K : List ℕ → List (Move A) → T 
               ∙ map_same start (told_after R ss) (told_after R (dids R s.conn hd.acts ++ ss)) (λ t. sym (told_dids R s.conn hd.acts ss t));
           coming = dids_may R start s.conn hd.acts ss (came_may R start w.told (event.Bytes c) piece false m.steps st.telling m.heard.0 st.coming);
           conns_are = conns_set w.sessions i s s' at h.conn ∙ st.conns_are ∙ sym (there_dids R s.conn hd.acts ss);
-          keys_are = settles_keys s.conn h.said h.fate s'.fate w.box box' h.settles ∙ st.keys_are ∙ sym (there_dids R s.conn hd.acts ss);
+          keys_are = settles_keys s.conn h.response h.disposition s'.disposition w.box box' h.settles ∙ st.keys_are ∙ sym (there_dids R s.conn hd.acts ss);
           sound = sound_dids R s.conn hd.acts ss (ap (λ d. Hearing (event.Bytes d)) (sym sc))
               (record { time = m.can.time; begins = tt; before = all_kept start m.steps w st m.can.rested; room = λ h. clash (sym h) }, st.sound)
               (subst (λ (q : Part A). EachFits R hd.acts q.moves) (sym part_is) hd.fits)
@@ -297,7 +297,7 @@ module _ {A W T : Type 0} (R : Rules A W) (K : List ℕ → List (Move A) → T 
               (sym (part_others R s.conn hd.acts ss x.conn (λ e. ne (sym e)) ∙ quiet_bytes R (part R m.steps x.conn) piece c x.conn (λ e. ne (sym (sc ∙ e)))))
               (others R K told told w.box box' (rolled R (part R m.steps x.conn).given false false false (part R m.steps x.conn)) x
               (roll_quiet R K w.told told w.box (part R m.steps x.conn) x q.0 q.1 (opens x.conn))
-              (settles_other s.conn h.said h.fate s'.fate w.box box' x.conn h.settles (λ e. ne (sym e))) (λ o. o)))
+              (settles_other s.conn h.response h.disposition s'.disposition w.box box' x.conn h.settles (λ e. ne (sym e))) (λ o. o)))
               (subst (λ (v : Part A). Sits R K told box' v s')
               (sym (ap (λ d. part R (dids R s.conn hd.acts ++ ss) d) h.conn ∙ part_dids R s.conn hd.acts ss ∙ ap (moved_by R hd.acts) part_is))
               (heard_sits R K w.told told w.box box' p s s' piece w.mine mine' r.0 r.1 (opens s.conn) h));
@@ -307,7 +307,7 @@ module _ {A W T : Type 0} (R : Rules A W) (K : List ℕ → List (Move A) → T 
 
   -- a turn was worn while a piece was heard
   pub bytes_worn : (c : ℕ) (piece : List ℕ) (start told : Option PortsTold) (w : World T) (i : ℕ) (s : Session T) (mine' : List Entry)
-      → (m : Comes R K (event.Bytes c) piece start told w) → StandsAt w.sessions i s → s.conn ≡ c → HearsWorn R K s.conn piece w.mine mine' s.talk
+      → (m : Comes R K (event.Bytes c) piece start told w) → StandsAt w.sessions i s → s.conn ≡ c → HearsWorn R K s.conn piece w.mine mine' s.conn_state
       → CutShort R K start told mine' w.starved
   bytes_worn c piece start told w i s mine' m at sc h =
       let st = m.can.stands in

@@ -7,8 +7,8 @@ use Rattle.port_trait.specs.declared.events.SendFault.{SendFault}
 use Rattle.port_trait.specs.declared.events.SendFault.TheVariants as send_fault
 use Rattle.port_trait.specs.Told.{PortsTold, MayCome, heard, after_send, after_close}
 use Rattle.farm_history.specs.declared.queues.Outcome.TheVariants as outcome
-use Rattle.front_rounds.specs.declared.fates.Reason.{Reason}
-use Rattle.front_rounds.specs.declared.fates.Reason.TheVariants as reason
+use Rattle.front_rounds.specs.declared.dispositions.Reason.{Reason}
+use Rattle.front_rounds.specs.declared.dispositions.Reason.TheVariants as reason
 use Rattle.front_rounds.specs.Rules.{Rules, Move, Does, Gets, answer_bytes, each_whole}
 use Rattle.front_rounds.specs.Steps.{Step, Came, Did, Got, Through, Tried, Left}
 

@@ -3,8 +3,8 @@ use Rattle.std.specs.Prelude.{◌≡◌, ℕ, ◌<◌, ◌≤◌, Bool, true, fa
 use Rattle.farm_base.specs.Limits.{most_sessions}
 use Rattle.port_trait.specs.declared.events.PortEvent.{PortEvent}
 use Rattle.port_trait.specs.declared.events.PortEvent.TheVariants as event
-use Rattle.front_rounds.specs.declared.fates.Reason.{Reason}
-use Rattle.front_rounds.specs.declared.fates.Reason.TheVariants as reason
+use Rattle.front_rounds.specs.declared.dispositions.Reason.{Reason}
+use Rattle.front_rounds.specs.declared.dispositions.Reason.TheVariants as reason
 use Rattle.front_rounds.specs.Rules.{Rules, Does, Gets, wants_of, each_whole, BeginsWanted}
 use Rattle.front_rounds.specs.Steps.{Step, Came, Did, Got, Through, Tried, Left, Hearing, phase, Gathers, IsThrough, MayBegin, Offers, there, has}
 use Rattle.front_rounds.specs.Parts.{Part, part, due, must, Offered, Caused, Calm}

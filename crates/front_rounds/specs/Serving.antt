@@ -65,7 +65,7 @@ module _ {A W : Type 0} (R : Rules A W) where
   -- **What a front leaves.** Its own entries are those of its steps, and then at most the Stop of its end. What its
   -- ports tell is what the steps make of what they told, and then at most that they broke. Each step may be made after those before it. The end has its
   -- cause; the ports break only where no round is under way; and the rests and the count of the starved are those of the steps.
-  pub record Serves (start told : Option PortsTold) (mine : List Entry) (end : FrontEnd) (rests : List Rest) (starved : ℕ) (worn : Bool) : Type 0 where
+  pub record FrontRun (start told : Option PortsTold) (mine : List Entry) (end : FrontEnd) (rests : List Rest) (starved : ℕ) (worn : Bool) : Type 0 where
     pub steps : List (Step A)
     pub broke : Bool
     pub stop : List Entry

@@ -7,8 +7,8 @@ use Rattle.farm_history.specs.declared.queues.Reply.{Reply}
 use Rattle.farm_history.specs.declared.answers.Collected.{Collected}
 use Rattle.farm_history.specs.declared.answers.Collected.TheVariants as collected
 use Rattle.farm_history.specs.Entries.{Entry, Collect, Leave}
-use Rattle.front_rounds.specs.declared.fates.Reason.{Reason}
-use Rattle.front_rounds.specs.declared.fates.Reason.TheVariants as reason
+use Rattle.front_rounds.specs.declared.dispositions.Reason.{Reason}
+use Rattle.front_rounds.specs.declared.dispositions.Reason.TheVariants as reason
 use Rattle.front_rounds.specs.Rules.{Rules}
 
 pub data Step (A : Type 0) : Type 0 where

@@ -7,14 +7,14 @@ ghost use Rattle.front_rounds.specs.Steps.{with_starved};
 ghost use Rattle.front_rounds.specs.declared.sessions.Session.{Session};
 ghost use Rattle.front_rounds.specs.inner.Sessions as spec;
 ghost use Rattle.front_rounds.specs.inner.Sessions.{is_up, IsLeaving, StaysOn};
-ghost use Rattle.front_rounds.specs.declared.fates.Fate.TheVariants as fate;
+ghost use Rattle.front_rounds.specs.declared.dispositions.Disposition.TheVariants as disposition;
 ghost use Rattle.front_rounds.specs.inner.Stands.{world};
 ghost use Rattle.front_rounds.specs.inner.Stages.{CanLeave, IsOver, CutShort, Shuts};
 ghost use Rattle.port_trait.specs.Told.{PortsTold, IsOpen};
 ghost use Rattle.port_trait.specs.declared.events.PortEvent.{PortEvent};
 
 use crate::farm::Farm;
-use crate::fates::{Fate, Reason};
+use crate::dispositions::{Disposition, Reason};
 use crate::front::Front;
 use crate::sessions::{Session, SessionTable};
 use farm_base::Worn;
@@ -23,20 +23,20 @@ use port_trait::Ports;
 use std::sync::Wait;
 
 /// Whether a session leaves.
-fn leaves(fate: Fate) -> bool
-    ensures { result ≡ spec.leaves fate }
+fn leaves(disposition: Disposition) -> bool
+    ensures { result ≡ spec.leaves disposition }
 {
-    match fate {
-        Fate::Stays => false,
-        Fate::Leaves(_) => true,
+    match disposition {
+        Disposition::Stays => false,
+        Disposition::Leaves(_) => true,
     }
 }
 
 /// The first place of a session that leaves.
 fn first_leaving<T>(sessions: &[Session<T>]) -> Option<usize>
-    ensures { result ≡ position (λ (s : Session T). spec.leaves s.fate) sessions.now }
+    ensures { result ≡ position (λ (s : Session T). spec.leaves s.disposition) sessions.now }
 {
-    sessions.iter().position(|session| leaves(session.fate))
+    sessions.iter().position(|session| leaves(session.disposition))
 }
 
 /// A session that leaves: its place, its connection, and why.
@@ -45,9 +45,9 @@ fn leaving<T>(sessions: &[Session<T>]) -> Option<(usize, u32, Reason)>
     ensures none { IfNone result (Each StaysOn sessions.now) }
 {
     match first_leaving(sessions) {
-        Some(place) => match sessions[place].fate {
-            Fate::Stays => unreachable!(),
-            Fate::Leaves(why) => Some((place, sessions[place].conn, why)),
+        Some(place) => match sessions[place].disposition {
+            Disposition::Stays => unreachable!(),
+            Disposition::Leaves(why) => Some((place, sessions[place].conn, why)),
         },
         None => None,
     }
@@ -55,14 +55,14 @@ fn leaving<T>(sessions: &[Session<T>]) -> Option<(usize, u32, Reason)>
 
 /// Whether the connection is still open in the ports.
 fn is_open(why: Reason) -> bool
-    ensures { result ≡ is_up (fate.Leaves why) }
+    ensures { result ≡ is_up (disposition.Leaves why) }
 {
     !matches!(why, Reason::Lost | Reason::SendFailed)
 }
 
 /// Closes the connection, if it is still open.
 fn shut<P: Ports>(ports: &mut P, conn: u32, why: Reason)
-    requires { is_up (fate.Leaves why) ≡ true → IsOpen conn (P.state ports.old).told }
+    requires { is_up (disposition.Leaves why) ≡ true → IsOpen conn (P.state ports.old).told }
     ensures told { Shuts conn why (P.state ports.old).told (P.state ports.new).told }
     ensures count { (P.state ports.new).faults ≡ (P.state ports.old).faults }
 {
@@ -87,7 +87,7 @@ fn close_one<R: Wait, M: Farm, F: Front<M>, P: Ports>(
     front: &F,
     farm: &M,
     seat: &mut M::Seat,
-    table: &mut SessionTable<F::Talk>,
+    table: &mut SessionTable<F::ConnState>,
     ports: &mut P,
     place: usize,
     conn: u32,
@@ -131,7 +131,7 @@ pub fn close_all<R: Wait, M: Farm, F: Front<M>, P: Ports>(
     front: &F,
     farm: &M,
     seat: &mut M::Seat,
-    table: &mut SessionTable<F::Talk>,
+    table: &mut SessionTable<F::ConnState>,
     ports: &mut P,
 ) -> Result<(), Worn>
     requires seat { (M.seats farm.now).is_seat seat.old }

@@ -10,7 +10,7 @@ ghost use Rattle.port_trait.specs.Told.{PortsTold};
 ghost use Rattle.port_trait.specs.declared.events.PortEvent.{PortEvent};
 
 use crate::farm::Farm;
-use crate::fates::{Fate, Reason};
+use crate::dispositions::{Disposition, Reason};
 use crate::front::Front;
 use crate::hearing::{is_kept, owes_after, settle, wake_all};
 use crate::sessions::{Session, SessionTable, place_of};
@@ -20,13 +20,13 @@ use port_trait::Outbox;
 use std::alloc::Global;
 use std::sync::Wait;
 
-/// Of an earlier fate and a later one: the later, if it is an end.
-fn worse_of(old: Fate, new: Fate) -> Fate
+/// Of an earlier disposition and a later one: the later, if it is an end.
+fn worse_of(old: Disposition, new: Disposition) -> Disposition
     ensures { result ≡ worse old new }
 {
     match new {
-        Fate::Stays => old,
-        Fate::Leaves(why) => Fate::Leaves(why),
+        Disposition::Stays => old,
+        Disposition::Leaves(why) => Disposition::Leaves(why),
     }
 }
 
@@ -37,9 +37,9 @@ fn reply_one<R: Wait, M: Farm, F: Front<M>>(
     front: &F,
     farm: &M,
     seat: &mut M::Seat,
-    session: &mut Session<F::Talk>,
+    session: &mut Session<F::ConnState>,
     outbox: &mut Outbox,
-    said: &mut Vec<u8>,
+    response: &mut Vec<u8>,
     reply: Reply,
 ) -> Result<(), Worn>
     requires seat { (M.seats farm.now).is_seat seat.old }
@@ -51,20 +51,20 @@ fn reply_one<R: Wait, M: Farm, F: Front<M>>(
         (λ _. RepliesOne (F.rules front.now farm.now) F.knows reply ((M.seats farm.now).mine seat.old) ((M.seats farm.now).mine seat.new) session.old session.new outbox.old outbox.new)
         (λ _. AnswersWorn (F.rules front.now farm.now) F.knows reply ((M.seats farm.now).mine seat.old) ((M.seats farm.now).mine seat.new) session.old) }
 {
-    if !is_kept(session.fate) {
+    if !is_kept(session.disposition) {
         return Ok(());
     }
     if reply.outcome == Outcome::Cut {
-        session.fate = Fate::Leaves(Reason::Cut);
+        session.disposition = Disposition::Leaves(Reason::Cut);
         return Ok(());
     }
-    said.clear();
-    let Ok(fate) = front.reply(rt, alloc, farm, seat, &mut session.talk, reply, said) else {
+    response.clear();
+    let Ok(disposition) = front.reply(rt, alloc, farm, seat, &mut session.conn_state, reply, response) else {
         return Err(Worn);
     };
-    session.owes = owes_after(session.owes, said.as_slice(), Fate::Stays);
-    let fate = worse_of(session.fate, fate);
-    session.fate = settle(outbox, session.conn, said.as_slice(), fate);
+    session.owes = owes_after(session.owes, response.as_slice(), Disposition::Stays);
+    let disposition = worse_of(session.disposition, disposition);
+    session.disposition = settle(outbox, session.conn, response.as_slice(), disposition);
     Ok(())
 }
 
@@ -75,7 +75,7 @@ fn collect_one<R: Wait, M: Farm, F: Front<M>>(
     front: &F,
     farm: &M,
     seat: &mut M::Seat,
-    table: &mut SessionTable<F::Talk>,
+    table: &mut SessionTable<F::ConnState>,
 ) -> Result<Collected, Worn>
     requires seat { (M.seats farm.now).is_seat seat.old }
     requires number { (M.seats farm.now).number seat.old ≡ (F.rules front.now farm.now).number + 1 }
@@ -104,7 +104,7 @@ fn collect_one<R: Wait, M: Farm, F: Front<M>>(
                 seat,
                 &mut table.sessions[place],
                 &mut table.outbox,
-                &mut table.said,
+                &mut table.response,
                 reply,
             ) else {
                 return Err(Worn);
@@ -126,7 +126,7 @@ pub fn collect_all<R: Wait, M: Farm, F: Front<M>>(
     front: &F,
     farm: &M,
     seat: &mut M::Seat,
-    table: &mut SessionTable<F::Talk>,
+    table: &mut SessionTable<F::ConnState>,
 ) -> Result<bool, Worn>
     requires seat { (M.seats farm.now).is_seat seat.old }
     requires number { (M.seats farm.now).number seat.old ≡ (F.rules front.now farm.now).number + 1 }

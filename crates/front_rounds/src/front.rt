@@ -2,12 +2,12 @@
 ghost use Rattle.std.specs.Prelude.{◌≡◌, ◌+◌, ℕ, List, [], true, false, OnErr};
 ghost use Rattle.front_rounds.specs.Rules.{Rules, Move};
 ghost use Rattle.front_rounds.specs.Calls.{SameSeat};
-ghost use Rattle.front_rounds.specs.Front.{Begins, Hears, Replies, Ends, MayStandAlone, fate_of};
+ghost use Rattle.front_rounds.specs.Front.{Begins, Hears, Replies, Ends, MayStandAlone, disposition_of};
 ghost use Rattle.farm_history.specs.declared.queues.Outcome.TheVariants as outcome;
 ghost use Rattle.std.specs.Prelude.{◌≢◌};
 
 use crate::farm::Farm;
-use crate::fates::Fate;
+use crate::dispositions::Disposition;
 use farm_base::Worn;
 use farm_history::Reply;
 use std::alloc::Global;
@@ -17,7 +17,7 @@ use std::sync::Wait;
 /// offers and ends are `serve`'s.
 pub trait Front<M: Farm> {
     /// What it keeps of a session.
-    type Talk: Drop;
+    type ConnState: Drop;
     /// A request, and a request that was done, with its answers; no value of them need be made.
     type Want;
 
@@ -27,18 +27,18 @@ pub trait Front<M: Farm> {
     ghost rules: { Self → M → Rules Self.Act Self.Want };
 
     /// What is kept of a session is right where these bytes came and these moves were made.
-    ghost knows: { List ℕ → List (Move Self.Act) → Self.Talk → Type 0 };
+    ghost knows: { List ℕ → List (Move Self.Act) → Self.ConnState → Type 0 };
 
     /// The front's number.
     fn number(&self, farm: &M) -> u32
         ensures { result ≡ (rules self.now farm.now).number };
 
     /// What is kept of a new session.
-    fn begin(&self, alloc: Global, farm: &M) -> Self::Talk
+    fn begin(&self, alloc: Global, farm: &M) -> Self::ConnState
         ensures { Begins (rules self.now farm.now) knows result };
 
     /// A piece of bytes came: does the requests that became whole, and puts the bytes that are answered
-    /// to them into `said`.
+    /// to them into `response`.
     fn hear<R: Wait>(
         &self,
         rt: &R,
@@ -46,40 +46,40 @@ pub trait Front<M: Farm> {
         farm: &M,
         seat: &mut M::Seat,
         conn: u32,
-        talk: &mut Self::Talk,
+        conn_state: &mut Self::ConnState,
         piece: &[u8],
-        said: &mut Vec<u8>,
-    ) -> Result<Fate, Worn>
+        response: &mut Vec<u8>,
+    ) -> Result<Disposition, Worn>
         requires seat { (M.seats farm.now).is_seat seat.old }
         requires number { (M.seats farm.now).number seat.old ≡ (rules self.now farm.now).number + 1 }
-        requires empty { said.old.items ≡ [] }
+        requires empty { response.old.items ≡ [] }
         ensures seat { SameSeat (M.seats farm.now) seat.old seat.new }
         ensures worn { OnErr result ((M.seats farm.now).worn seat.new ≡ true) }
-        ensures heard { Hears (rules self.now farm.now) knows conn piece.now ((M.seats farm.now).mine seat.old) ((M.seats farm.now).mine seat.new) talk.old talk.new said.new.items (fate_of result) };
+        ensures heard { Hears (rules self.now farm.now) knows conn piece.now ((M.seats farm.now).mine seat.old) ((M.seats farm.now).mine seat.new) conn_state.old conn_state.new response.new.items (disposition_of result) };
 
     /// A reply to an ask of the connection was collected, which is not Cut: puts the bytes that are
-    /// answered to it into `said`.
+    /// answered to it into `response`.
     fn reply<R: Wait>(
         &self,
         rt: &R,
         alloc: Global,
         farm: &M,
         seat: &mut M::Seat,
-        talk: &mut Self::Talk,
+        conn_state: &mut Self::ConnState,
         reply: Reply,
-        said: &mut Vec<u8>,
-    ) -> Result<Fate, Worn>
+        response: &mut Vec<u8>,
+    ) -> Result<Disposition, Worn>
         requires seat { (M.seats farm.now).is_seat seat.old }
         requires number { (M.seats farm.now).number seat.old ≡ (rules self.now farm.now).number + 1 }
-        requires empty { said.old.items ≡ [] }
+        requires empty { response.old.items ≡ [] }
         requires uncut { reply.outcome ≢ outcome.Cut }
         ensures seat { SameSeat (M.seats farm.now) seat.old seat.new }
         ensures worn { OnErr result ((M.seats farm.now).worn seat.new ≡ true) }
-        ensures replied { Replies (rules self.now farm.now) knows reply ((M.seats farm.now).mine seat.old) ((M.seats farm.now).mine seat.new) talk.old talk.new said.new.items (fate_of result) };
+        ensures replied { Replies (rules self.now farm.now) knows reply ((M.seats farm.now).mine seat.old) ((M.seats farm.now).mine seat.new) conn_state.old conn_state.new response.new.items (disposition_of result) };
 
     /// Whether all is answered on the session that will be.
-    fn is_done(&self, farm: &M, talk: &Self::Talk) -> bool
-        ensures { Ends (rules self.now farm.now) knows talk.now result };
+    fn is_done(&self, farm: &M, conn_state: &Self::ConnState) -> bool
+        ensures { Ends (rules self.now farm.now) knows conn_state.now result };
 
     /// A reply to a connection that is heard no more stands alone.
     ghost alone: { (front : Self) (farm : M) → MayStandAlone (rules front farm) };

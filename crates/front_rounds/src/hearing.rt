@@ -13,7 +13,7 @@ ghost use Rattle.port_trait.specs.Told.{PortsTold, IsOpen, after_close};
 ghost use Rattle.port_trait.specs.declared.events.PortEvent.TheVariants as event;
 
 use crate::farm::Farm;
-use crate::fates::{Fate, Reason};
+use crate::dispositions::{Disposition, Reason};
 use crate::front::Front;
 use crate::sessions::{Session, SessionTable, place_of};
 use farm_base::{MOST_SESSIONS, NoMemory, Worn};
@@ -22,31 +22,31 @@ use std::alloc::Global;
 use std::sync::Wait;
 
 /// Whether the bytes of a session are still kept and answered.
-pub fn is_kept(fate: Fate) -> bool
-    ensures { result ≡ keeps fate }
+pub fn is_kept(disposition: Disposition) -> bool
+    ensures { result ≡ keeps disposition }
 {
-    matches!(fate, Fate::Stays | Fate::Leaves(Reason::Unread))
+    matches!(disposition, Disposition::Stays | Disposition::Leaves(Reason::Unread))
 }
 
 /// Whether a session owes an offer, after something was said, or nothing.
-pub fn owes_after(owes: bool, said: &[u8], fate: Fate) -> bool
-    ensures { result ≡ owing owes said.now fate }
+pub fn owes_after(owes: bool, response: &[u8], disposition: Disposition) -> bool
+    ensures { result ≡ owing owes response.now disposition }
 {
-    owes || !said.is_empty() || matches!(fate, Fate::Leaves(Reason::Unread))
+    owes || !response.is_empty() || matches!(disposition, Disposition::Leaves(Reason::Unread))
 }
 
 /// Puts what was said behind the rest of a connection whose bytes are kept.
-pub fn settle(outbox: &mut Outbox, conn: u32, said: &[u8], fate: Fate) -> Fate
+pub fn settle(outbox: &mut Outbox, conn: u32, response: &[u8], disposition: Disposition) -> Disposition
     requires { HasRest outbox.old conn }
-    ensures { Settles conn said.now fate result outbox.old outbox.new }
+    ensures { Settles conn response.now disposition result outbox.old outbox.new }
 {
-    if !is_kept(fate) {
-        return fate;
+    if !is_kept(disposition) {
+        return disposition;
     }
-    match outbox.answer(conn, said) {
-        Ok(()) => fate,
-        Err(BoxFault::Full) => Fate::Leaves(Reason::Full),
-        Err(BoxFault::NoMemory) => Fate::Leaves(Reason::Starved),
+    match outbox.answer(conn, response) {
+        Ok(()) => disposition,
+        Err(BoxFault::Full) => Disposition::Leaves(Reason::Full),
+        Err(BoxFault::NoMemory) => Disposition::Leaves(Reason::Starved),
     }
 }
 
@@ -57,9 +57,9 @@ fn hear_one<R: Wait, M: Farm, F: Front<M>>(
     front: &F,
     farm: &M,
     seat: &mut M::Seat,
-    session: &mut Session<F::Talk>,
+    session: &mut Session<F::ConnState>,
     outbox: &mut Outbox,
-    said: &mut Vec<u8>,
+    response: &mut Vec<u8>,
     piece: &[u8],
 ) -> Result<(), Worn>
     requires seat { (M.seats farm.now).is_seat seat.old }
@@ -69,23 +69,23 @@ fn hear_one<R: Wait, M: Farm, F: Front<M>>(
     ensures worn { OnErr result ((M.seats farm.now).worn seat.new ≡ true) }
     ensures heard { MatchResult result
         (λ _. HearsOne (F.rules front.now farm.now) F.knows piece.now ((M.seats farm.now).mine seat.old) ((M.seats farm.now).mine seat.new) session.old session.new outbox.old outbox.new)
-        (λ _. HearsWorn (F.rules front.now farm.now) F.knows session.old.conn piece.now ((M.seats farm.now).mine seat.old) ((M.seats farm.now).mine seat.new) session.old.talk) }
+        (λ _. HearsWorn (F.rules front.now farm.now) F.knows session.old.conn piece.now ((M.seats farm.now).mine seat.old) ((M.seats farm.now).mine seat.new) session.old.conn_state) }
 {
-    said.clear();
-    let Ok(fate) = front.hear(
+    response.clear();
+    let Ok(disposition) = front.hear(
         rt,
         alloc,
         farm,
         seat,
         session.conn,
-        &mut session.talk,
+        &mut session.conn_state,
         piece,
-        said,
+        response,
     ) else {
         return Err(Worn);
     };
-    session.owes = owes_after(session.owes, said.as_slice(), fate);
-    session.fate = settle(outbox, session.conn, said.as_slice(), fate);
+    session.owes = owes_after(session.owes, response.as_slice(), disposition);
+    session.disposition = settle(outbox, session.conn, response.as_slice(), disposition);
     Ok(())
 }
 
@@ -96,7 +96,7 @@ fn hear<R: Wait, M: Farm, F: Front<M>>(
     front: &F,
     farm: &M,
     seat: &mut M::Seat,
-    table: &mut SessionTable<F::Talk>,
+    table: &mut SessionTable<F::ConnState>,
     conn: u32,
     piece: &[u8],
 ) -> Result<(), Worn>
@@ -122,7 +122,7 @@ fn hear<R: Wait, M: Farm, F: Front<M>>(
         seat,
         &mut table.sessions[place],
         &mut table.outbox,
-        &mut table.said,
+        &mut table.response,
         piece,
     )
 }
@@ -132,10 +132,10 @@ fn add<T: Drop>(
     alloc: Global,
     table: &mut SessionTable<T>,
     conn: u32,
-    talk: T,
+    conn_state: T,
 ) -> Result<(), NoMemory>
     requires { rest_at table.old.outbox conn ≡ None }
-    ensures done { OnOk result ((table.new.sessions.items ≡ table.old.sessions.items ++ newcomer conn talk ∷ []) × (table.new.outbox ≡ table.old.outbox ++ (conn, []) ∷ []) × (table.new.starved ≡ table.old.starved)) }
+    ensures done { OnOk result ((table.new.sessions.items ≡ table.old.sessions.items ++ newcomer conn conn_state ∷ []) × (table.new.outbox ≡ table.old.outbox ++ (conn, []) ∷ []) × (table.new.starved ≡ table.old.starved)) }
     ensures refused { OnErr result ((table.new.sessions.items ≡ table.old.sessions.items) × (table.new.outbox ≡ table.old.outbox) × (table.new.starved ≡ table.old.starved)) }
 {
     table.sessions.reserve(1)?;
@@ -144,8 +144,8 @@ fn add<T: Drop>(
         .sessions
         .push(Session {
             conn,
-            talk,
-            fate: Fate::Stays,
+            conn_state,
+            disposition: Disposition::Stays,
             owes: false,
         })
         .unwrap();
@@ -158,7 +158,7 @@ fn admit<M: Farm, F: Front<M>>(
     alloc: Global,
     front: &F,
     farm: &M,
-    table: &mut SessionTable<F::Talk>,
+    table: &mut SessionTable<F::ConnState>,
     conn: u32,
 ) -> bool
     requires { keys table.old.outbox ≡ conns table.old.sessions.items }
@@ -205,7 +205,7 @@ fn open<M: Farm, F: Front<M>, P: Ports>(
     alloc: Global,
     front: &F,
     farm: &M,
-    table: &mut SessionTable<F::Talk>,
+    table: &mut SessionTable<F::ConnState>,
     ports: &mut P,
     piece: &[u8],
     conn: u32,
@@ -228,8 +228,8 @@ fn mark<T>(session: &mut Session<T>, event: PortEvent)
 {
     match event {
         PortEvent::Writable(_) => session.owes = true,
-        PortEvent::Ended(_) => session.fate = Fate::Leaves(Reason::Ended),
-        PortEvent::Lost(_) => session.fate = Fate::Leaves(Reason::Lost),
+        PortEvent::Ended(_) => session.disposition = Disposition::Leaves(Reason::Ended),
+        PortEvent::Lost(_) => session.disposition = Disposition::Leaves(Reason::Lost),
         _ => {}
     }
 }
@@ -251,7 +251,7 @@ pub fn take_event<R: Wait, M: Farm, F: Front<M>, P: Ports>(
     front: &F,
     farm: &M,
     seat: &mut M::Seat,
-    table: &mut SessionTable<F::Talk>,
+    table: &mut SessionTable<F::ConnState>,
     ports: &mut P,
     piece: &[u8],
     event: PortEvent,

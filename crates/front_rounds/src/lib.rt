@@ -6,7 +6,7 @@
 mod closing;
 mod collecting;
 mod farm;
-mod fates;
+mod dispositions;
 mod front;
 mod hearing;
 mod offering;
@@ -14,6 +14,6 @@ mod rounds;
 mod sessions;
 
 pub use farm::Farm;
-pub use fates::{Fate, Reason};
+pub use dispositions::{Disposition, Reason};
 pub use front::Front;
 pub use rounds::serve;

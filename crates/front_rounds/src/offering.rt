@@ -3,7 +3,7 @@ ghost use Rattle.std.specs.Prelude.{◌≡◌, ◌≤◌, ◌+◌, [], true, fal
 ghost use Rattle.farm_history.specs.Lists.{Each};
 ghost use Rattle.front_rounds.specs.inner.Sessions.{is_up};
 ghost use Rattle.front_rounds.specs.inner.Stands.{world};
-ghost use Rattle.front_rounds.specs.inner.Stages.{Gives, OffersOne, CanOffer, CanLeave, fate_after, part_or_all};
+ghost use Rattle.front_rounds.specs.inner.Stages.{Gives, OffersOne, CanOffer, CanLeave, disposition_after, part_or_all};
 ghost use Rattle.farm_history.specs.Entries.{Entry};
 ghost use Rattle.port_trait.specs.Boxes.{HasRest, rest_in};
 ghost use Rattle.port_trait.specs.Told.{PortsTold, IsOpen};
@@ -11,7 +11,7 @@ ghost use Rattle.port_trait.specs.declared.events.PortEvent.{PortEvent};
 ghost use Rattle.std.specs.Prelude.{Bool};
 
 use crate::farm::Farm;
-use crate::fates::{Fate, Reason};
+use crate::dispositions::{Disposition, Reason};
 use crate::front::Front;
 use crate::hearing::is_kept;
 use crate::sessions::{Session, SessionTable};
@@ -61,21 +61,21 @@ fn gave_by(outbox: &Outbox, conn: u32) -> Gave
     }
 }
 
-/// The fate of a session after an offer.
-fn fate_of_offer(gave: Gave, done: bool, fate: Fate) -> Fate
-    ensures { result ≡ fate_after gave done fate }
+/// The disposition of a session after an offer.
+fn disposition_of_offer(gave: Gave, done: bool, disposition: Disposition) -> Disposition
+    ensures { result ≡ disposition_after gave done disposition }
 {
     match gave {
-        Gave::Nothing | Gave::Part => fate,
+        Gave::Nothing | Gave::Part => disposition,
         Gave::All => {
             if done {
-                Fate::Leaves(Reason::SentWhole)
+                Disposition::Leaves(Reason::SentWhole)
             } else {
-                fate
+                disposition
             }
         }
-        Gave::Failed => Fate::Leaves(Reason::SendFailed),
-        Gave::NoMemory => Fate::Leaves(Reason::Starved),
+        Gave::Failed => Disposition::Leaves(Reason::SendFailed),
+        Gave::NoMemory => Disposition::Leaves(Reason::Starved),
     }
 }
 
@@ -83,29 +83,29 @@ fn fate_of_offer(gave: Gave, done: bool, fate: Fate) -> Fate
 fn offer_one<M: Farm, F: Front<M>, P: Ports>(
     front: &F,
     farm: &M,
-    session: &mut Session<F::Talk>,
+    session: &mut Session<F::ConnState>,
     outbox: &mut Outbox,
     ports: &mut P,
 )
     requires rest { HasRest outbox.old session.old.conn }
-    requires open { is_up session.old.fate ≡ true → IsOpen session.old.conn (P.state ports.old).told }
+    requires open { is_up session.old.disposition ≡ true → IsOpen session.old.conn (P.state ports.old).told }
     ensures offers { OffersOne (F.rules front.now farm.now) F.knows session.old session.new outbox.old outbox.new (P.state ports.old).told (P.state ports.new).told }
     ensures count { (P.state ports.old).faults ≤ (P.state ports.new).faults }
 {
-    if !session.owes || !is_kept(session.fate) {
+    if !session.owes || !is_kept(session.disposition) {
         return;
     }
     session.owes = false;
     let gave = give(outbox, session.conn, ports);
-    let done = front.is_done(farm, &session.talk);
-    session.fate = fate_of_offer(gave, done, session.fate);
+    let done = front.is_done(farm, &session.conn_state);
+    session.disposition = disposition_of_offer(gave, done, session.disposition);
 }
 
 /// Offers every session its bytes that owes that.
 pub fn offer_all<M: Farm, F: Front<M>, P: Ports>(
     front: &F,
     farm: &M,
-    table: &mut SessionTable<F::Talk>,
+    table: &mut SessionTable<F::ConnState>,
     ports: &mut P,
 )
     requires ready { (e : PortEvent) × ((stopped : Bool) × ((start : Option PortsTold) × ((mine : List Entry) × CanOffer (F.rules front.now farm.now) F.knows e stopped start (world (P.state ports.old).told mine table.old)))) }

@@ -2,7 +2,7 @@
 ghost use Rattle.std.specs.Prelude.{◌≡◌, ◌≢◌, ◌≤◌, ◌+◌, [], true, false, ℕ, List, Option, Some, map, MatchResult, OnErr, IfOk};
 ghost use Rattle.farm_history.specs.Entries.{Entry};
 ghost use Rattle.front_rounds.specs.Calls.{SameSeat};
-ghost use Rattle.front_rounds.specs.Serving.{Serves};
+ghost use Rattle.front_rounds.specs.Serving.{FrontRun};
 ghost use Rattle.farm_base.specs.Outside.{Counted};
 ghost use Rattle.port_trait.specs.Boxes.{as_rest};
 ghost use Rattle.port_trait.specs.declared.ends.FrontEnd.TheVariants as ended;
@@ -55,7 +55,7 @@ fn play<R: Wait, M: Farm, F: Front<M>, P: Ports>(
     front: &F,
     farm: &M,
     seat: &mut M::Seat,
-    table: &mut SessionTable<F::Talk>,
+    table: &mut SessionTable<F::ConnState>,
     ports: &mut P,
     piece: &[u8],
     event: PortEvent,
@@ -94,7 +94,7 @@ fn round<R: Wait, M: Farm, F: Front<M>, P: Ports>(
     front: &F,
     farm: &M,
     seat: &mut M::Seat,
-    table: &mut SessionTable<F::Talk>,
+    table: &mut SessionTable<F::ConnState>,
     ports: &mut P,
     room: &mut Vec<u8>,
 ) -> Result<Option<FrontEnd>, Worn>
@@ -135,7 +135,7 @@ fn run<R: Wait, M: Farm, F: Front<M>, P: Ports>(
     front: &F,
     farm: &M,
     seat: &mut M::Seat,
-    table: &mut SessionTable<F::Talk>,
+    table: &mut SessionTable<F::ConnState>,
     ports: &mut P,
 ) -> Result<FrontEnd, Worn>
     requires seat { (M.seats farm.now).is_seat seat.old }
@@ -185,14 +185,14 @@ fn serve_at<R: Wait, M: Farm, F: Front<M>, P: Ports>(
     front: &F,
     farm: &M,
     seat: &mut M::Seat,
-    table: &mut SessionTable<F::Talk>,
+    table: &mut SessionTable<F::ConnState>,
     ports: &mut P,
 ) -> FrontEnd
     requires seat { (M.seats farm.now).is_seat seat.old }
     requires number { (M.seats farm.now).number seat.old ≡ (F.rules front.now farm.now).number + 1 }
     requires ready { CanGo (F.rules front.now farm.now) F.knows (P.state ports.old).told (world (P.state ports.old).told ((M.seats farm.now).mine seat.old) table.old) }
     ensures seat { SameSeat (M.seats farm.now) seat.old seat.new }
-    ensures served { Serves (F.rules front.now farm.now) (P.state ports.old).told (P.state ports.new).told ((M.seats farm.now).mine seat.new) result (map (as_rest (F.rules front.now farm.now).number) table.new.outbox) table.new.starved ((M.seats farm.now).worn seat.new) }
+    ensures served { FrontRun (F.rules front.now farm.now) (P.state ports.old).told (P.state ports.new).told ((M.seats farm.now).mine seat.new) result (map (as_rest (F.rules front.now farm.now).number) table.new.outbox) table.new.starved ((M.seats farm.now).worn seat.new) }
     ensures broken { result ≡ ended.Broken → Counted (P.state ports.old).faults (P.state ports.new).faults }
 {
     match run(rt, alloc, front, farm, seat, table, ports) {
@@ -217,7 +217,7 @@ pub fn serve<R: Wait, M: Farm, F: Front<M>, P: Ports>(
     requires number { (M.seats farm.now).number seat.old ≡ (F.rules front.now farm.now).number + 1 }
     requires fresh { (M.seats farm.now).mine seat.old ≡ [] }
     ensures seat { SameSeat (M.seats farm.now) seat.old seat.new }
-    ensures served { Serves (F.rules front.now farm.now) (P.state ports.old).told (P.state ports.new).told ((M.seats farm.now).mine seat.new) result.end result.rests.items result.starved ((M.seats farm.now).worn seat.new) }
+    ensures served { FrontRun (F.rules front.now farm.now) (P.state ports.old).told (P.state ports.new).told ((M.seats farm.now).mine seat.new) result.end result.rests.items result.starved ((M.seats farm.now).worn seat.new) }
     ensures broken { result.end ≡ ended.Broken → Counted (P.state ports.old).faults (P.state ports.new).faults }
 {
     let number = front.number(farm);

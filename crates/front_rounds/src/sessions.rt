@@ -4,7 +4,7 @@ ghost use Rattle.front_rounds.specs.declared.sessions.Session.{Session};
 ghost use Rattle.front_rounds.specs.Steps.{has};
 ghost use Rattle.front_rounds.specs.inner.Sessions.{conns, HasConn};
 
-use crate::fates::{Fate, Reason};
+use crate::dispositions::{Disposition, Reason};
 use port_trait::Outbox;
 use std::alloc::Global;
 
@@ -13,8 +13,8 @@ use std::alloc::Global;
 pub struct Session<T> {
     pub conn: u32,
     /// What the front keeps of it.
-    pub talk: T,
-    pub fate: Fate,
+    pub conn_state: T,
+    pub disposition: Disposition,
     /// There is a reason to offer it its bytes in this round, and they were not offered yet.
     pub owes: bool,
 }
@@ -29,7 +29,7 @@ pub struct SessionTable<T> {
     /// How many connections were closed for a want of memory that no entry shows.
     pub starved: u64,
     /// What is said to one connection, before it is put into the outbox.
-    pub said: Vec<u8>,
+    pub response: Vec<u8>,
 }
 
 impl<T> SessionTable<T> {
@@ -43,7 +43,7 @@ impl<T> SessionTable<T> {
             sessions: Vec::new(alloc),
             outbox: Outbox::new(alloc),
             starved: 0,
-            said: Vec::new(alloc),
+            response: Vec::new(alloc),
         }
     }
 }

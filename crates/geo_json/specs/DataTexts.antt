@@ -43,8 +43,8 @@ layer_said units part before d = do
   Ok (record { name = name; features = features })
 
 -- a layer of the list, at the place behind those that were read before it
-abbrev pub layer_after : Units → List Layer → Data → Result Layer DataFault
-layer_after units before d = layer_said units (length before) before d
+abbrev pub data_layer_after : Units → List Layer → Data → Result Layer DataFault
+data_layer_after units before d = layer_said units (length before) before d
 
 -- what holds of a layer that was read after those before it
 abbrev pub is_read : List Layer → Layer → Bool
@@ -61,7 +61,7 @@ layers_of d = do
   u ← object_of (Shape 0 0) data_keys d
   units ← units_at (Shape 0 0) d
   items ← needed (Shape 0 0) (list (Shape 0 0)) (get (codes "layers") d)
-  list_of (layer_after units) items
+  list_of (data_layer_after units) items
 
 -- the dataset that the bytes say, as the list of its layers, or the first fault
 unfoldable pub dataset_in : List ℕ → Result (List Layer) DataFault

@@ -54,7 +54,7 @@ fn dataset(alloc: Global, object: &Value) -> Result<Dataset, DataFault>
 fn layers(alloc: Global, units: Units, items: &[Value]) -> Result<Vec<Layer>, DataFault>
     requires { length items.now < 2 ^ 64 }
     ensures value { Gives fault.NoMemory (λ v. v.items)
-        (list_of (spec.layer_after units) (items_view items.now)) result }
+        (list_of (spec.data_layer_after units) (items_view items.now)) result }
     ensures valid { IfOk result (λ v. IsTrue (each_after spec.is_read [] v.items)) }
 {
     read_list(alloc, &LayerItems { units }, items)
@@ -90,7 +90,7 @@ fn open_layer(object: &Value, shape: DataFault) -> Result<(), DataFault>
 #[tactic(auto, unfolding(crate::specs::DataTexts::layer_said), using(crate::proofs::Validity::values_few))]
 fn layer(alloc: Global, units: Units, before: &[Layer], object: &Value) -> Result<Layer, DataFault>
     ensures value { Gives fault.NoMemory (λ l. l)
-        (spec.layer_after units before.now (view object.now)) result }
+        (spec.data_layer_after units before.now (view object.now)) result }
     ensures valid { IfOk result (λ l. IsTrue (spec.is_read before.now l)) }
 {
     if before.len() >= MOST_DATA_LAYERS {
@@ -127,7 +127,7 @@ impl ReadItem for LayerItems {
 
     ghost limit = { λ r. 2 ^ 64 };
 
-    ghost reads = { λ r before d. spec.layer_after r.units before d };
+    ghost reads = { λ r before d. spec.data_layer_after r.units before d };
 
     ghost keeps = { λ r before l. spec.is_read before l };
 

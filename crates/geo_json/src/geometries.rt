@@ -31,9 +31,9 @@ fn points(
 }
 
 /// The list of points that the value says.
-#[tactic(auto, unfolding(crate::specs::Geometries::path_of))]
+#[tactic(auto, unfolding(crate::specs::Geometries::path_points))]
 fn path(alloc: Global, units: Units, value: &Value, shape: DataFault) -> Result<Path, DataFault>
-    ensures { Gives fault.NoMemory (λ p. p) (spec.path_of units shape (view value.now)) result }
+    ensures { Gives fault.NoMemory (λ p. p) (spec.path_points units shape (view value.now)) result }
 {
     let items = list(Some(value), shape)?;
     let points = points(alloc, units, items, shape)?;
@@ -47,7 +47,7 @@ fn read_paths(
     shape: DataFault,
 ) -> Result<Vec<Path>, DataFault>
     requires { length items.now < 2 ^ 64 }
-    ensures { Gives fault.NoMemory (λ v. v.items) (list_of (λ before p. spec.path_of units shape p) (items_view items.now)) result }
+    ensures { Gives fault.NoMemory (λ v. v.items) (list_of (λ before p. spec.path_points units shape p) (items_view items.now)) result }
 {
     read_list(alloc, &PathItems { units, shape }, items)
 }
@@ -133,7 +133,7 @@ impl ReadItem for PathItems {
 
     ghost limit = { λ r. 2 ^ 64 };
 
-    ghost reads = { λ r before d. spec.path_of r.units r.shape d };
+    ghost reads = { λ r before d. spec.path_points r.units r.shape d };
 
     ghost keeps = { λ r before p. true };
 

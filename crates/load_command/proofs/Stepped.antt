@@ -14,7 +14,7 @@ use Rattle.farm_history.specs.declared.answers.ClaimAnswer.TheVariants as claime
 use Rattle.farm_history.specs.declared.answers.Fetched.{Fetched}
 use Rattle.farm_history.specs.declared.answers.Fetched.TheVariants as fetched
 use Rattle.farm_history.specs.Entries.{Entry, Ask, Claim, Finish, Expire, Fetch, Collect}
-use Rattle.farm_history.specs.Plans.{tile_of}
+use Rattle.farm_history.specs.Plans.{spot_tile}
 use Rattle.farm_history.specs.Lists.{Each}
 use Rattle.farm_history.proofs.Lists.{each-join}
 use Rattle.farm_stands.specs.Seen.{FarmSeen}
@@ -75,10 +75,10 @@ ends_tiles claimed.Idle g h e = ap clean_tiles e
 ends_tiles claimed.Crowded g h e = ap clean_tiles e
 ends_tiles claimed.Stopped g h e = ap clean_tiles e
 
-expires_by : (s : Step) (g h : List Entry) → Expires s g h → ((count : ℕ) × (h ≡ Expire (tile_of s.spot) count ∷ g) × (s.expire ≡ true)) ⊎ (h ≡ g)
+expires_by : (s : Step) (g h : List Entry) → Expires s g h → ((count : ℕ) × (h ≡ Expire (spot_tile s.spot) count ∷ g) × (s.expire ≡ true)) ⊎ (h ≡ g)
 expires_by s g h e = go s.expire refl e
   where
-    go : (b : Bool) → s.expire ≡ b → MatchBool b ((count : ℕ) × (h ≡ Expire (tile_of s.spot) count ∷ g)) (h ≡ g) → ((count : ℕ) × (h ≡ Expire (tile_of s.spot) count ∷ g) × (s.expire ≡ true)) ⊎ (h ≡ g)
+    go : (b : Bool) → s.expire ≡ b → MatchBool b ((count : ℕ) × (h ≡ Expire (spot_tile s.spot) count ∷ g)) (h ≡ g) → ((count : ℕ) × (h ≡ Expire (spot_tile s.spot) count ∷ g) × (s.expire ≡ true)) ⊎ (h ≡ g)
     go true is x = inl (x.0, x.1, is)
     go false is same = inr same
 
@@ -105,7 +105,7 @@ ask_broke : (s : Step) (answer : AskAnswer) (g : List Entry) → BreaksOff s g (
 ask_broke s answer g = (Ask loader Render s.spot answer ∷ [], refl, ((refl, refl, refl), tt))
 
 expires_broke : (s : Step) (g h : List Entry) → Expires s g h → BreaksOff s g h
-expires_broke s g h e = elim (expires_by s g h e) [ inl x ↦ (Expire (tile_of s.spot) x.0 ∷ [], x.1, ((x.2, refl), tt)) | inr same ↦ ([], same, tt) ]
+expires_broke s g h e = elim (expires_by s g h e) [ inl x ↦ (Expire (spot_tile s.spot) x.0 ∷ [], x.1, ((x.2, refl), tt)) | inr same ↦ ([], same, tt) ]
 
 ends_broke : (s : Step) (answer : ClaimAnswer) (g h : List Entry) → EndsClaim answer (Claim 0 answer ∷ g) h → BreaksOff s g h
 ends_broke s (claimed.Job ticket key version) g h e = (Finish ticket true e.0 ∷ Claim 0 (claimed.Job ticket key version) ∷ [], e.2, (refl, (refl, tt)))

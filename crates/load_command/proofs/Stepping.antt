@@ -13,7 +13,7 @@ use Rattle.farm_history.specs.declared.answers.Fetched.{Fetched}
 use Rattle.farm_history.specs.declared.answers.Fetched.TheVariants as fetched
 use Rattle.farm_history.specs.declared.answers.Collected.{Collected}
 use Rattle.farm_history.specs.Entries.{Entry, Claim, Finish, Expire, Fetch, Collect}
-use Rattle.farm_history.specs.Plans.{tile_of}
+use Rattle.farm_history.specs.Plans.{spot_tile}
 use Rattle.farm_history.specs.Rules.{Fits}
 use Rattle.farm_history.proofs.Apart.{job_is_next}
 use Rattle.farm_plan.specs.Plans.{FarmPlan}
@@ -34,9 +34,9 @@ use Rattle.load_command.proofs.Weights.{expire_weighs, claim_weighs, finish_weig
 
 module _ {D : Type 0} (state : D → Outside StoreTold) (told : Bool) where
   -- the tile of a marked step is expired
-  pub expired : (s : Step) (farm : FarmSeen D) (g : List Entry) (count : ℕ) → s.expire ≡ true → StandsFor state told farm (Expire (tile_of s.spot) count ∷ g)
+  pub expired : (s : Step) (farm : FarmSeen D) (g : List Entry) (count : ℕ) → s.expire ≡ true → StandsFor state told farm (Expire (spot_tile s.spot) count ∷ g)
       → Grows state told farm (weight g + 1) (Expires s g)
-  expired s farm g count is stands = record { after = Expire (tile_of s.spot) count ∷ g; stands = stands; small = expire_weighs (tile_of s.spot) count g; held = rw is (count, refl) }
+  expired s farm g count is stands = record { after = Expire (spot_tile s.spot) count ∷ g; stands = stands; small = expire_weighs (spot_tile s.spot) count g; held = rw is (count, refl) }
 
   pub unexpired : (s : Step) (farm : FarmSeen D) (g : List Entry) → s.expire ≡ false → StandsFor state told farm g → Grows state told farm (weight g + 1) (Expires s g)
   unexpired s farm g is stands = record { after = g; stands = stands; small = omega arith; held = rw is refl }

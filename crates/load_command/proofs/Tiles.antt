@@ -4,7 +4,7 @@ use Rattle.std.proofs.Math.Nat.{mod-lt}
 use Rattle.std.proofs.lemmas.Nat.{pow_pos}
 use Rattle.plain_world.specs.World.{IsTile}
 use Rattle.farm_history.specs.Lists.{Each}
-use Rattle.farm_history.specs.Plans.{tile_of}
+use Rattle.farm_history.specs.Plans.{spot_tile}
 use Rattle.farm_history.proofs.Lists.{each-append}
 use Rattle.work_gen.specs.Draws.{draw}
 use Rattle.work_gen.specs.Work.{step_at, steps_of}
@@ -23,7 +23,7 @@ fits (suc (suc zero)) x y low a b = (omega arith, omega (arith, a), omega (arith
 fits (suc (suc (suc zero))) x y low a b = (omega arith, omega (arith, a), omega (arith, b))
 fits (suc (suc (suc (suc d)))) x y low a b = absurd (omega (arith, low))
 
-step_tile : (seed n k : ℕ) → IsTile (tile_of (step_at seed n k).spot)
+step_tile : (seed n k : ℕ) → IsTile (spot_tile (step_at seed n k).spot)
 unfolding step_at
 step_tile seed n k =
     let at = 4 * n + 3 * k in
@@ -36,7 +36,7 @@ step_tile seed n k =
     (subst (λ (e : ℕ). draw seed (at + 1) (2 ^ (11 + draw seed at 4 - 11)) < 2 ^ e) less x) (subst (λ (e : ℕ). draw seed (at + 1 + 1) (2 ^ (11 + draw seed at 4 - 11)) < 2 ^ e) less y) in
     record { z_fits = all.0; x_fits = all.1; y_fits = all.2 }
 
-pub steps_tiles : (seed n k : ℕ) → Each (λ (s : Step). IsTile (tile_of s.spot)) (steps_of seed n k)
+pub steps_tiles : (seed n k : ℕ) → Each (λ (s : Step). IsTile (spot_tile s.spot)) (steps_of seed n k)
 unfolding steps_of
 steps_tiles seed n zero = tt
-steps_tiles seed n (suc k) = each-append (λ (s : Step). IsTile (tile_of s.spot)) (steps_of seed n k) (step_at seed n k) (steps_tiles seed n k) (step_tile seed n k)
+steps_tiles seed n (suc k) = each-append (λ (s : Step). IsTile (spot_tile s.spot)) (steps_of seed n k) (step_at seed n k) (steps_tiles seed n k) (step_tile seed n k)

@@ -13,7 +13,7 @@ use Rattle.farm_history.specs.declared.answers.Fetched.{Fetched}
 use Rattle.farm_history.specs.declared.answers.Fetched.TheVariants.{Clean}
 use Rattle.farm_history.specs.declared.answers.Collected.{Collected}
 use Rattle.farm_history.specs.Entries.{Entry, Ask, Claim, Finish, Expire, Fetch, Collect}
-use Rattle.farm_history.specs.Plans.{tile_of}
+use Rattle.farm_history.specs.Plans.{spot_tile}
 use Rattle.work_gen.specs.declared.stepping.Step.{Step}
 
 -- ---- the events
@@ -24,7 +24,7 @@ loader = record { front = 0; number = 0 }
 
 -- a tile is expired first, where the step says so
 abbrev pub Expires : Step → List Entry → List Entry → Type 0
-Expires s before after = MatchBool s.expire ((count : ℕ) × (after ≡ Expire (tile_of s.spot) count ∷ before)) (after ≡ before)
+Expires s before after = MatchBool s.expire ((count : ℕ) × (after ≡ Expire (spot_tile s.spot) count ∷ before)) (after ≡ before)
 
 -- what was claimed is drawn and ended, if it is a job; memory was not wanting
 abbrev pub EndsClaim : ClaimAnswer → List Entry → List Entry → Type 0
@@ -83,7 +83,7 @@ load_text n h =
 
 -- the entry is one of the step's
 abbrev pub IsEventOf : Step → Entry → Type 0
-IsEventOf s (Expire tile count) = (s.expire ≡ true) × (tile ≡ tile_of s.spot)
+IsEventOf s (Expire tile count) = (s.expire ≡ true) × (tile ≡ spot_tile s.spot)
 IsEventOf s (Ask conn command spot answer) = (conn ≡ loader) × (command ≡ Render) × (spot ≡ s.spot)
 IsEventOf s (Claim worker answer) = worker ≡ 0
 IsEventOf s (Finish ticket drawn answer) = drawn ≡ true

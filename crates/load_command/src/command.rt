@@ -2,7 +2,7 @@
 ghost use Rattle.std.specs.Prelude.{◌≡◌, ◌≤◌, Bool, List, [], length, None};
 ghost use Rattle.plain_world.specs.World.{IsTile};
 ghost use Rattle.farm_history.specs.Lists.{Each};
-ghost use Rattle.farm_history.specs.Plans.{tile_of};
+ghost use Rattle.farm_history.specs.Plans.{spot_tile};
 ghost use Rattle.farm_stands.specs.Stands.{StandsFor};
 ghost use Rattle.farm_core.specs.Answers.{Lasts};
 ghost use Rattle.farm_core.specs.Begins.{Begins};
@@ -28,7 +28,7 @@ fn run_steps<D: TileStore>(
     steps: &[Step],
 ) -> Result<Totals, NoMemory>
     requires stands { (told : Bool) × StandsFor D.state told farm.old [] }
-    requires tiles { Each (λ s. IsTile (tile_of s.spot)) steps.now }
+    requires tiles { Each (λ s. IsTile (spot_tile s.spot)) steps.now }
     requires few { length steps.now ≤ 32 }
     ensures run { (told : Bool) → StandsFor D.state told farm.old [] → Runs D.state told farm.new steps.now result }
     ensures kept { Lasts D.state farm.old farm.new }

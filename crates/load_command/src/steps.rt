@@ -3,7 +3,7 @@ ghost use Rattle.std.specs.Prelude.{◌≡◌, ◌≢◌, ◌<◌, ◌+◌, ◌^
 ghost use Rattle.farm_base.specs.Limits.{most_turns};
 ghost use Rattle.plain_world.specs.World.{IsTile};
 ghost use Rattle.farm_history.specs.Entries.{Entry};
-ghost use Rattle.farm_history.specs.Plans.{tile_of};
+ghost use Rattle.farm_history.specs.Plans.{spot_tile};
 ghost use Rattle.farm_stands.specs.Stands.{StandsFor};
 ghost use Rattle.farm_core.specs.Answers.{Lasts};
 ghost use Rattle.load_command.specs.Loads.{Expires};
@@ -37,7 +37,7 @@ pub(crate) struct StepSeen {
 /// Expires the step's tile, if it is so marked.
 fn expire_marked<D: TileStore>(farm: &mut Farm<D>, step: Step)
     requires stands { (told : Bool) × (g : List Entry) × StandsFor D.state told farm.old g × (weight g < most_turns) }
-    requires tile { IsTile (tile_of step.spot) }
+    requires tile { IsTile (spot_tile step.spot) }
     ensures grows { (told : Bool) (g : List Entry) → StandsFor D.state told farm.old g → Grows D.state told farm.new (weight g + 1) (Expires step g) }
     ensures kept { Lasts D.state farm.old farm.new }
 {
@@ -155,7 +155,7 @@ pub(crate) fn run_step<D: TileStore>(
     step: &Step,
 ) -> Result<StepSeen, NoMemory>
     requires stands { (told : Bool) × (g : List Entry) × StandsFor D.state told farm.old g × (weight g < 2 ^ 61) }
-    requires tile { IsTile (tile_of step.now.spot) }
+    requires tile { IsTile (spot_tile step.now.spot) }
     ensures grows { (told : Bool) (g : List Entry) → StandsFor D.state told farm.old g → Grows D.state told farm.new (weight g + 7) (Steps step.now g result) }
     ensures kept { Lasts D.state farm.old farm.new }
 {

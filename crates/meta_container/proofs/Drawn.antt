@@ -22,7 +22,7 @@ use Rattle.plain_shapes.proofs.Places.{length_pieces, get_or_pieces, length-cent
 use Rattle.plain_world.proofs.Windows.{size_bounds}
 use Rattle.meta_container.specs.Container.{bytes_of, is_stored, rank}
 use Rattle.meta_container.specs.Heads.{all_of_size}
-use Rattle.meta_container.specs.Laws.{tile_of}
+use Rattle.meta_container.specs.Laws.{meta_tile}
 use Rattle.meta_container.specs.Drawn.{DrawnAreTiles, DrawnInPlace, DrawnComeBack}
 use Rattle.meta_container.proofs.Written.{tiles_come_back}
 
@@ -77,19 +77,19 @@ length_ppm size pixels few count =
     most : (n digits rest : ℕ) → n ≡ 9 + digits + digits + rest → digits ≤ 3 → rest ≤ 786432 → n ≤ 786447
     most n digits rest e d r = omega arith
 
-length_drawn : (style : MapStyle) (size : ℕ) (t : Tile) (data_layers : List Layer) → size ≤ 512 → length (drawing.tile_of style size t data_layers) ≤ 786447
+length_drawn : (style : MapStyle) (size : ℕ) (t : Tile) (data_layers : List Layer) → size ≤ 512 → length (drawing.drawn_tile style size t data_layers) ≤ 786447
 length_drawn style size t data_layers few =
     length_ppm size (map (drawing.colour_at style size t.z data_layers) (centres (window_of t size))) few
     (length-map (centres (window_of t size)) (drawing.colour_at style size t.z data_layers) ∙ length-centres (window_of t size))
 
-stored_drawn : (style : MapStyle) (size : ℕ) (t : Tile) (data_layers : List Layer) → is_stored (drawing.tile_of style size t data_layers) ≡ true
-stored_drawn style size t data_layers = lt-ltb 0 (length (drawing.tile_of style size t data_layers)) (omega arith)
+stored_drawn : (style : MapStyle) (size : ℕ) (t : Tile) (data_layers : List Layer) → is_stored (drawing.drawn_tile style size t data_layers) ≡ true
+stored_drawn style size t data_layers = lt-ltb 0 (length (drawing.drawn_tile style size t data_layers)) (omega arith)
 
 -- drawings one after another
-all_stored : (style : MapStyle) (size : ℕ) (data_layers : List Layer) (ts : List Tile) → list_all is_stored (map (λ t. drawing.tile_of style size t data_layers) ts) ≡ true
+all_stored : (style : MapStyle) (size : ℕ) (data_layers : List Layer) (ts : List Tile) → list_all is_stored (map (λ t. drawing.drawn_tile style size t data_layers) ts) ≡ true
 all_stored style size data_layers [] = refl
 all_stored style size data_layers (t ∷ ts) =
-    ap (λ b. b && list_all is_stored (map (λ u. drawing.tile_of style size u data_layers) ts)) (stored_drawn style size t data_layers)
+    ap (λ b. b && list_all is_stored (map (λ u. drawing.drawn_tile style size u data_layers) ts)) (stored_drawn style size t data_layers)
     ∙ all_stored style size data_layers ts
 
 -- the drawings of tiles have all the same size
@@ -97,12 +97,12 @@ length_text : (size : ℕ) (pixels : List Colour) → length pixels ≡ size * s
 length_text size pixels count = length_head (decimal size) (flat_map pixel_bytes pixels) ∙ omega (arith, length_pixels pixels, count)
 
 all_even : (style : MapStyle) (size n : ℕ) (data_layers : List Layer) (ts : List Tile) → n ≡ 9 + 2 * length (decimal size) + 3 * (size * size)
-    → all_of_size n (map (λ t. drawing.tile_of style size t data_layers) ts) ≡ true
+    → all_of_size n (map (λ t. drawing.drawn_tile style size t data_layers) ts) ≡ true
 all_even style size n data_layers [] e = refl
 all_even style size n data_layers (t ∷ ts) e =
     let pixels : List Colour = map (drawing.colour_at style size t.z data_layers) (centres (window_of t size)) in
     let count = length-map (centres (window_of t size)) (drawing.colour_at style size t.z data_layers) ∙ length-centres (window_of t size) in
-    ap (λ b. b && all_of_size n (map (λ u. drawing.tile_of style size u data_layers) ts)) (eq-eqb (length (ppm size size pixels)) n (length_text size pixels count ∙ sym e))
+    ap (λ b. b && all_of_size n (map (λ u. drawing.drawn_tile style size u data_layers) ts)) (eq-eqb (length (ppm size size pixels)) n (length_text size pixels count ∙ sym e))
     ∙ all_even style size n data_layers ts e
 
 pub drawn_of_size : (style : MapStyle) (size n : ℕ) (m : Meta) (data_layers : List Layer) → n ≡ 9 + 2 * length (decimal size) + 3 * (size * size)
@@ -110,12 +110,12 @@ pub drawn_of_size : (style : MapStyle) (size n : ℕ) (m : Meta) (data_layers : 
 drawn_of_size style size n m data_layers e = all_even style size n data_layers (tiles_in m) e
 
 all_short : (style : MapStyle) (size : ℕ) (data_layers : List Layer) (ts : List Tile) → size ≤ 512
-    → bytes_of (map (λ t. drawing.tile_of style size t data_layers) ts) ≤ length ts * 786447
+    → bytes_of (map (λ t. drawing.drawn_tile style size t data_layers) ts) ≤ length ts * 786447
 all_short style size data_layers [] few = omega arith
 all_short style size data_layers (t ∷ ts) few =
     let one = length_drawn style size t data_layers few in
     let more = all_short style size data_layers ts few in
-    let sum = sum_by-cons (λ (tile : List ℕ). length tile) (drawing.tile_of style size t data_layers) (map (λ u. drawing.tile_of style size u data_layers) ts) in
+    let sum = sum_by-cons (λ (tile : List ℕ). length tile) (drawing.drawn_tile style size t data_layers) (map (λ u. drawing.drawn_tile style size u data_layers) ts) in
     omega (arith, sum, one, more)
 
 pub drawn_are_tiles : DrawnAreTiles
@@ -123,14 +123,14 @@ drawn_are_tiles style size m data_layers is size_is =
     let few = (size_bounds size size_is).1 in
     let across : tiles_across m ≤ 8 = omega arith in
     let square : tiles_across m * tiles_across m ≤ 8 * 8 = mul-le-mul across across in
-    let count = length-map (tiles_in m) (λ t. drawing.tile_of style size t data_layers) ∙ length_tiles m in
+    let count = length-map (tiles_in m) (λ t. drawing.drawn_tile style size t data_layers) ∙ length_tiles m in
     let short = all_short style size data_layers (tiles_in m) few in
     let tiles = length_tiles m in
     let most : length (tiles_in m) ≤ 64 = omega (arith, tiles, square) in
     record { meta = is; count = count; stored = all_stored style size data_layers (tiles_in m); short = omega (arith, short, most) }
 
 own_place : (style : MapStyle) (size : ℕ) (data_layers : List Layer) (t : Tile) → IsTile t
-    → tile_of (meta_of t) (tiles_of style size (meta_of t) data_layers) t ≡ drawing.tile_of style size t data_layers
+    → meta_tile (meta_of t) (tiles_of style size (meta_of t) data_layers) t ≡ drawing.drawn_tile style size t data_layers
 own_place style size data_layers t is =
     let x = is.x_fits in
     let y = is.y_fits in
@@ -147,8 +147,8 @@ own_place style size data_layers t is =
     let below : t.x % 8 * tiles_across (meta_of t) + t.y % 8 < length (tiles_in (meta_of t)) =
     below_all (tiles_across (meta_of t)) (t.x % 8) (t.y % 8) (length (tiles_in (meta_of t))) col_fits row_fits (length_tiles (meta_of t)) in
     ap (λ n. get_or (tiles_of style size (meta_of t) data_layers) n []) place
-    ∙ get_or-map (λ u. drawing.tile_of style size u data_layers) (tiles_in (meta_of t)) (t.x % 8 * tiles_across (meta_of t) + t.y % 8) t [] below
-    ∙ ap (λ u. drawing.tile_of style size u data_layers) (there ∙ tile_is t.z t.x t.y (t.x / 8 * 8 + t.x % 8) (t.y / 8 * 8 + t.y % 8) cols rows)
+    ∙ get_or-map (λ u. drawing.drawn_tile style size u data_layers) (tiles_in (meta_of t)) (t.x % 8 * tiles_across (meta_of t) + t.y % 8) t [] below
+    ∙ ap (λ u. drawing.drawn_tile style size u data_layers) (there ∙ tile_is t.z t.x t.y (t.x / 8 * 8 + t.x % 8) (t.y / 8 * 8 + t.y % 8) cols rows)
   where
     below_all : (a p q n : ℕ) → p < a → q < a → n ≡ a * a → p * a + q < n
     below_all a p q n h g e =
@@ -157,7 +157,7 @@ own_place style size data_layers t is =
 
 pub drawn_in_place : DrawnInPlace
 drawn_in_place style size m data_layers t is e =
-    subst (λ (n : Meta). tile_of n (tiles_of style size n data_layers) t ≡ drawing.tile_of style size t data_layers) e (own_place style size data_layers t is)
+    subst (λ (n : Meta). meta_tile n (tiles_of style size n data_layers) t ≡ drawing.drawn_tile style size t data_layers) e (own_place style size data_layers t is)
 
 pub drawn_come_back : DrawnComeBack
 drawn_come_back style size m data_layers t m_is size_is is e =

@@ -18,7 +18,7 @@ use Rattle.meta_container.specs.declared.container.Entry.{Entry}
 use Rattle.meta_container.specs.declared.container.Span.{Span}
 use Rattle.meta_container.specs.Container.{span_bytes, tile_bytes, bytes_of, head_len, has_tile, rank, span_at, index_below, container_of, is_stored, AreTilesOf}
 use Rattle.meta_container.specs.Reading.{number_at, mark, head_fault, wrong_place, entry_at, is_present, begins_in_head, is_wild, place_fault, tile_found, entry_found}
-use Rattle.meta_container.specs.Laws.{tile_of, TilesComeBack, EntriesComeBack}
+use Rattle.meta_container.specs.Laws.{meta_tile, TilesComeBack, EntriesComeBack}
 
 -- the head of a container
 abbrev head : Meta → List Span → List ℕ
@@ -292,7 +292,7 @@ container_is tiles t = refl
 
 pub tiles_come_back : TilesComeBack
 tiles_come_back m tiles t are is e =
-    subst (λ (n : Meta). AreTilesOf n tiles → tile_found (container_of n tiles) n (index_place t) ≡ Ok (tile_of n tiles t))
+    subst (λ (n : Meta). AreTilesOf n tiles → tile_found (container_of n tiles) n (index_place t) ≡ Ok (meta_tile n tiles t))
     e (λ are'. ap (λ bytes. tile_found bytes (meta_of t) (index_place t)) (container_is tiles t) ∙ tile_back tiles t are' is) are
 
 head_alone : (tiles : List (List ℕ)) (t : Tile) → length (index tiles t) ≡ 64
@@ -305,8 +305,8 @@ head_alone tiles t l =
 
 entries_back : (tiles : List (List ℕ)) (t : Tile) → AreTilesOf (meta_of t) tiles → IsTile t
     → (entry : Entry) × (entry_found (take head_len (container_of (meta_of t) tiles)) (meta_of t) (index_place t) ≡ Ok entry)
-    × (take entry.size (drop entry.offset (container_of (meta_of t) tiles)) ≡ tile_of (meta_of t) tiles t)
-    × (entry.size ≡ length (tile_of (meta_of t) tiles t))
+    × (take entry.size (drop entry.offset (container_of (meta_of t) tiles)) ≡ meta_tile (meta_of t) tiles t)
+    × (entry.size ≡ length (meta_tile (meta_of t) tiles t))
 entries_back tiles t are is =
     let p = placed tiles t are is in (
       entry_of tiles t,
@@ -320,6 +320,6 @@ pub entries_come_back : EntriesComeBack
 entries_come_back m tiles t are is e =
     subst (λ (n : Meta). AreTilesOf n tiles
     → (entry : Entry) × (entry_found (take head_len (container_of n tiles)) n (index_place t) ≡ Ok entry)
-    × (take entry.size (drop entry.offset (container_of n tiles)) ≡ tile_of n tiles t)
-    × (entry.size ≡ length (tile_of n tiles t)))
+    × (take entry.size (drop entry.offset (container_of n tiles)) ≡ meta_tile n tiles t)
+    × (entry.size ≡ length (meta_tile n tiles t)))
     e (λ are'. entries_back tiles t are' is) are

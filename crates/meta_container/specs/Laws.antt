@@ -8,18 +8,18 @@ use Rattle.meta_container.specs.Container.{AreTilesOf, head_len, rank, container
 use Rattle.meta_container.specs.Reading.{tile_found, entry_found}
 
 -- the bytes of a tile among those of its metatile, which come in order of their places
-abbrev pub tile_of : Meta → List (List ℕ) → Tile → List ℕ
-tile_of m tiles t = slice_index_or tiles (rank (tiles_across m) (index_place t)) []
+abbrev pub meta_tile : Meta → List (List ℕ) → Tile → List ℕ
+meta_tile m tiles t = slice_index_or tiles (rank (tiles_across m) (index_place t)) []
 
 -- From the container of a metatile's tiles each tile is read back.
 abbrev pub TilesComeBack : Type 0
 TilesComeBack = (m : Meta) (tiles : List (List ℕ)) (t : Tile) → AreTilesOf m tiles → IsTile t → meta_of t ≡ m
-    → tile_found (container_of m tiles) m (index_place t) ≡ Ok (tile_of m tiles t)
+    → tile_found (container_of m tiles) m (index_place t) ≡ Ok (meta_tile m tiles t)
 
 -- From a container's head alone the pair of each tile is read back, which names the tile's bytes in the
 -- container, all of them and no more.
 abbrev pub EntriesComeBack : Type 0
 EntriesComeBack = (m : Meta) (tiles : List (List ℕ)) (t : Tile) → AreTilesOf m tiles → IsTile t → meta_of t ≡ m
     → (entry : Entry) × (entry_found (take head_len (container_of m tiles)) m (index_place t) ≡ Ok entry)
-    × (take entry.size (drop entry.offset (container_of m tiles)) ≡ tile_of m tiles t)
-    × (entry.size ≡ length (tile_of m tiles t))
+    × (take entry.size (drop entry.offset (container_of m tiles)) ≡ meta_tile m tiles t)
+    × (entry.size ≡ length (meta_tile m tiles t))

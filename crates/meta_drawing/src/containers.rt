@@ -5,7 +5,7 @@ ghost use Rattle.std.specs.List.{range_with_len};
 ghost use Rattle.plain_world.specs.World.{IsMeta, IsTile, IsTileSize, tiles_across};
 ghost use Rattle.plain_data.specs.Features.{Layer};
 ghost use Rattle.plain_drawing.specs.Styles.{MapStyle};
-ghost use Rattle.plain_drawing.specs.Drawing.{tile_of};
+ghost use Rattle.plain_drawing.specs.Drawing.{drawn_tile};
 ghost use Rattle.plain_drawing.specs.Metatiles.{tile_at, tiles_of};
 ghost use Rattle.plain_drawing.specs.inner.PartTexts.{column_texts, part_texts};
 ghost use Rattle.meta_container.specs.Container.{container_of, tile_bytes};
@@ -121,7 +121,7 @@ fn draw_tile(
 ) -> Result<(), NoMemory>
     requires size { IsTileSize size }
     requires tile { IsTile t }
-    ensures { OnOk result (out.new.items ≡ out.old.items ++ tile_of style.now size t snapshot.now) }
+    ensures { OnOk result (out.new.items ≡ out.old.items ++ drawn_tile style.now size t snapshot.now) }
 {
     let alloc = picture_buffer.alloc();
     let buffer = picture_buffer.take_buffer();
@@ -160,7 +160,7 @@ fn draw_column(
     requires size { IsTileSize size }
     requires meta { IsMeta m }
     requires col { col < tiles_across m }
-    ensures { OnOk result (out.new.items ≡ out.old.items ++ tile_bytes (map (λ row. tile_of style.now size (tile_at m col row) snapshot.now) (range_with_len 0 (tiles_across m)))) }
+    ensures { OnOk result (out.new.items ≡ out.old.items ++ tile_bytes (map (λ row. drawn_tile style.now size (tile_at m col row) snapshot.now) (range_with_len 0 (tiles_across m)))) }
 {
     for row in 0..tiles_across(m) {
         let t = tile_in(m, col, row);

@@ -130,14 +130,14 @@ layers_after c [] = []
 layers_after c (l ∷ layers) = if bytes_eq l.name c.layer then changed_layer c l ∷ layers else l ∷ layers_after c layers
 
 -- go on with data that stand, or stop at a fault
-abbrev pub unless : {A : Type 0} → Option ApplyFault → Result A ApplyFault → Result A ApplyFault
-unless (Some fault) done = Err fault
-unless None done = done
+abbrev pub unless_refused : {A : Type 0} → Option ApplyFault → Result A ApplyFault → Result A ApplyFault
+unless_refused (Some fault) done = Err fault
+unless_refused None done = done
 
 -- the data after the changes in order, the first of which stands at this place of its update; or the first fault
 unfoldable pub changed_from : ℕ → List Change → List Layer → Result (List Layer) ApplyFault
 changed_from place [] layers = Ok layers
-changed_from place (c ∷ later) layers = unless (change_fault place c layers) (changed_from (place + 1) later (layers_after c layers))
+changed_from place (c ∷ later) layers = unless_refused (change_fault place c layers) (changed_from (place + 1) later (layers_after c layers))
 
 -- the data after an update, or its first fault
 abbrev pub update_result : List Change → List Layer → Result (List Layer) ApplyFault

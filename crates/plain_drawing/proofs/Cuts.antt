@@ -14,7 +14,7 @@ use Rattle.plain_drawing.specs.Styles.{MapStyle}
 use Rattle.plain_shapes.specs.Images.{Pixels}
 use Rattle.plain_shapes.specs.inner.Canvas.{cut_rows, cut_of}
 use Rattle.plain_shapes.specs.Ppm.{ppm}
-use Rattle.plain_drawing.specs.Drawing.{colour_at, tile_of}
+use Rattle.plain_drawing.specs.Drawing.{colour_at, drawn_tile}
 use Rattle.plain_drawing.specs.Metatiles.{tile_at, column_of, tiles_of}
 use Rattle.plain_drawing.specs.inner.PartTexts.{part_text, column_texts, part_texts}
 use Rattle.plain_shapes.proofs.Places.{length-centres, get_or-centres}
@@ -123,7 +123,7 @@ tile_part m size col row e h k =
 pub tile_cut : (style : MapStyle) (size : ℕ) (m : Meta) (data_layers : List Layer) (w : Window) (col row : ℕ) (image : Pixels)
     → IsTileSize size → m.z ≤ 18 → col < tiles_across m → row < tiles_across m → w ≡ meta_window_of m size
     → image ≡ record { cols = w.cols; rows = w.rows; pixels = map (colour_at style size m.z data_layers) (centres w) }
-    → ppm size size (cut_of image (col * size) (row * size) size size).pixels ≡ tile_of style size (tile_at m col row) data_layers
+    → ppm size size (cut_of image (col * size) (row * size) size size).pixels ≡ drawn_tile style size (tile_at m col row) data_layers
 tile_cut style size m data_layers w col row image sized z h k window_is image_is =
     let f = colour_at style size m.z data_layers in
     let p = tile_part m size col row (whole_pixel size m.z sized z) h k in
@@ -157,7 +157,7 @@ pub tiles_cut : (style : MapStyle) (size : ℕ) (m : Meta) (data_layers : List L
     → image ≡ record { cols = w.cols; rows = w.rows; pixels = map (colour_at style size m.z data_layers) (centres w) }
     → part_texts image size (tiles_across m) ≡ tiles_of style size m data_layers
 tiles_cut style size m data_layers w image sized z window_is image_is =
-    let f = λ (t : Tile). tile_of style size t data_layers in
+    let f = λ (t : Tile). drawn_tile style size t data_layers in
     flat_range (column_texts image size (tiles_across m)) (λ col. map f (column_of m col)) 0 (tiles_across m)
     (λ col h. map_range (λ row. part_text image size col row) (λ row. f (tile_at m col row)) 0 (tiles_across m)
     (λ row k. tile_cut style size m data_layers w col row image sized z (omega arith) (omega arith) window_is image_is)

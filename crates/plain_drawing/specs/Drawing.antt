@@ -102,5 +102,5 @@ abbrev pub colour_at : MapStyle → ℕ → ℕ → List Layer → Point → Col
 colour_at style size z data_layers c = fold (layer_at (pixel_of z size) (denominator_of z size) style data_layers c) style.background_color style.layers
 
 -- a tile: the PPM text of as many columns and rows as it has pixels, with the colour of the drawing at each centre
-abbrev pub tile_of : MapStyle → ℕ → Tile → List Layer → List ℕ
-tile_of style size t data_layers = ppm size size (map (colour_at style size t.z data_layers) (centres (window_of t size)))
+abbrev pub drawn_tile : MapStyle → ℕ → Tile → List Layer → List ℕ
+drawn_tile style size t data_layers = ppm size size (map (colour_at style size t.z data_layers) (centres (window_of t size)))

@@ -6,7 +6,7 @@ use Rattle.plain_world.specs.declared.world.Meta.{Meta}
 use Rattle.plain_world.specs.World.{tiles_across}
 use Rattle.plain_data.specs.Features.{Layer}
 use Rattle.plain_drawing.specs.Styles.{MapStyle}
-use Rattle.plain_drawing.specs.Drawing.{tile_of}
+use Rattle.plain_drawing.specs.Drawing.{drawn_tile}
 
 -- the tile of a metatile so many columns and rows from its first one
 abbrev pub tile_at : Meta → ℕ → ℕ → Tile
@@ -22,4 +22,4 @@ tiles_in m = flat_map (column_of m) (range_with_len 0 (tiles_across m))
 
 -- the drawings of a metatile's tiles, in order of index place
 abbrev pub tiles_of : MapStyle → ℕ → Meta → List Layer → List (List ℕ)
-tiles_of style size m data_layers = map (λ t. tile_of style size t data_layers) (tiles_in m)
+tiles_of style size m data_layers = map (λ t. drawn_tile style size t data_layers) (tiles_in m)

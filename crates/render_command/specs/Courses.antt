@@ -1,7 +1,7 @@
 -- The course by which the text of a tile is made.
 use Rattle.std.specs.Prelude.{ℕ, List}
 use Rattle.plain_world.specs.declared.world.Tile.{Tile}
-use Rattle.plain_drawing.specs.Drawing.{tile_of}
+use Rattle.plain_drawing.specs.Drawing.{drawn_tile}
 use Rattle.filter_expr.specs.FilterTexts.{filter_of}
 use Rattle.geo_json.specs.DataTexts.{dataset_in}
 use Rattle.style_objects.specs.FilterReadings.{FilterReading}
@@ -14,7 +14,7 @@ unfoldable pub render_course_by : FilterReading → List ℕ → List ℕ → �
 render_course_by says style_name data_name size tile = do
   style ← style_course_by says style_name
   layers ← file dataset_in data_text data_name
-  made (tile_of style size tile layers)
+  made (drawn_tile style size tile layers)
 
 -- the same, where filters are read by the function that reads their tokens
 abbrev pub render_course : List ℕ → List ℕ → ℕ → Tile → Course (List ℕ)

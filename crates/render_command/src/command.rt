@@ -1,7 +1,7 @@
 //! The files are read in order, and the tile is drawn and put.
 ghost use Rattle.reading.specs.Steps.{seen};
 ghost use Rattle.plain_world.specs.World.{IsTile, IsTileSize};
-ghost use Rattle.plain_drawing.specs.Drawing.{tile_of};
+ghost use Rattle.plain_drawing.specs.Drawing.{drawn_tile};
 ghost use Rattle.input_files.specs.Course.{made};
 ghost use Rattle.input_files.specs.inner.Follows.{Follows, Says};
 ghost use Rattle.input_files.specs.inner.Runs.{Writes};
@@ -58,7 +58,7 @@ fn drawn(
 ) -> Result<Vec<u8>, Stop>
     requires size { IsTileSize size }
     requires tile { IsTile tile }
-    ensures { Says (made (tile_of style.now size tile dataset)) (seen (λ v. v.items) result) }
+    ensures { Says (made (drawn_tile style.now size tile dataset)) (seen (λ v. v.items) result) }
 {
     let snapshot = Snapshot::first(alloc, dataset)?;
     Ok(draw_tile(alloc, style, size, tile, &snapshot)?)

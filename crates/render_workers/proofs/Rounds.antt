@@ -13,7 +13,7 @@ use Rattle.turn_cell.specs.SeatStates.{Made, SeatState, IsSeatOf, SameSeat, worn
 use Rattle.farm_shared.specs.Seats.{plain}
 use Rattle.farm_shared.specs.Shared.{Adds}
 use Rattle.render_workers.specs.declared.worker.WorkEnd.{WorkEnd}
-use Rattle.render_workers.specs.Rounds.{Round, Drew, FoundNone, FoundMany, entries_of, LastEntries, Gains, Worked}
+use Rattle.render_workers.specs.Rounds.{Round, Drew, FoundNone, FoundMany, round_entries, LastEntries, Gains, Worked}
 use Rattle.render_workers.specs.declared.worker.Next.{Next}
 use Rattle.render_workers.specs.inner.Nexts.{IsWorking, IsWornOut}
 
@@ -26,15 +26,15 @@ module _ {T : Type 0} where
   gains_both es fs u v w first second = second ∙ (ap (λ l. l ++ fs) first ∙ append_assoc (plain u.mine) es fs)
 
   -- a round more
-  pub round_more : (w : ℕ) (rounds : List Round) (r : Round) (u v x : SeatState T Entry) → Gains (flat_map (entries_of w) rounds) u v → Gains (entries_of w r) v x → Gains (flat_map (entries_of w) (rounds ++ r ∷ [])) u x
+  pub round_more : (w : ℕ) (rounds : List Round) (r : Round) (u v x : SeatState T Entry) → Gains (flat_map (round_entries w) rounds) u v → Gains (round_entries w r) v x → Gains (flat_map (round_entries w) (rounds ++ r ∷ [])) u x
   round_more w rounds r u v x first second =
-      second ∙ (ap (λ l. l ++ entries_of w r) first ∙ flat_map_more (entries_of w) (plain u.mine) rounds r)
+      second ∙ (ap (λ l. l ++ round_entries w r) first ∙ flat_map_more (round_entries w) (plain u.mine) rounds r)
 
   -- and the end
-  pub worked : (w : ℕ) (end : WorkEnd) (rounds : List Round) (last : List Entry) (u v x : SeatState T Entry) → Gains (flat_map (entries_of w) rounds) u v → Gains last v x → LastEntries w end last → Worked w end u x
+  pub worked : (w : ℕ) (end : WorkEnd) (rounds : List Round) (last : List Entry) (u v x : SeatState T Entry) → Gains (flat_map (round_entries w) rounds) u v → Gains last v x → LastEntries w end last → Worked w end u x
   worked w end rounds last u v x first second ended = record {
-    entries = flat_map (entries_of w) rounds ++ last;
-    gains = gains_both (flat_map (entries_of w) rounds) last u v x first second;
+    entries = flat_map (round_entries w) rounds ++ last;
+    gains = gains_both (flat_map (round_entries w) rounds) last u v x first second;
     work = record { rounds = rounds; last = last; are = refl; ended = ended };
   }
 
@@ -44,13 +44,13 @@ module _ {T : Type 0} where
 
   -- What a round adds, by the claim's answer.
 
-  found_none : (w : ℕ) (v u : SeatState T Entry) (a : Claimed) → a ≡ Claimed.Idle → Adds (Claim w (claim_answer a)) v u → (r : Round) × Gains (entries_of w r) v u
+  found_none : (w : ℕ) (v u : SeatState T Entry) (a : Claimed) → a ≡ Claimed.Idle → Adds (Claim w (claim_answer a)) v u → (r : Round) × Gains (round_entries w r) v u
   found_none w v u a is t = (FoundNone, gains_one (Claim w ClaimAnswer.Idle) v u (subst (λ b. Adds (Claim w (claim_answer b)) v u) is t))
 
-  found_many : (w : ℕ) (v u : SeatState T Entry) (a : Claimed) → a ≡ Claimed.Crowded → Adds (Claim w (claim_answer a)) v u → (r : Round) × Gains (entries_of w r) v u
+  found_many : (w : ℕ) (v u : SeatState T Entry) (a : Claimed) → a ≡ Claimed.Crowded → Adds (Claim w (claim_answer a)) v u → (r : Round) × Gains (round_entries w r) v u
   found_many w v u a is t = (FoundMany, gains_one (Claim w ClaimAnswer.Crowded) v u (subst (λ b. Adds (Claim w (claim_answer b)) v u) is t))
 
-  pub found_nothing : (w : ℕ) (v u : SeatState T Entry) (a : Claimed) → (a ≡ Claimed.Idle) ⊎ (a ≡ Claimed.Crowded) → Adds (Claim w (claim_answer a)) v u → (r : Round) × Gains (entries_of w r) v u
+  pub found_nothing : (w : ℕ) (v u : SeatState T Entry) (a : Claimed) → (a ≡ Claimed.Idle) ⊎ (a ≡ Claimed.Crowded) → Adds (Claim w (claim_answer a)) v u → (r : Round) × Gains (round_entries w r) v u
   found_nothing w v u a (inl is) t = found_none w v u a is t
   found_nothing w v u a (inr is) t = found_many w v u a is t
 
@@ -61,7 +61,7 @@ module _ {T : Type 0} where
   found_worn w v u is = ([], gains_none v u is, inl refl)
 
   pub drew : (w : ℕ) (v u x : SeatState T Entry) (a : Claimed) (job : JobSeen) (d : Bool) (answer : Finished) → a ≡ Claimed.Job job → Adds (Claim w (claim_answer a)) v u → Adds (Finish job.ticket d answer) u x →
-      (r : Round) × Gains (entries_of w r) v x
+      (r : Round) × Gains (round_entries w r) v x
   drew w v u x a job d answer is claim finish = (
     Drew job.ticket (job_key job) job.version d answer,
     gains_both (Claim w (Job job.ticket (job_key job) job.version) ∷ []) (Finish job.ticket d answer ∷ []) v u x
@@ -84,7 +84,7 @@ module _ {T : Type 0} where
   same_both : (u v w : SeatState T Entry) → SameSeat u v → SameSeat v w → SameSeat u w
   same_both u v w first second = (second.0 ∙ first.0, second.1 ∙ first.1, second.2 ∙ first.2, second.3 ∙ first.3)
 
-  pub goes_on : (made : Made T) (w : ℕ) (u v x : SeatState T Entry) → IsWorking made w u v → IsSeatOf made x → SameSeat v x → (r : Round) × Gains (entries_of w r) v x → IsWorking made w u x
+  pub goes_on : (made : Made T) (w : ℕ) (u v x : SeatState T Entry) → IsWorking made w u v → IsSeatOf made x → SameSeat v x → (r : Round) × Gains (round_entries w r) v x → IsWorking made w u x
   goes_on made w u v x k seat same added = record { seat = seat; same = same_both u v x k.same same; rounds = k.rounds ++ added.0 ∷ []; gains = round_more w k.rounds added.0 u v x k.gains added.1 }
 
   pub ends : (made : Made T) (w : ℕ) (end : WorkEnd) (u v x : SeatState T Entry) → IsWorking made w u v → (last : List Entry) × Gains last v x × LastEntries w end last → Worked w end u x

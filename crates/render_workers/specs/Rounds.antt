@@ -20,10 +20,10 @@ pub data Round : Type 0 where
   FoundMany : Round
 
 -- the entries of a round of worker w, the oldest first: the Claim and, after a Job, that job's Finish
-abbrev pub entries_of : ℕ → Round → List Entry
-entries_of w (Drew ticket key version drawn answer) = Claim w (Job ticket key version) ∷ Finish ticket drawn answer ∷ []
-entries_of w FoundNone = Claim w ClaimAnswer.Idle ∷ []
-entries_of w FoundMany = Claim w ClaimAnswer.Crowded ∷ []
+abbrev pub round_entries : ℕ → Round → List Entry
+round_entries w (Drew ticket key version drawn answer) = Claim w (Job ticket key version) ∷ Finish ticket drawn answer ∷ []
+round_entries w FoundNone = Claim w ClaimAnswer.Idle ∷ []
+round_entries w FoundMany = Claim w ClaimAnswer.Crowded ∷ []
 
 -- The entries after the last round: where the worker ends Stopped, its Claim that was answered so; where it ends Worn, nothing or a Job without its Finish
 abbrev pub LastEntries : ℕ → WorkEnd → List Entry → Type 0
@@ -34,7 +34,7 @@ LastEntries w WorkEnd.Worn last = (last ≡ []) ⊎ ((ticket : ℕ) × (key : Ke
 pub record WorkOf (w : ℕ) (end : WorkEnd) (es : List Entry) : Type 0 where
   pub rounds : List Round
   pub last : List Entry
-  pub are : es ≡ flat_map (entries_of w) rounds ++ last
+  pub are : es ≡ flat_map (round_entries w) rounds ++ last
   pub ended : LastEntries w end last
 
 -- the seat has gained those entries of its own

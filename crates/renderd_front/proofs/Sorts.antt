@@ -9,21 +9,21 @@ use Rattle.farm_history.specs.declared.asks.AskAnswer.{AskAnswer}
 use Rattle.farm_history.specs.Entries.{Entry, Ask}
 use Rattle.front_rounds.specs.Rules.{Move, Gets}
 use Rattle.renderd_front.specs.declared.asked.Asked.{Asked}
-use Rattle.renderd_front.specs.Renderd.{asks_by, command_of, rules_of, spot_of}
+use Rattle.renderd_front.specs.Renderd.{asks_by, command_of, renderd_rules, request_spot}
 
 -- a test that no Ask passes
 abbrev pub PassesNoAsk : (Entry → Bool) → Type 0
 PassesNoAsk q = (conn : Conn) (command : Cmd) (spot : Spot) (a : AskAnswer) → q (Ask conn command spot a) ≡ false
 
 -- the entries of a request are Asks
-pub kinds : (front : ℕ) (maps : List ℕ → Option ℕ) (q : Entry → Bool) → PassesNoAsk q → (c : ℕ) (a : Asked) → list_any q ((rules_of front maps).entries c a) ≡ false
+pub kinds : (front : ℕ) (maps : List ℕ → Option ℕ) (q : Entry → Bool) → PassesNoAsk q → (c : ℕ) (a : Asked) → list_any q ((renderd_rules front maps).entries c a) ≡ false
 kinds front maps q none c a = go (command_of a.request.cmd)
   where
-    go : (o : Option Cmd) → list_any q (asks_by (record { front = front; number = c }) o (spot_of maps a.request) a.answer) ≡ false
-    go (Some command) = ap (λ b. b || false) (none (record { front = front; number = c }) command (spot_of maps a.request) a.answer)
+    go : (o : Option Cmd) → list_any q (asks_by (record { front = front; number = c }) o (request_spot maps a.request) a.answer) ≡ false
+    go (Some command) = ap (λ b. b || false) (none (record { front = front; number = c }) command (request_spot maps a.request) a.answer)
     go None = refl
 
 -- nothing stands behind the Collect of a reply
-pub stands_alone : (front : ℕ) (maps : List ℕ → Option ℕ) (ms : List (Move Asked)) (r : Reply) (behind : List Entry) → (rules_of front maps).fits ms (Gets r behind) ≡ true → behind ≡ []
+pub stands_alone : (front : ℕ) (maps : List ℕ → Option ℕ) (ms : List (Move Asked)) (r : Reply) (behind : List Entry) → (renderd_rules front maps).fits ms (Gets r behind) ≡ true → behind ≡ []
 stands_alone front maps ms r [] h = refl
 stands_alone front maps ms r (e ∷ es) h = cc

@@ -69,8 +69,8 @@ passes_on (Ok x) P Q refused q = cc
 passes_on (Err e) P Q refused q = q
 
 module _ (front : ℕ) (maps : List ℕ → Option ℕ) (c : ℕ) (bytes : List ℕ) where
-  pub read_none : (mine : List Entry) (ws : List (ℕ × Request)) (said : List ℕ) → Reads front maps c bytes bytes mine mine ws ws said said
-  read_none mine ws said = record { asks = []; made = none_made front maps c mine ws said; whole = refl; left = refl }
+  pub read_none : (mine : List Entry) (ws : List (ℕ × Request)) (response : List ℕ) → Reads front maps c bytes bytes mine mine ws ws response response
+  read_none mine ws response = record { asks = []; made = none_made front maps c mine ws response; whole = refl; left = refl }
 
   module _ (rest : List ℕ) (r : Request) (len : ℕ) (found : found_in rest ≡ Message r len) (m0 m1 m2 : List Entry) (w0 w1 w2 : List (ℕ × Request)) (s0 s1 s2 : List ℕ) where
     -- one message more is read

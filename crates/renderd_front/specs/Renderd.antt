@@ -41,8 +41,8 @@ abbrev pub asked_map : Request → List ℕ
 asked_map r = cond (r.ver == 1) (codes "default") r.name.items
 
 -- what is asked for, at a farm with these maps
-abbrev pub spot_of : (List ℕ → Option ℕ) → Request → Spot
-spot_of maps r = record { map = maps (asked_map r); z = r.z; x = r.x; y = r.y }
+abbrev pub request_spot : (List ℕ → Option ℕ) → Request → Spot
+request_spot maps r = record { map = maps (asked_map r); z = r.z; x = r.x; y = r.y }
 
 -- the entry of an ask
 abbrev pub asks_by : Conn → Option Cmd → Spot → AskAnswer → List Entry
@@ -58,9 +58,9 @@ answer_command (answer.NotDone why) = Some 4
 answer_command _ = None
 
 -- an answer repeats its request, with a command of its own
-abbrev pub said_to : Option ℕ → Request → List ℕ
-said_to (Some command) r = wire_of r command
-said_to None r = []
+abbrev pub response_to : Option ℕ → Request → List ℕ
+response_to (Some command) r = wire_of r command
+response_to None r = []
 
 -- What is answered to a reply.
 
@@ -74,10 +74,10 @@ abbrev pub is_wait : ℕ → ℕ × Request → Bool
 is_wait n w = w.0 == n
 
 -- the requests that wait after these moves
-abbrev pub waiting : List (Move Asked) → List (ℕ × Request)
-waiting [] = []
-waiting (Does a ∷ ms) = with_wait (number_in a.answer) a.request (waiting ms)
-waiting (Gets r behind ∷ ms) = without_first (is_wait r.ask) (waiting ms)
+abbrev pub waiting_requests : List (Move Asked) → List (ℕ × Request)
+waiting_requests [] = []
+waiting_requests (Does a ∷ ms) = with_wait (number_in a.answer) a.request (waiting_requests ms)
+waiting_requests (Gets r behind ∷ ms) = without_first (is_wait r.ask) (waiting_requests ms)
 
 -- the command of the answer to a reply: 3 for Done, 4 for NotDone, none for Cut
 abbrev pub outcome_command : Outcome → Option ℕ
@@ -86,34 +86,34 @@ outcome_command outcome.NotDone = Some 4
 outcome_command outcome.Cut = None
 
 -- nothing is answered where no request waits for the reply
-abbrev pub said_for : Option ℕ → Option (ℕ × Request) → List ℕ
-said_for command (Some w) = said_to command w.1
-said_for command None = []
+abbrev pub response_for : Option ℕ → Option (ℕ × Request) → List ℕ
+response_for command (Some w) = response_to command w.1
+response_for command None = []
 
 -- The front.
 
 -- the bytes that are answered to a move
-abbrev pub says : List (Move Asked) → Move Asked → List ℕ
-says ms (Does a) = said_to (answer_command a.answer) a.request
-says ms (Gets r behind) = said_for (outcome_command r.outcome) (find (is_wait r.ask) (waiting ms))
+abbrev pub renderd_says : List (Move Asked) → Move Asked → List ℕ
+renderd_says ms (Does a) = response_to (answer_command a.answer) a.request
+renderd_says ms (Gets r behind) = response_for (outcome_command r.outcome) (find (is_wait r.ask) (waiting_requests ms))
 
 -- an ask is one entry; nothing stands behind the Collect of a reply
-abbrev pub fits : List (Move Asked) → Move Asked → Bool
-fits ms (Does a) = true
-fits ms (Gets r behind) = is_empty behind
+abbrev pub renderd_fits : List (Move Asked) → Move Asked → Bool
+renderd_fits ms (Does a) = true
+renderd_fits ms (Gets r behind) = is_empty behind
 
 -- What the renderd front makes of a connection, where it has this number and the farm has these maps. An unknown version ends the
 -- connection; nothing else does, and no entry of it says that memory is wanting.
-abbrev pub rules_of : ℕ → (List ℕ → Option ℕ) → Rules Asked Request
-rules_of front maps = record {
+abbrev pub renderd_rules : ℕ → (List ℕ → Option ℕ) → Rules Asked Request
+renderd_rules front maps = record {
   number = front;
   wanted = λ given ws. asks_in (stream_read given).requests ≡ ws;
   refuses = λ given. is_bad (found_in (stream_read given).rest);
   want = λ a. a.request;
-  entries = λ c a. asks_by (record { front = front; number = c }) (command_of a.request.cmd) (spot_of maps a.request) a.answer;
-  fits = fits;
+  entries = λ c a. asks_by (record { front = front; number = c }) (command_of a.request.cmd) (request_spot maps a.request) a.answer;
+  fits = renderd_fits;
   whole = λ ms m. true;
-  says = says;
+  says = renderd_says;
   starves = λ m. false;
   ends = λ ms. false;
 }

@@ -3,7 +3,7 @@ ghost use Rattle.std.specs.Prelude.{◌≡◌, ◌+◌, ◌++◌, ◌∷◌, [],
 ghost use Rattle.front_rounds.specs.Calls.{SameSeat};
 ghost use Rattle.renderd_protocol.specs.Messages.{is_version, wire_of};
 ghost use Rattle.renderd_front.specs.declared.asking.Halt.{Halt};
-ghost use Rattle.renderd_front.specs.Renderd.{answer_command, asks_in, command_of, said_to, with_wait};
+ghost use Rattle.renderd_front.specs.Renderd.{answer_command, asks_in, command_of, response_to, with_wait};
 ghost use Rattle.farm_history.specs.Past.{number_in};
 ghost use Rattle.renderd_front.specs.inner.Reads.{Halts, Made, pairs};
 
@@ -25,12 +25,12 @@ pub enum Halt {
 }
 
 /// Says an answer: the request with this command.
-pub fn say(said: &mut Vec<u8>, request: &Request, command: u32) -> Result<(), NoMemory>
+pub fn say(response: &mut Vec<u8>, request: &Request, command: u32) -> Result<(), NoMemory>
     requires { IsTrue (is_version request.now.ver) }
-    ensures { OnOk result (said.new.items ≡ said.old.items ++ wire_of request.now command) }
+    ensures { OnOk result (response.new.items ≡ response.old.items ++ wire_of request.now command) }
 {
     let message = write(request, command);
-    said.extend_from_slice(message.as_slice())?;
+    response.extend_from_slice(message.as_slice())?;
     Ok(())
 }
 
@@ -46,19 +46,19 @@ fn keep(waits: &mut Vec<Waiting>, number: u64, request: Request) -> Result<(), N
 /// Says what is answered at once to a request, or keeps the request where it waits.
 fn settle(
     waits: &mut Vec<Waiting>,
-    said: &mut Vec<u8>,
+    response: &mut Vec<u8>,
     request: Request,
     answer: AskAnswer,
 ) -> Result<(), NoMemory>
     requires { IsTrue (is_version request.ver) }
-    ensures said { OnOk result (said.new.items
-        ≡ said.old.items ++ said_to (answer_command answer) request) }
+    ensures response { OnOk result (response.new.items
+        ≡ response.old.items ++ response_to (answer_command answer) request) }
     ensures waits { OnOk result (pairs waits.new.items
         ≡ with_wait (number_in answer) request (pairs waits.old.items)) }
 {
     match answer {
-        AskAnswer::Done => say(said, &request, DONE),
-        AskAnswer::NotDone(_) => say(said, &request, NOT_DONE),
+        AskAnswer::Done => say(response, &request, DONE),
+        AskAnswer::NotDone(_) => say(response, &request, NOT_DONE),
         AskAnswer::Queued(number) => keep(waits, number, request),
         AskAnswer::Joined(number) => keep(waits, number, request),
         AskAnswer::Lifted(number) => keep(waits, number, request),
@@ -75,7 +75,7 @@ fn ask<R: Wait, M: Farm>(
     cmd: Cmd,
     request: Request,
     waits: &mut Vec<Waiting>,
-    said: &mut Vec<u8>,
+    response: &mut Vec<u8>,
 ) -> Result<(), Halt>
     requires seat { (M.seats farm.now).is_seat seat.old }
     requires number { (M.seats farm.now).number seat.old ≡ conn.front + 1 }
@@ -86,7 +86,7 @@ fn ask<R: Wait, M: Farm>(
     ensures made { MatchResult result
         (λ _. Made conn.front (M.map_at farm.now) conn.number (request ∷ [])
         ((M.seats farm.now).mine seat.old) ((M.seats farm.now).mine seat.new)
-        (pairs waits.old.items) (pairs waits.new.items) said.old.items said.new.items)
+        (pairs waits.old.items) (pairs waits.new.items) response.old.items response.new.items)
         (λ _. Halts conn.front (M.map_at farm.now) conn.number (request ∷ [])
         ((M.seats farm.now).mine seat.old) ((M.seats farm.now).mine seat.new)) }
 {
@@ -94,7 +94,7 @@ fn ask<R: Wait, M: Farm>(
     let Ok(answer) = farm.ask(rt, seat, conn, cmd, spot) else {
         return Err(Halt::Worn);
     };
-    let Ok(()) = settle(waits, said, request, answer) else {
+    let Ok(()) = settle(waits, response, request, answer) else {
         return Err(Halt::NoMemory);
     };
     Ok(())
@@ -108,7 +108,7 @@ pub fn ask_if_known<R: Wait, M: Farm>(
     conn: Conn,
     request: Request,
     waits: &mut Vec<Waiting>,
-    said: &mut Vec<u8>,
+    response: &mut Vec<u8>,
 ) -> Result<(), Halt>
     requires seat { (M.seats farm.now).is_seat seat.old }
     requires number { (M.seats farm.now).number seat.old ≡ conn.front + 1 }
@@ -118,12 +118,12 @@ pub fn ask_if_known<R: Wait, M: Farm>(
     ensures made { MatchResult result
         (λ _. Made conn.front (M.map_at farm.now) conn.number (asks_in (request ∷ []))
         ((M.seats farm.now).mine seat.old) ((M.seats farm.now).mine seat.new)
-        (pairs waits.old.items) (pairs waits.new.items) said.old.items said.new.items)
+        (pairs waits.old.items) (pairs waits.new.items) response.old.items response.new.items)
         (λ _. Halts conn.front (M.map_at farm.now) conn.number (asks_in (request ∷ []))
         ((M.seats farm.now).mine seat.old) ((M.seats farm.now).mine seat.new)) }
 {
     match command_of(request.cmd) {
-        Some(cmd) => ask(rt, farm, seat, conn, cmd, request, waits, said),
+        Some(cmd) => ask(rt, farm, seat, conn, cmd, request, waits, response),
         None => Ok(()),
     }
 }

@@ -1,12 +1,12 @@
 //! The renderd front.
 use crate::asked::Asked;
 use crate::asking::Halt;
-use crate::messages::{fate_at, read_all};
+use crate::messages::{disposition_at, read_all};
 use crate::replies::answer_reply;
-use crate::waits::Talk;
+use crate::waits::ConnState;
 use farm_base::Worn;
 use farm_history::{Conn, Reply};
-use front_rounds::{Farm, Fate, Front, Reason};
+use front_rounds::{Farm, Disposition, Front, Reason};
 use port_trait::drop_front;
 use renderd_protocol::Request;
 use std::alloc::Global;
@@ -20,16 +20,16 @@ pub struct Renderd {
 
 impl<M: Farm> Front<M> for Renderd {
     ghost use Rattle.std.specs.Prelude.{refl};
-    ghost use Rattle.renderd_front.specs.Renderd.{rules_of};
+    ghost use Rattle.renderd_front.specs.Renderd.{renderd_rules};
     ghost use Rattle.renderd_front.specs.inner.Reads.{Knows};
 
-    type Talk = Talk;
+    type ConnState = ConnState;
 
     type Want = Request;
 
     type Act = Asked;
 
-    ghost rules = { λ renderd farm. rules_of renderd.front (M.map_at farm) };
+    ghost rules = { λ renderd farm. renderd_rules renderd.front (M.map_at farm) };
 
     ghost knows = { Knows };
 
@@ -39,8 +39,8 @@ impl<M: Farm> Front<M> for Renderd {
         self.front
     }
 
-    fn begin(&self, alloc: Global, _farm: &M) -> Talk {
-        Talk {
+    fn begin(&self, alloc: Global, _farm: &M) -> ConnState {
+        ConnState {
             unread: Vec::new(alloc),
             waits: Vec::new(alloc),
         }
@@ -53,12 +53,12 @@ impl<M: Farm> Front<M> for Renderd {
         farm: &M,
         seat: &mut M::Seat,
         conn: u32,
-        talk: &mut Talk,
+        conn_state: &mut ConnState,
         piece: &[u8],
-        said: &mut Vec<u8>,
-    ) -> Result<Fate, Worn> {
-        if talk.unread.extend_from_slice(piece).is_err() {
-            return Ok(Fate::Leaves(Reason::Starved));
+        response: &mut Vec<u8>,
+    ) -> Result<Disposition, Worn> {
+        if conn_state.unread.extend_from_slice(piece).is_err() {
+            return Ok(Disposition::Leaves(Reason::Starved));
         }
         let conn = Conn {
             front: self.front,
@@ -69,15 +69,15 @@ impl<M: Farm> Front<M> for Renderd {
             farm,
             seat,
             conn,
-            talk.unread.as_slice(),
-            &mut talk.waits,
-            said,
+            conn_state.unread.as_slice(),
+            &mut conn_state.waits,
+            response,
         ) {
             Ok(used) => {
-                drop_front(&mut talk.unread, used);
-                Ok(fate_at(talk.unread.as_slice()))
+                drop_front(&mut conn_state.unread, used);
+                Ok(disposition_at(conn_state.unread.as_slice()))
             }
-            Err(Halt::NoMemory) => Ok(Fate::Leaves(Reason::Starved)),
+            Err(Halt::NoMemory) => Ok(Disposition::Leaves(Reason::Starved)),
             Err(Halt::Worn) => Err(Worn),
         }
     }
@@ -88,17 +88,17 @@ impl<M: Farm> Front<M> for Renderd {
         _alloc: Global,
         _farm: &M,
         _seat: &mut M::Seat,
-        talk: &mut Talk,
+        conn_state: &mut ConnState,
         reply: Reply,
-        said: &mut Vec<u8>,
-    ) -> Result<Fate, Worn> {
-        match answer_reply(&mut talk.waits, said, reply) {
-            Ok(()) => Ok(Fate::Stays),
-            Err(_) => Ok(Fate::Leaves(Reason::Starved)),
+        response: &mut Vec<u8>,
+    ) -> Result<Disposition, Worn> {
+        match answer_reply(&mut conn_state.waits, response, reply) {
+            Ok(()) => Ok(Disposition::Stays),
+            Err(_) => Ok(Disposition::Leaves(Reason::Starved)),
         }
     }
 
-    fn is_done(&self, _farm: &M, _talk: &Talk) -> bool {
+    fn is_done(&self, _farm: &M, _conn_state: &ConnState) -> bool {
         false
     }
 }

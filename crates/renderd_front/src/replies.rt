@@ -1,7 +1,7 @@
 //! The answers to asks that waited.
 ghost use Rattle.std.specs.Prelude.{◌≡◌, ◌==◌, ◌++◌, Option, find, position, option_map, OnOk};
 ghost use Rattle.farm_history.specs.Lists.{without_first};
-ghost use Rattle.renderd_front.specs.Renderd.{is_wait, outcome_command, said_for};
+ghost use Rattle.renderd_front.specs.Renderd.{is_wait, outcome_command, response_for};
 ghost use Rattle.renderd_front.specs.inner.Reads.{pair_of, pairs};
 
 use crate::asking::say;
@@ -29,17 +29,17 @@ fn take_wait(waits: &mut Vec<Waiting>, ask: u64) -> Option<Waiting>
 /// Says what is answered to a reply, where an ask waits for it.
 pub fn answer_reply(
     waits: &mut Vec<Waiting>,
-    said: &mut Vec<u8>,
+    response: &mut Vec<u8>,
     reply: Reply,
 ) -> Result<(), NoMemory>
-    ensures said { OnOk result (said.new.items ≡ said.old.items ++ said_for (outcome_command reply.outcome) (find (is_wait reply.ask) (pairs waits.old.items))) }
+    ensures response { OnOk result (response.new.items ≡ response.old.items ++ response_for (outcome_command reply.outcome) (find (is_wait reply.ask) (pairs waits.old.items))) }
     ensures waits { pairs waits.new.items ≡ without_first (is_wait reply.ask) (pairs waits.old.items) }
 {
     let Some(waiting) = take_wait(waits, reply.ask) else {
         return Ok(());
     };
     match outcome_command(reply.outcome) {
-        Some(command) => say(said, &waiting.request, command),
+        Some(command) => say(response, &waiting.request, command),
         None => Ok(()),
     }
 }

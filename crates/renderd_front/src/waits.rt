@@ -14,7 +14,7 @@ pub struct Waiting {
 
 /// What is kept of a connection.
 #[derive(Drop)]
-pub struct Talk {
+pub struct ConnState {
     /// The bytes after its last whole message.
     pub unread: Vec<u8>,
     /// Its asks that wait, in the order in which they were made.

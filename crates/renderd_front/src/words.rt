@@ -1,6 +1,6 @@
 //! The numbers of renderd's commands.
 ghost use Rattle.std.specs.Prelude.{◌≡◌};
-ghost use Rattle.renderd_front.specs.Renderd.{command_of, outcome_command, spot_of};
+ghost use Rattle.renderd_front.specs.Renderd.{command_of, outcome_command, request_spot};
 
 use farm_history::{Cmd, Outcome, Spot};
 use front_rounds::Farm;
@@ -42,7 +42,7 @@ pub fn outcome_command(outcome: Outcome) -> Option<u32>
 
 /// What a request asks for.
 pub fn spot_of<M: Farm>(farm: &M, request: &Request) -> Spot
-    ensures { result ≡ spot_of (M.map_at farm.now) request.now }
+    ensures { result ≡ request_spot (M.map_at farm.now) request.now }
 {
     let map = if request.ver == 1 {
         farm.map_of(DEFAULT.as_bytes())

@@ -38,8 +38,8 @@ abbrev pub map_word : ScriptFault → List ℕ → Result (List ℕ) ScriptFault
 map_word fault word = check (nat_le 1 (length word)) fault >>= λ u. Ok word
 
 -- the three numbers of a tile: Z X Y
-unfoldable pub tile_of : ScriptFault → List ℕ → Result (ℕ × ℕ × ℕ) ScriptFault
-tile_of fault text = do
+unfoldable pub line_tile : ScriptFault → List ℕ → Result (ℕ × ℕ × ℕ) ScriptFault
+line_tile fault text = do
   first ← word_of fault text
   second ← word_of fault first.1
   z ← number_of fault first.0
@@ -52,7 +52,7 @@ unfoldable pub place_of : ScriptFault → List ℕ → Result (List ℕ × (ℕ 
 place_of fault text = do
   first ← word_of fault text
   map ← map_word fault first.0
-  tile ← tile_of fault first.1
+  tile ← line_tile fault first.1
   Ok (map, tile)
 
 -- ask C CMD MAP Z X Y
@@ -75,7 +75,7 @@ look_of fault text = place_of fault text >>= λ place. Ok (Look place.0 place.1.
 
 -- expire Z X Y
 unfoldable pub expire_of : ScriptFault → List ℕ → Result ScriptLine ScriptFault
-expire_of fault text = tile_of fault text >>= λ tile. Ok (Expire tile.0 tile.1 tile.2)
+expire_of fault text = line_tile fault text >>= λ tile. Ok (Expire tile.0 tile.1 tile.2)
 
 -- a line whose one word behind its name is a number
 abbrev pub number_command : (ℕ → ScriptLine) → ScriptFault → List ℕ → Result ScriptLine ScriptFault

@@ -58,9 +58,9 @@ fn map(word: &str, fault: ScriptFault) -> Result<&str, ScriptFault>
 }
 
 /// The three numbers of a tile: Z X Y.
-#[tactic(auto, unfolding(crate::specs::Lines::tile_of))]
+#[tactic(auto, unfolding(crate::specs::Lines::line_tile))]
 pub fn tile(text: &str, fault: ScriptFault) -> Result<(u32, u32, u32), ScriptFault>
-    ensures { result ≡ spec.tile_of fault text.now }
+    ensures { result ≡ spec.line_tile fault text.now }
 {
     let (z, rest) = word(text, fault)?;
     let (x, y) = word(rest, fault)?;

@@ -38,25 +38,25 @@ abbrev pub conn_of : ℕ → Conn
 conn_of c = record { front = 0; number = c }
 
 -- a spot by the name of its map; the map is none where the plan has none of that name
-abbrev pub spot_of : FarmPlan → List ℕ → ℕ → ℕ → ℕ → Spot
-spot_of plan name z x y = record { map = position (λ m. bytes_eq m.name name) plan.maps; z = z; x = x; y = y }
+abbrev pub script_spot : FarmPlan → List ℕ → ℕ → ℕ → ℕ → Spot
+script_spot plan name z x y = record { map = position (λ m. bytes_eq m.name name) plan.maps; z = z; x = x; y = y }
 
 -- a tile by its numbers
-abbrev pub tile_of : ℕ → ℕ → ℕ → Tile
-tile_of z x y = record { z = z; x = x; y = y }
+abbrev pub numbered_tile : ℕ → ℕ → ℕ → Tile
+numbered_tile z x y = record { z = z; x = x; y = y }
 
 -- the entry is that of the line, with some answer; a `finish` is of a drawing, a `cut` of none
 abbrev pub IsEntryOf : FarmPlan → ScriptLine → Entry → Type 0
-IsEntryOf plan (line.Ask c cmd name z x y) e = (answer : AskAnswer) × (e ≡ entry.Ask (conn_of c) cmd (spot_of plan name z x y) answer)
+IsEntryOf plan (line.Ask c cmd name z x y) e = (answer : AskAnswer) × (e ≡ entry.Ask (conn_of c) cmd (script_spot plan name z x y) answer)
 IsEntryOf plan (line.Claim worker) e = (answer : ClaimAnswer) × (e ≡ entry.Claim worker answer)
 IsEntryOf plan (line.Finish ticket) e = (answer : Finished) × (e ≡ entry.Finish ticket true answer)
 IsEntryOf plan (line.Cut ticket) e = (answer : Finished) × (e ≡ entry.Finish ticket false answer)
 IsEntryOf plan (line.Update n) e = (answer : Updated) × (e ≡ entry.Update n answer)
 IsEntryOf plan (line.Restyle n) e = (answer : Restyled) × (e ≡ entry.Restyle n answer)
 IsEntryOf plan (line.Renew n) e = (answer : Renewed) × (e ≡ entry.Renew n answer)
-IsEntryOf plan (line.Expire z x y) e = (count : ℕ) × (e ≡ entry.Expire (tile_of z x y) count)
-IsEntryOf plan (line.Fetch name z x y) e = (answer : Fetched) × (e ≡ entry.Fetch (spot_of plan name z x y) answer)
-IsEntryOf plan (line.Look name z x y) e = (answer : Looked) × (e ≡ entry.Look (spot_of plan name z x y) answer)
+IsEntryOf plan (line.Expire z x y) e = (count : ℕ) × (e ≡ entry.Expire (numbered_tile z x y) count)
+IsEntryOf plan (line.Fetch name z x y) e = (answer : Fetched) × (e ≡ entry.Fetch (script_spot plan name z x y) answer)
+IsEntryOf plan (line.Look name z x y) e = (answer : Looked) × (e ≡ entry.Look (script_spot plan name z x y) answer)
 IsEntryOf plan (line.Collect front) e = (answer : Collected) × (e ≡ entry.Collect front answer)
 IsEntryOf plan (line.Leave c) e = (count : ℕ) × (e ≡ entry.Leave (conn_of c) count)
 IsEntryOf plan line.Tally e = (totals : Tally) × (e ≡ entry.Tally totals)
@@ -77,14 +77,14 @@ is_in_hand hand ticket = list_any (λ t. t == ticket) hand
 abbrev pub HasEvent : List ℕ → ScriptLine → Type 0
 HasEvent hand (line.Finish ticket) = is_in_hand hand ticket ≡ true
 HasEvent hand (line.Cut ticket) = is_in_hand hand ticket ≡ true
-HasEvent hand (line.Expire z x y) = IsTile (tile_of z x y)
+HasEvent hand (line.Expire z x y) = IsTile (numbered_tile z x y)
 HasEvent hand l = Unit {0}
 
 -- it has none, and this is its answer
 abbrev pub HasNone : List ℕ → ScriptLine → List ℕ → Type 0
 HasNone hand (line.Finish ticket) said = (is_in_hand hand ticket ≡ false) × (said ≡ nojob_line)
 HasNone hand (line.Cut ticket) said = (is_in_hand hand ticket ≡ false) × (said ≡ nojob_line)
-HasNone hand (line.Expire z x y) said = ¬ (IsTile (tile_of z x y)) × (said ≡ unservable_line)
+HasNone hand (line.Expire z x y) said = ¬ (IsTile (numbered_tile z x y)) × (said ≡ unservable_line)
 HasNone hand l said = ⊥
 
 -- ---- failures of the store

@@ -3,7 +3,7 @@ ghost use Rattle.std.specs.Prelude.{◌≡◌, ◌<◌, ◌^◌, IfOk};
 ghost use Rattle.plain_world.specs.World.{IsTile};
 ghost use Rattle.farm_core.specs.Answers.{Lasts};
 ghost use Rattle.script_lines.specs.declared.script.ScriptLine.TheVariants as line;
-ghost use Rattle.script_text.specs.ScriptTexts.{conn_of, spot_of};
+ghost use Rattle.script_text.specs.ScriptTexts.{conn_of, script_spot};
 ghost use Rattle.script_text.specs.inner.Steps.{EntersFrom};
 
 use crate::said::{LineAnswer, fetch_said, said};
@@ -27,7 +27,7 @@ fn conn_at(number: u32) -> Conn
 
 /// A spot by the name of its map, which need not be one of the farm.
 fn spot_at<D>(farm: &Farm<D>, map: &Text, place: (u32, u32, u32)) -> Spot
-    ensures { result ≡ spot_of farm.now.plan map.now place.0 place.1 place.2 }
+    ensures { result ≡ script_spot farm.now.plan map.now place.0 place.1 place.2 }
 {
     let map = farm.map_of(map.as_str().as_bytes());
     let (z, x, y) = place;

@@ -5,7 +5,7 @@ use Rattle.std.specs.List.{list_any}
 use Rattle.std.proofs.lemmas.Bool.{or_cases, not-true}
 use Rattle.farm_base.specs.Outside.{Outside, Puts as SinkPuts, Rose}
 use Rattle.farm_base.specs.declared.sinks.SinkFault.{SinkFault}
-use Rattle.tile_store.specs.Stores.{StoreTold, Puts, Stored, IfTold}
+use Rattle.tile_store.specs.Stores.{StoreTold, StorePuts, Stored, IfTold}
 use Rattle.port_trait.specs.declared.ends.FrontDone.{FrontDone}
 use Rattle.port_trait.specs.declared.ends.FrontEnd.{FrontEnd}
 use Rattle.call_ends.specs.declared.stops.Stop.{Stop}
@@ -29,7 +29,7 @@ use Rattle.farm_headline.specs.Headline.{Headline}
 use Rattle.farm_runs.specs.Promise.{AreSeated, AreWorked}
 use Rattle.front_leaves.proofs.Laws.{marked}
 use Rattle.farm_setup.specs.Beginnings.{HasEmptied, ResumesFrom, saved_path}
-use Rattle.farm_ending.specs.Endings.{why_ended, is_worn, is_broken, is_wanting, end_after_put, TellsCounts}
+use Rattle.farm_ending.specs.Endings.{why_ended, is_front_worn, is_broken, is_wanting, end_after_put, TellsCounts}
 use Rattle.farm_ending.specs.Savings.{MaySave}
 use Rattle.farm_ending.proofs.Kept.{Keeps, keeps}
 use Rattle.serve_command.specs.Serves.{World, HasServed, fronts_of, end_of, is_worn_out}
@@ -46,7 +46,7 @@ held_now : (told : Option StoreTold) (t : StoreTold) (bytes : List ℕ) → told
 held_now told t bytes is held = subst (λ (o : Option StoreTold). IfSome o (λ t. t.content saved_path ≡ Some bytes)) (sym is) held
 
 -- after a put there
-holds_put : (old new : Outside StoreTold) (bytes : List ℕ) → Puts old new saved_path bytes (Ok tt) → HoldsAt new bytes
+holds_put : (old new : Outside StoreTold) (bytes : List ℕ) → StorePuts old new saved_path bytes (Ok tt) → HoldsAt new bytes
 holds_put old new bytes puts = by_told old.told refl puts.0
   where
     by_told : (o : Option StoreTold) → old.told ≡ o → IfTold (record old { told = o }) new (λ before now. Stored before now saved_path bytes) → HoldsAt new bytes
@@ -61,10 +61,10 @@ same_there (Some t) None bytes same held = cc
 
 -- ---- why a run ended
 
-worn_first : (worn : Bool) (ends : List FrontEnd) → why_ended worn ends ≡ Err stop.TurnsUsedUp → (worn || list_any is_worn ends) ≡ true
-worn_first worn ends is = by_test (worn || list_any is_worn ends) refl
+worn_first : (worn : Bool) (ends : List FrontEnd) → why_ended worn ends ≡ Err stop.TurnsUsedUp → (worn || list_any is_front_worn ends) ≡ true
+worn_first worn ends is = by_test (worn || list_any is_front_worn ends) refl
   where
-    by_test : (b : Bool) → (worn || list_any is_worn ends) ≡ b → (worn || list_any is_worn ends) ≡ true
+    by_test : (b : Bool) → (worn || list_any is_front_worn ends) ≡ b → (worn || list_any is_front_worn ends) ≡ true
     by_test true e = e
     by_test false e = absurd (rest (list_any is_broken ends) (list_any is_wanting ends) refl refl)
       where
@@ -73,7 +73,7 @@ worn_first worn ends is = by_test (worn || list_any is_worn ends) refl
         rest false true p q = cc
         rest false false p q = cc
 
-worn_end : (end : FrontEnd) → is_worn end ≡ true → end ≡ FrontEnd.Worn
+worn_end : (end : FrontEnd) → is_front_worn end ≡ true → end ≡ FrontEnd.Worn
 worn_end FrontEnd.Worn is = refl
 worn_end FrontEnd.Finished is = cc
 worn_end FrontEnd.Stopped is = cc
@@ -247,15 +247,15 @@ module _ {D : Type 0} (state : D → Outside StoreTold) (s : Served) (store : D)
   -- ---- how it ends
 
   -- a front that ended worn met that all turns were drawn
-  front_worn : (list_any is_worn (map end_of (fronts_of served.done))) ≡ true → 2 ^ 62 ≤ length H
+  front_worn : (list_any is_front_worn (map end_of (fronts_of served.done))) ≡ true → 2 ^ 62 ≤ length H
   front_worn is =
-      elim (or_cases (is_worn served.done.renderd.end) _ is) [
+      elim (or_cases (is_front_worn served.done.renderd.end) _ is) [
         | inl r ↦ served.runs.renderd.worn_out (marked _ _ _ _ _ _ served.runs.renderd.left (worn_end _ r))
         | inr rest ↦
-            elim (or_cases (is_worn served.done.tiles.end) _ rest) [
+            elim (or_cases (is_front_worn served.done.tiles.end) _ rest) [
               | inl t ↦ served.runs.tiles.worn_out (marked _ _ _ _ _ _ served.runs.tiles.left (worn_end _ t))
               | inr last ↦
-                  elim (or_cases (is_worn served.done.control.end) _ last) [
+                  elim (or_cases (is_front_worn served.done.control.end) _ last) [
                     | inl k ↦ served.runs.control.worn_out (marked _ _ _ _ _ _ served.runs.control.left (worn_end _ k))
                     | inr none ↦ absurd (cc)
                   ]

@@ -2,14 +2,14 @@
 ghost use Rattle.std.specs.Prelude.{◌≡◌, ◌+◌, []};
 ghost use Rattle.farm_base.specs.Outside.{Counted};
 ghost use Rattle.port_trait.specs.declared.ends.FrontEnd.TheVariants as ended;
-ghost use Rattle.front_rounds.specs.Serving.{Serves};
+ghost use Rattle.front_rounds.specs.Serving.{FrontRun};
 ghost use Rattle.turn_cell.specs.SeatStates.{IsSeatOf, Knows, SameSeat};
 ghost use Rattle.farm_shared.specs.Seats.{plain};
-ghost use Rattle.farm_door.specs.Doors.{maps_of};
-ghost use Rattle.renderd_front.specs.Renderd.{rules_of};
+ghost use Rattle.farm_door.specs.FarmAdapters.{maps_of};
+ghost use Rattle.renderd_front.specs.Renderd.{renderd_rules};
 
 use farm_base::Bell;
-use farm_door::Door;
+use farm_door::FarmAdapter;
 use farm_shared::{Alarms, Seat, SharedFarm};
 use port_trait::{FrontDone, Ports};
 use renderd_front::Renderd;
@@ -36,9 +36,9 @@ pub fn serve<R: Wait, D: TileStore, B: Bell, P: Ports>(
     ensures seat { IsSeatOf farm.now seat.new }
     ensures same { SameSeat seat.old seat.new }
     ensures known { Knows seat.new }
-    ensures served { Serves (rules_of front (maps_of farm.now)) (P.state ports.old).told (P.state ports.new).told (plain seat.new.mine) result.end result.rests.items result.starved seat.new.worn }
+    ensures served { FrontRun (renderd_rules front (maps_of farm.now)) (P.state ports.old).told (P.state ports.new).told (plain seat.new.mine) result.end result.rests.items result.starved seat.new.worn }
     ensures broken { result.end ≡ ended.Broken → Counted (P.state ports.old).faults (P.state ports.new).faults }
 {
-    let door = Door { farm, alarms };
-    front_rounds::serve(rt, alloc, &Renderd { front }, &door, seat, ports)
+    let adapter = FarmAdapter { farm, alarms };
+    front_rounds::serve(rt, alloc, &Renderd { front }, &adapter, seat, ports)
 }

@@ -132,8 +132,8 @@ style_of says style before d = do
   Ok (record { name = name; filter_mode = filter_mode; rules = rules })
 
 -- a style of the map, at the place behind those that were read before it
-abbrev pub style_after : FilterReading → List Style → Data → Result Style StyleFault
-style_after says before d = style_of says (length before) before d
+abbrev pub style_object_after : FilterReading → List Style → Data → Result Style StyleFault
+style_object_after says before d = style_of says (length before) before d
 
 -- a name in a layer's list: a text, of 1 to 64 bytes, that some style has
 unfoldable pub style_name_of : List Style → At → List (List ℕ) → Data → Result (List ℕ) StyleFault
@@ -156,8 +156,8 @@ layer_of styles layer before d = do
   Ok (record { name = name; source = source; minimum_scale_denominator = least; maximum_scale_denominator = greatest; styles = names })
 
 -- a layer of the map, at the place behind those that were read before it
-abbrev pub layer_after : List Style → List LayerRef → Data → Result LayerRef StyleFault
-layer_after styles before d = layer_of styles (length before) before d
+abbrev pub layer_ref_after : List Style → List LayerRef → Data → Result LayerRef StyleFault
+layer_ref_after styles before d = layer_of styles (length before) before d
 
 -- a raster; an earlier raster of its name is Double, after its keys
 unfoldable pub raster_of : ℕ → List RasterRef → Data → Result RasterRef StyleFault
@@ -187,8 +187,8 @@ map_object says d = do
   layer_items ← ok_or found_layers (fault.Shape at_map)
   raster_items ← list_or_none at_map found_rasters (get (codes "rasters") d)
   rasters ← list_of raster_after raster_items
-  styles ← list_of (style_after says) style_items
-  layers ← list_of (layer_after styles) layer_items
+  styles ← list_of (style_object_after says) style_items
+  layers ← list_of (layer_ref_after styles) layer_items
   Ok (record { background_color = background; styles = styles; layers = layers; rasters = rasters; grids = [] })
 
 -- what the bytes of a style say, where filters are read so

@@ -115,7 +115,7 @@ impl ReadItem for LayerItems<'_> {
 
     ghost limit = { λ r. most_map_layers };
 
-    ghost reads = { λ r before d. spec.layer_after r.styles.now before d };
+    ghost reads = { λ r before d. spec.layer_ref_after r.styles.now before d };
 
     ghost keeps = { λ r before l. layer_apart r.styles.now before l };
 
@@ -131,7 +131,7 @@ impl ReadItem for LayerItems<'_> {
 
 pub fn layers(alloc: Global, styles: &[Style], items: &[Value]) -> Result<Vec<LayerRef>, StyleFault>
     requires { length items.now ≤ most_map_layers }
-    ensures value { Gives fault.NoMemory (λ v. v.items) (list_of (spec.layer_after styles.now) (items_view items.now)) result }
+    ensures value { Gives fault.NoMemory (λ v. v.items) (list_of (spec.layer_ref_after styles.now) (items_view items.now)) result }
     ensures apart { IfOk result (λ v. IsTrue (each_after (layer_apart styles.now) [] v.items)) }
     ensures count { IfOk result (λ v. length v.items ≤ most_map_layers) }
 {

@@ -62,7 +62,7 @@ impl ReadItem for StyleItems {
 
     ghost limit = { λ r. most_styles };
 
-    ghost reads = { λ r before d. spec.style_after filter_of before d };
+    ghost reads = { λ r before d. spec.style_object_after filter_of before d };
 
     ghost keeps = { λ r before s. style_apart before s };
 
@@ -73,7 +73,7 @@ impl ReadItem for StyleItems {
 
 pub fn styles(alloc: Global, items: &[Value]) -> Result<Vec<Style>, StyleFault>
     requires { length items.now ≤ most_styles }
-    ensures value { Gives fault.NoMemory (λ v. v.items) (list_of (spec.style_after filter_of) (items_view items.now)) result }
+    ensures value { Gives fault.NoMemory (λ v. v.items) (list_of (spec.style_object_after filter_of) (items_view items.now)) result }
     ensures apart { IfOk result (λ v. IsTrue (each_after style_apart [] v.items)) }
     ensures count { IfOk result (λ v. length v.items ≤ most_styles) }
 {

@@ -20,18 +20,18 @@ pub enum Fault {
 }
 
 /// Puts the answer of a fault: 400, 404, 405 or 500, and the reason as a line.
-pub fn put_fault(alloc: Global, fault: Fault, said: &mut Vec<u8>) -> Result<(), NoMemory>
-    ensures { OnOk result (said.new.items ≡ said.old.items ++ spec.fault_answer fault) }
+pub fn put_fault(alloc: Global, fault: Fault, response: &mut Vec<u8>) -> Result<(), NoMemory>
+    ensures { OnOk result (response.new.items ≡ response.old.items ++ spec.fault_answer fault) }
 {
     match fault {
-        Fault::BadRequest => put_text(alloc, "400 Bad Request", "Bad Request\n", said),
-        Fault::NotFound => put_text(alloc, "404 Not Found", "Not Found\n", said),
+        Fault::BadRequest => put_text(alloc, "400 Bad Request", "Bad Request\n", response),
+        Fault::NotFound => put_text(alloc, "404 Not Found", "Not Found\n", response),
         Fault::NotAllowed => {
             put_text(
                 alloc,
                 "405 Method Not Allowed",
                 "Method Not Allowed\n",
-                said,
+                response,
             )
         }
         Fault::Failed => {
@@ -39,7 +39,7 @@ pub fn put_fault(alloc: Global, fault: Fault, said: &mut Vec<u8>) -> Result<(), 
                 alloc,
                 "500 Internal Server Error",
                 "Internal Server Error\n",
-                said,
+                response,
             )
         }
     }

@@ -6,10 +6,10 @@ use farm_base::{NoMemory, Text};
 use std::alloc::Global;
 
 /// Puts bytes behind what was said.
-pub(crate) fn put(said: &mut Vec<u8>, bytes: &[u8]) -> Result<(), NoMemory>
-    ensures { OnOk result (said.new.items ≡ said.old.items ++ bytes.now) }
+pub(crate) fn put(response: &mut Vec<u8>, bytes: &[u8]) -> Result<(), NoMemory>
+    ensures { OnOk result (response.new.items ≡ response.old.items ++ bytes.now) }
 {
-    said.extend_from_slice(bytes)?;
+    response.extend_from_slice(bytes)?;
     Ok(())
 }
 
@@ -20,13 +20,13 @@ fn put_answer(
     kind: &str,
     more: &str,
     body: &[u8],
-    said: &mut Vec<u8>,
+    response: &mut Vec<u8>,
 ) -> Result<(), NoMemory>
-    ensures { OnOk result (said.new.items ≡ said.old.items ++ spec.answer status.now kind.now more.now body.now) }
+    ensures { OnOk result (response.new.items ≡ response.old.items ++ spec.answer status.now kind.now more.now body.now) }
 {
     let head = head(alloc, status, kind, body.len(), more)?;
-    put(said, head.as_str().as_bytes())?;
-    put(said, body)
+    put(response, head.as_str().as_bytes())?;
+    put(response, body)
 }
 
 /// The head of an answer.
@@ -46,11 +46,11 @@ pub(crate) fn put_text(
     alloc: Global,
     status: &str,
     body: &str,
-    said: &mut Vec<u8>,
+    response: &mut Vec<u8>,
 ) -> Result<(), NoMemory>
-    ensures { OnOk result (said.new.items ≡ said.old.items ++ spec.text_answer status.now body.now) }
+    ensures { OnOk result (response.new.items ≡ response.old.items ++ spec.text_answer status.now body.now) }
 {
-    put_answer(alloc, status, "text/plain", "", body.as_bytes(), said)
+    put_answer(alloc, status, "text/plain", "", body.as_bytes(), response)
 }
 
 /// An answer with a picture, `clean` or `dirty`, of a data version.
@@ -59,9 +59,9 @@ pub(crate) fn put_picture(
     word: &str,
     version: u64,
     picture: &[u8],
-    said: &mut Vec<u8>,
+    response: &mut Vec<u8>,
 ) -> Result<(), NoMemory>
-    ensures { OnOk result (said.new.items ≡ said.old.items ++ spec.picture_answer word.now version picture.now) }
+    ensures { OnOk result (response.new.items ≡ response.old.items ++ spec.picture_answer word.now version picture.now) }
 {
     let lines = tile_lines(alloc, word, version)?;
     put_answer(
@@ -70,7 +70,7 @@ pub(crate) fn put_picture(
         "image/x-portable-pixmap",
         lines.as_str(),
         picture,
-        said,
+        response,
     )
 }
 

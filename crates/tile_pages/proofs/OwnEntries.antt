@@ -10,11 +10,11 @@ use Rattle.farm_history.specs.Entries.{Entry, Ask, Fetch, Look}
 use Rattle.farm_history.specs.Lists.{Each}
 use Rattle.tile_pages.specs.declared.acts.Act.{Act}
 use Rattle.tile_pages.specs.declared.acts.Act.TheVariants as act
-use Rattle.tile_pages.specs.Tiles.{is_fetch, fits_behind, entries_of}
+use Rattle.tile_pages.specs.Tiles.{is_fetch, fits_behind, tile_entries}
 
 module _ (P : Entry → Type 0) (fetches : (s : Spot) (f : Fetched) → P (Fetch s f)) where
   pub each_entry : ((c : Conn) (d : Cmd) (s : Spot) (a : AskAnswer) → P (Ask c d s a)) → ((s : Spot) (l : Looked) → P (Look s l))
-      → (c : Conn) (a : Act) → Each P (entries_of c a)
+      → (c : Conn) (a : Act) → Each P (tile_entries c a)
   each_entry asks looks c (act.Refused w) = tt
   each_entry asks looks c (act.Asked s a) = (asks _ _ _ _, tt)
   each_entry asks looks c (act.Served s a f) = (asks _ _ _ _, (fetches s f, tt))

@@ -9,37 +9,37 @@ use Rattle.tile_requests.specs.declared.targets.Kind.{Kind}
 use Rattle.tile_requests.specs.declared.targets.Kind.TheVariants as kind
 use Rattle.farm_history.specs.declared.asks.Spot.{Spot}
 use Rattle.front_rounds.specs.Rules.{Move, Does, Gets, wants_of}
-use Rattle.tile_pages.specs.declared.acts.Wish.{Wish}
-use Rattle.tile_pages.specs.declared.acts.Wish.TheVariants as wish
+use Rattle.tile_pages.specs.declared.acts.HttpAsk.{HttpAsk}
+use Rattle.tile_pages.specs.declared.acts.HttpAsk.TheVariants as http_ask
 use Rattle.tile_pages.specs.declared.acts.Act.{Act}
-use Rattle.tile_pages.specs.declared.talks.Stage.{Stage}
-use Rattle.tile_pages.specs.declared.talks.Stage.TheVariants.{Reading, Waiting, Answered}
-use Rattle.tile_pages.specs.Talks.{is_reading, is_answered, waits_in, spot_at}
-use Rattle.tile_pages.specs.Tiles.{GetsSpot, wish_of, Asks, want, wishes, still_waits, same_map, same_spot, rules_of}
+use Rattle.tile_pages.specs.declared.conn_states.Stage.{Stage}
+use Rattle.tile_pages.specs.declared.conn_states.Stage.TheVariants.{Reading, Waiting, Answered}
+use Rattle.tile_pages.specs.ConnStates.{is_reading, is_answered, waits_in, spot_at}
+use Rattle.tile_pages.specs.Tiles.{GetsSpot, http_ask_of, BytesAsk, want, http_asks, still_waits, same_map, same_spot, tile_rules}
 
 -- no test is passed and failed
 pub no_both : (b : Bool) → b ≡ true → b ≡ false → ⊥
 no_both b e f = cc
 
 -- what was asked hangs on no map
-pub asked_is : (front : ℕ) (maps : List ℕ → Option ℕ) (ms : List (Move Act)) → wants_of (rules_of front maps) ms ≡ wishes ms
+pub asked_is : (front : ℕ) (maps : List ℕ → Option ℕ) (ms : List (Move Act)) → wants_of (tile_rules front maps) ms ≡ http_asks ms
 asked_is front maps [] = refl
-asked_is front maps (Does a ∷ ms) = ap (λ (ws : List Wish). ws ++ want a ∷ []) (asked_is front maps ms)
+asked_is front maps (Does a ∷ ms) = ap (λ (ws : List HttpAsk). ws ++ want a ∷ []) (asked_is front maps ms)
 asked_is front maps (Gets r behind ∷ ms) = asked_is front maps ms
 
-pub asks_of : (maps : List ℕ → Option ℕ) (bytes : List ℕ) (k : Kind) (s : Spot) → GetsSpot maps bytes k s → Asks maps bytes (wish_of k s)
+pub asks_of : (maps : List ℕ → Option ℕ) (bytes : List ℕ) (k : Kind) (s : Spot) → GetsSpot maps bytes k s → BytesAsk maps bytes (http_ask_of k s)
 asks_of maps bytes kind.Tile s gets = gets
 asks_of maps bytes kind.Status s gets = gets
 asks_of maps bytes kind.Dirty s gets = gets
 
 -- what bytes ask they ask whatever follows
-pub asks_stay : (maps : List ℕ → Option ℕ) (given more : List ℕ) (w : Wish) → Asks maps (bytes_read given) w → Asks maps (bytes_read (given ++ more)) w
-asks_stay maps given more wish.Bad is = bad_stays given more is
-asks_stay maps given more wish.NotGet is = (is.0, whole_stays given more is.0 is.1, is.2)
-asks_stay maps given more wish.NoTarget is = (is.0, whole_stays given more is.0 is.1, is.2, is.3)
-asks_stay maps given more (wish.Tile s) is = (is.0, (is.1.0, whole_stays given more is.1.0 is.1.1, is.1.2, is.1.3), is.2)
-asks_stay maps given more (wish.Status s) is = (is.0, (is.1.0, whole_stays given more is.1.0 is.1.1, is.1.2, is.1.3), is.2)
-asks_stay maps given more (wish.Dirty s) is = (is.0, (is.1.0, whole_stays given more is.1.0 is.1.1, is.1.2, is.1.3), is.2)
+pub asks_stay : (maps : List ℕ → Option ℕ) (given more : List ℕ) (w : HttpAsk) → BytesAsk maps (bytes_read given) w → BytesAsk maps (bytes_read (given ++ more)) w
+asks_stay maps given more http_ask.Bad is = bad_stays given more is
+asks_stay maps given more http_ask.NotGet is = (is.0, whole_stays given more is.0 is.1, is.2)
+asks_stay maps given more http_ask.NoTarget is = (is.0, whole_stays given more is.0 is.1, is.2, is.3)
+asks_stay maps given more (http_ask.Tile s) is = (is.0, (is.1.0, whole_stays given more is.1.0 is.1.1, is.1.2, is.1.3), is.2)
+asks_stay maps given more (http_ask.Status s) is = (is.0, (is.1.0, whole_stays given more is.1.0 is.1.1, is.1.2, is.1.3), is.2)
+asks_stay maps given more (http_ask.Dirty s) is = (is.0, (is.1.0, whole_stays given more is.1.0 is.1.1, is.1.2, is.1.3), is.2)
 
 -- while more is waited for, all bytes are read
 open_short : (bytes : List ℕ) → IsOpen bytes → length bytes < most_head_bytes

@@ -1,3 +1,3 @@
-pub mod Talks
+pub mod ConnStates
 pub mod Tiles
 pub mod Steps

@@ -19,61 +19,61 @@ use Rattle.tile_requests.specs.Heads.{bytes_read, IsOpen, IsBad}
 use Rattle.tile_requests.specs.Requests.{IsNotGet, GetsNone, GetsTile as GetsPlace}
 use Rattle.tile_answers.specs.declared.faults.Fault.TheVariants as fault
 use Rattle.tile_answers.specs.Answers.{fault_answer, tile_answer, status_answer, dirty_answer}
-use Rattle.tile_pages.specs.declared.acts.Wish.{Wish}
-use Rattle.tile_pages.specs.declared.acts.Wish.TheVariants as wish
+use Rattle.tile_pages.specs.declared.acts.HttpAsk.{HttpAsk}
+use Rattle.tile_pages.specs.declared.acts.HttpAsk.TheVariants as http_ask
 use Rattle.tile_pages.specs.declared.acts.Act.{Act}
 use Rattle.tile_pages.specs.declared.acts.Act.TheVariants as act
-use Rattle.tile_pages.specs.declared.talks.Talk.{Talk}
-use Rattle.tile_pages.specs.Talks.{is_reading, is_answered, waits_in, spot_at}
+use Rattle.tile_pages.specs.declared.conn_states.ConnState.{ConnState}
+use Rattle.tile_pages.specs.ConnStates.{is_reading, is_answered, waits_in, spot_at}
 
 -- ---- what the bytes ask
 
 -- the spot of a place, where these are the farm's maps by their names
-abbrev pub spot_of : (List ℕ → Option ℕ) → Place → Spot
-spot_of maps p = record { map = maps p.name; z = p.z; x = p.x; y = p.y }
+abbrev pub place_spot : (List ℕ → Option ℕ) → Place → Spot
+place_spot maps p = record { map = maps p.name; z = p.z; x = p.x; y = p.y }
 
 -- a head that gets this of a spot
 abbrev pub GetsSpot : (List ℕ → Option ℕ) → List ℕ → Kind → Spot → Type 0
-GetsSpot maps bytes k s = (p : Place) × GetsPlace bytes k p × (s ≡ spot_of maps p)
+GetsSpot maps bytes k s = (p : Place) × GetsPlace bytes k p × (s ≡ place_spot maps p)
 
 -- what a target asks of a spot
-abbrev pub wish_of : Kind → Spot → Wish
-wish_of kind.Tile s = wish.Tile s
-wish_of kind.Status s = wish.Status s
-wish_of kind.Dirty s = wish.Dirty s
+abbrev pub http_ask_of : Kind → Spot → HttpAsk
+http_ask_of kind.Tile s = http_ask.Tile s
+http_ask_of kind.Status s = http_ask.Status s
+http_ask_of kind.Dirty s = http_ask.Dirty s
 
 -- the bytes ask this
-abbrev pub Asks : (List ℕ → Option ℕ) → List ℕ → Wish → Type 0
-Asks maps bytes wish.Bad = IsBad bytes
-Asks maps bytes wish.NotGet = IsNotGet bytes
-Asks maps bytes wish.NoTarget = GetsNone bytes
-Asks maps bytes (wish.Tile s) = GetsSpot maps bytes kind.Tile s
-Asks maps bytes (wish.Status s) = GetsSpot maps bytes kind.Status s
-Asks maps bytes (wish.Dirty s) = GetsSpot maps bytes kind.Dirty s
+abbrev pub BytesAsk : (List ℕ → Option ℕ) → List ℕ → HttpAsk → Type 0
+BytesAsk maps bytes http_ask.Bad = IsBad bytes
+BytesAsk maps bytes http_ask.NotGet = IsNotGet bytes
+BytesAsk maps bytes http_ask.NoTarget = GetsNone bytes
+BytesAsk maps bytes (http_ask.Tile s) = GetsSpot maps bytes kind.Tile s
+BytesAsk maps bytes (http_ask.Status s) = GetsSpot maps bytes kind.Status s
+BytesAsk maps bytes (http_ask.Dirty s) = GetsSpot maps bytes kind.Dirty s
 
 -- a connection has one request: none stands in its bytes while more are waited for
-abbrev pub Wants : (List ℕ → Option ℕ) → List ℕ → List Wish → Type 0
+abbrev pub Wants : (List ℕ → Option ℕ) → List ℕ → List HttpAsk → Type 0
 Wants maps given [] = IsOpen (bytes_read given)
-Wants maps given (w ∷ []) = Asks maps (bytes_read given) w
+Wants maps given (w ∷ []) = BytesAsk maps (bytes_read given) w
 Wants maps given _ = ⊥
 
 -- ---- what is done
 
--- the wish that was done
-abbrev pub want : Act → Wish
+-- the ask that was done
+abbrev pub want : Act → HttpAsk
 want (act.Refused w) = w
-want (act.Asked s a) = wish.Tile s
-want (act.Served s a f) = wish.Tile s
-want (act.Seen s l) = wish.Status s
-want (act.Marked s a) = wish.Dirty s
+want (act.Asked s a) = http_ask.Tile s
+want (act.Served s a f) = http_ask.Tile s
+want (act.Seen s l) = http_ask.Status s
+want (act.Marked s a) = http_ask.Dirty s
 
 -- its entries, on a connection of the front of that number
-abbrev pub entries_of : Conn → Act → List Entry
-entries_of c (act.Refused w) = []
-entries_of c (act.Asked s a) = Ask c cmd.Render s a ∷ []
-entries_of c (act.Served s a f) = Ask c cmd.Render s a ∷ Fetch s f ∷ []
-entries_of c (act.Seen s l) = Look s l ∷ []
-entries_of c (act.Marked s a) = Ask c cmd.Dirty s a ∷ []
+abbrev pub tile_entries : Conn → Act → List Entry
+tile_entries c (act.Refused w) = []
+tile_entries c (act.Asked s a) = Ask c cmd.Render s a ∷ []
+tile_entries c (act.Served s a f) = Ask c cmd.Render s a ∷ Fetch s f ∷ []
+tile_entries c (act.Seen s l) = Look s l ∷ []
+tile_entries c (act.Marked s a) = Ask c cmd.Dirty s a ∷ []
 
 -- the ask that waits after the act: its number and its spot
 abbrev pub waits_by : Act → Option (ℕ × Spot)
@@ -86,10 +86,10 @@ still_waits n None = None
 still_waits n (Some p) = cond (p.0 == n) None (Some p)
 
 -- the ask that waits after the moves
-abbrev pub waiting : List (Move Act) → Option (ℕ × Spot)
-waiting [] = None
-waiting (Does a ∷ ms) = waits_by a
-waiting (Gets r behind ∷ ms) = still_waits r.ask (waiting ms)
+abbrev pub waiting_ask : List (Move Act) → Option (ℕ × Spot)
+waiting_ask [] = None
+waiting_ask (Does a ∷ ms) = waits_by a
+waiting_ask (Gets r behind ∷ ms) = still_waits r.ask (waiting_ask ms)
 
 -- ---- which entries stand behind a Collect
 
@@ -117,22 +117,22 @@ fits_behind _ _ = false
 -- ---- what is answered
 
 -- a fetch found no memory
-abbrev pub is_no_memory : Fetched → Bool
-is_no_memory fetched.NoMemory = true
-is_no_memory _ = false
+abbrev pub found_no_memory : Fetched → Bool
+found_no_memory fetched.NoMemory = true
+found_no_memory _ = false
 
--- the answer to a wish of which nothing is asked
-abbrev pub refusal : Wish → List ℕ
-refusal wish.Bad = fault_answer fault.BadRequest
-refusal wish.NotGet = fault_answer fault.NotAllowed
-refusal wish.NoTarget = fault_answer fault.NotFound
+-- the answer to a ask of which nothing is asked
+abbrev pub refusal : HttpAsk → List ℕ
+refusal http_ask.Bad = fault_answer fault.BadRequest
+refusal http_ask.NotGet = fault_answer fault.NotAllowed
+refusal http_ask.NoTarget = fault_answer fault.NotFound
 refusal _ = []
 
 -- nothing is asked of the farm for it
-abbrev pub is_refusal : Wish → Bool
-is_refusal wish.Bad = true
-is_refusal wish.NotGet = true
-is_refusal wish.NoTarget = true
+abbrev pub is_refusal : HttpAsk → Bool
+is_refusal http_ask.Bad = true
+is_refusal http_ask.NotGet = true
+is_refusal http_ask.NoTarget = true
 is_refusal _ = false
 
 -- the answer to what was done: none where the tile is still to be fetched
@@ -150,7 +150,7 @@ answer_behind es = []
 
 -- the Fetch behind a Collect found no memory
 abbrev pub starves_behind : List Entry → Bool
-starves_behind (Fetch s f ∷ es) = is_no_memory f
+starves_behind (Fetch s f ∷ es) = found_no_memory f
 starves_behind es = false
 
 -- ---- the rules
@@ -162,9 +162,9 @@ fits_act (act.Served s a f) = is_none (number_in a)
 fits_act _ = true
 
 -- the move may be made after those before it
-abbrev pub fits : List (Move Act) → Move Act → Bool
-fits ms (Does a) = fits_act a
-fits ms (Gets r behind) = fits_behind (spot_at r.ask (waiting ms)) behind
+abbrev pub tile_fits : List (Move Act) → Move Act → Bool
+tile_fits ms (Does a) = fits_act a
+tile_fits ms (Gets r behind) = fits_behind (spot_at r.ask (waiting_ask ms)) behind
 
 -- an ask without its Fetch is whole where it waits
 abbrev pub whole_act : Act → Bool
@@ -174,16 +174,16 @@ whole_act _ = true
 -- a reply for which a tile waits has its Fetch, but where it is Cut
 abbrev pub whole_move : List (Move Act) → Move Act → Bool
 whole_move ms (Does a) = whole_act a
-whole_move ms (Gets r behind) = is_none (spot_at r.ask (waiting ms)) || (not (is_empty behind) || is_cut {A = Act} (Gets r behind))
+whole_move ms (Gets r behind) = is_none (spot_at r.ask (waiting_ask ms)) || (not (is_empty behind) || is_cut {A = Act} (Gets r behind))
 
 -- the bytes that are answered to a move
-abbrev pub says : List (Move Act) → Move Act → List ℕ
-says ms (Does a) = answer_of a
-says ms (Gets r behind) = answer_behind behind
+abbrev pub tile_says : List (Move Act) → Move Act → List ℕ
+tile_says ms (Does a) = answer_of a
+tile_says ms (Gets r behind) = answer_behind behind
 
 -- the tile was fetched at once, and no memory found
 abbrev pub starves_act : Act → Bool
-starves_act (act.Served s a f) = is_no_memory f
+starves_act (act.Served s a f) = found_no_memory f
 starves_act _ = false
 
 -- an entry of the move was answered with want of memory
@@ -203,16 +203,16 @@ ends (Does a ∷ ms) = is_answer a || ends ms
 ends (Gets r behind ∷ ms) = not (is_empty behind) || ends ms
 
 -- what the tile front of that number makes of a connection, where these are the farm's maps by their names
-abbrev pub rules_of : ℕ → (List ℕ → Option ℕ) → Rules Act Wish
-rules_of front maps = record {
+abbrev pub tile_rules : ℕ → (List ℕ → Option ℕ) → Rules Act HttpAsk
+tile_rules front maps = record {
   number = front;
   wanted = Wants maps;
   refuses = λ given. false;
   want = want;
-  entries = λ c a. entries_of (record { front = front; number = c }) a;
-  fits = fits;
+  entries = λ c a. tile_entries (record { front = front; number = c }) a;
+  fits = tile_fits;
   whole = whole_move;
-  says = says;
+  says = tile_says;
   starves = starves;
   ends = ends;
 }
@@ -220,15 +220,15 @@ rules_of front maps = record {
 -- ---- what is kept of a session
 
 -- what was asked, in order
-abbrev pub wishes : List (Move Act) → List Wish
-wishes [] = []
-wishes (Does a ∷ ms) = wishes ms ++ want a ∷ []
-wishes (Gets r behind ∷ ms) = wishes ms
+abbrev pub http_asks : List (Move Act) → List HttpAsk
+http_asks [] = []
+http_asks (Does a ∷ ms) = http_asks ms ++ want a ∷ []
+http_asks (Gets r behind ∷ ms) = http_asks ms
 
--- While the head is read, all bytes are kept, and nothing was asked; then one wish was. The ask that waits is kept,
+-- While the head is read, all bytes are kept, and nothing was asked; then one ask was. The ask that waits is kept,
 -- and whether all was answered.
-pub record Knows (given : List ℕ) (ms : List (Move Act)) (talk : Talk) : Type 0 where
-  pub head : is_reading talk.stage ≡ true → (talk.head.items ≡ given) × (length given < most_head_bytes) × (wishes ms ≡ [])
-  pub once : is_reading talk.stage ≡ false → (w : Wish) × (wishes ms ≡ w ∷ [])
-  pub waits : waiting ms ≡ waits_in talk.stage
-  pub ends : ends ms ≡ is_answered talk.stage
+pub record Knows (given : List ℕ) (ms : List (Move Act)) (conn_state : ConnState) : Type 0 where
+  pub head : is_reading conn_state.stage ≡ true → (conn_state.head.items ≡ given) × (length given < most_head_bytes) × (http_asks ms ≡ [])
+  pub once : is_reading conn_state.stage ≡ false → (w : HttpAsk) × (http_asks ms ≡ w ∷ [])
+  pub waits : waiting_ask ms ≡ waits_in conn_state.stage
+  pub ends : ends ms ≡ is_answered conn_state.stage

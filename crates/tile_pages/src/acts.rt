@@ -3,7 +3,7 @@ use farm_history::{AskAnswer, Fetched, Looked, Spot};
 
 /// What a connection asks for.
 #[derive(Clone, Copy)]
-pub enum Wish {
+pub enum HttpAsk {
     /// No head of a request came.
     Bad,
     /// Its method is not `GET`.
@@ -18,11 +18,11 @@ pub enum Wish {
     Dirty(Spot),
 }
 
-/// A wish that was done, with the answers that it got. No value of it is made.
+/// A ask that was done, with the answers that it got. No value of it is made.
 #[derive(Drop)]
 pub enum Act {
     /// Nothing was asked of the farm.
-    Refused(Wish),
+    Refused(HttpAsk),
     /// The tile was asked for, and it has not been fetched.
     Asked(Spot, AskAnswer),
     /// The tile was asked for and fetched at once.

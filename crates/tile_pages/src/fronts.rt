@@ -1,13 +1,13 @@
 //! The tile front as one of the three.
 ghost use Rattle.std.specs.Prelude.{refl};
-ghost use Rattle.tile_pages.specs.Tiles.{rules_of, Knows};
+ghost use Rattle.tile_pages.specs.Tiles.{tile_rules, Knows};
 
-use crate::acts::{Act, Wish};
+use crate::acts::{Act, HttpAsk};
 use crate::hearing::{hear_piece, take_reply};
-use crate::talks::{Stage, Talk, is_answered};
+use crate::conn_states::{Stage, ConnState, is_answered};
 use farm_base::Worn;
 use farm_history::{Conn, Reply};
-use front_rounds::{Farm, Fate, Front};
+use front_rounds::{Farm, Disposition, Front};
 use std::alloc::Global;
 use std::sync::Wait;
 
@@ -18,13 +18,13 @@ pub struct Tiles {
 }
 
 impl<M: Farm> Front<M> for Tiles {
-    type Talk = Talk;
+    type ConnState = ConnState;
 
-    type Want = Wish;
+    type Want = HttpAsk;
 
     type Act = Act;
 
-    ghost rules = { λ tiles farm. rules_of tiles.front (M.map_at farm) };
+    ghost rules = { λ tiles farm. tile_rules tiles.front (M.map_at farm) };
 
     ghost knows = { Knows };
 
@@ -32,8 +32,8 @@ impl<M: Farm> Front<M> for Tiles {
         self.front
     }
 
-    fn begin(&self, alloc: Global, _farm: &M) -> Talk {
-        Talk {
+    fn begin(&self, alloc: Global, _farm: &M) -> ConnState {
+        ConnState {
             head: Vec::new(alloc),
             stage: Stage::Reading,
         }
@@ -46,15 +46,15 @@ impl<M: Farm> Front<M> for Tiles {
         farm: &M,
         seat: &mut M::Seat,
         conn: u32,
-        talk: &mut Talk,
+        conn_state: &mut ConnState,
         piece: &[u8],
-        said: &mut Vec<u8>,
-    ) -> Result<Fate, Worn> {
+        response: &mut Vec<u8>,
+    ) -> Result<Disposition, Worn> {
         let conn = Conn {
             front: self.front,
             number: conn,
         };
-        hear_piece(rt, alloc, farm, seat, conn, talk, piece, said)
+        hear_piece(rt, alloc, farm, seat, conn, conn_state, piece, response)
     }
 
     fn reply<R: Wait>(
@@ -63,15 +63,15 @@ impl<M: Farm> Front<M> for Tiles {
         alloc: Global,
         farm: &M,
         seat: &mut M::Seat,
-        talk: &mut Talk,
+        conn_state: &mut ConnState,
         reply: Reply,
-        said: &mut Vec<u8>,
-    ) -> Result<Fate, Worn> {
-        take_reply(rt, alloc, farm, seat, self.front, talk, reply, said)
+        response: &mut Vec<u8>,
+    ) -> Result<Disposition, Worn> {
+        take_reply(rt, alloc, farm, seat, self.front, conn_state, reply, response)
     }
 
-    fn is_done(&self, _farm: &M, talk: &Talk) -> bool {
-        is_answered(talk.stage)
+    fn is_done(&self, _farm: &M, conn_state: &ConnState) -> bool {
+        is_answered(conn_state.stage)
     }
 
     ghost alone = { λ tiles farm reply ms. (refl, refl) };

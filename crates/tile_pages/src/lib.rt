@@ -5,8 +5,8 @@ mod acts;
 mod fronts;
 mod hearing;
 mod serving;
-mod talks;
+mod conn_states;
 
-pub use acts::{Act, Wish};
+pub use acts::{Act, HttpAsk};
 pub use fronts::Tiles;
-pub use talks::{Stage, Talk};
+pub use conn_states::{Stage, ConnState};

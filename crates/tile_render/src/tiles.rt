@@ -3,7 +3,7 @@ ghost use Rattle.std.specs.Prelude.{◌≡◌, IfOk, IsTrue};
 ghost use Rattle.std.specs.List.{list_all};
 ghost use Rattle.plain_world.specs.World.{IsTile, IsTileSize};
 ghost use Rattle.plain_shapes.specs.Ppm.{ppm};
-ghost use Rattle.plain_drawing.specs.Drawing.{tile_of};
+ghost use Rattle.plain_drawing.specs.Drawing.{drawn_tile};
 
 use crate::canvas::Canvas;
 use crate::layers::draw_map;
@@ -27,7 +27,7 @@ pub fn draw_tile_picture(
 ) -> Result<Image, NoMemory>
     requires size { IsTileSize size }
     requires tile { IsTile t }
-    ensures { IfOk result (λ image. ppm image.cols image.rows image.pixels ≡ tile_of style.now size t snapshot.now) }
+    ensures { IfOk result (λ image. ppm image.cols image.rows image.pixels ≡ drawn_tile style.now size t snapshot.now) }
 {
     let w = window(t, size);
     let scale = denominator(t.z, size);
@@ -47,7 +47,7 @@ pub fn draw_tile(
 ) -> Result<Vec<u8>, NoMemory>
     requires size { IsTileSize size }
     requires tile { IsTile t }
-    ensures { IfOk result (λ v. v.items ≡ tile_of style.now size t snapshot.now) }
+    ensures { IfOk result (λ v. v.items ≡ drawn_tile style.now size t snapshot.now) }
 {
     let image = draw_tile_picture(alloc, Vec::new(alloc), style, size, t, snapshot)?;
     image.write_ppm(alloc)

@@ -40,10 +40,10 @@ IfTold old new holds = MatchOption old.told (new.told ≡ None) (λ before. (now
 
 -- A put of bytes at a path. After Ok the path holds the bytes and the count is as before; after Failed
 -- what the path holds is unknown, and the count has risen; after NoMemory all is as before.
-abbrev pub Puts : Outside StoreTold → Outside StoreTold → List ℕ → List ℕ → Result (Unit {0}) StoreFault → Type 0
-Puts old new path bytes (Ok done) = IfTold old new (λ before now. Stored before now path bytes) × (new.faults ≡ old.faults)
-Puts old new path bytes (Err Failed) = IfTold old new (λ before now. PutFailed before now path) × Counted old.faults new.faults
-Puts old new path bytes (Err NoMemory) = new ≡ old
+abbrev pub StorePuts : Outside StoreTold → Outside StoreTold → List ℕ → List ℕ → Result (Unit {0}) StoreFault → Type 0
+StorePuts old new path bytes (Ok done) = IfTold old new (λ before now. Stored before now path bytes) × (new.faults ≡ old.faults)
+StorePuts old new path bytes (Err Failed) = IfTold old new (λ before now. PutFailed before now path) × Counted old.faults new.faults
+StorePuts old new path bytes (Err NoMemory) = new ≡ old
 
 -- the same content after one more get of this path that failed
 abbrev pub with_failed_get : List ℕ → StoreTold → StoreTold

@@ -4,7 +4,7 @@ ghost use Rattle.std.specs.Prelude.{◌≡◌, ◌≤◌, ℕ, false, length, Er
 ghost use Rattle.farm_base.specs.Limits.{most_file_bytes};
 ghost use Rattle.farm_base.specs.Outside.{untold};
 ghost use Rattle.tile_store.specs.declared.stores.StoreFault.TheVariants.{Failed};
-ghost use Rattle.tile_store.specs.Stores.{Puts, Gets, whole, part};
+ghost use Rattle.tile_store.specs.Stores.{StorePuts, Gets, whole, part};
 ghost use Rattle.tile_store.specs.inner.Counts.{Counts};
 ghost use Rattle.tile_store.specs.Files as spec;
 ghost use Rattle.tile_store.specs.Files.{is_own_path};
@@ -58,7 +58,7 @@ impl<R: rt::Files> TileStore for FileStore<R> {
 
     /// Makes the path's file have the bytes; Failed also for a path that is not taken.
     fn put(&mut self, alloc: Global, path: &str, bytes: &[u8]) -> Result<(), StoreFault>
-        ensures state { Puts (untold self.old.faults) (untold self.new.faults) path.now bytes.now result }
+        ensures state { StorePuts (untold self.old.faults) (untold self.new.faults) path.now bytes.now result }
         ensures taken { is_own_path path.now ≡ false → result ≡ Err Failed }
     {
         let answer = write_beside(alloc, &self.rt, path, bytes);

@@ -4,7 +4,7 @@ ghost use Rattle.std.specs.Str.{bytes_eq};
 ghost use Rattle.farm_base.specs.InMemory.{content_of, next_count};
 ghost use Rattle.farm_base.specs.InMemory as base;
 ghost use Rattle.tile_store.specs.declared.stores.StoreFault.TheVariants.{Failed, NoMemory};
-ghost use Rattle.tile_store.specs.Stores.{Puts, Gets, whole, part, failed_put, failed_get};
+ghost use Rattle.tile_store.specs.Stores.{StorePuts, Gets, whole, part, failed_put, failed_get};
 ghost use Rattle.tile_store.specs.Held.{store_state, with_content, put_fails, get_fails, half, PutsHeld, GetsHeld};
 
 use crate::stores::{StoreFault, TileStore};
@@ -183,7 +183,7 @@ impl TileStore for MemStore {
     /// As the trait says, and exactly: it fails where its number is in the list, and then the path
     /// holds the first half of the bytes, rounded down.
     fn put(&mut self, alloc: Global, path: &str, bytes: &[u8]) -> Result<(), StoreFault>
-        ensures state { Puts (store_state self.old) (store_state self.new) path.now bytes.now result }
+        ensures state { StorePuts (store_state self.old) (store_state self.new) path.now bytes.now result }
         ensures exact { PutsHeld self.old self.new path.now bytes.now result }
     {
         if self.put_is_to_fail() {

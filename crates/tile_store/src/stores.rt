@@ -1,7 +1,7 @@
 //! The trait of tile stores.
 ghost use Rattle.std.specs.Prelude.{◌≡◌, ◌≤◌, ℕ, length, Option, IfOk, IfSome};
 ghost use Rattle.farm_base.specs.Outside.{Outside};
-ghost use Rattle.tile_store.specs.Stores.{StoreTold, Puts, Gets, whole, part};
+ghost use Rattle.tile_store.specs.Stores.{StoreTold, StorePuts, Gets, whole, part};
 
 use farm_base::{FileFault, NoMemory};
 use std::alloc::{AllocError, AllocFailed, Global};
@@ -64,7 +64,7 @@ pub trait TileStore {
     /// Makes the path hold the bytes, and changes no other path. Failed comes only where the count of
     /// faults rose in this call; then what the path holds is unknown, and all other paths are as before.
     fn put(&mut self, alloc: Global, path: &str, bytes: &[u8]) -> Result<(), StoreFault>
-        ensures { Puts (state self.old) (state self.new) path.now bytes.now result };
+        ensures { StorePuts (state self.old) (state self.new) path.now bytes.now result };
 
     /// The bytes that the path holds; `None` exactly where it holds nothing. Changes no content. Failed
     /// comes only where the count of faults rose in this call.

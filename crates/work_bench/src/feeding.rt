@@ -1,5 +1,5 @@
 //! The feeder.
-ghost use Rattle.work_bench.specs.Crew.{IsFront};
+ghost use Rattle.work_bench.specs.Pool.{IsFront};
 
 use crossbeam_utils::sync::Unparker;
 use farm_history::{AskAnswer, Cmd, Conn, Spot};

@@ -9,12 +9,12 @@
 ghost use Rattle.std.specs.Prelude.{◌<◌};
 ghost use Rattle.farm_plan.specs.Plans.{IsPlan};
 
-mod crew;
+mod pool;
 mod feeding;
 mod plans;
 mod stores;
 
-use crate::crew::run;
+use crate::pool::run;
 use crate::feeding::Drawn;
 use crate::plans::{plan_in, rounds_of};
 use farm_base::DiskFiles;

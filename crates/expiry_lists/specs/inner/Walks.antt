@@ -3,7 +3,7 @@ use Rattle.std.specs.Prelude.{ℕ, suc, zero, ◌+◌, ◌*◌, ◌/◌, ◌%◌
 use Rattle.farm_history.specs.declared.keys.Key.{Key}
 use Rattle.farm_history.specs.Plans.{same_key}
 use Rattle.plain_world.specs.World.{IsMeta}
-use Rattle.expiry_lists.specs.Marks.{Shown, soil_marks, clean_marks}
+use Rattle.expiry_lists.specs.Marks.{Shown, dirtied_marks, clean_marks}
 use Rattle.expiry_lists.specs.declared.nodes.Node.{Node}
 use Rattle.expiry_lists.specs.inner.Nodes.{parent, has_node, shown_of, IsTree, Quieter}
 
@@ -28,13 +28,13 @@ pub record IsNode (k : Key) : Type 0 where
   pub meta : IsMeta k.meta
 
 -- the keys that pass the test were made dirty, and so many of them were clean
-pub record Soils (test : Key → Bool) (old new : List Shown) (count : ℕ) : Type 0 where
-  pub marks : new ≡ soil_marks test old
+pub record Dirties (test : Key → Bool) (old new : List Shown) (count : ℕ) : Type 0 where
+  pub marks : new ≡ dirtied_marks test old
   pub counted : count ≡ clean_marks test old
 
 -- what an expiry does to the table: the keys that pass the test were made dirty, the table is a quadtree with the same keys, and none is live that was not
 pub record Walks (test : Key → Bool) (old new : List (Key × Node)) (count : ℕ) : Type 0 where
-  pub soils : Soils test (shown_of old) (shown_of new) count
+  pub dirties : Dirties test (shown_of old) (shown_of new) count
   pub tree : IsTree new
   pub there : (k : Key) → has_node new k ≡ has_node old k
   pub quieter : Quieter old new

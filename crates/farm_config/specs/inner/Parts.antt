@@ -6,7 +6,7 @@ use Rattle.reading.specs.Steps.{◌>>=◌}
 use Rattle.reading.specs.Values.{needed, or_value, opened}
 use Rattle.farm_config.specs.Configs.{MapEntry, Config, greatest_limits}
 use Rattle.farm_config.specs.Limits.{most_workers}
-use Rattle.farm_config.specs.Kinds.{a_file, a_number, an_address, a_truth}
+use Rattle.farm_config.specs.Kinds.{a_file, number_within, an_address, a_truth}
 use Rattle.farm_config.specs.Tables.{config_keys, maps_of, files_of, limits_of, restyles_of}
 use Rattle.farm_config.specs.declared.config.RestyleEntry.{RestyleEntry}
 use Rattle.farm_config.specs.declared.fault.ConfigFault.{ConfigFault}
@@ -16,7 +16,7 @@ use Rattle.farm_config.specs.declared.reading_config.Service.{Service}
 -- how the farm serves: its workers, the limits of its queues and its addresses
 unfoldable pub service_of : Data → Result Service ConfigFault
 service_of d = do
-  workers ← or_value 2 (a_number 5 1 most_workers) (get (codes "workers") d)
+  workers ← or_value 2 (number_within 5 1 most_workers) (get (codes "workers") d)
   limits ← or_value greatest_limits limits_of (get (codes "limits") d)
   renderd ← or_value None (an_address 7) (get (codes "renderd") d)
   tiles ← or_value None (an_address 8) (get (codes "tiles") d)

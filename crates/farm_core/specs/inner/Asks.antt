@@ -17,10 +17,10 @@ use Rattle.render_queues.specs.OneQueue.{is_below}
 use Rattle.render_queues.specs.declared.standing.Standing.{Standing}
 use Rattle.render_queues.specs.declared.standing.Standing.TheVariants.{Waits as InLine, Taken}
 use Rattle.render_queues.specs.Tables.{Tables, line_of, open_of, open_count, standing, is_liftable, takes_lifted}
-use Rattle.expiry_lists.specs.Marks.{mark_of, soil_marks}
+use Rattle.expiry_lists.specs.Marks.{mark_of, dirtied_marks}
 use Rattle.farm_stands.specs.Seen.{Counts, FarmSeen}
 use Rattle.farm_history.specs.Past.{number_in, is_done_answer}
-use Rattle.farm_stands.specs.inner.Events.{waits_at, soil_taken, marked_tables, asked_tables}
+use Rattle.farm_stands.specs.inner.Events.{waits_at, dirtied_taken, marked_tables, asked_tables}
 
 -- the answer to an ask for a key with a render command, before any Stop
 abbrev pub answer_at : {D : Type 0} → FarmSeen D → Conn → Cmd → Key → AskAnswer
@@ -58,8 +58,8 @@ rendered_counts answer c = record c {
 
 -- the key is touched, and goes to the dirty queue where it stands nowhere
 pub record Dirties {D : Type 0} (k : Key) (old new : FarmSeen D) : Type 0 where
-  pub shown : new.marks.shown ≡ soil_marks (same_key k) old.marks.shown
-  pub rest : new ≡ record old { taken = soil_taken (same_key k) old.taken; marks = new.marks; queues = marked_tables old.queues k }
+  pub shown : new.marks.shown ≡ dirtied_marks (same_key k) old.marks.shown
+  pub rest : new ≡ record old { taken = dirtied_taken (same_key k) old.taken; marks = new.marks; queues = marked_tables old.queues k }
 
 -- what an ask with a render command is answered, whose metatile is given where the spot can be served
 abbrev pub rendered_at : {D : Type 0} → FarmSeen D → Conn → Cmd → Option Key → AskAnswer

@@ -3,7 +3,7 @@ use Rattle.std.specs.Prelude.{ℕ, ◌+◌, ◌≤◌, ◌≡◌, Bool, ◌||◌
 use Rattle.farm_base.specs.Outside.{Outside}
 use Rattle.tile_store.specs.declared.stores.StoreFault.{StoreFault}
 use Rattle.tile_store.specs.declared.stores.StoreFault.TheVariants.{Failed, NoMemory}
-use Rattle.tile_store.specs.Stores.{StoreTold, Puts}
+use Rattle.tile_store.specs.Stores.{StoreTold, StorePuts}
 use Rattle.farm_history.specs.declared.keys.Key.{Key}
 use Rattle.farm_history.specs.declared.keys.Mark.{Mark}
 use Rattle.farm_history.specs.declared.queues.Outcome.{Outcome}
@@ -15,7 +15,7 @@ use Rattle.farm_history.specs.Lists.{without_first}
 use Rattle.farm_history.specs.Plans.{AreApart, same_key}
 use Rattle.farm_history.specs.Seen.{Taken}
 use Rattle.render_queues.specs.Tables.{Tables, next_of, after_take, after_end, is_of_front}
-use Rattle.expiry_lists.specs.Marks.{MarksSeen, shown_key, mark_of, soil_marks, clean_marks}
+use Rattle.expiry_lists.specs.Marks.{MarksSeen, shown_key, mark_of, dirtied_marks, clean_marks}
 use Rattle.farm_plan.specs.Drawings.{key_path, update_of}
 use Rattle.plain_data.specs.Features.{Layer}
 use Rattle.plain_data.specs.Data.{Change, update_result}
@@ -24,7 +24,7 @@ use Rattle.farm_jobs.specs.Shared.{ShareSeen}
 use Rattle.farm_stands.specs.Seen.{Counts, FarmSeen}
 use Rattle.farm_stands.specs.Jobs.{JobSeen, job_key}
 use Rattle.farm_stands.specs.Reads.{ReadsTile, fetched_by}
-use Rattle.farm_stands.specs.inner.Events.{new_flight, soil_taken, stale_tables, taken_at, one_turn_more}
+use Rattle.farm_stands.specs.inner.Events.{new_flight, dirtied_taken, stale_tables, taken_at, one_turn_more}
 
 -- ---- claims
 
@@ -81,11 +81,11 @@ one_stored c = record c { stored = c.stored + 1 }
 -- The end of a drawing of the key at that version, with these bytes: stored, clean where nothing touched it; or its put failed; or there was no memory, and what is shown stays
 abbrev pub Keeps : {D : Type 0} → (D → Outside StoreTold) → FarmSeen D → FarmSeen D → Key → ℕ → Bool → List ℕ → Finished → Type 0
 Keeps state old new key version touched bytes (Finished.Stored clean) =
-    (clean ≡ not touched) × Puts (state old.store) (state new.store) (key_path old.plan key) bytes (Ok tt)
+    (clean ≡ not touched) × StorePuts (state old.store) (state new.store) (key_path old.plan key) bytes (Ok tt)
     × MarksBut old.marks new.marks key (Some (record { version = version; clean = not touched }))
     × (new ≡ record old { store = new.store; marks = new.marks; queues = stale_tables (not touched) (after_end old.queues key Outcome.Done) key; counts = one_stored old.counts })
 Keeps state old new key version touched bytes Finished.PutFailed =
-    Puts (state old.store) (state new.store) (key_path old.plan key) bytes (Err Failed)
+    StorePuts (state old.store) (state new.store) (key_path old.plan key) bytes (Err Failed)
     × MarksBut old.marks new.marks key None
     × (new ≡ record old { store = new.store; marks = new.marks; queues = after_end old.queues key Outcome.NotDone })
 Keeps state old new key version touched bytes Finished.NoMemory =
@@ -145,11 +145,11 @@ Advances old new n past =
 -- ---- touches
 
 -- the keys that pass the test are touched, among what is shown and among the drawings under way; of those that are shown so many were clean
-pub record Soils {D : Type 0} (test : Key → Bool) (old new : FarmSeen D) (count : ℕ) : Type 0 where
+pub record Dirties {D : Type 0} (test : Key → Bool) (old new : FarmSeen D) (count : ℕ) : Type 0 where
   pub count_is : count ≡ clean_marks test old.marks.shown
   pub apart : AreApart shown_key old.marks.shown
-  pub shown : new.marks.shown ≡ soil_marks test old.marks.shown
-  pub rest : new ≡ record old { taken = soil_taken test old.taken; marks = new.marks }
+  pub shown : new.marks.shown ≡ dirtied_marks test old.marks.shown
+  pub rest : new ≡ record old { taken = dirtied_taken test old.taken; marks = new.marks }
 
 -- ---- calls
 

@@ -11,7 +11,7 @@ use Rattle.expiry_lists.specs.Marks.{shown_key}
 use Rattle.farm_reach.specs.Boxes.{AreBoxesOf, boxes_reach_map}
 use Rattle.farm_reach.specs.Marks.{is_reached, Expires}
 use Rattle.farm_stands.specs.Seen.{FarmSeen}
-use Rattle.farm_stands.specs.inner.Events.{soil_taken}
+use Rattle.farm_stands.specs.inner.Events.{dirtied_taken}
 
 -- boxes of the features that the update of the number names over the newest data, where these are valid, as those are to which the farm began with
 pub record Names {D : Type 0} (farm : FarmSeen D) (number : ℕ) (boxes : List Bounds) : Type 0 where
@@ -23,7 +23,7 @@ pub record Names {D : Type 0} (farm : FarmSeen D) (number : ℕ) (boxes : List B
 pub record Reaches {D : Type 0} (boxes : List Bounds) (old new : FarmSeen D) (count : ℕ) : Type 0 where
   pub marks : Expires (is_reached old.plan.maps boxes) old.marks.shown new.marks.shown count
   pub apart : 0 < length boxes → AreApart shown_key old.marks.shown
-  pub rest : new ≡ record old { taken = soil_taken (λ k. boxes_reach_map boxes (slice_get old.plan.maps k.map) k.meta) old.taken; marks = new.marks }
+  pub rest : new ≡ record old { taken = dirtied_taken (λ k. boxes_reach_map boxes (slice_get old.plan.maps k.map) k.meta) old.taken; marks = new.marks }
 
 -- the update's data are the newest now, as one more version, the update is noted, and what it reaches is touched
 pub record Renews {D : Type 0} (old new : FarmSeen D) (number count : ℕ) : Type 0 where
@@ -36,6 +36,6 @@ pub record Renews {D : Type 0} (old new : FarmSeen D) (number count : ℕ) : Typ
     data_now = new.data_now;
     changes = old.changes ++ Past.Renew number ∷ [];
     counts = record old.counts { version = old.counts.version + 1 };
-    taken = soil_taken (λ k. boxes_reach_map boxes (slice_get old.plan.maps k.map) k.meta) old.taken;
+    taken = dirtied_taken (λ k. boxes_reach_map boxes (slice_get old.plan.maps k.map) k.meta) old.taken;
     marks = new.marks;
   }

@@ -15,7 +15,7 @@ use Rattle.farm_shared.specs.declared.turned.Turned.{Turned}
 use Rattle.farm_shared.specs.Shared.{Adds, IsClosed}
 use Rattle.render_workers.specs.declared.worker.WorkEnd.{WorkEnd}
 use Rattle.farm_threads.specs.declared.each_front.EachFront.{EachFront}
-use Rattle.farm_threads.specs.declared.crew.Actor.{Actor}
+use Rattle.farm_threads.specs.declared.pool.Actor.{Actor}
 use Rattle.farm_threads.specs.declared.together.RunSeats.{RunSeats}
 use Rattle.farm_threads.specs.Actors.{Leaving, WorkBy, IsReady, HasEnded, AreStanding}
 
@@ -37,7 +37,7 @@ module _ {T : Type 0} where
 
   -- how each worker ended
   abbrev pub ends_in : List (Actor (SeatState T Entry)) → List (Option WorkEnd)
-  ends_in crew = map (λ a. a.end) crew
+  ends_in pool = map (λ a. a.end) pool
 
   -- the turn of the Tally: entered, or worn
   abbrev pub IsTally : Option Totals → SeatState T Entry → SeatState T Entry → Type 0
@@ -57,9 +57,9 @@ module _ {T : Type 0} where
   pub record IsSet (made : Made T) (workers : ℕ) (run_seats : RunSeats (SeatState T Entry)) : Type 0 where
     pub own : IsStart made workers run_seats.front_seats.own
     pub standing : AreStanding made 0 1 2 run_seats.front_seats
-    pub long : length run_seats.crew.items ≡ workers
-    pub ready : All (IsReady made) run_seats.crew.items
-    pub numbered : Numbered 0 run_seats.crew.items
+    pub long : length run_seats.pool.items ≡ workers
+    pub ready : All (IsReady made) run_seats.pool.items
+    pub numbered : Numbered 0 run_seats.pool.items
 
   -- a front's seat when it has ended
   pub record HasLeft (made : Made T) (n : ℕ) (leaves : Leaving) (told told' : Outside PortsTold) (done : FrontDone) (v : SeatState T Entry) : Type 0 where
@@ -74,22 +74,22 @@ module _ {T : Type 0} where
     pub worn : a.end ≡ Some WorkEnd.Worn → a.seat.worn ≡ true
 
   -- what the threads left: `own` is the first seat then
-  pub record Ran (made : Made T) (leaves leaves' leaves'' : Leaving) (start own : SeatState T Entry) (crew : List (Actor (SeatState T Entry))) (told told' : EachFront (Outside PortsTold)) (done : EachFront FrontDone) (stopped : Bool) : Type 0 where
-    pub start_is : IsStart made (length crew) start
-    pub posts : EachFront (SeatState T Entry)
-    pub renderd : HasLeft made 1 leaves told.renderd told'.renderd done.renderd posts.renderd
-    pub tiles : HasLeft made 2 leaves' told.tiles told'.tiles done.tiles posts.tiles
-    pub control : HasLeft made 3 leaves'' told.control told'.control done.control posts.control
-    pub ended : HasEnded made start own posts stopped
-    pub spent : Each (IsSpent made) crew
-    pub numbered : Numbered 0 crew
+  pub record Ran (made : Made T) (leaves leaves' leaves'' : Leaving) (start own : SeatState T Entry) (pool : List (Actor (SeatState T Entry))) (told told' : EachFront (Outside PortsTold)) (done : EachFront FrontDone) (stopped : Bool) : Type 0 where
+    pub start_is : IsStart made (length pool) start
+    pub seats : EachFront (SeatState T Entry)
+    pub renderd : HasLeft made 1 leaves told.renderd told'.renderd done.renderd seats.renderd
+    pub tiles : HasLeft made 2 leaves' told.tiles told'.tiles done.tiles seats.tiles
+    pub control : HasLeft made 3 leaves'' told.control told'.control done.control seats.control
+    pub ended : HasEnded made start own seats stopped
+    pub spent : Each (IsSpent made) pool
+    pub numbered : Numbered 0 pool
 
 -- The end of a run: `own` is the first seat after the threads, `h` the same at the closing, which leaves the farm and the history
-pub record IsEnd {D : Type 0} (state : D → Outside StoreTold) (made : Made (Turned D)) (own : SeatState (Turned D) Entry) (crew : List (Actor (SeatState (Turned D) Entry))) (tally : Option Totals) (closed : FarmSeen D × List (ℕ × Entry)) : Type 0 where
+pub record IsEnd {D : Type 0} (state : D → Outside StoreTold) (made : Made (Turned D)) (own : SeatState (Turned D) Entry) (pool : List (Actor (SeatState (Turned D) Entry))) (tally : Option Totals) (closed : FarmSeen D × List (ℕ × Entry)) : Type 0 where
   pub h : SeatState (Turned D) Entry
-  pub longer : StartsWith (first_seat_after own crew).seen own.seen
-  pub tallies : IsTally tally (first_seat_after own crew) h
-  pub same : SameSeat (first_seat_after own crew) h
+  pub longer : StartsWith (first_seat_after own pool).seen own.seen
+  pub tallies : IsTally tally (first_seat_after own pool) h
+  pub same : SameSeat (first_seat_after own pool) h
   pub known : Knows h
   pub is_closed : IsClosed state made.about.limit made.about.first.value.farm h closed.0
   pub history : closed.1 ≡ h.seen

@@ -3,7 +3,7 @@ use Rattle.std.specs.Prelude.{◌≡◌, ◌⊎◌, ℕ, ◌<◌, Bool, List, []
 use Rattle.farm_base.specs.Limits.{most_turns}
 use Rattle.farm_base.specs.Outside.{Outside}
 use Rattle.farm_base.specs.declared.memory.NoMemory.{NoMemory}
-use Rattle.tile_store.specs.Stores.{StoreTold, Puts}
+use Rattle.tile_store.specs.Stores.{StoreTold, StorePuts}
 use Rattle.tile_store.specs.declared.stores.StoreFault.{StoreFault}
 use Rattle.tile_store.specs.declared.stores.StoreFault.TheVariants as fault
 use Rattle.call_ends.specs.Stops.{refused_line}
@@ -48,6 +48,6 @@ BeganBy state plan store found (Err back) = (back.0 ≡ store) × Refuses plan f
 -- no bytes were put in the place of what was saved: the farm is as it was but for its store; or why not
 abbrev pub Empties : {D : Type 0} → (D → Outside StoreTold) → FarmSeen D → Result (FarmSeen D) (D × Stop) → Type 0
 Empties state old (Ok new) =
-    Puts (state old.store) (state new.store) saved_path [] (Ok tt) × (new ≡ record old { store = new.store })
+    StorePuts (state old.store) (state new.store) saved_path [] (Ok tt) × (new ≡ record old { store = new.store })
     × ((told : Bool) (h : List Entry) → StandsFor state told old h → StandsFor state told new h)
-Empties state old (Err back) = (why : StoreFault) × Puts (state old.store) (state back.0) saved_path [] (Err why) × (back.1 ≡ stop_of why)
+Empties state old (Err back) = (why : StoreFault) × StorePuts (state old.store) (state back.0) saved_path [] (Err why) × (back.1 ≡ stop_of why)

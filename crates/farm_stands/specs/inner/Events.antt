@@ -148,8 +148,8 @@ abbrev pub updated_counts : Counts → Counts
 updated_counts c = record c { turns = c.turns + 1; version = c.version + 1 }
 
 -- the drawings under way after an event that touches the keys which pass the test
-abbrev pub soil_taken : (Key → Bool) → List Taken → List Taken
-soil_taken test taken = map (overtaken_by test) taken
+abbrev pub dirtied_taken : (Key → Bool) → List Taken → List Taken
+dirtied_taken test taken = map (overtaken_by test) taken
 
 -- a kept key that is asked for, claimed, stored and collected in a replay
 abbrev pub replayed_counts : Counts → Counts

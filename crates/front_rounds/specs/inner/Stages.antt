@@ -14,10 +14,10 @@ use Rattle.port_trait.specs.declared.ends.FrontEnd.{FrontEnd}
 use Rattle.port_trait.specs.declared.ends.FrontEnd.TheVariants as ended
 use Rattle.port_trait.specs.Told.{PortsTold, Hears as HearsEvent, heard, after_send, after_close}
 use Rattle.port_trait.specs.Boxes.{rest_in, put_rest}
-use Rattle.front_rounds.specs.declared.fates.Fate.{Fate}
-use Rattle.front_rounds.specs.declared.fates.Fate.TheVariants.{Stays, Leaves}
-use Rattle.front_rounds.specs.declared.fates.Reason.{Reason}
-use Rattle.front_rounds.specs.declared.fates.Reason.TheVariants as reason
+use Rattle.front_rounds.specs.declared.dispositions.Disposition.{Disposition}
+use Rattle.front_rounds.specs.declared.dispositions.Disposition.TheVariants.{Stays, Leaves}
+use Rattle.front_rounds.specs.declared.dispositions.Reason.{Reason}
+use Rattle.front_rounds.specs.declared.dispositions.Reason.TheVariants as reason
 use Rattle.front_rounds.specs.declared.sessions.Session.{Session}
 use Rattle.front_rounds.specs.declared.sessions.SessionTable.{SessionTable}
 use Rattle.front_rounds.specs.declared.offering.Gave.{Gave}
@@ -55,8 +55,8 @@ StopsAfter end end' mine mine' worn = Stopping end end' mine mine' worn
 -- a session as its Writable, its Ended or its Lost leaves it
 abbrev pub marked : {T : Type 0} → PortEvent → Session T → Session T
 marked (event.Writable c) s = record s { owes = true }
-marked (event.Ended c) s = record s { fate = Leaves reason.Ended }
-marked (event.Lost c) s = record s { fate = Leaves reason.Lost }
+marked (event.Ended c) s = record s { disposition = Leaves reason.Ended }
+marked (event.Lost c) s = record s { disposition = Leaves reason.Lost }
 marked _ s = s
 
 -- the round of this event hears or collects
@@ -72,15 +72,15 @@ IsOffering _ _ _ = ⊥
 
 -- no session owes an offer that is kept
 abbrev pub OwesNone : {T : Type 0} → Session T → Type 0
-OwesNone s = keeps s.fate ≡ true → s.owes ≡ false
+OwesNone s = keeps s.disposition ≡ true → s.owes ≡ false
 
 -- What becomes of what was said: passed over where the bytes are not kept; put behind the rest; or there is no room,
 -- or no memory.
-pub data Settles (c : ℕ) (said : List ℕ) (fate fate' : Fate) (box box' : List (ℕ × List ℕ)) : Type 0 where
-  Passes : keeps fate ≡ false → fate' ≡ fate → box' ≡ box → Settles c said fate fate' box box'
-  Holds : keeps fate ≡ true → fate' ≡ fate → box' ≡ put_rest box c (rest_in box c ++ said) → length (rest_in box c ++ said) ≤ most_rest_bytes → Settles c said fate fate' box box'
-  Overflows : keeps fate ≡ true → fate' ≡ Leaves reason.Full → box' ≡ box → most_rest_bytes < length (rest_in box c ++ said) → Settles c said fate fate' box box'
-  Starves : keeps fate ≡ true → fate' ≡ Leaves reason.Starved → box' ≡ box → length (rest_in box c ++ said) ≤ most_rest_bytes → Settles c said fate fate' box box'
+pub data Settles (c : ℕ) (response : List ℕ) (disposition disposition' : Disposition) (box box' : List (ℕ × List ℕ)) : Type 0 where
+  Passes : keeps disposition ≡ false → disposition' ≡ disposition → box' ≡ box → Settles c response disposition disposition' box box'
+  Holds : keeps disposition ≡ true → disposition' ≡ disposition → box' ≡ put_rest box c (rest_in box c ++ response) → length (rest_in box c ++ response) ≤ most_rest_bytes → Settles c response disposition disposition' box box'
+  Overflows : keeps disposition ≡ true → disposition' ≡ Leaves reason.Full → box' ≡ box → most_rest_bytes < length (rest_in box c ++ response) → Settles c response disposition disposition' box box'
+  Starves : keeps disposition ≡ true → disposition' ≡ Leaves reason.Starved → box' ≡ box → length (rest_in box c ++ response) ≤ most_rest_bytes → Settles c response disposition disposition' box box'
 
 -- What an offer does: nothing is due; some bytes are left; all were taken; it failed; or there is no memory.
 abbrev pub Gives : ℕ → List ℕ → List (ℕ × List ℕ) → List (ℕ × List ℕ) → Option PortsTold → Option PortsTold → Gave → Type 0
@@ -95,14 +95,14 @@ abbrev pub part_or_all : List ℕ → Gave
 part_or_all [] = gave.All
 part_or_all (b ∷ rest) = gave.Part
 
--- the fate of a session after an offer; done is whether all is answered on it that will be
-abbrev pub fate_after : Gave → Bool → Fate → Fate
-fate_after gave.Nothing done fate = fate
-fate_after gave.Part done fate = fate
-fate_after gave.All true fate = Leaves reason.SentWhole
-fate_after gave.All false fate = fate
-fate_after gave.Failed done fate = Leaves reason.SendFailed
-fate_after gave.NoMemory done fate = Leaves reason.Starved
+-- the disposition of a session after an offer; done is whether all is answered on it that will be
+abbrev pub disposition_after : Gave → Bool → Disposition → Disposition
+disposition_after gave.Nothing done disposition = disposition
+disposition_after gave.Part done disposition = disposition
+disposition_after gave.All true disposition = Leaves reason.SentWhole
+disposition_after gave.All false disposition = disposition
+disposition_after gave.Failed done disposition = Leaves reason.SendFailed
+disposition_after gave.NoMemory done disposition = Leaves reason.Starved
 
 -- a connection that is left is closed, if it is still open in the ports
 abbrev pub Shuts : ℕ → Reason → Option PortsTold → Option PortsTold → Type 0
@@ -117,34 +117,34 @@ pub data MarksAt {T : Type 0} (e : PortEvent) (c : ℕ) (old new : SessionTable 
 module _ {A W T : Type 0} (R : Rules A W) (K : List ℕ → List (Move A) → T → Type 0) where
   -- a piece is heard on a session that stays
   pub record HearsOne (piece : List ℕ) (mine mine' : List Entry) (s s' : Session T) (box box' : List (ℕ × List ℕ)) : Type 0 where
-    pub said : List ℕ
-    pub fate : Fate
-    pub heard : Hears R K s.conn piece mine mine' s.talk s'.talk said fate
-    pub settles : Settles s.conn said fate s'.fate box box'
-    pub owes : s'.owes ≡ owing s.owes said fate
+    pub response : List ℕ
+    pub disposition : Disposition
+    pub heard : Hears R K s.conn piece mine mine' s.conn_state s'.conn_state response disposition
+    pub settles : Settles s.conn response disposition s'.disposition box box'
+    pub owes : s'.owes ≡ owing s.owes response disposition
     pub conn : s'.conn ≡ s.conn
 
   -- a reply is answered on a session whose bytes are kept
   pub record AnswersOne (reply : Reply) (mine mine' : List Entry) (s s' : Session T) (box box' : List (ℕ × List ℕ)) : Type 0 where
-    pub said : List ℕ
-    pub fate : Fate
-    pub replied : Replies R K reply mine mine' s.talk s'.talk said fate
-    pub settles : Settles s.conn said (worse s.fate fate) s'.fate box box'
-    pub owes : s'.owes ≡ owing s.owes said Stays
+    pub response : List ℕ
+    pub disposition : Disposition
+    pub replied : Replies R K reply mine mine' s.conn_state s'.conn_state response disposition
+    pub settles : Settles s.conn response (worse s.disposition disposition) s'.disposition box box'
+    pub owes : s'.owes ≡ owing s.owes response Stays
     pub conn : s'.conn ≡ s.conn
 
   -- a reply comes for a session: it is passed over, ends the session, or is answered
   pub data RepliesOne (reply : Reply) (mine mine' : List Entry) (s s' : Session T) (box box' : List (ℕ × List ℕ)) : Type 0 where
-    Passed : keeps s.fate ≡ false → mine' ≡ mine → s' ≡ s → box' ≡ box → RepliesOne reply mine mine' s s' box box'
-    Cuts : keeps s.fate ≡ true → reply.outcome ≡ outcome.Cut → mine' ≡ mine → s' ≡ record s { fate = Leaves reason.Cut } → box' ≡ box → RepliesOne reply mine mine' s s' box box'
-    Answers : keeps s.fate ≡ true → (reply.outcome ≡ outcome.Cut → ⊥) → AnswersOne reply mine mine' s s' box box' → RepliesOne reply mine mine' s s' box box'
+    Passed : keeps s.disposition ≡ false → mine' ≡ mine → s' ≡ s → box' ≡ box → RepliesOne reply mine mine' s s' box box'
+    Cuts : keeps s.disposition ≡ true → reply.outcome ≡ outcome.Cut → mine' ≡ mine → s' ≡ record s { disposition = Leaves reason.Cut } → box' ≡ box → RepliesOne reply mine mine' s s' box box'
+    Answers : keeps s.disposition ≡ true → (reply.outcome ≡ outcome.Cut → ⊥) → AnswersOne reply mine mine' s s' box box' → RepliesOne reply mine mine' s s' box box'
 
   -- an offer to a session
   pub data OffersOne (s s' : Session T) (box box' : List (ℕ × List ℕ)) (told told' : Option PortsTold) : Type 0 where
-    Idle : (s.owes ≡ true → keeps s.fate ≡ true → ⊥) → s' ≡ s → box' ≡ box → told' ≡ told → OffersOne s s' box box' told told'
-    Gives_it : s.owes ≡ true → keeps s.fate ≡ true → (g : Gave) (done : Bool) → Gives s.conn (rest_in box s.conn) box box' told told' g
-        → ((given : List ℕ) (ms : List (Move A)) → K given ms s.talk → done ≡ R.ends ms)
-        → s' ≡ record s { owes = false; fate = fate_after g done s.fate } → OffersOne s s' box box' told told'
+    Idle : (s.owes ≡ true → keeps s.disposition ≡ true → ⊥) → s' ≡ s → box' ≡ box → told' ≡ told → OffersOne s s' box box' told told'
+    Gives_it : s.owes ≡ true → keeps s.disposition ≡ true → (g : Gave) (done : Bool) → Gives s.conn (rest_in box s.conn) box box' told told' g
+        → ((given : List ℕ) (ms : List (Move A)) → K given ms s.conn_state → done ≡ R.ends ms)
+        → s' ≡ record s { owes = false; disposition = disposition_after g done s.disposition } → OffersOne s s' box box' told told'
 
   -- A round that is cut short by a worn turn: its steps so far.
   pub record CutShort (start told : Option PortsTold) (mine : List Entry) (starved : ℕ) : Type 0 where
@@ -199,17 +199,17 @@ module _ {A W T : Type 0} (R : Rules A W) (K : List ℕ → List (Move A) → T 
     pub heard : HearsEvent e piece w.told told
 
   -- a worn turn while a piece is heard
-  pub record HearsWorn (c : ℕ) (piece : List ℕ) (mine mine' : List Entry) (talk : T) : Type 0 where
-    pub talk' : T
-    pub said : List ℕ
-    pub heard : Hears R K c piece mine mine' talk talk' said (Leaves reason.Starved)
+  pub record HearsWorn (c : ℕ) (piece : List ℕ) (mine mine' : List Entry) (conn_state : T) : Type 0 where
+    pub conn_state' : T
+    pub response : List ℕ
+    pub heard : Hears R K c piece mine mine' conn_state conn_state' response (Leaves reason.Starved)
 
   -- a worn turn while a reply is answered
   pub record AnswersWorn (reply : Reply) (mine mine' : List Entry) (s : Session T) : Type 0 where
-    pub kept : keeps s.fate ≡ true
-    pub talk' : T
-    pub said : List ℕ
-    pub replied : Replies R K reply mine mine' s.talk talk' said (Leaves reason.Starved)
+    pub kept : keeps s.disposition ≡ true
+    pub conn_state' : T
+    pub response : List ℕ
+    pub replied : Replies R K reply mine mine' s.conn_state conn_state' response (Leaves reason.Starved)
 
   -- one Collect gave a reply, or the last answer
   abbrev pub CollectsOne : PortEvent → Option PortsTold → World T → Collected → Type 0
@@ -233,6 +233,6 @@ module _ {A W T : Type 0} (R : Rules A W) (K : List ℕ → List (Move A) → T 
 
   -- a connection that is not there got a session; or nothing changed
   abbrev pub Admits : ℕ → SessionTable T → SessionTable T → Bool → Type 0
-  Admits c old new true = (talk : T) × (Begins R K talk) × (length old.sessions.items < most_sessions) × (has (conns old.sessions.items) c ≡ false) × (new.sessions.items ≡ old.sessions.items ++ newcomer c talk ∷ [])
+  Admits c old new true = (conn_state : T) × (Begins R K conn_state) × (length old.sessions.items < most_sessions) × (has (conns old.sessions.items) c ≡ false) × (new.sessions.items ≡ old.sessions.items ++ newcomer c conn_state ∷ [])
       × (new.outbox ≡ old.outbox ++ (c, []) ∷ []) × (new.starved ≡ old.starved)
   Admits c old new false = (new.sessions.items ≡ old.sessions.items) × (new.outbox ≡ old.outbox) × (new.starved ≡ old.starved)

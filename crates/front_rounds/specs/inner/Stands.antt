@@ -4,8 +4,8 @@ use Rattle.farm_history.specs.Lists.{Each}
 use Rattle.farm_history.specs.Entries.{Entry}
 use Rattle.port_trait.specs.Told.{PortsTold, IsOpen}
 use Rattle.port_trait.specs.Boxes.{HasRest, rest_in}
-use Rattle.front_rounds.specs.declared.fates.Fate.{Fate}
-use Rattle.front_rounds.specs.declared.fates.Fate.TheVariants.{Stays, Leaves}
+use Rattle.front_rounds.specs.declared.dispositions.Disposition.{Disposition}
+use Rattle.front_rounds.specs.declared.dispositions.Disposition.TheVariants.{Stays, Leaves}
 use Rattle.front_rounds.specs.declared.sessions.Session.{Session}
 use Rattle.front_rounds.specs.declared.sessions.SessionTable.{SessionTable}
 use Rattle.front_rounds.specs.Rules.{Rules, Move, wants_of, answer_bytes, each_whole}
@@ -29,13 +29,13 @@ world told mine table = record { told = told; mine = mine; sessions = table.sess
 
 -- nothing is left to do for the session: it stays, and owes nothing
 abbrev pub IsAtRest : {T : Type 0} → Session T → Type 0
-IsAtRest s = (s.fate ≡ Stays) × (s.owes ≡ false)
+IsAtRest s = (s.disposition ≡ Stays) × (s.owes ≡ false)
 
 module _ {A W : Type 0} (R : Rules A W) where
   -- a session stays where nothing closes its connection, and leaves with its cause
-  abbrev pub FateFits : Part A → Fate → Type 0
-  FateFits p Stays = Calm R p
-  FateFits p (Leaves why) = Caused R p why
+  abbrev pub DispositionFits : Part A → Disposition → Type 0
+  DispositionFits p Stays = Calm R p
+  DispositionFits p (Leaves why) = Caused R p why
 
   -- the numbers of a connection: no more were taken than answered, as the round began and since
   pub record Counts (p : Part A) : Type 0 where
@@ -50,7 +50,7 @@ module _ {A W T : Type 0} (R : Rules A W) (K : List ℕ → List (Move A) → T 
     pub rest_is : rest ≡ due R p
     pub asked_all : R.wanted p.given (wants_of R p.moves)
     pub whole : each_whole R p.moves ≡ true
-    pub knows : K p.given p.moves s.talk
+    pub knows : K p.given p.moves s.conn_state
     pub running : Running p
     pub memory : p.starved ≡ false
     pub owed : s.owes ≡ true → (p.tried ≡ false) × (must R p ≡ true)
@@ -59,12 +59,12 @@ module _ {A W T : Type 0} (R : Rules A W) (K : List ℕ → List (Move A) → T 
   -- a session
   pub record Sits (told : Option PortsTold) (box : List (ℕ × List ℕ)) (p : Part A) (s : Session T) : Type 0 where
     pub rest_there : HasRest box s.conn
-    pub opening : is_up s.fate ≡ true → IsOpen s.conn told
-    pub up : is_open p ≡ is_up s.fate
+    pub opening : is_up s.disposition ≡ true → IsOpen s.conn told
+    pub up : is_open p ≡ is_up s.disposition
     pub counts : Counts R p
-    pub keeping : keeps s.fate ≡ true → Keeping p s (rest_in box s.conn)
-    pub fate_fits : FateFits R p s.fate
-    pub asked_all : asks_all s.fate ≡ true → HasAll R p
+    pub keeping : keeps s.disposition ≡ true → Keeping p s (rest_in box s.conn)
+    pub disposition_fits : DispositionFits R p s.disposition
+    pub asked_all : asks_all s.disposition ≡ true → HasAll R p
 
   -- the sessions and all else after the steps
   pub record Stands (start : Option PortsTold) (ss : List (Step A)) (w : World T) : Type 0 where

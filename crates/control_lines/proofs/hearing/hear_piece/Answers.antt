@@ -1,7 +1,7 @@
 use Rattle.std.proofs.Common.{refl, subst}
 use Rattle.std.proofs.lemmas.List.{take_all}
-use Rattle.front_rounds.specs.declared.fates.Fate.TheVariants.{Stays, Leaves}
-use Rattle.front_rounds.specs.declared.fates.Reason.TheVariants as reason
+use Rattle.front_rounds.specs.declared.dispositions.Disposition.TheVariants.{Stays, Leaves}
+use Rattle.front_rounds.specs.declared.dispositions.Reason.TheVariants as reason
 use Rattle.front_rounds.proofs.Seating.{same_trans}
 use Rattle.control_lines.specs.inner.Doing.{Heeds}
 use Rattle.control_lines.proofs.Deeds.{heeds_none, heeds_on, heeds_stop}
@@ -36,4 +36,4 @@ loop-byte-preserved g c = record {
 pub returns-clause-heeds : goal.returns-clause-heeds
 returns-clause-heeds g c = λ front conn.
     subst (λ xs. Heeds front c.args.lists.now conn c.args.part.now.items xs ((g.M.Farm.seats c.args.farm.now).mine c.args.seat.now) ((g.M.Farm.seats c.args.farm.now).mine c.loop-byte.seat) c.loop-byte.part.items
-    c.args.said.now.items c.loop-byte.said.items Stays) (take_all c.loop-byte.byte-index c.args.piece.now c.loop-byte-test.false) (c.loop-byte.invariant.heeds front conn)
+    c.args.response.now.items c.loop-byte.response.items Stays) (take_all c.loop-byte.byte-index c.args.piece.now c.loop-byte-test.false) (c.loop-byte.invariant.heeds front conn)

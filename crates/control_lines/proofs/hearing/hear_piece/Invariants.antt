@@ -1,5 +1,5 @@
 use Rattle.std.proofs.Common.{ℕ, take}
-use Rattle.front_rounds.specs.declared.fates.Fate.TheVariants.{Stays}
+use Rattle.front_rounds.specs.declared.dispositions.Disposition.TheVariants.{Stays}
 use Rattle.front_rounds.specs.Calls.{SameSeat}
 use Rattle.control_lines.specs.inner.Doing.{Heeds}
 use Rattle.control_lines.proofs.hearing.hear_piece.Given as goal
@@ -8,5 +8,5 @@ abbrev pub invariant-loop-byte : goal.invariant-loop-byte
 invariant-loop-byte g l = record {
   seat : SameSeat (g.M.Farm.seats l.farm) l.fn.seat l.seat;
   heeds : (front c : ℕ) → Heeds front l.lists c l.fn.part.items (take l.byte-index l.piece) ((g.M.Farm.seats l.farm).mine l.fn.seat) ((g.M.Farm.seats l.farm).mine l.seat)
-      l.part.items l.fn.said.items l.said.items Stays;
+      l.part.items l.fn.response.items l.response.items Stays;
 }

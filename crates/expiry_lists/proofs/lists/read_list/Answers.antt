@@ -2,7 +2,7 @@ use Rattle.std.proofs.Common.{◌≡◌, ◌+◌, ◌++◌, ◌∷◌, [], lengt
 use Rattle.std.proofs.lemmas.List.Elements.{All-nil, All-push}
 use Rattle.plain_world.specs.World.{IsTile}
 use Rattle.expiry_lists.specs.declared.faults.ListFault.TheVariants.{Line}
-use Rattle.expiry_lists.specs.Lists.{line_read, list_in}
+use Rattle.expiry_lists.specs.Lists.{list_line, list_in}
 use Rattle.expiry_lists.proofs.Lines.{list_starts, list_more, list_skipped, list_long}
 use Rattle.expiry_lists.proofs.lists.read_list.Goals as goal
 
@@ -20,7 +20,7 @@ returns-then-number-eq-MOST_LINES-clause-value c = λ n. list_long (c.loop-line.
 
 pub loop-line-preserved-in_ok-push : goal.loop-line-preserved-in_ok-push
 loop-line-preserved-in_ok-push c =
-    let read : line_read (Line (c.loop-line.number + 1)) c.in-Some.line.now ≡ Ok (Some c.in-Some-2.tile) = sym c.in_ok-tile.ensures.value ∙ ap Ok c.in-Some-2.is in
+    let read : list_line (Line (c.loop-line.number + 1)) c.in-Some.line.now ≡ Ok (Some c.in-Some-2.tile) = sym c.in_ok-tile.ensures.value ∙ ap Ok c.in-Some-2.is in
     let items : c.push.new.self.items ≡ c.loop-line.tiles.items ++ c.in-Some-2.tile ∷ [] = c.in_ok-push.ensures.items in
     let valid : IsTile c.in-Some-2.tile = rw c.in-Some-2.is at c.in_ok-tile.ensures.valid in
     record {

@@ -14,7 +14,7 @@ returns-in_default-clause-walks c =
 pub returns-clause-walks : goal.returns-clause-walks
 returns-clause-walks c =
     let old = c.args.nodes.now.entries in
-    let quiet : Node = record { mark = c.soiled.result.mark; live = false } in
+    let quiet : Node = record { mark = c.dirtied.result.mark; live = false } in
     let written : (c.get_mut.follows.lender quiet).entries ≡ set_value (same_key c.args.key) old quiet = search rules in
     walks_as _ old _ _ _ _ written c.clean_count.ensures
     (walks_settle old c.args.key c.in-Some.node.now quiet c.len-count.ensures.unique (search rules) (search rules) c.requires.tree refl c.requires.quiet_below)

@@ -1,4 +1,4 @@
-use Rattle.four_workers.specs.Crew.{IsFront}
+use Rattle.four_workers.specs.Pool.{IsFront}
 use Rattle.four_workers.proofs.feeding.settle.Given as goal
 
 abbrev pub invariant-loop : goal.invariant-loop

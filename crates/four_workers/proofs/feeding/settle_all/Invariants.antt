@@ -1,4 +1,4 @@
-use Rattle.four_workers.specs.Crew.{IsFront}
+use Rattle.four_workers.specs.Pool.{IsFront}
 use Rattle.four_workers.proofs.feeding.settle_all.Given as goal
 
 abbrev pub invariant-loop-number : goal.invariant-loop-number

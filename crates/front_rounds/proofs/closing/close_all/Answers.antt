@@ -8,7 +8,7 @@ use Rattle.front_rounds.proofs.closing.close_all.Goals as goal
 
 pub close_one-requires-clause-leaving : goal.close_one-requires-clause-leaving
 close_one-requires-clause-leaving g c =
-    subst (λ (ss : List (Session g.row.F-Talk.Denot)). IsLeaving ss c.in-Some.place c.in-Some.conn c.in-Some.why) c.as_slice.ensures.value c.in-Some.ensures.some
+    subst (λ (ss : List (Session g.row.F-ConnState.Denot)). IsLeaving ss c.in-Some.place c.in-Some.conn c.in-Some.why) c.as_slice.ensures.value c.in-Some.ensures.some
 
 pub close_one-requires-clause-ready : goal.close_one-requires-clause-ready
 close_one-requires-clause-ready g c =
@@ -22,4 +22,4 @@ pub returns-clause-goes : goal.returns-clause-goes
 returns-clause-goes g c = λ e stopped start h.
     over (g.F.Front.rules c.args.front.now c.args.farm.now) g.F.Front.knows e stopped start
     (world (g.P.Ports.state c.loop-place.ports).told ((g.M.Farm.seats c.args.farm.now).mine c.loop-place.seat) c.loop-place.table) (c.loop-place.invariant.goes e stopped start h)
-    (subst (λ (ss : List (Session g.row.F-Talk.Denot)). Each StaysOn ss) c.as_slice.ensures.value c.in_default.ensures.none)
+    (subst (λ (ss : List (Session g.row.F-ConnState.Denot)). Each StaysOn ss) c.as_slice.ensures.value c.in_default.ensures.none)

@@ -16,7 +16,7 @@ returns-in_default-place_of-clause-goes g c = λ e start told ss h.
     got_none (g.F.Front.rules c.args.front.now c.args.farm.now) g.F.Front.knows e start ss (world told mine c.args.table.now) c.in-Reply.reply
     ((g.M.Farm.seats c.args.farm.now).mine c.collect.new.seat) (g.met.F.Front.alone c.args.front.now c.args.farm.now) h
     (c.in-Ok.ensures.takes ∙ ap (λ n. mine ++ Collect n c.in-Ok.collected ∷ []) c.number.ensures ∙ ap (λ x. mine ++ Collect (g.F.Front.rules c.args.front.now c.args.farm.now).number x ∷ []) c.in-Reply.is)
-    (subst (λ (ss : List (Session g.row.F-Talk.Denot)). has (conns ss) c.in-Reply.reply.conn.number ≡ false) c.as_slice.ensures.value c.in_default-place_of.ensures.none)
+    (subst (λ (ss : List (Session g.row.F-ConnState.Denot)). has (conns ss) c.in-Reply.reply.conn.number ≡ false) c.as_slice.ensures.value c.in_default-place_of.ensures.none)
 
 pub reply_one-requires-clause-rest : goal.reply_one-requires-clause-rest
 reply_one-requires-clause-rest g c =
@@ -49,7 +49,7 @@ returns-in-Stopped-clause-goes g c = λ e start told ss h.
     let mine = (g.M.Farm.seats c.args.farm.now).mine c.args.seat.now in
     let mine' = (g.M.Farm.seats c.args.farm.now).mine c.collect.new.seat in
     subst (CollectsOne (g.F.Front.rules c.args.front.now c.args.farm.now) g.F.Front.knows e start (world told mine' c.wake_all.new.table)) (sym c.in-Stopped.is)
-    (subst (λ (w : World g.row.F-Talk.Denot). CanOffer (g.F.Front.rules c.args.front.now c.args.farm.now) g.F.Front.knows e true start w)
+    (subst (λ (w : World g.row.F-ConnState.Denot). CanOffer (g.F.Front.rules c.args.front.now c.args.farm.now) g.F.Front.knows e true start w)
     (sym (world_woken told mine' c.args.table.now c.wake_all.new.table c.wake_all.ensures.sessions c.wake_all.ensures.outbox c.wake_all.ensures.starved))
     (through_stopped (g.F.Front.rules c.args.front.now c.args.farm.now) g.F.Front.knows e start ss (world told mine c.args.table.now) mine' h
     (c.in-Ok.ensures.takes ∙ ap (λ n. mine ++ Collect n c.in-Ok.collected ∷ []) c.number.ensures ∙ ap (λ x. mine ++ Collect (g.F.Front.rules c.args.front.now c.args.farm.now).number x ∷ []) c.in-Stopped.is)))

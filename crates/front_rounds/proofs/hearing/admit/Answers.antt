@@ -7,4 +7,4 @@ use Rattle.front_rounds.proofs.hearing.admit.Goals as goal
 
 pub add-requires : goal.add-requires
 add-requires g c = none_keyed c.args.table.now.outbox c.args.conn
-    (ap (λ cs. has cs c.args.conn) c.requires ∙ subst (λ (ss : List (Session g.row.F-Talk.Denot)). has (conns ss) c.args.conn ≡ false) c.as_slice.ensures.value c.in-None.ensures.none)
+    (ap (λ cs. has cs c.args.conn) c.requires ∙ subst (λ (ss : List (Session g.row.F-ConnState.Denot)). has (conns ss) c.args.conn ≡ false) c.as_slice.ensures.value c.in-None.ensures.none)

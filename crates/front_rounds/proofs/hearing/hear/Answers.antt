@@ -12,7 +12,7 @@ pub returns-in_default-clause-goes : goal.returns-in_default-clause-goes
 returns-in_default-clause-goes g c = λ start told was m.
     bytes_none (g.F.Front.rules c.args.front.now c.args.farm.now) g.F.Front.knows c.args.conn c.args.piece.now start told
     (world was ((g.M.Farm.seats c.args.farm.now).mine c.args.seat.now) c.args.table.now) m
-    (subst (λ (ss : List (Session g.row.F-Talk.Denot)). has (conns ss) c.args.conn ≡ false) c.as_slice.ensures.value c.in_default.ensures.none)
+    (subst (λ (ss : List (Session g.row.F-ConnState.Denot)). has (conns ss) c.args.conn ≡ false) c.as_slice.ensures.value c.in_default.ensures.none)
 
 pub hear_one-requires-clause-rest : goal.hear_one-requires-clause-rest
 hear_one-requires-clause-rest g c =

@@ -51,7 +51,7 @@ returns-in-Woken-clause-goes g c = λ start was m.
     let mine = (g.M.Farm.seats c.args.farm.now).mine c.args.seat.now in
     let told = (g.P.Ports.state c.args.ports.now).told in
     subst (λ (e : PortEvent). HasBegun (g.F.Front.rules c.args.front.now c.args.farm.now) g.F.Front.knows e start (world told mine c.wake_all.new.table)) (sym c.in-Woken.is)
-    (subst (λ (w : World g.row.F-Talk.Denot). HasBegun (g.F.Front.rules c.args.front.now c.args.farm.now) g.F.Front.knows event.Woken start w)
+    (subst (λ (w : World g.row.F-ConnState.Denot). HasBegun (g.F.Front.rules c.args.front.now c.args.farm.now) g.F.Front.knows event.Woken start w)
     (sym (world_woken told mine c.args.table.now c.wake_all.new.table c.wake_all.ensures.sessions c.wake_all.ensures.outbox c.wake_all.ensures.starved))
     (woken_begins (g.F.Front.rules c.args.front.now c.args.farm.now) g.F.Front.knows c.args.piece.now start told (world was mine c.args.table.now)
     (subst (λ (e : PortEvent). Comes (g.F.Front.rules c.args.front.now c.args.farm.now) g.F.Front.knows e c.args.piece.now start told (world was mine c.args.table.now)) c.in-Woken.is m)))
@@ -61,7 +61,7 @@ returns-in-Finished-clause-goes g c = λ start was m.
     let mine = (g.M.Farm.seats c.args.farm.now).mine c.args.seat.now in
     let told = (g.P.Ports.state c.args.ports.now).told in
     subst (λ (e : PortEvent). HasBegun (g.F.Front.rules c.args.front.now c.args.farm.now) g.F.Front.knows e start (world told mine c.wake_all-in-Finished.new.table)) (sym c.in-Finished.is)
-    (subst (λ (w : World g.row.F-Talk.Denot). HasBegun (g.F.Front.rules c.args.front.now c.args.farm.now) g.F.Front.knows event.Finished start w)
+    (subst (λ (w : World g.row.F-ConnState.Denot). HasBegun (g.F.Front.rules c.args.front.now c.args.farm.now) g.F.Front.knows event.Finished start w)
     (sym (world_woken told mine c.args.table.now c.wake_all-in-Finished.new.table c.wake_all-in-Finished.ensures.sessions c.wake_all-in-Finished.ensures.outbox c.wake_all-in-Finished.ensures.starved))
     (finished_begins (g.F.Front.rules c.args.front.now c.args.farm.now) g.F.Front.knows c.args.piece.now start told (world was mine c.args.table.now)
     (subst (λ (e : PortEvent). Comes (g.F.Front.rules c.args.front.now c.args.farm.now) g.F.Front.knows e c.args.piece.now start told (world was mine c.args.table.now)) c.in-Finished.is m)))

@@ -1,7 +1,7 @@
 use Rattle.std.proofs.Common.{◌∙◌, List, map, refl, sym, ap, subst}
 use Rattle.port_trait.specs.declared.ends.Rest.{Rest}
 use Rattle.port_trait.specs.Boxes.{as_rest}
-use Rattle.front_rounds.specs.Serving.{Serves}
+use Rattle.front_rounds.specs.Serving.{FrontRun}
 use Rattle.front_rounds.specs.inner.Stands.{world}
 use Rattle.front_rounds.proofs.Goings.{begins}
 use Rattle.front_rounds.proofs.rounds.serve.Goals as goal
@@ -14,7 +14,7 @@ serve_at-end-requires-clause-ready g c =
 
 pub returns-clause-served : goal.returns-clause-served
 returns-clause-served g c =
-    subst (λ (rs : List Rest). Serves (g.F.Front.rules c.args.front.now c.args.farm.now) (g.P.Ports.state c.args.ports.now).told (g.P.Ports.state c.serve_at-end.new.ports).told
+    subst (λ (rs : List Rest). FrontRun (g.F.Front.rules c.args.front.now c.args.farm.now) (g.P.Ports.state c.args.ports.now).told (g.P.Ports.state c.serve_at-end.new.ports).told
     ((g.M.Farm.seats c.args.farm.now).mine c.serve_at-end.new.seat) c.serve_at-end.result rs c.serve_at-end.new.table.starved ((g.M.Farm.seats c.args.farm.now).worn c.serve_at-end.new.seat))
     (sym (c.into_rests-rests.ensures ∙ ap (λ n. map (as_rest n) c.serve_at-end.new.table.outbox) c.number-number.ensures))
     c.serve_at-end.ensures.served

@@ -2,7 +2,7 @@ use Rattle.std.proofs.Common.{◌≡◌, List, rules, sym, subst, ◌∙◌}
 use Rattle.std.specs.Prelude.{string_bytes}
 use Rattle.plain_world.specs.World.{IsTile}
 use Rattle.farm_history.specs.Lists.{Each}
-use Rattle.farm_history.specs.Plans.{tile_of}
+use Rattle.farm_history.specs.Plans.{spot_tile}
 use Rattle.work_gen.specs.Work.{steps_of}
 use Rattle.work_gen.specs.declared.stepping.Step.{Step}
 use Rattle.load_command.proofs.Running.{short_work, lineless_work, told_work}
@@ -12,7 +12,7 @@ use Rattle.load_command.proofs.command.work_on.Goals as goal
 pub run_steps-requires-clause-tiles : goal.run_steps-requires-clause-tiles
 run_steps-requires-clause-tiles g c =
     let is : c.as_slice.result.now ≡ steps_of c.args.seed c.args.features 32 = search rules in
-    subst (λ (xs : List Step). Each (λ (s : Step). IsTile (tile_of s.spot)) xs) (sym is) (steps_tiles c.args.seed c.args.features 32)
+    subst (λ (xs : List Step). Each (λ (s : Step). IsTile (spot_tile s.spot)) xs) (sym is) (steps_tiles c.args.seed c.args.features 32)
 
 pub returns-in-Err-clause-run : goal.returns-in-Err-clause-run
 returns-in-Err-clause-run g c = λ told s.

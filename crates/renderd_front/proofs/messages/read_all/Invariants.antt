@@ -8,7 +8,7 @@ invariant-messages g l = record {
   seat : SameSeat (g.M.Farm.seats l.farm) l.fn.seat l.seat;
   within : l.used ≤ length l.bytes;
   read : Reads l.conn.front (g.M.Farm.map_at l.farm) l.conn.number l.bytes (drop l.used l.bytes) ((g.M.Farm.seats l.farm).mine l.fn.seat) ((g.M.Farm.seats l.farm).mine l.seat)
-      (pairs l.fn.waits.items) (pairs l.waits.items) l.fn.said.items l.said.items;
+      (pairs l.fn.waits.items) (pairs l.waits.items) l.fn.response.items l.response.items;
 }
 
 abbrev pub decreases-messages : goal.decreases-messages

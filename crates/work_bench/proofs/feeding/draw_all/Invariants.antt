@@ -1,4 +1,4 @@
-use Rattle.work_bench.specs.Crew.{IsFront}
+use Rattle.work_bench.specs.Pool.{IsFront}
 use Rattle.work_bench.proofs.feeding.draw_all.Given as goal
 
 abbrev pub invariant-loop : goal.invariant-loop

@@ -1,28 +1,28 @@
 use Rattle.std.proofs.Common.{◌&&◌, ap, ◌∙◌, subst, List, ℕ}
 use Rattle.farm_history.specs.Plans.{AreApart, overlaps}
-use Rattle.expiry_lists.specs.Marks.{MarksSeen, shown_key, soil_marks, clean_marks}
+use Rattle.expiry_lists.specs.Marks.{MarksSeen, shown_key, dirtied_marks, clean_marks}
 use Rattle.expiry_lists.specs.inner.Nodes.{shown_of}
 use Rattle.expiry_lists.specs.inner.Tiles.{is_of_maps}
-use Rattle.expiry_lists.specs.inner.Walks.{Soils}
+use Rattle.expiry_lists.specs.inner.Walks.{Dirties}
 use Rattle.expiry_lists.proofs.Finding.{apart_shown}
 use Rattle.expiry_lists.proofs.Showing.{all_listed}
-use Rattle.expiry_lists.proofs.Soiling.{soils_agree}
+use Rattle.expiry_lists.proofs.Dirtying.{dirties_agree}
 use Rattle.expiry_lists.proofs.marks.Marks.expire.Goals as goal
-use Rattle.expiry_lists.proofs.marks.Marks.expire.Goals.{After-soil_maps}
+use Rattle.expiry_lists.proofs.marks.Marks.expire.Goals.{After-mark_maps_dirty}
 
 -- what was expired of the listed maps is all that the tile overlaps
-soiled : (c : After-soil_maps) → Soils (overlaps c.args.t) (shown_of c.self.inside.nodes.entries) (shown_of c.soil_maps.new.nodes.entries) c.soil_maps.result
-soiled c =
+dirtied : (c : After-mark_maps_dirty) → Dirties (overlaps c.args.t) (shown_of c.self.inside.nodes.entries) (shown_of c.mark_maps_dirty.new.nodes.entries) c.mark_maps_dirty.result
+dirtied c =
     let es = c.self.inside.nodes.entries in
-    let listed : Soils (λ k. is_of_maps c.self.inside.maps.items k && overlaps c.args.t k) (shown_of es) (shown_of c.soil_maps.new.nodes.entries) c.soil_maps.result =
-    subst (λ (ms : List ℕ). Soils (λ k. is_of_maps ms k && overlaps c.args.t k) (shown_of es) (shown_of c.soil_maps.new.nodes.entries) c.soil_maps.result) c.deref.ensures.value c.soil_maps.ensures.walks.soils in
-    soils_agree (overlaps c.args.t) (all_listed c.self.inside.maps.items es c.len-count.ensures.unique c.self.invariant (overlaps c.args.t)) listed
+    let listed : Dirties (λ k. is_of_maps c.self.inside.maps.items k && overlaps c.args.t k) (shown_of es) (shown_of c.mark_maps_dirty.new.nodes.entries) c.mark_maps_dirty.result =
+    subst (λ (ms : List ℕ). Dirties (λ k. is_of_maps ms k && overlaps c.args.t k) (shown_of es) (shown_of c.mark_maps_dirty.new.nodes.entries) c.mark_maps_dirty.result) c.deref.ensures.value c.mark_maps_dirty.ensures.walks.dirties in
+    dirties_agree (overlaps c.args.t) (all_listed c.self.inside.maps.items es c.len-count.ensures.unique c.self.invariant (overlaps c.args.t)) listed
 
 pub returns-clause-shown : goal.returns-clause-shown
-returns-clause-shown c = (soiled c).marks ∙ ap (λ (m : MarksSeen). soil_marks (overlaps c.args.t) m.shown) c.self.view_is
+returns-clause-shown c = (dirtied c).marks ∙ ap (λ (m : MarksSeen). dirtied_marks (overlaps c.args.t) m.shown) c.self.view_is
 
 pub returns-clause-count : goal.returns-clause-count
-returns-clause-count c = (soiled c).counted ∙ ap (λ (m : MarksSeen). clean_marks (overlaps c.args.t) m.shown) c.self.view_is
+returns-clause-count c = (dirtied c).counted ∙ ap (λ (m : MarksSeen). clean_marks (overlaps c.args.t) m.shown) c.self.view_is
 
 pub returns-clause-apart : goal.returns-clause-apart
 returns-clause-apart c = subst (λ (m : MarksSeen). AreApart shown_key m.shown) c.self.view_is (apart_shown c.self.inside.nodes.entries c.len-count.ensures.unique)

@@ -1,7 +1,7 @@
 use Rattle.std.proofs.Common.{◌≡◌, true, sym, ap, ◌∙◌, subst}
 use Rattle.plain_world.specs.World.{index_place}
 use Rattle.farm_history.specs.declared.keys.Key.{Key}
-use Rattle.farm_history.specs.Plans.{is_servable, tile_of}
+use Rattle.farm_history.specs.Plans.{is_servable, spot_tile}
 use Rattle.farm_plan.specs.Plans.{FarmPlan}
 use Rattle.farm_plan.specs.Drawings.{plan_of}
 use Rattle.farm_plan.proofs.Spots.{spot_of}
@@ -40,9 +40,9 @@ returns-clause-step g c = λ told h s.
     let on = sym (c.in-Some.ensures.served ∙ ap (λ (p : FarmPlan). is_servable (plan_of p) c.args.spot) plan) in
     let key = c.in-Some.ensures.key.0 in
     let marked = ap (λ (k : Key). mark_of c.args.self.now.marks.shown k) (sym key) ∙ ap {A = FarmSeen g.row.D.Denot} (λ f. mark_of f.marks.shown c.in-Some.key) (sym turned) ∙ sym c.of.ensures ∙ c.in-Some-of.is in
-    let fetched = subst (λ (f : FarmSeen g.row.D.Denot). Fetches g.D.TileStore.state f c.read.new.self c.in-Some.key (index_place (tile_of c.args.spot)) c.in-Some-of.mark c.read.result) c.count_turn.ensures.turned c.read.ensures in
+    let fetched = subst (λ (f : FarmSeen g.row.D.Denot). Fetches g.D.TileStore.state f c.read.new.self c.in-Some.key (index_place (spot_tile c.args.spot)) c.in-Some-of.mark c.read.result) c.count_turn.ensures.turned c.read.ensures in
     fetch_read g.D.TileStore.state told c.args.self.now c.read.new.self h c.args.spot c.in-Some-of.mark c.read.result on marked
-    (subst (λ (k : Key). Fetches g.D.TileStore.state (turn c.args.self.now) c.read.new.self k (index_place (tile_of c.args.spot)) c.in-Some-of.mark c.read.result) key fetched) s
+    (subst (λ (k : Key). Fetches g.D.TileStore.state (turn c.args.self.now) c.read.new.self k (index_place (spot_tile c.args.spot)) c.in-Some-of.mark c.read.result) key fetched) s
 
 pub returns-in_default-clause-reads : goal.returns-in_default-clause-reads
 returns-in_default-clause-reads g c =
@@ -67,6 +67,6 @@ returns-clause-reads g c =
     let on = sym (c.in-Some.ensures.served ∙ ap (λ (p : FarmPlan). is_servable (plan_of p) c.args.spot) plan) in
     let key = c.in-Some.ensures.key.0 in
     let marked = ap (λ (k : Key). mark_of c.args.self.now.marks.shown k) (sym key) ∙ ap {A = FarmSeen g.row.D.Denot} (λ f. mark_of f.marks.shown c.in-Some.key) (sym turned) ∙ sym c.of.ensures ∙ c.in-Some-of.is in
-    let fetched = subst (λ (f : FarmSeen g.row.D.Denot). Fetches g.D.TileStore.state f c.read.new.self c.in-Some.key (index_place (tile_of c.args.spot)) c.in-Some-of.mark c.read.result) c.count_turn.ensures.turned c.read.ensures in
+    let fetched = subst (λ (f : FarmSeen g.row.D.Denot). Fetches g.D.TileStore.state f c.read.new.self c.in-Some.key (index_place (spot_tile c.args.spot)) c.in-Some-of.mark c.read.result) c.count_turn.ensures.turned c.read.ensures in
     tile_read g.D.TileStore.state c.args.self.now c.read.new.self c.args.spot c.in-Some-of.mark c.read.result on marked
-    (subst (λ (k : Key). Fetches g.D.TileStore.state (turn c.args.self.now) c.read.new.self k (index_place (tile_of c.args.spot)) c.in-Some-of.mark c.read.result) key fetched)
+    (subst (λ (k : Key). Fetches g.D.TileStore.state (turn c.args.self.now) c.read.new.self k (index_place (spot_tile c.args.spot)) c.in-Some-of.mark c.read.result) key fetched)
