@@ -1,18 +1,18 @@
 //! The front's call.
 ghost use Rattle.std.specs.Prelude.{◌≡◌, ◌+◌, []};
 ghost use Rattle.farm_base.specs.Outside.{Counted};
-ghost use Rattle.port_trait.specs.declared.ends.FrontEnd.TheVariants as ended;
-ghost use Rattle.front_rounds.specs.Serving.{FrontRun};
+ghost use Rattle.port_events.specs.declared.ends.FrontEnd.TheVariants as ended;
+ghost use Rattle.front_loop.specs.Serving.{FrontRun};
 ghost use Rattle.turn_cell.specs.SeatStates.{IsSeatOf, Knows, SameSeat};
 ghost use Rattle.farm_shared.specs.Seats.{plain};
-ghost use Rattle.control_lines.specs.Control.{control_rules};
+ghost use Rattle.control_handler.specs.Control.{control_rules};
 
-use control_lines::Control;
+use control_handler::Control;
 use expiry_lists::TileList;
 use farm_base::Bell;
-use farm_door::FarmAdapter;
 use farm_shared::{Alarms, Seat, SharedFarm};
-use port_trait::{FrontDone, Ports};
+use front_adapter::FarmAdapter;
+use port_events::{FrontDone, Ports};
 use std::alloc::Global;
 use std::sync::Wait;
 use tile_store::TileStore;
@@ -41,5 +41,5 @@ pub fn serve<R: Wait, D: TileStore, B: Bell, P: Ports>(
     ensures broken { result.end ≡ ended.Broken → Counted (P.state ports.old).faults (P.state ports.new).faults }
 {
     let adapter = FarmAdapter { farm, alarms };
-    front_rounds::serve(rt, alloc, &Control { front, lists }, &adapter, seat, ports)
+    front_loop::serve(rt, alloc, &Control { front, lists }, &adapter, seat, ports)
 }

@@ -1,7 +1,11 @@
-//! Tests of single crates by their public calls. They stand here and not beside what they call, since a crate
-//! with tests of its own is proved twice.
+//! Tests of single crates by their public calls, some on threads. They stand here and not beside what they call, since
+//! a crate with tests of its own is proved twice.
 #![tactic(auto)]
 
+#[cfg(test)]
+mod cells;
+#[cfg(test)]
+mod counter;
 #[cfg(test)]
 mod messages;
 #[cfg(test)]
@@ -10,3 +14,5 @@ mod outside;
 mod places;
 #[cfg(test)]
 mod stores;
+#[cfg(test)]
+mod tiles;

@@ -1,6 +1,6 @@
 //! An update of more ids than are found one by one.
 use crate::drawings::data;
-use case_rows::{Frame, row};
+use case_tables::{Frame, row};
 use data_versions::{Snapshot, apply};
 use geo_json::read_update;
 use std::alloc::Global;

@@ -3,7 +3,7 @@
 //! nothing on out, the line on err, which is put on standard output too, and status 2.
 #![tactic(auto)]
 
-use case_runs::run_cases;
+use call_cases::run_cases;
 use farm_base::{DiskFiles, OpenGate, OutSink};
 use farm_call::program;
 use memory_ports::MemPorts;

@@ -5,8 +5,8 @@ use Rattle.std.specs.Option.{ok_or}
 use Rattle.std.specs.Str.{is_utf8}
 use Rattle.std.specs.Str.Lines.{lines}
 use Rattle.farm_base.specs.Limits.{most_lines}
-use Rattle.line_words.specs.Cuts.{cut_at}
-use Rattle.line_words.specs.Numbers.{decimal_below}
+use Rattle.line_reading.specs.Cuts.{cut_at}
+use Rattle.line_reading.specs.Numbers.{decimal_below}
 use Rattle.reading.specs.Steps.{◌>>=◌, check}
 use Rattle.plain_world.specs.declared.world.Tile.{Tile}
 use Rattle.expiry_lists.specs.declared.faults.ListFault.{ListFault}

@@ -8,7 +8,7 @@ ghost use Rattle.expiry_lists.specs.declared.faults.ListFault.TheVariants as fau
 
 use crate::faults::ListFault;
 use farm_base::MOST_LINES;
-use line_words::{cut, first_line, small_number};
+use line_reading::{cut, first_line, small_number};
 use plain_world::Tile;
 use std::alloc::Global;
 use std::marker::Model;

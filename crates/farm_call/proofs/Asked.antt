@@ -12,9 +12,9 @@ use Rattle.farm_words.specs.declared.command.Command.TheVariants.{Render, Script
 use Rattle.farm_words.specs.declared.command.WordsFault.{WordsFault}
 use Rattle.farm_words.specs.declared.command.WordsFault.TheVariants as words_fault
 use Rattle.farm_words.proofs.OneCommand.{spell_one}
-use Rattle.call_ends.specs.Ends.{FilesAt, SinkAt, PutsMade}
-use Rattle.call_ends.specs.declared.stops.Stop.{Stop}
-use Rattle.call_ends.specs.declared.stops.Stop.TheVariants as stop
+use Rattle.exit_status.specs.Ends.{FilesAt, SinkAt, PutsMade}
+use Rattle.exit_status.specs.declared.stops.Stop.{Stop}
+use Rattle.exit_status.specs.declared.stops.Stop.TheVariants as stop
 use Rattle.input_files.specs.Course.{Course, made, ◌>>=◌}
 use Rattle.input_files.specs.inner.Follows.{Follows}
 use Rattle.input_files.specs.inner.Runs as calls
@@ -26,12 +26,12 @@ use Rattle.style_objects.proofs.ByGrammar.{one_reading, reads_grammar}
 use Rattle.farm_files.specs.Courses.{script_course, script_course_by, serve_course, serve_course_by}
 use Rattle.script_command.specs.Scripts as script
 use Rattle.render_command.specs.Courses.{render_course, render_course_by}
-use Rattle.meta_command.specs.Courses.{meta_course}
+use Rattle.render_command.specs.MetaCourses.{meta_course}
 use Rattle.farm_call.specs.Words.{AsksFor, IsCourse, Asks}
-use Rattle.port_trait.specs.declared.ends.FrontDone.{FrontDone}
+use Rattle.port_events.specs.declared.ends.FrontDone.{FrontDone}
 use Rattle.farm_call.specs.Works.{Work, Does, puts, scripts, loads, serves, over}
-use Rattle.port_trait.specs.Told.{PortsTold}
-use Rattle.farm_threads.specs.declared.each_front.EachFront.{EachFront}
+use Rattle.port_events.specs.Told.{PortsTold}
+use Rattle.farm_runs.specs.declared.each_front.EachFront.{EachFront}
 use Rattle.serve_command.specs.Serves.{World}
 use Rattle.serve_command.specs.inner.Steps as serve
 use Rattle.serve_command.specs.declared.left.Left.{Left}

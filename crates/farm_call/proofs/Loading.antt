@@ -4,10 +4,10 @@ use Rattle.std.specs.Prelude.{Result, Ok, Err, is_some}
 use Rattle.farm_base.specs.Outside.{Outside, Rose}
 use Rattle.tile_store.specs.Stores.{StoreTold}
 use Rattle.farm_history.specs.Entries.{Entry}
-use Rattle.farm_stands.specs.Stands.{StandsFor}
-use Rattle.call_ends.specs.Ends.{SinkAt}
-use Rattle.call_ends.specs.declared.stops.Stop.{Stop}
-use Rattle.call_ends.specs.declared.stops.Stop.TheVariants as stop
+use Rattle.farm_refinement.specs.Stands.{StandsFor}
+use Rattle.exit_status.specs.Ends.{SinkAt}
+use Rattle.exit_status.specs.declared.stops.Stop.{Stop}
+use Rattle.exit_status.specs.declared.stops.Stop.TheVariants as stop
 use Rattle.script_text.specs.ScriptTexts.{has_failed}
 use Rattle.load_command.specs.Runs.{LoadsOn, Loads}
 use Rattle.farm_call.proofs.Whys.{StoreWhys, by_end, store_rose}

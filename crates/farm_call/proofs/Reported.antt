@@ -1,11 +1,11 @@
 -- What a report of an end says of err.
 use Rattle.std.proofs.Common.{◌≡◌, ℕ, refl}
 use Rattle.std.specs.Prelude.{Result}
-use Rattle.call_ends.specs.Stops.{status_of, err_line, usage, want_of_memory, store_failed}
-use Rattle.call_ends.specs.Ends.{SinkAt, Reports}
-use Rattle.call_ends.specs.Promises.{LineStands}
-use Rattle.call_ends.specs.declared.stops.Stop.{Stop}
-use Rattle.call_ends.proofs.Statuses as status
+use Rattle.exit_status.specs.Stops.{status_of, err_line, usage, want_of_memory, store_failed}
+use Rattle.exit_status.specs.Ends.{SinkAt, Reports}
+use Rattle.exit_status.specs.Promises.{LineStands}
+use Rattle.exit_status.specs.declared.stops.Stop.{Stop}
+use Rattle.exit_status.proofs.Statuses as status
 
 pub usage_told : (end : Result (Unit {0}) Stop) (err err' : SinkAt) (result : ℕ) → Reports (status_of end) (err_line end) err err' result → result ≡ 2
     → LineStands err.told err'.told usage

@@ -5,15 +5,15 @@ use Rattle.farm_base.specs.Outside.{Outside, Rose}
 use Rattle.tile_store.specs.Stores.{StoreTold}
 use Rattle.farm_history.specs.Entries.{Entry}
 use Rattle.farm_plan.specs.Plans.{FarmPlan}
-use Rattle.farm_stands.specs.Stands.{StandsFor}
+use Rattle.farm_refinement.specs.Stands.{StandsFor}
 use Rattle.script_lines.specs.declared.script.ScriptLine.{ScriptLine}
 use Rattle.script_text.specs.Runs as script
 use Rattle.script_text.specs.ScriptTexts.{has_failed}
 use Rattle.script_text.specs.declared.ends.ScriptEnd.{ScriptEnd}
 use Rattle.script_text.specs.declared.ends.ScriptEnd.TheVariants.{Done, SinkFailed, NoMemory}
-use Rattle.call_ends.specs.Ends.{SinkAt}
-use Rattle.call_ends.specs.declared.stops.Stop.{Stop}
-use Rattle.call_ends.specs.declared.stops.Stop.TheVariants as stop
+use Rattle.exit_status.specs.Ends.{SinkAt}
+use Rattle.exit_status.specs.declared.stops.Stop.{Stop}
+use Rattle.exit_status.specs.declared.stops.Stop.TheVariants as stop
 use Rattle.farm_files.specs.Inputs.{Scripted}
 use Rattle.script_command.specs.Scripts.{command_end, Scripts}
 use Rattle.farm_call.proofs.Whys.{StoreWhys, by_end, store_rose}

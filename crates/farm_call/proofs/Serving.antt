@@ -8,26 +8,26 @@ use Rattle.farm_base.specs.Outside as sink
 use Rattle.farm_base.specs.declared.sinks.SinkFault.{SinkFault}
 use Rattle.tile_store.specs.Stores.{StoreTold}
 use Rattle.tile_store.specs.declared.stores.StoreFault.TheVariants as fault
-use Rattle.port_trait.specs.declared.ends.FrontEnd.{FrontEnd}
-use Rattle.port_trait.specs.declared.events.PortFault.{PortFault}
-use Rattle.port_trait.specs.declared.events.PortFault.TheVariants as port_fault
-use Rattle.port_trait.specs.Told.{PortsTold, ListenCounts}
-use Rattle.call_ends.specs.Ends.{SinkAt}
-use Rattle.call_ends.specs.declared.stops.Stop.{Stop}
-use Rattle.call_ends.specs.declared.stops.Stop.TheVariants as stop
+use Rattle.port_events.specs.declared.ends.FrontEnd.{FrontEnd}
+use Rattle.port_events.specs.declared.events.PortFault.{PortFault}
+use Rattle.port_events.specs.declared.events.PortFault.TheVariants as port_fault
+use Rattle.port_events.specs.Told.{PortsTold, ListenCounts}
+use Rattle.exit_status.specs.Ends.{SinkAt}
+use Rattle.exit_status.specs.declared.stops.Stop.{Stop}
+use Rattle.exit_status.specs.declared.stops.Stop.TheVariants as stop
 use Rattle.input_files.proofs.Calls.{Whys}
 use Rattle.farm_history.specs.declared.answers.Tally.{Tally as Totals}
 use Rattle.farm_config.specs.Configs.{Config}
 use Rattle.farm_files.specs.Inputs.{Served}
-use Rattle.farm_stands.specs.Stands.{StandsFor, failures}
+use Rattle.farm_refinement.specs.Stands.{StandsFor, failures}
 use Rattle.script_answers.specs.Answers.{tally_line}
 use Rattle.farm_shared.specs.Shared.{lasting_of, past}
-use Rattle.farm_threads.specs.declared.each_front.EachFront.{EachFront}
+use Rattle.farm_runs.specs.declared.each_front.EachFront.{EachFront}
 use Rattle.farm_shared.specs.declared.turned.LastingPart.{LastingPart}
-use Rattle.farm_setup.specs.Listens.{ListenEnds, Listening, listen_end}
-use Rattle.farm_setup.specs.Beginnings.{CannotBegin, IsSavedIn, ResumeRefusal, RefusesFor}
-use Rattle.farm_ending.specs.Endings.{is_front_worn, is_broken, is_wanting, end_after_put, TellsCounts}
-use Rattle.farm_ending.specs.Savings.{MaySave}
+use Rattle.serve_command.specs.Listens.{ListenEnds, Listening, listen_end}
+use Rattle.serve_command.specs.Beginnings.{CannotBegin, IsSavedIn, ResumeRefusal, RefusesFor}
+use Rattle.serve_command.specs.Endings.{is_front_worn, is_broken, is_wanting, end_after_put, TellsCounts}
+use Rattle.serve_command.specs.Savings.{MaySave}
 use Rattle.serve_command.specs.Serves.{World, HasServed, NotServed, WhyNot, Serves, ServesTo, places, fronts_of, is_worn_out}
 use Rattle.serve_command.specs.Serves as serves
 use Rattle.serve_command.specs.Points.{ClosedFarm}

@@ -4,16 +4,16 @@ use Rattle.std.specs.Prelude.{Err, is_some}
 use Rattle.farm_base.specs.Outside.{Outside, Rose}
 use Rattle.tile_store.specs.Stores.{StoreTold}
 use Rattle.farm_history.specs.Entries.{Entry}
-use Rattle.farm_stands.specs.Seen.{FarmSeen}
-use Rattle.farm_stands.specs.Stands.{StandsFor}
+use Rattle.farm_refinement.specs.Seen.{FarmSeen}
+use Rattle.farm_refinement.specs.Stands.{StandsFor}
 use Rattle.script_text.specs.ScriptTexts.{has_failed}
-use Rattle.call_ends.specs.declared.stops.Stop.{Stop}
-use Rattle.call_ends.specs.declared.stops.Stop.TheVariants as stop
+use Rattle.exit_status.specs.declared.stops.Stop.{Stop}
+use Rattle.exit_status.specs.declared.stops.Stop.TheVariants as stop
 use Rattle.input_files.proofs.Courses.{ended}
 use Rattle.input_files.proofs.Calls.{Whys}
-use Rattle.farm_left.proofs.Lost.{lost}
+use Rattle.script_text.proofs.Lost.{lost}
 use Rattle.farm_files.specs.Inputs.{Served}
-use Rattle.farm_setup.specs.Beginnings.{ResumeRefusal, RefusesFor, IsSavedIn}
+use Rattle.serve_command.specs.Beginnings.{ResumeRefusal, RefusesFor, IsSavedIn}
 use Rattle.serve_command.specs.Serves.{World}
 use Rattle.serve_command.specs.declared.left.Left.{Left}
 use Rattle.serve_command.specs.declared.left.Left.TheVariants.{Store}

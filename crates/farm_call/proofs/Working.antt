@@ -3,10 +3,10 @@ use Rattle.std.proofs.Common.{◌≡◌, ◌≢◌, ℕ, ◌⊎◌, inl, inr, Li
 use Rattle.std.specs.Prelude.{Option, Some, None, IfSome, Result, Ok, Err}
 use Rattle.farm_base.specs.Outside.{Outside, FilesTold, Rose}
 use Rattle.tile_store.specs.Stores.{StoreTold}
-use Rattle.call_ends.specs.Ends.{FilesAt, SinkAt, EndsWith}
-use Rattle.call_ends.specs.declared.stops.Stop.{Stop}
-use Rattle.call_ends.specs.declared.stops.Stop.TheVariants as stop
-use Rattle.call_ends.proofs.Statuses.{puts_failed}
+use Rattle.exit_status.specs.Ends.{FilesAt, SinkAt, EndsWith}
+use Rattle.exit_status.specs.declared.stops.Stop.{Stop}
+use Rattle.exit_status.specs.declared.stops.Stop.TheVariants as stop
+use Rattle.exit_status.proofs.Statuses.{puts_failed}
 use Rattle.input_files.specs.Course.{Course, IsValid}
 use Rattle.input_files.specs.Calls.{HasStatus}
 use Rattle.input_files.specs.inner.Runs as calls
@@ -17,16 +17,16 @@ use Rattle.input_files.proofs.Calls.{Whys, IsWork, puts_noticed}
 use Rattle.input_files.proofs.Courses.{made_apart}
 use Rattle.input_files.proofs.Runs as runs
 use Rattle.input_files.proofs.Runs.{Ran, ran}
-use Rattle.call_ends.specs.Promises.{LineStands}
-use Rattle.call_ends.specs.Stops.{status_of, ports_failed, turns_used_up}
-use Rattle.call_ends.proofs.Statuses as status
+use Rattle.exit_status.specs.Promises.{LineStands}
+use Rattle.exit_status.specs.Stops.{status_of, ports_failed, turns_used_up}
+use Rattle.exit_status.proofs.Statuses as status
 use Rattle.farm_call.specs.Words.{Asks}
 use Rattle.farm_call.specs.Works.{Work, Does, puts, scripts, loads, serves, over, store_of}
 use Rattle.farm_call.specs.Served.{PortsRose, TurnsAreGone, SaysServed, IfServed, RefusesSaved}
 use Rattle.farm_files.specs.Inputs.{Served}
-use Rattle.port_trait.specs.Told.{PortsTold}
-use Rattle.farm_threads.specs.declared.each_front.EachFront.{EachFront}
-use Rattle.farm_setup.specs.Beginnings.{ResumeRefusal, RefusesFor, IsSavedIn}
+use Rattle.port_events.specs.Told.{PortsTold}
+use Rattle.farm_runs.specs.declared.each_front.EachFront.{EachFront}
+use Rattle.serve_command.specs.Beginnings.{ResumeRefusal, RefusesFor, IsSavedIn}
 use Rattle.serve_command.specs.Serves.{World, HasServed, Serves, ServesTo}
 use Rattle.serve_command.specs.Points.{ClosedFarm}
 use Rattle.serve_command.specs.declared.left.Left.{Left}

@@ -2,14 +2,14 @@
 use Rattle.std.specs.Prelude.{◌≡◌, ◌⊎◌, ◌≤◌, ◌^◌, ℕ, true, List, length, Option, Result, Err, IfSome}
 use Rattle.farm_base.specs.Outside.{Outside, FilesTold, Rose}
 use Rattle.tile_store.specs.Stores.{StoreTold}
-use Rattle.port_trait.specs.Told.{PortsTold}
-use Rattle.call_ends.specs.Stops.{status_of, err_line}
-use Rattle.call_ends.specs.Ends.{SinkAt, Reports}
-use Rattle.call_ends.specs.declared.stops.Stop.{Stop}
+use Rattle.port_events.specs.Told.{PortsTold}
+use Rattle.exit_status.specs.Stops.{status_of, err_line}
+use Rattle.exit_status.specs.Ends.{SinkAt, Reports}
+use Rattle.exit_status.specs.declared.stops.Stop.{Stop}
 use Rattle.input_files.specs.Course.{Course, Makes}
-use Rattle.farm_threads.specs.declared.each_front.EachFront.{EachFront}
+use Rattle.farm_runs.specs.declared.each_front.EachFront.{EachFront}
 use Rattle.farm_files.specs.Inputs.{Served}
-use Rattle.farm_setup.specs.Beginnings.{ResumeRefusal, RefusesFor, IsSavedIn}
+use Rattle.serve_command.specs.Beginnings.{ResumeRefusal, RefusesFor, IsSavedIn}
 use Rattle.serve_command.specs.Points.{ClosedFarm}
 use Rattle.serve_command.specs.declared.left.Left.{Left}
 use Rattle.serve_command.specs.declared.left.Left.TheVariants.{Farm}

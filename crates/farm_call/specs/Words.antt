@@ -8,7 +8,7 @@ use Rattle.input_files.specs.Course.{Course, made, ◌>>=◌}
 use Rattle.style_objects.specs.FilterReadings.{FilterReading, SaysGrammar}
 use Rattle.farm_files.specs.Courses.{script_course_by, serve_course_by}
 use Rattle.render_command.specs.Courses.{render_course_by}
-use Rattle.meta_command.specs.Courses.{meta_course}
+use Rattle.render_command.specs.MetaCourses.{meta_course}
 use Rattle.farm_call.specs.Works.{Work, puts, scripts, loads, serves}
 
 -- The words ask for the command: the values that clap reads of them spell it. Where no word is empty or

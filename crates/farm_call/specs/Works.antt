@@ -2,10 +2,10 @@
 use Rattle.std.specs.Prelude.{◌≡◌, ℕ, List, [], Result}
 use Rattle.farm_base.specs.Outside.{Outside}
 use Rattle.tile_store.specs.Stores.{StoreTold}
-use Rattle.port_trait.specs.Told.{PortsTold}
-use Rattle.call_ends.specs.Ends.{SinkAt, PutsAll}
-use Rattle.call_ends.specs.declared.stops.Stop.{Stop}
-use Rattle.farm_threads.specs.declared.each_front.EachFront.{EachFront}
+use Rattle.port_events.specs.Told.{PortsTold}
+use Rattle.exit_status.specs.Ends.{SinkAt, PutsAll}
+use Rattle.exit_status.specs.declared.stops.Stop.{Stop}
+use Rattle.farm_runs.specs.declared.each_front.EachFront.{EachFront}
 use Rattle.farm_files.specs.Inputs.{Scripted, Served}
 use Rattle.script_command.specs.Scripts.{Scripts}
 use Rattle.load_command.specs.Runs.{Loads}

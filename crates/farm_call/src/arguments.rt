@@ -1,19 +1,19 @@
 //! The program over the words of its runtime.
 ghost use Rattle.std.specs.Prelude.{◌≡◌, ◌⊎◌, [], Err};
-ghost use Rattle.call_ends.specs.Stops.{status_of, err_line, usage, want_of_memory, store_failed};
-ghost use Rattle.call_ends.specs.Ends.{Reports};
-ghost use Rattle.call_ends.specs.Promises.{LineStands};
+ghost use Rattle.exit_status.specs.Stops.{status_of, err_line, usage, want_of_memory, store_failed};
+ghost use Rattle.exit_status.specs.Ends.{Reports};
+ghost use Rattle.exit_status.specs.Promises.{LineStands};
 ghost use Rattle.serve_command.specs.declared.left.Left.TheVariants.{Store};
 
 use crate::call::farm_main;
 use crate::ends::FarmEnd;
-use call_ends::{Stop, report};
+use exit_status::{Stop, report};
 use farm_base::{Bell, Files, Gate, Sink};
-use port_trait::{Ports, ThreePorts};
+use port_events::{Ports, ThreePorts};
 use serve_command::Left;
 use std::alloc::Global;
 use std::env;
-use std::io::{self, ErrorKind};
+use std::io::{ErrorKind, self};
 use std::rt::{Clock, Env};
 use std::sync::Wait;
 use std::thread::Threads;

@@ -1,7 +1,7 @@
 //! How a call ends.
 ghost use Rattle.std.specs.Prelude.{◌≡◌};
 
-use port_trait::FrontDone;
+use port_events::FrontDone;
 use serve_command::Left;
 use tile_store::TileStore;
 

@@ -3,7 +3,7 @@ ghost use Rattle.std.specs.Prelude.{◌≡◌, ◌<◌, option_map};
 ghost use Rattle.farm_config.specs.Addresses as spec;
 
 use crate::limits::MOST_PATH_BYTES;
-use line_words::{cut, number_below};
+use line_reading::{cut, number_below};
 
 /// What stands behind a number below `bound` and the byte `end`.
 fn after_number(text: &str, end: char, bound: u32) -> Option<&str>

@@ -18,13 +18,13 @@ use Rattle.farm_plan.specs.Plans.{FarmPlan, IsPlan}
 use Rattle.farm_plan.specs.Drawings.{plan_of, data_of}
 use Rattle.expiry_lists.specs.Marks.{MarksSeen, mark_of}
 use Rattle.render_queues.specs.Tables.{no_tables}
-use Rattle.farm_stands.specs.Stands.{waits_key, asked_of, failures, Accounts, CountsStand, QueuesStand, StandsFor}
-use Rattle.farm_stands.specs.inner.Events.{no_counts, new_farm}
-use Rattle.farm_stands.proofs.Starting.{start_step}
-use Rattle.resume_faults.specs.declared.faults.ResumeFault.TheVariants.{Number}
-use Rattle.resume_faults.specs.Given.{styles_given}
+use Rattle.farm_refinement.specs.Stands.{waits_key, asked_of, failures, Accounts, CountsStand, QueuesStand, StandsFor}
+use Rattle.farm_refinement.specs.inner.Events.{no_counts, new_farm}
+use Rattle.farm_refinement.proofs.Starting.{start_step}
+use Rattle.render_jobs.specs.declared.faults.ResumeFault.TheVariants.{Number}
+use Rattle.render_jobs.specs.Given.{styles_given}
 use Rattle.farm_core.specs.inner.Replays.{IsReplaying}
-use Rattle.resume_faults.proofs.Checked.{IsShaped, styles_pass}
+use Rattle.render_jobs.proofs.Checked.{IsShaped, styles_pass}
 use Rattle.farm_core.proofs.Starting.{none_styled}
 
 -- ---- what restyles leave as it is

@@ -17,11 +17,11 @@ use Rattle.farm_history.specs.Rules.{answer_by}
 use Rattle.farm_plan.specs.Drawings.{plan_of}
 use Rattle.render_queues.specs.Tables.{Tables}
 use Rattle.expiry_lists.specs.Marks.{mark_of}
-use Rattle.farm_stands.specs.Seen.{FarmSeen}
-use Rattle.farm_stands.specs.Stands.{StandsFor}
-use Rattle.farm_stands.specs.inner.Events.{tests_at, asked_tables, one_turn_more}
-use Rattle.farm_stands.proofs.Asking.{ask_render_step, ask_unmarked_step, ask_marked_step}
-use Rattle.farm_stands.proofs.Marking.{dirtied_at}
+use Rattle.farm_refinement.specs.Seen.{FarmSeen}
+use Rattle.farm_refinement.specs.Stands.{StandsFor}
+use Rattle.farm_refinement.specs.inner.Events.{tests_at, asked_tables, one_turn_more}
+use Rattle.farm_refinement.proofs.Asking.{ask_render_step, ask_unmarked_step, ask_marked_step}
+use Rattle.farm_refinement.proofs.Marking.{dirtied_at}
 use Rattle.farm_core.specs.inner.Asks.{answer_at, rendered_at, rendered_counts, noted_tables, Dirties, Dirtied}
 use Rattle.farm_core.specs.inner.Effects.{turn}
 

@@ -18,8 +18,8 @@ use Rattle.render_queues.specs.declared.standing.Standing.TheVariants.{Waits as 
 use Rattle.render_queues.specs.OneQueue.{is_below}
 use Rattle.render_queues.specs.Tables.{Tables, line_of, open_of, open_count, standing, is_liftable, takes_lifted, AreSound}
 use Rattle.expiry_lists.specs.Marks.{mark_of}
-use Rattle.farm_stands.specs.Seen.{FarmSeen}
-use Rattle.farm_stands.specs.inner.Events.{waits_at}
+use Rattle.farm_refinement.specs.Seen.{FarmSeen}
+use Rattle.farm_refinement.specs.inner.Events.{waits_at}
 use Rattle.farm_core.specs.inner.Asks.{answer_at, Needs, StandsBy}
 use Rattle.farm_core.proofs.Standing.{stands_by}
 

@@ -16,10 +16,10 @@ use Rattle.farm_history.proofs.Lists.{each-find, find-any, same_key-self}
 use Rattle.farm_plan.specs.Drawings.{plan_of, data_of}
 use Rattle.farm_plan.specs.Spots.{IsKeyOf}
 use Rattle.farm_plan.proofs.Spots.{served_key}
-use Rattle.farm_stands.specs.Seen.{FarmSeen}
-use Rattle.farm_stands.specs.Jobs.{JobSeen, job_key, IsFlight}
-use Rattle.farm_stands.specs.Stands.{StandsFor}
-use Rattle.farm_stands.specs.inner.Events.{taken_at}
+use Rattle.farm_refinement.specs.Seen.{FarmSeen}
+use Rattle.farm_plan.specs.Jobs.{JobSeen, job_key, IsFlight}
+use Rattle.farm_refinement.specs.Stands.{StandsFor}
+use Rattle.farm_refinement.specs.inner.Events.{taken_at}
 use Rattle.farm_core.specs.inner.Effects.{IsTaken, turn}
 
 pub flight_taken : {D : Type 0} (state : D → Outside StoreTold) (told : Bool) (farm : FarmSeen D) (h : List Entry) (job : JobSeen) → StandsFor state told farm h → IsFlight farm.plan h job → IsTaken farm job

@@ -6,9 +6,9 @@ use Rattle.plain_world.specs.World.{IsTileSize}
 use Rattle.farm_history.specs.declared.keys.Key.{Key}
 use Rattle.farm_plan.specs.Plans.{MapPlan, FarmPlan}
 use Rattle.farm_plan.specs.Spots.{IsKeyOf}
-use Rattle.farm_jobs.specs.Shared.{ShareSeen}
-use Rattle.farm_stands.specs.Seen.{FarmSeen}
-use Rattle.farm_stands.specs.Jobs.{JobSeen, IsValidJob, job_key}
+use Rattle.render_jobs.specs.Shared.{ShareSeen}
+use Rattle.farm_refinement.specs.Seen.{FarmSeen}
+use Rattle.farm_plan.specs.Jobs.{JobSeen, IsValidJob, job_key}
 use Rattle.farm_core.specs.inner.Effects.{Claims, IsJobFor, own_of}
 use Rattle.farm_core.specs.inner.Rooms.{AreKeysOf}
 use Rattle.farm_core.proofs.Rooms.{key_taken}

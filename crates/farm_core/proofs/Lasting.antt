@@ -16,8 +16,8 @@ use Rattle.farm_plan.specs.Plans.{FarmPlan}
 use Rattle.farm_plan.specs.Drawings.{key_path}
 use Rattle.farm_plan.specs.Spots.{IsKeyOf}
 use Rattle.farm_plan.proofs.Keys.{path_ends}
-use Rattle.farm_stands.specs.Seen.{FarmSeen}
-use Rattle.farm_stands.specs.Reads.{ReadsTile}
+use Rattle.farm_refinement.specs.Seen.{FarmSeen}
+use Rattle.farm_refinement.specs.Reads.{ReadsTile}
 use Rattle.farm_core.specs.Answers.{Lasts, at_saved}
 use Rattle.farm_core.specs.inner.Effects.{Fetches, Keeps}
 

@@ -11,7 +11,7 @@ use Rattle.meta_container.specs.Reading.{entry_found}
 use Rattle.tile_store.specs.declared.stores.StoreFault.{StoreFault}
 use Rattle.tile_store.specs.declared.stores.StoreFault.TheVariants.{Failed, NoMemory}
 use Rattle.tile_store.specs.Stores.{StoreTold, Gets, part}
-use Rattle.farm_stands.specs.Reads.{IsTilePart, IsSpoilt, SpoiltBy, ReadsTile}
+use Rattle.farm_refinement.specs.Reads.{IsTilePart, IsSpoilt, SpoiltBy, ReadsTile}
 use Rattle.farm_core.specs.inner.Effects.{refused_by}
 
 -- what a read gave of what is held

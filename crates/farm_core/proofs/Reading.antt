@@ -9,7 +9,7 @@ use Rattle.farm_history.specs.declared.keys.Mark.{Mark}
 use Rattle.farm_history.specs.Plans.{is_servable, key_of, spot_tile}
 use Rattle.farm_plan.specs.Drawings.{plan_of}
 use Rattle.expiry_lists.specs.Marks.{mark_of}
-use Rattle.farm_stands.specs.Seen.{FarmSeen}
+use Rattle.farm_refinement.specs.Seen.{FarmSeen}
 use Rattle.farm_core.specs.Answers.{Reads}
 use Rattle.farm_core.specs.inner.Effects.{Fetches, turn}
 

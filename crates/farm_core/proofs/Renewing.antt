@@ -23,15 +23,15 @@ use Rattle.farm_plan.specs.Spots.{IsKeyOf}
 use Rattle.farm_plan.proofs.Spots.{served_key}
 use Rattle.expiry_lists.specs.Marks.{MarksSeen, Shown, shown_key, mark_of, clean_marks}
 use Rattle.expiry_lists.proofs.Dirtying.{dirties_none}
-use Rattle.farm_reach.specs.Boxes.{boxes_reach_map}
-use Rattle.farm_reach.specs.Marks.{is_met_by, is_reached, Expires}
-use Rattle.farm_reach.proofs.Reached.{reached_is, boxes_are}
-use Rattle.farm_reach.proofs.Valid.{data_valid}
-use Rattle.farm_stands.specs.Seen.{FarmSeen}
-use Rattle.farm_stands.specs.Stands.{StandsFor}
-use Rattle.farm_stands.specs.inner.Events.{updated_counts, dirtied_taken}
-use Rattle.farm_stands.proofs.Marking.{dirtied_at, marks_counted}
-use Rattle.farm_stands.proofs.Changing.{renew_step, renew_refused_step, renew_unknown_step}
+use Rattle.reach_box.specs.NamedBoxes.{boxes_reach_map}
+use Rattle.reach_box.specs.Marks.{is_met_by, is_reached, Expires}
+use Rattle.reach_box.proofs.Reached.{reached_is, boxes_are}
+use Rattle.reach_box.proofs.Valid.{data_valid}
+use Rattle.farm_refinement.specs.Seen.{FarmSeen}
+use Rattle.farm_refinement.specs.Stands.{StandsFor}
+use Rattle.farm_refinement.specs.inner.Events.{updated_counts, dirtied_taken}
+use Rattle.farm_refinement.proofs.Marking.{dirtied_at, marks_counted}
+use Rattle.farm_refinement.proofs.Changing.{renew_step, renew_refused_step, renew_unknown_step}
 use Rattle.farm_core.specs.inner.Effects.{turn, Advances}
 use Rattle.farm_core.specs.inner.Renews.{Names, Reaches, Renews}
 use Rattle.farm_core.proofs.Rooms.{count_few}

@@ -14,9 +14,9 @@ use Rattle.farm_history.specs.Plans.{Plan}
 use Rattle.farm_history.specs.Replays.{past_number, replay_keys, replay_change, replay_from}
 use Rattle.farm_plan.specs.Plans.{FarmPlan}
 use Rattle.farm_plan.specs.Drawings.{plan_of, update_of}
-use Rattle.farm_stands.specs.Seen.{FarmSeen}
-use Rattle.resume_faults.specs.declared.faults.ResumeFault.{ResumeFault}
-use Rattle.resume_faults.specs.Faults.{refused_at, update_fault, apply_fault}
+use Rattle.farm_refinement.specs.Seen.{FarmSeen}
+use Rattle.render_jobs.specs.declared.faults.ResumeFault.{ResumeFault}
+use Rattle.render_jobs.specs.Faults.{refused_at, update_fault, apply_fault}
 use Rattle.farm_core.specs.inner.Replays.{IsReplaying, how_many_from, ReplaysVersion, RefusesAt}
 
 -- ---- faults

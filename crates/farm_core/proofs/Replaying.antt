@@ -22,12 +22,12 @@ use Rattle.farm_history.proofs.Counts.{count-cons}
 use Rattle.farm_history.proofs.Keyed.{IsServed}
 use Rattle.farm_plan.specs.Plans.{MapPlan, FarmPlan}
 use Rattle.farm_plan.specs.Drawings.{plan_of}
-use Rattle.farm_jobs.proofs.Servable.{served}
+use Rattle.render_jobs.proofs.Servable.{served}
 use Rattle.expiry_lists.specs.Marks.{Shown, mark_of, shown_key}
-use Rattle.farm_reach.specs.Marks.{is_reached}
-use Rattle.farm_stands.specs.Seen.{FarmSeen}
-use Rattle.farm_stands.proofs.Resuming.{Replays, replay_key_step, replay_update_step, replay_renew_step}
-use Rattle.resume_faults.specs.Faults.{has_zoom}
+use Rattle.reach_box.specs.Marks.{is_reached}
+use Rattle.farm_refinement.specs.Seen.{FarmSeen}
+use Rattle.farm_refinement.proofs.Resuming.{Replays, replay_key_step, replay_update_step, replay_renew_step}
+use Rattle.render_jobs.specs.Faults.{has_zoom}
 use Rattle.farm_core.specs.inner.Effects.{turn}
 use Rattle.farm_core.specs.inner.Renews.{Renews}
 use Rattle.farm_core.specs.inner.Replays.{IsReplaying, Stays, CanReplay, IsFresh, how_many_of, how_many_from, Replayed, ReplaysAt, ReplaysChange}

@@ -18,14 +18,14 @@ use Rattle.farm_plan.specs.Plans.{FarmPlan, IsPlan}
 use Rattle.farm_plan.specs.Drawings.{plan_of}
 use Rattle.farm_saved.specs.Savings.{IsKept, IsSaving}
 use Rattle.expiry_lists.specs.Marks.{mark_of}
-use Rattle.farm_stands.specs.Seen.{FarmSeen}
-use Rattle.farm_stands.specs.Stands.{HoldsShown}
-use Rattle.farm_stands.proofs.Resuming.{resumed_stands}
-use Rattle.resume_faults.specs.declared.faults.ResumeFault.{ResumeFault}
-use Rattle.resume_faults.specs.declared.faults.ResumeFault.TheVariants.{Number, Kept as NotKept}
-use Rattle.resume_faults.specs.Given.{styles_given}
-use Rattle.resume_faults.specs.Faults.{can_show, apply_fault, form_fault, resume_fault}
-use Rattle.resume_faults.proofs.Checked.{each_passes, shaped}
+use Rattle.farm_refinement.specs.Seen.{FarmSeen}
+use Rattle.farm_refinement.specs.Stands.{HoldsShown}
+use Rattle.farm_refinement.proofs.Resuming.{resumed_stands}
+use Rattle.render_jobs.specs.declared.faults.ResumeFault.{ResumeFault}
+use Rattle.render_jobs.specs.declared.faults.ResumeFault.TheVariants.{Number, Kept as NotKept}
+use Rattle.render_jobs.specs.Given.{styles_given}
+use Rattle.render_jobs.specs.Faults.{can_show, apply_fault, form_fault, resume_fault}
+use Rattle.render_jobs.proofs.Checked.{each_passes, shaped}
 use Rattle.farm_core.specs.Begins.{Begins, BeginsWell}
 use Rattle.farm_core.specs.inner.Starts.{IsStarted}
 use Rattle.farm_core.specs.inner.Replays.{CanReplay, IsAnew, IsFresh, IsReplaying, Stays}

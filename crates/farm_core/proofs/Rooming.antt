@@ -1,10 +1,10 @@
 -- The room of a farm that begins anew.
 use Rattle.std.proofs.Common.{◌≡◌, ℕ, List, length, Option, ap, arith}
 use Rattle.farm_history.specs.Seen.{Taken}
-use Rattle.farm_jobs.specs.Shared.{ShareSeen}
+use Rattle.render_jobs.specs.Shared.{ShareSeen}
 use Rattle.render_queues.specs.Tables.{Tables}
-use Rattle.farm_stands.specs.Seen.{Counts}
-use Rattle.farm_stands.specs.inner.Events.{no_counts}
+use Rattle.farm_refinement.specs.Seen.{Counts}
+use Rattle.farm_refinement.specs.inner.Events.{no_counts}
 use Rattle.farm_core.specs.inner.Rooms.{IsRoomy}
 
 -- maps were given styles, and nothing else has happened

@@ -22,9 +22,9 @@ use Rattle.render_queues.specs.OneQueue.{is_below}
 use Rattle.render_queues.specs.Tables.{Tables, line_of, first_of, next_of, after_take, after_place, lifted_out}
 use Rattle.farm_plan.specs.Plans.{FarmPlan, IsPlan}
 use Rattle.farm_plan.specs.Spots.{IsKeyOf}
-use Rattle.farm_stands.specs.Seen.{Counts}
-use Rattle.farm_jobs.specs.Shared.{ShareSeen}
-use Rattle.farm_stands.specs.inner.Events.{taken_at, untaken, waits_at, with_dirty, stale_tables, asked_tables, marked_tables, dirtied_taken}
+use Rattle.farm_refinement.specs.Seen.{Counts}
+use Rattle.render_jobs.specs.Shared.{ShareSeen}
+use Rattle.farm_refinement.specs.inner.Events.{taken_at, untaken, waits_at, with_dirty, stale_tables, asked_tables, marked_tables, dirtied_taken}
 use Rattle.farm_core.specs.inner.Effects.{IsNext}
 use Rattle.farm_core.specs.inner.Rooms.{ticket_of, how_many_at, AreSpares, AreKeysOf, IsRoomy}
 

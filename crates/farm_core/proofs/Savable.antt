@@ -21,9 +21,9 @@ use Rattle.farm_plan.specs.Plans.{Restyle, FarmPlan, IsPlan}
 use Rattle.farm_plan.specs.Drawings.{plan_of}
 use Rattle.farm_plan.proofs.Spots.{served_key}
 use Rattle.farm_saved.specs.Savings.{StyleFits, IsKept, IsSaving}
-use Rattle.farm_stands.specs.Seen.{FarmSeen}
-use Rattle.farm_stands.specs.Stands.{StandsFor}
-use Rattle.farm_stands.proofs.Telling.{saved_is}
+use Rattle.farm_refinement.specs.Seen.{FarmSeen}
+use Rattle.farm_refinement.specs.Stands.{StandsFor}
+use Rattle.farm_refinement.proofs.Telling.{saved_is}
 use Rattle.farm_core.specs.inner.Saves.{Keeps}
 
 all_each : {X : Type 0} (P : X → Type 0) (xs : List X) → Each P xs → All P xs

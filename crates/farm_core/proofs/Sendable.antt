@@ -8,8 +8,8 @@ use Rattle.std.proofs.Crossing as any
 use Rattle.expiry_lists.specs.contracts.marks.Marks as marks
 use Rattle.farm_history.specs.contracts.saved.Past as past
 use Rattle.farm_history.specs.contracts.saved.Saved as saved
-use Rattle.farm_jobs.specs.contracts.shares.Share as share
-use Rattle.farm_jobs.specs.contracts.taken.Taken as taken
+use Rattle.render_jobs.specs.contracts.shares.Share as share
+use Rattle.render_jobs.specs.contracts.taken.Taken as taken
 use Rattle.render_queues.specs.contracts.queues.Queues as queues
 use Rattle.farm_core.specs.contracts.farm.Farm as farm
 use Rattle.farm_core.specs.contracts.farm.Farm.TheInside as farm_in

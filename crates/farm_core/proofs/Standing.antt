@@ -13,7 +13,7 @@ use Rattle.render_queues.specs.declared.standing.Standing.TheVariants.{Waits as 
 use Rattle.render_queues.specs.OneQueue.{without}
 use Rattle.render_queues.specs.Tables.{Tables, how_often, standing, after_end, AreSound}
 use Rattle.farm_core.specs.inner.Asks.{StandsBy}
-use Rattle.farm_stands.specs.inner.Events.{waits_at}
+use Rattle.farm_refinement.specs.inner.Events.{waits_at}
 
 -- one that is among them is counted
 often_in : (k : Key) (keys : List Key) → is_in k keys ≡ true → 1 ≤ how_often k keys

@@ -10,11 +10,11 @@ use Rattle.farm_history.specs.declared.queues.Limits.{Limits}
 use Rattle.farm_history.specs.Lists.{Each}
 use Rattle.farm_history.specs.Seen.{Taken}
 use Rattle.farm_plan.specs.Plans.{FarmPlan, IsPlan}
-use Rattle.farm_jobs.specs.Shared.{ShareSeen}
+use Rattle.render_jobs.specs.Shared.{ShareSeen}
 use Rattle.render_queues.specs.Tables.{Tables, no_tables}
-use Rattle.farm_stands.specs.Seen.{FarmSeen}
-use Rattle.farm_stands.specs.inner.Events.{no_counts}
-use Rattle.farm_stands.proofs.Starting.{start_step}
+use Rattle.farm_refinement.specs.Seen.{FarmSeen}
+use Rattle.farm_refinement.specs.inner.Events.{no_counts}
+use Rattle.farm_refinement.proofs.Starting.{start_step}
 use Rattle.farm_core.specs.Begins.{Begins}
 use Rattle.farm_core.specs.inner.Rooms.{how_many_at, AreTaken, AreKeysOf, IsRoomy}
 use Rattle.farm_core.specs.inner.Starts.{AreParts, IsStarted}

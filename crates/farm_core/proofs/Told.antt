@@ -35,17 +35,17 @@ use Rattle.farm_plan.specs.Plans.{Restyle as PlanStyle}
 use Rattle.farm_plan.specs.Drawings.{plan_of, update_of, key_path}
 use Rattle.render_queues.specs.Tables.{next_of, after_end, after_leave, open_of, AreSound}
 use Rattle.expiry_lists.specs.Marks.{mark_of, clean_marks, is_of_map}
-use Rattle.farm_stands.specs.Seen.{FarmSeen}
-use Rattle.farm_stands.specs.Jobs.{JobSeen, job_key, job_text, Carries, IsFlight}
-use Rattle.farm_stands.specs.Reads.{fetched_by}
-use Rattle.farm_stands.specs.Stands.{StandsFor}
-use Rattle.farm_stands.specs.inner.Events.{claim_at, collected_by, look_at, stale_tables, stopped_counts, stored_counts, taken_at, tally_of, untaken}
-use Rattle.farm_stands.proofs.Claiming.{claim_none_step, claim_job_step, job_carries}
-use Rattle.farm_stands.proofs.Changing.{update_step, update_refused_step, update_unknown_step, restyle_step, restyle_unknown_step, expire_step}
-use Rattle.farm_stands.proofs.Finishing.{finish_stored_step, finish_lost_step, finish_cut_step}
-use Rattle.farm_stands.proofs.Marking.{dirtied_at}
-use Rattle.farm_stands.proofs.Reading.{fetch_unservable_step, fetch_missing_step, fetch_read_step, look_step}
-use Rattle.farm_stands.proofs.Replying.{collect_none_step, collect_reply_step, leave_step, stop_step, tally_step}
+use Rattle.farm_refinement.specs.Seen.{FarmSeen}
+use Rattle.farm_plan.specs.Jobs.{JobSeen, job_key, job_text, Carries, IsFlight}
+use Rattle.farm_refinement.specs.Reads.{fetched_by}
+use Rattle.farm_refinement.specs.Stands.{StandsFor}
+use Rattle.farm_refinement.specs.inner.Events.{claim_at, collected_by, look_at, stale_tables, stopped_counts, stored_counts, taken_at, tally_of, untaken}
+use Rattle.farm_refinement.proofs.Claiming.{claim_none_step, claim_job_step, job_carries}
+use Rattle.farm_refinement.proofs.Changing.{update_step, update_refused_step, update_unknown_step, restyle_step, restyle_unknown_step, expire_step}
+use Rattle.farm_refinement.proofs.Finishing.{finish_stored_step, finish_lost_step, finish_cut_step}
+use Rattle.farm_refinement.proofs.Marking.{dirtied_at}
+use Rattle.farm_refinement.proofs.Reading.{fetch_unservable_step, fetch_missing_step, fetch_read_step, look_step}
+use Rattle.farm_refinement.proofs.Replying.{collect_none_step, collect_reply_step, leave_step, stop_step, tally_step}
 use Rattle.farm_core.specs.inner.Effects.{Advances, Claims, Collects, Fetches, Keeps, Dirties, after_claim, is_crowded, turn}
 
 -- the place that was written holds what was written, and others what they held

@@ -13,9 +13,9 @@ use Rattle.farm_history.specs.Replays.{past_number, replay_keys, replay_change}
 use Rattle.farm_plan.specs.Plans.{FarmPlan}
 use Rattle.farm_plan.specs.Drawings.{plan_of, update_of}
 use Rattle.expiry_lists.specs.Marks.{mark_of}
-use Rattle.farm_stands.proofs.Marking.{dirtied_at}
-use Rattle.farm_reach.specs.Marks.{is_reached}
-use Rattle.farm_stands.specs.Seen.{FarmSeen}
+use Rattle.farm_refinement.proofs.Marking.{dirtied_at}
+use Rattle.reach_box.specs.Marks.{is_reached}
+use Rattle.farm_refinement.specs.Seen.{FarmSeen}
 use Rattle.farm_core.specs.inner.Replays.{IsReplaying, Stays, IsFresh, how_many_of, ReplaysChange, ReplaysVersion}
 use Rattle.farm_core.proofs.Replaying.{change_step}
 

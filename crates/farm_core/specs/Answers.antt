@@ -11,9 +11,9 @@ use Rattle.farm_history.specs.Plans.{key_of, spot_tile}
 use Rattle.farm_plan.specs.Drawings.{key_path}
 use Rattle.farm_core.specs.declared.claims.Claimed.{Claimed}
 use Rattle.farm_core.specs.declared.finishes.Drawn.{Drawn}
-use Rattle.farm_stands.specs.Seen.{FarmSeen}
-use Rattle.farm_stands.specs.Jobs.{JobSeen, job_key, job_text}
-use Rattle.farm_stands.specs.Reads.{ReadsTile, fetched_by}
+use Rattle.farm_refinement.specs.Seen.{FarmSeen}
+use Rattle.farm_plan.specs.Jobs.{JobSeen, job_key, job_text}
+use Rattle.farm_refinement.specs.Reads.{ReadsTile, fetched_by}
 
 -- the answer to a claim: of a job its ticket, its key and the data version
 abbrev pub claim_answer : Claimed → ClaimAnswer

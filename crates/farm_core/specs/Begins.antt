@@ -9,8 +9,8 @@ use Rattle.farm_history.specs.Laws.{ask_numbered}
 use Rattle.farm_history.specs.Replays.{Saving, replay_front, replay}
 use Rattle.farm_plan.specs.Plans.{FarmPlan}
 use Rattle.farm_plan.specs.Drawings.{plan_of}
-use Rattle.farm_stands.specs.Seen.{FarmSeen}
-use Rattle.farm_stands.specs.Stands.{HoldsShown, StandsFor}
+use Rattle.farm_refinement.specs.Seen.{FarmSeen}
+use Rattle.farm_refinement.specs.Stands.{HoldsShown, StandsFor}
 
 -- the history with which a farm begins: nothing where it was started, and the replay of what it was resumed from
 abbrev pub origin : FarmPlan → Option Saving → List Entry

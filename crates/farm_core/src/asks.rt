@@ -11,14 +11,14 @@ ghost use Rattle.farm_history.specs.Entries.{Ask, Entry};
 ghost use Rattle.farm_history.specs.Past.{number_in};
 ghost use Rattle.farm_plan.specs.Drawings.{plan_of};
 ghost use Rattle.farm_core.specs.Answers.{Lasts};
-ghost use Rattle.farm_stands.specs.Stands.{StandsFor};
+ghost use Rattle.farm_refinement.specs.Stands.{StandsFor};
 ghost use Rattle.farm_plan.specs.Spots.{IsKeyOf};
-ghost use Rattle.farm_stands.specs.inner.Events.{asked_tables, marked_tables, waits_at};
+ghost use Rattle.farm_refinement.specs.inner.Events.{asked_tables, marked_tables, waits_at};
 
 use crate::farm::Farm;
 use farm_base::{MOST_ASKS, MOST_ASKS_OF_ONE};
-use farm_jobs::{is_overtaken, serve, touch_key};
 use farm_plan::{AskAnswer, Cmd, Conn, Key, Mark, Queue, Spot, Waiter, Why};
+use render_jobs::{is_overtaken, serve, touch_key};
 use render_queues::{Queues, Standing};
 use tile_store::TileStore;
 

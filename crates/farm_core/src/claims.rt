@@ -3,15 +3,15 @@ ghost use Rattle.std.specs.Prelude.{◌≡◌, ◌<◌, ◌≤◌, ◌+◌, ◌^
 ghost use Rattle.farm_plan.specs.Spots.{IsKeyOf};
 ghost use Rattle.farm_history.specs.Entries.{Entry, Claim};
 ghost use Rattle.farm_core.specs.Answers.{IfJob, Lasts, claim_answer};
-ghost use Rattle.farm_stands.specs.Jobs.{Carries, IsValidJob, job_key};
-ghost use Rattle.farm_stands.specs.Stands.{StandsFor};
+ghost use Rattle.farm_plan.specs.Jobs.{Carries, IsValidJob, job_key};
+ghost use Rattle.farm_refinement.specs.Stands.{StandsFor};
 ghost use Rattle.farm_core.specs.inner.Rooms.{AreCounted};
 ghost use Rattle.farm_core.specs.inner.Effects.{Claims, IsJobFor, begins, is_crowded, turn};
 ghost use Rattle.render_queues.specs.Tables.{AreSound, after_take, next_of};
 
 use crate::farm::Farm;
-use farm_jobs::{Job, Taken};
 use farm_plan::Key;
+use render_jobs::{Job, Taken};
 use tile_store::TileStore;
 
 /// What a claim is answered.

@@ -11,7 +11,7 @@ ghost use Rattle.render_queues.specs.contracts.queues.Queues as queues;
 
 use expiry_lists::Marks;
 use farm_history::{Past, Saved};
-use farm_jobs::{cross_share, cross_taken};
+use render_jobs::{cross_share, cross_taken};
 use render_queues::Queues;
 
 fn sends<T: Send>()

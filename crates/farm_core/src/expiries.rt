@@ -2,16 +2,16 @@
 ghost use Rattle.std.specs.Prelude.{◌≡◌, ◌<◌, ◌^◌, Bool, List, ◌∷◌, length, slice_get, slice_set, option_map, Some, IfSome};
 ghost use Rattle.farm_history.specs.Entries.{Entry, Expire, Restyle};
 ghost use Rattle.farm_core.specs.Answers.{Lasts};
-ghost use Rattle.farm_stands.specs.Stands.{StandsFor};
+ghost use Rattle.farm_refinement.specs.Stands.{StandsFor};
 ghost use Rattle.plain_world.specs.World.{IsTile};
 ghost use Rattle.farm_history.specs.Plans.{overlaps};
 ghost use Rattle.expiry_lists.specs.Marks.{is_of_map};
 ghost use Rattle.farm_core.specs.inner.Effects.{Dirties};
 
 use crate::farm::Farm;
-use farm_jobs::{touch_map, touch_tile};
 use farm_plan::Restyled;
 use plain_world::Tile;
+use render_jobs::{touch_map, touch_tile};
 use tile_store::TileStore;
 
 impl<D> Farm<D> {

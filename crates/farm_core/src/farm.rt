@@ -4,12 +4,12 @@ ghost use Rattle.std.specs.Str.{bytes_eq};
 ghost use Rattle.std.specs.List.{ends_with};
 ghost use Rattle.tile_store.specs.Stores.{StorePuts};
 ghost use Rattle.farm_history.specs.Entries.{Entry};
-ghost use Rattle.farm_stands.specs.Stands.{StandsFor};
+ghost use Rattle.farm_refinement.specs.Stands.{StandsFor};
 
 use expiry_lists::Marks;
 use farm_history::Saved;
-use farm_jobs::{Share, Taken};
 use farm_plan::Past;
+use render_jobs::{Share, Taken};
 use render_queues::Queues;
 use std::alloc::Global;
 use std::marker::Model;
@@ -46,7 +46,7 @@ pub struct Farm<D> {
 impl<D> Model for Farm<D> {
     ghost use Rattle.std.specs.Prelude.{length};
     ghost use Rattle.std.specs.Vec.{vec_capacity};
-    ghost use Rattle.farm_stands.specs.Seen.{FarmSeen};
+    ghost use Rattle.farm_refinement.specs.Seen.{FarmSeen};
     ghost use Rattle.farm_core.specs.inner.Rooms.{IsRoomy};
     ghost use Rattle.plain_filters.specs.inner.FilterCodes.{filter_code};
     ghost use Rattle.std.specs.Coded.{codes};

@@ -5,20 +5,20 @@ ghost use Rattle.farm_history.specs.Plans.{is_servable, key_of};
 ghost use Rattle.farm_plan.specs.Drawings.{plan_of};
 ghost use Rattle.expiry_lists.specs.Marks.{mark_of};
 ghost use Rattle.farm_core.specs.Answers.{Lasts, Reads};
-ghost use Rattle.farm_stands.specs.Stands.{StandsFor};
+ghost use Rattle.farm_refinement.specs.Stands.{StandsFor};
 ghost use Rattle.plain_world.specs.World.{IsTile, meta_of, index_place};
 ghost use Rattle.farm_plan.specs.Spots.{IsKeyOf};
 ghost use Rattle.farm_core.specs.inner.Effects.{Fetches, refused_by};
-ghost use Rattle.farm_stands.specs.Reads.{ReadsTile, fetched_by};
-ghost use Rattle.farm_stands.specs.inner.Events.{look_at, looked_by};
+ghost use Rattle.farm_refinement.specs.Reads.{ReadsTile, fetched_by};
+ghost use Rattle.farm_refinement.specs.inner.Events.{look_at, looked_by};
 
 use crate::farm::Farm;
 use farm_base::{Bytes, MetaFault};
-use farm_jobs::serve;
 use farm_plan::{Fetched, Key, Looked, Mark, Spot};
 use merc_fixed::index_place;
 use meta_container::{HEAD_BYTES, entry_in};
 use plain_world::{Meta, Tile};
+use render_jobs::serve;
 use std::alloc::Global;
 use tile_store::{StoreFault, TileStore};
 

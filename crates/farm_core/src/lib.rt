@@ -20,10 +20,9 @@ pub use claims::Claimed;
 pub use crossing::cross_farm;
 pub use farm::Farm;
 pub use farm_history::Saved;
-pub use farm_jobs::Job;
 pub use farm_plan::{
     AskAnswer, Cmd, Collected, Conn, FarmPlan, Fetched, Finished, Kept, Key, Limits, Looked,
     MapPlan, Outcome, Past, Renewed, Reply, Restyle, Restyled, Spot, Tally, Updated, Why,
 };
 pub use finishes::Drawn;
-pub use resume_faults::ResumeFault;
+pub use render_jobs::{Job, ResumeFault};

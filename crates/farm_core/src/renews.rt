@@ -9,17 +9,17 @@ ghost use Rattle.farm_history.specs.Seen.{overtaken_by};
 ghost use Rattle.farm_plan.specs.Plans.{IsPlan};
 ghost use Rattle.farm_plan.specs.Drawings.{named, update_of};
 ghost use Rattle.farm_plan.specs.Spots.{IsKeyOf};
-ghost use Rattle.farm_reach.specs.Boxes.{AreBoxesOf, boxes_reach_map};
-ghost use Rattle.farm_stands.specs.Stands.{StandsFor};
+ghost use Rattle.reach_box.specs.NamedBoxes.{AreBoxesOf, boxes_reach_map};
+ghost use Rattle.farm_refinement.specs.Stands.{StandsFor};
 ghost use Rattle.farm_core.specs.Answers.{Lasts};
 ghost use Rattle.farm_core.specs.inner.Renews.{Names, Reaches, Renews};
 
 use crate::farm::Farm;
 use farm_base::{ApplyFault, NoMemory};
-use farm_jobs::{Setup, Taken, overtaken};
 use farm_plan::{Key, Past, Renewed};
-use farm_reach::{boxes_reach, named_boxes, mark_maps_dirty};
 use geo_model::Bounds;
+use reach_box::{boxes_reach, mark_maps_dirty, named_boxes};
+use render_jobs::{Setup, Taken, overtaken};
 use std::alloc::Global;
 use tile_store::TileStore;
 

@@ -3,10 +3,10 @@ ghost use Rattle.farm_history.specs.Past.{is_done};
 ghost use Rattle.std.specs.Prelude.{◌≡◌, ◌<◌, ◌≤◌, ◌^◌, Bool, true, List, ◌∷◌, None};
 ghost use Rattle.farm_history.specs.Entries.{Entry, Collect, Leave, Stop, Tally as Counted};
 ghost use Rattle.farm_core.specs.Answers.{Lasts};
-ghost use Rattle.farm_stands.specs.Stands.{StandsFor};
+ghost use Rattle.farm_refinement.specs.Stands.{StandsFor};
 ghost use Rattle.render_queues.specs.Tables.{after_leave, open_of};
 ghost use Rattle.farm_core.specs.inner.Effects.{Collects, TakesFirst};
-ghost use Rattle.farm_stands.specs.inner.Events.{collected_by, tally_of};
+ghost use Rattle.farm_refinement.specs.inner.Events.{collected_by, tally_of};
 
 use crate::asks::one_more;
 use crate::farm::Farm;

@@ -10,9 +10,9 @@ ghost use Rattle.farm_history.specs.Replays.{are_rising, past_number, replay, re
 ghost use Rattle.farm_plan.specs.Plans.{IsPlan};
 ghost use Rattle.farm_plan.specs.Drawings.{plan_of, update_of};
 ghost use Rattle.farm_saved.specs.Savings.{IsSaving};
-ghost use Rattle.resume_faults.specs.declared.faults.ResumeFault.{ResumeFault};
+ghost use Rattle.render_jobs.specs.declared.faults.ResumeFault.{ResumeFault};
 ghost use Rattle.farm_core.specs.inner.Starts.{IsStarted};
-ghost use Rattle.resume_faults.specs.Faults.{apply_fault, resume_fault, form_fault};
+ghost use Rattle.render_jobs.specs.Faults.{apply_fault, resume_fault, form_fault};
 ghost use Rattle.farm_core.specs.Begins.{Begins, BeginsWell};
 ghost use Rattle.farm_core.specs.inner.Replays.{CanReplay, IsAnew, IsFresh, IsReplaying, RefusesAt, ReplaysAt, ReplaysChange, ReplaysVersion, Stays, how_many_of};
 
@@ -21,7 +21,7 @@ use crate::starts::first_farm;
 use farm_base::{ApplyFault, NoMemory};
 use farm_history::Saved;
 use farm_plan::{FarmPlan, Kept, Past};
-use resume_faults::{ResumeFault, check, copied, refused_at, styles_given};
+use render_jobs::{ResumeFault, check, copied, refused_at, styles_given};
 use std::alloc::Global;
 use tile_store::TileStore;
 

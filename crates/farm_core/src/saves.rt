@@ -4,7 +4,7 @@ ghost use Rattle.farm_history.specs.Entries.{Entry};
 ghost use Rattle.farm_history.specs.Replays.{IsSaved};
 ghost use Rattle.farm_plan.specs.Drawings.{plan_of};
 ghost use Rattle.farm_saved.specs.Savings.{IsSaving};
-ghost use Rattle.farm_stands.specs.Stands.{StandsFor};
+ghost use Rattle.farm_refinement.specs.Stands.{StandsFor};
 ghost use Rattle.farm_core.specs.inner.Saves.{Keeps};
 
 use crate::farm::Farm;

@@ -8,8 +8,8 @@ ghost use Rattle.farm_core.specs.inner.Starts.{AreFirst, AreParts, IsStarted};
 use crate::farm::Farm;
 use expiry_lists::Marks;
 use farm_base::NoMemory;
-use farm_jobs::{Share, Taken, make_shares};
 use farm_plan::{FarmPlan, Limits};
+use render_jobs::{Share, Taken, make_shares};
 use render_queues::Queues;
 use std::alloc::Global;
 use std::snapshot::Snapshot as Seen;
@@ -32,7 +32,7 @@ struct Parts {
 }
 
 /// No style for each of so many maps.
-#[tactic(auto, using(farm_jobs::proofs::Replicas::replicate_push))]
+#[tactic(auto, using(render_jobs::proofs::Replicas::replicate_push))]
 fn no_styles(alloc: Global, count: usize) -> Result<Vec<Option<u32>>, NoMemory>
     ensures { IfOk result (λ v. v.items ≡ replicate count None) }
 {

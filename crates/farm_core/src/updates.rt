@@ -2,7 +2,7 @@
 ghost use Rattle.std.specs.Prelude.{◌≡◌, ◌≢◌, ◌<◌, ◌≤◌, ◌+◌, ◌++◌, ◌∷◌, [], Bool, List, ◌^◌, nat_lt, length, IfErr, IfOk, OnOk, Err};
 ghost use Rattle.farm_history.specs.Entries.{Entry, Update as Changed};
 ghost use Rattle.farm_core.specs.Answers.{Lasts};
-ghost use Rattle.farm_stands.specs.Stands.{StandsFor};
+ghost use Rattle.farm_refinement.specs.Stands.{StandsFor};
 ghost use Rattle.std.specs.Vec.{vec_capacity};
 ghost use Rattle.farm_base.specs.declared.faults.ApplyFault.{ApplyFault};
 ghost use Rattle.plain_data.specs.Data.{update_result};
@@ -12,8 +12,8 @@ ghost use Rattle.farm_core.specs.inner.Effects.{Advances, IsNext, Nexts, own_of}
 use crate::farm::Farm;
 use data_versions::{Snapshot, Update, apply};
 use farm_base::{ApplyFault, NoMemory};
-use farm_jobs::{Share, make_shares};
 use farm_plan::{Past, Updated};
+use render_jobs::{Share, make_shares};
 use std::alloc::Global;
 use tile_store::TileStore;
 

@@ -19,7 +19,7 @@ use Rattle.farm_config.specs.declared.config.RestyleEntry.{RestyleEntry}
 use Rattle.farm_plan.specs.Plans.{MapPlan, Restyle, IsMapPlan, HasNamesApart, IsFrom1, AreLimits, NamesMap, IsPlan}
 use Rattle.input_files.specs.Course.{Course, made, ◌>>=◌, file, each}
 use Rattle.input_files.proofs.Courses.{Could, could_parts}
-use Rattle.map_files.specs.Courses.{style_course}
+use Rattle.farm_files.specs.MapCourses.{style_course}
 use Rattle.farm_files.specs.Courses.{map_course, restyle_course, update_course, list_course, inputs_course, map_course_by, restyle_course_by, inputs_course_by}
 use Rattle.farm_files.specs.Inputs.{FarmInputs}
 use Rattle.farm_files.proofs.Steps.{with_maps, with_restyles, with_layers, with_updates, inputs_with}

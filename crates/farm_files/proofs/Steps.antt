@@ -9,8 +9,8 @@ use Rattle.fault_texts.specs.DataFaults.{data_text}
 use Rattle.farm_config.specs.Configs.{MapEntry, Config}
 use Rattle.farm_config.specs.declared.config.RestyleEntry.{RestyleEntry}
 use Rattle.farm_plan.specs.Plans.{MapPlan, Restyle}
-use Rattle.call_ends.specs.Ends.{FilesAt}
-use Rattle.call_ends.specs.declared.stops.Stop.{Stop}
+use Rattle.exit_status.specs.Ends.{FilesAt}
+use Rattle.exit_status.specs.declared.stops.Stop.{Stop}
 use Rattle.input_files.specs.Course.{Course, made, ◌>>=◌, file, each}
 use Rattle.input_files.specs.inner.Follows.{Follows}
 use Rattle.input_files.proofs.Courses.{ended, follows_then, follows_stop}

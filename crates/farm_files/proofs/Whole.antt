@@ -7,8 +7,8 @@ use Rattle.script_lines.specs.Scripts.{script_in}
 use Rattle.script_lines.specs.declared.script.ScriptLine.{ScriptLine}
 use Rattle.fault_texts.specs.ConfigFaults.{config_text}
 use Rattle.fault_texts.specs.LineFaults.{script_text}
-use Rattle.call_ends.specs.Ends.{FilesAt}
-use Rattle.call_ends.specs.declared.stops.Stop.{Stop}
+use Rattle.exit_status.specs.Ends.{FilesAt}
+use Rattle.exit_status.specs.declared.stops.Stop.{Stop}
 use Rattle.input_files.specs.Course.{Course, made, ◌>>=◌, file}
 use Rattle.input_files.specs.inner.Follows.{Follows}
 use Rattle.input_files.proofs.Courses.{ended, follows_then, follows_stop}

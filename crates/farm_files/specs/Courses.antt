@@ -16,7 +16,7 @@ use Rattle.fault_texts.specs.DataFaults.{data_text}
 use Rattle.fault_texts.specs.LineFaults.{list_text, script_text}
 use Rattle.farm_plan.specs.Plans.{MapPlan, Restyle}
 use Rattle.input_files.specs.Course.{Course, made, ◌>>=◌, file, each}
-use Rattle.map_files.specs.Courses.{style_course_by}
+use Rattle.farm_files.specs.MapCourses.{style_course_by}
 use Rattle.farm_files.specs.Addresses.{addressed_in}
 use Rattle.farm_files.specs.Inputs.{FarmInputs, Scripted, Served}
 

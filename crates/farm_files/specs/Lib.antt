@@ -1,3 +1,5 @@
 pub mod Addresses
 pub mod Courses
 pub mod Inputs
+pub mod MapCourses
+pub mod Rasters

@@ -8,7 +8,7 @@ ghost use Rattle.reading.specs.Steps.{Gives};
 ghost use Rattle.farm_config.specs.declared.fault.ConfigFault.TheVariants as fault;
 ghost use Rattle.farm_files.specs.Addresses.{addressed_in, addressed_of};
 
-use call_ends::Stop;
+use exit_status::Stop;
 use farm_base::Files;
 use farm_config::{Config, ConfigFault, read_config};
 use input_files::{checked, read_file};

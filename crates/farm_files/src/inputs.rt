@@ -4,14 +4,14 @@ ghost use Rattle.input_files.specs.inner.Follows.{Follows};
 ghost use Rattle.farm_plan.specs.Plans.{IsPlan};
 ghost use Rattle.farm_files.specs.Courses.{inputs_course};
 
+use crate::layers::data_layers;
 use crate::loaders::{ListFiles, MapFiles, RestyleFiles, UpdateFiles};
-use call_ends::Stop;
+use exit_status::Stop;
 use expiry_lists::TileList;
 use farm_base::Files;
 use farm_config::Config;
 use farm_plan::FarmPlan;
 use input_files::load_each;
-use map_files::data_layers;
 use std::alloc::Global;
 use std::marker::Model;
 

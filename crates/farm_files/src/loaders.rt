@@ -5,15 +5,15 @@ ghost use Rattle.reading.specs.Steps.{Gives};
 ghost use Rattle.input_files.specs.inner.Follows.{Follows};
 ghost use Rattle.farm_files.specs.Courses.{map_course, restyle_course, update_course, list_course};
 
-use call_ends::Stop;
+use crate::styles::bound_style;
 use data_versions::Update;
+use exit_status::Stop;
 use expiry_lists::{ListFault, TileList, read_list};
 use farm_base::{Files, Text};
 use farm_config::{MapEntry, RestyleEntry};
 use farm_plan::{MapPlan, Restyle};
 use geo_json::read_update;
 use input_files::{Load, checked, read_file};
-use map_files::bound_style;
 use std::alloc::Global;
 
 /// Reads a map's style with its rasters.

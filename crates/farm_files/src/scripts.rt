@@ -9,7 +9,7 @@ ghost use Rattle.farm_files.specs.Courses.{inputs_course, script_course, serve_c
 
 use crate::configs::{addressed_file, config_file};
 use crate::inputs::{FarmInputs, farm_inputs};
-use call_ends::Stop;
+use exit_status::Stop;
 use farm_base::Files;
 use farm_config::Config;
 use input_files::{checked, read_file};

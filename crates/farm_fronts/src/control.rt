@@ -1,9 +1,9 @@
 //! The control front.
 use expiry_lists::TileList;
 use farm_base::Bell;
+use farm_runs::Serving;
 use farm_shared::{Alarms, Seat, SharedFarm};
-use farm_threads::Serving;
-use port_trait::{FrontDone, Ports};
+use port_events::{FrontDone, Ports};
 use std::alloc::Global;
 use std::sync::Wait;
 use tile_store::TileStore;
@@ -15,8 +15,8 @@ pub struct ControlFront {
 }
 
 impl Serving for ControlFront {
-    ghost use Rattle.front_leaves.specs.Fronts.{control_leaves};
-    ghost use Rattle.front_leaves.proofs.Laws.{control_kinds, marked, unbegun};
+    ghost use Rattle.farm_fronts.specs.Fronts.{control_leaves};
+    ghost use Rattle.farm_fronts.proofs.Laws.{control_kinds, marked, unbegun};
 
     ghost number = { λ _. 2 };
 

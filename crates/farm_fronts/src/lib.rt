@@ -1,4 +1,5 @@
-//! The three fronts of a farm, as a run begins them.
+//! The three fronts of a farm, as a run begins them: what each leaves, and that it is what a run asks of a
+//! front.
 #![tactic(auto)]
 
 mod control;

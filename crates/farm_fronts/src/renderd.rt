@@ -1,8 +1,8 @@
 //! The renderd front.
 use farm_base::Bell;
+use farm_runs::Serving;
 use farm_shared::{Alarms, Seat, SharedFarm};
-use farm_threads::Serving;
-use port_trait::{FrontDone, Ports};
+use port_events::{FrontDone, Ports};
 use std::alloc::Global;
 use std::sync::Wait;
 use tile_store::TileStore;
@@ -12,8 +12,8 @@ use tile_store::TileStore;
 pub struct RenderdFront;
 
 impl Serving for RenderdFront {
-    ghost use Rattle.front_leaves.specs.Fronts.{renderd_leaves};
-    ghost use Rattle.front_leaves.proofs.Laws.{renderd_kinds, marked, unbegun};
+    ghost use Rattle.farm_fronts.specs.Fronts.{renderd_leaves};
+    ghost use Rattle.farm_fronts.proofs.Laws.{renderd_kinds, marked, unbegun};
 
     ghost number = { λ _. 0 };
 

@@ -1,8 +1,8 @@
 //! The tile front.
 use farm_base::Bell;
+use farm_runs::Serving;
 use farm_shared::{Alarms, Seat, SharedFarm};
-use farm_threads::Serving;
-use port_trait::{FrontDone, Ports};
+use port_events::{FrontDone, Ports};
 use std::alloc::Global;
 use std::sync::Wait;
 use tile_store::TileStore;
@@ -12,8 +12,8 @@ use tile_store::TileStore;
 pub struct TileFront;
 
 impl Serving for TileFront {
-    ghost use Rattle.front_leaves.specs.Fronts.{tiles_leave};
-    ghost use Rattle.front_leaves.proofs.Laws.{tiles_kinds, marked, unbegun};
+    ghost use Rattle.farm_fronts.specs.Fronts.{tiles_leave};
+    ghost use Rattle.farm_fronts.proofs.Laws.{tiles_kinds, marked, unbegun};
 
     ghost number = { λ _. 1 };
 

@@ -1,3 +1,4 @@
 pub mod Plans
 pub mod Drawings
 pub mod Spots
+pub mod Jobs

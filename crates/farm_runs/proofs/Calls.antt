@@ -5,16 +5,16 @@ use Rattle.std.proofs.lemmas.List.Elements.{All-append}
 use Rattle.farm_base.specs.Outside.{Outside}
 use Rattle.farm_history.specs.Entries.{Entry}
 use Rattle.farm_history.specs.Lists.{Each}
-use Rattle.port_trait.specs.declared.ends.FrontDone.{FrontDone}
-use Rattle.port_trait.specs.Told.{PortsTold}
+use Rattle.port_events.specs.declared.ends.FrontDone.{FrontDone}
+use Rattle.port_events.specs.Told.{PortsTold}
 use Rattle.turn_cell.specs.Turns.{StartsWith}
 use Rattle.turn_cell.specs.SeatStates.{Made, SeatState, IsSeatOf, SameSeat, joining, split_left, split_right}
 use Rattle.render_workers.specs.declared.worker.WorkEnd.{WorkEnd}
 use Rattle.turn_cell.proofs.Logs.{starts_through}
-use Rattle.farm_threads.specs.declared.each_front.EachFront.{EachFront}
-use Rattle.farm_threads.specs.declared.pool.Actor.{Actor}
-use Rattle.farm_threads.specs.declared.together.RunSeats.{RunSeats}
-use Rattle.farm_threads.specs.Actors.{Leaving, HasServed, HasWorked, IsFrontSeat, IsReady, HaveServed}
+use Rattle.farm_runs.specs.declared.each_front.EachFront.{EachFront}
+use Rattle.farm_runs.specs.declared.pool.Actor.{Actor}
+use Rattle.farm_runs.specs.declared.together.RunSeats.{RunSeats}
+use Rattle.farm_runs.specs.Actors.{Leaving, HasServed, HasWorked, IsFrontSeat, IsReady, HaveServed}
 use Rattle.farm_runs.specs.Promise.{is_worker_worn}
 use Rattle.farm_runs.specs.inner.Chain.{first_seat_after, notes, ends_in, Numbered, IsStart, IsSet, HasLeft, IsSpent, Ran}
 use Rattle.farm_runs.proofs.Gathering.{each_left, each_right, gathered_first, gathered_splits, gathered_joined, notes_length}

@@ -6,7 +6,7 @@ use Rattle.farm_history.specs.Lists.{Each}
 use Rattle.turn_cell.specs.Turns.{by, HasJoined}
 use Rattle.turn_cell.specs.SeatStates.{Made, SeatState}
 use Rattle.render_workers.specs.declared.worker.WorkEnd.{WorkEnd}
-use Rattle.farm_threads.specs.declared.pool.Actor.{Actor}
+use Rattle.farm_runs.specs.declared.pool.Actor.{Actor}
 use Rattle.farm_runs.specs.Promise.{is_worker_worn}
 use Rattle.farm_runs.specs.inner.Chain.{first_seat_after, notes, Numbered, ends_in, IsSpent}
 

@@ -12,9 +12,9 @@ use Rattle.farm_history.specs.Lists.{Each}
 use Rattle.farm_history.specs.Past.{flights}
 use Rattle.farm_history.proofs.Lists.{each-both}
 use Rattle.farm_plan.specs.Drawings.{plan_of}
-use Rattle.farm_stands.specs.Seen.{FarmSeen}
-use Rattle.port_trait.specs.declared.ends.FrontDone.{FrontDone}
-use Rattle.port_trait.specs.Told.{PortsTold}
+use Rattle.farm_refinement.specs.Seen.{FarmSeen}
+use Rattle.port_events.specs.declared.ends.FrontDone.{FrontDone}
+use Rattle.port_events.specs.Told.{PortsTold}
 use Rattle.turn_cell.specs.Turns.{by, NoneAbove, HasJoined, StartsWith}
 use Rattle.turn_cell.proofs.Logs.{starts_through}
 use Rattle.turn_cell.specs.SeatStates.{Made, SeatState, SameSeat, Knows, worn_out}
@@ -25,9 +25,9 @@ use Rattle.farm_shared.specs.Shared.{lasting_of, past, MayTell, Adds, IsClosed}
 use Rattle.render_workers.specs.declared.worker.WorkEnd.{WorkEnd}
 use Rattle.farm_headline.specs.Headline.{Headline}
 use Rattle.farm_headline.proofs.Sentences.{headline}
-use Rattle.farm_threads.specs.declared.each_front.EachFront.{EachFront}
-use Rattle.farm_threads.specs.declared.pool.Actor.{Actor}
-use Rattle.farm_threads.specs.Actors.{Leaving, AreOfFront, WorkBy, with_front_seats}
+use Rattle.farm_runs.specs.declared.each_front.EachFront.{EachFront}
+use Rattle.farm_runs.specs.declared.pool.Actor.{Actor}
+use Rattle.farm_runs.specs.Actors.{Leaving, AreOfFront, WorkBy, with_front_seats}
 use Rattle.farm_runs.specs.Promise.{Ends, own_entries, is_worker_worn, AreSeated, IsServed, AreWorked, IsStop, RunsWell}
 use Rattle.farm_runs.specs.inner.Chain.{first_seat_after, notes, ends_in, IsTally, HasLeft, IsSpent, Ran}
 use Rattle.farm_runs.proofs.Settling.{gives, Settled, landed}

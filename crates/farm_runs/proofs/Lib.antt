@@ -4,3 +4,4 @@ pub mod Gathering
 pub mod Stopping
 pub mod Keeping
 pub mod Calls
+pub mod Acting

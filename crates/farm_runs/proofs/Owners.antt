@@ -5,11 +5,11 @@ use Rattle.std.proofs.lemmas.List.Folds.{list_any-append}
 use Rattle.farm_history.specs.declared.answers.Tally.{Tally as Totals}
 use Rattle.farm_history.specs.Entries.{Entry, Claim, Stop}
 use Rattle.farm_history.specs.Lists.{Each}
-use Rattle.port_trait.specs.declared.ends.FrontEnd.{FrontEnd}
+use Rattle.port_events.specs.declared.ends.FrontEnd.{FrontEnd}
 use Rattle.farm_shared.specs.Seats.{gives_ticket, ends_ticket}
 use Rattle.render_workers.specs.declared.worker.WorkEnd.{WorkEnd}
 use Rattle.render_workers.specs.Rounds.{Round, Drew, FoundNone, FoundMany, round_entries, LastEntries, WorkOf}
-use Rattle.farm_threads.specs.Actors.{IsOfFront, AreOfFront, WorkBy}
+use Rattle.farm_runs.specs.Actors.{IsOfFront, AreOfFront, WorkBy}
 use Rattle.farm_runs.specs.Promise.{own_entries, is_worker_worn}
 use Rattle.farm_runs.proofs.Settling.{gives, ends, Settled}
 

@@ -8,10 +8,10 @@ use Rattle.std.proofs.lemmas.List.Folds.{list_any-append}
 use Rattle.farm_history.specs.declared.answers.Tally.{Tally as Totals}
 use Rattle.farm_history.specs.Entries.{Entry, Stop, Tally}
 use Rattle.farm_history.specs.Lists.{Each}
-use Rattle.port_trait.specs.declared.ends.FrontEnd.{FrontEnd}
+use Rattle.port_events.specs.declared.ends.FrontEnd.{FrontEnd}
 use Rattle.turn_cell.specs.Turns.{by}
 use Rattle.farm_shared.specs.Seats.{plain}
-use Rattle.farm_threads.specs.Actors.{IsOfFront, AreOfFront}
+use Rattle.farm_runs.specs.Actors.{IsOfFront, AreOfFront}
 use Rattle.farm_runs.specs.Promise.{own_entries}
 use Rattle.farm_runs.proofs.Owners.{is_stop}
 

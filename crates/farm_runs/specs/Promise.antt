@@ -6,17 +6,17 @@ use Rattle.tile_store.specs.Stores.{StoreTold}
 use Rattle.farm_history.specs.declared.answers.Tally.{Tally as Totals}
 use Rattle.farm_history.specs.Entries.{Entry, Stop, Tally}
 use Rattle.farm_history.specs.Past.{flights}
-use Rattle.farm_stands.specs.Seen.{FarmSeen}
-use Rattle.port_trait.specs.declared.ends.FrontDone.{FrontDone}
-use Rattle.port_trait.specs.declared.ends.FrontEnd.{FrontEnd}
-use Rattle.port_trait.specs.Told.{PortsTold}
+use Rattle.farm_refinement.specs.Seen.{FarmSeen}
+use Rattle.port_events.specs.declared.ends.FrontDone.{FrontDone}
+use Rattle.port_events.specs.declared.ends.FrontEnd.{FrontEnd}
+use Rattle.port_events.specs.Told.{PortsTold}
 use Rattle.turn_cell.specs.Turns.{by, NoneAbove}
 use Rattle.farm_shared.specs.Seats.{plain}
 use Rattle.farm_shared.specs.Shared.{lasting_of, past, MayTell, IsAfter}
 use Rattle.render_workers.specs.declared.worker.WorkEnd.{WorkEnd}
 use Rattle.farm_headline.specs.Headline.{Headline}
-use Rattle.farm_threads.specs.declared.each_front.EachFront.{EachFront}
-use Rattle.farm_threads.specs.Actors.{Leaving, WorkBy}
+use Rattle.farm_runs.specs.declared.each_front.EachFront.{EachFront}
+use Rattle.farm_runs.specs.Actors.{Leaving, WorkBy}
 
 -- A history H of a run is a list of pairs, a seat's number and an entry, in the order of the turns. Seat 0 is the run's own, seats 1 to 3 are those of the fronts, and seat w + 4 is that of worker w.
 

@@ -7,9 +7,9 @@ ghost use Rattle.turn_cell.specs.Turns.{StartsWith};
 ghost use Rattle.farm_runs.specs.Promise.{is_worker_worn};
 ghost use Rattle.farm_runs.specs.inner.Chain.{IsEnd, IsSpent, ends_in, first_seat_after};
 
+use crate::pool::Actor;
 use farm_plan::Tally;
 use farm_shared::{Closed, Seat, SharedFarm};
-use farm_threads::Actor;
 use render_workers::WorkEnd;
 use std::sync::Wait;
 use tile_store::TileStore;

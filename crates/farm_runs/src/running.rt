@@ -1,25 +1,27 @@
 //! A run from the farm that it begins with to what is left of it.
 ghost use Rattle.std.specs.Prelude.{◌≡◌, ◌≤◌, ◌<◌, ◌^◌, ◌+◌, Bool, [], length, IfErr, IfOk};
 ghost use Rattle.std.specs.Vec.{vec_capacity, vec_len};
-ghost use Rattle.farm_stands.specs.Stands.{StandsFor};
+ghost use Rattle.farm_refinement.specs.Stands.{StandsFor};
 ghost use Rattle.farm_core.specs.Begins.{origin};
 ghost use Rattle.farm_shared.specs.Shared.{MayTell, lasting_of};
-ghost use Rattle.farm_threads.specs.Actors.{maps_in, maps_of, three};
+ghost use Rattle.farm_runs.specs.Actors.{maps_in, maps_of, three};
 ghost use Rattle.turn_cell.specs.SeatStates.{IsSeatOf, first_of};
 ghost use Rattle.farm_runs.specs.Promise.{RunsWell};
 ghost use Rattle.farm_runs.specs.inner.Chain.{IsSet};
 
+use crate::barrier::StartBarrier;
+use crate::each_front::{EachFront, Fronts, RunActors};
 use crate::ending::close_run;
-use crate::seating::{Parking, parking_for, seat_pool, seat_fronts};
+use crate::pool::Actor;
+use crate::seating::{Parking, parking_for, seat_fronts, seat_pool};
+use crate::serving::Serving;
+use crate::together::{FrontSeats, RunSeats, run};
 use crossbeam_utils::sync::Parker;
 use farm_base::{Bell, Gate};
 use farm_core::Farm;
 use farm_plan::Tally;
 use farm_shared::{Closed, Seat, SharedFarm};
-use farm_threads::{
-    Actor, EachFront, FrontSeats, Fronts, RunActors, RunSeats, Serving, StartBarrier, run,
-};
-use port_trait::{FrontDone, Ports, ThreePorts};
+use port_events::{FrontDone, Ports, ThreePorts};
 use std::alloc::Global;
 use std::rt::Clock;
 use std::sync::Wait;

@@ -1,14 +1,15 @@
 //! The seats of a run.
 ghost use Rattle.std.specs.Prelude.{◌≡◌, ◌≤◌, ◌+◌, true, [], All, length, None, IfOk};
 ghost use Rattle.std.specs.Vec.{vec_capacity, vec_len};
-ghost use Rattle.farm_threads.specs.Actors.{IsFrontSeat, IsReady};
+ghost use Rattle.farm_runs.specs.Actors.{IsFrontSeat, IsReady};
 ghost use Rattle.farm_runs.specs.inner.Chain.{IsStart, Numbered};
 ghost use Rattle.turn_cell.specs.SeatStates.{IsSeatOf, Knows, split_left, split_right};
 
+use crate::each_front::EachFront;
+use crate::pool::Actor;
 use crossbeam_utils::sync::{Parker, Unparker};
 use farm_base::NoMemory;
 use farm_shared::{Seat, SharedFarm};
-use farm_threads::{Actor, EachFront};
 use std::alloc::Global;
 use tile_store::TileStore;
 

@@ -8,8 +8,8 @@ use Rattle.farm_history.specs.Replays.{Saving}
 use Rattle.farm_history.proofs.Unflown.{replay_unflown, replay_asks}
 use Rattle.farm_plan.specs.Plans.{FarmPlan}
 use Rattle.farm_plan.specs.Drawings.{plan_of}
-use Rattle.farm_stands.specs.Seen.{FarmSeen}
-use Rattle.farm_stands.specs.Stands.{StandsFor}
+use Rattle.farm_refinement.specs.Seen.{FarmSeen}
+use Rattle.farm_refinement.specs.Stands.{StandsFor}
 use Rattle.farm_core.specs.Begins.{origin, BeginsWell}
 use Rattle.farm_shared.specs.Shared.{lasting_of, MayTell, IsAfter}
 

@@ -7,7 +7,7 @@ use Rattle.farm_history.specs.declared.answers.ClaimAnswer.TheVariants.{Job}
 use Rattle.farm_history.specs.declared.answers.Collected.{Collected}
 use Rattle.farm_history.specs.Entries.{Entry, Claim, Collect}
 use Rattle.farm_history.specs.Laws.{IsOnlyReply}
-use Rattle.farm_stands.specs.Jobs.{JobSeen, IsValidJob, job_key}
+use Rattle.farm_plan.specs.Jobs.{JobSeen, IsValidJob, job_key}
 use Rattle.farm_core.specs.declared.claims.Claimed.{Claimed}
 use Rattle.farm_core.specs.Answers.{IfJob, claim_answer}
 use Rattle.turn_cell.specs.Turns.{by}

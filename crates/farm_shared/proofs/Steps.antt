@@ -11,9 +11,9 @@ use Rattle.farm_history.specs.Rules.{Fits, Legal}
 use Rattle.farm_history.specs.Past.{Flight, flights, flight_in}
 use Rattle.farm_history.proofs.Apart.{job_is_next}
 use Rattle.farm_plan.specs.Drawings.{plan_of}
-use Rattle.farm_stands.specs.Seen.{FarmSeen}
-use Rattle.farm_stands.specs.Stands.{StandsFor}
-use Rattle.farm_stands.specs.Jobs.{JobSeen, IsValidJob, Carries, IsFlight, job_key}
+use Rattle.farm_refinement.specs.Seen.{FarmSeen}
+use Rattle.farm_refinement.specs.Stands.{StandsFor}
+use Rattle.farm_plan.specs.Jobs.{JobSeen, IsValidJob, Carries, IsFlight, job_key}
 use Rattle.farm_core.specs.declared.claims.Claimed.{Claimed}
 use Rattle.farm_core.specs.Answers.{IfJob, Lasts, claim_answer}
 use Rattle.turn_cell.specs.Turns.{Follows}

@@ -8,9 +8,9 @@ use Rattle.farm_history.specs.declared.answers.Collected.{Collected}
 use Rattle.farm_history.specs.Entries.{Entry, Claim}
 use Rattle.farm_history.specs.Laws.{IsOnlyReply}
 use Rattle.farm_history.specs.Replays.{replay_front}
-use Rattle.farm_stands.specs.Seen.{FarmSeen}
-use Rattle.farm_stands.specs.Stands.{StandsFor}
-use Rattle.farm_stands.specs.Jobs.{JobSeen, job_key, Carries}
+use Rattle.farm_refinement.specs.Seen.{FarmSeen}
+use Rattle.farm_refinement.specs.Stands.{StandsFor}
+use Rattle.farm_plan.specs.Jobs.{JobSeen, job_key, Carries}
 use Rattle.farm_core.specs.Answers.{at_saved}
 use Rattle.farm_core.specs.Begins.{origin, Tells, BeginsWell}
 use Rattle.turn_cell.specs.Turns.{Follows}

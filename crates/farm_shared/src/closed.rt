@@ -6,7 +6,7 @@ ghost use Rattle.farm_history.specs.Entries.{Entry};
 ghost use Rattle.farm_history.specs.Replays.{IsSaved};
 ghost use Rattle.farm_plan.specs.Drawings.{plan_of};
 ghost use Rattle.farm_saved.specs.Savings.{IsSaving};
-ghost use Rattle.farm_stands.specs.Stands.{StandsFor};
+ghost use Rattle.farm_refinement.specs.Stands.{StandsFor};
 ghost use Rattle.farm_shared.specs.Shared.{IsAfter};
 
 use crate::shared::Seat;
@@ -28,7 +28,7 @@ pub struct Closed<D: TileStore> {
 impl<D: TileStore> Model for Closed<D> {
     ghost use Rattle.std.specs.Prelude.{ℕ, List};
     ghost use Rattle.farm_history.specs.Entries.{Entry};
-    ghost use Rattle.farm_stands.specs.Seen.{FarmSeen};
+    ghost use Rattle.farm_refinement.specs.Seen.{FarmSeen};
     ghost use Rattle.plain_filters.specs.inner.FilterCodes.{filter_code};
     ghost use Rattle.std.specs.Coded.{codes};
 

@@ -4,7 +4,7 @@ ghost use Rattle.farm_history.specs.Entries.{Claim, Finish};
 ghost use Rattle.farm_shared.specs.Shared.{Adds, HasJob, lasts};
 ghost use Rattle.turn_cell.specs.SeatStates.{IsSeatOf, Knows, SameSeat, worn_out};
 ghost use Rattle.farm_core.specs.Answers.{IfJob, IsDrawingOf, claim_answer, is_drawn};
-ghost use Rattle.farm_stands.specs.Jobs.{IsValidJob};
+ghost use Rattle.farm_plan.specs.Jobs.{IsValidJob};
 
 use crate::shared::{Seat, SharedFarm};
 use crate::turned::Turned;

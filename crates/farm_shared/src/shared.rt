@@ -2,7 +2,7 @@
 ghost use Rattle.std.specs.Prelude.{◌≡◌, ◌<◌, Bool, true, [], length, map, position, IfErr, IfOk, IsOkAnd};
 ghost use Rattle.std.specs.Str.{bytes_eq};
 ghost use Rattle.farm_base.specs.Limits.{most_turns};
-ghost use Rattle.farm_stands.specs.Stands.{StandsFor};
+ghost use Rattle.farm_refinement.specs.Stands.{StandsFor};
 ghost use Rattle.farm_shared.specs.inner.Turns.{AreNames};
 ghost use Rattle.farm_core.specs.Begins.{origin};
 ghost use Rattle.farm_shared.specs.Shared.{IsClosed, MayTell, lasting_of};

@@ -16,7 +16,7 @@ fn number(text: &str) -> Option<u64>
     ensures some { IfSome result (λ n. (text.now ≡ decimal n) × (n < 2 ^ 64)) }
     ensures every { (n : ℕ) → n < 2 ^ 64 → text.now ≡ decimal n → result ≡ Some n }
 {
-    line_words::number(text)
+    line_reading::number(text)
 }
 
 /// The same for numbers of 32 bits.
@@ -24,7 +24,7 @@ fn small_number(text: &str) -> Option<u32>
     ensures some { IfSome result (λ n. text.now ≡ decimal n) }
     ensures every { (n : ℕ) → n < 2 ^ 32 → text.now ≡ decimal n → result ≡ Some n }
 {
-    line_words::small_number(text)
+    line_reading::small_number(text)
 }
 
 /// The named tile size that the text spells.

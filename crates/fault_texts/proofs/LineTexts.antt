@@ -3,8 +3,8 @@ use Rattle.std.specs.Prelude.{ℕ, ◌+◌, ◌^◌, nat_le, List, [], ◌∷◌
 use Rattle.std.specs.Option.{ok_or}
 use Rattle.std.specs.Str.{bytes_eq, is_utf8}
 use Rattle.std.specs.Str.Lines.{lines}
-use Rattle.line_words.specs.Cuts.{cut_at}
-use Rattle.line_words.specs.Numbers.{decimal_below}
+use Rattle.line_reading.specs.Cuts.{cut_at}
+use Rattle.line_reading.specs.Numbers.{decimal_below}
 use Rattle.reading.specs.Steps.{◌>>=◌}
 use Rattle.plain_world.specs.declared.world.Tile.{Tile}
 use Rattle.expiry_lists.specs.Lists as list

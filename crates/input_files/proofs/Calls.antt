@@ -4,14 +4,14 @@ use Rattle.std.proofs.Common.{◌≡◌, ◌≢◌, ℕ, ◌⊎◌, inl, inr, Li
 use Rattle.std.specs.Prelude.{Option, Some, None, Result, Ok, Err, IfSome}
 use Rattle.farm_base.specs.Outside.{FilesTold, Rose}
 use Rattle.farm_base.specs.declared.sinks.SinkFault.{SinkFault}
-use Rattle.call_ends.specs.Stops.{status_of, err_line, usage, want_of_memory, store_failed, ports_failed, turns_used_up, unreadable_line}
-use Rattle.call_ends.specs.Ends.{FilesAt, SinkAt, put_end, PutsAll, told_status, EndsWith}
-use Rattle.call_ends.specs.Promises.{LineStands}
-use Rattle.call_ends.specs.declared.stops.Stop.{Stop}
-use Rattle.call_ends.specs.declared.stops.Stop.TheVariants as stop
-use Rattle.call_ends.proofs.Outsides.{PutCounts, put_counts}
-use Rattle.call_ends.proofs.Statuses as status
-use Rattle.call_ends.proofs.Statuses.{puts_failed}
+use Rattle.exit_status.specs.Stops.{status_of, err_line, usage, want_of_memory, store_failed, ports_failed, turns_used_up, unreadable_line}
+use Rattle.exit_status.specs.Ends.{FilesAt, SinkAt, put_end, PutsAll, told_status, EndsWith}
+use Rattle.exit_status.specs.Promises.{LineStands}
+use Rattle.exit_status.specs.declared.stops.Stop.{Stop}
+use Rattle.exit_status.specs.declared.stops.Stop.TheVariants as stop
+use Rattle.exit_status.proofs.Outsides.{PutCounts, put_counts}
+use Rattle.exit_status.proofs.Statuses as status
+use Rattle.exit_status.proofs.Statuses.{puts_failed}
 use Rattle.input_files.specs.Course.{Course, Makes, RefusedBy, IsValid}
 use Rattle.input_files.specs.Calls.{Did, Refusal, Missed, Ended, HasStatus}
 use Rattle.input_files.specs.inner.Runs.{Runs}

@@ -2,9 +2,9 @@
 use Rattle.std.proofs.Common.{◌≡◌, ℕ, ◌+◌, ◌<◌, inl, List, [], ◌∷◌, ◌++◌, length, get_or, drop, drop-cons, add-one, refl, sym, ap, subst, ◌∙◌, append_assoc}
 use Rattle.std.proofs.lemmas.List.{append-nil}
 use Rattle.std.specs.Prelude.{Result, Ok}
-use Rattle.call_ends.specs.Ends.{FilesAt}
-use Rattle.call_ends.specs.declared.stops.Stop.{Stop}
-use Rattle.call_ends.specs.declared.stops.Stop.TheVariants as stop
+use Rattle.exit_status.specs.Ends.{FilesAt}
+use Rattle.exit_status.specs.declared.stops.Stop.{Stop}
+use Rattle.exit_status.specs.declared.stops.Stop.TheVariants as stop
 use Rattle.input_files.specs.Course.{Course, made, ◌>>=◌, each}
 use Rattle.input_files.specs.inner.Follows.{Follows}
 use Rattle.input_files.proofs.Courses.{ended, follows_wanting, follows_then, follows_stop, then_made, then_then}

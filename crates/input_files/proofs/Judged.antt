@@ -6,10 +6,10 @@ use Rattle.farm_base.specs.declared.files.FileFault.{FileFault}
 use Rattle.farm_base.specs.declared.files.FileFault.TheVariants as file_fault
 use Rattle.reading.specs.Steps.{Gives}
 use Rattle.farm_base.specs.Outside.{Reads}
-use Rattle.call_ends.specs.Stops.{refused_line, unreadable_line}
-use Rattle.call_ends.specs.Ends.{FilesAt}
-use Rattle.call_ends.specs.declared.stops.Stop.{Stop}
-use Rattle.call_ends.specs.declared.stops.Stop.TheVariants as stop
+use Rattle.exit_status.specs.Stops.{refused_line, unreadable_line}
+use Rattle.exit_status.specs.Ends.{FilesAt}
+use Rattle.exit_status.specs.declared.stops.Stop.{Stop}
+use Rattle.exit_status.specs.declared.stops.Stop.TheVariants as stop
 use Rattle.input_files.specs.Course.{made, reads, text_or_none, judged, file}
 use Rattle.input_files.specs.inner.Follows.{After, Follows, Says, Tells}
 use Rattle.input_files.proofs.Courses.{ended, follows_wanting, follows_stop}

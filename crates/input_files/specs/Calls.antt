@@ -1,10 +1,10 @@
 -- What a call promises whose words ask for a course, and which works on what the course makes.
 use Rattle.std.specs.Prelude.{◌≡◌, ℕ, ◌⊎◌, List, Option, Some, Result, Ok, Err, IfSome}
 use Rattle.farm_base.specs.Outside.{FilesTold, Rose, failed_read, with_failed}
-use Rattle.call_ends.specs.Stops.{unreadable_line}
-use Rattle.call_ends.specs.Ends.{FilesAt}
-use Rattle.call_ends.specs.declared.stops.Stop.{Stop}
-use Rattle.call_ends.specs.declared.stops.Stop.TheVariants as stop
+use Rattle.exit_status.specs.Stops.{unreadable_line}
+use Rattle.exit_status.specs.Ends.{FilesAt}
+use Rattle.exit_status.specs.declared.stops.Stop.{Stop}
+use Rattle.exit_status.specs.declared.stops.Stop.TheVariants as stop
 use Rattle.input_files.specs.Course.{Course, Makes, RefusedBy, ComesTo}
 
 -- The files lead a course that is asked for to a value, no read failed, and the value was worked on, to this end. `does`

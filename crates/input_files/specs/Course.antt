@@ -1,6 +1,6 @@
 -- What the files of a command lead to, in the order in which they are read.
 use Rattle.std.specs.Prelude.{◌≡◌, ℕ, ◌⊎◌, List, [], ◌∷◌, Option, Some, None, Result, Ok, Err}
-use Rattle.call_ends.specs.Stops.{refused_line}
+use Rattle.exit_status.specs.Stops.{refused_line}
 
 -- A reading of files: it has made a value; or a line refuses a file; or the file of this name is read
 -- next, and its bytes lead on.

@@ -4,7 +4,7 @@ ghost use Rattle.reading.specs.Steps.{seen};
 ghost use Rattle.input_files.specs.Course.{made, reads, judged};
 ghost use Rattle.input_files.specs.inner.Follows.{Follows, Says, Tells};
 
-use call_ends::{Stop, refused, unreadable};
+use exit_status::{Stop, refused, unreadable};
 use farm_base::{FileFault, Files};
 use fault_texts::FaultText;
 use std::alloc::Global;

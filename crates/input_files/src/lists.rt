@@ -4,7 +4,7 @@ ghost use Rattle.reading.specs.Steps.{seen};
 ghost use Rattle.input_files.specs.Course.{each};
 ghost use Rattle.input_files.specs.inner.Follows.{Follows};
 
-use call_ends::Stop;
+use exit_status::Stop;
 use farm_base::Files;
 use std::alloc::Global;
 

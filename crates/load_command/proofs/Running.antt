@@ -10,11 +10,11 @@ use Rattle.tile_store.specs.Stores.{StoreTold}
 use Rattle.farm_history.specs.Entries.{Entry}
 use Rattle.farm_history.specs.Past.{open_asks}
 use Rattle.farm_history.specs.Lists.{Each}
-use Rattle.farm_stands.specs.Seen.{FarmSeen}
-use Rattle.farm_stands.specs.Stands.{StandsFor}
-use Rattle.call_ends.specs.Ends.{SinkAt}
-use Rattle.call_ends.specs.declared.stops.Stop.{Stop}
-use Rattle.call_ends.specs.declared.stops.Stop.TheVariants as stop
+use Rattle.farm_refinement.specs.Seen.{FarmSeen}
+use Rattle.farm_refinement.specs.Stands.{StandsFor}
+use Rattle.exit_status.specs.Ends.{SinkAt}
+use Rattle.exit_status.specs.declared.stops.Stop.{Stop}
+use Rattle.exit_status.specs.declared.stops.Stop.TheVariants as stop
 use Rattle.script_text.specs.ScriptTexts.{has_failed}
 use Rattle.work_gen.specs.Work.{steps_of}
 use Rattle.work_gen.specs.declared.stepping.Step.{Step}

@@ -17,7 +17,7 @@ use Rattle.farm_history.specs.Entries.{Entry, Ask, Claim, Finish, Expire, Fetch,
 use Rattle.farm_history.specs.Plans.{spot_tile}
 use Rattle.farm_history.specs.Lists.{Each}
 use Rattle.farm_history.proofs.Lists.{each-join}
-use Rattle.farm_stands.specs.Seen.{FarmSeen}
+use Rattle.farm_refinement.specs.Seen.{FarmSeen}
 use Rattle.script_text.specs.ScriptTexts.{has_failed}
 use Rattle.work_gen.specs.declared.stepping.Step.{Step}
 use Rattle.load_command.specs.declared.steps.StepSeen.{StepSeen}

@@ -18,10 +18,10 @@ use Rattle.farm_history.specs.Rules.{Fits}
 use Rattle.farm_history.proofs.Apart.{job_is_next}
 use Rattle.farm_plan.specs.Plans.{FarmPlan}
 use Rattle.farm_plan.specs.Drawings.{plan_of}
-use Rattle.farm_stands.specs.Jobs.{JobSeen, Carries, IsFlight, job_key}
-use Rattle.farm_stands.specs.Seen.{FarmSeen}
-use Rattle.farm_stands.specs.Stands.{StandsFor}
-use Rattle.farm_stands.proofs.Claiming.{job_flies}
+use Rattle.farm_plan.specs.Jobs.{JobSeen, Carries, IsFlight, job_key}
+use Rattle.farm_refinement.specs.Seen.{FarmSeen}
+use Rattle.farm_refinement.specs.Stands.{StandsFor}
+use Rattle.farm_refinement.proofs.Claiming.{job_flies}
 use Rattle.farm_core.specs.Answers.{claim_answer}
 use Rattle.farm_core.specs.declared.claims.Claimed.{Claimed}
 use Rattle.farm_core.specs.declared.claims.Claimed.TheVariants as claims

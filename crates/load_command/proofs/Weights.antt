@@ -26,8 +26,8 @@ use Rattle.farm_history.proofs.Lists.{each-map}
 use Rattle.farm_history.proofs.Counts.{count-cons}
 use Rattle.farm_history.proofs.Replies.{collected}
 use Rattle.farm_history.proofs.Unended.{open_split}
-use Rattle.farm_stands.specs.Seen.{FarmSeen}
-use Rattle.farm_stands.specs.Stands.{asked_of, StandsFor}
+use Rattle.farm_refinement.specs.Seen.{FarmSeen}
+use Rattle.farm_refinement.specs.Stands.{asked_of, StandsFor}
 use Rattle.load_command.specs.Loads.{IsLast}
 use Rattle.load_command.specs.inner.Progress.{weight}
 

@@ -6,13 +6,13 @@ use Rattle.farm_base.specs.declared.sinks.SinkFault.TheVariants.{Failed}
 use Rattle.tile_store.specs.Stores.{StoreTold}
 use Rattle.farm_history.specs.Entries.{Entry}
 use Rattle.farm_history.specs.Lists.{Each}
-use Rattle.call_ends.specs.Ends.{SinkAt}
-use Rattle.call_ends.specs.declared.stops.Stop.{Stop}
-use Rattle.call_ends.specs.declared.stops.Stop.TheVariants as stop
+use Rattle.exit_status.specs.Ends.{SinkAt}
+use Rattle.exit_status.specs.declared.stops.Stop.{Stop}
+use Rattle.exit_status.specs.declared.stops.Stop.TheVariants as stop
 use Rattle.work_gen.specs.Work.{work_plan, steps_of}
 use Rattle.work_gen.specs.declared.stepping.Step.{Step}
 use Rattle.script_text.specs.ScriptTexts.{has_failed}
-use Rattle.farm_left.specs.Left.{Leaves}
+use Rattle.script_text.specs.Left.{Leaves}
 use Rattle.load_command.specs.Loads.{IsLoad, IsEventOf, load_text}
 
 -- all steps were run, and of the line all or a front was put; whether a call of the store failed is told

@@ -3,20 +3,20 @@ ghost use Rattle.std.specs.Prelude.{◌≡◌, ◌≤◌, Bool, List, [], length
 ghost use Rattle.plain_world.specs.World.{IsTile};
 ghost use Rattle.farm_history.specs.Lists.{Each};
 ghost use Rattle.farm_history.specs.Plans.{spot_tile};
-ghost use Rattle.farm_stands.specs.Stands.{StandsFor};
+ghost use Rattle.farm_refinement.specs.Stands.{StandsFor};
 ghost use Rattle.farm_core.specs.Answers.{Lasts};
 ghost use Rattle.farm_core.specs.Begins.{Begins};
 ghost use Rattle.work_gen.specs.Work.{work_plan};
-ghost use Rattle.farm_left.specs.Left.{Leaves};
+ghost use Rattle.script_text.specs.Left.{Leaves};
 ghost use Rattle.load_command.specs.Runs.{Loads, LoadsOn};
 ghost use Rattle.load_command.specs.inner.Progress.{Runs, TellsLine};
 
 use crate::steps::run_step;
 use crate::totals::Totals;
-use call_ends::{Stop, put};
+use exit_status::{Stop, put};
 use farm_base::{NoMemory, Sink};
 use farm_core::Farm;
-use job_drawing::PictureBuffer;
+use meta_drawing::PictureBuffer;
 use std::alloc::Global;
 use tile_store::TileStore;
 use work_gen::{Step, plan, steps};

@@ -3,7 +3,7 @@ use Rattle.std.proofs.Common.{◌≡◌, ◌<◌, ◌+◌, ◌==◌, ℕ, Bool, 
 use Rattle.std.proofs.lemmas.Bool.Decides.{nat_tests}
 use Rattle.std.specs.List.{slice_get}
 use Rattle.std.proofs.lemmas.Bool.{ne_eqb}
-use Rattle.port_trait.specs.Told.{put}
+use Rattle.port_events.specs.Told.{put}
 use Rattle.memory_ports.specs.Held.{PeerHeld, change, up_of}
 use Rattle.memory_ports.specs.Playing.{fresh, is_alive_at}
 

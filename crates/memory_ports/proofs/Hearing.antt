@@ -5,10 +5,10 @@ use Rattle.std.proofs.lemmas.Bool.Decides.{nat_tests}
 use Rattle.std.proofs.lemmas.Option.{slice_get-get_or, slice_get_past}
 use Rattle.std.proofs.lemmas.List.Quantifiers.{position-Some}
 use Rattle.std.specs.List.{slice_get, position, count_by}
-use Rattle.port_trait.specs.declared.events.PortEvent.{PortEvent}
-use Rattle.port_trait.specs.declared.events.PortEvent.TheVariants as event
-use Rattle.port_trait.specs.declared.events.PortItem.TheVariants as item
-use Rattle.port_trait.specs.Told.{MayCome, heard, Hears, EventCounts}
+use Rattle.port_events.specs.declared.events.PortEvent.{PortEvent}
+use Rattle.port_events.specs.declared.events.PortEvent.TheVariants as event
+use Rattle.port_events.specs.declared.events.PortItem.TheVariants as item
+use Rattle.port_events.specs.Told.{MayCome, heard, Hears, EventCounts}
 use Rattle.memory_ports.specs.declared.steps.PortStep.{PortStep}
 use Rattle.memory_ports.specs.declared.steps.PortStep.TheVariants as step
 use Rattle.memory_ports.specs.Held.{PeerHeld, PortsHeld, taken_of, up_of, ended_of, told_of, is_fault}

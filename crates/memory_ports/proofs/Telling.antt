@@ -5,14 +5,14 @@ use Rattle.std.proofs.lemmas.List.{length-append, length-map}
 use Rattle.std.proofs.lemmas.List.Sums.{sum_by-append}
 use Rattle.std.specs.List.{slice_get, count_by}
 use Rattle.farm_base.specs.Outside.{Counted}
-use Rattle.port_trait.specs.declared.events.PortItem.{PortItem}
-use Rattle.port_trait.specs.declared.events.PortItem.TheVariants as item
-use Rattle.port_trait.specs.declared.events.SendFault.{SendFault}
-use Rattle.port_trait.specs.declared.events.SendFault.TheVariants as send_fault
-use Rattle.port_trait.specs.declared.events.PortFault.{PortFault}
-use Rattle.port_trait.specs.declared.events.PortFault.TheVariants as fault
-use Rattle.port_trait.specs.Told as told
-use Rattle.port_trait.specs.Told.{PortsTold, put, SendCounts, ListenCounts}
+use Rattle.port_events.specs.declared.events.PortItem.{PortItem}
+use Rattle.port_events.specs.declared.events.PortItem.TheVariants as item
+use Rattle.port_events.specs.declared.events.SendFault.{SendFault}
+use Rattle.port_events.specs.declared.events.SendFault.TheVariants as send_fault
+use Rattle.port_events.specs.declared.events.PortFault.{PortFault}
+use Rattle.port_events.specs.declared.events.PortFault.TheVariants as fault
+use Rattle.port_events.specs.Told as told
+use Rattle.port_events.specs.Told.{PortsTold, put, SendCounts, ListenCounts}
 use Rattle.memory_ports.specs.declared.steps.PortStep.{PortStep}
 use Rattle.memory_ports.specs.Held.{PeerHeld, PortsHeld, change, closed, with_end, with_taken, taken_of, up_of, ended_of, told_of, is_fault, SendsHeld, ListensHeld}
 use Rattle.memory_ports.specs.Playing.{is_marked, marked, fresh, moved, Readies}

@@ -3,14 +3,14 @@ use Rattle.std.specs.Prelude.{◌≡◌, nat_lt, min, ℕ, Bool, true, false, Li
 use Rattle.std.specs.List.{count_by, slice_get}
 use Rattle.farm_base.specs.Outside.{Outside}
 use Rattle.farm_base.specs.InMemory.{is_to_fail, next_count}
-use Rattle.port_trait.specs.declared.events.PortEvent.TheVariants as event
-use Rattle.port_trait.specs.declared.events.PortItem.{PortItem}
-use Rattle.port_trait.specs.declared.events.PortItem.TheVariants as item
-use Rattle.port_trait.specs.declared.events.PortFault.{PortFault}
-use Rattle.port_trait.specs.declared.events.PortFault.TheVariants as fault
-use Rattle.port_trait.specs.declared.events.SendFault.{SendFault}
-use Rattle.port_trait.specs.declared.events.SendFault.TheVariants as send_fault
-use Rattle.port_trait.specs.Told.{PortsTold}
+use Rattle.port_events.specs.declared.events.PortEvent.TheVariants as event
+use Rattle.port_events.specs.declared.events.PortItem.{PortItem}
+use Rattle.port_events.specs.declared.events.PortItem.TheVariants as item
+use Rattle.port_events.specs.declared.events.PortFault.{PortFault}
+use Rattle.port_events.specs.declared.events.PortFault.TheVariants as fault
+use Rattle.port_events.specs.declared.events.SendFault.{SendFault}
+use Rattle.port_events.specs.declared.events.SendFault.TheVariants as send_fault
+use Rattle.port_events.specs.Told.{PortsTold}
 use Rattle.memory_ports.specs.declared.steps.PortStep.{PortStep}
 
 -- A connection: the bytes taken, whether it is open, whether its peer sends no more, whether its last

@@ -1,9 +1,9 @@
 -- What the next event of ports in memory is.
 use Rattle.std.specs.Prelude.{◌≡◌, ◌+◌, ◌^◌, ◌⊎◌, ◌&&◌, ◌||◌, not, nat_lt, cond, ℕ, Bool, true, false, List, [], ◌∷◌, ◌++◌, length, map, Option, Some, None, position}
 use Rattle.std.specs.List.{list_all, list_any, slice_get}
-use Rattle.port_trait.specs.declared.events.PortEvent.{PortEvent}
-use Rattle.port_trait.specs.declared.events.PortEvent.TheVariants as event
-use Rattle.port_trait.specs.declared.events.PortItem.TheVariants as item
+use Rattle.port_events.specs.declared.events.PortEvent.{PortEvent}
+use Rattle.port_events.specs.declared.events.PortEvent.TheVariants as event
+use Rattle.port_events.specs.declared.events.PortItem.TheVariants as item
 use Rattle.memory_ports.specs.declared.steps.PortStep.{PortStep}
 use Rattle.memory_ports.specs.declared.steps.PortStep.TheVariants as step
 use Rattle.memory_ports.specs.Held.{PeerHeld, PortsHeld, change, closed, with_end, logged}

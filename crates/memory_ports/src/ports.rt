@@ -2,20 +2,20 @@
 ghost use Rattle.std.specs.Prelude.{◌≡◌, ◌≤◌, ◌<◌, ◌+◌, ◌++◌, ◌∷◌, [], ℕ, true, Some, length, IfOk, IfSome, position, vec_len, vec_capacity};
 ghost use Rattle.std.specs.List.{count_by, slice_get};
 ghost use Rattle.farm_base.specs.InMemory as base;
-ghost use Rattle.port_trait.specs.declared.events.PortEvent.TheVariants as event;
-ghost use Rattle.port_trait.specs.declared.events.PortItem.TheVariants as item;
-ghost use Rattle.port_trait.specs.Told.{Hears, IsPieceOf, Sends, Listens, Closes, IsOpen, EventCounts, SendCounts, ListenCounts};
+ghost use Rattle.port_events.specs.declared.events.PortEvent.TheVariants as event;
+ghost use Rattle.port_events.specs.declared.events.PortItem.TheVariants as item;
+ghost use Rattle.port_events.specs.Told.{Hears, IsPieceOf, Sends, Listens, Closes, IsOpen, EventCounts, SendCounts, ListenCounts};
 ghost use Rattle.memory_ports.specs.Held.{PortsHeld, ports_state, first_ports, taken_of, up_of, change, closed, ListensHeld, SendsHeld};
 ghost use Rattle.memory_ports.specs.Playing.{is_due, BeginsLive, Readies, readied, play_step, play_due, PlayedBy, Plays, IsOver};
 ghost use Rattle.memory_ports.specs.Scripts.{is_valid};
 ghost use Rattle.memory_ports.specs.inner.Moving.{Moves};
 
 use crate::counts::Counts;
-use crate::peers::{self, Peer};
+use crate::peers::{Peer, self};
 use crate::script::Script;
 use crate::steps::PortStep;
 use farm_base::{Bells, Bytes, NoBell, NoMemory, Text};
-use port_trait::{PortEvent, PortFault, PortItem, Ports, SendFault, ThreePorts};
+use port_events::{PortEvent, PortFault, PortItem, Ports, SendFault, ThreePorts};
 use std::alloc::Global;
 use std::marker::Model;
 use std::sync::Arc;

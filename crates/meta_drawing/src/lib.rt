@@ -1,8 +1,10 @@
-//! The drawing of a metatile as the container of its tiles.
+//! The drawing of a metatile as the container of its tiles, and of a job as the container that a worker hands back.
 #![tactic(auto)]
 
 mod containers;
+mod jobs;
 mod picture_buffer;
 
 pub use containers::draw_container;
+pub use jobs::{draw_job, draw_job_on};
 pub use picture_buffer::PictureBuffer;

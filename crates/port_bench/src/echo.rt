@@ -1,5 +1,5 @@
 //! A server that echoes what it hears, or gives one large answer.
-use port_trait::{Outbox, PortEvent, Ports};
+use port_events::{Outbox, PortEvent, Ports};
 use socket_ports::SocketPorts;
 use std::alloc::Global;
 use std::net::Net;

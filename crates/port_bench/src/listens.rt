@@ -1,12 +1,12 @@
 //! Where ports listen and where they fail, and a bell that is rung while they wait.
 use farm_base::Bell;
-use port_trait::{PortEvent, PortFault, Ports};
+use port_events::{PortEvent, PortFault, Ports};
 use socket_ports::{SocketBell, SocketPorts};
 use std::alloc::Global;
 use std::net::{Net, TcpListener, TcpStream};
 use std::os::unix::net::UnixListener;
 use std::rt::{Clock, Files};
-use std::thread::{self, Threads};
+use std::thread::{Threads, self};
 use std::time::{Duration, Instant};
 use std::{fs, io};
 

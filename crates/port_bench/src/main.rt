@@ -12,7 +12,7 @@ mod runs;
 
 use crate::echo::{Echo, Server};
 use crate::runs::Kind;
-use port_trait::Ports;
+use port_events::Ports;
 use socket_ports::{SocketBell, SocketPorts};
 use std::alloc::Global;
 use std::net::{Net, TcpListener, TcpStream};

@@ -2,13 +2,13 @@
 use crate::clients::{Client, Task, visit};
 use crate::echo::{Echo, Server};
 use farm_base::Bell;
-use port_trait::Ports;
+use port_events::Ports;
 use socket_ports::{SocketBell, SocketPorts};
 use std::alloc::Global;
 use std::net::{Net, TcpListener, TcpStream};
 use std::os::unix::net::UnixStream;
 use std::rt::{Clock, Files};
-use std::thread::{self, Threads};
+use std::thread::{Threads, self};
 use std::time::{Duration, Instant};
 use std::{fs, io};
 

@@ -1,5 +1,6 @@
 //! What a feature reaches: its bounding box, widened by 64 pixels on each side. Within it lies all that any
-//! symbolizer paints of the feature, so a change of the feature changes no tile outside.
+//! symbolizer paints of the feature, so a change of the feature changes no tile outside. And what an update of a
+//! farm reaches: the boxes of the features that it names, and the marks of the metatiles that these reach.
 #![tactic(auto)]
 
 ghost use Rattle.std.specs.Prelude.{◌≡◌, ℕ, ◌+◌, ◌-◌, ◌<◌, ◌≤◌, ◌^◌, ◌↔◌, IsTrue, min};
@@ -8,6 +9,12 @@ ghost use Rattle.plain_world.specs.declared.world.Square.{Square};
 ghost use Rattle.plain_data.specs.Reach.{Reaches, feature_reaches, margin_of};
 ghost use Rattle.expiry_lists.specs.Boxes.{holds_some, rectangle};
 ghost use Rattle.reach_box.specs.Boxes.{IsBox, box_reaches, is_near, reach_of};
+
+mod boxes;
+mod dirties;
+
+pub use boxes::{boxes_reach, named_boxes};
+pub use dirties::mark_maps_dirty;
 
 use geo_model::{Bounds, Feature};
 use plain_world::Square;

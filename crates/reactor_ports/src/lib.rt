@@ -3,7 +3,7 @@
 #![tactic(auto)]
 
 pub use memory_ports::{MemPorts, PortStep, are_valid};
-pub use port_trait::{
+pub use port_events::{
     BoxFault, FrontDone, FrontEnd, Outbox, PortEvent, PortFault, PortItem, Ports, Rest, SendFault,
     ThreePorts,
 };

@@ -7,12 +7,12 @@ use Rattle.plain_drawing.specs.Styles.{MapStyle}
 use Rattle.plain_drawing.specs.Drawing.{drawn_tile}
 use Rattle.geo_json.specs.DataTexts.{dataset_in}
 use Rattle.fault_texts.specs.DataFaults.{data_text}
-use Rattle.call_ends.specs.Ends.{FilesAt}
-use Rattle.call_ends.specs.declared.stops.Stop.{Stop}
+use Rattle.exit_status.specs.Ends.{FilesAt}
+use Rattle.exit_status.specs.declared.stops.Stop.{Stop}
 use Rattle.input_files.specs.Course.{Course, made, ◌>>=◌, file}
 use Rattle.input_files.specs.inner.Follows.{Follows, Says}
 use Rattle.input_files.proofs.Courses.{follows_then}
-use Rattle.map_files.specs.Courses.{style_course}
+use Rattle.farm_files.specs.MapCourses.{style_course}
 use Rattle.render_command.specs.Courses.{render_course, render_course_by}
 
 -- the tile over the layers that a data file says

@@ -7,7 +7,7 @@ use Rattle.geo_json.specs.DataTexts.{dataset_in}
 use Rattle.style_objects.specs.FilterReadings.{FilterReading}
 use Rattle.fault_texts.specs.DataFaults.{data_text}
 use Rattle.input_files.specs.Course.{Course, made, ◌>>=◌, file}
-use Rattle.map_files.specs.Courses.{style_course_by}
+use Rattle.farm_files.specs.MapCourses.{style_course_by}
 
 -- the style with its rasters is read, where filters are read so, and then the data, and the tile of these is made
 unfoldable pub render_course_by : FilterReading → List ℕ → List ℕ → ℕ → Tile → Course (List ℕ)

@@ -8,10 +8,10 @@ ghost use Rattle.input_files.specs.inner.Runs.{Writes};
 ghost use Rattle.render_command.specs.Courses.{render_course};
 
 use crate::asked::RenderWords;
-use call_ends::{Stop, put};
 use data_versions::{Dataset, Snapshot};
+use exit_status::{Stop, put};
 use farm_base::{Files, Sink};
-use map_files::{bound_style, data_layers};
+use farm_files::{bound_style, data_layers};
 use plain_drawing::MapStyle;
 use plain_world::Tile;
 use std::alloc::Global;

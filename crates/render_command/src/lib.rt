@@ -1,8 +1,12 @@
-//! The command `render`: a style, its raster files and data are read, and the tile is drawn and put.
+//! The commands that put what one reading of files gives: `render` draws a tile of a style, its raster files and data;
+//! `meta` says in lines what a META container holds.
 #![tactic(auto)]
 
 mod asked;
 mod command;
+mod meta_command;
+mod meta_lines;
 
 pub use asked::RenderWords;
 pub use command::render;
+pub use meta_command::meta;

@@ -1,11 +1,11 @@
 //! The drawing of a job.
 ghost use Rattle.std.specs.Prelude.{◌≡◌};
-ghost use Rattle.farm_stands.specs.Jobs.{IsValidJob};
+ghost use Rattle.farm_plan.specs.Jobs.{IsValidJob};
 ghost use Rattle.farm_core.specs.Answers.{IsDrawingOf};
 
 use farm_base::NoMemory;
 use farm_core::{Drawn, Job};
-use job_drawing::{PictureBuffer, draw_job_on};
+use meta_drawing::{PictureBuffer, draw_job_on};
 
 /// What is handed back of a job: the container of its metatile, or that there was no memory for it.
 pub fn draw(picture_buffer: &mut PictureBuffer, job: &Job) -> Drawn

@@ -10,7 +10,7 @@ use crossbeam_utils::sync::Parker;
 use farm_base::{Bell, Gate};
 use farm_core::Claimed;
 use farm_shared::{Alarms, Seat, SharedFarm};
-use job_drawing::PictureBuffer;
+use meta_drawing::PictureBuffer;
 use std::alloc::Global;
 use std::sync::Wait;
 use tile_store::TileStore;

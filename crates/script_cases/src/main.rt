@@ -2,7 +2,7 @@
 //! the formats and the farm's rules alone.
 #![tactic(auto)]
 
-use case_runs::run_cases;
+use call_cases::run_cases;
 use farm_base::{DiskFiles, OutSink};
 use std::process::ExitCode;
 

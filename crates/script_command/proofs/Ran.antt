@@ -5,15 +5,15 @@ use Rattle.farm_base.specs.Outside.{Outside}
 use Rattle.tile_store.specs.Stores.{StoreTold}
 use Rattle.farm_history.specs.Entries.{Entry}
 use Rattle.farm_plan.specs.Plans.{FarmPlan}
-use Rattle.farm_stands.specs.Seen.{FarmSeen}
+use Rattle.farm_refinement.specs.Seen.{FarmSeen}
 use Rattle.farm_core.specs.Begins.{Begins}
 use Rattle.script_lines.specs.declared.script.ScriptLine.{ScriptLine}
 use Rattle.script_text.specs.Runs as script
 use Rattle.script_text.specs.declared.ends.ScriptEnd.{ScriptEnd}
-use Rattle.call_ends.specs.Ends.{SinkAt}
-use Rattle.call_ends.specs.declared.stops.Stop.{Stop}
+use Rattle.exit_status.specs.Ends.{SinkAt}
+use Rattle.exit_status.specs.declared.stops.Stop.{Stop}
 use Rattle.farm_files.specs.Inputs.{Scripted}
-use Rattle.farm_left.specs.Left.{Leaves}
+use Rattle.script_text.specs.Left.{Leaves}
 use Rattle.script_command.specs.Scripts.{command_end, ScriptsOn, Scripts}
 
 pub ran_on : (plan : FarmPlan) (lines : List ScriptLine) (stands : List Entry → Type 0) (out out' : SinkAt) (failed : Bool) (how : ScriptEnd) (end : Result (Unit {0}) Stop) → end ≡ command_end failed how

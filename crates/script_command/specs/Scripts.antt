@@ -8,13 +8,13 @@ use Rattle.script_lines.specs.declared.script.ScriptLine.{ScriptLine}
 use Rattle.script_text.specs.Runs as script
 use Rattle.script_text.specs.declared.ends.ScriptEnd.{ScriptEnd}
 use Rattle.script_text.specs.declared.ends.ScriptEnd.TheVariants.{Done, SinkFailed, NoMemory}
-use Rattle.call_ends.specs.Ends.{FilesAt, SinkAt}
-use Rattle.call_ends.specs.declared.stops.Stop.{Stop}
-use Rattle.call_ends.specs.declared.stops.Stop.TheVariants as stop
+use Rattle.exit_status.specs.Ends.{FilesAt, SinkAt}
+use Rattle.exit_status.specs.declared.stops.Stop.{Stop}
+use Rattle.exit_status.specs.declared.stops.Stop.TheVariants as stop
 use Rattle.input_files.specs.Course.{Course}
 use Rattle.input_files.specs.inner.Follows.{Follows}
 use Rattle.farm_files.specs.Inputs.{Scripted}
-use Rattle.farm_left.specs.Left.{Leaves}
+use Rattle.script_text.specs.Left.{Leaves}
 
 -- how the command ends whose script ended so; where all its lines were run, it is told whether a call of the store failed
 abbrev pub command_end : Bool → ScriptEnd → Result (Unit {0}) Stop

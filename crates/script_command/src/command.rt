@@ -3,10 +3,10 @@ ghost use Rattle.std.specs.Prelude.{◌≡◌, None};
 ghost use Rattle.farm_plan.specs.Plans.{IsPlan};
 ghost use Rattle.farm_core.specs.Begins.{Begins};
 ghost use Rattle.farm_files.specs.Courses.{script_course};
-ghost use Rattle.farm_left.specs.Left.{Leaves};
+ghost use Rattle.script_text.specs.Left.{Leaves};
 ghost use Rattle.script_command.specs.Scripts.{Scripts, ScriptsOn, Runs, command_end};
 
-use call_ends::Stop;
+use exit_status::Stop;
 use farm_base::{Files, Sink};
 use farm_core::Farm;
 use farm_files::{Scripted, script_files};

@@ -8,7 +8,7 @@ ghost use Rattle.script_lines.specs.declared.script.ScriptFault.TheVariants.{NoM
 use crate::script::{ScriptFault, ScriptLine};
 use crate::words::{command, number, place, ticket, tile, word};
 use farm_base::Text;
-use line_words::cut;
+use line_reading::cut;
 use std::alloc::Global;
 use std::str;
 

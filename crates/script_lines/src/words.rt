@@ -6,7 +6,7 @@ ghost use Rattle.script_lines.specs.Lines as spec;
 
 use crate::script::ScriptFault;
 use farm_history::Cmd;
-use line_words::{cut, small_number};
+use line_reading::{cut, small_number};
 
 /// The first word, and the words behind the space after it.
 pub fn word(text: &str, fault: ScriptFault) -> Result<(&str, &str), ScriptFault>
@@ -24,7 +24,7 @@ pub fn number(word: &str, fault: ScriptFault) -> Result<u32, ScriptFault>
 pub fn ticket(word: &str, fault: ScriptFault) -> Result<u64, ScriptFault>
     ensures { result ≡ spec.ticket_of fault word.now }
 {
-    line_words::number(word).ok_or(fault)
+    line_reading::number(word).ok_or(fault)
 }
 
 fn cmd(word: &str) -> Option<Cmd>

@@ -12,9 +12,9 @@ use Rattle.farm_history.specs.Rules.{Legal}
 use Rattle.farm_history.proofs.Flying.{ends_ticket}
 use Rattle.farm_plan.specs.Plans.{FarmPlan}
 use Rattle.farm_plan.specs.Drawings.{plan_of}
-use Rattle.farm_stands.specs.Jobs.{JobSeen, Carries, IsValidJob, job_key}
-use Rattle.farm_stands.specs.Seen.{FarmSeen}
-use Rattle.farm_stands.specs.Stands.{StandsFor}
+use Rattle.farm_plan.specs.Jobs.{JobSeen, Carries, IsValidJob, job_key}
+use Rattle.farm_refinement.specs.Seen.{FarmSeen}
+use Rattle.farm_refinement.specs.Stands.{StandsFor}
 use Rattle.script_lines.specs.declared.script.ScriptLine.{ScriptLine}
 use Rattle.script_lines.specs.declared.script.ScriptLine.TheVariants as line
 use Rattle.script_answers.specs.Answers.{claim_line}

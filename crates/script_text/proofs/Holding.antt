@@ -16,8 +16,8 @@ use Rattle.farm_history.proofs.Lists.{each-append, each-map, each-filter, each-p
 use Rattle.farm_history.proofs.Numbers.{differ-append, differ-filter, tickets_below, without_first-number}
 use Rattle.farm_plan.specs.Plans.{FarmPlan}
 use Rattle.farm_plan.specs.Drawings.{plan_of}
-use Rattle.farm_stands.specs.Jobs.{JobSeen, Carries, IsFlight, IsValidJob, job_key}
-use Rattle.farm_stands.proofs.Claiming.{job_flies, job_still_flies}
+use Rattle.farm_plan.specs.Jobs.{JobSeen, Carries, IsFlight, IsValidJob, job_key}
+use Rattle.farm_refinement.proofs.Claiming.{job_flies, job_still_flies}
 use Rattle.script_text.specs.ScriptTexts.{is_in_hand}
 use Rattle.script_text.specs.inner.Hands.{ticket_of, tickets, HandStands}
 

@@ -5,3 +5,5 @@ pub mod Lines
 pub mod Puts
 pub mod Running
 pub mod Saying
+pub mod Beginning
+pub mod Lost

@@ -11,9 +11,9 @@ use Rattle.farm_base.specs.declared.sinks.SinkFault.TheVariants.{Failed}
 use Rattle.tile_store.specs.Stores.{StoreTold}
 use Rattle.farm_history.specs.Entries.{Entry}
 use Rattle.farm_plan.specs.Plans.{FarmPlan}
-use Rattle.farm_stands.specs.Jobs.{JobSeen}
-use Rattle.farm_stands.specs.Seen.{FarmSeen}
-use Rattle.farm_stands.specs.Stands.{StandsFor}
+use Rattle.farm_plan.specs.Jobs.{JobSeen}
+use Rattle.farm_refinement.specs.Seen.{FarmSeen}
+use Rattle.farm_refinement.specs.Stands.{StandsFor}
 use Rattle.script_lines.specs.declared.script.ScriptLine.{ScriptLine}
 use Rattle.script_text.specs.ScriptTexts.{has_failed, LinesText}
 use Rattle.script_text.specs.Runs.{RunsAll, RunsCut, RunsShort}

@@ -1,3 +1,4 @@
 pub mod Runs
 pub mod ScriptTexts
 pub mod inner
+pub mod Left

@@ -1,15 +1,13 @@
 //! One line of a script.
 ghost use Rattle.std.specs.Prelude.{◌≡◌, ◌<◌, ◌^◌, Bool, List};
 ghost use Rattle.farm_history.specs.Entries.{Entry};
-ghost use Rattle.farm_stands.specs.Stands.{StandsFor};
+ghost use Rattle.farm_refinement.specs.Stands.{StandsFor};
 ghost use Rattle.farm_core.specs.Answers.{Lasts};
 ghost use Rattle.script_lines.specs.declared.script.ScriptLine.TheVariants as line;
 ghost use Rattle.script_text.specs.inner.Hands.{HandStands};
 ghost use Rattle.script_text.specs.inner.Steps.{Answers};
 
-use crate::events::{
-    ask, collect, expire, fetch, leave, look, renew, restyle, stop, tally, update,
-};
+use crate::events::{ask, collect, expire, fetch, leave, look, renew, restyle, stop, tally, update};
 use crate::hands::{claim, cut, finish};
 use crate::said::{LineAnswer, said};
 use farm_base::{NoMemory, Text};

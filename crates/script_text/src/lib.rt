@@ -1,4 +1,5 @@
-//! Scripts on one thread: each line is asked of a farm, and answered, before the next.
+//! Scripts on one thread: each line is asked of a farm, and answered, before the next. And what a farm that was started
+//! over a store leaves of it (`specs/Left.antt`).
 #![tactic(auto)]
 
 mod answers;

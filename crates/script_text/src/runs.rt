@@ -2,7 +2,7 @@
 ghost use Rattle.std.specs.Prelude.{◌≡◌, ◌<◌, Bool, List};
 ghost use Rattle.farm_base.specs.Limits.{most_turns};
 ghost use Rattle.farm_history.specs.Entries.{Entry};
-ghost use Rattle.farm_stands.specs.Stands.{StandsFor};
+ghost use Rattle.farm_refinement.specs.Stands.{StandsFor};
 ghost use Rattle.farm_core.specs.Answers.{Lasts};
 ghost use Rattle.script_text.specs.Runs.{Runs};
 

@@ -1,7 +1,7 @@
 //! Cases: the words of a call, what happens on its three ports, what its gate holds and what fails.
 use crate::gates::Hold;
 use farm_base::{Bytes, Files};
-use line_words::{cut, number, small_number};
+use line_reading::{cut, number, small_number};
 use memory_ports::PortStep;
 use std::alloc::Global;
 

@@ -8,7 +8,7 @@ use crate::tells::{Ended, Manner, tell};
 use farm_base::{Bytes, Files, MemSink, NoBell, Sink, Text};
 use farm_call::{FarmEnd, Left, farm_main};
 use memory_ports::{MemPorts, PortStep, are_valid};
-use port_trait::ThreePorts;
+use port_events::ThreePorts;
 use std::alloc::Global;
 use std::mem::replace;
 use std::rt::Clock;

@@ -2,7 +2,7 @@
 use crate::cases::{Case, Side, Telling};
 use farm_base::{NoBell, Sink};
 use memory_ports::MemPorts;
-use port_trait::{FrontDone, FrontEnd, Rest, ThreePorts};
+use port_events::{FrontDone, FrontEnd, Rest, ThreePorts};
 use std::alloc::Global;
 use tile_store::{MemStore, TileStore};
 

@@ -1,2 +1,6 @@
 pub mod Points
 mod Steps
+mod Beginning
+mod Found
+pub mod Kept
+mod Saving

@@ -6,10 +6,10 @@ use Rattle.std.proofs.lemmas.Bool.{or_cases, not-true}
 use Rattle.farm_base.specs.Outside.{Outside, Puts as SinkPuts, Rose}
 use Rattle.farm_base.specs.declared.sinks.SinkFault.{SinkFault}
 use Rattle.tile_store.specs.Stores.{StoreTold, StorePuts, Stored, IfTold}
-use Rattle.port_trait.specs.declared.ends.FrontDone.{FrontDone}
-use Rattle.port_trait.specs.declared.ends.FrontEnd.{FrontEnd}
-use Rattle.call_ends.specs.declared.stops.Stop.{Stop}
-use Rattle.call_ends.specs.declared.stops.Stop.TheVariants as stop
+use Rattle.port_events.specs.declared.ends.FrontDone.{FrontDone}
+use Rattle.port_events.specs.declared.ends.FrontEnd.{FrontEnd}
+use Rattle.exit_status.specs.declared.stops.Stop.{Stop}
+use Rattle.exit_status.specs.declared.stops.Stop.TheVariants as stop
 use Rattle.farm_history.specs.Entries.{Entry}
 use Rattle.farm_history.specs.declared.answers.Tally.{Tally as Totals}
 use Rattle.farm_history.specs.Replays.{Saving, IsSaved}
@@ -18,20 +18,20 @@ use Rattle.farm_plan.specs.Plans.{FarmPlan}
 use Rattle.farm_plan.specs.Drawings.{plan_of}
 use Rattle.farm_files.specs.Inputs.{Served}
 use Rattle.farm_saved.specs.Writing.{saved_bytes}
-use Rattle.farm_stands.specs.Seen.{FarmSeen}
+use Rattle.farm_refinement.specs.Seen.{FarmSeen}
 use Rattle.script_answers.specs.Answers.{tally_line}
-use Rattle.farm_stands.specs.Stands.{StandsFor}
+use Rattle.farm_refinement.specs.Stands.{StandsFor}
 use Rattle.farm_core.specs.Begins.{Tells, origin}
 use Rattle.farm_shared.specs.declared.turned.LastingPart.{LastingPart}
 use Rattle.farm_shared.specs.Seats.{plain}
 use Rattle.farm_shared.specs.Shared.{lasting_of, past, MayTell}
 use Rattle.farm_headline.specs.Headline.{Headline}
 use Rattle.farm_runs.specs.Promise.{AreSeated, AreWorked}
-use Rattle.front_leaves.proofs.Laws.{marked}
-use Rattle.farm_setup.specs.Beginnings.{HasEmptied, ResumesFrom, saved_path}
-use Rattle.farm_ending.specs.Endings.{why_ended, is_front_worn, is_broken, is_wanting, end_after_put, TellsCounts}
-use Rattle.farm_ending.specs.Savings.{MaySave}
-use Rattle.farm_ending.proofs.Kept.{Keeps, keeps}
+use Rattle.farm_fronts.proofs.Laws.{marked}
+use Rattle.serve_command.specs.Beginnings.{HasEmptied, ResumesFrom, saved_path}
+use Rattle.serve_command.specs.Endings.{why_ended, is_front_worn, is_broken, is_wanting, end_after_put, TellsCounts}
+use Rattle.serve_command.specs.Savings.{MaySave}
+use Rattle.serve_command.proofs.Kept.{Keeps, keeps}
 use Rattle.serve_command.specs.Serves.{World, HasServed, fronts_of, end_of, is_worn_out}
 use Rattle.serve_command.specs.Points as points
 use Rattle.serve_command.specs.Points.{ClosedFarm}

@@ -4,25 +4,25 @@ use Rattle.std.specs.Prelude.{Result, Ok, Err, Vec}
 use Rattle.std.specs.declared.alloc.Global.{Global}
 use Rattle.farm_base.specs.Outside.{Outside}
 use Rattle.tile_store.specs.Stores.{StoreTold}
-use Rattle.port_trait.specs.declared.ends.FrontDone.{FrontDone}
-use Rattle.port_trait.specs.Told.{PortsTold}
-use Rattle.call_ends.specs.Ends.{SinkAt}
-use Rattle.call_ends.specs.declared.stops.Stop.{Stop}
-use Rattle.call_ends.specs.declared.stops.Stop.TheVariants as stop
+use Rattle.port_events.specs.declared.ends.FrontDone.{FrontDone}
+use Rattle.port_events.specs.Told.{PortsTold}
+use Rattle.exit_status.specs.Ends.{SinkAt}
+use Rattle.exit_status.specs.declared.stops.Stop.{Stop}
+use Rattle.exit_status.specs.declared.stops.Stop.TheVariants as stop
 use Rattle.plain_world.specs.declared.world.Tile.{Tile}
 use Rattle.farm_history.specs.Entries.{Entry}
 use Rattle.farm_plan.specs.Plans.{FarmPlan}
 use Rattle.farm_config.specs.Configs.{Config}
 use Rattle.farm_files.specs.Inputs.{Served}
-use Rattle.farm_stands.specs.Seen.{FarmSeen}
-use Rattle.farm_threads.specs.declared.each_front.EachFront.{EachFront}
-use Rattle.farm_threads.specs.Actors.{maps_in}
+use Rattle.farm_refinement.specs.Seen.{FarmSeen}
+use Rattle.farm_runs.specs.declared.each_front.EachFront.{EachFront}
+use Rattle.farm_runs.specs.Actors.{maps_in}
 use Rattle.farm_runs.specs.Promise.{RunsWell}
 use Rattle.farm_runs.specs.declared.running.Run.{Run}
-use Rattle.front_leaves.specs.Fronts.{renderd_leaves, tiles_leave, control_leaves}
-use Rattle.farm_setup.specs.Beginnings.{HasBegun, CannotBegin}
-use Rattle.farm_setup.specs.Listens.{Listening}
-use Rattle.farm_ending.specs.Endings.{why_ended, WindsUp}
+use Rattle.farm_fronts.specs.Fronts.{renderd_leaves, tiles_leave, control_leaves}
+use Rattle.serve_command.specs.Beginnings.{HasBegun, CannotBegin}
+use Rattle.serve_command.specs.Listens.{Listening}
+use Rattle.serve_command.specs.Endings.{why_ended, WindsUp}
 use Rattle.serve_command.specs.declared.command.Ready.{Ready}
 use Rattle.serve_command.specs.declared.left.Left.{Left}
 use Rattle.serve_command.specs.declared.left.Left.TheVariants.{Store, Farm}

@@ -4,11 +4,11 @@ use Rattle.std.specs.Prelude.{◌≡◌, ◌⊎◌, ℕ, ◌+◌, ◌≤◌, ◌
 use Rattle.farm_base.specs.Outside.{Outside, Puts, Rose}
 use Rattle.farm_base.specs.declared.sinks.SinkFault.{SinkFault}
 use Rattle.tile_store.specs.Stores.{StoreTold}
-use Rattle.port_trait.specs.declared.ends.FrontDone.{FrontDone}
-use Rattle.port_trait.specs.Told.{PortsTold}
-use Rattle.call_ends.specs.Ends.{SinkAt}
-use Rattle.call_ends.specs.declared.stops.Stop.{Stop}
-use Rattle.call_ends.specs.declared.stops.Stop.TheVariants as stop
+use Rattle.port_events.specs.declared.ends.FrontDone.{FrontDone}
+use Rattle.port_events.specs.Told.{PortsTold}
+use Rattle.exit_status.specs.Ends.{SinkAt}
+use Rattle.exit_status.specs.declared.stops.Stop.{Stop}
+use Rattle.exit_status.specs.declared.stops.Stop.TheVariants as stop
 use Rattle.farm_history.specs.Entries.{Entry, Stop as StopEntry, Tally}
 use Rattle.farm_history.specs.declared.answers.Tally.{Tally as Totals}
 use Rattle.farm_history.specs.Replays.{Saving, IsSaved}
@@ -16,22 +16,22 @@ use Rattle.farm_history.specs.Rules.{Legal}
 use Rattle.farm_plan.specs.Drawings.{plan_of}
 use Rattle.farm_files.specs.Inputs.{Served}
 use Rattle.farm_saved.specs.Writing.{saved_bytes}
-use Rattle.farm_stands.specs.Seen.{FarmSeen}
-use Rattle.farm_stands.specs.Stands.{StandsFor}
+use Rattle.farm_refinement.specs.Seen.{FarmSeen}
+use Rattle.farm_refinement.specs.Stands.{StandsFor}
 use Rattle.farm_core.specs.Begins.{Tells}
 use Rattle.script_answers.specs.Answers.{tally_line}
 use Rattle.turn_cell.specs.Turns.{by}
 use Rattle.farm_shared.specs.Seats.{plain}
 use Rattle.farm_shared.specs.Shared.{lasting_of, past}
 use Rattle.farm_headline.specs.Headline.{Headline}
-use Rattle.farm_threads.specs.declared.each_front.EachFront.{EachFront}
-use Rattle.farm_threads.specs.Actors.{maps_in}
+use Rattle.farm_runs.specs.declared.each_front.EachFront.{EachFront}
+use Rattle.farm_runs.specs.Actors.{maps_in}
 use Rattle.farm_runs.specs.Promise.{Ends, AreSeated, IsServed, AreWorked, IsStop}
-use Rattle.front_leaves.specs.Fronts.{renderd_leaves, tiles_leave, control_leaves}
-use Rattle.farm_setup.specs.Beginnings.{ResumesFrom, saved_path}
-use Rattle.farm_setup.specs.Listens.{Listening}
-use Rattle.farm_ending.specs.Endings.{why_ended, end_after_put}
-use Rattle.farm_ending.specs.Savings.{MaySave}
+use Rattle.farm_fronts.specs.Fronts.{renderd_leaves, tiles_leave, control_leaves}
+use Rattle.serve_command.specs.Beginnings.{ResumesFrom, saved_path}
+use Rattle.serve_command.specs.Listens.{Listening}
+use Rattle.serve_command.specs.Endings.{why_ended, end_after_put}
+use Rattle.serve_command.specs.Savings.{MaySave}
 use Rattle.serve_command.specs.Serves.{places, fronts_of, end_of, is_worn_out}
 
 -- what is left: the farm, and the history of its turns

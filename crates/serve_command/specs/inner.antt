@@ -1,2 +1,4 @@
 -- Words that serve the steps of the command alone.
 pub mod Steps
+pub mod Setups
+pub mod Puts

@@ -6,12 +6,12 @@ ghost use Rattle.serve_command.specs.Serves.{fronts_of};
 ghost use Rattle.serve_command.specs.inner.Steps.{EndsRun};
 
 use crate::left::{Done, Left};
+use crate::reasons::why_ended;
+use crate::winding::wind_up;
 use farm_base::Sink;
-use farm_ending::{why_ended, wind_up};
 use farm_plan::Tally;
-use farm_runs::Run;
-use farm_threads::EachFront;
-use port_trait::FrontDone;
+use farm_runs::{EachFront, Run};
+use port_events::FrontDone;
 use std::alloc::Global;
 use tile_store::TileStore;
 

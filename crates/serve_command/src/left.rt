@@ -2,9 +2,9 @@
 ghost use Rattle.std.specs.Prelude.{◌≡◌, [], Err};
 ghost use Rattle.serve_command.specs.declared.left.Left.TheVariants.{Store};
 
-use call_ends::Stop;
+use exit_status::Stop;
 use farm_shared::Closed;
-use port_trait::FrontDone;
+use port_events::FrontDone;
 use std::alloc::Global;
 use tile_store::TileStore;
 

@@ -1,18 +1,18 @@
 //! The front's call.
 ghost use Rattle.std.specs.Prelude.{◌≡◌, ◌+◌, []};
 ghost use Rattle.farm_base.specs.Outside.{Counted};
-ghost use Rattle.port_trait.specs.declared.ends.FrontEnd.TheVariants as ended;
-ghost use Rattle.front_rounds.specs.Serving.{FrontRun};
+ghost use Rattle.port_events.specs.declared.ends.FrontEnd.TheVariants as ended;
+ghost use Rattle.front_loop.specs.Serving.{FrontRun};
 ghost use Rattle.turn_cell.specs.SeatStates.{IsSeatOf, Knows, SameSeat};
 ghost use Rattle.farm_shared.specs.Seats.{plain};
-ghost use Rattle.farm_door.specs.FarmAdapters.{maps_of};
-ghost use Rattle.renderd_front.specs.Renderd.{renderd_rules};
+ghost use Rattle.front_adapter.specs.FarmAdapters.{maps_of};
+ghost use Rattle.renderd_handler.specs.Renderd.{renderd_rules};
 
 use farm_base::Bell;
-use farm_door::FarmAdapter;
 use farm_shared::{Alarms, Seat, SharedFarm};
-use port_trait::{FrontDone, Ports};
-use renderd_front::Renderd;
+use front_adapter::FarmAdapter;
+use port_events::{FrontDone, Ports};
+use renderd_handler::Renderd;
 use std::alloc::Global;
 use std::sync::Wait;
 use tile_store::TileStore;
@@ -40,5 +40,5 @@ pub fn serve<R: Wait, D: TileStore, B: Bell, P: Ports>(
     ensures broken { result.end ≡ ended.Broken → Counted (P.state ports.old).faults (P.state ports.new).faults }
 {
     let adapter = FarmAdapter { farm, alarms };
-    front_rounds::serve(rt, alloc, &Renderd { front }, &adapter, seat, ports)
+    front_loop::serve(rt, alloc, &Renderd { front }, &adapter, seat, ports)
 }

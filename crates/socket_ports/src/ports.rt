@@ -1,7 +1,7 @@
 //! Ports over sockets: a list of events out of what the system says of them.
 ghost use Rattle.std.specs.Prelude.{◌≡◌, ◌≤◌, ◌<◌, length, IfOk, IfSome, IfNone, vec_len};
 ghost use Rattle.farm_base.specs.Outside.{Counted};
-ghost use Rattle.port_trait.specs.Told.{IsPieceOf, EventCounts};
+ghost use Rattle.port_events.specs.Told.{IsPieceOf, EventCounts};
 ghost use Rattle.socket_ports.specs.inner.Pieces.{IsQuiet};
 
 use crate::address;
@@ -9,7 +9,7 @@ use crate::links::{Heard, Link};
 use crate::streams::{Listener, Stream};
 use farm_base::Bell;
 use mio::{Events, Poll, Token, Waker};
-use port_trait::{PortEvent, PortFault, Ports, SendFault};
+use port_events::{PortEvent, PortFault, Ports, SendFault};
 use std::alloc::Global;
 use std::collections::VecDeque;
 use std::net::Net;

@@ -25,7 +25,7 @@ use crate::meta_told::meta_told;
 use crate::path_told::path_told;
 use crate::saved_told::saved_told;
 use crate::style_told::style_told;
-use case_rows::{Frame, frame_of, row};
+use case_tables::{Frame, frame_of, row};
 use data_versions::Snapshot;
 use farm_base::{DiskFiles, Files, OutSink, Sink};
 use geo_json::read_data;

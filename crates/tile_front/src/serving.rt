@@ -1,20 +1,20 @@
 //! The front's call.
 ghost use Rattle.std.specs.Prelude.{◌≡◌, ◌+◌, []};
 ghost use Rattle.farm_base.specs.Outside.{Counted};
-ghost use Rattle.port_trait.specs.declared.ends.FrontEnd.TheVariants as ended;
-ghost use Rattle.front_rounds.specs.Serving.{FrontRun};
+ghost use Rattle.port_events.specs.declared.ends.FrontEnd.TheVariants as ended;
+ghost use Rattle.front_loop.specs.Serving.{FrontRun};
 ghost use Rattle.turn_cell.specs.SeatStates.{IsSeatOf, Knows, SameSeat};
 ghost use Rattle.farm_shared.specs.Seats.{plain};
-ghost use Rattle.farm_door.specs.FarmAdapters.{maps_of};
-ghost use Rattle.tile_pages.specs.Tiles.{tile_rules};
+ghost use Rattle.front_adapter.specs.FarmAdapters.{maps_of};
+ghost use Rattle.http_handler.specs.Tiles.{tile_rules};
 
 use farm_base::Bell;
-use farm_door::FarmAdapter;
 use farm_shared::{Alarms, Seat, SharedFarm};
-use port_trait::{FrontDone, Ports};
+use front_adapter::FarmAdapter;
+use http_handler::Tiles;
+use port_events::{FrontDone, Ports};
 use std::alloc::Global;
 use std::sync::Wait;
-use tile_pages::Tiles;
 use tile_store::TileStore;
 
 /// Serves tiles over HTTP until the front ends, as the front of that number; it may wait. A connection has
@@ -40,5 +40,5 @@ pub fn serve<R: Wait, D: TileStore, B: Bell, P: Ports>(
     ensures broken { result.end ≡ ended.Broken → Counted (P.state ports.old).faults (P.state ports.new).faults }
 {
     let adapter = FarmAdapter { farm, alarms };
-    front_rounds::serve(rt, alloc, &Tiles { front }, &adapter, seat, ports)
+    front_loop::serve(rt, alloc, &Tiles { front }, &adapter, seat, ports)
 }

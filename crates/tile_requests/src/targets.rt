@@ -4,7 +4,7 @@ ghost use Rattle.std.specs.Fmt.{decimal};
 ghost use Rattle.tile_paths.specs.Paths.{IsName};
 ghost use Rattle.tile_requests.specs.Targets.{Place, Names, ending, place_of};
 
-use line_words::small_number;
+use line_reading::small_number;
 use tile_paths::is_name;
 
 /// What a target asks for.

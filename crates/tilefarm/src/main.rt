@@ -1,12 +1,12 @@
 //! The program: the top call over the real files, streams and sockets.
 #![tactic(auto)]
 
-use call_ends::{Stop, report};
+use exit_status::{Stop, report};
 use farm_base::{Bells, DiskFiles, OpenGate, OutSink};
 use farm_call::program;
-use port_trait::ThreePorts;
+use port_events::ThreePorts;
 use socket_ports::{SocketBell, SocketPorts};
-use std::io::{self, ErrorKind};
+use std::io::{ErrorKind, self};
 use std::process::ExitCode;
 use tile_store::FileStore;
 

@@ -5,14 +5,14 @@ use Rattle.tile_store.specs.Stores.{StoreTold}
 use Rattle.plain_world.specs.World.{IsTile, IsTileSize}
 use Rattle.farm_words.specs.declared.command.Command.{Command}
 use Rattle.farm_words.specs.declared.command.Command.TheVariants.{Render, Script, Serve, Load, Meta}
-use Rattle.call_ends.specs.Ends.{FilesAt}
-use Rattle.call_ends.specs.declared.stops.Stop.{Stop}
+use Rattle.exit_status.specs.Ends.{FilesAt}
+use Rattle.exit_status.specs.declared.stops.Stop.{Stop}
 use Rattle.input_files.specs.inner.Runs.{Writes}
 use Rattle.farm_files.specs.Courses.{script_course, serve_course}
 use Rattle.script_command.specs.Scripts as script
 use Rattle.load_command.specs.Runs.{Loads}
 use Rattle.render_command.specs.Courses.{render_course}
-use Rattle.meta_command.specs.Courses.{meta_course}
+use Rattle.render_command.specs.MetaCourses.{meta_course}
 use Rattle.serve_command.specs.Serves.{World}
 use Rattle.serve_command.specs.inner.Steps as serve
 use Rattle.serve_command.specs.declared.left.Left.TheVariants.{Store}

@@ -18,9 +18,9 @@ use Rattle.render_queues.specs.declared.standing.Standing.{Standing}
 use Rattle.render_queues.specs.declared.standing.Standing.TheVariants.{Waits as InLine, Taken}
 use Rattle.render_queues.specs.Tables.{Tables, line_of, open_of, open_count, standing, is_liftable, takes_lifted}
 use Rattle.expiry_lists.specs.Marks.{mark_of, dirtied_marks}
-use Rattle.farm_stands.specs.Seen.{Counts, FarmSeen}
+use Rattle.farm_refinement.specs.Seen.{Counts, FarmSeen}
 use Rattle.farm_history.specs.Past.{number_in, is_done_answer}
-use Rattle.farm_stands.specs.inner.Events.{waits_at, dirtied_taken, marked_tables, asked_tables}
+use Rattle.farm_refinement.specs.inner.Events.{waits_at, dirtied_taken, marked_tables, asked_tables}
 
 -- the answer to an ask for a key with a render command, before any Stop
 abbrev pub answer_at : {D : Type 0} → FarmSeen D → Conn → Cmd → Key → AskAnswer

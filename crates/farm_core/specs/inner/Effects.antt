@@ -20,11 +20,11 @@ use Rattle.farm_plan.specs.Drawings.{key_path, update_of}
 use Rattle.plain_data.specs.Features.{Layer}
 use Rattle.plain_data.specs.Data.{Change, update_result}
 use Rattle.farm_history.specs.declared.saved.Past.{Past}
-use Rattle.farm_jobs.specs.Shared.{ShareSeen}
-use Rattle.farm_stands.specs.Seen.{Counts, FarmSeen}
-use Rattle.farm_stands.specs.Jobs.{JobSeen, job_key}
-use Rattle.farm_stands.specs.Reads.{ReadsTile, fetched_by}
-use Rattle.farm_stands.specs.inner.Events.{new_flight, dirtied_taken, stale_tables, taken_at, one_turn_more}
+use Rattle.render_jobs.specs.Shared.{ShareSeen}
+use Rattle.farm_refinement.specs.Seen.{Counts, FarmSeen}
+use Rattle.farm_plan.specs.Jobs.{JobSeen, job_key}
+use Rattle.farm_refinement.specs.Reads.{ReadsTile, fetched_by}
+use Rattle.farm_refinement.specs.inner.Events.{new_flight, dirtied_taken, stale_tables, taken_at, one_turn_more}
 
 -- ---- claims
 

@@ -8,10 +8,10 @@ use Rattle.farm_history.specs.Lists.{Each}
 use Rattle.farm_history.specs.Plans.{AreApart}
 use Rattle.farm_plan.specs.Drawings.{named, update_of}
 use Rattle.expiry_lists.specs.Marks.{shown_key}
-use Rattle.farm_reach.specs.Boxes.{AreBoxesOf, boxes_reach_map}
-use Rattle.farm_reach.specs.Marks.{is_reached, Expires}
-use Rattle.farm_stands.specs.Seen.{FarmSeen}
-use Rattle.farm_stands.specs.inner.Events.{dirtied_taken}
+use Rattle.reach_box.specs.NamedBoxes.{AreBoxesOf, boxes_reach_map}
+use Rattle.reach_box.specs.Marks.{is_reached, Expires}
+use Rattle.farm_refinement.specs.Seen.{FarmSeen}
+use Rattle.farm_refinement.specs.inner.Events.{dirtied_taken}
 
 -- boxes of the features that the update of the number names over the newest data, where these are valid, as those are to which the farm began with
 pub record Names {D : Type 0} (farm : FarmSeen D) (number : ℕ) (boxes : List Bounds) : Type 0 where

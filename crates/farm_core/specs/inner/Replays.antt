@@ -14,12 +14,12 @@ use Rattle.farm_history.specs.Replays.{Saving, past_number, replay_change, repla
 use Rattle.farm_plan.specs.Plans.{FarmPlan}
 use Rattle.farm_plan.specs.Drawings.{plan_of, update_of}
 use Rattle.expiry_lists.specs.Marks.{Shown, mark_of}
-use Rattle.farm_stands.specs.Seen.{FarmSeen}
-use Rattle.farm_stands.specs.Stands.{failures, StandsFor}
-use Rattle.farm_stands.specs.inner.Events.{no_counts, new_farm, replayed_counts}
-use Rattle.resume_faults.specs.declared.faults.ResumeFault.{ResumeFault}
-use Rattle.resume_faults.specs.Given.{styles_given}
-use Rattle.resume_faults.specs.Faults.{can_show, refused_at}
+use Rattle.farm_refinement.specs.Seen.{FarmSeen}
+use Rattle.farm_refinement.specs.Stands.{failures, StandsFor}
+use Rattle.farm_refinement.specs.inner.Events.{no_counts, new_farm, replayed_counts}
+use Rattle.render_jobs.specs.declared.faults.ResumeFault.{ResumeFault}
+use Rattle.render_jobs.specs.Given.{styles_given}
+use Rattle.render_jobs.specs.Faults.{can_show, refused_at}
 use Rattle.farm_core.specs.inner.Effects.{turn, Advances, MarksBut}
 use Rattle.farm_core.specs.inner.Renews.{Renews}
 

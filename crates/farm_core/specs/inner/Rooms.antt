@@ -6,8 +6,8 @@ use Rattle.farm_history.specs.Seen.{Taken}
 use Rattle.render_queues.specs.Tables.{Tables, line_of}
 use Rattle.farm_plan.specs.Plans.{FarmPlan, IsPlan}
 use Rattle.farm_plan.specs.Spots.{IsKeyOf}
-use Rattle.farm_stands.specs.Seen.{Counts}
-use Rattle.farm_jobs.specs.Shared.{ShareSeen}
+use Rattle.farm_refinement.specs.Seen.{Counts}
+use Rattle.render_jobs.specs.Shared.{ShareSeen}
 
 -- the ticket of a drawing under way
 abbrev pub ticket_of : Taken → ℕ

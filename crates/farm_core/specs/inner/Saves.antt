@@ -3,7 +3,7 @@ use Rattle.std.specs.Prelude.{◌≡◌, true, length, option_map}
 use Rattle.farm_history.specs.declared.keys.Key.{Key}
 use Rattle.farm_history.specs.Replays.{Saving, are_rising, kept_of, kept_version}
 use Rattle.expiry_lists.specs.Marks.{mark_of, clean_version}
-use Rattle.farm_stands.specs.Seen.{FarmSeen}
+use Rattle.farm_refinement.specs.Seen.{FarmSeen}
 
 -- the styles and the updates are kept as they are, and of the marks exactly the clean ones, by key
 pub record Keeps {D : Type 0} (farm : FarmSeen D) (s : Saving) : Type 0 where

@@ -3,10 +3,10 @@ use Rattle.std.specs.Prelude.{ℕ, ◌≤◌, ◌≡◌, List, [], length, repli
 use Rattle.farm_history.specs.declared.queues.Limits.{Limits}
 use Rattle.farm_history.specs.Seen.{Taken}
 use Rattle.farm_plan.specs.Plans.{FarmPlan}
-use Rattle.farm_jobs.specs.Shared.{ShareSeen}
+use Rattle.render_jobs.specs.Shared.{ShareSeen}
 use Rattle.render_queues.specs.Tables.{Tables, no_tables}
-use Rattle.farm_stands.specs.Seen.{FarmSeen}
-use Rattle.farm_stands.specs.inner.Events.{new_farm}
+use Rattle.farm_refinement.specs.Seen.{FarmSeen}
+use Rattle.farm_refinement.specs.inner.Events.{new_farm}
 
 -- the tables of a farm that begins, for so many maps and workers and these limits: no map has been given a style, nothing is drawn and nothing waits, and each worker's drawing has its place
 pub record AreFirst (maps : ℕ) (limits : Limits) (workers : ℕ) (styled : List (Option ℕ)) (taken : List Taken) (queues : Tables) (taken_room : ℕ) : Type 0 where

@@ -2,22 +2,22 @@
 use Rattle.std.specs.Prelude.{ℕ, ◌+◌, ◌≡◌, Bool, true, List, [], ◌∷◌, ◌++◌, length, map, All, Option, Some, None}
 use Rattle.farm_base.specs.Outside.{Outside}
 use Rattle.tile_store.specs.Stores.{StoreTold}
-use Rattle.farm_stands.specs.Seen.{FarmSeen}
+use Rattle.farm_refinement.specs.Seen.{FarmSeen}
 use Rattle.farm_history.specs.declared.answers.Tally.{Tally as Totals}
 use Rattle.farm_history.specs.Entries.{Entry, Tally}
 use Rattle.farm_history.specs.Lists.{Each}
-use Rattle.port_trait.specs.declared.ends.FrontDone.{FrontDone}
-use Rattle.port_trait.specs.Told.{PortsTold}
+use Rattle.port_events.specs.declared.ends.FrontDone.{FrontDone}
+use Rattle.port_events.specs.Told.{PortsTold}
 use Rattle.turn_cell.specs.Turns.{StartsWith}
 use Rattle.turn_cell.specs.SeatStates.{Made, SeatState, IsSeatOf, SameSeat, Knows, joining, worn_out}
 use Rattle.farm_shared.specs.Seats.{plain}
 use Rattle.farm_shared.specs.declared.turned.Turned.{Turned}
 use Rattle.farm_shared.specs.Shared.{Adds, IsClosed}
 use Rattle.render_workers.specs.declared.worker.WorkEnd.{WorkEnd}
-use Rattle.farm_threads.specs.declared.each_front.EachFront.{EachFront}
-use Rattle.farm_threads.specs.declared.pool.Actor.{Actor}
-use Rattle.farm_threads.specs.declared.together.RunSeats.{RunSeats}
-use Rattle.farm_threads.specs.Actors.{Leaving, WorkBy, IsReady, HasEnded, AreStanding}
+use Rattle.farm_runs.specs.declared.each_front.EachFront.{EachFront}
+use Rattle.farm_runs.specs.declared.pool.Actor.{Actor}
+use Rattle.farm_runs.specs.declared.together.RunSeats.{RunSeats}
+use Rattle.farm_runs.specs.Actors.{Leaving, WorkBy, IsReady, HasEnded, AreStanding}
 
 module _ {T : Type 0} where
   -- the first seat after the workers' seats were joined into it, from the last one on

@@ -6,7 +6,7 @@ use Rattle.farm_history.specs.Entries.{Entry}
 use Rattle.farm_history.specs.Laws.{IsOnlyReply}
 use Rattle.farm_history.specs.Replays.{replay_front}
 use Rattle.farm_plan.specs.Plans.{MapPlan}
-use Rattle.farm_stands.specs.Jobs.{IsValidJob, Carries}
+use Rattle.farm_plan.specs.Jobs.{IsValidJob, Carries}
 use Rattle.farm_core.specs.declared.claims.Claimed.{Claimed}
 use Rattle.farm_core.specs.Answers.{IfJob}
 use Rattle.farm_shared.specs.declared.turned.LastingPart.{LastingPart}

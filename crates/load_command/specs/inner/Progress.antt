@@ -3,9 +3,9 @@ use Rattle.std.specs.Prelude.{◌≡◌, ◌≢◌, ℕ, ◌+◌, ◌*◌, ◌^�
 use Rattle.std.specs.List.{sum_by}
 use Rattle.farm_base.specs.Outside.{Outside, Puts}
 use Rattle.farm_base.specs.declared.sinks.SinkFault.TheVariants.{Failed}
-use Rattle.call_ends.specs.Ends.{SinkAt}
-use Rattle.call_ends.specs.declared.stops.Stop.{Stop}
-use Rattle.call_ends.specs.declared.stops.Stop.TheVariants as stop
+use Rattle.exit_status.specs.Ends.{SinkAt}
+use Rattle.exit_status.specs.declared.stops.Stop.{Stop}
+use Rattle.exit_status.specs.declared.stops.Stop.TheVariants as stop
 use Rattle.farm_base.specs.declared.memory.NoMemory.{NoMemory}
 use Rattle.tile_store.specs.Stores.{StoreTold}
 use Rattle.farm_history.specs.declared.queues.Reply.{Reply}
@@ -19,8 +19,8 @@ use Rattle.farm_history.specs.declared.answers.Collected.{Collected}
 use Rattle.farm_history.specs.Entries.{Entry, Claim, Collect, Fetch}
 use Rattle.farm_history.specs.Lists.{Each}
 use Rattle.farm_history.specs.Past.{open_asks}
-use Rattle.farm_stands.specs.Seen.{FarmSeen}
-use Rattle.farm_stands.specs.Stands.{StandsFor}
+use Rattle.farm_refinement.specs.Seen.{FarmSeen}
+use Rattle.farm_refinement.specs.Stands.{StandsFor}
 use Rattle.script_text.specs.ScriptTexts.{has_failed}
 use Rattle.work_gen.specs.declared.stepping.Step.{Step}
 use Rattle.load_command.specs.declared.totals.Totals.{Totals}

@@ -3,7 +3,7 @@ use Rattle.std.specs.Prelude.{ℕ, List, map}
 use Rattle.farm_history.specs.Entries.{Entry}
 use Rattle.farm_history.specs.Lists.{Each, Differ}
 use Rattle.farm_plan.specs.Plans.{FarmPlan}
-use Rattle.farm_stands.specs.Jobs.{JobSeen, IsFlight, IsValidJob}
+use Rattle.farm_plan.specs.Jobs.{JobSeen, IsFlight, IsValidJob}
 
 abbrev pub ticket_of : JobSeen → ℕ
 ticket_of job = job.ticket

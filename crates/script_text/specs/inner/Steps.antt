@@ -9,9 +9,9 @@ use Rattle.farm_history.specs.declared.answers.Finished.{Finished}
 use Rattle.farm_history.specs.declared.answers.Finished.TheVariants.{PutFailed}
 use Rattle.farm_history.specs.Entries.{Entry}
 use Rattle.farm_plan.specs.Plans.{FarmPlan}
-use Rattle.farm_stands.specs.Jobs.{JobSeen}
-use Rattle.farm_stands.specs.Seen.{FarmSeen}
-use Rattle.farm_stands.specs.Stands.{StandsFor}
+use Rattle.farm_plan.specs.Jobs.{JobSeen}
+use Rattle.farm_refinement.specs.Seen.{FarmSeen}
+use Rattle.farm_refinement.specs.Stands.{StandsFor}
 use Rattle.script_lines.specs.declared.script.ScriptLine.{ScriptLine}
 use Rattle.script_answers.specs.Answers.{entry_text}
 use Rattle.script_text.specs.ScriptTexts.{names_of, IsEntryOf, is_failed, has_failed, LineText}

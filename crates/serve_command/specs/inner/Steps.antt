@@ -2,21 +2,21 @@
 use Rattle.std.specs.Prelude.{◌≡◌, ℕ, Bool, List, [], map, Result, Ok, Err}
 use Rattle.farm_base.specs.Outside.{Outside}
 use Rattle.tile_store.specs.Stores.{StoreTold}
-use Rattle.port_trait.specs.declared.ends.FrontDone.{FrontDone}
-use Rattle.call_ends.specs.Ends.{FilesAt, SinkAt}
-use Rattle.call_ends.specs.declared.stops.Stop.{Stop}
-use Rattle.call_ends.specs.declared.stops.Stop.TheVariants as stop
+use Rattle.port_events.specs.declared.ends.FrontDone.{FrontDone}
+use Rattle.exit_status.specs.Ends.{FilesAt, SinkAt}
+use Rattle.exit_status.specs.declared.stops.Stop.{Stop}
+use Rattle.exit_status.specs.declared.stops.Stop.TheVariants as stop
 use Rattle.input_files.specs.Course.{Course}
 use Rattle.input_files.specs.inner.Follows.{Follows}
 use Rattle.farm_history.specs.Entries.{Entry}
 use Rattle.farm_files.specs.Inputs.{Served}
-use Rattle.farm_stands.specs.Seen.{FarmSeen}
-use Rattle.farm_threads.specs.declared.each_front.EachFront.{EachFront}
-use Rattle.farm_threads.specs.Actors.{maps_in}
+use Rattle.farm_refinement.specs.Seen.{FarmSeen}
+use Rattle.farm_runs.specs.declared.each_front.EachFront.{EachFront}
+use Rattle.farm_runs.specs.Actors.{maps_in}
 use Rattle.farm_runs.specs.Promise.{Ends, RunsWell}
-use Rattle.front_leaves.specs.Fronts.{renderd_leaves, tiles_leave, control_leaves}
+use Rattle.farm_fronts.specs.Fronts.{renderd_leaves, tiles_leave, control_leaves}
 use Rattle.farm_runs.specs.declared.running.Run.{Run}
-use Rattle.farm_ending.specs.Endings.{why_ended, WindsUp}
+use Rattle.serve_command.specs.Endings.{why_ended, WindsUp}
 use Rattle.serve_command.specs.declared.left.Left.{Left}
 use Rattle.serve_command.specs.declared.left.Left.TheVariants.{Store, Farm}
 use Rattle.serve_command.specs.declared.left.Done.{Done}

@@ -1,7 +1,7 @@
 -- Inner words of sockets: what a read leaves in the room.
 use Rattle.std.specs.Prelude.{◌<◌, ◌≤◌, ℕ, List, length}
-use Rattle.port_trait.specs.declared.events.PortEvent.{PortEvent}
-use Rattle.port_trait.specs.declared.events.PortEvent.TheVariants as event
+use Rattle.port_events.specs.declared.events.PortEvent.{PortEvent}
+use Rattle.port_events.specs.declared.events.PortEvent.TheVariants as event
 use Rattle.socket_ports.specs.declared.links.Heard.{Heard}
 use Rattle.socket_ports.specs.declared.links.Heard.TheVariants as heard
 

@@ -6,7 +6,7 @@ use Rattle.plain_world.specs.World.{index_place}
 use Rattle.meta_container.specs.Reading.{entry_found}
 use Rattle.tile_store.specs.Stores.{StoreTold, part}
 use Rattle.farm_history.specs.declared.answers.Fetched.{Fetched}
-use Rattle.farm_stands.specs.Reads.{IsSpoilt, ReadsTile}
+use Rattle.farm_refinement.specs.Reads.{IsSpoilt, ReadsTile}
 use Rattle.farm_core.specs.inner.Effects.{refused_by}
 use Rattle.farm_core.proofs.Parts.{read_as, read_short, short_as, read_whole, reads_refused}
 use Rattle.farm_core.proofs.fetches.read_tile.Goals as goal

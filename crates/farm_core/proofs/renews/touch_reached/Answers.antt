@@ -4,7 +4,7 @@ use Rattle.std.proofs.Math.ListN.{set}
 use Rattle.std.proofs.lemmas.List.Edits.{map_over_more}
 use Rattle.farm_history.specs.declared.keys.Key.{Key}
 use Rattle.farm_history.specs.Seen.{Taken, overtaken_by}
-use Rattle.farm_reach.specs.Boxes.{boxes_reach_map}
+use Rattle.reach_box.specs.NamedBoxes.{boxes_reach_map}
 use Rattle.farm_core.proofs.renews.touch_reached.Goals as goal
 
 pub loop-one-preserved : goal.loop-one-preserved

@@ -1,7 +1,7 @@
 -- Those so far are touched, the others are as they were.
 use Rattle.std.proofs.Common.{◌≡◌, ◌++◌, map, take, drop, slice_get}
 use Rattle.farm_history.specs.Seen.{overtaken_by}
-use Rattle.farm_reach.specs.Boxes.{boxes_reach_map}
+use Rattle.reach_box.specs.NamedBoxes.{boxes_reach_map}
 use Rattle.farm_core.proofs.renews.touch_reached.Given as goal
 
 abbrev pub invariant-loop-one : goal.invariant-loop-one

@@ -1,6 +1,6 @@
 use Rattle.std.proofs.Common.{◌≡◌, ap, subst}
 use Rattle.farm_plan.specs.Plans.{FarmPlan}
-use Rattle.farm_jobs.specs.Shared.{ShareSeen}
+use Rattle.render_jobs.specs.Shared.{ShareSeen}
 use Rattle.farm_core.specs.inner.Starts.{IsStarted}
 use Rattle.farm_core.proofs.starts.first_farm.Goals as goal
 

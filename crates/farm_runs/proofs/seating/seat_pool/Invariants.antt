@@ -1,7 +1,7 @@
 -- So many workers have their seats.
 use Rattle.std.proofs.Common.{◌≡◌, ◌+◌, ◌≤◌, All, length, vec_len}
 use Rattle.std.specs.Vec.{vec_capacity}
-use Rattle.farm_threads.specs.Actors.{IsReady}
+use Rattle.farm_runs.specs.Actors.{IsReady}
 use Rattle.farm_runs.specs.inner.Chain.{IsStart, Numbered}
 use Rattle.farm_runs.proofs.seating.seat_pool.Given as goal
 

@@ -1,4 +1,4 @@
-use Rattle.farm_left.proofs.Beginning.{stands_new, leaves}
+use Rattle.script_text.proofs.Beginning.{stands_new, leaves}
 use Rattle.load_command.proofs.command.run_on.Goals as goal
 
 pub work_on-end-requires-clause-stands : goal.work_on-end-requires-clause-stands

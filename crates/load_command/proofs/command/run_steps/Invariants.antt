@@ -1,5 +1,5 @@
 use Rattle.std.specs.Prelude.{◌*◌, Bool, []}
-use Rattle.farm_stands.specs.Stands.{StandsFor}
+use Rattle.farm_refinement.specs.Stands.{StandsFor}
 use Rattle.farm_core.specs.Answers.{Lasts}
 use Rattle.load_command.specs.inner.Progress.{Grows, Summed}
 use Rattle.load_command.proofs.command.run_steps.Given as goal

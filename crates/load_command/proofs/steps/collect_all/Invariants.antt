@@ -1,6 +1,6 @@
 use Rattle.std.specs.Prelude.{◌+◌, Bool, List, length}
 use Rattle.farm_history.specs.Entries.{Entry}
-use Rattle.farm_stands.specs.Stands.{StandsFor}
+use Rattle.farm_refinement.specs.Stands.{StandsFor}
 use Rattle.farm_core.specs.Answers.{Lasts}
 use Rattle.load_command.proofs.Stepping.{Collecting}
 use Rattle.load_command.proofs.steps.collect_all.Given as goal

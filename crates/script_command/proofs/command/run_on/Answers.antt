@@ -1,4 +1,4 @@
-use Rattle.farm_left.proofs.Beginning.{stands_new, few_new, leaves}
+use Rattle.script_text.proofs.Beginning.{stands_new, few_new, leaves}
 use Rattle.script_command.proofs.Ran.{ran_on}
 use Rattle.script_command.proofs.command.run_on.Goals as goal
 

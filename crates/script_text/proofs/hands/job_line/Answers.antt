@@ -4,7 +4,7 @@ use Rattle.std.proofs.lemmas.Option.{slice_get-map}
 use Rattle.farm_history.specs.declared.keys.Key.{Key}
 use Rattle.farm_history.specs.declared.answers.ClaimAnswer.TheVariants.{Job}
 use Rattle.farm_plan.specs.Plans.{MapPlan}
-use Rattle.farm_stands.specs.Jobs.{JobSeen, job_key}
+use Rattle.farm_plan.specs.Jobs.{JobSeen, job_key}
 use Rattle.script_answers.specs.Answers.{claim_line}
 use Rattle.script_text.specs.ScriptTexts.{names_of}
 use Rattle.script_text.proofs.hands.job_line.Goals as goal

@@ -1,6 +1,6 @@
 use Rattle.std.specs.Prelude.{Bool, List}
 use Rattle.farm_history.specs.Entries.{Entry}
-use Rattle.farm_stands.specs.Stands.{StandsFor}
+use Rattle.farm_refinement.specs.Stands.{StandsFor}
 use Rattle.farm_core.specs.Answers.{Lasts}
 use Rattle.script_text.specs.inner.Progress.{Goes}
 use Rattle.script_text.proofs.runs.run_noting.Given as goal

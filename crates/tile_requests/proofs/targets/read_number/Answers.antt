@@ -1,8 +1,8 @@
 use Rattle.std.proofs.Common.{◌≡◌, ℕ, ◌^◌, List, ◌∷◌, ◌++◌, Some, None, sym, ap, ◌∙◌, arith}
 use Rattle.std.specs.Fmt.{decimal}
 use Rattle.std.proofs.lemmas.Str.Pattern.{split_after, split_parts}
-use Rattle.line_words.specs.Numbers.{decimal_below}
-use Rattle.line_words.proofs.NumberTexts.{number_known, number_means}
+use Rattle.line_reading.specs.Numbers.{decimal_below}
+use Rattle.line_reading.proofs.NumberTexts.{number_known, number_means}
 use Rattle.tile_requests.proofs.TargetTexts.{no_end}
 use Rattle.tile_requests.proofs.targets.read_number.Goals as goal
 

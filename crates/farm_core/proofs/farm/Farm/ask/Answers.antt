@@ -3,7 +3,7 @@ use Rattle.farm_history.specs.declared.keys.Key.{Key}
 use Rattle.farm_history.specs.Plans.{is_servable, key_of, own_queue}
 use Rattle.farm_plan.specs.Drawings.{plan_of}
 use Rattle.farm_plan.specs.Spots.{IsKeyOf}
-use Rattle.farm_stands.specs.Seen.{FarmSeen}
+use Rattle.farm_refinement.specs.Seen.{FarmSeen}
 use Rattle.farm_core.specs.inner.Asks.{Dirtied, noted_tables, rendered_at, rendered_counts}
 use Rattle.farm_core.proofs.Asked.{ask_dirty, ask_rendered, if_first}
 use Rattle.farm_core.proofs.farm.Farm.ask.Goals as goal

@@ -2,8 +2,8 @@ use Rattle.std.proofs.Common.{◌∷◌, Some, None, sym, ap, ◌∙◌, subst}
 use Rattle.farm_history.specs.declared.answers.ClaimAnswer.{ClaimAnswer}
 use Rattle.farm_history.specs.Entries.{Claim}
 use Rattle.render_queues.specs.Tables.{AreSound}
-use Rattle.farm_stands.specs.Seen.{FarmSeen}
-use Rattle.farm_stands.specs.Stands.{StandsFor}
+use Rattle.farm_refinement.specs.Seen.{FarmSeen}
+use Rattle.farm_refinement.specs.Stands.{StandsFor}
 use Rattle.farm_core.specs.inner.Effects.{Claims, is_crowded}
 use Rattle.farm_core.specs.inner.Rooms.{AreKeysOf}
 use Rattle.farm_core.proofs.Given.{valid_job}

@@ -1,5 +1,5 @@
 use Rattle.std.proofs.Common.{Some, None, subst}
-use Rattle.farm_stands.specs.Seen.{FarmSeen}
+use Rattle.farm_refinement.specs.Seen.{FarmSeen}
 use Rattle.farm_core.specs.inner.Effects.{Collects}
 use Rattle.farm_core.proofs.Told.{collect_none, collect_reply}
 use Rattle.farm_core.proofs.farm.Farm.collect.Goals as goal

@@ -1,6 +1,6 @@
 use Rattle.std.proofs.Common.{subst}
 use Rattle.farm_history.specs.Plans.{overlaps}
-use Rattle.farm_stands.specs.Seen.{FarmSeen}
+use Rattle.farm_refinement.specs.Seen.{FarmSeen}
 use Rattle.farm_core.specs.inner.Effects.{Dirties}
 use Rattle.farm_core.proofs.Told.{expire_told}
 use Rattle.farm_core.proofs.farm.Farm.expire.Goals as goal

@@ -6,7 +6,7 @@ use Rattle.farm_plan.specs.Plans.{FarmPlan}
 use Rattle.farm_plan.specs.Drawings.{plan_of}
 use Rattle.farm_plan.proofs.Spots.{spot_of}
 use Rattle.expiry_lists.specs.Marks.{mark_of}
-use Rattle.farm_stands.specs.Seen.{FarmSeen}
+use Rattle.farm_refinement.specs.Seen.{FarmSeen}
 use Rattle.farm_core.specs.inner.Effects.{Fetches, turn}
 use Rattle.farm_core.proofs.Reading.{unserved, unshown, tile_read}
 use Rattle.farm_core.proofs.Told.{fetch_unservable, fetch_missing, fetch_read}

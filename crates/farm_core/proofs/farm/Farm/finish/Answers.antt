@@ -8,10 +8,10 @@ use Rattle.farm_history.specs.Plans.{is_in}
 use Rattle.farm_history.specs.Seen.{Taken}
 use Rattle.render_queues.specs.Tables.{after_end}
 use Rattle.farm_plan.specs.Spots.{IsKeyOf}
-use Rattle.farm_stands.specs.Seen.{FarmSeen}
-use Rattle.farm_stands.specs.Jobs.{JobSeen, job_key}
-use Rattle.farm_stands.specs.Stands.{StandsFor}
-use Rattle.farm_stands.specs.inner.Events.{taken_at, untaken}
+use Rattle.farm_refinement.specs.Seen.{FarmSeen}
+use Rattle.farm_plan.specs.Jobs.{JobSeen, job_key}
+use Rattle.farm_refinement.specs.Stands.{StandsFor}
+use Rattle.farm_refinement.specs.inner.Events.{taken_at, untaken}
 use Rattle.farm_core.specs.declared.finishes.Drawn.{Drawn}
 use Rattle.farm_core.specs.Answers.{IsDrawingOf, is_drawn}
 use Rattle.farm_core.specs.inner.Effects.{IsTaken, Keeps, turn}

@@ -1,6 +1,6 @@
 use Rattle.std.proofs.Common.{◌<◌, sym, subst}
 use Rattle.std.specs.Vec.{vec_capacity}
-use Rattle.farm_stands.specs.Seen.{FarmSeen}
+use Rattle.farm_refinement.specs.Seen.{FarmSeen}
 use Rattle.farm_core.specs.inner.Effects.{IsNext, own_of}
 use Rattle.farm_core.proofs.Rooms.{room_advance}
 use Rattle.farm_core.proofs.farm.Farm.go_on.Goals as goal

@@ -1,5 +1,5 @@
 use Rattle.std.proofs.Common.{length, sym, ap, ◌∙◌}
-use Rattle.farm_stands.specs.Seen.{FarmSeen}
+use Rattle.farm_refinement.specs.Seen.{FarmSeen}
 use Rattle.farm_core.proofs.Rooming.{room_anew}
 use Rattle.farm_core.proofs.farm.Farm.keep_saved.Goals as goal
 

@@ -1,6 +1,6 @@
 use Rattle.std.proofs.Common.{ap, ◌∙◌}
 use Rattle.render_queues.specs.Tables.{after_leave, open_of}
-use Rattle.farm_stands.specs.Seen.{FarmSeen}
+use Rattle.farm_refinement.specs.Seen.{FarmSeen}
 use Rattle.farm_core.proofs.Told.{leave_told}
 use Rattle.farm_core.proofs.farm.Farm.leave.Goals as goal
 

@@ -1,6 +1,6 @@
 use Rattle.std.proofs.Common.{ap, ◌∙◌}
-use Rattle.farm_stands.specs.Seen.{FarmSeen}
-use Rattle.farm_stands.specs.inner.Events.{look_at}
+use Rattle.farm_refinement.specs.Seen.{FarmSeen}
+use Rattle.farm_refinement.specs.inner.Events.{look_at}
 use Rattle.farm_core.proofs.Told.{look_told}
 use Rattle.farm_core.proofs.farm.Farm.look.Goals as goal
 

@@ -2,8 +2,8 @@ use Rattle.std.proofs.Common.{length, sym, ap, ◌∙◌, subst}
 use Rattle.farm_history.specs.Plans.{same_key}
 use Rattle.render_queues.specs.Tables.{Tables}
 use Rattle.farm_plan.specs.Spots.{IsKeyOf}
-use Rattle.farm_stands.specs.Seen.{FarmSeen}
-use Rattle.farm_stands.specs.inner.Events.{dirtied_taken}
+use Rattle.farm_refinement.specs.Seen.{FarmSeen}
+use Rattle.farm_refinement.specs.inner.Events.{dirtied_taken}
 use Rattle.farm_core.specs.inner.Rooms.{AreKeysOf}
 use Rattle.farm_core.proofs.Rooms.{room_queues, room_touched, touched_back, marked_each}
 use Rattle.farm_core.proofs.farm.Farm.mark_dirty.Goals as goal

@@ -1,9 +1,9 @@
 -- The drawings under way and the marks that the boxes reach are touched.
 use Rattle.std.proofs.Common.{◌++◌, take, drop, length, slice_get, sym, ap, ◌∙◌, subst}
 use Rattle.farm_history.specs.declared.keys.Key.{Key}
-use Rattle.farm_reach.specs.Boxes.{boxes_reach_map}
-use Rattle.farm_stands.specs.Seen.{FarmSeen}
-use Rattle.farm_stands.specs.inner.Events.{dirtied_taken}
+use Rattle.reach_box.specs.NamedBoxes.{boxes_reach_map}
+use Rattle.farm_refinement.specs.Seen.{FarmSeen}
+use Rattle.farm_refinement.specs.inner.Events.{dirtied_taken}
 use Rattle.farm_core.specs.inner.Renews.{Reaches}
 use Rattle.farm_core.proofs.Rooms.{room_touched, touched_back}
 use Rattle.farm_core.proofs.Renewing.{reached_told}

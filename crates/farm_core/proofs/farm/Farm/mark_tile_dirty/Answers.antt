@@ -1,6 +1,6 @@
 use Rattle.std.proofs.Common.{length, sym, ap, ◌∙◌}
 use Rattle.farm_history.specs.Plans.{overlaps}
-use Rattle.farm_stands.specs.inner.Events.{dirtied_taken}
+use Rattle.farm_refinement.specs.inner.Events.{dirtied_taken}
 use Rattle.farm_core.proofs.Rooms.{room_touched, touched_back}
 use Rattle.farm_core.proofs.farm.Farm.mark_tile_dirty.Goals as goal
 

@@ -1,7 +1,7 @@
 use Rattle.std.proofs.Common.{sym, subst}
 use Rattle.render_queues.specs.Tables.{Tables}
 use Rattle.farm_plan.specs.Spots.{IsKeyOf}
-use Rattle.farm_stands.specs.Seen.{FarmSeen}
+use Rattle.farm_refinement.specs.Seen.{FarmSeen}
 use Rattle.farm_core.specs.inner.Rooms.{AreKeysOf}
 use Rattle.farm_core.proofs.Rooms.{room_queues, asked_each}
 use Rattle.farm_core.proofs.farm.Farm.note.Goals as goal

@@ -1,7 +1,7 @@
 use Rattle.std.proofs.Common.{sym, subst}
-use Rattle.farm_stands.specs.Seen.{FarmSeen}
-use Rattle.farm_stands.specs.Stands.{StandsFor}
-use Rattle.farm_stands.proofs.Starting.{beside_step}
+use Rattle.farm_refinement.specs.Seen.{FarmSeen}
+use Rattle.farm_refinement.specs.Stands.{StandsFor}
+use Rattle.farm_refinement.proofs.Starting.{beside_step}
 use Rattle.farm_core.proofs.farm.Farm.put_beside.Goals as goal
 
 pub returns-clause-stands : goal.returns-clause-stands

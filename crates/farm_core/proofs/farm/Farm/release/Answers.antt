@@ -1,7 +1,7 @@
 use Rattle.std.proofs.Common.{◌≡◌, ◌==◌, Some, sym, ap, ◌∙◌, subst}
-use Rattle.farm_stands.specs.Seen.{FarmSeen}
-use Rattle.farm_stands.specs.Jobs.{JobSeen}
-use Rattle.farm_stands.specs.inner.Events.{taken_at}
+use Rattle.farm_refinement.specs.Seen.{FarmSeen}
+use Rattle.farm_plan.specs.Jobs.{JobSeen}
+use Rattle.farm_refinement.specs.inner.Events.{taken_at}
 use Rattle.farm_core.proofs.Rooms.{room_released, same_share, share_newest}
 use Rattle.farm_core.proofs.farm.Farm.release.Goals as goal
 

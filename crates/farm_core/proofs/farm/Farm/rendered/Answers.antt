@@ -4,7 +4,7 @@ use Rattle.farm_history.specs.declared.keys.Key.{Key}
 use Rattle.farm_history.specs.declared.asks.AskAnswer.{AskAnswer}
 use Rattle.farm_history.specs.Plans.{own_queue}
 use Rattle.render_queues.specs.Tables.{AreSound}
-use Rattle.farm_stands.specs.Seen.{FarmSeen}
+use Rattle.farm_refinement.specs.Seen.{FarmSeen}
 use Rattle.farm_core.specs.inner.Asks.{Needs}
 use Rattle.farm_core.proofs.Asking.{answer_needs}
 use Rattle.farm_core.proofs.farm.Farm.rendered.Goals as goal

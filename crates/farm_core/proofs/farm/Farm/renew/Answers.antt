@@ -4,7 +4,7 @@ use Rattle.std.specs.Prelude.{Err, nat_lt}
 use Rattle.farm_base.specs.declared.faults.ApplyFault.{ApplyFault}
 use Rattle.plain_data.specs.Data.{update_result}
 use Rattle.farm_plan.specs.Drawings.{update_of}
-use Rattle.farm_stands.specs.Seen.{FarmSeen}
+use Rattle.farm_refinement.specs.Seen.{FarmSeen}
 use Rattle.farm_core.specs.inner.Renews.{Renews}
 use Rattle.farm_core.proofs.Renewing.{renew_told, renew_refused, renew_unknown}
 use Rattle.farm_core.proofs.farm.Farm.renew.Goals as goal

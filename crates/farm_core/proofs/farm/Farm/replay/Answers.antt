@@ -8,12 +8,12 @@ use Rattle.farm_history.specs.Entries.{Entry}
 use Rattle.farm_history.specs.Replays.{past_number, replay_keys}
 use Rattle.farm_plan.specs.Drawings.{plan_of, update_of}
 use Rattle.farm_plan.specs.Plans.{FarmPlan}
-use Rattle.farm_stands.specs.Seen.{FarmSeen}
-use Rattle.resume_faults.specs.declared.faults.ResumeFault.{ResumeFault}
-use Rattle.resume_faults.specs.Faults.{apply_fault}
+use Rattle.farm_refinement.specs.Seen.{FarmSeen}
+use Rattle.render_jobs.specs.declared.faults.ResumeFault.{ResumeFault}
+use Rattle.render_jobs.specs.Faults.{apply_fault}
 use Rattle.farm_core.specs.inner.Replays.{IsReplaying}
 use Rattle.farm_core.proofs.Replaying.{stays_then, many_split}
-use Rattle.resume_faults.proofs.Checked.{if_err}
+use Rattle.render_jobs.proofs.Checked.{if_err}
 use Rattle.farm_core.proofs.Replayed.{fault_more, fault_here, fault_none, few_from, versions_more, versions_all}
 use Rattle.farm_core.proofs.farm.Farm.replay.Goals as goal
 

@@ -2,7 +2,7 @@
 use Rattle.std.proofs.Common.{◌≡◌, ◌+◌, ◌*◌, List, length, drop}
 use Rattle.farm_history.specs.Entries.{Entry}
 use Rattle.farm_plan.specs.Drawings.{plan_of}
-use Rattle.resume_faults.specs.Faults.{apply_fault}
+use Rattle.render_jobs.specs.Faults.{apply_fault}
 use Rattle.farm_core.specs.inner.Replays.{IsFresh, IsReplaying, Stays, how_many_from}
 use Rattle.farm_core.proofs.Replayed.{VersionsTo}
 use Rattle.farm_core.proofs.farm.Farm.replay.Given as goal

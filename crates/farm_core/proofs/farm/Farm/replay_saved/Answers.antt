@@ -2,7 +2,7 @@
 use Rattle.std.proofs.Common.{Some, None, Result, Ok, Err, ap, ◌∙◌}
 use Rattle.std.specs.Prelude.{IfErr, OnOk}
 use Rattle.farm_history.specs.Replays.{Saving}
-use Rattle.farm_stands.specs.Seen.{FarmSeen}
+use Rattle.farm_refinement.specs.Seen.{FarmSeen}
 use Rattle.farm_core.proofs.Resumed.{ready, resumed, later_fault}
 use Rattle.farm_core.proofs.farm.Farm.replay_saved.Goals as goal
 

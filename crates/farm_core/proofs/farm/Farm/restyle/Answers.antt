@@ -2,7 +2,7 @@ use Rattle.std.proofs.Common.{◌≡◌, ◌<◌, ℕ, length, Option, Some, Non
 use Rattle.std.specs.Prelude.{slice_get, slice_set, option_map}
 use Rattle.farm_plan.specs.Plans.{Restyle}
 use Rattle.expiry_lists.specs.Marks.{is_of_map}
-use Rattle.farm_stands.specs.Seen.{FarmSeen}
+use Rattle.farm_refinement.specs.Seen.{FarmSeen}
 use Rattle.farm_core.specs.inner.Effects.{Dirties}
 use Rattle.farm_core.proofs.Told.{restyle_told, restyle_unknown}
 use Rattle.farm_core.proofs.farm.Farm.restyle.Goals as goal

@@ -1,7 +1,7 @@
 -- The first farm of the plan takes up what was saved.
 use Rattle.std.proofs.Common.{◌≡◌, Some, None, sym, ◌∙◌, subst}
 use Rattle.farm_plan.specs.Plans.{FarmPlan, IsPlan}
-use Rattle.resume_faults.specs.Faults.{resume_fault}
+use Rattle.render_jobs.specs.Faults.{resume_fault}
 use Rattle.farm_core.specs.Begins.{Begins}
 use Rattle.farm_core.proofs.Resumed.{first, begins_well, no_first_fault}
 use Rattle.farm_core.proofs.farm.Farm.resume.Goals as goal

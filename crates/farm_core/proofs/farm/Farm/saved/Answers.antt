@@ -5,7 +5,7 @@ use Rattle.farm_history.specs.Entries.{Entry}
 use Rattle.farm_history.specs.Replays.{Saving, IsSaved}
 use Rattle.farm_plan.specs.Drawings.{plan_of}
 use Rattle.farm_saved.specs.Savings.{IsSaving}
-use Rattle.farm_stands.specs.Stands.{StandsFor}
+use Rattle.farm_refinement.specs.Stands.{StandsFor}
 use Rattle.farm_core.specs.inner.Saves.{Keeps}
 use Rattle.farm_core.proofs.Savable.{kept_saved, kept_sound}
 use Rattle.farm_core.proofs.farm.Farm.saved.Goals as goal

@@ -2,7 +2,7 @@ use Rattle.std.proofs.Common.{◌<◌, not, sym, subst}
 use Rattle.farm_history.specs.declared.queues.Outcome.{Outcome}
 use Rattle.render_queues.specs.Tables.{Tables, after_end}
 use Rattle.farm_plan.specs.Spots.{IsKeyOf}
-use Rattle.farm_stands.specs.Seen.{FarmSeen}
+use Rattle.farm_refinement.specs.Seen.{FarmSeen}
 use Rattle.farm_core.specs.inner.Rooms.{AreKeysOf}
 use Rattle.farm_core.proofs.Rooms.{room_queues, room_stored, stale_each}
 use Rattle.farm_core.proofs.farm.Farm.show.Goals as goal

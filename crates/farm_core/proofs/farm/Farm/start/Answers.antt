@@ -1,7 +1,7 @@
 -- The farm of the first parts begins.
 use Rattle.std.proofs.Common.{None}
 use Rattle.std.proofs.lemmas.Result.{IfOk-weaker}
-use Rattle.farm_stands.specs.Seen.{FarmSeen}
+use Rattle.farm_refinement.specs.Seen.{FarmSeen}
 use Rattle.farm_core.specs.Begins.{Begins}
 use Rattle.farm_core.specs.inner.Starts.{IsStarted}
 use Rattle.farm_core.proofs.Starting.{begins}

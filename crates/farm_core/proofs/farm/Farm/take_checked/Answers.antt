@@ -2,10 +2,10 @@
 use Rattle.std.proofs.Common.{◌≡◌, ◌≢◌, Some, None, sym, ap, ◌∙◌, subst}
 use Rattle.std.proofs.lemmas.Result.{on_ok_weaker, IfErr-weaker}
 use Rattle.farm_plan.specs.Plans.{FarmPlan, IsPlan}
-use Rattle.farm_stands.specs.Seen.{FarmSeen}
-use Rattle.resume_faults.specs.declared.faults.ResumeFault.{ResumeFault}
-use Rattle.resume_faults.specs.Faults.{form_fault, resume_fault}
-use Rattle.resume_faults.proofs.Checked.{shaped}
+use Rattle.farm_refinement.specs.Seen.{FarmSeen}
+use Rattle.render_jobs.specs.declared.faults.ResumeFault.{ResumeFault}
+use Rattle.render_jobs.specs.Faults.{form_fault, resume_fault}
+use Rattle.render_jobs.proofs.Checked.{shaped}
 use Rattle.farm_core.specs.Begins.{Begins}
 use Rattle.farm_core.proofs.Resumed.{again}
 use Rattle.farm_core.proofs.farm.Farm.take_checked.Goals as goal

@@ -1,7 +1,7 @@
 use Rattle.std.proofs.Common.{◌≡◌, Some, None, sym, ap, ◌∙◌, subst}
 use Rattle.farm_plan.specs.Plans.{FarmPlan}
-use Rattle.farm_stands.specs.Seen.{FarmSeen}
-use Rattle.resume_faults.specs.Faults.{form_fault}
+use Rattle.farm_refinement.specs.Seen.{FarmSeen}
+use Rattle.render_jobs.specs.Faults.{form_fault}
 use Rattle.farm_core.proofs.Resumed.{first_fault}
 use Rattle.farm_core.proofs.farm.Farm.take_up.Goals as goal
 

@@ -4,7 +4,7 @@ use Rattle.farm_base.specs.declared.faults.ApplyFault.{ApplyFault}
 use Rattle.plain_data.specs.Data.{update_result}
 use Rattle.farm_history.specs.declared.saved.Past.{Past}
 use Rattle.farm_plan.specs.Drawings.{update_of}
-use Rattle.farm_stands.specs.Seen.{FarmSeen}
+use Rattle.farm_refinement.specs.Seen.{FarmSeen}
 use Rattle.farm_core.specs.inner.Effects.{Advances}
 use Rattle.farm_core.proofs.Told.{update_told, update_refused, update_unknown}
 use Rattle.farm_core.proofs.farm.Farm.update.Goals as goal

@@ -1,6 +1,6 @@
 use Rattle.std.proofs.Common.{ap, subst, List, ℕ}
 use Rattle.farm_history.specs.Entries.{Entry}
-use Rattle.farm_stands.specs.Seen.{FarmSeen}
+use Rattle.farm_refinement.specs.Seen.{FarmSeen}
 use Rattle.farm_shared.specs.Shared.{IsAfter}
 use Rattle.farm_shared.proofs.Steps.{after_beside}
 use Rattle.farm_shared.proofs.closed.Closed.put_beside.Goals as goal

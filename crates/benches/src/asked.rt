@@ -1,0 +1,54 @@
+//! What the words of the command line ask for.
+use std::rt::Env;
+use std::{env, io};
+
+/// Which benchmark is asked for.
+#[derive(Clone, Copy, PartialEq, Eq)]
+pub(crate) enum Bench {
+    All,
+    Filters,
+    Turns,
+    Tables,
+}
+
+/// Whether rates are asked for too.
+#[derive(Clone, Copy, PartialEq, Eq)]
+pub(crate) enum Work {
+    Counts,
+    Rates,
+}
+
+/// Without words all are asked for; else the first word is one of them, and the word `rates` may follow.
+pub(crate) fn read_words(rt: &(impl Env + Alloc)) -> io::Result<Option<(Bench, Work)>> {
+    let mut words = env::args(rt)?;
+    let _program = words.next();
+    let Some(first) = words.next() else {
+        return Ok(Some((Bench::All, Work::Counts)));
+    };
+    let work = match words.next() {
+        None => Some(Work::Counts),
+        Some(second) => rates(second.as_str()),
+    };
+    let is_last = words.next().is_none();
+    let (Some(bench), Some(work)) = (bench_named(first.as_str()), work) else {
+        return Ok(None);
+    };
+    Ok(if is_last { Some((bench, work)) } else { None })
+}
+
+fn bench_named(word: &str) -> Option<Bench> {
+    match word {
+        "filters" => Some(Bench::Filters),
+        "turns" => Some(Bench::Turns),
+        "tables" => Some(Bench::Tables),
+        _ => None,
+    }
+}
+
+fn rates(word: &str) -> Option<Work> {
+    if word == "rates" {
+        Some(Work::Rates)
+    } else {
+        None
+    }
+}

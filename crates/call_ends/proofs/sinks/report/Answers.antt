@@ -1,7 +1,0 @@
-use Rattle.std.proofs.Common.{ap, sym, ◌∙◌, length}
-use Rattle.std.specs.Prelude.{◌==◌}
-use Rattle.call_ends.proofs.Reported.{report_none}
-use Rattle.call_ends.proofs.sinks.report.Goals as goal
-
-pub returns-then-is_empty : goal.returns-then-is_empty
-returns-then-is_empty g c = report_none _ _ _ _ (ap (λ n. length n == 0) (sym c.err_line-line.ensures) ∙ sym c.is_empty.ensures ∙ c.if-is_empty.true) c.status_of-status.ensures

@@ -1,6 +1,0 @@
-use Rattle.std.proofs.Common.{ap, ◌∙◌, inr, append_assoc}
-use Rattle.call_ends.specs.declared.stops.Stop.TheVariants.{Refused}
-use Rattle.call_ends.proofs.stops.refused.Goals as goal
-
-pub returns-in-Ok : goal.returns-in-Ok
-returns-in-Ok c = inr (ap Refused (c.from_string.ensures ∙ c.in-Ok.ensures.ok ∙ simp append_assoc))

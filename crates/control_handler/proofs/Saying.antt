@@ -1,0 +1,121 @@
+-- What is said at a line.
+use Rattle.std.proofs.Common.{◌≡◌, ◌≤◌, ◌<◌, ◌+◌, ◌-◌, ◌^◌, ℕ, false, List, [], ◌∷◌, ◌++◌, length, min, get_or, slice_get, codes, Some, None, Ok, Err, refl, sym, ap, subst, ◌∙◌, arith, append_assoc, length-append}
+use Rattle.std.proofs.lemmas.Bool.{le-leb, eq-eqb}
+use Rattle.std.proofs.lemmas.List.{append-nil}
+use Rattle.plain_world.specs.declared.world.Tile.{Tile}
+use Rattle.farm_base.specs.declared.faults.ApplyFault.{ApplyFault}
+use Rattle.farm_base.specs.declared.faults.ApplyFault.TheVariants as apply
+use Rattle.farm_history.specs.declared.answers.Updated.{Updated}
+use Rattle.farm_history.specs.declared.answers.Updated.TheVariants as updated
+use Rattle.farm_history.specs.declared.answers.Renewed.{Renewed}
+use Rattle.farm_history.specs.declared.answers.Renewed.TheVariants as renewed
+use Rattle.farm_history.specs.Entries.{Entry, Expire}
+use Rattle.farm_base.specs.declared.turns.Worn.{Worn}
+use Rattle.front_loop.specs.declared.dispositions.Disposition.{Disposition}
+use Rattle.front_loop.specs.declared.dispositions.Disposition.TheVariants.{Leaves}
+use Rattle.front_loop.specs.declared.dispositions.Reason.TheVariants as reason
+use Rattle.script_answers.specs.Answers.{fault_line}
+use Rattle.control_handler.specs.declared.acts.Line.TheVariants as line
+use Rattle.control_handler.specs.declared.acts.Act.{Act}
+use Rattle.control_handler.specs.declared.acts.Act.TheVariants.{Updates, Renews, Expires}
+use Rattle.control_handler.specs.Control.{update_text, renew_text, response_or_none, is_no_memory, update_starves, renew_starves, expired_text, expire_text, act_text, act_starves, tiles_or_none, tiles_at, total_of, expiries}
+use Rattle.control_handler.specs.inner.Doing.{Says, Said, Lacks, Answers, Gives, Wants, Expired, Did}
+use Rattle.control_handler.proofs.Deeds.{did_one, did_part}
+
+-- a fault that has a line is no want of memory
+has_line : (fault : ApplyFault) (t : List ℕ) → fault_line fault ≡ Some t → is_no_memory fault ≡ false
+has_line apply.NoMemory t h = cc
+has_line (apply.NoLayer change) t h = refl
+has_line (apply.NoFeature change id) t h = refl
+has_line (apply.TooMany change) t h = refl
+
+update_given : (answer : Updated) (t : List ℕ) → update_text answer ≡ Some t → update_starves answer ≡ false
+update_given (updated.Version v) t h = refl
+update_given updated.NoUpdate t h = refl
+update_given (updated.Refused fault) t h = has_line fault t h
+
+renew_given : (answer : Renewed) (t : List ℕ) → renew_text answer ≡ Some t → renew_starves answer ≡ false
+renew_given (renewed.Version v count) t h = refl
+renew_given renewed.NoUpdate t h = refl
+renew_given (renewed.Refused fault) t h = has_line fault t h
+
+pub says_answer : (lists : List (List Tile)) (a : Act) (text old new : List ℕ) (disposition : Disposition) → act_text lists a ≡ text → act_starves a ≡ false → Says text old new disposition → Answers lists a old new disposition
+says_answer lists a text old new disposition t s (Said q e) = Gives q s (e ∙ ap (λ xs. old ++ xs) (sym t))
+says_answer lists a text old new disposition t s (Lacks q) = Wants q s
+
+pub says_update : (lists : List (List Tile)) (n : ℕ) (answer : Updated) (t old new : List ℕ) (disposition : Disposition) → update_text answer ≡ Some t → Says t old new disposition
+    → Answers lists (Updates n answer) old new disposition
+says_update lists n answer t old new disposition u s = says_answer lists (Updates n answer) t old new disposition (ap response_or_none u) (update_given answer t u) s
+
+pub says_renew : (lists : List (List Tile)) (n : ℕ) (answer : Renewed) (t old new : List ℕ) (disposition : Disposition) → renew_text answer ≡ Some t → Says t old new disposition
+    → Answers lists (Renews n answer) old new disposition
+says_renew lists n answer t old new disposition u s = says_answer lists (Renews n answer) t old new disposition (ap response_or_none u) (renew_given answer t u) s
+
+-- ---- expiries
+
+pub expiries_none : (tiles : List Tile) → expiries tiles [] ≡ []
+expiries_none [] = refl
+expiries_none (t ∷ tiles) = refl
+
+pub expiries_more : (tiles : List Tile) (counts : List ℕ) (k : ℕ) (d t : Tile) → length counts < length tiles → get_or tiles (length counts) d ≡ t
+    → expiries tiles (counts ++ k ∷ []) ≡ expiries tiles counts ++ Expire t k ∷ []
+expiries_more [] counts k d t l g = absurd (omega (arith, l))
+expiries_more (x ∷ tiles) [] k d t l g = ap (λ y. Expire y k ∷ expiries tiles []) g ∙ ap (λ es. Expire t k ∷ es) (expiries_none tiles)
+expiries_more (x ∷ tiles) (j ∷ counts) k d t l g = ap (λ es. Expire x j ∷ es) (expiries_more tiles counts k d t (omega (arith, l)) g)
+
+min_more : (n k m : ℕ) → min (min n m + k) m ≡ min (n + k) m
+min_more n k m = omega arith
+
+total_more : (counts : List ℕ) (k : ℕ) → total_of (counts ++ k ∷ []) ≡ total_of counts + k
+total_more [] k = omega arith
+total_more (j ∷ counts) k = let e = total_more counts k in omega (arith, e)
+
+pub sum_more : (counts : List ℕ) (k m : ℕ) → min (min (total_of counts) m + k) m ≡ min (total_of (counts ++ k ∷ [])) m
+sum_more counts k m = min_more (total_of counts) k m ∙ ap (λ n. min n m) (sym (total_more counts k))
+
+-- so many tiles were expired
+abbrev pub Expiring : List Tile → ℕ → List Entry → List Entry → ℕ → Type 0
+Expiring tiles i mine mine' total =
+    (counts : List ℕ) × (length counts ≡ i) × (mine' ≡ mine ++ expiries tiles counts) × (total ≡ min (total_of counts) (2 ^ 64 - 1))
+
+pub expiring_none : (tiles : List Tile) (mine : List Entry) → Expiring tiles 0 mine mine 0
+expiring_none tiles mine = ([], refl, sym (append-nil mine) ∙ ap (λ es. mine ++ es) (sym (expiries_none tiles)), omega arith)
+
+pub expiring_more : (tiles : List Tile) (i : ℕ) (d : Tile) (mine mid mine' : List Entry) (total k total' : ℕ) → i < length tiles → Expiring tiles i mine mid total
+    → mine' ≡ mid ++ Expire (get_or tiles i d) k ∷ [] → total' ≡ min (total + k) (2 ^ 64 - 1) → Expiring tiles (i + 1) mine mine' total'
+expiring_more tiles i d mine mid mine' total k total' l (counts, n, m, s) e t =
+    let small : length counts < length tiles = omega (arith, l, n) in
+    let many = length-append counts (k ∷ []) in (
+      counts ++ k ∷ [],
+      many ∙ ap (λ x. x + 1) n,
+      e ∙ ap (λ es. es ++ Expire (get_or tiles i d) k ∷ []) m ∙ append_assoc mine (expiries tiles counts) (Expire (get_or tiles i d) k ∷ [])
+          ∙ ap (λ es. mine ++ es) (sym (expiries_more tiles counts k d (get_or tiles i d) small (ap (λ x. get_or tiles x d) n))),
+      t ∙ ap (λ x. min (x + k) (2 ^ 64 - 1)) s ∙ sum_more counts k (2 ^ 64 - 1),
+    )
+
+module _ (front : ℕ) (lists : List (List Tile)) (c : ℕ) where
+  pub expire_none : (n : ℕ) (mine : List Entry) (old new : List ℕ) (disposition : Disposition) → slice_get lists n ≡ None → Says (codes "no list\n") old new disposition
+      → Did front lists c (line.Expire n ∷ []) mine mine old new disposition
+  expire_none n mine old new disposition g s =
+      did_one front lists c (Expires n []) mine mine old new disposition (le-leb 0 (length (tiles_at lists n)) (omega arith))
+      (eq-eqb 0 (length (tiles_at lists n)) (sym (ap (λ o. length (tiles_or_none o)) g)))
+      (sym (append-nil mine) ∙ ap (λ es. mine ++ es) (sym (expiries_none (tiles_at lists n))))
+      (says_answer lists (Expires n []) (codes "no list\n") old new disposition (ap (λ o. expire_text o []) g) refl s)
+
+  pub expire_some : (n total : ℕ) (tiles : List Tile) (mine mine' : List Entry) (old new : List ℕ) (disposition : Disposition) → slice_get lists n ≡ Some tiles → Expired tiles mine mine' (Ok total)
+      → Says (expired_text total) old new disposition → Did front lists c (line.Expire n ∷ []) mine mine' old new disposition
+  expire_some n total tiles mine mine' old new disposition g (counts, l, m, t) s =
+      let is : tiles_at lists n ≡ tiles = ap tiles_or_none g in
+      did_one front lists c (Expires n counts) mine mine' old new disposition
+      (le-leb (length counts) (length (tiles_at lists n)) (subst (λ ts. length counts ≤ length ts) (sym is) (omega (arith, l))))
+      (eq-eqb (length counts) (length (tiles_at lists n)) (l ∙ ap length (sym is)))
+      (m ∙ ap (λ ts. mine ++ expiries ts counts) (sym is))
+      (says_answer lists (Expires n counts) (expired_text total) old new disposition (ap (λ o. expire_text o counts) g ∙ ap expired_text (sym t)) refl s)
+
+  pub expire_worn : (n : ℕ) (w : Worn) (tiles : List Tile) (mine mine' : List Entry) (old new : List ℕ) → slice_get lists n ≡ Some tiles → Expired tiles mine mine' (Err w)
+      → Did front lists c (line.Expire n ∷ []) mine mine' old new (Leaves reason.Starved)
+  expire_worn n w tiles mine mine' old new g (counts, l, m) =
+      let is : tiles_at lists n ≡ tiles = ap tiles_or_none g in
+      did_part front lists c (Expires n counts) mine mine' old new
+      (le-leb (length counts) (length (tiles_at lists n)) (subst (λ ts. length counts ≤ length ts) (sym is) l))
+      (m ∙ ap (λ ts. mine ++ expiries ts counts) (sym is)) refl

@@ -1,0 +1,74 @@
+-- How requests are done one after another, and what becomes of a session by them.
+use Rattle.std.specs.Prelude.{◌≡◌, ℕ, ◌-◌, ◌^◌, ◌≤◌, Bool, true, false, List, [], ◌++◌, length, min, Result, Ok, Err}
+use Rattle.plain_world.specs.declared.world.Tile.{Tile}
+use Rattle.farm_history.specs.Entries.{Entry}
+use Rattle.farm_base.specs.declared.turns.Worn.{Worn}
+use Rattle.front_loop.specs.declared.dispositions.Disposition.{Disposition}
+use Rattle.front_loop.specs.declared.dispositions.Disposition.TheVariants.{Stays, Leaves}
+use Rattle.front_loop.specs.declared.dispositions.Reason.TheVariants as reason
+use Rattle.front_loop.specs.Rules.{Move, wants_of, answer_bytes, each_whole, any_starves}
+use Rattle.front_loop.specs.Front.{keeps, does, EachFits, with_acts}
+use Rattle.control_handler.specs.declared.acts.Line.{Line}
+use Rattle.control_handler.specs.declared.acts.Act.{Act}
+use Rattle.control_handler.specs.declared.hearing.ConnState.{ConnState}
+use Rattle.control_handler.specs.Lines.{read_on, read_all, part_alone, wants}
+use Rattle.control_handler.specs.Control.{control_rules, act_text, act_starves, total_of, expiries}
+
+-- a text is said, or there is no memory for it
+pub data Says (answer_bytes old new : List ℕ) (disposition : Disposition) : Type 0 where
+  Said : disposition ≡ Stays → new ≡ old ++ answer_bytes → Says answer_bytes old new disposition
+  Lacks : disposition ≡ Leaves reason.Starved → Says answer_bytes old new disposition
+
+-- the answer to a line that was done is said; or there is no memory for it; or there was none for what was done
+pub data Answers (lists : List (List Tile)) (a : Act) (old new : List ℕ) (disposition : Disposition) : Type 0 where
+  Gives : disposition ≡ Stays → act_starves a ≡ false → new ≡ old ++ act_text lists a → Answers lists a old new disposition
+  Wants : disposition ≡ Leaves reason.Starved → act_starves a ≡ false → Answers lists a old new disposition
+  Starves : disposition ≡ Leaves reason.NoMemory → act_starves a ≡ true → Answers lists a old new disposition
+
+-- so many of the tiles were expired, all of them where no turn was worn; the answer is the sum of the counts
+abbrev pub Expired : List Tile → List Entry → List Entry → Result ℕ Worn → Type 0
+Expired tiles mine mine' (Ok total) =
+    (counts : List ℕ) × (length counts ≡ length tiles) × (mine' ≡ mine ++ expiries tiles counts) × (total ≡ min (total_of counts) (2 ^ 64 - 1))
+Expired tiles mine mine' (Err w) = (counts : List ℕ) × (length counts ≤ length tiles) × (mine' ≡ mine ++ expiries tiles counts)
+
+-- a session is left as unread exactly where its line is too long
+abbrev pub LongWhy : Bool → Disposition → Type 0
+LongWhy long Stays = long ≡ false
+LongWhy long (Leaves reason.Unread) = long ≡ true
+LongWhy long (Leaves reason.NoMemory) = Unit {0}
+LongWhy long (Leaves reason.Starved) = Unit {0}
+LongWhy long (Leaves _) = ⊥
+
+-- how its last request left the session: one that is too long is answered as any other
+abbrev pub as_done : Disposition → Disposition
+as_done (Leaves reason.Unread) = Stays
+as_done f = f
+
+module _ (number : ℕ) (lists : List (List Tile)) (c : ℕ) where
+  -- why a session goes on after its requests, or does not
+  abbrev pub DoneWhy : List Act → Disposition → Type 0
+  DoneWhy acts Stays = any_starves (control_rules number lists) (does acts) ≡ false
+  DoneWhy acts (Leaves reason.NoMemory) = any_starves (control_rules number lists) (does acts) ≡ true
+  DoneWhy acts (Leaves reason.Starved) = any_starves (control_rules number lists) (does acts) ≡ false
+  DoneWhy acts (Leaves _) = ⊥
+
+  -- Of these requests the first were done, the newest first in acts; all of them where the session goes on.
+  pub record Did (lines : List Line) (mine mine' : List Entry) (response response' : List ℕ) (disposition : Disposition) : Type 0 where
+    pub acts : List Act
+    pub mine_is : mine' ≡ with_acts (control_rules number lists) c acts mine
+    pub begins : (more : List Line) × (lines ≡ wants_of (control_rules number lists) (does acts) ++ more)
+    pub fits : EachFits (control_rules number lists) acts []
+    pub why : DoneWhy acts disposition
+    pub response_is : keeps disposition ≡ true → response' ≡ response ++ answer_bytes (control_rules number lists) (does acts)
+    pub asked_is : keeps disposition ≡ true → lines ≡ wants_of (control_rules number lists) (does acts)
+    pub whole : keeps disposition ≡ true → each_whole (control_rules number lists) (does acts) ≡ true
+
+  -- these bytes were read behind a part of a line
+  pub record Heeds (part bytes : List ℕ) (mine mine' : List Entry) (part' response response' : List ℕ) (disposition : Disposition) : Type 0 where
+    pub did : Did (wants (read_on (part_alone part) bytes)) mine mine' response response' (as_done disposition)
+    pub why : LongWhy (read_on (part_alone part) bytes).long disposition
+    pub part_is : keeps disposition ≡ true → part' ≡ (read_on (part_alone part) bytes).part
+
+-- what is kept of a session is right: the part of the line that has not ended
+abbrev pub Knows : List ℕ → List (Move Act) → ConnState → Type 0
+Knows given ms conn_state = conn_state.part.items ≡ (read_all given).part

@@ -1,0 +1,150 @@
+//! What a line is answered.
+ghost use Rattle.std.specs.Prelude.{◌≡◌, ℕ, List, Some, IfOk};
+ghost use Rattle.plain_world.specs.declared.world.Tile.{Tile};
+ghost use Rattle.control_handler.specs.Control as spec;
+ghost use Rattle.control_handler.specs.declared.acts.Act.TheVariants as act;
+ghost use Rattle.control_handler.specs.inner.Doing.{Says, Answers};
+
+use farm_base::{ApplyFault, NoMemory, Text};
+use farm_history::{Renewed, Restyled, Tally, Updated};
+use front_loop::{Disposition, Reason};
+use script_answers::{expire_line, renew_line, restyle_line, tally_line, update_line};
+use std::alloc::Global;
+
+/// Says a text, if there is memory for it.
+pub fn say(response: &mut Vec<u8>, text: &str) -> Disposition
+    ensures { Says text.now response.old.items response.new.items result }
+{
+    match response.extend_from_slice(text.as_bytes()) {
+        Ok(()) => Disposition::Stays,
+        Err(_) => Disposition::Leaves(Reason::Starved),
+    }
+}
+
+/// `version V`, `no update` or `refused K`.
+fn update_text(alloc: Global, answer: Updated) -> Result<Text, NoMemory>
+    ensures { IfOk result (λ t. spec.update_text answer ≡ Some t) }
+{
+    match answer {
+        Updated::Version(version) => update_line(alloc, Updated::Version(version)),
+        Updated::NoUpdate => Text::of(alloc, "no update\n"),
+        Updated::Refused(fault) => update_line(alloc, Updated::Refused(fault)),
+    }
+}
+
+/// `styled C` or `no restyle`.
+fn restyle_text(alloc: Global, answer: Restyled) -> Result<Text, NoMemory>
+    ensures { IfOk result (λ t. t ≡ spec.restyle_text answer) }
+{
+    match answer {
+        Restyled::Styled(count) => restyle_line(alloc, Restyled::Styled(count)),
+        Restyled::NoRestyle => Text::of(alloc, "no restyle\n"),
+    }
+}
+
+/// `version V renewed C`, `no update` or `refused K`.
+fn renew_text(alloc: Global, answer: Renewed) -> Result<Text, NoMemory>
+    ensures { IfOk result (λ t. spec.renew_text answer ≡ Some t) }
+{
+    match answer {
+        Renewed::Version(version, count) => renew_line(alloc, Renewed::Version(version, count)),
+        Renewed::NoUpdate => Text::of(alloc, "no update\n"),
+        Renewed::Refused(fault) => renew_line(alloc, Renewed::Refused(fault)),
+    }
+}
+
+fn is_no_memory(fault: ApplyFault) -> bool
+    ensures { result ≡ spec.is_no_memory fault }
+{
+    match fault {
+        ApplyFault::NoMemory => true,
+        ApplyFault::NoLayer(_) => false,
+        ApplyFault::NoFeature(_, _) => false,
+        ApplyFault::TooMany(_) => false,
+    }
+}
+
+/// Whether an update found no memory.
+fn update_starves(answer: Updated) -> bool
+    ensures { result ≡ spec.update_starves answer }
+{
+    match answer {
+        Updated::Refused(fault) => is_no_memory(fault),
+        Updated::Version(_) => false,
+        Updated::NoUpdate => false,
+    }
+}
+
+/// Whether an update that expires what it reaches found no memory.
+fn renew_starves(answer: Renewed) -> bool
+    ensures { result ≡ spec.renew_starves answer }
+{
+    match answer {
+        Renewed::Refused(fault) => is_no_memory(fault),
+        Renewed::Version(_, _) => false,
+        Renewed::NoUpdate => false,
+    }
+}
+
+/// Says what an update was answered.
+pub fn say_update(alloc: Global, answer: Updated, response: &mut Vec<u8>) -> Disposition
+    ensures { (lists : List (List Tile)) (n : ℕ) → Answers lists (act.Updates n answer) response.old.items response.new.items result }
+{
+    match update_text(alloc, answer) {
+        Ok(text) => say(response, text.as_str()),
+        Err(NoMemory) => {
+            if update_starves(answer) {
+                Disposition::Leaves(Reason::NoMemory)
+            } else {
+                Disposition::Leaves(Reason::Starved)
+            }
+        }
+    }
+}
+
+/// Says what an update that expires what it reaches was answered.
+pub fn say_renew(alloc: Global, answer: Renewed, response: &mut Vec<u8>) -> Disposition
+    ensures { (lists : List (List Tile)) (n : ℕ) → Answers lists (act.Renews n answer) response.old.items response.new.items result }
+{
+    match renew_text(alloc, answer) {
+        Ok(text) => say(response, text.as_str()),
+        Err(NoMemory) => {
+            if renew_starves(answer) {
+                Disposition::Leaves(Reason::NoMemory)
+            } else {
+                Disposition::Leaves(Reason::Starved)
+            }
+        }
+    }
+}
+
+/// Says a text that was made, if there was memory for it.
+fn say_made(response: &mut Vec<u8>, text: Result<Text, NoMemory>) -> Disposition
+    ensures { (words : List ℕ) → IfOk text (λ t. t ≡ words) → Says words response.old.items response.new.items result }
+{
+    match text {
+        Ok(text) => say(response, text.as_str()),
+        Err(NoMemory) => Disposition::Leaves(Reason::Starved),
+    }
+}
+
+/// Says what a restyle was answered.
+pub fn say_restyle(alloc: Global, answer: Restyled, response: &mut Vec<u8>) -> Disposition
+    ensures { Says (spec.restyle_text answer) response.old.items response.new.items result }
+{
+    say_made(response, restyle_text(alloc, answer))
+}
+
+/// Says the farm's counts.
+pub fn say_tally(alloc: Global, answer: Tally, response: &mut Vec<u8>) -> Disposition
+    ensures { Says (spec.tally_text answer) response.old.items response.new.items result }
+{
+    say_made(response, tally_line(alloc, answer))
+}
+
+/// Says how many clean metatiles the tiles of a list made dirty.
+pub fn say_expired(alloc: Global, total: u64, response: &mut Vec<u8>) -> Disposition
+    ensures { Says (spec.expired_text total) response.old.items response.new.items result }
+{
+    say_made(response, expire_line(alloc, total))
+}

@@ -1,0 +1,85 @@
+//! The control front, as one of the three.
+use crate::acts::{Act, Line};
+use crate::hearing::{ConnState, hear_piece};
+use expiry_lists::TileList;
+use farm_base::Worn;
+use farm_history::Reply;
+use front_loop::{Disposition, Farm, Front};
+use std::alloc::Global;
+use std::sync::Wait;
+
+/// The control front of this number, with the tile lists of its `expire N`.
+#[derive(Drop)]
+pub struct Control<'a> {
+    pub front: u32,
+    pub lists: &'a [TileList],
+}
+
+impl<'a, M: Farm> Front<M> for Control<'a> {
+    ghost use Rattle.std.specs.Prelude.{refl};
+    ghost use Rattle.control_handler.specs.Control.{control_rules};
+    ghost use Rattle.control_handler.specs.inner.Doing.{Knows};
+
+    type ConnState = ConnState;
+
+    type Want = Line;
+
+    type Act = Act;
+
+    ghost rules = { λ control _. control_rules control.front control.lists.now };
+
+    ghost knows = { Knows };
+
+    ghost alone = { λ _ _ _ _. (refl, refl) };
+
+    fn number(&self, _farm: &M) -> u32 {
+        self.front
+    }
+
+    fn begin(&self, alloc: Global, _farm: &M) -> ConnState {
+        ConnState {
+            part: Vec::new(alloc),
+        }
+    }
+
+    fn hear<R: Wait>(
+        &self,
+        rt: &R,
+        alloc: Global,
+        farm: &M,
+        seat: &mut M::Seat,
+        _conn: u32,
+        conn_state: &mut ConnState,
+        piece: &[u8],
+        response: &mut Vec<u8>,
+    ) -> Result<Disposition, Worn> {
+        hear_piece(
+            rt,
+            alloc,
+            farm,
+            seat,
+            self.lists,
+            &mut conn_state.part,
+            piece,
+            response,
+        )
+    }
+
+    /// No ask is made, so no reply is for this front.
+    fn reply<R: Wait>(
+        &self,
+        _rt: &R,
+        _alloc: Global,
+        _farm: &M,
+        _seat: &mut M::Seat,
+        _conn_state: &mut ConnState,
+        _reply: Reply,
+        _said: &mut Vec<u8>,
+    ) -> Result<Disposition, Worn> {
+        Ok(Disposition::Stays)
+    }
+
+    fn is_done(&self, _farm: &M, _conn_state: &ConnState) -> bool {
+        false
+    }
+}

@@ -1,2 +1,0 @@
--- Words that serve the steps of an end alone.
-pub mod Puts

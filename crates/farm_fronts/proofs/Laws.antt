@@ -1,0 +1,164 @@
+-- What is so of all that a front leaves: of which kinds its entries are, and where it ends worn; and that a front that was not begun leaves what it may.
+use Rattle.std.proofs.Common.{◌≡◌, ◌≢◌, ◌⊎◌, inl, inr, ℕ, Bool, true, false, not, ◌||◌, ◌==◌, List, [], ◌∷◌, ◌++◌, Option, Some, None, IfSome, option_map, refl, sym, ◌∙◌, subst, arith, append-nil}
+use Rattle.std.proofs.lemmas.Bool.Decides.{nat_tests}
+use Rattle.std.specs.List.{list_any}
+use Rattle.farm_base.specs.Outside.{Outside}
+use Rattle.plain_world.specs.declared.world.Tile.{Tile}
+use Rattle.farm_history.specs.declared.queues.Reply.{Reply}
+use Rattle.farm_history.specs.Entries.{Entry, Claim, Finish, Stop}
+use Rattle.farm_history.specs.Lists.{Each}
+use Rattle.port_events.specs.declared.ends.FrontDone.{FrontDone}
+use Rattle.port_events.specs.declared.ends.FrontEnd.{FrontEnd}
+use Rattle.port_events.specs.declared.ends.Rest.{Rest}
+use Rattle.port_events.specs.Told.{PortsTold}
+use Rattle.front_loop.specs.Rules.{Rules, Move, Gets}
+use Rattle.front_loop.specs.Steps.{Step, Came, Did, Got, Through, Tried, Left, own}
+use Rattle.front_loop.specs.Rounds.{Sound}
+use Rattle.front_loop.specs.Serving.{EndHasCause, BreakFits, RestsFit, TellsOf, with_break}
+use Rattle.front_loop.specs.Parts.{told_after}
+use Rattle.renderd_handler.specs.Renderd.{renderd_rules}
+use Rattle.renderd_handler.proofs.Sorts as renderd
+use Rattle.control_handler.specs.Control.{control_rules}
+use Rattle.control_handler.proofs.Sorts as control
+use Rattle.http_handler.specs.Tiles.{tile_rules}
+use Rattle.http_handler.proofs.OwnEntries as tiles
+use Rattle.farm_runs.specs.Actors.{IsOfFront, AreOfFront, IsUnbegun}
+use Rattle.farm_fronts.specs.Fronts.{FrontLeaves, renderd_leaves, tiles_leave, control_leaves}
+use Rattle.farm_history.proofs.Lists.{each-join}
+
+-- Which entries are of no front, as a test.
+
+abbrev is_foreign : ℕ → Entry → Bool
+is_foreign n (Claim worker answer) = true
+is_foreign n (Finish ticket drawn answer) = true
+is_foreign n Stop = not (n == 2)
+is_foreign n e = false
+
+of_front : (n : ℕ) (e : Entry) → is_foreign n e ≡ false → IsOfFront n e
+of_front n (Claim worker answer) is = cc
+of_front n (Finish ticket drawn answer) is = cc
+of_front n Stop is = two (n == 2) refl is
+  where
+    two : (b : Bool) → (n == 2) ≡ b → not b ≡ false → n ≡ 2
+    two true same is = grind (arith, nat_tests)
+    two false same is = cc
+of_front n e is = tt
+
+each_of_front : (n : ℕ) (es : List Entry) → list_any (is_foreign n) es ≡ false → Each (IsOfFront n) es
+each_of_front n [] none = tt
+each_of_front n (e ∷ es) none = go (is_foreign n e) refl (each_of_front n es) none
+  where
+    go : (b : Bool) → is_foreign n e ≡ b → (list_any (is_foreign n) es ≡ false → Each (IsOfFront n) es) → (b || list_any (is_foreign n) es) ≡ false → Each (IsOfFront n) (e ∷ es)
+    go true is rest none = cc
+    go false is rest none = (of_front n e is, rest none)
+
+-- What is so of every front.
+
+may_stop : {A W : Type 0} (R : Rules A W) (ss : List (Step A)) (stop : List Entry) (worn : Bool) (end : FrontEnd) → EndHasCause R end ss stop worn → (stop ≡ []) ⊎ ((stop ≡ Stop ∷ []) × (end ≢ FrontEnd.Finished))
+may_stop R ss stop worn FrontEnd.Finished fits = inl fits.2
+may_stop R ss stop worn FrontEnd.Stopped fits = inr (fits.2, λ never. cc)
+may_stop R ss stop worn FrontEnd.Broken fits = inr (fits.2, λ never. cc)
+may_stop R ss stop worn FrontEnd.NoMemory fits = inr (fits.2, λ never. cc)
+may_stop R ss stop worn FrontEnd.Worn fits = inl fits.1
+
+module _ {A W : Type 0} (R : Rules A W) where
+  pub marked : (shown after : Outside PortsTold) (es : List Entry) (done : FrontDone) (worn : Bool) → FrontLeaves R shown after es done worn → done.end ≡ FrontEnd.Worn → worn ≡ true
+  marked shown after es done worn left is = (subst (λ end. EndHasCause R end left.served.steps left.served.stop worn) is left.served.end_fits).0
+
+  -- the entries of each step are a front's
+  module _ (n : ℕ) (acts : (c : ℕ) (a : A) → Each (IsOfFront n) (R.entries c a)) (behinds : (ms : List (Move A)) (r : Reply) (behind : List Entry) → R.fits ms (Gets r behind) ≡ true → Each (IsOfFront n) behind) where
+    each_own : (ss : List (Step A)) → Sound R ss → Each (IsOfFront n) (own R ss)
+    each_own [] sound = tt
+    each_own (Came e piece kept ∷ ss) sound = each_own ss sound.1
+    each_own (Did c a ∷ ss) sound = each-join (IsOfFront n) (own R ss) (R.entries c a) (each_own ss sound.1) (acts c a)
+    each_own (Got r behind ∷ ss) sound = each-join (IsOfFront n) (own R ss) _ (each_own ss sound.1) (tt, behinds _ r behind sound.0.1)
+    each_own (Through stopped ∷ ss) sound = each-join (IsOfFront n) (own R ss) _ (each_own ss sound.1) (tt, tt)
+    each_own (Tried c taken ∷ ss) sound = each_own ss sound.1
+    each_own (Left c asks why ∷ ss) sound = each-join (IsOfFront n) (own R ss) _ (each_own ss sound.1) (tt, tt)
+
+    kinds : (shown after : Outside PortsTold) (es : List Entry) (done : FrontDone) (worn : Bool) → FrontLeaves R shown after es done worn → AreOfFront n es done.end
+    kinds shown after es done worn left = record {
+      served = own R left.served.steps;
+      stop = left.served.stop;
+      are = left.served.entries;
+      kinds = each_own left.served.steps left.served.sound;
+      may_stop = may_stop R left.served.steps left.served.stop worn done.end left.served.end_fits;
+    }
+
+  -- A front that was not begun.
+
+  telling : (start : Option PortsTold) → start ≡ option_map (λ t. with_break false (told_after R [] t)) start
+  telling None = refl
+  telling (Some t) = refl
+
+  tells : (start : Option PortsTold) → IfSome start (λ t. (c : ℕ) → TellsOf R [] t c)
+  tells None = tt
+  tells (Some t) = λ c. (sym (append-nil (t.taken c)), λ closed. closed)
+
+  -- it has made no step
+  no_steps : (shown : Outside PortsTold) (es stop : List Entry) (done : FrontDone) (worn : Bool) → es ≡ stop → EndHasCause R done.end [] stop worn → RestsFit R done.end [] done.rests.items → done.end ≢ FrontEnd.Broken → done.starved ≡ 0 → FrontLeaves R shown shown es done worn
+  no_steps shown es stop done worn are fits rests whole none = record {
+    served = record {
+      steps = [];
+      broke = false;
+      stop = stop;
+      entries = are;
+      telling = telling shown.told;
+      sound = tt;
+      tells = tells shown.told;
+      end_fits = fits;
+      break_fits = unbroken done.end whole;
+      break_time = λ never. cc;
+      rests_fit = rests;
+      counted = none;
+    };
+    broken = λ is. absurd (whole is);
+  }
+    where
+      unbroken : (end : FrontEnd) → end ≢ FrontEnd.Broken → BreakFits end false
+      unbroken FrontEnd.Broken not_so = absurd (not_so refl)
+      unbroken FrontEnd.Finished not_so = refl
+      unbroken FrontEnd.Stopped not_so = refl
+      unbroken FrontEnd.NoMemory not_so = refl
+      unbroken FrontEnd.Worn not_so = tt
+
+  pub unbegun : (shown : Outside PortsTold) (es : List Entry) (done : FrontDone) (worn : Bool) → IsUnbegun es done worn → FrontLeaves R shown shown es done worn
+  unbegun shown es done worn is = go is.ended
+    where
+      go : ((es ≡ Stop ∷ []) × (done.end ≡ FrontEnd.NoMemory)) ⊎ ((es ≡ []) × (done.end ≡ FrontEnd.Worn) × (worn ≡ true)) → FrontLeaves R shown shown es done worn
+      go (inl a) =
+          no_steps shown es (Stop ∷ []) done worn a.0 (subst (λ end. EndHasCause R end [] (Stop ∷ []) worn) (sym a.1) ((λ c here. cc), tt, refl)) (subst (λ end. RestsFit R end [] done.rests.items) (sym a.1) is.no_rests)
+          (λ broken. let never = sym a.1 ∙ broken in cc) is.none_starved
+      go (inr a) =
+          no_steps shown es [] done worn a.0 (subst (λ end. EndHasCause R end [] [] worn) (sym a.1) (a.2, refl)) (subst (λ end. RestsFit R end [] done.rests.items) (sym a.1) (subst (Each (λ (r : Rest). r.front ≡ R.number)) (sym is.no_rests) tt))
+          (λ broken. let never = sym a.1 ∙ broken in cc) is.none_starved
+
+-- The three fronts.
+
+alone : (n : ℕ) (es : List Entry) → es ≡ [] → Each (IsOfFront n) es
+alone n es is = subst (Each (IsOfFront n)) (sym is) tt
+
+pub renderd_kinds : (maps : List ℕ → Option ℕ) (shown after : Outside PortsTold) (es : List Entry) (done : FrontDone) (worn : Bool) → renderd_leaves maps shown after es done worn → AreOfFront 0 es done.end
+renderd_kinds maps =
+    kinds (renderd_rules 0 maps) 0 (λ c a. each_of_front 0 _ (renderd.kinds 0 maps (is_foreign 0) (λ conn command spot answer. refl) c a))
+    (λ ms r behind fits. alone 0 behind (renderd.stands_alone 0 maps ms r behind fits))
+
+pub tiles_kinds : (maps : List ℕ → Option ℕ) (shown after : Outside PortsTold) (es : List Entry) (done : FrontDone) (worn : Bool) → tiles_leave maps shown after es done worn → AreOfFront 1 es done.end
+tiles_kinds maps =
+    kinds (tile_rules 1 maps) 1 (λ c a. tiles.each_entry (IsOfFront 1) (λ s f. tt) (λ conn command spot answer. tt) (λ s l. tt) _ a)
+    (λ ms r behind fits. tiles.each_behind (IsOfFront 1) (λ s f. tt) _ behind fits)
+
+pub control_kinds : (lists : List (List Tile)) (shown after : Outside PortsTold) (es : List Entry) (done : FrontDone) (worn : Bool) → control_leaves lists shown after es done worn → AreOfFront 2 es done.end
+control_kinds lists =
+    kinds (control_rules 2 lists) 2 (λ c a. each_of_front 2 _ (control.kinds 2 lists (is_foreign 2) none_foreign c a))
+    (λ ms r behind fits. alone 2 behind (control.stands_alone 2 lists ms r behind fits))
+  where
+    none_foreign : control.PassesNone (is_foreign 2)
+    none_foreign = record {
+      update = λ n a. refl;
+      restyle = λ n a. refl;
+      renew = λ n a. refl;
+      expire = λ t k. refl;
+      tally = λ a. refl;
+      stop = refl;
+    }

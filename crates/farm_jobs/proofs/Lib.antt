@@ -1,3 +1,0 @@
-pub mod Replicas
-pub mod Sendable
-pub mod Servable

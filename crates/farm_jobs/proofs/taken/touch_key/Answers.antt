@@ -1,8 +1,0 @@
-use Rattle.std.proofs.Common.{rules}
-use Rattle.std.proofs.lemmas.List.Edits.{map_over_more}
-use Rattle.farm_history.specs.Plans.{same_key}
-use Rattle.farm_history.specs.Seen.{overtaken_by}
-use Rattle.farm_jobs.proofs.taken.touch_key.Goals as goal
-
-pub loop-one-preserved : goal.loop-one-preserved
-loop-one-preserved c = search (rules, map_over_more (overtaken_by (same_key c.args.key)))

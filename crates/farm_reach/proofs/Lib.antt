@@ -1,5 +1,0 @@
-pub mod Adding
-pub mod Naming
-pub mod Dirtied
-pub mod Reached
-pub mod Valid

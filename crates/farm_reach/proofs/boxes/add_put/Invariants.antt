@@ -1,6 +1,0 @@
-use Rattle.std.proofs.Common.{take, flat_map}
-use Rattle.farm_reach.specs.Boxes.{Adds, at_put}
-use Rattle.farm_reach.proofs.boxes.add_put.Given as goal
-
-abbrev pub invariant-loop-f : goal.invariant-loop-f
-invariant-loop-f l = Adds (flat_map (at_put l.layer) (take l.f-index l.puts)) l.initial.boxes.items l.boxes.items

@@ -1,6 +1,0 @@
-use Rattle.std.proofs.Common.{take, flat_map}
-use Rattle.farm_reach.specs.Boxes.{Adds, at_id}
-use Rattle.farm_reach.proofs.boxes.add_removed.Given as goal
-
-abbrev pub invariant-loop-id : goal.invariant-loop-id
-invariant-loop-id l = Adds (flat_map (at_id l.layer) (take l.id-index l.ids)) l.initial.boxes.items l.boxes.items

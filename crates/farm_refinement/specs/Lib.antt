@@ -1,0 +1,4 @@
+pub mod Seen
+pub mod Stands
+pub mod Reads
+pub mod inner

@@ -1,0 +1,131 @@
+-- The actors of a running farm: three fronts and some workers, each with a seat of its own.
+use Rattle.std.specs.Prelude.{◌⊎◌, ℕ, ◌+◌, ◌≡◌, ◌≢◌, Bool, true, List, [], ◌∷◌, ◌++◌, position, Option, Some, None, MatchBool}
+use Rattle.std.specs.Str.{bytes_eq}
+use Rattle.farm_base.specs.Outside.{Outside}
+use Rattle.farm_history.specs.Entries.{Entry, Claim, Finish, Stop}
+use Rattle.farm_history.specs.Lists.{Each}
+use Rattle.farm_plan.specs.Plans.{FarmPlan}
+use Rattle.port_events.specs.declared.ends.FrontDone.{FrontDone}
+use Rattle.port_events.specs.declared.ends.FrontEnd.{FrontEnd}
+use Rattle.port_events.specs.Told.{PortsTold}
+use Rattle.turn_cell.specs.SeatStates.{Made, SeatState, IsSeatOf, SameSeat, Knows, joining, worn_out}
+use Rattle.farm_shared.specs.declared.turned.Turned.{Turned}
+use Rattle.farm_shared.specs.Seats.{plain}
+use Rattle.farm_shared.specs.Shared.{Adds}
+use Rattle.render_workers.specs.declared.worker.WorkEnd.{WorkEnd}
+use Rattle.render_workers.specs.Rounds.{WorkOf}
+use Rattle.farm_runs.specs.declared.each_front.EachFront.{EachFront}
+use Rattle.farm_runs.specs.declared.pool.Actor.{Actor}
+use Rattle.farm_runs.specs.declared.together.FrontSeats.{FrontSeats}
+
+-- Fronts.
+
+-- the place of the map of a name
+abbrev pub maps_in : FarmPlan → List ℕ → Option ℕ
+maps_in plan name = position (λ m. bytes_eq m.name name) plan.maps
+
+-- the same in the farm that was shared
+abbrev pub maps_of : {D : Type 0} → Made (Turned D) → List ℕ → Option ℕ
+maps_of made = maps_in made.about.first.value.farm.plan
+
+-- What a front leaves: a relation of what its ports showed before and after, its own entries in order, what it answers, and whether its seat has the mark of a worn cell
+abbrev pub Leaving : Type 1
+Leaving = Outside PortsTold → Outside PortsTold → List Entry → FrontDone → Bool → Type 0
+
+-- the entry may be one of front n before its end: no front claims or finishes, and a Stop is the control front's alone
+abbrev pub IsOfFront : ℕ → Entry → Type 0
+IsOfFront n (Claim worker answer) = ⊥
+IsOfFront n (Finish ticket drawn answer) = ⊥
+IsOfFront n Stop = n ≡ 2
+IsOfFront n _ = Unit {0}
+
+-- the entries of front n with that end: such entries, and then at most a Stop, which a front that finished does not put
+pub record AreOfFront (n : ℕ) (es : List Entry) (end : FrontEnd) : Type 0 where
+  pub served : List Entry
+  pub stop : List Entry
+  pub are : es ≡ served ++ stop
+  pub kinds : Each (IsOfFront n) served
+  pub may_stop : (stop ≡ []) ⊎ ((stop ≡ Stop ∷ []) × (end ≢ FrontEnd.Finished))
+
+-- A front that was not begun, since no thread was to be had for it, or for another actor: it has put its Stop and ends for want of memory, or not even that, since all turns were drawn
+pub record IsUnbegun (es : List Entry) (done : FrontDone) (worn : Bool) : Type 0 where
+  pub no_rests : done.rests.items ≡ []
+  pub none_starved : done.starved ≡ 0
+  pub ended : ((es ≡ Stop ∷ []) × (done.end ≡ FrontEnd.NoMemory)) ⊎ ((es ≡ []) × (done.end ≡ FrontEnd.Worn) × (worn ≡ true))
+
+-- Workers.
+
+-- the entries of worker w, which has ended so; none where it was not begun
+abbrev pub WorkBy : ℕ → Option WorkEnd → List Entry → Type 0
+WorkBy w None es = es ≡ []
+WorkBy w (Some end) es = WorkOf w end es
+
+-- Seats.
+
+-- the first seat after the seats of the three fronts were joined into it
+abbrev pub with_front_seats : {T : Type 0} → SeatState T Entry → EachFront (SeatState T Entry) → SeatState T Entry
+with_front_seats v seats = joining (joining (joining v seats.renderd) seats.tiles) seats.control
+
+module _ {T : Type 0} (made : Made T) where
+  -- the seat of front n before the front begins
+  pub record IsFrontSeat (n : ℕ) (v : SeatState T Entry) : Type 0 where
+    pub seat : IsSeatOf made v
+    pub known : Knows v
+    pub number : v.number ≡ n + 1
+    pub unused : v.mine ≡ []
+
+  -- the front has served through the seat: it is a seat as before, and what the front leaves is as it should be
+  pub record HasServed (leaves : Leaving) (v w : SeatState T Entry) (told told' : Outside PortsTold) (done : FrontDone) : Type 0 where
+    pub seat : IsSeatOf made w
+    pub same : SameSeat v w
+    pub left : leaves told told' (plain w.mine) done w.worn
+
+  -- a worker before it begins
+  pub record IsReady (a : Actor (SeatState T Entry)) : Type 0 where
+    pub seat : IsSeatOf made a.seat
+    pub unused : a.seat.mine ≡ []
+    pub not_ended : a.end ≡ None
+
+  -- the worker has worked: it has its number and its seat, its own entries are those of its rounds, and where it ended worn its seat has the mark
+  pub record HasWorked (a b : Actor (SeatState T Entry)) : Type 0 where
+    pub worker : b.worker ≡ a.worker
+    pub seat : IsSeatOf made b.seat
+    pub same : SameSeat a.seat b.seat
+    pub work : WorkBy b.worker b.end (plain b.seat.mine)
+    pub worn : b.end ≡ Some WorkEnd.Worn → b.seat.worn ≡ true
+
+  -- The end of the fronts.
+
+  -- The first seat has joined the seats of the fronts, and has then stopped the farm. True where the Stop was entered, false where all turns were drawn
+  pub record HasEnded (v w : SeatState T Entry) (seats : EachFront (SeatState T Entry)) (entered : Bool) : Type 0 where
+    pub seat : IsSeatOf made w
+    pub same : SameSeat (with_front_seats v seats) w
+    pub known : Knows w
+    pub known_before : Knows (with_front_seats v seats)
+    pub stops : MatchBool entered (Adds Stop (with_front_seats v seats) w) (w ≡ worn_out (with_front_seats v seats))
+
+  -- A run.
+
+  -- the first seat and those of the fronts before a run; the fronts have these numbers
+  pub record AreStanding (n m k : ℕ) (front_seats : FrontSeats (SeatState T Entry)) : Type 0 where
+    pub own : IsSeatOf made front_seats.own
+    pub is_first : front_seats.own.first ≡ true
+    pub seats : EachFront (SeatState T Entry)
+    pub are : front_seats.seats ≡ Some seats
+    pub renderd : IsFrontSeat n seats.renderd
+    pub tiles : IsFrontSeat m seats.tiles
+    pub control : IsFrontSeat k seats.control
+
+  -- The fronts have served through their seats, and left what they leave; then these were joined into the first seat, which stopped the farm
+  pub record HaveServed (leaves leaves' leaves'' : Leaving) (old new : FrontSeats (SeatState T Entry)) (told told' : EachFront (Outside PortsTold)) (done : EachFront FrontDone) (entered : Bool) : Type 0 where
+    pub began : EachFront (SeatState T Entry)
+    pub are : old.seats ≡ Some began
+    pub ended : EachFront (SeatState T Entry)
+    pub renderd : HasServed leaves began.renderd ended.renderd told.renderd told'.renderd done.renderd
+    pub tiles : HasServed leaves' began.tiles ended.tiles told.tiles told'.tiles done.tiles
+    pub control : HasServed leaves'' began.control ended.control told.control told'.control done.control
+    pub own : HasEnded old.own new.own ended entered
+
+-- what three ports show
+abbrev pub three : Outside PortsTold → Outside PortsTold → Outside PortsTold → EachFront (Outside PortsTold)
+three p q r = record { renderd = p; tiles = q; control = r }

@@ -1,2 +1,0 @@
--- Words that serve the steps of a beginning alone.
-pub mod Steps

@@ -1,0 +1,16 @@
+use Rattle.std.proofs.Common.{List, Option}
+use Rattle.port_events.specs.Told.{PortsTold}
+use Rattle.port_events.specs.declared.events.PortEvent.{PortEvent}
+use Rattle.front_loop.specs.Steps.{Step}
+use Rattle.front_loop.specs.Calls.{SameSeat}
+use Rattle.front_loop.specs.inner.Stands.{world}
+use Rattle.front_loop.specs.inner.Stages.{Collects}
+use Rattle.front_loop.proofs.collecting.collect_all.Given as goal
+
+abbrev pub invariant-loop : goal.invariant-loop
+invariant-loop g l = record {
+  seat : SameSeat (g.M.Farm.seats l.farm) l.fn.seat l.seat;
+  goes : (e : PortEvent) (start told : Option PortsTold) (ss : List (Step g.row.F-Act.Denot))
+      → Collects (g.F.Front.rules l.front l.farm) g.F.Front.knows e start ss (world told ((g.M.Farm.seats l.farm).mine l.fn.seat) l.fn.table)
+      → (more : List (Step g.row.F-Act.Denot)) × Collects (g.F.Front.rules l.front l.farm) g.F.Front.knows e start more (world told ((g.M.Farm.seats l.farm).mine l.seat) l.table);
+}

@@ -1,0 +1,10 @@
+use Rattle.std.proofs.Common.{◌≡◌, List, false, ap, subst, ◌∙◌}
+use Rattle.front_loop.specs.declared.sessions.Session.{Session}
+use Rattle.front_loop.specs.Steps.{has}
+use Rattle.front_loop.specs.inner.Sessions.{conns}
+use Rattle.front_loop.proofs.Rests.{none_keyed}
+use Rattle.front_loop.proofs.hearing.admit.Goals as goal
+
+pub add-requires : goal.add-requires
+add-requires g c = none_keyed c.args.table.now.outbox c.args.conn
+    (ap (λ cs. has cs c.args.conn) c.requires ∙ subst (λ (ss : List (Session g.row.F-ConnState.Denot)). has (conns ss) c.args.conn ≡ false) c.as_slice.ensures.value c.in-None.ensures.none)

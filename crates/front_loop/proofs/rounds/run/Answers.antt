@@ -1,0 +1,20 @@
+use Rattle.std.proofs.Common.{◌∙◌, Option, subst}
+use Rattle.port_events.specs.declared.ends.FrontEnd.{FrontEnd}
+use Rattle.front_loop.specs.inner.Stands.{world}
+use Rattle.front_loop.specs.inner.Stages.{Goes}
+use Rattle.front_loop.proofs.rounds.run.Goals as goal
+
+pub round-requires-clause-seat : goal.round-requires-clause-seat
+round-requires-clause-seat g c = c.loop.invariant.seat.seat
+
+pub round-requires-clause-number : goal.round-requires-clause-number
+round-requires-clause-number g c = c.loop.invariant.seat.number ∙ c.requires.number
+
+pub round-requires-clause-ready : goal.round-requires-clause-ready
+round-requires-clause-ready g c = (c.requires.ready.0, c.loop.invariant.goes c.requires.ready.0 c.requires.ready.1)
+
+pub returns-in-Some-end-clause-goes : goal.returns-in-Some-end-clause-goes
+returns-in-Some-end-clause-goes g c = λ start h.
+    subst (λ (x : Option FrontEnd). Goes (g.F.Front.rules c.args.front.now c.args.farm.now) g.F.Front.knows start
+    (world (g.P.Ports.state c.round.new.ports).told ((g.M.Farm.seats c.args.farm.now).mine c.round.new.seat) c.round.new.table) x) c.in-Some-end.is
+    (c.in-Ok.ensures.goes start (c.loop.invariant.goes start h))

@@ -1,0 +1,15 @@
+use Rattle.std.proofs.Common.{◌≤◌, Option}
+use Rattle.port_events.specs.Told.{PortsTold}
+use Rattle.front_loop.specs.Calls.{SameSeat}
+use Rattle.front_loop.specs.inner.Stands.{world}
+use Rattle.front_loop.specs.inner.Stages.{CanGo}
+use Rattle.front_loop.proofs.rounds.run.Given as goal
+
+abbrev pub invariant-loop : goal.invariant-loop
+invariant-loop g l = record {
+  seat : SameSeat (g.M.Farm.seats l.farm) l.fn.seat l.seat;
+  count : (g.P.Ports.state l.fn.ports).faults ≤ (g.P.Ports.state l.ports).faults;
+  goes : (start : Option PortsTold)
+      → CanGo (g.F.Front.rules l.front l.farm) g.F.Front.knows start (world (g.P.Ports.state l.fn.ports).told ((g.M.Farm.seats l.farm).mine l.fn.seat) l.fn.table)
+      → CanGo (g.F.Front.rules l.front l.farm) g.F.Front.knows start (world (g.P.Ports.state l.ports).told ((g.M.Farm.seats l.farm).mine l.seat) l.table);
+}

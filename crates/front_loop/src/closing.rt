@@ -1,0 +1,155 @@
+//! Connections are left.
+ghost use Rattle.std.specs.Prelude.{◌≡◌, ◌+◌, ◌-◌, ◌^◌, ◌<◌, [], true, false, ℕ, Bool, List, Option, Some, length, min, position, MatchResult, OnErr, OnOk, IfSome, IfNone};
+ghost use Rattle.farm_history.specs.Entries.{Entry};
+ghost use Rattle.farm_history.specs.Lists.{Each};
+ghost use Rattle.front_loop.specs.Calls.{SameSeat};
+ghost use Rattle.front_loop.specs.Steps.{with_starved};
+ghost use Rattle.front_loop.specs.declared.sessions.Session.{Session};
+ghost use Rattle.front_loop.specs.inner.Sessions as spec;
+ghost use Rattle.front_loop.specs.inner.Sessions.{is_up, IsLeaving, StaysOn};
+ghost use Rattle.front_loop.specs.declared.dispositions.Disposition.TheVariants as disposition;
+ghost use Rattle.front_loop.specs.inner.Stands.{world};
+ghost use Rattle.front_loop.specs.inner.Stages.{CanLeave, IsOver, CutShort, Shuts};
+ghost use Rattle.port_events.specs.Told.{PortsTold, IsOpen};
+ghost use Rattle.port_events.specs.declared.events.PortEvent.{PortEvent};
+
+use crate::dispositions::{Disposition, Reason};
+use crate::farm::Farm;
+use crate::front::Front;
+use crate::sessions::{Session, SessionTable};
+use farm_base::Worn;
+use farm_history::Conn;
+use port_events::Ports;
+use std::sync::Wait;
+
+/// Whether a session leaves.
+fn leaves(disposition: Disposition) -> bool
+    ensures { result ≡ spec.leaves disposition }
+{
+    match disposition {
+        Disposition::Stays => false,
+        Disposition::Leaves(_) => true,
+    }
+}
+
+/// The first place of a session that leaves.
+fn first_leaving<T>(sessions: &[Session<T>]) -> Option<usize>
+    ensures { result ≡ position (λ (s : Session T). spec.leaves s.disposition) sessions.now }
+{
+    sessions.iter().position(|session| leaves(session.disposition))
+}
+
+/// A session that leaves: its place, its connection, and why.
+fn leaving<T>(sessions: &[Session<T>]) -> Option<(usize, u32, Reason)>
+    ensures some { IfSome result (λ p. IsLeaving sessions.now p.0 p.1 p.2) }
+    ensures none { IfNone result (Each StaysOn sessions.now) }
+{
+    match first_leaving(sessions) {
+        Some(place) => match sessions[place].disposition {
+            Disposition::Stays => unreachable!(),
+            Disposition::Leaves(why) => Some((place, sessions[place].conn, why)),
+        },
+        None => None,
+    }
+}
+
+/// Whether the connection is still open in the ports.
+fn is_open(why: Reason) -> bool
+    ensures { result ≡ is_up (disposition.Leaves why) }
+{
+    !matches!(why, Reason::Lost | Reason::SendFailed)
+}
+
+/// Closes the connection, if it is still open.
+fn shut<P: Ports>(ports: &mut P, conn: u32, why: Reason)
+    requires { is_up (disposition.Leaves why) ≡ true → IsOpen conn (P.state ports.old).told }
+    ensures told { Shuts conn why (P.state ports.old).told (P.state ports.new).told }
+    ensures count { (P.state ports.new).faults ≡ (P.state ports.old).faults }
+{
+    if is_open(why) {
+        ports.close(conn);
+    }
+}
+
+/// The count of the starved after a connection was left.
+fn starved_after(starved: u64, why: Reason) -> u64
+    ensures { result ≡ min (with_starved starved why) (2 ^ 64 - 1) }
+{
+    match why {
+        Reason::Starved => starved.saturating_add(1),
+        _ => starved,
+    }
+}
+
+/// Leaves the connection of the session at this place.
+fn close_one<R: Wait, M: Farm, F: Front<M>, P: Ports>(
+    rt: &R,
+    front: &F,
+    farm: &M,
+    seat: &mut M::Seat,
+    table: &mut SessionTable<F::ConnState>,
+    ports: &mut P,
+    place: usize,
+    conn: u32,
+    why: Reason,
+) -> Result<(), Worn>
+    requires seat { (M.seats farm.now).is_seat seat.old }
+    requires number { (M.seats farm.now).number seat.old ≡ (F.rules front.now farm.now).number + 1 }
+    requires leaving { IsLeaving table.old.sessions.items place conn why }
+    requires ready { (e : PortEvent) × ((stopped : Bool) × ((start : Option PortsTold) × CanLeave (F.rules front.now farm.now) F.knows e stopped start (world (P.state ports.old).told ((M.seats farm.now).mine seat.old) table.old))) }
+    ensures seat { SameSeat (M.seats farm.now) seat.old seat.new }
+    ensures worn { OnErr result ((M.seats farm.now).worn seat.new ≡ true) }
+    ensures count { (P.state ports.new).faults ≡ (P.state ports.old).faults }
+    ensures fewer { OnOk result (length table.new.sessions.items + 1 ≡ length table.old.sessions.items) }
+    ensures goes { (e : PortEvent) (stopped : Bool) (start : Option PortsTold)
+        → CanLeave (F.rules front.now farm.now) F.knows e stopped start (world (P.state ports.old).told ((M.seats farm.now).mine seat.old) table.old)
+        → MatchResult result
+        (λ _. CanLeave (F.rules front.now farm.now) F.knows e stopped start (world (P.state ports.new).told ((M.seats farm.now).mine seat.new) table.new))
+        (λ _. CutShort (F.rules front.now farm.now) F.knows start (P.state ports.new).told ((M.seats farm.now).mine seat.new) table.new.starved) }
+{
+    let number = front.number(farm);
+    let Ok(_asks) = farm.leave(
+        rt,
+        seat,
+        Conn {
+            front: number,
+            number: conn,
+        },
+    ) else {
+        return Err(Worn);
+    };
+    shut(ports, conn, why);
+    table.outbox.forget(conn);
+    table.starved = starved_after(table.starved, why);
+    table.sessions.remove(place);
+    Ok(())
+}
+
+/// Leaves every connection that leaves.
+pub fn close_all<R: Wait, M: Farm, F: Front<M>, P: Ports>(
+    rt: &R,
+    front: &F,
+    farm: &M,
+    seat: &mut M::Seat,
+    table: &mut SessionTable<F::ConnState>,
+    ports: &mut P,
+) -> Result<(), Worn>
+    requires seat { (M.seats farm.now).is_seat seat.old }
+    requires number { (M.seats farm.now).number seat.old ≡ (F.rules front.now farm.now).number + 1 }
+    requires ready { (e : PortEvent) × ((stopped : Bool) × ((start : Option PortsTold) × CanLeave (F.rules front.now farm.now) F.knows e stopped start (world (P.state ports.old).told ((M.seats farm.now).mine seat.old) table.old))) }
+    ensures seat { SameSeat (M.seats farm.now) seat.old seat.new }
+    ensures worn { OnErr result ((M.seats farm.now).worn seat.new ≡ true) }
+    ensures count { (P.state ports.new).faults ≡ (P.state ports.old).faults }
+    ensures goes { (e : PortEvent) (stopped : Bool) (start : Option PortsTold)
+        → CanLeave (F.rules front.now farm.now) F.knows e stopped start (world (P.state ports.old).told ((M.seats farm.now).mine seat.old) table.old)
+        → MatchResult result
+        (λ _. IsOver (F.rules front.now farm.now) F.knows e stopped start (world (P.state ports.new).told ((M.seats farm.now).mine seat.new) table.new))
+        (λ _. CutShort (F.rules front.now farm.now) F.knows start (P.state ports.new).told ((M.seats farm.now).mine seat.new) table.new.starved) }
+{
+    while let Some((place, conn, why)) = leaving(table.sessions.as_slice()) {
+        let Ok(()) = close_one(rt, front, farm, seat, table, ports, place, conn, why) else {
+            return Err(Worn);
+        };
+    }
+    Ok(())
+}

@@ -1,0 +1,86 @@
+//! What a front has of its own.
+ghost use Rattle.std.specs.Prelude.{◌≡◌, ◌+◌, ℕ, List, [], true, false, OnErr};
+ghost use Rattle.front_loop.specs.Rules.{Rules, Move};
+ghost use Rattle.front_loop.specs.Calls.{SameSeat};
+ghost use Rattle.front_loop.specs.Front.{Begins, Hears, Replies, Ends, MayStandAlone, disposition_of};
+ghost use Rattle.farm_history.specs.declared.queues.Outcome.TheVariants as outcome;
+ghost use Rattle.std.specs.Prelude.{◌≢◌};
+
+use crate::dispositions::Disposition;
+use crate::farm::Farm;
+use farm_base::Worn;
+use farm_history::Reply;
+use std::alloc::Global;
+use std::sync::Wait;
+
+/// A front: what it makes of a piece of bytes and of a reply, each on one connection. Sessions, rests,
+/// offers and ends are `serve`'s.
+pub trait Front<M: Farm> {
+    /// What it keeps of a session.
+    type ConnState: Drop;
+    /// A request, and a request that was done, with its answers; no value of them need be made.
+    type Want;
+
+    type Act;
+
+    /// What it makes of a connection at this farm.
+    ghost rules: { Self → M → Rules Self.Act Self.Want };
+
+    /// What is kept of a session is right where these bytes came and these moves were made.
+    ghost knows: { List ℕ → List (Move Self.Act) → Self.ConnState → Type 0 };
+
+    /// The front's number.
+    fn number(&self, farm: &M) -> u32
+        ensures { result ≡ (rules self.now farm.now).number };
+
+    /// What is kept of a new session.
+    fn begin(&self, alloc: Global, farm: &M) -> Self::ConnState
+        ensures { Begins (rules self.now farm.now) knows result };
+
+    /// A piece of bytes came: does the requests that became whole, and puts the bytes that are answered
+    /// to them into `response`.
+    fn hear<R: Wait>(
+        &self,
+        rt: &R,
+        alloc: Global,
+        farm: &M,
+        seat: &mut M::Seat,
+        conn: u32,
+        conn_state: &mut Self::ConnState,
+        piece: &[u8],
+        response: &mut Vec<u8>,
+    ) -> Result<Disposition, Worn>
+        requires seat { (M.seats farm.now).is_seat seat.old }
+        requires number { (M.seats farm.now).number seat.old ≡ (rules self.now farm.now).number + 1 }
+        requires empty { response.old.items ≡ [] }
+        ensures seat { SameSeat (M.seats farm.now) seat.old seat.new }
+        ensures worn { OnErr result ((M.seats farm.now).worn seat.new ≡ true) }
+        ensures heard { Hears (rules self.now farm.now) knows conn piece.now ((M.seats farm.now).mine seat.old) ((M.seats farm.now).mine seat.new) conn_state.old conn_state.new response.new.items (disposition_of result) };
+
+    /// A reply to an ask of the connection was collected, which is not Cut: puts the bytes that are
+    /// answered to it into `response`.
+    fn reply<R: Wait>(
+        &self,
+        rt: &R,
+        alloc: Global,
+        farm: &M,
+        seat: &mut M::Seat,
+        conn_state: &mut Self::ConnState,
+        reply: Reply,
+        response: &mut Vec<u8>,
+    ) -> Result<Disposition, Worn>
+        requires seat { (M.seats farm.now).is_seat seat.old }
+        requires number { (M.seats farm.now).number seat.old ≡ (rules self.now farm.now).number + 1 }
+        requires empty { response.old.items ≡ [] }
+        requires uncut { reply.outcome ≢ outcome.Cut }
+        ensures seat { SameSeat (M.seats farm.now) seat.old seat.new }
+        ensures worn { OnErr result ((M.seats farm.now).worn seat.new ≡ true) }
+        ensures replied { Replies (rules self.now farm.now) knows reply ((M.seats farm.now).mine seat.old) ((M.seats farm.now).mine seat.new) conn_state.old conn_state.new response.new.items (disposition_of result) };
+
+    /// Whether all is answered on the session that will be.
+    fn is_done(&self, farm: &M, conn_state: &Self::ConnState) -> bool
+        ensures { Ends (rules self.now farm.now) knows conn_state.now result };
+
+    /// A reply to a connection that is heard no more stands alone.
+    ghost alone: { (front : Self) (farm : M) → MayStandAlone (rules front farm) };
+}

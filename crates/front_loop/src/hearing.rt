@@ -1,0 +1,319 @@
+//! A round begins: its event, and the requests that become whole by it.
+ghost use Rattle.std.specs.Prelude.{◌≡◌, ◌+◌, ◌-◌, ◌^◌, ◌++◌, ◌∷◌, [], true, false, ℕ, List, Option, None, MatchResult, OnErr, OnOk, cond, min, map, nat_lt, length, option_map};
+ghost use Rattle.farm_base.specs.Limits.{most_sessions};
+ghost use Rattle.farm_history.specs.Entries.{Entry};
+ghost use Rattle.front_loop.specs.Calls.{SameSeat};
+ghost use Rattle.front_loop.specs.Rounds.{BeginsRound};
+ghost use Rattle.front_loop.specs.Front.{keeps};
+ghost use Rattle.front_loop.specs.inner.Sessions.{owing, woken, keys, conns, newcomer};
+ghost use Rattle.front_loop.specs.inner.Stands.{world};
+ghost use Rattle.front_loop.specs.inner.Stages.{Settles, HearsOne, HearsWorn, Comes, HasBegun, CutShort, Admits, MarksAt, marked};
+ghost use Rattle.port_events.specs.Boxes.{HasRest, rest_at};
+ghost use Rattle.port_events.specs.Told.{PortsTold, IsOpen, after_close};
+ghost use Rattle.port_events.specs.declared.events.PortEvent.TheVariants as event;
+
+use crate::dispositions::{Disposition, Reason};
+use crate::farm::Farm;
+use crate::front::Front;
+use crate::sessions::{Session, SessionTable, place_of};
+use farm_base::{MOST_SESSIONS, NoMemory, Worn};
+use port_events::{BoxFault, Outbox, PortEvent, Ports};
+use std::alloc::Global;
+use std::sync::Wait;
+
+/// Whether the bytes of a session are still kept and answered.
+pub fn is_kept(disposition: Disposition) -> bool
+    ensures { result ≡ keeps disposition }
+{
+    matches!(disposition, Disposition::Stays | Disposition::Leaves(Reason::Unread))
+}
+
+/// Whether a session owes an offer, after something was said, or nothing.
+pub fn owes_after(owes: bool, response: &[u8], disposition: Disposition) -> bool
+    ensures { result ≡ owing owes response.now disposition }
+{
+    owes || !response.is_empty() || matches!(disposition, Disposition::Leaves(Reason::Unread))
+}
+
+/// Puts what was said behind the rest of a connection whose bytes are kept.
+pub fn settle(outbox: &mut Outbox, conn: u32, response: &[u8], disposition: Disposition) -> Disposition
+    requires { HasRest outbox.old conn }
+    ensures { Settles conn response.now disposition result outbox.old outbox.new }
+{
+    if !is_kept(disposition) {
+        return disposition;
+    }
+    match outbox.answer(conn, response) {
+        Ok(()) => disposition,
+        Err(BoxFault::Full) => Disposition::Leaves(Reason::Full),
+        Err(BoxFault::NoMemory) => Disposition::Leaves(Reason::Starved),
+    }
+}
+
+/// A piece is heard on one session.
+fn hear_one<R: Wait, M: Farm, F: Front<M>>(
+    rt: &R,
+    alloc: Global,
+    front: &F,
+    farm: &M,
+    seat: &mut M::Seat,
+    session: &mut Session<F::ConnState>,
+    outbox: &mut Outbox,
+    response: &mut Vec<u8>,
+    piece: &[u8],
+) -> Result<(), Worn>
+    requires seat { (M.seats farm.now).is_seat seat.old }
+    requires number { (M.seats farm.now).number seat.old ≡ (F.rules front.now farm.now).number + 1 }
+    requires rest { HasRest outbox.old session.old.conn }
+    ensures seat { SameSeat (M.seats farm.now) seat.old seat.new }
+    ensures worn { OnErr result ((M.seats farm.now).worn seat.new ≡ true) }
+    ensures heard { MatchResult result
+        (λ _. HearsOne (F.rules front.now farm.now) F.knows piece.now ((M.seats farm.now).mine seat.old) ((M.seats farm.now).mine seat.new) session.old session.new outbox.old outbox.new)
+        (λ _. HearsWorn (F.rules front.now farm.now) F.knows session.old.conn piece.now ((M.seats farm.now).mine seat.old) ((M.seats farm.now).mine seat.new) session.old.conn_state) }
+{
+    response.clear();
+    let Ok(disposition) = front.hear(
+        rt,
+        alloc,
+        farm,
+        seat,
+        session.conn,
+        &mut session.conn_state,
+        piece,
+        response,
+    ) else {
+        return Err(Worn);
+    };
+    session.owes = owes_after(session.owes, response.as_slice(), disposition);
+    session.disposition = settle(outbox, session.conn, response.as_slice(), disposition);
+    Ok(())
+}
+
+/// A piece came on a connection.
+fn hear<R: Wait, M: Farm, F: Front<M>>(
+    rt: &R,
+    alloc: Global,
+    front: &F,
+    farm: &M,
+    seat: &mut M::Seat,
+    table: &mut SessionTable<F::ConnState>,
+    conn: u32,
+    piece: &[u8],
+) -> Result<(), Worn>
+    requires seat { (M.seats farm.now).is_seat seat.old }
+    requires number { (M.seats farm.now).number seat.old ≡ (F.rules front.now farm.now).number + 1 }
+    requires ready { (start told was : Option PortsTold) × Comes (F.rules front.now farm.now) F.knows (event.Bytes conn) piece.now start told (world was ((M.seats farm.now).mine seat.old) table.old) }
+    ensures seat { SameSeat (M.seats farm.now) seat.old seat.new }
+    ensures worn { OnErr result ((M.seats farm.now).worn seat.new ≡ true) }
+    ensures goes { (start told was : Option PortsTold)
+        → Comes (F.rules front.now farm.now) F.knows (event.Bytes conn) piece.now start told (world was ((M.seats farm.now).mine seat.old) table.old)
+        → MatchResult result
+        (λ _. HasBegun (F.rules front.now farm.now) F.knows (event.Bytes conn) start (world told ((M.seats farm.now).mine seat.new) table.new))
+        (λ _. CutShort (F.rules front.now farm.now) F.knows start told ((M.seats farm.now).mine seat.new) table.new.starved) }
+{
+    let Some(place) = place_of(table.sessions.as_slice(), conn) else {
+        return Ok(());
+    };
+    hear_one(
+        rt,
+        alloc,
+        front,
+        farm,
+        seat,
+        &mut table.sessions[place],
+        &mut table.outbox,
+        &mut table.response,
+        piece,
+    )
+}
+
+/// Makes a session of a connection that is not there, if there is memory for it.
+fn add<T: Drop>(
+    alloc: Global,
+    table: &mut SessionTable<T>,
+    conn: u32,
+    conn_state: T,
+) -> Result<(), NoMemory>
+    requires { rest_at table.old.outbox conn ≡ None }
+    ensures done { OnOk result ((table.new.sessions.items ≡ table.old.sessions.items ++ newcomer conn conn_state ∷ []) × (table.new.outbox ≡ table.old.outbox ++ (conn, []) ∷ []) × (table.new.starved ≡ table.old.starved)) }
+    ensures refused { OnErr result ((table.new.sessions.items ≡ table.old.sessions.items) × (table.new.outbox ≡ table.old.outbox) × (table.new.starved ≡ table.old.starved)) }
+{
+    table.sessions.reserve(1)?;
+    table.outbox.begin(alloc, conn)?;
+    table
+        .sessions
+        .push(Session {
+            conn,
+            conn_state,
+            disposition: Disposition::Stays,
+            owes: false,
+        })
+        .unwrap();
+    Ok(())
+}
+
+/// Makes a session of a connection, unless it is there, or 1,024 are, or memory is wanting; answers
+/// whether it did.
+fn admit<M: Farm, F: Front<M>>(
+    alloc: Global,
+    front: &F,
+    farm: &M,
+    table: &mut SessionTable<F::ConnState>,
+    conn: u32,
+) -> bool
+    requires { keys table.old.outbox ≡ conns table.old.sessions.items }
+    ensures { Admits (F.rules front.now farm.now) F.knows conn table.old table.new result }
+{
+    if table.sessions.len() >= MOST_SESSIONS {
+        return false;
+    }
+    match place_of(table.sessions.as_slice(), conn) {
+        Some(_) => false,
+        None => match add(alloc, table, conn, front.begin(alloc, farm)) {
+            Ok(()) => true,
+            Err(NoMemory) => false,
+        },
+    }
+}
+
+/// The count of the starved after a connection was refused.
+fn refused_after(starved: u64, there: usize) -> u64
+    ensures { result ≡ cond (nat_lt there most_sessions) (min (starved + 1) (2 ^ 64 - 1)) starved }
+{
+    if there < MOST_SESSIONS {
+        starved.saturating_add(1)
+    } else {
+        starved
+    }
+}
+
+/// Closes a connection that got no session.
+fn refuse<T, P: Ports>(table: &mut SessionTable<T>, ports: &mut P, conn: u32)
+    requires { IsOpen conn (P.state ports.old).told }
+    ensures told { (P.state ports.new).told ≡ option_map (after_close conn) (P.state ports.old).told }
+    ensures count { (P.state ports.new).faults ≡ (P.state ports.old).faults }
+    ensures sessions { table.new.sessions.items ≡ table.old.sessions.items }
+    ensures outbox { table.new.outbox ≡ table.old.outbox }
+    ensures starved { table.new.starved ≡ cond (nat_lt (length table.old.sessions.items) most_sessions) (min (table.old.starved + 1) (2 ^ 64 - 1)) table.old.starved }
+{
+    ports.close(conn);
+    table.starved = refused_after(table.starved, table.sessions.len());
+}
+
+/// A connection was opened: it gets a session, or is closed.
+fn open<M: Farm, F: Front<M>, P: Ports>(
+    alloc: Global,
+    front: &F,
+    farm: &M,
+    table: &mut SessionTable<F::ConnState>,
+    ports: &mut P,
+    piece: &[u8],
+    conn: u32,
+)
+    requires ready { (start was : Option PortsTold) × ((mine : List Entry) × Comes (F.rules front.now farm.now) F.knows (event.Opened conn) piece.now start (P.state ports.old).told (world was mine table.old)) }
+    ensures goes { (start was : Option PortsTold) (mine : List Entry)
+        → Comes (F.rules front.now farm.now) F.knows (event.Opened conn) piece.now start (P.state ports.old).told (world was mine table.old)
+        → HasBegun (F.rules front.now farm.now) F.knows (event.Opened conn) start (world (P.state ports.new).told mine table.new) }
+    ensures count { (P.state ports.new).faults ≡ (P.state ports.old).faults }
+{
+    match admit(alloc, front, farm, table, conn) {
+        true => {}
+        false => refuse(table, ports, conn),
+    }
+}
+
+/// The session as its Writable, its Ended or its Lost leaves it.
+fn mark<T>(session: &mut Session<T>, event: PortEvent)
+    ensures { session.new ≡ marked event session.old }
+{
+    match event {
+        PortEvent::Writable(_) => session.owes = true,
+        PortEvent::Ended(_) => session.disposition = Disposition::Leaves(Reason::Ended),
+        PortEvent::Lost(_) => session.disposition = Disposition::Leaves(Reason::Lost),
+        _ => {}
+    }
+}
+
+/// The session of a connection as its Writable, its Ended or its Lost leaves it.
+fn mark_at<T>(table: &mut SessionTable<T>, event: PortEvent, conn: u32)
+    ensures { MarksAt event conn table.old table.new }
+{
+    let Some(place) = place_of(table.sessions.as_slice(), conn) else {
+        return;
+    };
+    mark(&mut table.sessions[place], event);
+}
+
+/// An event came that begins a round.
+pub fn take_event<R: Wait, M: Farm, F: Front<M>, P: Ports>(
+    rt: &R,
+    alloc: Global,
+    front: &F,
+    farm: &M,
+    seat: &mut M::Seat,
+    table: &mut SessionTable<F::ConnState>,
+    ports: &mut P,
+    piece: &[u8],
+    event: PortEvent,
+) -> Result<(), Worn>
+    requires seat { (M.seats farm.now).is_seat seat.old }
+    requires number { (M.seats farm.now).number seat.old ≡ (F.rules front.now farm.now).number + 1 }
+    requires begins { BeginsRound event }
+    requires ready { (start was : Option PortsTold) × Comes (F.rules front.now farm.now) F.knows event piece.now start (P.state ports.old).told (world was ((M.seats farm.now).mine seat.old) table.old) }
+    ensures seat { SameSeat (M.seats farm.now) seat.old seat.new }
+    ensures worn { OnErr result ((M.seats farm.now).worn seat.new ≡ true) }
+    ensures count { (P.state ports.new).faults ≡ (P.state ports.old).faults }
+    ensures goes { (start was : Option PortsTold)
+        → Comes (F.rules front.now farm.now) F.knows event piece.now start (P.state ports.old).told (world was ((M.seats farm.now).mine seat.old) table.old)
+        → MatchResult result
+        (λ _. HasBegun (F.rules front.now farm.now) F.knows event start (world (P.state ports.new).told ((M.seats farm.now).mine seat.new) table.new))
+        (λ _. CutShort (F.rules front.now farm.now) F.knows start (P.state ports.new).told ((M.seats farm.now).mine seat.new) table.new.starved) }
+{
+    match event {
+        PortEvent::Opened(conn) => {
+            open(alloc, front, farm, table, ports, piece, conn);
+            Ok(())
+        }
+        PortEvent::Bytes(conn) => hear(rt, alloc, front, farm, seat, table, conn, piece),
+        PortEvent::Writable(conn) => {
+            mark_at(table, event, conn);
+            Ok(())
+        }
+        PortEvent::Ended(conn) => {
+            mark_at(table, event, conn);
+            Ok(())
+        }
+        PortEvent::Lost(conn) => {
+            mark_at(table, event, conn);
+            Ok(())
+        }
+        PortEvent::Woken => {
+            wake_all(table);
+            Ok(())
+        }
+        PortEvent::Finished => {
+            wake_all(table);
+            Ok(())
+        }
+        PortEvent::Broken => unreachable!(),
+        PortEvent::NoMemory => unreachable!(),
+    }
+}
+
+/// Every session owes an offer.
+fn wake_each<T>(sessions: &mut [Session<T>])
+    ensures { sessions.new ≡ map woken sessions.old }
+{
+    for session in sessions.iter_mut() {
+        session.owes = true;
+    }
+}
+
+/// Every session of the table owes an offer.
+pub fn wake_all<T>(table: &mut SessionTable<T>)
+    ensures sessions { table.new.sessions.items ≡ map woken table.old.sessions.items }
+    ensures outbox { table.new.outbox ≡ table.old.outbox }
+    ensures starved { table.new.starved ≡ table.old.starved }
+{
+    wake_each(table.sessions.as_mut_slice());
+}

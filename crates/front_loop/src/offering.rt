@@ -1,0 +1,126 @@
+//! Bytes are offered to the connections that have a reason to get them.
+ghost use Rattle.std.specs.Prelude.{◌≡◌, ◌≤◌, ◌+◌, [], true, false, ℕ, List, Option, length, nat_eq};
+ghost use Rattle.farm_history.specs.Lists.{Each};
+ghost use Rattle.front_loop.specs.inner.Sessions.{is_up};
+ghost use Rattle.front_loop.specs.inner.Stands.{world};
+ghost use Rattle.front_loop.specs.inner.Stages.{Gives, OffersOne, CanOffer, CanLeave, disposition_after, part_or_all};
+ghost use Rattle.farm_history.specs.Entries.{Entry};
+ghost use Rattle.port_events.specs.Boxes.{HasRest, rest_in};
+ghost use Rattle.port_events.specs.Told.{PortsTold, IsOpen};
+ghost use Rattle.port_events.specs.declared.events.PortEvent.{PortEvent};
+ghost use Rattle.std.specs.Prelude.{Bool};
+
+use crate::dispositions::{Disposition, Reason};
+use crate::farm::Farm;
+use crate::front::Front;
+use crate::hearing::is_kept;
+use crate::sessions::{Session, SessionTable};
+use port_events::{Outbox, Ports, SendFault};
+
+/// What an offer of a connection's rest did.
+#[derive(Clone, Copy, Debug, PartialEq, Eq)]
+pub enum Gave {
+    /// Nothing was due.
+    Nothing,
+    /// Some bytes are left.
+    Part,
+    /// All bytes were taken.
+    All,
+    /// The send failed.
+    Failed,
+    /// Want of memory; nothing was taken.
+    NoMemory,
+}
+
+/// Offers the connection its rest.
+fn give<P: Ports>(outbox: &mut Outbox, conn: u32, ports: &mut P) -> Gave
+    requires rest { HasRest outbox.old conn }
+    requires open { IsOpen conn (P.state ports.old).told }
+    ensures gives { Gives conn (rest_in outbox.old conn) outbox.old outbox.new (P.state ports.old).told (P.state ports.new).told result }
+    ensures count { (P.state ports.old).faults ≤ (P.state ports.new).faults }
+{
+    if outbox.rest(conn).is_empty() {
+        return Gave::Nothing;
+    }
+    match outbox.offer(conn, ports) {
+        Ok(()) => gave_by(outbox, conn),
+        Err(SendFault::Failed) => Gave::Failed,
+        Err(SendFault::NoMemory) => Gave::NoMemory,
+    }
+}
+
+/// Whether all is taken.
+fn gave_by(outbox: &Outbox, conn: u32) -> Gave
+    requires { HasRest outbox.now conn }
+    ensures { result ≡ part_or_all (rest_in outbox.now conn) }
+{
+    if outbox.rest(conn).is_empty() {
+        Gave::All
+    } else {
+        Gave::Part
+    }
+}
+
+/// The disposition of a session after an offer.
+fn disposition_of_offer(gave: Gave, done: bool, disposition: Disposition) -> Disposition
+    ensures { result ≡ disposition_after gave done disposition }
+{
+    match gave {
+        Gave::Nothing | Gave::Part => disposition,
+        Gave::All => {
+            if done {
+                Disposition::Leaves(Reason::SentWhole)
+            } else {
+                disposition
+            }
+        }
+        Gave::Failed => Disposition::Leaves(Reason::SendFailed),
+        Gave::NoMemory => Disposition::Leaves(Reason::Starved),
+    }
+}
+
+/// Offers one session its bytes, if it owes that.
+fn offer_one<M: Farm, F: Front<M>, P: Ports>(
+    front: &F,
+    farm: &M,
+    session: &mut Session<F::ConnState>,
+    outbox: &mut Outbox,
+    ports: &mut P,
+)
+    requires rest { HasRest outbox.old session.old.conn }
+    requires open { is_up session.old.disposition ≡ true → IsOpen session.old.conn (P.state ports.old).told }
+    ensures offers { OffersOne (F.rules front.now farm.now) F.knows session.old session.new outbox.old outbox.new (P.state ports.old).told (P.state ports.new).told }
+    ensures count { (P.state ports.old).faults ≤ (P.state ports.new).faults }
+{
+    if !session.owes || !is_kept(session.disposition) {
+        return;
+    }
+    session.owes = false;
+    let gave = give(outbox, session.conn, ports);
+    let done = front.is_done(farm, &session.conn_state);
+    session.disposition = disposition_of_offer(gave, done, session.disposition);
+}
+
+/// Offers every session its bytes that owes that.
+pub fn offer_all<M: Farm, F: Front<M>, P: Ports>(
+    front: &F,
+    farm: &M,
+    table: &mut SessionTable<F::ConnState>,
+    ports: &mut P,
+)
+    requires ready { (e : PortEvent) × ((stopped : Bool) × ((start : Option PortsTold) × ((mine : List Entry) × CanOffer (F.rules front.now farm.now) F.knows e stopped start (world (P.state ports.old).told mine table.old)))) }
+    ensures goes { (e : PortEvent) (stopped : Bool) (start : Option PortsTold) (mine : List Entry)
+        → CanOffer (F.rules front.now farm.now) F.knows e stopped start (world (P.state ports.old).told mine table.old)
+        → CanLeave (F.rules front.now farm.now) F.knows e stopped start (world (P.state ports.new).told mine table.new) }
+    ensures count { (P.state ports.old).faults ≤ (P.state ports.new).faults }
+{
+    for place in 0..table.sessions.len() {
+        offer_one(
+            front,
+            farm,
+            &mut table.sessions[place],
+            &mut table.outbox,
+            ports,
+        );
+    }
+}

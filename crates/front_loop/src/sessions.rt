@@ -1,0 +1,67 @@
+//! Sessions, and where they are kept.
+ghost use Rattle.std.specs.Prelude.{◌≡◌, ◌+◌, ◌<◌, ◌++◌, ◌∷◌, [], true, false, length, map, IfSome, IfNone, position, ◌==◌, ℕ};
+ghost use Rattle.front_loop.specs.declared.sessions.Session.{Session};
+ghost use Rattle.front_loop.specs.Steps.{has};
+ghost use Rattle.front_loop.specs.inner.Sessions.{conns, HasConn};
+
+use crate::dispositions::{Disposition, Reason};
+use port_events::Outbox;
+use std::alloc::Global;
+
+/// A connection that is there.
+#[derive(Drop)]
+pub struct Session<T> {
+    pub conn: u32,
+    /// What the front keeps of it.
+    pub conn_state: T,
+    pub disposition: Disposition,
+    /// There is a reason to offer it its bytes in this round, and they were not offered yet.
+    pub owes: bool,
+}
+
+/// What a front keeps.
+#[derive(Drop)]
+pub struct SessionTable<T> {
+    /// In the order in which they were opened.
+    pub sessions: Vec<Session<T>>,
+    /// The bytes that were answered and not taken, of each session.
+    pub outbox: Outbox,
+    /// How many connections were closed for a want of memory that no entry shows.
+    pub starved: u64,
+    /// What is said to one connection, before it is put into the outbox.
+    pub response: Vec<u8>,
+}
+
+impl<T> SessionTable<T> {
+    /// Nobody is there.
+    pub fn new(alloc: Global) -> SessionTable<T>
+        ensures sessions { result.sessions.items ≡ [] }
+        ensures outbox { result.outbox ≡ [] }
+        ensures starved { result.starved ≡ 0 }
+    {
+        SessionTable {
+            sessions: Vec::new(alloc),
+            outbox: Outbox::new(alloc),
+            starved: 0,
+            response: Vec::new(alloc),
+        }
+    }
+}
+
+/// The first place of a connection's session.
+fn position_of<T>(sessions: &[Session<T>], conn: u32) -> Option<usize>
+    ensures { result ≡ position (λ (s : Session T). s.conn == conn) sessions.now }
+{
+    sessions.iter().position(|session| session.conn == conn)
+}
+
+/// The place of the session of a connection.
+pub fn place_of<T>(sessions: &[Session<T>], conn: u32) -> Option<usize>
+    ensures some { IfSome result (λ i. (i < length sessions.now) × HasConn sessions.now i conn) }
+    ensures none { IfNone result (has (conns sessions.now) conn ≡ false) }
+{
+    match position_of(sessions, conn) {
+        Some(place) => Some(place),
+        None => None,
+    }
+}

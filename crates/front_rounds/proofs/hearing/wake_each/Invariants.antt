@@ -1,6 +1,0 @@
-use Rattle.std.proofs.Common.{◌≡◌}
-use Rattle.front_rounds.proofs.Woken.{woken_front}
-use Rattle.front_rounds.proofs.hearing.wake_each.Given as goal
-
-abbrev pub invariant-loop-session : goal.invariant-loop-session
-invariant-loop-session g l = l.sessions ≡ woken_front l.session-index l.fn.sessions

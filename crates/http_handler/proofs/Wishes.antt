@@ -1,0 +1,106 @@
+-- Wishes: what bytes ask stays so, and what one act of a connection means for its moves.
+use Rattle.std.proofs.Common.{◌≡◌, ℕ, ◌<◌, ◌≤◌, ◌-◌, List, [], ◌∷◌, ◌++◌, length, take, Bool, true, false, eqb, eq-eqb, cond, ◌+◌, Option, Some, None, refl, sym, ap, subst, ◌∙◌, arith}
+use Rattle.std.proofs.lemmas.List.{take_all, length-take}
+use Rattle.std.proofs.Math.Seq.{take-append-add}
+use Rattle.farm_base.specs.Limits.{most_head_bytes}
+use Rattle.tile_requests.specs.Heads.{bytes_read, IsOpen, IsNothing, IsPart, IsFull}
+use Rattle.tile_requests.proofs.HeadTexts.{bad_stays, whole_stays}
+use Rattle.tile_requests.specs.declared.targets.Kind.{Kind}
+use Rattle.tile_requests.specs.declared.targets.Kind.TheVariants as kind
+use Rattle.farm_history.specs.declared.asks.Spot.{Spot}
+use Rattle.front_loop.specs.Rules.{Move, Does, Gets, wants_of}
+use Rattle.http_handler.specs.declared.acts.HttpAsk.{HttpAsk}
+use Rattle.http_handler.specs.declared.acts.HttpAsk.TheVariants as http_ask
+use Rattle.http_handler.specs.declared.acts.Act.{Act}
+use Rattle.http_handler.specs.declared.conn_states.Stage.{Stage}
+use Rattle.http_handler.specs.declared.conn_states.Stage.TheVariants.{Reading, Waiting, Answered}
+use Rattle.http_handler.specs.ConnStates.{is_reading, is_answered, waits_in, spot_at}
+use Rattle.http_handler.specs.Tiles.{GetsSpot, http_ask_of, BytesAsk, want, http_asks, still_waits, same_map, same_spot, tile_rules}
+
+-- no test is passed and failed
+pub no_both : (b : Bool) → b ≡ true → b ≡ false → ⊥
+no_both b e f = cc
+
+-- what was asked hangs on no map
+pub asked_is : (front : ℕ) (maps : List ℕ → Option ℕ) (ms : List (Move Act)) → wants_of (tile_rules front maps) ms ≡ http_asks ms
+asked_is front maps [] = refl
+asked_is front maps (Does a ∷ ms) = ap (λ (ws : List HttpAsk). ws ++ want a ∷ []) (asked_is front maps ms)
+asked_is front maps (Gets r behind ∷ ms) = asked_is front maps ms
+
+pub asks_of : (maps : List ℕ → Option ℕ) (bytes : List ℕ) (k : Kind) (s : Spot) → GetsSpot maps bytes k s → BytesAsk maps bytes (http_ask_of k s)
+asks_of maps bytes kind.Tile s gets = gets
+asks_of maps bytes kind.Status s gets = gets
+asks_of maps bytes kind.Dirty s gets = gets
+
+-- what bytes ask they ask whatever follows
+pub asks_stay : (maps : List ℕ → Option ℕ) (given more : List ℕ) (w : HttpAsk) → BytesAsk maps (bytes_read given) w → BytesAsk maps (bytes_read (given ++ more)) w
+asks_stay maps given more http_ask.Bad is = bad_stays given more is
+asks_stay maps given more http_ask.NotGet is = (is.0, whole_stays given more is.0 is.1, is.2)
+asks_stay maps given more http_ask.NoTarget is = (is.0, whole_stays given more is.0 is.1, is.2, is.3)
+asks_stay maps given more (http_ask.Tile s) is = (is.0, (is.1.0, whole_stays given more is.1.0 is.1.1, is.1.2, is.1.3), is.2)
+asks_stay maps given more (http_ask.Status s) is = (is.0, (is.1.0, whole_stays given more is.1.0 is.1.1, is.1.2, is.1.3), is.2)
+asks_stay maps given more (http_ask.Dirty s) is = (is.0, (is.1.0, whole_stays given more is.1.0 is.1.1, is.1.2, is.1.3), is.2)
+
+-- while more is waited for, all bytes are read
+open_short : (bytes : List ℕ) → IsOpen bytes → length bytes < most_head_bytes
+open_short bytes (IsNothing e) = subst (λ (b : List ℕ). length b < most_head_bytes) (sym e) (omega arith)
+open_short bytes (IsPart l none may) = l
+open_short bytes (IsFull l over more e) = l
+
+pub open_all : (given : List ℕ) → IsOpen (bytes_read given) → (length given < most_head_bytes) × (bytes_read given ≡ given)
+open_all given is =
+    let l = open_short (bytes_read given) is in
+    let n : length given < most_head_bytes = let e = length-take most_head_bytes given in omega (arith, e, l) in
+    (n, take_all most_head_bytes given (omega arith))
+
+-- what is kept of a piece behind a head
+pub kept_is : (head piece : List ℕ) → length head ≤ most_head_bytes → head ++ take (most_head_bytes - length head) piece ≡ bytes_read (head ++ piece)
+kept_is head piece h =
+    let all : length head + (most_head_bytes - length head) ≡ most_head_bytes = omega arith in
+    sym (take-append-add head piece (most_head_bytes - length head)) ∙ ap (λ (n : ℕ). take n (head ++ piece)) all
+
+pub shown_twice : (given : List ℕ) → bytes_read (bytes_read given) ≡ bytes_read given
+shown_twice given = let e = length-take most_head_bytes given in take_all most_head_bytes (bytes_read given) (omega (arith, e))
+
+-- a spot is the same as itself
+same_number : (n : ℕ) → eqb n n ≡ true
+same_number n = eq-eqb n n refl
+
+same_place : (m : Option ℕ) → same_map m m ≡ true
+same_place None = refl
+same_place (Some n) = same_number n
+
+pub same_self : (s : Spot) → same_spot s s ≡ true
+same_self s = rw (same_place s.map, same_number s.z, same_number s.x, same_number s.y) refl
+
+-- ---- small facts of tests
+
+-- ---- stages
+
+pub reading_unanswered : (s : Stage) → is_reading s ≡ true → is_answered s ≡ false
+reading_unanswered Reading e = refl
+reading_unanswered (Waiting n s) e = refl
+reading_unanswered Answered e = cc
+
+-- an ask that waits, and a reply to another one or to that one
+pub unless_other : (n : ℕ) (o : Option (ℕ × Spot)) → spot_at n o ≡ None → still_waits n o ≡ o
+unless_other n None e = refl
+unless_other n (Some p) e = other (eqb p.0 n) p e
+  where
+    other : (b : Bool) (p : ℕ × Spot) → cond b (Some p.1) None ≡ None → cond b None (Some p) ≡ Some p
+    other true p e = cc
+    other false p e = refl
+
+pub unless_that : (n : ℕ) (s : Spot) (o : Option (ℕ × Spot)) → spot_at n o ≡ Some s → still_waits n o ≡ None
+unless_that n s None e = refl
+unless_that n s (Some p) e = that (eqb p.0 n) p s e
+  where
+    that : (b : Bool) (p : ℕ × Spot) (s : Spot) → cond b (Some p.1) None ≡ Some s → cond b None (Some p) ≡ None
+    that true p s e = refl
+    that false p s e = cc
+
+-- a stage in which an ask waits reads no more
+pub waiting_read : (n : ℕ) (s : Spot) (stage : Stage) → spot_at n (waits_in stage) ≡ Some s → is_reading stage ≡ false
+waiting_read n s Reading e = cc
+waiting_read n s (Waiting m t) e = refl
+waiting_read n s Answered e = refl

@@ -1,0 +1,69 @@
+-- The steps of the tile front's calls: what is found in a head, what a fetch and a ask leave.
+use Rattle.std.specs.Prelude.{◌≡◌, ℕ, Bool, true, false, ◌⊎◌, List, [], ◌∷◌, ◌++◌, Option, Some, None}
+use Rattle.farm_history.specs.declared.asks.Spot.{Spot}
+use Rattle.farm_history.specs.declared.queues.Conn.{Conn}
+use Rattle.farm_history.specs.declared.answers.Fetched.{Fetched}
+use Rattle.farm_history.specs.Entries.{Entry, Fetch}
+use Rattle.front_loop.specs.declared.dispositions.Disposition.{Disposition}
+use Rattle.front_loop.specs.declared.dispositions.Disposition.TheVariants.{Stays, Leaves}
+use Rattle.front_loop.specs.declared.dispositions.Reason.TheVariants as reason
+use Rattle.front_loop.specs.Front.{keeps}
+use Rattle.tile_requests.specs.Heads.{IsOpen}
+use Rattle.tile_answers.specs.Answers.{tile_answer}
+use Rattle.http_handler.specs.declared.acts.HttpAsk.{HttpAsk}
+use Rattle.http_handler.specs.declared.acts.Act.{Act}
+use Rattle.http_handler.specs.declared.conn_states.Stage.{Stage}
+use Rattle.http_handler.specs.ConnStates.{is_reading, is_answered, waits_in}
+use Rattle.http_handler.specs.Tiles.{BytesAsk, want, tile_entries, waits_by, fits_act, whole_act, answer_of, is_answer, found_no_memory, starves_act}
+
+-- the ask that stands in the bytes, or none while more are waited for
+abbrev pub Finds : (List ℕ → Option ℕ) → List ℕ → Option HttpAsk → Type 0
+Finds maps bytes None = IsOpen bytes
+Finds maps bytes (Some w) = BytesAsk maps bytes w
+
+-- a session goes on, or is left for want of memory: of an entry, or of another that no entry shows
+abbrev pub WhyOf : Bool → Disposition → Type 0
+WhyOf starved Stays = starved ≡ false
+WhyOf starved (Leaves reason.NoMemory) = starved ≡ true
+WhyOf starved (Leaves reason.Starved) = starved ≡ false
+WhyOf starved (Leaves _) = ⊥
+
+-- a text was said, or there was no memory for it
+pub record Says (text response : List ℕ) (disposition : Disposition) : Type 0 where
+  pub why : WhyOf false disposition
+  pub response_is : keeps disposition ≡ true → response ≡ text
+
+-- the answer to a tile that was fetched; want of memory has none
+pub record SaysTile (f : Fetched) (response : List ℕ) (disposition : Disposition) : Type 0 where
+  pub why : WhyOf (found_no_memory f) disposition
+  pub response_is : keeps disposition ≡ true → response ≡ tile_answer f
+
+-- nothing was done: the turn was worn
+abbrev pub IsIdle : List Entry → List Entry → Disposition → Type 0
+IsIdle mine mine' disposition = (mine' ≡ mine) × (disposition ≡ Leaves reason.Starved)
+
+-- the tile was fetched, and its answer said
+pub record DidFetch (s : Spot) (mine mine' : List Entry) (response : List ℕ) (disposition : Disposition) (f : Fetched) : Type 0 where
+  pub mine_is : mine' ≡ mine ++ Fetch s f ∷ []
+  pub why : WhyOf (found_no_memory f) disposition
+  pub response_is : keeps disposition ≡ true → response ≡ tile_answer f
+
+-- the tile was fetched, or the turn was worn
+abbrev pub Fetches : Spot → List Entry → List Entry → List ℕ → Disposition → Type 0
+Fetches s mine mine' response disposition = IsIdle mine mine' disposition ⊎ ((f : Fetched) × DidFetch s mine mine' response disposition f)
+
+-- the ask was done, as this act
+pub record DidHttpAsk (c : Conn) (w : HttpAsk) (mine mine' : List Entry) (stage : Stage) (response : List ℕ) (disposition : Disposition) (a : Act) : Type 0 where
+  pub want_is : want a ≡ w
+  pub mine_is : mine' ≡ mine ++ tile_entries c a
+  pub fits : fits_act a ≡ true
+  pub why : WhyOf (starves_act a) disposition
+  pub response_is : keeps disposition ≡ true → response ≡ answer_of a
+  pub whole : keeps disposition ≡ true → whole_act a ≡ true
+  pub read : keeps disposition ≡ true → is_reading stage ≡ false
+  pub waits : keeps disposition ≡ true → waits_by a ≡ waits_in stage
+  pub ends : keeps disposition ≡ true → is_answer a ≡ is_answered stage
+
+-- the ask was done, or the turn was worn
+abbrev pub DoesHttpAsk : Conn → HttpAsk → List Entry → List Entry → Stage → List ℕ → Disposition → Type 0
+DoesHttpAsk c w mine mine' stage response disposition = IsIdle mine mine' disposition ⊎ ((a : Act) × DidHttpAsk c w mine mine' stage response disposition a)

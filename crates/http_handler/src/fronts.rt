@@ -1,0 +1,78 @@
+//! The tile front as one of the three.
+ghost use Rattle.std.specs.Prelude.{refl};
+ghost use Rattle.http_handler.specs.Tiles.{tile_rules, Knows};
+
+use crate::acts::{Act, HttpAsk};
+use crate::conn_states::{ConnState, Stage, is_answered};
+use crate::hearing::{hear_piece, take_reply};
+use farm_base::Worn;
+use farm_history::{Conn, Reply};
+use front_loop::{Disposition, Farm, Front};
+use std::alloc::Global;
+use std::sync::Wait;
+
+/// The tile front, by its number.
+#[derive(Clone, Copy)]
+pub struct Tiles {
+    pub front: u32,
+}
+
+impl<M: Farm> Front<M> for Tiles {
+    type ConnState = ConnState;
+
+    type Want = HttpAsk;
+
+    type Act = Act;
+
+    ghost rules = { λ tiles farm. tile_rules tiles.front (M.map_at farm) };
+
+    ghost knows = { Knows };
+
+    fn number(&self, _farm: &M) -> u32 {
+        self.front
+    }
+
+    fn begin(&self, alloc: Global, _farm: &M) -> ConnState {
+        ConnState {
+            head: Vec::new(alloc),
+            stage: Stage::Reading,
+        }
+    }
+
+    fn hear<R: Wait>(
+        &self,
+        rt: &R,
+        alloc: Global,
+        farm: &M,
+        seat: &mut M::Seat,
+        conn: u32,
+        conn_state: &mut ConnState,
+        piece: &[u8],
+        response: &mut Vec<u8>,
+    ) -> Result<Disposition, Worn> {
+        let conn = Conn {
+            front: self.front,
+            number: conn,
+        };
+        hear_piece(rt, alloc, farm, seat, conn, conn_state, piece, response)
+    }
+
+    fn reply<R: Wait>(
+        &self,
+        rt: &R,
+        alloc: Global,
+        farm: &M,
+        seat: &mut M::Seat,
+        conn_state: &mut ConnState,
+        reply: Reply,
+        response: &mut Vec<u8>,
+    ) -> Result<Disposition, Worn> {
+        take_reply(rt, alloc, farm, seat, self.front, conn_state, reply, response)
+    }
+
+    fn is_done(&self, _farm: &M, conn_state: &ConnState) -> bool {
+        is_answered(conn_state.stage)
+    }
+
+    ghost alone = { λ tiles farm reply ms. (refl, refl) };
+}

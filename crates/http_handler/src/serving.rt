@@ -1,0 +1,200 @@
+//! One ask at the farm.
+ghost use Rattle.std.specs.Prelude.{◌≡◌, ◌+◌, ◌≤◌, [], true, false, length, OnErr, MatchResult};
+ghost use Rattle.farm_base.specs.Limits.{most_head_bytes};
+ghost use Rattle.farm_history.specs.Past as past;
+ghost use Rattle.front_loop.specs.Calls.{SameSeat};
+ghost use Rattle.front_loop.specs.Front.{disposition_of};
+ghost use Rattle.http_handler.specs.Tiles as spec;
+ghost use Rattle.tile_answers.specs.Answers.{fault_answer};
+ghost use Rattle.http_handler.specs.Steps.{Finds, Fetches, DoesHttpAsk, Says, SaysTile};
+ghost use Rattle.http_handler.specs.declared.acts.HttpAsk.TheVariants as http_ask;
+
+use crate::acts::HttpAsk;
+use crate::conn_states::Stage;
+use farm_base::{NoMemory, Worn};
+use farm_history::{AskAnswer, Cmd, Conn, Fetched, Spot};
+use front_loop::{Disposition, Farm, Reason};
+use std::alloc::Global;
+use std::sync::Wait;
+use tile_answers::{Fault, put_dirty, put_fault, put_status, put_tile};
+use tile_requests::{Kind, Request, read_request};
+
+/// The ask that stands in the bytes; `None` while more are waited for.
+pub(crate) fn http_ask_in<M: Farm>(farm: &M, bytes: &[u8]) -> Option<HttpAsk>
+    requires { length bytes.now ≤ most_head_bytes }
+    ensures { Finds (M.map_at farm.now) bytes.now result }
+{
+    match read_request(bytes) {
+        Request::Open => None,
+        Request::Bad => Some(HttpAsk::Bad),
+        Request::NotGet => Some(HttpAsk::NotGet),
+        Request::NoTarget => Some(HttpAsk::NoTarget),
+        Request::Get(target) => {
+            let spot = spot_of(farm, target.name, target.z, target.x, target.y);
+            Some(http_ask_of(target.kind, spot))
+        }
+    }
+}
+
+/// What a target asks of a spot.
+fn http_ask_of(kind: Kind, spot: Spot) -> HttpAsk
+    ensures { result ≡ spec.http_ask_of kind spot }
+{
+    match kind {
+        Kind::Tile => HttpAsk::Tile(spot),
+        Kind::Status => HttpAsk::Status(spot),
+        Kind::Dirty => HttpAsk::Dirty(spot),
+    }
+}
+
+/// The spot of a place.
+fn spot_of<M: Farm>(farm: &M, name: &str, z: u32, x: u32, y: u32) -> Spot
+    ensures { result ≡ spec.place_spot (M.map_at farm.now)
+        (record { name = name.now; z = z; x = x; y = y }) }
+{
+    let map = farm.map_of(name.as_bytes());
+    Spot { map, z, x, y }
+}
+
+/// Does a ask, and puts the bytes that are answered to it into `response`.
+pub(crate) fn serve_http_ask<R: Wait, M: Farm>(
+    rt: &R,
+    alloc: Global,
+    farm: &M,
+    seat: &mut M::Seat,
+    conn: Conn,
+    http_ask: HttpAsk,
+    stage: &mut Stage,
+    response: &mut Vec<u8>,
+) -> Result<Disposition, Worn>
+    requires seat { (M.seats farm.now).is_seat seat.old }
+    requires number { (M.seats farm.now).number seat.old ≡ conn.front + 1 }
+    requires empty { response.old.items ≡ [] }
+    ensures seat { SameSeat (M.seats farm.now) seat.old seat.new }
+    ensures worn { OnErr result ((M.seats farm.now).worn seat.new ≡ true) }
+    ensures does { DoesHttpAsk conn http_ask ((M.seats farm.now).mine seat.old)
+        ((M.seats farm.now).mine seat.new) stage.new response.new.items (disposition_of result) }
+{
+    match http_ask {
+        HttpAsk::Bad => Ok(refuse(alloc, Fault::BadRequest, stage, response)),
+        HttpAsk::NotGet => Ok(refuse(alloc, Fault::NotAllowed, stage, response)),
+        HttpAsk::NoTarget => Ok(refuse(alloc, Fault::NotFound, stage, response)),
+        HttpAsk::Tile(spot) => serve_tile(rt, alloc, farm, seat, conn, spot, stage, response),
+        HttpAsk::Status(spot) => {
+            let Ok(looked) = farm.look(rt, seat, spot) else {
+                return Err(Worn);
+            };
+            *stage = Stage::Answered;
+            Ok(disposition_of_put(put_status(alloc, looked, response)))
+        }
+        HttpAsk::Dirty(spot) => {
+            let Ok(_) = farm.ask(rt, seat, conn, Cmd::Dirty, spot) else {
+                return Err(Worn);
+            };
+            *stage = Stage::Answered;
+            Ok(disposition_of_put(put_dirty(alloc, response)))
+        }
+    }
+}
+
+/// Answers a fault.
+fn refuse(alloc: Global, fault: Fault, stage: &mut Stage, response: &mut Vec<u8>) -> Disposition
+    requires { response.old.items ≡ [] }
+    ensures stage { stage.new ≡ Stage.Answered }
+    ensures response { Says (fault_answer fault) response.new.items result }
+{
+    *stage = Stage::Answered;
+    disposition_of_put(put_fault(alloc, fault, response))
+}
+
+/// Asks for a tile, and fetches it where it need not be waited for.
+fn serve_tile<R: Wait, M: Farm>(
+    rt: &R,
+    alloc: Global,
+    farm: &M,
+    seat: &mut M::Seat,
+    conn: Conn,
+    spot: Spot,
+    stage: &mut Stage,
+    response: &mut Vec<u8>,
+) -> Result<Disposition, Worn>
+    requires seat { (M.seats farm.now).is_seat seat.old }
+    requires number { (M.seats farm.now).number seat.old ≡ conn.front + 1 }
+    requires empty { response.old.items ≡ [] }
+    ensures seat { SameSeat (M.seats farm.now) seat.old seat.new }
+    ensures worn { OnErr result ((M.seats farm.now).worn seat.new ≡ true) }
+    ensures does { DoesHttpAsk conn (http_ask.Tile spot) ((M.seats farm.now).mine seat.old)
+        ((M.seats farm.now).mine seat.new) stage.new response.new.items (disposition_of result) }
+{
+    let Ok(answer) = farm.ask(rt, seat, conn, Cmd::Render, spot) else {
+        return Err(Worn);
+    };
+    match number_in(answer) {
+        Some(number) => {
+            *stage = Stage::Waiting(number, spot);
+            Ok(Disposition::Stays)
+        }
+        None => {
+            *stage = Stage::Answered;
+            fetch_and_say(rt, alloc, farm, seat, spot, response)
+        }
+    }
+}
+
+/// The number of an ask that waits.
+fn number_in(answer: AskAnswer) -> Option<u64>
+    ensures { result ≡ past.number_in answer }
+{
+    match answer {
+        AskAnswer::Queued(number) => Some(number),
+        AskAnswer::Joined(number) => Some(number),
+        AskAnswer::Lifted(number) => Some(number),
+        AskAnswer::Done => None,
+        AskAnswer::NotDone(_) => None,
+        AskAnswer::Silent => None,
+    }
+}
+
+/// Fetches a tile, and puts its answer into `response`.
+pub(crate) fn fetch_and_say<R: Wait, M: Farm>(
+    rt: &R,
+    alloc: Global,
+    farm: &M,
+    seat: &mut M::Seat,
+    spot: Spot,
+    response: &mut Vec<u8>,
+) -> Result<Disposition, Worn>
+    requires seat { (M.seats farm.now).is_seat seat.old }
+    requires empty { response.old.items ≡ [] }
+    ensures seat { SameSeat (M.seats farm.now) seat.old seat.new }
+    ensures worn { OnErr result ((M.seats farm.now).worn seat.new ≡ true) }
+    ensures fetches { Fetches spot ((M.seats farm.now).mine seat.old)
+        ((M.seats farm.now).mine seat.new) response.new.items (disposition_of result) }
+{
+    let Ok(fetched) = farm.fetch(rt, alloc, seat, spot) else {
+        return Err(Worn);
+    };
+    Ok(say_tile(alloc, &fetched, response))
+}
+
+/// Puts the answer to a tile that was fetched; want of memory has none.
+fn say_tile(alloc: Global, fetched: &Fetched, response: &mut Vec<u8>) -> Disposition
+    requires { response.old.items ≡ [] }
+    ensures { SaysTile fetched.now response.new.items result }
+{
+    if matches!(fetched, Fetched::NoMemory) {
+        return Disposition::Leaves(Reason::NoMemory);
+    }
+    disposition_of_put(put_tile(alloc, fetched, response))
+}
+
+/// A session whose answer found no memory is left.
+fn disposition_of_put(put: Result<(), NoMemory>) -> Disposition
+    ensures { MatchResult put (λ _. result ≡ Disposition.Stays)
+        (λ _. result ≡ Disposition.Leaves Reason.Starved) }
+{
+    match put {
+        Ok(()) => Disposition::Stays,
+        Err(_) => Disposition::Leaves(Reason::Starved),
+    }
+}

@@ -1,7 +1,0 @@
-use Rattle.fault_texts.specs.MetaFaults.{meta_text}
-use Rattle.input_files.proofs.Judged.{file_checked, tells_same}
-use Rattle.meta_command.proofs.command.read_listing.Goals as goal
-
-pub returns : goal.returns
-returns g c =
-    file_checked _ _ _ _ _ _ _ _ _ c.in_ok-bytes.ensures c.as_slice.ensures.value (tells_same meta_text _ _ c.listing.ensures) c.checked.ensures

@@ -1,7 +1,0 @@
-use Rattle.std.proofs.Common.{◌≡◌, ◌++◌, take}
-use Rattle.std.specs.List.{flat_map}
-use Rattle.meta_command.specs.Lines.{meta_line, entry_line}
-use Rattle.meta_command.proofs.lines.listing_text.Given as goal
-
-abbrev pub invariant-loop-entry : goal.invariant-loop-entry
-invariant-loop-entry l = l.text.items ≡ meta_line l.listing.meta ++ flat_map entry_line (take l.entry-index l.entry-items)

@@ -1,8 +1,0 @@
-use Rattle.std.proofs.Common.{◌≡◌, append_assoc}
-use Rattle.std.specs.Prelude.{string_bytes}
-use Rattle.std.proofs.lemmas.Result.{IfOk-weaker}
-use Rattle.meta_command.specs.Lines.{meta_line}
-use Rattle.meta_command.proofs.lines.meta_line.Goals as goal
-
-pub returns : goal.returns
-returns c = IfOk-weaker c.format.result _ (λ s. string_bytes s ≡ meta_line c.args.meta) (λ s e. simp append_assoc e) c.format.ensures.ok

@@ -1,0 +1,95 @@
+-- Boxes are added one after another.
+use Rattle.std.proofs.Common.{◌≡◌, ℕ, ◌+◌, ◌<◌, ◌≤◌, Bool, true, false, cond, nat_lt, ◌||◌, List, [], ◌∷◌, ◌++◌, length, take, get_or, flat_map, position, Option, Some, None, refl, sym, ap, ap₂, ◌∙◌, subst, append-nil, append_assoc}
+use Rattle.std.specs.Prelude.{slice_get, nat_eq}
+use Rattle.std.specs.List.{list_any, position_or_len}
+use Rattle.std.proofs.lemmas.Bool.{ltb-false}
+use Rattle.std.proofs.lemmas.List.Folds.{find_at}
+use Rattle.std.proofs.lemmas.Option.{slice_get_past}
+use Rattle.std.proofs.lemmas.Grind.{flat_map-append}
+use Rattle.std.proofs.lemmas.List.{take_more, take_all}
+use Rattle.farm_history.proofs.Lists.{any-append, each-join}
+use Rattle.plain_world.specs.declared.world.Square.{Square}
+use Rattle.plain_data.specs.Features.{Feature}
+use Rattle.plain_data.specs.Reach.{feature_reaches}
+use Rattle.geo_model.specs.declared.bounds.Bounds.{Bounds}
+use Rattle.reach_box.specs.Boxes.{IsBox, box_reaches}
+use Rattle.plain_data.specs.Data.{Change}
+use Rattle.reach_box.specs.NamedBoxes.{AreBoxesOf, Adds, feature_list, at_id, at_put, met_by}
+
+both : (fs gs : List Feature) (a b : List Bounds) → AreBoxesOf fs a → AreBoxesOf gs b → AreBoxesOf (fs ++ gs) (a ++ b)
+both fs gs a b x y = record {
+  sound = each-join IsBox a b x.sound y.sound;
+  reach = λ size z s.
+      any-append (λ c. box_reaches c size z s) a b
+      ∙ (ap₂ (λ p q. p || q) (x.reach size z s) (y.reach size z s) ∙ sym (any-append (λ f. feature_reaches f size z s) fs gs));
+}
+
+-- nothing is added of no features
+pub adds_none : (xs : List Bounds) → Adds [] xs xs
+adds_none xs = record { more = []; is = sym (append-nil xs); boxes = record { sound = tt; reach = λ size z s. refl } }
+
+-- one box is added
+pub adds_one : (f : Feature) (b : Bounds) (xs ys : List Bounds) → IsBox b → ((size z : ℕ) (s : Square) → box_reaches b size z s ≡ feature_reaches f size z s) → ys ≡ xs ++ b ∷ [] → Adds (f ∷ []) xs ys
+adds_one f b xs ys sound same is = record {
+  more = b ∷ [];
+  is = is;
+  boxes = record { sound = (sound, tt); reach = λ size z s. ap (λ t. list_any (λ (c : Bool). c) (t ∷ [])) (same size z s) };
+}
+
+-- boxes are added after others
+pub adds_then : (fs gs : List Feature) (a b c : List Bounds) → Adds fs a b → Adds gs b c → Adds (fs ++ gs) a c
+adds_then fs gs a b c x y = record {
+  more = x.more ++ y.more;
+  is = y.is ∙ (ap (λ t. t ++ y.more) x.is ∙ append_assoc a x.more y.more);
+  boxes = both fs gs x.more y.more x.boxes y.boxes;
+}
+
+-- the boxes of one more item of a list
+pub adds_more : {X : Type 0} (of : X → List Feature) (xs : List X) (i : ℕ) (x : X) (a b c : List Bounds) → i < length xs → x ≡ get_or xs i x → Adds (flat_map of (take i xs)) a b → Adds (of x) b c → Adds (flat_map of (take (i + 1) xs)) a c
+adds_more of xs i x a b c lt at before here = subst (λ fs. Adds fs a c) (sym next) (adds_then (flat_map of (take i xs)) (of x) a b c before here)
+  where
+    next : flat_map of (take (i + 1) xs) ≡ flat_map of (take i xs) ++ of x
+    next = ap (flat_map of) (take_more xs i x lt) ∙ (flat_map-append of (take i xs) (get_or xs i x ∷ []) ∙ ap (λ t. flat_map of (take i xs) ++ t) (append-nil (of (get_or xs i x)) ∙ ap of (sym at)))
+
+-- and of all
+pub adds_all : {X : Type 0} (of : X → List Feature) (xs : List X) (i : ℕ) (a b : List Bounds) → length xs ≤ i → Adds (flat_map of (take i xs)) a b → Adds (flat_map of xs) a b
+adds_all of xs i a b all h = subst (λ ys. Adds (flat_map of ys) a b) (take_all i xs all) h
+
+-- the feature at the place of an id
+some_place : (b : Bool) (n i : ℕ) → cond b (Some n) None ≡ Some i → n ≡ i
+some_place true n i e = cc
+some_place false n i e = let none : Option ℕ = None in let never : none ≡ Some i = e in cc
+
+no_place : (b : Bool) (n : ℕ) → cond b (Some n) None ≡ None → b ≡ false
+no_place true n e = let none : Option ℕ = None in let never : Some n ≡ none = e in cc
+no_place false n e = refl
+
+abbrev of_id : ℕ → Feature → Bool
+of_id id f = nat_eq f.id id
+
+pub placed : (features : List Feature) (id place : ℕ) (f : Feature) → Some place ≡ position (of_id id) features → Some f ≡ slice_get features place → f ∷ [] ≡ at_id features id
+placed features id place f at is =
+    let here : position_or_len (of_id id) features ≡ place = some_place (nat_lt (position_or_len (of_id id) features) (length features)) (position_or_len (of_id id) features) place (sym at) in
+    ap feature_list (is ∙ (sym (ap (slice_get features) here) ∙ sym (find_at (of_id id) features)))
+
+-- there is none
+pub unplaced : (features : List Feature) (id : ℕ) → None ≡ position (of_id id) features → [] ≡ at_id features id
+unplaced features id at =
+    let past : length features ≤ position_or_len (of_id id) features = ltb-false (position_or_len (of_id id) features) (length features) (no_place (nat_lt (position_or_len (of_id id) features) (length features)) (position_or_len (of_id id) features) (sym at)) in
+    ap feature_list (sym (find_at (of_id id) features ∙ slice_get_past features (position_or_len (of_id id) features) past))
+
+-- boxes that are added to none are all
+pub boxes_from : (fs : List Feature) (xs : List Bounds) → Adds fs [] xs → AreBoxesOf fs xs
+boxes_from fs xs a = subst (AreBoxesOf fs) (sym a.is) a.boxes
+
+none_removed : (ids : List ℕ) → flat_map (at_id []) ids ≡ []
+none_removed [] = refl
+none_removed (id ∷ ids) = none_removed ids
+
+all_put : (puts : List Feature) → flat_map (at_put []) puts ≡ puts
+all_put [] = refl
+all_put (p ∷ puts) = ap (λ xs. p ∷ xs) (all_put puts)
+
+-- over no old features all that is put is named, and nothing else
+pub met_new : (c : Change) → c.put ≡ met_by [] c
+met_new c = sym (ap₂ (λ a b. a ++ b) (none_removed c.remove) (all_put c.put))

@@ -1,0 +1,167 @@
+-- Expiries of what boxes reach, one after another.
+use Rattle.std.proofs.Common.{◌≡◌, ℕ, ◌+◌, ◌^◌, ◌<◌, ◌≤◌, min, Bool, true, false, ◌||◌, ◌&&◌, ◌==◌, nat_lt, List, [], ◌∷◌, length, take, get_or, slice_get, Option, Some, None, refl, sym, ap, ◌∙◌, subst, arith}
+use Rattle.std.specs.List.{list_any}
+use Rattle.std.proofs.lemmas.Bool.{eqb-true}
+use Rattle.std.proofs.lemmas.Bool.Decides.{nat_tests}
+use Rattle.std.proofs.lemmas.List.{take_all}
+use Rattle.std.proofs.lemmas.List.Folds.{list_any_more}
+use Rattle.std.proofs.lemmas.Option.{slice_get_past}
+use Rattle.farm_history.specs.declared.keys.Key.{Key}
+use Rattle.farm_history.specs.Plans.{AreApart, same_key}
+use Rattle.farm_history.proofs.Lists.{each-all}
+use Rattle.plain_world.specs.World.{meta_square}
+use Rattle.geo_model.specs.declared.bounds.Bounds.{Bounds}
+use Rattle.reach_box.specs.Boxes.{reach_of}
+use Rattle.expiry_lists.specs.Boxes.{holds_some}
+use Rattle.expiry_lists.specs.Marks.{Shown, shown_key, dirtied_mark, dirtied_marks, clean_marks, is_of_map, is_in_box}
+use Rattle.expiry_lists.proofs.Dirtying.{dirties_none, dirtied_marks-dirtied_marks, clean_marks-dirtied_marks}
+use Rattle.farm_plan.specs.Plans.{MapPlan}
+use Rattle.reach_box.specs.Marks.{box_rectangle, is_met, is_met_by, is_reached, most_told, Expires}
+use Rattle.reach_box.proofs.Naming.{any_map}
+
+-- nothing is expired by a test that no key passes
+pub expires_none : (test : Key → Bool) (a : List Shown) → ((k : Key) → test k ≡ false) → Expires test a a 0
+expires_none test a none =
+    let s = dirties_none test a (each-all (λ (x : Shown). x.mark.clean ≡ true → test x.key ≡ false) a (λ x clean. none x.key)) in
+    record { shown = s.marks; count_is = omega (arith, s.counted) }
+
+-- one expiry after another, of the keys that pass a test which says the same as both
+pub expires_then : (p q both : Key → Bool) (a b c : List Shown) (m n total : ℕ) → ((k : Key) → (p k || q k) ≡ both k) → Expires p a b m → Expires q b c n → total ≡ min (m + n) most_told → Expires both a c total
+expires_then p q both a b c m n total same x y is = subst (λ t. Expires t a c total) (λ i k. same k i) (record {
+  shown = y.shown ∙ (ap (dirtied_marks q) x.shown ∙ dirtied_marks-dirtied_marks p q a);
+  count_is =
+      let add = clean_marks-dirtied_marks p q a in
+      let later = ap (clean_marks q) x.shown in
+      let first = x.count_is in
+      let second = y.count_is in
+      omega (arith, add, later, first, second, is);
+})
+
+-- a count that is told in full
+pub expires_told : (test : Key → Bool) (a b : List Shown) (n : ℕ) → n < 2 ^ 64 → b ≡ dirtied_marks test a → n ≡ clean_marks test a → Expires test a b n
+expires_told test a b n fits shown count = record { shown = shown; count_is = omega (arith, fits, count) }
+
+-- what is shown once after an expiry was shown once before
+pub apart_before : (test : Key → Bool) (a b : List Shown) → b ≡ dirtied_marks test a → AreApart shown_key b → AreApart shown_key a
+apart_before test a b is apart = go a (subst (AreApart shown_key) is apart)
+  where
+    go : (xs : List Shown) → AreApart shown_key (dirtied_marks test xs) → AreApart shown_key xs
+    go [] h = tt
+    go (x ∷ xs) h = (sym (any_map (λ (y : Shown). same_key y.key x.key) (dirtied_mark test) xs) ∙ h.0, go xs h.1)
+
+-- ---- zooms
+
+zoom_here : (m h : Bool) (kz z : ℕ) → kz ≡ z → ((m && (nat_lt kz z && h)) || (m && ((kz == z) && h))) ≡ (m && (nat_lt kz (z + 1) && h))
+zoom_here m h kz z same = grind (arith, nat_tests)
+
+zoom_other : (m h other : Bool) (kz z : ℕ) → (kz == z) ≡ false → ((m && (nat_lt kz z && h)) || (m && ((kz == z) && other))) ≡ (m && (nat_lt kz (z + 1) && h))
+zoom_other m h other kz z differs = grind (arith, nat_tests)
+
+zoom_test : (m : Bool) (h : ℕ → Bool) (kz z : ℕ) → ((m && (nat_lt kz z && h kz)) || (m && ((kz == z) && h z))) ≡ (m && (nat_lt kz (z + 1) && h kz))
+zoom_test m h kz z = go (kz == z) refl
+  where
+    go : (b : Bool) → (kz == z) ≡ b → ((m && (nat_lt kz z && h kz)) || (m && ((kz == z) && h z))) ≡ (m && (nat_lt kz (z + 1) && h kz))
+    go true e = let same : kz ≡ z = eqb-true kz z e in ap (λ x. (m && (nat_lt kz z && h kz)) || (m && ((kz == z) && x))) (ap h (sym same)) ∙ zoom_here m (h kz) kz z same
+    go false e = zoom_other m (h kz) (h z) kz z e
+
+-- what a box reaches of a map, at the zooms below this one
+abbrev pub below_zoom : ℕ → ℕ → Bounds → ℕ → Key → Bool
+below_zoom map size b z k = is_of_map map k && (nat_lt k.meta.z z && is_met b size k)
+
+pub no_zoom : (map size : ℕ) (b : Bounds) (k : Key) → below_zoom map size b 0 k ≡ false
+no_zoom map size b k = go (map == k.map) (is_met b size k) k.meta.z
+  where
+    go : (m h : Bool) (kz : ℕ) → (m && (nat_lt kz 0 && h)) ≡ false
+    go m h kz = grind (arith, nat_tests)
+
+pub zoom_more : (map size z : ℕ) (b r : Bounds) (old before after : List Shown) (m n total : ℕ) → r ≡ reach_of b size z → n < 2 ^ 64 → after ≡ dirtied_marks (is_in_box map z (box_rectangle r)) before → n ≡ clean_marks (is_in_box map z (box_rectangle r)) before → total ≡ min (m + n) most_told →
+    Expires (below_zoom map size b z) old before m → Expires (below_zoom map size b (z + 1)) old after total
+zoom_more map size z b r old before after m n total is fits shown count sum x =
+    expires_then (below_zoom map size b z) (is_in_box map z (box_rectangle r)) (below_zoom map size b (z + 1)) old before after m n total same x (expires_told (is_in_box map z (box_rectangle r)) before after n fits shown count) sum
+  where
+    same : (k : Key) → (below_zoom map size b z k || is_in_box map z (box_rectangle r) k) ≡ below_zoom map size b (z + 1) k
+    same k =
+        ap (λ (x : Bounds). below_zoom map size b z k || (is_of_map map k && ((k.meta.z == z) && holds_some (box_rectangle x) (meta_square k.meta)))) is
+        ∙ zoom_test (map == k.map) (λ n. holds_some (box_rectangle (reach_of b size n)) (meta_square k.meta)) k.meta.z z
+
+-- ---- boxes
+
+-- what the boxes reach of a map
+abbrev pub of_boxes : ℕ → ℕ → List Bounds → Key → Bool
+of_boxes map size boxes k = is_of_map map k && (nat_lt k.meta.z 19 && list_any (λ b. is_met b size k) boxes)
+
+pub no_box : (map size : ℕ) (k : Key) → of_boxes map size [] k ≡ false
+no_box map size k = go (map == k.map) (nat_lt k.meta.z 19)
+  where
+    go : (m z : Bool) → (m && (z && false)) ≡ false
+    go true true = refl
+    go true false = refl
+    go false z = refl
+
+joined : (m z a h : Bool) → ((m && (z && a)) || (m && (z && h))) ≡ (m && (z && (a || h)))
+joined true true a h = refl
+joined true false a h = refl
+joined false z a h = refl
+
+pub box_more : (map size i : ℕ) (boxes : List Bounds) (d : Bounds) (old before after : List Shown) (m n total : ℕ) → i < length boxes → Expires (below_zoom map size (get_or boxes i d) 19) before after n → total ≡ min (m + n) most_told →
+    Expires (of_boxes map size (take i boxes)) old before m → Expires (of_boxes map size (take (i + 1) boxes)) old after total
+box_more map size i boxes d old before after m n total lt y sum x =
+    expires_then (of_boxes map size (take i boxes)) (below_zoom map size (get_or boxes i d) 19) (of_boxes map size (take (i + 1) boxes)) old before after m n total same x y sum
+  where
+    same : (k : Key) → (of_boxes map size (take i boxes) k || below_zoom map size (get_or boxes i d) 19 k) ≡ of_boxes map size (take (i + 1) boxes) k
+    same k =
+        joined (map == k.map) (nat_lt k.meta.z 19) (list_any (λ c. is_met c size k) (take i boxes)) (is_met (get_or boxes i d) size k)
+        ∙ ap (λ a. is_of_map map k && (nat_lt k.meta.z 19 && a)) (sym (list_any_more (λ c. is_met c size k) boxes i d lt))
+
+pub box_all : (map size i : ℕ) (boxes : List Bounds) (old new : List Shown) (n : ℕ) → length boxes ≤ i → Expires (of_boxes map size (take i boxes)) old new n → Expires (of_boxes map size boxes) old new n
+box_all map size i boxes old new n all x = subst (λ bs. Expires (of_boxes map size bs) old new n) (take_all i boxes all) x
+
+-- ---- maps
+
+-- what the boxes reach of the maps before this place
+abbrev pub below_map : List MapPlan → List Bounds → ℕ → Key → Bool
+below_map maps boxes i k = nat_lt k.map i && is_reached maps boxes k
+
+pub no_map : (maps : List MapPlan) (boxes : List Bounds) (k : Key) → below_map maps boxes 0 k ≡ false
+no_map maps boxes k = go k.map (is_reached maps boxes k)
+  where
+    go : (km : ℕ) (r : Bool) → (nat_lt km 0 && r) ≡ false
+    go km r = grind (arith, nat_tests)
+
+map_here : (r : Bool) (km i : ℕ) → i ≡ km → ((nat_lt km i && r) || ((i == km) && r)) ≡ (nat_lt km (i + 1) && r)
+map_here r km i same = grind (arith, nat_tests)
+
+map_other : (r q : Bool) (km i : ℕ) → (i == km) ≡ false → ((nat_lt km i && r) || ((i == km) && q)) ≡ (nat_lt km (i + 1) && r)
+map_other r q km i differs = grind (arith, nat_tests)
+
+map_test : (r q : Bool) (km i : ℕ) → (i ≡ km → q ≡ r) → ((nat_lt km i && r) || ((i == km) && q)) ≡ (nat_lt km (i + 1) && r)
+map_test r q km i by = go (i == km) refl
+  where
+    go : (b : Bool) → (i == km) ≡ b → ((nat_lt km i && r) || ((i == km) && q)) ≡ (nat_lt km (i + 1) && r)
+    go true e = let same : i ≡ km = eqb-true i km e in ap (λ x. (nat_lt km i && r) || ((i == km) && x)) (by same) ∙ map_here r km i same
+    go false e = map_other r q km i e
+
+pub map_more : (maps : List MapPlan) (boxes : List Bounds) (i : ℕ) (mp : MapPlan) (old before after : List Shown) (m n total : ℕ) → slice_get maps i ≡ Some mp → Expires (of_boxes i mp.tile boxes) before after n → total ≡ min (m + n) most_told →
+    Expires (below_map maps boxes i) old before m → Expires (below_map maps boxes (i + 1)) old after total
+map_more maps boxes i mp old before after m n total at y sum x =
+    expires_then (below_map maps boxes i) (of_boxes i mp.tile boxes) (below_map maps boxes (i + 1)) old before after m n total same x y sum
+  where
+    same : (k : Key) → (below_map maps boxes i k || of_boxes i mp.tile boxes k) ≡ below_map maps boxes (i + 1) k
+    same k = map_test (is_reached maps boxes k) (nat_lt k.meta.z 19 && list_any (λ b. is_met b mp.tile k) boxes) k.map i (λ e. ap (λ o. nat_lt k.meta.z 19 && is_met_by boxes o k) (sym at ∙ ap (slice_get maps) e))
+
+pub map_all : (maps : List MapPlan) (boxes : List Bounds) (i : ℕ) (old new : List Shown) (n : ℕ) → length maps ≤ i → Expires (below_map maps boxes i) old new n → Expires (is_reached maps boxes) old new n
+map_all maps boxes i old new n all x = subst (λ t. Expires t old new n) (λ j k. same k j) x
+  where
+    past : (b : Bool) (o : Option MapPlan) (z : Bool) (k : Key) → (b ≡ false → o ≡ None) → (b && (z && is_met_by boxes o k)) ≡ (z && is_met_by boxes o k)
+    past true o z k none = refl
+    past false o z k none = sym (ap (λ (p : Option MapPlan). z && is_met_by boxes p k) (none refl) ∙ nothing z)
+      where
+        nothing : (z : Bool) → (z && false) ≡ false
+        nothing true = refl
+        nothing false = refl
+
+    beyond : (km : ℕ) → nat_lt km i ≡ false → length maps ≤ km
+    beyond km h = grind (arith, nat_tests)
+
+    same : (k : Key) → below_map maps boxes i k ≡ is_reached maps boxes k
+    same k = past (nat_lt k.map i) (slice_get maps k.map) (nat_lt k.meta.z 19) k (λ h. slice_get_past maps k.map (beyond k.map h))

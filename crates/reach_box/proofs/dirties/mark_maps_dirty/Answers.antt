@@ -1,0 +1,26 @@
+-- One map after another.
+use Rattle.std.proofs.Common.{length, refl, subst, arith}
+use Rattle.std.proofs.lemmas.Option.{slice_get_read}
+use Rattle.farm_plan.specs.Plans.{MapPlan}
+use Rattle.reach_box.specs.Marks.{Expires}
+use Rattle.reach_box.proofs.Dirtied.{below_map, of_boxes, expires_none, apart_before, no_map, map_more, map_all}
+use Rattle.reach_box.proofs.dirties.mark_maps_dirty.Goals as goal
+
+pub loop-place-init : goal.loop-place-init
+loop-place-init c = record {
+  dirties = expires_none (below_map c.args.maps.now c.args.boxes.now 0) c.args.marks.now.shown (no_map c.args.maps.now c.args.boxes.now);
+  apart = λ h. absurd (omega (arith, h));
+}
+
+pub loop-place-preserved : goal.loop-place-preserved
+loop-place-preserved c = record {
+  dirties =
+      map_more c.args.maps.now c.args.boxes.now c.loop-place.place c.index-maps-place.result c.args.marks.now.shown c.loop-place.marks.shown c.mark_boxes_dirty.new.marks.shown c.loop-place.clean c.mark_boxes_dirty.result c.saturating_add-clean.result
+      (slice_get_read c.args.maps.now (length c.args.maps.now) c.loop-place.place c.index-maps-place.result refl c.loop-place-test.true c.index-maps-place.is)
+      (subst (λ (mp : MapPlan). Expires (of_boxes c.loop-place.place mp.tile c.args.boxes.now) c.loop-place.marks.shown c.mark_boxes_dirty.new.marks.shown c.mark_boxes_dirty.result) c.plan.view_is c.mark_boxes_dirty.ensures.dirties)
+      c.saturating_add-clean.ensures c.loop-place.invariant.dirties;
+  apart = λ h some. apart_before (below_map c.args.maps.now c.args.boxes.now c.loop-place.place) c.args.marks.now.shown c.loop-place.marks.shown c.loop-place.invariant.dirties.shown (c.mark_boxes_dirty.ensures.apart some);
+}
+
+pub returns-clause-dirties : goal.returns-clause-dirties
+returns-clause-dirties c = map_all c.args.maps.now c.args.boxes.now c.loop-place.place c.args.marks.now.shown c.loop-place.marks.shown c.loop-place.clean (omega arith) c.loop-place.invariant.dirties

@@ -1,0 +1,114 @@
+//! The bounding boxes of the features that an update names.
+ghost use Rattle.std.specs.Prelude.{◌≡◌, ◌≤◌, ◌∷◌, [], All, flat_map, OnOk, IfOk};
+ghost use Rattle.plain_world.specs.World.{IsMeta, IsTileSize, meta_square};
+ghost use Rattle.plain_data.specs.Data.{IsLayer};
+ghost use Rattle.farm_history.specs.Lists.{Each};
+ghost use Rattle.reach_box.specs.Boxes.{IsBox};
+ghost use Rattle.farm_plan.specs.Drawings.{features_in, named};
+ghost use Rattle.reach_box.specs.NamedBoxes.{Adds, AreBoxesOf, at_id, at_put, boxes_reach, features_met, met_by};
+
+use crate::{box_of, box_reaches};
+use data_versions::{Change, Feature, LayerView, Snapshot, Update};
+use farm_base::NoMemory;
+use geo_model::Bounds;
+use merc_fixed::meta_square;
+use plain_world::Meta;
+use std::alloc::Global;
+
+/// Adds the box of the feature.
+fn add_box(boxes: &mut Vec<Bounds>, f: &Feature) -> Result<(), NoMemory>
+    ensures { OnOk result (Adds (f.now ∷ []) boxes.old.items boxes.new.items) }
+{
+    boxes.push(box_of(f))?;
+    Ok(())
+}
+
+/// Adds the box of the layer's feature of the id, if there is one.
+fn add_old(boxes: &mut Vec<Bounds>, layer: &LayerView<'_>, id: u64) -> Result<(), NoMemory>
+    ensures { OnOk result (Adds (at_id layer.now id) boxes.old.items boxes.new.items) }
+{
+    match layer.place_of(id) {
+        Some(place) => add_box(boxes, layer.get(place).unwrap()),
+        None => Ok(()),
+    }
+}
+
+/// Adds the boxes of the layer's features of the ids.
+fn add_removed(boxes: &mut Vec<Bounds>, layer: &LayerView<'_>, ids: &[u64]) -> Result<(), NoMemory>
+    ensures { OnOk result (Adds (flat_map (at_id layer.now) ids.now) boxes.old.items boxes.new.items) }
+{
+    for id in ids {
+        add_old(boxes, layer, *id)?;
+    }
+    Ok(())
+}
+
+/// Adds the boxes of the features that are put, and of the layer's features of their ids.
+fn add_put(boxes: &mut Vec<Bounds>, layer: &LayerView<'_>, puts: &[Feature]) -> Result<(), NoMemory>
+    ensures { OnOk result (Adds (flat_map (at_put layer.now) puts.now) boxes.old.items boxes.new.items) }
+{
+    for f in puts {
+        add_old(boxes, layer, f.id())?;
+        add_box(boxes, f)?;
+    }
+    Ok(())
+}
+
+/// Adds the boxes of the features that are put where there is no layer yet.
+fn add_new(boxes: &mut Vec<Bounds>, puts: &[Feature]) -> Result<(), NoMemory>
+    ensures { OnOk result (Adds puts.now boxes.old.items boxes.new.items) }
+{
+    for f in puts {
+        add_box(boxes, f)?;
+    }
+    Ok(())
+}
+
+/// Adds the boxes of the features of the layer that the change names.
+fn add_changed(
+    boxes: &mut Vec<Bounds>,
+    layer: &LayerView<'_>,
+    change: &Change,
+) -> Result<(), NoMemory>
+    ensures { OnOk result (Adds (met_by layer.now change.now) boxes.old.items boxes.new.items) }
+{
+    add_removed(boxes, layer, change.remove.as_slice())?;
+    add_put(boxes, layer, change.put.as_slice())
+}
+
+/// Adds the boxes of the features that the change names.
+fn add_named(boxes: &mut Vec<Bounds>, snapshot: &Snapshot, change: &Change) -> Result<(), NoMemory>
+    ensures { OnOk result (Adds (met_by (features_in snapshot.now change.now.layer) change.now) boxes.old.items boxes.new.items) }
+{
+    match snapshot.layer(change.layer.as_str()) {
+        Some(layer) => add_changed(boxes, &layer, change),
+        None => add_new(boxes, change.put.as_slice()),
+    }
+}
+
+/// The boxes of the features that the update names over the data of the snapshot: of the old features whose
+/// ids it removes or puts, and of those that it puts. Together they reach what these features reach.
+pub fn named_boxes(
+    alloc: Global,
+    snapshot: &Snapshot,
+    update: &Update,
+) -> Result<Vec<Bounds>, NoMemory>
+    ensures sound { IfOk result (λ v. Each IsBox v.items) }
+    ensures named { IfOk result (λ v. All IsLayer snapshot.now → AreBoxesOf (named snapshot.now update.now) v.items) }
+{
+    let mut boxes = Vec::new(alloc);
+    for change in update.changes() {
+        add_named(&mut boxes, snapshot, change)?;
+    }
+    Ok(boxes)
+}
+
+/// Whether some of the boxes reaches the metatile, for tiles of `size` by `size` pixels. Takes no memory.
+pub fn boxes_reach(boxes: &[Bounds], size: u32, m: Meta) -> bool
+    requires size { IsTileSize size }
+    requires meta { IsMeta m }
+    ensures { result ≡ boxes_reach boxes.now size m.z (meta_square m) }
+{
+    let square = meta_square(m);
+    boxes.iter().any(|b| box_reaches(*b, size, m.z, square))
+}

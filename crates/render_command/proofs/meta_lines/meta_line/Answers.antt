@@ -1,0 +1,8 @@
+use Rattle.std.proofs.Common.{◌≡◌, append_assoc}
+use Rattle.std.specs.Prelude.{string_bytes}
+use Rattle.std.proofs.lemmas.Result.{IfOk-weaker}
+use Rattle.render_command.specs.MetaLines.{meta_line}
+use Rattle.render_command.proofs.meta_lines.meta_line.Goals as goal
+
+pub returns : goal.returns
+returns c = IfOk-weaker c.format.result _ (λ s. string_bytes s ≡ meta_line c.args.meta) (λ s e. simp append_assoc e) c.format.ensures.ok

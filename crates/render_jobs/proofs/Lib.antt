@@ -1,0 +1,4 @@
+pub mod Replicas
+pub mod Sendable
+pub mod Servable
+pub mod Checked

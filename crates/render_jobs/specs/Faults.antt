@@ -1,0 +1,81 @@
+-- Why a farm is not resumed: the first fault of what was saved, over a plan.
+use Rattle.std.specs.Prelude.{ℕ, ◌+◌, Bool, true, false, ◌==◌, nat_lt, nat_le, if◌then◌else◌, List, [], ◌∷◌, length, slice_get, Option, Some, None, Result, Ok, Err}
+use Rattle.std.specs.Option.{option_or}
+use Rattle.farm_base.specs.declared.faults.ApplyFault.{ApplyFault}
+use Rattle.plain_data.specs.Features.{Layer}
+use Rattle.plain_data.specs.Data.{update_result}
+use Rattle.farm_history.specs.declared.keys.Key.{Key}
+use Rattle.farm_history.specs.declared.keys.Kept.{Kept}
+use Rattle.farm_history.specs.declared.saved.Past.{Past}
+use Rattle.farm_history.specs.Replays.{Saving, past_number}
+use Rattle.farm_plan.specs.Plans.{MapPlan, Restyle, FarmPlan}
+use Rattle.farm_plan.specs.Drawings.{update_of}
+use Rattle.render_jobs.specs.declared.faults.ResumeFault.{ResumeFault}
+use Rattle.render_jobs.specs.declared.faults.ResumeFault.TheVariants.{Maps, Number, Kept as NotKept, Apply}
+
+-- whether a style of the table is one of that map
+abbrev pub names_map : Option Restyle → ℕ → Bool
+names_map None map = false
+names_map (Some r) map = r.map == map
+
+-- whether the style that a map was given last is in the table, as one of that map; or there is none
+abbrev pub is_style_at : FarmPlan → ℕ → Option ℕ → Bool
+is_style_at plan map None = true
+is_style_at plan map (Some n) = names_map (slice_get plan.restyles n) map
+
+-- whether the map is there and has that zoom
+abbrev pub has_zoom : Option MapPlan → ℕ → Bool
+has_zoom None z = false
+has_zoom (Some mp) z = nat_le z mp.max_zoom
+
+-- whether the plan has the map of the key, up to its zoom
+abbrev pub can_show : FarmPlan → Key → Bool
+can_show plan k = has_zoom (slice_get plan.maps k.map) k.meta.z
+
+-- the fault of the first of the list, from that place on, that does not pass the test
+unfoldable pub first_failing : {X : Type 0} → (ℕ → X → Bool) → (ℕ → ResumeFault) → ℕ → List X → Option ResumeFault
+first_failing test fault place [] = None
+first_failing test fault place (x ∷ xs) = if test place x then first_failing test fault (place + 1) xs else Some (fault place)
+
+-- a style that is none of its map
+abbrev pub styles_fault : FarmPlan → List (Option ℕ) → Option ResumeFault
+styles_fault plan styles = first_failing (is_style_at plan) (λ place. Number place) 0 styles
+
+-- an update that is not in the table; its place is counted on from those of the styles
+abbrev pub updates_fault : FarmPlan → ℕ → List Past → Option ResumeFault
+updates_fault plan styles updates = first_failing (λ place c. nat_lt (past_number c) (length plan.updates)) (λ place. Number (styles + place)) 0 updates
+
+-- a clean key that the plan does not have
+abbrev pub kept_fault : FarmPlan → List Kept → Option ResumeFault
+kept_fault plan clean = first_failing (λ place x. can_show plan x.key) (λ place. NotKept place) 0 clean
+
+-- the fault of an update that is refused at that place
+abbrev pub refused_at : ℕ → ApplyFault → ResumeFault
+refused_at place ApplyFault.NoMemory = ResumeFault.NoMemory
+refused_at place fault = Apply place fault
+
+-- the fault of one update, or what comes after it
+abbrev pub update_fault : ℕ → Result (List Layer) ApplyFault → (List Layer → Option ResumeFault) → Option ResumeFault
+update_fault place (Ok new) later = later new
+update_fault place (Err fault) later = Some (Apply place fault)
+
+-- an update that is refused over the data that those before it leave
+unfoldable pub apply_fault : FarmPlan → List Layer → ℕ → List Past → Option ResumeFault
+apply_fault plan layers place [] = None
+apply_fault plan layers place (c ∷ cs) = update_fault place (update_result (update_of plan (past_number c)) layers) (λ new. apply_fault plan new (place + 1) cs)
+
+-- the first fault but those of the updates themselves: another number of maps, a number, a clean key
+abbrev pub form_fault : FarmPlan → Saving → Option ResumeFault
+form_fault plan s =
+    if length s.styles == length plan.maps
+    then option_or (styles_fault plan s.styles) (option_or (updates_fault plan (length s.styles) s.updates) (kept_fault plan s.clean))
+    else Some (Maps (length s.styles))
+
+-- the first fault
+abbrev pub resume_fault : FarmPlan → Saving → Option ResumeFault
+resume_fault plan s = option_or (form_fault plan s) (apply_fault plan plan.dataset 0 s.updates)
+
+-- the fault of a refusal
+abbrev pub cause : Result (Unit {0}) ResumeFault → Option ResumeFault
+cause (Ok done) = None
+cause (Err fault) = Some fault

@@ -1,0 +1,15 @@
+use Rattle.std.proofs.Common.{◌≤◌, ◌-◌, length, drop}
+use Rattle.front_loop.specs.Calls.{SameSeat}
+use Rattle.renderd_handler.specs.inner.Reads.{pairs, Reads}
+use Rattle.renderd_handler.proofs.messages.read_all.Given as goal
+
+abbrev pub invariant-messages : goal.invariant-messages
+invariant-messages g l = record {
+  seat : SameSeat (g.M.Farm.seats l.farm) l.fn.seat l.seat;
+  within : l.used ≤ length l.bytes;
+  read : Reads l.conn.front (g.M.Farm.map_at l.farm) l.conn.number l.bytes (drop l.used l.bytes) ((g.M.Farm.seats l.farm).mine l.fn.seat) ((g.M.Farm.seats l.farm).mine l.seat)
+      (pairs l.fn.waits.items) (pairs l.waits.items) l.fn.response.items l.response.items;
+}
+
+abbrev pub decreases-messages : goal.decreases-messages
+decreases-messages g l = length l.bytes - l.used

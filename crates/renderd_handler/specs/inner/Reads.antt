@@ -1,0 +1,77 @@
+-- What is read of a connection's bytes, and what is kept of it.
+use Rattle.std.specs.Prelude.{◌≡◌, ℕ, cond, List, [], ◌∷◌, ◌++◌, map, Option}
+use Rattle.renderd_protocol.specs.declared.messages.Request.{Request}
+use Rattle.renderd_protocol.specs.declared.messages.Found.TheVariants.{Message}
+use Rattle.renderd_protocol.specs.Messages.{found_in}
+use Rattle.renderd_protocol.specs.Stream.{stream_read}
+use Rattle.farm_history.specs.Entries.{Entry}
+use Rattle.front_loop.specs.declared.dispositions.Disposition.{Disposition}
+use Rattle.front_loop.specs.declared.dispositions.Disposition.TheVariants.{Stays, Leaves}
+use Rattle.front_loop.specs.declared.dispositions.Reason.TheVariants as reason
+use Rattle.front_loop.specs.Rules.{Move}
+use Rattle.front_loop.specs.Front.{with_acts}
+use Rattle.renderd_handler.specs.declared.asked.Asked.{Asked}
+use Rattle.renderd_handler.specs.declared.waits.Waiting.{Waiting}
+use Rattle.renderd_handler.specs.declared.waits.ConnState.{ConnState}
+use Rattle.renderd_handler.specs.Renderd.{asks_in, answer_command, is_bad, response_to, waiting_requests, with_wait, renderd_rules}
+use Rattle.farm_history.specs.Past.{number_in}
+
+-- an ask that waits: its number, and its request
+abbrev pub pair_of : Waiting → ℕ × Request
+pair_of w = (w.number, w.request)
+
+abbrev pub pairs : List Waiting → List (ℕ × Request)
+pairs ws = map pair_of ws
+
+-- the asks that stand in the bytes
+abbrev pub asks_of : List ℕ → List Request
+asks_of bytes = asks_in (stream_read bytes).requests
+
+-- Of asks that were made, the newest first: their requests, what was answered at once, and those that wait, behind others.
+
+abbrev pub requests_of : List Asked → List Request
+requests_of [] = []
+requests_of (a ∷ acts) = requests_of acts ++ a.request ∷ []
+
+abbrev pub response_by : List Asked → List ℕ
+response_by [] = []
+response_by (a ∷ acts) = response_by acts ++ response_to (answer_command a.answer) a.request
+
+abbrev pub waits_after : List Asked → List (ℕ × Request) → List (ℕ × Request)
+waits_after [] ws = ws
+waits_after (a ∷ acts) ws = with_wait (number_in a.answer) a.request (waits_after acts ws)
+
+-- no whole message stands next
+abbrev pub HasNoneNext : List ℕ → Type 0
+HasNoneNext bytes = (request : Request) (len : ℕ) → found_in bytes ≡ Message request len → ⊥
+
+-- These requests were asked, answered and kept
+pub record Made (front : ℕ) (maps : List ℕ → Option ℕ) (c : ℕ) (asks : List Request) (mine mine' : List Entry) (waits waits' : List (ℕ × Request)) (response response' : List ℕ) : Type 0 where
+  pub acts : List Asked
+  pub mine_is : mine' ≡ with_acts (renderd_rules front maps) c acts mine
+  pub asks_are : asks ≡ requests_of acts
+  pub waits_are : waits' ≡ waits_after acts waits
+  pub response_is : response' ≡ response ++ response_by acts
+
+-- the asking was given up, after the first of these requests were asked
+pub record Halts (front : ℕ) (maps : List ℕ → Option ℕ) (c : ℕ) (asks : List Request) (mine mine' : List Entry) : Type 0 where
+  pub acts : List Asked
+  pub more : List Request
+  pub mine_is : mine' ≡ with_acts (renderd_rules front maps) c acts mine
+  pub asks_are : asks ≡ requests_of acts ++ more
+
+-- the bytes were read up to this rest: the asks that stand before it were made
+pub record Reads (front : ℕ) (maps : List ℕ → Option ℕ) (c : ℕ) (bytes rest : List ℕ) (mine mine' : List Entry) (waits waits' : List (ℕ × Request)) (response response' : List ℕ) : Type 0 where
+  pub asks : List Request
+  pub made : Made front maps c asks mine mine' waits waits' response response'
+  pub whole : asks_of bytes ≡ asks ++ asks_of rest
+  pub left : (stream_read bytes).rest ≡ (stream_read rest).rest
+
+-- what is kept of a connection is the bytes after its last whole message, and its asks that wait
+pub record Knows (given : List ℕ) (ms : List (Move Asked)) (conn_state : ConnState) : Type 0 where
+  pub unread : conn_state.unread.items ≡ (stream_read given).rest
+  pub waits : pairs conn_state.waits.items ≡ waiting_requests ms
+
+-- what becomes of a connection whose bytes were read up to these
+abbrev pub disposition_at : List ℕ → Disposition
+disposition_at bytes = cond (is_bad (found_in bytes)) (Leaves reason.Unread) Stays

@@ -1,0 +1,129 @@
+//! One ask, and what is answered to it.
+ghost use Rattle.std.specs.Prelude.{◌≡◌, ◌+◌, ◌++◌, ◌∷◌, [], true, Some, Err, IsTrue, OnOk, MatchResult};
+ghost use Rattle.front_loop.specs.Calls.{SameSeat};
+ghost use Rattle.renderd_protocol.specs.Messages.{is_version, wire_of};
+ghost use Rattle.renderd_handler.specs.declared.asking.Halt.{Halt};
+ghost use Rattle.renderd_handler.specs.Renderd.{answer_command, asks_in, command_of, response_to, with_wait};
+ghost use Rattle.farm_history.specs.Past.{number_in};
+ghost use Rattle.renderd_handler.specs.inner.Reads.{Halts, Made, pairs};
+
+use crate::waits::Waiting;
+use crate::words::{DONE, NOT_DONE, command_of, spot_of};
+use farm_base::NoMemory;
+use farm_history::{AskAnswer, Cmd, Conn};
+use front_loop::Farm;
+use renderd_protocol::{Request, write};
+use std::sync::Wait;
+
+/// Why the reading of a connection is given up.
+#[derive(Clone, Copy)]
+pub enum Halt {
+    /// The farm's limit of turns was drawn.
+    Worn,
+    /// There is no memory for an answer, or for an ask that waits.
+    NoMemory,
+}
+
+/// Says an answer: the request with this command.
+pub fn say(response: &mut Vec<u8>, request: &Request, command: u32) -> Result<(), NoMemory>
+    requires { IsTrue (is_version request.now.ver) }
+    ensures { OnOk result (response.new.items ≡ response.old.items ++ wire_of request.now command) }
+{
+    let message = write(request, command);
+    response.extend_from_slice(message.as_slice())?;
+    Ok(())
+}
+
+/// Keeps a request that waits, with the number of its ask.
+fn keep(waits: &mut Vec<Waiting>, number: u64, request: Request) -> Result<(), NoMemory>
+    requires { IsTrue (is_version request.ver) }
+    ensures { OnOk result (pairs waits.new.items ≡ pairs waits.old.items ++ (number, request) ∷ []) }
+{
+    waits.push(Waiting { number, request })?;
+    Ok(())
+}
+
+/// Says what is answered at once to a request, or keeps the request where it waits.
+fn settle(
+    waits: &mut Vec<Waiting>,
+    response: &mut Vec<u8>,
+    request: Request,
+    answer: AskAnswer,
+) -> Result<(), NoMemory>
+    requires { IsTrue (is_version request.ver) }
+    ensures response { OnOk result (response.new.items
+        ≡ response.old.items ++ response_to (answer_command answer) request) }
+    ensures waits { OnOk result (pairs waits.new.items
+        ≡ with_wait (number_in answer) request (pairs waits.old.items)) }
+{
+    match answer {
+        AskAnswer::Done => say(response, &request, DONE),
+        AskAnswer::NotDone(_) => say(response, &request, NOT_DONE),
+        AskAnswer::Queued(number) => keep(waits, number, request),
+        AskAnswer::Joined(number) => keep(waits, number, request),
+        AskAnswer::Lifted(number) => keep(waits, number, request),
+        AskAnswer::Silent => Ok(()),
+    }
+}
+
+/// Asks the farm for a request, with the command that its number is.
+fn ask<R: Wait, M: Farm>(
+    rt: &R,
+    farm: &M,
+    seat: &mut M::Seat,
+    conn: Conn,
+    cmd: Cmd,
+    request: Request,
+    waits: &mut Vec<Waiting>,
+    response: &mut Vec<u8>,
+) -> Result<(), Halt>
+    requires seat { (M.seats farm.now).is_seat seat.old }
+    requires number { (M.seats farm.now).number seat.old ≡ conn.front + 1 }
+    requires version { IsTrue (is_version request.ver) }
+    requires command { command_of request.cmd ≡ Some cmd }
+    ensures seat { SameSeat (M.seats farm.now) seat.old seat.new }
+    ensures worn { result ≡ Err Halt.Worn → (M.seats farm.now).worn seat.new ≡ true }
+    ensures made { MatchResult result
+        (λ _. Made conn.front (M.map_at farm.now) conn.number (request ∷ [])
+        ((M.seats farm.now).mine seat.old) ((M.seats farm.now).mine seat.new)
+        (pairs waits.old.items) (pairs waits.new.items) response.old.items response.new.items)
+        (λ _. Halts conn.front (M.map_at farm.now) conn.number (request ∷ [])
+        ((M.seats farm.now).mine seat.old) ((M.seats farm.now).mine seat.new)) }
+{
+    let spot = spot_of(farm, &request);
+    let Ok(answer) = farm.ask(rt, seat, conn, cmd, spot) else {
+        return Err(Halt::Worn);
+    };
+    let Ok(()) = settle(waits, response, request, answer) else {
+        return Err(Halt::NoMemory);
+    };
+    Ok(())
+}
+
+/// Asks for a request, or skips one of another command.
+pub fn ask_if_known<R: Wait, M: Farm>(
+    rt: &R,
+    farm: &M,
+    seat: &mut M::Seat,
+    conn: Conn,
+    request: Request,
+    waits: &mut Vec<Waiting>,
+    response: &mut Vec<u8>,
+) -> Result<(), Halt>
+    requires seat { (M.seats farm.now).is_seat seat.old }
+    requires number { (M.seats farm.now).number seat.old ≡ conn.front + 1 }
+    requires version { IsTrue (is_version request.ver) }
+    ensures seat { SameSeat (M.seats farm.now) seat.old seat.new }
+    ensures worn { result ≡ Err Halt.Worn → (M.seats farm.now).worn seat.new ≡ true }
+    ensures made { MatchResult result
+        (λ _. Made conn.front (M.map_at farm.now) conn.number (asks_in (request ∷ []))
+        ((M.seats farm.now).mine seat.old) ((M.seats farm.now).mine seat.new)
+        (pairs waits.old.items) (pairs waits.new.items) response.old.items response.new.items)
+        (λ _. Halts conn.front (M.map_at farm.now) conn.number (asks_in (request ∷ []))
+        ((M.seats farm.now).mine seat.old) ((M.seats farm.now).mine seat.new)) }
+{
+    match command_of(request.cmd) {
+        Some(cmd) => ask(rt, farm, seat, conn, cmd, request, waits, response),
+        None => Ok(()),
+    }
+}

@@ -1,0 +1,50 @@
+//! The messages of a connection, one after another.
+ghost use Rattle.std.specs.Prelude.{◌≡◌, ◌+◌, ◌-◌, ◌≤◌, true, Err, length, drop, MatchResult};
+ghost use Rattle.front_loop.specs.Calls.{SameSeat};
+ghost use Rattle.renderd_handler.specs.declared.asking.Halt.{Halt};
+ghost use Rattle.renderd_handler.specs.inner.Reads.{asks_of, disposition_at, Halts, HasNoneNext, pairs, Reads};
+
+use crate::asking::{Halt, ask_if_known};
+use crate::waits::Waiting;
+use farm_history::Conn;
+use front_loop::{Disposition, Farm, Reason};
+use renderd_protocol::{Found, next};
+use std::sync::Wait;
+
+/// Asks for the whole messages that the bytes begin with, and answers how many bytes they take.
+pub fn read_all<R: Wait, M: Farm>(
+    rt: &R,
+    farm: &M,
+    seat: &mut M::Seat,
+    conn: Conn,
+    bytes: &[u8],
+    waits: &mut Vec<Waiting>,
+    response: &mut Vec<u8>,
+) -> Result<usize, Halt>
+    requires seat { (M.seats farm.now).is_seat seat.old }
+    requires number { (M.seats farm.now).number seat.old ≡ conn.front + 1 }
+    ensures seat { SameSeat (M.seats farm.now) seat.old seat.new }
+    ensures worn { result ≡ Err Halt.Worn → (M.seats farm.now).worn seat.new ≡ true }
+    ensures read { MatchResult result
+        (λ used. (used ≤ length bytes.now) × HasNoneNext (drop used bytes.now) × Reads conn.front (M.map_at farm.now) conn.number bytes.now (drop used bytes.now) ((M.seats farm.now).mine seat.old) ((M.seats farm.now).mine seat.new) (pairs waits.old.items) (pairs waits.new.items) response.old.items response.new.items)
+        (λ _. Halts conn.front (M.map_at farm.now) conn.number (asks_of bytes.now) ((M.seats farm.now).mine seat.old) ((M.seats farm.now).mine seat.new)) }
+{
+    let mut used = 0;
+    'messages: loop {
+        let Found::Message(request, len) = next(&bytes[used..]) else {
+            return Ok(used);
+        };
+        ask_if_known(rt, farm, seat, conn, request, waits, response)?;
+        used += len;
+    }
+}
+
+/// What becomes of a connection whose bytes were read up to these: an unknown version ends it.
+pub fn disposition_at(bytes: &[u8]) -> Disposition
+    ensures { result ≡ disposition_at bytes.now }
+{
+    match next(bytes) {
+        Found::BadVersion(_) => Disposition::Leaves(Reason::Unread),
+        Found::Message(_, _) | Found::NeedMore => Disposition::Stays,
+    }
+}

@@ -1,0 +1,104 @@
+//! The renderd front.
+use crate::asked::Asked;
+use crate::asking::Halt;
+use crate::messages::{disposition_at, read_all};
+use crate::replies::answer_reply;
+use crate::waits::ConnState;
+use farm_base::Worn;
+use farm_history::{Conn, Reply};
+use front_loop::{Disposition, Farm, Front, Reason};
+use port_events::drop_front;
+use renderd_protocol::Request;
+use std::alloc::Global;
+use std::sync::Wait;
+
+/// The renderd front, by its number.
+#[derive(Clone, Copy)]
+pub struct Renderd {
+    pub front: u32,
+}
+
+impl<M: Farm> Front<M> for Renderd {
+    ghost use Rattle.std.specs.Prelude.{refl};
+    ghost use Rattle.renderd_handler.specs.Renderd.{renderd_rules};
+    ghost use Rattle.renderd_handler.specs.inner.Reads.{Knows};
+
+    type ConnState = ConnState;
+
+    type Want = Request;
+
+    type Act = Asked;
+
+    ghost rules = { λ renderd farm. renderd_rules renderd.front (M.map_at farm) };
+
+    ghost knows = { Knows };
+
+    ghost alone = { λ _ _ _ _. (refl, refl) };
+
+    fn number(&self, _farm: &M) -> u32 {
+        self.front
+    }
+
+    fn begin(&self, alloc: Global, _farm: &M) -> ConnState {
+        ConnState {
+            unread: Vec::new(alloc),
+            waits: Vec::new(alloc),
+        }
+    }
+
+    fn hear<R: Wait>(
+        &self,
+        rt: &R,
+        _alloc: Global,
+        farm: &M,
+        seat: &mut M::Seat,
+        conn: u32,
+        conn_state: &mut ConnState,
+        piece: &[u8],
+        response: &mut Vec<u8>,
+    ) -> Result<Disposition, Worn> {
+        if conn_state.unread.extend_from_slice(piece).is_err() {
+            return Ok(Disposition::Leaves(Reason::Starved));
+        }
+        let conn = Conn {
+            front: self.front,
+            number: conn,
+        };
+        match read_all(
+            rt,
+            farm,
+            seat,
+            conn,
+            conn_state.unread.as_slice(),
+            &mut conn_state.waits,
+            response,
+        ) {
+            Ok(used) => {
+                drop_front(&mut conn_state.unread, used);
+                Ok(disposition_at(conn_state.unread.as_slice()))
+            }
+            Err(Halt::NoMemory) => Ok(Disposition::Leaves(Reason::Starved)),
+            Err(Halt::Worn) => Err(Worn),
+        }
+    }
+
+    fn reply<R: Wait>(
+        &self,
+        _rt: &R,
+        _alloc: Global,
+        _farm: &M,
+        _seat: &mut M::Seat,
+        conn_state: &mut ConnState,
+        reply: Reply,
+        response: &mut Vec<u8>,
+    ) -> Result<Disposition, Worn> {
+        match answer_reply(&mut conn_state.waits, response, reply) {
+            Ok(()) => Ok(Disposition::Stays),
+            Err(_) => Ok(Disposition::Leaves(Reason::Starved)),
+        }
+    }
+
+    fn is_done(&self, _farm: &M, _conn_state: &ConnState) -> bool {
+        false
+    }
+}

@@ -1,8 +1,0 @@
--- Those so far pass.
-use Rattle.std.proofs.Common.{◌≡◌, drop}
-use Rattle.resume_faults.specs.Faults.{is_style_at, first_failing, styles_fault}
-use Rattle.resume_faults.specs.declared.faults.ResumeFault.TheVariants.{Number}
-use Rattle.resume_faults.proofs.faults.check_styles.Given as goal
-
-abbrev pub invariant-loop-map : goal.invariant-loop-map
-invariant-loop-map l = styles_fault l.setup l.styles ≡ first_failing (is_style_at l.setup) (λ place. Number place) l.map (drop l.map l.styles)
