@@ -156,7 +156,11 @@ fn lines<R: Clock + Print>(rt: &R, work: Calls, queues: &mut Queues) -> io::Resu
 }
 
 /// The lines of the queues: false where memory was wanting.
-pub(crate) fn queue_lines<R: Clock + Print>(rt: &R, alloc: Global, work: Calls) -> io::Result<bool> {
+pub(crate) fn queue_lines<R: Clock + Print>(
+    rt: &R,
+    alloc: Global,
+    work: Calls,
+) -> io::Result<bool> {
     let Ok(mut queues) = Queues::with_limits(alloc, LIMITS, 16) else {
         return Ok(false);
     };

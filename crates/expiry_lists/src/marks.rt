@@ -12,7 +12,7 @@ use crate::boxes::Rectangle;
 use crate::keeping::{clean_entries, sort_by_key};
 use crate::nodes::{Nodes, mark_at, mark_one_dirty};
 use crate::waking::{put_mark, wake};
-use crate::walks::{mark_map_dirty, mark_map_box_dirty, mark_maps_dirty};
+use crate::walks::{mark_map_box_dirty, mark_map_dirty, mark_maps_dirty};
 use farm_base::NoMemory;
 use farm_history::{Kept, Key, Mark};
 use indexmap::IndexMap;

@@ -9,7 +9,7 @@ ghost use Rattle.expiry_lists.specs.inner.Tiles.{world_key, is_flat, key_over, i
 ghost use Rattle.expiry_lists.specs.inner.Walks.{child, is_under, is_above, IsNode, Walks};
 
 use crate::boxes::{Rectangle, holds_some};
-use crate::nodes::{Nodes, is_live, settle, mark_one_dirty};
+use crate::nodes::{Nodes, is_live, mark_one_dirty, settle};
 use farm_history::Key;
 use merc_fixed::meta_square;
 use plain_world::{Meta, Tile};

@@ -13,7 +13,7 @@ use port_events::{Ports, ThreePorts};
 use serve_command::Left;
 use std::alloc::Global;
 use std::env;
-use std::io::{ErrorKind, self};
+use std::io::{self, ErrorKind};
 use std::rt::{Clock, Env};
 use std::sync::Wait;
 use std::thread::Threads;

@@ -36,7 +36,9 @@ fn leaves(disposition: Disposition) -> bool
 fn first_leaving<T>(sessions: &[Session<T>]) -> Option<usize>
     ensures { result ≡ position (λ (s : Session T). spec.leaves s.disposition) sessions.now }
 {
-    sessions.iter().position(|session| leaves(session.disposition))
+    sessions
+        .iter()
+        .position(|session| leaves(session.disposition))
 }
 
 /// A session that leaves: its place, its connection, and why.

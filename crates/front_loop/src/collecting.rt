@@ -59,7 +59,15 @@ fn reply_one<R: Wait, M: Farm, F: Front<M>>(
         return Ok(());
     }
     response.clear();
-    let Ok(disposition) = front.reply(rt, alloc, farm, seat, &mut session.conn_state, reply, response) else {
+    let Ok(disposition) = front.reply(
+        rt,
+        alloc,
+        farm,
+        seat,
+        &mut session.conn_state,
+        reply,
+        response,
+    ) else {
         return Err(Worn);
     };
     session.owes = owes_after(session.owes, response.as_slice(), Disposition::Stays);

@@ -25,7 +25,10 @@ use std::sync::Wait;
 pub fn is_kept(disposition: Disposition) -> bool
     ensures { result ≡ keeps disposition }
 {
-    matches!(disposition, Disposition::Stays | Disposition::Leaves(Reason::Unread))
+    matches!(
+        disposition,
+        Disposition::Stays | Disposition::Leaves(Reason::Unread)
+    )
 }
 
 /// Whether a session owes an offer, after something was said, or nothing.
@@ -36,7 +39,12 @@ pub fn owes_after(owes: bool, response: &[u8], disposition: Disposition) -> bool
 }
 
 /// Puts what was said behind the rest of a connection whose bytes are kept.
-pub fn settle(outbox: &mut Outbox, conn: u32, response: &[u8], disposition: Disposition) -> Disposition
+pub fn settle(
+    outbox: &mut Outbox,
+    conn: u32,
+    response: &[u8],
+    disposition: Disposition,
+) -> Disposition
     requires { HasRest outbox.old conn }
     ensures { Settles conn response.now disposition result outbox.old outbox.new }
 {

@@ -5,15 +5,15 @@
 
 mod closing;
 mod collecting;
-mod farm;
 mod dispositions;
+mod farm;
 mod front;
 mod hearing;
 mod offering;
 mod rounds;
 mod sessions;
 
-pub use farm::Farm;
 pub use dispositions::{Disposition, Reason};
+pub use farm::Farm;
 pub use front::Front;
 pub use rounds::serve;

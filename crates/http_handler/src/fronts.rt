@@ -67,7 +67,9 @@ impl<M: Farm> Front<M> for Tiles {
         reply: Reply,
         response: &mut Vec<u8>,
     ) -> Result<Disposition, Worn> {
-        take_reply(rt, alloc, farm, seat, self.front, conn_state, reply, response)
+        take_reply(
+            rt, alloc, farm, seat, self.front, conn_state, reply, response,
+        )
     }
 
     fn is_done(&self, _farm: &M, conn_state: &ConnState) -> bool {

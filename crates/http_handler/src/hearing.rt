@@ -39,7 +39,16 @@ pub(crate) fn hear_piece<R: Wait, M: Farm>(
     let Some(http_ask) = http_ask_in(farm, read_part(conn_state.head.as_slice())) else {
         return Ok(Disposition::Stays);
     };
-    serve_http_ask(rt, alloc, farm, seat, conn, http_ask, &mut conn_state.stage, response)
+    serve_http_ask(
+        rt,
+        alloc,
+        farm,
+        seat,
+        conn,
+        http_ask,
+        &mut conn_state.stage,
+        response,
+    )
 }
 
 /// Fetches the tile that waits for a reply, and puts its answer into `response`.

@@ -2,11 +2,11 @@
 #![tactic(auto)]
 
 mod acts;
+mod conn_states;
 mod fronts;
 mod hearing;
 mod serving;
-mod conn_states;
 
 pub use acts::{Act, HttpAsk};
+pub use conn_states::{ConnState, Stage};
 pub use fronts::Tiles;
-pub use conn_states::{Stage, ConnState};

@@ -11,7 +11,7 @@ ghost use Rattle.memory_ports.specs.Scripts.{is_valid};
 ghost use Rattle.memory_ports.specs.inner.Moving.{Moves};
 
 use crate::counts::Counts;
-use crate::peers::{Peer, self};
+use crate::peers::{self, Peer};
 use crate::script::Script;
 use crate::steps::PortStep;
 use farm_base::{Bells, Bytes, NoBell, NoMemory, Text};

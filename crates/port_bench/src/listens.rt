@@ -6,7 +6,7 @@ use std::alloc::Global;
 use std::net::{Net, TcpListener, TcpStream};
 use std::os::unix::net::UnixListener;
 use std::rt::{Clock, Files};
-use std::thread::{Threads, self};
+use std::thread::{self, Threads};
 use std::time::{Duration, Instant};
 use std::{fs, io};
 

@@ -8,7 +8,7 @@ use std::alloc::Global;
 use std::net::{Net, TcpListener, TcpStream};
 use std::os::unix::net::UnixStream;
 use std::rt::{Clock, Files};
-use std::thread::{Threads, self};
+use std::thread::{self, Threads};
 use std::time::{Duration, Instant};
 use std::{fs, io};
 

@@ -15,7 +15,6 @@ mod dirties;
 
 pub use boxes::{boxes_reach, named_boxes};
 pub use dirties::mark_maps_dirty;
-
 use geo_model::{Bounds, Feature};
 use plain_world::Square;
 

@@ -7,7 +7,9 @@ ghost use Rattle.script_lines.specs.declared.script.ScriptLine.TheVariants as li
 ghost use Rattle.script_text.specs.inner.Hands.{HandStands};
 ghost use Rattle.script_text.specs.inner.Steps.{Answers};
 
-use crate::events::{ask, collect, expire, fetch, leave, look, renew, restyle, stop, tally, update};
+use crate::events::{
+    ask, collect, expire, fetch, leave, look, renew, restyle, stop, tally, update,
+};
 use crate::hands::{claim, cut, finish};
 use crate::said::{LineAnswer, said};
 use farm_base::{NoMemory, Text};

@@ -5,16 +5,16 @@
 //! whether it is the one that the farm's rules give. What is printed is the same however the threads run.
 #![tactic(auto)]
 
-mod pool;
 mod feeding;
 mod notes;
 mod one_seat;
 mod plain;
 mod plans;
+mod pool;
 mod working;
 
-use crate::pool::{Left, run, run_alone};
 use crate::notes::METATILES;
+use crate::pool::{Left, run, run_alone};
 use farm_base::OutSink;
 use std::io;
 use std::process::ExitCode;

@@ -6,7 +6,7 @@ use farm_base::{Bells, DiskFiles, OpenGate, OutSink};
 use farm_call::program;
 use port_events::ThreePorts;
 use socket_ports::{SocketBell, SocketPorts};
-use std::io::{ErrorKind, self};
+use std::io::{self, ErrorKind};
 use std::process::ExitCode;
 use tile_store::FileStore;
 

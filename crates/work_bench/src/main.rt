@@ -9,14 +9,14 @@
 ghost use Rattle.std.specs.Prelude.{◌<◌};
 ghost use Rattle.farm_plan.specs.Plans.{IsPlan};
 
-mod pool;
 mod feeding;
 mod plans;
+mod pool;
 mod stores;
 
-use crate::pool::run;
 use crate::feeding::Drawn;
 use crate::plans::{plan_in, rounds_of};
+use crate::pool::run;
 use farm_base::DiskFiles;
 use farm_plan::FarmPlan;
 use std::alloc::Global;
