@@ -1,7 +1,7 @@
 use Rattle.std.proofs.Common.{[], sym, ◌∙◌}
 use Rattle.std.proofs.lemmas.List.Quantifiers.{position-Some}
-use Rattle.port_trait.proofs.Boxes.{here, is_of, placed}
-use Rattle.port_trait.proofs.outbox.there.Goals as goal
+use Rattle.port_events.proofs.Boxes.{here, is_of, placed}
+use Rattle.port_events.proofs.outbox.there.Goals as goal
 
 pub unreachable-requires : goal.unreachable-requires
 unreachable-requires c = placed c.args.items.now c.args.conn c.requires.0 c.requires.1 (sym c.place_of.ensures ∙ c.in_default.is)

@@ -1,9 +1,9 @@
 use Rattle.std.proofs.Common.{◌≡◌, ap, sym, ◌∙◌}
 use Rattle.std.specs.List.{position}
 use Rattle.std.specs.Option.{is_some}
-use Rattle.port_trait.specs.Boxes.{rest_at}
-use Rattle.port_trait.proofs.Boxes.{found, has_of, none_of, is_of}
-use Rattle.port_trait.proofs.outbox.Outbox.has.Goals as goal
+use Rattle.port_events.specs.Boxes.{rest_at}
+use Rattle.port_events.proofs.Boxes.{found, has_of, none_of, is_of}
+use Rattle.port_events.proofs.outbox.Outbox.has.Goals as goal
 
 is : (c : goal.After-is_some) → c.is_some.result ≡ is_some (rest_at c.args.self.now c.args.conn)
 is c = c.is_some.ensures ∙ ap is_some c.place_of.ensures

@@ -2,8 +2,8 @@
 use Rattle.std.proofs.Common.{◌≡◌, ◌+◌, ◌≤◌, map}
 use Rattle.std.specs.Vec.{vec_len, vec_capacity}
 use Rattle.std.specs.Vec.Iter.{into_iter_len}
-use Rattle.port_trait.specs.Boxes.{as_rest}
-use Rattle.port_trait.proofs.outbox.Outbox.into_rests.Given as goal
+use Rattle.port_events.specs.Boxes.{as_rest}
+use Rattle.port_events.proofs.outbox.Outbox.into_rests.Given as goal
 
 abbrev pub invariant-loop-pending : goal.invariant-loop-pending
 invariant-loop-pending l =
