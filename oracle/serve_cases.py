@@ -128,7 +128,7 @@ class Side:
         self.name, self.number = name, number
         self.lines, self.opened = [], 0
         self.end, self.left, self.loose = "finished", None, False
-        self.want, self.rest = {}, {}
+        self.want, self.rest, self.known = {}, {}, b""
 
     def say(self, *words):
         self.lines.append(" ".join([self.name] + [str(word) for word in words]))
@@ -169,6 +169,11 @@ class Side:
 
     def closed(self, conn, content=b""):
         self.want[conn] = ("closed", content)
+
+    def sure(self, conn, content, state="open"):
+        """What a connection is sent whatever else comes, told where else the status alone is."""
+        self.say("sure", conn)
+        self.known = b"%s %d.%d %d\n%s\n" % (state.encode(), self.number, conn, len(content), content)
 
 
 class Case:
@@ -215,9 +220,14 @@ class Case:
             self.say("tell lengths")
         WANTED.append(b"".join(want))
 
-    def wants_status(self, status, err=""):
+    def wants_status(self, status, err="", broken=None):
+        """What is told of the case: its status, the front that broke, and the connections that are sure."""
         self.say("tell status")
-        WANTED.append(b"case %s\nstatus %d\n%s" % (self.name.encode(), status, err.encode()))
+        want = b"case %s\nstatus %d\n%s" % (self.name.encode(), status, err.encode())
+        for side in self.sides:
+            want += b"front %d broken\n" % side.number if side.number == broken else b""
+            want += side.known
+        WANTED.append(want)
 
 
 PORTS_FAILED = "tilefarm: the ports failed\n"
@@ -762,6 +772,18 @@ def fewer(made, front):
         other.lines = [line for line in other.lines if line.split()[1:3] != ["await", str(front)]]
 
 
+def sure_of_loss(made, name, conn, step):
+    """What is sent on the other connections, and on the lost one where it came before: all of it but for the tile of 5/8/8,
+    which is held where it is drawn."""
+    if (name, conn) != ("renderd", 1) or step == 5:
+        # the Done was awaited before its connection was lost
+        made.renderd.sure(1, ROW_DONE, "closed" if (name, conn) == ("renderd", 1) else "open")
+    if name != "tiles" or step == 3:
+        made.tiles.sure(0, WORLD, "closed")
+    if name != "control":
+        made.control.sure(0, b"stopping\n")
+
+
 for place, name in enumerate(("renderd", "tiles", "control")):
     steps = three_fronts("").sides[place].lines
     CASES.pop()
@@ -772,23 +794,32 @@ for place, name in enumerate(("renderd", "tiles", "control")):
         if line.endswith("stop.control"):
             case.wants_status(0)
         else:
-            case.wants_status(7, PORTS_FAILED)
+            case.wants_status(7, PORTS_FAILED, broken=place)
         # a connection that is there, whose later steps are left out, with the waits for what is not sent on it
         opened = sum(before == name + " open 1" for before in steps[:step + 1])
         gone = [before.split()[2] for before in steps[:step + 1] if before.startswith(name + " end")]
         for conn in range(opened):
             if str(conn) in gone:
                 continue
-            case = three_fronts("%s: connection %d is lost behind step %d" % (name, conn, step))
+            # where nobody asks for 5/8/8 the first ticket is that of the world, which no other one lets go
+            is_drawn = (name, step) != ("renderd", 0)
+            case = three_fronts("%s: connection %d is lost behind step %d" % (name, conn, step), held=is_drawn)
             later = [after for after in steps[step + 1:] if after.split()[1:3] not in (["bytes", str(conn)], ["end", str(conn)])]
             case.sides[place].lines = steps[:step + 1] + ["%s lose %d" % (name, conn)] + later
             unsent = not any(before.startswith("%s await %d" % (name, place)) for before in steps[:step + 1])
             if unsent and (name, conn) != ("renderd", 0):
                 fewer(case, place)
+            sure_of_loss(case, name, conn, step)
             case.wants_status(0)
-    case = three_fronts("%s: the first send fails" % name)
+    case = three_fronts("%s: the first send fails" % name, held=True)
     case.sides[place].fail(0)
     fewer(case, place)
+    if name != "renderd":
+        case.renderd.sure(1, ROW_DONE)
+    if name != "tiles":
+        case.tiles.sure(0, WORLD, "closed")
+    if name != "control":
+        case.control.sure(0, b"stopping\n")
     case.wants_status(0)
 
 # Ticket 0 is held until an ask, a fetch and a drawing beside it were answered: one worker cannot do that.

@@ -8,29 +8,32 @@ use std::alloc::Global;
 use std::test::Fail;
 use tile_paths::{is_name, path};
 
-// The metatile of the tile 10/535/340, and the tile's place in it.
-fn place() -> Option<(Meta, u32)> {
-    let t = tile(10, 535, 340)?;
-    Some((meta_of(t), index_place(t)))
+fn metatile() -> Option<Meta> {
+    Some(meta_of(tile(10, 535, 340)?))
 }
 
-fn is_path(name: &str, wanted: &str) -> Option<bool> {
-    let m = meta_of(tile(10, 535, 340)?);
-    Some(is_name(name) && path(name, m).as_str() == wanted)
+fn place() -> Option<u32> {
+    Some(index_place(tile(10, 535, 340)?))
+}
+
+// Whether the metatile of the tile 10/535/340 has this path.
+fn is_path(name: &str, wanted: &str) -> bool {
+    match tile(10, 535, 340) {
+        Some(t) => is_name(name) && path(name, meta_of(t)).as_str() == wanted,
+        None => false,
+    }
 }
 
 #[test]
-fn a_tile_s_path_and_place(rt: HostRuntime) -> Result<(), Fail> {
+fn the_path_and_the_place_of_a_tile(rt: HostRuntime) -> Result<(), Fail> {
     let m = Meta {
         z: 10,
         x: 528,
         y: 336,
     };
-    assert_eq!(rt; place(), Some((m, 60)));
-    assert_eq!(rt;
-        is_path("default", "default/10/0/0/33/21/0.meta"),
-        Some(true)
-    );
+    assert_eq!(rt; metatile(), Some(m));
+    assert_eq!(rt; place(), Some(60));
+    assert!(rt; is_path("default", "default/10/0/0/33/21/0.meta"));
     Ok(())
 }
 
@@ -57,25 +60,30 @@ fn head(alloc: Global) -> Result<Vec<u8>, Fail> {
     Ok(bytes)
 }
 
-fn entry_of_the_world(head: &[u8]) -> Option<Result<Entry, MetaFault>> {
+fn entry_of_the_world(head: &[u8]) -> Option<Entry> {
     let t = tile(0, 0, 0)?;
-    Some(entry_in(head, meta_of(t), t))
+    entry_in(head, meta_of(t), t).ok()
+}
+
+fn fault_of_the_world(head: &[u8]) -> Option<MetaFault> {
+    let t = tile(0, 0, 0)?;
+    entry_in(head, meta_of(t), t).err()
 }
 
 #[test]
 fn an_entry_from_the_head(rt: HostRuntime) -> Result<(), Fail> {
-    let bytes = head(rt.alloc())?;
+    let mut bytes = head(rt.alloc())?;
     let entry = Entry {
         place: 0,
         offset: 532,
         size: 781,
     };
     assert_eq!(rt; bytes.len(), HEAD_BYTES);
-    assert_eq!(rt; entry_of_the_world(bytes.as_slice()), Some(Ok(entry)));
-    let short = bytes.as_slice().get(..531);
+    assert_eq!(rt; entry_of_the_world(bytes.as_slice()), Some(entry));
+    let _last = bytes.pop();
     assert_eq!(rt;
-        short.and_then(entry_of_the_world),
-        Some(Err(MetaFault::Short(531)))
+        fault_of_the_world(bytes.as_slice()),
+        Some(MetaFault::Short(531))
     );
     Ok(())
 }

@@ -17,6 +17,8 @@ pub struct Side {
     pub deaf: bool,
     /// Whether the front may end by its ports or by the farm, as it comes.
     pub over: bool,
+    /// The connection that is told of where else the status alone is.
+    pub sure: Option<u32>,
 }
 
 impl Side {
@@ -27,6 +29,7 @@ impl Side {
             fails: Vec::new(alloc),
             deaf: false,
             over: false,
+            sure: None,
         }
     }
 }
@@ -37,7 +40,7 @@ pub enum Telling {
     All,
     /// All, but lengths in place of bytes.
     Lengths,
-    /// The status and what stands on err.
+    /// The status, what stands on err, which fronts broke, and the connections that are sure.
     Status,
 }
 
@@ -142,6 +145,10 @@ fn step<F: Files>(alloc: Global, side: &mut Side, files: &mut F, line: &str) -> 
             side.steps.push(step).ok()
         }
         "fail" => side.fails.push(number(rest)?).ok(),
+        "sure" => {
+            side.sure = Some(small_number(rest)?);
+            Some(())
+        }
         "as" => set(side, rest),
         _ => None,
     }

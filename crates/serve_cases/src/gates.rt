@@ -22,6 +22,8 @@ pub struct HoldGate<'a, R> {
     holds: Vec<Hold>,
     // one more than the greatest ticket that came
     came: AtomicU64,
+    // how many drawings that were to be held came
+    held: AtomicU64,
     late: AtomicBool,
 }
 
@@ -31,6 +33,7 @@ impl<'a, R: Clock> HoldGate<'a, R> {
             rt,
             holds,
             came: AtomicU64::new(0),
+            held: AtomicU64::new(0),
             late: AtomicBool::new(false),
         }
     }
@@ -38,6 +41,11 @@ impl<'a, R: Clock> HoldGate<'a, R> {
     /// Whether a drawing was let go though what it was held for had not come.
     pub(crate) fn is_late(&self) -> bool {
         self.late.load(Ordering::SeqCst)
+    }
+
+    /// Whether a drawing that was to be held never came.
+    pub(crate) fn is_unheld(&self) -> bool {
+        self.held.load(Ordering::SeqCst) < self.holds.len() as u64
     }
 
     fn wait_for(&self, ticket: u64) {
@@ -57,6 +65,7 @@ impl<'a, R: Clock> Gate for HoldGate<'a, R> {
             .fetch_max(ticket.saturating_add(1), Ordering::SeqCst);
         for hold in self.holds.as_slice() {
             if hold.held == ticket {
+                self.held.fetch_add(1, Ordering::SeqCst);
                 self.wait_for(hold.until);
             }
         }

@@ -60,6 +60,7 @@ fn play_on<R: Threads + Wait + Clock + Sync, F: Files, O: Sink>(
         &gate,
     );
     let is_late = gate.is_late();
+    let is_unheld = gate.is_unheld();
     drop(gate);
     let FarmEnd {
         status,
@@ -70,6 +71,7 @@ fn play_on<R: Threads + Wait + Clock + Sync, F: Files, O: Sink>(
     let ended = Ended {
         status,
         is_late,
+        is_unheld,
         left,
         fronts: fronts.as_slice(),
         put: put.bytes(),

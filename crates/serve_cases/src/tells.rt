@@ -13,6 +13,7 @@ struct FrontManner {
     conns: u32,
     over: bool,
     lengths: bool,
+    sure: Option<u32>,
 }
 
 impl FrontManner {
@@ -22,6 +23,7 @@ impl FrontManner {
             conns: side.conns,
             over: side.over,
             lengths: telling == Telling::Lengths,
+            sure: side.sure,
         }
     }
 }
@@ -52,6 +54,8 @@ pub struct Ended<'a> {
     pub status: u8,
     /// Whether a drawing was held in vain.
     pub is_late: bool,
+    /// Whether a drawing that was to be held never came.
+    pub is_unheld: bool,
     pub left: &'static str,
     pub fronts: &'a [FrontDone],
     pub put: &'a [u8],
@@ -73,8 +77,12 @@ pub(crate) fn tell<O: Sink>(
     if ended.is_late {
         out.put(b"late\n").ok()?;
     }
+    if ended.is_unheld {
+        out.put(b"not held\n").ok()?;
+    }
     if manner.telling == Telling::Status {
-        return out.put(ended.err).ok();
+        out.put(ended.err).ok()?;
+        return tell_sure(alloc, manner, ended.fronts, ports, out);
     }
     out.put(ended.put).ok()?;
     out.put(ended.err).ok()?;
@@ -96,6 +104,39 @@ pub(crate) fn tell<O: Sink>(
     let left = ended.left;
     put_text(format!(in alloc; "left {left}\n").ok()?, out)?;
     saved(alloc, store, out)
+}
+
+// What is sure where the ports of a front failed.
+fn tell_sure<O: Sink>(
+    alloc: Global,
+    manner: Manner,
+    fronts: &[FrontDone],
+    ports: &ThreePorts<MemPorts, NoBell>,
+    out: &mut O,
+) -> Option<()> {
+    sure_of(alloc, manner.renderd, fronts.get(0), &ports.renderd, out)?;
+    sure_of(alloc, manner.tiles, fronts.get(1), &ports.tiles, out)?;
+    sure_of(alloc, manner.control, fronts.get(2), &ports.control, out)
+}
+
+// That a front broke, and its connection that is sure.
+fn sure_of<O: Sink>(
+    alloc: Global,
+    manner: FrontManner,
+    done: Option<&FrontDone>,
+    ports: &MemPorts,
+    out: &mut O,
+) -> Option<()> {
+    if let Some(done) = done {
+        if done.end == FrontEnd::Broken {
+            let front = manner.front;
+            put_text(format!(in alloc; "front {front} broken\n").ok()?, out)?;
+        }
+    }
+    match manner.sure {
+        Some(conn) => connection(alloc, manner, ports, conn, out),
+        None => Some(()),
+    }
 }
 
 // What is told of a front.
