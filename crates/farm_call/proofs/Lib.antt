@@ -1,8 +1,9 @@
 pub mod Asked
+pub mod Farms
+pub mod Followed
+pub mod Keeping
 pub mod Loading
-pub mod Reported
+pub mod Program
 pub mod Scripting
-pub mod Told
-pub mod Whys
-pub mod Working
 pub mod Serving
+pub mod Whys

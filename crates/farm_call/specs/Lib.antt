@@ -1,4 +1,4 @@
+pub mod Call
 pub mod Words
-pub mod Works
+pub mod Keeps
 pub mod inner
-pub mod Served
