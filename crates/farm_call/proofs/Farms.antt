@@ -1,15 +1,17 @@
 -- From what was done of a farm that has served to what is promised of it.
-use Rattle.std.proofs.Common.{◌≡◌, ℕ, ◌⊎◌, inl, inr, ◌≤◌, ◌^◌, Bool, true, false, not, ◌||◌, List, [], ◌++◌, length, map, reverse, refl, sym, ap, ap₂, subst, ◌∙◌}
+use Rattle.std.proofs.Common.{◌≡◌, ℕ, ◌⊎◌, inl, inr, ◌≤◌, ◌^◌, Bool, true, false, not, ◌||◌, if◌then◌else◌, List, [], ◌∷◌, ◌++◌, length, map, reverse, refl, sym, ap, ap₂, subst, ◌∙◌}
 use Rattle.std.specs.Prelude.{Option, Some, None, Result, Ok, Err, IfSome, option_map, is_none}
 use Rattle.std.specs.List.{list_any}
 use Rattle.std.proofs.lemmas.Bool.{or_cases, not-true}
 use Rattle.farm_base.specs.Outside.{Outside}
+use Rattle.farm_base.specs.declared.sinks.SinkFault.{SinkFault}
 use Rattle.tile_store.specs.Stores.{StoreTold, StorePuts, Stored, IfTold}
 use Rattle.tile_store.specs.declared.stores.StoreFault.TheVariants.{Failed}
 use Rattle.port_events.specs.declared.ends.FrontDone.{FrontDone}
 use Rattle.port_events.specs.declared.ends.FrontEnd.{FrontEnd}
 use Rattle.exit_status.specs.declared.stops.Stop.{Stop}
 use Rattle.exit_status.specs.declared.stops.Stop.TheVariants as stop
+use Rattle.farm_history.specs.declared.answers.Tally.{Tally as Totals}
 use Rattle.farm_history.specs.Entries.{Entry}
 use Rattle.farm_history.specs.Replays.{Saving, IsSaved}
 use Rattle.farm_history.specs.Rules.{Legal}
@@ -29,7 +31,7 @@ use Rattle.farm_runs.specs.Promise.{AreSeated, AreWorked, IsServed}
 use Rattle.farm_fronts.specs.Fronts.{renderd_leaves, tiles_leave}
 use Rattle.farm_fronts.proofs.Laws.{marked}
 use Rattle.serve_command.specs.Beginnings.{HasEmptied, ResumesFrom, saved_path}
-use Rattle.serve_command.specs.Endings.{why_ended, is_front_worn, is_broken, is_wanting}
+use Rattle.serve_command.specs.Endings.{why_ended, is_front_worn, is_broken, is_wanting, end_after_put, TellsCounts}
 use Rattle.serve_command.specs.Savings.{MaySave}
 use Rattle.serve_command.proofs.Kept.{Keeps as KeepsFarm, keeps}
 use Rattle.serve_command.specs.Serves.{fronts_of, end_of, is_worn_out, ClosedFarm, whole_history}
@@ -39,6 +41,7 @@ use Rattle.serve_command.specs.declared.left.Left.TheVariants.{Farm}
 use Rattle.farm_call.specs.Call.{CallBefore, CallAfter, store_of}
 use Rattle.farm_call.specs.Keeps.{MaySay, SavesSo, ServedWell}
 use Rattle.farm_call.specs.inner.Works.{world_before, world_after}
+use Rattle.farm_call.proofs.Owing.{none_left, paid_up}
 
 -- ---- what a store holds after a put
 
@@ -87,6 +90,46 @@ worn_end FrontEnd.NoMemory is = cc
 none_there : {A : Type 0} (o : Option A) → is_none o ≡ true → o ≡ None
 none_there None is = refl
 none_there (Some x) is = cc
+
+-- ---- a run that ended in order
+
+abbrev InOrder : FrontEnd → Type 0
+InOrder end = (end ≡ FrontEnd.Finished) ⊎ (end ≡ FrontEnd.Stopped)
+
+no_or : (a b : Bool) → (a || b) ≡ false → (a ≡ false) × (b ≡ false)
+no_or false false e = (refl, refl)
+no_or true b e = cc
+no_or false true e = cc
+
+in_order : (end : FrontEnd) → is_front_worn end ≡ false → is_broken end ≡ false → is_wanting end ≡ false → InOrder end
+in_order FrontEnd.Finished a b c = inl refl
+in_order FrontEnd.Stopped a b c = inr refl
+in_order FrontEnd.Worn a b c = cc
+in_order FrontEnd.Broken a b c = cc
+in_order FrontEnd.NoMemory a b c = cc
+
+abbrev pick : Bool → Bool → Bool → Result (Unit {0}) Stop
+pick a b c = if a then Err stop.TurnsUsedUp else (if b then Err stop.PortsFailed else (if c then Err stop.NoMemory else Ok tt))
+
+none_of : (a b c : Bool) → pick a b c ≡ Ok tt → (a ≡ false) × (b ≡ false) × (c ≡ false)
+none_of false false false e = (refl, refl, refl)
+none_of true b c e = cc
+none_of false true c e = cc
+none_of false false true e = cc
+
+all_in_order : (worn : Bool) (a b c : FrontEnd) → why_ended worn (a ∷ b ∷ c ∷ []) ≡ Ok tt → InOrder a × InOrder b × InOrder c
+all_in_order worn a b c e =
+    let none = none_of (worn || list_any is_front_worn (a ∷ b ∷ c ∷ [])) (list_any is_broken (a ∷ b ∷ c ∷ [])) (list_any is_wanting (a ∷ b ∷ c ∷ [])) e in
+    let w = no_or (is_front_worn a) _ (no_or worn _ none.0).1 in
+    let b' = no_or (is_broken a) _ none.1 in
+    let n = no_or (is_wanting a) _ none.2 in
+    let w' = no_or (is_front_worn b) _ w.1 in
+    let b'' = no_or (is_broken b) _ b'.1 in
+    let n' = no_or (is_wanting b) _ n.1 in (
+      in_order a w.0 b'.0 n.0,
+      in_order b w'.0 b''.0 n'.0,
+      in_order c (no_or (is_front_worn c) _ w'.1).0 (no_or (is_broken c) _ b''.1).0 (no_or (is_wanting c) _ n'.1).0,
+    )
 
 module _ {D : Type 0} (state : D → Outside StoreTold) (was : CallBefore D) (is : CallAfter D) (s : Served) (closed : ClosedFarm D) (left_is : is.left ≡ Farm closed) (end : Result (Unit {0}) Stop)
     (served : HasServed state s was.store closed (world_before was) (world_after is) end) where
@@ -258,6 +301,30 @@ module _ {D : Type 0} (state : D → Outside StoreTold) (was : CallBefore D) (is
   pub gone_turns : served.winds.saved ≡ Err stop.TurnsUsedUp → 2 ^ 62 ≤ length H
   gone_turns e = by_worn (by_saving s.config.resume (why_by (fronts_of served.done)) served.winds.saved served.winds.saves e)
 
+  -- ---- nothing is owed
+
+  saved_ok : end ≡ Ok tt → served.winds.saved ≡ Ok tt
+  saved_ok e = by_tally served.ends.tally served.winds.told
+    where
+      by_put : (put : Result (Unit {0}) SinkFault) → end ≡ end_after_put put served.winds.saved → served.winds.saved ≡ Ok tt
+      by_put (Ok done) f = sym f ∙ e
+      by_put (Err fault) f = absurd (let g = sym f ∙ e in cc)
+
+      by_tally : (o : Option Totals) → TellsCounts o was.out is.out served.winds.saved end → served.winds.saved ≡ Ok tt
+      by_tally None line = sym line.1 ∙ e
+      by_tally (Some a) line = by_put line.0 line.2
+
+  ran_on : (resume : Bool) (why saved : Result (Unit {0}) Stop) → MaySave state resume why served.last closed.0 H saved → saved ≡ Ok tt → why ≡ Ok tt
+  ran_on true (Ok done) saved may e = refl
+  ran_on false (Ok done) saved may e = refl
+  ran_on true (Err w) saved may e = absurd (let f = sym may.1 ∙ e in cc)
+  ran_on false (Err w) saved may e = absurd (let f = sym may.1 ∙ e in cc)
+
+  ended_well : end ≡ Ok tt → InOrder served.done.renderd.end × InOrder served.done.tiles.end × InOrder served.done.control.end
+  ended_well e =
+      all_in_order (is_worn_out served.ends) served.done.renderd.end served.done.tiles.end served.done.control.end
+      (ran_on s.config.resume (why_by (fronts_of served.done)) served.winds.saved served.winds.saves (saved_ok e))
+
   -- ---- all of it
 
   pub served_well : ServedWell state was is s closed end
@@ -282,4 +349,8 @@ module _ {D : Type 0} (state : D → Outside StoreTold) (was : CallBefore D) (is
     saves = saves;
     turns_gone = gone_turns;
     counted = served.winds.told;
+    collected = λ before after n front answer.
+        none_left (plan_of closed.0.plan) false H before after (origin closed.0.plan closed.0.saved) n front answer (legal false (λ e. absurd (cc)));
+    owes_nothing = λ e. (let well = ended_well e in
+        (paid_up _ _ _ _ _ _ _ _ renderd.left.served well.0, paid_up _ _ _ _ _ _ _ _ tiles.left.served well.1, paid_up _ _ _ _ _ _ _ _ served.runs.control.left.served well.2));
   }

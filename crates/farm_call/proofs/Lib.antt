@@ -3,6 +3,7 @@ pub mod Farms
 pub mod Followed
 pub mod Keeping
 pub mod Loading
+pub mod Owing
 pub mod Program
 pub mod Scripting
 pub mod Serving

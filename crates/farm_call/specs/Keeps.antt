@@ -15,7 +15,9 @@ use Rattle.exit_status.specs.Ends.{PutsAll, Reports}
 use Rattle.exit_status.specs.declared.stops.Stop.{Stop}
 use Rattle.exit_status.specs.declared.stops.Stop.TheVariants as stop
 use Rattle.input_files.specs.Course.{Course, Makes, RefusedBy, ComesTo}
-use Rattle.farm_history.specs.Entries.{Entry, Stop as StopEntry}
+use Rattle.farm_history.specs.declared.answers.Collected.{Collected}
+use Rattle.farm_history.specs.Entries.{Entry, Collect, Stop as StopEntry}
+use Rattle.farm_history.specs.Past.{due_replies}
 use Rattle.farm_history.specs.Replays.{Saving, IsSaved}
 use Rattle.farm_history.specs.Rules.{Legal}
 use Rattle.farm_plan.specs.Plans.{FarmPlan}
@@ -23,7 +25,7 @@ use Rattle.farm_plan.specs.Drawings.{plan_of}
 use Rattle.farm_saved.specs.Writing.{saved_bytes}
 use Rattle.farm_core.specs.Begins.{Tells}
 use Rattle.farm_shared.specs.Seats.{plain}
-use Rattle.farm_shared.specs.Shared.{IsAfter}
+use Rattle.farm_shared.specs.Shared.{lasting_of, past, IsAfter}
 use Rattle.turn_cell.specs.Turns.{by}
 use Rattle.farm_headline.specs.Headline.{Headline}
 use Rattle.farm_runs.specs.declared.each_front.EachFront.{EachFront}
@@ -43,6 +45,7 @@ use Rattle.serve_command.specs.declared.left.Left.{Left}
 use Rattle.serve_command.specs.declared.left.Left.TheVariants.{Store, Farm}
 use Rattle.farm_call.specs.Call.{CallBefore, CallAfter, store_of, PortsRose}
 use Rattle.farm_call.specs.Call.{Work, puts, scripts, loads, serves}
+use Rattle.farm_call.specs.Owing.{GivesNone, IsPaidUp}
 use Rattle.farm_call.specs.Words.{Asks}
 
 module _ {D : Type 0} (state : D → Outside StoreTold) (was : CallBefore D) (is : CallAfter D) where
@@ -177,6 +180,13 @@ module _ {D : Type 0} (state : D → Outside StoreTold) (was : CallBefore D) (is
         (why_ended (is_worn_out ends) (map end_of is.fronts)) saved
     pub turns_gone : saved ≡ Err stop.TurnsUsedUp → 2 ^ 62 ≤ length closed.1
     pub counted : TellsCounts ends.tally was.out is.out saved end
+    -- 8. A Collect that gave no reply left none that had ended; and where all ended in order nothing
+    -- is owed: no request, no reply and no answer
+    pub collected : (before after : List (ℕ × Entry)) (n front : ℕ) (answer : Collected)
+        → closed.1 ≡ before ++ (n, Collect front answer) ∷ after → GivesNone answer
+        → due_replies (past (lasting_of state closed.0) before) front ≡ []
+    pub owes_nothing : end ≡ Ok tt → IsPaidUp renderd.left.served × IsPaidUp tiles.left.served
+        × IsPaidUp control.left.served
 
   -- a farm was served to this end, or no actor was started, by what is left
   abbrev pub ServesTo : Served → Result (Unit {0}) Stop → Left D → Type 0
