@@ -121,7 +121,8 @@ module _ {D : Type 0} (state : D → Outside StoreTold) (was : CallBefore D) (is
     pub saving : Saving
     pub is_saved : IsSaved (plan_of plan) h saving
     pub before : Outside StoreTold
-    pub puts : StorePuts before (state (store_of is.left)) saved_path (saved_bytes saving) (Err Failed)
+    pub puts : StorePuts before (state (store_of is.left)) saved_path (saved_bytes saving)
+        (Err Failed)
 
   -- What was saved, by whether a farm is to be resumed, why the run ended and how the saving went:
   -- after a run that ended in order the text of what is saved after its history, where it could be
@@ -180,8 +181,8 @@ module _ {D : Type 0} (state : D → Outside StoreTold) (was : CallBefore D) (is
         (why_ended (is_worn_out ends) (map end_of is.fronts)) saved
     pub turns_gone : saved ≡ Err stop.TurnsUsedUp → 2 ^ 62 ≤ length closed.1
     pub counted : TellsCounts ends.tally was.out is.out saved end
-    -- 8. A Collect that gave no reply left none that had ended; and where all ended in order nothing
-    -- is owed: no request, no reply and no answer
+    -- 8. A Collect that gave no reply left none that had ended; and where all ended in order
+    -- nothing is owed: no request, no reply and no answer
     pub collected : (before after : List (ℕ × Entry)) (n front : ℕ) (answer : Collected)
         → closed.1 ≡ before ++ (n, Collect front answer) ∷ after → GivesNone answer
         → due_replies (past (lasting_of state closed.0) before) front ≡ []
