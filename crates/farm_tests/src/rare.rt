@@ -38,3 +38,19 @@ fn too_many_features(rt: HostRuntime) -> Result<(), Fail> {
     assert_eq!(rt; text.as_str(), "dataset 6 at 3");
     Ok(())
 }
+
+// More features than the cases of scripts have.
+#[test]
+fn work_over_many_features(rt: HostRuntime) -> Result<(), Fail> {
+    let alloc = rt.alloc();
+    let ended = call(&rt, alloc, &["load", "1", "3000"], &[], NONE)?;
+    assert_eq!(rt; ended.status, 0);
+    assert!(rt;
+        ended
+            .out
+            .bytes()
+            .starts_with(b"features 3000 asks 32 ".as_slice())
+    );
+    assert!(rt; ended.err.bytes().is_empty());
+    Ok(())
+}
