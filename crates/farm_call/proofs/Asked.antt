@@ -1,17 +1,18 @@
 -- What the words ask for, by what was read of them.
-use Rattle.std.proofs.Common.{◌≡◌, ℕ, List, [], inl, inr, refl, sym, ap, ap₂, subst, ◌∙◌}
-use Rattle.std.specs.Prelude.{Option, Some, None, Result, Ok, Err, Vec}
+use Rattle.std.proofs.Common.{◌≡◌, ℕ, ◌⊎◌, inl, inr, Bool, true, false, List, [], ◌∷◌, refl, sym, ap, ap₂, subst, ◌∙◌}
+use Rattle.std.specs.Prelude.{◌==◌, Option, Some, None, Result, Ok, Err, Vec}
 use Rattle.std.specs.declared.alloc.Global.{Global}
 use Rattle.farm_base.specs.Outside.{Outside}
 use Rattle.tile_store.specs.Stores.{StoreTold}
 use Rattle.reading.specs.Steps.{seen}
 use Rattle.farm_words.specs.Forms.{Spells, Answers, IsRefused}
-use Rattle.farm_words.specs.Values.{values_of}
+use Rattle.farm_words.specs.Values.{values_of, IsPlain, ArePlain}
 use Rattle.farm_words.specs.declared.command.Command.{Command}
 use Rattle.farm_words.specs.declared.command.Command.TheVariants.{Render, Script, Serve, Load, Meta}
 use Rattle.farm_words.specs.declared.command.WordsFault.{WordsFault}
 use Rattle.farm_words.specs.declared.command.WordsFault.TheVariants as words_fault
 use Rattle.farm_words.proofs.OneCommand.{spell_one}
+use Rattle.farm_words.proofs.PlainWords.{plain_values}
 use Rattle.exit_status.specs.Ends.{FilesAt, SinkAt, PutsMade}
 use Rattle.exit_status.specs.declared.stops.Stop.{Stop}
 use Rattle.exit_status.specs.declared.stops.Stop.TheVariants as stop
@@ -29,20 +30,42 @@ use Rattle.render_command.specs.Courses.{render_course, render_course_by}
 use Rattle.render_command.specs.MetaCourses.{meta_course}
 use Rattle.farm_call.specs.Words.{AsksFor, IsCourse, Asks}
 use Rattle.port_events.specs.declared.ends.FrontDone.{FrontDone}
-use Rattle.farm_call.specs.Works.{Work, Does, puts, scripts, loads, serves, over}
+use Rattle.farm_call.specs.Call.{Work, puts, scripts, loads, serves}
+use Rattle.farm_call.specs.inner.Works.{Does, over}
 use Rattle.port_events.specs.Told.{PortsTold}
 use Rattle.farm_runs.specs.declared.each_front.EachFront.{EachFront}
-use Rattle.serve_command.specs.Serves.{World}
+use Rattle.serve_command.specs.inner.Serving.{World}
 use Rattle.serve_command.specs.inner.Steps as serve
 use Rattle.serve_command.specs.declared.left.Left.{Left}
 use Rattle.serve_command.specs.declared.left.Left.TheVariants.{Store}
 use Rattle.serve_command.specs.declared.left.Done.{Done}
 use Rattle.farm_call.specs.inner.Runs.{IsSound, LeavesStore, Runs}
 
+-- the values of words that ask for a command are those that clap reads
+clap_reads : (words : List (List ℕ)) (c : Command) (a : AsksFor words c) → values_of words ≡ Some a.values
+clap_reads words c a = elim a.read [ inl plain ↦ plain_values words plain.0 ∙ ap (λ (vs : List (List ℕ)). Some vs) (sym plain.1) | inr other ↦ other.1 ]
+
+-- a word is plain, or it is not, and so are words
+is_plain_or : (word : List ℕ) → IsPlain word ⊎ ¬ (IsPlain word)
+is_plain_or [] = inr (λ plain. plain)
+is_plain_or (b ∷ bytes) = by_first (b == 45) refl
+  where
+    by_first : (first : Bool) → (b == 45) ≡ first → IsPlain (b ∷ bytes) ⊎ ¬ (IsPlain (b ∷ bytes))
+    by_first true e = inr (λ plain. let both = sym e ∙ plain in cc)
+    by_first false e = inl e
+
+are_plain_or : (words : List (List ℕ)) → ArePlain words ⊎ ¬ (ArePlain words)
+are_plain_or [] = inl tt
+are_plain_or (word ∷ words) =
+    elim (is_plain_or word) [
+      | inl plain ↦ elim (are_plain_or words) [ inl all ↦ inl (plain, all) | inr none ↦ inr (λ both. none both.1) ]
+      | inr not ↦ inr (λ both. not both.0)
+    ]
+
 -- the words ask for one command at most
 asked_one : (words : List (List ℕ)) (c d : Command) → AsksFor words c → AsksFor words d → c ≡ d
 asked_one words c d a b =
-    let both : Some a.values ≡ Some b.values = sym a.read ∙ b.read in
+    let both : Some a.values ≡ Some b.values = sym (clap_reads words c a) ∙ clap_reads words d b in
     let same : a.values ≡ b.values = cc in
     spell_one c d b.values (subst (λ (vs : List (List ℕ)). Spells c vs) same a.spelled) b.spelled
 
@@ -67,8 +90,13 @@ pub record ReadsWords (words : List (List ℕ)) (read : Result Command WordsFaul
   pub none : values_of words ≡ None → IsRefused read
 
 asks_values : (words : List (List ℕ)) (c : Command) (o : Option (List (List ℕ))) → values_of words ≡ o → ReadsWords words (Ok c) → AsksFor words c
-asks_values words c (Some values) h reads = record { values = values; read = h; spelled = reads.given values h }
 asks_values words c None h reads = absurd (reads.none h)
+asks_values words c (Some values) h reads =
+    elim (are_plain_or words) [
+      | inl plain ↦
+          record { values = words; read = inl (plain, refl); spelled = reads.given words (plain_values words plain) }
+      | inr not ↦ record { values = values; read = inr (not, h); spelled = reads.given values h }
+    ]
 
 asks_read : (words : List (List ℕ)) (c : Command) → ReadsWords words (Ok c) → AsksFor words c
 asks_read words c reads = asks_values words c (values_of words) refl reads
@@ -176,7 +204,7 @@ module _ {D : Type 0} (state : D → Outside StoreTold) (words : List (List ℕ)
   runs_refused reads same end_is out_is left_is none ports_are = inr (inl (no_course, idle stop.Words same end_is out_is left_is none ports_are))
     where
       no_course : (c : Course Work) → ¬ (Asks words c)
-      no_course c asks = reads.given asks.1.values asks.1.read asks.0 asks.1.spelled
+      no_course c asks = reads.given asks.1.values (clap_reads words asks.0 asks.1) asks.0 asks.1.spelled
 
   pub runs_wanting : files' ≡ files → end ≡ Err stop.NoMemory → new.out ≡ out → new.left ≡ Store store → new.fronts ≡ [] → new.ports ≡ ports → Call
   runs_wanting same end_is out_is left_is none ports_are = inr (inr (idle stop.NoMemory same end_is out_is left_is none ports_are))

@@ -1,8 +1,10 @@
 pub mod Asked
+pub mod Farms
+pub mod Followed
+pub mod Keeping
 pub mod Loading
-pub mod Reported
+pub mod Owing
+pub mod Program
 pub mod Scripting
-pub mod Told
-pub mod Whys
-pub mod Working
 pub mod Serving
+pub mod Whys

@@ -1,6 +1,6 @@
 -- How a served farm ends, as a call asks it of work.
 use Rattle.std.proofs.Common.{◌≡◌, ◌≢◌, ℕ, ◌⊎◌, inl, inr, ◌+◌, ◌-◌, ◌≤◌, ◌^◌, min, Bool, true, false, ◌||◌, if◌then◌else◌, List, length, map, refl, sym, ap, subst, ◌∙◌, arith}
-use Rattle.std.specs.Prelude.{Option, Some, None, Result, Ok, Err}
+use Rattle.std.specs.Prelude.{Option, Some, None, Result, Ok, Err, IfSome}
 use Rattle.std.specs.List.{list_any}
 use Rattle.std.proofs.lemmas.Bool.{or_cases}
 use Rattle.farm_base.specs.Outside.{Outside, Rose, Counted}
@@ -12,11 +12,14 @@ use Rattle.port_events.specs.declared.ends.FrontEnd.{FrontEnd}
 use Rattle.port_events.specs.declared.events.PortFault.{PortFault}
 use Rattle.port_events.specs.declared.events.PortFault.TheVariants as port_fault
 use Rattle.port_events.specs.Told.{PortsTold, ListenCounts}
+use Rattle.exit_status.specs.Stops.{refused_line}
 use Rattle.exit_status.specs.Ends.{SinkAt}
 use Rattle.exit_status.specs.declared.stops.Stop.{Stop}
 use Rattle.exit_status.specs.declared.stops.Stop.TheVariants as stop
-use Rattle.input_files.proofs.Calls.{Whys}
 use Rattle.farm_history.specs.declared.answers.Tally.{Tally as Totals}
+use Rattle.farm_history.specs.Replays.{Saving}
+use Rattle.farm_plan.specs.Plans.{FarmPlan}
+use Rattle.farm_refinement.specs.Seen.{FarmSeen}
 use Rattle.farm_config.specs.Configs.{Config}
 use Rattle.farm_files.specs.Inputs.{Served}
 use Rattle.farm_refinement.specs.Stands.{StandsFor, failures}
@@ -25,18 +28,17 @@ use Rattle.farm_shared.specs.Shared.{lasting_of, past}
 use Rattle.farm_runs.specs.declared.each_front.EachFront.{EachFront}
 use Rattle.farm_shared.specs.declared.turned.LastingPart.{LastingPart}
 use Rattle.serve_command.specs.Listens.{ListenEnds, Listening, listen_end}
-use Rattle.serve_command.specs.Beginnings.{CannotBegin, IsSavedIn, ResumeRefusal, RefusesFor}
+use Rattle.serve_command.specs.Beginnings.{HasBegun, CannotBegin, IsSavedIn, ResumeRefusal, RefusesFor, ResumesFrom, resumed_by, saved_path}
 use Rattle.serve_command.specs.Endings.{is_front_worn, is_broken, is_wanting, end_after_put, TellsCounts}
 use Rattle.serve_command.specs.Savings.{MaySave}
-use Rattle.serve_command.specs.Serves.{World, HasServed, NotServed, WhyNot, Serves, ServesTo, places, fronts_of, is_worn_out}
-use Rattle.serve_command.specs.Serves as serves
-use Rattle.serve_command.specs.Points.{ClosedFarm}
-use Rattle.serve_command.proofs.Points.{ends_by}
+use Rattle.serve_command.specs.Serves.{ClosedFarm, WhyNot, places, fronts_of, end_of, is_worn_out}
+use Rattle.serve_command.specs.inner.Serving.{World, HasServed, NotServed, Serves, ServesTo}
 use Rattle.serve_command.specs.declared.left.Left.{Left}
 use Rattle.serve_command.specs.declared.left.Left.TheVariants.{Store, Farm}
-use Rattle.farm_call.specs.Works.{store_of}
-use Rattle.farm_call.specs.Served.{PortsRose}
-use Rattle.farm_call.proofs.Whys.{Hinders}
+use Rattle.farm_call.specs.Call.{CallBefore, CallAfter, serves, store_of, PortsRose}
+use Rattle.farm_call.proofs.Whys as whys
+use Rattle.farm_call.specs.inner.Works.{world_before, world_after}
+use Rattle.farm_call.proofs.Farms.{gone_turns}
 
 -- ---- listening
 
@@ -102,70 +104,85 @@ broken_end FrontEnd.NoMemory is = cc
 rose_from : (before more mid now : ℕ) → min (before + more) (2 ^ 64 - 1) ≤ mid → Counted mid now → Rose before now
 rose_from before more mid now least counted = let one = counted.0 in let two = counted.1 in omega (arith, least, one, two)
 
-module _ {D : Type 0} (state : D → Outside StoreTold) (s : Served) (store : D) (old new : World D) (old_left : old.left ≡ Store store) where
+-- ---- what is saved in a store that tells
+
+same_told : {A : Type 0} (o : Option A) (f : A → Option (List ℕ)) (a b : Option (List ℕ)) → o ≢ None → IfSome o (λ t. a ≡ f t) → IfSome o (λ t. b ≡ f t) → a ≡ b
+same_told None f a b told x y = absurd (told refl)
+same_told (Some t) f a b told x y = x ∙ sym y
+
+-- it is one thing
+one_saved : (at : Outside StoreTold) (plan : FarmPlan) → at.told ≢ None → (x y : Result (Option Saving) ResumeRefusal) → IsSavedIn at plan x → IsSavedIn at plan y → x ≡ y
+one_saved at plan told x y a b = sym a.said ∙ ap (resumed_by plan) (same_told at.told (λ (t : StoreTold). t.content saved_path) a.found b.found told a.stands b.stands) ∙ b.said
+
+-- and its refusal has one line
+one_line : (why : ResumeRefusal) (line other : List ℕ) → RefusesFor why line → RefusesFor why other → line ≡ other
+one_line why line other a b =
+    let both : Some a.0 ≡ Some b.0 = sym a.1 ∙ b.1 in
+    let same : a.0 ≡ b.0 = cc in
+    a.2 ∙ ap (refused_line saved_path) same ∙ sym b.2
+
+module _ {D : Type 0} (state : D → Outside StoreTold) (was : CallBefore D) (is : CallAfter D) (s : Served) where
+  abbrev old : World D
+  old = world_before was
+
+  abbrev new : World D
+  new = world_after is
+
   abbrev Why : Stop → Type 0
-  Why q = Whys (λ w. w.out) (Hinders state) q old new
-
-  abbrev at : Outside StoreTold
-  at = state (store_of old.left)
-
-  at_is : state store ≡ at
-  at_is = ap (λ (l : Left D). state (store_of l)) (sym old_left)
+  Why q = whys.Why state (serves s) q old new
 
   -- ---- no actor was started
 
-  module _ (store' : D) (new_left : new.left ≡ Store store') where
-    left_is : state store' ≡ state (store_of new.left)
-    left_is = ap (λ (l : Left D). state (store_of l)) (sym new_left)
+  module _ (store' : D) (left_is : is.left ≡ Store store') where
+    lost_here : Rose (state was.store).faults (state store').faults → Rose (state was.store).faults (state (store_of is.left)).faults
+    lost_here rose = subst (λ (l : Left D). Rose (state was.store).faults (state (store_of l)).faults) (sym left_is) rose
 
-    lost_here : Rose (state store).faults (state store').faults → Rose at.faults (state (store_of new.left)).faults
-    lost_here rose =
-        subst (λ (o : Outside StoreTold). Rose o.faults (state (store_of new.left)).faults) at_is (subst (λ (o : Outside StoreTold). Rose (state store).faults o.faults) left_is rose)
+    unbegun : (why : Stop) → CannotBegin (state was.store) s.inputs.plan s.config.resume (state store') why → is.ports ≡ was.ports → is.out ≡ was.out → Why why
+    unbegun (stop.Refused line) c ports silent = record {
+      served = s;
+      is_work = refl;
+      resume = c.0;
+      why = c.1;
+      fault = c.2;
+      line_is = c.3;
+      out = silent;
+      ports = ports;
+      store = store';
+      left = left_is;
+      shows = c.4;
+    }
+    unbegun stop.NoMemory c ports silent = tt
+    unbegun stop.StoreFailed c ports silent = elim c.1 [ inl got ↦ lost_here got.1.1 | inr put ↦ lost_here put.2.1.1 ]
+    unbegun stop.Words c ports silent = c
+    unbegun (stop.Unreadable line) c ports silent = c
+    unbegun stop.SinkFailed c ports silent = absurd c
+    unbegun stop.PortsFailed c ports silent = absurd c
+    unbegun stop.TurnsUsedUp c ports silent = absurd c
 
-    unbegun : (why : Stop) → CannotBegin (state store) s.inputs.plan s.config.resume (state store') why → new.out ≡ old.out → Why why
-    unbegun (stop.Refused line) c silent = (
-      s,
-      c.0,
-      c.1,
-      subst (λ (o : Outside StoreTold). IsSavedIn o s.inputs.plan (Err c.1)) at_is c.2,
-      c.3,
-      silent,
-      sym left_is ∙ c.4 ∙ at_is,
-    )
-    unbegun stop.NoMemory c silent = tt
-    unbegun stop.StoreFailed c silent = elim c.1 [ inl got ↦ lost_here got.1.1 | inr put ↦ lost_here put.2.1.1 ]
-    unbegun stop.Words c silent = c
-    unbegun (stop.Unreadable line) c silent = c
-    unbegun stop.SinkFailed c silent = absurd c
-    unbegun stop.PortsFailed c silent = absurd c
-    unbegun stop.TurnsUsedUp c silent = absurd c
-
-    not_served : (q : Stop) → NotServed state s store store' old new (Err q) → Why q
+    not_served : (q : Stop) → NotServed state s was.store store' old new (Err q) → Why q
     not_served q h = subst Why (sym q_is) (by_why h.why_not)
       where
         q_is : q ≡ h.why
         q_is = let e = h.end_is in cc
 
-        by_why : WhyNot state s store store' old.ports new.ports h.why → Why h.why
-        by_why (inl c) = unbegun h.why c.0 h.silent
+        by_why : WhyNot state s was.store store' old.ports new.ports h.why → Why h.why
+        by_why (inl c) = unbegun h.why c.0 c.1 h.silent
         by_why (inr (farm, begun, same, inl listens)) =
             elim (listening_err s.config old.ports new.ports h.why listens) [ inl f ↦ subst Why (sym f.0) f.1 | inr none ↦ subst Why (sym none) tt ]
         by_why (inr (farm, begun, same, inr wanting)) = subst Why (sym wanting.1) tt
 
   -- ---- a farm was served
 
-  module _ (closed : ClosedFarm D) (new_left : new.left ≡ Farm closed) (end : Result (Unit {0}) Stop) (h : HasServed state s store closed old new end) where
+  module _ (closed : ClosedFarm D) (left_is : is.left ≡ Farm closed) (end : Result (Unit {0}) Stop) (h : HasServed state s was.store closed old new end) where
     -- the store's count had not fallen when the farm was closed
-    least : min ((state store).faults + length (failures h.last.plan (past (lasting_of state h.last) closed.1))) (2 ^ 64 - 1) ≤ (state h.last.store).faults
+    least : min ((state was.store).faults + length (failures h.last.plan (past (lasting_of state h.last) closed.1))) (2 ^ 64 - 1) ≤ (state h.last.store).faults
     least =
         let stands : StandsFor state false h.last (past (lasting_of state h.last) closed.1) = h.runs.after.each false (λ e. absurd (cc)) in
-        let first : state h.last.first ≡ state store = ap (λ (p : LastingPart D). state p.first) h.runs.kept ∙ h.begun.first_shows in
+        let first : state h.last.first ≡ state was.store = ap (λ (p : LastingPart D). state p.first) h.runs.kept ∙ h.begun.first_shows in
         subst (λ (o : Outside StoreTold). min (o.faults + length (failures h.last.plan (past (lasting_of state h.last) closed.1))) (2 ^ 64 - 1) ≤ (state h.last.store).faults) first stands.store_is.counted
 
-    lost_there : Counted (state h.last.store).faults (state closed.0.store).faults → Rose at.faults (state (store_of new.left)).faults
-    lost_there counted =
-        subst (λ (o : Outside StoreTold). Rose o.faults (state (store_of new.left)).faults) at_is
-        (subst (λ (l : Left D). Rose (state store).faults (state (store_of l)).faults) (sym new_left) (rose_from _ _ _ _ least counted))
+    lost_there : Counted (state h.last.store).faults (state closed.0.store).faults → Rose (state was.store).faults (state (store_of is.left)).faults
+    lost_there counted = subst (λ (l : Left D). Rose (state was.store).faults (state (store_of l)).faults) (sym left_is) (rose_from _ _ _ _ least counted)
 
     -- by how the saving went
     by_saving : (resume : Bool) (why saved : Result (Unit {0}) Stop) (q : Stop) → MaySave state resume why h.last closed.0 closed.1 saved → saved ≡ Err q
@@ -183,7 +200,7 @@ module _ {D : Type 0} (state : D → Outside StoreTold) (s : Served) (store : D)
     by_saving resume (Err w) saved q may is = inr (inr (sym may.1 ∙ is))
 
     -- a front whose ports broke: its count rose
-    broke : list_any is_broken (map serves.end_of (fronts_of h.done)) ≡ true → PortsRose old.ports new.ports
+    broke : list_any is_broken (map end_of (fronts_of h.done)) ≡ true → PortsRose old.ports new.ports
     broke is =
         let same = listening_ok s.config old.ports h.listening h.listens in
         elim (or_cases (is_broken h.done.renderd.end) _ is) [
@@ -213,9 +230,7 @@ module _ {D : Type 0} (state : D → Outside StoreTold) (s : Served) (store : D)
         by_tally (Some a) line = by_put a line.0 line.1 line.2
 
     turns_gone : end ≡ Err stop.TurnsUsedUp → 2 ^ 62 ≤ length closed.1
-    turns_gone is =
-        let e = ends_by state s store closed old new end h in
-        elim e.end_is [ inl same ↦ e.turns_gone (sym same ∙ is) | inr failed ↦ absurd (let f = sym is ∙ failed.0 in cc) ]
+    turns_gone e = elim end_is [ inl same ↦ gone_turns state was is s closed left_is end h (sym same ∙ e) | inr failed ↦ absurd (let f = sym e ∙ failed.0 in cc) ]
 
     saved_why : (q : Stop) → h.winds.saved ≡ Err q → end ≡ Err q → Why q
     saved_why q is ended =
@@ -223,8 +238,8 @@ module _ {D : Type 0} (state : D → Outside StoreTold) (s : Served) (store : D)
           | inl failed ↦ subst Why (sym failed.0) (lost_there failed.1)
           | inr (inl none) ↦ subst Why (sym none) tt
           | inr (inr why) ↦
-              elim (pick_cases (is_worn_out h.ends || list_any is_front_worn (map serves.end_of (fronts_of h.done))) (list_any is_broken (map serves.end_of (fronts_of h.done))) (list_any is_wanting (map serves.end_of (fronts_of h.done))) q why) [
-                | inl turns ↦ subst Why (sym turns) (closed, new_left, turns_gone (ended ∙ ap fails turns))
+              elim (pick_cases (is_worn_out h.ends || list_any is_front_worn (map end_of (fronts_of h.done))) (list_any is_broken (map end_of (fronts_of h.done))) (list_any is_wanting (map end_of (fronts_of h.done))) q why) [
+                | inl turns ↦ subst Why (sym turns) (closed, left_is, turns_gone (ended ∙ ap fails turns))
                 | inr (inl broken) ↦ subst Why (sym broken.0) (broke broken.1)
                 | inr (inr none) ↦ subst Why (sym none) tt
               ]
@@ -235,24 +250,6 @@ module _ {D : Type 0} (state : D → Outside StoreTold) (s : Served) (store : D)
         elim end_is [
           | inl same ↦ saved_why q (sym same ∙ is) is
           | inr failed ↦ let e : q ≡ stop.SinkFailed = (let f = sym is ∙ failed.0 in cc) in subst Why (sym e) failed.1
-        ]
-
-    -- nothing is refused of a farm that was served
-    not_refused : (line : List ℕ) → end ≡ Err (stop.Refused line) → ⊥
-    not_refused line is =
-        elim end_is [
-          | inl same ↦
-              elim (by_saving s.config.resume _ h.winds.saved (stop.Refused line) h.winds.saves (sym same ∙ is)) [
-                | inl failed ↦ let e = failed.0 in cc
-                | inr (inl none) ↦ cc
-                | inr (inr why) ↦
-                    elim (pick_cases (is_worn_out h.ends || list_any is_front_worn (map serves.end_of (fronts_of h.done))) (list_any is_broken (map serves.end_of (fronts_of h.done))) (list_any is_wanting (map serves.end_of (fronts_of h.done))) (stop.Refused line) why) [
-                      | inl turns ↦ cc
-                      | inr (inl broken) ↦ let e = broken.0 in cc
-                      | inr (inr none) ↦ cc
-                    ]
-              ]
-          | inr failed ↦ let e = sym is ∙ failed.0 in cc
         ]
 
     out_noticed : new.out.faults ≢ old.out.faults → end ≡ Err stop.SinkFailed
@@ -266,41 +263,53 @@ module _ {D : Type 0} (state : D → Outside StoreTold) (s : Served) (store : D)
         by_tally None line = absurd (other (ap (λ (x : SinkAt). x.faults) line.0))
         by_tally (Some a) line = by_put a line.0 line.1 line.2
 
-  -- ---- what is saved is refused
-
-  -- the line refuses what is saved; out and what the store shows are as they were
-  abbrev pub IsRefused : List ℕ → Type 0
-  IsRefused line =
-      (s.config.resume ≡ true) × (why : ResumeRefusal) × IsSavedIn (state store) s.inputs.plan (Err why) × RefusesFor why line × (new.out ≡ old.out) × (state (store_of new.left) ≡ state store)
-
-  refused_by : (l : Left D) → new.left ≡ l → (line : List ℕ) → ServesTo state s store old new (Err (stop.Refused line)) l → IsRefused line
-  refused_by (Farm closed) is line h = absurd (not_refused closed is (Err (stop.Refused line)) h line refl)
-  refused_by (Store store') is line h = by_why h.why (let e = h.end_is in cc) h.why_not
-    where
-      by_why : (why : Stop) → stop.Refused line ≡ why → WhyNot state s store store' old.ports new.ports why → IsRefused line
-      by_why why same (inl c) =
-          let d : CannotBegin (state store) s.inputs.plan s.config.resume (state store') (stop.Refused line) =
-          subst (CannotBegin (state store) s.inputs.plan s.config.resume (state store')) (sym same) c.0 in
-          (d.0, d.1, d.2, d.3, h.silent, ap (λ (x : Left D). state (store_of x)) is ∙ d.4)
-      by_why why same (inr (farm, begun, at_farm, inl listens)) =
-          elim (listening_err s.config old.ports new.ports why listens) [ inl f ↦ absurd (let e = same ∙ f.0 in cc) | inr none ↦ absurd (let e = same ∙ none in cc) ]
-      by_why why same (inr (farm, begun, at_farm, inr wanting)) = absurd (let e = same ∙ wanting.1 in cc)
-
-  pub serves_refused : (line : List ℕ) → Serves state s store old new (Err (stop.Refused line)) → IsRefused line
-  serves_refused line h = refused_by new.left refl line h
-
   -- ---- one of both
 
-  stops_by : (l : Left D) → new.left ≡ l → (q : Stop) → ServesTo state s store old new (Err q) l → Why q
-  stops_by (Store store') is q h = not_served store' is q h
-  stops_by (Farm closed) is q h = has_served closed is (Err q) h q refl
+  stops_by : (l : Left D) → is.left ≡ l → (q : Stop) → ServesTo state s was.store old new (Err q) l → Why q
+  stops_by (Store store') left_is q h = not_served store' left_is q h
+  stops_by (Farm closed) left_is q h = has_served closed left_is (Err q) h q refl
 
-  pub serves_stops : (q : Stop) → Serves state s store old new (Err q) → Why q
-  serves_stops q h = stops_by new.left refl q h
+  pub serves_stops : (q : Stop) → Serves state s was.store old new (Err q) → Why q
+  serves_stops q h = stops_by is.left refl q h
 
-  noticed_by : (l : Left D) → new.left ≡ l → (end : Result (Unit {0}) Stop) → ServesTo state s store old new end l → new.out.faults ≢ old.out.faults → end ≡ Err stop.SinkFailed
-  noticed_by (Store store') is end h other = absurd (other (ap (λ (x : SinkAt). x.faults) h.silent))
-  noticed_by (Farm closed) is end h other = out_noticed closed is end h other
+  noticed_by : (l : Left D) → is.left ≡ l → (end : Result (Unit {0}) Stop) → ServesTo state s was.store old new end l → is.out.faults ≢ was.out.faults → end ≡ Err stop.SinkFailed
+  noticed_by (Store store') left_is end h other = absurd (other (ap (λ (x : SinkAt). x.faults) h.silent))
+  noticed_by (Farm closed) left_is end h other = out_noticed closed left_is end h other
 
-  pub serves_noticed : (end : Result (Unit {0}) Stop) → Serves state s store old new end → new.out.faults ≢ old.out.faults → end ≡ Err stop.SinkFailed
-  serves_noticed end h other = noticed_by new.left refl end h other
+  pub serves_noticed : (end : Result (Unit {0}) Stop) → Serves state s was.store old new end → is.out.faults ≢ was.out.faults → end ≡ Err stop.SinkFailed
+  serves_noticed end h other = noticed_by is.left refl end h other
+
+  -- ---- what is saved is a fault
+
+  -- no farm was begun where what is saved is refused
+  pub not_begun : (farm : FarmSeen D) → HasBegun state s.inputs.plan s.config.resume was.store farm → s.config.resume ≡ true → (state was.store).told ≢ None → (why : ResumeRefusal) → ¬ (IsSavedIn (state was.store) s.inputs.plan (Err why))
+  not_begun farm begun resume told why fault =
+      let ok : IsSavedIn (state was.store) s.inputs.plan (Ok farm.saved) = subst (λ (b : Bool). ResumesFrom (state was.store) s.inputs.plan b farm.saved) resume begun.resumes in
+      let both = one_saved (state was.store) s.inputs.plan told (Ok farm.saved) (Err why) ok fault in
+      cc
+
+  -- so the call ends for that fault, where no call of the store fails
+  pub serves_fault : (end : Result (Unit {0}) Stop) → Serves state s was.store old new end → s.config.resume ≡ true → (state was.store).told ≢ None → (why : ResumeRefusal) → IsSavedIn (state was.store) s.inputs.plan (Err why)
+      → (line : List ℕ) → RefusesFor why line → ¬ (Rose (state was.store).faults (state (store_of is.left)).faults) → (end ≡ Err (stop.Refused line)) ⊎ (end ≡ Err stop.NoMemory)
+  serves_fault end h resume told why fault line refuses kept = by_left is.left refl h
+    where
+      by_stop : (q : Stop) (store' : D) → is.left ≡ Store store' → CannotBegin (state was.store) s.inputs.plan s.config.resume (state store') q → (fails q ≡ fails (stop.Refused line)) ⊎ (fails q ≡ fails stop.NoMemory)
+      by_stop (stop.Refused other) store' left_is c =
+          let both = one_saved (state was.store) s.inputs.plan told (Err c.1) (Err why) c.2 fault in
+          let same : c.1 ≡ why = cc in
+          inl (ap (λ (l : List ℕ). fails (stop.Refused l)) (one_line why other line (subst (λ (w : ResumeRefusal). RefusesFor w other) same c.3) refuses))
+      by_stop stop.NoMemory store' left_is c = inr refl
+      by_stop stop.StoreFailed store' left_is c = absurd (kept (elim c.1 [ inl got ↦ lost_here store' left_is got.1.1 | inr put ↦ lost_here store' left_is put.2.1.1 ]))
+      by_stop stop.Words store' left_is c = absurd c
+      by_stop (stop.Unreadable other) store' left_is c = absurd c
+      by_stop stop.SinkFailed store' left_is c = absurd c
+      by_stop stop.PortsFailed store' left_is c = absurd c
+      by_stop stop.TurnsUsedUp store' left_is c = absurd c
+
+      by_why : (q : Stop) (store' : D) → is.left ≡ Store store' → WhyNot state s was.store store' old.ports new.ports q → (fails q ≡ fails (stop.Refused line)) ⊎ (fails q ≡ fails stop.NoMemory)
+      by_why q store' left_is (inl c) = by_stop q store' left_is c.0
+      by_why q store' left_is (inr (farm, begun, same, rest)) = absurd (not_begun farm begun resume told why fault)
+
+      by_left : (l : Left D) → is.left ≡ l → ServesTo state s was.store old new end l → (end ≡ fails (stop.Refused line)) ⊎ (end ≡ fails stop.NoMemory)
+      by_left (Store store') left_is n = elim (by_why n.why store' left_is n.why_not) [ inl e ↦ inl (n.end_is ∙ e) | inr e ↦ inr (n.end_is ∙ e) ]
+      by_left (Farm closed) left_is n = absurd (not_begun n.first n.begun resume told why fault)

@@ -1,5 +1,5 @@
 -- Why work on a store may end early.
-use Rattle.std.proofs.Common.{◌≡◌, List, true, sym, subst}
+use Rattle.std.proofs.Common.{◌≡◌, ℕ, ◌≤◌, ◌^◌, List, length, true, sym, subst}
 use Rattle.std.specs.Prelude.{Err, is_some}
 use Rattle.farm_base.specs.Outside.{Outside, Rose}
 use Rattle.tile_store.specs.Stores.{StoreTold}
@@ -10,15 +10,14 @@ use Rattle.script_text.specs.ScriptTexts.{has_failed}
 use Rattle.exit_status.specs.declared.stops.Stop.{Stop}
 use Rattle.exit_status.specs.declared.stops.Stop.TheVariants as stop
 use Rattle.input_files.proofs.Courses.{ended}
-use Rattle.input_files.proofs.Calls.{Whys}
 use Rattle.script_text.proofs.Lost.{lost}
 use Rattle.farm_files.specs.Inputs.{Served}
 use Rattle.serve_command.specs.Beginnings.{ResumeRefusal, RefusesFor, IsSavedIn}
-use Rattle.serve_command.specs.Serves.{World}
+use Rattle.serve_command.specs.inner.Serving.{World}
 use Rattle.serve_command.specs.declared.left.Left.{Left}
-use Rattle.serve_command.specs.declared.left.Left.TheVariants.{Store}
-use Rattle.farm_call.specs.Works.{store_of}
-use Rattle.farm_call.specs.Served.{PortsRose, TurnsAreGone}
+use Rattle.serve_command.specs.declared.left.Left.TheVariants.{Store, Farm}
+use Rattle.serve_command.specs.Serves.{ClosedFarm}
+use Rattle.farm_call.specs.Call.{Work, serves, store_of, PortsRose}
 
 -- a put on out failed, or a call of the store, or memory was wanting
 abbrev pub StoreWhys : Type 0 → Type 0 → Stop → Type 0
@@ -43,25 +42,44 @@ module _ {D : Type 0} (state : D → Outside StoreTold) where
   abbrev pub Lost : World D → World D → Type 0
   Lost old new = Rose (state (store_of old.left)).faults (state (store_of new.left)).faults
 
-  -- Why work ends early, but for a put on out and want of memory: a call of the store failed, or a port; all turns were drawn; or what is saved is refused, and then out and what the store shows are as they were
-  abbrev pub Hinders : Stop → World D → World D → Type 0
-  Hinders (stop.Refused line) old new =
-      (s : Served) × (s.config.resume ≡ true) × (why : ResumeRefusal) × IsSavedIn (state (store_of old.left)) s.inputs.plan (Err why) × RefusesFor why line × (new.out ≡ old.out)
-      × (state (store_of new.left) ≡ state (store_of old.left))
-  Hinders stop.StoreFailed old new = Lost old new
-  Hinders stop.PortsFailed old new = PortsRose old.ports new.ports
-  Hinders stop.TurnsUsedUp old new = TurnsAreGone new.left
-  Hinders other old new = ⊥
+  -- a farm is left whose history has used up all turns
+  abbrev pub TurnsGone : World D → Type 0
+  TurnsGone new = (closed : ClosedFarm D) × (new.left ≡ Farm closed) × (2 ^ 62 ≤ length closed.1)
 
-  pub by_store : (w w' : World D) (store store' : D) → w.left ≡ Store store → w'.left ≡ Store store' → (s : Stop)
-      → StoreWhys (Rose w.out.faults w'.out.faults) (Rose (state store).faults (state store').faults) s → Whys (λ w. w.out) Hinders s w w'
-  by_store w w' store store' old new (stop.Refused line) why = absurd why
-  by_store w w' store store' old new stop.Words why = absurd why
-  by_store w w' store store' old new (stop.Unreadable line) why = absurd why
-  by_store w w' store store' old new stop.SinkFailed why = why
-  by_store w w' store store' old new stop.NoMemory why = tt
-  by_store w w' store store' old new stop.StoreFailed why =
+  -- what is saved is refused by this line, in the work of serving a farm: the store shows what it showed, and all else is as it was
+  pub record FaultSaved (work : Work) (line : List ℕ) (old new : World D) : Type 0 where
+    pub served : Served
+    pub is_work : work ≡ serves served
+    pub resume : served.config.resume ≡ true
+    pub why : ResumeRefusal
+    pub fault : IsSavedIn (state (store_of old.left)) served.inputs.plan (Err why)
+    pub line_is : RefusesFor why line
+    pub out : new.out ≡ old.out
+    pub ports : new.ports ≡ old.ports
+    pub store : D
+    pub left : new.left ≡ Store store
+    pub shows : state store ≡ state (store_of old.left)
+
+  -- why work ends early
+  abbrev pub Why : Work → Stop → World D → World D → Type 0
+  Why work stop.Words old new = ⊥
+  Why work (stop.Unreadable line) old new = ⊥
+  Why work (stop.Refused line) old new = FaultSaved work line old new
+  Why work stop.SinkFailed old new = Rose old.out.faults new.out.faults
+  Why work stop.NoMemory old new = Unit {0}
+  Why work stop.StoreFailed old new = Lost old new
+  Why work stop.PortsFailed old new = PortsRose old.ports new.ports
+  Why work stop.TurnsUsedUp old new = TurnsGone new
+
+  pub by_store : (work : Work) (w w' : World D) (store store' : D) → w.left ≡ Store store → w'.left ≡ Store store' → (s : Stop)
+      → StoreWhys (Rose w.out.faults w'.out.faults) (Rose (state store).faults (state store').faults) s → Why work s w w'
+  by_store work w w' store store' old new (stop.Refused line) why = absurd why
+  by_store work w w' store store' old new stop.Words why = absurd why
+  by_store work w w' store store' old new (stop.Unreadable line) why = absurd why
+  by_store work w w' store store' old new stop.SinkFailed why = why
+  by_store work w w' store store' old new stop.NoMemory why = tt
+  by_store work w w' store store' old new stop.StoreFailed why =
       subst (λ (l : Left D). Rose (state (store_of l)).faults (state (store_of w'.left)).faults) (sym old)
       (subst (λ (l : Left D). Rose (state store).faults (state (store_of l)).faults) (sym new) why)
-  by_store w w' store store' old new stop.PortsFailed why = absurd why
-  by_store w w' store store' old new stop.TurnsUsedUp why = absurd why
+  by_store work w w' store store' old new stop.PortsFailed why = absurd why
+  by_store work w w' store store' old new stop.TurnsUsedUp why = absurd why

@@ -1,4 +1,5 @@
+pub mod Call
 pub mod Words
-pub mod Works
+pub mod Owing
+pub mod Keeps
 pub mod inner
-pub mod Served

@@ -1,9 +1,10 @@
 //! The program over the words of its runtime.
-ghost use Rattle.std.specs.Prelude.{◌≡◌, ◌⊎◌, [], Err};
-ghost use Rattle.exit_status.specs.Stops.{status_of, err_line, usage, want_of_memory, store_failed};
+ghost use Rattle.std.specs.Prelude.{◌≡◌, [], Err};
+ghost use Rattle.exit_status.specs.Stops.{status_of, err_line};
 ghost use Rattle.exit_status.specs.Ends.{Reports};
-ghost use Rattle.exit_status.specs.Promises.{LineStands};
+ghost use Rattle.farm_runs.specs.Actors.{three};
 ghost use Rattle.serve_command.specs.declared.left.Left.TheVariants.{Store};
+ghost use Rattle.farm_call.specs.Keeps.{ProgramKeeps};
 
 use crate::call::farm_main;
 use crate::ends::FarmEnd;
@@ -19,9 +20,10 @@ use std::sync::Wait;
 use std::thread::Threads;
 use tile_store::TileStore;
 
-/// `farm_main` with the words behind the program's name, over these files and sinks and this store. Words that
-/// cannot be had, since one is not UTF-8, are refused like wrong ones, unless memory ran out.
-#[tactic(auto, using(crate::proofs::Reported::usage_told, crate::proofs::Reported::want_told, crate::proofs::Reported::store_told, crate::proofs::Reported::nothing_told))]
+/// `farm_main` with the words behind the program's name, over these files and sinks and this store.
+/// Words that cannot be had, since one is not UTF-8, are refused like wrong ones, unless memory ran
+/// out.
+#[tactic(auto, using(crate::proofs::Program::called))]
 pub fn program<
     R: Env + Alloc<A = Global> + Threads + Wait + Clock + Sync,
     F: Files,
@@ -40,19 +42,27 @@ pub fn program<
     ports: &mut ThreePorts<P, B>,
     gate: &G,
 ) -> FarmEnd<D>
-    // With 2 the usage line stands on err, with 5 that of want of memory, with 6 that of the store, and with
-    // 0 nothing.
-    ensures usage_line { result.status ≡ 2 → LineStands (E.state err.old).told (E.state err.new).told usage }
-    ensures want_line { result.status ≡ 5
-        → LineStands (E.state err.old).told (E.state err.new).told want_of_memory }
-    ensures store_line { result.status ≡ 6
-        → LineStands (E.state err.old).told (E.state err.new).told store_failed }
-    ensures silent { result.status ≡ 0 → (E.state err.new).told ≡ (E.state err.old).told }
-    // With 2 and 3 out and the store are as they were.
-    ensures untouched { (result.status ≡ 2) ⊎ (result.status ≡ 3)
-        → (O.state out.new ≡ O.state out.old) × (result.left ≡ Store store) }
-    // Where the store is left no farm was shared, and there are no fronts.
-    ensures no_fronts { (s : D) → result.left ≡ Store s → result.fronts.items ≡ [] }
+    // It is the call with some words, or these cannot be had: `specs/Keeps.antt`.
+    ensures { ProgramKeeps D.state
+        (record {
+          words = [];
+          files = F.state files.old;
+          out = O.state out.old;
+          err = E.state err.old;
+          store = store;
+          ports = three (P.state ports.old.renderd) (P.state ports.old.tiles)
+              (P.state ports.old.control);
+        })
+        (record {
+          status = result.status;
+          files = F.state files.new;
+          out = O.state out.new;
+          err = E.state err.new;
+          left = result.left;
+          fronts = result.fronts.items;
+          ports = three (P.state ports.new.renderd) (P.state ports.new.tiles)
+              (P.state ports.new.control);
+        }) }
 {
     match words(rt) {
         Ok(words) => farm_main(
@@ -84,7 +94,8 @@ fn words<R: Env + Alloc<A = Global>>(rt: &R) -> io::Result<Vec<String>> {
 
 // The end of a call whose words cannot be had.
 fn wordless<E: Sink, D: TileStore>(alloc: Global, err: &mut E, stop: Stop, store: D) -> FarmEnd<D>
-    ensures report { Reports (status_of (Err stop)) (err_line (Err stop)) (E.state err.old) (E.state err.new) result.status }
+    ensures report { Reports (status_of (Err stop)) (err_line (Err stop)) (E.state err.old)
+        (E.state err.new) result.status }
     ensures left { result.left ≡ Store store }
     ensures no_fronts { result.fronts.items ≡ [] }
 {

@@ -1,5 +1,5 @@
-//! The top call: what the words of a command line ask for, done over the files, sinks and the store that are
-//! handed in.
+//! The top call: what the words of a command line ask for, done over the files, sinks and the store
+//! that are handed in.
 #![tactic(auto)]
 
 mod arguments;

@@ -2,6 +2,10 @@
 #![tactic(auto)]
 
 #[cfg(test)]
+mod barrier;
+#[cfg(test)]
 mod call;
 #[cfg(test)]
 mod failing;
+#[cfg(test)]
+mod rare;

@@ -1,25 +1,9 @@
-//! The program over a file that is missing: status 3, and nothing on out. Standard output and standard
-//! error are exchanged, so that the stored output shows the line on err.
+//! The program, called with a file that is missing: status 3, and nothing on standard output.
 #![tactic(auto)]
 
-use farm_base::{DiskFiles, OpenGate, OutSink};
-use farm_call::program;
-use memory_ports::MemPorts;
+use farm_program::run_program;
 use std::process::ExitCode;
-use tile_store::FileStore;
 
 fn main(rt: HostRuntime) -> ExitCode {
-    let mut files = DiskFiles::new(rt);
-    let mut out = OutSink::new(rt.stderr());
-    let mut err = OutSink::new(rt.stdout());
-    let alloc = rt.alloc();
-    let (one, two, three) = (Vec::new(alloc), Vec::new(alloc), Vec::new(alloc));
-    let Ok(mut ports) = MemPorts::three(alloc, one, two, three, 0, 0) else {
-        return ExitCode::FAILURE;
-    };
-    let store = FileStore::new(rt);
-    let end = program(
-        &rt, &mut files, &mut out, &mut err, store, &mut ports, &OpenGate,
-    );
-    ExitCode::from(end.into_status())
+    run_program(rt)
 }

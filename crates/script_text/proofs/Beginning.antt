@@ -1,5 +1,5 @@
 -- A farm that just began, and what it leaves.
-use Rattle.std.proofs.Common.{◌≡◌, Bool, false, List, [], ◌<◌, ◌^◌, sym, ◌∙◌, arith}
+use Rattle.std.proofs.Common.{◌≡◌, Bool, false, List, [], ◌<◌, ◌^◌, sym, ap, ◌∙◌, arith}
 use Rattle.std.specs.Prelude.{None, is_some}
 use Rattle.farm_base.specs.Outside.{Outside}
 use Rattle.tile_store.specs.Stores.{StoreTold}
@@ -7,7 +7,7 @@ use Rattle.farm_history.specs.Entries.{Entry}
 use Rattle.farm_plan.specs.Plans.{FarmPlan}
 use Rattle.farm_refinement.specs.Seen.{FarmSeen}
 use Rattle.farm_refinement.specs.Stands.{StandsFor}
-use Rattle.farm_core.specs.Answers.{Lasts}
+use Rattle.farm_core.specs.Answers.{Lasts, at_saved}
 use Rattle.farm_core.specs.Begins.{Begins}
 use Rattle.script_text.specs.Left.{Leaves}
 
@@ -28,5 +28,6 @@ module _ {D : Type 0} (state : D → Outside StoreTold) (plan : FarmPlan) (store
     plan_is = kept.plan ∙ begins.plan_is;
     first_is = kept.first ∙ begins.first_is;
     store_is = sym is;
+    beside = ap (λ (d : D). at_saved (state d)) is ∙ kept.beside ∙ ap (λ (d : D). at_saved (state d)) begins.store_is;
     runs = run (is_some (state store).told) (begins.stands (is_some (state store).told) (λ e. e));
   }

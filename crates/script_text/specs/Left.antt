@@ -6,6 +6,7 @@ use Rattle.farm_history.specs.Entries.{Entry}
 use Rattle.farm_plan.specs.Plans.{FarmPlan}
 use Rattle.farm_refinement.specs.Seen.{FarmSeen}
 use Rattle.farm_refinement.specs.Stands.{StandsFor}
+use Rattle.farm_core.specs.Answers.{at_saved}
 
 -- A farm of the plan was started over one store and left another, and it ran so: `ran` says it of the histories that it
 -- stands for at its end. It is told what the store holds where the store tells that.
@@ -14,4 +15,6 @@ pub record Leaves {D : Type 0} (state : D → Outside StoreTold) (plan : FarmPla
   pub plan_is : farm.plan ≡ plan
   pub first_is : farm.first ≡ store
   pub store_is : farm.store ≡ store'
+  -- the place of a saved farm holds what it held
+  pub beside : at_saved (state store') ≡ at_saved (state store)
   pub runs : ran (λ h. StandsFor state (is_some (state store).told) farm h)

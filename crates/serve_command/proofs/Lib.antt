@@ -1,4 +1,3 @@
-pub mod Points
 mod Steps
 mod Beginning
 mod Found

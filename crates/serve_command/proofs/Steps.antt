@@ -27,7 +27,8 @@ use Rattle.serve_command.specs.declared.command.Ready.{Ready}
 use Rattle.serve_command.specs.declared.left.Left.{Left}
 use Rattle.serve_command.specs.declared.left.Left.TheVariants.{Store, Farm}
 use Rattle.serve_command.specs.declared.left.Done.{Done}
-use Rattle.serve_command.specs.Serves.{World, WhyNot, Serves, ServesTo, places, fronts_of, end_of, is_worn_out}
+use Rattle.serve_command.specs.Serves.{WhyNot, places, fronts_of, end_of, is_worn_out}
+use Rattle.serve_command.specs.inner.Serving.{World, Serves, ServesTo}
 use Rattle.serve_command.specs.inner.Steps.{EndsRun, HasRun, RanTo, ends_of}
 
 module _ {D : Type 0} (state : D → Outside StoreTold) where

@@ -1,5 +1,4 @@
 pub mod Serves
-pub mod Points
 pub mod inner
 pub mod Beginnings
 pub mod Listens

@@ -1,33 +1,21 @@
--- What the command `serve` does with a store, with out and with three ports, once its files were read.
-use Rattle.std.specs.Prelude.{◌≡◌, ◌⊎◌, ℕ, Bool, ◌||◌, not, List, [], ◌∷◌, map, Option, Some, None, Result, Ok, Err, is_none}
+-- What the command `serve` works with: its ports, how its run ended, and why no actor was started.
+use Rattle.std.specs.Prelude.{◌≡◌, ◌⊎◌, ℕ, Bool, ◌||◌, not, List, [], ◌∷◌, Option, Some, None, Ok, Err, is_none}
 use Rattle.farm_base.specs.Outside.{Outside}
 use Rattle.tile_store.specs.Stores.{StoreTold}
 use Rattle.port_events.specs.declared.ends.FrontDone.{FrontDone}
 use Rattle.port_events.specs.declared.ends.FrontEnd.{FrontEnd}
 use Rattle.port_events.specs.Told.{PortsTold}
-use Rattle.exit_status.specs.Ends.{SinkAt}
 use Rattle.exit_status.specs.declared.stops.Stop.{Stop}
 use Rattle.exit_status.specs.declared.stops.Stop.TheVariants as stop
 use Rattle.farm_history.specs.Entries.{Entry}
 use Rattle.farm_config.specs.Configs.{Config}
 use Rattle.farm_files.specs.Inputs.{Served}
 use Rattle.farm_refinement.specs.Seen.{FarmSeen}
+use Rattle.farm_shared.specs.Shared.{lasting_of, past}
 use Rattle.farm_runs.specs.declared.each_front.EachFront.{EachFront}
-use Rattle.farm_runs.specs.Actors.{maps_in}
-use Rattle.farm_runs.specs.Promise.{Ends, RunsWell}
-use Rattle.farm_fronts.specs.Fronts.{renderd_leaves, tiles_leave, control_leaves}
+use Rattle.farm_runs.specs.Promise.{Ends}
 use Rattle.serve_command.specs.Beginnings.{HasBegun, CannotBegin}
 use Rattle.serve_command.specs.Listens.{ListenPlace, Listening}
-use Rattle.serve_command.specs.Endings.{why_ended, WindsUp}
-use Rattle.serve_command.specs.declared.left.Left.{Left}
-use Rattle.serve_command.specs.declared.left.Left.TheVariants.{Store, Farm}
-
--- what a command works on: out, the store or what is left of it, what the fronts answered, and what the ports show
-pub record World (D : Type 0) : Type 0 where
-  pub out : SinkAt
-  pub left : Left D
-  pub fronts : List FrontDone
-  pub ports : EachFront (Outside PortsTold)
 
 -- ---- the ports
 
@@ -57,43 +45,23 @@ end_of done = done.end
 abbrev pub is_worn_out : Ends → Bool
 is_worn_out ends = ends.worn || not ends.stopped || is_none ends.tally
 
+-- ---- what is left
+
+-- a farm, and the history of its turns
+abbrev pub ClosedFarm : Type 0 → Type 0
+ClosedFarm D = FarmSeen D × List (ℕ × Entry)
+
+-- all that happened to the farm, the newest entry first: what it was resumed from, replayed, and then the entries of
+-- this run
+abbrev pub whole_history : {D : Type 0} → (D → Outside StoreTold) → ClosedFarm D → List Entry
+whole_history state closed = past (lasting_of state closed.0) closed.1
+
 module _ {D : Type 0} (state : D → Outside StoreTold) (s : Served) (store : D) where
-  -- No actor was started, and this is why: no farm was begun, and then no port was listened on; or a port could not be listened on, or memory was wanting after that, and then the store is that of the farm that was begun
+  -- Why no actor was started: no farm was begun, and then no port was listened on; or a farm was, whose store is left, and
+  -- a port could not be listened on, or memory was wanting after that
   abbrev pub WhyNot : D → EachFront (Outside PortsTold) → EachFront (Outside PortsTold) → Stop → Type 0
   WhyNot store' ports ports' why =
       (CannotBegin (state store) s.inputs.plan s.config.resume (state store') why × (ports' ≡ ports))
       ⊎ ((farm : FarmSeen D) × HasBegun state s.inputs.plan s.config.resume store farm × (store' ≡ farm.store)
-      × (Listening (places s.config ports ports') (Err why) ⊎ (Listening (places s.config ports ports') (Ok tt) × (why ≡ stop.NoMemory))))
-
-  -- **No actor was started.** Nothing was put on out and there are no fronts; the ports were listened on at most
-  pub record NotServed (store' : D) (old new : World D) (end : Result (Unit {0}) Stop) : Type 0 where
-    pub why : Stop
-    pub end_is : end ≡ Err why
-    pub why_not : WhyNot store' old.ports new.ports why
-    pub silent : new.out ≡ old.out
-    pub no_fronts : new.fronts ≡ []
-
-  -- **The farm has served.** `closed` is what is left: the farm, and the history of its turns
-  pub record HasServed (closed : FarmSeen D × List (ℕ × Entry)) (old new : World D) (end : Result (Unit {0}) Stop) : Type 0 where
-    -- the farm as it began, and what the ports showed when they listened
-    pub first : FarmSeen D
-    pub begun : HasBegun state s.inputs.plan s.config.resume store first
-    pub listening : EachFront (Outside PortsTold)
-    pub listens : Listening (places s.config old.ports listening) (Ok tt)
-    -- it ran well from there on; `last` is the farm as the run left it, before anything was saved
-    pub last : FarmSeen D
-    pub done : EachFront FrontDone
-    pub ends : Ends
-    pub runs : RunsWell state first last closed.1 (renderd_leaves (maps_in s.inputs.plan)) (tiles_leave (maps_in s.inputs.plan)) (control_leaves s.inputs.lists) listening new.ports done ends
-    pub fronts_are : new.fronts ≡ fronts_of done
-    -- and then it was saved, where it is to be, and the line of its counts was put; and so the command ends
-    pub winds : WindsUp state s.config.resume (why_ended (is_worn_out ends) (map end_of (fronts_of done))) ends.tally last closed.0 closed.1 old.out new.out end
-
-  -- one of both, by what is left
-  abbrev pub ServesTo : World D → World D → Result (Unit {0}) Stop → Left D → Type 0
-  ServesTo old new end (Store store') = NotServed store' old new end
-  ServesTo old new end (Farm closed) = HasServed closed old new end
-
-  -- **The command**, over a store
-  abbrev pub Serves : World D → World D → Result (Unit {0}) Stop → Type 0
-  Serves old new end = ServesTo old new end new.left
+      × (Listening (places s.config ports ports') (Err why)
+      ⊎ (Listening (places s.config ports ports') (Ok tt) × (why ≡ stop.NoMemory))))

@@ -1,4 +1,5 @@
 -- Words that serve the steps of the command alone.
+pub mod Serving
 pub mod Steps
 pub mod Setups
 pub mod Puts

@@ -9,10 +9,12 @@ use crate::links::{Heard, Link};
 use crate::streams::{Listener, Stream};
 use farm_base::Bell;
 use mio::{Events, Poll, Token, Waker};
+use once_cell::race::OnceBox;
 use port_events::{PortEvent, PortFault, Ports, SendFault};
-use std::alloc::Global;
+use std::alloc::{AllocError, Global};
 use std::collections::VecDeque;
 use std::net::Net;
+use std::sync::Arc;
 use std::time::Duration;
 use std::{io, rt};
 
@@ -33,13 +35,23 @@ const LOOKS: u32 = 1024;
 /// How long `next` waits at most while connections wait that could not be accepted, in milliseconds.
 const CROWDED: u64 = 50;
 
+/// What the system gives to wait with for events.
+#[derive(Drop)]
+struct Watch {
+    poll: Poll,
+    events: Events,
+}
+
 /// Ports over the system's sockets, through a runtime. They do not tell what they hold; what is proved
 /// of them is that they count their failures, and that a piece has 1 to 4,096 bytes.
 #[derive(Drop)]
 pub struct SocketPorts<R> {
     rt: R,
-    poll: Poll,
-    events: Events,
+    alloc: Global,
+    // taken at the first listen
+    watch: Option<Watch>,
+    // where the bell finds what wakes these ports
+    waker: Arc<OnceBox<Waker>>,
     listener: Option<Listener>,
     // a connection may wait to be accepted
     can_accept: bool,
@@ -58,32 +70,36 @@ pub struct SocketPorts<R> {
     faults: u64,
 }
 
-/// A bell that ends the wait of its ports, from any thread.
+/// A bell that ends the wait of its ports, from any thread. Before they listen there is no wait.
 #[derive(Drop)]
 pub struct SocketBell {
-    waker: Waker,
+    waker: Arc<OnceBox<Waker>>,
 }
 
 impl Bell for SocketBell {
     fn ring(&self) {
-        drop(self.waker.wake());
+        if let Some(waker) = self.waker.get() {
+            drop(waker.wake());
+        }
     }
 }
 
 impl<R: Net + rt::Files> SocketPorts<R> {
-    /// Ports that listen nowhere yet, and their bell.
-    pub fn new(alloc: Global, rt: R) -> io::Result<(SocketPorts<R>, SocketBell)>
+    /// Ports that listen nowhere yet, and their bell. Nothing is taken of the system but memory.
+    pub fn new(alloc: Global, rt: R) -> Result<(SocketPorts<R>, SocketBell), AllocError>
     where
         R: Drop,
         ensures { IfOk result (λ made. made.0.faults ≡ 0) }
     {
-        let poll = Poll::new(&rt)?;
-        let waker = Waker::new(poll.registry(), Token(BELL))?;
-        let events = Events::with_capacity(alloc, EVENTS)?;
+        let waker = Arc::new(alloc, OnceBox::new(alloc))?;
+        let bell = SocketBell {
+            waker: waker.clone()?,
+        };
         let ports = SocketPorts {
             rt,
-            poll,
-            events,
+            alloc,
+            watch: None,
+            waker,
             listener: None,
             can_accept: false,
             crowded: false,
@@ -95,7 +111,36 @@ impl<R: Net + rt::Files> SocketPorts<R> {
             given: 0,
             faults: 0,
         };
-        Ok((ports, SocketBell { waker }))
+        Ok((ports, bell))
+    }
+
+    /// What is waited with, which the system gives once.
+    fn watch(&mut self) -> io::Result<()>
+        ensures { self.new.faults ≡ self.old.faults }
+    {
+        if self.watch.is_some() {
+            return Ok(());
+        }
+        let poll = Poll::new(&self.rt)?;
+        let waker = Waker::new(poll.registry(), Token(BELL))?;
+        let events = Events::with_capacity(self.alloc, EVENTS)?;
+        drop(self.waker.set(Box::new(self.alloc, waker)?));
+        self.watch = Some(Watch { poll, events });
+        Ok(())
+    }
+
+    /// Listens at the address.
+    fn bind(&mut self, address: &str) -> io::Result<()>
+        ensures { self.new.faults ≡ self.old.faults }
+    {
+        self.watch()?;
+        let Some(watch) = &self.watch else {
+            return Err(io::Error::from(io::ErrorKind::NotConnected));
+        };
+        let mut listener = address::listen(&self.rt, address)?;
+        listener.register(watch.poll.registry(), Token(LISTENER))?;
+        self.listener = Some(listener);
+        Ok(())
     }
 
     fn place_of(&self, conn: u32) -> Option<usize>
@@ -145,10 +190,13 @@ impl<R: Net + rt::Files> SocketPorts<R> {
         self.given = 0;
         self.queue.reserve(self.links.len())?;
         let patience = self.patience();
-        self.poll.poll(&mut self.events, patience)?;
+        let Some(watch) = &mut self.watch else {
+            return Err(io::Error::from(io::ErrorKind::NotConnected));
+        };
+        watch.poll.poll(&mut watch.events, patience)?;
         self.can_accept = self.can_accept || self.crowded;
         self.crowded = false;
-        for event in self.events.iter() {
+        for event in watch.events.iter() {
             match event.token().0 {
                 BELL => self.woken = true,
                 LISTENER => self.can_accept = true,
@@ -225,7 +273,10 @@ impl<R: Net + rt::Files> SocketPorts<R> {
         ensures event { IfSome result (λ e. IsQuiet e) }
         ensures same { self.new.faults ≡ self.old.faults }
     {
-        let Ok(link) = Link::new(conn, stream, self.poll.registry()) else {
+        let Some(watch) = &self.watch else {
+            return None;
+        };
+        let Ok(link) = Link::new(conn, stream, watch.poll.registry()) else {
             return None;
         };
         if self.links.push(link).is_err() {
@@ -308,17 +359,10 @@ impl<R: Net + rt::Files> Ports for SocketPorts<R> {
     ghost state = { λ p. untold p.faults };
 
     /// As the trait says. Failed where the address is none of the two kinds or the system refuses it, as
-    /// one that is in use. A socket file that an earlier run left is replaced.
+    /// one that is in use, or gives nothing to wait with. A socket file that an earlier run left is replaced.
     fn listen(&mut self, address: &str) -> Result<(), PortFault> {
-        let bound = address::listen(&self.rt, address).and_then(|mut listener| {
-            listener.register(self.poll.registry(), Token(LISTENER))?;
-            Ok(listener)
-        });
-        match bound {
-            Ok(listener) => {
-                self.listener = Some(listener);
-                Ok(())
-            }
+        match self.bind(address) {
+            Ok(()) => Ok(()),
             Err(error) if error.kind() == io::ErrorKind::OutOfMemory => Err(PortFault::NoMemory),
             Err(_) => {
                 self.count();
@@ -328,7 +372,7 @@ impl<R: Net + rt::Files> Ports for SocketPorts<R> {
     }
 
     /// As the trait says. Waits where there is no event; a bell ends the wait. Each connection gives one
-    /// piece in turn.
+    /// piece in turn. Broken before the first listen.
     fn next(&mut self, room: &mut Vec<u8>) -> PortEvent {
         for _ in 0..LOOKS {
             match self.refresh() {
@@ -354,7 +398,10 @@ impl<R: Net + rt::Files> Ports for SocketPorts<R> {
         let Some(place) = self.place_of(conn) else {
             return Ok(0);
         };
-        match self.links[place].write(self.poll.registry(), bytes) {
+        let Some(watch) = &self.watch else {
+            return Ok(0);
+        };
+        match self.links[place].write(watch.poll.registry(), bytes) {
             Ok(count) => Ok(count),
             Err(error) if error.kind() == io::ErrorKind::OutOfMemory => Err(SendFault::NoMemory),
             Err(_) => {

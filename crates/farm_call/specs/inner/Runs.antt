@@ -13,11 +13,12 @@ use Rattle.script_command.specs.Scripts as script
 use Rattle.load_command.specs.Runs.{Loads}
 use Rattle.render_command.specs.Courses.{render_course}
 use Rattle.render_command.specs.MetaCourses.{meta_course}
-use Rattle.serve_command.specs.Serves.{World}
+use Rattle.serve_command.specs.inner.Serving.{World}
 use Rattle.serve_command.specs.inner.Steps as serve
 use Rattle.serve_command.specs.declared.left.Left.TheVariants.{Store}
 
--- what the words make sure of a command: its tile is one of the world, and its size is one that tiles may have; its work is not too large
+-- what the words make sure of a command: its tile is one of the world, and its size is one that
+-- tiles may have; its work is not too large
 abbrev pub IsSound : Command → Type 0
 IsSound (Render style data_name size tile) = IsTileSize size × IsTile tile
 IsSound (Load seed n) = n ≤ 100000

@@ -21,7 +21,8 @@ use Rattle.serve_command.specs.declared.left.Left.{Left}
 use Rattle.serve_command.specs.declared.left.Left.TheVariants.{Store, Farm}
 use Rattle.serve_command.specs.declared.left.Done.{Done}
 use Rattle.serve_command.specs.declared.command.Ready.{Ready}
-use Rattle.serve_command.specs.Serves.{World, Serves, fronts_of, end_of, is_worn_out}
+use Rattle.serve_command.specs.Serves.{fronts_of, end_of, is_worn_out}
+use Rattle.serve_command.specs.inner.Serving.{World, Serves}
 
 -- what the run told beside its fronts
 abbrev pub ends_of : {D : Type 0} → Run D → Ends
