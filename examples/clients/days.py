@@ -174,6 +174,10 @@ def new_list(folder, farm, report):
     report.check("two drawings", numbers(farm.stats())["stored"] - before, 2)
     status, text = tool("expire", farm.tiles, folder.name("tiles"), given="14/0/99999\n")
     report.check("a line that is no tile", (status, "Traceback" in text), (1, False))
+    place = farm.control.split(":")
+    line = "exec 3<>/dev/tcp/%s/%s; echo stats >&3; head -1 <&3" % (place[1], place[2])
+    done = subprocess.run(["bash", "-c", line], stdout=subprocess.PIPE, text=True, timeout=60)
+    report.check("a control line by bash alone", numbers(done.stdout.strip())["version"], 2)
 
 
 def days(folder, report):
