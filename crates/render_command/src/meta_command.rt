@@ -32,7 +32,7 @@ pub fn meta<F: Files, O: Sink>(
 }
 
 // The lines of the container that the file holds.
-#[tactic(auto, using(input_files::proofs::Courses::follows_then, input_files::proofs::Courses::follows_stop, input_files::proofs::Courses::follows_wanting), unfolding(crate::specs::Courses::meta_course))]
+#[tactic(auto, using(input_files::proofs::Courses::follows_then, input_files::proofs::Courses::follows_stop, input_files::proofs::Courses::follows_wanting), unfolding(crate::specs::MetaCourses::meta_course))]
 fn text_of<F: Files>(alloc: Global, name: &str, files: &mut F) -> Result<Vec<u8>, Stop>
     ensures { Follows (meta_course name.now) (F.state files.old) (F.state files.new) (seen (λ v. v.items) result) }
 {
