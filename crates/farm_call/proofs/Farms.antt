@@ -28,8 +28,8 @@ use Rattle.turn_cell.specs.Turns.{by}
 use Rattle.farm_headline.specs.Headline.{Headline}
 use Rattle.farm_runs.specs.Actors.{maps_in}
 use Rattle.farm_runs.specs.Promise.{AreSeated, AreWorked, IsServed}
-use Rattle.farm_fronts.specs.Fronts.{renderd_leaves, tiles_leave}
-use Rattle.farm_fronts.proofs.Laws.{marked}
+use Rattle.front_leaves.specs.Fronts.{renderd_leaves, tiles_leave}
+use Rattle.front_leaves.proofs.Laws.{marked}
 use Rattle.serve_command.specs.Beginnings.{HasEmptied, ResumesFrom, saved_path}
 use Rattle.serve_command.specs.Endings.{why_ended, is_front_worn, is_broken, is_wanting, end_after_put, TellsCounts}
 use Rattle.serve_command.specs.Savings.{MaySave}

@@ -31,7 +31,7 @@ use Rattle.farm_headline.specs.Headline.{Headline}
 use Rattle.farm_runs.specs.declared.each_front.EachFront.{EachFront}
 use Rattle.farm_runs.specs.Actors.{maps_in}
 use Rattle.farm_runs.specs.Promise.{Ends, AreSeated, IsServed, AreWorked, IsStop}
-use Rattle.farm_fronts.specs.Fronts.{renderd_leaves, tiles_leave, control_leaves}
+use Rattle.front_leaves.specs.Fronts.{renderd_leaves, tiles_leave, control_leaves}
 use Rattle.farm_files.specs.Inputs.{Served}
 use Rattle.serve_command.specs.Beginnings.{IsSavedIn, ResumeRefusal, RefusesFor, ResumesFrom}
 use Rattle.serve_command.specs.Beginnings.{saved_path}

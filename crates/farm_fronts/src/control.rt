@@ -15,8 +15,8 @@ pub struct ControlFront {
 }
 
 impl Serving for ControlFront {
-    ghost use Rattle.farm_fronts.specs.Fronts.{control_leaves};
-    ghost use Rattle.farm_fronts.proofs.Laws.{control_kinds, marked, unbegun};
+    ghost use Rattle.front_leaves.specs.Fronts.{control_leaves};
+    ghost use Rattle.front_leaves.proofs.Laws.{control_kinds, marked, unbegun};
 
     ghost number = { λ _. 2 };
 

@@ -1,5 +1,4 @@
-//! The three fronts of a farm, as a run begins them: what each leaves, and that it is what a run asks of a
-//! front.
+//! The three fronts of a farm, as a run begins them.
 #![tactic(auto)]
 
 mod control;

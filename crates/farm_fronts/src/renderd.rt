@@ -12,8 +12,8 @@ use tile_store::TileStore;
 pub struct RenderdFront;
 
 impl Serving for RenderdFront {
-    ghost use Rattle.farm_fronts.specs.Fronts.{renderd_leaves};
-    ghost use Rattle.farm_fronts.proofs.Laws.{renderd_kinds, marked, unbegun};
+    ghost use Rattle.front_leaves.specs.Fronts.{renderd_leaves};
+    ghost use Rattle.front_leaves.proofs.Laws.{renderd_kinds, marked, unbegun};
 
     ghost number = { λ _. 0 };
 

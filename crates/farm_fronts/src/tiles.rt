@@ -12,8 +12,8 @@ use tile_store::TileStore;
 pub struct TileFront;
 
 impl Serving for TileFront {
-    ghost use Rattle.farm_fronts.specs.Fronts.{tiles_leave};
-    ghost use Rattle.farm_fronts.proofs.Laws.{tiles_kinds, marked, unbegun};
+    ghost use Rattle.front_leaves.specs.Fronts.{tiles_leave};
+    ghost use Rattle.front_leaves.proofs.Laws.{tiles_kinds, marked, unbegun};
 
     ghost number = { λ _. 1 };
 
