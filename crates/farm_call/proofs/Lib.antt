@@ -4,7 +4,7 @@ pub mod Followed
 pub mod Keeping
 pub mod Loading
 pub mod Owing
-pub mod Program
+pub mod WholeCall
 pub mod Scripting
 pub mod Serving
 pub mod Whys

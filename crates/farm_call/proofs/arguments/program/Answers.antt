@@ -1,6 +1,6 @@
 use Rattle.std.proofs.Common.{refl}
 use Rattle.exit_status.specs.declared.stops.Stop.TheVariants as stop
-use Rattle.farm_call.proofs.Program.{wordless}
+use Rattle.farm_call.proofs.WholeCall.{wordless}
 use Rattle.farm_call.proofs.arguments.program.Goals as goal
 
 pub returns-in-OutOfMemory : goal.returns-in-OutOfMemory
