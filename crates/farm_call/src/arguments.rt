@@ -23,7 +23,7 @@ use tile_store::TileStore;
 /// `farm_main` with the words behind the program's name, over these files and sinks and this store.
 /// Words that cannot be had, since one is not UTF-8, are refused like wrong ones, unless memory ran
 /// out.
-#[tactic(auto, using(crate::proofs::Program::called))]
+#[tactic(auto, using(crate::proofs::WholeCall::called))]
 pub fn program<
     R: Env + Alloc<A = Global> + Threads + Wait + Clock + Sync,
     F: Files,
