@@ -2,34 +2,52 @@
 #![tactic(auto)]
 
 use exit_status::{Stop, report};
-use farm_base::{Bells, DiskFiles, OpenGate, OutSink};
+use farm_base::{Bell, Bells, Files, OpenGate, OutSink};
 use farm_call::program;
-use port_events::ThreePorts;
+use port_events::{Ports, ThreePorts};
 use socket_ports::{SocketBell, SocketPorts};
-use std::alloc::AllocError;
+use std::alloc::{AllocError, Global};
+use std::net::Net;
 use std::process::ExitCode;
-use tile_store::FileStore;
+use std::rt::{self, Clock, Env, Stderr, Stdout};
+use std::sync::Wait;
+use std::thread::Threads;
+use tile_store::TileStore;
 
-/// The program: what its words ask for, over the files that its runtime reaches, its standard output and standard
-/// error, the store in files and the system's sockets. The exit status is the call's; its line goes to standard error.
-/// Nothing is taken of the system before the words are read, but memory, and no socket before `serve` has read its files.
-pub fn run_program(rt: HostRuntime) -> ExitCode {
-    let mut files = DiskFiles::new(rt);
-    let mut out = OutSink::new(rt.stdout());
-    let mut err = OutSink::new(rt.stderr());
-    let Ok(mut ports) = ports(rt) else {
+/// The program: what its words ask for, over files, a store and ports, its standard output and standard error. The
+/// exit status is the call's; its line goes to standard error. Where there was no memory for the ports, the status is
+/// that of memory wanting.
+pub fn run_program<
+    R: Env + Alloc<A = Global> + Threads + Wait + Clock + Sync,
+    F: Files + Drop,
+    D: TileStore + Send + Drop,
+    P: Ports + Send + Drop,
+    B: Bell + Send + Sync + Drop,
+>(
+    rt: &R,
+    files: F,
+    out: Stdout,
+    err: Stderr,
+    store: D,
+    ports: Result<ThreePorts<P, B>, AllocError>,
+) -> ExitCode {
+    let mut files = files;
+    let mut out = OutSink::new(out);
+    let mut err = OutSink::new(err);
+    let Ok(mut ports) = ports else {
         return ExitCode::from(report(&mut err, &Err(Stop::NoMemory)));
     };
-    let store = FileStore::new(rt);
     let end = program(
-        &rt, &mut files, &mut out, &mut err, store, &mut ports, &OpenGate,
+        rt, &mut files, &mut out, &mut err, store, &mut ports, &OpenGate,
     );
     ExitCode::from(end.into_status())
 }
 
-/// Ports that listen nowhere yet, and their bells.
-fn ports(rt: HostRuntime) -> Result<ThreePorts<SocketPorts<HostRuntime>, SocketBell>, AllocError> {
-    let alloc = rt.alloc();
+/// The system's sockets as ports that listen nowhere yet, and their bells. Nothing is taken of the system but memory.
+pub fn sockets<R: rt::Files + Net + Copy + Drop>(
+    alloc: Global,
+    rt: R,
+) -> Result<ThreePorts<SocketPorts<R>, SocketBell>, AllocError> {
     let (renderd, first) = SocketPorts::new(alloc, rt)?;
     let (tiles, second) = SocketPorts::new(alloc, rt)?;
     let (control, third) = SocketPorts::new(alloc, rt)?;
