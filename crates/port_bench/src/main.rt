@@ -76,8 +76,9 @@ where
     R: Threads + Sync + Clock + Print + Files,
     R: Net<Listener = TcpListener, Stream = TcpStream>,
 {
-    listens::show_bell(rt, alloc, &mut echo.ports, bell, rates)?;
     listens::show(rt, alloc, &mut echo.ports)?;
+    // a bell is heard once the ports have listened
+    listens::show_bell(rt, alloc, &mut echo.ports, bell, rates)?;
     Ok(
         runs::show_all(rt, alloc, echo, bell, Kind::Tcp, rates)?
             && runs::show_all(rt, alloc, echo, bell, Kind::Unix, rates)?,
