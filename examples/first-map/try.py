@@ -69,8 +69,8 @@ def look(report, folder, shell, out):
     seen = open(tile, "rb").read() if os.path.exists(tile) else b""
     report.check("its bytes", len(seen), 196623)
     colours = {seen[at : at + 3].hex() for at in range(15, len(seen), 3)}
-    wanted = {"f4f1ea", "a5cbe0", "aed1a0", "cdebb0", "e4e0da", "f8d78a", "b03a2e"}
-    report.check("ground, water, wood, park, houses, road and place are there", wanted - colours, set())
+    wanted = {"f4f1ea", "a5cbe0", "cdebb0", "e4e0da", "f8d78a", "b03a2e"}
+    report.check("ground, water, park, houses, road and place are there", wanted - colours, set())
     report.check("the farm stopped in order", os.path.getsize(os.path.join(folder, "tiles", "farm.saved")) > 0, True)
 
 
