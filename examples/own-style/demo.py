@@ -27,7 +27,8 @@ import mapnik, struct, sys
 z, x, y, size = (int(word) for word in sys.argv[1:])
 half, side = 20037508.342789244, 2 * 20037508.342789244 / 2**z
 drawn = mapnik.Map(size, size)
-mapnik.load_map(drawn, "map.xml")
+# what Mapnik saves has the number of a line cap, and it reads its name alone
+mapnik.load_map_from_string(drawn, open("map.xml").read().replace('stroke-linecap="2"', 'stroke-linecap="round"'))
 drawn.zoom_to_box(mapnik.Box2d(x * side - half, half - (y + 1) * side, (x + 1) * side - half, half - y * side))
 image = mapnik.Image(size, size)
 mapnik.render(drawn, image)
