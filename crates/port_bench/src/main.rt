@@ -76,9 +76,10 @@ where
     R: Threads + Sync + Clock + Print + Files,
     R: Net<Listener = TcpListener, Stream = TcpStream>,
 {
-    listens::show(rt, alloc, &mut echo.ports)?;
-    // a bell is heard once the ports have listened
+    // a bell is heard from the first listen on, also where it fails
+    drop(echo.ports.listen(""));
     listens::show_bell(rt, alloc, &mut echo.ports, bell, rates)?;
+    listens::show(rt, alloc, &mut echo.ports)?;
     Ok(
         runs::show_all(rt, alloc, echo, bell, Kind::Tcp, rates)?
             && runs::show_all(rt, alloc, echo, bell, Kind::Unix, rates)?,
