@@ -1,7 +1,6 @@
 -- Stretches by the two tests at their ends.
 use Rattle.std.proofs.Common.{◌≡◌, ℕ, ◌+◌, ◌-◌, ◌*◌, ◌/◌, ◌%◌, ◌<◌, ◌≤◌, min, max, true, false, ◌&&◌, ap, sym, ◌∙◌, inl, inr, arith}
 use Rattle.std.specs.Prelude.{nat_le, nat_lt}
-use Rattle.std.proofs.Math.Nat.{mul-le-mul_left}
 use Rattle.std.proofs.Math.Bool.{and-false, and-true}
 use Rattle.std.proofs.lemmas.Bool.{cases_lt, le-leb, lt-leb, lt-ltb, le-ltb}
 use Rattle.centre_spans.specs.declared.shapes.Stretch.{Stretch}
@@ -80,13 +79,3 @@ falling_is p q v h s less some h_is start_is end_is =
       | inl k ↦ lt-leb (v * h) n k ∙ sym (lt-leb (v * p.slope + p.rest) (v * q.slope + q.rest) (omega (arith, e)))
       | inr k ↦ le-leb (v * h) n k ∙ sym (le-leb (v * p.slope + p.rest) (v * q.slope + q.rest) (omega (arith, e)))
     ]
-
--- where it grows no faster and is less from the beginning: nowhere
-pub never_is : (p q : Growing) (v : ℕ) → q.slope ≤ p.slope → q.rest < p.rest → nat_le (v * p.slope + p.rest) (v * q.slope + q.rest) ≡ false
-never_is p q v grows less = lt-leb (v * p.slope + p.rest) (v * q.slope + q.rest) (omega (arith, mul-le-mul_left v grows))
-
--- where both grow alike and it is no less: everywhere
-pub always_is : (p q : Growing) (v : ℕ) (s : Stretch) → q.slope ≤ p.slope → p.slope ≤ q.slope → p.rest ≤ q.rest → s.start ≡ 0 → v < s.end
-    → in_stretch s v ≡ nat_le (v * p.slope + p.rest) (v * q.slope + q.rest)
-always_is p q v s a b some start_is high =
-    inside s v (omega arith) high ∙ sym (le-leb (v * p.slope + p.rest) (v * q.slope + q.rest) (omega (arith, mul-le-mul_left v b)))

@@ -3,53 +3,21 @@ use Rattle.std.proofs.Common.{◌≡◌, ◌≤◌, ◌<◌, ◌+◌, ◌-◌, �
 use Rattle.std.proofs.lemmas.Bool.{le-leb, eq-eqb}
 use Rattle.std.proofs.lemmas.List.{append-nil}
 use Rattle.plain_world.specs.declared.world.Tile.{Tile}
-use Rattle.farm_base.specs.declared.faults.ApplyFault.{ApplyFault}
-use Rattle.farm_base.specs.declared.faults.ApplyFault.TheVariants as apply
-use Rattle.farm_history.specs.declared.answers.Updated.{Updated}
-use Rattle.farm_history.specs.declared.answers.Updated.TheVariants as updated
-use Rattle.farm_history.specs.declared.answers.Renewed.{Renewed}
-use Rattle.farm_history.specs.declared.answers.Renewed.TheVariants as renewed
 use Rattle.farm_history.specs.Entries.{Entry, Expire}
 use Rattle.farm_base.specs.declared.turns.Worn.{Worn}
 use Rattle.front_loop.specs.declared.dispositions.Disposition.{Disposition}
 use Rattle.front_loop.specs.declared.dispositions.Disposition.TheVariants.{Leaves}
 use Rattle.front_loop.specs.declared.dispositions.Reason.TheVariants as reason
-use Rattle.script_answers.specs.Answers.{fault_line}
 use Rattle.control_handler.specs.declared.acts.Line.TheVariants as line
 use Rattle.control_handler.specs.declared.acts.Act.{Act}
-use Rattle.control_handler.specs.declared.acts.Act.TheVariants.{Updates, Renews, Expires}
-use Rattle.control_handler.specs.Control.{update_text, renew_text, response_or_none, is_no_memory, update_starves, renew_starves, expired_text, expire_text, act_text, act_starves, tiles_or_none, tiles_at, total_of, expiries}
+use Rattle.control_handler.specs.declared.acts.Act.TheVariants.{Expires}
+use Rattle.control_handler.specs.Control.{expired_text, expire_text, act_text, act_starves, tiles_or_none, tiles_at, total_of, expiries}
 use Rattle.control_handler.specs.inner.Doing.{Says, Said, Lacks, Answers, Gives, Wants, Expired, Did}
 use Rattle.control_handler.proofs.Deeds.{did_one, did_part}
-
--- a fault that has a line is no want of memory
-has_line : (fault : ApplyFault) (t : List ℕ) → fault_line fault ≡ Some t → is_no_memory fault ≡ false
-has_line apply.NoMemory t h = cc
-has_line (apply.NoLayer change) t h = refl
-has_line (apply.NoFeature change id) t h = refl
-has_line (apply.TooMany change) t h = refl
-
-update_given : (answer : Updated) (t : List ℕ) → update_text answer ≡ Some t → update_starves answer ≡ false
-update_given (updated.Version v) t h = refl
-update_given updated.NoUpdate t h = refl
-update_given (updated.Refused fault) t h = has_line fault t h
-
-renew_given : (answer : Renewed) (t : List ℕ) → renew_text answer ≡ Some t → renew_starves answer ≡ false
-renew_given (renewed.Version v count) t h = refl
-renew_given renewed.NoUpdate t h = refl
-renew_given (renewed.Refused fault) t h = has_line fault t h
 
 pub says_answer : (lists : List (List Tile)) (a : Act) (text old new : List ℕ) (disposition : Disposition) → act_text lists a ≡ text → act_starves a ≡ false → Says text old new disposition → Answers lists a old new disposition
 says_answer lists a text old new disposition t s (Said q e) = Gives q s (e ∙ ap (λ xs. old ++ xs) (sym t))
 says_answer lists a text old new disposition t s (Lacks q) = Wants q s
-
-pub says_update : (lists : List (List Tile)) (n : ℕ) (answer : Updated) (t old new : List ℕ) (disposition : Disposition) → update_text answer ≡ Some t → Says t old new disposition
-    → Answers lists (Updates n answer) old new disposition
-says_update lists n answer t old new disposition u s = says_answer lists (Updates n answer) t old new disposition (ap response_or_none u) (update_given answer t u) s
-
-pub says_renew : (lists : List (List Tile)) (n : ℕ) (answer : Renewed) (t old new : List ℕ) (disposition : Disposition) → renew_text answer ≡ Some t → Says t old new disposition
-    → Answers lists (Renews n answer) old new disposition
-says_renew lists n answer t old new disposition u s = says_answer lists (Renews n answer) t old new disposition (ap response_or_none u) (renew_given answer t u) s
 
 -- ---- expiries
 

@@ -1,5 +1,5 @@
 -- What a read and a put say of what was told, and of the counts.
-use Rattle.std.proofs.Common.{◌≡◌, ℕ, ◌≤◌, List, ◌++◌, length, take, ap, subst, ◌∙◌}
+use Rattle.std.proofs.Common.{◌≡◌, ℕ, List, ap, subst, ◌∙◌}
 use Rattle.std.specs.Prelude.{Option, Some, Result, Ok, Err, Vec, IfSome, option_map}
 use Rattle.std.specs.declared.alloc.Global.{Global}
 use Rattle.farm_base.specs.Outside.{Outside, FilesTold, failed_read, with_failed, Counted, Reads, Puts}
@@ -23,27 +23,7 @@ read_tells t old new name (Ok bytes) e h = (
 read_tells t old new name (Err file.Failed) e h = h.0 ∙ ap (option_map (with_failed (failed_read name))) e
 read_tells t old new name (Err file.NoMemory) e h = ap (λ (o : Outside FilesTold). o.told) h ∙ e
 
--- the count over a read: it rises where the read failed, and else it stays
-abbrev pub ReadCounts : ℕ → ℕ → Result (Vec ℕ Global) FileFault → Type 0
-ReadCounts before now (Ok bytes) = now ≡ before
-ReadCounts before now (Err file.Failed) = Counted before now
-ReadCounts before now (Err file.NoMemory) = now ≡ before
-
-pub read_counts : (old new : Outside FilesTold) (name : List ℕ) (read : Result (Vec ℕ Global) FileFault) → Reads old new name read → ReadCounts old.faults new.faults read
-read_counts old new name (Ok bytes) h = ap (λ (o : Outside FilesTold). o.faults) h.0
-read_counts old new name (Err file.Failed) h = h.1
-read_counts old new name (Err file.NoMemory) h = ap (λ (o : Outside FilesTold). o.faults) h
-
 -- ---- a put
-
--- a put on a sink that told this before it
-abbrev pub PutTells : List ℕ → Option (List ℕ) → List ℕ → Result (Unit {0}) SinkFault → Type 0
-PutTells old new piece (Ok done) = new ≡ Some (old ++ piece)
-PutTells old new piece (Err fault) = (len : ℕ) × (len ≤ length piece) × (new ≡ Some (old ++ take len piece))
-
-pub put_tells : (before : List ℕ) (old new : Outside (List ℕ)) (piece : List ℕ) (put : Result (Unit {0}) SinkFault) → old.told ≡ Some before → Puts old new piece put → PutTells before new.told piece put
-put_tells before old new piece (Ok done) e h = h.0 ∙ ap (option_map (λ (had : List ℕ). had ++ piece)) e
-put_tells before old new piece (Err fault) e h = (h.0, h.1, h.2 ∙ ap (option_map (λ (had : List ℕ). had ++ take h.0 piece)) e)
 
 -- the count over a put: it rises where the put failed, and else it stays
 abbrev pub PutCounts : ℕ → ℕ → Result (Unit {0}) SinkFault → Type 0

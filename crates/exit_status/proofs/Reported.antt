@@ -1,5 +1,5 @@
--- An empty line is reported without a put, and a line of parts is one text.
-use Rattle.std.proofs.Common.{◌≡◌, ℕ, true, List, [], ◌∷◌, ◌++◌, length, refl, sym, ap, ◌∙◌, append_assoc, arith}
+-- An empty line is reported without a put.
+use Rattle.std.proofs.Common.{◌≡◌, ℕ, true, List, [], ◌∷◌, ◌++◌, length, refl, sym, ap, arith}
 use Rattle.std.specs.Prelude.{Option, Some, None, Ok, option_map, ◌==◌}
 use Rattle.std.proofs.lemmas.List.{append-nil}
 use Rattle.std.proofs.lemmas.Bool.Decides.{nat_tests}
@@ -17,7 +17,3 @@ nothing_put at = (same_told at.told, refl)
 pub report_none : (status : ℕ) (line : List ℕ) (at : SinkAt) (result : ℕ) → (length line == 0) ≡ true → result ≡ status → Reports status line at at result
 report_none status [] at result none same = record { put = Ok tt; puts = nothing_put at; status_is = same; quiet = λ e. (refl, refl) }
 report_none status (x ∷ xs) at result none same = absurd (grind (arith, nat_tests))
-
--- the parts of a line that names a file, joined in any order
-pub line_joined : (made front name middle text end : List ℕ) → made ≡ front ++ (name ++ (middle ++ (text ++ end))) → made ≡ front ++ name ++ middle ++ text ++ end
-line_joined made front name middle text end e = e ∙ simp (append_assoc)

@@ -35,10 +35,6 @@ here : (P : List Entry → Type 0) (h : List Entry) → EachPast P h → P h
 here P [] each = each
 here P (x ∷ h) each = each.0
 
-at_past : (P : List Entry → Type 0) (later h : List Entry) → EachPast P (later ++ h) → P h
-at_past P [] h each = here P h each
-at_past P (x ∷ later) h each = at_past P later h each.1
-
 -- The drawing of a Claim.
 
 -- a drawing as it is claimed

@@ -12,13 +12,10 @@ use Rattle.farm_history.specs.declared.answers.Finished.{Finished}
 use Rattle.farm_history.specs.declared.answers.Collected.{Collected}
 use Rattle.farm_history.specs.Entries.{Entry, Ask, Finish, Collect, Leave}
 use Rattle.farm_history.specs.Plans.{same_key, same_conn, key_of}
-use Rattle.farm_history.specs.Past.{Flight, flights, flight_in, finishes, is_on, Numbered, number_in, with_ask, without_conn, open_asks, is_ended_after, is_end_of, outcome_of, reply_to, replies_to, due_replies}
-use Rattle.farm_history.specs.Laws.{ask_numbered}
+use Rattle.farm_history.specs.Past.{Flight, flights, flight_in, finishes, is_on, Numbered, number_in, with_ask, open_asks, is_ended_after, is_end_of, outcome_of, reply_to, replies_to, due_replies}
 use Rattle.farm_history.specs.Seen.{is_waiter, waiter_of, asks_on, chain_after, outbox}
 use Rattle.farm_history.specs.Lists.{Each}
-use Rattle.farm_history.proofs.Lists.{same_key-true, same_key-sym, each-append, each-map, each-filter, each-all, map-filter, filter-append, filter-agree, filter-none, filter-filter}
-use Rattle.farm_history.proofs.OneReply.{IsOpen}
-use Rattle.farm_history.proofs.Replies.{IsReplyIn}
+use Rattle.farm_history.proofs.Lists.{same_key-sym, each-append, each-map, each-filter, each-all, map-filter, filter-append, filter-agree, filter-filter}
 
 -- each open ask came before now
 pub asks_earlier : (h : List Entry) → Each (λ (a : Numbered). length a.before < length h) (open_asks h)
@@ -59,73 +56,9 @@ asks_on_ask conn command spot answer g n k is =
     last : cond (same_key (key_of spot) k && not (is_ended_after g (length g) (key_of spot))) (a ∷ []) [] ≡ cond (same_key (key_of spot) k) (a ∷ []) []
     last = let open_end = ended_never g (length g) (key_of spot) (omega arith) in ap (λ b. cond b (a ∷ []) []) (grind arith)
 
--- one without changes no chain
-pub asks_on_unnumbered : (conn : Conn) (command : Cmd) (spot : Spot) (answer : AskAnswer) (g : List Entry) (k : Key) → number_in answer ≡ None → asks_on (Ask conn command spot answer ∷ g) k ≡ asks_on g k
-unfolding open_asks is_ended_after
-asks_on_unnumbered conn command spot answer g k is = ap (λ o. filter (is_waiter g k) (with_ask o conn (key_of spot) g (open_asks g))) is
-
 -- two filters in either order
 pub filter_swap : {X : Type 0} (q r : X → Bool) (xs : List X) → filter q (filter r xs) ≡ filter r (filter q xs)
 filter_swap q r xs = filter-filter q r xs ∙ (filter-agree _ _ xs (each-all _ xs (λ x. grind arith)) ∙ sym (filter-filter r q xs))
-
--- a Leave takes its connection out of each
-pub asks_on_leave : (conn : Conn) (count : ℕ) (g : List Entry) (k : Key) → asks_on (Leave conn count ∷ g) k ≡ without_conn conn (asks_on g k)
-unfolding open_asks is_ended_after
-asks_on_leave conn count g k = filter_swap (is_waiter g k) _ (open_asks g)
-
--- a Collect takes nothing out: the ask of its reply has ended
-pub asks_on_reply : (front : ℕ) (r : Reply) (g : List Entry) (k : Key) → Each (IsOpen g) (open_asks g) → IsReplyIn (IsOpen g) g r → asks_on (Collect front (Collected.Reply r) ∷ g) k ≡ asks_on g k
-unfolding open_asks is_ended_after
-asks_on_reply front r g k opens given =
-    filter_swap (is_waiter g k) _ (open_asks g) ∙ (filter-filter _ (is_waiter g k) (open_asks g) ∙ filter-agree _ (is_waiter g k) (open_asks g) (each-map _ _ (open_asks g) same opens))
-  where
-    -- an open ask with the number of the reply is the one that was replied to
-    only : (a : Numbered) → IsOpen g a → (a.number == r.ask) ≡ true → a ≡ given.ask
-    only a o equal =
-        let number : a.number ≡ r.ask = grind (arith, nat_tests) in
-        let found : Some a ≡ Some given.ask = sym o.is_asked ∙ (ap (ask_numbered g) (number ∙ given.number_is) ∙ given.holds.is_asked) in
-        cc
-
-    same : (a : Numbered) → IsOpen g a → is_waiter g k a && not (a.number == r.ask) ≡ is_waiter g k a
-    same a o = go (a.number == r.ask) refl
-      where
-        go : (b : Bool) → (a.number == r.ask) ≡ b → is_waiter g k a && not b ≡ is_waiter g k a
-        go true equal = let over : is_ended_after g (length a.before) a.key ≡ true = ap (λ (x : Numbered). is_ended_after g (length x.before) x.key) (only a o equal) ∙ given.is_ended in grind arith
-        go false other = grind arith
-
--- a Finish ends the chain of its key
-pub asks_on_finish : (t : ℕ) (drawn : Bool) (answer : Finished) (g : List Entry) (f : Flight) → flight_in (flights g) t ≡ Some f → asks_on (Finish t drawn answer ∷ g) f.key ≡ []
-unfolding open_asks
-asks_on_finish t drawn answer g f is = filter-none (is_waiter (e ∷ g) f.key) (open_asks g) (each-map _ _ (open_asks g) over (asks_earlier g))
-  where
-    e : Entry
-    e = Finish t drawn answer
-
-    over : (a : Numbered) → length a.before < length g → is_waiter (e ∷ g) f.key a ≡ false
-    over a lt =
-        let more = ended_more g e (length a.before) a.key lt in
-        let on : finishes g e a.key ≡ same_key f.key a.key = ap (λ o. is_on o a.key) is in
-        let turned = same_key-sym f.key a.key in
-        grind arith
-
--- and leaves the others
-pub asks_on_finish_other : (t : ℕ) (drawn : Bool) (answer : Finished) (g : List Entry) (f : Flight) (k : Key) → flight_in (flights g) t ≡ Some f → same_key f.key k ≡ false → asks_on (Finish t drawn answer ∷ g) k ≡ asks_on g k
-unfolding open_asks
-asks_on_finish_other t drawn answer g f k is other = filter-agree (is_waiter (e ∷ g) k) (is_waiter g k) (open_asks g) (each-map _ _ (open_asks g) same (asks_earlier g))
-  where
-    e : Entry
-    e = Finish t drawn answer
-
-    same : (a : Numbered) → length a.before < length g → is_waiter (e ∷ g) k a ≡ is_waiter g k a
-    same a lt = go (same_key a.key k) refl
-      where
-        go : (b : Bool) → same_key a.key k ≡ b → b && not (is_ended_after (e ∷ g) (length a.before) a.key) ≡ b && not (is_ended_after g (length a.before) a.key)
-        go true at =
-            let more = ended_more g e (length a.before) a.key lt in
-            let on : finishes g e a.key ≡ same_key f.key a.key = ap (λ o. is_on o a.key) is in
-            let key_is = ap (same_key f.key) (same_key-true a.key k at) in
-            grind arith
-        go false at = refl
 
 -- Replies that wait.
 

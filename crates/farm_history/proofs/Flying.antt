@@ -1,5 +1,5 @@
 -- A drawing under way stays so until its Finish, and the data before its Claim begin the newest data.
-use Rattle.std.proofs.Common.{◌≡◌, ℕ, ◌≤◌, Bool, true, false, cond, ◌==◌, List, [], ◌∷◌, ◌++◌, length, map, filter, find, Some, option_map, refl, sym, ap, ap₂, ◌∙◌, arith, append_assoc, append-nil, length-append}
+use Rattle.std.proofs.Common.{◌≡◌, ℕ, Bool, true, false, cond, ◌==◌, List, [], ◌∷◌, ◌++◌, length, map, filter, find, Some, option_map, refl, sym, ap, ap₂, ◌∙◌, arith, append_assoc, append-nil, length-append}
 use Rattle.std.proofs.lemmas.Bool.Decides.{nat_tests}
 use Rattle.farm_history.specs.declared.answers.ClaimAnswer.TheVariants.{Job}
 use Rattle.farm_history.specs.declared.answers.Updated.{Updated}
@@ -82,10 +82,6 @@ flights_begin (e ∷ g) = each-map _ _ (flights g) (λ f b. begins_step e g f.be
 
 pub begins : (h : List Entry) (t : ℕ) (f : Flight) → flight_in (flights h) t ≡ Some f → Begins f.before h
 begins h t f is = each-find (λ (x : Flight). Begins x.before h) _ (flights h) f (flights_begin h) is
-
--- so its version is at most the newest
-pub version_before : (h : List Entry) (t : ℕ) (f : Flight) → flight_in (flights h) t ≡ Some f → version f.before ≤ version h
-version_before h t f is = let b = begins h t f is in let long = ap length b.data_are ∙ length-append (data_after f.before) b.later in omega (arith, long)
 
 -- and where it is the newest, so are its data
 pub data_before : (h : List Entry) (t : ℕ) (f : Flight) → flight_in (flights h) t ≡ Some f → version f.before ≡ version h → data_after f.before ≡ data_after h

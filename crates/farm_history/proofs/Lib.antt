@@ -11,7 +11,6 @@ pub mod Nows
 pub mod Numbers
 pub mod OneReply
 pub mod Opens
-pub mod Order
 pub mod Places
 pub mod Queued
 pub mod Redrawn

@@ -3,9 +3,8 @@ use Rattle.std.proofs.Common.{ap, ◌&&◌, ◌≡◌, Bool, true, false, ◌||�
 use Rattle.std.specs.List.{list_any}
 use Rattle.std.proofs.lemmas.Bool.Decides.{nat_tests}
 use Rattle.farm_history.specs.declared.keys.Key.{Key}
-use Rattle.farm_history.specs.declared.queues.Conn.{Conn}
 use Rattle.farm_history.specs.Lists.{Each}
-use Rattle.farm_history.specs.Plans.{Waits, AreApart, same_key, same_conn, waits_in, without_key}
+use Rattle.farm_history.specs.Plans.{Waits, AreApart, same_key, waits_in, without_key}
 
 -- keys that are the same are equal
 pub same_key-true : (a b : Key) → same_key a b ≡ true → a ≡ b
@@ -21,15 +20,6 @@ same_key-self a = grind (arith, nat_tests)
 
 pub same_key-sym : (a b : Key) → same_key a b ≡ same_key b a
 same_key-sym a b = grind (arith, nat_tests)
-
-pub same_conn-true : (a b : Conn) → same_conn a b ≡ true → a ≡ b
-same_conn-true a b h =
-    let f : a.front ≡ b.front = grind (arith, nat_tests) in
-    let n : a.number ≡ b.number = grind (arith, nat_tests) in
-    λ i. record { front = f i; number = n i }
-
-pub same_conn-self : (a : Conn) → same_conn a a ≡ true
-same_conn-self a = grind (arith, nat_tests)
 
 pub any-append : {X : Type 0} (p : X → Bool) (xs ys : List X) → list_any p (xs ++ ys) ≡ (list_any p xs || list_any p ys)
 any-append p [] ys = refl

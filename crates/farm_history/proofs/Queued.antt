@@ -1,13 +1,13 @@
 -- What waits, queue by queue.
-use Rattle.std.proofs.Common.{Option, None, ◌≡◌, Bool, true, false, not, ◌||◌, cond, List, [], ◌∷◌, ◌++◌, length, filter, find, slice_get, Some, refl, sym, ap, ap₂, ◌∙◌, arith}
+use Rattle.std.proofs.Common.{Option, None, ◌≡◌, Bool, true, false, not, cond, List, [], ◌∷◌, ◌++◌, length, filter, find, slice_get, Some, refl, sym, ◌∙◌, arith}
 use Rattle.std.specs.Option.{option_or}
 use Rattle.std.proofs.lemmas.List.Sums.{length-filter}
 use Rattle.farm_history.specs.declared.keys.Key.{Key}
 use Rattle.farm_history.specs.declared.queues.Queue.{Queue}
-use Rattle.farm_history.specs.Plans.{Waits, same_key, same_queue, waits_in, without_key, how_many_in, first_in, next}
-use Rattle.farm_history.specs.Seen.{in_queue, by_queue}
+use Rattle.farm_history.specs.Plans.{Waits, same_key, same_queue, without_key, how_many_in, first_in, next}
+use Rattle.farm_history.specs.Seen.{in_queue}
 use Rattle.farm_history.specs.Lists.{Each}
-use Rattle.farm_history.proofs.Lists.{each-find, any-append, filter-append, filter-filter, filter-agree, each-all}
+use Rattle.farm_history.proofs.Lists.{each-find, filter-append, filter-filter, filter-agree, each-all}
 
 -- as many wait in a queue as its list is long
 pub how_many_in_queue : (queue : Queue) (ws : List Waits) → how_many_in ws queue ≡ length (in_queue queue ws)
@@ -23,17 +23,6 @@ in_queue_without queue k ws =
     filter-filter (λ w. same_queue w.queue queue) (λ w. not (same_key w.key k)) ws
     ∙ (filter-agree _ _ ws (each-all _ ws (λ w. grind arith)) ∙ sym (filter-filter (λ w. not (same_key w.key k)) (λ w. same_queue w.queue queue) ws))
 
-pub by_queue_without : (k : Key) (ws : List Waits) → by_queue (without_key k ws) ≡ without_key k (by_queue ws)
-by_queue_without k ws =
-    ap₂ (λ a b. a ++ b) (in_queue_without Queue.Prio k ws) (ap₂ (λ a b. a ++ b) (in_queue_without Queue.Request k ws) (ap₂ (λ a b. a ++ b) (in_queue_without Queue.Low k ws) (ap₂ (λ a b. a ++ b) (in_queue_without Queue.Dirty k ws) (in_queue_without Queue.Bulk k ws))))
-    ∙ sym (split (in_queue Queue.Prio ws) _ ∙ ap (λ b. out (in_queue Queue.Prio ws) ++ b) (split (in_queue Queue.Request ws) _ ∙ ap (λ b. out (in_queue Queue.Request ws) ++ b) (split (in_queue Queue.Low ws) _ ∙ ap (λ b. out (in_queue Queue.Low ws) ++ b) (split (in_queue Queue.Dirty ws) _))))
-  where
-    out : List Waits → List Waits
-    out xs = without_key k xs
-
-    split : (xs ys : List Waits) → without_key k (xs ++ ys) ≡ out xs ++ out ys
-    split xs ys = filter-append (λ w. not (same_key w.key k)) xs ys
-
 -- the first of a list
 pub find_first : {X : Type 0} (q : X → Bool) (xs : List X) → find q xs ≡ slice_get (filter q xs) 0
 find_first q [] = refl
@@ -42,50 +31,6 @@ find_first q (x ∷ xs) = go (q x) (find_first q xs)
     go : (b : Bool) → find q xs ≡ slice_get (filter q xs) 0 → cond b (Some x) (find q xs) ≡ slice_get (cond b (x ∷ filter q xs) (filter q xs)) 0
     go true ih = refl
     go false ih = ih
-
-first_or : {X : Type 0} (xs ys : List X) → option_or (slice_get xs 0) (slice_get ys 0) ≡ slice_get (xs ++ ys) 0
-first_or [] ys = refl
-first_or (x ∷ xs) ys = refl
-
--- what is taken next is the first, queue by queue
-pub next_first : (ws : List Waits) → next ws ≡ slice_get (by_queue ws) 0
-unfolding next
-next_first ws =
-    ap₂ option_or (first Queue.Prio) (ap₂ option_or (first Queue.Request) (ap₂ option_or (first Queue.Low) (ap₂ option_or (first Queue.Dirty) (first Queue.Bulk)
-    ∙ first_or (in_queue Queue.Dirty ws) (in_queue Queue.Bulk ws))
-    ∙ first_or (in_queue Queue.Low ws) _)
-    ∙ first_or (in_queue Queue.Request ws) _)
-    ∙ first_or (in_queue Queue.Prio ws) _
-  where
-    first : (queue : Queue) → first_in ws queue ≡ slice_get (in_queue queue ws) 0
-    first queue = find_first (λ w. same_queue w.queue queue) ws
-
--- whether a key waits in one of the queues
-in_some : Key → List Waits → Bool
-in_some k ws = waits_in (in_queue Queue.Prio ws) k || (waits_in (in_queue Queue.Request ws) k || (waits_in (in_queue Queue.Low ws) k || (waits_in (in_queue Queue.Dirty ws) k || waits_in (in_queue Queue.Bulk ws) k)))
-
-in_some_waits : (k : Key) (ws : List Waits) → in_some k ws ≡ waits_in ws k
-unfolding in_some
-in_some_waits k [] = refl
-in_some_waits k (w ∷ ws) = go w.queue (in_some_waits k ws)
-  where
-    go : (queue : Queue) → in_some k ws ≡ waits_in ws k → in_some k (record { queue = queue; key = w.key } ∷ ws) ≡ (same_key w.key k || waits_in ws k)
-    go Queue.Prio ih = grind arith
-    go Queue.Request ih = grind arith
-    go Queue.Low ih = grind arith
-    go Queue.Dirty ih = grind arith
-    go Queue.Bulk ih = grind arith
-
--- a key waits exactly where it waits in some queue
-pub by_queue_waits : (k : Key) (ws : List Waits) → waits_in (by_queue ws) k ≡ waits_in ws k
-unfolding in_some
-by_queue_waits k ws =
-    join (in_queue Queue.Prio ws) _ ∙ ap (λ b. waits_in (in_queue Queue.Prio ws) k || b) (join (in_queue Queue.Request ws) _
-    ∙ ap (λ b. waits_in (in_queue Queue.Request ws) k || b) (join (in_queue Queue.Low ws) _ ∙ ap (λ b. waits_in (in_queue Queue.Low ws) k || b) (join (in_queue Queue.Dirty ws) _)))
-    ∙ in_some_waits k ws
-  where
-    join : (xs ys : List Waits) → waits_in (xs ++ ys) k ≡ (waits_in xs k || waits_in ys k)
-    join xs ys = any-append (λ w. same_key w.key k) xs ys
 
 -- what is taken next is one of those that wait
 pub next_found : (P : Waits → Type 0) (ws : List Waits) (w : Waits) → Each P ws → next ws ≡ Some w → P w

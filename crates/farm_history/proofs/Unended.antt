@@ -15,7 +15,7 @@ use Rattle.farm_history.specs.Entries.{Entry, Ask, Finish, Collect, Leave}
 use Rattle.farm_history.specs.Plans.{same_key, key_of}
 use Rattle.farm_history.specs.Past.{Flight, flights, flight_in, finishes, is_on, Numbered, number_in, with_ask, without_conn, open_asks, is_ended_after}
 use Rattle.farm_history.specs.Laws.{ask_numbered}
-use Rattle.farm_history.specs.Seen.{has_no_end, waiting_asks, is_waiter, waiter_of, asks_on, chain_after, outbox}
+use Rattle.farm_history.specs.Seen.{has_no_end, waiting_asks, is_waiter, waiter_of, chain_after, outbox}
 use Rattle.farm_history.proofs.Lists.{same_key-sym, each-all, each-map, map-filter, filter-append, filter-agree, filter-filter}
 use Rattle.farm_history.proofs.OneReply.{IsOpen}
 use Rattle.farm_history.proofs.Replies.{IsReplyIn}
@@ -95,7 +95,3 @@ pub open_split : (q : Conn → Bool) (h : List Entry) → count_by (λ a. q a.co
 open_split q h =
     count-either (λ a. q a.conn) (λ a. has_no_end h a && q a.conn) (λ a. q a.conn && is_ended_after h (length a.before) a.key) (open_asks h) (each-all _ (open_asks h) (λ a. (grind arith, grind arith)))
     ∙ ap₂ (λ m n. m + n) (sym (count-filter (λ a. q a.conn) (has_no_end h) (open_asks h))) (sym (count_replies q (open_asks h) h))
-
--- a Finish leaves the others; how many wait for its key is how many replies it gives
-pub still_unended : (h : List Entry) (k : Key) → asks_on h k ≡ filter (λ a. same_key a.key k) (waiting_asks h)
-still_unended h k = sym (filter-filter (λ a. same_key a.key k) (has_no_end h) (open_asks h) ∙ filter-agree _ (is_waiter h k) (open_asks h) (each-all _ (open_asks h) (λ a. grind arith)))

@@ -1,5 +1,5 @@
 -- What a farm may keep of its history: marks, drawings under way, and the asks that wait or have ended.
-use Rattle.std.specs.Prelude.{ℕ, Bool, false, ◌&&◌, not, ◌||◌, List, ◌++◌, length, map, filter, find, Option, Some, None}
+use Rattle.std.specs.Prelude.{ℕ, Bool, false, ◌&&◌, not, ◌||◌, List, length, map, filter, find, Option, Some, None}
 use Rattle.std.specs.Option.{option_and_then}
 use Rattle.farm_history.specs.declared.keys.Key.{Key}
 use Rattle.farm_history.specs.declared.keys.Mark.{Mark}
@@ -82,7 +82,3 @@ outbox h = replies_to (open_asks h) h
 -- those of the list that wait in a queue, in order
 abbrev pub in_queue : Queue → List Waits → List Waits
 in_queue queue ws = filter (λ w. same_queue w.queue queue) ws
-
--- the list queue by queue, in the order in which the queues are taken
-abbrev pub by_queue : List Waits → List Waits
-by_queue ws = in_queue Queue.Prio ws ++ (in_queue Queue.Request ws ++ (in_queue Queue.Low ws ++ (in_queue Queue.Dirty ws ++ in_queue Queue.Bulk ws)))

@@ -7,7 +7,7 @@ use Rattle.filter_expr.specs.Trees.{Kind, Tree, joins, is_or, is_and, is_sum_sig
 use Rattle.filter_expr.specs.Grammar.{kind_strength}
 use Rattle.filter_expr.specs.Reading.{Reader, Inner, starts, or_in, and_in, not_in, compare_in, sum_in, product_in, unary_in, atom_in, within_depth}
 use Rattle.filter_expr.proofs.Chains.{Shortens}
-use Rattle.filter_expr.proofs.Levels.{within_shortens, or_shortens, and_shortens, not_shortens, compare_shortens, sum_shortens, product_shortens, unary_shortens, atom_shortens}
+use Rattle.filter_expr.proofs.Levels.{within_shortens, and_shortens, not_shortens, product_shortens, unary_shortens}
 
 pub wrong : false ≡ true → ⊥
 wrong e = grind arith
@@ -21,16 +21,6 @@ row (suc (suc (suc (suc zero)))) = sum_in
 row (suc (suc (suc (suc (suc zero))))) = product_in
 row (suc (suc (suc (suc (suc (suc zero)))))) = unary_in
 row (suc (suc (suc (suc (suc (suc (suc n))))))) = atom_in
-
-pub row_shortens : (l n : ℕ) → Shortens (row l (within_depth n))
-row_shortens zero n = or_shortens (within_depth n) (within_shortens n)
-row_shortens (suc zero) n = and_shortens (within_depth n) (within_shortens n)
-row_shortens (suc (suc zero)) n = not_shortens (within_depth n) (within_shortens n)
-row_shortens (suc (suc (suc zero))) n = compare_shortens (within_depth n) (within_shortens n)
-row_shortens (suc (suc (suc (suc zero)))) n = sum_shortens (within_depth n) (within_shortens n)
-row_shortens (suc (suc (suc (suc (suc zero))))) n = product_shortens (within_depth n) (within_shortens n)
-row_shortens (suc (suc (suc (suc (suc (suc zero)))))) n = unary_shortens (within_depth n) (within_shortens n)
-row_shortens (suc (suc (suc (suc (suc (suc (suc m))))))) n = atom_shortens (within_depth n) (within_shortens n)
 
 -- the part of a chain is read by the row above
 abbrev pub part_row : Kind → Inner → Reader Tree

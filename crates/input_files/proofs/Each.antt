@@ -38,10 +38,6 @@ abbrev pub Goes : {A V : Type 0} → (A → Course V) → List A → List V → 
 Goes {A} {V} course all before left old middle =
     (end : FilesAt) → (result : Result (List V) Stop) → Follows (each_from course before left) middle end result → Follows (each_from course [] all) old end result
 
-pub each_begins : {A V : Type 0} (course : A → Course V) (all : List A) (loaded : List V) (at : FilesAt) → loaded ≡ [] → Goes course all loaded all at at
-each_begins {A} {V} course all loaded at none end result h =
-    subst (λ (b : List V). Follows (each_from course b all) at end result) none h
-
 left_is : {A : Type 0} (all : List A) (i : ℕ) (x : A) → i < length all → x ≡ get_or all i x → drop i all ≡ x ∷ drop (i + 1) all
 left_is all i x small at = rw (add-one i, drop-cons all i x small, ← at) refl
 

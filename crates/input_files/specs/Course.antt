@@ -52,7 +52,3 @@ abbrev pub ComesTo : {V : Type 0} → (List ℕ → Option (List ℕ)) → Cours
 ComesTo held (made value) name = ⊥
 ComesTo held (refused line) name = ⊥
 ComesTo held (reads next on) name = (name ≡ next) ⊎ ((bytes : List ℕ) × (held next ≡ Some bytes) × ComesTo held (on bytes) name)
-
--- all files of the course are there and have no fault
-abbrev pub IsValid : {V : Type 0} → (List ℕ → Option (List ℕ)) → Course V → Type 0
-IsValid {V} held course = (value : V) × Makes held course value

@@ -1,11 +1,11 @@
 -- One connection of a list changes, or all do.
-use Rattle.std.proofs.Common.{◌≡◌, ◌<◌, ◌+◌, ◌==◌, ℕ, Bool, true, false, List, [], ◌∷◌, ◌++◌, length, map, take, drop, get_or, set, zero, suc, Option, Some, None, option_map, Result, Ok, Err, OnOk, refl, ap, sym, ◌∙◌, cond, arith, tests}
+use Rattle.std.proofs.Common.{◌≡◌, ◌<◌, ◌+◌, ◌==◌, ℕ, Bool, true, false, List, [], ◌∷◌, ◌++◌, length, map, take, drop, get_or, set, zero, suc, Option, Some, None, option_map, Result, Ok, Err, OnOk, refl, ap, sym, ◌∙◌, cond, arith}
 use Rattle.std.proofs.lemmas.Bool.Decides.{nat_tests}
 use Rattle.std.specs.List.{slice_get}
 use Rattle.std.proofs.lemmas.Bool.{ne_eqb}
 use Rattle.port_events.specs.Told.{put}
-use Rattle.memory_ports.specs.Held.{PeerHeld, change, up_of}
-use Rattle.memory_ports.specs.Playing.{fresh, is_alive_at}
+use Rattle.memory_ports.specs.Held.{PeerHeld, change}
+use Rattle.memory_ports.specs.Playing.{fresh}
 
 pub set_is_change : (f : PeerHeld → PeerHeld) (ps : List PeerHeld) (i : ℕ) (d y : PeerHeld) → i < length ps → y ≡ f (get_or ps i d) → set ps i y ≡ change f i ps
 set_is_change f [] i d y small is = absurd (omega (arith, small))
@@ -81,14 +81,3 @@ module _ {A : Type 0} (g : Option PeerHeld → A) where
   field_mapped f h [] d = refl
   field_mapped f h (p ∷ ps) zero = h p
   field_mapped f h (p ∷ ps) (suc d) = field_mapped f h ps d
-
--- a connection that is open, or alive, has a place
-pub open_within : (ps : List PeerHeld) (c : ℕ) → up_of (slice_get ps c) ≡ true → c < length ps
-open_within [] c h = search (tests, h)
-open_within (p ∷ ps) zero h = omega arith
-open_within (p ∷ ps) (suc c) h = let k = open_within ps c h in omega (arith, k)
-
-pub alive_within : (ps : List PeerHeld) (c : ℕ) → is_alive_at ps c ≡ true → c < length ps
-alive_within [] c h = search (tests, h)
-alive_within (p ∷ ps) zero h = omega arith
-alive_within (p ∷ ps) (suc c) h = let k = alive_within ps c h in omega (arith, k)

@@ -1,5 +1,5 @@
 -- Steps that are passed over.
-use Rattle.std.proofs.Common.{◌≡◌, ◌<◌, ◌+◌, ◌&&◌, ◌||◌, ℕ, Bool, true, false, List, [], ◌∷◌, ◌++◌, length, drop, get_or, set, zero, suc, refl, ap, sym, ◌∙◌, subst, append_assoc, arith, tests}
+use Rattle.std.proofs.Common.{◌≡◌, ◌<◌, ◌+◌, ◌&&◌, ◌||◌, ℕ, Bool, true, false, List, [], ◌∷◌, ◌++◌, length, drop, get_or, set, zero, suc, refl, ap, sym, ◌∙◌, subst, append_assoc, arith}
 use Rattle.std.proofs.lemmas.List.{drop_more}
 use Rattle.std.proofs.lemmas.List.Folds.{list_all-append, list_any-append}
 use Rattle.std.specs.List.{list_all, list_any}
@@ -9,9 +9,6 @@ use Rattle.memory_ports.specs.declared.steps.PortStep.TheVariants as step
 use Rattle.memory_ports.specs.Held.{PeerHeld}
 use Rattle.memory_ports.specs.Playing.{is_passable, Passed}
 use Rattle.memory_ports.specs.Scripts.{is_await, has_piece, is_valid, is_piece, is_alive_in}
-
-pub passed_none : (peers : List PeerHeld) (ss : List PortStep) → Passed peers ss ss false
-passed_none peers ss = record { skipped = []; split = refl; passable = refl; reached_is = refl }
 
 or_right : (a b : Bool) → (a || (b || false)) ≡ (a || b)
 or_right true b = refl
@@ -30,16 +27,6 @@ passed_more peers old new s reached p pass = record {
       ∙ sym (or_right (list_any is_await p.skipped) (is_await s))
       ∙ sym (list_any-append is_await p.skipped (s ∷ []));
 }
-
--- the pieces of steps that are left
-pub pieces_left : (peers : List PeerHeld) (old new : List PortStep) (reached : Bool) → Passed peers old new reached
-    → list_all has_piece old ≡ true → list_all has_piece new ≡ true
-pieces_left peers old new reached p h =
-    right (list_all has_piece p.skipped) (list_all has_piece new) (sym (list_all-append has_piece p.skipped new) ∙ ap (list_all has_piece) (sym p.split) ∙ h)
-  where
-    right : (a b : Bool) → (a && b) ≡ true → b ≡ true
-    right true b e = e
-    right false b e = search (tests, e)
 
 -- one more step of a list is passed over
 pub passes_on : (peers : List PeerHeld) (steps : List PortStep) (from i : ℕ) (s : PortStep) (reached reaches : Bool)

@@ -1,5 +1,5 @@
 -- What ports in memory tell after one of their connections changed.
-use Rattle.std.proofs.Common.{◌≡◌, ◌+◌, ◌≤◌, ℕ, Bool, true, false, List, [], ◌∷◌, ◌++◌, length, take, map, Option, Some, None, option_map, Result, Ok, Err, refl, ap, sym, ◌∙◌, subst, cond, zero, suc, arith, tests}
+use Rattle.std.proofs.Common.{◌≡◌, ◌+◌, ℕ, Bool, true, false, List, [], ◌∷◌, ◌++◌, length, take, map, Option, Some, None, option_map, Result, Ok, Err, refl, ap, ◌∙◌, cond, zero, suc, arith, tests}
 use Rattle.std.proofs.Math.Path.{fun_ext}
 use Rattle.std.proofs.lemmas.List.{length-append, length-map}
 use Rattle.std.proofs.lemmas.List.Sums.{sum_by-append}
@@ -9,12 +9,10 @@ use Rattle.port_events.specs.declared.events.PortItem.{PortItem}
 use Rattle.port_events.specs.declared.events.PortItem.TheVariants as item
 use Rattle.port_events.specs.declared.events.SendFault.{SendFault}
 use Rattle.port_events.specs.declared.events.SendFault.TheVariants as send_fault
-use Rattle.port_events.specs.declared.events.PortFault.{PortFault}
-use Rattle.port_events.specs.declared.events.PortFault.TheVariants as fault
 use Rattle.port_events.specs.Told as told
-use Rattle.port_events.specs.Told.{PortsTold, put, SendCounts, ListenCounts}
+use Rattle.port_events.specs.Told.{PortsTold, put}
 use Rattle.memory_ports.specs.declared.steps.PortStep.{PortStep}
-use Rattle.memory_ports.specs.Held.{PeerHeld, PortsHeld, change, closed, with_end, with_taken, taken_of, up_of, ended_of, told_of, is_fault, SendsHeld, ListensHeld}
+use Rattle.memory_ports.specs.Held.{PeerHeld, PortsHeld, change, closed, with_end, with_taken, taken_of, up_of, ended_of, told_of, is_fault, SendsHeld}
 use Rattle.memory_ports.specs.Playing.{is_marked, marked, fresh, moved, Readies}
 use Rattle.memory_ports.proofs.Changes.{field_put, field_kept, field_added, field_mapped, length-change}
 
@@ -139,27 +137,3 @@ pub send_told : (old new : PortsHeld) (c : ℕ) (bytes : List ℕ) (result : Res
 send_told old new c bytes (Ok n) up s = ap told_of s.2 ∙ told_gained (old.log ++ item.Sent c (length bytes) (Some n) ∷ []) old.peers c bytes n up
 send_told old new c bytes (Err send_fault.Failed) up s = ap told_of s.1 ∙ told_closed (old.log ++ item.Sent c (length bytes) None ∷ []) old.peers c
 send_told old new c bytes (Err send_fault.NoMemory) up s = ap told_of s
-
-pub send_counts : (old new : PortsHeld) (c : ℕ) (bytes : List ℕ) (result : Result ℕ SendFault) → SendsHeld old new c bytes result
-    → SendCounts (count_by is_fault old.log) (count_by is_fault new.log) result
-send_counts old new c bytes (Ok n) s = ap (λ (h : PortsHeld). count_by is_fault h.log) s.2 ∙ faults_stay old.log _ refl
-send_counts old new c bytes (Err send_fault.Failed) s =
-    subst (λ (h : PortsHeld). Counted (count_by is_fault old.log) (count_by is_fault h.log)) (sym s.1) (faults_rise old.log _ refl)
-send_counts old new c bytes (Err send_fault.NoMemory) s = ap (λ (h : PortsHeld). count_by is_fault h.log) s
-
-pub send_takes : (old new : PortsHeld) (c : ℕ) (bytes : List ℕ) (n : ℕ) → SendsHeld old new c bytes (Ok n) → n ≤ length bytes
-send_takes old new c bytes n s = let e = s.1 in omega (arith, e)
-
--- a listen
-pub listen_told : (old new : PortsHeld) (address : List ℕ) (result : Result (Unit {0}) PortFault) → ListensHeld old new address result
-    → told_of new ≡ told.after_listen address result (told_of old)
-listen_told old new address (Ok done) s = ap told_of s.1
-listen_told old new address (Err fault.Failed) s = ap told_of s.1
-listen_told old new address (Err fault.NoMemory) s = ap told_of s
-
-pub listen_counts : (old new : PortsHeld) (address : List ℕ) (result : Result (Unit {0}) PortFault) → ListensHeld old new address result
-    → ListenCounts (count_by is_fault old.log) (count_by is_fault new.log) result
-listen_counts old new address (Ok done) s = ap (λ (h : PortsHeld). count_by is_fault h.log) s.1 ∙ faults_stay old.log _ refl
-listen_counts old new address (Err fault.Failed) s =
-    subst (λ (h : PortsHeld). Counted (count_by is_fault old.log) (count_by is_fault h.log)) (sym s.1) (faults_rise old.log _ refl)
-listen_counts old new address (Err fault.NoMemory) s = ap (λ (h : PortsHeld). count_by is_fault h.log) s

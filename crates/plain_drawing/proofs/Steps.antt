@@ -9,9 +9,8 @@ use Rattle.plain_drawing.specs.declared.style.Symbolizer.{Symbolizer}
 use Rattle.plain_world.specs.World.{centres, window_of}
 use Rattle.plain_data.specs.Features.{Layer}
 use Rattle.plain_drawing.specs.Styles.{Style, LayerRef, MapStyle}
-use Rattle.plain_shapes.specs.Blending.{blend}
 use Rattle.plain_shapes.specs.Images.{Pixels}
-use Rattle.plain_shapes.specs.inner.Canvas.{at_centres, stepped, marked, painted}
+use Rattle.plain_shapes.specs.inner.Canvas.{at_centres, stepped}
 use Rattle.plain_drawing.specs.Rules.{item_symbolizers, is_active, denominator_of}
 use Rattle.plain_shapes.specs.Ppm.{ppm}
 use Rattle.plain_drawing.specs.Drawing.{drawn_tile, pixel_of, colour_at, Item, item_attrs, symbolizer_at, item_at, style_at, layer_at, items_of, style_named}
@@ -94,16 +93,6 @@ pub map_step : (w : Window) (denominator : ℕ) (style : MapStyle) (data_layers 
 unfolding with_map
 map_step w denominator style data_layers image =
     fold_stepped w (layer_at w.pixel denominator style data_layers) (with_layer w denominator style data_layers) (layer_step w denominator style data_layers) style.layers image
-
--- painting what a fresh mask was marked with changes the pixels of members alone
-pub painted_members : (s : Colour) (opacity : ℕ) (member : Point → Bool) (cs : List Point) (n : ℕ) (ds : List Colour) → n ≡ length cs
-    → painted s opacity (marked member cs (replicate n false)) ds ≡ at_centres (λ c d. if member c then blend s opacity d else d) cs ds
-painted_members s opacity member [] zero ds e = refl
-painted_members s opacity member [] (suc n) ds e = absurd (omega arith)
-painted_members s opacity member (c ∷ cs) zero ds e = absurd (omega arith)
-painted_members s opacity member (c ∷ cs) (suc n) [] e = refl
-painted_members s opacity member (c ∷ cs) (suc n) (d ∷ ds) e =
-    let k : n ≡ length cs = omega arith in ap (λ ys. (if member c then blend s opacity d else d) ∷ ys) (painted_members s opacity member cs n ds k)
 
 -- a picture that is all of one colour
 abbrev pub one_colour : Window → Colour → Pixels

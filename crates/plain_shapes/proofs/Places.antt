@@ -102,17 +102,6 @@ reached_yes m w j i n next old now e f p q h r =
           ∙ ap (λ bs. record old { bits = bs }) (sym (marked_suc_yes m (centres w) old.bits n d inside member) ∙ ap (λ k. marked m (take k (centres w)) old.bits) (let g : suc n ≡ next = omega arith in g));
     }
 
-pub reached_no : (m : Point → Bool) (w : Window) (j i n next : ℕ) (old now : Bits) → n ≡ j * w.cols + i → next ≡ n + 1 → i < w.cols → j < w.rows
-    → m (centre w i j) ≡ false → Reached m w n old now → Reached m w next old now
-reached_no m w j i n next old now e f p q h r =
-    let d : Point = centre w 0 0 in
-    let inside : n < length (centres w) = omega (arith, length-centres w, row_fits j w.cols w.rows w.cols q (omega arith)) in
-    let member : m (get_or (centres w) n d) ≡ false = ap (λ k. m (get_or (centres w) k d)) e ∙ ap m (get_or-centres w j i d p q) ∙ h in
-    record {
-      is = r.is ∙ ap (λ bs. record old { bits = bs })
-          (sym (marked_suc_no m (centres w) old.bits n d inside member) ∙ ap (λ k. marked m (take k (centres w)) old.bits) (let g : suc n ≡ next = omega arith in g));
-    }
-
 -- past places none of which is a member
 pub reached_skip : (m : Point → Bool) (w : Window) (n next : ℕ) (old now : Bits) → 1 ≤ w.cols → n ≤ next → next ≤ w.rows * w.cols
     → ((j i : ℕ) → i < w.cols → j < w.rows → n ≤ j * w.cols + i → j * w.cols + i < next → m (centre w i j) ≡ false)

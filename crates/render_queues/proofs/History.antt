@@ -1,28 +1,20 @@
 -- The tables beside a history: what waits, who waits for it, and the replies.
-use Rattle.std.proofs.Common.{◌≡◌, ℕ, Bool, true, false, not, ◌&&◌, ◌||◌, cond, ◌==◌, nat_lt, List, [], ◌∷◌, ◌++◌, length, map, filter, find, slice_get, Option, Some, None, refl, sym, ap, ap₂, subst, ◌∙◌, arith}
+use Rattle.std.proofs.Common.{◌≡◌, true, List, [], ◌∷◌, map, slice_get, Some, refl, sym, ap, ap₂, ◌∙◌}
 use Rattle.std.specs.Prelude.{option_map}
 use Rattle.std.specs.Option.{option_or}
-use Rattle.std.specs.List.{list_any}
-use Rattle.std.proofs.lemmas.Bool.Decides.{nat_tests}
-use Rattle.std.proofs.lemmas.List.{length-map}
 use Rattle.farm_history.specs.declared.keys.Key.{Key}
-use Rattle.farm_history.specs.declared.answers.Finished.{Finished}
-use Rattle.farm_history.specs.declared.queues.Limits.{Limits}
 use Rattle.farm_history.specs.declared.queues.Queue.{Queue}
-use Rattle.farm_history.specs.declared.queues.Reply.{Reply}
-use Rattle.farm_history.specs.declared.queues.Waiter.{Waiter}
 use Rattle.farm_history.specs.Entries.{Entry}
 use Rattle.farm_history.specs.Lists.{Each}
-use Rattle.farm_history.specs.Plans.{Waits, same_key, same_queue, is_in, waits_in, has_room, limit_of, first_in, next}
-use Rattle.farm_history.specs.Past.{Numbered, outcome_of}
+use Rattle.farm_history.specs.Plans.{Waits, same_queue, first_in, next}
+use Rattle.farm_history.specs.Past.{Numbered}
 use Rattle.farm_history.specs.Seen.{in_queue, waiting_asks, waiter_of, chain_after}
 use Rattle.farm_history.proofs.Lists.{each-passes}
-use Rattle.farm_history.proofs.Queued.{find_first, how_many_in_queue}
+use Rattle.farm_history.proofs.Queued.{find_first}
 use Rattle.farm_history.proofs.Unended.{chain_joined}
 use Rattle.render_queues.specs.declared.asks.Asked.{Asked}
 use Rattle.render_queues.specs.declared.lines.Lines.{Lines}
-use Rattle.render_queues.specs.OneQueue.{is_below}
-use Rattle.render_queues.specs.Tables.{Tables, line_of, first_of, next_of, chain_of}
+use Rattle.render_queues.specs.Tables.{Tables, line_of, first_of, chain_of}
 use Rattle.render_queues.specs.Laws.{LawNext}
 
 -- queues that are the same are equal
@@ -71,17 +63,6 @@ unfolding next
 next_joined ls ws are =
     ap₂ option_or (first_joined ls ws Queue.Prio (are Queue.Prio)) (ap₂ option_or (first_joined ls ws Queue.Request (are Queue.Request)) (ap₂ option_or (first_joined ls ws Queue.Low (are Queue.Low))
     (ap₂ option_or (first_joined ls ws Queue.Dirty (are Queue.Dirty)) (first_joined ls ws Queue.Bulk (are Queue.Bulk)))))
-
--- whether a queue is below its limit
-pub room_joined : (limits : Limits) (ls : Lines) (ws : List Waits) (queue : Queue) → (line_of ls queue).limit ≡ limit_of limits queue → (line_of ls queue).keys ≡ map (λ w. w.key) (in_queue queue ws) →
-    is_below (line_of ls queue) ≡ has_room limits queue ws
-room_joined limits ls ws queue limit are =
-    ap₂ nat_lt (ap length are ∙ (length-map (in_queue queue ws) (λ w. w.key) ∙ sym (how_many_in_queue queue ws))) limit
-
--- whether a key is among those of a list
-pub keys_in : {X : Type 0} (key : X → Key) (k : Key) (xs : List X) → is_in k (map key xs) ≡ list_any (λ x. same_key (key x) k) xs
-keys_in key k [] = refl
-keys_in key k (x ∷ xs) = ap (λ b. same_key (key x) k || b) (keys_in key k xs)
 
 -- an ask that waits, as the tables keep it
 abbrev pub asked_of : Numbered → Asked

@@ -1,5 +1,5 @@
 -- Keys of a queue, none twice, and one that leaves.
-use Rattle.std.proofs.Common.{suc, ◌≡◌, ℕ, ◌+◌, ◌<◌, ◌≤◌, Bool, true, false, not, ◌||◌, cond, List, [], ◌∷◌, ◌++◌, length, filter, refl, ap, ◌∙◌, arith}
+use Rattle.std.proofs.Common.{suc, ◌≡◌, ◌+◌, ◌≤◌, Bool, true, false, not, cond, List, [], ◌∷◌, ◌++◌, length, refl, ap, ◌∙◌, arith}
 use Rattle.std.specs.List.{list_any, IsDistinct, AllByRecursion}
 use Rattle.std.proofs.lemmas.List.{length-append}
 use Rattle.indexmap.specs.IndexSet.{insert_key}
@@ -36,14 +36,6 @@ pub sifted : (gone : Key) (xs rest : List Key) (k : Key) → IsDistinct same_key
 sifted gone xs rest k distinct stays =
     goes_last (without gone xs) k (not_any (λ x. same_key x k) (λ x. not (same_key x gone)) xs (not_before xs rest k distinct))
     ∙ rw (filter-append (λ x. not (same_key x gone)) xs (k ∷ []), stays) refl
-
--- and else nothing is added
-pub sifted_gone : (gone : Key) (xs : List Key) (k : Key) → same_key k gone ≡ true → without gone xs ≡ without gone (xs ++ k ∷ [])
-sifted_gone gone xs k leaves = rw (filter-append (λ x. not (same_key x gone)) xs (k ∷ []), leaves) (append_none (without gone xs))
-  where
-    append_none : (ys : List Key) → ys ≡ ys ++ []
-    append_none [] = refl
-    append_none (y ∷ ys) = ap (λ zs. y ∷ zs) (append_none ys)
 
 -- what is without a key is no longer
 pub without_few : (gone : Key) (xs : List Key) → length (without gone xs) ≤ length xs

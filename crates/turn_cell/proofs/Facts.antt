@@ -51,9 +51,6 @@ module _ {T E : Type 0} where
   pub named-live : (f : ℕ → ℕ) (v : View T E) (b : Terms T) → v.about ≡ Some b → named f v ≡ f v.number
   named-live f v b live = ap (if_some (f v.number)) live
 
-  pub named-spent : (f : ℕ → ℕ) (v : View T E) → v.about ≡ None → named f v ≡ 0
-  named-spent f v spent = ap (if_some (f v.number)) spent
-
   pub named-same : (f : ℕ → ℕ) (v w : View T E) → w.about ≡ v.about → w.number ≡ v.number → named f w ≡ named f v
   named-same f v w about number = ap (if_some (f w.number)) about ∙ ap (λ n. if_some (f n) v.about) number
 

@@ -1,38 +1,7 @@
 -- Steps and features by their draws.
-use Rattle.std.proofs.Common.{◌≡◌, ℕ, suc, ◌+◌, ◌-◌, ◌*◌, ◌^◌, ◌%◌, ◌<◌, ◌≤◌, List, [], ◌∷◌, ◌++◌, refl, ap, ◌∙◌, add-one, arith}
+use Rattle.std.proofs.Common.{◌≡◌, ℕ, suc, ◌+◌, ◌^◌, ◌<◌, ◌≤◌, [], ◌∷◌, ◌++◌, refl, ap, ◌∙◌, add-one, arith}
 use Rattle.std.proofs.Math.Nat.{pow-le-pow_right}
-use Rattle.farm_base.specs.declared.values.Attr.{Attr}
-use Rattle.plain_shapes.specs.declared.shapes.Geometry.{Geometry}
-use Rattle.plain_data.specs.Features.{Feature}
-use Rattle.work_gen.specs.Draws.{draw}
-use Rattle.work_gen.specs.Work.{shape_of, kind_attr, feature_at, step_at, steps_of}
-
--- the feature of these draws
-pub feature_known : (seed number made kind x y s : ℕ) (g : Geometry) (attrs : List Attr) (f : Feature) → made ≡ 4 * number → kind ≡ draw seed made 4
-    → x ≡ 2 ^ 29 + draw seed (made + 1) 520192 → y ≡ 2 ^ 29 + draw seed (made + 1 + 1) 520192 → s ≡ 1 + draw seed (made + 1 + 1 + 1) 4096
-    → g ≡ shape_of (number % 3) x y s → attrs ≡ kind_attr kind ∷ [] → f ≡ record { id = number; geometry = g; attrs = attrs } → f ≡ feature_at seed number
-unfolding feature_at
-feature_known seed number made kind x y s g attrs f m k ex ey es eg ea ef =
-    let second : made + 1 ≡ 4 * number + 1 = omega arith in
-    let third : made + 1 + 1 ≡ 4 * number + 2 = omega arith in
-    let fourth : made + 1 + 1 + 1 ≡ 4 * number + 3 = omega arith in
-    let k1 : kind ≡ draw seed (4 * number) 4 = k ∙ ap (λ (j : ℕ). draw seed j 4) m in
-    let x1 : x ≡ 2 ^ 29 + draw seed (4 * number + 1) 520192 = ex ∙ ap (λ (j : ℕ). 2 ^ 29 + draw seed j 520192) second in
-    let y1 : y ≡ 2 ^ 29 + draw seed (4 * number + 2) 520192 = ey ∙ ap (λ (j : ℕ). 2 ^ 29 + draw seed j 520192) third in
-    let s1 : s ≡ 1 + draw seed (4 * number + 3) 4096 = es ∙ ap (λ (j : ℕ). 1 + draw seed j 4096) fourth in
-    ef ∙ rw (eg, ea, k1, x1, y1, s1) refl
-
--- the step of these draws
-pub step_known : (seed features number made z x y : ℕ) → made ≡ 4 * features + 3 * number → z ≡ 11 + draw seed made 4
-    → x ≡ 2 ^ (z - 1) + draw seed (made + 1) (2 ^ (z - 11)) → y ≡ 2 ^ (z - 1) + draw seed (made + 1 + 1) (2 ^ (z - 11))
-    → (z ≡ 11 + draw seed (4 * features + 3 * number) 4)
-    × (x ≡ 2 ^ (z - 1) + draw seed (4 * features + 3 * number + 1) (2 ^ (z - 11)))
-    × (y ≡ 2 ^ (z - 1) + draw seed (4 * features + 3 * number + 1 + 1) (2 ^ (z - 11)))
-step_known seed features number made z x y m ez ex ey = (
-  ez ∙ ap (λ (j : ℕ). 11 + draw seed j 4) m,
-  ex ∙ ap (λ (j : ℕ). 2 ^ (z - 1) + draw seed (j + 1) (2 ^ (z - 11))) m,
-  ey ∙ ap (λ (j : ℕ). 2 ^ (z - 1) + draw seed (j + 1 + 1) (2 ^ (z - 11))) m,
-)
+use Rattle.work_gen.specs.Work.{step_at, steps_of}
 
 pub no_steps : (seed n : ℕ) → steps_of seed n 0 ≡ []
 unfolding steps_of
