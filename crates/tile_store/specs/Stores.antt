@@ -2,14 +2,13 @@
 use Rattle.std.specs.Prelude.{◌≡◌, ◌≢◌, ℕ, true, false, List, [], ◌∷◌, ◌++◌, take, drop, Option, Some, None, Result, Ok, Err, Vec, option_map, IfSome, MatchOption}
 use Rattle.std.specs.declared.alloc.Global.{Global}
 use Rattle.farm_base.specs.declared.files.FailedCall.{FailedCall}
-use Rattle.farm_base.specs.Outside.{Outside, Counted}
+use Rattle.farm_base.specs.Outside.{Outside, FilesTold, Counted}
 use Rattle.tile_store.specs.declared.stores.StoreFault.{StoreFault}
 use Rattle.tile_store.specs.declared.stores.StoreFault.TheVariants.{Failed, NoMemory}
 
--- what a store that tells tells: the bytes that each path holds, if any, and the calls that failed so far
-pub record StoreTold : Type 0 where
-  pub content : List ℕ → Option (List ℕ)
-  pub failed : List FailedCall
+-- what a store that tells tells, as files do: the bytes that each path holds, if any, and the calls that failed so far
+abbrev pub StoreTold : Type 0
+StoreTold = FilesTold
 
 -- the note of a put at this path that failed
 abbrev pub failed_put : List ℕ → FailedCall
