@@ -12,6 +12,7 @@ use Rattle.reading.specs.Steps.{◌>>=◌, check}
 use Rattle.std.proofs.Math.Nat.{pow-le-pow_right}
 use Rattle.plain_world.specs.declared.world.Meta.{Meta}
 use Rattle.plain_world.specs.World.{IsMeta}
+use Rattle.meta_container.specs.Reading.{is_meta}
 use Rattle.farm_history.specs.declared.keys.Kept.{Kept}
 use Rattle.farm_history.specs.declared.saved.Past.{Past}
 use Rattle.farm_history.specs.Replays.{Saving, key_before, are_rising}
@@ -19,7 +20,7 @@ use Rattle.farm_saved.specs.declared.fault.SavedFault.{SavedFault}
 use Rattle.farm_saved.specs.declared.fault.SavedFault.TheVariants.{Short, Kind}
 use Rattle.farm_saved.specs.Savings.{StyleFits, IsKept, IsSaving}
 use Rattle.farm_saved.specs.Writing.{style_bytes, past_bytes, kept_bytes, saved_bytes}
-use Rattle.farm_saved.specs.Reading.{saved_magic, after_magic, bytes_number, many, style_if_any, style_in, past_of, past_in, is_kept_meta, is_behind, last_of, is_kept, fields_in, entry_in, nothing_left, saved_in, saving_in}
+use Rattle.farm_saved.specs.Reading.{saved_magic, after_magic, bytes_number, many, style_if_any, style_in, past_of, past_in, is_behind, last_of, is_kept, fields_in, entry_in, nothing_left, saved_in, saving_in}
 use Rattle.farm_saved.proofs.Loops.{many_step, many_none}
 use Rattle.farm_saved.specs.Laws.{PastFits, MapFits, HasNumbers, ReadsBack}
 
@@ -141,7 +142,7 @@ follows_next k (y ∷ ys) h =
     let both = and_parts (list_all (λ z. key_before k.key z.key) (y ∷ ys)) (are_rising (y ∷ ys)) h in
     (and_parts (key_before k.key y.key) (list_all (λ z. key_before k.key z.key) ys) both.0).0
 
-meta_passes : (m : Meta) → IsMeta m → is_kept_meta m ≡ true
+meta_passes : (m : Meta) → IsMeta m → is_meta m ≡ true
 meta_passes m is =
     let z : leb m.z 18 ≡ true = grind (arith, nat_tests, is.z_fits) in
     let x : ltb m.x (2 ^ m.z) ≡ true = grind (arith, nat_tests, is.x_fits) in

@@ -7,11 +7,12 @@ use Rattle.std.proofs.lemmas.Bool.Decides.{nat_tests}
 use Rattle.std.proofs.lemmas.List.Elements.{All-push, All-nil}
 use Rattle.plain_world.specs.declared.world.Meta.{Meta}
 use Rattle.plain_world.specs.World.{IsMeta}
+use Rattle.meta_container.specs.Reading.{is_meta}
 use Rattle.farm_history.specs.declared.keys.Key.{Key}
 use Rattle.farm_history.specs.declared.keys.Kept.{Kept}
 use Rattle.farm_history.specs.Replays.{key_before, are_rising}
 use Rattle.farm_saved.specs.Savings.{IsKept, IsClean}
-use Rattle.farm_saved.specs.Reading.{is_kept_meta, is_behind, last_of, is_kept}
+use Rattle.farm_saved.specs.Reading.{is_behind, last_of, is_kept}
 
 -- ---- the order of keys
 
@@ -102,7 +103,7 @@ five true true false d e h = cc
 five true false c d e h = cc
 five false b c d e h = cc
 
-meta_passes : (m : Meta) → is_kept_meta m ≡ true → IsMeta m
+meta_passes : (m : Meta) → is_meta m ≡ true → IsMeta m
 meta_passes m h =
     let p = five (leb m.z 18) (ltb m.x (2 ^ m.z)) (ltb m.y (2 ^ m.z)) (eqb (m.x % 8) 0) (eqb (m.y % 8) 0) h in
     let z : leb m.z 18 ≡ true = p.0 in
@@ -125,7 +126,7 @@ none_clean updates = record { rise = refl; kept = All-nil (IsKept updates) }
 pub clean_push : (updates : ℕ) (xs : List Kept) (k : Kept) → IsClean updates xs → is_kept updates xs k ≡ true → IsClean updates (xs ++ k ∷ [])
 unfolding is_kept
 clean_push updates xs k clean h =
-    let p = three (is_kept_meta k.key.meta) (leb k.version updates) (is_behind (last_of xs) k.key) h in
+    let p = three (is_meta k.key.meta) (leb k.version updates) (is_behind (last_of xs) k.key) h in
     let version : leb k.version updates ≡ true = p.1 in
     record {
       rise = rising_push xs k clean.rise p.2;

@@ -1,10 +1,10 @@
 -- What the bytes of a saved text say, field by field: the value, or the first fault. A line is a step; each
 -- field leaves the bytes behind it to the next. Where a field is cut short the fault has the length of all bytes.
-use Rattle.std.specs.Prelude.{ℕ, zero, suc, ◌-◌, ◌==◌, ◌&&◌, ◌%◌, ◌^◌, Bool, true, nat_le, nat_lt, if◌then◌else◌, List, [], ◌∷◌, ◌++◌, length, take, drop, codes, Option, Some, None, Result, Ok, Err, slice_get}
+use Rattle.std.specs.Prelude.{ℕ, zero, suc, ◌-◌, ◌==◌, ◌&&◌, Bool, true, nat_le, if◌then◌else◌, List, [], ◌∷◌, ◌++◌, length, take, drop, codes, Option, Some, None, Result, Ok, Err, slice_get}
 use Rattle.std.specs.Str.{bytes_eq}
 use Rattle.byteorder.specs.Endian.{little_number}
 use Rattle.reading.specs.Steps.{◌>>=◌, check}
-use Rattle.plain_world.specs.declared.world.Meta.{Meta}
+use Rattle.meta_container.specs.Reading.{is_meta}
 use Rattle.farm_history.specs.declared.keys.Key.{Key}
 use Rattle.farm_history.specs.declared.keys.Kept.{Kept}
 use Rattle.farm_history.specs.declared.saved.Past.{Past}
@@ -50,10 +50,6 @@ past_in short before bytes = do
   number ← bytes_number short 4 kind.1
   Ok (past_of kind.0 number.0, number.1)
 
--- a metatile
-abbrev pub is_kept_meta : Meta → Bool
-is_kept_meta m = nat_le m.z 18 && nat_lt m.x (2 ^ m.z) && nat_lt m.y (2 ^ m.z) && m.x % 8 == 0 && m.y % 8 == 0
-
 -- the key comes behind that of the entry before it, if there is one
 abbrev pub is_behind : Option Kept → Key → Bool
 is_behind None k = true
@@ -65,7 +61,7 @@ last_of kept = slice_get kept (length kept - 1)
 
 -- an entry may stand behind those before it: it is of a metatile, its version is at most the number of updates, and its key comes behind theirs
 unfoldable pub is_kept : ℕ → List Kept → Kept → Bool
-is_kept updates before k = is_kept_meta k.key.meta && nat_le k.version updates && is_behind (last_of before) k.key
+is_kept updates before k = is_meta k.key.meta && nat_le k.version updates && is_behind (last_of before) k.key
 
 -- the fields of a clean entry: map, zoom, column, row and version
 unfoldable pub fields_in : SavedFault → List ℕ → Result (Kept × List ℕ) SavedFault

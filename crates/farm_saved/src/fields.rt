@@ -8,6 +8,7 @@ ghost use Rattle.farm_saved.specs.Savings.{StyleFits};
 use crate::fault::SavedFault;
 use byteorder::{ByteOrder, LittleEndian};
 use farm_history::{Kept, Key, Past};
+use meta_container::is_meta;
 use plain_world::Meta;
 
 /// The bytes behind `FSV1`.
@@ -106,12 +107,6 @@ fn fields(bytes: &[u8], short: SavedFault) -> Result<(Kept, &[u8]), SavedFault>
     let meta = Meta { z, x, y };
     let key = Key { map, meta };
     Ok((Kept { key, version }, rest))
-}
-
-fn is_meta(m: Meta) -> bool
-    ensures { result ≡ spec.is_kept_meta m }
-{
-    m.z <= 18 && m.x < 1 << m.z && m.y < 1 << m.z && m.x % 8 == 0 && m.y % 8 == 0
 }
 
 /// Whether one key comes before another: by map, zoom, column and row.

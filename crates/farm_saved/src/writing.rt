@@ -8,17 +8,8 @@ ghost use Rattle.farm_saved.specs.Writing as spec;
 use byteorder::{ByteOrder, LittleEndian};
 use farm_base::NoMemory;
 use farm_history::{Kept, Past, Saved};
+use meta_container::put_number;
 use std::alloc::Global;
-
-/// Appends a number in four bytes.
-fn put_number(out: &mut Vec<u8>, number: u32) -> Result<(), NoMemory>
-    ensures { OnOk result (out.new.items ≡ out.old.items ++ little_bytes 4 number) }
-{
-    let mut bytes = [0u8; 4];
-    LittleEndian::write_u32(&mut bytes, number);
-    out.extend_from_slice(&bytes)?;
-    Ok(())
-}
 
 /// Appends a number in eight bytes.
 fn put_long(out: &mut Vec<u8>, number: u64) -> Result<(), NoMemory>

@@ -19,10 +19,11 @@ use Rattle.farm_history.specs.Lists.{Each}
 use Rattle.farm_history.proofs.Lists.{each-join}
 use Rattle.farm_refinement.specs.Seen.{FarmSeen}
 use Rattle.script_text.specs.ScriptTexts.{has_failed}
+use Rattle.script_text.specs.inner.Steps.{is_failed_fetch}
 use Rattle.work_gen.specs.declared.stepping.Step.{Step}
 use Rattle.load_command.specs.declared.steps.StepSeen.{StepSeen}
 use Rattle.load_command.specs.Loads.{Expires, EndsClaim, collect_entry, IsEventOf, clean_tiles, loader}
-use Rattle.load_command.specs.inner.Progress.{weight, Grows, BreaksOff, Draws, CollectsAll, FetchesOne, Steps, is_failed_fetch, clean_of}
+use Rattle.load_command.specs.inner.Progress.{weight, Grows, BreaksOff, Draws, CollectsAll, FetchesOne, Steps, clean_of}
 use Rattle.load_command.proofs.Weights.{ask_weighs}
 
 -- ---- what events leave of the sums
@@ -90,9 +91,6 @@ expires_noted : (s : Step) (g h : List Entry) → Expires s g h → has_failed h
 expires_noted s g h e = elim (expires_by s g h e) [ inl x ↦ ap has_failed x.1 | inr same ↦ ap has_failed same ]
 
 -- ---- the events of a step
-
-broke_none : (s : Step) (g : List Entry) → BreaksOff s g g
-broke_none s g = ([], refl, tt)
 
 broke_then : (s : Step) (a b c : List Entry) → BreaksOff s a b → BreaksOff s b c → BreaksOff s a c
 broke_then s a b c first next = (

@@ -26,10 +26,11 @@ use Rattle.farm_core.specs.Answers.{claim_answer}
 use Rattle.farm_core.specs.declared.claims.Claimed.{Claimed}
 use Rattle.farm_core.specs.declared.claims.Claimed.TheVariants as claims
 use Rattle.script_text.specs.ScriptTexts.{has_failed}
+use Rattle.script_text.specs.inner.Steps.{is_failed_finish, is_failed_fetch}
 use Rattle.work_gen.specs.declared.stepping.Step.{Step}
 use Rattle.load_command.specs.declared.steps.StepSeen.{StepSeen}
 use Rattle.load_command.specs.Loads.{Expires, EndsClaim, IsLast, collect_entry}
-use Rattle.load_command.specs.inner.Progress.{weight, Grows, Draws, CollectsAll, FetchesOne, is_failed_finish, is_failed_fetch}
+use Rattle.load_command.specs.inner.Progress.{weight, Grows, Draws, CollectsAll, FetchesOne}
 use Rattle.load_command.proofs.Weights.{expire_weighs, claim_weighs, finish_weighs, fetch_weighs, last_weighs, reply_lowers, reply_closes, open_kept}
 
 module _ {D : Type 0} (state : D → Outside StoreTold) (told : Bool) where
@@ -37,9 +38,6 @@ module _ {D : Type 0} (state : D → Outside StoreTold) (told : Bool) where
   pub expired : (s : Step) (farm : FarmSeen D) (g : List Entry) (count : ℕ) → s.expire ≡ true → StandsFor state told farm (Expire (spot_tile s.spot) count ∷ g)
       → Grows state told farm (weight g + 1) (Expires s g)
   expired s farm g count is stands = record { after = Expire (spot_tile s.spot) count ∷ g; stands = stands; small = expire_weighs (spot_tile s.spot) count g; held = rw is (count, refl) }
-
-  pub unexpired : (s : Step) (farm : FarmSeen D) (g : List Entry) → s.expire ≡ false → StandsFor state told farm g → Grows state told farm (weight g + 1) (Expires s g)
-  unexpired s farm g is stands = record { after = g; stands = stands; small = omega arith; held = rw is refl }
 
   -- nothing was claimed
   pub unclaimed : (s : Step) (farm : FarmSeen D) (g : List Entry) (answer : Claimed) → ((j : JobSeen) → answer ≡ claims.Job j → ⊥) → StandsFor state told farm (Claim 0 (claim_answer answer) ∷ g)
@@ -129,9 +127,6 @@ module _ {D : Type 0} (state : D → Outside StoreTold) (told : Bool) where
     pub replies : List Reply
     pub stands : StandsFor state told farm (map collect_entry replies ++ g)
     pub small : weight (map collect_entry replies ++ g) ≤ weight g
-
-  pub collecting_none : (farm : FarmSeen D) (g : List Entry) → StandsFor state told farm g → Collecting farm g
-  collecting_none farm g stands = record { replies = []; stands = stands; small = omega arith }
 
   pub collecting_more : (old farm : FarmSeen D) (g : List Entry) (r : Reply) (c : Collecting old g) → StandsFor state told farm (Collect 0 (Collected.Reply r) ∷ (map collect_entry c.replies ++ g)) → Collecting farm g
   collecting_more old farm g r c stands = record {

@@ -7,7 +7,7 @@ ghost use Rattle.farm_history.specs.Plans.{spot_tile};
 ghost use Rattle.farm_refinement.specs.Stands.{StandsFor};
 ghost use Rattle.farm_core.specs.Answers.{Lasts};
 ghost use Rattle.load_command.specs.Loads.{Expires};
-ghost use Rattle.load_command.specs.inner.Progress.{weight, Grows, Draws, CollectsAll, FetchesOne, Steps, is_failed_finish, is_failed_fetch};
+ghost use Rattle.load_command.specs.inner.Progress.{weight, Grows, Draws, CollectsAll, FetchesOne, Steps};
 ghost use Rattle.farm_history.specs.declared.answers.Finished.TheVariants as finished;
 ghost use Rattle.farm_history.specs.declared.answers.Fetched.TheVariants as fetched;
 ghost use Rattle.work_gen.specs.declared.stepping.Step.{Step};
@@ -17,6 +17,7 @@ use farm_core::{Claimed, Drawn, Farm};
 use farm_plan::{Cmd, Collected, Conn, Fetched, Finished, Spot};
 use meta_drawing::{PictureBuffer, draw_job_on};
 use plain_world::Tile;
+use script_text::{is_failed_fetch, is_failed_finish};
 use std::alloc::Global;
 use tile_store::TileStore;
 use work_gen::Step;
@@ -44,16 +45,6 @@ fn expire_marked<D: TileStore>(farm: &mut Farm<D>, step: Step)
     if step.expire {
         let Spot { map: _, z, x, y } = step.spot;
         farm.expire(Tile { z, x, y });
-    }
-}
-
-/// Whether the put of a drawing failed.
-fn is_failed(answer: Finished) -> bool
-    ensures { result ≡ is_failed_finish answer }
-{
-    match answer {
-        Finished::PutFailed => true,
-        _ => false,
     }
 }
 
@@ -89,7 +80,7 @@ fn draw_next<D: TileStore>(
     if is_wanting(answer) {
         return Err(NoMemory);
     }
-    Ok(is_failed(answer))
+    Ok(is_failed_finish(answer))
 }
 
 /// Collects the replies of front 0 until there is none.
@@ -99,16 +90,6 @@ fn collect_all<D: TileStore>(farm: &mut Farm<D>)
     ensures kept { Lasts D.state farm.old farm.new }
 {
     while let Collected::Reply(_) = farm.collect(0) {}
-}
-
-/// Whether a read of the store failed.
-fn is_unread(answer: &Fetched) -> bool
-    ensures { result ≡ is_failed_fetch answer.now }
-{
-    match answer {
-        Fetched::GetFailed => true,
-        _ => false,
-    }
 }
 
 /// Whether there was no memory for a read.
@@ -143,7 +124,7 @@ fn fetch_one<D: TileStore>(
     if is_short(&fetched) {
         return Err(NoMemory);
     }
-    let failed = either(is_unread(&fetched), lost);
+    let failed = either(is_failed_fetch(&fetched), lost);
     Ok(StepSeen { fetched, failed })
 }
 

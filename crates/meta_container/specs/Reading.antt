@@ -45,7 +45,7 @@ same_meta m n = m.x == n.x && (m.y == n.y && m.z == n.z)
 
 -- is this a metatile: zoom at most 18, column and row below 2^z and multiples of 8?
 abbrev pub is_meta : Meta → Bool
-is_meta m = nat_le m.z 18 && (nat_lt m.x (2 ^ m.z) && (nat_lt m.y (2 ^ m.z) && (m.x % 8 == 0 && m.y % 8 == 0)))
+is_meta m = nat_le m.z 18 && nat_lt m.x (2 ^ m.z) && nat_lt m.y (2 ^ m.z) && m.x % 8 == 0 && m.y % 8 == 0
 
 -- the pair of a place
 abbrev pub entry_at : List ℕ → ℕ → Entry

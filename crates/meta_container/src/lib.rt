@@ -9,5 +9,5 @@ mod writing;
 pub use container::{Entry, HEAD_BYTES, Listing, PLACES};
 pub use farm_base::MetaFault;
 pub use laws::{law_drawn_container, law_tiles_come_back};
-pub use reading::{entry_in, listing, tile_in};
-pub use writing::{encode, put_head};
+pub use reading::{entry_in, is_meta, listing, tile_in};
+pub use writing::{encode, put_head, put_number};

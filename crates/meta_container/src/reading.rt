@@ -132,8 +132,8 @@ fn no_place_fault(bytes: &[u8]) -> Option<MetaFault>
     Some(MetaFault::Place(found.x, found.y, found.z))
 }
 
-/// Whether these numbers are those of a metatile.
-fn is_meta(m: Meta) -> bool
+/// Whether these numbers are those of a metatile: zoom at most 18, column and row below `2^z` and multiples of 8.
+pub fn is_meta(m: Meta) -> bool
     ensures { result ≡ spec.is_meta m }
 {
     m.z <= 18 && m.x < 1 << m.z && m.y < 1 << m.z && m.x % 8 == 0 && m.y % 8 == 0

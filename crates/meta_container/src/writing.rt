@@ -103,8 +103,8 @@ fn even_span(across: u32, size: u32, place: u32) -> Span
     }
 }
 
-/// Appends a number in four bytes.
-fn put_number(out: &mut Vec<u8>, number: u32) -> Result<(), NoMemory>
+/// Appends a number in four bytes, the lowest first.
+pub fn put_number(out: &mut Vec<u8>, number: u32) -> Result<(), NoMemory>
     ensures { OnOk result (out.new.items ≡ out.old.items ++ little_bytes 4 number) }
 {
     let mut bytes = [0u8; 4];

@@ -83,7 +83,8 @@ pub(crate) fn claim<D: TileStore>(
     }
 }
 
-fn is_failed(answer: Finished) -> bool
+/// Whether the put of a drawing failed.
+pub fn is_failed_finish(answer: Finished) -> bool
     ensures { result ≡ is_failed_finish answer }
 {
     match answer {
@@ -111,7 +112,7 @@ pub(crate) fn finish<D: TileStore>(
     };
     let bytes = draw_job(alloc, &job)?;
     let answer = farm.finish(alloc, job, Drawn::Bytes(bytes));
-    noted(finish_line(alloc, answer), is_failed(answer))
+    noted(finish_line(alloc, answer), is_failed_finish(answer))
 }
 
 /// `cut T`: the job in hand is finished without a picture.

@@ -10,5 +10,7 @@ mod runs;
 mod said;
 
 pub use ends::ScriptEnd;
+pub use hands::is_failed_finish;
 pub use runs::{ScriptRun, run, run_noting};
+pub use said::is_failed_fetch;
 pub use script_lines::{Script, ScriptFault, ScriptLine, read_script};

@@ -49,7 +49,8 @@ pub(crate) fn said(line: Result<Text, NoMemory>) -> Result<LineAnswer, NoMemory>
     noted(line, false)
 }
 
-fn is_failed(answer: &Fetched) -> bool
+/// Whether a read of the store failed.
+pub fn is_failed_fetch(answer: &Fetched) -> bool
     ensures { result ≡ is_failed_fetch answer.now }
 {
     match answer {
@@ -75,7 +76,7 @@ pub(crate) fn fetch_said(alloc: Global, answer: Fetched) -> Result<LineAnswer, N
     ensures failed { IfOk result (λ s. s.failed ≡ is_failed_fetch answer) }
 {
     let head = fetch_head(alloc, &answer)?;
-    let failed = is_failed(&answer);
+    let failed = is_failed_fetch(&answer);
     Ok(LineAnswer {
         head,
         tile: tile_of(answer),

@@ -12,9 +12,7 @@ use Rattle.farm_history.specs.declared.queues.Reply.{Reply}
 use Rattle.farm_history.specs.declared.asks.Spot.{Spot}
 use Rattle.farm_history.specs.declared.answers.ClaimAnswer.{ClaimAnswer}
 use Rattle.farm_history.specs.declared.answers.Fetched.{Fetched}
-use Rattle.farm_history.specs.declared.answers.Fetched.TheVariants.{Clean, GetFailed}
-use Rattle.farm_history.specs.declared.answers.Finished.{Finished}
-use Rattle.farm_history.specs.declared.answers.Finished.TheVariants.{PutFailed}
+use Rattle.farm_history.specs.declared.answers.Fetched.TheVariants.{Clean}
 use Rattle.farm_history.specs.declared.answers.Collected.{Collected}
 use Rattle.farm_history.specs.Entries.{Entry, Claim, Collect, Fetch}
 use Rattle.farm_history.specs.Lists.{Each}
@@ -22,6 +20,7 @@ use Rattle.farm_history.specs.Past.{open_asks}
 use Rattle.farm_refinement.specs.Seen.{FarmSeen}
 use Rattle.farm_refinement.specs.Stands.{StandsFor}
 use Rattle.script_text.specs.ScriptTexts.{has_failed}
+use Rattle.script_text.specs.inner.Steps.{is_failed_fetch}
 use Rattle.work_gen.specs.declared.stepping.Step.{Step}
 use Rattle.load_command.specs.declared.totals.Totals.{Totals}
 use Rattle.load_command.specs.declared.steps.StepSeen.{StepSeen}
@@ -51,16 +50,6 @@ Draws s before (Err wanting) after = BreaksOff s before after
 -- the replies were collected, until there was none
 abbrev pub CollectsAll : List Entry → List Entry → Type 0
 CollectsAll before after = (replies : List Reply) × (last : Collected) × IsLast last × (after ≡ Collect 0 last ∷ (map collect_entry replies ++ before))
-
--- whether a fetch says that a call of the store failed
-abbrev pub is_failed_fetch : Fetched → Bool
-is_failed_fetch GetFailed = true
-is_failed_fetch answer = false
-
--- whether the end of a drawing says so
-abbrev pub is_failed_finish : Finished → Bool
-is_failed_finish PutFailed = true
-is_failed_finish answer = false
 
 -- the tile of a fetch that is clean
 abbrev pub clean_of : Fetched → List (List ℕ)

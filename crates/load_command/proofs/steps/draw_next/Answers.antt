@@ -24,5 +24,5 @@ returns-then-is_wanting-clause-grows g c = λ told h step s.
 pub returns-clause-grows : goal.returns-clause-grows
 returns-clause-grows g c = λ told h step s.
     let after = c.in-Job.ensures.step told h s in
-    drawn _ told step _ h c.in-Job.job c.finish-answer.result _ (c.is_wanting.ensures.no c.if-is_wanting.false) c.is_failed.ensures
+    drawn _ told step _ h c.in-Job.job c.finish-answer.result _ (c.is_wanting.ensures.no c.if-is_wanting.false) c.is_failed_finish.ensures
     (c.finish-answer.ensures.step told _ after (claimed_flies _ told _ _ h c.in-Job.job after c.in-Job.ensures.kept.plan (c.in-Job.ensures.carries told h s)))

@@ -10,4 +10,4 @@ returns-then-is_short-clause-grows g c = λ told h s.
 pub returns-clause-grows : goal.returns-clause-grows
 returns-clause-grows g c = λ told h s.
     fetched_one _ told _ c.args.lost _ h _ (c.is_short.ensures.no c.if-is_short.false)
-    (c.either-failed.ensures ∙ ap (λ (b : Bool). b || c.args.lost) c.is_unread.ensures) (c.fetch-fetched.ensures.step told h s)
+    (c.either-failed.ensures ∙ ap (λ (b : Bool). b || c.args.lost) c.is_failed_fetch.ensures) (c.fetch-fetched.ensures.step told h s)

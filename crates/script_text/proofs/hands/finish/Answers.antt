@@ -27,4 +27,4 @@ pub returns-clause-step : goal.returns-clause-step
 returns-clause-step g c = λ told h s hand.
     answered_end _ _ _ _ _ c.args.ticket true c.finish-answer.result c.in-Some.job _ _ _ _ (in_hand c.args.hand.now.items c.args.ticket c.in-Some.job (sym c.in-Some.ensures.found)) (c.finish-answer.result, refl)
     (sym c.in-Some.ensures.found) c.in-Some.ensures.left hand (c.finish-answer.ensures.step told h s (taken_flies _ h _ c.args.ticket _ (sym c.in-Some.ensures.found) hand))
-    (some_said _ _ _ _ _ c.noted.ensures (c.is_failed.ensures ∙ finish_failed c.args.ticket c.finish-answer.result) c.finish_line.ensures)
+    (some_said _ _ _ _ _ c.noted.ensures (c.is_failed_finish.ensures ∙ finish_failed c.args.ticket c.finish-answer.result) c.finish_line.ensures)
