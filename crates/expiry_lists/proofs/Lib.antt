@@ -9,7 +9,6 @@ pub mod Quarters
 pub mod Saving
 pub mod Showing
 pub mod Dirtying
-pub mod Texts
 pub mod Tiles
 pub mod Walked
 pub mod Writing

@@ -1,20 +1,15 @@
 -- What an expiry list says, line by line: its tiles, or the first line that is none. Each reader is given the
 -- fault of its line.
-use Rattle.std.specs.Prelude.{ℕ, ◌+◌, ◌^◌, ◌&&◌, nat_le, nat_lt, if◌then◌else◌, List, [], ◌∷◌, ◌++◌, Option, Some, None, option_to_list, Result, Ok}
+use Rattle.std.specs.Prelude.{ℕ, ◌^◌, ◌&&◌, nat_le, nat_lt, if◌then◌else◌, List, [], ◌∷◌, Option, Some, None, Result, Ok}
 use Rattle.std.specs.Option.{ok_or}
-use Rattle.std.specs.Str.{is_utf8}
 use Rattle.std.specs.Str.Lines.{lines}
-use Rattle.farm_base.specs.Limits.{most_lines}
 use Rattle.line_reading.specs.Cuts.{cut_at}
 use Rattle.line_reading.specs.Numbers.{decimal_below}
-use Rattle.reading.specs.Steps.{◌>>=◌, check}
+use Rattle.reading.specs.Lines.{line_text, items_after}
+use Rattle.reading.specs.Steps.{◌>>=◌}
 use Rattle.plain_world.specs.declared.world.Tile.{Tile}
 use Rattle.expiry_lists.specs.declared.faults.ListFault.{ListFault}
 use Rattle.expiry_lists.specs.declared.faults.ListFault.TheVariants.{Line}
-
--- a line is UTF-8
-unfoldable pub list_bytes : ListFault → List ℕ → Result (List ℕ) ListFault
-list_bytes fault line = check (is_utf8 line) fault >>= λ u. Ok line
 
 -- what stands before the first slash, and what stands behind it
 abbrev pub list_word : ListFault → List ℕ → Result (List ℕ × List ℕ) ListFault
@@ -41,14 +36,8 @@ list_tile fault text = do
 -- what a line says, nothing where it is empty
 unfoldable pub list_line : ListFault → List ℕ → Result (Option Tile) ListFault
 list_line fault [] = Ok None
-list_line fault (b ∷ bs) = list_bytes fault (b ∷ bs) >>= λ text. list_tile fault text >>= λ t. Ok (Some t)
-
--- the lines from this number on, after those that were read before; no more than a list may have
-unfoldable pub list_lines_after : ℕ → List Tile → List (List ℕ) → Result (List Tile) ListFault
-list_lines_after number before [] = Ok before
-list_lines_after number before (line ∷ rest) =
-    check (nat_le number most_lines) (Line number) >>= λ u. list_line (Line number) line >>= λ t. list_lines_after (number + 1) (before ++ option_to_list t) rest
+list_line fault (b ∷ bs) = line_text fault (b ∷ bs) >>= λ text. list_tile fault text >>= λ t. Ok (Some t)
 
 -- what the bytes of an expiry list say; lines are counted from 1, the empty ones too
 unfoldable pub list_in : List ℕ → Result (List Tile) ListFault
-list_in bytes = list_lines_after 1 [] (lines bytes)
+list_in bytes = items_after list_line Line 1 [] (lines bytes)

@@ -10,9 +10,9 @@ use crate::faults::ListFault;
 use farm_base::MOST_LINES;
 use line_reading::{cut, first_line, small_number};
 use plain_world::Tile;
+use reading::line_text;
 use std::alloc::Global;
 use std::marker::Model;
-use std::str;
 
 /// The tiles of an expiry list, in order, at most 1,000,000. Contracts see it as the list of them.
 #[derive(Debug, Drop)]
@@ -30,17 +30,6 @@ impl Model for TileList {
     ghost view = { λ l. l.tiles.items };
 
     ghost invariant = { λ l. AreListed l.tiles.items };
-}
-
-/// The words of a line.
-#[tactic(auto, unfolding(crate::specs::Lists::list_bytes), using(crate::proofs::Texts::text_known, crate::proofs::Texts::text_unknown))]
-fn text(line: &[u8], fault: ListFault) -> Result<&str, ListFault>
-    ensures { seen (λ s. s.now) result ≡ spec.list_bytes fault line.entry.now }
-{
-    match str::from_utf8(line) {
-        Ok(text) => Ok(text),
-        Err(_) => Err(fault),
-    }
 }
 
 /// What stands before the first slash and behind it.
@@ -91,14 +80,14 @@ fn read_line(line: &[u8], fault: ListFault) -> Result<Option<Tile>, ListFault>
     if line.is_empty() {
         return Ok(None);
     }
-    let text = text(line, fault)?;
+    let text = line_text(line, fault)?;
     Ok(Some(tile(text, fault)?))
 }
 
 /// Reads an expiry list: its tiles in order, or the first line that is none. Each line is `z/x/y`, three
 /// decimal numbers without leading zeros that name a tile of zoom 0 to 18. Lines end with a newline, which
 /// the last may lack; one carriage return before it is dropped. Empty lines are skipped, and counted.
-#[tactic(auto, using(crate::proofs::Lines::list_more, crate::proofs::Lines::list_refused, crate::proofs::Lines::list_done, crate::proofs::Lines::list_long))]
+#[tactic(auto, using(crate::proofs::Lines::list_refused, reading::proofs::LineLoop::items_end))]
 pub fn read_list(alloc: Global, bytes: &[u8]) -> Result<Vec<Tile>, ListFault>
     ensures value { Gives fault.NoMemory (λ v. v.items) (spec.list_in bytes.now) result }
     ensures valid { IfOk result (λ v. All IsTile v.items) }

@@ -5,13 +5,13 @@ use Rattle.std.specs.Str.{bytes_eq, is_utf8}
 use Rattle.std.specs.Str.Lines.{lines}
 use Rattle.line_reading.specs.Cuts.{cut_at}
 use Rattle.line_reading.specs.Numbers.{decimal_below}
+use Rattle.reading.specs.Lines.{line_text, items_after}
 use Rattle.reading.specs.Steps.{◌>>=◌}
-use Rattle.plain_world.specs.declared.world.Tile.{Tile}
 use Rattle.expiry_lists.specs.Lists as list
 use Rattle.expiry_lists.specs.declared.faults.ListFault.{ListFault}
 use Rattle.expiry_lists.specs.declared.faults.ListFault.TheVariants.{Line}
 use Rattle.script_lines.specs.Lines.{cmd_of, line_tile, place_of, ask_of, fetch_of, look_of, expire_of, line_named, line_alone, line_cut, script_line_of}
-use Rattle.script_lines.specs.Scripts.{is_skipped, text_of, line_read, lines_after, script_in}
+use Rattle.script_lines.specs.Scripts.{is_skipped, line_read, script_in}
 use Rattle.script_lines.specs.declared.script.ScriptFault.{ScriptFault}
 use Rattle.script_lines.specs.declared.script.ScriptFault.TheVariants as script
 use Rattle.script_lines.specs.declared.script.ScriptLine.{ScriptLine}
@@ -19,6 +19,20 @@ use Rattle.script_lines.specs.declared.script.ScriptLine.TheVariants as script_l
 use Rattle.fault_texts.specs.LineFaults.{script_text, list_text}
 use Rattle.fault_texts.specs.Told.{ScriptsAreTold, ListsAreTold}
 use Rattle.fault_texts.proofs.Steps.{OnFault, of_fault, step, either, checks, has}
+
+-- ---- lines
+
+utf8_told : {E : Type 0} (T : E → Type 0) (fault : E) → T fault → (line : List ℕ) → OnFault T (line_text fault line)
+unfolding line_text
+utf8_told T fault h line = step T _ _ (checks T (is_utf8 line) fault h) (λ u. tt)
+
+items_told : {A E : Type 0} (T : E → Type 0) (read : E → List ℕ → Result (Option A) E) (fault : ℕ → E) → ((number : ℕ) → T (fault number)) → ((e : E) → T e → (line : List ℕ) → OnFault T (read e line))
+    → (number : ℕ) (before : List A) (rest : List (List ℕ)) → OnFault T (items_after read fault number before rest)
+unfolding items_after
+items_told T read fault h g number before [] = tt
+items_told T read fault h g number before (line ∷ rest) =
+    step T _ _ (checks T (nat_le number 1000000) (fault number) (h number)) (λ u.
+    step T _ _ (g (fault number) (h number) line) (λ item. items_told T read fault h g (number + 1) (before ++ option_to_list item) rest))
 
 -- ---- expiry lists
 
@@ -39,22 +53,15 @@ tile_told fault h text =
     has ListText (list.tile_if_any z x y) fault h)))))
 
 list_line_told : (fault : ListFault) → ListText fault → (line : List ℕ) → ListTold (list.list_line fault line)
-unfolding list.list_line list.list_bytes
+unfolding list.list_line
 list_line_told fault h [] = tt
 list_line_told fault h (b ∷ bs) =
-    step ListText _ _ (step ListText _ _ (checks ListText (is_utf8 (b ∷ bs)) fault h) (λ u. tt)) (λ text.
+    step ListText _ _ (utf8_told ListText fault h (b ∷ bs)) (λ text.
     step ListText _ _ (tile_told fault h text) (λ t. tt))
-
-list_lines_told : (number : ℕ) (before : List Tile) (rest : List (List ℕ)) → ListTold (list.list_lines_after number before rest)
-unfolding list.list_lines_after
-list_lines_told number before [] = tt
-list_lines_told number before (line ∷ rest) =
-    step ListText _ _ (checks ListText (nat_le number 1000000) (Line number) refl) (λ u.
-    step ListText _ _ (list_line_told (Line number) refl line) (λ t. list_lines_told (number + 1) (before ++ option_to_list t) rest))
 
 list_told : (bytes : List ℕ) → ListTold (list.list_in bytes)
 unfolding list.list_in
-list_told bytes = list_lines_told 1 [] (lines bytes)
+list_told bytes = items_told ListText list.list_line Line (λ number. refl) list_line_told 1 [] (lines bytes)
 
 pub lists_are_told : ListsAreTold
 lists_are_told bytes e q = of_fault ListText (list.list_in bytes) e (list_told bytes) q
@@ -133,22 +140,15 @@ cut_told fault h line None = alone_told fault h line
 cut_told fault h line (Some p) = named_told fault h p.0 p.1
 
 line_told : (fault : ScriptFault) → HasText fault → (line : List ℕ) → Told (line_read fault line)
-unfolding line_read text_of script_line_of
+unfolding line_read script_line_of
 line_told fault h line =
     either HasText (is_skipped line) _ _ tt (
-    step HasText _ _ (step HasText _ _ (checks HasText (is_utf8 line) fault h) (λ u. tt)) (λ text.
+    step HasText _ _ (utf8_told HasText fault h line) (λ text.
     step HasText _ _ (cut_told fault h text (cut_at 32 text)) (λ l. tt)))
-
-lines_told : (number : ℕ) (before : List ScriptLine) (rest : List (List ℕ)) → Told (lines_after number before rest)
-unfolding lines_after
-lines_told number before [] = tt
-lines_told number before (line ∷ rest) =
-    step HasText _ _ (checks HasText (nat_le number 1000000) (script.Line number) refl) (λ u.
-    step HasText _ _ (line_told (script.Line number) refl line) (λ l. lines_told (number + 1) (before ++ option_to_list l) rest))
 
 script_told : (bytes : List ℕ) → Told (script_in bytes)
 unfolding script_in
-script_told bytes = lines_told 1 [] (lines bytes)
+script_told bytes = items_told HasText line_read script.Line (λ number. refl) line_told 1 [] (lines bytes)
 
 pub scripts_are_told : ScriptsAreTold
 scripts_are_told bytes e q = of_fault HasText (script_in bytes) e (script_told bytes) q

@@ -1,3 +1,4 @@
+pub mod LineLoop
 pub mod Members
 pub mod Steps
 pub mod Texts

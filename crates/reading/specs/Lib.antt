@@ -1,4 +1,5 @@
 pub mod Json
+pub mod Lines
 pub mod Lists
 pub mod Steps
 pub mod Values

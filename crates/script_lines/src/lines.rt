@@ -1,16 +1,16 @@
 //! One line of a script.
 ghost use Rattle.std.specs.Prelude.{◌≡◌};
-ghost use Rattle.reading.specs.Steps.{Gives, seen};
+ghost use Rattle.reading.specs.Steps.{Gives};
 ghost use Rattle.script_lines.specs.Lines as spec;
-ghost use Rattle.script_lines.specs.Scripts.{is_skipped, text_of, line_read};
+ghost use Rattle.script_lines.specs.Scripts.{is_skipped, line_read};
 ghost use Rattle.script_lines.specs.declared.script.ScriptFault.TheVariants.{NoMemory};
 
 use crate::script::{ScriptFault, ScriptLine};
 use crate::words::{command, number, place, ticket, tile, word};
 use farm_base::Text;
 use line_reading::cut;
+use reading::line_text;
 use std::alloc::Global;
-use std::str;
 
 /// `ask C CMD MAP Z X Y`, by the words behind `ask`.
 #[tactic(auto, unfolding(crate::specs::Lines::ask_of))]
@@ -110,16 +110,6 @@ fn is_skipped(line: &[u8]) -> bool
     }
 }
 
-#[tactic(auto, unfolding(crate::specs::Scripts::text_of), using(crate::proofs::Texts::text_known, crate::proofs::Texts::text_unknown))]
-fn text(line: &[u8], fault: ScriptFault) -> Result<&str, ScriptFault>
-    ensures { seen (λ s. s.now) result ≡ text_of fault line.entry.now }
-{
-    match str::from_utf8(line) {
-        Ok(text) => Ok(text),
-        Err(_) => Err(fault),
-    }
-}
-
 /// What a line says; nothing where it is skipped.
 #[tactic(auto, unfolding(crate::specs::Scripts::line_read))]
 pub fn read_line(
@@ -132,6 +122,6 @@ pub fn read_line(
     if is_skipped(bytes) {
         return Ok(None);
     }
-    let text = text(bytes, fault)?;
+    let text = line_text(bytes, fault)?;
     Ok(Some(line(alloc, text, fault)?))
 }

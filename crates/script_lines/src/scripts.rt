@@ -13,7 +13,7 @@ use std::alloc::Global;
 /// Reads a script: its lines that are not skipped, or the first line that is none. Lines end with a
 /// newline, which the last may lack; one carriage return before it is dropped. Empty lines and those that
 /// begin with `#` are skipped.
-#[tactic(auto, using(crate::proofs::Loop::script_more, crate::proofs::Loop::script_refused, crate::proofs::Loop::script_done, crate::proofs::Loop::script_long))]
+#[tactic(auto, using(crate::proofs::Loop::script_refused, reading::proofs::LineLoop::items_end))]
 pub fn read_script(alloc: Global, bytes: &[u8]) -> Result<Script, ScriptFault>
     ensures { Gives fault.NoMemory (λ s. s) (script_in bytes.now) result }
 {
