@@ -3,7 +3,7 @@ use Rattle.std.specs.Prelude.{ℕ, ◌≤◌, ◌==◌, ◌&&◌, ◌||◌, Bool
 use Rattle.std.specs.List.{list_all, list_any}
 use Rattle.std.specs.Str.{bytes_eq}
 use Rattle.farm_base.specs.Earlier.{each_after}
-use Rattle.tile_paths.specs.Paths.{is_name_byte}
+use Rattle.tile_paths.specs.Paths.{is_map_name}
 use Rattle.farm_history.specs.declared.queues.Limits.{Limits}
 use Rattle.farm_config.specs.Limits.{most_maps, most_zoom, most_files, most_workers, most_waiting, most_dirty}
 use Rattle.farm_config.specs.declared.config.RestyleEntry.{RestyleEntry}
@@ -28,10 +28,6 @@ pub record Config : Type 0 where
   pub control : Option (List ℕ)
   pub restyles : List RestyleEntry
   pub resume : Bool
-
--- a map's name: 1 to 40 bytes of `a` to `z`, `0` to `9`, `_` and `-`
-abbrev pub is_map_name : List ℕ → Bool
-is_map_name name = nat_le 1 (length name) && nat_le (length name) 40 && list_all is_name_byte name
 
 -- a tile is 16, 32, 64, 128, 256 or 512 pixels wide and high
 abbrev pub is_tile_size : ℕ → Bool

@@ -7,7 +7,8 @@ use Rattle.serde_json.specs.Find.{as_bool}
 use Rattle.reading.specs.Steps.{◌>>=◌}
 use Rattle.reading.specs.Values.{text, whole_number}
 use Rattle.farm_config.specs.Addresses.{is_address}
-use Rattle.farm_config.specs.Configs.{is_map_name, is_tile_size}
+use Rattle.tile_paths.specs.Paths.{is_map_name}
+use Rattle.farm_config.specs.Configs.{is_tile_size}
 use Rattle.farm_config.specs.declared.fault.ConfigFault.{ConfigFault}
 use Rattle.farm_config.specs.declared.fault.ConfigFault.TheVariants.{Shape, Range}
 

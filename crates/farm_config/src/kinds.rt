@@ -4,6 +4,7 @@ ghost use Rattle.serde_json.specs.Find.{get};
 ghost use Rattle.serde_json.specs.View.{view};
 ghost use Rattle.reading.specs.Steps.{seen, Gives};
 ghost use Rattle.reading.specs.Values.{needed, or_value};
+ghost use Rattle.tile_paths.specs.Paths.{is_map_name};
 ghost use Rattle.farm_config.specs.Configs as plain;
 ghost use Rattle.farm_config.specs.Kinds as spec;
 ghost use Rattle.farm_config.specs.declared.fault.ConfigFault.TheVariants as fault;
@@ -34,19 +35,13 @@ pub fn file_at<'a>(object: &'a Value, name: &str, key: u32) -> Result<&'a str, C
     }
 }
 
-fn is_map_name(text: &str) -> bool
-    ensures { result ≡ plain.is_map_name text.now }
-{
-    is_name(text)
-}
-
 #[tactic(auto, unfolding(crate::specs::Kinds::a_map_name))]
 fn a_map_name(value: &Value, key: u32) -> Result<&str, ConfigFault>
     ensures value { seen (λ s. s.now) result ≡ spec.a_map_name key (view value.entry.now) }
-    ensures fits { IfOk result (λ s. IsTrue (plain.is_map_name s.now)) }
+    ensures fits { IfOk result (λ s. IsTrue (is_map_name s.now)) }
 {
     let name = text(value, ConfigFault::Shape(key))?;
-    if is_map_name(name) {
+    if is_name(name) {
         Ok(name)
     } else {
         Err(ConfigFault::Shape(key))
@@ -56,7 +51,7 @@ fn a_map_name(value: &Value, key: u32) -> Result<&str, ConfigFault>
 /// The name of a map, which has to be there.
 pub fn map_name_at<'a>(object: &'a Value, name: &str, key: u32) -> Result<&'a str, ConfigFault>
     ensures value { seen (λ s. s.now) result ≡ needed (fault.Shape key) (spec.a_map_name key) (get name.now (view object.entry.now)) }
-    ensures fits { IfOk result (λ s. IsTrue (plain.is_map_name s.now)) }
+    ensures fits { IfOk result (λ s. IsTrue (is_map_name s.now)) }
 {
     match object.get(name) {
         Some(value) => a_map_name(value, key),

@@ -5,6 +5,7 @@ ghost use Rattle.farm_base.specs.Earlier.{each_after};
 ghost use Rattle.reading.specs.Lists.{list_of};
 ghost use Rattle.reading.specs.Steps.{Gives};
 ghost use Rattle.reading.specs.Values.{needed};
+ghost use Rattle.tile_paths.specs.Paths.{is_map_name};
 ghost use Rattle.farm_config.specs.Configs as plain;
 ghost use Rattle.farm_config.specs.Limits.{most_maps};
 ghost use Rattle.farm_config.specs.Tables as spec;
@@ -64,7 +65,7 @@ fn map(alloc: Global, before: &[MapEntry], object: &Value) -> Result<MapEntry, C
 
 /// The name of a map, which fits.
 fn map_name(name: &str) -> ArrayString<40>
-    requires { IsTrue (plain.is_map_name name.now) }
+    requires { IsTrue (is_map_name name.now) }
     ensures { result.bytes ≡ name.now }
 {
     ArrayString::from(name).unwrap()

@@ -9,12 +9,12 @@ use Rattle.std.proofs.lemmas.List.Elements.{All-cons, All-nil}
 use Rattle.std.proofs.lemmas.Slice.Eq.{bytes_eq-Decides}
 use Rattle.plain_world.specs.World.{IsTileSize}
 use Rattle.farm_base.specs.Earlier.{each_after}
-use Rattle.tile_paths.specs.Paths.{IsName, is_name_byte}
+use Rattle.tile_paths.specs.Paths.{IsName, is_map_name}
 use Rattle.farm_history.specs.declared.queues.Limits.{Limits}
 use Rattle.farm_history.proofs.Lists.{any-append}
 use Rattle.geo_json.specs.DataTexts.{dataset_in}
 use Rattle.fault_texts.specs.DataFaults.{data_text}
-use Rattle.farm_config.specs.Configs.{MapEntry, Config, is_map_name, is_tile_size, is_limit_to, are_limits, map_has, map_fits, restyle_known, IsConfig}
+use Rattle.farm_config.specs.Configs.{MapEntry, Config, is_tile_size, is_limit_to, are_limits, map_has, map_fits, restyle_known, IsConfig}
 use Rattle.farm_config.specs.declared.config.RestyleEntry.{RestyleEntry}
 use Rattle.farm_plan.specs.Plans.{MapPlan, Restyle, IsMapPlan, HasNamesApart, IsFrom1, AreLimits, NamesMap, IsPlan}
 use Rattle.input_files.specs.Course.{Course, made, ◌>>=◌, file, each}
@@ -89,24 +89,13 @@ fits_of before m h =
       apart = not-true (map_has m.name before) (and_parts (is_map_name m.name && is_tile_size m.tile && nat_le m.max_zoom 18) (not (map_has m.name before)) h).1;
     }
 
-name_of : (name : List ℕ) → is_map_name name ≡ true → IsName name
-name_of name h =
-    let two = (and_parts (nat_le 1 (length name) && nat_le (length name) 40) (list_all is_name_byte name) h).0 in
-    let low = (and_parts (nat_le 1 (length name)) (nat_le (length name) 40) two).0 in
-    let high = (and_parts (nat_le 1 (length name)) (nat_le (length name) 40) two).1 in
-    record {
-      some = grind (arith, nat_tests);
-      short = grind (arith, nat_tests);
-      plain = (and_parts (nat_le 1 (length name) && nat_le (length name) 40) (list_all is_name_byte name) h).1;
-    }
-
 one_map : (before : List MapEntry) (m : MapEntry) (p : MapPlan) → map_fits before m ≡ true → IsOf m p → IsMapPlan p
 one_map before m p h is =
     let fits = fits_of before m h in
     let zooms = fits.zooms in
     let at : m.max_zoom ≤ 18 = grind (arith, nat_tests) in
     record {
-      named = subst IsName (sym is.0) (name_of m.name fits.named);
+      named = subst IsName (sym is.0) fits.named;
       sized = subst IsTileSize (sym is.1) (size_of m.tile fits.sized);
       zooms = subst (λ (n : ℕ). n ≤ 18) (sym is.2) at;
     }

@@ -36,7 +36,7 @@ plan_sound style dataset update = record {
   count_maps = record { some = omega arith; few = omega arith };
   each_map = All-from_recursion IsMapPlan (map_of style ∷ []) (
     record {
-      named = record { some = omega arith; short = omega arith; plain = refl };
+      named = refl;
       sized = inl refl;
       zooms = omega arith;
     },

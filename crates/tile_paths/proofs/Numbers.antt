@@ -1,6 +1,8 @@
 -- Numbers and names between slashes.
 use Rattle.std.proofs.Common.{◌≡◌, ◌≢◌, ℕ, ◌<◌, ◌≤◌, List, ◌∷◌, ◌++◌, length, get_or, true, Option, Some, None, sym, ap, ◌∙◌, arith}
-use Rattle.std.specs.Prelude.{MatchOption, IsSomeAnd}
+use Rattle.std.specs.Prelude.{MatchOption, IsSomeAnd, ◌&&◌, nat_le}
+use Rattle.std.specs.List.{list_all}
+use Rattle.std.proofs.lemmas.Bool.{and_parts}
 use Rattle.std.specs.Borrow.{Bor}
 use Rattle.std.specs.Fmt.{decimal}
 use Rattle.std.proofs.lemmas.Fmt.{length-decimal-le, decimal_is_IsNumeral}
@@ -20,7 +22,7 @@ digits_only n e i h low l eq =
 -- no byte of a name is a slash
 pub no_slash : (name : List ℕ) (i : ℕ) → IsName name → i < length name → get_or name i 0 ≢ 47
 no_slash name i is l eq =
-    let p = AllPass-from_list_all is_name_byte name is.plain i 0 l in
+    let p = AllPass-from_list_all is_name_byte name (and_parts (nat_le 1 (length name) && nat_le (length name) 40) (list_all is_name_byte name) is).1 i 0 l in
     let q : is_name_byte 47 ≡ true = ap is_name_byte (sym eq) ∙ p in
     cc
 

@@ -1,6 +1,6 @@
 -- The path under which a map's metatile is stored, as mod_tile makes it (xyz_to_meta of mod_tile's
 -- store_file_utils.c): the map's name, the zoom, and five numbers that spread the metatiles over folders.
-use Rattle.std.specs.Prelude.{ℕ, ◌+◌, ◌*◌, ◌/◌, ◌%◌, ◌≤◌, ◌==◌, ◌&&◌, ◌||◌, ◌++◌, ◌∷◌, Bool, List, length, nat_le, codes, IsTrue}
+use Rattle.std.specs.Prelude.{ℕ, ◌+◌, ◌*◌, ◌/◌, ◌%◌, ◌==◌, ◌&&◌, ◌||◌, ◌++◌, ◌∷◌, Bool, List, length, nat_le, codes, IsTrue}
 use Rattle.std.specs.List.{list_all}
 use Rattle.std.specs.Fmt.{decimal}
 use Rattle.plain_world.specs.declared.world.Meta.{Meta}
@@ -9,11 +9,13 @@ use Rattle.plain_world.specs.declared.world.Meta.{Meta}
 abbrev pub is_name_byte : ℕ → Bool
 is_name_byte b = (nat_le 97 b && nat_le b 122) || ((nat_le 48 b && nat_le b 57) || (b == 95 || b == 45))
 
--- a map's name: 1 to 40 bytes of names
-pub record IsName (name : List ℕ) : Type 0 where
-  pub some : 1 ≤ length name
-  pub short : length name ≤ 40
-  pub plain : IsTrue (list_all is_name_byte name)
+-- a map's name, as a test: 1 to 40 bytes of names
+abbrev pub is_map_name : List ℕ → Bool
+is_map_name name = nat_le 1 (length name) && nat_le (length name) 40 && list_all is_name_byte name
+
+-- the same as a proposition
+abbrev pub IsName : List ℕ → Type 0
+IsName name = IsTrue (is_map_name name)
 
 -- four bits of x beside four bits of y
 abbrev pub nibbles : ℕ → ℕ → ℕ

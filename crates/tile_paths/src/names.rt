@@ -1,13 +1,11 @@
 //! The names of maps.
-ghost use Rattle.std.specs.Prelude.{◌≡◌, IsTrue};
+ghost use Rattle.std.specs.Prelude.{◌≡◌};
 ghost use Rattle.std.specs.List.{list_all};
-ghost use Rattle.tile_paths.specs.Paths.{IsName};
 ghost use Rattle.tile_paths.specs.Paths as spec;
 
 /// Whether the text may be a map's name: 1 to 40 bytes of `a` to `z`, `0` to `9`, `_` and `-`.
 pub fn is_name(text: &str) -> bool
-    ensures yes { IsTrue result → IsName text.now }
-    ensures no { IsName text.now → IsTrue result }
+    ensures { result ≡ spec.is_map_name text.now }
 {
     let len = text.len();
     len >= 1 && len <= 40 && are_name_bytes(text.as_bytes())

@@ -56,7 +56,7 @@ plan_sound seed n = record {
   count_maps = record { some = omega arith; few = omega arith };
   each_map = All-from_recursion IsMapPlan (work_plan seed n).maps (
     record {
-      named = record { some = omega arith; short = omega arith; plain = refl };
+      named = refl;
       sized = inr (inr (inr (inr (inl refl))));
       zooms = omega arith;
     },
