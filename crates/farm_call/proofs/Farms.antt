@@ -15,7 +15,7 @@ use Rattle.farm_history.specs.declared.answers.Tally.{Tally as Totals}
 use Rattle.farm_history.specs.Entries.{Entry}
 use Rattle.farm_history.specs.Replays.{Saving, IsSaved}
 use Rattle.farm_history.specs.Rules.{Legal}
-use Rattle.farm_plan.specs.Plans.{FarmPlan}
+use Rattle.farm_plan.specs.Plans.{FarmPlan, maps_in}
 use Rattle.farm_plan.specs.Drawings.{plan_of}
 use Rattle.farm_files.specs.Inputs.{Served}
 use Rattle.farm_saved.specs.Writing.{saved_bytes}
@@ -26,11 +26,11 @@ use Rattle.farm_shared.specs.Seats.{plain}
 use Rattle.farm_shared.specs.Shared.{lasting_of, past, MayTell}
 use Rattle.turn_cell.specs.Turns.{by}
 use Rattle.farm_headline.specs.Headline.{Headline}
-use Rattle.farm_runs.specs.Actors.{maps_in}
 use Rattle.farm_runs.specs.Promise.{AreSeated, AreWorked, IsServed}
 use Rattle.front_leaves.specs.Fronts.{renderd_leaves, tiles_leave}
 use Rattle.front_leaves.proofs.Laws.{marked}
-use Rattle.serve_command.specs.Beginnings.{HasEmptied, ResumesFrom, saved_path}
+use Rattle.tile_paths.specs.Paths.{saved_path}
+use Rattle.serve_command.specs.Beginnings.{HasEmptied, ResumesFrom}
 use Rattle.serve_command.specs.Endings.{why_ended, is_front_worn, is_broken, is_wanting, end_after_put, TellsCounts}
 use Rattle.serve_command.specs.Savings.{MaySave}
 use Rattle.serve_command.proofs.Kept.{Keeps as KeepsFarm, keeps}

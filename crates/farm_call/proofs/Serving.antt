@@ -28,7 +28,8 @@ use Rattle.farm_shared.specs.Shared.{lasting_of, past}
 use Rattle.farm_runs.specs.declared.each_front.EachFront.{EachFront}
 use Rattle.farm_shared.specs.declared.turned.LastingPart.{LastingPart}
 use Rattle.serve_command.specs.Listens.{ListenEnds, Listening, listen_end}
-use Rattle.serve_command.specs.Beginnings.{HasBegun, CannotBegin, IsSavedIn, ResumeRefusal, RefusesFor, ResumesFrom, resumed_by, saved_path}
+use Rattle.tile_paths.specs.Paths.{saved_path}
+use Rattle.serve_command.specs.Beginnings.{HasBegun, CannotBegin, IsSavedIn, ResumeRefusal, RefusesFor, ResumesFrom, resumed_by}
 use Rattle.serve_command.specs.Endings.{is_front_worn, is_broken, is_wanting, end_after_put, TellsCounts}
 use Rattle.serve_command.specs.Savings.{MaySave}
 use Rattle.serve_command.specs.Serves.{ClosedFarm, WhyNot, places, fronts_of, end_of, is_worn_out}

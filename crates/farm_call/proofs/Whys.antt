@@ -1,6 +1,7 @@
 -- Why work on a store may end early.
-use Rattle.std.proofs.Common.{◌≡◌, ℕ, ◌≤◌, ◌^◌, List, length, true, sym, subst}
+use Rattle.std.proofs.Common.{◌≡◌, ℕ, ◌≤◌, List, length, true, sym, subst}
 use Rattle.std.specs.Prelude.{Err, is_some}
+use Rattle.farm_base.specs.Limits.{most_turns}
 use Rattle.farm_base.specs.Outside.{Outside, Rose}
 use Rattle.tile_store.specs.Stores.{StoreTold}
 use Rattle.farm_history.specs.Entries.{Entry}
@@ -44,7 +45,7 @@ module _ {D : Type 0} (state : D → Outside StoreTold) where
 
   -- a farm is left whose history has used up all turns
   abbrev pub TurnsGone : World D → Type 0
-  TurnsGone new = (closed : ClosedFarm D) × (new.left ≡ Farm closed) × (2 ^ 62 ≤ length closed.1)
+  TurnsGone new = (closed : ClosedFarm D) × (new.left ≡ Farm closed) × (most_turns ≤ length closed.1)
 
   -- what is saved is refused by this line, in the work of serving a farm: the store shows what it showed, and all else is as it was
   pub record FaultSaved (work : Work) (line : List ℕ) (old new : World D) : Type 0 where

@@ -2,9 +2,10 @@
 -- moment. A history of turns is a list of pairs, a seat's number and an entry, in the order of the
 -- turns: seat 0 is the call's own, seats 1 to 3 are those of the renderd front, the tile front and
 -- the control front, and seat w + 4 is that of worker w.
-use Rattle.std.specs.Prelude.{◌≡◌, ◌≢◌, ◌⊎◌, ℕ, ◌≤◌, ◌^◌, Bool, true, false}
+use Rattle.std.specs.Prelude.{◌≡◌, ◌≢◌, ◌⊎◌, ℕ, ◌≤◌, Bool, true, false}
 use Rattle.std.specs.Prelude.{List, [], ◌∷◌, ◌++◌, length, map, Option, Some, None, option_map}
 use Rattle.std.specs.Prelude.{Result, Ok, Err, IfSome}
+use Rattle.farm_base.specs.Limits.{most_turns}
 use Rattle.farm_base.specs.Outside.{Outside, Rose, failed_read, with_failed}
 use Rattle.tile_store.specs.Stores.{StoreTold, StorePuts}
 use Rattle.tile_store.specs.declared.stores.StoreFault.TheVariants.{Failed}
@@ -20,7 +21,7 @@ use Rattle.farm_history.specs.Entries.{Entry, Collect, Stop as StopEntry}
 use Rattle.farm_history.specs.Past.{due_replies}
 use Rattle.farm_history.specs.Replays.{Saving, IsSaved}
 use Rattle.farm_history.specs.Rules.{Legal}
-use Rattle.farm_plan.specs.Plans.{FarmPlan}
+use Rattle.farm_plan.specs.Plans.{FarmPlan, maps_in}
 use Rattle.farm_plan.specs.Drawings.{plan_of}
 use Rattle.farm_saved.specs.Writing.{saved_bytes}
 use Rattle.farm_core.specs.Begins.{Tells}
@@ -29,12 +30,11 @@ use Rattle.farm_shared.specs.Shared.{lasting_of, past, IsAfter}
 use Rattle.turn_cell.specs.Turns.{by}
 use Rattle.farm_headline.specs.Headline.{Headline}
 use Rattle.farm_runs.specs.declared.each_front.EachFront.{EachFront}
-use Rattle.farm_runs.specs.Actors.{maps_in}
 use Rattle.farm_runs.specs.Promise.{Ends, AreSeated, IsServed, AreWorked, IsStop}
 use Rattle.front_leaves.specs.Fronts.{renderd_leaves, tiles_leave, control_leaves}
 use Rattle.farm_files.specs.Inputs.{Served}
 use Rattle.serve_command.specs.Beginnings.{IsSavedIn, ResumeRefusal, RefusesFor, ResumesFrom}
-use Rattle.serve_command.specs.Beginnings.{saved_path}
+use Rattle.tile_paths.specs.Paths.{saved_path}
 use Rattle.serve_command.specs.Listens.{Listening}
 use Rattle.serve_command.specs.Endings.{why_ended, TellsCounts}
 use Rattle.script_command.specs.Scripts.{Scripts}
@@ -179,7 +179,7 @@ module _ {D : Type 0} (state : D → Outside StoreTold) (was : CallBefore D) (is
     pub saved : Result (Unit {0}) Stop
     pub saves : SavesSo closed.0.plan (whole_history state closed) s.config.resume
         (why_ended (is_worn_out ends) (map end_of is.fronts)) saved
-    pub turns_gone : saved ≡ Err stop.TurnsUsedUp → 2 ^ 62 ≤ length closed.1
+    pub turns_gone : saved ≡ Err stop.TurnsUsedUp → most_turns ≤ length closed.1
     pub counted : TellsCounts ends.tally was.out is.out saved end
     -- 8. A Collect that gave no reply left none that had ended; and where all ended in order
     -- nothing is owed: no request, no reply and no answer
@@ -240,7 +240,7 @@ module _ {D : Type 0} (state : D → Outside StoreTold) (was : CallBefore D) (is
 
   -- a farm is left whose history has used up all turns
   abbrev pub TurnsAreGone : Type 0
-  TurnsAreGone = (closed : ClosedFarm D) × (is.left ≡ Farm closed) × (2 ^ 62 ≤ length closed.1)
+  TurnsAreGone = (closed : ClosedFarm D) × (is.left ≡ Farm closed) × (most_turns ≤ length closed.1)
 
   -- no count rose, not all turns were drawn, and nothing that is saved is refused
   pub record Unhindered : Type 0 where

@@ -12,6 +12,7 @@ use Rattle.farm_history.specs.declared.keys.Key.{Key}
 use Rattle.farm_history.specs.declared.keys.Mark.{Mark}
 use Rattle.farm_history.specs.declared.answers.Fetched.{Fetched}
 use Rattle.farm_history.specs.declared.answers.Finished.{Finished}
+use Rattle.tile_paths.specs.Paths.{saved_path}
 use Rattle.farm_plan.specs.Plans.{FarmPlan}
 use Rattle.farm_plan.specs.Drawings.{key_path}
 use Rattle.farm_plan.specs.Spots.{IsKeyOf}
@@ -23,7 +24,7 @@ use Rattle.farm_core.specs.inner.Effects.{Fetches, Keeps}
 
 -- what is told of the path of a saved farm
 abbrev saved_in : Option StoreTold → Option (Option (List ℕ))
-saved_in o = option_map (λ (t : StoreTold). t.content (codes "farm.saved")) o
+saved_in o = option_map (λ (t : StoreTold). t.content saved_path) o
 
 meta_end : (path front : List ℕ) → path ≡ front ++ codes ".meta" → ends_with (λ a b. a == b) path (codes ".meta") ≡ true
 meta_end path front is = ap (λ p. ends_with (λ a b. a == b) p (codes ".meta")) is ∙ go
@@ -34,23 +35,23 @@ meta_end path front is = ap (λ p. ends_with (λ a b. a == b) p (codes ".meta"))
         rw (long, drop-append_seam front (codes ".meta")) refl
 
 -- a metatile's path is not that of a saved farm
-saved_apart : (plan : FarmPlan) (k : Key) → IsKeyOf plan k → codes "farm.saved" ≢ key_path plan k
+saved_apart : (plan : FarmPlan) (k : Key) → IsKeyOf plan k → saved_path ≢ key_path plan k
 saved_apart plan k at same =
     let ends = path_ends plan k at in
-    let never : false ≡ true = meta_end (codes "farm.saved") ends.0 (same ∙ ends.1) in
+    let never : false ≡ true = meta_end saved_path ends.0 (same ∙ ends.1) in
     cc
 
-puts_saved : (old new : Outside StoreTold) (path bytes : List ℕ) (r : Result (Unit {0}) StoreFault) → codes "farm.saved" ≢ path → StorePuts old new path bytes r → at_saved new ≡ at_saved old
+puts_saved : (old new : Outside StoreTold) (path bytes : List ℕ) (r : Result (Unit {0}) StoreFault) → saved_path ≢ path → StorePuts old new path bytes r → at_saved new ≡ at_saved old
 puts_saved old new path bytes (Ok done) apart p = go old.told new.told p.0
   where
     go : (a b : Option StoreTold) → MatchOption a (b ≡ None) (λ before. (now : StoreTold) × (b ≡ Some now) × Stored before now path bytes) → saved_in b ≡ saved_in a
     go None b e = ap saved_in e
-    go (Some t) b h = ap saved_in h.1 ∙ ap Some (h.2.others (codes "farm.saved") apart)
+    go (Some t) b h = ap saved_in h.1 ∙ ap Some (h.2.others saved_path apart)
 puts_saved old new path bytes (Err Failed) apart p = go old.told new.told p.0
   where
     go : (a b : Option StoreTold) → MatchOption a (b ≡ None) (λ before. (now : StoreTold) × (b ≡ Some now) × PutFailed before now path) → saved_in b ≡ saved_in a
     go None b e = ap saved_in e
-    go (Some t) b h = ap saved_in h.1 ∙ ap Some (h.2.others (codes "farm.saved") apart)
+    go (Some t) b h = ap saved_in h.1 ∙ ap Some (h.2.others saved_path apart)
 puts_saved old new path bytes (Err NoMemory) apart p = ap at_saved p
 
 reads_saved : (old new : Outside StoreTold) (path : List ℕ) (m : Meta) (place : ℕ) (r : Result (List ℕ) Fetched) → ReadsTile old new path m place r → at_saved new ≡ at_saved old

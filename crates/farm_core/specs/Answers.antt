@@ -8,6 +8,7 @@ use Rattle.farm_history.specs.declared.answers.Fetched.{Fetched}
 use Rattle.farm_history.specs.declared.asks.Spot.{Spot}
 use Rattle.farm_history.specs.declared.keys.Mark.{Mark}
 use Rattle.farm_history.specs.Plans.{key_of, spot_tile}
+use Rattle.tile_paths.specs.Paths.{saved_path}
 use Rattle.farm_plan.specs.Drawings.{key_path}
 use Rattle.farm_core.specs.declared.claims.Claimed.{Claimed}
 use Rattle.farm_core.specs.declared.finishes.Drawn.{Drawn}
@@ -39,7 +40,7 @@ IsDrawingOf job Drawn.NoMemory = Unit {0}
 
 -- what the store tells that it holds at the path of a saved farm
 abbrev pub at_saved : Outside StoreTold → Option (Option (List ℕ))
-at_saved store = option_map (λ t. t.content (codes "farm.saved")) store.told
+at_saved store = option_map (λ t. t.content saved_path) store.told
 
 -- what no event changes: the plan, what the farm was resumed from, the store as it was at the start, and what the store tells at the path of a saved farm
 pub record Lasts {D : Type 0} (state : D → Outside StoreTold) (old new : FarmSeen D) : Type 0 where

@@ -1,7 +1,7 @@
 //! The farm, and what it keeps for good.
-ghost use Rattle.std.specs.Prelude.{◌≡◌, ◌<◌, ◌==◌, Bool, false, List, Some, codes, length, option_map, position, slice_get};
-ghost use Rattle.std.specs.Str.{bytes_eq};
+ghost use Rattle.std.specs.Prelude.{◌≡◌, ◌<◌, ◌==◌, Bool, false, List, Some, codes, length, option_map, slice_get};
 ghost use Rattle.std.specs.List.{ends_with};
+ghost use Rattle.farm_plan.specs.Plans.{maps_in};
 ghost use Rattle.tile_store.specs.Stores.{StorePuts};
 ghost use Rattle.farm_history.specs.Entries.{Entry};
 ghost use Rattle.farm_refinement.specs.Stands.{StandsFor};
@@ -89,7 +89,7 @@ impl<D> Farm<D> {
 
     /// The place of the map of the name; nothing exactly where the plan has none of that name. Takes no memory.
     pub fn map_of(&self, name: &[u8]) -> Option<u32>
-        ensures { result ≡ position (λ m. bytes_eq m.name name.now) self.now.plan.maps }
+        ensures { result ≡ maps_in self.now.plan name.now }
     {
         self.own.setup().map_of(name)
     }

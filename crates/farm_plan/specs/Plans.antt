@@ -1,5 +1,6 @@
 -- The plan of a farm: what it is started with, and which plans are valid.
-use Rattle.std.specs.Prelude.{ℕ, ◌<◌, ◌≤◌, ◌≡◌, List, length, All, slice_get, Some}
+use Rattle.std.specs.Prelude.{ℕ, ◌<◌, ◌≤◌, ◌≡◌, List, length, All, slice_get, position, Option, Some}
+use Rattle.std.specs.Str.{bytes_eq}
 use Rattle.plain_world.specs.World.{IsTileSize}
 use Rattle.plain_data.specs.Features.{Layer}
 use Rattle.plain_data.specs.Data.{Change}
@@ -27,6 +28,10 @@ pub record FarmPlan : Type 0 where
   pub workers : ℕ
   pub limits : Limits
   pub restyles : List Restyle
+
+-- the place of the map of a name; nothing exactly where the plan has none of that name
+abbrev pub maps_in : FarmPlan → List ℕ → Option ℕ
+maps_in plan name = position (λ m. bytes_eq m.name name) plan.maps
 
 -- a map has a name of the bytes that may stand in a path, tiles of one of the six sizes, and zooms to 18 at most
 pub record IsMapPlan (m : MapPlan) : Type 0 where

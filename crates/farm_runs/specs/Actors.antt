@@ -1,10 +1,8 @@
 -- The actors of a running farm: three fronts and some workers, each with a seat of its own.
-use Rattle.std.specs.Prelude.{◌⊎◌, ℕ, ◌+◌, ◌≡◌, ◌≢◌, Bool, true, List, [], ◌∷◌, ◌++◌, position, Option, Some, None, MatchBool}
-use Rattle.std.specs.Str.{bytes_eq}
+use Rattle.std.specs.Prelude.{◌⊎◌, ℕ, ◌+◌, ◌≡◌, ◌≢◌, Bool, true, List, [], ◌∷◌, ◌++◌, Option, Some, None, MatchBool}
 use Rattle.farm_base.specs.Outside.{Outside}
 use Rattle.farm_history.specs.Entries.{Entry, Claim, Finish, Stop}
 use Rattle.farm_history.specs.Lists.{Each}
-use Rattle.farm_plan.specs.Plans.{FarmPlan}
 use Rattle.port_events.specs.declared.ends.FrontDone.{FrontDone}
 use Rattle.port_events.specs.declared.ends.FrontEnd.{FrontEnd}
 use Rattle.port_events.specs.Told.{PortsTold}
@@ -19,14 +17,6 @@ use Rattle.farm_runs.specs.declared.pool.Actor.{Actor}
 use Rattle.farm_runs.specs.declared.together.FrontSeats.{FrontSeats}
 
 -- Fronts.
-
--- the place of the map of a name
-abbrev pub maps_in : FarmPlan → List ℕ → Option ℕ
-maps_in plan name = position (λ m. bytes_eq m.name name) plan.maps
-
--- the same in the farm that was shared
-abbrev pub maps_of : {D : Type 0} → Made (Turned D) → List ℕ → Option ℕ
-maps_of made = maps_in made.about.first.value.farm.plan
 
 -- What a front leaves: a relation of what its ports showed before and after, its own entries in order, what it answers, and whether its seat has the mark of a worn cell
 abbrev pub Leaving : Type 1

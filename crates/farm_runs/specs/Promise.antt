@@ -1,6 +1,7 @@
 -- What is promised of a whole run of a farm: of the history that its actors made, of what each of them did in it, and of the farm that is left.
-use Rattle.std.specs.Prelude.{◌⊎◌, ℕ, ◌+◌, ◌≤◌, ◌^◌, ◌≡◌, ◌≢◌, ◌==◌, Bool, true, false, if◌then◌else◌, List, [], ◌∷◌, ◌++◌, length, slice_get, Option, Some, None}
+use Rattle.std.specs.Prelude.{◌⊎◌, ℕ, ◌+◌, ◌≤◌, ◌≡◌, ◌≢◌, ◌==◌, Bool, true, false, if◌then◌else◌, List, [], ◌∷◌, ◌++◌, length, slice_get, Option, Some, None}
 use Rattle.std.specs.List.{list_any}
+use Rattle.farm_base.specs.Limits.{most_turns}
 use Rattle.farm_base.specs.Outside.{Outside}
 use Rattle.tile_store.specs.Stores.{StoreTold}
 use Rattle.farm_history.specs.declared.answers.Tally.{Tally as Totals}
@@ -47,8 +48,8 @@ end_of_front done n = if n == 1 then done.renderd.end else if n == 2 then done.t
 pub record AreSeated (workers : ℕ) (ends : Ends) (H : List (ℕ × Entry)) : Type 0 where
   pub own : plain (by 0 H) ≡ own_entries ends.stopped ends.tally
   pub none_above : NoneAbove (3 + workers) H
-  pub unstopped : ends.stopped ≡ false → 2 ^ 62 ≤ length H
-  pub untallied : ends.tally ≡ None → 2 ^ 62 ≤ length H
+  pub unstopped : ends.stopped ≡ false → most_turns ≤ length H
+  pub untallied : ends.tally ≡ None → most_turns ≤ length H
   -- the Tally is the last entry
   pub last : (a : Totals) → ends.tally ≡ Some a → (before : List (ℕ × Entry)) × (H ≡ before ++ (0, Tally a) ∷ [])
 
@@ -56,7 +57,7 @@ pub record AreSeated (workers : ℕ) (ends : Ends) (H : List (ℕ × Entry)) : T
 pub record IsServed (leaves : Leaving) (told told' : Outside PortsTold) (done : FrontDone) (es : List Entry) (length_is : ℕ) : Type 0 where
   pub worn : Bool
   pub left : leaves told told' es done worn
-  pub worn_out : worn ≡ true → 2 ^ 62 ≤ length_is
+  pub worn_out : worn ≡ true → most_turns ≤ length_is
 
 -- What the workers did: the entries of each are its Claims, each Job with its Finish; one ended worn only where all turns were drawn; and no drawing is under way at the end, unless one did. `h` is the farm's history
 pub record AreWorked (workers : ℕ) (worn : Bool) (H : List (ℕ × Entry)) (h : List Entry) : Type 0 where
@@ -65,7 +66,7 @@ pub record AreWorked (workers : ℕ) (worn : Bool) (H : List (ℕ × Entry)) (h 
   pub as_many : length ended ≡ workers
   pub each : (w : ℕ) (end : Option WorkEnd) → slice_get ended w ≡ Some end → WorkBy w end (plain (by (w + 4) H))
   pub worn_is : worn ≡ list_any is_worker_worn ended
-  pub worn_out : worn ≡ true → 2 ^ 62 ≤ length H
+  pub worn_out : worn ≡ true → most_turns ≤ length H
   pub landed : worn ≡ false → flights h ≡ []
 
 -- A Stop of seat n, before those entries of H: it is the control front's, of whose lines or end it then is by that front's own entries; or it is the last entry of another front, which ended otherwise than Finished; or it is the run's own, after all entries of the fronts

@@ -1,10 +1,12 @@
 //! A run from the farm that it begins with to what is left of it.
-ghost use Rattle.std.specs.Prelude.{◌≡◌, ◌≤◌, ◌<◌, ◌^◌, ◌+◌, Bool, [], length, IfErr, IfOk};
+ghost use Rattle.std.specs.Prelude.{◌≡◌, ◌≤◌, ◌<◌, ◌+◌, Bool, [], length, IfErr, IfOk};
 ghost use Rattle.std.specs.Vec.{vec_capacity, vec_len};
+ghost use Rattle.farm_base.specs.Limits.{most_turns};
 ghost use Rattle.farm_refinement.specs.Stands.{StandsFor};
 ghost use Rattle.farm_core.specs.Begins.{origin};
-ghost use Rattle.farm_shared.specs.Shared.{MayTell, lasting_of};
-ghost use Rattle.farm_runs.specs.Actors.{maps_in, maps_of, three};
+ghost use Rattle.farm_plan.specs.Plans.{maps_in};
+ghost use Rattle.farm_shared.specs.Shared.{MayTell, lasting_of, maps_of};
+ghost use Rattle.farm_runs.specs.Actors.{three};
 ghost use Rattle.turn_cell.specs.SeatStates.{IsSeatOf, first_of};
 ghost use Rattle.farm_runs.specs.Promise.{RunsWell};
 ghost use Rattle.farm_runs.specs.inner.Chain.{IsSet};
@@ -89,7 +91,7 @@ fn act<
     gate: &T,
 ) -> Run<D>
     requires set { IsSet farm (length run_seats.pool.items) run_seats }
-    requires limit { farm.about.limit ≡ 2 ^ 62 }
+    requires limit { farm.about.limit ≡ most_turns }
     requires workers { length run_seats.pool.items ≡ farm.about.first.value.farm.plan.workers }
     requires renderd { F.number actors.now.fronts.renderd ≡ 0 }
     requires tiles { G.number actors.now.fronts.tiles ≡ 1 }
@@ -140,7 +142,7 @@ pub fn run_farm<
 ) -> Result<Run<D>, Farm<D>>
     requires stands { (told : Bool) → MayTell D.state (lasting_of D.state farm) told
         → StandsFor D.state told farm (origin farm.plan farm.saved) }
-    requires short { length (origin farm.plan farm.saved) < 2 ^ 62 }
+    requires short { length (origin farm.plan farm.saved) < most_turns }
     requires workers { workers ≡ farm.plan.workers }
     requires few { workers ≤ 16 }
     requires renderd { F.number fronts.renderd ≡ 0 }

@@ -5,7 +5,8 @@ ghost use Rattle.farm_history.specs.Entries.{Entry};
 ghost use Rattle.turn_cell.specs.SeatStates.{SeatState};
 ghost use Rattle.farm_shared.specs.declared.turned.Turned.{Turned};
 ghost use Rattle.farm_runs.specs.declared.pool.Actor.{Actor};
-ghost use Rattle.farm_runs.specs.Actors.{AreStanding, HasWorked, HaveServed, IsReady, maps_of, three};
+ghost use Rattle.farm_runs.specs.Actors.{AreStanding, HasWorked, HaveServed, IsReady, three};
+ghost use Rattle.farm_shared.specs.Shared.{maps_of};
 
 use crate::each_front::{EachFront, RunActors};
 use crate::fronts::{end_fronts, serve_fronts};

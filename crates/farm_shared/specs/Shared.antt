@@ -1,5 +1,5 @@
 -- What a shared farm stands for, and what its calls say of a seat.
-use Rattle.std.specs.Prelude.{ℕ, ◌≤◌, ◌≡◌, ◌≢◌, Bool, true, false, List, [], ◌∷◌, ◌++◌, length, reverse}
+use Rattle.std.specs.Prelude.{ℕ, ◌≤◌, ◌≡◌, ◌≢◌, Bool, true, false, List, [], ◌∷◌, ◌++◌, length, reverse, Option}
 use Rattle.farm_base.specs.Outside.{Outside}
 use Rattle.tile_store.specs.Stores.{StoreTold}
 use Rattle.farm_history.specs.declared.queues.Reply.{Reply}
@@ -12,6 +12,7 @@ use Rattle.farm_refinement.specs.Seen.{FarmSeen}
 use Rattle.farm_refinement.specs.Stands.{StandsFor}
 use Rattle.farm_plan.specs.Jobs.{JobSeen, job_key, Carries}
 use Rattle.farm_core.specs.Answers.{at_saved}
+use Rattle.farm_plan.specs.Plans.{maps_in}
 use Rattle.farm_core.specs.Begins.{origin, Tells, BeginsWell}
 use Rattle.turn_cell.specs.Turns.{Follows}
 use Rattle.turn_cell.specs.SeatStates.{Made, SeatState}
@@ -32,6 +33,10 @@ lasts state made = lasting_of state made.about.first.value.farm
 -- the farm's history after the cell's
 abbrev pub past : {D : Type 0} → LastingPart D → List (ℕ × Entry) → List Entry
 past part log = plain (reverse log) ++ origin part.plan part.saved
+
+-- the place of the map of a name, in the farm that was shared
+abbrev pub maps_of : {D : Type 0} → Made (Turned D) → List ℕ → Option ℕ
+maps_of made = maps_in made.about.first.value.farm.plan
 
 -- whether it may be said of the farm's history that the store tells what it holds; that it does not may always be said
 abbrev pub MayTell : {D : Type 0} → (D → Outside StoreTold) → LastingPart D → Bool → Type 0

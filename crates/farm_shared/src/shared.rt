@@ -5,7 +5,7 @@ ghost use Rattle.farm_base.specs.Limits.{most_turns};
 ghost use Rattle.farm_refinement.specs.Stands.{StandsFor};
 ghost use Rattle.farm_shared.specs.inner.Turns.{AreNames};
 ghost use Rattle.farm_core.specs.Begins.{origin};
-ghost use Rattle.farm_shared.specs.Shared.{IsClosed, MayTell, lasting_of};
+ghost use Rattle.farm_shared.specs.Shared.{IsClosed, MayTell, lasting_of, maps_of};
 ghost use Rattle.turn_cell.specs.SeatStates.{IsSeatOf, IsWhole, Knows, first_of, joining, split_left, split_right};
 ghost use Rattle.turn_cell.specs.Turns.{StartsWith};
 
@@ -120,7 +120,7 @@ impl<D: TileStore> SharedFarm<D> {
     /// The place of the map of the name; nothing exactly where the plan has none of that name. It is no turn,
     /// and takes no memory.
     pub fn map_of(&self, name: &[u8]) -> Option<u32>
-        ensures { result ≡ position (λ m. bytes_eq m.name name.now) self.now.about.first.value.farm.plan.maps }
+        ensures { result ≡ maps_of self.now name.now }
     {
         let place = place_in(self.names.texts.as_slice(), name)?;
         Some(place as u32)

@@ -1,6 +1,5 @@
 -- What fronts know of the seats of a shared farm.
-use Rattle.std.specs.Prelude.{ℕ, List, position, Option}
-use Rattle.std.specs.Str.{bytes_eq}
+use Rattle.std.specs.Prelude.{ℕ, List}
 use Rattle.farm_history.specs.Entries.{Entry}
 use Rattle.turn_cell.specs.SeatStates.{Made, SeatState, IsSeatOf, Knows}
 use Rattle.farm_shared.specs.declared.turned.Turned.{Turned}
@@ -18,7 +17,3 @@ seats_of made = record {
   mine = λ s. plain s.mine;
   worn = λ s. s.worn;
 }
-
--- the place of the map of a name, in the farm that was shared
-abbrev pub maps_of : {D : Type 0} → Made (Turned D) → List ℕ → Option ℕ
-maps_of made name = position (λ m. bytes_eq m.name name) made.about.first.value.farm.plan.maps

@@ -55,7 +55,8 @@ fn may_queue(answer: Result<AskAnswer, Worn>) -> bool {
 }
 
 impl<'a, D: TileStore, B: Bell> Farm for FarmAdapter<'a, D, B> {
-    ghost use Rattle.front_adapter.specs.FarmAdapters.{maps_of, seats_of};
+    ghost use Rattle.farm_shared.specs.Shared.{maps_of};
+    ghost use Rattle.front_adapter.specs.FarmAdapters.{seats_of};
 
     type Seat = Seat<D>;
 

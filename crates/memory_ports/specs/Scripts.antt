@@ -1,6 +1,7 @@
 -- Scripts of ports in memory: which lists of steps are in order.
 use Rattle.std.specs.Prelude.{◌&&◌, nat_le, nat_lt, ℕ, Bool, true, false, List, [], ◌∷◌, ◌++◌, length, set, Option, Some, None}
 use Rattle.std.specs.List.{slice_get}
+use Rattle.farm_base.specs.Limits.{most_piece_bytes}
 use Rattle.memory_ports.specs.declared.steps.PortStep.{PortStep}
 use Rattle.memory_ports.specs.declared.steps.PortStep.TheVariants as step
 
@@ -12,9 +13,9 @@ flag_of (Some flag) = flag
 abbrev pub is_alive_in : List Bool → ℕ → Bool
 is_alive_in alive c = flag_of (slice_get alive c)
 
--- a piece has 1 to 4,096 bytes
+-- a piece has a byte at least, and no more than ports give at once
 abbrev pub is_piece : List ℕ → Bool
-is_piece piece = nat_lt 0 (length piece) && nat_le (length piece) 4096
+is_piece piece = nat_lt 0 (length piece) && nat_le (length piece) most_piece_bytes
 
 -- The steps are in order, where these connections are alive: each Open opens the next connection; a
 -- piece, an end and a loss are of a connection that was opened and neither ended nor lost.

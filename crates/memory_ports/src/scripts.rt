@@ -4,7 +4,7 @@ ghost use Rattle.memory_ports.specs.Scripts.{is_valid, is_alive_in, is_piece};
 ghost use Rattle.memory_ports.specs.inner.Moving.{Follows};
 
 use crate::steps::PortStep;
-use farm_base::NoMemory;
+use farm_base::{MOST_PIECE_BYTES, NoMemory};
 use std::alloc::Global;
 
 fn is_alive(alive: &[bool], conn: u32) -> bool
@@ -19,7 +19,7 @@ fn is_alive(alive: &[bool], conn: u32) -> bool
 fn is_piece(piece: &[u8]) -> bool
     ensures { result ≡ is_piece piece.now }
 {
-    !piece.is_empty() && piece.len() <= 4096
+    !piece.is_empty() && piece.len() <= MOST_PIECE_BYTES
 }
 
 /// Whether a step is in order after others that left these connections alive, which it changes.

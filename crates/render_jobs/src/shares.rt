@@ -3,7 +3,7 @@ ghost use Rattle.std.specs.Prelude.{◌≡◌, ◌≤◌, ◌<◌, length, posit
 ghost use Rattle.std.specs.Option.{option_copied};
 ghost use Rattle.std.specs.Str.{bytes_eq};
 ghost use Rattle.plain_data.specs.Data.{IsDataset};
-ghost use Rattle.farm_plan.specs.Plans.{IsPlan};
+ghost use Rattle.farm_plan.specs.Plans.{IsPlan, maps_in};
 ghost use Rattle.std.specs.Vec.{vec_capacity};
 ghost use Rattle.farm_plan.specs.Drawings.{key_path, styled_as};
 ghost use Rattle.farm_plan.specs.Spots.{IsKeyOf};
@@ -110,7 +110,7 @@ impl Setup {
     /// The place of the map of the name.
     pub fn map_of(&self, name: &[u8]) -> Option<u32>
         requires { IsPlan self.now }
-        ensures { result ≡ position (λ m. bytes_eq m.name name.now) self.now.maps }
+        ensures { result ≡ maps_in self.now name.now }
     {
         match place_of(self.maps.as_slice(), name) {
             Some(place) => Some(place as u32),

@@ -1,5 +1,5 @@
 -- What a script puts: line by line its entry, if it has one, and its answer.
-use Rattle.std.specs.Prelude.{◌≡◌, ℕ, ◌==◌, Bool, true, false, List, [], ◌∷◌, ◌++◌, map, position, Some}
+use Rattle.std.specs.Prelude.{◌≡◌, ℕ, ◌==◌, Bool, true, false, List, [], ◌∷◌, ◌++◌, map, Some}
 use Rattle.std.specs.List.{list_any}
 use Rattle.std.specs.Str.{bytes_eq}
 use Rattle.plain_world.specs.declared.world.Tile.{Tile}
@@ -22,7 +22,7 @@ use Rattle.farm_history.specs.declared.answers.Tally.{Tally}
 use Rattle.farm_history.specs.Entries as entry
 use Rattle.farm_history.specs.Entries.{Entry}
 use Rattle.farm_history.specs.Lists.{without_first}
-use Rattle.farm_plan.specs.Plans.{FarmPlan}
+use Rattle.farm_plan.specs.Plans.{FarmPlan, maps_in}
 use Rattle.script_lines.specs.declared.script.ScriptLine.{ScriptLine}
 use Rattle.script_lines.specs.declared.script.ScriptLine.TheVariants as line
 use Rattle.script_answers.specs.Answers.{entry_text, nojob_line, unservable_line}
@@ -39,7 +39,7 @@ conn_of c = record { front = 0; number = c }
 
 -- a spot by the name of its map; the map is none where the plan has none of that name
 abbrev pub script_spot : FarmPlan → List ℕ → ℕ → ℕ → ℕ → Spot
-script_spot plan name z x y = record { map = position (λ m. bytes_eq m.name name) plan.maps; z = z; x = x; y = y }
+script_spot plan name z x y = record { map = maps_in plan name; z = z; x = x; y = y }
 
 -- a tile by its numbers
 abbrev pub numbered_tile : ℕ → ℕ → ℕ → Tile

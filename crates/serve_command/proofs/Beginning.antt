@@ -1,9 +1,9 @@
 -- What a farm is that was begun by what is saved.
-use Rattle.std.proofs.Common.{◌≡◌, ℕ, inl, inr, ◌<◌, ◌^◌, Bool, true, false, List, [], length, refl, sym, ap, ap₂, subst, ◌∙◌}
+use Rattle.std.proofs.Common.{◌≡◌, ℕ, inr, ◌<◌, ◌^◌, Bool, true, false, List, [], length, refl, sym, ap, ap₂, subst, ◌∙◌}
 use Rattle.std.specs.Prelude.{Option, Some, None, Result, Ok, Err, Vec, IfSome, option_map}
 use Rattle.std.specs.declared.alloc.Global.{Global}
 use Rattle.farm_base.specs.Outside.{Outside}
-use Rattle.tile_store.specs.Stores.{StoreTold, Gets, StorePuts, whole}
+use Rattle.tile_store.specs.Stores.{StoreTold, StorePuts, whole}
 use Rattle.tile_store.specs.declared.stores.StoreFault.{StoreFault}
 use Rattle.tile_store.specs.declared.stores.StoreFault.TheVariants as fault
 use Rattle.exit_status.specs.declared.stops.Stop.{Stop}
@@ -16,7 +16,8 @@ use Rattle.farm_refinement.specs.Stands.{StandsFor}
 use Rattle.farm_core.specs.Begins.{Begins as CoreBegins, Tells, origin}
 use Rattle.farm_shared.specs.Shared.{IsAfter}
 use Rattle.farm_shared.proofs.Beginning.{after_nothing}
-use Rattle.serve_command.specs.Beginnings.{Begins, HasBegun, CannotBegin, saved_path, resumed_by}
+use Rattle.tile_paths.specs.Paths.{saved_path}
+use Rattle.serve_command.specs.Beginnings.{Begins, HasBegun, CannotBegin, resumed_by}
 use Rattle.serve_command.specs.inner.Setups.{BeganWith, BeganBy, Refuses, Empties, stop_of}
 
 whole_same : (found : Option (List ℕ)) → option_map whole found ≡ found
@@ -121,11 +122,6 @@ begun_new state plan store (Err back) began = cannot_start state plan store stor
 pub not_emptied : {D : Type 0} (state : D → Outside StoreTold) (old new : FarmSeen D) (back : D) (f : StoreFault) (why : Stop) → StorePuts (state old.store) (state new.store) saved_path [] (Err f) → back ≡ new.store → why ≡ stop_of f
     → Empties state old (Err (back, why))
 not_emptied {D} state old new back f why puts same is = (f, subst (λ (d : D). StorePuts (state old.store) (state d) saved_path [] (Err f)) (sym same) puts, is)
-
--- what is saved could not be had
-pub cannot_get : (plan : FarmPlan) (old new : Outside StoreTold) (f : StoreFault) → Gets whole old new saved_path (Err f) → CannotBegin old plan true new (stop_of f)
-cannot_get plan old new fault.Failed gets = (refl, inl gets)
-cannot_get plan old new fault.NoMemory gets = gets
 
 -- what was found stands there, where the store tells
 pub found_is : (told : Option StoreTold) (found : Option (Vec ℕ Global)) → IfSome told (λ t. option_map (λ v. v.items) found ≡ option_map whole (t.content saved_path))

@@ -13,7 +13,7 @@ use Rattle.farm_saved.specs.Writing.{saved_bytes}
 use Rattle.farm_refinement.specs.Seen.{FarmSeen}
 use Rattle.farm_refinement.specs.Stands.{StandsFor}
 use Rattle.farm_shared.specs.Shared.{IsAfter, lasting_of, past}
-use Rattle.serve_command.specs.Beginnings.{saved_path}
+use Rattle.tile_paths.specs.Paths.{saved_path}
 use Rattle.serve_command.specs.Savings.{PutsSaved, Saves, SavesTo}
 use Rattle.serve_command.specs.inner.Puts.{PutsText, end_of}
 

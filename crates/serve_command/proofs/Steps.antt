@@ -11,12 +11,11 @@ use Rattle.exit_status.specs.declared.stops.Stop.{Stop}
 use Rattle.exit_status.specs.declared.stops.Stop.TheVariants as stop
 use Rattle.plain_world.specs.declared.world.Tile.{Tile}
 use Rattle.farm_history.specs.Entries.{Entry}
-use Rattle.farm_plan.specs.Plans.{FarmPlan}
+use Rattle.farm_plan.specs.Plans.{FarmPlan, maps_in}
 use Rattle.farm_config.specs.Configs.{Config}
 use Rattle.farm_files.specs.Inputs.{Served}
 use Rattle.farm_refinement.specs.Seen.{FarmSeen}
 use Rattle.farm_runs.specs.declared.each_front.EachFront.{EachFront}
-use Rattle.farm_runs.specs.Actors.{maps_in}
 use Rattle.farm_runs.specs.Promise.{RunsWell}
 use Rattle.farm_runs.specs.declared.running.Run.{Run}
 use Rattle.front_leaves.specs.Fronts.{renderd_leaves, tiles_leave, control_leaves}
@@ -56,13 +55,6 @@ module _ {D : Type 0} (state : D → Outside StoreTold) where
     has_run run done runs ended =
         subst (λ (l : Left D). RanTo state ready before (record { out = out'; left = l; fronts = done.fronts.items; ports = ports' }) done.end l) (sym ended.left_is)
         (record { last = run.closed.0; done = run.fronts; ends = ends_of run; runs = runs; fronts_are = ended.fronts_are; winds = ended.winds })
-
-    -- memory was wanting before its threads
-    pub not_run : (farm : FarmSeen D) (back : D) (done : Done D) → farm ≡ ready.farm → back ≡ farm.store → done.end ≡ Err stop.NoMemory → done.left ≡ Store back → done.fronts.items ≡ [] → out' ≡ out → ports' ≡ ports
-        → HasRun state ready before (record { out = out'; left = done.left; fronts = done.fronts.items; ports = ports' }) done.end
-    not_run farm back done same back_is end_is left_is none out_same ports_same =
-        subst (λ (l : Left D). RanTo state ready before (record { out = out'; left = l; fronts = done.fronts.items; ports = ports' }) done.end l) (sym left_is)
-        (end_is, back_is ∙ ap (λ (f : FarmSeen D). f.store) same, out_same, none, ports_same)
 
   module _ (s : Served) (store : D) where
     module _ (config : Config) (config_is : config ≡ s.config) (plan : FarmPlan) (plan_is : plan ≡ s.inputs.plan) (resume : Bool) (resume_is : resume ≡ s.config.resume) where

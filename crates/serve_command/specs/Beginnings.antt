@@ -14,12 +14,9 @@ use Rattle.fault_texts.specs.SavedFaults.{saved_text}
 use Rattle.render_jobs.specs.Faults.{resume_fault}
 use Rattle.render_jobs.specs.declared.faults.ResumeFault.{ResumeFault}
 use Rattle.render_jobs.specs.declared.faults.ResumeFault.TheVariants as fault
+use Rattle.tile_paths.specs.Paths.{saved_path}
 use Rattle.farm_refinement.specs.Seen.{FarmSeen}
 use Rattle.farm_shared.specs.Shared.{IsAfter}
-
--- where a farm that stops in order is saved in its store
-abbrev pub saved_path : List ℕ
-saved_path = codes "farm.saved"
 
 -- ---- what is found there
 

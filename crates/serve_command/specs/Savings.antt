@@ -12,7 +12,7 @@ use Rattle.farm_plan.specs.Drawings.{plan_of}
 use Rattle.farm_saved.specs.Writing.{saved_bytes}
 use Rattle.farm_refinement.specs.Seen.{FarmSeen}
 use Rattle.farm_shared.specs.Shared.{IsAfter, lasting_of, past}
-use Rattle.serve_command.specs.Beginnings.{saved_path}
+use Rattle.tile_paths.specs.Paths.{saved_path}
 
 module _ {D : Type 0} (state : D → Outside StoreTold) where
   -- The text of what is saved after the farm's history was put in its place, with this answer

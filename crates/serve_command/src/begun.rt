@@ -5,7 +5,7 @@ ghost use Rattle.serve_command.specs.Beginnings.{Begins};
 ghost use Rattle.serve_command.specs.inner.Setups.{Empties};
 ghost use Rattle.serve_command.specs.inner.Setups as steps;
 
-use crate::resumed::{begin_by, start};
+use crate::resumed::{SAVED_PATH, begin_by, start};
 use exit_status::Stop;
 use farm_core::{Farm, FarmPlan};
 use std::alloc::Global;
@@ -26,7 +26,7 @@ fn empty_saved<D: TileStore>(alloc: Global, farm: Farm<D>) -> Result<Farm<D>, (D
     ensures { Empties D.state farm result }
 {
     let mut farm = farm;
-    match farm.put_beside(alloc, "farm.saved", b"") {
+    match farm.put_beside(alloc, SAVED_PATH, b"") {
         Ok(()) => Ok(farm),
         Err(fault) => Err((farm.into_store(), stop_of(fault))),
     }
@@ -38,7 +38,7 @@ fn begin_saved<D: TileStore>(alloc: Global, plan: FarmPlan, store: D) -> Result<
     ensures { Begins D.state plan true store result }
 {
     let mut store = store;
-    let found = match store.get(alloc, "farm.saved") {
+    let found = match store.get(alloc, SAVED_PATH) {
         Ok(found) => found,
         Err(fault) => return Err((store, stop_of(fault))),
     };

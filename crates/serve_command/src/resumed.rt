@@ -12,6 +12,9 @@ use fault_texts::FaultText;
 use std::alloc::Global;
 use tile_store::TileStore;
 
+/// Where a farm that stops in order is saved in its store.
+pub const SAVED_PATH: &str = "farm.saved";
+
 /// The text of a fault of what was saved, over a plan: its number.
 fn resume_text(alloc: Global, fault: ResumeFault) -> Result<Text, NoMemory>
     ensures { IfOk result (λ t. spec.resume_text fault ≡ Some t) }
@@ -30,7 +33,7 @@ fn refusal(alloc: Global, text: Result<Text, NoMemory>) -> Stop
     ensures { Tells text result }
 {
     match text {
-        Ok(text) => refused(alloc, "farm.saved", text.as_str()),
+        Ok(text) => refused(alloc, SAVED_PATH, text.as_str()),
         Err(_) => Stop::NoMemory,
     }
 }

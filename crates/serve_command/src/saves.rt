@@ -4,6 +4,7 @@ ghost use Rattle.farm_shared.specs.Shared.{IsAfter};
 ghost use Rattle.serve_command.specs.Savings.{Saves};
 ghost use Rattle.serve_command.specs.inner.Puts.{PutsText};
 
+use crate::resumed::SAVED_PATH;
 use exit_status::Stop;
 use farm_saved::write_saved;
 use farm_shared::Closed;
@@ -14,7 +15,7 @@ use tile_store::{StoreFault, TileStore};
 fn put_saved<D: TileStore>(alloc: Global, closed: &mut Closed<D>, text: &[u8]) -> Result<(), Stop>
     ensures { PutsText D.state closed.old closed.new text.now result }
 {
-    match closed.put_beside(alloc, "farm.saved", text) {
+    match closed.put_beside(alloc, SAVED_PATH, text) {
         Ok(()) => Ok(()),
         Err(StoreFault::Failed) => Err(Stop::StoreFailed),
         Err(StoreFault::NoMemory) => Err(Stop::NoMemory),

@@ -4,11 +4,9 @@ ghost use Rattle.socket_ports.specs.declared.links.Heard.TheVariants as heard;
 ghost use Rattle.socket_ports.specs.inner.Pieces.{HasPiece};
 
 use crate::streams::Stream;
+use farm_base::MOST_PIECE_BYTES;
 use mio::{Interest, Registry, Token};
 use std::io;
-
-/// The greatest number of bytes of a piece.
-const PIECE: usize = 4096;
 
 /// What a read of a connection gave.
 #[derive(Clone, Copy, Debug, PartialEq, Eq)]
@@ -110,7 +108,7 @@ impl Link {
         if self.ended || !self.readable {
             return Heard::Nothing;
         }
-        if room.resize(PIECE, 0).is_err() {
+        if room.resize(MOST_PIECE_BYTES, 0).is_err() {
             return Heard::NoMemory;
         }
         match self.stream.read(room.as_mut_slice()) {
@@ -120,7 +118,7 @@ impl Link {
             }
             Ok(count) => {
                 room.truncate(count);
-                self.readable = self.closing || count == PIECE;
+                self.readable = self.closing || count == MOST_PIECE_BYTES;
                 Heard::Piece
             }
             Err(error) if is_passing(&error) => {

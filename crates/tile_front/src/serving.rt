@@ -5,7 +5,7 @@ ghost use Rattle.port_events.specs.declared.ends.FrontEnd.TheVariants as ended;
 ghost use Rattle.front_loop.specs.Serving.{FrontRun};
 ghost use Rattle.turn_cell.specs.SeatStates.{IsSeatOf, Knows, SameSeat};
 ghost use Rattle.farm_shared.specs.Seats.{plain};
-ghost use Rattle.front_adapter.specs.FarmAdapters.{maps_of};
+ghost use Rattle.farm_shared.specs.Shared.{maps_of};
 ghost use Rattle.http_handler.specs.Tiles.{tile_rules};
 
 use farm_base::Bell;

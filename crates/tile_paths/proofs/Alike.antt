@@ -5,7 +5,7 @@ use Rattle.std.specs.Fmt.{decimal}
 use Rattle.std.proofs.lemmas.Fmt.{decimal_injective}
 use Rattle.std.proofs.Math.Seq.{drop-append_seam}
 use Rattle.plain_world.specs.declared.world.Meta.{Meta}
-use Rattle.tile_paths.specs.Paths.{in_folder, path_of}
+use Rattle.tile_paths.specs.Paths.{in_folder, path_of, saved_path}
 use Rattle.tile_paths.specs.Laws.{OnePath, EndsInMeta, IsNotSaved}
 use Rattle.tile_paths.specs.declared.reading.Five.{Five}
 use Rattle.tile_paths.proofs.Numbers.{digits_only, no_slash}
@@ -76,7 +76,7 @@ pub ends_in_meta : EndsInMeta
 ends_in_meta name m = (front_of name m, path_parts name m (path_of name m) refl ∙ simp append_assoc)
 
 -- a text with this ending is none with another
-other_ending : (front : List ℕ) → front ++ codes ".meta" ≢ codes "farm.saved"
+other_ending : (front : List ℕ) → front ++ codes ".meta" ≢ saved_path
 other_ending front e =
     let counts : length front + 5 ≡ 10 = sym (length-append front (codes ".meta")) ∙ ap length e in
     let len : length front ≡ 5 = omega (arith, counts) in

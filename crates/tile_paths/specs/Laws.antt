@@ -3,7 +3,7 @@
 use Rattle.std.specs.Prelude.{◌≡◌, ◌≢◌, ℕ, List, ◌++◌, codes}
 use Rattle.plain_world.specs.declared.world.Meta.{Meta}
 use Rattle.plain_world.specs.World.{IsMeta}
-use Rattle.tile_paths.specs.Paths.{IsName, path_of}
+use Rattle.tile_paths.specs.Paths.{IsName, path_of, saved_path}
 
 -- Two metatiles of maps that have one path are the same metatile of the same map.
 abbrev pub OnePath : Type 0
@@ -14,6 +14,6 @@ OnePath = (name other : List ℕ) (m n : Meta) → IsName name → IsName other 
 abbrev pub EndsInMeta : Type 0
 EndsInMeta = (name : List ℕ) (m : Meta) → (front : List ℕ) × (path_of name m ≡ front ++ codes ".meta")
 
--- No metatile has the path of a saved farm, `farm.saved`.
+-- No metatile has the path of a saved farm.
 abbrev pub IsNotSaved : Type 0
-IsNotSaved = (name : List ℕ) (m : Meta) → path_of name m ≢ codes "farm.saved"
+IsNotSaved = (name : List ℕ) (m : Meta) → path_of name m ≢ saved_path

@@ -40,3 +40,7 @@ path_of name m =
     (nibbles (m.x / 16 / 16) (m.y / 16 / 16))
     (nibbles (m.x / 16) (m.y / 16))
     (nibbles m.x m.y)))
+
+-- where a farm that stops in order is saved in its store
+abbrev pub saved_path : List ℕ
+saved_path = codes "farm.saved"

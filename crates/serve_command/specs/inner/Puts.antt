@@ -9,7 +9,7 @@ use Rattle.exit_status.specs.declared.stops.Stop.TheVariants as stop
 use Rattle.farm_history.specs.Entries.{Entry}
 use Rattle.farm_refinement.specs.Seen.{FarmSeen}
 use Rattle.farm_shared.specs.Shared.{IsAfter}
-use Rattle.serve_command.specs.Beginnings.{saved_path}
+use Rattle.tile_paths.specs.Paths.{saved_path}
 
 -- how a call goes on after a put into the store
 abbrev pub end_of : Result (Unit {0}) StoreFault → Result (Unit {0}) Stop

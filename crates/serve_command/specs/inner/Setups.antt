@@ -15,7 +15,8 @@ use Rattle.farm_plan.specs.Plans.{FarmPlan}
 use Rattle.farm_refinement.specs.Seen.{FarmSeen}
 use Rattle.farm_refinement.specs.Stands.{StandsFor}
 use Rattle.farm_core.specs.Begins.{Begins, origin}
-use Rattle.serve_command.specs.Beginnings.{ResumeRefusal, RefusesFor, resumed_by, saved_path}
+use Rattle.tile_paths.specs.Paths.{saved_path}
+use Rattle.serve_command.specs.Beginnings.{ResumeRefusal, RefusesFor, resumed_by}
 
 -- why a call ends in which the store did not do what it was asked
 abbrev pub stop_of : StoreFault → Stop

@@ -1,5 +1,6 @@
 -- Inner words of sockets: what a read leaves in the room.
 use Rattle.std.specs.Prelude.{◌<◌, ◌≤◌, ℕ, List, length}
+use Rattle.farm_base.specs.Limits.{most_piece_bytes}
 use Rattle.port_events.specs.declared.events.PortEvent.{PortEvent}
 use Rattle.port_events.specs.declared.events.PortEvent.TheVariants as event
 use Rattle.socket_ports.specs.declared.links.Heard.{Heard}
@@ -17,9 +18,9 @@ IsQuiet (event.Writable c) = ⊥
 IsQuiet (event.Ended c) = ⊥
 IsQuiet (event.Lost c) = ⊥
 
--- a piece has 1 to 4,096 bytes
+-- a piece has a byte at least, and no more than ports give at once
 abbrev pub HasPiece : Heard → List ℕ → Type 0
-HasPiece heard.Piece room = (0 < length room) × (length room ≤ 4096)
+HasPiece heard.Piece room = (0 < length room) × (length room ≤ most_piece_bytes)
 HasPiece heard.End room = Unit {0}
 HasPiece heard.Nothing room = Unit {0}
 HasPiece heard.Failed room = Unit {0}
