@@ -95,6 +95,15 @@ class Folder:
     def name(self, *parts):
         return os.path.join(self.path, *parts)
 
+    def container(self, tile, name="default"):
+        """Where the tile's container lies: four bits of column and row in the name of each folder, as mod_tile has it."""
+        z, x, y = tile
+        x, y, parts = x & ~7, y & ~7, []
+        for _ in range(5):
+            parts.insert(0, str((x & 15) << 4 | y & 15))
+            x, y = x >> 4, y >> 4
+        return self.name("tiles", name, str(z), *parts) + ".meta"
+
     def write(self, name, text):
         with open(self.name(name), "w") as out:
             out.write(text)
