@@ -129,12 +129,15 @@ def by_signal(folder, farm, report):
     return farm
 
 
-RESTART = """#!/bin/sh
-%(clients)s/control %(control)s stop
-tail --pid=$(cat pid) -f /dev/null
-setsid %(program)s serve farm.json >out 2>err </dev/null &
-echo $! >pid
-"""
+def restart_script(folder, farm):
+    """The script of docs/operate/days.md that restarts a farm in order, for this farm."""
+    with open(os.path.join(trial.TOP, "docs", "operate", "days.md"), encoding="utf-8") as source:
+        (text,) = re.findall(r"^```sh\n(#!/bin/sh.*?)^```", source.read(), re.S | re.M)
+    at = {"/srv/farm": folder.path, "/opt/tilefarm/examples/clients": CLIENTS, "tcp:127.0.0.1:7656": farm.control}
+    for old, new in dict(at, **{"setsid tilefarm": "setsid " + trial.PROGRAM}).items():
+        text = text.replace(old, new)
+    folder.write("restart", text)
+    os.chmod(folder.name("restart"), 0o755)
 
 
 def new_update(folder, farm, report):
@@ -143,9 +146,8 @@ def new_update(folder, farm, report):
     change = {"layer": "roads", "put": [late]}
     folder.write("late.json", json.dumps({"units": "world", "changes": [change]}))
     folder.write("after.json", json.dumps(trial.data(trial.ROAD, late)))
-    folder.write("restart", RESTART % {"clients": CLIENTS, "control": farm.control, "program": trial.PROGRAM})
-    folder.write("pid", str(farm.process.pid))
-    os.chmod(folder.name("restart"), 0o755)
+    restart_script(folder, farm)
+    folder.write("farm.pid", str(farm.process.pid))
     os.unlink(folder.name(TOUCHED))
     threading.Thread(target=farm.process.wait, daemon=True).start()
     status, text = tool("tomorrow", "farm.json", "late.json", "./restart", folder=folder)
@@ -192,7 +194,7 @@ def days(folder, report):
             farmclient.control(farm.control, "stop")
         except OSError:
             pass
-        subprocess.run(["tail", "--pid=" + open(folder.name("pid")).read().strip(), "-f", "/dev/null"], timeout=60)
+        subprocess.run(["tail", "--pid=" + open(folder.name("farm.pid")).read().strip(), "-f", "/dev/null"], timeout=60)
     report.holds("at the end it stopped in order", os.path.getsize(folder.name("tiles", "farm.saved")) > 100)
 
 
