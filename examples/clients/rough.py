@@ -293,6 +293,10 @@ def leaves(farm, report):
     made = farmclient.connect(farm.tiles)
     made.sendall(b"GET /default/13/4096/4300.ppm HTTP/1.1\r\n\r\n")
     made.close()
+    with farmclient.connect(farm.tiles) as half:
+        half.sendall(b"GET /default/13/4096/4400.ppm HTTP/1.1\r\n\r\n")
+        half.shutdown(socket.SHUT_WR)
+        report.check("one that ends its sending side has gone: closed without an answer", half.recv(64), b"")
     for tile in tiles:
         farm.settled(tile)
     report.check("what was asked for is drawn all the same", [farm.status(tile) for tile in tiles], ["clean 0"] * 6)

@@ -14,15 +14,14 @@ import math
 import os
 import select
 import shutil
-import struct
 import subprocess
 import sys
 import tempfile
 import time
-import zlib
 
 FOLDER = os.path.dirname(os.path.abspath(__file__))
 sys.path.insert(0, os.path.join(os.path.dirname(FOLDER), "clients"))
+import pictures  # noqa: E402
 import trial  # noqa: E402
 from trial import HERE, Farm  # noqa: E402
 
@@ -80,43 +79,12 @@ class Browser:
     def screen(self):
         """The middle of the screen, as rows of three bytes a pixel."""
         clip = {"x": FROM, "y": FROM, "width": TILE + 2 * SLACK, "height": TILE + 2 * SLACK, "scale": 1}
-        return rows_of(base64.b64decode(self.ask("Page.captureScreenshot", format="png", clip=clip)["data"]))
+        return pictures.of_png(base64.b64decode(self.ask("Page.captureScreenshot", format="png", clip=clip)["data"]))
 
     def end(self):
         self.session = None
         self.ask("Browser.close")
         self.process.wait(20)
-
-
-def rows_of(png):
-    """The rows of a PNG picture of eight bits a channel, red, green and blue of each pixel (W3C, PNG, sections 9 and 11)."""
-    at, packed = 8, b""
-    while at < len(png):
-        (size,), kind = struct.unpack_from(">I", png, at), png[at + 4 : at + 8]
-        data = png[at + 8 : at + 8 + size]
-        if kind == b"IHDR":
-            columns, rows, bits, colour, _, _, laced = struct.unpack(">IIBBBBB", data)
-        packed += data if kind == b"IDAT" else b""
-        at += 12 + size
-    step = {2: 3, 6: 4}[colour]
-    if bits != 8 or laced:
-        raise ValueError("not this kind of PNG")
-    data, wide = zlib.decompress(packed), columns * step
-    before, made = bytearray(wide), []
-    for row in range(rows):
-        line = bytearray(data[row * (wide + 1) + 1 : (row + 1) * (wide + 1)])
-        unfilter(data[row * (wide + 1)], line, before, step)
-        made.append(line if step == 3 else b"".join(line[i : i + 3] for i in range(0, wide, 4)))
-        before = line
-    return made
-
-
-def unfilter(kind, line, before, step):
-    for i in range(len(line) if kind else 0):
-        left, up = line[i - step] if i >= step else 0, before[i]
-        corner = before[i - step] if i >= step else 0
-        near = min((abs(up - corner), 0, left), (abs(left - corner), 1, up), (abs(left + up - 2 * corner), 2, corner))[2]
-        line[i] = (line[i] + (0, left, up, (left + up) // 2, near)[kind]) & 255
 
 
 def shows(rows, picture):
