@@ -13,6 +13,7 @@ import time
 
 import farmclient
 
+os.environ["PATH"] += os.pathsep + "/usr/sbin"  # where Debian has servers, which the path of others than root lacks
 TOP = os.path.dirname(os.path.dirname(os.path.dirname(os.path.abspath(__file__))))
 PROGRAM = os.environ.get("TILEFARM", os.path.join(TOP, "tilefarm"))
 MIDDLE = 2**29  # the column and row of world units where tile 14/8192/8192 begins
