@@ -129,11 +129,18 @@ def look(folder, browser, port, page, report):
     browser.ask("Page.reload", ignoreCache=True)
     report.holds("after `renew 0` and a reload, as of the changed data", waits(browser, folder.render(HERE, data="changed.json")))
     if page == "index.html":
-        buttons(browser, report)
+        moves(browser, report)
     report.check("the farm stops in order", farm.stop()[1][0], 0)
 
 
-def buttons(browser, report):
+def touch(browser, kind, apart):
+    """Two fingers in the middle of the screen, so many pixels from each other; none at the end."""
+    places = [] if kind == "touchEnd" else [(SIDE // 2 - apart // 2, 0), (SIDE // 2 + apart // 2, 1)]
+    points = [{"x": x, "y": SIDE // 2, "id": number} for x, number in places]
+    browser.ask("Input.dispatchTouchEvent", type=kind, touchPoints=points)
+
+
+def moves(browser, report):
     told = "document.getElementById('told').textContent"
     seen = [browser.value(told)]
     for place in (0, 1):
@@ -142,6 +149,11 @@ def buttons(browser, report):
     nearer = "default %d/%d/%d" % (HERE[0] + 1, 2 * HERE[1] + 1, 2 * HERE[2] + 1)
     here = "default %d/%d/%d" % HERE
     report.check("its buttons go nearer and back", seen, [here, nearer, here])
+    browser.ask("Emulation.setTouchEmulationEnabled", enabled=True, maxTouchPoints=2)
+    for kind, apart in (("touchStart", 60), ("touchMove", 90), ("touchMove", 120), ("touchEnd", 0)):
+        touch(browser, kind, apart)
+    report.check("two fingers go nearer", browser.value(told), nearer)
+    browser.ask("Emulation.setTouchEmulationEnabled", enabled=False)
 
 
 def pages(folder, report):
