@@ -182,6 +182,18 @@ def new_list(folder, farm, report):
     report.check("a control line by bash alone", numbers(done.stdout.strip())["version"], 2)
 
 
+def new_data(folder, report):
+    report.part("the newest data take the place of data and updates")
+    changes = {"data": "after.json", "updates": []}
+    told = Farm(folder, **changes).ended()
+    report.check("with farm.saved it is refused", told, (1, "", "tilefarm: farm.saved: resume 2\n"))
+    os.unlink(folder.name("tiles", "farm.saved"))
+    farm = start(folder, report, **changes)
+    report.check("without it all is drawn anew, from version 0", (farm.status(HERE), numbers(farm.stats())["version"]), ("missing", 0))
+    report.check("the tile", farm.get(HERE).body, folder.render(HERE, data="after.json"))
+    report.check("it ends in order", farm.stop()[1][0], 0)
+
+
 def days(folder, report):
     shutil.rmtree(folder.name("tiles"), ignore_errors=True)
     farm = in_order(folder, report)
@@ -196,6 +208,7 @@ def days(folder, report):
             pass
         subprocess.run(["tail", "--pid=" + open(folder.name("farm.pid")).read().strip(), "-f", "/dev/null"], timeout=60)
     report.holds("at the end it stopped in order", os.path.getsize(folder.name("tiles", "farm.saved")) > 100)
+    new_data(folder, report)
 
 
 if __name__ == "__main__":
