@@ -145,19 +145,20 @@ def silent(address, data, seconds=2):
 
 
 def hanging(folder, report):
-    report.part("a disk that does not answer (here: a named pipe where a container is written)")
+    report.part("a disk that does not answer (here: a named pipe in the place of a container)")
     shutil.rmtree(folder.name("tiles"), ignore_errors=True)
     farm = Farm(folder, resume=False)
     if not farm.wait():
         report.holds("it runs", False, farm.ended(0))
         return
     whole(farm, report)
-    pipe = folder.container(APART) + ".new"
-    os.makedirs(os.path.dirname(pipe), exist_ok=True)
+    report.check("another tile is there too", farm.get(APART).status, 200)
+    pipe = folder.container(HERE)
+    os.unlink(pipe)
     os.mkfifo(pipe)
     line = "GET /default/%d/%d/%d.ppm HTTP/1.1\r\n\r\n"
-    report.check("who asks for its tile waits", silent(farm.tiles, (line % APART).encode()), True)
-    report.check("and so does who asks for another", silent(farm.tiles, (line % HERE).encode()), True)
+    report.check("who asks for its tile waits", silent(farm.tiles, (line % HERE).encode()), True)
+    report.check("and so does who asks for another", silent(farm.tiles, (line % APART).encode()), True)
     report.check("and `stop`", silent(farm.control, b"stop\n"), True)
     farm.process.send_signal(signal.SIGTERM)
     report.check("a signal ends it", farm.ended()[0], -signal.SIGTERM)
