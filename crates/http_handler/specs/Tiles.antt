@@ -64,7 +64,7 @@ abbrev pub found_no_memory : Fetched → Bool
 found_no_memory fetched.NoMemory = true
 found_no_memory _ = false
 
--- the answer to a ask for which nothing is asked of the farm
+-- the answer to an ask for which nothing is asked of the farm
 abbrev pub refusal : HttpAsk → Option (List ℕ)
 refusal http_ask.Bad = Some (fault_answer fault.BadRequest)
 refusal http_ask.NotGet = Some (fault_answer fault.NotAllowed)

@@ -17,16 +17,19 @@ use Rattle.control_handler.specs.Control.{control_rules, line_done, total_of, ex
 use Rattle.std.specs.Option.{is_none}
 
 module _ (lists : List (List Tile)) where
-  -- the entries of what was done, the bytes that are answered to it, and how its entries fit
+  -- the entries of what was done
   abbrev pub control_entries : Act → List Entry
   control_entries a = (line_done lists a).entries
 
+  -- the bytes that are answered to it
   abbrev pub act_text : Act → List ℕ
   act_text a = or_empty (line_done lists a).answer
 
+  -- no more tiles were expired than the list has
   abbrev pub act_fits : Act → Bool
   act_fits a = (line_done lists a).fits
 
+  -- all tiles of the list were expired
   abbrev pub act_whole : Act → Bool
   act_whole a = (line_done lists a).whole
 
