@@ -1,5 +1,5 @@
 -- Requests that are done one after another.
-use Rattle.std.proofs.Common.{◌≡◌, ◌<◌, ◌+◌, ℕ, Bool, true, false, ◌&&◌, ◌||◌, cond, nat_lt, List, [], ◌∷◌, ◌++◌, length, take, drop, get_or, refl, sym, ap, subst, ◌∙◌, append_assoc, inr}
+use Rattle.std.proofs.Common.{◌≡◌, ◌<◌, ◌+◌, ℕ, Bool, true, false, ◌||◌, cond, nat_lt, List, [], ◌∷◌, ◌++◌, length, take, drop, get_or, refl, sym, ap, subst, ◌∙◌, append_assoc, inr}
 use Rattle.std.proofs.lemmas.Bool.{ne_eqb, and_from, or_from, or_left, and_parts}
 use Rattle.std.proofs.lemmas.Grind.{take_at_read}
 use Rattle.std.proofs.lemmas.List.{append-nil, take-append-drop}
@@ -17,8 +17,8 @@ use Rattle.control_handler.specs.declared.acts.Line.TheVariants as line
 use Rattle.control_handler.specs.declared.acts.Act.{Act}
 use Rattle.control_handler.specs.declared.hearing.ConnState.{ConnState}
 use Rattle.control_handler.specs.Lines.{Reading, read_on, read_all, part_alone, wants, line_in}
-use Rattle.control_handler.specs.Control.{control_rules, line_done, control_entries, act_text, act_fits, act_whole, act_starves}
-use Rattle.control_handler.specs.inner.Doing.{Says, Said, Lacks, Answers, Gives, Wants, Starves, DoneWhy, Did, LongWhy, as_done, Heeds, Knows}
+use Rattle.control_handler.specs.Control.{control_rules, line_done}
+use Rattle.control_handler.specs.inner.Doing.{control_entries, act_text, act_fits, act_whole, act_starves, Says, Said, Lacks, Answers, Gives, Wants, Starves, DoneWhy, Did, LongWhy, as_done, Heeds, Knows}
 use Rattle.control_handler.proofs.Streams.{read_both, read_more, read_shut, wants_more, wants_begin}
 
 clash : {X : Type 0} → true ≡ false → X
@@ -44,7 +44,7 @@ module _ (number : ℕ) (lists : List (List Tile)) (c : ℕ) where
   asked_both : (acts before : List Act) → wants_of R (does (acts ++ before)) ≡ wants_of R (does before) ++ wants_of R (does acts)
   asked_both [] before = sym (append-nil (wants_of R (does before)))
   asked_both (a ∷ acts) before =
-      ap (λ ls. ls ++ line_done a ∷ []) (asked_both acts before) ∙ append_assoc (wants_of R (does before)) (wants_of R (does acts)) (line_done a ∷ [])
+      ap (λ ls. ls ++ (line_done lists a).line ∷ []) (asked_both acts before) ∙ append_assoc (wants_of R (does before)) (wants_of R (does acts)) ((line_done lists a).line ∷ [])
 
   text_both : (acts before : List Act) → answer_bytes R (does (acts ++ before)) ≡ answer_bytes R (does before) ++ answer_bytes R (does acts)
   text_both [] before = sym (append-nil (answer_bytes R (does before)))
@@ -62,7 +62,7 @@ module _ (number : ℕ) (lists : List (List Tile)) (c : ℕ) where
   starves_both : (acts before : List Act) → any_starves R (does (acts ++ before)) ≡ (any_starves R (does acts) || any_starves R (does before))
   starves_both [] before = refl
   starves_both (a ∷ acts) before =
-      ap (λ b. act_starves a || b) (starves_both acts before) ∙ sym (or_assoc (act_starves a) (any_starves R (does acts)) (any_starves R (does before)))
+      ap (λ b. act_starves lists a || b) (starves_both acts before) ∙ sym (or_assoc (act_starves lists a) (any_starves R (does acts)) (any_starves R (does before)))
 
   whole_both : (acts before : List Act) → each_whole R (does acts) ≡ true → each_whole R (does before) ≡ true → each_whole R (does (acts ++ before)) ≡ true
   whole_both [] before f g = g
@@ -95,40 +95,40 @@ module _ (number : ℕ) (lists : List (List Tile)) (c : ℕ) where
   }
 
   -- a request was done, of which a turn was worn or the answer found no memory
-  pub did_part : (a : Act) (mine mine' : List Entry) (response response' : List ℕ) → act_fits lists a ≡ true → mine' ≡ mine ++ control_entries lists a → act_starves a ≡ false
-      → Did number lists c (line_done a ∷ []) mine mine' response response' (Leaves reason.Starved)
+  pub did_part : (a : Act) (mine mine' : List Entry) (response response' : List ℕ) → act_fits lists a ≡ true → mine' ≡ mine ++ control_entries lists a → act_starves lists a ≡ false
+      → Did number lists c ((line_done lists a).line ∷ []) mine mine' response response' (Leaves reason.Starved)
   did_part a mine mine' response response' f m s = record {
     acts = a ∷ [];
     mine_is = m;
     begins = ([], refl);
     fits = (f, tt);
-    why = or_from (act_starves a) false s refl;
+    why = or_from (act_starves lists a) false s refl;
     response_is = λ k. clash (sym k);
     asked_is = λ k. clash (sym k);
     whole = λ k. clash (sym k);
   }
 
-  did_starved : (a : Act) (mine mine' : List Entry) (response response' : List ℕ) → act_fits lists a ≡ true → mine' ≡ mine ++ control_entries lists a → act_starves a ≡ true
-      → Did number lists c (line_done a ∷ []) mine mine' response response' (Leaves reason.NoMemory)
+  did_starved : (a : Act) (mine mine' : List Entry) (response response' : List ℕ) → act_fits lists a ≡ true → mine' ≡ mine ++ control_entries lists a → act_starves lists a ≡ true
+      → Did number lists c ((line_done lists a).line ∷ []) mine mine' response response' (Leaves reason.NoMemory)
   did_starved a mine mine' response response' f m s = record {
     acts = a ∷ [];
     mine_is = m;
     begins = ([], refl);
     fits = (f, tt);
-    why = or_left (act_starves a) false s;
+    why = or_left (act_starves lists a) false s;
     response_is = λ k. clash (sym k);
     asked_is = λ k. clash (sym k);
     whole = λ k. clash (sym k);
   }
 
-  did_whole : (a : Act) (mine mine' : List Entry) (response response' : List ℕ) → act_fits lists a ≡ true → act_whole lists a ≡ true → mine' ≡ mine ++ control_entries lists a → act_starves a ≡ false
-      → response' ≡ response ++ act_text lists a → Did number lists c (line_done a ∷ []) mine mine' response response' Stays
+  did_whole : (a : Act) (mine mine' : List Entry) (response response' : List ℕ) → act_fits lists a ≡ true → act_whole lists a ≡ true → mine' ≡ mine ++ control_entries lists a → act_starves lists a ≡ false
+      → response' ≡ response ++ act_text lists a → Did number lists c ((line_done lists a).line ∷ []) mine mine' response response' Stays
   did_whole a mine mine' response response' f w m s e = record {
     acts = a ∷ [];
     mine_is = m;
     begins = ([], refl);
     fits = (f, tt);
-    why = or_from (act_starves a) false s refl;
+    why = or_from (act_starves lists a) false s refl;
     response_is = λ _. e;
     asked_is = λ _. refl;
     whole = λ _. and_from (act_whole lists a) true w refl;
@@ -136,12 +136,12 @@ module _ (number : ℕ) (lists : List (List Tile)) (c : ℕ) where
 
   -- a request was done
   pub did_one : (a : Act) (mine mine' : List Entry) (response response' : List ℕ) (disposition : Disposition) → act_fits lists a ≡ true → act_whole lists a ≡ true → mine' ≡ mine ++ control_entries lists a
-      → Answers lists a response response' disposition → Did number lists c (line_done a ∷ []) mine mine' response response' disposition
-  did_one a mine mine' response response' disposition f w m (Gives q s e) = subst (Did number lists c (line_done a ∷ []) mine mine' response response') (sym q) (did_whole a mine mine' response response' f w m s e)
-  did_one a mine mine' response response' disposition f w m (Wants q s) = subst (Did number lists c (line_done a ∷ []) mine mine' response response') (sym q) (did_part a mine mine' response response' f m s)
-  did_one a mine mine' response response' disposition f w m (Starves q s) = subst (Did number lists c (line_done a ∷ []) mine mine' response response') (sym q) (did_starved a mine mine' response response' f m s)
+      → Answers lists a response response' disposition → Did number lists c ((line_done lists a).line ∷ []) mine mine' response response' disposition
+  did_one a mine mine' response response' disposition f w m (Gives q s e) = subst (Did number lists c ((line_done lists a).line ∷ []) mine mine' response response') (sym q) (did_whole a mine mine' response response' f w m s e)
+  did_one a mine mine' response response' disposition f w m (Wants q s) = subst (Did number lists c ((line_done lists a).line ∷ []) mine mine' response response') (sym q) (did_part a mine mine' response response' f m s)
+  did_one a mine mine' response response' disposition f w m (Starves q s) = subst (Did number lists c ((line_done lists a).line ∷ []) mine mine' response response') (sym q) (did_starved a mine mine' response response' f m s)
 
-  pub did_at : (l : Line) (a : Act) (mine mine' : List Entry) (response response' : List ℕ) (disposition : Disposition) → l ≡ line_done a → act_fits lists a ≡ true → act_whole lists a ≡ true
+  pub did_at : (l : Line) (a : Act) (mine mine' : List Entry) (response response' : List ℕ) (disposition : Disposition) → l ≡ (line_done lists a).line → act_fits lists a ≡ true → act_whole lists a ≡ true
       → mine' ≡ mine ++ control_entries lists a → Answers lists a response response' disposition → Did number lists c (l ∷ []) mine mine' response response' disposition
   did_at l a mine mine' response response' disposition e f w m s =
       subst (λ (k : Line). Did number lists c (k ∷ []) mine mine' response response' disposition) (sym e) (did_one a mine mine' response response' disposition f w m s)
@@ -356,7 +356,7 @@ module _ (number : ℕ) (lists : List (List Tile)) (c : ℕ) where
 
   asked_front : (acts : List Act) (ms : List (Move Act)) → wants_of R (does acts ++ ms) ≡ wants_of R ms ++ wants_of R (does acts)
   asked_front [] ms = sym (append-nil (wants_of R ms))
-  asked_front (a ∷ acts) ms = ap (λ ls. ls ++ line_done a ∷ []) (asked_front acts ms) ∙ append_assoc (wants_of R ms) (wants_of R (does acts)) (line_done a ∷ [])
+  asked_front (a ∷ acts) ms = ap (λ ls. ls ++ (line_done lists a).line ∷ []) (asked_front acts ms) ∙ append_assoc (wants_of R ms) (wants_of R (does acts)) ((line_done lists a).line ∷ [])
 
   text_front : (acts : List Act) (ms : List (Move Act)) → answer_bytes R (does acts ++ ms) ≡ answer_bytes R ms ++ answer_bytes R (does acts)
   text_front [] ms = sym (append-nil (answer_bytes R ms))

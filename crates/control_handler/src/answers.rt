@@ -1,6 +1,8 @@
 //! What a line is answered.
 ghost use Rattle.std.specs.Prelude.{◌≡◌, ℕ, List, Some, IfOk};
 ghost use Rattle.plain_world.specs.declared.world.Tile.{Tile};
+ghost use Rattle.std.specs.Option.{is_none};
+ghost use Rattle.script_answers.specs.Answers as lines;
 ghost use Rattle.control_handler.specs.Control as spec;
 ghost use Rattle.control_handler.specs.declared.acts.Act.TheVariants as act;
 ghost use Rattle.control_handler.specs.inner.Doing.{Says, Answers};
@@ -54,7 +56,7 @@ fn renew_text(alloc: Global, answer: Renewed) -> Result<Text, NoMemory>
 }
 
 fn is_no_memory(fault: ApplyFault) -> bool
-    ensures { result ≡ spec.is_no_memory fault }
+    ensures { result ≡ is_none (lines.fault_line fault) }
 {
     match fault {
         ApplyFault::NoMemory => true,
@@ -66,7 +68,7 @@ fn is_no_memory(fault: ApplyFault) -> bool
 
 /// Whether an update found no memory.
 fn update_starves(answer: Updated) -> bool
-    ensures { result ≡ spec.update_starves answer }
+    ensures { result ≡ is_none (spec.update_text answer) }
 {
     match answer {
         Updated::Refused(fault) => is_no_memory(fault),
@@ -77,7 +79,7 @@ fn update_starves(answer: Updated) -> bool
 
 /// Whether an update that expires what it reaches found no memory.
 fn renew_starves(answer: Renewed) -> bool
-    ensures { result ≡ spec.renew_starves answer }
+    ensures { result ≡ is_none (spec.renew_text answer) }
 {
     match answer {
         Renewed::Refused(fault) => is_no_memory(fault),
@@ -137,14 +139,14 @@ pub fn say_restyle(alloc: Global, answer: Restyled, response: &mut Vec<u8>) -> D
 
 /// Says the farm's counts.
 pub fn say_tally(alloc: Global, answer: Tally, response: &mut Vec<u8>) -> Disposition
-    ensures { Says (spec.tally_text answer) response.old.items response.new.items result }
+    ensures { Says (lines.tally_line answer) response.old.items response.new.items result }
 {
     say_made(response, tally_line(alloc, answer))
 }
 
 /// Says how many clean metatiles the tiles of a list made dirty.
 pub fn say_expired(alloc: Global, total: u64, response: &mut Vec<u8>) -> Disposition
-    ensures { Says (spec.expired_text total) response.old.items response.new.items result }
+    ensures { Says (lines.expire_line total) response.old.items response.new.items result }
 {
     say_made(response, expire_line(alloc, total))
 }

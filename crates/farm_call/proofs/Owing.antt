@@ -1,11 +1,7 @@
 -- That nothing is owed where a farm ended in order.
-use Rattle.std.proofs.Common.{◌≡◌, ℕ, ◌⊎◌, inl, inr, Bool, true, false, ◌||◌, List, [], ◌∷◌, ◌++◌, map, reverse, refl, sym, ap, subst, ◌∙◌, append_assoc}
-use Rattle.std.specs.Prelude.{Option, Result, Ok, Err}
-use Rattle.std.specs.List.{list_any}
-use Rattle.std.proofs.lemmas.Bool.{or_cases}
+use Rattle.std.proofs.Common.{◌≡◌, ℕ, ◌⊎◌, inl, inr, Bool, List, [], ◌∷◌, ◌++◌, map, reverse, refl, ap, subst, ◌∙◌, append_assoc}
+use Rattle.std.specs.Prelude.{Option}
 use Rattle.std.proofs.lemmas.List.{reverse-append, map-append}
-use Rattle.port_events.specs.declared.events.PortEvent.{PortEvent}
-use Rattle.port_events.specs.declared.events.PortEvent.TheVariants as event
 use Rattle.port_events.specs.declared.ends.FrontEnd.{FrontEnd}
 use Rattle.port_events.specs.declared.ends.Rest.{Rest}
 use Rattle.port_events.specs.Told.{PortsTold}
@@ -15,13 +11,12 @@ use Rattle.farm_history.specs.Entries.{Entry, Collect, EachMoment}
 use Rattle.farm_history.specs.Past.{due_replies, is_stopped}
 use Rattle.farm_history.specs.Plans.{Plan}
 use Rattle.farm_history.specs.Rules.{Fits, Legal, collect_from, collect_rule}
-use Rattle.front_loop.specs.declared.dispositions.Reason.{Reason}
-use Rattle.front_loop.specs.Rules.{Rules, Gets}
-use Rattle.front_loop.specs.Steps.{Step, Came, Did, Got, Through, Tried, Left, Phase, Fresh, Hearing, Collecting, Offering, Leaving, phase, collecting, leaving, Gathers, IsThrough}
-use Rattle.front_loop.specs.Rounds.{AllKept, LeftFits, StepFits, Sound}
-use Rattle.front_loop.specs.Serving.{EndsAt, StopsAt, FrontRun, rests_of}
+use Rattle.front_loop.specs.Rules.{Rules}
+use Rattle.front_loop.specs.Rounds.{FrontRound}
+use Rattle.front_loop.specs.RoundRules.{RoundFits, Sound}
+use Rattle.front_loop.specs.Serving.{EndHasCause, FrontRun, rests_of}
 use Rattle.farm_shared.specs.Seats.{plain}
-use Rattle.farm_call.specs.Owing.{CollectsNone, OwesNothing, IsPaidUp, GivesNone}
+use Rattle.farm_call.specs.Owing.{LastIsWhole, OwesNothing, GivesNone}
 
 -- ---- replies
 
@@ -62,68 +57,31 @@ none_left p told H before after first n front answer legal is none =
 
 -- ---- the last round
 
-unleave : (p : Phase) → IsThrough (leaving p) → IsThrough p
-unleave Fresh h = h
-unleave (Hearing e) h = h
-unleave (Collecting e) h = h
-unleave (Offering e stopped) h = tt
-unleave (Leaving e stopped) h = tt
-
-not_through : (p : Phase) → Gathers p → IsThrough (collecting p) → ⊥
-not_through Fresh g h = g
-not_through (Hearing e) g h = h
-not_through (Collecting e) g h = h
-not_through (Offering e stopped) g h = g
-not_through (Leaving e stopped) g h = g
-
-ends_through : (e : PortEvent) (stopped : Bool) (p : Phase) → EndsAt e stopped p → IsThrough p
-ends_through e stopped Fresh h = h
-ends_through e stopped (Hearing f) h = h
-ends_through e stopped (Collecting f) h = h
-ends_through e stopped (Offering f was) h = tt
-ends_through e stopped (Leaving f was) h = tt
-
-stops_through : (p : Phase) → StopsAt p → IsThrough p
-stops_through Fresh h = h
-stops_through (Hearing f) h = h
-stops_through (Collecting f) h = h
-stops_through (Offering f was) h = tt
-stops_through (Leaving f was) h = tt
-
 module _ {A W : Type 0} (R : Rules A W) where
-  -- the Collect that gave no reply, and no other that gave one after it
-  abbrev LastCollect : List (Step A) → Type 0
-  LastCollect steps = (later : List (Step A)) × (stopped : Bool) × (before : List (Step A)) × (steps ≡ later ++ Through stopped ∷ before) × CollectsNone later
+  sound_at : (later : List (FrontRound A)) (r : FrontRound A) (before : List (FrontRound A)) → Sound R (later ++ r ∷ before) → RoundFits R before r
+  sound_at [] r before sound = sound.0
+  sound_at (x ∷ later) r before sound = sound_at later r before sound.1
 
-  further : (s : Step A) (ss : List (Step A)) → ((later : List (Step A)) → CollectsNone later → CollectsNone (s ∷ later)) → LastCollect ss → LastCollect (s ∷ ss)
-  further s ss none h = (s ∷ h.0, h.1, h.2, ap (λ (l : List (Step A)). s ∷ l) h.3, none h.0 h.4)
-
-  last_collect : (ss : List (Step A)) → Sound R ss → IsThrough (phase ss) → LastCollect ss
-  last_collect [] sound through = absurd through
-  last_collect (Came e piece kept ∷ ss) sound through = absurd through
-  last_collect (Did c a ∷ ss) sound through = further (Did c a) ss (λ l h. h) (last_collect ss sound.1 through)
-  last_collect (Got r behind ∷ ss) sound through = absurd (not_through (phase ss) sound.0.0 through)
-  last_collect (Through stopped ∷ ss) sound through = ([], stopped, ss, refl, tt)
-  last_collect (Tried c taken ∷ ss) sound through = further (Tried c taken) ss (λ l h. h) (last_collect ss sound.1 through)
-  last_collect (Left c asks why ∷ ss) sound through = further (Left c asks why) ss (λ l h. h) (last_collect ss sound.1 (unleave (phase ss) through))
-
-  sound_at : (later : List (Step A)) (s : Step A) (before : List (Step A)) → Sound R (later ++ s ∷ before) → StepFits R s before
-  sound_at [] s before sound = sound.0
-  sound_at (x ∷ later) s before sound = sound_at later s before sound.1
-
-  nothing_owed : (steps : List (Step A)) (rests : List Rest) → Sound R steps → AllKept R steps → IsThrough (phase steps) → rests ≡ rests_of R steps → OwesNothing R steps rests
-  nothing_owed steps rests sound kept through are = record {
-    requests = kept;
-    gone = λ later before c asks why is. sound_at later (Left c asks why) before (subst (Sound R) is sound);
-    replies = last_collect steps sound through;
+  nothing_owed : (rounds : List (FrontRound A)) (rests : List Rest) → Sound R rounds → LastIsWhole R rounds → rests ≡ rests_of R rounds → OwesNothing R rounds rests
+  nothing_owed rounds rests sound whole are = record {
+    whole = whole;
+    gone = λ later before r is. (sound_at later r before (subst (Sound R) is sound)).left;
     answers = are;
   }
 
+  finished_whole : (rounds : List (FrontRound A)) (stop : List Entry) (worn : Bool) → EndHasCause R FrontEnd.Finished rounds stop worn → LastIsWhole R rounds
+  finished_whole [] stop worn h = h
+  finished_whole (r ∷ rs) stop worn h = h.0
+
+  stopped_whole : (rounds : List (FrontRound A)) (stop : List Entry) (worn : Bool) → EndHasCause R FrontEnd.Stopped rounds stop worn → LastIsWhole R rounds
+  stopped_whole [] stop worn h = h
+  stopped_whole (r ∷ rs) stop worn h = h.0
+
   -- a front that ended in order owes nothing
   pub paid_up : (start told : Option PortsTold) (mine : List Entry) (end : FrontEnd) (rests : List Rest) (starved : ℕ) (worn : Bool) (run : FrontRun R start told mine end rests starved worn)
-      → (end ≡ FrontEnd.Finished) ⊎ (end ≡ FrontEnd.Stopped) → OwesNothing R run.steps rests
-  paid_up start told mine FrontEnd.Finished rests starved worn run ended = nothing_owed run.steps rests run.sound run.end_fits.0 (ends_through event.Finished false (phase run.steps) run.end_fits.1) run.rests_fit
-  paid_up start told mine FrontEnd.Stopped rests starved worn run ended = nothing_owed run.steps rests run.sound run.end_fits.0 (stops_through (phase run.steps) run.end_fits.1) run.rests_fit
+      → (end ≡ FrontEnd.Finished) ⊎ (end ≡ FrontEnd.Stopped) → OwesNothing R run.rounds rests
+  paid_up start told mine FrontEnd.Finished rests starved worn run ended = nothing_owed run.rounds rests run.sound (finished_whole run.rounds run.stop worn run.end_fits) run.rests_fit
+  paid_up start told mine FrontEnd.Stopped rests starved worn run ended = nothing_owed run.rounds rests run.sound (stopped_whole run.rounds run.stop worn run.end_fits) run.rests_fit
   paid_up start told mine FrontEnd.Broken rests starved worn run ended = absurd (elim ended [ inl e ↦ cc | inr e ↦ cc ])
   paid_up start told mine FrontEnd.NoMemory rests starved worn run ended = absurd (elim ended [ inl e ↦ cc | inr e ↦ cc ])
   paid_up start told mine FrontEnd.Worn rests starved worn run ended = absurd (elim ended [ inl e ↦ cc | inr e ↦ cc ])

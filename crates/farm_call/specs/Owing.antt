@@ -5,39 +5,34 @@ use Rattle.port_events.specs.declared.ends.Rest.{Rest}
 use Rattle.port_events.specs.Told.{PortsTold}
 use Rattle.farm_history.specs.declared.answers.Collected.{Collected}
 use Rattle.farm_history.specs.Entries.{Entry}
-use Rattle.front_loop.specs.declared.dispositions.Reason.{Reason}
 use Rattle.front_loop.specs.Rules.{Rules}
-use Rattle.front_loop.specs.Steps.{Step, Got, Through, Left}
-use Rattle.front_loop.specs.Rounds.{AllKept, LeftFits}
+use Rattle.front_loop.specs.Rounds.{FrontRound}
+use Rattle.front_loop.specs.RoundRules.{EachSoFar, LeaveFits, EndsWhole}
 use Rattle.front_loop.specs.Serving.{FrontRun, rests_of}
 
--- no reply was collected in these steps
-abbrev pub CollectsNone : {A : Type 0} → List (Step A) → Type 0
-CollectsNone [] = Unit {0}
-CollectsNone (Got reply behind ∷ steps) = ⊥
-CollectsNone (step ∷ steps) = CollectsNone steps
+-- the last round, which is the first of the list, is whole
+abbrev pub LastIsWhole : {A W : Type 0} → Rules A W → List (FrontRound A) → Type 0
+LastIsWhole R [] = ⊥
+LastIsWhole R (r ∷ rs) = EndsWhole R rs r
 
--- A front owes nothing after these steps, the newest first.
-pub record OwesNothing {A W : Type 0} (R : Rules A W) (steps : List (Step A))
+-- A front owes nothing after these rounds.
+pub record OwesNothing {A W : Type 0} (R : Rules A W) (rounds : List (FrontRound A))
     (rests : List Rest) : Type 0 where
-  -- On each connection that is there every whole request was done and has all its entries, and all
-  -- that was answered was offered
-  pub requests : AllKept R steps
+  -- The last Collect gave no reply, and on each connection that is there every whole request was
+  -- done and has all its entries, and all that was answered was offered
+  pub whole : LastIsWhole R rounds
   -- So it is of each that is there no more; it was left for a cause, and the requests of one whose
   -- rest was full, or for which memory was wanting, may lack entries
-  pub gone : (later before : List (Step A)) (c asks : ℕ) (why : Reason)
-      → steps ≡ later ++ Left c asks why ∷ before → LeftFits R before c why
-  -- The last Collect gave no reply
-  pub replies : (later : List (Step A)) × (stopped : Bool) × (before : List (Step A))
-      × (steps ≡ later ++ Through stopped ∷ before) × CollectsNone later
+  pub gone : (later before : List (FrontRound A)) (r : FrontRound A) → rounds ≡ later ++ r ∷ before
+      → EachSoFar (LeaveFits R before r) r.left
   -- What was answered on a connection that is there, and not taken by the ports, is in the rests
-  pub answers : rests ≡ rests_of R steps
+  pub answers : rests ≡ rests_of R rounds
 
 -- so it is of what the front did
 abbrev pub IsPaidUp : {A W : Type 0} {R : Rules A W} {start told : Option PortsTold}
     {mine : List Entry} {end : FrontEnd} {rests : List Rest} {starved : ℕ} {worn : Bool}
     → FrontRun R start told mine end rests starved worn → Type 0
-IsPaidUp {A} {W} {R} {start} {told} {mine} {end} {rests} run = OwesNothing R run.steps rests
+IsPaidUp {A} {W} {R} {start} {told} {mine} {end} {rests} run = OwesNothing R run.rounds rests
 
 -- a Collect that was answered so gave no reply
 abbrev pub GivesNone : Collected → Type 0

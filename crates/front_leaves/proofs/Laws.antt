@@ -1,21 +1,25 @@
 -- What is so of all that a front leaves: of which kinds its entries are, and where it ends worn; and that a front that was not begun leaves what it may.
-use Rattle.std.proofs.Common.{◌≡◌, ◌≢◌, ◌⊎◌, inl, inr, ℕ, Bool, true, false, not, ◌||◌, ◌==◌, List, [], ◌∷◌, ◌++◌, Option, Some, None, IfSome, option_map, refl, sym, ◌∙◌, subst, arith, append-nil}
+use Rattle.std.proofs.Common.{◌≡◌, ◌≢◌, ◌⊎◌, inl, inr, ℕ, Bool, true, false, not, ◌&&◌, ◌||◌, ◌==◌, cond, List, [], ◌∷◌, ◌++◌, Option, Some, None, IfSome, option_map, refl, sym, ◌∙◌, subst, arith, append-nil}
+use Rattle.std.proofs.lemmas.Bool.{eq-eqb}
 use Rattle.std.proofs.lemmas.Bool.Decides.{nat_tests}
 use Rattle.std.specs.List.{list_any}
 use Rattle.farm_base.specs.Outside.{Outside}
 use Rattle.plain_world.specs.declared.world.Tile.{Tile}
 use Rattle.farm_history.specs.declared.queues.Reply.{Reply}
-use Rattle.farm_history.specs.Entries.{Entry, Claim, Finish, Stop}
+use Rattle.farm_history.specs.declared.answers.Collected.TheVariants as collected
+use Rattle.farm_history.specs.Entries.{Entry, Claim, Collect, Finish, Leave, Stop}
 use Rattle.farm_history.specs.Lists.{Each}
 use Rattle.port_events.specs.declared.ends.FrontDone.{FrontDone}
 use Rattle.port_events.specs.declared.ends.FrontEnd.{FrontEnd}
 use Rattle.port_events.specs.declared.ends.Rest.{Rest}
 use Rattle.port_events.specs.Told.{PortsTold}
-use Rattle.front_loop.specs.Rules.{Rules, Move, Gets}
-use Rattle.front_loop.specs.Steps.{Step, Came, Did, Got, Through, Tried, Left, own}
-use Rattle.front_loop.specs.Rounds.{Sound}
+use Rattle.front_loop.specs.Rules.{Rules, Move, Gets, each_fits}
+use Rattle.front_loop.specs.Rounds.{Gathered, Departure, FrontRound, in_turn, asked_by, with_last, own}
+use Rattle.front_loop.specs.Conns.{asks_on, gets_on, before, told_after}
+use Rattle.front_loop.specs.RoundRules.{Sound}
 use Rattle.front_loop.specs.Serving.{EndHasCause, BreakFits, RestsFit, TellsOf, with_break}
-use Rattle.front_loop.specs.Parts.{told_after}
+use Rattle.port_events.specs.declared.events.PortEvent.{PortEvent}
+use Rattle.port_events.specs.declared.events.PortEvent.TheVariants as event
 use Rattle.renderd_handler.specs.Renderd.{renderd_rules}
 use Rattle.renderd_handler.proofs.Sorts as renderd
 use Rattle.control_handler.specs.Control.{control_rules}
@@ -54,35 +58,85 @@ each_of_front n (e ∷ es) none = go (is_foreign n e) refl (each_of_front n es) 
 
 -- What is so of every front.
 
-may_stop : {A W : Type 0} (R : Rules A W) (ss : List (Step A)) (stop : List Entry) (worn : Bool) (end : FrontEnd) → EndHasCause R end ss stop worn → (stop ≡ []) ⊎ ((stop ≡ Stop ∷ []) × (end ≢ FrontEnd.Finished))
-may_stop R ss stop worn FrontEnd.Finished fits = inl fits.2
-may_stop R ss stop worn FrontEnd.Stopped fits = inr (fits.2, λ never. cc)
-may_stop R ss stop worn FrontEnd.Broken fits = inr (fits.2, λ never. cc)
-may_stop R ss stop worn FrontEnd.NoMemory fits = inr (fits.2, λ never. cc)
-may_stop R ss stop worn FrontEnd.Worn fits = inl fits.1
+may_stop : {A W : Type 0} (R : Rules A W) (rs : List (FrontRound A)) (stop : List Entry) (worn : Bool) (end : FrontEnd) → EndHasCause R end rs stop worn → (stop ≡ []) ⊎ ((stop ≡ Stop ∷ []) × (end ≢ FrontEnd.Finished))
+may_stop R (r ∷ rs) stop worn FrontEnd.Finished fits = inl fits.3
+may_stop R (r ∷ rs) stop worn FrontEnd.Stopped fits = inr (fits.2, λ never. cc)
+may_stop R [] stop worn FrontEnd.Finished fits = absurd fits
+may_stop R [] stop worn FrontEnd.Stopped fits = absurd fits
+may_stop R rs stop worn FrontEnd.Broken fits = inr (fits.1, λ never. cc)
+may_stop R rs stop worn FrontEnd.NoMemory fits = inr (fits.1, λ never. cc)
+may_stop R rs stop worn FrontEnd.Worn fits = inl fits.1
+
+and_first : (a b : Bool) → (a && b) ≡ true → a ≡ true
+and_first true b h = refl
+and_first false b h = h
+
+and_second : (a b : Bool) → (a && b) ≡ true → b ≡ true
+and_second true b h = h
+and_second false b h = cc
 
 module _ {A W : Type 0} (R : Rules A W) where
   pub marked : (shown after : Outside PortsTold) (es : List Entry) (done : FrontDone) (worn : Bool) → FrontLeaves R shown after es done worn → done.end ≡ FrontEnd.Worn → worn ≡ true
-  marked shown after es done worn left is = (subst (λ end. EndHasCause R end left.served.steps left.served.stop worn) is left.served.end_fits).0
+  marked shown after es done worn left is = (subst (λ end. EndHasCause R end left.served.rounds left.served.stop worn) is left.served.end_fits).0
 
-  -- the entries of each step are a front's
+  -- the replies of a round fit what came before them on their connection
+  abbrev RepliesFit : PortEvent → List A → (ℕ → List (Move A)) → List Gathered → Type 0
+  RepliesFit e acts old gs = (c : ℕ) → each_fits R (gets_on gs c (asks_on e acts c) ++ old c) ≡ true
+
+  fewer : (b : Bool) (g : Gathered) (ms old : List (Move A)) → each_fits R (cond b (Gets g.reply g.behind ∷ ms) ms ++ old) ≡ true → each_fits R (ms ++ old) ≡ true
+  fewer true g ms old h = and_second (R.fits (ms ++ old) (Gets g.reply g.behind)) (each_fits R (ms ++ old)) h
+  fewer false g ms old h = h
+
+  first_fits : (b : Bool) (g : Gathered) (ms old : List (Move A)) → b ≡ true → each_fits R (cond b (Gets g.reply g.behind ∷ ms) ms ++ old) ≡ true → R.fits (ms ++ old) (Gets g.reply g.behind) ≡ true
+  first_fits true g ms old is h = and_first (R.fits (ms ++ old) (Gets g.reply g.behind)) (each_fits R (ms ++ old)) h
+  first_fits false g ms old is h = cc
+
+  -- the entries of each round are a front's
   module _ (n : ℕ) (acts : (c : ℕ) (a : A) → Each (IsOfFront n) (R.entries c a)) (behinds : (ms : List (Move A)) (r : Reply) (behind : List Entry) → R.fits ms (Gets r behind) ≡ true → Each (IsOfFront n) behind) where
-    each_own : (ss : List (Step A)) → Sound R ss → Each (IsOfFront n) (own R ss)
+    abbrev with_asked : PortEvent → List A → List Entry → List Entry
+    with_asked e acted es = in_turn (λ (a : A) es. es ++ asked_by R e a) acted es
+
+    abbrev with_replies : List Gathered → List Entry → List Entry
+    with_replies gs es = in_turn (λ (g : Gathered) es. es ++ Collect R.number (collected.Reply g.reply) ∷ g.behind) gs es
+
+    abbrev with_leaves : List Departure → List Entry → List Entry
+    with_leaves ds es = in_turn (λ (d : Departure) es. es ++ Leave (record { front = R.number; number = d.conn }) d.asks ∷ []) ds es
+
+    each_asked_by : (e : PortEvent) (a : A) → Each (IsOfFront n) (asked_by R e a)
+    each_asked_by (event.Bytes c) a = acts c a
+    each_asked_by _ a = tt
+
+    each_asked : (e : PortEvent) (acted : List A) (es : List Entry) → Each (IsOfFront n) es → Each (IsOfFront n) (with_asked e acted es)
+    each_asked e [] es h = h
+    each_asked e (a ∷ acted) es h = each-join (IsOfFront n) (with_asked e acted es) (asked_by R e a) (each_asked e acted es h) (each_asked_by e a)
+
+    each_reply : (e : PortEvent) (acted : List A) (old : ℕ → List (Move A)) (gs : List Gathered) (es : List Entry) → RepliesFit e acted old gs → Each (IsOfFront n) es → Each (IsOfFront n) (with_replies gs es)
+    each_reply e acted old [] es fits h = h
+    each_reply e acted old (g ∷ gs) es fits h =
+        let c = g.reply.conn.number in
+        each-join (IsOfFront n) (with_replies gs es) _ (each_reply e acted old gs es (λ d. fewer (c == d) g (gets_on gs d (asks_on e acted d)) (old d) (fits d)) h)
+        (tt, behinds _ g.reply g.behind (first_fits (c == c) g (gets_on gs c (asks_on e acted c)) (old c) (eq-eqb c c refl) (fits c)))
+
+    each_last : (last : Option Bool) (es : List Entry) → Each (IsOfFront n) es → Each (IsOfFront n) (with_last R last es)
+    each_last None es h = h
+    each_last (Some stopped) es h = each-join (IsOfFront n) es _ h (tt, tt)
+
+    each_leave : (ds : List Departure) (es : List Entry) → Each (IsOfFront n) es → Each (IsOfFront n) (with_leaves ds es)
+    each_leave [] es h = h
+    each_leave (d ∷ ds) es h = each-join (IsOfFront n) (with_leaves ds es) _ (each_leave ds es h) (tt, tt)
+
+    each_own : (rs : List (FrontRound A)) → Sound R rs → Each (IsOfFront n) (own R rs)
     each_own [] sound = tt
-    each_own (Came e piece kept ∷ ss) sound = each_own ss sound.1
-    each_own (Did c a ∷ ss) sound = each-join (IsOfFront n) (own R ss) (R.entries c a) (each_own ss sound.1) (acts c a)
-    each_own (Got r behind ∷ ss) sound = each-join (IsOfFront n) (own R ss) _ (each_own ss sound.1) (tt, behinds _ r behind sound.0.1)
-    each_own (Through stopped ∷ ss) sound = each-join (IsOfFront n) (own R ss) _ (each_own ss sound.1) (tt, tt)
-    each_own (Tried c taken ∷ ss) sound = each_own ss sound.1
-    each_own (Left c asks why ∷ ss) sound = each-join (IsOfFront n) (own R ss) _ (each_own ss sound.1) (tt, tt)
+    each_own (r ∷ rs) sound =
+        each_leave r.left _ (each_last r.last _ (each_reply r.event r.acts (λ c. (before rs r c).moves) r.replies _ sound.0.fits (each_asked r.event r.acts (own R rs) (each_own rs sound.1))))
 
     kinds : (shown after : Outside PortsTold) (es : List Entry) (done : FrontDone) (worn : Bool) → FrontLeaves R shown after es done worn → AreOfFront n es done.end
     kinds shown after es done worn left = record {
-      served = own R left.served.steps;
+      served = own R left.served.rounds;
       stop = left.served.stop;
       are = left.served.entries;
-      kinds = each_own left.served.steps left.served.sound;
-      may_stop = may_stop R left.served.steps left.served.stop worn done.end left.served.end_fits;
+      kinds = each_own left.served.rounds left.served.sound;
+      may_stop = may_stop R left.served.rounds left.served.stop worn done.end left.served.end_fits;
     }
 
   -- A front that was not begun.
@@ -95,11 +149,11 @@ module _ {A W : Type 0} (R : Rules A W) where
   tells None = tt
   tells (Some t) = λ c. (sym (append-nil (t.taken c)), λ closed. closed)
 
-  -- it has made no step
-  no_steps : (shown : Outside PortsTold) (es stop : List Entry) (done : FrontDone) (worn : Bool) → es ≡ stop → EndHasCause R done.end [] stop worn → RestsFit R done.end [] done.rests.items → done.end ≢ FrontEnd.Broken → done.starved ≡ 0 → FrontLeaves R shown shown es done worn
-  no_steps shown es stop done worn are fits rests whole none = record {
+  -- it has made no round
+  no_rounds : (shown : Outside PortsTold) (es stop : List Entry) (done : FrontDone) (worn : Bool) → es ≡ stop → EndHasCause R done.end [] stop worn → RestsFit R done.end [] done.rests.items → done.end ≢ FrontEnd.Broken → done.starved ≡ 0 → FrontLeaves R shown shown es done worn
+  no_rounds shown es stop done worn are fits rests whole none = record {
     served = record {
-      steps = [];
+      rounds = [];
       broke = false;
       stop = stop;
       entries = are;
@@ -127,10 +181,10 @@ module _ {A W : Type 0} (R : Rules A W) where
     where
       go : ((es ≡ Stop ∷ []) × (done.end ≡ FrontEnd.NoMemory)) ⊎ ((es ≡ []) × (done.end ≡ FrontEnd.Worn) × (worn ≡ true)) → FrontLeaves R shown shown es done worn
       go (inl a) =
-          no_steps shown es (Stop ∷ []) done worn a.0 (subst (λ end. EndHasCause R end [] (Stop ∷ []) worn) (sym a.1) ((λ c here. cc), tt, refl)) (subst (λ end. RestsFit R end [] done.rests.items) (sym a.1) is.no_rests)
+          no_rounds shown es (Stop ∷ []) done worn a.0 (subst (λ end. EndHasCause R end [] (Stop ∷ []) worn) (sym a.1) (tt, refl)) (subst (λ end. RestsFit R end [] done.rests.items) (sym a.1) is.no_rests)
           (λ broken. let never = sym a.1 ∙ broken in cc) is.none_starved
       go (inr a) =
-          no_steps shown es [] done worn a.0 (subst (λ end. EndHasCause R end [] [] worn) (sym a.1) (a.2, refl)) (subst (λ end. RestsFit R end [] done.rests.items) (sym a.1) (subst (Each (λ (r : Rest). r.front ≡ R.number)) (sym is.no_rests) tt))
+          no_rounds shown es [] done worn a.0 (subst (λ end. EndHasCause R end [] [] worn) (sym a.1) (a.2, refl)) (subst (λ end. RestsFit R end [] done.rests.items) (sym a.1) (subst (Each (λ (r : Rest). r.front ≡ R.number)) (sym is.no_rests) tt))
           (λ broken. let never = sym a.1 ∙ broken in cc) is.none_starved
 
 -- The three fronts.

@@ -12,11 +12,13 @@ use Rattle.farm_base.specs.Outside.{Counted}
 use Rattle.port_events.specs.Boxes.{rest_at, rest_of, as_rest}
 use Rattle.front_loop.specs.declared.sessions.Session.{Session}
 use Rattle.front_loop.specs.Rules.{Rules, Move}
-use Rattle.front_loop.specs.Steps.{Step, Phase, Fresh, Hearing, Collecting, Offering, Leaving, phase, goes_on, MayBegin, there, has, own}
-use Rattle.front_loop.specs.Parts.{part, due, told_after, EachMayCome}
-use Rattle.front_loop.specs.Rounds.{BeginsRound}
+use Rattle.front_loop.specs.inner.Steps.{Step, Phase, Fresh, Hearing, Collecting, Offering, Leaving, phase, goes_on, MayBegin, there, own}
+use Rattle.front_loop.specs.Rounds.{has}
+use Rattle.front_loop.specs.inner.Parts.{part, due, told_after, EachMayCome}
+use Rattle.front_loop.specs.RoundRules.{BeginsRound}
 use Rattle.port_events.specs.declared.ends.Rest.{Rest}
-use Rattle.front_loop.specs.Serving.{EndsAt, StopsAt, FrontRun, EndHasCause, BreakFits, RestsFit, with_break, rests_of}
+use Rattle.front_loop.specs.inner.StepRuns.{EndsAt, StopsAt, StepRun, EndHasCause, RestsFit, rests_of}
+use Rattle.front_loop.specs.Serving.{BreakFits, with_break}
 use Rattle.front_loop.specs.inner.Sessions.{conns, keys, Apart}
 use Rattle.front_loop.specs.inner.Stands.{World, IsAtRest, Sits, Stands}
 use Rattle.front_loop.specs.inner.Stages.{HasBegun, Collects, CanGo, IsOver, Goes, CutShort, EndsEarly, end_of, StopsAfter}
@@ -173,7 +175,7 @@ module _ {A W T : Type 0} (R : Rules A W) (K : List ℕ → List (Move A) → T 
 
   -- a front that met a worn turn
   pub serves_worn : (start told : Option PortsTold) (mine : List Entry) (box : List (ℕ × List ℕ)) (starved : ℕ) (worn : Bool) → CutShort R K start told mine starved → worn ≡ true
-      → FrontRun R start told mine ended.Worn (map (as_rest R.number) box) starved worn
+      → StepRun R start told mine ended.Worn (map (as_rest R.number) box) starved worn
   serves_worn start told mine box starved worn h e = record {
     steps = h.steps;
     broke = false;
@@ -195,7 +197,7 @@ module _ {A W T : Type 0} (R : Rules A W) (K : List ℕ → List (Move A) → T 
   -- a front that ends where a round may begin, or where one is over
   serves_by : (start told' : Option PortsTold) (ss : List (Step A)) (w : World T) (mine' stop : List Entry) (end : FrontEnd) (broke worn : Bool) → Stands R K start ss w → Each IsAtRest w.sessions
       → mine' ≡ w.mine ++ stop → told' ≡ option_map (λ t. with_break broke (told_after R ss t)) start → EndHasCause R end ss stop worn → BreakFits end broke
-      → (broke ≡ true → MayBegin (phase ss)) → RestsFit R end ss (map (as_rest R.number) w.box) → FrontRun R start told' mine' end (map (as_rest R.number) w.box) w.starved worn
+      → (broke ≡ true → MayBegin (phase ss)) → RestsFit R end ss (map (as_rest R.number) w.box) → StepRun R start told' mine' end (map (as_rest R.number) w.box) w.starved worn
   serves_by start told' ss w mine' stop end broke worn st r m t e b q f = record {
     steps = ss;
     broke = broke;
@@ -213,7 +215,7 @@ module _ {A W T : Type 0} (R : Rules A W) (K : List ℕ → List (Move A) → T 
 
   -- the end of a front
   abbrev Ended : Option PortsTold → World T → List Entry → FrontEnd → Bool → Type 0
-  Ended start w mine' end' worn = FrontRun R start w.told mine' end' (map (as_rest R.number) w.box) w.starved worn
+  Ended start w mine' end' worn = StepRun R start w.told mine' end' (map (as_rest R.number) w.box) w.starved worn
 
   serves_finished : (start : Option PortsTold) (w : World T) (mine' : List Entry) (worn : Bool) → IsOver R K event.Finished false start w → mine' ≡ w.mine
       → Ended start w mine' ended.Finished worn
@@ -235,7 +237,7 @@ module _ {A W T : Type 0} (R : Rules A W) (K : List ℕ → List (Move A) → T 
       (all_kept R K start h.steps w st h.can.rested, h.can.time, refl) refl (λ q. clash (sym q)) (whole_rests start h.steps w st h.can.rested)
 
   serves_broken : (start told' : Option PortsTold) (w : World T) (mine' : List Entry) (worn : Bool) → CanGo R K start w → told' ≡ option_map (heard event.Broken []) w.told
-      → mine' ≡ w.mine ++ Stop ∷ [] → FrontRun R start told' mine' ended.Broken (map (as_rest R.number) w.box) w.starved worn
+      → mine' ≡ w.mine ++ Stop ∷ [] → StepRun R start told' mine' ended.Broken (map (as_rest R.number) w.box) w.starved worn
   serves_broken start told' w mine' worn h t m =
       let st = h.can.stands in
       serves_by start told' h.steps w mine' (Stop ∷ []) ended.Broken true worn st h.can.rested m

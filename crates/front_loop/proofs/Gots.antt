@@ -18,9 +18,11 @@ use Rattle.front_loop.specs.declared.dispositions.Disposition.TheVariants.{Stays
 use Rattle.front_loop.specs.declared.dispositions.Reason.TheVariants as reason
 use Rattle.front_loop.specs.declared.sessions.Session.{Session}
 use Rattle.front_loop.specs.Rules.{Rules, Move, Does, Gets, answer_bytes, each_whole}
-use Rattle.front_loop.specs.Steps.{Step, Came, Did, Got, Through, Tried, Left, Phase, Fresh, Hearing, Collecting, Offering, Leaving, phase, collecting, offering, leaving, Gathers, Offers, IsThrough, has}
-use Rattle.front_loop.specs.Parts.{Part, part, after_move, must, is_full, is_cut, is_excused, is_open, Running}
-use Rattle.front_loop.specs.Rounds.{Sound}
+use Rattle.front_loop.specs.inner.Steps.{Step, Came, Did, Got, Through, Tried, Left, Phase, Fresh, Hearing, Collecting, Offering, Leaving, phase, collecting, offering, leaving, Gathers, Offers, IsThrough}
+use Rattle.front_loop.specs.Rounds.{has}
+use Rattle.front_loop.specs.inner.Parts.{Part, part, after_move, must, is_full, is_excused, is_open, Running}
+use Rattle.front_loop.specs.Rules.{is_cut}
+use Rattle.front_loop.specs.inner.Sound.{Sound}
 use Rattle.front_loop.specs.Front.{keeps, RepliedWhy, MayStandAlone}
 use Rattle.front_loop.specs.inner.Sessions.{conns, keys, Apart, StandsAt, is_up, asks_all, worse, owing, woken}
 use Rattle.front_loop.specs.inner.Stands.{World, DispositionFits, Keeping, Counts, Sits}

@@ -10,7 +10,7 @@ use Rattle.front_loop.specs.declared.dispositions.Disposition.TheVariants.{Stays
 use Rattle.front_loop.specs.declared.dispositions.Reason.TheVariants as reason
 use Rattle.front_loop.specs.declared.sessions.Session.{Session}
 use Rattle.front_loop.specs.Rules.{Rules, Move, wants_of, answer_bytes, each_whole, any_starves}
-use Rattle.front_loop.specs.Parts.{Part, due, must}
+use Rattle.front_loop.specs.inner.Parts.{Part, due, must}
 use Rattle.front_loop.specs.Front.{keeps, does, HeardWhy, Heard}
 use Rattle.front_loop.specs.inner.Sessions.{is_up, is_unread, owing}
 use Rattle.front_loop.specs.inner.Stands.{IsAtRest, Keeping, Counts, Sits}

@@ -10,10 +10,11 @@ use Rattle.front_loop.specs.declared.dispositions.Reason.{Reason}
 use Rattle.front_loop.specs.declared.dispositions.Reason.TheVariants as reason
 use Rattle.front_loop.specs.declared.sessions.Session.{Session}
 use Rattle.front_loop.specs.Rules.{Rules, Move}
-use Rattle.front_loop.specs.Steps.{Left, Phase, Fresh, Hearing, Collecting, Offering, Leaving, phase, leaving, IsThrough, there, has, remove, starved_in, with_starved}
-use Rattle.front_loop.specs.Parts.{Part, part, is_open, told_after}
-use Rattle.front_loop.specs.Rounds.{LastTry, AskedAll}
-use Rattle.front_loop.specs.Serving.{EndsAt}
+use Rattle.front_loop.specs.inner.Steps.{Left, Phase, Fresh, Hearing, Collecting, Offering, Leaving, phase, leaving, IsThrough, there, starved_in}
+use Rattle.front_loop.specs.Rounds.{has, remove, with_starved}
+use Rattle.front_loop.specs.inner.Parts.{Part, part, is_open, told_after}
+use Rattle.front_loop.specs.inner.Sound.{LastTry, AskedAll}
+use Rattle.front_loop.specs.inner.StepRuns.{EndsAt}
 use Rattle.front_loop.specs.Front.{keeps}
 use Rattle.front_loop.specs.inner.Sessions.{conns, Apart, StandsAt, IsLeaving, is_up, asks_all}
 use Rattle.front_loop.specs.inner.Stands.{World, IsAtRest, DispositionFits, Sits}

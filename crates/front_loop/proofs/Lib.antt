@@ -11,3 +11,4 @@ pub mod Opens
 pub mod Telling
 pub mod Goings
 pub mod Seating
+pub mod RoundsMade

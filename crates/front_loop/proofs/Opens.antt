@@ -11,8 +11,9 @@ use Rattle.front_loop.specs.declared.dispositions.Disposition.TheVariants.{Stays
 use Rattle.front_loop.specs.declared.sessions.Session.{Session}
 use Rattle.front_loop.specs.declared.sessions.SessionTable.{SessionTable}
 use Rattle.front_loop.specs.Rules.{Rules, Move}
-use Rattle.front_loop.specs.Steps.{Step, Came, has, starved_in}
-use Rattle.front_loop.specs.Parts.{Part, part, came, told_after, blank}
+use Rattle.front_loop.specs.inner.Steps.{Step, Came, starved_in}
+use Rattle.front_loop.specs.Rounds.{has}
+use Rattle.front_loop.specs.inner.Parts.{Part, part, came, told_after, blank}
 use Rattle.front_loop.specs.Front.{Begins}
 use Rattle.front_loop.specs.inner.Sessions.{conns, keys, Apart, newcomer}
 use Rattle.front_loop.specs.inner.Stands.{World, world, Sits}

@@ -12,8 +12,8 @@ use Rattle.front_loop.specs.declared.dispositions.Disposition.TheVariants.{Stays
 use Rattle.front_loop.specs.declared.dispositions.Reason.TheVariants as reason
 use Rattle.front_loop.specs.declared.sessions.Session.{Session}
 use Rattle.front_loop.specs.Rules.{Rules, Move, Does, answer_bytes, each_whole, any_starves}
-use Rattle.front_loop.specs.Parts.{Part, must, is_open, Calm}
-use Rattle.front_loop.specs.Rounds.{HasAll}
+use Rattle.front_loop.specs.inner.Parts.{Part, must, is_open, Calm}
+use Rattle.front_loop.specs.inner.Sound.{HasAll}
 use Rattle.front_loop.specs.Front.{keeps, does}
 use Rattle.front_loop.specs.inner.Sessions.{is_up, asks_all, woken}
 use Rattle.front_loop.specs.inner.Stands.{IsAtRest, DispositionFits, Keeping, Counts, Sits}

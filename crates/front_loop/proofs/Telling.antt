@@ -8,10 +8,13 @@ use Rattle.port_events.specs.declared.events.PortEvent.{PortEvent}
 use Rattle.port_events.specs.declared.events.PortEvent.TheVariants as event
 use Rattle.port_events.specs.Told.{PortsTold, MayCome, heard, after_send, after_close}
 use Rattle.front_loop.specs.Rules.{Rules, Move, Does, Gets, answer_bytes}
-use Rattle.front_loop.specs.Steps.{Step, Came, Did, Got, Through, Tried, Left, there, has, remove, connections_after}
-use Rattle.front_loop.specs.Parts.{Part, part, due, came, after_move, with_try, blank, opens, is_open, send_answer, shut_out, told_after, EachMayCome}
-use Rattle.front_loop.specs.Rounds.{Sound, AllKept, OpensNew}
-use Rattle.front_loop.specs.Serving.{TellsOf}
+use Rattle.front_loop.specs.inner.Steps.{Step, Came, Did, Got, Through, Tried, Left, there}
+use Rattle.front_loop.specs.Rounds.{has, remove, connections_after}
+use Rattle.front_loop.specs.inner.Parts.{Part, part, due, came, after_move, with_try, blank, is_open, told_after, EachMayCome}
+use Rattle.front_loop.specs.Conns.{opens, send_answer, shut_out}
+use Rattle.front_loop.specs.inner.Sound.{Sound, AllKept}
+use Rattle.front_loop.specs.RoundRules.{OpensNew}
+use Rattle.front_loop.specs.inner.StepRuns.{TellsOf}
 use Rattle.front_loop.specs.inner.Sessions.{Apart}
 use Rattle.front_loop.proofs.Tables.{same, flipped, has_more, apart_snoc, apart_remove}
 use Rattle.front_loop.proofs.Sitting.{clash, lost_up}

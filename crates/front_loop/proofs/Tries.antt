@@ -14,9 +14,11 @@ use Rattle.front_loop.specs.declared.sessions.Session.{Session}
 use Rattle.front_loop.specs.declared.offering.Gave.{Gave}
 use Rattle.front_loop.specs.declared.offering.Gave.TheVariants as gave
 use Rattle.front_loop.specs.Rules.{Rules, Move, answer_bytes}
-use Rattle.front_loop.specs.Steps.{Tried, Phase, Fresh, Hearing, Collecting, Offering, Leaving, phase, Offers, has}
-use Rattle.front_loop.specs.Parts.{Part, part, due, must, with_try, send_answer, told_after}
-use Rattle.front_loop.specs.Serving.{EndsAt}
+use Rattle.front_loop.specs.inner.Steps.{Tried, Phase, Fresh, Hearing, Collecting, Offering, Leaving, phase, Offers}
+use Rattle.front_loop.specs.Rounds.{has}
+use Rattle.front_loop.specs.inner.Parts.{Part, part, due, must, with_try, told_after}
+use Rattle.front_loop.specs.Conns.{send_answer}
+use Rattle.front_loop.specs.inner.StepRuns.{EndsAt}
 use Rattle.front_loop.specs.Front.{keeps}
 use Rattle.front_loop.specs.inner.Sessions.{keys, Apart, StandsAt, is_up}
 use Rattle.front_loop.specs.inner.Stands.{World, DispositionFits, Counts, Sits}

@@ -11,9 +11,12 @@ use Rattle.front_loop.specs.declared.dispositions.Disposition.{Disposition}
 use Rattle.front_loop.specs.declared.sessions.Session.{Session}
 use Rattle.front_loop.specs.declared.sessions.SessionTable.{SessionTable}
 use Rattle.front_loop.specs.Rules.{Rules, Move, Does, wants_of, BeginsWanted, any_starves}
-use Rattle.front_loop.specs.Steps.{Step, Came, Did, phase, Phase, Hearing, there, has, own, starved_in, connections_after, with_refused}
-use Rattle.front_loop.specs.Parts.{Part, part, came, after_move, told_after, EachMayCome, shut_out}
-use Rattle.front_loop.specs.Rounds.{Sound, AllKept, Kept, BeginsRound}
+use Rattle.front_loop.specs.inner.Steps.{Step, Came, Did, phase, Phase, Hearing, there, own, starved_in}
+use Rattle.front_loop.specs.Rounds.{has, connections_after, with_refused}
+use Rattle.front_loop.specs.inner.Parts.{Part, part, came, after_move, told_after, EachMayCome}
+use Rattle.front_loop.specs.Conns.{shut_out}
+use Rattle.front_loop.specs.inner.Sound.{Sound, AllKept, Kept}
+use Rattle.front_loop.specs.RoundRules.{BeginsRound}
 use Rattle.front_loop.specs.Front.{does, with_acts, EachFits}
 use Rattle.front_loop.specs.inner.Sessions.{conns, keys, Apart, StandsAt, woken}
 use Rattle.front_loop.specs.inner.Stands.{World, world, IsAtRest, Sits, Stands}

@@ -1,7 +1,8 @@
 pub mod Rules
-pub mod Steps
-pub mod Parts
+pub mod Moves
 pub mod Rounds
+pub mod Conns
+pub mod RoundRules
 pub mod Serving
 pub mod Calls
 pub mod Front

@@ -1,97 +1,118 @@
--- Which step a front may make after those before it: its rounds, and what holds of each connection in them.
-use Rattle.std.specs.Prelude.{◌≡◌, ℕ, ◌<◌, ◌≤◌, Bool, true, false, List, [], ◌∷◌, ◌++◌, length, Option, IfSome}
+-- What a front does, round by round: a round is what it does with one event of its ports. The newest round comes
+-- first, and so the newest of each list in it.
+use Rattle.std.specs.Prelude.{ℕ, ◌+◌, ◌==◌, Bool, true, false, cond, List, [], ◌∷◌, ◌++◌, length, Option, Some, None, nat_lt}
 use Rattle.farm_base.specs.Limits.{most_sessions}
 use Rattle.port_events.specs.declared.events.PortEvent.{PortEvent}
 use Rattle.port_events.specs.declared.events.PortEvent.TheVariants as event
+use Rattle.farm_history.specs.declared.queues.Reply.{Reply}
+use Rattle.farm_history.specs.declared.answers.Collected.{Collected}
+use Rattle.farm_history.specs.declared.answers.Collected.TheVariants as collected
+use Rattle.farm_history.specs.Entries.{Entry, Collect, Leave}
 use Rattle.front_loop.specs.declared.dispositions.Reason.{Reason}
 use Rattle.front_loop.specs.declared.dispositions.Reason.TheVariants as reason
-use Rattle.front_loop.specs.Rules.{Rules, Does, Gets, wants_of, each_whole, BeginsWanted}
-use Rattle.front_loop.specs.Steps.{Step, Came, Did, Got, Through, Tried, Left, Hearing, phase, Gathers, IsThrough, MayBegin, Offers, there, has}
-use Rattle.front_loop.specs.Parts.{Part, part, due, must, Offered, Caused, Calm}
+use Rattle.front_loop.specs.Rules.{Rules}
 
--- Want of memory of the ports, and their end as a whole, begin no round.
-abbrev pub BeginsRound : PortEvent → Type 0
-BeginsRound event.Broken = ⊥
-BeginsRound event.NoMemory = ⊥
-BeginsRound _ = Unit {0}
+-- a reply that a Collect gave, and the entries that stand directly behind that Collect
+pub record Gathered : Type 0 where
+  pub reply : Reply
+  pub behind : List Entry
 
--- the event opens a connection that is not among these
-abbrev pub OpensNew : PortEvent → List ℕ → Type 0
-OpensNew (event.Opened c) cs = has cs c ≡ false
-OpensNew _ cs = ⊥
+-- all bytes of a connection that were answered and not taken were offered in one send: how many of them were
+-- taken, none where it failed
+pub record Send : Type 0 where
+  pub conn : ℕ
+  pub taken : Option ℕ
+
+-- a connection was left: how many of its asks were open, and why it was left
+pub record Departure : Type 0 where
+  pub conn : ℕ
+  pub asks : ℕ
+  pub why : Reason
+
+pub record FrontRound (A : Type 0) : Type 0 where
+  -- its event, with the bytes of the piece; true where an Opened made a session
+  pub event : PortEvent
+  pub piece : List ℕ
+  pub kept : Bool
+  -- the requests that were done, of the connection whose bytes came
+  pub acts : List A
+  -- the replies that Collects gave; then whether the Collect that gave none was answered Stopped. A round that is
+  -- cut short before that Collect has none.
+  pub replies : List Gathered
+  pub last : Option Bool
+  -- the sends, and the connections that were left
+  pub sends : List Send
+  pub left : List Departure
+
+-- what the things of a list make of this in turn; the newest comes first, so the last is the first to be done
+abbrev pub in_turn : {X T : Type 0} → (X → T → T) → List X → T → T
+in_turn f [] t = t
+in_turn f (x ∷ xs) t = f x (in_turn f xs t)
+
+-- ---- connections
+
+-- a list of connections without the first of that number
+abbrev pub remove : List ℕ → ℕ → List ℕ
+remove [] c = []
+remove (d ∷ ds) c = cond (d == c) ds (d ∷ remove ds c)
+
+-- whether a connection is in the list
+abbrev pub has : List ℕ → ℕ → Bool
+has [] c = false
+has (d ∷ ds) c = cond (d == c) true (has ds c)
+
+-- the connections that are there after the event: an Opened adds one where it made a session
+abbrev pub connections_after : List ℕ → PortEvent → Bool → List ℕ
+connections_after cs (event.Opened c) true = cs ++ c ∷ []
+connections_after cs _ _ = cs
+
+-- those that are there when these were left
+abbrev pub gone : List Departure → List ℕ → List ℕ
+gone ds cs = in_turn (λ (d : Departure) ds. remove ds d.conn) ds cs
+
+-- the connections that are there after the rounds, in the order in which they were opened
+abbrev pub there : {A : Type 0} → List (FrontRound A) → List ℕ
+there [] = []
+there (r ∷ rs) = gone r.left (connections_after (there rs) r.event r.kept)
+
+-- one more, where a connection was refused although fewer than 1,024 were there
+abbrev pub with_refused : ℕ → PortEvent → Bool → ℕ → ℕ
+with_refused n (event.Opened c) false there = cond (nat_lt there most_sessions) (n + 1) n
+with_refused n _ _ there = n
+
+-- one more, where a connection is left with that as its cause
+abbrev pub with_starved : ℕ → Reason → ℕ
+with_starved n reason.Starved = n + 1
+with_starved n _ = n
+
+-- how many connections were closed for a want of memory that no entry shows: those refused with room for them, and
+-- those left with that as their cause
+abbrev pub starved_in : {A : Type 0} → List (FrontRound A) → ℕ
+starved_in [] = 0
+starved_in (r ∷ rs) = in_turn (λ (d : Departure) n. with_starved n d.why) r.left (with_refused (starved_in rs) r.event r.kept (length (there rs)))
+
+-- ---- entries
+
+-- the answer of the Collect that gives no reply
+abbrev pub no_reply : Bool → Collected
+no_reply true = collected.Stopped
+no_reply false = collected.Empty
 
 module _ {A W : Type 0} (R : Rules A W) where
-  -- What holds of a connection that is there as a round ends: all that its bytes ask was asked and has all its
-  -- entries; nothing closes it; and it was offered its bytes where there was a reason.
-  pub record Kept (p : Part A) : Type 0 where
-    pub asked_all : R.wanted p.given (wants_of R p.moves)
-    pub whole : each_whole R p.moves ≡ true
-    pub calm : Calm R p
-    pub offered : Offered R p
+  -- the entries of a request of the connection whose bytes came
+  abbrev pub asked_by : PortEvent → A → List Entry
+  asked_by (event.Bytes c) a = R.entries c a
+  asked_by _ a = []
 
-  -- so is every connection that is there
-  abbrev pub AllKept : List (Step A) → Type 0
-  AllKept ss = (c : ℕ) → has (there ss) c ≡ true → Kept (part R ss c)
+  -- the entry of the Collect that gave no reply, behind others
+  abbrev pub with_last : Option Bool → List Entry → List Entry
+  with_last None es = es
+  with_last (Some stopped) es = es ++ Collect R.number (no_reply stopped) ∷ []
 
-  -- a connection that is left for what stood in its bytes alone was offered its bytes once
-  abbrev pub LastTry : Part A → Reason → Type 0
-  LastTry p reason.Unread = Offered R p
-  LastTry _ _ = Unit {0}
-
-  -- all that its bytes ask was asked, and each move has all its entries but for the replies that may lack them
-  abbrev pub HasAll : Part A → Type 0
-  HasAll p = R.wanted p.given (wants_of R p.moves) × (p.complete ≡ true)
-
-  -- so it is of a connection that is left, unless its rest was full or memory was wanting
-  abbrev pub AskedAll : Part A → Reason → Type 0
-  AskedAll p reason.Full = Unit {0}
-  AskedAll p reason.NoMemory = Unit {0}
-  AskedAll p reason.Starved = Unit {0}
-  AskedAll p _ = HasAll p
-
-  -- A request that was done: it became whole by the round's event, it is the next of those that stand in the bytes,
-  -- and it has entries that fit.
-  pub record DidFits (ss : List (Step A)) (c : ℕ) (a : A) : Type 0 where
-    pub heard : phase ss ≡ Hearing (event.Bytes c)
-    pub fits : R.fits (part R ss c).moves (Does a) ≡ true
-    pub begins : BeginsWanted R (part R ss c).given (wants_of R (part R ss c).moves ++ R.want a ∷ [])
-
-  -- A try to send: after the last Collect, to a connection that is there, for a reason, once in a round, and of
-  -- more than 0 bytes, of which no more are taken than there are.
-  pub record TryFits (ss : List (Step A)) (c : ℕ) (taken : Option ℕ) : Type 0 where
-    pub time : Offers (phase ss)
-    pub is_there : has (there ss) c ≡ true
-    pub reason : must R (part R ss c) ≡ true
-    pub once : (part R ss c).tried ≡ false
-    pub some : 0 < length (due R (part R ss c))
-    pub most : IfSome taken (λ n. n ≤ length (due R (part R ss c)))
-
-  -- A connection that is left: after the last Collect, while it is there, and with its cause.
-  pub record LeftFits (ss : List (Step A)) (c : ℕ) (why : Reason) : Type 0 where
-    pub time : IsThrough (phase ss)
-    pub is_there : has (there ss) c ≡ true
-    pub caused : Caused R (part R ss c) why
-    pub last_try : LastTry (part R ss c) why
-    pub asked_all : AskedAll (part R ss c) why
-
-  -- A round begins: the one before it is whole, and the front goes on after it. An Opened makes a session only where
-  -- fewer than 1,024 are there and its connection is not.
-  pub record CameFits (ss : List (Step A)) (e : PortEvent) (kept : Bool) : Type 0 where
-    pub time : MayBegin (phase ss)
-    pub begins : BeginsRound e
-    pub before : AllKept ss
-    pub room : kept ≡ true → (length (there ss) < most_sessions) × OpensNew e (there ss)
-
-  -- the step may be made after those before it
-  abbrev pub StepFits : Step A → List (Step A) → Type 0
-  StepFits (Came e piece kept) ss = CameFits ss e kept
-  StepFits (Did c a) ss = DidFits ss c a
-  StepFits (Got r behind) ss = Gathers (phase ss) × (R.fits (part R ss r.conn.number).moves (Gets r behind) ≡ true)
-  StepFits (Through stopped) ss = Gathers (phase ss)
-  StepFits (Tried c taken) ss = TryFits ss c taken
-  StepFits (Left c asks why) ss = LeftFits ss c why
-
-  -- each step may be made after those before it
-  abbrev pub Sound : List (Step A) → Type 0
-  Sound [] = Unit {0}
-  Sound (s ∷ ss) = StepFits s ss × Sound ss
+  -- the front's own entries, in order: in each round those of the requests, then the Collects with what stands behind them, then the Leaves
+  abbrev pub own : List (FrontRound A) → List Entry
+  own [] = []
+  own (r ∷ rs) =
+      in_turn (λ (d : Departure) es. es ++ Leave (record { front = R.number; number = d.conn }) d.asks ∷ []) r.left
+      (with_last r.last (in_turn (λ (g : Gathered) es. es ++ Collect R.number (collected.Reply g.reply) ∷ g.behind) r.replies
+      (in_turn (λ (a : A) es. es ++ asked_by r.event a) r.acts (own rs))))

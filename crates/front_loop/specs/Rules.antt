@@ -3,6 +3,7 @@
 -- and of entries have the oldest first.
 use Rattle.std.specs.Prelude.{◌≡◌, ℕ, Bool, true, false, ◌&&◌, ◌||◌, ◌⊎◌, List, [], ◌∷◌, ◌++◌}
 use Rattle.farm_history.specs.declared.queues.Reply.{Reply}
+use Rattle.farm_history.specs.declared.queues.Outcome.TheVariants as outcome
 use Rattle.farm_history.specs.Entries.{Entry}
 
 -- the list is empty
@@ -15,6 +16,11 @@ is_empty (x ∷ xs) = false
 pub data Move (A : Type 0) : Type 0 where
   Does : A → Move A
   Gets : Reply → List Entry → Move A
+
+-- the move is a reply to an ask that was cut
+abbrev pub is_cut : {A : Type 0} → Move A → Bool
+is_cut (Does a) = false
+is_cut (Gets r behind) = elim r.outcome [ outcome.Cut ↦ true | outcome.Done ↦ false | outcome.NotDone ↦ false ]
 
 -- What a front makes of a connection. W is a request; A is a request that was done, with its answers.
 pub record Rules (A W : Type 0) : Type 1 where
@@ -54,6 +60,11 @@ module _ {A W : Type 0} (R : Rules A W) where
   abbrev pub each_whole : List (Move A) → Bool
   each_whole [] = true
   each_whole (m ∷ ms) = R.whole ms m && each_whole ms
+
+  -- every move fits those before it
+  abbrev pub each_fits : List (Move A) → Bool
+  each_fits [] = true
+  each_fits (m ∷ ms) = R.fits ms m && each_fits ms
 
   -- some move found no memory
   abbrev pub any_starves : List (Move A) → Bool

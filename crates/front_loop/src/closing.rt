@@ -3,7 +3,7 @@ ghost use Rattle.std.specs.Prelude.{◌≡◌, ◌+◌, ◌-◌, ◌^◌, ◌<�
 ghost use Rattle.farm_history.specs.Entries.{Entry};
 ghost use Rattle.farm_history.specs.Lists.{Each};
 ghost use Rattle.front_loop.specs.Calls.{SameSeat};
-ghost use Rattle.front_loop.specs.Steps.{with_starved};
+ghost use Rattle.front_loop.specs.Rounds.{with_starved};
 ghost use Rattle.front_loop.specs.declared.sessions.Session.{Session};
 ghost use Rattle.front_loop.specs.inner.Sessions as spec;
 ghost use Rattle.front_loop.specs.inner.Sessions.{is_up, IsLeaving, StaysOn};

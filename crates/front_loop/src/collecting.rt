@@ -1,7 +1,7 @@
 //! Replies are collected until none comes.
 ghost use Rattle.std.specs.Prelude.{◌≡◌, ◌+◌, [], true, false, ℕ, List, Option, MatchResult, OnErr};
 ghost use Rattle.front_loop.specs.Calls.{SameSeat};
-ghost use Rattle.front_loop.specs.Steps.{Step};
+ghost use Rattle.front_loop.specs.inner.Steps.{Step};
 ghost use Rattle.front_loop.specs.inner.Sessions.{worse};
 ghost use Rattle.front_loop.specs.inner.Stands.{world};
 ghost use Rattle.front_loop.specs.inner.Stages.{RepliesOne, AnswersWorn, Collects, CollectsOne, CanOffer, CutShort};

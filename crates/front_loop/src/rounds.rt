@@ -3,12 +3,13 @@ ghost use Rattle.std.specs.Prelude.{◌≡◌, ◌≢◌, ◌≤◌, ◌+◌, []
 ghost use Rattle.farm_history.specs.Entries.{Entry};
 ghost use Rattle.front_loop.specs.Calls.{SameSeat};
 ghost use Rattle.front_loop.specs.Serving.{FrontRun};
+ghost use Rattle.front_loop.specs.inner.StepRuns.{StepRun};
 ghost use Rattle.farm_base.specs.Outside.{Counted};
 ghost use Rattle.port_events.specs.Boxes.{as_rest};
 ghost use Rattle.port_events.specs.declared.ends.FrontEnd.TheVariants as ended;
 ghost use Rattle.front_loop.specs.inner.Stands.{world};
 ghost use Rattle.front_loop.specs.inner.Stages.{Comes, CanGo, Goes, CutShort, EndsEarly, StopsAfter, end_of};
-ghost use Rattle.front_loop.specs.Rounds.{BeginsRound};
+ghost use Rattle.front_loop.specs.RoundRules.{BeginsRound};
 ghost use Rattle.port_events.specs.Told.{PortsTold};
 
 use crate::closing::close_all;
@@ -192,7 +193,7 @@ fn serve_at<R: Wait, M: Farm, F: Front<M>, P: Ports>(
     requires number { (M.seats farm.now).number seat.old ≡ (F.rules front.now farm.now).number + 1 }
     requires ready { CanGo (F.rules front.now farm.now) F.knows (P.state ports.old).told (world (P.state ports.old).told ((M.seats farm.now).mine seat.old) table.old) }
     ensures seat { SameSeat (M.seats farm.now) seat.old seat.new }
-    ensures served { FrontRun (F.rules front.now farm.now) (P.state ports.old).told (P.state ports.new).told ((M.seats farm.now).mine seat.new) result (map (as_rest (F.rules front.now farm.now).number) table.new.outbox) table.new.starved ((M.seats farm.now).worn seat.new) }
+    ensures served { StepRun (F.rules front.now farm.now) (P.state ports.old).told (P.state ports.new).told ((M.seats farm.now).mine seat.new) result (map (as_rest (F.rules front.now farm.now).number) table.new.outbox) table.new.starved ((M.seats farm.now).worn seat.new) }
     ensures broken { result ≡ ended.Broken → Counted (P.state ports.old).faults (P.state ports.new).faults }
 {
     match run(rt, alloc, front, farm, seat, table, ports) {

@@ -1,7 +1,7 @@
 //! Sessions, and where they are kept.
 ghost use Rattle.std.specs.Prelude.{◌≡◌, ◌+◌, ◌<◌, ◌++◌, ◌∷◌, [], true, false, length, map, IfSome, IfNone, position, ◌==◌, ℕ};
 ghost use Rattle.front_loop.specs.declared.sessions.Session.{Session};
-ghost use Rattle.front_loop.specs.Steps.{has};
+ghost use Rattle.front_loop.specs.Rounds.{has};
 ghost use Rattle.front_loop.specs.inner.Sessions.{conns, HasConn};
 
 use crate::dispositions::{Disposition, Reason};

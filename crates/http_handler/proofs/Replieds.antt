@@ -9,8 +9,7 @@ use Rattle.farm_history.specs.declared.answers.Fetched.{Fetched}
 use Rattle.front_loop.specs.declared.dispositions.Disposition.{Disposition}
 use Rattle.front_loop.specs.declared.dispositions.Disposition.TheVariants.{Stays, Leaves}
 use Rattle.front_loop.specs.declared.dispositions.Reason.TheVariants as reason
-use Rattle.front_loop.specs.Rules.{Gets}
-use Rattle.front_loop.specs.Parts.{is_cut}
+use Rattle.front_loop.specs.Rules.{Gets, is_cut}
 use Rattle.front_loop.specs.Front.{RepliedWhy, Replied, Replies}
 use Rattle.http_handler.specs.declared.acts.Act.{Act}
 use Rattle.http_handler.specs.declared.conn_states.ConnState.{ConnState}

@@ -1,5 +1,5 @@
 -- What is said, and what a ask leaves, by cases.
-use Rattle.std.proofs.Common.{◌≡◌, ℕ, List, [], ◌∷◌, ◌++◌, true, false, Option, Some, None, Result, Ok, Err, inl, inr, refl, sym, ap, subst, ◌∙◌, append_assoc, append-nil}
+use Rattle.std.proofs.Common.{◌≡◌, ◌||◌, ℕ, List, [], ◌∷◌, ◌++◌, true, false, Option, Some, None, Result, Ok, Err, inl, inr, refl, sym, ap, subst, ◌∙◌, append_assoc, append-nil}
 use Rattle.std.proofs.lemmas.Bool.{false≢true}
 use Rattle.std.specs.Prelude.{OnOk, MatchResult, option_map}
 use Rattle.std.specs.Option.{is_some, is_none}
@@ -12,6 +12,7 @@ use Rattle.farm_history.specs.declared.answers.Looked.{Looked}
 use Rattle.front_loop.specs.declared.dispositions.Disposition.{Disposition}
 use Rattle.front_loop.specs.declared.dispositions.Disposition.TheVariants.{Stays, Leaves}
 use Rattle.front_loop.specs.declared.dispositions.Reason.TheVariants as reason
+use Rattle.front_loop.specs.Moves.{or_empty}
 use Rattle.front_loop.specs.Front.{keeps}
 use Rattle.tile_answers.specs.Answers.{status_answer, dirty_answer}
 use Rattle.http_handler.specs.declared.acts.HttpAsk.{HttpAsk}
@@ -21,9 +22,9 @@ use Rattle.http_handler.specs.declared.acts.Act.TheVariants as act
 use Rattle.http_handler.specs.declared.conn_states.Stage.{Stage}
 use Rattle.http_handler.specs.declared.conn_states.Stage.TheVariants.{Waiting, Answered}
 use Rattle.http_handler.specs.ConnStates.{is_reading, is_answered, waits_in}
-use Rattle.http_handler.specs.Tiles.{is_refusal, refusal, want, tile_entries, fits_act, whole_act, answer_of, is_answer, waits_by, starves_act}
+use Rattle.http_handler.specs.Tiles.{refusal}
 use Rattle.farm_history.specs.Past.{number_in}
-use Rattle.http_handler.specs.Steps.{WhyOf, Says, Fetches, DoesHttpAsk}
+use Rattle.http_handler.specs.Steps.{want, tile_entries, fits_act, whole_act, answer_of, is_answer, waits_by, starves_act, WhyOf, Says, Fetches, DoesHttpAsk}
 
 said_all : (text response : List ℕ) (disposition : Disposition) → disposition ≡ Stays → response ≡ text → Says text response disposition
 said_all text response disposition e is = record { why = subst (λ (f : Disposition). WhyOf false f) (sym e) refl; response_is = λ k. is }
@@ -63,9 +64,11 @@ did c a mine mine' stage response disposition is fits (whole, waits, ends) e why
     )
 
 -- a ask that was answered without a call
-pub did_refuse : (c : Conn) (w : HttpAsk) (mine : List Entry) (stage : Stage) (response : List ℕ) (disposition : Disposition) → is_refusal w ≡ true → stage ≡ Answered
-    → Says (refusal w) response disposition → DoesHttpAsk c w mine mine stage response disposition
-did_refuse c w mine stage response disposition is e says = did c (act.Refused w) mine mine stage response disposition (sym (append-nil mine)) is (refl, refl, refl) e says.why says.response_is
+pub did_refuse : (c : Conn) (w : HttpAsk) (mine : List Entry) (stage : Stage) (response text : List ℕ) (disposition : Disposition) → refusal w ≡ Some text → stage ≡ Answered
+    → Says text response disposition → DoesHttpAsk c w mine mine stage response disposition
+did_refuse c w mine stage response text disposition is e says =
+    did c (act.Refused w) mine mine stage response disposition (sym (append-nil mine)) (ap is_some is) (ap (λ o. is_some o || false) is, refl, ap is_some is) e says.why
+    (λ k. says.response_is k ∙ sym (ap (λ (o : Option (List ℕ)). or_empty o) is))
 
 pub did_look : (c : Conn) (s : Spot) (l : Looked) (mine mine' : List Entry) (stage : Stage) (response : List ℕ) (disposition : Disposition) → mine' ≡ mine ++ Look s l ∷ [] → stage ≡ Answered
     → Says (status_answer l) response disposition → DoesHttpAsk c (http_ask.Status s) mine mine' stage response disposition
@@ -91,7 +94,7 @@ did_ask c s a n mine mine' stage response some is e none =
         fits = refl;
         why = refl;
         response_is = λ k. none;
-        whole = λ k. ap (λ (o : Option ℕ). is_some o) some;
+        whole = λ k. ap (λ (o : Option ℕ). is_some {T = ℕ × Spot} (option_map (λ m. (m, s)) o)) some;
         read = λ k. ap is_reading e;
         waits = λ k. ap (λ (o : Option ℕ). option_map (λ m. (m, s)) o) some ∙ ap waits_in (sym e);
         ends = λ k. ap is_answered (sym e);

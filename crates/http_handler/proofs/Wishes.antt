@@ -15,7 +15,8 @@ use Rattle.http_handler.specs.declared.acts.Act.{Act}
 use Rattle.http_handler.specs.declared.conn_states.Stage.{Stage}
 use Rattle.http_handler.specs.declared.conn_states.Stage.TheVariants.{Reading, Waiting, Answered}
 use Rattle.http_handler.specs.ConnStates.{is_reading, is_answered, waits_in, spot_at}
-use Rattle.http_handler.specs.Tiles.{GetsSpot, http_ask_of, BytesAsk, want, http_asks, still_waits, same_map, same_spot, tile_rules}
+use Rattle.http_handler.specs.Tiles.{GetsSpot, http_ask_of, BytesAsk, http_asks, still_waits, same_map, same_spot, tile_rules}
+use Rattle.http_handler.specs.Steps.{want}
 
 -- no test is passed and failed
 pub no_both : (b : Bool) → b ≡ true → b ≡ false → ⊥

@@ -1,5 +1,6 @@
--- The steps of the tile front's calls: what is found in a head, what a fetch and a ask leave.
-use Rattle.std.specs.Prelude.{◌≡◌, ℕ, Bool, true, false, ◌⊎◌, List, [], ◌∷◌, ◌++◌, Option, Some, None}
+-- The steps of the tile front's calls: what is found in a head, what a fetch and an ask leave.
+use Rattle.std.specs.Option.{is_some}
+use Rattle.std.specs.Prelude.{◌≡◌, ℕ, Bool, true, false, ◌||◌, ◌⊎◌, List, [], ◌∷◌, ◌++◌, Option, Some, None}
 use Rattle.farm_history.specs.declared.asks.Spot.{Spot}
 use Rattle.farm_history.specs.declared.queues.Conn.{Conn}
 use Rattle.farm_history.specs.declared.answers.Fetched.{Fetched}
@@ -14,7 +15,44 @@ use Rattle.http_handler.specs.declared.acts.HttpAsk.{HttpAsk}
 use Rattle.http_handler.specs.declared.acts.Act.{Act}
 use Rattle.http_handler.specs.declared.conn_states.Stage.{Stage}
 use Rattle.http_handler.specs.ConnStates.{is_reading, is_answered, waits_in}
-use Rattle.http_handler.specs.Tiles.{BytesAsk, want, tile_entries, waits_by, fits_act, whole_act, answer_of, is_answer, found_no_memory, starves_act}
+use Rattle.front_loop.specs.Moves.{or_empty}
+use Rattle.http_handler.specs.Tiles.{BytesAsk, found_no_memory, ask_done}
+
+-- ---- an act, by what is made of it
+
+-- the ask that was done
+abbrev pub want : Act → HttpAsk
+want a = (ask_done a).asked
+
+-- its entries on a connection
+abbrev pub tile_entries : Conn → Act → List Entry
+tile_entries c a = (ask_done a).entries c
+
+-- the ask of the farm that waits after it
+abbrev pub waits_by : Act → Option (ℕ × Spot)
+waits_by a = (ask_done a).waits
+
+-- it is so that it may be
+abbrev pub fits_act : Act → Bool
+fits_act a = (ask_done a).fits
+
+-- it is answered, or waits
+abbrev pub whole_act : Act → Bool
+whole_act a = is_some (ask_done a).answer || is_some (ask_done a).waits
+
+-- the bytes that are answered to it
+abbrev pub answer_of : Act → List ℕ
+answer_of a = or_empty (ask_done a).answer
+
+-- it is answered
+abbrev pub is_answer : Act → Bool
+is_answer a = is_some (ask_done a).answer
+
+-- an entry of it was answered with want of memory
+abbrev pub starves_act : Act → Bool
+starves_act a = (ask_done a).starves
+
+-- ---- the steps
 
 -- the ask that stands in the bytes, or none while more are waited for
 abbrev pub Finds : (List ℕ → Option ℕ) → List ℕ → Option HttpAsk → Type 0

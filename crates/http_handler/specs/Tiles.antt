@@ -10,8 +10,8 @@ use Rattle.farm_history.specs.declared.answers.Fetched.{Fetched}
 use Rattle.farm_history.specs.declared.answers.Fetched.TheVariants as fetched
 use Rattle.farm_history.specs.Entries.{Entry, Ask, Fetch, Look}
 use Rattle.farm_history.specs.Past.{number_in}
-use Rattle.front_loop.specs.Rules.{Rules, Move, Does, Gets, is_empty}
-use Rattle.front_loop.specs.Parts.{is_cut}
+use Rattle.front_loop.specs.Rules.{Rules, Move, Does, Gets, is_empty, is_cut}
+use Rattle.front_loop.specs.Moves.{by_move, or_empty}
 use Rattle.tile_requests.specs.declared.targets.Kind.{Kind}
 use Rattle.tile_requests.specs.declared.targets.Kind.TheVariants as kind
 use Rattle.tile_requests.specs.Targets.{Place}
@@ -57,28 +57,47 @@ Wants maps given [] = IsOpen (bytes_read given)
 Wants maps given (w ∷ []) = BytesAsk maps (bytes_read given) w
 Wants maps given _ = ⊥
 
+-- ---- what is answered
+
+-- a fetch found no memory
+abbrev pub found_no_memory : Fetched → Bool
+found_no_memory fetched.NoMemory = true
+found_no_memory _ = false
+
+-- the answer to an ask for which nothing is asked of the farm
+abbrev pub refusal : HttpAsk → Option (List ℕ)
+refusal http_ask.Bad = Some (fault_answer fault.BadRequest)
+refusal http_ask.NotGet = Some (fault_answer fault.NotAllowed)
+refusal http_ask.NoTarget = Some (fault_answer fault.NotFound)
+refusal _ = None
+
 -- ---- what is done
 
--- the ask that was done
-abbrev pub want : Act → HttpAsk
-want (act.Refused w) = w
-want (act.Asked s a) = http_ask.Tile s
-want (act.Served s a f) = http_ask.Tile s
-want (act.Seen s l) = http_ask.Status s
-want (act.Marked s a) = http_ask.Dirty s
+-- what is made of an ask that was done
+pub record AskDone : Type 0 where
+  -- the ask, and its entries on a connection
+  pub asked : HttpAsk
+  pub entries : Conn → List Entry
+  -- the ask of the farm that waits for a reply: its number and its spot
+  pub waits : Option (ℕ × Spot)
+  -- the answer, if it has one yet; and whether an entry was answered with want of memory
+  pub answer : Option (List ℕ)
+  pub starves : Bool
+  -- it is so that it may be
+  pub fits : Bool
 
--- its entries, on a connection of the front of that number
-abbrev pub tile_entries : Conn → Act → List Entry
-tile_entries c (act.Refused w) = []
-tile_entries c (act.Asked s a) = Ask c cmd.Render s a ∷ []
-tile_entries c (act.Served s a f) = Ask c cmd.Render s a ∷ Fetch s f ∷ []
-tile_entries c (act.Seen s l) = Look s l ∷ []
-tile_entries c (act.Marked s a) = Ask c cmd.Dirty s a ∷ []
+-- what is made of an ask that is answered at once
+abbrev pub at_once : HttpAsk → (Conn → List Entry) → List ℕ → AskDone
+at_once w entries text = record { asked = w; entries = entries; waits = None; answer = Some text; starves = false; fits = true }
 
--- the ask that waits after the act: its number and its spot
-abbrev pub waits_by : Act → Option (ℕ × Spot)
-waits_by (act.Asked s a) = option_map (λ n. (n, s)) (number_in a)
-waits_by _ = None
+-- **The asks, their entries and their answers.** A tile is fetched at once where its ask does not wait; a worn turn
+-- leaves it without its Fetch.
+abbrev pub ask_done : Act → AskDone
+ask_done (act.Refused w) = record (at_once w (λ c. []) []) { answer = refusal w; fits = is_some (refusal w) }
+ask_done (act.Asked s a) = record (at_once (http_ask.Tile s) (λ c. Ask c cmd.Render s a ∷ []) []) { waits = option_map (λ n. (n, s)) (number_in a); answer = None }
+ask_done (act.Served s a f) = record (at_once (http_ask.Tile s) (λ c. Ask c cmd.Render s a ∷ Fetch s f ∷ []) (tile_answer f)) { starves = found_no_memory f; fits = is_none (number_in a) }
+ask_done (act.Seen s l) = at_once (http_ask.Status s) (λ c. Look s l ∷ []) (status_answer l)
+ask_done (act.Marked s a) = at_once (http_ask.Dirty s) (λ c. Ask c cmd.Dirty s a ∷ []) dirty_answer
 
 -- the ask that waits, unless it is that one
 abbrev pub still_waits : ℕ → Option (ℕ × Spot) → Option (ℕ × Spot)
@@ -88,7 +107,7 @@ still_waits n (Some p) = cond (p.0 == n) None (Some p)
 -- the ask that waits after the moves
 abbrev pub waiting_ask : List (Move Act) → Option (ℕ × Spot)
 waiting_ask [] = None
-waiting_ask (Does a ∷ ms) = waits_by a
+waiting_ask (Does a ∷ ms) = (ask_done a).waits
 waiting_ask (Gets r behind ∷ ms) = still_waits r.ask (waiting_ask ms)
 
 -- ---- which entries stand behind a Collect
@@ -114,34 +133,7 @@ fits_behind o [] = true
 fits_behind (Some s) (e ∷ []) = is_fetch s e
 fits_behind _ _ = false
 
--- ---- what is answered
-
--- a fetch found no memory
-abbrev pub found_no_memory : Fetched → Bool
-found_no_memory fetched.NoMemory = true
-found_no_memory _ = false
-
--- the answer to a ask of which nothing is asked
-abbrev pub refusal : HttpAsk → List ℕ
-refusal http_ask.Bad = fault_answer fault.BadRequest
-refusal http_ask.NotGet = fault_answer fault.NotAllowed
-refusal http_ask.NoTarget = fault_answer fault.NotFound
-refusal _ = []
-
--- nothing is asked of the farm for it
-abbrev pub is_refusal : HttpAsk → Bool
-is_refusal http_ask.Bad = true
-is_refusal http_ask.NotGet = true
-is_refusal http_ask.NoTarget = true
-is_refusal _ = false
-
--- the answer to what was done: none where the tile is still to be fetched
-abbrev pub answer_of : Act → List ℕ
-answer_of (act.Refused w) = refusal w
-answer_of (act.Asked s a) = []
-answer_of (act.Served s a f) = tile_answer f
-answer_of (act.Seen s l) = status_answer l
-answer_of (act.Marked s a) = dirty_answer
+-- ---- the rules
 
 -- the answer by the Fetch behind a Collect
 abbrev pub answer_behind : List Entry → List ℕ
@@ -153,67 +145,25 @@ abbrev pub starves_behind : List Entry → Bool
 starves_behind (Fetch s f ∷ es) = found_no_memory f
 starves_behind es = false
 
--- ---- the rules
-
--- a Fetch at once belongs to an ask that does not wait
-abbrev pub fits_act : Act → Bool
-fits_act (act.Refused w) = is_refusal w
-fits_act (act.Served s a f) = is_none (number_in a)
-fits_act _ = true
-
--- the move may be made after those before it
-abbrev pub tile_fits : List (Move Act) → Move Act → Bool
-tile_fits ms (Does a) = fits_act a
-tile_fits ms (Gets r behind) = fits_behind (spot_at r.ask (waiting_ask ms)) behind
-
--- an ask without its Fetch is whole where it waits
-abbrev pub whole_act : Act → Bool
-whole_act (act.Asked s a) = is_some (number_in a)
-whole_act _ = true
-
--- a reply for which a tile waits has its Fetch, but where it is Cut
-abbrev pub whole_move : List (Move Act) → Move Act → Bool
-whole_move ms (Does a) = whole_act a
-whole_move ms (Gets r behind) = is_none (spot_at r.ask (waiting_ask ms)) || (not (is_empty behind) || is_cut {A = Act} (Gets r behind))
-
--- the bytes that are answered to a move
-abbrev pub tile_says : List (Move Act) → Move Act → List ℕ
-tile_says ms (Does a) = answer_of a
-tile_says ms (Gets r behind) = answer_behind behind
-
--- the tile was fetched at once, and no memory found
-abbrev pub starves_act : Act → Bool
-starves_act (act.Served s a f) = found_no_memory f
-starves_act _ = false
-
--- an entry of the move was answered with want of memory
-abbrev pub starves : Move Act → Bool
-starves (Does a) = starves_act a
-starves (Gets r behind) = starves_behind behind
-
--- the request was answered
-abbrev pub is_answer : Act → Bool
-is_answer (act.Asked s a) = false
-is_answer _ = true
-
 -- with these moves the request was answered
 abbrev pub ends : List (Move Act) → Bool
 ends [] = false
-ends (Does a ∷ ms) = is_answer a || ends ms
+ends (Does a ∷ ms) = is_some (ask_done a).answer || ends ms
 ends (Gets r behind ∷ ms) = not (is_empty behind) || ends ms
 
--- what the tile front of that number makes of a connection, where these are the farm's maps by their names
+-- **What the tile front of that number makes of a connection**, where these are the farm's maps by their names. An ask
+-- is whole where it is answered or waits. A reply for which a tile waits has its Fetch, but where it is Cut.
 abbrev pub tile_rules : ℕ → (List ℕ → Option ℕ) → Rules Act HttpAsk
 tile_rules front maps = record {
   number = front;
   wanted = Wants maps;
   refuses = λ given. false;
-  want = want;
-  entries = λ c a. tile_entries (record { front = front; number = c }) a;
-  fits = tile_fits;
-  whole = whole_move;
-  says = tile_says;
-  starves = starves;
+  want = λ a. (ask_done a).asked;
+  entries = λ c a. (ask_done a).entries (record { front = front; number = c });
+  fits = λ ms m. by_move (λ a. (ask_done a).fits) (λ r behind. fits_behind (spot_at r.ask (waiting_ask ms)) behind) m;
+  whole = λ ms m. by_move (λ a. is_some (ask_done a).answer || is_some (ask_done a).waits) (λ r behind. is_none (spot_at r.ask (waiting_ask ms)) || (not (is_empty behind) || is_cut m)) m;
+  says = λ ms m. by_move (λ a. or_empty (ask_done a).answer) (λ r behind. answer_behind behind) m;
+  starves = λ m. by_move (λ a. (ask_done a).starves) (λ r behind. starves_behind behind) m;
   ends = ends;
 }
 
@@ -222,7 +172,7 @@ tile_rules front maps = record {
 -- what was asked, in order
 abbrev pub http_asks : List (Move Act) → List HttpAsk
 http_asks [] = []
-http_asks (Does a ∷ ms) = http_asks ms ++ want a ∷ []
+http_asks (Does a ∷ ms) = http_asks ms ++ (ask_done a).asked ∷ []
 http_asks (Gets r behind ∷ ms) = http_asks ms
 
 -- While the head is read, all bytes are kept, and nothing was asked; then one ask was. The ask that waits is kept,

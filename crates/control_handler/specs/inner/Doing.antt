@@ -6,13 +6,36 @@ use Rattle.farm_base.specs.declared.turns.Worn.{Worn}
 use Rattle.front_loop.specs.declared.dispositions.Disposition.{Disposition}
 use Rattle.front_loop.specs.declared.dispositions.Disposition.TheVariants.{Stays, Leaves}
 use Rattle.front_loop.specs.declared.dispositions.Reason.TheVariants as reason
+use Rattle.front_loop.specs.Moves.{or_empty}
 use Rattle.front_loop.specs.Rules.{Move, wants_of, answer_bytes, each_whole, any_starves}
 use Rattle.front_loop.specs.Front.{keeps, does, EachFits, with_acts}
 use Rattle.control_handler.specs.declared.acts.Line.{Line}
 use Rattle.control_handler.specs.declared.acts.Act.{Act}
 use Rattle.control_handler.specs.declared.hearing.ConnState.{ConnState}
 use Rattle.control_handler.specs.Lines.{read_on, read_all, part_alone, wants}
-use Rattle.control_handler.specs.Control.{control_rules, act_text, act_starves, total_of, expiries}
+use Rattle.control_handler.specs.Control.{control_rules, line_done, total_of, expiries}
+use Rattle.std.specs.Option.{is_none}
+
+module _ (lists : List (List Tile)) where
+  -- the entries of what was done
+  abbrev pub control_entries : Act → List Entry
+  control_entries a = (line_done lists a).entries
+
+  -- the bytes that are answered to it
+  abbrev pub act_text : Act → List ℕ
+  act_text a = or_empty (line_done lists a).answer
+
+  -- no more tiles were expired than the list has
+  abbrev pub act_fits : Act → Bool
+  act_fits a = (line_done lists a).fits
+
+  -- all tiles of the list were expired
+  abbrev pub act_whole : Act → Bool
+  act_whole a = (line_done lists a).whole
+
+  -- an update found no memory
+  abbrev pub act_starves : Act → Bool
+  act_starves a = is_none (line_done lists a).answer
 
 -- a text is said, or there is no memory for it
 pub data Says (answer_bytes old new : List ℕ) (disposition : Disposition) : Type 0 where
@@ -21,9 +44,9 @@ pub data Says (answer_bytes old new : List ℕ) (disposition : Disposition) : Ty
 
 -- the answer to a line that was done is said; or there is no memory for it; or there was none for what was done
 pub data Answers (lists : List (List Tile)) (a : Act) (old new : List ℕ) (disposition : Disposition) : Type 0 where
-  Gives : disposition ≡ Stays → act_starves a ≡ false → new ≡ old ++ act_text lists a → Answers lists a old new disposition
-  Wants : disposition ≡ Leaves reason.Starved → act_starves a ≡ false → Answers lists a old new disposition
-  Starves : disposition ≡ Leaves reason.NoMemory → act_starves a ≡ true → Answers lists a old new disposition
+  Gives : disposition ≡ Stays → act_starves lists a ≡ false → new ≡ old ++ act_text lists a → Answers lists a old new disposition
+  Wants : disposition ≡ Leaves reason.Starved → act_starves lists a ≡ false → Answers lists a old new disposition
+  Starves : disposition ≡ Leaves reason.NoMemory → act_starves lists a ≡ true → Answers lists a old new disposition
 
 -- so many of the tiles were expired, all of them where no turn was worn; the answer is the sum of the counts
 abbrev pub Expired : List Tile → List Entry → List Entry → Result ℕ Worn → Type 0

@@ -5,7 +5,7 @@ use Rattle.front_loop.specs.declared.dispositions.Disposition.TheVariants.{Stays
 use Rattle.front_loop.specs.declared.dispositions.Reason.{Reason}
 use Rattle.front_loop.specs.declared.dispositions.Reason.TheVariants as reason
 use Rattle.front_loop.specs.declared.sessions.Session.{Session}
-use Rattle.front_loop.specs.Steps.{has}
+use Rattle.front_loop.specs.Rounds.{has}
 
 -- the connections of sessions
 abbrev pub conns : {T : Type 0} → List (Session T) → List ℕ

@@ -23,10 +23,11 @@ use Rattle.front_loop.specs.declared.sessions.SessionTable.{SessionTable}
 use Rattle.front_loop.specs.declared.offering.Gave.{Gave}
 use Rattle.front_loop.specs.declared.offering.Gave.TheVariants as gave
 use Rattle.front_loop.specs.Rules.{Rules, Move}
-use Rattle.front_loop.specs.Steps.{Step, has, Phase, Hearing, Collecting, Offering, phase, MayBegin, own, starved_in}
-use Rattle.front_loop.specs.Parts.{told_after, EachMayCome}
-use Rattle.front_loop.specs.Rounds.{Sound}
-use Rattle.front_loop.specs.Serving.{EndsAt}
+use Rattle.front_loop.specs.inner.Steps.{Step, Phase, Hearing, Collecting, Offering, phase, MayBegin, own, starved_in}
+use Rattle.front_loop.specs.Rounds.{has}
+use Rattle.front_loop.specs.inner.Parts.{told_after, EachMayCome}
+use Rattle.front_loop.specs.inner.Sound.{Sound}
+use Rattle.front_loop.specs.inner.StepRuns.{EndsAt}
 use Rattle.front_loop.specs.Front.{keeps, Hears, Replies, Begins}
 use Rattle.front_loop.specs.inner.Sessions.{conns, StandsAt, is_up, worse, owing, newcomer}
 use Rattle.front_loop.specs.inner.Stands.{World, Stands, IsAtRest}

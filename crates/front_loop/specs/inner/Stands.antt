@@ -9,9 +9,9 @@ use Rattle.front_loop.specs.declared.dispositions.Disposition.TheVariants.{Stays
 use Rattle.front_loop.specs.declared.sessions.Session.{Session}
 use Rattle.front_loop.specs.declared.sessions.SessionTable.{SessionTable}
 use Rattle.front_loop.specs.Rules.{Rules, Move, wants_of, answer_bytes, each_whole}
-use Rattle.front_loop.specs.Steps.{Step, there, own, starved_in}
-use Rattle.front_loop.specs.Parts.{Part, part, due, must, Offered, Caused, Calm, Running, is_open, told_after, EachMayCome}
-use Rattle.front_loop.specs.Rounds.{Sound, HasAll}
+use Rattle.front_loop.specs.inner.Steps.{Step, there, own, starved_in}
+use Rattle.front_loop.specs.inner.Parts.{Part, part, due, must, Offered, Caused, Calm, Running, is_open, told_after, EachMayCome}
+use Rattle.front_loop.specs.inner.Sound.{Sound, HasAll}
 use Rattle.front_loop.specs.Front.{keeps}
 use Rattle.front_loop.specs.inner.Sessions.{conns, keys, Apart, is_up, asks_all}
 

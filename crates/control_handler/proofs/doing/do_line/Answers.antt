@@ -1,5 +1,6 @@
 use Rattle.std.proofs.Common.{refl, ◌∷◌, []}
 use Rattle.control_handler.specs.declared.acts.Act.TheVariants as act
+use Rattle.script_answers.specs.Answers.{tally_line, stop_line}
 use Rattle.control_handler.specs.Control as spec
 use Rattle.control_handler.proofs.Deeds.{did_at, did_worn}
 use Rattle.control_handler.proofs.Saying.{says_answer}
@@ -42,10 +43,10 @@ pub returns-in-Ok-tally-clause-did : goal.returns-in-Ok-tally-clause-did
 returns-in-Ok-tally-clause-did g c = λ front conn.
     let a = act.Counts c.in-Ok-tally.totals in
     did_at front c.args.lists.now conn c.args.line a _ _ _ _ c.say_tally.result c.in-Stats.is refl refl c.in-Ok-tally.ensures.takes
-    (says_answer c.args.lists.now a (spec.tally_text c.in-Ok-tally.totals) _ _ c.say_tally.result refl refl c.say_tally.ensures)
+    (says_answer c.args.lists.now a (tally_line c.in-Ok-tally.totals) _ _ c.say_tally.result refl refl c.say_tally.ensures)
 
 pub returns-in-Ok-stop-clause-did : goal.returns-in-Ok-stop-clause-did
 returns-in-Ok-stop-clause-did g c = λ front conn.
     let a = act.Stops in
     did_at front c.args.lists.now conn c.args.line a _ _ _ _ c.say.result c.in-Stop.is refl refl c.in-Ok-stop.ensures.takes
-    (says_answer c.args.lists.now a (spec.act_text c.args.lists.now a) _ _ c.say.result refl refl c.say.ensures)
+    (says_answer c.args.lists.now a stop_line _ _ c.say.result refl refl c.say.ensures)

@@ -1,7 +1,7 @@
 use Rattle.std.proofs.Common.{List, Option}
 use Rattle.port_events.specs.Told.{PortsTold}
 use Rattle.port_events.specs.declared.events.PortEvent.{PortEvent}
-use Rattle.front_loop.specs.Steps.{Step}
+use Rattle.front_loop.specs.inner.Steps.{Step}
 use Rattle.front_loop.specs.Calls.{SameSeat}
 use Rattle.front_loop.specs.inner.Stands.{world}
 use Rattle.front_loop.specs.inner.Stages.{Collects}

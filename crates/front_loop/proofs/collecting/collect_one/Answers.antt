@@ -1,7 +1,7 @@
 use Rattle.std.proofs.Common.{◌≡◌, ◌++◌, ◌∷◌, [], List, true, false, sym, ap, subst, ◌∙◌}
 use Rattle.farm_history.specs.Entries.{Collect}
 use Rattle.front_loop.specs.declared.sessions.Session.{Session}
-use Rattle.front_loop.specs.Steps.{has}
+use Rattle.front_loop.specs.Rounds.{has}
 use Rattle.front_loop.specs.inner.Sessions.{conns}
 use Rattle.front_loop.specs.inner.Stands.{World, world}
 use Rattle.front_loop.specs.inner.Stages.{CanOffer, CollectsOne}

@@ -1,6 +1,6 @@
 use Rattle.std.proofs.Common.{◌≡◌, List, false, ap, subst, ◌∙◌}
 use Rattle.front_loop.specs.declared.sessions.Session.{Session}
-use Rattle.front_loop.specs.Steps.{has}
+use Rattle.front_loop.specs.Rounds.{has}
 use Rattle.front_loop.specs.inner.Sessions.{conns}
 use Rattle.front_loop.proofs.Rests.{none_keyed}
 use Rattle.front_loop.proofs.hearing.admit.Goals as goal

@@ -1,7 +1,7 @@
 use Rattle.std.proofs.Common.{◌≡◌, List, subst, false}
 use Rattle.std.proofs.lemmas.Result.{MatchResult-weaker}
 use Rattle.front_loop.specs.declared.sessions.Session.{Session}
-use Rattle.front_loop.specs.Steps.{has}
+use Rattle.front_loop.specs.Rounds.{has}
 use Rattle.front_loop.specs.inner.Sessions.{conns}
 use Rattle.front_loop.specs.inner.Stands.{world}
 use Rattle.front_loop.proofs.Tables.{stands_at, conn_at}

@@ -6,15 +6,15 @@ use Rattle.http_handler.proofs.serving.serve_http_ask.Goals as goal
 
 pub returns-in-Bad-clause-does : goal.returns-in-Bad-clause-does
 returns-in-Bad-clause-does g c =
-    as_http_ask _ _ _ _ _ _ _ _ c.in-Bad.is (did_refuse c.args.conn http_ask.Bad _ _ _ _ refl c.refuse.ensures.stage c.refuse.ensures.response)
+    as_http_ask _ _ _ _ _ _ _ _ c.in-Bad.is (did_refuse c.args.conn http_ask.Bad _ _ _ _ _ refl c.refuse.ensures.stage c.refuse.ensures.response)
 
 pub returns-in-NotGet-clause-does : goal.returns-in-NotGet-clause-does
 returns-in-NotGet-clause-does g c =
-    as_http_ask _ _ _ _ _ _ _ _ c.in-NotGet.is (did_refuse c.args.conn http_ask.NotGet _ _ _ _ refl c.refuse-in-NotGet.ensures.stage c.refuse-in-NotGet.ensures.response)
+    as_http_ask _ _ _ _ _ _ _ _ c.in-NotGet.is (did_refuse c.args.conn http_ask.NotGet _ _ _ _ _ refl c.refuse-in-NotGet.ensures.stage c.refuse-in-NotGet.ensures.response)
 
 pub returns-in-NoTarget-clause-does : goal.returns-in-NoTarget-clause-does
 returns-in-NoTarget-clause-does g c =
-    as_http_ask _ _ _ _ _ _ _ _ c.in-NoTarget.is (did_refuse c.args.conn http_ask.NoTarget _ _ _ _ refl c.refuse-in-NoTarget.ensures.stage c.refuse-in-NoTarget.ensures.response)
+    as_http_ask _ _ _ _ _ _ _ _ c.in-NoTarget.is (did_refuse c.args.conn http_ask.NoTarget _ _ _ _ _ refl c.refuse-in-NoTarget.ensures.stage c.refuse-in-NoTarget.ensures.response)
 
 pub returns-in-Ok-clause-does : goal.returns-in-Ok-clause-does
 returns-in-Ok-clause-does g c =

@@ -1,16 +1,13 @@
 -- What stands of one connection after a front's steps.
-use Rattle.std.specs.Prelude.{◌≡◌, ℕ, ◌+◌, ◌==◌, Bool, true, false, not, ◌&&◌, ◌||◌, cond, List, [], ◌∷◌, ◌++◌, length, drop, Option, Some, None, Result, Ok, Err, nat_lt, nat_le}
+use Rattle.std.specs.Prelude.{◌≡◌, ℕ, ◌+◌, ◌==◌, Bool, true, false, not, ◌&&◌, ◌||◌, cond, List, [], ◌∷◌, length, drop, Option, nat_lt, nat_le}
 use Rattle.farm_base.specs.Limits.{most_rest_bytes}
 use Rattle.port_events.specs.declared.events.PortEvent.{PortEvent}
-use Rattle.port_events.specs.declared.events.PortEvent.TheVariants as event
-use Rattle.port_events.specs.declared.events.SendFault.{SendFault}
-use Rattle.port_events.specs.declared.events.SendFault.TheVariants as send_fault
 use Rattle.port_events.specs.Told.{PortsTold, MayCome, heard, after_send, after_close}
-use Rattle.farm_history.specs.declared.queues.Outcome.TheVariants as outcome
 use Rattle.front_loop.specs.declared.dispositions.Reason.{Reason}
 use Rattle.front_loop.specs.declared.dispositions.Reason.TheVariants as reason
-use Rattle.front_loop.specs.Rules.{Rules, Move, Does, Gets, answer_bytes, each_whole}
-use Rattle.front_loop.specs.Steps.{Step, Came, Did, Got, Through, Tried, Left}
+use Rattle.front_loop.specs.Rules.{Rules, Move, Does, Gets, is_cut, answer_bytes, each_whole}
+use Rattle.front_loop.specs.Conns.{opens, ends_at, loses, calls, with_bytes, send_answer, taken_by, send_failed, shut_out}
+use Rattle.front_loop.specs.inner.Steps.{Step, Came, Did, Got, Through, Tried, Left}
 
 pub record Part (A : Type 0) : Type 0 where
   -- the bytes that came, the moves that were made, and how many bytes of the answers were taken
@@ -35,53 +32,6 @@ pub record Part (A : Type 0) : Type 0 where
   -- each move has all its entries, but for the replies that may lack them
   pub complete : Bool
 
--- the event is the Opened of this connection
-abbrev pub opens : PortEvent → ℕ → Bool
-opens (event.Opened d) c = d == c
-opens _ c = false
-
--- the event is its Ended
-abbrev pub ends_at : PortEvent → ℕ → Bool
-ends_at (event.Ended d) c = d == c
-ends_at _ c = false
-
--- the event is its Lost
-abbrev pub loses : PortEvent → ℕ → Bool
-loses (event.Lost d) c = d == c
-loses _ c = false
-
--- the event has every connection offered its bytes, or is the Writable of this one
-abbrev pub calls : PortEvent → ℕ → Bool
-calls (event.Writable d) c = d == c
-calls event.Woken c = true
-calls event.Finished c = true
-calls _ c = false
-
--- the bytes that came on this connection, with the piece where the event brings it
-abbrev pub with_bytes : PortEvent → List ℕ → ℕ → List ℕ → List ℕ
-with_bytes (event.Bytes d) piece c given = cond (d == c) (given ++ piece) given
-with_bytes _ piece c given = given
-
--- the move is a reply to an ask that was cut
-abbrev pub is_cut : {A : Type 0} → Move A → Bool
-is_cut (Does a) = false
-is_cut (Gets r behind) = elim r.outcome [ outcome.Cut ↦ true | outcome.Done ↦ false | outcome.NotDone ↦ false ]
-
--- a send that took so many bytes, or failed
-abbrev pub send_answer : Option ℕ → Result ℕ SendFault
-send_answer (Some n) = Ok n
-send_answer None = Err send_fault.Failed
-
--- how many bytes a send took
-abbrev pub taken_by : Option ℕ → ℕ
-taken_by (Some n) = n
-taken_by None = 0
-
--- the send failed
-abbrev pub send_failed : Option ℕ → Bool
-send_failed (Some n) = false
-send_failed None = true
-
 -- nothing has happened on it
 abbrev pub blank : {A : Type 0} → Part A
 blank = record { given = []; moves = []; took = 0; had = 0; was = 0; ended = false; lost = false; called = false; cut = false; starved = false; tried = false; failed = false; sent_whole = false; complete = true }
@@ -102,11 +52,6 @@ module _ {A : Type 0} where
 -- it is open in the ports, as long as it is there: it was not lost, and no send on it failed
 abbrev pub is_open : {A : Type 0} → Part A → Bool
 is_open p = not (p.lost || p.failed)
-
--- a connection that was refused at its Opened is closed
-abbrev pub shut_out : PortEvent → Bool → PortsTold → PortsTold
-shut_out (event.Opened c) false t = after_close c t
-shut_out _ _ t = t
 
 module _ {A W : Type 0} (R : Rules A W) where
   -- the bytes that were answered and not taken

@@ -1,15 +1,13 @@
 -- What a front does, step by step, and what its steps put into the history. The newest step comes first.
-use Rattle.std.specs.Prelude.{◌≡◌, ℕ, ◌+◌, ◌==◌, Bool, true, false, cond, List, [], ◌∷◌, ◌++◌, length, Option, nat_lt}
-use Rattle.farm_base.specs.Limits.{most_sessions}
+use Rattle.std.specs.Prelude.{◌≡◌, ℕ, ◌+◌, Bool, true, false, List, [], ◌∷◌, ◌++◌, length, Option}
 use Rattle.port_events.specs.declared.events.PortEvent.{PortEvent}
 use Rattle.port_events.specs.declared.events.PortEvent.TheVariants as event
 use Rattle.farm_history.specs.declared.queues.Reply.{Reply}
-use Rattle.farm_history.specs.declared.answers.Collected.{Collected}
 use Rattle.farm_history.specs.declared.answers.Collected.TheVariants as collected
 use Rattle.farm_history.specs.Entries.{Entry, Collect, Leave}
 use Rattle.front_loop.specs.declared.dispositions.Reason.{Reason}
-use Rattle.front_loop.specs.declared.dispositions.Reason.TheVariants as reason
 use Rattle.front_loop.specs.Rules.{Rules}
+use Rattle.front_loop.specs.Rounds.{remove, connections_after, no_reply, with_refused, with_starved}
 
 pub data Step (A : Type 0) : Type 0 where
   -- an event of the ports came, with the bytes of its piece; true where an Opened made a session
@@ -91,36 +89,6 @@ MayBegin _ = ⊥
 abbrev pub Offers : Phase → Type 0
 Offers (Offering e stopped) = Unit {0}
 Offers _ = ⊥
-
--- a list of connections without the first of that number
-abbrev pub remove : List ℕ → ℕ → List ℕ
-remove [] c = []
-remove (d ∷ ds) c = cond (d == c) ds (d ∷ remove ds c)
-
--- whether a connection is in the list
-abbrev pub has : List ℕ → ℕ → Bool
-has [] c = false
-has (d ∷ ds) c = cond (d == c) true (has ds c)
-
--- the connections that are there after the event: an Opened adds one where it made a session
-abbrev pub connections_after : List ℕ → PortEvent → Bool → List ℕ
-connections_after cs (event.Opened c) true = cs ++ c ∷ []
-connections_after cs _ _ = cs
-
--- the answer of the Collect that gives no reply
-abbrev pub no_reply : Bool → Collected
-no_reply true = collected.Stopped
-no_reply false = collected.Empty
-
--- one more, where a connection was refused although fewer than 1,024 were there
-abbrev pub with_refused : ℕ → PortEvent → Bool → ℕ → ℕ
-with_refused n (event.Opened c) false there = cond (nat_lt there most_sessions) (n + 1) n
-with_refused n _ _ there = n
-
--- one more, where a connection is left with that as its first cause
-abbrev pub with_starved : ℕ → Reason → ℕ
-with_starved n reason.Starved = n + 1
-with_starved n _ = n
 
 module _ {A : Type 0} where
   -- the connections that are there, in the order in which they were opened

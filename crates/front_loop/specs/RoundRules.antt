@@ -1,0 +1,88 @@
+-- Which round a front may make after those before it.
+use Rattle.std.specs.Prelude.{◌≡◌, ◌≢◌, ℕ, ◌<◌, ◌≤◌, true, false, ◌⊎◌, List, [], ◌∷◌, ◌++◌, length, Some, None, IfSome}
+use Rattle.farm_base.specs.Limits.{most_sessions}
+use Rattle.port_events.specs.declared.events.PortEvent.{PortEvent}
+use Rattle.port_events.specs.declared.events.PortEvent.TheVariants as event
+use Rattle.front_loop.specs.declared.dispositions.Reason.{Reason}
+use Rattle.front_loop.specs.declared.dispositions.Reason.TheVariants as reason
+use Rattle.front_loop.specs.Rules.{Rules, each_fits, wants_of, BeginsWanted}
+use Rattle.front_loop.specs.Rounds.{Send, Departure, FrontRound, has, gone, connections_after, there}
+use Rattle.front_loop.specs.Conns.{before, after, asks_on, made, is_tried, due, must, Offered, closes, HasAll, Kept}
+
+-- each of a list, whose newest comes first, is right after those before it
+abbrev pub EachSoFar : {A : Type 0} → (List A → A → Type 0) → List A → Type 0
+EachSoFar P [] = Unit {0}
+EachSoFar P (x ∷ xs) = P xs x × EachSoFar P xs
+
+-- Want of memory of the ports, and their end as a whole, begin no round.
+abbrev pub BeginsRound : PortEvent → Type 0
+BeginsRound event.Broken = ⊥
+BeginsRound event.NoMemory = ⊥
+BeginsRound _ = Unit {0}
+
+-- the event opens a connection that is not among these
+abbrev pub OpensNew : PortEvent → List ℕ → Type 0
+OpensNew (event.Opened c) cs = has cs c ≡ false
+OpensNew _ cs = ⊥
+
+module _ {A W : Type 0} (R : Rules A W) where
+  -- A send: to a connection that is there, for a reason, once in a round, and of more than 0 bytes, of which no more
+  -- are taken than there are.
+  pub record SendFits (rs : List (FrontRound A)) (r : FrontRound A) (earlier : List Send) (s : Send) : Type 0 where
+    pub is_there : has (connections_after (there rs) r.event r.kept) s.conn ≡ true
+    pub reason : must R (before rs r s.conn) r s.conn ≡ true
+    pub once : is_tried earlier s.conn ≡ false
+    pub some : 0 < length (due R (before rs r s.conn) r s.conn)
+    pub most : IfSome s.taken (λ n. n ≤ length (due R (before rs r s.conn) r s.conn))
+
+  -- The cause for which a connection is left is there. It is left as starved where nothing else of the round closes it
+  -- but what may have come behind the want of memory: a reply that was Cut, a rest that was full, or what stands in its bytes.
+  abbrev pub Caused : List (FrontRound A) → FrontRound A → ℕ → Reason → Type 0
+  Caused rs r c reason.Starved = (why : Reason) → closes R (before rs r c) r c why ≡ true → (why ≡ reason.Cut) ⊎ ((why ≡ reason.Full) ⊎ (why ≡ reason.Unread))
+  Caused rs r c why = closes R (before rs r c) r c why ≡ true
+
+  -- requests may be missing where the rest was full or memory was wanting
+  abbrev pub AskedAll : List (FrontRound A) → FrontRound A → ℕ → Reason → Type 0
+  AskedAll rs r c reason.Full = Unit {0}
+  AskedAll rs r c reason.NoMemory = Unit {0}
+  AskedAll rs r c reason.Starved = Unit {0}
+  AskedAll rs r c _ = HasAll R (before rs r c) r c
+
+  -- A connection that is left: it is still there, with its cause; if it is for what stood in its bytes alone, it was offered its bytes once; and all was asked.
+  pub record LeaveFits (rs : List (FrontRound A)) (r : FrontRound A) (earlier : List Departure) (d : Departure) : Type 0 where
+    pub is_there : has (gone earlier (connections_after (there rs) r.event r.kept)) d.conn ≡ true
+    pub caused : Caused rs r d.conn d.why
+    pub last_try : d.why ≡ reason.Unread → Offered R (before rs r d.conn) r d.conn
+    pub asked_all : AskedAll rs r d.conn d.why
+
+  -- the round is whole: its last Collect is over, and each connection that is there is in order
+  pub record EndsWhole (rs : List (FrontRound A)) (r : FrontRound A) : Type 0 where
+    pub through : r.last ≢ None
+    pub kept : (c : ℕ) → has (there (r ∷ rs)) c ≡ true → Kept R (before rs r c) r c
+
+  -- a round may follow: the newest is whole, and neither was the farm stopped nor are the ports through
+  abbrev pub MayFollow : List (FrontRound A) → Type 0
+  MayFollow [] = Unit {0}
+  MayFollow (r ∷ rs) = EndsWhole rs r × (r.last ≡ Some false) × (r.event ≢ event.Finished)
+
+  -- **A round, whole or cut short.**
+  pub record RoundFits (rs : List (FrontRound A)) (r : FrontRound A) : Type 0 where
+    -- only the newest round is cut short
+    pub follows : MayFollow rs
+    pub begins : BeginsRound r.event
+    -- an Opened makes a session only where fewer than 1,024 are there and its connection is not
+    pub room : r.kept ≡ true → (length (there rs) < most_sessions) × OpensNew r.event (there rs)
+    -- What was asked before and by the requests of the round are the first of those that stand in the bytes. Nothing may be
+    -- asked where memory was wanting.
+    pub asks : (c : ℕ) → r.event ≡ event.Bytes c
+        → (r.acts ≡ []) ⊎ BeginsWanted R (after r c (before rs r c)).given (wants_of R (asks_on r.event r.acts c ++ (before rs r c).moves))
+    -- each move has entries that fit
+    pub fits : (c : ℕ) → each_fits R (made r c ++ (before rs r c).moves) ≡ true
+    -- sends and Leaves stand behind the last Collect
+    pub order : r.last ≡ None → (r.sends ≡ []) × (r.left ≡ [])
+    pub sends : EachSoFar (SendFits rs r) r.sends
+    pub left : EachSoFar (LeaveFits rs r) r.left
+
+  -- each round may be made after those before it
+  abbrev pub Sound : List (FrontRound A) → Type 0
+  Sound rs = EachSoFar RoundFits rs
