@@ -12,7 +12,8 @@ use Rattle.port_events.specs.declared.ends.FrontEnd.{FrontEnd}
 use Rattle.exit_status.specs.declared.stops.Stop.{Stop}
 use Rattle.exit_status.specs.declared.stops.Stop.TheVariants as stop
 use Rattle.farm_history.specs.declared.answers.Tally.{Tally as Totals}
-use Rattle.farm_history.specs.Entries.{Entry}
+use Rattle.farm_history.specs.Entries.{Entry, EachMoment}
+use Rattle.farm_history.specs.Laws.{has_plain_update}
 use Rattle.farm_history.specs.Replays.{Saving, IsSaved}
 use Rattle.farm_history.specs.Rules.{Legal}
 use Rattle.farm_plan.specs.Plans.{FarmPlan, maps_in}
@@ -25,6 +26,7 @@ use Rattle.farm_shared.specs.declared.turned.LastingPart.{LastingPart}
 use Rattle.farm_shared.specs.Seats.{plain}
 use Rattle.farm_shared.specs.Shared.{lasting_of, past, MayTell}
 use Rattle.turn_cell.specs.Turns.{by}
+use Rattle.farm_laws.specs.Locality.{IsSentNow}
 use Rattle.farm_headline.specs.Headline.{Headline}
 use Rattle.farm_runs.specs.Promise.{AreSeated, AreWorked, IsServed}
 use Rattle.front_leaves.specs.Fronts.{renderd_leaves, tiles_leave}
@@ -182,6 +184,11 @@ module _ {D : Type 0} (state : D → Outside StoreTold) (was : CallBefore D) (is
   headline told may =
       subst (λ (p : FarmPlan). Headline p told whole) plan_first
       (subst (Headline served.first.plan told) whole_first (served.runs.headline told (may_first told may)))
+
+  pub sent_now : MaySay state was is closed true → has_plain_update whole ≡ false → EachMoment (IsSentNow closed.0.plan) whole
+  sent_now may renewed =
+      subst (λ (p : FarmPlan). EachMoment (IsSentNow p) whole) plan_first
+      (subst (EachMoment (IsSentNow served.first.plan)) whole_first (served.runs.sent_now (may_first true may) (subst (λ (g : List Entry). has_plain_update g ≡ false) (sym whole_first) renewed)))
 
   legal : (told : Bool) → MaySay state was is closed told → Legal (plan_of closed.0.plan) told whole
   legal told may = (kept.after.each told (may_left told may)).legal

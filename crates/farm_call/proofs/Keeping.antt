@@ -32,7 +32,7 @@ use Rattle.farm_call.specs.inner.Works.{Does, world_before, world_after}
 use Rattle.farm_call.proofs.Asked.{asks_one}
 use Rattle.farm_call.proofs.Followed as follow
 use Rattle.farm_call.proofs.Followed.{Followed, followed, one_value, one_fault}
-use Rattle.farm_call.proofs.Farms.{headline, served_well}
+use Rattle.farm_call.proofs.Farms.{headline, sent_now, served_well}
 use Rattle.farm_call.proofs.Whys.{Why, by_store}
 use Rattle.farm_call.proofs.Scripting.{scripts_stops, scripts_noticed}
 use Rattle.farm_call.proofs.Loading.{loads_stops, loads_noticed}
@@ -370,6 +370,7 @@ module _ {D : Type 0} (state : D → Outside StoreTold) (was : CallBefore D) (is
         report = call.reports;
         cause = cause call.end how;
         headline = λ closed left. (let farm = served call.end how closed left in headline state was is farm.0 closed left call.end farm.1);
+        sent_now = λ closed left. (let farm = served call.end how closed left in sent_now state was is farm.0 closed left call.end farm.1);
         no_fronts = no_fronts call.end how;
         no_words = none_asked call.end how;
         refused = file_refused call.end how;

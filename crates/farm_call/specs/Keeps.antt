@@ -17,7 +17,8 @@ use Rattle.exit_status.specs.declared.stops.Stop.{Stop}
 use Rattle.exit_status.specs.declared.stops.Stop.TheVariants as stop
 use Rattle.input_files.specs.Course.{Course, Makes, RefusedBy, ComesTo}
 use Rattle.farm_history.specs.declared.answers.Collected.{Collected}
-use Rattle.farm_history.specs.Entries.{Entry, Collect, Stop as StopEntry}
+use Rattle.farm_history.specs.Entries.{Entry, EachMoment, Collect, Stop as StopEntry}
+use Rattle.farm_history.specs.Laws.{has_plain_update}
 use Rattle.farm_history.specs.Past.{due_replies}
 use Rattle.farm_history.specs.Replays.{Saving, IsSaved}
 use Rattle.farm_history.specs.Rules.{Legal}
@@ -28,6 +29,7 @@ use Rattle.farm_core.specs.Begins.{Tells}
 use Rattle.farm_shared.specs.Seats.{plain}
 use Rattle.farm_shared.specs.Shared.{lasting_of, past, IsAfter}
 use Rattle.turn_cell.specs.Turns.{by}
+use Rattle.farm_laws.specs.Locality.{IsSentNow}
 use Rattle.farm_headline.specs.Headline.{Headline}
 use Rattle.farm_runs.specs.declared.each_front.EachFront.{EachFront}
 use Rattle.farm_runs.specs.Promise.{Ends, AreSeated, IsServed, AreWorked, IsStop}
@@ -267,6 +269,12 @@ module _ {D : Type 0} (state : D → Outside StoreTold) (was : CallBefore D) (is
     pub headline : (closed : ClosedFarm D) → is.left ≡ Farm closed
         → (told : Bool) → MaySay closed told
         → Headline closed.0.plan told (whole_history state closed)
+    -- And where every update that succeeded was made as a renew, over a store that tells what it
+    -- holds: each tile sent as clean is the plain drawing of its style over the data of that very
+    -- moment
+    pub sent_now : (closed : ClosedFarm D) → is.left ≡ Farm closed → MaySay closed true
+        → has_plain_update (whole_history state closed) ≡ false
+        → EachMoment (IsSentNow closed.0.plan) (whole_history state closed)
     -- Where the store is left no farm was shared, and there are no fronts
     pub no_fronts : (store : D) → is.left ≡ Store store → is.fronts ≡ []
     -- Words that ask for nothing are refused, unless memory is wanting

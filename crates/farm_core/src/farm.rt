@@ -4,6 +4,7 @@ ghost use Rattle.std.specs.List.{ends_with};
 ghost use Rattle.farm_plan.specs.Plans.{maps_in};
 ghost use Rattle.tile_store.specs.Stores.{StorePuts};
 ghost use Rattle.farm_history.specs.Entries.{Entry};
+ghost use Rattle.farm_plan.specs.Plans.{AreRanged};
 ghost use Rattle.farm_refinement.specs.Stands.{StandsFor};
 
 use expiry_lists::Marks;
@@ -78,6 +79,14 @@ impl<D> Farm<D> {
         ensures { result ≡ self.now.counts.turns }
     {
         self.turns
+    }
+
+    /// What is true of the plan of each farm: the symbolizers of all its styles are within their ranges, which the
+    /// law on what is sent as clean asks for. Nothing else happens.
+    pub fn law_ranged(&self)
+        ensures { AreRanged self.now.plan }
+    {
+        self.own.setup().law_ranged();
     }
 
     /// How many maps the plan has. Takes no memory.

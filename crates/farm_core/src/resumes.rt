@@ -7,7 +7,7 @@ ghost use Rattle.plain_data.specs.Data.{update_result};
 ghost use Rattle.farm_history.specs.Entries.{Entry};
 ghost use Rattle.farm_history.specs.Lists.{Each};
 ghost use Rattle.farm_history.specs.Replays.{are_rising, past_number, replay, replay_from, replay_keys};
-ghost use Rattle.farm_plan.specs.Plans.{IsPlan};
+ghost use Rattle.farm_plan.specs.Plans.{AreRanged, IsPlan};
 ghost use Rattle.farm_plan.specs.Drawings.{plan_of, update_of};
 ghost use Rattle.farm_saved.specs.Savings.{IsSaving};
 ghost use Rattle.render_jobs.specs.declared.faults.ResumeFault.{ResumeFault};
@@ -21,7 +21,7 @@ use crate::starts::first_farm;
 use farm_base::{ApplyFault, NoMemory};
 use farm_history::Saved;
 use farm_plan::{FarmPlan, Kept, Past};
-use render_jobs::{ResumeFault, check, copied, refused_at, styles_given};
+use render_jobs::{ResumeFault, check, copied, know_plan, refused_at, styles_given};
 use std::alloc::Global;
 use tile_store::TileStore;
 
@@ -230,10 +230,12 @@ impl<D: TileStore> Farm<D> {
         requires short { length saved.now.updates + 4 * length saved.now.clean < most_turns - 16 }
         ensures begins { IfOk result (Begins D.state plan (Some saved.now) store) }
         ensures well { IfOk result (λ f. BeginsWell (replay (plan_of plan) saved.now)) }
+        ensures ranged { AreRanged plan }
         ensures fits { IfOk result (λ f. resume_fault plan saved.now ≡ None) }
         ensures refused { IfErr result (λ e. e.1 ≢ ResumeFault.NoMemory → resume_fault plan saved.now ≡ Some e.1) }
         ensures store { IfErr result (λ e. e.0 ≡ store) }
     {
+        know_plan(&plan);
         let mut farm = match first_farm(alloc, plan, store) {
             Ok(farm) => farm,
             Err(store) => return Err((store, ResumeFault::NoMemory)),

@@ -1,7 +1,7 @@
 //! How a farm begins.
 ghost use Rattle.std.specs.Prelude.{◌≡◌, ◌≤◌, replicate, None, IfErr, IfOk};
 ghost use Rattle.std.specs.Vec.{vec_capacity};
-ghost use Rattle.farm_plan.specs.Plans.{IsPlan};
+ghost use Rattle.farm_plan.specs.Plans.{AreRanged, IsPlan};
 ghost use Rattle.farm_core.specs.Begins.{Begins};
 ghost use Rattle.farm_core.specs.inner.Starts.{AreFirst, AreParts, IsStarted};
 
@@ -9,7 +9,7 @@ use crate::farm::Farm;
 use expiry_lists::Marks;
 use farm_base::NoMemory;
 use farm_plan::{FarmPlan, Limits};
-use render_jobs::{Share, Taken, make_shares};
+use render_jobs::{Share, Taken, know_plan, make_shares};
 use render_queues::Queues;
 use std::alloc::Global;
 use std::snapshot::Snapshot as Seen;
@@ -149,8 +149,10 @@ impl<D: TileStore> Farm<D> {
     pub fn start(alloc: Global, plan: FarmPlan, store: D) -> Result<Farm<D>, D>
         requires { IsPlan plan }
         ensures begins { IfOk result (Begins D.state plan None store) }
+        ensures ranged { AreRanged plan }
         ensures store { IfErr result (λ s. s ≡ store) }
     {
+        know_plan(&plan);
         first_farm(alloc, plan, store)
     }
 }

@@ -36,7 +36,7 @@ LawPassedOver = (style : MapStyle) (size : ℕ) (t : Tile) (below above : List L
     drawing.drawn_tile style size t (below ++ record { name = name; features = before ++ f ∷ after } ∷ above)
     ≡ drawing.drawn_tile style size t (below ++ record { name = name; features = before ++ after } ∷ above)
 
--- The drawing of each valid plan is local: an update that names no feature which reaches a metatile, old or new, changes no byte of its tiles
+-- The drawing of each valid plan whose symbolizers keep their ranges is local: an update that names no feature which reaches a metatile, old or new, changes no byte of its tiles
 abbrev pub LawUpdatesLocal : Type 0
 LawUpdatesLocal = (plan : FarmPlan) → IsPlan plan → AreRanged plan → IsLocal (plan_of plan)
 
@@ -51,6 +51,6 @@ abbrev pub IsSentNow : FarmPlan → List Entry → Entry → Type 0
 IsSentNow plan g (Fetch spot (Fetched.Clean v bytes)) = IsDrawnNow plan g spot bytes
 IsSentNow plan g _ = Unit {0}
 
--- For each valid plan: in each legal history without plain updates, over a store that tells its content, each tile sent as clean is the plain drawing in its map's style and over the data of that very moment
+-- For each valid plan whose symbolizers keep their ranges: in each legal history without plain updates, over a store that tells its content, each tile sent as clean is the plain drawing in its map's style and over the data of that very moment
 abbrev pub LawSentNow : Type 0
 LawSentNow = (plan : FarmPlan) (h : List Entry) → IsPlan plan → AreRanged plan → has_plain_update h ≡ false → Legal (plan_of plan) true h → EachMoment (IsSentNow plan) h

@@ -60,9 +60,9 @@ pub fn law_local()
     ensures updates { LawUpdatesLocal }
 {}
 
-/// For each valid plan: in each legal history in which every update that succeeds is made as a renew, over a
-/// store that tells its content, every tile sent as clean is the plain drawing in its map's style and over the
-/// data of that very moment.
+/// For each valid plan whose symbolizers keep their ranges, as those of each farm's plan do (`Farm::law_ranged`): in
+/// each legal history in which every update that succeeds is made as a renew, over a store that tells its content,
+/// every tile sent as clean is the plain drawing in its map's style and over the data of that very moment.
 pub fn law_now()
     ensures { LawSentNow }
 {}

@@ -7,10 +7,12 @@ use Rattle.std.proofs.lemmas.Bool.{or_left, or_right}
 use Rattle.farm_base.specs.Outside.{Outside}
 use Rattle.tile_store.specs.Stores.{StoreTold}
 use Rattle.farm_history.specs.declared.answers.Tally.{Tally as Totals}
-use Rattle.farm_history.specs.Entries.{Entry, Stop, Tally}
+use Rattle.farm_history.specs.Entries.{Entry, EachMoment, Stop, Tally}
+use Rattle.farm_history.specs.Laws.{has_plain_update}
 use Rattle.farm_history.specs.Lists.{Each}
 use Rattle.farm_history.specs.Past.{flights}
 use Rattle.farm_history.proofs.Lists.{each-both}
+use Rattle.farm_plan.specs.Plans.{AreRanged}
 use Rattle.farm_plan.specs.Drawings.{plan_of}
 use Rattle.farm_refinement.specs.Seen.{FarmSeen}
 use Rattle.port_events.specs.declared.ends.FrontDone.{FrontDone}
@@ -23,6 +25,8 @@ use Rattle.farm_shared.specs.declared.turned.Turned.{Turned}
 use Rattle.farm_shared.specs.Seats.{plain}
 use Rattle.farm_shared.specs.Shared.{lasting_of, past, MayTell, Adds, IsClosed}
 use Rattle.render_workers.specs.declared.worker.WorkEnd.{WorkEnd}
+use Rattle.farm_laws.specs.Locality.{IsSentNow}
+use Rattle.farm_laws.proofs.Newest.{sent_now}
 use Rattle.farm_headline.specs.Headline.{Headline}
 use Rattle.farm_headline.proofs.Sentences.{headline}
 use Rattle.farm_runs.specs.declared.each_front.EachFront.{EachFront}
@@ -88,6 +92,7 @@ module _ {D : Type 0} (state : D → Outside StoreTold) (made : Made (Turned D))
   pub record Chain (leaves leaves' leaves'' : Leaving) (start own h : Sat) (pool : List (Actor Sat)) (told told' : EachFront (Outside PortsTold)) (done : EachFront FrontDone) (worn stopped : Bool) (tally : Option Totals) (farm : FarmSeen D) : Type 0 where
     pub limit : made.about.limit ≡ 2 ^ 62
     pub as_many : length pool ≡ made.about.first.value.farm.plan.workers
+    pub ranged : AreRanged made.about.first.value.farm.plan
     pub ran : Ran made leaves leaves' leaves'' start own pool told told' done stopped
     pub worn_is : worn ≡ list_any is_worker_worn (ends_in pool)
     pub kinds : IsFronts 0 leaves
@@ -312,9 +317,20 @@ module _ {D : Type 0} (state : D → Outside StoreTold) (made : Made (Turned D))
     told_of : (l : LastingPart D) → lasting_of state farm ≡ l → (tells : Bool) → MayTell state l tells → Headline l.plan tells (past l h.seen)
     told_of l is tells may = subst (λ m. MayTell state m tells → Headline m.plan tells (past m h.seen)) is (λ m. let s = c.closed.after.each tells m in headline farm.plan tells _ s.valid s.legal) may
 
+    -- what is sent as clean, where every update was a renew
+    abbrev SentNow : LastingPart D → Type 0
+    SentNow l = MayTell state l true → has_plain_update (past l h.seen) ≡ false → EachMoment (IsSentNow l.plan) (past l h.seen)
+
+    ranged : AreRanged farm.plan
+    ranged = subst AreRanged (sym (ap (λ (l : LastingPart D). l.plan) c.closed.kept)) c.ranged
+
+    sent_of : (l : LastingPart D) → lasting_of state farm ≡ l → SentNow l
+    sent_of l is = subst SentNow is (λ may renewed. let s = c.closed.after.each true may in sent_now farm.plan _ s.valid ranged renewed s.legal)
+
     pub runs_well : RunsWell state made.about.first.value.farm farm h.seen leaves leaves' leaves'' told told' done ends_are
     runs_well = record {
       headline = told_of (lasting_of state made.about.first.value.farm) c.closed.kept;
+      sent_now = sent_of (lasting_of state made.about.first.value.farm) c.closed.kept;
       after = c.closed.after;
       kept = c.closed.kept;
       seated = seated;

@@ -5,7 +5,8 @@ use Rattle.farm_base.specs.Limits.{most_turns}
 use Rattle.farm_base.specs.Outside.{Outside}
 use Rattle.tile_store.specs.Stores.{StoreTold}
 use Rattle.farm_history.specs.declared.answers.Tally.{Tally as Totals}
-use Rattle.farm_history.specs.Entries.{Entry, Stop, Tally}
+use Rattle.farm_history.specs.Entries.{Entry, EachMoment, Stop, Tally}
+use Rattle.farm_history.specs.Laws.{has_plain_update}
 use Rattle.farm_history.specs.Past.{flights}
 use Rattle.farm_refinement.specs.Seen.{FarmSeen}
 use Rattle.port_events.specs.declared.ends.FrontDone.{FrontDone}
@@ -15,6 +16,7 @@ use Rattle.turn_cell.specs.Turns.{by, NoneAbove}
 use Rattle.farm_shared.specs.Seats.{plain}
 use Rattle.farm_shared.specs.Shared.{lasting_of, past, MayTell, IsAfter}
 use Rattle.render_workers.specs.declared.worker.WorkEnd.{WorkEnd}
+use Rattle.farm_laws.specs.Locality.{IsSentNow}
 use Rattle.farm_headline.specs.Headline.{Headline}
 use Rattle.farm_runs.specs.declared.each_front.EachFront.{EachFront}
 use Rattle.farm_runs.specs.Actors.{Leaving, WorkBy}
@@ -78,6 +80,8 @@ IsStop done n after =
 pub record RunsWell {D : Type 0} (state : D → Outside StoreTold) (first farm : FarmSeen D) (H : List (ℕ × Entry)) (leaves leaves' leaves'' : Leaving) (told told' : EachFront (Outside PortsTold)) (done : EachFront FrontDone) (ends : Ends) : Type 0 where
   -- the headline holds of all that happened, after what the farm began with
   pub headline : (tells : Bool) → MayTell state (lasting_of state first) tells → Headline first.plan tells (past (lasting_of state first) H)
+  -- and where every update that succeeded was made as a renew, over a store that tells what it holds, each tile sent as clean is the plain drawing over the data of that very moment
+  pub sent_now : MayTell state (lasting_of state first) true → has_plain_update (past (lasting_of state first) H) ≡ false → EachMoment (IsSentNow first.plan) (past (lasting_of state first) H)
   -- the farm that is left stands for it, and kept what no event changes
   pub after : IsAfter state farm H
   pub kept : lasting_of state farm ≡ lasting_of state first

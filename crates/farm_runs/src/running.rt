@@ -4,7 +4,7 @@ ghost use Rattle.std.specs.Vec.{vec_capacity, vec_len};
 ghost use Rattle.farm_base.specs.Limits.{most_turns};
 ghost use Rattle.farm_refinement.specs.Stands.{StandsFor};
 ghost use Rattle.farm_core.specs.Begins.{origin};
-ghost use Rattle.farm_plan.specs.Plans.{maps_in};
+ghost use Rattle.farm_plan.specs.Plans.{AreRanged, maps_in};
 ghost use Rattle.farm_shared.specs.Shared.{MayTell, lasting_of, maps_of};
 ghost use Rattle.farm_runs.specs.Actors.{three};
 ghost use Rattle.turn_cell.specs.SeatStates.{IsSeatOf, first_of};
@@ -93,6 +93,7 @@ fn act<
     requires set { IsSet farm (length run_seats.pool.items) run_seats }
     requires limit { farm.about.limit ≡ most_turns }
     requires workers { length run_seats.pool.items ≡ farm.about.first.value.farm.plan.workers }
+    requires ranged { AreRanged farm.about.first.value.farm.plan }
     requires renderd { F.number actors.now.fronts.renderd ≡ 0 }
     requires tiles { G.number actors.now.fronts.tiles ≡ 1 }
     requires control { H.number actors.now.fronts.control ≡ 2 }
@@ -162,6 +163,7 @@ pub fn run_farm<
     let Ok(pool) = Vec::with_capacity(alloc, workers as usize) else {
         return Err(farm);
     };
+    farm.law_ranged();
     let (shared, own) = SharedFarm::new(alloc, farm)?;
     let Parking { parkers, sleepers } = parking;
     let actors = RunActors {

@@ -15,7 +15,7 @@ pub use faults::{ResumeFault, check, refused_at};
 pub use jobs::Job;
 pub use saved::{copied, styles_given};
 pub use serving::serve;
-pub use shares::{Setup, Share, make_shares};
+pub use shares::{Setup, Share, know_plan, make_shares};
 pub use taken::{
     Taken, drop_taken, is_overtaken, overtaken, taken_of, touch_key, touch_map, touch_tile,
 };

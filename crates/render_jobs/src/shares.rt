@@ -1,9 +1,9 @@
 //! Shares of a farm's plan and of its data, so that a drawing keeps both while the farm goes on.
-ghost use Rattle.std.specs.Prelude.{◌≡◌, ◌≤◌, ◌<◌, length, position, replicate, slice_get, option_map, Some, None, IfOk};
+ghost use Rattle.std.specs.Prelude.{◌≡◌, ◌≤◌, ◌<◌, All, length, position, replicate, slice_get, option_map, Some, None, IfOk};
 ghost use Rattle.std.specs.Option.{option_copied};
 ghost use Rattle.std.specs.Str.{bytes_eq};
 ghost use Rattle.plain_data.specs.Data.{IsDataset};
-ghost use Rattle.farm_plan.specs.Plans.{IsPlan, maps_in};
+ghost use Rattle.farm_plan.specs.Plans.{AreRanged, IsPlan, IsRanged, maps_in};
 ghost use Rattle.std.specs.Vec.{vec_capacity};
 ghost use Rattle.farm_plan.specs.Drawings.{key_path, styled_as};
 ghost use Rattle.farm_plan.specs.Spots.{IsKeyOf};
@@ -18,6 +18,33 @@ use std::alloc::Global;
 use std::marker::Model;
 use std::sync::Arc;
 use tile_paths::path;
+
+/// Makes known what the styles of the maps keep.
+fn know_maps(maps: &[MapPlan])
+    ensures { All (λ m. IsRanged m.style) maps.now }
+{
+    for map in maps {
+        map.style.know();
+    }
+}
+
+/// Makes known what the styles that may come keep.
+fn know_restyles(restyles: &[Restyle])
+    ensures { All (λ r. IsRanged r.style) restyles.now }
+{
+    for restyle in restyles {
+        restyle.style.know();
+    }
+}
+
+/// Makes known to a proof that the symbolizers of all styles of a plan are within their ranges, as those of every
+/// style are. Nothing else happens.
+pub fn know_plan(plan: &FarmPlan)
+    ensures { AreRanged plan.now }
+{
+    know_maps(plan.maps.as_slice());
+    know_restyles(plan.restyles.as_slice());
+}
 
 /// The place of the map of the name.
 fn place_of(maps: &[MapPlan], name: &[u8]) -> Option<usize>
@@ -91,6 +118,14 @@ impl Setup {
         ensures { IsDataset self.now.dataset }
     {
         let _first = &self.first;
+    }
+
+    /// What is true of the styles: the symbolizers of each are within their ranges.
+    pub fn law_ranged(&self)
+        ensures { AreRanged self.now }
+    {
+        know_maps(self.maps.as_slice());
+        know_restyles(self.restyles.as_slice());
     }
 
     /// The maps, by their places.

@@ -35,6 +35,7 @@ returns g c =
     (runs_well g.D.TileStore.state c.args.farm one two last c.args.run_seats.front_seats.own own end.h pool told told' done worn stopped tally left.0 (record {
       limit = c.requires.limit;
       as_many = c.run-fronts.ensures.long ∙ c.requires.workers;
+      ranged = c.requires.ranged;
       ran = ran c.args.farm one two last c.args.run_seats c.run-fronts.new.run_seats told told' done stopped c.requires.set c.run-fronts.ensures.long c.run-fronts.ensures.pool c.run-fronts.ensures.fronts;
       worn_is = c.close_run-closed.ensures.worn;
       kinds = λ t u es d w l. subst (λ n. AreOfFront n es d.end) c.requires.renderd ((g.met.F.Serving g.world.𝓛 g.world.𝓜 g.world.𝓡 ((λ s x. x), (λ x. x), (λ x. x), λ x. x)).kinds fronts.renderd maps t u es d w l);
