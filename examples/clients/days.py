@@ -129,12 +129,15 @@ def by_signal(folder, farm, report):
     return farm
 
 
-RESTART = """#!/bin/sh
-%(clients)s/control %(control)s stop
-tail --pid=$(cat pid) -f /dev/null
-setsid %(program)s serve farm.json >out 2>err </dev/null &
-echo $! >pid
-"""
+def restart_script(folder, farm):
+    """The script of docs/operate/days.md that restarts a farm in order, for this farm."""
+    with open(os.path.join(trial.TOP, "docs", "operate", "days.md"), encoding="utf-8") as source:
+        (text,) = re.findall(r"^```sh\n(#!/bin/sh.*?)^```", source.read(), re.S | re.M)
+    at = {"/srv/farm": folder.path, "/opt/tilefarm/examples/clients": CLIENTS, "tcp:127.0.0.1:7656": farm.control}
+    for old, new in dict(at, **{"setsid tilefarm": "setsid " + trial.PROGRAM}).items():
+        text = text.replace(old, new)
+    folder.write("restart", text)
+    os.chmod(folder.name("restart"), 0o755)
 
 
 def new_update(folder, farm, report):
@@ -143,9 +146,8 @@ def new_update(folder, farm, report):
     change = {"layer": "roads", "put": [late]}
     folder.write("late.json", json.dumps({"units": "world", "changes": [change]}))
     folder.write("after.json", json.dumps(trial.data(trial.ROAD, late)))
-    folder.write("restart", RESTART % {"clients": CLIENTS, "control": farm.control, "program": trial.PROGRAM})
-    folder.write("pid", str(farm.process.pid))
-    os.chmod(folder.name("restart"), 0o755)
+    restart_script(folder, farm)
+    folder.write("farm.pid", str(farm.process.pid))
     os.unlink(folder.name(TOUCHED))
     threading.Thread(target=farm.process.wait, daemon=True).start()
     status, text = tool("tomorrow", "farm.json", "late.json", "./restart", folder=folder)
@@ -180,6 +182,18 @@ def new_list(folder, farm, report):
     report.check("a control line by bash alone", numbers(done.stdout.strip())["version"], 2)
 
 
+def new_data(folder, report):
+    report.part("the newest data take the place of data and updates")
+    changes = {"data": "after.json", "updates": []}
+    told = Farm(folder, **changes).ended()
+    report.check("with farm.saved it is refused", told, (1, "", "tilefarm: farm.saved: resume 2\n"))
+    os.unlink(folder.name("tiles", "farm.saved"))
+    farm = start(folder, report, **changes)
+    report.check("without it all is drawn anew, from version 0", (farm.status(HERE), numbers(farm.stats())["version"]), ("missing", 0))
+    report.check("the tile", farm.get(HERE).body, folder.render(HERE, data="after.json"))
+    report.check("it ends in order", farm.stop()[1][0], 0)
+
+
 def days(folder, report):
     shutil.rmtree(folder.name("tiles"), ignore_errors=True)
     farm = in_order(folder, report)
@@ -192,8 +206,9 @@ def days(folder, report):
             farmclient.control(farm.control, "stop")
         except OSError:
             pass
-        subprocess.run(["tail", "--pid=" + open(folder.name("pid")).read().strip(), "-f", "/dev/null"], timeout=60)
+        subprocess.run(["tail", "--pid=" + open(folder.name("farm.pid")).read().strip(), "-f", "/dev/null"], timeout=60)
     report.holds("at the end it stopped in order", os.path.getsize(folder.name("tiles", "farm.saved")) > 100)
+    new_data(folder, report)
 
 
 if __name__ == "__main__":

@@ -5,8 +5,8 @@
 
 With two workers a farm has five threads, its first among them. Where a limit leaves fewer, it must end by itself with
 status 5 after some twenty seconds; with just as many it must serve, and stop in order. It needs root, since the
-limit counts all tasks of a user, and takes a minute and a half. The program must be built; with TILEFARM another is
-tried.
+limit counts all tasks of a user, and takes a minute and a half. It tries the built program, or else the released one
+(./tilefarm would need more tasks); with TILEFARM another.
 """
 
 import os
@@ -15,9 +15,10 @@ import resource
 import sys
 import time
 
-from trial import TOP, Farm, Folder
+from trial import TOP, Farm, Folder, Report
 
-PROGRAM = os.environ.get("TILEFARM", os.path.join(TOP, "crates", "tilefarm", "out", "tilefarm"))
+BUILT, RELEASED = os.path.join(TOP, "crates", "tilefarm", "out", "tilefarm"), os.path.join(TOP, "release", "tilefarm")
+PROGRAM = os.environ.get("TILEFARM", BUILT if os.path.exists(BUILT) else RELEASED)
 NOBODY = pwd.getpwnam("nobody")
 ENOUGH = 5  # threads: three fronts and two workers
 SOON = 120  # seconds
@@ -42,18 +43,18 @@ def start(tasks):
     return folder, Farm(folder, before=limited(tasks), program=[PROGRAM, "serve"], resume=False)
 
 
-def ends_by_itself(tasks):
-    """Whether a farm with too few tasks ends with status 5."""
+def ends_by_itself(tasks, report):
+    """A farm with too few tasks ends with status 5."""
     folder, farm = start(tasks)
     began = time.monotonic()
     end = farm.ended(SOON)
     folder.remove()
-    print("%d tasks: %s after %.0f s" % (tasks, end, time.monotonic() - began))
-    return end == (5, "asks 0 done 0 stored 0 version 0\n", "tilefarm: out of memory\n")
+    wanted = 5, "asks 0 done 0 stored 0 version 0\n", "tilefarm: out of memory\n"
+    report.check("%d tasks: it ends by itself, here after %.0f s" % (tasks, time.monotonic() - began), end, wanted)
 
 
-def serves(tasks):
-    """Whether a farm with just enough tasks serves a tile and stops."""
+def serves(tasks, report):
+    """A farm with just enough tasks serves a tile and stops."""
     folder, farm = start(tasks)
     try:
         seen = farm.get((0, 0, 0), name="small").status if farm.wait() else "it does not listen"
@@ -61,17 +62,19 @@ def serves(tasks):
     except OSError as fault:
         seen, end = fault, farm.kill()
     folder.remove()
-    print("%d tasks: %s, %s" % (tasks, seen, end))
-    return seen == 200 and end[0] == 0
+    report.check("%d tasks: it serves, and stops in order" % tasks, (seen, end[0]), (200, 0))
 
 
 def main():
+    report = Report()
+    report.part("a farm of %d threads that may have fewer" % ENOUGH)
     if os.getuid() != 0:
-        return "few_threads: it needs root"
-    if not os.access(PROGRAM, os.X_OK):
-        return "few_threads: %s is not built: run ./tilefarm first" % PROGRAM
-    fine = [ends_by_itself(tasks) for tasks in (1, 3, ENOUGH - 1)] + [serves(ENOUGH)]
-    return 0 if all(fine) else 1
+        report.skip("few threads", "it needs root")
+        return report.end()
+    for tasks in (1, 3, ENOUGH - 1):
+        ends_by_itself(tasks, report)
+    serves(ENOUGH, report)
+    return report.end()
 
 
 if __name__ == "__main__":

@@ -1,13 +1,15 @@
 #!/usr/bin/env python3
-"""Runs a farm behind nginx and behind Apache, by the blocks of docs/operate/proxy.md as they stand there, and looks at
-what comes through: tiles with their heads, compressed, the page, and of nginx a cache that goes on while the farm is stopped.
+"""Runs a farm behind nginx and behind Apache, by the blocks of docs/operate/proxy.md as they stand there, and behind mod_tile
+by those of docs/operate/apache.md, and looks at what comes through: tiles with their heads, compressed, the page, of nginx
+a cache that goes on while the farm is stopped, and of mod_tile the new picture after a change.
 
     examples/clients/proxies.py
 
 Ports and folders of the blocks are replaced by some of its own, and all is removed at the end. What is not installed is
-skipped by name (Debian: nginx, apache2). With TILEFARM another program is tried.
+skipped by name (Debian: nginx, apache2, libapache2-mod-tile). With TILEFARM another program is tried.
 """
 
+import json
 import os
 import pwd
 import re
@@ -20,7 +22,7 @@ import farmclient
 import trial
 from trial import HERE, Farm
 
-PAGE = os.path.join(trial.TOP, "docs", "operate", "proxy.md")
+PAGE, TILE_PAGE = (os.path.join(trial.TOP, "docs", "operate", name) for name in ("proxy.md", "apache.md"))
 TARGET = "/default/%d/%d/%d.ppm" % HERE
 NGINX = """pid %(path)s/nginx.pid;
 error_log %(path)s/nginx.log;
@@ -53,9 +55,9 @@ ErrorLog %(path)s/apache.log
 """
 
 
-def blocks(kind):
-    """The blocks of this kind on the page, in their order."""
-    with open(PAGE, encoding="utf-8") as source:
+def blocks(kind, page=PAGE):
+    """The blocks of this kind on a page, in their order."""
+    with open(page, encoding="utf-8") as source:
         return re.findall("^```%s\n(.*?)^```" % kind, source.read(), re.S | re.M)
 
 
@@ -151,14 +153,49 @@ def with_apache(farm, report):
         return
     folder, port = farm.folder, trial.free_port()
     names = ["mpm_event", "authz_core", "dir", "filter", "deflate", "proxy", "proxy_http"]
+    with apache(folder, port, names, own(blocks("apache")[0], folder, port), report) as address:
+        passes(address, farm, report)
+
+
+def apache(folder, port, names, block, report):
+    """An Apache with these modules and this block of a page."""
     user = "www-data" if os.getuid() == 0 else pwd.getpwuid(os.getuid()).pw_name
     modules = "\n".join("LoadModule %s_module %s/mod_%s.so" % (name, MODULES, name) for name in names)
     at = {"path": folder.path, "port": port, "modules": modules, "name": user, "group": "#%d" % pwd.getpwnam(user).pw_gid,
-          "block": own(blocks("apache")[0], folder, port)}  # fmt: skip
+          "block": block}  # fmt: skip
     folder.write("apache.conf", APACHE % at)
     words = ["apache2", "-f", folder.name("apache.conf"), "-D", "FOREGROUND"]
-    with Server(words, "tcp:127.0.0.1:%d" % port, report) as address:
-        passes(address, farm, report)
+    return Server(words, "tcp:127.0.0.1:%d" % port, report)
+
+
+def with_mod_tile(folder, report):
+    report.part("Apache with mod_tile, by the blocks of docs/operate/apache.md")
+    if shutil.which("apache2") is None or not os.path.exists(MODULES + "/mod_tile.so"):
+        report.skip("mod_tile", "not installed (Debian: apache2, libapache2-mod-tile)")
+        return
+    config, maps, server = (blocks(kind, TILE_PAGE)[0] for kind in ("json", "ini", "apache"))
+    at = {"/srv/farm": folder.path, "/etc/tilefarm-maps.conf": folder.name("maps.conf")}
+    at.update((port, str(trial.free_port())) for port in ("7654", "7655", "7656"))
+    for old, new in at.items():
+        config, maps, server = (text.replace(old, new) for text in (config, maps, server))
+    folder.config = json.loads(config)
+    folder.write("maps.conf", maps)
+    shutil.copy(folder.name("road.json"), folder.name("later.json"))
+    shutil.rmtree(folder.name("tiles"), ignore_errors=True)
+    farm, port = Farm(folder), trial.free_port()
+    if not farm.wait(60):
+        report.holds("the farm listens", False, farm.ended(0))
+        return
+    server = "DocumentRoot %s\n%s" % (folder.name("www"), server)
+    with apache(folder, port, ["mpm_event", "authz_core", "tile"], server, report) as address:
+        page = get(address, TARGET)
+        told = page.status, page.heads.get("Content-Type"), page.body
+        report.check("a tile, as `render` draws it", told, (200, "image/x-portable-pixmap", folder.render(HERE)))
+        report.holds("renew 0", farm.lines("renew 0")[0].startswith("version 1"))
+        time.sleep(1.1)  # mod_tile compares times in whole seconds
+        open(folder.name("tiles", "planet-import-complete"), "w").close()
+        report.check("after it and a touch, the changed data", get(address, TARGET).body, folder.render(HERE, data="changed.json"))
+    report.check("the farm stops in order", farm.stop()[1][0], 0)
 
 
 def proxies(folder, report):
@@ -171,6 +208,7 @@ def proxies(folder, report):
     with_nginx(farm, report)
     if farm.process.poll() is None:
         farm.stop()
+    with_mod_tile(folder, report)
 
 
 if __name__ == "__main__":

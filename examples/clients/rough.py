@@ -3,10 +3,11 @@
 
     examples/clients/rough.py
 
-An address in use; a store that cannot be written, and one that runs full; too few open files; rubbish at all fronts; heads of
-requests that are too long or have too many headers; peers that never read, that leave while their tile is drawn, that
-send one byte at a time; 1,024 connections at each front and one more. After each of these a tile is asked for, and it
-is the tile that `render` draws. All happens in a folder of its own and over loopback, within five minutes.
+An address in use; a store that cannot be written, one that runs full, and one that hangs; too few open files; rubbish at
+all fronts; heads of requests that are too long or have too many headers; peers that never read, that leave while their
+tile is drawn, that send one byte at a time; 1,024 connections at each front and one more. After each of these a tile is
+asked for, and it is the tile that `render` draws. All happens in a folder of its own and over loopback, within five
+minutes.
 """
 
 import json
@@ -99,24 +100,73 @@ def stores(folder, report):
 
 
 def files(folder, report):
-    report.part("more connections than the farm may have files open (here: 128)")
+    report.part("more connections than the farm may have files open (here: 40)")
     farm = Farm(folder, before=few_files, resume=False)
     if not farm.wait():
         report.holds("it runs", False, farm.ended(0))
         return
     whole(farm, report)
-    held = [farmclient.connect(farm.tiles) for _ in range(200)]
+    shown, new, dirty, looks = [farmclient.connect(farm.tiles) for _ in range(4)]
+    held = [farmclient.connect(farm.tiles) for _ in range(60)]
     time.sleep(1)
-    report.holds("with 200 connections it runs", farm.process.poll() is None, "it has ended")
-    for made in held:
+    target = "/default/%d/%d/%d.ppm" % HERE
+    report.check("a tile that is shown: 500", status_on(shown, target), 500)
+    report.check("one that is new: its put fails, 404", status_on(new, "/default/12/0/0.ppm"), 404)
+    report.check("one that is shown, and is to be drawn anew: dirty", status_on(dirty, target + "/dirty"), 200)
+    time.sleep(1)
+    looks.sendall(b"GET %s/status HTTP/1.1\r\n\r\n" % target.encode())
+    report.check("its put fails, and it is no longer shown", farmclient.page_of(looks.recv(4096)).body, b"missing\n")
+    report.check("a control line is not read", silent(farm.control, b"stats\n"), True)
+    for made in held + [shown, new, dirty, looks]:
         made.close()
     time.sleep(1)
     whole(farm, report)
-    report.check("the status at the end is 0", farm.stop()[1][0], 0)
+    report.check("once they have closed it can be told to stop: status", farm.stop()[1][0], 0)
+
+
+def status_on(made, target):
+    """The status of a GET on a connection that was made before."""
+    made.sendall(b"GET %s HTTP/1.1\r\n\r\n" % target.encode())
+    found = made.recv(4096)
+    while b"\r\n\r\n" not in found:
+        found += made.recv(4096)
+    return farmclient.page_of(found).status
+
+
+def silent(address, data, seconds=2):
+    """Whether nothing is answered within so many seconds."""
+    with farmclient.connect(address) as made:
+        made.sendall(data)
+        made.settimeout(seconds)
+        try:
+            return made.recv(64) == b""
+        except socket.timeout:
+            return True
+
+
+def hanging(folder, report):
+    report.part("a disk that does not answer (here: a named pipe in the place of a container)")
+    shutil.rmtree(folder.name("tiles"), ignore_errors=True)
+    farm = Farm(folder, resume=False)
+    if not farm.wait():
+        report.holds("it runs", False, farm.ended(0))
+        return
+    whole(farm, report)
+    report.check("another tile is there too", farm.get(APART).status, 200)
+    pipe = folder.container(HERE)
+    os.unlink(pipe)
+    os.mkfifo(pipe)
+    line = "GET /default/%d/%d/%d.ppm HTTP/1.1\r\n\r\n"
+    report.check("who asks for its tile waits", silent(farm.tiles, (line % HERE).encode()), True)
+    report.check("and so does who asks for another", silent(farm.tiles, (line % APART).encode()), True)
+    report.check("and `stop`", silent(farm.control, b"stop\n"), True)
+    farm.process.send_signal(signal.SIGTERM)
+    report.check("a signal ends it", farm.ended()[0], -signal.SIGTERM)
+    os.unlink(pipe)
 
 
 def few_files():
-    resource.setrlimit(resource.RLIMIT_NOFILE, (128, 128))
+    resource.setrlimit(resource.RLIMIT_NOFILE, (40, 40))
 
 
 def small_files():
@@ -244,6 +294,10 @@ def leaves(farm, report):
     made = farmclient.connect(farm.tiles)
     made.sendall(b"GET /default/13/4096/4300.ppm HTTP/1.1\r\n\r\n")
     made.close()
+    with farmclient.connect(farm.tiles) as half:
+        half.sendall(b"GET /default/13/4096/4400.ppm HTTP/1.1\r\n\r\n")
+        half.shutdown(socket.SHUT_WR)
+        report.check("one that ends its sending side has gone: closed without an answer", half.recv(64), b"")
     for tile in tiles:
         farm.settled(tile)
     report.check("what was asked for is drawn all the same", [farm.status(tile) for tile in tiles], ["clean 0"] * 6)
@@ -339,4 +393,4 @@ def running(folder, report):
 
 
 if __name__ == "__main__":
-    sys.exit(trial.run([addresses, stores, files, running], 300))
+    sys.exit(trial.run([addresses, stores, files, hanging, running], 300))

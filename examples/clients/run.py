@@ -1,6 +1,6 @@
 #!/usr/bin/env python3
 """Runs a farm and drives it with real clients: curl, renderd's protocol, control lines, render_list, render_expired,
-and Apache with mod_tile; stops it, and starts it anew from what it saved.
+render_old, and Apache with mod_tile; stops it, and starts it anew from what it saved.
 
     examples/clients/run.py
 
@@ -9,6 +9,7 @@ installed is skipped by name (Debian: curl, renderd, apache2, libapache2-mod-til
 tried came out as it must. With TILEFARM another program is tried.
 """
 
+import contextlib
 import os
 import pwd
 import re
@@ -256,13 +257,18 @@ LoadTileConfigFile %(path)s/maps.conf
 """
 
 
-def with_apache(farm, report):
-    report.part("Apache with mod_tile")
+def has_mod_tile(report):
     if missing(report, "apache2", "apache2"):
-        return
+        return False
     if not os.path.exists(MODULES + "/mod_tile.so"):
         report.skip("mod_tile", "not installed (Debian: libapache2-mod-tile)")
-        return
+        return False
+    return True
+
+
+@contextlib.contextmanager
+def apache(farm, report):
+    """The address of an Apache with mod_tile before the farm; None, which is told, where it does not listen."""
     user = "www-data" if os.getuid() == 0 else pwd.getpwuid(os.getuid()).pw_name
     group = pwd.getpwnam(user).pw_gid
     at = {"path": farm.folder.path, "port": trial.free_port(), "socket": socket_of(farm), "modules": MODULES,
@@ -280,11 +286,37 @@ def with_apache(farm, report):
             time.sleep(0.05)
         if not Farm.listens(address):
             report.holds("Apache listens", False, open(farm.folder.name("apache.log")).read()[-300:])
-            return
-        through_apache(farm, report, address)
+            address = None
+        yield address
     finally:
         server.terminate()
         server.wait(20)
+
+
+def with_apache(farm, report):
+    report.part("Apache with mod_tile")
+    if has_mod_tile(report):
+        with apache(farm, report) as address:
+            if address:
+                through_apache(farm, report, address)
+
+
+def apache_after_a_start(farm, report):
+    """What mod_tile makes of a tile that was dirty when the farm stopped: its file is there, and fresh to mod_tile."""
+    report.part("Apache with mod_tile after a start")
+    if not has_mod_tile(report):
+        return
+    with apache(farm, report) as address:
+        before = farm.stats()
+        page = through(address, HERE)
+        seen = page.status, farm.stats(), farm.status(HERE)
+        report.check("a tile that was dirty at the stop: it sends the file, and asks nothing", seen, (200, before, "missing"))
+        time.sleep(1.1)  # mod_tile compares times in whole seconds
+        os.utime(farm.folder.name("tiles", "planet-import-complete"))
+        page = through(address, HERE)
+        report.check("after `touch tiles/planet-import-complete` it asks, and the farm draws",
+                     (page.status, numbers(farm.stats())["stored"]), (200, numbers(before)["stored"] + 1))  # fmt: skip
+        report.check("the tile is the farm's", page.body, farm.folder.render(HERE, data="changed.json"))
 
 
 def through(address, tile, more=""):
@@ -323,6 +355,27 @@ def through_apache(farm, report, address):
     report.check("and once tiles/planet-import-complete is newer, the new drawing", through(address, HERE).body, drawn)
     report.check("which the farm says is clean", farm.status(HERE), "clean 2")
     farm.lines("restyle 1")
+
+
+def with_old(farm, report):
+    report.part("render_old")
+    if missing(report, "render_old", "renderd"):
+        return
+    tiles = farm.folder.name("tiles")
+    tile = (13, 4200, 4200)
+    farm.get(tile)
+    farm.lines("restyle 1")
+    time.sleep(1.1)  # it compares times in whole seconds
+    open(os.path.join(tiles, "planet-import-complete"), "w").close()
+    before = numbers(farm.stats())
+    words = ["render_old", "-m", "default", "-n", "2", "-l", "1000", "-s", socket_of(farm), "-t", tiles]
+    status, text = command(words)
+    after = numbers(farm.stats())
+    report.check("after a touch of planet-import-complete: its status", status, 0)
+    told = "%d asks, %d drawings" % (after["asks"] - before["asks"], after["stored"] - before["stored"])
+    report.holds("the files that are older are asked for: %s" % told, after["asks"] > before["asks"] and after["stored"] > before["stored"], text[-200:])
+    report.check("a dirty tile was drawn anew", farm.status(tile), "clean 2")
+    farm.lines("expire 0")
 
 
 # --- Stop and restart -------------------------------------------------------------------------------------------
@@ -369,6 +422,8 @@ def restarted(folder, report):
     report.check("its bytes", page.body, folder.render(APART, data="changed.json"))
     counts = {before[word] for word in ("asks", "done", "stored")}
     report.check("it counts one ask, Done and drawing for each tile that was kept", len(counts), 1)
+    apache_after_a_start(farm, report)
+    report.part("restart after a run that was killed")
     farm.kill()
 
     farm = Farm(folder)
@@ -394,7 +449,7 @@ def all_clients(folder, report):
     if not farm.wait(120):
         report.holds("it listens", False, farm.ended(0))
         return
-    for clients in (with_curl, with_protocol, with_control, with_list, with_expired, with_apache):
+    for clients in (with_curl, with_protocol, with_control, with_list, with_expired, with_apache, with_old):
         try:
             clients(farm, report)
         except (OSError, AttributeError, KeyError, TypeError, ValueError) as fault:

@@ -13,6 +13,7 @@ import time
 
 import farmclient
 
+os.environ["PATH"] += os.pathsep + "/usr/sbin"  # where Debian has servers, which the path of others than root lacks
 TOP = os.path.dirname(os.path.dirname(os.path.dirname(os.path.abspath(__file__))))
 PROGRAM = os.environ.get("TILEFARM", os.path.join(TOP, "tilefarm"))
 MIDDLE = 2**29  # the column and row of world units where tile 14/8192/8192 begins
@@ -94,6 +95,15 @@ class Folder:
 
     def name(self, *parts):
         return os.path.join(self.path, *parts)
+
+    def container(self, tile, name="default"):
+        """Where the tile's container lies: four bits of column and row in the name of each folder, as mod_tile has it."""
+        z, x, y = tile
+        x, y, parts = x & ~7, y & ~7, []
+        for _ in range(5):
+            parts.insert(0, str((x & 15) << 4 | y & 15))
+            x, y = x >> 4, y >> 4
+        return self.name("tiles", name, str(z), *parts) + ".meta"
 
     def write(self, name, text):
         with open(self.name(name), "w") as out:

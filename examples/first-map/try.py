@@ -59,6 +59,7 @@ def main():
             out = told.read()
         print("".join("           %s\n" % line for line in out.splitlines()))
         look(report, folder, shell, out)
+        shapefile(report, folder)
     return report.end()
 
 
@@ -72,6 +73,35 @@ def look(report, folder, shell, out):
     wanted = {"f4f1ea", "a5cbe0", "cdebb0", "e4e0da", "f8d78a", "b03a2e"}
     report.check("ground, water, park, houses, road and place are there", wanted - colours, set())
     report.check("the farm stopped in order", os.path.getsize(os.path.join(folder, "tiles", "farm.saved")) > 0, True)
+
+
+def shapefile(report, folder):
+    """What the page says of a shapefile, with and without its `.prj`, and the least style."""
+    report.part("a shapefile, and the least style")
+    with open(PAGE, encoding="utf-8") as source:
+        text = source.read()
+    command = re.search(r"`(ogr2ogr [^`]* land\.geojson land\.shp)`", text)[1].split()
+    system = re.search(r"add `(-s_srs EPSG:4326)`", text)[1].split()
+    with open(os.path.join(folder, "style.json"), "w", encoding="utf-8") as out:
+        out.write(re.search(r"^```json\n(\{ \"background.*?)^```", text, re.S | re.M)[1])
+
+    def run(*words):
+        return subprocess.run(words, cwd=folder, stdout=subprocess.PIPE, stderr=subprocess.PIPE)
+
+    run("ogr2ogr", "-f", "ESRI Shapefile", "land.shp", "areas.geojson")
+    for what, words in (("with its .prj", command), ("without", command[:1] + system + command[1:])):
+        if what == "without":
+            os.unlink(os.path.join(folder, "land.prj"))
+            told = b" ".join(run(*command).stderr.split())
+            report.holds("without it ogr2ogr asks for a coordinate system", b"source layer has no coordinate system" in told, told)
+        report.check("%s: status" % what, run(*words).returncode, 0)
+        made = run(sys.executable, os.path.join(TOP, "examples", "own-data", "geojson.py"), "land=land.geojson")
+        with open(os.path.join(folder, "data.json"), "wb") as out:
+            out.write(made.stdout)
+        seen = run(trial.PROGRAM, "render", "style.json", "data.json", "256", "13", "4293", "2799").stdout
+        colours = {seen[at : at + 3].hex() for at in range(15, len(seen), 3)}
+        report.check("%s: sea and land are drawn" % what, colours, {"a5cbe0", "f4f1ea"})
+        os.unlink(os.path.join(folder, "land.geojson"))
 
 
 if __name__ == "__main__":

@@ -283,6 +283,8 @@ def write_data(words, rounds):
         left = Left()
         layers.append({"name": name, "features": features_of(path, left, rounds)})
         left.tell(path)
+        if not layers[-1]["features"]:
+            print("the layer %s is empty: there is no feature in %s" % (name, path), file=sys.stderr)
     if len(layers) > MOST_LAYERS or len({l["name"] for l in layers}) < len(layers):
         sys.exit("at most %d layers, each of another name" % MOST_LAYERS)
     write({"units": "cm", "layers": layers})

@@ -65,6 +65,7 @@ FILES = [
     ("bare-feature.geojson", POINT, 1, None),
     ("no-geometry.geojson", collection(dict(POINT, geometry=None), feature("Point", [1, 1], 8)), 1, LEFT_OUT),
     ("geometries.geojson", collection({"type": "Feature", "properties": None, "geometry": {"type": "GeometryCollection", "geometries": []}}), 0, LEFT_OUT),
+    ("no-features.geojson", collection(), 0, None),
     ("one-id.geojson", collection(POINT, POINT), 1, "id of an earlier one"),
     ("half-a-character.geojson", b'{"type":"Feature","properties":{"a":"\\ud800","b":"\\ud83d\\ude00"},"geometry":{"type":"Point","coordinates":[1,1]}}', 1, LEFT_OUT),
     ("a-folder", "folder", None, "directory"),
@@ -113,6 +114,7 @@ def files(folder):
         else:
             check("%s: status" % name, status, 0)
             check("%s: features" % name, len(features(out)), count)
+            check("%s: an empty layer is told" % name, "the layer layer is empty" in err, count == 0)
 
 
 def places(folder):
