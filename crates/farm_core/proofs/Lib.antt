@@ -5,6 +5,7 @@ pub mod Flown
 pub mod Given
 pub mod Lasting
 pub mod Parts
+pub mod Putting
 pub mod Reading
 pub mod Renewing
 pub mod Replayed

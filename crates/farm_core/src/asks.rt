@@ -339,6 +339,7 @@ impl<D: TileStore> Farm<D> {
         requires { self.old.counts.turns < 2 ^ 63 }
         ensures step { (told : Bool) (h : List Entry) → StandsFor D.state told self.old h → StandsFor D.state told self.new (Ask conn cmd spot result ∷ h) }
         ensures kept { Lasts D.state self.old self.new }
+        ensures store { self.new.store ≡ self.old.store }
     {
         self.count_turn();
         let served = self.spot_key(spot);

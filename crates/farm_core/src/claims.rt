@@ -103,6 +103,7 @@ impl<D: TileStore> Farm<D> {
         ensures carries { (told : Bool) (h : List Entry) → StandsFor D.state told self.old h → IfJob result (Carries self.old.plan h) }
         ensures job { IfJob result (λ job. IsValidJob job × (job.worker ≡ worker)) }
         ensures kept { Lasts D.state self.old self.new }
+        ensures store { self.new.store ≡ self.old.store }
     {
         self.count_turn();
         if self.stopped {

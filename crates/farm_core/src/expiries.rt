@@ -60,6 +60,7 @@ impl<D: TileStore> Farm<D> {
         requires tile { IsTile t }
         ensures step { (told : Bool) (h : List Entry) → StandsFor D.state told self.old h → StandsFor D.state told self.new (Expire t result ∷ h) }
         ensures kept { Lasts D.state self.old self.new }
+        ensures store { self.new.store ≡ self.old.store }
     {
         self.count_turn();
         self.mark_tile_dirty(t)
@@ -72,6 +73,7 @@ impl<D: TileStore> Farm<D> {
         requires { self.old.counts.turns < 2 ^ 63 }
         ensures step { (told : Bool) (h : List Entry) → StandsFor D.state told self.old h → StandsFor D.state told self.new (Restyle number result ∷ h) }
         ensures kept { Lasts D.state self.old self.new }
+        ensures store { self.new.store ≡ self.old.store }
     {
         self.count_turn();
         match self.styled_map(number) {

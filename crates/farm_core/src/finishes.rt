@@ -10,7 +10,7 @@ ghost use Rattle.render_jobs.specs.Shared.{ShareSeen};
 ghost use Rattle.farm_core.specs.inner.Effects.{IsTaken, Keeps, MarksBut, one_stored};
 ghost use Rattle.farm_refinement.specs.inner.Events.{stale_tables, taken_at, untaken};
 ghost use Rattle.farm_history.specs.Entries.{Entry, Finish};
-ghost use Rattle.farm_core.specs.Answers.{IsDrawingOf, Lasts, is_drawn};
+ghost use Rattle.farm_core.specs.Answers.{IsDrawingOf, Lasts, PutsDrawing, is_drawn};
 ghost use Rattle.farm_plan.specs.Jobs.{IsFlight};
 ghost use Rattle.farm_refinement.specs.Stands.{StandsFor};
 
@@ -170,6 +170,7 @@ impl<D: TileStore> Farm<D> {
         ensures step { (told : Bool) (h : List Entry) → StandsFor D.state told self.old h → IsFlight self.old.plan h job
             → StandsFor D.state told self.new (Finish job.ticket (is_drawn drawn) result ∷ h) }
         ensures kept { Lasts D.state self.old self.new }
+        ensures puts { PutsDrawing D.state self.old self.new job drawn result }
     {
         self.count_turn();
         let key = job.key();

@@ -92,6 +92,7 @@ impl<D: TileStore> Farm<D> {
         requires { self.old.counts.turns < 2 ^ 63 }
         ensures step { (told : Bool) (h : List Entry) → StandsFor D.state told self.old h → StandsFor D.state told self.new (Collect front result ∷ h) }
         ensures kept { Lasts D.state self.old self.new }
+        ensures store { self.new.store ≡ self.old.store }
     {
         self.count_turn();
         match self.take_reply(front) {
@@ -106,6 +107,7 @@ impl<D: TileStore> Farm<D> {
         requires { self.old.counts.turns < 2 ^ 63 }
         ensures step { (told : Bool) (h : List Entry) → StandsFor D.state told self.old h → StandsFor D.state told self.new (Leave conn result ∷ h) }
         ensures kept { Lasts D.state self.old self.new }
+        ensures store { self.new.store ≡ self.old.store }
     {
         self.count_turn();
         self.drop_asks(conn)
@@ -117,6 +119,7 @@ impl<D: TileStore> Farm<D> {
         requires { self.old.counts.turns < 2 ^ 63 }
         ensures step { (told : Bool) (h : List Entry) → StandsFor D.state told self.old h → StandsFor D.state told self.new (Stop ∷ h) }
         ensures kept { Lasts D.state self.old self.new }
+        ensures store { self.new.store ≡ self.old.store }
     {
         self.count_turn();
         self.note_stop();
@@ -127,6 +130,7 @@ impl<D: TileStore> Farm<D> {
         requires { self.old.counts.turns < 2 ^ 63 }
         ensures step { (told : Bool) (h : List Entry) → StandsFor D.state told self.old h → StandsFor D.state told self.new (Counted result ∷ h) }
         ensures kept { Lasts D.state self.old self.new }
+        ensures store { self.new.store ≡ self.old.store }
     {
         self.count_turn();
         self.counts()

@@ -17,7 +17,7 @@ use Rattle.farm_base.specs.declared.turns.Worn.{Worn}
 use Rattle.farm_shared.specs.declared.turned.LastingPart.{LastingPart}
 use Rattle.farm_shared.specs.declared.turned.Turned.{Turned}
 use Rattle.farm_shared.specs.Seats.{plain, ends_ticket, is_ended_by}
-use Rattle.farm_shared.specs.Shared.{lasting_of, lasts, IsAfter, HasJob, IfReply, OwnReply, IsClosed}
+use Rattle.farm_shared.specs.Shared.{lasting_of, lasts, IsAfter, HasJob, IfReply, OwnReply, IsClosed, IsLegalSo}
 use Rattle.farm_shared.specs.inner.Turns.{is_ended, own_of, GivesJob, GivesReply}
 use Rattle.farm_shared.proofs.Orders.{reverse_more, own_by}
 
@@ -96,6 +96,16 @@ module _ {D : Type 0} (state : D → Outside StoreTold) where
       IfOk r (λ answer. OwnReply front v.mine answer)
   replies_given made front v w (Ok answer) is same known t = reply_given made front answer v w is same known t
   replies_given made front v w (Err worn) is same known t = tt
+
+  -- What was there at the turn, and its entry, are legal.
+
+  pub legal_given : {A : Type 0} (made : Made (Turned D)) (entry : A → Entry) (promise : A → List (ℕ × Entry) → LastingPart D → Type 0) (v w : SeatState (Turned D) Entry) (r : Result A Worn) →
+      MatchResult r (λ answer. Took (λ t log. IsAfter state t.farm log) (λ t. lasting_of state t.farm) made.about (entry answer) (promise answer) v w) (λ _. w ≡ worn_out v) →
+      IfOk r (λ _. IsLegalSo state (lasts state made) w.seen)
+  legal_given made entry promise v w (Ok answer) t =
+      subst (λ (part : LastingPart D). IsLegalSo state part w.seen) t.lasts_after
+      (subst (IsLegalSo state (lasting_of state t.after.farm)) (sym t.seen) (λ told may. (t.stands_now.each told may).legal))
+  legal_given made entry promise v w (Err worn) t = tt
 
   -- What a closing gives.
 

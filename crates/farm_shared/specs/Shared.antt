@@ -8,8 +8,10 @@ use Rattle.farm_history.specs.declared.answers.Collected.{Collected}
 use Rattle.farm_history.specs.Entries.{Entry, Claim}
 use Rattle.farm_history.specs.Laws.{IsOnlyReply}
 use Rattle.farm_history.specs.Replays.{replay_front}
+use Rattle.farm_history.specs.Rules.{Legal}
 use Rattle.farm_refinement.specs.Seen.{FarmSeen}
 use Rattle.farm_refinement.specs.Stands.{StandsFor}
+use Rattle.farm_plan.specs.Drawings.{plan_of}
 use Rattle.farm_plan.specs.Jobs.{JobSeen, job_key, Carries}
 use Rattle.farm_core.specs.Answers.{at_saved}
 use Rattle.farm_plan.specs.Plans.{maps_in}
@@ -59,6 +61,10 @@ pub record Adds {T : Type 0} (e : Entry) (v w : SeatState T Entry) : Type 0 wher
   pub seen : w.seen ≡ log ++ (v.number, e) ∷ []
   pub mine : w.mine ≡ v.mine ++ (v.number, e) ∷ []
   pub worn : w.worn ≡ v.worn
+
+-- All that happened so far is legal, what the farm began with and then these turns
+abbrev pub IsLegalSo : {D : Type 0} → (D → Outside StoreTold) → LastingPart D → List (ℕ × Entry) → Type 0
+IsLegalSo state part log = (told : Bool) → MayTell state part told → Legal (plan_of part.plan) told (past part log)
 
 -- The job is the seat's to finish: in what it has seen stands its Claim that gave the job, which carries what it should of the history before that Claim, and no Finish of the ticket by the seat
 pub record HasJob {D : Type 0} (part : LastingPart D) (n : ℕ) (seen : List (ℕ × Entry)) (job : JobSeen) : Type 0 where

@@ -1,7 +1,7 @@
 //! What fronts ask: asks, replies and the leaving of connections.
 ghost use Rattle.std.specs.Prelude.{◌≡◌, ◌+◌, IfOk, MatchResult};
 ghost use Rattle.farm_history.specs.Entries.{Ask, Collect, Leave};
-ghost use Rattle.farm_shared.specs.Shared.{Adds, OwnReply};
+ghost use Rattle.farm_shared.specs.Shared.{Adds, IsLegalSo, OwnReply, lasts};
 ghost use Rattle.turn_cell.specs.SeatStates.{IsSeatOf, Knows, SameSeat, worn_out};
 
 use crate::shared::{Seat, SharedFarm};
@@ -100,6 +100,7 @@ impl<D: TileStore> SharedFarm<D> {
         ensures same { SameSeat seat.old seat.new }
         ensures known { Knows seat.new }
         ensures turn { MatchResult result (λ answer. Adds (Ask conn cmd spot answer) seat.old seat.new) (λ _. seat.new ≡ worn_out seat.old) }
+        ensures legal { IfOk result (λ _. IsLegalSo D.state (lasts D.state self.now) seat.new.seen) }
     {
         self.cell
             .turn(rt, &mut seat.seat, AskTurn { conn, cmd, spot })
@@ -119,6 +120,7 @@ impl<D: TileStore> SharedFarm<D> {
         ensures same { SameSeat seat.old seat.new }
         ensures known { Knows seat.new }
         ensures turn { MatchResult result (λ answer. Adds (Collect front answer) seat.old seat.new) (λ _. seat.new ≡ worn_out seat.old) }
+        ensures legal { IfOk result (λ _. IsLegalSo D.state (lasts D.state self.now) seat.new.seen) }
         ensures own { IfOk result (λ answer. OwnReply front seat.old.mine answer) }
     {
         self.cell.turn(rt, &mut seat.seat, CollectTurn { front })
@@ -132,6 +134,7 @@ impl<D: TileStore> SharedFarm<D> {
         ensures same { SameSeat seat.old seat.new }
         ensures known { Knows seat.new }
         ensures turn { MatchResult result (λ answer. Adds (Leave conn answer) seat.old seat.new) (λ _. seat.new ≡ worn_out seat.old) }
+        ensures legal { IfOk result (λ _. IsLegalSo D.state (lasts D.state self.now) seat.new.seen) }
     {
         self.cell.turn(rt, &mut seat.seat, LeaveTurn { conn })
     }

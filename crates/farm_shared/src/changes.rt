@@ -1,7 +1,7 @@
 //! Changes of the farm: updates, renews, styles, expiries and the stop.
-ghost use Rattle.std.specs.Prelude.{◌≡◌, MatchResult};
+ghost use Rattle.std.specs.Prelude.{◌≡◌, IfOk, MatchResult};
 ghost use Rattle.farm_history.specs.Entries.{Expire, Renew, Restyle, Stop, Update};
-ghost use Rattle.farm_shared.specs.Shared.{Adds};
+ghost use Rattle.farm_shared.specs.Shared.{Adds, IsLegalSo, lasts};
 ghost use Rattle.turn_cell.specs.SeatStates.{IsSeatOf, Knows, SameSeat, worn_out};
 ghost use Rattle.plain_world.specs.World.{IsTile};
 
@@ -144,6 +144,7 @@ impl<D: TileStore> SharedFarm<D> {
         ensures same { SameSeat seat.old seat.new }
         ensures known { Knows seat.new }
         ensures turn { MatchResult result (λ answer. Adds (Update number answer) seat.old seat.new) (λ _. seat.new ≡ worn_out seat.old) }
+        ensures legal { IfOk result (λ _. IsLegalSo D.state (lasts D.state self.now) seat.new.seen) }
     {
         self.cell
             .turn(rt, &mut seat.seat, UpdateTurn { alloc, number })
@@ -162,6 +163,7 @@ impl<D: TileStore> SharedFarm<D> {
         ensures same { SameSeat seat.old seat.new }
         ensures known { Knows seat.new }
         ensures turn { MatchResult result (λ answer. Adds (Renew number answer) seat.old seat.new) (λ _. seat.new ≡ worn_out seat.old) }
+        ensures legal { IfOk result (λ _. IsLegalSo D.state (lasts D.state self.now) seat.new.seen) }
     {
         self.cell
             .turn(rt, &mut seat.seat, RenewTurn { alloc, number })
@@ -179,6 +181,7 @@ impl<D: TileStore> SharedFarm<D> {
         ensures same { SameSeat seat.old seat.new }
         ensures known { Knows seat.new }
         ensures turn { MatchResult result (λ answer. Adds (Restyle number answer) seat.old seat.new) (λ _. seat.new ≡ worn_out seat.old) }
+        ensures legal { IfOk result (λ _. IsLegalSo D.state (lasts D.state self.now) seat.new.seen) }
     {
         self.cell.turn(rt, &mut seat.seat, RestyleTurn { number })
     }
@@ -191,6 +194,7 @@ impl<D: TileStore> SharedFarm<D> {
         ensures same { SameSeat seat.old seat.new }
         ensures known { Knows seat.new }
         ensures turn { MatchResult result (λ answer. Adds (Expire t answer) seat.old seat.new) (λ _. seat.new ≡ worn_out seat.old) }
+        ensures legal { IfOk result (λ _. IsLegalSo D.state (lasts D.state self.now) seat.new.seen) }
     {
         self.cell.turn(rt, &mut seat.seat, ExpireTurn { tile: t })
     }
@@ -202,6 +206,7 @@ impl<D: TileStore> SharedFarm<D> {
         ensures same { SameSeat seat.old seat.new }
         ensures known { Knows seat.new }
         ensures turn { MatchResult result (λ answer. Adds (Stop) seat.old seat.new) (λ _. seat.new ≡ worn_out seat.old) }
+        ensures legal { IfOk result (λ _. IsLegalSo D.state (lasts D.state self.now) seat.new.seen) }
     {
         self.cell.turn(rt, &mut seat.seat, StopTurn)
     }

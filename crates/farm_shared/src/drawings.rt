@@ -1,7 +1,7 @@
 //! What workers do: claims and ends of drawings.
 ghost use Rattle.std.specs.Prelude.{◌≡◌, IfOk, MatchResult};
 ghost use Rattle.farm_history.specs.Entries.{Claim, Finish};
-ghost use Rattle.farm_shared.specs.Shared.{Adds, HasJob, lasts};
+ghost use Rattle.farm_shared.specs.Shared.{Adds, HasJob, IsLegalSo, lasts};
 ghost use Rattle.turn_cell.specs.SeatStates.{IsSeatOf, Knows, SameSeat, worn_out};
 ghost use Rattle.farm_core.specs.Answers.{IfJob, IsDrawingOf, claim_answer, is_drawn};
 ghost use Rattle.farm_plan.specs.Jobs.{IsValidJob};
@@ -76,6 +76,7 @@ impl<D: TileStore> SharedFarm<D> {
         ensures same { SameSeat seat.old seat.new }
         ensures known { Knows seat.new }
         ensures turn { MatchResult result (λ answer. Adds (Claim worker (claim_answer answer)) seat.old seat.new) (λ _. seat.new ≡ worn_out seat.old) }
+        ensures legal { IfOk result (λ _. IsLegalSo D.state (lasts D.state self.now) seat.new.seen) }
         ensures job { IfOk result (λ answer. IfJob answer (λ job.
             IsValidJob job × (job.worker ≡ worker) × HasJob (lasts D.state self.now) seat.new.number seat.new.seen job)) }
     {
@@ -100,6 +101,7 @@ impl<D: TileStore> SharedFarm<D> {
         ensures same { SameSeat seat.old seat.new }
         ensures known { Knows seat.new }
         ensures turn { MatchResult result (λ answer. Adds (Finish job.ticket (is_drawn drawn) answer) seat.old seat.new) (λ _. seat.new ≡ worn_out seat.old) }
+        ensures legal { IfOk result (λ _. IsLegalSo D.state (lasts D.state self.now) seat.new.seen) }
     {
         self.cell
             .turn(rt, &mut seat.seat, FinishTurn { alloc, job, drawn })

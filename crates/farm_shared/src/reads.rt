@@ -1,7 +1,7 @@
 //! What is read of the farm: tiles, how metatiles stand, and counts.
-ghost use Rattle.std.specs.Prelude.{◌≡◌, MatchResult};
+ghost use Rattle.std.specs.Prelude.{◌≡◌, IfOk, MatchResult};
 ghost use Rattle.farm_history.specs.Entries.{Fetch, Look, Tally as Counted};
-ghost use Rattle.farm_shared.specs.Shared.{Adds};
+ghost use Rattle.farm_shared.specs.Shared.{Adds, IsLegalSo, lasts};
 ghost use Rattle.turn_cell.specs.SeatStates.{IsSeatOf, Knows, SameSeat, worn_out};
 
 use crate::shared::{Seat, SharedFarm};
@@ -94,6 +94,7 @@ impl<D: TileStore> SharedFarm<D> {
         ensures same { SameSeat seat.old seat.new }
         ensures known { Knows seat.new }
         ensures turn { MatchResult result (λ answer. Adds (Fetch spot answer) seat.old seat.new) (λ _. seat.new ≡ worn_out seat.old) }
+        ensures legal { IfOk result (λ _. IsLegalSo D.state (lasts D.state self.now) seat.new.seen) }
     {
         self.cell
             .turn(rt, &mut seat.seat, FetchTurn { alloc, spot })
@@ -106,6 +107,7 @@ impl<D: TileStore> SharedFarm<D> {
         ensures same { SameSeat seat.old seat.new }
         ensures known { Knows seat.new }
         ensures turn { MatchResult result (λ answer. Adds (Look spot answer) seat.old seat.new) (λ _. seat.new ≡ worn_out seat.old) }
+        ensures legal { IfOk result (λ _. IsLegalSo D.state (lasts D.state self.now) seat.new.seen) }
     {
         self.cell.turn(rt, &mut seat.seat, LookTurn { spot })
     }
@@ -117,6 +119,7 @@ impl<D: TileStore> SharedFarm<D> {
         ensures same { SameSeat seat.old seat.new }
         ensures known { Knows seat.new }
         ensures turn { MatchResult result (λ answer. Adds (Counted answer) seat.old seat.new) (λ _. seat.new ≡ worn_out seat.old) }
+        ensures legal { IfOk result (λ _. IsLegalSo D.state (lasts D.state self.now) seat.new.seen) }
     {
         self.cell.turn(rt, &mut seat.seat, TallyTurn)
     }

@@ -13,10 +13,11 @@ use Rattle.farm_plan.specs.Jobs.{JobSeen, job_key}
 use Rattle.farm_refinement.specs.Stands.{StandsFor}
 use Rattle.farm_refinement.specs.inner.Events.{taken_at, untaken}
 use Rattle.farm_core.specs.declared.finishes.Drawn.{Drawn}
-use Rattle.farm_core.specs.Answers.{IsDrawingOf, is_drawn}
+use Rattle.farm_core.specs.Answers.{IsDrawingOf, PutsDrawing, is_drawn}
 use Rattle.farm_core.specs.inner.Effects.{IsTaken, Keeps, turn}
 use Rattle.farm_core.proofs.Flown.{flight_taken, flight_of_plan, flight_stands, taken_turned}
 use Rattle.farm_core.proofs.Lasting.{lasts_as, lasts_kept, lasts_on}
+use Rattle.farm_core.proofs.Putting.{puts_drawing}
 use Rattle.farm_core.proofs.Told.{finish_kept, finish_cut}
 use Rattle.farm_core.proofs.farm.Farm.finish.Goals as goal
 
@@ -59,6 +60,12 @@ returns-in-Bytes-clause-kept g c =
     lasts_on g.D.TileStore.state c.args.self.now c.release-touched.new.self c.keep.new.self (lasts_as g.D.TileStore.state c.args.self.now _ c.release-touched.new.self released refl refl refl refl)
     (lasts_kept g.D.TileStore.state c.release-touched.new.self c.keep.new.self c.key-key.result c.job.inside.version c.release-touched.result c.as_slice.result.now c.keep.result (subst (λ (k : Key). IsKeyOf c.release-touched.new.self.plan k) (sym c.key-key.ensures) at) c.keep.ensures)
 
+pub returns-in-Bytes-clause-puts : goal.returns-in-Bytes-clause-puts
+returns-in-Bytes-clause-puts g c =
+    let released = c.release-touched.ensures.farm ∙ ap {A = FarmSeen g.row.D.Denot} (λ f. record f { taken = untaken c.args.job.ticket f.taken }) c.count_turn.ensures.turned in
+    puts_drawing g.D.TileStore.state c.args.self.now c.keep.new.self c.args.job c.args.job.ticket c.job.inside.version c.release-touched.result c.in-Bytes.bytes
+    c.release-touched.new.self c.key-key.result c.as_slice.result.now c.args.drawn c.keep.result released c.key-key.ensures c.as_slice.ensures.value c.in-Bytes.is c.keep.ensures
+
 pub returns-in-NoMemory-clause-step : goal.returns-in-NoMemory-clause-step
 returns-in-NoMemory-clause-step g c = λ told h s flight.
     let released = c.release-touched.ensures.farm ∙ ap {A = FarmSeen g.row.D.Denot} (λ f. record f { taken = untaken c.args.job.ticket f.taken }) c.count_turn.ensures.turned in
@@ -66,3 +73,10 @@ returns-in-NoMemory-clause-step g c = λ told h s flight.
     ∙ ap {B = FarmSeen g.row.D.Denot} (λ (k : Key). record (turn c.args.self.now) { taken = untaken c.args.job.ticket c.args.self.now.taken; queues = after_end c.args.self.now.queues k Outcome.Cut }) c.key-key.ensures in
     subst (λ (d : Drawn). StandsFor g.D.TileStore.state told c.cut.new.self (Finish c.args.job.ticket (is_drawn d) Finished.NoMemory ∷ h)) (sym c.in-NoMemory.is)
     (finish_cut g.D.TileStore.state told c.args.self.now c.cut.new.self h c.args.job flight cut s)
+
+pub returns-in-NoMemory-clause-puts : goal.returns-in-NoMemory-clause-puts
+returns-in-NoMemory-clause-puts g c =
+    let released = c.release-touched.ensures.farm ∙ ap {A = FarmSeen g.row.D.Denot} (λ f. record f { taken = untaken c.args.job.ticket f.taken }) c.count_turn.ensures.turned in
+    let cut = c.cut.ensures ∙ ap {A = FarmSeen g.row.D.Denot} (λ f. record f { queues = after_end f.queues c.key-key.result Outcome.Cut }) released in
+    subst (λ (d : Drawn). PutsDrawing g.D.TileStore.state c.args.self.now c.cut.new.self c.args.job d Finished.NoMemory) (sym c.in-NoMemory.is)
+    (ap {A = FarmSeen g.row.D.Denot} (λ f. g.D.TileStore.state f.store) cut)
