@@ -23,6 +23,7 @@ TOP = os.path.dirname(os.path.dirname(os.path.abspath(__file__)))
 BUILT = [os.path.join(TOP, "crates", "tilefarm", "out", name) for name in ("tilefarm", "tilefarm.by-rattle")]
 EACH = 8  # seconds for one wait
 WHOLE = 55  # seconds for all
+LARGE = 256  # pixels of a large tile
 sys.dont_write_bytecode = True
 sys.path.insert(0, os.path.join(TOP, "oracle"))
 import serve_cases as wanted  # noqa: E402
@@ -80,10 +81,10 @@ class Farm:
 
     renderd, control = "renderd.sock", "control.sock"
 
-    def __init__(self, program):
+    def __init__(self, program, **more):
         self.tiles = ("127.0.0.1", free_port())
-        name = wanted.config("sockets", updates=["west.update"], resume=True, renderd="unix:" + self.renderd,
-                             tiles="tcp:%s:%d" % self.tiles, control="unix:" + self.control)  # fmt: skip
+        name = wanted.config("sockets", updates=["west.update"], renderd="unix:" + self.renderd,
+                             tiles="tcp:%s:%d" % self.tiles, control="unix:" + self.control, **more)  # fmt: skip
         content = wanted.FILES.pop(name)
         for name, content in [(name, content)] + [(it, wanted.FILES[it]) for it in ("red.style", "square.data", "west.update")]:
             with open(name, "wb") as out:
@@ -165,10 +166,20 @@ def second_run(farm):
     same("the second end", farm.ended(), (0, wanted.tally(2, 2, 1, 1), ""))
 
 
-def serves(program, run):
+def run_of_large_tiles(farm):
+    """Drawings that last longer than the fronts are awake: who asked is told only by the bell that a worker rings."""
+    large = b"P6\n%d %d\n255\n" % (LARGE, LARGE) + wanted.RED * LARGE**2
+    told("a Done that is waited for", farm.renderd, wanted.message(wanted.RENDER, 5, 8, 8), wanted.message(wanted.DONE, 5, 8, 8))
+    told("another tile of that drawing", farm.tiles, wanted.get("/default/5/9/8.ppm"), wanted.tile(large), True)
+    told("a tile that is waited for", farm.tiles, wanted.get("/default/5/16/8.ppm"), wanted.tile(large), True)
+    told("stop", farm.control, b"stop\n", b"stopping\n")
+    same("the third end", farm.ended(), (0, wanted.tally(3, 3, 2, 0), ""))
+
+
+def serves(program, run, **more):
     """A farm's run; another port is tried where another program took the first."""
     for _ in range(5):
-        farm = Farm(program)
+        farm = Farm(program, **more)
         try:
             farm.listens()
             run(farm)
@@ -179,6 +190,10 @@ def serves(program, run):
             farm.kill()
     else:
         raise Late("a free port")
+
+
+def has_saved():
+    """What the farms before it left."""
     if not os.path.exists("tiles/farm.saved"):
         raise Unlike("nothing is saved")
     with open("tiles/farm.saved", "rb") as file:
@@ -186,7 +201,7 @@ def serves(program, run):
 
 
 def tried(built):
-    """Both runs of a program, in a folder of its own, that goes in the end."""
+    """All runs of a program, in a folder of its own, that goes in the end."""
     folder = tempfile.mkdtemp(prefix="tilefarm-")
     os.chdir(folder)
     try:
@@ -195,8 +210,10 @@ def tried(built):
         program = os.path.join(folder, "tilefarm")
         shutil.copyfile(built, program)
         os.chmod(program, 0o755)
-        serves(program, first_run)
-        serves(program, second_run)
+        for run in (first_run, second_run):
+            serves(program, run, resume=True)
+            has_saved()
+        serves(program, run_of_large_tiles, maps=[{"name": "default", "style": "red.style", "tile": LARGE}])
     finally:
         os.chdir(TOP)
         shutil.rmtree(folder, ignore_errors=True)

@@ -112,6 +112,51 @@ def wound_line():
     return {"all": [(0, "lines", [line])]}
 
 
+def across():
+    """Straight lines from one side of the metatile of zoom 14 to the other."""
+    west, north, side, _ = metatile(14, 2**13, 2**13)
+    draw = random.Random(5)
+    ends = lambda: (north + draw.randrange(side), north + draw.randrange(side))
+    return {"all": [(0, "lines", [[[west, a], [west + side, b]]]) for a, b in (ends() for _ in range(1000))]}
+
+
+def passing():
+    """Long straight lines whose boxes hold the metatile of zoom 18, most of which pass it by."""
+    west, north, side, _ = metatile(18, 2**17, 2**17)
+    draw = random.Random(6)
+    far = lambda: draw.randrange(200 * side)
+    return {"all": [(0, "lines", [[[west - far(), north - far()], [west + side + far(), north + side + far()]]]) for _ in range(2000)]}
+
+
+def contours():
+    """Rings of 500 points, as lines: heights round a few summits of the metatile of zoom 14."""
+    west, north, side, _ = metatile(14, 2**13, 2**13)
+    draw, lines = random.Random(7), []
+    summits = [(west + draw.randrange(side), north + draw.randrange(side), draw.random()) for _ in range(12)]
+    for number in range(300):
+        x, y, bent = summits[number % 12]
+        far, line = side * (0.02 + 0.015 * (number // 12)), []
+        for k in range(500):
+            turn = 2 * math.pi * k / 499
+            radius = far * (1 + 0.2 * math.sin(5 * turn + 6 * bent) + 0.05 * math.sin(31 * turn))
+            line.append([int(x + radius * math.cos(turn)), int(y + radius * math.sin(turn))])
+        lines.append((0, "lines", [line]))
+    return {"all": lines}
+
+
+def comb(teeth):
+    """A polygon of so many teeth, each as high as the metatile of zoom 14."""
+
+    def made():
+        west, north, side, _ = metatile(14, 2**13, 2**13)
+        ring = []
+        for k in range(teeth):
+            ring += [[west + side * k // teeth, north + side - 1], [west + side * (2 * k + 1) // (2 * teeth), north + 1]]
+        return {"all": [(0, "polygon", [ring + [[west + side - 1, north + side - 1]]])]}
+
+    return made
+
+
 # ---- styles: for each layer of data some rules (kind or None for the rest, symbolizers)
 
 
@@ -164,6 +209,11 @@ CASES = {
     "large_marks": (spots(20000), one(mark("#336699", 32)), [14], HERE),
     "coast": (coast, one(fill("#336699")), [8, 12, 18], SHORE),
     "long": (long_line, one(stroke("#336699", 2)), [10, 14, 18], SHORE),
+    "alpha": (across, one(stroke("#336699", 2, "butt", 0.5)), [14], HERE),
+    "passing": (passing, one(stroke("#336699", 2, "butt", 0.5)), [18], HERE),
+    "contours": (contours, one(stroke("#996633", 1, "butt", 0.5)), [14], HERE),
+    "comb8000": (comb(8000), one(fill("#336699")), [14], HERE),
+    "comb32000": (comb(32000), one(fill("#336699")), [14], HERE),
     "elsewhere": (lambda: mixed(100000), TWELVE, [18], HERE),
     "nothing": (lambda: {"all": []}, one(fill("#336699")), [14], HERE),
 }
@@ -279,6 +329,14 @@ def ratio(a, b):
     return "%.2f" % (a / b) if a is not None and b else "-"
 
 
+def slowest(ratios):
+    """Which of the cases is the slowest against Mapnik."""
+    if not ratios:
+        return "Slowest against Mapnik: not known, since no case was measured beside it"
+    times, name, z = min(ratios)
+    return "Slowest against Mapnik: %s at zoom %d, where Mapnik takes %.2f times as long" % (name, z, times)
+
+
 def main():
     program, folder, mapnik, *names = sys.argv[1:]
     if names == ["-l"]:
@@ -286,6 +344,7 @@ def main():
         return
     row = "%-12s %3s %9s %8s %8s %14s %10s %9s"
     print(row % ("case", "z", "Mapnik s", "raw s", "ours s", "Mapnik / ours", "ours / raw", "peak KiB"))
+    ratios = []
     for name in names or CASES:
         shapes, style, zooms, point = CASES[name]
         features = shapes()
@@ -300,6 +359,9 @@ def main():
             got, peak = measure(program, folder + "/raw", folder, mapnik, z, point)
             number = lambda it: "-" if it is None else "%.4f" % it
             print(row % (name, z, number(got["mapnik"]), number(got["raw"]), number(got["ours"]), ratio(got["mapnik"], got["ours"]), ratio(got["ours"], got["raw"]), peak), flush=True)
+            if got["mapnik"] is not None and got["ours"]:
+                ratios.append((got["mapnik"] / got["ours"], name, z))
+    print(slowest(ratios))
 
 
 if __name__ == "__main__":

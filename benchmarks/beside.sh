@@ -8,6 +8,8 @@
 # wide; `benchmarks/beside.sh -l` lists them. REPEATS sets how many runs a median is taken of (5). DRAW_BENCH names
 # another build of crates/draw_bench.
 #
+# The last line says which of the cases that were drawn is the slowest against Mapnik.
+#
 # Mapnik is Debian's python3-mapnik; where no python3 has it, its column stays empty. Ours is drawing and packing,
 # Mapnik's is drawing alone, and raw is the cutting of a ready picture into a ready container, in C.
 set -eu

@@ -7,7 +7,8 @@
 # zoom 14, and measures: clean metatiles answered Done on one connection of renderd's protocol; clean tiles of 256
 # pixels over HTTP, one connection each; how long one ask takes; what 1,000 idle connections cost; the farm's memory
 # before and after all these asks; and metatiles over 200 of these features and over all, drawn with 1, 2 and 4 workers, with
-# tiles of 256 pixels, of which the store's puts take much of the time, and of 32, of which they take none.
+# tiles of 256 pixels, of which the writing takes much of the time, and of 32, of which it takes none, and what one
+# who looks at a stored tile waits beside workers that draw all the time.
 # The tiles lie in memory where the system has /dev/shm, so that no disk is measured; TMPDIR names another folder.
 # The client is benchmarks/serve_client.c, compiled by cc. With TILEFARM another program is measured.
 set -eu
@@ -147,6 +148,17 @@ again() {
         drawn "$1"
     done | sort -n | sed -n 3p
 }
+# What one who looks waits while all of them are drawn again and again.
+beside() {
+    "$folder/client" view "$tiles" $((20 / part)) $tile >"$folder/viewed" &
+    viewer=$!
+    while kill -0 "$viewer" 2>/dev/null; do
+        control 'expire 0' >/dev/null
+        drawn 3 >/dev/null
+    done
+    wait "$viewer"
+    cat "$folder/viewed"
+}
 for pixels in 256 32; do
     for features in 200 10000; do
         for workers in 1 2 4; do
@@ -155,6 +167,8 @@ for pixels in 256 32; do
             row "metatiles over $features features, zooms 11 to 14, tiles of $pixels pixels, $workers workers" "$(drawn 3)" "a second"
             row "the same drawn again" "$(again 3)" "a second"
             row "of zoom 14 alone, drawn again" "$(again 0)" "a second"
+            client done "$renderd" 1 1 $tile >/dev/null
+            row "a stored tile over HTTP beside that, every 2 ms: middle, 99 of 100, longest" "$(beside)" "ms"
             row "memory at the end" "$(memory)" "KiB"
             stop
         done

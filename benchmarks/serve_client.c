@@ -7,10 +7,12 @@
  *                                                       the maps m0, m1 and so on; at most 24 asked for at once
  *   serve_client wait ADDRESS COUNT Z X Y               how long single asks take: the least, the middle, of a hundred
  *                                                       the 99th, and the longest
+ *   serve_client view ADDRESS SECONDS Z X Y             one tile over HTTP every 2 ms for so long, each on a connection of
+ *                                                       its own: the middle, of a hundred the 99th, and the longest, in ms
  *   serve_client idle ADDRESS COUNT                     COUNT connections that say nothing, until it is killed (or 600 s)
  *
  * An address is tcp:a.b.c.d:port or unix:path. Each prints one line: a number of answers and the seconds they took,
- * or the waits in microseconds. An answer that is not Done, or no 200, ends it with status 1.
+ * or the waits in microseconds or, of `view`, in milliseconds. An answer that is not Done, or no 200, ends it with status 1.
  */
 #define _GNU_SOURCE
 #include <arpa/inet.h>
@@ -179,6 +181,30 @@ static int measure_tiles(const char *address, long count, long threads, uint32_t
     return 0;
 }
 
+static int by_size(const void *one, const void *other)
+{
+    double a = *(const double *)one, b = *(const double *)other;
+    return (a > b) - (a < b);
+}
+
+static int measure_view(const char *address, long seconds, uint32_t z, uint32_t x, uint32_t y)
+{
+    long most = seconds * 500 + 1, count = 0;
+    double *waits = malloc(most * sizeof *waits), begin = now();
+    struct pages one = {.address = address, .count = 1};
+    snprintf(one.request, sizeof one.request, "GET /default/%u/%u/%u.ppm HTTP/1.1\r\nHost: farm\r\n\r\n", z, x, y);
+    while (count < most && now() - begin < seconds) {
+        double asked = now();
+        read_pages(&one);
+        waits[count++] = (now() - asked) * 1e3;
+        usleep(2000);
+    }
+    qsort(waits, count, sizeof *waits, by_size);
+    printf("%.1f %.1f %.1f\n", waits[count / 2], waits[count * 99 / 100], waits[count - 1]);
+    free(waits);
+    return 0;
+}
+
 static int measure_draw(const char *address, long maps, uint32_t z, uint32_t x, uint32_t y, long deep)
 {
     static unsigned char kept[PIECE], made[LENGTH];
@@ -199,12 +225,6 @@ static int measure_draw(const char *address, long maps, uint32_t z, uint32_t x, 
     }
     printf("%ld %.6f\n", told, now() - begin);
     return 0;
-}
-
-static int by_size(const void *one, const void *other)
-{
-    double a = *(const double *)one, b = *(const double *)other;
-    return (a > b) - (a < b);
 }
 
 static int measure_wait(const char *address, long count, uint32_t z, uint32_t x, uint32_t y)
@@ -244,6 +264,7 @@ int main(int count, char **words)
     if (!strcmp(words[1], "tiles") && count == 8) return measure_tiles(words[2], n[0], n[1], n[2], n[3], n[4]);
     if (!strcmp(words[1], "draw") && count == 8) return measure_draw(words[2], n[0], n[1], n[2], n[3], n[4]);
     if (!strcmp(words[1], "wait") && count == 7) return measure_wait(words[2], n[0], n[1], n[2], n[3]);
+    if (!strcmp(words[1], "view") && count == 7) return measure_view(words[2], n[0], n[1], n[2], n[3]);
     if (!strcmp(words[1], "idle") && count == 4) return hold_idle(words[2], n[0]);
     errno = 0;
     fail("the words: see the head of serve_client.c");

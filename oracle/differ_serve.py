@@ -15,6 +15,7 @@ import subprocess
 import tempfile
 import time
 
+import farm
 import serve
 import serve_cases
 import texts
@@ -22,9 +23,12 @@ from serve_cases import NOT_FOUND, plain
 from tilefarm import Refused
 
 EACH = 20  # seconds for one wait
+SHOWN = 2000  # letters of a difference
+TILE = 16
 MAPS = (("default", 18), ("m2", 3))
 RESTYLES = (0, 1, 0)
 AGAIN = b'{"changes":[{"layer":"land","put":[{"id":2,"geometry":{"points":[[0,0]]}}]}]}'  # which may come more than once
+NAMED = {"paths": [[(2**29, 2**29)]]}  # the point that it puts, in world units, which is there from then on
 LENGTHS = {1: 20, 2: 64, 3: 144}
 
 
@@ -36,7 +40,7 @@ class Farm:
 
     def __init__(self, program, folder, **more):
         self.folder = folder
-        config = {"maps": [{"name": name, "style": "red.style", "tile": 16, "maxzoom": most} for name, most in MAPS]}
+        config = {"maps": [{"name": name, "style": "red.style", "tile": TILE, "maxzoom": most} for name, most in MAPS]}
         config.update(data="square.data", workers=1, renderd="unix:r", tiles="unix:t", control="unix:c", **more)
         contents = {"config": json.dumps(config).encode(), "again.update": AGAIN}
         contents.update({name: serve_cases.FILES[name] for name in ("red.style", "square.data", "absent.update")})
@@ -152,7 +156,7 @@ def saved_parts(text):
     reader = serve.Reader(text)
     reader.take("<4s")
     styles = [reader.take("<I")[0] for _ in range(reader.take("<I")[0])]
-    updates = [reader.take("<2I")[1] for _ in range(reader.take("<Q")[0])]
+    updates = [reader.take("<2I") for _ in range(reader.take("<Q")[0])]
     clean = [reader.take("<4IQ") for _ in range(reader.take("<Q")[0])]
     return styles, updates, clean
 
@@ -169,11 +173,17 @@ def saved_fault(text):
     if len(styles) != len(MAPS):
         return "resume 1"
     fits = lambda place, number: number == 0 or number <= len(RESTYLES) and RESTYLES[number - 1] == place
-    if not all(fits(place, number) for place, number in enumerate(styles)) or any(number > 1 for number in updates):
+    if not all(fits(place, number) for place, number in enumerate(styles)) or any(number > 1 for _, number in updates):
         return "resume 2"
     if any(place >= len(MAPS) or z > MAPS[place][1] for place, z, _, _, _ in clean):
         return "resume 3"
-    return "resume 4" if 1 in updates else None
+    return "resume 4" if any(number == 1 for _, number in updates) else None
+
+
+def is_touched(updates, kept):
+    """Whether a renew that comes again after a metatile was shown reaches it, so that it is dirty."""
+    place, z, x, y, version = kept
+    return any(kind == 1 for kind, _ in updates[version:]) and farm.reaches(NAMED, TILE, (place, z, x, y))
 
 
 def saved_case(program, seed, number):
@@ -185,30 +195,40 @@ def saved_case(program, seed, number):
         with open(saved, "wb") as out:
             out.write(text)
         restyles = [{"map": MAPS[place][0], "style": "red.style"} for place in RESTYLES]
-        farm = Farm(program, folder, resume=True, restyles=restyles, updates=["again.update", "absent.update"])
-        seen, want = resumed(farm, text)
+        server = Farm(program, folder, resume=True, restyles=restyles, updates=["again.update", "absent.update"])
+        seen, want = resumed(server, text)
         with open(saved, "rb") as file:
-            seen, want = seen + [file.read()], want + [text or serve.saved_text([0] * len(MAPS), [], {})]
+            seen, want = seen + [file.read()], want + [kept_text(text)]
     return None if seen == want else "%s: %r, not %r" % (text.hex(), seen, want)
 
 
-def resumed(farm, text):
+def kept_text(text):
+    """What is saved of a farm that went on from the text and was asked for nothing: a text that is refused stays."""
+    if saved_fault(text):
+        return text
+    styles, updates, clean = saved_parts(text)
+    marks = {kept[:4]: {"version": kept[4], "clean": not is_touched(updates, kept)} for kept in clean}
+    return serve.saved_text(styles, updates, marks)
+
+
+def resumed(server, text):
     """What is seen of a farm that goes on from the text, and what is wanted."""
     fault = saved_fault(text)
     if fault:
-        return [farm.ended()], [(1, b"", b"tilefarm: farm.saved: %s\n" % fault.encode())]
-    if not farm.listens():
-        return [farm.ended()], ["it serves"]
+        return [server.ended()], [(1, b"", b"tilefarm: farm.saved: %s\n" % fault.encode())]
+    if not server.listens():
+        return [server.ended()], ["it serves"]
     _, updates, clean = saved_parts(text)
     seen, want = [], []
-    for place, z, x, y, version in clean[:4]:
+    for kept in clean[:4]:
+        place, z, x, y, version = kept
         target = "/%s/%d/%d/%d.ppm/status" % (MAPS[place][0], z, x, y)
-        seen.append(farm.told("t", [serve_cases.get(target)], 1))
-        want.append(plain(200, "OK", "clean %d\n" % version))
+        seen.append(server.told("t", [serve_cases.get(target)], 1))
+        want.append(plain(200, "OK", "%s %d\n" % ("dirty" if is_touched(updates, kept) else "clean", version)))
     tally = b"asks %d done %d stored %d version %d\n" % ((len(clean),) * 3 + (len(updates),))
-    seen.append(farm.told("c", [b"stats\nstop\n"], len(tally) + 9))
+    seen.append(server.told("c", [b"stats\nstop\n"], len(tally) + 9))
     want.append(tally + b"stopping\n")
-    return seen + [farm.ended()], want + [(0, tally, b"")]
+    return seen + [server.ended()], want + [(0, tally, b"")]
 
 
 # --- Bytes on sockets -------------------------------------------------------------------------------------------
@@ -270,10 +290,10 @@ def head(r):
     lines += ["%s%d:%s" % (r.choice(("A", "x-b")), at, r.choice(("", " c", " d e;f"))) for at in range(count)]
     sent = "\r\n" * empty + "".join(line + end for line in lines)
     is_version = version in ("HTTP/1.1", "HTTP/1.0")
-    if r.random() < 0.15:
-        # all but the empty line, at most up to the bytes that are read; too many headers are refused once one is there
+    if r.random() < 0.15 and count < 32:
+        # all but the empty line, at most up to the bytes that are read; of more than 32 headers it may be refused or waited for
         sent += "B: " + "b" * (r.choice((100, 8191, 8192)) - len(sent) - 3)
-        is_bad = not is_version or count >= 32 and empty or len(sent) == 8192
+        is_bad = not is_version or len(sent) == 8192
         return "t", sent.encode(), plain(400, "Bad Request") if is_bad else b""
     sent += r.choice(("\r\n", "\n")) + r.choice(("", "", "GET / HTTP/1.1\r\n\r\n"))
     if count > 32 or not is_version:
@@ -335,7 +355,8 @@ def tried(program, kind, seconds, seeds):
             farm.process.kill()
             farm.ended()
     if found:
-        print("DIFFERS  " + min(found, key=len))
+        told = min(found, key=len)
+        print("DIFFERS  " + (told if len(told) < SHOWN else "%s .. (%d letters)" % (told[:SHOWN], len(told))))
     return agreed, len(found)
 
 

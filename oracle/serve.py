@@ -140,17 +140,23 @@ class Server:
         self.begin_from(styles, updates, clean)
 
     def begin_from(self, styles, updates, clean):
-        layers = [self.farm.layers]
-        for _, number in updates:
-            if not self.farm.update(number, False).startswith("version"):
-                raise refused("resume 4")
-            layers.append(self.farm.layers)
+        """All that was kept is made again: each metatile over the data of its version, and a renew reaches those before it."""
         for number in filter(None, styles):
             self.farm.restyle(number - 1)
+        self.show_kept(clean, 0)
+        for version, (kind, number) in enumerate(updates, 1):
+            if not self.farm.update(number, kind == 1).startswith("version"):
+                raise refused("resume 4")
+            self.show_kept(clean, version)
         self.restyles, self.updates = styles, list(updates)
-        for at, z, x, y, version in clean:
-            self.farm.shown[(at, z, x, y)] = {"version": version, "clean": True, "layers": layers[version], "style": self.farm.styles[at]}
         self.farm.asks = self.farm.done = self.farm.stored = len(clean)
+
+    def show_kept(self, clean, now):
+        """Shows the metatiles of this version as drawn over the data of now."""
+        for at, z, x, y, version in clean:
+            if version == now:
+                mark = {"version": version, "clean": True, "layers": self.farm.layers, "style": self.farm.styles[at]}
+                self.farm.shown[(at, z, x, y)] = mark
 
     def run(self):
         listeners = [listening(address) for address in self.addresses]

@@ -822,6 +822,34 @@ for place, name in enumerate(("renderd", "tiles", "control")):
         case.control.sure(0, b"stopping\n")
     case.wants_status(0)
 
+# Two connections on each port, each answered in the round of its piece, so that it is determined on which one a send fails.
+SPARSE = message(RENDER, 0, 1, 0), message(NOT_DONE, 0, 1, 0)
+STATUS = get("/default/0/0/0.ppm/status"), plain(200, "OK", "missing\n")
+for place, name in enumerate(("renderd", "tiles", "control")):
+    for failing in (0, 1):
+        case = Case("%s: send %d of two fails" % (name, failing))
+        renderd, tiles, control = case.sides
+        for conn in (0, 1):
+            renderd.open()
+            renderd.piece(conn, SPARSE[0], "render_0_1_0.v2")
+            tiles.open()
+            tiles.piece(conn, STATUS[0], "get_0_0_0_status")
+        control.open()
+        control.piece(0, "update 7\n", "update.control")
+        for front, answer in ((0, SPARSE[1]), (1, STATUS[1])):
+            control.waits(front, len(answer) * (1 if front == place else 2))
+        control.open()
+        control.piece(1, "stop\n", "stop.control")
+        case.sides[place].fail(failing)
+        for side, answers in zip(case.sides, ([SPARSE[1]] * 2, [STATUS[1]] * 2, [b"no update\n", b"stopping\n"])):
+            for conn, answer in enumerate(answers):
+                is_lost = side.number == place and conn == failing
+                side.want[conn] = ("closed" if is_lost or side is tiles else "open", b"" if is_lost else answer)
+        renderd.either()
+        tiles.either()
+        control.end = "stopped"
+        case.wants(out=tally(2, 0, 0, 0))
+
 # Ticket 0 is held until an ask, a fetch and a drawing beside it were answered: one worker cannot do that.
 for apart in (False, True):
     case = Case("one drawing is held while others are answered" + (", on connections of their own" if apart else ""))

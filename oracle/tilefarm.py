@@ -818,7 +818,7 @@ def read(folder, name):
     try:
         with open(os.path.join(folder, name), "rb") as source:
             return source.read()
-    except OSError:
+    except (OSError, ValueError):  # no file has a name with a NUL byte
         raise Ended(3, "tilefarm: %s: cannot be read" % name)
 
 

@@ -5,3 +5,4 @@ pub mod Bits
 pub mod Finds
 pub mod Places
 pub mod Old
+pub mod Ids

@@ -2,24 +2,23 @@
 use Rattle.std.proofs.Common.{◌≡◌, ℕ, zero, suc, ◌+◌, ◌-◌, ◌<◌, ◌≤◌, List, [], ◌∷◌, ◌++◌, length, get_or, set, take, drop, refl, sym, ◌∙◌, ap, subst, inr, append_assoc, length-append, length-drop, arith}
 use Rattle.std.specs.Prelude.{Bool, true, false, ◌&&◌, cond, nat_eq, map, Option, Some, None}
 use Rattle.std.specs.Ordering.{nat_cmp}
-use Rattle.std.specs.BTreeMap.{BTreeMap, Updates, is_at, IsEmpty}
+use Rattle.std.specs.BTreeMap.{BTreeMap, is_at, IsEmpty}
 use Rattle.std.specs.Map.{lookup}
 use Rattle.std.proofs.lemmas.Bool.{eq-eqb, eqb-true}
 use Rattle.std.specs.List.{AllByRecursion, IsDistinct, list_all}
 use Rattle.std.proofs.lemmas.Map.Keys.{IsDistinct-head, IsDistinct-tail}
-use Rattle.std.proofs.lemmas.Bool.Decides.{nat_tests}
-use Rattle.std.proofs.lemmas.List.{map-append, take_more, take_rest, drop-drop, take-append-drop, length-take-le}
+use Rattle.std.proofs.lemmas.List.{map-append, take_more, take_rest, drop-drop, take-append-drop}
 use Rattle.std.proofs.lemmas.List.Elements.{filter_map-append}
 use Rattle.std.proofs.Math.Seq.{take-add}
 use Rattle.std.specs.Arc.{arc_value}
 use Rattle.plain_data.specs.Features.{Feature}
-use Rattle.plain_data.specs.Data.{has_id, ids_of}
+use Rattle.plain_data.specs.Data.{ids_of}
 use Rattle.data_versions.specs.declared.slot.Slot.{Slot}
 use Rattle.data_versions.specs.inner.Slots.{standing_in, standing, slot_id, is_old, old_in, IsOldAs, HasOld, KnowsPlaces}
 use Rattle.data_versions.specs.inner.Chunks.{joined}
 use Rattle.data_versions.proofs.Places.{Chunks, ChunkShare, joined_more}
 use Rattle.std.specs.Option.{option_to_list}
-use Rattle.data_versions.proofs.Slots.{knows_room, knows_added, unheld, standing_more, none_some, some_same}
+use Rattle.data_versions.proofs.Slots.{standing_more, none_some, some_same}
 use Rattle.data_versions.specs.Near.{place_of}
 use Rattle.data_versions.proofs.Finds.{position-cons, no_place}
 
@@ -144,46 +143,6 @@ standing_on slots at n = ap standing (take-add at n slots) ∙ filter_map-append
 pub standing_split : (slots : List (Option Slot)) (at : ℕ) → standing slots ≡ standing (take at slots) ++ standing (drop at slots)
 standing_split slots at = ap standing (sym (take-append-drop at slots)) ∙ filter_map-append standing_in (take at slots) (drop at slots)
 
--- ---- the places of distinct ids
-
-other_id : (slots : List (Option Slot)) (i : ℕ) (s : Slot) (id : ℕ) → get_or slots i None ≡ Some s → AllByRecursion (λ k. nat_eq id k ≡ false) (ids_of (standing slots))
-    → nat_eq id s.feature.now.id ≡ false
-other_id [] i s id at each = cc
-other_id (None ∷ slots) zero s id at each = cc
-other_id (Some f ∷ slots) zero s id at each =
-    let same : f ≡ s = cc in subst (λ (x : Slot). nat_eq id x.feature.now.id ≡ false) same each.0
-other_id (None ∷ slots) (suc i) s id at each = other_id slots i s id at each
-other_id (Some f ∷ slots) (suc i) s id at each = other_id slots i s id at each.1
-
-flip : (a b : ℕ) → nat_eq a b ≡ false → nat_eq b a ≡ false
-flip a b h = grind (arith, nat_tests)
-
--- of distinct ids the next one is new
-new_id : (slots : List (Option Slot)) (i : ℕ) (s : Slot) → get_or slots i None ≡ Some s → IsDistinct nat_eq (ids_of (standing slots))
-    → has_id (ids_of (standing (take i slots))) s.feature.now.id ≡ false
-new_id slots zero s at distinct = refl
-new_id [] (suc i) s at distinct = cc
-new_id (None ∷ slots) (suc i) s at distinct = new_id slots i s at distinct
-new_id (Some f ∷ slots) (suc i) s at distinct =
-    let apart : nat_eq s.feature.now.id f.feature.now.id ≡ false =
-    flip f.feature.now.id s.feature.now.id (other_id slots i s f.feature.now.id at (IsDistinct-head nat_eq f.feature.now.id (ids_of (standing slots)) distinct)) in
-    rw apart (new_id slots i s at (IsDistinct-tail nat_eq f.feature.now.id (ids_of (standing slots)) distinct))
-
-pub places_more : (places after : BTreeMap ℕ ℕ) (slots : List (Option Slot)) (i : ℕ) (s : Slot) → i < length slots → get_or slots i None ≡ Some s
-    → IsDistinct nat_eq (ids_of (standing slots)) → KnowsPlaces true places [] (take i slots) → Updates nat_cmp places after s.feature.now.id (Some i)
-    → KnowsPlaces true after [] (take (i + 1) slots)
-places_more places after slots i s small at distinct knows updates =
-    let long : length (take i slots) ≡ i = length-take-le i slots (omega arith) in
-    let next : take (i + 1) slots ≡ take i slots ++ Some s ∷ [] = take_more slots i None small ∙ ap (λ (o : Option Slot). take i slots ++ o ∷ []) at in
-    rw next (knows_added true places after [] (take i slots) s knows (unheld (take i slots) s.feature.now.id (new_id slots i s at distinct))
-    (subst (λ (n : ℕ). Updates nat_cmp places after s.feature.now.id (Some n)) (sym long) updates))
-
-pub places_same : (places : BTreeMap ℕ ℕ) (slots : List (Option Slot)) (i : ℕ) → i < length slots → get_or slots i None ≡ None
-    → KnowsPlaces true places [] (take i slots) → KnowsPlaces true places [] (take (i + 1) slots)
-places_same places slots i small at knows =
-    let next : take (i + 1) slots ≡ take i slots ++ None ∷ [] = take_more slots i None small ∙ ap (λ (o : Option Slot). take i slots ++ o ∷ []) at in
-    rw next (knows_room true places [] (take i slots) knows)
-
 -- ---- the places of the features from the start
 
 first_is : (b : Bool) (f : Feature) (features : List Feature) (id k : ℕ) → nat_eq f.id id ≡ b → AllByRecursion (λ q. nat_eq f.id q ≡ false) (ids_of features)
@@ -208,11 +167,11 @@ first_places (Some s ∷ slots) (f ∷ features) e distinct id (suc k) here =
     (first_places slots features (tail_is (old_in (Some s)) (Some f) (map old_in slots) (map Some features) e) (IsDistinct-tail nat_eq f.id (ids_of features) distinct) id k here)
 
 pub knows_first : (places : BTreeMap ℕ ℕ) (slots : List (Option Slot)) (features : List Feature) → IsEmpty places → map old_in slots ≡ map Some features
-    → IsDistinct nat_eq (ids_of features) → KnowsPlaces false places features slots
+    → IsDistinct nat_eq (ids_of features) → KnowsPlaces places features slots
 knows_first places slots features empty e distinct =
     let at : (id k : ℕ) → slot_id (get_or slots k None) ≡ Some id → place_of features id ≡ Some k = first_places slots features e distinct in record {
       found = λ q j there. none_some (ap (λ es. lookup (is_at (nat_cmp q)) es) empty) there;
-      held = λ q j there. inr (refl, at q j there);
+      held = λ q j there. inr (at q j there);
       one = λ q i j a b. some_same i j (sym (at q i a) ∙ at q j b);
     }
 

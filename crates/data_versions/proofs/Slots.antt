@@ -2,7 +2,7 @@
 use Rattle.std.proofs.Common.{◌≡◌, ℕ, zero, suc, ◌+◌, ◌<◌, List, [], ◌∷◌, ◌++◌, length, get_or, set, take, add-one, refl, sym, ◌∙◌, ap, subst, inl, inr, append-nil, length-append, arith}
 use Rattle.std.specs.Prelude.{◌⊎◌, Bool, true, false, ◌||◌, nat_eq, Option, Some, None}
 use Rattle.std.specs.Ordering.{nat_cmp}
-use Rattle.std.specs.BTreeMap.{BTreeMap, get, Updates, is_at, IsEmpty}
+use Rattle.std.specs.BTreeMap.{BTreeMap, get, Updates, is_at}
 use Rattle.std.specs.Map.{lookup}
 use Rattle.std.specs.List.{AllByRecursion, IsDistinct}
 use Rattle.std.specs.Option.{option_to_list}
@@ -144,9 +144,9 @@ not_emptied (s ∷ slots) zero (suc j) q there e = no_suc j (sym e)
 not_emptied (s ∷ slots) (suc k) zero q there e = no_suc k e
 not_emptied (s ∷ slots) (suc k) (suc j) q there e = not_emptied slots k j q there (one_less j k e)
 
-pub knows_removed : (all : Bool) (places after : BTreeMap ℕ ℕ) (features : List Feature) (slots : List (Option Slot)) (id k : ℕ) → KnowsPlaces all places features slots
-    → slot_id (get_or slots k None) ≡ Some id → Updates nat_cmp places after id None → KnowsPlaces all after features (set slots k None)
-knows_removed all places after features slots id k knows here updates = record {
+pub knows_removed : (places after : BTreeMap ℕ ℕ) (features : List Feature) (slots : List (Option Slot)) (id k : ℕ) → KnowsPlaces places features slots
+    → slot_id (get_or slots k None) ≡ Some id → Updates nat_cmp places after id None → KnowsPlaces after features (set slots k None)
+knows_removed places after features slots id k knows here updates = record {
   found = λ q j there. elim (cases_eq id q) [
     | inl e ↦ (let gone : get nat_cmp after q ≡ None = subst (λ (x : ℕ). get nat_cmp after x ≡ None) e updates.1 in cc)
     | inr other ↦ (
@@ -173,9 +173,9 @@ same_ids slots g k j here = elim (cases_eq j k) [
   | inr away ↦ ap slot_id (set_other slots k j (Some g) away)
 ]
 
-pub knows_replaced : (all : Bool) (places : BTreeMap ℕ ℕ) (features : List Feature) (slots : List (Option Slot)) (g : Slot) (k : ℕ)
-    → KnowsPlaces all places features slots → slot_id (get_or slots k None) ≡ Some g.feature.now.id → KnowsPlaces all places features (set slots k (Some g))
-knows_replaced all places features slots g k knows here = record {
+pub knows_replaced : (places : BTreeMap ℕ ℕ) (features : List Feature) (slots : List (Option Slot)) (g : Slot) (k : ℕ)
+    → KnowsPlaces places features slots → slot_id (get_or slots k None) ≡ Some g.feature.now.id → KnowsPlaces places features (set slots k (Some g))
+knows_replaced places features slots g k knows here = record {
   found = λ q j there. same_ids slots g k j here ∙ knows.found q j there;
   held = λ q j there. knows.held q j (sym (same_ids slots g k j here) ∙ there);
   one = λ q i j a b. knows.one q i j (sym (same_ids slots g k i here) ∙ a) (sym (same_ids slots g k j here) ∙ b);
@@ -188,9 +188,9 @@ pushed_none [] (suc j) = refl
 pushed_none (s ∷ slots) zero = refl
 pushed_none (s ∷ slots) (suc j) = pushed_none slots j
 
-pub knows_room : (all : Bool) (places : BTreeMap ℕ ℕ) (features : List Feature) (slots : List (Option Slot)) → KnowsPlaces all places features slots
-    → KnowsPlaces all places features (slots ++ None ∷ [])
-knows_room all places features slots knows = record {
+pub knows_room : (places : BTreeMap ℕ ℕ) (features : List Feature) (slots : List (Option Slot)) → KnowsPlaces places features slots
+    → KnowsPlaces places features (slots ++ None ∷ [])
+knows_room places features slots knows = record {
   found = λ q j there. ap slot_id (pushed_none slots j) ∙ knows.found q j there;
   held = λ q j there. knows.held q j (sym (ap slot_id (pushed_none slots j)) ∙ there);
   one = λ q i j a b. knows.one q i j (sym (ap slot_id (pushed_none slots i)) ∙ a) (sym (ap slot_id (pushed_none slots j)) ∙ b);
@@ -225,9 +225,9 @@ pushed_id (s ∷ slots) g q (suc j) there = elim (pushed_id slots g q j there) [
 ]
 
 -- one more feature, of a new id, goes last
-pub knows_added : (all : Bool) (places after : BTreeMap ℕ ℕ) (features : List Feature) (slots : List (Option Slot)) (g : Slot) → KnowsPlaces all places features slots
-    → StandsNowhere slots g.feature.now.id → Updates nat_cmp places after g.feature.now.id (Some (length slots)) → KnowsPlaces all after features (slots ++ Some g ∷ [])
-knows_added all places after features slots g knows nowhere updates = record {
+pub knows_added : (places after : BTreeMap ℕ ℕ) (features : List Feature) (slots : List (Option Slot)) (g : Slot) → KnowsPlaces places features slots
+    → StandsNowhere slots g.feature.now.id → Updates nat_cmp places after g.feature.now.id (Some (length slots)) → KnowsPlaces after features (slots ++ Some g ∷ [])
+knows_added places after features slots g knows nowhere updates = record {
   found = λ q j there. elim (cases_eq g.feature.now.id q) [
     | inl e ↦ (
         let last : j ≡ length slots = some_same j (length slots) (sym there ∙ subst (λ (x : ℕ). get nat_cmp after x ≡ Some (length slots)) e updates.1) in
@@ -257,13 +257,6 @@ knows_added all places after features slots g knows nowhere updates = record {
   ];
 }
 
-pub knows_nothing : (all : Bool) (places : BTreeMap ℕ ℕ) (features : List Feature) → IsEmpty places → KnowsPlaces all places features []
-knows_nothing all places features empty = record {
-  found = λ q j there. none_some (ap (λ es. lookup (is_at (nat_cmp q)) es) empty) there;
-  held = λ q j there. cc;
-  one = λ q i j a b. cc;
-}
-
 -- ---- what the features are, after each step
 
 pub removed_is : (slots : List (Option Slot)) (id k : ℕ) → ((i j : ℕ) → slot_id (get_or slots i None) ≡ Some id → slot_id (get_or slots j None) ≡ Some id → i ≡ j)
@@ -281,22 +274,10 @@ added_is slots g = filter_map-append standing_in slots (Some g ∷ [])
 pub room_is : (slots : List (Option Slot)) → standing (slots ++ None ∷ []) ≡ standing slots
 room_is slots = filter_map-append standing_in slots (None ∷ []) ∙ append-nil (standing slots)
 
--- places that are all noted need no features from the start
-pub knows_all : (places : BTreeMap ℕ ℕ) (features others : List Feature) (slots : List (Option Slot)) → KnowsPlaces true places features slots
-    → KnowsPlaces true places others slots
-knows_all places features others slots knows = record {
-  found = knows.found;
-  held = λ q j there. elim (knows.held q j there) [
-    | inl told ↦ inl told
-    | inr early ↦ (let wrong : true ≡ false = early.0 in cc)
-  ];
-  one = knows.one;
-}
-
 -- a map with the same entries
-pub knows_same : (all : Bool) (places after : BTreeMap ℕ ℕ) (features : List Feature) (slots : List (Option Slot)) → KnowsPlaces all places features slots
-    → after.entries ≡ places.entries → KnowsPlaces all after features slots
-knows_same all places after features slots knows same = record {
+pub knows_same : (places after : BTreeMap ℕ ℕ) (features : List Feature) (slots : List (Option Slot)) → KnowsPlaces places features slots
+    → after.entries ≡ places.entries → KnowsPlaces after features slots
+knows_same places after features slots knows same = record {
   found = λ q j there. knows.found q j (sym (ap (λ es. lookup (is_at (nat_cmp q)) es) same) ∙ there);
   held = λ q j there. elim (knows.held q j there) [
     | inl told ↦ inl (ap (λ es. lookup (is_at (nat_cmp q)) es) same ∙ told)
@@ -338,9 +319,9 @@ distinct_slots (Some f ∷ slots) one = (
   distinct_slots slots (λ id i j p q. one_less i j (one id (suc i) (suc j) p q)),
 )
 
-pub standing_distinct : (all : Bool) (places : BTreeMap ℕ ℕ) (features : List Feature) (slots : List (Option Slot)) → KnowsPlaces all places features slots
+pub standing_distinct : (places : BTreeMap ℕ ℕ) (features : List Feature) (slots : List (Option Slot)) → KnowsPlaces places features slots
     → IsDistinct nat_eq (ids_of (standing slots))
-standing_distinct all places features slots knows = distinct_slots slots knows.one
+standing_distinct places features slots knows = distinct_slots slots knows.one
 
 -- the next slot as well
 pub standing_more : (slots : List (Option Slot)) (i : ℕ) (d : Option Slot) → i < length slots

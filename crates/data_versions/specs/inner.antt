@@ -1,3 +1,4 @@
 pub mod Cells
 pub mod Chunks
 pub mod Slots
+pub mod Ids

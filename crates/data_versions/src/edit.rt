@@ -2,14 +2,15 @@
 ghost use Rattle.std.specs.Prelude.{◌≡◌, ◌≤◌, ◌<◌, ◌∷◌, ◌++◌, [], true, false, nat_eq, length, IfOk, OnOk};
 ghost use Rattle.std.specs.List.{IsDistinct};
 ghost use Rattle.plain_data.specs.Limits.{most_features};
-ghost use Rattle.plain_data.specs.Data.{has_id, ids_of};
+ghost use Rattle.plain_data.specs.Data.{has_id, ids_of, IsLayer};
 ghost use Rattle.data_versions.specs.inner.Slots.{without, replaced_by, with_put};
 ghost use Rattle.data_versions.specs.inner.Chunks.{joined};
 
 use crate::builder::ChunkBuilder;
 use crate::chunk::{Chunk, MOST_TOGETHER};
 use crate::chunked::ChunkedLayer;
-use crate::slot::{Slot, copy_slots, keep_chunk, old_slots, places_of, slot_of};
+use crate::finder::LayerFinder;
+use crate::slot::{Slot, copy_slots, keep_chunk, old_slots, slot_of};
 use farm_base::NoMemory;
 use geo_model::Feature;
 use plain_data::MOST_FEATURES;
@@ -18,21 +19,14 @@ use std::collections::BTreeMap;
 use std::marker::Model;
 use std::sync::Arc;
 
-/// The most ids that are found by walks over the chunks. To note the places of all ids takes about as long as
-/// 2,000 to 3,000 such walks.
-const MOST_WALKS: usize = 1_000;
-
 /// The features of a layer by reference, each in a slot that stays its own, so that a removal moves no other
 /// feature. The first slots are those of the features from the start, chunk by chunk. The places are those of
-/// the ids that were added, and of all ids once many are to be found. Contracts see it as the list of its
-/// features.
+/// the ids that were added; the others are found in the layer. Contracts see it as the list of its features.
 #[derive(Drop)]
 pub(crate) struct LayerEdit<'a> {
-    layer: &'a ChunkedLayer,
+    finder: LayerFinder<'a>,
     slots: Vec<Option<Slot<'a>>>,
     places: BTreeMap<u64, usize>,
-    all_noted: bool,
-    expected: usize,
     count: usize,
 }
 
@@ -46,24 +40,21 @@ impl<'a> Model for LayerEdit<'a> {
 
     ghost view = { λ b. standing b.slots.items };
 
-    ghost invariant = { λ b. KnowsPlaces b.all_noted b.places b.layer.now.features b.slots.items × (b.count ≡ length (standing b.slots.items)) × (b.count ≤ most_features) × HasOld b.slots.items b.layer.now.features };
+    ghost invariant = { λ b. KnowsPlaces b.places b.finder.features b.slots.items × (b.count ≡ length (standing b.slots.items)) × (b.count ≤ most_features) × HasOld b.slots.items b.finder.features };
 }
 
 impl<'a> LayerEdit<'a> {
     /// The features of a layer.
     pub(crate) fn of(alloc: Global, layer: &'a ChunkedLayer) -> Result<LayerEdit<'a>, NoMemory>
-        requires few { length layer.now.features ≤ most_features }
-        requires distinct { IsDistinct nat_eq (ids_of layer.now.features) }
+        requires { IsLayer layer.now }
         ensures { IfOk result (λ b. b ≡ layer.now.features) }
     {
         let slots = old_slots(alloc, layer.chunks())?;
         let count = slots.len();
         Ok(LayerEdit {
-            layer,
+            finder: LayerFinder::of(alloc, layer),
             slots,
             places: BTreeMap::new(alloc),
-            all_noted: false,
-            expected: 0,
             count,
         })
     }
@@ -72,13 +63,7 @@ impl<'a> LayerEdit<'a> {
     pub(crate) fn expect(&mut self, alloc: Global, ids: usize) -> Result<(), NoMemory>
         ensures { self.new ≡ self.old }
     {
-        self.expected = self.expected.saturating_add(ids);
-        if self.all_noted || self.expected <= MOST_WALKS {
-            return Ok(());
-        }
-        self.places = places_of(alloc, self.slots.as_slice())?;
-        self.all_noted = true;
-        Ok(())
+        self.finder.expect(alloc, ids)
     }
 
     /// How many features there are: at most 1,000,000, of distinct ids.
@@ -97,13 +82,7 @@ impl<'a> LayerEdit<'a> {
         ensures gone { result ≡ true → self.new ≡ without id self.old }
         ensures absent { result ≡ false → self.new ≡ self.old }
     {
-        match slot_of(
-            &self.places,
-            self.all_noted,
-            self.layer,
-            self.slots.as_slice(),
-            id,
-        ) {
+        match slot_of(&self.places, &self.finder, self.slots.as_slice(), id) {
             Some(place) => {
                 self.slots[place] = None;
                 self.places.remove(&id);
@@ -139,8 +118,7 @@ impl<'a> LayerEdit<'a> {
     {
         match slot_of(
             &self.places,
-            self.all_noted,
-            self.layer,
+            &self.finder,
             self.slots.as_slice(),
             feature.id(),
         ) {
@@ -176,7 +154,7 @@ impl<'a> LayerEdit<'a> {
     pub(crate) fn chunks(&self, alloc: Global) -> Result<Vec<Arc<Chunk>>, NoMemory>
         ensures { IfOk result (λ chunks. joined chunks.items ≡ self.now) }
     {
-        let chunks = self.layer.chunks();
+        let chunks = self.finder.layer().chunks();
         let mut builder = ChunkBuilder::new(alloc);
         let mut at = 0;
         for (place, shared) in chunks.iter().enumerate() {

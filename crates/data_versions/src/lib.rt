@@ -8,6 +8,7 @@ mod chunked;
 mod dataset;
 mod edit;
 mod edited;
+mod finder;
 mod slot;
 mod snapshot;
 mod updates;
@@ -15,6 +16,7 @@ mod walk;
 
 pub use dataset::{Change, Dataset, Layer, Update};
 pub use farm_base::ApplyFault;
+pub use finder::LayerFinder;
 pub use geo_model::Feature;
 pub use snapshot::{LayerView, Snapshot};
 pub use updates::apply;

@@ -1,16 +1,15 @@
 //! The slots of a layer while an update changes it.
-ghost use Rattle.std.specs.Prelude.{◌≡◌, ◌++◌, [], ℕ, true, false, nat_eq, length, map, get_or, Some, None, IfOk, OnOk, IfSome};
-ghost use Rattle.std.specs.List.{IsDistinct, list_all};
+ghost use Rattle.std.specs.Prelude.{◌≡◌, ◌++◌, ℕ, true, false, length, map, get_or, Some, None, IfOk, OnOk, IfSome};
+ghost use Rattle.std.specs.List.{list_all};
 ghost use Rattle.std.specs.Option.{option_to_list};
 ghost use Rattle.std.specs.Arc.{arc_value};
-ghost use Rattle.plain_data.specs.Data.{ids_of};
 ghost use Rattle.data_versions.specs.Near.{place_of};
 ghost use Rattle.data_versions.specs.inner.Slots.{standing_in, standing, slot_id, is_old, old_in, HasOld, KnowsPlaces, StandsNowhere};
 ghost use Rattle.data_versions.specs.inner.Chunks.{joined};
 
 use crate::builder::ChunkBuilder;
 use crate::chunk::Chunk;
-use crate::chunked::ChunkedLayer;
+use crate::finder::LayerFinder;
 use farm_base::NoMemory;
 use geo_model::Feature;
 use std::alloc::Global;
@@ -52,26 +51,6 @@ pub(crate) fn old_slots<'a>(
     Ok(slots)
 }
 
-/// In which slot each id stands.
-pub(crate) fn places_of(
-    alloc: Global,
-    slots: &[Option<Slot<'_>>],
-) -> Result<BTreeMap<u64, usize>, NoMemory>
-    requires { IsDistinct nat_eq (ids_of (standing slots.now)) }
-    ensures { IfOk result (λ places. KnowsPlaces true places [] slots.now) }
-{
-    let mut places = BTreeMap::new(alloc);
-    for (place, slot) in slots.iter().enumerate() {
-        match slot {
-            Some(here) => {
-                places.insert(here.feature.id(), place)?;
-            }
-            None => {}
-        }
-    }
-    Ok(places)
-}
-
 /// Whether the feature of the id stands in the slot.
 fn holds(slot: &Option<Slot<'_>>, id: u64) -> bool
     ensures yes { result ≡ true → slot_id slot.now ≡ Some id }
@@ -84,37 +63,32 @@ fn holds(slot: &Option<Slot<'_>>, id: u64) -> bool
 }
 
 /// The slot of the layer's feature of the id, if the id still stands there.
-fn first_slot(layer: &ChunkedLayer, slots: &[Option<Slot<'_>>], id: u64) -> Option<usize>
+fn first_slot(finder: &LayerFinder<'_>, slots: &[Option<Slot<'_>>], id: u64) -> Option<usize>
     ensures found { IfSome result (λ k. slot_id (get_or slots.now k None) ≡ Some id) }
-    ensures none { result ≡ None → (k : ℕ) → place_of layer.now.features id ≡ Some k → slot_id (get_or slots.now k None) ≡ Some id → ⊥ }
+    ensures none { result ≡ None → (k : ℕ) → place_of finder.now.features id ≡ Some k → slot_id (get_or slots.now k None) ≡ Some id → ⊥ }
 {
-    let place = layer.place_of(id)? as usize;
+    let place = finder.place_of(id)? as usize;
     match slots.get(place) {
         Some(slot) if holds(slot, id) => Some(place),
         _ => None,
     }
 }
 
-/// In which slot the id stands: the places tell it, or else, where not all are noted, the layer from the
-/// start.
+/// In which slot the id stands: the places tell it, or else the layer from the start.
 pub(crate) fn slot_of(
     places: &BTreeMap<u64, usize>,
-    all_noted: bool,
-    layer: &ChunkedLayer,
+    finder: &LayerFinder<'_>,
     slots: &[Option<Slot<'_>>],
     id: u64,
 ) -> Option<usize>
-    requires { KnowsPlaces all_noted places.now layer.now.features slots.now }
+    requires { KnowsPlaces places.now finder.now.features slots.now }
     ensures found { IfSome result (λ k. slot_id (get_or slots.now k None) ≡ Some id) }
     ensures none { result ≡ None → StandsNowhere slots.now id }
 {
     if let Some(place) = places.get(&id).copied() {
         return Some(place);
     }
-    if all_noted {
-        return None;
-    }
-    first_slot(layer, slots, id)
+    first_slot(finder, slots, id)
 }
 
 fn is_old(slot: &Option<Slot<'_>>) -> bool

@@ -9,6 +9,7 @@ ghost use Rattle.plain_data.specs.Limits.{most_features};
 use crate::builder::ChunkBuilder;
 use crate::chunked::ChunkedLayer;
 use crate::dataset::{Dataset, Layer};
+use crate::finder::LayerFinder;
 use crate::walk::NearFeatures;
 use farm_base::NoMemory;
 use geo_model::{Bounds, Feature};
@@ -105,6 +106,29 @@ impl Snapshot {
             None => None,
         }
     }
+
+    /// A finder of features by their ids for each layer, in the layers' order.
+    pub fn finders(&self, alloc: Global) -> Result<Vec<LayerFinder<'_>>, NoMemory>
+        ensures { IfOk result (λ finders. finders.items ≡ self.now) }
+    {
+        finders_of(alloc, self.layers.as_slice())
+    }
+}
+
+/// A finder for each layer.
+fn finders_of<'a>(
+    alloc: Global,
+    shared: &'a [Arc<ChunkedLayer>],
+) -> Result<Vec<LayerFinder<'a>>, NoMemory>
+    requires { All IsLayer (shared_layers shared.now) }
+    ensures { IfOk result (λ finders. finders.items ≡ shared_layers shared.now) }
+{
+    let mut finders = Vec::with_capacity(alloc, shared.len())?;
+    for layer in shared {
+        let layer: &'a ChunkedLayer = layer;
+        finders.push(LayerFinder::of(alloc, layer))?;
+    }
+    Ok(finders)
 }
 
 /// The layer of the name among those that are shared.

@@ -21,8 +21,7 @@ use Rattle.input_files.specs.inner.Follows.{Follows}
 use Rattle.input_files.specs.inner.Runs as calls
 use Rattle.input_files.proofs.Courses.{follows_then, follows_stop}
 use Rattle.farm_files.specs.Inputs.{Scripted, Served}
-use Rattle.filter_expr.specs.FilterTexts.{filter_of}
-use Rattle.style_objects.specs.FilterReadings.{FilterReading}
+use Rattle.style_objects.specs.TextReadings.{TextReading, text_reading}
 use Rattle.style_objects.proofs.ByGrammar.{one_reading, reads_grammar}
 use Rattle.farm_files.specs.Courses.{script_course, script_course_by, serve_course, serve_course_by}
 use Rattle.script_command.specs.Scripts as script
@@ -71,11 +70,11 @@ asked_one words c d a b =
 
 course_one : (command : Command) (c d : Course Work) → IsCourse command c → IsCourse command d → c ≡ d
 course_one (Render style data_name size tile) c d a b =
-    a.2 ∙ ap (λ (says : FilterReading). render_course_by says style data_name size tile >>= (λ text. made (puts text))) (one_reading a.0 b.0 a.1 b.1) ∙ sym b.2
+    a.2 ∙ ap (λ (says : TextReading). render_course_by says style data_name size tile >>= (λ text. made (puts text))) (one_reading a.0 b.0 a.1 b.1) ∙ sym b.2
 course_one (Script config lines) c d a b =
-    a.2 ∙ ap (λ (says : FilterReading). script_course_by says config lines >>= (λ s. made (scripts s))) (one_reading a.0 b.0 a.1 b.1) ∙ sym b.2
+    a.2 ∙ ap (λ (says : TextReading). script_course_by says config lines >>= (λ s. made (scripts s))) (one_reading a.0 b.0 a.1 b.1) ∙ sym b.2
 course_one (Serve config) c d a b =
-    a.2 ∙ ap (λ (says : FilterReading). serve_course_by says config >>= (λ s. made (serves s))) (one_reading a.0 b.0 a.1 b.1) ∙ sym b.2
+    a.2 ∙ ap (λ (says : TextReading). serve_course_by says config >>= (λ s. made (serves s))) (one_reading a.0 b.0 a.1 b.1) ∙ sym b.2
 course_one (Load seed n) c d a b = a ∙ sym b
 course_one (Meta file) c d a b = a ∙ sym b
 
@@ -164,19 +163,19 @@ module _ {D : Type 0} (state : D → Outside StoreTold) (words : List (List ℕ)
       let course = render_course style data_name size tile in
       inl (
         course >>= (λ text. made (puts text)),
-        (Render style data_name size tile, asks, (filter_of, reads_grammar, refl)),
+        (Render style data_name size tile, asks, (text_reading, reads_grammar, refl)),
         text_put ran.ran.0.text course ran.ran.0.followed ran.store' ran.ran.1 ran.ran.0.put ran.left_is ran.no_fronts ran.ports_same,
       )
   runs_asked (Script config lines) asks ran =
       let course = script_course config lines in
       inl (
         course >>= (λ s. made (scripts s)),
-        (Script config lines, asks, (filter_of, reads_grammar, refl)),
+        (Script config lines, asks, (text_reading, reads_grammar, refl)),
         script_ran ran.ran.made course ran.ran.followed ran.store' ran.ran.ran ran.left_is ran.no_fronts ran.ports_same,
       )
   runs_asked (Serve config) asks ran =
       let course = serve_course config in
-      inl (course >>= (λ s. made (serves s)), (Serve config, asks, (filter_of, reads_grammar, refl)), served_ran ran.made course ran.followed ran.serves)
+      inl (course >>= (λ s. made (serves s)), (Serve config, asks, (text_reading, reads_grammar, refl)), served_ran ran.made course ran.followed ran.serves)
   runs_asked (Load seed n) asks ran =
       inl (
         made (loads seed n),

@@ -17,7 +17,7 @@ use Rattle.input_files.specs.Course.{made, reads, ◌>>=◌, judged, file, each}
 use Rattle.input_files.specs.inner.Follows.{Follows, Says, Tells}
 use Rattle.input_files.proofs.Courses.{ended, Could, could_parts, followed_could}
 use Rattle.input_files.proofs.Judged.{file_checked, file_stops}
-use Rattle.farm_files.specs.MapCourses.{raster_course}
+use Rattle.farm_files.specs.MapCourses.{raster_course, raster_course_by}
 use Rattle.farm_files.specs.Rasters.{as_raster, grid_with, after_ppm, raster_in, raster_text}
 use Rattle.farm_files.specs.declared.rasters.RasterFault.{RasterFault}
 
@@ -45,7 +45,7 @@ judged_could name (Ok h) g could = ap Ok (sym could)
 judged_could name (Err f) g could = absurd could
 
 raster_fits : (r : RasterRef) (g : Grid) → Could (raster_course r) g → grid_matches r g ≡ true
-unfolding raster_course file
+unfolding raster_course_by file
 raster_fits r g could = after_matches r (ppm_of could.0) g (judged_could r.file (raster_in r could.0) g could.1)
 
 grids_fit : (rs : List RasterRef) (all : List Grid) → Could (each raster_course rs) all → grids_match rs all ≡ true
@@ -63,7 +63,7 @@ grids_bound rs items old new all is h = ap (λ (x : List RasterRef). grids_match
 pub raster_checked : (r : RasterRef) (name bytes slice : List ℕ) (old new : FilesAt) (read : Result Grid RasterFault) (result : Result Grid Stop) → name ≡ r.file
     → Follows (reads name made) old new (Ok bytes) → slice ≡ bytes → Tells raster_text (raster_in r slice) read
     → ((means : Result Grid RasterFault) → Tells raster_text means read → Says (judged raster_text name means) result) → Follows (raster_course r) old new result
-unfolding raster_course
+unfolding raster_course_by
 raster_checked r name bytes slice old new read result is h same tells says =
     subst (λ (n : List ℕ). Follows (file (raster_in r) raster_text n) old new result) is
     (file_checked (raster_in r) raster_text name bytes slice old new read result h same tells says)
@@ -71,6 +71,6 @@ raster_checked r name bytes slice old new read result is h same tells says =
 -- the read of a raster's file came to an early end
 pub raster_stops : (r : RasterRef) (name : List ℕ) (old new : FilesAt) (s : Stop) → name ≡ r.file → Follows (reads name made) old new (ended {A = List ℕ} s)
     → Follows (raster_course r) old new (ended {A = Grid} s)
-unfolding raster_course
+unfolding raster_course_by
 raster_stops r name old new s is h =
     subst (λ (n : List ℕ). Follows (file (raster_in r) raster_text n) old new (ended {A = Grid} s)) is (file_stops Grid (raster_in r) raster_text name old new s h)

@@ -2,8 +2,7 @@
 use Rattle.std.specs.Prelude.{ℕ, List}
 use Rattle.plain_world.specs.declared.world.Tile.{Tile}
 use Rattle.plain_data.specs.Data.{Change}
-use Rattle.filter_expr.specs.FilterTexts.{filter_of}
-use Rattle.style_objects.specs.FilterReadings.{FilterReading}
+use Rattle.style_objects.specs.TextReadings.{TextReading, text_reading}
 use Rattle.geo_json.specs.DataTexts.{dataset_in}
 use Rattle.geo_json.specs.UpdateTexts.{update_in}
 use Rattle.expiry_lists.specs.Lists.{list_in}
@@ -20,14 +19,14 @@ use Rattle.farm_files.specs.MapCourses.{style_course_by}
 use Rattle.farm_files.specs.Addresses.{addressed_in}
 use Rattle.farm_files.specs.Inputs.{FarmInputs, Scripted, Served}
 
--- ---- the files that a configuration names, where filters are read so
+-- ---- the files that a configuration names, where texts are read so
 
 -- a map's style says the map, with its name, tile size and greatest zoom
-unfoldable pub map_course_by : FilterReading → MapEntry → Course MapPlan
+unfoldable pub map_course_by : TextReading → MapEntry → Course MapPlan
 map_course_by says m = style_course_by says m.style >>= λ style. made (record { name = m.name; style = style; tile = m.tile; max_zoom = m.max_zoom })
 
 -- a restyle's style says the restyle
-unfoldable pub restyle_course_by : FilterReading → RestyleEntry → Course Restyle
+unfoldable pub restyle_course_by : TextReading → RestyleEntry → Course Restyle
 restyle_course_by says r = style_course_by says r.style >>= λ style. made (record { map = r.map; style = style })
 
 -- an update
@@ -39,7 +38,7 @@ abbrev pub list_course : List ℕ → Course (List Tile)
 list_course name = file list_in list_text name
 
 -- all files that a configuration names, in order, say a farm
-unfoldable pub inputs_course_by : FilterReading → Config → Course FarmInputs
+unfoldable pub inputs_course_by : TextReading → Config → Course FarmInputs
 inputs_course_by says config = do
   maps ← each (map_course_by says) config.maps
   restyles ← each (restyle_course_by says) config.restyles
@@ -51,10 +50,10 @@ inputs_course_by says config = do
     lists = lists;
   })
 
--- ---- the files of commands, where filters are read so
+-- ---- the files of commands, where texts are read so
 
 -- a configuration, the files that it names, and a script
-unfoldable pub script_course_by : FilterReading → List ℕ → List ℕ → Course Scripted
+unfoldable pub script_course_by : TextReading → List ℕ → List ℕ → Course Scripted
 script_course_by says config_name script_name = do
   config ← file config_in config_text config_name
   inputs ← inputs_course_by says config
@@ -62,25 +61,25 @@ script_course_by says config_name script_name = do
   made (record { inputs = inputs; script = script })
 
 -- a configuration with its addresses, and the files that it names
-unfoldable pub serve_course_by : FilterReading → List ℕ → Course Served
+unfoldable pub serve_course_by : TextReading → List ℕ → Course Served
 serve_course_by says config_name = do
   config ← file addressed_in config_text config_name
   inputs ← inputs_course_by says config
   made (record { config = config; inputs = inputs })
 
--- ---- the same, where filters are read by the function that reads their tokens
+-- ---- the same, where texts are read by the functions that go over them
 
 abbrev pub map_course : MapEntry → Course MapPlan
-map_course m = map_course_by filter_of m
+map_course m = map_course_by text_reading m
 
 abbrev pub restyle_course : RestyleEntry → Course Restyle
-restyle_course r = restyle_course_by filter_of r
+restyle_course r = restyle_course_by text_reading r
 
 abbrev pub inputs_course : Config → Course FarmInputs
-inputs_course config = inputs_course_by filter_of config
+inputs_course config = inputs_course_by text_reading config
 
 abbrev pub script_course : List ℕ → List ℕ → Course Scripted
-script_course config_name script_name = script_course_by filter_of config_name script_name
+script_course config_name script_name = script_course_by text_reading config_name script_name
 
 abbrev pub serve_course : List ℕ → Course Served
-serve_course config_name = serve_course_by filter_of config_name
+serve_course config_name = serve_course_by text_reading config_name

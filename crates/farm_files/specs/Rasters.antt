@@ -4,8 +4,8 @@ use Rattle.plain_shapes.specs.Images.{Pixels}
 use Rattle.plain_drawing.specs.Grids.{Grid}
 use Rattle.plain_shapes.specs.Ppm.{pixel_bytes}
 use Rattle.plain_drawing.specs.Styles.{RasterRef}
-use Rattle.plain_image.specs.PpmText.{ppm_of}
 use Rattle.plain_image.specs.declared.reading.PpmFault.{PpmFault}
+use Rattle.style_objects.specs.TextReadings.{TextReading, text_reading}
 use Rattle.raster_layers.specs.Scales.{grid_or_fault}
 use Rattle.raster_layers.specs.declared.grids.GridFault.{GridFault}
 use Rattle.fault_texts.specs.RasterFaults.{ppm_text, grid_text}
@@ -35,6 +35,10 @@ abbrev pub after_ppm : RasterRef → Result Pixels PpmFault → Result Grid Rast
 after_ppm r (Ok image) = with_image r image
 after_ppm r (Err fault) = Err (Ppm fault)
 
--- what the bytes of a raster's file say: the grid, or the fault of the PPM text, or that of the grid
+-- what the bytes of a raster's file say, where pictures are read so: the grid, or the fault of the PPM text, or that of the grid
+abbrev pub raster_by : TextReading → RasterRef → List ℕ → Result Grid RasterFault
+raster_by says r bytes = after_ppm r (says.picture bytes)
+
+-- the same, where pictures are read by the function that goes over their bytes
 abbrev pub raster_in : RasterRef → List ℕ → Result Grid RasterFault
-raster_in r bytes = after_ppm r (ppm_of bytes)
+raster_in r bytes = raster_by text_reading r bytes

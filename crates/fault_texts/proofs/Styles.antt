@@ -16,6 +16,7 @@ use Rattle.filter_expr.proofs.Final.{IsAnswer}
 use Rattle.filter_expr.proofs.Only.{lexed_answer}
 use Rattle.reading.specs.Json.{json_of}
 use Rattle.reading.specs.Values.{text, list}
+use Rattle.style_objects.specs.TextReadings.{text_reading}
 use Rattle.style_objects.specs.declared.fault.At.{At}
 use Rattle.style_objects.specs.declared.fault.StyleFault.{StyleFault}
 use Rattle.style_objects.specs.declared.fault.StyleFault.TheVariants as fault
@@ -56,23 +57,23 @@ string_told at d = has HasText (as_str d) (fault.Shape at) refl
 grammar_told : {A : Type 0} (value : List ℕ → Option A) (at : At) (d : Data) → Told (in_grammar value at d)
 grammar_told value at d = step HasText _ _ (string_told at d) (λ s. has HasText (value s) (fault.Text at) refl)
 
-colour_told : (at : At) (d : Data) → Told (a_colour at d)
+colour_told : (at : At) (d : Data) → Told (a_colour text_reading at d)
 unfolding a_colour
 colour_told at d = grammar_told _ at d
 
-scale_told : (at : At) (d : Data) → Told (a_scale at d)
+scale_told : (at : At) (d : Data) → Told (a_scale text_reading at d)
 unfolding a_scale
 scale_told at d = grammar_told _ at d
 
-bound_told : (at : At) (d : Data) → Told (a_bound at d)
+bound_told : (at : At) (d : Data) → Told (a_bound text_reading at d)
 unfolding a_bound
 bound_told at d = step HasText _ _ (scale_told at d) (λ n. tt)
 
-opacity_told : (at : At) (d : Data) → Told (an_opacity at d)
+opacity_told : (at : At) (d : Data) → Told (an_opacity text_reading at d)
 unfolding an_opacity
 opacity_told at d = grammar_told _ at d
 
-width_told : (at : At) (d : Data) → Told (a_width at d)
+width_told : (at : At) (d : Data) → Told (a_width text_reading at d)
 unfolding a_width
 width_told at d = step HasText _ _ (grammar_told _ at d) (λ n. either HasText (is_width n) (Ok n) (Err (fault.Range at)) tt refl)
 
@@ -96,7 +97,7 @@ number_told : (low : ℕ) (at : At) (d : Data) → Told (a_number low at d)
 unfolding a_number
 number_told low at d = wholes HasText (fault.Shape at) (fault.Range at) low (2 ^ 30) d refl refl
 
-filter_at_told : (at : At) (d : Data) → Told (a_filter filter_of at d)
+filter_at_told : (at : At) (d : Data) → Told (a_filter text_reading at d)
 unfolding a_filter
 filter_at_told at d = step HasText _ _ (string_told at d) (λ s. filter_told s at)
 
@@ -115,39 +116,39 @@ opened_told kind at d = opens HasText (fault.Shape at) (fault.Unsupported at) (k
 
 -- ---- objects
 
-polygon_told : (at : At) (d : Data) → Told (polygon_of at d)
+polygon_told : (at : At) (d : Data) → Told (polygon_of text_reading at d)
 unfolding polygon_of
 polygon_told at d =
     step HasText _ _ (opened_told object.PolygonSymbolizer at d) (λ u.
-    step HasText _ _ (may HasText gray (a_colour at) (get (codes "fill") d) (colour_told at)) (λ fill.
-    step HasText _ _ (may HasText 1000 (an_opacity at) (get (codes "fill-opacity") d) (opacity_told at)) (λ opacity. tt)))
+    step HasText _ _ (may HasText gray (a_colour text_reading at) (get (codes "fill") d) (colour_told at)) (λ fill.
+    step HasText _ _ (may HasText 1000 (an_opacity text_reading at) (get (codes "fill-opacity") d) (opacity_told at)) (λ opacity. tt)))
 
-line_told : (at : At) (d : Data) → Told (line_symbolizer_of at d)
+line_told : (at : At) (d : Data) → Told (line_symbolizer_of text_reading at d)
 unfolding line_symbolizer_of
 line_told at d =
     step HasText _ _ (opened_told object.LineSymbolizer at d) (λ u.
-    step HasText _ _ (may HasText black (a_colour at) (get (codes "stroke") d) (colour_told at)) (λ stroke.
-    step HasText _ _ (may HasText 100 (a_width at) (get (codes "stroke-width") d) (width_told at)) (λ width.
-    step HasText _ _ (may HasText 1000 (an_opacity at) (get (codes "stroke-opacity") d) (opacity_told at)) (λ opacity.
+    step HasText _ _ (may HasText black (a_colour text_reading at) (get (codes "stroke") d) (colour_told at)) (λ stroke.
+    step HasText _ _ (may HasText 100 (a_width text_reading at) (get (codes "stroke-width") d) (width_told at)) (λ width.
+    step HasText _ _ (may HasText 1000 (an_opacity text_reading at) (get (codes "stroke-opacity") d) (opacity_told at)) (λ opacity.
     step HasText _ _ (may HasText cap.Butt (a_cap at) (get (codes "stroke-linecap") d) (cap_told at)) (λ linecap.
     step HasText _ _ (may HasText tt (any_text at) (get (codes "stroke-linejoin") d) (any_told at)) (λ v. tt))))))
 
-markers_told : (at : At) (d : Data) → Told (markers_of at d)
+markers_told : (at : At) (d : Data) → Told (markers_of text_reading at d)
 unfolding markers_of
 markers_told at d =
     step HasText _ _ (opened_told object.MarkersSymbolizer at d) (λ u.
-    step HasText _ _ (needs HasText (fault.Shape at) (a_colour at) (get (codes "fill") d) refl (colour_told at)) (λ fill.
-    step HasText _ _ (needs HasText (fault.Shape at) (a_width at) (get (codes "width") d) refl (width_told at)) (λ width.
-    step HasText _ _ (needs HasText (fault.Shape at) (a_width at) (get (codes "height") d) refl (width_told at)) (λ height.
-    step HasText _ _ (may HasText 1000 (an_opacity at) (get (codes "opacity") d) (opacity_told at)) (λ opacity. tt)))))
+    step HasText _ _ (needs HasText (fault.Shape at) (a_colour text_reading at) (get (codes "fill") d) refl (colour_told at)) (λ fill.
+    step HasText _ _ (needs HasText (fault.Shape at) (a_width text_reading at) (get (codes "width") d) refl (width_told at)) (λ width.
+    step HasText _ _ (needs HasText (fault.Shape at) (a_width text_reading at) (get (codes "height") d) refl (width_told at)) (λ height.
+    step HasText _ _ (may HasText 1000 (an_opacity text_reading at) (get (codes "opacity") d) (opacity_told at)) (λ opacity. tt)))))
 
-raster_symbolizer_told : (at : At) (d : Data) → Told (raster_symbolizer_of at d)
+raster_symbolizer_told : (at : At) (d : Data) → Told (raster_symbolizer_of text_reading at d)
 unfolding raster_symbolizer_of
 raster_symbolizer_told at d =
     step HasText _ _ (opened_told object.RasterSymbolizer at d) (λ u.
-    step HasText _ _ (may HasText 1000 (an_opacity at) (get (codes "opacity") d) (opacity_told at)) (λ opacity. tt))
+    step HasText _ _ (may HasText 1000 (an_opacity text_reading at) (get (codes "opacity") d) (opacity_told at)) (λ opacity. tt))
 
-named_told : (name : List ℕ) (at : At) (d : Data) → Told (symbolizer_named name at d)
+named_told : (name : List ℕ) (at : At) (d : Data) → Told (symbolizer_named text_reading name at d)
 unfolding symbolizer_named
 named_told name at d =
     either HasText (bytes_eq name (codes "PolygonSymbolizer")) _ _ (polygon_told at d) (
@@ -155,28 +156,28 @@ named_told name at d =
     either HasText (bytes_eq name (codes "MarkersSymbolizer")) _ _ (markers_told at d) (
     either HasText (bytes_eq name (codes "RasterSymbolizer")) _ _ (raster_symbolizer_told at d) refl)))
 
-symbolizer_told : (at : At) (d : Data) → Told (symbolizer_of at d)
+symbolizer_told : (at : At) (d : Data) → Told (symbolizer_of text_reading at d)
 unfolding symbolizer_of
 symbolizer_told at d = step HasText _ _ (needs HasText (fault.Shape at) (text (fault.Shape at)) (get (codes "symbolizer") d) refl (string_told at)) (λ name. named_told name at d)
 
-filters_told : (at : At) (d : Data) → Told (filters_of filter_of at d)
+filters_told : (at : At) (d : Data) → Told (filters_of text_reading at d)
 unfolding filters_of
 filters_told at d =
-    step HasText _ _ (may HasText None (a_filter filter_of at) (get (codes "Filter") d) (filter_at_told at)) (λ filter.
+    step HasText _ _ (may HasText None (a_filter text_reading at) (get (codes "Filter") d) (filter_at_told at)) (λ filter.
     step HasText _ _ (may HasText false (an_else (is_some filter) at) (get (codes "ElseFilter") d) (else_told (is_some filter) at)) (λ else_filter. tt))
 
-rule_told : (style rule : ℕ) (d : Data) → Told (rule_of filter_of style rule d)
+rule_told : (style rule : ℕ) (d : Data) → Told (rule_of text_reading style rule d)
 unfolding rule_of
 rule_told style rule d =
     step HasText _ _ (opened_told object.Rule (at_rule style rule) d) (λ u.
     step HasText _ _ (few HasText 16 (fault.Range (at_rule style rule)) (get (codes "symbolizers") d) refl) (λ found.
     step HasText _ _ (filters_told (at_rule style rule) d) (λ filters.
-    step HasText _ _ (may HasText 0 (a_scale (at_rule style rule)) (get (codes "MinScaleDenominator") d) (scale_told (at_rule style rule))) (λ least.
-    step HasText _ _ (may HasText None (a_bound (at_rule style rule)) (get (codes "MaxScaleDenominator") d) (bound_told (at_rule style rule))) (λ greatest.
+    step HasText _ _ (may HasText 0 (a_scale text_reading (at_rule style rule)) (get (codes "MinScaleDenominator") d) (scale_told (at_rule style rule))) (λ least.
+    step HasText _ _ (may HasText None (a_bound text_reading (at_rule style rule)) (get (codes "MaxScaleDenominator") d) (bound_told (at_rule style rule))) (λ greatest.
     step HasText _ _ (has HasText found (fault.Shape (at_rule style rule)) refl) (λ items.
-    step HasText _ _ (lists HasText (symbolizer_after style rule) [] items (λ before e. symbolizer_told (at_symbolizer style rule (length before)) e)) (λ symbolizers. tt)))))))
+    step HasText _ _ (lists HasText (symbolizer_after text_reading style rule) [] items (λ before e. symbolizer_told (at_symbolizer style rule (length before)) e)) (λ symbolizers. tt)))))))
 
-style_told : (style : ℕ) (before : List Style) (d : Data) → Told (style_of filter_of style before d)
+style_told : (style : ℕ) (before : List Style) (d : Data) → Told (style_of text_reading style before d)
 unfolding style_of
 style_told style before d =
     step HasText _ _ (opened_told object.Style (at_style style) d) (λ u.
@@ -185,7 +186,7 @@ style_told style before d =
     step HasText _ _ (may HasText mode.All (a_mode (at_style style)) (get (codes "filter-mode") d) (mode_told (at_style style))) (λ filter_mode.
     step HasText _ _ (has HasText found (fault.Shape (at_style style)) refl) (λ items.
     step HasText _ _ (checks HasText (not (style_has name before)) (fault.Double (at_style style)) refl) (λ v.
-    step HasText _ _ (lists HasText (rule_after filter_of style) [] items (λ before e. rule_told style (length before) e)) (λ rules. tt)))))))
+    step HasText _ _ (lists HasText (rule_after text_reading style) [] items (λ before e. rule_told style (length before) e)) (λ rules. tt)))))))
 
 style_name_told : (styles : List Style) (at : At) (before : List (List ℕ)) (d : Data) → Told (style_name_of styles at before d)
 unfolding style_name_of
@@ -193,14 +194,14 @@ style_name_told styles at before d =
     step HasText _ _ (text_told 64 at d) (λ name.
     step HasText _ _ (checks HasText (style_has name styles) (fault.NoStyle at) refl) (λ u. tt))
 
-layer_told : (styles : List Style) (layer : ℕ) (before : List LayerRef) (d : Data) → Told (layer_of styles layer before d)
+layer_told : (styles : List Style) (layer : ℕ) (before : List LayerRef) (d : Data) → Told (layer_of text_reading styles layer before d)
 unfolding layer_of
 layer_told styles layer before d =
     step HasText _ _ (opened_told object.Layer (at_layer layer) d) (λ u.
     step HasText _ _ (needs HasText (fault.Shape (at_layer layer)) (a_text_to 64 (at_layer layer)) (get (codes "name") d) refl (text_told 64 (at_layer layer))) (λ name.
     step HasText _ _ (needs HasText (fault.Shape (at_layer layer)) (a_text_to 64 (at_layer layer)) (get (codes "source") d) refl (text_told 64 (at_layer layer))) (λ source.
-    step HasText _ _ (may HasText 0 (a_scale (at_layer layer)) (get (codes "minimum-scale-denominator") d) (scale_told (at_layer layer))) (λ least.
-    step HasText _ _ (may HasText None (a_bound (at_layer layer)) (get (codes "maximum-scale-denominator") d) (bound_told (at_layer layer))) (λ greatest.
+    step HasText _ _ (may HasText 0 (a_scale text_reading (at_layer layer)) (get (codes "minimum-scale-denominator") d) (scale_told (at_layer layer))) (λ least.
+    step HasText _ _ (may HasText None (a_bound text_reading (at_layer layer)) (get (codes "maximum-scale-denominator") d) (bound_told (at_layer layer))) (λ greatest.
     step HasText _ _ (needs HasText (fault.Shape (at_layer layer)) (list (fault.Shape (at_layer layer))) (get (codes "styles") d) refl (λ e. has HasText (as_array e) (fault.Shape (at_layer layer)) refl)) (λ items.
     step HasText _ _ (lists HasText (style_name_of styles (at_layer layer)) [] items (style_name_told styles (at_layer layer))) (λ names.
     step HasText _ _ (checks HasText (not (layer_has name before)) (fault.Double (at_layer layer)) refl) (λ v. tt))))))))
@@ -216,20 +217,20 @@ raster_told raster before d =
     step HasText _ _ (needs HasText (fault.Shape (at_raster raster)) (a_number 1 (at_raster raster)) (get (codes "pixel") d) refl (number_told 1 (at_raster raster))) (λ pixel.
     step HasText _ _ (checks HasText (not (raster_has name before)) (fault.Double (at_raster raster)) refl) (λ v. tt)))))))
 
-map_told : (d : Data) → Told (map_object filter_of d)
+map_told : (d : Data) → Told (map_object text_reading d)
 unfolding map_object
 map_told d =
     step HasText _ _ (opened_told object.Map at_map d) (λ u.
     step HasText _ _ (few HasText 256 (fault.Range at_map) (get (codes "styles") d) refl) (λ found_styles.
     step HasText _ _ (few HasText 64 (fault.Range at_map) (get (codes "layers") d) refl) (λ found_layers.
     step HasText _ _ (few HasText 2 (fault.Range at_map) (get (codes "rasters") d) refl) (λ found_rasters.
-    step HasText _ _ (may HasText white (a_colour at_map) (get (codes "background-color") d) (colour_told at_map)) (λ background.
+    step HasText _ _ (may HasText white (a_colour text_reading at_map) (get (codes "background-color") d) (colour_told at_map)) (λ background.
     step HasText _ _ (has HasText found_styles (fault.Shape at_map) refl) (λ style_items.
     step HasText _ _ (has HasText found_layers (fault.Shape at_map) refl) (λ layer_items.
     step HasText _ _ (rasters_told at_map found_rasters (get (codes "rasters") d)) (λ raster_items.
     step HasText _ _ (lists HasText raster_after [] raster_items (λ before e. raster_told (length before) before e)) (λ rasters.
-    step HasText _ _ (lists HasText (style_object_after filter_of) [] style_items (λ before e. style_told (length before) before e)) (λ styles.
-    step HasText _ _ (lists HasText (layer_ref_after styles) [] layer_items (λ before e. layer_told styles (length before) before e)) (λ layers. tt)))))))))))
+    step HasText _ _ (lists HasText (style_object_after text_reading) [] style_items (λ before e. style_told (length before) before e)) (λ styles.
+    step HasText _ _ (lists HasText (layer_ref_after text_reading styles) [] layer_items (λ before e. layer_told styles (length before) before e)) (λ layers. tt)))))))))))
 
 in_told : (bytes : List ℕ) → Told (style_in bytes)
 unfolding style_by

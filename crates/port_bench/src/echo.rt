@@ -1,4 +1,5 @@
 //! A server that echoes what it hears, or gives one large answer.
+use crate::clients::PERIOD;
 use port_events::{Outbox, PortEvent, Ports};
 use socket_ports::SocketPorts;
 use std::alloc::Global;
@@ -44,8 +45,11 @@ pub struct Echo<R> {
     alloc: Global,
     pub ports: SocketPorts<R>,
     pub heard: Heard,
-    /// How much is left of the large answer, which is made of `part`; a server that has none echoes.
+    /// How much is left of the large answer, which is a long text; a server that has none echoes.
     pub large: u64,
+    /// How much of it was taken.
+    pub taken: u64,
+    /// The front of that text.
     pub part: Vec<u8>,
     outbox: Outbox,
 }
@@ -58,6 +62,7 @@ impl<R: Net + Files> Echo<R> {
             ports,
             heard: Heard::NOTHING,
             large: 0,
+            taken: 0,
             part: Vec::new(alloc),
             outbox: Outbox::new(alloc),
         }
@@ -117,8 +122,12 @@ impl<R: Net + Files> Echo<R> {
     /// Offers parts of the large answer while they are taken whole.
     fn offer_large(&mut self, conn: u32) {
         for _ in 0..u64::MAX {
-            let most = self.large.min(self.part.len() as u64) as usize;
-            let Some(part) = self.part.get(..most) else {
+            let start = (self.taken % PERIOD as u64) as usize;
+            let Some(behind) = self.part.get(start..) else {
+                return;
+            };
+            let most = self.large.min(behind.len() as u64) as usize;
+            let Some(part) = behind.get(..most) else {
                 return;
             };
             let Ok(count) = self.ports.send(conn, part) else {
@@ -126,6 +135,7 @@ impl<R: Net + Files> Echo<R> {
                 return;
             };
             self.large = self.large.saturating_sub(count as u64);
+            self.taken = self.taken.saturating_add(count as u64);
             if count < most || self.large == 0 {
                 return;
             }

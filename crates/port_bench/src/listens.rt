@@ -50,6 +50,22 @@ fn listen<R: Net + Files>(ports: &mut SocketPorts<R>, address: &str) -> &'static
     }
 }
 
+/// Prints whether somebody listens at another address of loopback, at the port of an address at which ports listen.
+pub(crate) fn show_elsewhere<R>(rt: &R, alloc: Global, place: &str) -> io::Result<()>
+where
+    R: Print + Net<Listener = TcpListener, Stream = TcpStream>,
+{
+    let Some((_address, port)) = place.split_once(':') else {
+        return Ok(());
+    };
+    let other = format!(in alloc; "127.0.0.2:{port}")?;
+    let told = match TcpStream::connect(rt, other.as_str()) {
+        Ok(_stream) => "somebody listens",
+        Err(_) => "nobody listens",
+    };
+    println!(rt; "tcp, at another address of this machine: {told}")
+}
+
 /// Rings a bell while ports wait, again and again, and prints what they heard; where rates are asked
 /// for also how long it took at most.
 pub(crate) fn show_bell<R: Threads + Sync + Clock + Print, P: Ports>(

@@ -1,6 +1,7 @@
 //! Runs: clients at a free address of the server, and what both of them saw.
-use crate::clients::{Client, Task, visit};
+use crate::clients::{Client, Task, long_text, visit};
 use crate::echo::{Echo, Server};
+use crate::listens::show_elsewhere;
 use farm_base::Bell;
 use port_events::Ports;
 use socket_ports::{SocketBell, SocketPorts};
@@ -48,7 +49,10 @@ where
     let Some(place) = listen_free(rt, alloc, &mut echo.ports, kind)? else {
         return Ok(false);
     };
-    echo.part.resize(PART, 0)?;
+    if kind == Kind::Tcp {
+        show_elsewhere(rt, alloc, place.as_str())?;
+    }
+    echo.part = long_text(alloc, PART)?;
     for (name, task) in [
         ("one connection", Task::Echoes(1, many.saturating_mul(1000))),
         (
@@ -66,6 +70,7 @@ where
         print!(rt; "{kind_name}, {name}")?;
         let start = Instant::now(rt)?;
         echo.large = task.large();
+        echo.taken = 0;
         let (served, came) = match kind {
             Kind::Tcp => {
                 let streams = connect_tcp(rt, alloc, place.as_str(), task)?;

@@ -1,22 +1,19 @@
 -- The runs of members between crossings in order, and the bits that they set.
 use Rattle.std.proofs.Common.{◌≡◌, ℕ, suc, zero, ◌+◌, ◌-◌, ◌*◌, ◌/◌, ◌%◌, ◌<◌, ◌≤◌, min, max, Bool, true, false, ◌&&◌, List, [], length, take, get_or, refl, ap, sym, subst, ◌∙◌, inl, inr, arith}
-use Rattle.std.specs.Prelude.{nat_le}
-use Rattle.std.specs.List.Sorted.{IsPermutation, IsSortedByKey, IsNonDecreasing}
-use Rattle.std.specs.Ordering.{nat_cmp}
+use Rattle.std.specs.Prelude.{nat_le, Result, Ok, Err, IfOk}
+use Rattle.std.specs.List.Sorted.{IsNonDecreasing}
 use Rattle.std.proofs.Math.Bool.{and-false}
 use Rattle.std.proofs.Math.Nat.{mul-le-mul_right, div-add-mod, mod-lt}
 use Rattle.std.proofs.lemmas.Bool.{cases_lt, le-leb, lt-leb}
 use Rattle.std.proofs.lemmas.List.{take_all, get_or_past, get_or_default}
-use Rattle.std.proofs.lemmas.List.Sorted.{IsNonDecreasingBy-from_sort, sum_by-IsPermutation, All-permutation}
 use Rattle.plain_world.specs.declared.world.Point.{Point}
 use Rattle.plain_world.specs.declared.world.Window.{Window}
 use Rattle.plain_world.specs.World.{IsWindow, centre, centres}
 use Rattle.plain_shapes.specs.Images.{Bits}
-use Rattle.plain_shapes.specs.Rings.{is_odd}
 use Rattle.plain_shapes.specs.inner.Canvas.{marked, Reached}
 use Rattle.plain_shapes.proofs.Places.{reached_start, reached_skip, reached_end}
 use Rattle.raster_core.specs.declared.runs.Run.{Run}
-use Rattle.raster_core.specs.inner.Toggles.{flip, is_up_to, parity_at, Toggled}
+use Rattle.raster_core.specs.inner.Toggles.{flip, is_up_to, parity_at, AllInside, Toggled, SameParities}
 use Rattle.raster_core.specs.inner.Crossings.{Crossings, Done, IsNext}
 use Rattle.raster_core.proofs.Toggling.{odd_more}
 
@@ -211,18 +208,22 @@ run_next w m places k n row first end next r is done b r_is =
     ]
 
 -- the crossings of all rings, put in order
-pub crossings_sorted : (w : Window) (m : Point → Bool) (found places : List ℕ) → Toggled w m [] found → IsPermutation found places → IsSortedByKey (λ x. x) nat_cmp places
+pub crossings_in_order : (w : Window) (m : Point → Bool) (found places : List ℕ) → Toggled w m [] found → AllInside w places → IsNonDecreasing places → SameParities found places
     → Crossings w m places
-crossings_sorted w m found places t moved sorted = record {
-  inside = All-permutation (λ p. p < w.rows * w.cols) found places moved (t.inside (λ k d lt. absurd (omega arith)));
-  order = IsNonDecreasingBy-from_sort (λ x. x) places sorted;
-  tells = λ j i row col.
-      sym (ap is_odd (sum_by-IsPermutation _ found places moved) ∙ t.at j i row col ∙ flip_none (m (centre w i j)));
+crossings_in_order w m found places t inside order same = record {
+  inside = inside;
+  order = order;
+  tells = λ j i row col. sym (same.parity (is_up_to w.cols j i) ∙ t.at j i row col ∙ flip_none (m (centre w i j)));
 }
   where
     flip_none : (b : Bool) → flip b false ≡ b
     flip_none true = refl
     flip_none false = refl
+
+pub crossings_found : {V E : Type 0} (items : V → List ℕ) (w : Window) (m : Point → Bool) (found : List ℕ) (r : Result V E) → Toggled w m [] found
+    → IfOk r (λ v. AllInside w (items v)) → IfOk r (λ v. IsNonDecreasing (items v)) → IfOk r (λ v. SameParities found (items v)) → IfOk r (λ v. Crossings w m (items v))
+crossings_found items w m found (Ok v) t inside order same = crossings_in_order w m found (items v) t inside order same
+crossings_found items w m found (Err e) t inside order same = tt
 
 -- the bits of the places before n are set, and the first k crossings are done with
 pub record Filled (w : Window) (m : Point → Bool) (places : List ℕ) (k : ℕ) (old now : Bits) : Type 0 where

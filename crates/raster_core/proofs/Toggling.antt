@@ -1,21 +1,20 @@
 -- How the parities of a row change with one crossing more, and how edges, rings and rows add up.
-use Rattle.std.proofs.Common.{◌≡◌, ◌≢◌, ◌==◌, ℕ, ◌+◌, ◌-◌, ◌*◌, ◌%◌, ◌<◌, ◌≤◌, Bool, true, false, not, ◌&&◌, List, [], ◌∷◌, ◌++◌, length, take, get_or, count_by, cond, refl, ap, sym, subst, ◌∙◌, inl, inr, arith}
-use Rattle.std.specs.Prelude.{nat_le}
+use Rattle.std.proofs.Common.{◌≡◌, ◌≢◌, ◌==◌, ℕ, ◌+◌, ◌-◌, ◌*◌, ◌%◌, ◌<◌, ◌≤◌, Bool, true, false, not, ◌&&◌, List, [], ◌∷◌, ◌++◌, length, take, get_or, set, replicate, count_by, cond, if◌then◌else◌, zero, suc, refl, ap, sym, subst, ◌∙◌, inl, inr, arith}
+use Rattle.std.specs.Prelude.{nat_le, Result, Ok, Err, IfOk}
 use Rattle.std.specs.List.{All}
-use Rattle.std.specs.List.Sorted.{IsPermutation}
+use Rattle.std.specs.List.Sorted.{IsPermutation, IsNonDecreasing}
 use Rattle.std.proofs.Math.Nat.{mul-le-mul_right}
 use Rattle.std.proofs.Math.Bool.{and-false}
 use Rattle.std.proofs.lemmas.Bool.{cases_Bool, cases_lt, cases_eq, le-leb, lt-leb}
 use Rattle.std.proofs.lemmas.Nat.{row_fits}
-use Rattle.std.proofs.lemmas.List.{take_all}
-use Rattle.std.proofs.lemmas.List.Elements.{All-push, All-take}
-use Rattle.std.proofs.lemmas.List.Sorted.{All-permutation, sum_by-IsPermutation}
+use Rattle.std.proofs.lemmas.List.Elements.{All-push, All-cons, All-weaker}
+use Rattle.std.proofs.lemmas.List.Sorted.{sum_by-IsPermutation}
 use Rattle.std.proofs.lemmas.List.Sums.{sum_by-cons, count_by_more_yes, count_by_more_no}
 use Rattle.plain_world.specs.declared.world.Point.{Point}
 use Rattle.plain_world.specs.declared.world.Window.{Window}
 use Rattle.plain_world.specs.World.{centre}
 use Rattle.plain_shapes.specs.Rings.{is_odd}
-use Rattle.raster_core.specs.inner.Toggles.{flip, is_up_to, parity_at, AllInside, Toggled, RowToggled, RowsToggled, Remains, Turned, SameParities}
+use Rattle.raster_core.specs.inner.Toggles.{flip, is_up_to, parity_at, AllInside, Toggled, RowToggled, RowsToggled, Remains, SameParities, set_places}
 
 -- one more that counts, or not
 pub is_odd_suc : (n : ℕ) → is_odd (1 + n) ≡ not (is_odd n)
@@ -178,43 +177,103 @@ remains_end w left whole old now none r = record {
   at = λ j i p q. sym (ap (λ b. flip b (parity_at w.cols now j i)) (none (centre w i j))) ∙ r.at j i p q;
 }
 
--- a place goes in, or the last one out
-pub turned_in : (place : ℕ) (old new : List ℕ) → new ≡ old ++ place ∷ [] → Turned place old new
-turned_in place old new is = record {
-  below = λ n one all. (let P : List ℕ → Type 0 = λ xs. All (λ x. x < n) xs in subst P (sym is) (All-push (λ x. x < n) old place all one));
-  parity = λ p. ap (λ xs. is_odd (count_by p xs)) is ∙ odd_push p old place;
-}
+-- one place more, of which the bit is turned round
+swapped : (a b c : Bool) → flip a (flip b c) ≡ flip b (flip a c)
+swapped true true c = refl
+swapped true false c = refl
+swapped false b c = refl
 
-pub turned_out : (place : ℕ) (old new : List ℕ) (count d : ℕ) → count ≡ length old → 0 < count → get_or old (count - 1) d ≡ place → new ≡ take (count - 1) old → Turned place old new
-turned_out place old new count d all some last is =
-    let k : ℕ = count - 1 in
-    let e : k + 1 ≡ length old = omega arith in record {
-      below = λ n one h. (let P : List ℕ → Type 0 = λ xs. All (λ x. x < n) xs in subst P (sym is) (All-take (λ x. x < n) k old h));
-      parity = λ p.
-          ap (λ xs. is_odd (count_by p xs)) is ∙ sym (twice (p place) (is_odd (count_by p (take k old))))
-          ∙ ap (flip (p place)) (ap (λ v. flip (p v) (is_odd (count_by p (take k old)))) (sym last) ∙ sym (odd_more p old k d (omega arith))
-          ∙ ap (λ xs. is_odd (count_by p xs)) (ap (λ m. take m old) e ∙ take_all (length old) old (omega arith)));
-    }
-  where
-    twice : (a b : Bool) → flip a (flip a b) ≡ b
-    twice true true = refl
-    twice true false = refl
-    twice false b = refl
+twice : (a b : Bool) → flip a (flip a b) ≡ b
+twice true true = refl
+twice true false = refl
+twice false b = refl
 
--- what is kept of the places, those of one more
-pub kept_more : (p : ℕ → Bool) (places kept next : List ℕ) (k place d : ℕ) → k < length places → get_or places k d ≡ place
-    → is_odd (count_by p kept) ≡ is_odd (count_by p (take k places)) → Turned place kept next → is_odd (count_by p next) ≡ is_odd (count_by p (take (k + 1) places))
-kept_more p places kept next k place d lt is before t =
-    t.parity p ∙ ap (flip (p place)) before ∙ ap (λ v. flip (p v) (is_odd (count_by p (take k places)))) (sym is) ∙ sym (odd_more p places k d lt)
+pub turned_bit : (p : ℕ → Bool) (n k : ℕ) (bits : List Bool) → k < length bits
+    → is_odd (count_by p (set_places n (set bits k (not (get_or bits k false))))) ≡ flip (p (n + k)) (is_odd (count_by p (set_places n bits)))
+turned_bit p n k [] within = absurd (omega arith)
+turned_bit p n zero (true ∷ bits) within =
+    let e : n + 0 ≡ n = omega arith in
+    sym (ap (λ v. flip (p v) (is_odd (count_by p (n ∷ set_places (n + 1) bits)))) e ∙ ap (flip (p n)) (odd_cons p n (set_places (n + 1) bits))
+    ∙ twice (p n) (is_odd (count_by p (set_places (n + 1) bits))))
+turned_bit p n zero (false ∷ bits) within =
+    let e : n + 0 ≡ n = omega arith in
+    odd_cons p n (set_places (n + 1) bits) ∙ ap (λ v. flip (p v) (is_odd (count_by p (set_places (n + 1) bits)))) (sym e)
+turned_bit p n (suc k) (true ∷ bits) within =
+    let e : n + 1 + k ≡ n + suc k = omega arith in
+    odd_cons p n (set_places (n + 1) (set bits k (not (get_or bits k false)))) ∙ ap (flip (p n)) (turned_bit p (n + 1) k bits (omega arith)) ∙ swapped (p n) (p (n + 1 + k)) (is_odd (count_by p (set_places (n + 1) bits)))
+    ∙ ap (λ v. flip (p v) (flip (p n) (is_odd (count_by p (set_places (n + 1) bits))))) e
+    ∙ ap (flip (p (n + suc k))) (sym (odd_cons p n (set_places (n + 1) bits)))
+turned_bit p n (suc k) (false ∷ bits) within =
+    let e : n + 1 + k ≡ n + suc k = omega arith in
+    turned_bit p (n + 1) k bits (omega arith) ∙ ap (λ v. flip (p v) (is_odd (count_by p (set_places (n + 1) bits)))) e
 
-pub same_sorted : (old sorted kept : List ℕ) → IsPermutation old sorted → SameParities sorted kept → SameParities old kept
-same_sorted old sorted kept moved s = record {
-  below = λ n all. s.below n (All-permutation (λ x. x < n) old sorted moved all);
-  parity = λ p. s.parity p ∙ ap is_odd (sum_by-IsPermutation (λ x. cond (p x) 1 0) old sorted moved);
-}
+pub none_set : (n count : ℕ) → set_places n (replicate count false) ≡ []
+none_set n zero = refl
+none_set n (suc count) = none_set (n + 1) count
 
-pub toggled_kept : (w : Window) (m : Point → Bool) (old now next : List ℕ) → Toggled w m old now → SameParities now next → Toggled w m old next
-toggled_kept w m old now next t s = record {
-  inside = λ all. s.below (w.rows * w.cols) (t.inside all);
+-- the bits of the first k places, and of one more
+pub bits_more : (p : ℕ → Bool) (places : List ℕ) (bits next : List Bool) (k place d : ℕ) → k < length places → get_or places k d ≡ place → place < length bits
+    → next ≡ set bits place (not (get_or bits place false))
+    → is_odd (count_by p (set_places 0 bits)) ≡ is_odd (count_by p (take k places))
+    → is_odd (count_by p (set_places 0 next)) ≡ is_odd (count_by p (take (k + 1) places))
+bits_more p places bits next k place d lt at inside is before =
+    ap (λ bs. is_odd (count_by p (set_places 0 bs))) is
+    ∙ turned_bit p 0 place bits inside
+    ∙ ap (λ v. flip (p v) (is_odd (count_by p (set_places 0 bits)))) (let e : 0 + place ≡ place = omega arith in e)
+    ∙ ap (flip (p place)) before ∙ ap (λ v. flip (p v) (is_odd (count_by p (take k places)))) (sym at) ∙ sym (odd_more p places k d lt)
+
+-- one bit more that is gone through
+set_more : (n k : ℕ) (bits : List Bool) → k < length bits
+    → set_places n (take (k + 1) bits) ≡ set_places n (take k bits) ++ (if get_or bits k false then (n + k) ∷ [] else [])
+set_more n k [] within = absurd (omega arith)
+set_more n zero (true ∷ bits) within = ap (λ v. v ∷ []) (let e : n ≡ n + 0 = omega arith in e)
+set_more n zero (false ∷ bits) within = refl
+set_more n (suc k) (true ∷ bits) within =
+    ap (λ m. set_places n (take m (true ∷ bits))) (let e : suc k + 1 ≡ suc (k + 1) = omega arith in e)
+    ∙ ap (λ ps. n ∷ ps) (set_more (n + 1) k bits (omega arith))
+    ∙ ap (λ v. n ∷ (set_places (n + 1) (take k bits) ++ (if get_or bits k false then v ∷ [] else []))) (let e : n + 1 + k ≡ n + suc k = omega arith in e)
+set_more n (suc k) (false ∷ bits) within =
+    ap (λ m. set_places n (take m (false ∷ bits))) (let e : suc k + 1 ≡ suc (k + 1) = omega arith in e)
+    ∙ set_more (n + 1) k bits (omega arith)
+    ∙ ap (λ v. set_places (n + 1) (take k bits) ++ (if get_or bits k false then v ∷ [] else [])) (let e : n + 1 + k ≡ n + suc k = omega arith in e)
+
+pub next_set : (k : ℕ) (bits : List Bool) → k < length bits → set_places 0 (take (k + 1) bits) ≡ set_places 0 (take k bits) ++ (if get_or bits k false then k ∷ [] else [])
+next_set k bits within =
+    set_more 0 k bits within ∙ ap (λ v. set_places 0 (take k bits) ++ (if get_or bits k false then v ∷ [] else [])) (let e : 0 + k ≡ k = omega arith in e)
+
+-- the places of bits lie among them, in order
+pub set_from : (n : ℕ) (bits : List Bool) → All (λ x. n ≤ x) (set_places n bits)
+set_from n [] = λ k d within. absurd (omega arith)
+set_from n (true ∷ bits) = All-cons (λ x. n ≤ x) n (set_places (n + 1) bits) (omega arith) (All-weaker (λ x. n + 1 ≤ x) (λ x. n ≤ x) (λ x le. omega arith) (set_places (n + 1) bits) (set_from (n + 1) bits))
+set_from n (false ∷ bits) = All-weaker (λ x. n + 1 ≤ x) (λ x. n ≤ x) (λ x le. omega arith) (set_places (n + 1) bits) (set_from (n + 1) bits)
+
+pub set_below : (n area : ℕ) (bits : List Bool) → n + length bits ≡ area → All (λ x. x < area) (set_places n bits)
+set_below n area [] is = λ k d within. absurd (omega arith)
+set_below n area (true ∷ bits) is = All-cons (λ x. x < area) n (set_places (n + 1) bits) (omega arith) (set_below (n + 1) area bits (omega arith))
+set_below n area (false ∷ bits) is = set_below (n + 1) area bits (omega arith)
+
+rising : (n : ℕ) (xs : List ℕ) → All (λ x. n ≤ x) xs → IsNonDecreasing xs → IsNonDecreasing (n ∷ xs)
+rising n xs least order zero zero d le within = omega arith
+rising n xs least order zero (suc j) d le within = least j d (omega arith)
+rising n xs least order (suc i) zero d le within = absurd (omega arith)
+rising n xs least order (suc i) (suc j) d le within = order i j d (omega arith) (omega arith)
+
+pub set_order : (n : ℕ) (bits : List Bool) → IsNonDecreasing (set_places n bits)
+set_order n [] = λ i j d le within. absurd (omega arith)
+set_order n (true ∷ bits) = rising n (set_places (n + 1) bits) (All-weaker (λ x. n + 1 ≤ x) (λ x. n ≤ x) (λ x le. omega arith) (set_places (n + 1) bits) (set_from (n + 1) bits)) (set_order (n + 1) bits)
+set_order n (false ∷ bits) = set_order (n + 1) bits
+
+-- places put in order
+pub same_sorted : (old sorted : List ℕ) → IsPermutation old sorted → SameParities old sorted
+same_sorted old sorted moved = record { parity = λ p. ap is_odd (sum_by-IsPermutation (λ x. cond (p x) 1 0) old sorted moved) }
+
+pub toggled_kept : (w : Window) (m : Point → Bool) (old now next : List ℕ) → Toggled w m old now → AllInside w next → SameParities now next → Toggled w m old next
+toggled_kept w m old now next t all s = record {
+  inside = λ before. all;
   at = λ j i row col. s.parity (is_up_to w.cols j i) ∙ t.at j i row col;
 }
+
+-- what holds of an Ok
+pub if_ok : {T E : Type 0} (P Q : T → Type 0) (r : Result T E) → ((x : T) → P x → Q x) → IfOk r P → IfOk r Q
+if_ok P Q (Ok x) f h = f x h
+if_ok P Q (Err e) f h = tt

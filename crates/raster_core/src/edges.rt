@@ -2,9 +2,9 @@
 ghost use Rattle.std.specs.Prelude.{◌≡◌, ℕ, ◌+◌, ◌-◌, ◌*◌, ◌/◌, ◌<◌, ◌≤◌, nat_le, All, OnOk};
 ghost use Rattle.plain_world.specs.World.{InWorld, IsWindow, centre};
 ghost use Rattle.plain_shapes.specs.Rings.{counts_down, counts, ring_edges, in_rings};
-ghost use Rattle.raster_core.specs.inner.Toggles.{Toggled, RowToggled, odd_edges};
+ghost use Rattle.raster_core.specs.inner.Toggles.{AllInside, IsFirst, IsEdge, Toggled, RowToggled, odd_edges};
 
-use crate::pairs::thin;
+use crate::parities::thin;
 use centre_spans::first_at;
 use farm_base::NoMemory;
 use plain_shapes::Path;
@@ -41,17 +41,53 @@ fn crossing(a: Point, b: Point, w: Window, j: u32) -> u32
     first_at(w.west, w.pixel, w.cols, place_at(a, b, y))
 }
 
-// Adds the crossing of one row.
-fn cross_row(a: Point, b: Point, w: Window, j: u32, places: &mut Vec<u32>) -> Result<(), NoMemory>
-    requires a_in { InWorld a }
-    requires b_in { InWorld b }
+/// An edge that runs from `a` down to `b`, and the first columns whose centres lie at its west end or past it, and
+/// at its east end or past it.
+#[derive(Clone, Copy, Debug, PartialEq, Eq)]
+pub struct Edge {
+    pub a: Point,
+    pub b: Point,
+    pub west: u32,
+    pub east: u32,
+}
+
+// The first column whose centres lie at `x` or past it, or the number of columns.
+fn first_past(w: Window, x: u32) -> u32
+    requires { IsWindow w }
+    ensures first { IsFirst w x result }
+    ensures few { result ≤ w.cols }
+{
+    first_at(w.west, w.pixel, w.cols, u64::from(x))
+}
+
+// The first column of row `j` whose centre the edge counts at, or the number of columns where there is none. An
+// edge within one column, or wholly to one side of the window, has the same one in all of its rows.
+fn column(e: Edge, w: Window, j: u32) -> u32
+    requires edge { IsEdge w e }
     requires window { IsWindow w }
     requires row { j < w.rows }
-    requires upper { a.y ≤ w.north + j * w.pixel + w.pixel / 2 }
-    requires lower { w.north + j * w.pixel + w.pixel / 2 < b.y }
-    ensures { OnOk result (RowToggled w (counts_down a b) j places.old.items places.new.items) }
+    requires upper { e.a.y ≤ w.north + j * w.pixel + w.pixel / 2 }
+    requires lower { w.north + j * w.pixel + w.pixel / 2 < e.b.y }
+    ensures within { result ≤ w.cols }
+    ensures splits { (i : ℕ) → i < w.cols → nat_le result i ≡ counts_down e.a e.b (centre w i j) }
 {
-    let k = crossing(a, b, w, j);
+    if e.west == e.east {
+        e.west
+    } else {
+        crossing(e.a, e.b, w, j)
+    }
+}
+
+// Adds the crossing of one row.
+fn cross_row(e: Edge, w: Window, j: u32, places: &mut Vec<u32>) -> Result<(), NoMemory>
+    requires edge { IsEdge w e }
+    requires window { IsWindow w }
+    requires row { j < w.rows }
+    requires upper { e.a.y ≤ w.north + j * w.pixel + w.pixel / 2 }
+    requires lower { w.north + j * w.pixel + w.pixel / 2 < e.b.y }
+    ensures { OnOk result (RowToggled w (counts_down e.a e.b) j places.old.items places.new.items) }
+{
+    let k = column(e, w, j);
     if k < w.cols {
         places.push(j * w.cols + k)?;
     }
@@ -68,8 +104,11 @@ fn cross_down(a: Point, b: Point, w: Window, places: &mut Vec<u32>) -> Result<()
 {
     let top = first_at(w.north, w.pixel, w.rows, u64::from(a.y));
     let bottom = first_at(w.north, w.pixel, w.rows, u64::from(b.y));
+    let west = first_past(w, a.x.min(b.x));
+    let east = first_past(w, a.x.max(b.x));
+    let edge = Edge { a, b, west, east };
     for j in top..bottom {
-        cross_row(a, b, w, j, places)?;
+        cross_row(edge, w, j, places)?;
     }
     Ok(())
 }
@@ -97,6 +136,7 @@ fn cross_ring(
 ) -> Result<(), NoMemory>
     requires points { All InWorld points.now }
     requires window { IsWindow w }
+    requires inside { AllInside w places.old.items }
     ensures { OnOk result (Toggled w (odd_edges (ring_edges points.now)) places.old.items places.new.items) }
 {
     let Some(last) = points.last() else {
@@ -115,6 +155,7 @@ fn cross_ring(
 fn cross_path(alloc: Global, ring: &Path, w: Window, places: &mut Vec<u32>) -> Result<(), NoMemory>
     requires points { All InWorld ring.now }
     requires window { IsWindow w }
+    requires inside { AllInside w places.old.items }
     ensures { OnOk result (Toggled w (odd_edges (ring_edges ring.now)) places.old.items places.new.items) }
 {
     cross_ring(alloc, &ring.points, w, places)
@@ -130,6 +171,7 @@ pub fn cross_rings(
 ) -> Result<(), NoMemory>
     requires rings { All (All InWorld) rings.now }
     requires window { IsWindow w }
+    requires inside { AllInside w places.old.items }
     ensures { OnOk result (Toggled w (in_rings rings.now) places.old.items places.new.items) }
 {
     for ring in rings {

@@ -9,6 +9,7 @@ ghost use Rattle.raster_core.specs.inner.Toggles.{AllInside};
 ghost use Rattle.raster_core.specs.inner.Crossings.{Crossings};
 
 use crate::edges::cross_rings;
+use crate::parities::in_order;
 use crate::runs::run_at;
 use centre_spans::set_run;
 use farm_base::NoMemory;
@@ -26,8 +27,7 @@ pub fn crossings(alloc: Global, rings: &[Path], w: Window) -> Result<Vec<u32>, N
 {
     let mut places = Vec::new(alloc);
     cross_rings(alloc, rings, w, &mut places)?;
-    places.sort_unstable();
-    Ok(places)
+    in_order(alloc, w, places)
 }
 
 // Sets the bits of all runs.

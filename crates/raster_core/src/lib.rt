@@ -4,7 +4,7 @@
 
 mod edges;
 mod fill;
-mod pairs;
+mod parities;
 mod runs;
 
 pub use fill::{crossings, fill_mask};

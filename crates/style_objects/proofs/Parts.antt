@@ -11,7 +11,7 @@ use Rattle.reading.specs.Steps.{◌>>=◌}
 use Rattle.reading.specs.Values.{or_value, within}
 use Rattle.style_objects.specs.declared.fault.StyleFault.TheVariants as fault
 use Rattle.style_objects.specs.declared.keys.Object.TheVariants as object
-use Rattle.style_objects.specs.FilterReadings.{FilterReading}
+use Rattle.style_objects.specs.TextReadings.{TextReading}
 use Rattle.style_objects.specs.Keys.{opened_as}
 use Rattle.style_objects.specs.Kinds.{a_scale, a_bound}
 use Rattle.style_objects.specs.Places.{at_rule}
@@ -33,11 +33,11 @@ grouped {E = E} (Ok x) (Ok y) (Ok items) d K = last (d items)
     last (Err e) = refl
     last (Ok z) = refl
 
-pub in_parts : (says : FilterReading) (style rule : ℕ) (d : Data) → rule_of says style rule d ≡ rule_by_parts says style rule d
+pub in_parts : (says : TextReading) (style rule : ℕ) (d : Data) → rule_of says style rule d ≡ rule_by_parts says style rule d
 unfolding rule_of rule_by_parts painting_of
 in_parts says style rule d = λ i.
     opened_as object.Rule (at_rule style rule) d >>= λ u. within most_symbolizers (fault.Range (at_rule style rule)) (get (codes "symbolizers") d) >>= λ found.
     filters_of says (at_rule style rule) d >>= λ filters.
-    grouped (or_value 0 (a_scale (at_rule style rule)) (get (codes "MinScaleDenominator") d)) (or_value None (a_bound (at_rule style rule)) (get (codes "MaxScaleDenominator") d))
-    (ok_or found (fault.Shape (at_rule style rule))) (list_of (symbolizer_after style rule))
+    grouped (or_value 0 (a_scale says (at_rule style rule)) (get (codes "MinScaleDenominator") d)) (or_value None (a_bound says (at_rule style rule)) (get (codes "MaxScaleDenominator") d))
+    (ok_or found (fault.Shape (at_rule style rule))) (list_of (symbolizer_after says style rule))
     (λ p. record { filter = filters.0; else_filter = filters.1; min_scale_denominator = p.0; max_scale_denominator = p.1; symbolizers = p.2 }) i

@@ -1,9 +1,9 @@
 -- The kinds of values in a style text. A value of the wrong kind is Shape, a text outside its grammar or
 -- set is Text, a number outside its range is Range, at the object that holds it.
-use Rattle.std.specs.Prelude.{ℕ, ◌^◌, ◌||◌, Bool, true, false, ◌&&◌, if◌then◌else◌, List, [], ◌∷◌, codes, nat_le, Option, Some, None, Result, Ok, Err}
+use Rattle.std.specs.Prelude.{ℕ, ◌^◌, Bool, true, false, if◌then◌else◌, List, codes, Option, Some, None, Result, Ok, Err}
 use Rattle.std.specs.Option.{ok_or}
 use Rattle.std.specs.Str.{bytes_eq}
-use Rattle.serde_json.specs.Data.{Data, null, boolean, number, string, array, object, Items, no_items}
+use Rattle.serde_json.specs.Data.{Data, boolean, number, object, Items, no_items}
 use Rattle.plain_shapes.specs.declared.colour.Colour.{Colour}
 use Rattle.plain_shapes.specs.declared.shapes.LineCap.{LineCap}
 use Rattle.plain_shapes.specs.declared.shapes.LineCap.TheVariants as cap
@@ -11,39 +11,37 @@ use Rattle.plain_drawing.specs.declared.style.FilterMode.{FilterMode}
 use Rattle.plain_drawing.specs.declared.style.FilterMode.TheVariants as mode
 use Rattle.plain_filters.specs.Filters.{FilterTree}
 use Rattle.plain_drawing.specs.Styles.{is_text_to, is_width}
-use Rattle.paint_texts.specs.Colours.{colour_of}
-use Rattle.paint_texts.specs.Decimals.{hundredths_of, thousandths_of}
 use Rattle.filter_expr.specs.declared.faults.FilterFault.{FilterFault}
 use Rattle.reading.specs.Steps.{◌>>=◌, check}
-use Rattle.reading.specs.Values.{text, whole_number, or_value}
+use Rattle.reading.specs.Values.{text, whole_number}
 use Rattle.style_objects.specs.declared.fault.At.{At}
 use Rattle.style_objects.specs.declared.fault.StyleFault.{StyleFault}
 use Rattle.style_objects.specs.declared.fault.StyleFault.TheVariants as fault
-use Rattle.style_objects.specs.FilterReadings.{FilterReading}
+use Rattle.style_objects.specs.TextReadings.{TextReading}
 
 -- a text that some grammar gives a value
 abbrev pub in_grammar : {A : Type 0} → (List ℕ → Option A) → At → Data → Result A StyleFault
 in_grammar value at d = text (fault.Shape at) d >>= λ s. ok_or (value s) (fault.Text at)
 
 -- a colour
-unfoldable pub a_colour : At → Data → Result Colour StyleFault
-a_colour at d = in_grammar colour_of at d
+unfoldable pub a_colour : TextReading → At → Data → Result Colour StyleFault
+a_colour says at d = in_grammar says.colour at d
 
 -- a scale denominator, in hundredths
-unfoldable pub a_scale : At → Data → Result ℕ StyleFault
-a_scale at d = in_grammar hundredths_of at d
+unfoldable pub a_scale : TextReading → At → Data → Result ℕ StyleFault
+a_scale says at d = in_grammar says.hundredths at d
 
 -- a greatest scale denominator, in hundredths, where there is one
-unfoldable pub a_bound : At → Data → Result (Option ℕ) StyleFault
-a_bound at d = a_scale at d >>= λ n. Ok (Some n)
+unfoldable pub a_bound : TextReading → At → Data → Result (Option ℕ) StyleFault
+a_bound says at d = a_scale says at d >>= λ n. Ok (Some n)
 
 -- an opacity from 0 to 1, in thousandths
-unfoldable pub an_opacity : At → Data → Result ℕ StyleFault
-an_opacity at d = in_grammar thousandths_of at d
+unfoldable pub an_opacity : TextReading → At → Data → Result ℕ StyleFault
+an_opacity says at d = in_grammar says.thousandths at d
 
 -- a width or height of 0.01 to 64 pixels, in hundredths
-unfoldable pub a_width : At → Data → Result ℕ StyleFault
-a_width at d = in_grammar hundredths_of at d >>= λ n. if is_width n then Ok n else Err (fault.Range at)
+unfoldable pub a_width : TextReading → At → Data → Result ℕ StyleFault
+a_width says at d = in_grammar says.hundredths at d >>= λ n. if is_width n then Ok n else Err (fault.Range at)
 
 -- a text of 1 to so many bytes
 unfoldable pub a_text_to : ℕ → At → Data → Result (List ℕ) StyleFault
@@ -80,8 +78,8 @@ filter_at at (Ok tree) = Ok (Some tree)
 filter_at at (Err f) = Err (fault.Filter at f)
 
 -- a filter, as its text is read
-unfoldable pub a_filter : FilterReading → At → Data → Result (Option FilterTree) StyleFault
-a_filter says at d = text (fault.Shape at) d >>= λ s. filter_at at (says s)
+unfoldable pub a_filter : TextReading → At → Data → Result (Option FilterTree) StyleFault
+a_filter says at d = text (fault.Shape at) d >>= λ s. filter_at at (says.filter s)
 
 -- the JSON value true
 abbrev pub is_true : Data → Bool

@@ -1,13 +1,12 @@
--- What holds of styles by the grammar of filters.
+-- What holds of styles by the grammars of their texts.
 use Rattle.std.specs.Prelude.{◌≡◌, ℕ, List}
-use Rattle.filter_expr.specs.FilterTexts.{filter_of}
-use Rattle.style_objects.specs.FilterReadings.{FilterReading, SaysGrammar}
+use Rattle.style_objects.specs.TextReadings.{TextReading, SaysGrammar, text_reading}
 use Rattle.style_objects.specs.Tables.{style_by, style_in}
 
--- the function that reads tokens says what the grammar says
+-- the functions that go over a text say what the grammars say
 abbrev pub ReadsGrammar : Type 0
-ReadsGrammar = SaysGrammar filter_of
+ReadsGrammar = SaysGrammar text_reading
 
--- by each reading that says what the grammar says, the bytes of a style say the same
+-- by each reading that says what the grammars say, the bytes of a style say the same
 abbrev pub OneStyle : Type 0
-OneStyle = (says : FilterReading) → SaysGrammar says → (bytes : List ℕ) → style_by says bytes ≡ style_in bytes
+OneStyle = (says : TextReading) → SaysGrammar says → (bytes : List ℕ) → style_by says bytes ≡ style_in bytes

@@ -1,4 +1,4 @@
-pub mod FilterReadings
+pub mod TextReadings
 pub mod Keys
 pub mod Kinds
 pub mod Places

@@ -3,12 +3,12 @@ ghost use Rattle.std.specs.Prelude.{◌≡◌, ◌≤◌, ◌&&◌, ◌^◌, not
 ghost use Rattle.serde_json.specs.Find.{get};
 ghost use Rattle.serde_json.specs.View.{view, items_view};
 ghost use Rattle.plain_filters.specs.Filters.{tree_of};
-ghost use Rattle.filter_expr.specs.FilterTexts.{filter_of};
 ghost use Rattle.plain_drawing.specs.Styles.{is_text_to, is_width, is_opacity};
 ghost use Rattle.reading.specs.Steps.{seen, Gives};
 ghost use Rattle.reading.specs.Values.{needed, or_value};
 ghost use Rattle.plain_shapes.specs.declared.shapes.LineCap.TheVariants as cap;
 ghost use Rattle.plain_drawing.specs.declared.style.FilterMode.TheVariants as mode;
+ghost use Rattle.style_objects.specs.TextReadings.{text_reading};
 ghost use Rattle.style_objects.specs.Kinds as spec;
 ghost use Rattle.style_objects.specs.declared.fault.StyleFault.TheVariants as fault;
 
@@ -24,19 +24,19 @@ use std::alloc::Global;
 
 #[tactic(auto, unfolding(crate::specs::Kinds::a_colour))]
 fn a_colour(value: &Value, at: At) -> Result<Colour, StyleFault>
-    ensures { result ≡ spec.a_colour at (view value.now) }
+    ensures { result ≡ spec.a_colour text_reading at (view value.now) }
 {
     paint_texts::colour(text(value, StyleFault::Shape(at))?).ok_or(StyleFault::Text(at))
 }
 
 pub fn colour_or(object: &Value, key: &str, absent: Colour, at: At) -> Result<Colour, StyleFault>
-    ensures { result ≡ or_value absent (spec.a_colour at) (get key.now (view object.now)) }
+    ensures { result ≡ or_value absent (spec.a_colour text_reading at) (get key.now (view object.now)) }
 {
     object.get(key).map_or(Ok(absent), |v| a_colour(v, at))
 }
 
 pub fn colour_at(object: &Value, key: &str, at: At) -> Result<Colour, StyleFault>
-    ensures { result ≡ needed (fault.Shape at) (spec.a_colour at) (get key.now (view object.now)) }
+    ensures { result ≡ needed (fault.Shape at) (spec.a_colour text_reading at) (get key.now (view object.now)) }
 {
     object
         .get(key)
@@ -45,35 +45,35 @@ pub fn colour_at(object: &Value, key: &str, at: At) -> Result<Colour, StyleFault
 
 #[tactic(auto, unfolding(crate::specs::Kinds::a_scale))]
 fn a_scale(value: &Value, at: At) -> Result<u64, StyleFault>
-    ensures { result ≡ spec.a_scale at (view value.now) }
+    ensures { result ≡ spec.a_scale text_reading at (view value.now) }
 {
     hundredths(text(value, StyleFault::Shape(at))?).ok_or(StyleFault::Text(at))
 }
 
 /// The least scale denominator of a rule or layer, 0 where it is absent.
 pub fn scale_or_zero(object: &Value, key: &str, at: At) -> Result<u64, StyleFault>
-    ensures { result ≡ or_value 0 (spec.a_scale at) (get key.now (view object.now)) }
+    ensures { result ≡ or_value 0 (spec.a_scale text_reading at) (get key.now (view object.now)) }
 {
     object.get(key).map_or(Ok(0), |v| a_scale(v, at))
 }
 
 #[tactic(auto, unfolding(crate::specs::Kinds::a_bound))]
 fn a_bound(value: &Value, at: At) -> Result<Option<u64>, StyleFault>
-    ensures { result ≡ spec.a_bound at (view value.now) }
+    ensures { result ≡ spec.a_bound text_reading at (view value.now) }
 {
     Ok(Some(a_scale(value, at)?))
 }
 
 /// The greatest scale denominator of a rule or layer, none where it is absent.
 pub fn bound_or_none(object: &Value, key: &str, at: At) -> Result<Option<u64>, StyleFault>
-    ensures { result ≡ or_value None (spec.a_bound at) (get key.now (view object.now)) }
+    ensures { result ≡ or_value None (spec.a_bound text_reading at) (get key.now (view object.now)) }
 {
     object.get(key).map_or(Ok(None), |v| a_bound(v, at))
 }
 
 #[tactic(auto, unfolding(crate::specs::Kinds::an_opacity))]
 fn an_opacity(value: &Value, at: At) -> Result<u32, StyleFault>
-    ensures value { result ≡ spec.an_opacity at (view value.now) }
+    ensures value { result ≡ spec.an_opacity text_reading at (view value.now) }
     ensures fits { IfOk result (λ n. IsTrue (is_opacity n)) }
 {
     thousandths(text(value, StyleFault::Shape(at))?).ok_or(StyleFault::Text(at))
@@ -81,7 +81,7 @@ fn an_opacity(value: &Value, at: At) -> Result<u32, StyleFault>
 
 /// An opacity in thousandths, 1,000 where it is absent.
 pub fn opacity_or_full(object: &Value, key: &str, at: At) -> Result<u32, StyleFault>
-    ensures value { result ≡ or_value 1000 (spec.an_opacity at) (get key.now (view object.now)) }
+    ensures value { result ≡ or_value 1000 (spec.an_opacity text_reading at) (get key.now (view object.now)) }
     ensures fits { IfOk result (λ n. IsTrue (is_opacity n)) }
 {
     object.get(key).map_or(Ok(1000), |v| an_opacity(v, at))
@@ -89,7 +89,7 @@ pub fn opacity_or_full(object: &Value, key: &str, at: At) -> Result<u32, StyleFa
 
 #[tactic(auto, unfolding(crate::specs::Kinds::a_width))]
 fn a_width(value: &Value, at: At) -> Result<u64, StyleFault>
-    ensures value { result ≡ spec.a_width at (view value.now) }
+    ensures value { result ≡ spec.a_width text_reading at (view value.now) }
     ensures fits { IfOk result (λ n. IsTrue (is_width n)) }
 {
     let n = hundredths(text(value, StyleFault::Shape(at))?).ok_or(StyleFault::Text(at))?;
@@ -103,14 +103,14 @@ fn a_width(value: &Value, at: At) -> Result<u64, StyleFault>
 /// A width in hundredths of a pixel.
 pub fn width_or(object: &Value, key: &str, absent: u64, at: At) -> Result<u64, StyleFault>
     requires { IsTrue (is_width absent) }
-    ensures value { result ≡ or_value absent (spec.a_width at) (get key.now (view object.now)) }
+    ensures value { result ≡ or_value absent (spec.a_width text_reading at) (get key.now (view object.now)) }
     ensures fits { IfOk result (λ n. IsTrue (is_width n)) }
 {
     object.get(key).map_or(Ok(absent), |v| a_width(v, at))
 }
 
 pub fn width_at(object: &Value, key: &str, at: At) -> Result<u64, StyleFault>
-    ensures value { result ≡ needed (fault.Shape at) (spec.a_width at) (get key.now (view object.now)) }
+    ensures value { result ≡ needed (fault.Shape at) (spec.a_width text_reading at) (get key.now (view object.now)) }
     ensures fits { IfOk result (λ n. IsTrue (is_width n)) }
 {
     object
@@ -243,7 +243,7 @@ pub fn number_at(object: &Value, key: &str, low: u32, at: At) -> Result<u32, Sty
 
 #[tactic(auto, unfolding(crate::specs::Kinds::a_filter))]
 fn a_filter(alloc: Global, value: &Value, at: At) -> Result<Option<Expr>, StyleFault>
-    ensures { Gives fault.NoMemory (option_map tree_of) (spec.a_filter filter_of at (view value.now)) result }
+    ensures { Gives fault.NoMemory (option_map tree_of) (spec.a_filter text_reading at (view value.now)) result }
 {
     match parse(alloc, text(value, StyleFault::Shape(at))?) {
         Ok(expr) => Ok(Some(expr)),
@@ -259,7 +259,7 @@ pub fn filter_or_none(
     key: &str,
     at: At,
 ) -> Result<Option<Expr>, StyleFault>
-    ensures { Gives fault.NoMemory (option_map tree_of) (or_value None (spec.a_filter filter_of at) (get key.now (view object.now))) result }
+    ensures { Gives fault.NoMemory (option_map tree_of) (or_value None (spec.a_filter text_reading at) (get key.now (view object.now))) result }
 {
     match object.get(key) {
         Some(value) => a_filter(alloc, value, at),

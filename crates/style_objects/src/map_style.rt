@@ -1,9 +1,8 @@
 //! The map, and the whole text.
 ghost use Rattle.std.specs.Prelude.{◌≡◌};
 ghost use Rattle.serde_json.specs.View.{view};
-ghost use Rattle.filter_expr.specs.FilterTexts.{filter_of};
 ghost use Rattle.reading.specs.Steps.{Gives};
-ghost use Rattle.style_objects.specs.FilterReadings.{FilterReading, SaysGrammar};
+ghost use Rattle.style_objects.specs.TextReadings.{TextReading, SaysGrammar, text_reading};
 ghost use Rattle.style_objects.specs.Tables as spec;
 ghost use Rattle.style_objects.specs.declared.fault.StyleFault.TheVariants as fault;
 
@@ -27,7 +26,7 @@ const WHITE: Colour = Colour {
 
 #[tactic(auto, unfolding(crate::specs::Tables::map_object))]
 fn map_style(alloc: Global, object: &Value) -> Result<MapStyle, StyleFault>
-    ensures { Gives fault.NoMemory (λ x. x) (spec.map_object filter_of (view object.now)) result }
+    ensures { Gives fault.NoMemory (λ x. x) (spec.map_object text_reading (view object.now)) result }
 {
     let at = At::map();
     open(object, Object::Map, at)?;
@@ -58,8 +57,8 @@ fn map_style(alloc: Global, object: &Value) -> Result<MapStyle, StyleFault>
 /// it is no object; Unsupported for an unknown key; Range where a list in it passes its limit; then its
 /// keys in the order of the table in `docs/maps/styles.md`.
 pub fn read_style(alloc: Global, bytes: &[u8]) -> Result<MapStyle, StyleFault>
-    // The answer is what the text says, where filters are what the grammar of filters says,
-    ensures grammar { (says : FilterReading) → SaysGrammar says
+    // The answer is what the text says, where its filters, colours and numbers are what their grammars say,
+    ensures grammar { (says : TextReading) → SaysGrammar says
         → Gives fault.NoMemory (λ x. x) (spec.style_by says bytes.now) result }
 
     // which a function says too.
@@ -68,7 +67,7 @@ pub fn read_style(alloc: Global, bytes: &[u8]) -> Result<MapStyle, StyleFault>
     read(alloc, bytes)
 }
 
-// The style that the text says, where filters are read by the function that reads their tokens.
+// The style that the text says, where its texts are read by the functions that go over them.
 #[tactic(auto, unfolding(crate::specs::Tables::style_by))]
 fn read(alloc: Global, bytes: &[u8]) -> Result<MapStyle, StyleFault>
     ensures { Gives fault.NoMemory (λ x. x) (spec.style_in bytes.now) result }

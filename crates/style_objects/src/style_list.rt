@@ -2,11 +2,11 @@
 ghost use Rattle.std.specs.Prelude.{◌≡◌, ◌≤◌, [], length, IsTrue, IfOk};
 ghost use Rattle.serde_json.specs.View.{view, items_view};
 ghost use Rattle.farm_base.specs.Earlier.{each_after};
-ghost use Rattle.filter_expr.specs.FilterTexts.{filter_of};
 ghost use Rattle.plain_drawing.specs.Styles.{style_apart};
 ghost use Rattle.plain_drawing.specs.Styles as plain;
 ghost use Rattle.reading.specs.Lists.{list_of};
 ghost use Rattle.reading.specs.Steps.{Gives};
+ghost use Rattle.style_objects.specs.TextReadings.{text_reading};
 ghost use Rattle.style_objects.specs.Tables as spec;
 ghost use Rattle.style_objects.specs.declared.fault.StyleFault.TheVariants as fault;
 ghost use Rattle.plain_drawing.specs.Limits.{most_styles};
@@ -31,7 +31,7 @@ pub fn style_has(name: &str, styles: &[Style]) -> bool
 
 #[tactic(auto, unfolding(crate::specs::Tables::style_of))]
 fn style(alloc: Global, place: u32, before: &[Style], object: &Value) -> Result<Style, StyleFault>
-    ensures value { Gives fault.NoMemory (λ x. x) (spec.style_of filter_of place before.now (view object.now)) result }
+    ensures value { Gives fault.NoMemory (λ x. x) (spec.style_of text_reading place before.now (view object.now)) result }
     ensures apart { IfOk result (λ s. IsTrue (style_apart before.now s)) }
 {
     let at = At::style(place);
@@ -62,7 +62,7 @@ impl ReadItem for StyleItems {
 
     ghost limit = { λ r. most_styles };
 
-    ghost reads = { λ r before d. spec.style_object_after filter_of before d };
+    ghost reads = { λ r before d. spec.style_object_after text_reading before d };
 
     ghost keeps = { λ r before s. style_apart before s };
 
@@ -73,7 +73,7 @@ impl ReadItem for StyleItems {
 
 pub fn styles(alloc: Global, items: &[Value]) -> Result<Vec<Style>, StyleFault>
     requires { length items.now ≤ most_styles }
-    ensures value { Gives fault.NoMemory (λ v. v.items) (list_of (spec.style_object_after filter_of) (items_view items.now)) result }
+    ensures value { Gives fault.NoMemory (λ v. v.items) (list_of (spec.style_object_after text_reading) (items_view items.now)) result }
     ensures apart { IfOk result (λ v. IsTrue (each_after style_apart [] v.items)) }
     ensures count { IfOk result (λ v. length v.items ≤ most_styles) }
 {

@@ -8,6 +8,7 @@ ghost use Rattle.reading.specs.Lists.{list_of};
 ghost use Rattle.reading.specs.Steps.{seen, Gives};
 ghost use Rattle.reading.specs.Values.{needed, text as spec_text};
 ghost use Rattle.serde_json.specs.Find.{get};
+ghost use Rattle.style_objects.specs.TextReadings.{text_reading};
 ghost use Rattle.style_objects.specs.Tables as spec;
 ghost use Rattle.style_objects.specs.declared.fault.StyleFault.TheVariants as fault;
 ghost use Rattle.plain_drawing.specs.Limits.{most_symbolizers};
@@ -33,7 +34,7 @@ const BLACK: Colour = Colour { r: 0, g: 0, b: 0 };
 
 #[tactic(auto, unfolding(crate::specs::Tables::polygon_of))]
 fn polygon(object: &Value, at: At) -> Result<Symbolizer, StyleFault>
-    ensures value { result ≡ spec.polygon_of at (view object.now) }
+    ensures value { result ≡ spec.polygon_of text_reading at (view object.now) }
     ensures fits { IfOk result (λ s. IsTrue (is_paint s)) }
 {
     open(object, Object::PolygonSymbolizer, at)?;
@@ -44,7 +45,7 @@ fn polygon(object: &Value, at: At) -> Result<Symbolizer, StyleFault>
 
 #[tactic(auto, unfolding(crate::specs::Tables::line_symbolizer_of))]
 fn line(object: &Value, at: At) -> Result<Symbolizer, StyleFault>
-    ensures value { result ≡ spec.line_symbolizer_of at (view object.now) }
+    ensures value { result ≡ spec.line_symbolizer_of text_reading at (view object.now) }
     ensures fits { IfOk result (λ s. IsTrue (is_paint s)) }
 {
     open(object, Object::LineSymbolizer, at)?;
@@ -63,7 +64,7 @@ fn line(object: &Value, at: At) -> Result<Symbolizer, StyleFault>
 
 #[tactic(auto, unfolding(crate::specs::Tables::markers_of))]
 fn markers(object: &Value, at: At) -> Result<Symbolizer, StyleFault>
-    ensures value { result ≡ spec.markers_of at (view object.now) }
+    ensures value { result ≡ spec.markers_of text_reading at (view object.now) }
     ensures fits { IfOk result (λ s. IsTrue (is_paint s)) }
 {
     open(object, Object::MarkersSymbolizer, at)?;
@@ -81,7 +82,7 @@ fn markers(object: &Value, at: At) -> Result<Symbolizer, StyleFault>
 
 #[tactic(auto, unfolding(crate::specs::Tables::raster_symbolizer_of))]
 fn raster(object: &Value, at: At) -> Result<Symbolizer, StyleFault>
-    ensures value { result ≡ spec.raster_symbolizer_of at (view object.now) }
+    ensures value { result ≡ spec.raster_symbolizer_of text_reading at (view object.now) }
     ensures fits { IfOk result (λ s. IsTrue (is_paint s)) }
 {
     open(object, Object::RasterSymbolizer, at)?;
@@ -91,7 +92,7 @@ fn raster(object: &Value, at: At) -> Result<Symbolizer, StyleFault>
 
 #[tactic(auto, unfolding(crate::specs::Tables::symbolizer_named))]
 fn named(name: &str, object: &Value, at: At) -> Result<Symbolizer, StyleFault>
-    ensures value { result ≡ spec.symbolizer_named name.now at (view object.now) }
+    ensures value { result ≡ spec.symbolizer_named text_reading name.now at (view object.now) }
     ensures fits { IfOk result (λ s. IsTrue (is_paint s)) }
 {
     match name {
@@ -114,7 +115,7 @@ fn name_of(object: &Value, at: At) -> Result<&str, StyleFault>
 
 #[tactic(auto, unfolding(crate::specs::Tables::symbolizer_of))]
 fn symbolizer(object: &Value, at: At) -> Result<Symbolizer, StyleFault>
-    ensures value { result ≡ spec.symbolizer_of at (view object.now) }
+    ensures value { result ≡ spec.symbolizer_of text_reading at (view object.now) }
     ensures fits { IfOk result (λ s. IsTrue (is_paint s)) }
 {
     named(name_of(object, at)?, object, at)
@@ -134,7 +135,7 @@ impl ReadItem for SymbolizerItems {
 
     ghost limit = { λ r. most_symbolizers };
 
-    ghost reads = { λ r before d. spec.symbolizer_after r.style r.rule before d };
+    ghost reads = { λ r before d. spec.symbolizer_after text_reading r.style r.rule before d };
 
     ghost keeps = { λ r before s. is_paint s };
 
@@ -159,7 +160,7 @@ pub fn symbolizers(
     items: &[Value],
 ) -> Result<Vec<Symbolizer>, StyleFault>
     requires { length items.now ≤ most_symbolizers }
-    ensures value { Gives fault.NoMemory (λ v. v.items) (list_of (spec.symbolizer_after style rule) (items_view items.now)) result }
+    ensures value { Gives fault.NoMemory (λ v. v.items) (list_of (spec.symbolizer_after text_reading style rule) (items_view items.now)) result }
     ensures fits { IfOk result (λ v. IsTrue (list_all is_paint v.items)) }
     ensures count { IfOk result (λ v. length v.items ≤ most_symbolizers) }
 {

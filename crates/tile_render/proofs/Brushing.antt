@@ -37,7 +37,7 @@ first_past f (suc n) [] k d le = refl
 first_past f (suc n) (x ∷ xs) zero d le = absurd (omega arith)
 first_past f (suc n) (x ∷ xs) (suc k) d le = first_past f n xs k d (omega arith)
 
-run_in : {X : Type 0} (f : X → X) (s n : ℕ) (xs : List X) (k : ℕ) (d : X) → s ≤ k → k < s + n → k < length xs → get_or (run_changed f s n xs) k d ≡ f (get_or xs k d)
+pub run_in : {X : Type 0} (f : X → X) (s n : ℕ) (xs : List X) (k : ℕ) (d : X) → s ≤ k → k < s + n → k < length xs → get_or (run_changed f s n xs) k d ≡ f (get_or xs k d)
 run_in f zero n xs k d low high within = first_in f n xs k d (omega arith) within
 run_in f (suc s) n [] k d low high within = absurd (omega arith)
 run_in f (suc s) n (x ∷ xs) zero d low high within = absurd (omega arith)
@@ -61,7 +61,7 @@ run_past f (suc s) (suc n) [] k d le = refl
 run_past f (suc s) n (x ∷ xs) zero d le = absurd (omega arith)
 run_past f (suc s) n (x ∷ xs) (suc k) d le = run_past f s n xs k d (omega arith)
 
-run_beyond : {X : Type 0} (f : X → X) (s n : ℕ) (xs : List X) (k : ℕ) (d : X) → Beyond k s n → get_or (run_changed f s n xs) k d ≡ get_or xs k d
+pub run_beyond : {X : Type 0} (f : X → X) (s n : ℕ) (xs : List X) (k : ℕ) (d : X) → Beyond k s n → get_or (run_changed f s n xs) k d ≡ get_or xs k d
 run_beyond f s n xs k d out = elim out [ inl lt ↦ run_before f s n xs k d lt | inr le ↦ run_past f s n xs k d le ]
 
 -- ---- one run more
@@ -208,7 +208,7 @@ run_painted r colour bits next start now after j from end over count hj order fi
 
 -- ---- no run, and all runs
 
-unset : (n k : ℕ) → get_or (replicate n false) k false ≡ false
+pub unset : (n k : ℕ) → get_or (replicate n false) k false ≡ false
 unset n k = elim (cases_lt k n) [
   | inl lt ↦ get_or-replicate n k false false lt
   | inr past ↦ get_or_past (replicate n false) k false (omega (arith, length-replicate n false))

@@ -20,7 +20,6 @@ use Rattle.geo_model.specs.Shapes.{parts_of}
 use Rattle.drawing_reach.specs.inner.Spreads.{Beside, spread_across, spread_down}
 use Rattle.drawing_reach.proofs.Covers.{covered_beside}
 use Rattle.plain_data.specs.Features.{Feature}
-use Rattle.plain_shapes.specs.Images.{Bits}
 use Rattle.plain_shapes.specs.inner.Canvas.{marked}
 use Rattle.plain_drawing.specs.Drawing.{covers}
 use Rattle.plain_shapes.proofs.Places.{length-centres, get_or-centres}
@@ -28,29 +27,28 @@ use Rattle.plain_drawing.proofs.Steps.{at_centres-replicate}
 use Rattle.tile_render.specs.declared.regions.Region.{Region}
 use Rattle.tile_render.specs.inner.Regions.{IsRegion, InRegion, region_window, Holds, HoldsCovered, Tells}
 use Rattle.tile_render.specs.declared.covers.CoveredPixels.{CoveredPixels}
-use Rattle.tile_render.specs.declared.covers.CoveredPixels.TheVariants.{Masked, Runs}
-use Rattle.tile_render.specs.inner.Covers.{is_points, mask_where, Shows, IsCover}
+use Rattle.tile_render.specs.declared.covers.CoveredPixels.TheVariants.{Pieces, Runs}
+use Rattle.tile_render.specs.inner.Covers.{is_points, Shows, IsCover}
 
--- a fresh mask with the members marked
-pub mask_made : (w : Window) (member covered : Point → Bool) (fresh mask : Bits) → ((c : Point) → covered c ≡ member c)
-    → fresh ≡ record { cols = w.cols; rows = w.rows; bits = replicate (w.rows * w.cols) false }
-    → mask ≡ record fresh { bits = marked member (centres w) fresh.bits } → mask ≡ mask_where w covered
-mask_made w member covered fresh mask same fresh_is mask_is =
-    mask_is ∙ ap (λ (m : Bits). record m { bits = marked member (centres w) m.bits }) fresh_is ∙ ap (mask_where w) (λ i c. sym (same c) i)
+-- of bits with the members marked, those that are set are the members
+pub bit_told : (w : Window) (member : Point → Bool) (bits : List Bool) (j i : ℕ) → bits ≡ marked member (centres w) (replicate (w.rows * w.cols) false)
+    → j < w.rows → i < w.cols → get_or bits (j * w.cols + i) false ≡ member (centre w i j)
+bit_told w member bits j i is hj hi =
+    let d : Point = record { x = 0; y = 0 } in
+    let within : j * w.cols + i < length (centres w) = omega (arith, length-centres w, row_fits j w.cols w.rows w.cols hj (omega arith)) in
+    ap (λ bs. get_or bs (j * w.cols + i) false) (is ∙ at_centres-replicate (λ c b. b || member c) (centres w) (w.rows * w.cols) false (sym (length-centres w)))
+    ∙ get_or-map member (centres w) (j * w.cols + i) d false within
+    ∙ ap member (get_or-centres w j i d hi hj)
 
 -- the mask of a region's pixels whose centres are members tells them, where the region has every pixel whose centre is one
 pub region_told : (w : Window) (p : Region) (member : Point → Bool) (bits : List Bool) → Holds w p member
     → bits ≡ marked member (centres (region_window w p)) (replicate (p.rows * p.cols) false) → Tells w p member bits
 region_told w p member bits holds is = record {
   at = λ j i hj hi.
-      (let d : Point = record { x = 0; y = 0 } in
-      let v : Window = region_window w p in
-      let within : j * p.cols + i < length (centres v) = omega (arith, length-centres v, row_fits j p.cols p.rows p.cols hj (omega arith)) in
+      (let v : Window = region_window w p in
       let x : v.west + i * v.pixel + v.pixel / 2 ≡ w.west + (p.col + i) * w.pixel + w.pixel / 2 = omega arith in
       let y : v.north + j * v.pixel + v.pixel / 2 ≡ w.north + (p.row + j) * w.pixel + w.pixel / 2 = omega arith in
-      ap (λ bs. get_or bs (j * p.cols + i) false) (is ∙ at_centres-replicate (λ c b. b || member c) (centres v) (p.rows * p.cols) false (sym (length-centres v)))
-      ∙ get_or-map member (centres v) (j * p.cols + i) d false within
-      ∙ ap member (get_or-centres v j i d hi hj)
+      bit_told v member bits j i is hj hi
       ∙ ap (λ k. member (record { x = k; y = v.north + j * v.pixel + v.pixel / 2 })) x
       ∙ ap (λ k. member (record { x = w.west + (p.col + i) * w.pixel + w.pixel / 2; y = k })) y);
   holds = holds;
@@ -68,10 +66,10 @@ cover_made w f s r near pixels region holds near_is shows =
     made pixels (subst (λ (v : Window). Shows v f.geometry s (Some pixels)) near_is shows)
   where
     made : (pixels : CoveredPixels) → Shows (region_window w r) f.geometry s (Some pixels) → IsCover w f s (record { region = r; pixels = pixels })
-    made (Masked mask) is = record {
+    made (Pieces pieces) is = record {
       region = region;
-      fits = record { cols = ap (λ m. m.cols) is; rows = ap (λ m. m.rows) is };
-      says = region_told w r (λ c. covers w.pixel f.geometry c s) mask.bits holds (ap (λ m. m.bits) is);
+      fits = is.inside;
+      says = record { tells = is; holds = holds };
     }
     made (Runs places) is = record {
       region = region;

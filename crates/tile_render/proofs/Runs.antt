@@ -13,12 +13,8 @@ use Rattle.plain_shapes.specs.inner.Canvas.{at_centres, stepped}
 use Rattle.plain_shapes.proofs.Places.{length-centres, get_or-centres}
 use Rattle.plain_image.specs.Runs.{run_changed}
 use Rattle.plain_image.proofs.Runs.{run_none}
-use Rattle.raster_core.specs.declared.runs.Run.{Run}
-use Rattle.raster_core.specs.inner.Crossings.{Done, IsNext}
-use Rattle.raster_core.proofs.Filling.{done_none, done_all}
 use Rattle.tile_render.specs.declared.regions.Region.{Region}
-use Rattle.tile_render.specs.inner.Covers.{Between}
-use Rattle.tile_render.specs.inner.Regions.{IsRegion, InRegion, region_window, Holds, Tells, Changed, over_member}
+use Rattle.tile_render.specs.inner.Regions.{IsRegion, InRegion, region_window, Holds, Changed, over_member}
 use Rattle.tile_render.proofs.Changing.{changed_start, changed_skip, changed_end}
 
 -- the first elements changed alike
@@ -71,26 +67,7 @@ changed_run f w g j from end start now after order fits row cols each written r 
           ∙ ap (λ q. record start { pixels = at_centres f (take q (centres w)) start.pixels }) e;
     }
 
--- ---- runs of bits
-
--- covered pixels of a row of the region
-pub bits_on : (w : Window) (p : Region) (member : Point → Bool) (bits : List Bool) (colour : Colour) (opacity j from end : ℕ) (start now after : Pixels)
-    → IsRegion w p → j < p.rows → p.col ≤ from → from ≤ end → end ≤ p.col + p.cols → now.cols ≡ w.cols
-    → ((k : ℕ) → from ≤ p.col + k → p.col + k < end → get_or bits (j * p.cols + k) false ≡ true)
-    → after ≡ record now { pixels = run_changed (blend colour opacity) ((p.row + j) * now.cols + from) (end - from) now.pixels }
-    → Tells w p member bits
-    → Changed (over_member member colour opacity) w ((p.row + j) * w.cols + from) start now
-    → Changed (over_member member colour opacity) w ((p.row + j) * w.cols + end) start after
-bits_on w p member bits colour opacity j from end start now after ok hj west order east cols on written tells r =
-    changed_run (over_member member colour opacity) w (blend colour opacity) (p.row + j) from end start now after order (omega (arith, ok.in_cols)) (omega (arith, ok.in_rows)) cols
-    (λ i low high d.
-    let k : ℕ = i - p.col in
-    let at : i ≡ p.col + k = omega arith in
-    ap (λ x. over_member member colour opacity (centre w x (p.row + j)) d) at
-    ∙ ap (λ b. if b then blend colour opacity d else d) (sym (tells.at j k hj (omega arith)) ∙ on k (omega arith) (omega arith)))
-    written r
-
--- ---- runs between crossings
+-- ---- runs of a region
 
 near_centre : (w : Window) (p : Region) (i j : ℕ) → centre (region_window w p) i j ≡ centre w (p.col + i) (p.row + j)
 near_centre w p i j =
@@ -119,7 +96,7 @@ in_order a b j i c col h = elim (cases_lt j a) [
   | inr q ↦ (q, λ r. omega (arith, mul-le-mul_right c r))
 ]
 
-ordered : (a b j i c : ℕ) → b ≤ c → a ≤ j → (j ≤ a → b ≤ i) → a * c + b ≤ j * c + i
+pub ordered : (a b j i c : ℕ) → b ≤ c → a ≤ j → (j ≤ a → b ≤ i) → a * c + b ≤ j * c + i
 ordered a b j i c fits row col = elim (cases_lt a j) [
   | inl q ↦ (let k : a + 1 ≤ j = omega arith in omega (arith, mul-le-mul_right c k))
   | inr q ↦ omega (arith, mul-le-mul_right c row, col q)
@@ -138,61 +115,68 @@ to_region w p a b j i ok col fits h =
     let o = in_order (p.row + a) (p.col + b) (p.row + j) (p.col + i) w.cols (omega (arith, ok.in_cols)) h in
     ordered a b j i p.cols fits (omega (arith, o.0)) (λ r. omega (arith, o.1 (omega arith)))
 
--- the region's pixels before a place are painted, those before the k-th crossing
-pub record PaintedTo (w : Window) (p : Region) (member : Point → Bool) (colour : Colour) (opacity : ℕ) (places : List ℕ) (k : ℕ) (start now : Pixels) : Type 0 where
+-- the region's pixels before a place n are painted, of which D says what is done with
+pub record PaintedTo (w : Window) (p : Region) (member : Point → Bool) (colour : Colour) (opacity : ℕ) (D : ℕ → Type 0) (start now : Pixels) : Type 0 where
   pub n : ℕ
   pub q : ℕ
   pub fits : q ≤ w.rows * w.cols
-  pub done : Done (region_window w p) places k n
+  pub done : D n
   pub changed : Changed (over_member member colour opacity) w q start now
   pub behind : (j i : ℕ) → i < p.cols → n ≤ j * p.cols + i → q ≤ (p.row + j) * w.cols + (p.col + i)
   pub ahead : (j i : ℕ) → i < p.cols → q ≤ (p.row + j) * w.cols + (p.col + i) → n ≤ j * p.cols + i
 
-pub painted_none : (w : Window) (p : Region) (member : Point → Bool) (colour : Colour) (opacity : ℕ) (places : List ℕ) (start : Pixels)
-    → PaintedTo w p member colour opacity places 0 start start
-painted_none w p member colour opacity places start = record {
+-- past the pixels before n, the next members are those of a run of a row: none before it, all of it, and then E says what is done with
+pub record NextRun (w : Window) (member : Point → Bool) (E : ℕ → Type 0) (n row from end : ℕ) : Type 0 where
+  pub begins : n ≤ row * w.cols + from
+  pub before : (j i : ℕ) → i < w.cols → j < w.rows → n ≤ j * w.cols + i → j * w.cols + i < row * w.cols + from → member (centre w i j) ≡ false
+  pub within : (i : ℕ) → from ≤ i → i < end → member (centre w i row) ≡ true
+  pub past : E (row * w.cols + end)
+
+pub painted_none : (w : Window) (p : Region) (member : Point → Bool) (colour : Colour) (opacity : ℕ) (D : ℕ → Type 0) (start : Pixels) → D 0
+    → PaintedTo w p member colour opacity D start start
+painted_none w p member colour opacity D start none = record {
   n = 0;
   q = 0;
   fits = omega arith;
-  done = done_none (region_window w p) places;
+  done = none;
   changed = changed_start (over_member member colour opacity) w start;
   behind = λ j i col from. omega arith;
   ahead = λ j i col from. omega arith;
 }
 
 -- one run more
-pub painted_more : (w : Window) (p : Region) (member : Point → Bool) (colour : Colour) (opacity : ℕ) (places : List ℕ) (k : ℕ) (r : Run) (start now after : Pixels) → IsRegion w p
-    → r.row < p.rows → r.start ≤ r.end → r.end ≤ p.cols → now.cols ≡ w.cols → Holds w p member
-    → (f : PaintedTo w p member colour opacity places k start now) → IsNext (region_window w p) member places f.n r
+pub painted_more : (w : Window) (p : Region) (member : Point → Bool) (colour : Colour) (opacity : ℕ) (D E : ℕ → Type 0) (row left right : ℕ) (start now after : Pixels) → IsRegion w p
+    → row < p.rows → left ≤ right → right ≤ p.cols → now.cols ≡ w.cols → Holds w p member
+    → (f : PaintedTo w p member colour opacity D start now) → NextRun (region_window w p) member E f.n row left right
     → after ≡ record now {
-      pixels = run_changed (blend colour opacity) ((p.row + r.row) * now.cols + (p.col + r.start)) (p.col + r.end - (p.col + r.start)) now.pixels;
+      pixels = run_changed (blend colour opacity) ((p.row + row) * now.cols + (p.col + left)) (p.col + right - (p.col + left)) now.pixels;
     }
-    → PaintedTo w p member colour opacity places r.next start after
-painted_more w p member colour opacity places k r start now after ok row order fits cols holds f is written = elim (cases_lt from f.q) [
+    → PaintedTo w p member colour opacity E start after
+painted_more w p member colour opacity D E row left right start now after ok hrow order fits cols holds f is written = elim (cases_lt from f.q) [
   | inl over ↦ record {
-    n = r.row * p.cols + r.end;
+    n = row * p.cols + right;
     q = f.q;
     fits = f.fits;
     done = is.past;
     changed = subst (λ b. Changed step w f.q start b) (empty over) f.changed;
-    behind = λ j i col low. f.behind j i col (omega (arith, is.from, low, order));
-    ahead = λ j i col low. to_region w p r.row r.end j i ok col fits (omega (arith, over, low, at_end over));
+    behind = λ j i col low. f.behind j i col (omega (arith, is.begins, low, order));
+    ahead = λ j i col low. to_region w p row right j i ok col fits (omega (arith, over, low, at_end over));
   }
   | inr le ↦ record {
-    n = r.row * p.cols + r.end;
-    q = (p.row + r.row) * w.cols + (p.col + r.end);
-    fits = (let next : p.row + r.row + 1 ≤ w.rows = omega (arith, ok.in_rows) in omega (arith, ok.in_cols, mul-le-mul_right w.cols next));
+    n = row * p.cols + right;
+    q = (p.row + row) * w.cols + (p.col + right);
+    fits = (let next : p.row + row + 1 ≤ w.rows = omega (arith, ok.in_rows) in omega (arith, ok.in_cols, mul-le-mul_right w.cols next));
     done = is.past;
     changed =
-        changed_run step w (blend colour opacity) (p.row + r.row) (p.col + r.start) (p.col + r.end) start now after (omega arith) (omega (arith, ok.in_cols)) (omega (arith, ok.in_rows)) cols
+        changed_run step w (blend colour opacity) (p.row + row) (p.col + left) (p.col + right) start now after (omega arith) (omega (arith, ok.in_cols)) (omega (arith, ok.in_rows)) cols
         (λ i low high d.
         let x : ℕ = i - p.col in
         let at : i ≡ p.col + x = omega arith in
-        ap (λ u. step (centre w u (p.row + r.row)) d) at ∙ ap (λ c. step c d) (sym (near_centre w p x r.row))
+        ap (λ u. step (centre w u (p.row + row)) d) at ∙ ap (λ c. step c d) (sym (near_centre w p x row))
         ∙ ap (λ b. if b then blend colour opacity d else d) (is.within x (omega arith) (omega arith)))
         written (skipped le);
-    behind = λ j i col low. to_window w p r.row r.end j i ok col fits low;
-    ahead = λ j i col low. to_region w p r.row r.end j i ok col fits low;
+    behind = λ j i col low. to_window w p row right j i ok col fits low;
+    ahead = λ j i col low. to_region w p row right j i ok col fits low;
   }
 ]
   where
@@ -200,24 +184,24 @@ painted_more w p member colour opacity places k r start now after ok row order f
     step = over_member member colour opacity
 
     from : ℕ
-    from = (p.row + r.row) * w.cols + (p.col + r.start)
+    from = (p.row + row) * w.cols + (p.col + left)
 
     -- where more is painted already than what lies before the run, the run is empty and lies at its row's end
-    at_end : from < f.q → r.end ≡ r.start
-    at_end over = elim (cases_lt r.start p.cols) [
-      | inl lt ↦ absurd (omega (arith, over, f.behind r.row r.start lt is.from))
-      | inr past ↦ (let e : r.end ≡ r.start = omega arith in e)
+    at_end : from < f.q → right ≡ left
+    at_end over = elim (cases_lt left p.cols) [
+      | inl lt ↦ absurd (omega (arith, over, f.behind row left lt is.begins))
+      | inr past ↦ (let e : right ≡ left = omega arith in e)
     ]
 
     empty : from < f.q → now ≡ after
     empty over =
-        let m : ℕ = (p.row + r.row) * now.cols + (p.col + r.start) in
-        let e : m - m ≡ p.col + r.end - (p.col + r.start) = omega (arith, at_end over) in
+        let m : ℕ = (p.row + row) * now.cols + (p.col + left) in
+        let e : m - m ≡ p.col + right - (p.col + left) = omega (arith, at_end over) in
         ap (λ ps. record now { pixels = ps }) (run_none (blend colour opacity) m now.pixels ∙ ap (λ c. run_changed (blend colour opacity) m c now.pixels) e) ∙ sym written
 
     skipped : f.q ≤ from → Changed step w from start now
     skipped le =
-        let next : p.row + r.row + 1 ≤ w.rows = omega (arith, ok.in_rows) in
+        let next : p.row + row + 1 ≤ w.rows = omega (arith, ok.in_rows) in
         changed_skip step w f.q from start now (omega (arith, ok.in_cols, ok.some_col)) le (omega (arith, ok.in_cols, mul-le-mul_right w.cols next))
         (λ v u col high_row low high.
         not_there w p member colour opacity v u holds col high_row (λ j i down across hj hi.
@@ -225,21 +209,21 @@ painted_more w p member colour opacity places k r start now after ok row order f
         is.before j i hi hj (f.ahead j i hi (omega (arith, low, here))) (earlier j i hi (omega (arith, high, here)))))
         f.changed
       where
-        earlier : (j i : ℕ) → i < p.cols → (p.row + j) * w.cols + (p.col + i) < from → j * p.cols + i < r.row * p.cols + r.start
-        earlier j i hi h = elim (cases_lt (j * p.cols + i) (r.row * p.cols + r.start)) [
+        earlier : (j i : ℕ) → i < p.cols → (p.row + j) * w.cols + (p.col + i) < from → j * p.cols + i < row * p.cols + left
+        earlier j i hi h = elim (cases_lt (j * p.cols + i) (row * p.cols + left)) [
           | inl lt ↦ lt
-          | inr past ↦ absurd (omega (arith, h, to_window w p r.row r.start j i ok hi (omega arith) past))
+          | inr past ↦ absurd (omega (arith, h, to_window w p row left j i ok hi (omega arith) past))
         ]
 
 -- all runs
-pub painted_all : (w : Window) (p : Region) (member : Point → Bool) (colour : Colour) (opacity : ℕ) (places : List ℕ) (k : ℕ) (start now : Pixels) → IsRegion w p
-    → Between w p member places → length places ≤ k → PaintedTo w p member colour opacity places k start now
+pub painted_all : (w : Window) (p : Region) (member : Point → Bool) (colour : Colour) (opacity : ℕ) (D : ℕ → Type 0) (start now : Pixels) → IsRegion w p
+    → Holds w p member → (f : PaintedTo w p member colour opacity D start now)
+    → ((j i : ℕ) → i < p.cols → j < p.rows → f.n ≤ j * p.cols + i → member (centre (region_window w p) i j) ≡ false)
     → now ≡ stepped w (over_member member colour opacity) start
-painted_all w p member colour opacity places k start now ok between past f =
+painted_all w p member colour opacity D start now ok holds f rest =
     changed_end (over_member member colour opacity) w (w.rows * w.cols) start now refl
     (changed_skip (over_member member colour opacity) w f.q (w.rows * w.cols) start now (omega (arith, ok.in_cols, ok.some_col)) f.fits (omega arith)
     (λ v u col row low high.
-    not_there w p member colour opacity v u between.holds col row (λ j i down across hj hi.
-    done_all (region_window w p) member places k f.n j i between.crossings f.done past hi hj
-    (f.ahead j i hi (omega (arith, low, across, ap (λ y. y * w.cols) down)))))
+    not_there w p member colour opacity v u holds col row (λ j i down across hj hi.
+    rest j i hi hj (f.ahead j i hi (omega (arith, low, across, ap (λ y. y * w.cols) down)))))
     f.changed)

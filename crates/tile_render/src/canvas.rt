@@ -2,7 +2,7 @@
 use crate::brushes::Brush;
 use crate::covers::{Covered, CoveredPixels, cover_on};
 use crate::grids::blend_grid;
-use crate::painting::{paint_mask, paint_runs};
+use crate::painting::{paint_pieces, paint_runs};
 use crate::regions::{Region, region_window};
 use crate::symbolizers::Paint;
 use farm_base::NoMemory;
@@ -92,8 +92,8 @@ impl Canvas {
     {
         let region = covered.region;
         match &covered.pixels {
-            CoveredPixels::Masked(mask) => {
-                paint_mask(self.window, region, mask, paint, &mut self.image)
+            CoveredPixels::Pieces(pieces) => {
+                paint_pieces(self.window, region, pieces, paint, &mut self.image)
             }
             CoveredPixels::Runs(places) => {
                 paint_runs(self.window, region, places, paint, &mut self.image)
@@ -102,7 +102,7 @@ impl Canvas {
     }
 
     /// Paints in full opacity what the symbolizer, which fills nothing, covers of the feature in a region that
-    /// has all of it. Each part is painted as it is found, with no mask.
+    /// has all of it. Each part is painted as it is found.
     pub(crate) fn brush(
         &mut self,
         alloc: Global,

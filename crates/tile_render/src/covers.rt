@@ -13,12 +13,13 @@ ghost use Rattle.plain_image.specs.Surfaces.{Becomes, Marks};
 ghost use Rattle.tile_render.specs.inner.Regions.{IsRegion, HoldsCovered};
 ghost use Rattle.tile_render.specs.inner.Covers.{is_fill, is_points, Shows, Covers};
 
+use crate::pieces::{Piece, in_order, no_pieces};
 use crate::regions::{Region, region_near, region_window};
 use farm_base::NoMemory;
 use geo_model::Feature;
 use mark_core::mark_points;
 use plain_drawing::Symbolizer;
-use plain_image::{Mask, Surface};
+use plain_image::Surface;
 use plain_shapes::{Geometry, LineCap};
 use plain_world::Window;
 use raster_core::crossings;
@@ -32,11 +33,11 @@ pub(crate) struct Covered {
     pub pixels: CoveredPixels,
 }
 
-/// Covered pixels: those that a mask says, or those in runs between the places where a polygon's edges are
-/// crossed, in order.
+/// Covered pixels: those of pieces that are apart, or those in runs between the places where a polygon's edges
+/// are crossed; both in order.
 #[derive(Drop)]
 pub(crate) enum CoveredPixels {
-    Masked(Mask),
+    Pieces(Vec<Piece>),
     Runs(Vec<u32>),
 }
 
@@ -202,8 +203,8 @@ fn suits(geometry: &Geometry, symbolizer: Symbolizer) -> bool
     }
 }
 
-/// The pixels of a symbolizer that fills nothing, in a mask; none where it covers no shape of that kind.
-fn masked(
+/// The pixels of a symbolizer that fills nothing, in pieces; none where it covers no shape of that kind.
+fn in_pieces(
     alloc: Global,
     w: Window,
     feature: &Feature,
@@ -217,9 +218,10 @@ fn masked(
     if !suits(feature.geometry(), symbolizer) {
         return Ok(None);
     }
-    let mut mask = Mask::new(alloc, w.cols, w.rows)?;
-    cover_on(alloc, w, feature, symbolizer, &mut mask)?;
-    Ok(Some(CoveredPixels::Masked(mask)))
+    let mut pieces = no_pieces(alloc, w.cols, w.rows);
+    cover_on(alloc, w, feature, symbolizer, &mut pieces)?;
+    let found = in_order(pieces)?;
+    Ok(Some(CoveredPixels::Pieces(found)))
 }
 
 /// Those of the window's pixels whose centres the symbolizer covers on the feature; none where it covers
@@ -236,8 +238,8 @@ fn covered_on(
 {
     match symbolizer {
         Symbolizer::Polygon { .. } => fill(alloc, w, feature),
-        Symbolizer::Line { .. } => masked(alloc, w, feature, symbolizer),
-        Symbolizer::Markers { .. } => masked(alloc, w, feature, symbolizer),
+        Symbolizer::Line { .. } => in_pieces(alloc, w, feature, symbolizer),
+        Symbolizer::Markers { .. } => in_pieces(alloc, w, feature, symbolizer),
         Symbolizer::Raster { .. } => Ok(None),
     }
 }

@@ -10,6 +10,7 @@ mod layers;
 mod loads;
 mod metatiles;
 mod painting;
+mod pieces;
 mod regions;
 mod rules;
 mod styles;

@@ -157,8 +157,12 @@ fn replace<R: rt::Files>(files: &R, name: &str, beside: &str, bytes: &[u8]) -> i
     fs::rename(files, beside, name)
 }
 
-/// The file of the path; `None` where there is nothing, and Failed where there is a folder.
-fn open<R: rt::Files>(alloc: Global, files: &R, path: &str) -> Result<Option<R::File>, StoreFault>
+/// The file of the path and its length; `None` where there is nothing, and Failed where there is a folder.
+fn open<R: rt::Files>(
+    alloc: Global,
+    files: &R,
+    path: &str,
+) -> Result<Option<(R::File, u64)>, StoreFault>
     ensures { is_own_path path.now ≡ false → result ≡ Err Failed }
 {
     let name = name_of(alloc, path)?;
@@ -171,7 +175,7 @@ fn open<R: rt::Files>(alloc: Global, files: &R, path: &str) -> Result<Option<R::
     if about.is_dir() {
         return Err(StoreFault::Failed);
     }
-    Ok(Some(file))
+    Ok(Some((file, about.len())))
 }
 
 /// The bytes of the path's file.
@@ -183,13 +187,14 @@ fn read_whole<R: rt::Files>(
     ensures short { IfOk result (λ found. IfSome found (λ v. length v.items ≤ most_file_bytes)) }
     ensures taken { is_own_path path.now ≡ false → result ≡ Err Failed }
 {
-    let Some(file) = open(alloc, files, path)? else {
+    let Some((file, _length)) = open(alloc, files, path)? else {
         return Ok(None);
     };
     Ok(Some(read_to_end(alloc, file, MOST_FILE_BYTES)?))
 }
 
-/// The bytes of the path's file from the offset on, at most `len` of them.
+/// The bytes of the path's file from the offset on, at most `len` of them. How many there are is known when
+/// it is opened, so that they are read at once, into a vector that does not grow.
 fn read_part<R: rt::Files>(
     alloc: Global,
     files: &R,
@@ -200,18 +205,15 @@ fn read_part<R: rt::Files>(
     ensures short { IfOk result (λ found. IfSome found (λ v. length v.items ≤ len)) }
     ensures taken { is_own_path path.now ≡ false → result ≡ Err Failed }
 {
-    let Some(mut file) = open(alloc, files, path)? else {
+    let Some((mut file, length)) = open(alloc, files, path)? else {
         return Ok(None);
     };
-    let mut bytes = Vec::new(alloc);
-    // No file of the system reaches so far, and a seek there is an error.
-    if offset > i64::MAX as u64 {
-        return Ok(Some(bytes));
+    let room = length.saturating_sub(offset).min(u64::from(len));
+    let mut bytes = vec![in alloc; 0; room as usize]?;
+    if room > 0 {
+        file.seek(SeekFrom::Start(offset)).map_err(|e| fault(&e))?;
+        file.read_exact(bytes.as_mut_slice())
+            .map_err(|e| fault(&e))?;
     }
-    file.seek(SeekFrom::Start(offset)).map_err(|e| fault(&e))?;
-    file.take(u64::from(len))
-        .read_to_end(&mut bytes)
-        .map_err(|e| fault(&e))?;
-    bytes.truncate(len as usize);
     Ok(Some(bytes))
 }

@@ -46,10 +46,10 @@ HasOld (s ∷ slots) (f ∷ features) = IsOldAs s f × HasOld slots features
 abbrev pub StandsNowhere : List (Option Slot) → ℕ → Type 0
 StandsNowhere slots id = (k : ℕ) → slot_id (get_or slots k None) ≡ Some id → ⊥
 
--- each id stands in one slot: in the one that the places tell, or else, unless they are all noted, in that of its place among the features from the start
-pub record KnowsPlaces (all_noted : Bool) (places : BTreeMap ℕ ℕ) (features : List Feature) (slots : List (Option Slot)) : Type 0 where
+-- each id stands in one slot: in the one that the places tell, or else in that of its place among the features from the start
+pub record KnowsPlaces (places : BTreeMap ℕ ℕ) (features : List Feature) (slots : List (Option Slot)) : Type 0 where
   pub found : (id k : ℕ) → get nat_cmp places id ≡ Some k → slot_id (get_or slots k None) ≡ Some id
-  pub held : (id k : ℕ) → slot_id (get_or slots k None) ≡ Some id → (get nat_cmp places id ≡ Some k) ⊎ ((all_noted ≡ false) × (place_of features id ≡ Some k))
+  pub held : (id k : ℕ) → slot_id (get_or slots k None) ≡ Some id → (get nat_cmp places id ≡ Some k) ⊎ (place_of features id ≡ Some k)
   pub one : (id i j : ℕ) → slot_id (get_or slots i None) ≡ Some id → slot_id (get_or slots j None) ≡ Some id → i ≡ j
 
 -- the features without the one of the id

@@ -1,9 +1,10 @@
 -- The places at which edges are crossed: how many of them a row has up to a column says, by parity, whether that pixel's centre is a member.
-use Rattle.std.specs.Prelude.{◌≡◌, ◌≢◌, ℕ, ◌+◌, ◌*◌, ◌<◌, ◌≤◌, Bool, true, false, not, ◌&&◌, nat_le, List, count_by, All}
+use Rattle.std.specs.Prelude.{◌≡◌, ◌≢◌, ℕ, ◌+◌, ◌*◌, ◌/◌, ◌<◌, ◌≤◌, min, max, Bool, true, false, not, ◌&&◌, nat_le, List, [], ◌∷◌, count_by, All}
 use Rattle.plain_world.specs.declared.world.Point.{Point}
 use Rattle.plain_world.specs.declared.world.Window.{Window}
-use Rattle.plain_world.specs.World.{centre}
+use Rattle.plain_world.specs.World.{InWorld, centre}
 use Rattle.plain_shapes.specs.Rings.{counts, is_odd}
+use Rattle.raster_core.specs.declared.edges.Edge.{Edge}
 
 -- b, turned round where a is true
 abbrev pub flip : Bool → Bool → Bool
@@ -44,15 +45,27 @@ pub record Remains (w : Window) (left whole : Point → Bool) (old new : List �
   pub inside : AllInside w old → AllInside w new
   pub at : (j i : ℕ) → j < w.rows → i < w.cols → flip (left (centre w i j)) (parity_at w.cols new j i) ≡ flip (whole (centre w i j)) (parity_at w.cols old j i)
 
--- a place more, or one less: of each kind of place the number is turned round, by parity, where the place is of that kind
-pub record Turned (place : ℕ) (old new : List ℕ) : Type 0 where
-  pub below : (n : ℕ) → place < n → All (λ x. x < n) old → All (λ x. x < n) new
-  pub parity : (p : ℕ → Bool) → is_odd (count_by p new) ≡ flip (p place) (is_odd (count_by p old))
-
 -- as many places of each kind, by parity
 pub record SameParities (old new : List ℕ) : Type 0 where
-  pub below : (n : ℕ) → All (λ x. x < n) old → All (λ x. x < n) new
   pub parity : (p : ℕ → Bool) → is_odd (count_by p new) ≡ is_odd (count_by p old)
+
+-- the places of the bits that are set, where the first bit is that of the place n
+abbrev pub set_places : ℕ → List Bool → List ℕ
+set_places n [] = []
+set_places n (true ∷ bits) = n ∷ set_places (n + 1) bits
+set_places n (false ∷ bits) = set_places (n + 1) bits
+
+-- the first column whose centre lies at x or past it, or the number of columns
+abbrev pub IsFirst : Window → ℕ → ℕ → Type 0
+IsFirst w x col = (i : ℕ) → i < w.cols → nat_le col i ≡ nat_le x (w.west + i * w.pixel + w.pixel / 2)
+
+-- the edge's ends lie in the world, and the columns are the first at its west end, and at its east end
+pub record IsEdge (w : Window) (e : Edge) : Type 0 where
+  pub a_in : InWorld e.a
+  pub b_in : InWorld e.b
+  pub west : IsFirst w (min e.a.x e.b.x) e.west
+  pub east : IsFirst w (max e.a.x e.b.x) e.east
+  pub few : e.west ≤ w.cols
 
 -- an odd number of the edges counts for the point
 abbrev pub odd_edges : List (Point × Point) → Point → Bool

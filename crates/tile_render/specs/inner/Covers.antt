@@ -1,14 +1,12 @@
 -- What a symbolizer covers of a window.
-use Rattle.std.specs.Prelude.{◌≡◌, ℕ, ◌*◌, ◌<◌, Bool, true, false, List, replicate, Option, Some, None}
+use Rattle.std.specs.Prelude.{◌≡◌, ℕ, ◌<◌, Bool, true, false, List, All, Option, Some, None}
 use Rattle.std.specs.List.Sorted.{IsNonDecreasing}
 use Rattle.plain_world.specs.declared.world.Point.{Point}
 use Rattle.plain_world.specs.declared.world.Window.{Window}
-use Rattle.plain_world.specs.World.{centre, centres}
+use Rattle.plain_world.specs.World.{centre}
 use Rattle.plain_data.specs.Features.{Feature}
 use Rattle.plain_shapes.specs.declared.shapes.Geometry.{Geometry}
 use Rattle.plain_shapes.specs.declared.shapes.Geometry.TheVariants as shape
-use Rattle.plain_shapes.specs.Images.{Bits}
-use Rattle.plain_shapes.specs.inner.Canvas.{marked}
 use Rattle.plain_drawing.specs.declared.style.Symbolizer.{Symbolizer}
 use Rattle.plain_drawing.specs.declared.style.Symbolizer.TheVariants as paint
 use Rattle.plain_drawing.specs.Drawing.{covers}
@@ -17,8 +15,10 @@ use Rattle.raster_core.specs.inner.Crossings.{Crossings}
 use Rattle.tile_render.specs.declared.regions.Region.{Region}
 use Rattle.tile_render.specs.declared.covers.Covered.{Covered}
 use Rattle.tile_render.specs.declared.covers.CoveredPixels.{CoveredPixels}
-use Rattle.tile_render.specs.declared.covers.CoveredPixels.TheVariants.{Masked, Runs}
-use Rattle.tile_render.specs.inner.Regions.{IsRegion, region_window, Holds, Tells}
+use Rattle.tile_render.specs.declared.covers.CoveredPixels.TheVariants.{Pieces, Runs}
+use Rattle.tile_render.specs.declared.pieces.Piece.{Piece}
+use Rattle.tile_render.specs.inner.Pieces.{IsPiece, PiecesTell}
+use Rattle.tile_render.specs.inner.Regions.{IsRegion, region_window, Holds}
 
 -- whether the symbolizer fills polygons
 abbrev pub is_fill : Symbolizer → Bool
@@ -33,20 +33,11 @@ is_points (shape.Points points) = true
 is_points (shape.Lines lines) = false
 is_points (shape.Polygon rings) = false
 
--- the mask of a window's pixels whose centres are members
-abbrev pub mask_where : Window → (Point → Bool) → Bits
-mask_where w member = record { cols = w.cols; rows = w.rows; bits = marked member (centres w) (replicate (w.rows * w.cols) false) }
-
 -- the pixels are those whose centres the symbolizer covers on the shape; there are none where it covers no such shape
 abbrev pub Shows : Window → Geometry → Symbolizer → Option CoveredPixels → Type 0
 Shows w g s None = (c : Point) → covers w.pixel g c s ≡ false
-Shows w g s (Some (Masked mask)) = mask ≡ mask_where w (λ c. covers w.pixel g c s)
+Shows w g s (Some (Pieces pieces)) = PiecesTell w (λ c. covers w.pixel g c s) pieces.items
 Shows w g s (Some (Runs places)) = Crossings w (λ c. covers w.pixel g c s) places.items
-
--- the mask has the region's sides
-pub record MaskFits (r : Region) (mask : Bits) : Type 0 where
-  pub cols : mask.cols ≡ r.cols
-  pub rows : mask.rows ≡ r.rows
 
 -- the crossings lie in the region, in order
 pub record RunsFit (w : Window) (r : Region) (places : List ℕ) : Type 0 where
@@ -55,7 +46,7 @@ pub record RunsFit (w : Window) (r : Region) (places : List ℕ) : Type 0 where
 
 -- what is covered lies in the region
 abbrev pub Fits : Window → Region → CoveredPixels → Type 0
-Fits w r (Masked mask) = MaskFits r mask
+Fits w r (Pieces pieces) = All (IsPiece r.cols r.rows) pieces.items
 Fits w r (Runs places) = RunsFit w r places.items
 
 -- the runs between the crossings have the region's pixels with a member as their centre, and no other pixel of the window has one
@@ -63,9 +54,14 @@ pub record Between (w : Window) (r : Region) (member : Point → Bool) (places :
   pub crossings : Crossings (region_window w r) member places
   pub holds : Holds w r member
 
+-- the pieces are the region's pixels with a member as their centre, and no other pixel of the window has one
+pub record Consists (w : Window) (r : Region) (member : Point → Bool) (pieces : List Piece) : Type 0 where
+  pub tells : PiecesTell (region_window w r) member pieces
+  pub holds : Holds w r member
+
 -- what is covered are the window's pixels with a member as their centre
 abbrev pub Says : Window → Region → (Point → Bool) → CoveredPixels → Type 0
-Says w r member (Masked mask) = Tells w r member mask.bits
+Says w r member (Pieces pieces) = Consists w r member pieces.items
 Says w r member (Runs places) = Between w r member places.items
 
 -- the cover has the pixels of the window whose centres the symbolizer covers on the feature

@@ -1,5 +1,13 @@
-use Rattle.raster_core.proofs.Filling.{crossings_sorted}
+use Rattle.std.proofs.Common.{arith}
+use Rattle.raster_core.proofs.Filling.{crossings_found}
 use Rattle.raster_core.proofs.fill.crossings.Goals as goal
 
+pub cross_rings-requires-clause-inside : goal.cross_rings-requires-clause-inside
+cross_rings-requires-clause-inside c = rw c.new-places.ensures.items (λ k d within. absurd (omega arith))
+
+pub in_order-requires-clause-inside : goal.in_order-requires-clause-inside
+in_order-requires-clause-inside c = c.in_ok-cross_rings.ensures.inside (rw c.new-places.ensures.items (λ k d within. absurd (omega arith)))
+
 pub returns : goal.returns
-returns c = crossings_sorted c.args.w _ _ _ (rw c.new-places.ensures.items at c.in_ok-cross_rings.ensures) c.sort_unstable.ensures.permutation c.sort_unstable.ensures.sorted
+returns c =
+    crossings_found (λ v. v.items) _ _ _ c.in_order.result (rw c.new-places.ensures.items at c.in_ok-cross_rings.ensures) c.in_order.ensures.inside c.in_order.ensures.order c.in_order.ensures.parity

@@ -8,11 +8,11 @@ use Rattle.data_versions.proofs.edit.LayerEdit.add.Goals as goal
 pub invariant_of-self-in_err-insert : goal.invariant_of-self-in_err-insert
 invariant_of-self-in_err-insert c =
     rw c.in_ok-push.ensures.items (
-      knows_same c.self.inside.all_noted c.self.inside.places c.insert.new.self c.self.inside.layer.now.features (c.self.inside.slots.items ++ None ∷ [])
-          (knows_room c.self.inside.all_noted c.self.inside.places c.self.inside.layer.now.features c.self.inside.slots.items c.self.invariant.0) c.in_err-insert.ensures.err,
+      knows_same c.self.inside.places c.insert.new.self c.self.inside.finder.features (c.self.inside.slots.items ++ None ∷ [])
+          (knows_room c.self.inside.places c.self.inside.finder.features c.self.inside.slots.items c.self.invariant.0) c.in_err-insert.ensures.err,
       c.self.invariant.1 ∙ ap length (sym (room_is c.self.inside.slots.items)),
       c.self.invariant.2,
-      old_room c.self.inside.slots.items c.self.inside.layer.now.features None c.self.invariant.3,
+      old_room c.self.inside.slots.items c.self.inside.finder.features None c.self.invariant.3,
     )
 
 pub overflow_add-self : goal.overflow_add-self
@@ -24,12 +24,12 @@ invariant_of-self-2 c =
     let last : c.len-place.result ≡ length c.self.inside.slots.items = omega (arith, c.self.inside.slots.ok, c.len-place.ensures) in
     let fresh = rw (← c.self.view_is) at c.requires.fresh in
     rw (c.in_ok-push.ensures.items, set_end c.self.inside.slots.items (Some slot) c.len-place.result last) (
-      knows_added c.self.inside.all_noted c.self.inside.places c.insert.new.self c.self.inside.layer.now.features c.self.inside.slots.items slot c.self.invariant.0
+      knows_added c.self.inside.places c.insert.new.self c.self.inside.finder.features c.self.inside.slots.items slot c.self.invariant.0
           (unheld c.self.inside.slots.items c.args.feature.now.id fresh)
           (rw (c.id.ensures, last) at c.in_ok-insert.ensures.updates),
       added_count c.self.inside.slots.items slot c.self.inside.count c.self.invariant.1,
       omega (arith, c.self.invariant.1, rw (← c.self.view_is) at c.requires.room),
-      old_room c.self.inside.slots.items c.self.inside.layer.now.features (Some slot) c.self.invariant.3,
+      old_room c.self.inside.slots.items c.self.inside.finder.features (Some slot) c.self.invariant.3,
     )
 
 pub returns : goal.returns

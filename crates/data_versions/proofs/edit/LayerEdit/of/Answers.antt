@@ -6,7 +6,8 @@ pub invariant_of-result : goal.invariant_of-result
 invariant_of-result c =
     let old = rw c.chunks.ensures at c.in_ok-slots.ensures in
     let stand = all_stand c.in_ok-slots.slots.items c.args.layer.now.features old in
-    let long = old_count c.in_ok-slots.slots.items c.args.layer.now.features old in (
+    let long = old_count c.in_ok-slots.slots.items c.args.layer.now.features old in
+    rw c.of.ensures (
       knows_first c.new.result c.in_ok-slots.slots.items c.args.layer.now.features c.new.ensures.empty old c.requires.distinct,
       rw stand (omega (arith, long, c.len-count.ensures, c.in_ok-slots.slots.ok)),
       omega (arith, long, c.len-count.ensures, c.in_ok-slots.slots.ok, c.requires.few),

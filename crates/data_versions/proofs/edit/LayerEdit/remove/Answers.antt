@@ -15,11 +15,11 @@ overflow_sub-self c =
 pub invariant_of-self : goal.invariant_of-self
 invariant_of-self c =
     let here = rw c.as_slice.ensures.value at c.in-Some.ensures.found in (
-      knows_removed c.self.inside.all_noted c.self.inside.places c.remove.new.self c.self.inside.layer.now.features c.self.inside.slots.items c.args.id c.in-Some.place
+      knows_removed c.self.inside.places c.remove.new.self c.self.inside.finder.features c.self.inside.slots.items c.args.id c.in-Some.place
           c.self.invariant.0 here c.remove.ensures.updates,
       omega (arith, c.self.invariant.1, fewer_standing c.self.inside.slots.items c.args.id c.in-Some.place here),
       omega (arith, c.self.invariant.2),
-      old_set c.self.inside.slots.items c.self.inside.layer.now.features c.in-Some.place None c.self.invariant.3 (λ _. tt),
+      old_set c.self.inside.slots.items c.self.inside.finder.features c.in-Some.place None c.self.invariant.3 (λ _. tt),
     )
 
 pub returns-in-Some-clause-found : goal.returns-in-Some-clause-found

@@ -13,11 +13,11 @@ pub invariant_of-self : goal.invariant_of-self
 invariant_of-self c =
     let slot : Slot = record { feature = c.args.feature; is_old = false } in
     let here = rw (c.as_slice.ensures.value, c.id.ensures) at c.in-Some.ensures.found in (
-      knows_replaced c.self.inside.all_noted c.self.inside.places c.self.inside.layer.now.features c.self.inside.slots.items slot c.in-Some.place c.self.invariant.0 here,
+      knows_replaced c.self.inside.places c.self.inside.finder.features c.self.inside.slots.items slot c.in-Some.place c.self.invariant.0 here,
       rw (replaced_is c.self.inside.slots.items slot c.in-Some.place (c.self.invariant.0.one c.args.feature.now.id) here)
           (c.self.invariant.1 ∙ sym (same_standing c.args.feature.now _)),
       c.self.invariant.2,
-      old_set c.self.inside.slots.items c.self.inside.layer.now.features c.in-Some.place (Some slot) c.self.invariant.3 (λ f. old_put slot f refl),
+      old_set c.self.inside.slots.items c.self.inside.finder.features c.in-Some.place (Some slot) c.self.invariant.3 (λ f. old_put slot f refl),
     )
 
 pub returns-in-Some-clause-found : goal.returns-in-Some-clause-found

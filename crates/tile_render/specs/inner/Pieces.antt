@@ -1,0 +1,54 @@
+-- Pieces of rows, the pixels that a list of them covers, and the bits that are told by it.
+use Rattle.std.specs.Prelude.{◌≡◌, ℕ, ◌+◌, ◌*◌, ◌^◌, ◌<◌, ◌≤◌, Bool, false, ◌&&◌, nat_eq, nat_le, List, length, slice_index_or, All}
+use Rattle.std.specs.List.{list_any}
+use Rattle.plain_world.specs.declared.world.Point.{Point}
+use Rattle.plain_world.specs.declared.world.Window.{Window}
+use Rattle.plain_world.specs.World.{centre}
+use Rattle.plain_shapes.specs.Images.{Bits}
+use Rattle.tile_render.specs.declared.pieces.Piece.{Piece}
+use Rattle.tile_render.specs.declared.pieces.Pieces.{Pieces}
+
+-- the piece lies in one of so many rows of so many columns
+pub record IsPiece (cols rows : ℕ) (p : Piece) : Type 0 where
+  pub row : p.row < rows
+  pub order : p.start ≤ p.end
+  pub end : p.end ≤ cols
+
+-- whether the piece has the pixel in row j and column i
+unfoldable pub has : ℕ → ℕ → Piece → Bool
+has j i p = nat_eq j p.row && (nat_le p.start i && nat_le (i + 1) p.end)
+
+-- whether one of the pieces has it
+abbrev pub covered : List Piece → ℕ → ℕ → Bool
+covered pieces j i = list_any (has j i) pieces
+
+-- the order of pieces: by their rows, and in a row by where they start; columns lie below 2 ^ 32
+abbrev pub place : Piece → ℕ
+place p = p.row * 2 ^ 32 + p.start
+
+-- the piece q begins where p ends, or behind it
+pub record IsBefore (p q : Piece) : Type 0 where
+  pub row : p.row ≤ q.row
+  pub col : q.row ≤ p.row → p.end ≤ q.start
+
+-- the pieces are in order, and no two of them have a pixel in common
+pub record Apart (pieces : List Piece) : Type 0 where
+  pub at : (x y : ℕ) (d : Piece) → x < y → y < length pieces → IsBefore (slice_index_or pieces x d) (slice_index_or pieces y d)
+
+-- the pieces lie in so many rows of so many columns, and the bits say which of their pixels are covered
+pub record ToldBits (cols rows : ℕ) (pieces : List Piece) (bits : List Bool) : Type 0 where
+  pub inside : All (IsPiece cols rows) pieces
+  pub at : (j i : ℕ) → j < rows → i < cols → slice_index_or bits (j * cols + i) false ≡ covered pieces j i
+
+-- the bits are those of the pixels that are covered, unless memory was wanting
+pub record ShowsPieces (now : Pieces) (bits : Bits) : Type 0 where
+  pub cols : bits.cols ≡ now.cols
+  pub rows : bits.rows ≡ now.rows
+  pub count : length bits.bits ≡ now.rows * now.cols
+  pub told : now.is_short ≡ false → ToldBits now.cols now.rows now.list.items bits.bits
+
+-- the pieces are apart, and are the window's pixels whose centres are members
+pub record PiecesTell (w : Window) (member : Point → Bool) (pieces : List Piece) : Type 0 where
+  pub inside : All (IsPiece w.cols w.rows) pieces
+  pub apart : Apart pieces
+  pub at : (j i : ℕ) → j < w.rows → i < w.cols → member (centre w i j) ≡ covered pieces j i

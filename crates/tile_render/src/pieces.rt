@@ -1,0 +1,173 @@
+//! What the parts of strokes and marks cover, piece by piece, so that a pixel of several parts is painted once.
+ghost use Rattle.std.specs.Prelude.{◌≡◌, ℕ, ◌^◌, ◌<◌, ◌&&◌, ◌||◌, nat_eq, nat_le, false, [], All, IfOk, OnOk, IsPermutation};
+ghost use Rattle.std.specs.List.Sorted.{IsNonDecreasingBy};
+ghost use Rattle.tile_render.specs.inner.Pieces.{IsPiece, has, covered, Apart, place};
+
+use farm_base::NoMemory;
+use plain_image::Surface;
+use std::alloc::Global;
+
+// So many pieces are never too many.
+const FEW: usize = 65_536;
+
+/// Pixels side by side in a row: from the column `start` on and before the column `end`.
+#[derive(Clone, Copy, Debug, PartialEq, Eq)]
+pub(crate) struct Piece {
+    pub row: u32,
+    pub start: u32,
+    pub end: u32,
+}
+
+/// What is covered of so many columns and rows: a list of pieces, some of which may have pixels in common. Only
+/// what is covered takes memory, and once there are `most` pieces those that touch are joined. Where memory was
+/// wanting it is short, and pieces are missing.
+#[derive(Drop)]
+pub(crate) struct Pieces {
+    pub alloc: Global,
+    pub cols: u32,
+    pub rows: u32,
+    pub list: Vec<Piece>,
+    pub most: usize,
+    pub is_short: bool,
+}
+
+/// Nothing is covered of so many columns and rows.
+pub(crate) fn no_pieces(alloc: Global, cols: u32, rows: u32) -> Pieces
+    ensures cols { result.cols ≡ cols }
+    ensures rows { result.rows ≡ rows }
+    ensures none { result.list.items ≡ [] }
+{
+    Pieces {
+        alloc,
+        cols,
+        rows,
+        list: Vec::new(alloc),
+        most: FEW,
+        is_short: false,
+    }
+}
+
+// Puts pieces in order, row by row from the west.
+fn sort(pieces: &mut [Piece])
+    ensures same { IsPermutation pieces.old pieces.new }
+    ensures order { IsNonDecreasingBy place pieces.new }
+{
+    pieces.sort_unstable_by_key(|piece| u64::from(piece.row) * (1 << 32) + u64::from(piece.start));
+}
+
+// Whether a piece that does not begin before the last one begins in it or at its end.
+fn touches(last: Piece, piece: Piece) -> bool
+    ensures value { result ≡ (nat_eq piece.row last.row && nat_le piece.start last.end) }
+    ensures last_fits { last.start < 2 ^ 32 }
+    ensures piece_fits { piece.start < 2 ^ 32 }
+{
+    piece.row == last.row && piece.start <= last.end
+}
+
+// The pieces of a list in order, with those that touch joined.
+fn joined(alloc: Global, pieces: &[Piece]) -> Result<Vec<Piece>, NoMemory>
+    requires { IsNonDecreasingBy place pieces.now }
+    ensures same { IfOk result (λ v. (j i : ℕ) → covered v.items j i ≡ covered pieces.now j i) }
+    ensures apart { IfOk result (λ v. Apart v.items) }
+    ensures inside { IfOk result (λ v. (cols rows : ℕ) → All (IsPiece cols rows) pieces.now → All (IsPiece cols rows) v.items) }
+{
+    let mut kept = Vec::new(alloc);
+    if pieces.is_empty() {
+        return Ok(kept);
+    }
+    let mut last = pieces[0];
+    for k in 1..pieces.len() {
+        let piece = pieces[k];
+        if touches(last, piece) {
+            last.end = last.end.max(piece.end);
+        } else {
+            kept.push(last)?;
+            last = piece;
+        }
+    }
+    kept.push(last)?;
+    Ok(kept)
+}
+
+// The pieces put in order, with those that touch joined.
+fn tidied(alloc: Global, pieces: &mut [Piece]) -> Result<Vec<Piece>, NoMemory>
+    ensures same { IfOk result (λ v. (j i : ℕ) → covered v.items j i ≡ covered pieces.old j i) }
+    ensures apart { IfOk result (λ v. Apart v.items) }
+    ensures inside { IfOk result (λ v. (cols rows : ℕ) → All (IsPiece cols rows) pieces.old → All (IsPiece cols rows) v.items) }
+{
+    sort(pieces);
+    joined(alloc, pieces)
+}
+
+impl Pieces {
+    // Joins the pieces that touch where there are too many.
+    fn make_room(&mut self) -> Result<(), NoMemory>
+        ensures same { OnOk result ((j i : ℕ) → covered self.new.list.items j i ≡ covered self.old.list.items j i) }
+        ensures inside { OnOk result ((cols rows : ℕ) → All (IsPiece cols rows) self.old.list.items → All (IsPiece cols rows) self.new.list.items) }
+        ensures cols { self.new.cols ≡ self.old.cols }
+        ensures rows { self.new.rows ≡ self.old.rows }
+        ensures short { self.new.is_short ≡ self.old.is_short }
+    {
+        if self.list.len() < self.most {
+            return Ok(());
+        }
+        let kept = tidied(self.alloc, &mut self.list)?;
+        self.most = FEW.max(kept.len().saturating_mul(2));
+        self.list = kept;
+        Ok(())
+    }
+
+    // Adds a piece.
+    fn add(&mut self, piece: Piece) -> Result<(), NoMemory>
+        ensures same { OnOk result ((j i : ℕ) → covered self.new.list.items j i ≡ (covered self.old.list.items j i || has j i piece)) }
+        ensures inside { OnOk result ((cols rows : ℕ) → All (IsPiece cols rows) self.old.list.items → IsPiece cols rows piece → All (IsPiece cols rows) self.new.list.items) }
+        ensures cols { self.new.cols ≡ self.old.cols }
+        ensures rows { self.new.rows ≡ self.old.rows }
+        ensures short { self.new.is_short ≡ self.old.is_short }
+    {
+        self.make_room()?;
+        self.list.push(piece)?;
+        Ok(())
+    }
+}
+
+impl Surface for Pieces {
+    ghost use Rattle.tile_render.specs.inner.Pieces.{ShowsPieces};
+
+    ghost cols = { λ p. p.cols };
+
+    ghost rows = { λ p. p.rows };
+
+    ghost shows = { λ _ p bits. ShowsPieces p bits };
+
+    fn cover(&mut self, j: u32, from: u32, end: u32) {
+        if from >= end {
+            return;
+        }
+        let piece = Piece {
+            row: j,
+            start: from,
+            end,
+        };
+        match self.add(piece) {
+            Ok(()) => {}
+            Err(_) => {
+                self.is_short = true;
+            }
+        }
+    }
+}
+
+/// All that is covered, in order and joined; refused where memory was wanting.
+pub(crate) fn in_order(pieces: Pieces) -> Result<Vec<Piece>, NoMemory>
+    ensures whole { IfOk result (λ v. pieces.is_short ≡ false) }
+    ensures same { IfOk result (λ v. (j i : ℕ) → covered v.items j i ≡ covered pieces.list.items j i) }
+    ensures apart { IfOk result (λ v. Apart v.items) }
+    ensures inside { IfOk result (λ v. (cols rows : ℕ) → All (IsPiece cols rows) pieces.list.items → All (IsPiece cols rows) v.items) }
+{
+    if pieces.is_short {
+        return Err(NoMemory);
+    }
+    let mut list = pieces.list;
+    tidied(pieces.alloc, &mut list)
+}
