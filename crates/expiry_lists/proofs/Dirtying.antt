@@ -143,3 +143,15 @@ dirties_here p s {xs} {ys} here rest = record {
     whole : (x y : Bool) → y ≡ true → weight (x && y) ≡ cond x 1 0
     whole true y is = rw is refl
     whole false y is = refl
+
+-- one more that is shown, which the expiry touches
+pub dirties_more : (p : Key → Bool) (s : Shown) {xs ys : List Shown} {n : ℕ} → p s.key ≡ true → Dirties p xs ys n → Dirties p (s ∷ xs) (record { key = s.key; mark = touched_by true s.mark } ∷ ys) (cond s.mark.clean 1 0 + n)
+unfolding with_clean weight
+dirties_more p s {xs} {ys} {n} here rest = record {
+  marks = ap₂ (λ (t : Shown) ts. t ∷ ts) (ap (λ c. with_clean s (not c && s.mark.clean)) (sym here)) rest.marks;
+  counted = omega (arith, clean-cons p s xs, rest.counted, whole s.mark.clean (p s.key) here);
+}
+  where
+    whole : (x y : Bool) → y ≡ true → weight (x && y) ≡ cond x 1 0
+    whole true y is = rw is refl
+    whole false y is = refl

@@ -4,9 +4,11 @@ pub mod Finding
 pub mod Lines
 pub mod Live
 pub mod Marking
+pub mod Near
 pub mod Over
 pub mod Quarters
 pub mod Saving
+pub mod Settling
 pub mod Showing
 pub mod Dirtying
 pub mod Tiles

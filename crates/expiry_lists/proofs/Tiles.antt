@@ -1,6 +1,6 @@
 -- Which keys an expiry of a tile, of a map or of a rectangle meets.
 use Rattle.std.proofs.Common.{◌≡◌, ℕ, zero, suc, [], ◌∷◌, ◌++◌, take, get_or, length, ◌+◌, ◌-◌, ◌*◌, ◌/◌, ◌^◌, ◌<◌, ◌≤◌, Bool, true, false, ◌&&◌, ◌||◌, ◌==◌, nat_le, if◌then◌else◌, List, refl, sym, ap, ◌∙◌, subst, inl, inr, ◌⊎◌, arith}
-use Rattle.std.proofs.lemmas.Bool.{cases_lt, eqb-true, eq-eqb, ne_eqb, false_from_ne_true, or_left, or_right, and_from, and_parts}
+use Rattle.std.proofs.lemmas.Bool.{cases_lt, eqb-true, eq-eqb, false_from_ne_true, or_left, or_right}
 use Rattle.std.proofs.lemmas.List.{take_more}
 use Rattle.std.proofs.lemmas.Bool.Decides.{nat_tests}
 use Rattle.std.proofs.lemmas.Nat.{pow_pos, pow_below, pow-add, shr-shr, div_below, shr_below}
@@ -10,20 +10,17 @@ use Rattle.plain_world.specs.World.{IsMeta, IsTile, meta_square, tile_square, sq
 use Rattle.plain_world.proofs.Squares.{ancestor, squares_turned}
 use Rattle.farm_history.specs.declared.keys.Key.{Key}
 use Rattle.farm_history.specs.Plans.{same_key, overlaps}
-use Rattle.farm_history.proofs.Lists.{each-map, each-all, any-append, same_key-true, same_key-self}
+use Rattle.farm_history.proofs.Lists.{each-map, each-all, any-append, same_key-self}
 use Rattle.expiry_lists.specs.declared.nodes.Node.{Node}
-use Rattle.expiry_lists.specs.declared.boxes.Rectangle.{Rectangle}
-use Rattle.expiry_lists.specs.Boxes.{holds_some}
-use Rattle.expiry_lists.specs.Marks.{is_of_map, is_picked, is_in_box}
-use Rattle.expiry_lists.specs.inner.Nodes.{node_of, is_live, shown_of, IsTree}
+use Rattle.expiry_lists.specs.Marks.{is_of_map}
+use Rattle.expiry_lists.specs.inner.Nodes.{node_of, shown_of, IsTree}
 use Rattle.expiry_lists.specs.inner.Tiles.{world_key, is_flat, key_over, is_of_maps}
-use Rattle.expiry_lists.specs.inner.Walks.{child, is_under, is_above, IsNode, Walks}
+use Rattle.expiry_lists.specs.inner.Walks.{is_under, is_above, IsNode, Walks}
 use Rattle.expiry_lists.proofs.Dirtying.{AgreeOn, NoneOf}
 use Rattle.expiry_lists.proofs.Finding.{Distinct, Marked, all_marked, marked_there}
-use Rattle.expiry_lists.proofs.Live.{OnGrid, node_on_grid, under_deep, none_under}
+use Rattle.expiry_lists.proofs.Live.{OnGrid, node_on_grid, under_deep}
 use Rattle.expiry_lists.proofs.Walked.{walks_then, walks_agree, walks_none}
-use Rattle.expiry_lists.proofs.BoxLaws.{over_holds}
-use Rattle.expiry_lists.proofs.Over.{Below, node_square, meta_square-node, above_below, below_under, under_below, below_over, around_meets}
+use Rattle.expiry_lists.proofs.Over.{Below, node_square, meta_square-node, above_below, below_under, around_meets}
 
 -- tests that agree on metatiles agree on what the table shows
 pub agree_metas : (es : List (Key × Node)) → Distinct es → IsTree es → (p q : Key → Bool) → ((k : Key) → IsMeta k.meta → p k ≡ q k) → AgreeOn p q (shown_of es)
@@ -109,43 +106,6 @@ map_agrees map k meta = go (map == k.map) refl
     go true same = deeper same (cases_lt k.meta.z 3)
     go false other = rw (flat_other map k other, apart other) refl
 
--- A rectangle at a zoom of 3 or later,
-pub box_agrees : (map z : ℕ) (b : Rectangle) (k : Key) → 3 ≤ z → IsMeta k.meta → (is_under (z - 3) (world_key map 3) k && is_picked z b k) ≡ is_in_box map z b k
-box_agrees map z b k deep meta = go (k.meta.z == z) refl (map == k.map) refl
-  where
-    apart : (map == k.map) ≡ false → is_under (z - 3) (world_key map 3) k ≡ false
-    apart other = false_from_ne_true (is_under (z - 3) (world_key map 3) k) (λ under.
-        let same : (map == k.map) ≡ true = eq-eqb map k.map (under_deep (z - 3) (world_key map 3) k under).0 in
-        let never : true ≡ false = sym same ∙ other in
-        cc)
-
-    both : (x y : Bool) → (x && (false && y)) ≡ false
-    both true y = refl
-    both false y = refl
-
-    go : (c : Bool) → (k.meta.z == z) ≡ c → (m : Bool) → (map == k.map) ≡ m → (is_under (z - 3) (world_key map 3) k && (c && holds_some b (meta_square k.meta))) ≡ (m && (c && holds_some b (meta_square k.meta)))
-    go false other m is = both (is_under (z - 3) (world_key map 3) k) (holds_some b (meta_square k.meta)) ∙ sym (both m (holds_some b (meta_square k.meta)))
-    go true same false other = rw (apart other) refl
-    go true same true own =
-        let zoom : k.meta.z ≡ z = eqb-true k.meta.z z same in
-        rw (root_under (z - 3) map k (eqb-true map k.map own) (omega (arith, zoom, deep)) (omega (arith, zoom)) meta) refl
-
--- and at one before: the one key of that zoom, where the world holds a point of the rectangle.
-pub flat_box : (map z : ℕ) (b : Rectangle) (k : Key) → z < 3 → IsMeta k.meta → (same_key (world_key map z) k && holds_some b (meta_square (world_key map z).meta)) ≡ is_in_box map z b k
-flat_box map z b k small meta = go (k.meta.z == z) refl (map == k.map) refl
-  where
-    go : (c : Bool) → (k.meta.z == z) ≡ c → (m : Bool) → (map == k.map) ≡ m → (same_key (world_key map z) k && holds_some b (meta_square (world_key map z).meta)) ≡ (m && (c && holds_some b (meta_square k.meta)))
-    go true same true own =
-        let zoom : k.meta.z ≡ z = eqb-true k.meta.z z same in
-        let key : world_key map z ≡ k = ap (λ m. world_key m z) (eqb-true map k.map own) ∙ (ap (world_key k.map) (sym zoom) ∙ flat_is k (omega (arith, zoom, small)) meta) in
-        rw (world_same map z k key) (ap (λ (x : Key). holds_some b (meta_square x.meta)) key)
-    go true same false other = let no : same_key (world_key map z) k ≡ false = grind (arith, nat_tests) in rw no refl
-    go false other m is = let no : same_key (world_key map z) k ≡ false = grind (arith, nat_tests) in rw no (nothing m)
-      where
-        nothing : (x : Bool) → false ≡ (x && false)
-        nothing true = refl
-        nothing false = refl
-
 -- A tile: its square is met by the world's,
 world_meets : (t : Tile) → IsTile t → squares_meet (tile_square t) (record { z = 0; x = 0; y = 0 }) ≡ true
 world_meets t tile =
@@ -154,6 +114,28 @@ world_meets t tile =
     let x : (t.x / 2 ^ t.z == 0) ≡ true = eq-eqb (t.x / 2 ^ t.z) 0 (none_past t.x t.z tile.x_fits) in
     let y : (t.y / 2 ^ t.z == 0) ≡ true = eq-eqb (t.y / 2 ^ t.z) 0 (none_past t.y t.z tile.y_fits) in
     squares_turned (tile_square t) w ∙ (sym (ancestor w (tile_square t) t.z zoom tile.z_fits) ∙ rw (x, y) refl)
+
+-- by each metatile's, where it is the world's,
+pub all_overlap : (t : Tile) → IsTile t → t.z ≡ 0 → (k : Key) → IsMeta k.meta → overlaps t k ≡ true
+unfolding overlaps
+all_overlap t tile whole k meta = go (cases_lt k.meta.z 3)
+  where
+    first : 0 ≡ t.x
+    first = let fits : t.x < 2 ^ 0 = subst (λ z. t.x < 2 ^ z) whole tile.x_fits in omega (arith, fits)
+
+    top : 0 ≡ t.y
+    top = let fits : t.y < 2 ^ 0 = subst (λ z. t.y < 2 ^ z) whole tile.y_fits in omega (arith, fits)
+
+    go : (k.meta.z < 3) ⊎ (3 ≤ k.meta.z) → squares_meet (tile_square t) (meta_square k.meta) ≡ true
+    go (inl small) =
+        let test : nat_le 3 k.meta.z ≡ false = grind (arith, nat_tests) in
+        ap (λ b. squares_meet (tile_square t) (if b then record { z = k.meta.z - 3; x = k.meta.x / 8; y = k.meta.y / 8 } else record { z = 0; x = 0; y = 0 })) test ∙ world_meets t tile
+    go (inr deep) =
+        let s : Square = node_square k in
+        let x : (s.x / 2 ^ s.z == t.x) ≡ true = eq-eqb (s.x / 2 ^ s.z) t.x (none_past s.x s.z (eighth_fits k.meta.x k.meta.z deep meta.x_fits) ∙ first) in
+        let y : (s.y / 2 ^ s.z == t.y) ≡ true = eq-eqb (s.y / 2 ^ s.z) t.y (none_past s.y s.z (eighth_fits k.meta.y k.meta.z deep meta.y_fits) ∙ top) in
+        ap (squares_meet (tile_square t)) (meta_square-node k deep)
+        ∙ (sym (ancestor (tile_square t) s s.z (omega (arith, whole)) (omega (arith, meta.z_fits))) ∙ rw (x, y) refl)
 
 -- and a square of zoom 15 or before meets it where it meets the one of zoom 15 that holds it.
 deep_tile : (t : Tile) (s : Square) → IsTile t → 15 < t.z → s.z ≤ 15 → squares_meet (record { z = 15; x = t.x / 2 ^ (t.z - 15); y = t.y / 2 ^ (t.z - 15) }) s ≡ squares_meet (tile_square t) s
@@ -286,70 +268,3 @@ walks_map {a} {b} {c} {m} {n} t maps i map within is first second =
 
     same : (k : Key) → ((is_of_maps (take i maps) k && overlaps t k) || (is_of_map map k && overlaps t k)) ≡ (is_of_maps (take (i + 1) maps) k && overlaps t k)
     same k = one_more (is_of_maps (take i maps) k) (map == k.map) (overlaps t k) ∙ sym (ap (λ x. x && overlaps t k) (more k))
-
--- The walk into a rectangle.
-abbrev pub in_box : ℕ → ℕ → Rectangle → Key → Key → Bool
-in_box n z b top k = is_under n top k && is_picked z b k
-
-both_false : (x y : Bool) → x ≡ false → (x && y) ≡ false
-both_false x y is = rw is refl
-
--- passes over a node that is not live,
-pub box_not_live : (es : List (Key × Node)) → Distinct es → IsTree es → (n z : ℕ) (b : Rectangle) (top : Key) → IsNode top → is_live es top ≡ false → Walks (in_box n z b top) es es 0
-box_not_live es apart tree n z b top node still =
-    walks_none (in_box n z b top) es (each-map _ _ (shown_of es) (λ s none clean. both_false _ (is_picked z b s.key) (none clean)) (none_under es apart tree n top (node_on_grid top node) still)) tree
-
--- and over one whose square holds no point of the rectangle,
-pub box_missed : (es : List (Key × Node)) → Distinct es → IsTree es → (n z : ℕ) (b : Rectangle) (top : Key) → IsNode top → holds_some b (meta_square top.meta) ≡ false → Walks (in_box n z b top) es es 0
-box_missed es apart tree n z b top node missed = walks_none (in_box n z b top) es (none_metas es apart tree (in_box n z b top) none) tree
-  where
-    none : (k : Key) → IsMeta k.meta → in_box n z b top k ≡ false
-    none k meta = false_from_ne_true (in_box n z b top k) (λ h.
-        let parts = and_parts (is_under n top k) (is_picked z b k) h in
-        let picked = and_parts (k.meta.z == z) (holds_some b (meta_square k.meta)) parts.1 in
-        let found = under_below n top k (node_on_grid top node) parts.0 in
-        let deep : 3 ≤ k.meta.z = omega (arith, node.deep, found.2.zoom) in
-        let low : holds_some b (node_square k) ≡ true = sym (ap (holds_some b) (meta_square-node k deep)) ∙ picked.1 in
-        let high : holds_some b (node_square top) ≡ true = over_holds b (node_square top) (node_square k) (omega (arith, meta.z_fits)) (below_over found.0 top k node.deep found.2) low in
-        let never : true ≡ false = sym high ∙ (sym (ap (holds_some b) (meta_square-node top node.deep)) ∙ missed) in
-        cc)
-
--- takes a key of the zoom asked for,
-pub box_own : {es new : List (Key × Node)} {count : ℕ} (n z : ℕ) (b : Rectangle) (top : Key) → top.meta.z ≡ z → 0 ≡ n → holds_some b (meta_square top.meta) ≡ true →
-    Walks (same_key top) es new count → Walks (in_box n z b top) es new count
-unfolding is_under
-box_own {es} {new} {count} n z b top zoom depth holds w =
-    subst (λ d. Walks (in_box d z b top) es new count) depth (walks_agree (in_box 0 z b top) (each-all _ (shown_of es) (λ s clean. go s.key (same_key top s.key) refl)) w)
-  where
-    go : (k : Key) (x : Bool) → same_key top k ≡ x → x ≡ (x && is_picked z b k)
-    go k false other = refl
-    go k true same =
-        let own : top ≡ k = same_key-true top k same in
-        let picked : is_picked z b top ≡ true = and_from (top.meta.z == z) (holds_some b (meta_square top.meta)) (eq-eqb top.meta.z z zoom) holds in
-        sym (ap (is_picked z b) (sym own) ∙ picked)
-
--- and goes into the four quarters of one above.
-pub box_quarter : {es new : List (Key × Node)} {count : ℕ} (z : ℕ) (b : Rectangle) (top r : Key) (j : ℕ) → r ≡ child j top → Walks (in_box (z - r.meta.z) z b r) es new count → Walks (in_box (z - top.meta.z - 1) z b (child j top)) es new count
-box_quarter {es} {new} {count} z b top r j is w =
-    let depth : z - (top.meta.z + 1) ≡ z - top.meta.z - 1 = omega arith in
-    subst (λ d. Walks (in_box d z b (child j top)) es new count) depth (subst (λ (x : Key). Walks (in_box (z - x.meta.z) z b x) es new count) is w)
-
-four_parts : (p q r s own picked : Bool) → (own ≡ true → picked ≡ false) → ((((p && picked) || (q && picked)) || (r && picked)) || (s && picked)) ≡ (((((p || q) || r) || s) || own) && picked)
-four_parts p q r s own true none = grind (arith, none)
-four_parts p q r s own false none = grind arith
-
-pub box_quarters : {es new : List (Key × Node)} {count : ℕ} (z : ℕ) (b : Rectangle) (top : Key) → top.meta.z < z →
-    Walks (λ k. ((in_box (z - top.meta.z - 1) z b (child 0 top) k || in_box (z - top.meta.z - 1) z b (child 1 top) k) || in_box (z - top.meta.z - 1) z b (child 2 top) k) || in_box (z - top.meta.z - 1) z b (child 3 top) k) es new count →
-    Walks (in_box (z - top.meta.z) z b top) es new count
-unfolding is_under
-box_quarters {es} {new} {count} z b top above w =
-    let depth : suc (z - top.meta.z - 1) ≡ z - top.meta.z = omega (arith, above) in
-    subst (λ d. Walks (in_box d z b top) es new count) depth (walks_agree (in_box (suc (z - top.meta.z - 1)) z b top) (each-all _ (shown_of es) (λ s clean. same s.key)) w)
-  where
-    apart : (k : Key) → same_key top k ≡ true → is_picked z b k ≡ false
-    apart k same =
-        let own : top.meta.z ≡ k.meta.z = ap (λ (x : Key). x.meta.z) (same_key-true top k same) in
-        both_false (k.meta.z == z) (holds_some b (meta_square k.meta)) (ne_eqb k.meta.z z (λ is. omega (arith, own, is, above)))
-
-    same : (k : Key) → (((in_box (z - top.meta.z - 1) z b (child 0 top) k || in_box (z - top.meta.z - 1) z b (child 1 top) k) || in_box (z - top.meta.z - 1) z b (child 2 top) k) || in_box (z - top.meta.z - 1) z b (child 3 top) k) ≡ in_box (suc (z - top.meta.z - 1)) z b top k
-    same k = four_parts _ _ _ _ (same_key top k) (is_picked z b k) (apart k)

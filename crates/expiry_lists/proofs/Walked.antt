@@ -31,6 +31,12 @@ walks_none p a none tree = record { dirties = dirties_none p (shown_of a) none; 
 pub walks_few : {p : Key → Bool} {a b : List (Key × Node)} {n : ℕ} → Walks p a b n → n ≤ length a
 walks_few {p} {a} {b} {n} w = omega (arith, w.dirties.counted, clean_marks-le p (shown_of a), length-shown_of a)
 
+pub four_few : {p q r s : Key → Bool} {a b c d e : List (Key × Node)} {k l m n : ℕ} → Walks p a b k → Walks q b c l → Walks r c d m → Walks s d e n → k + l + m + n ≤ length a
+four_few first second third fourth = walks_few (walks_then (walks_then (walks_then first second) third) fourth)
+
+pub five_few : {p q r s t : Key → Bool} {a b c d e f : List (Key × Node)} {k l m n o : ℕ} → Walks p a b k → Walks q b c l → Walks r c d m → Walks s d e n → Walks t e f o → k + l + m + n + o ≤ length a
+five_few first second third fourth fifth = walks_few (walks_then (walks_then (walks_then (walks_then first second) third) fourth) fifth)
+
 -- where the key has no node
 pub walks_absent : (a : List (Key × Node)) (key : Key) → Distinct a → node_of a key ≡ None → IsTree a → Walks (same_key key) a a 0
 walks_absent a key apart gone tree = record { dirties = absent_dirties a apart key gone; tree = tree; there = λ k. refl; quieter = λ k live. live }

@@ -1,11 +1,13 @@
 -- Marks: what is shown of metatiles, and what an expiry makes of it.
-use Rattle.std.specs.Prelude.{ℕ, Bool, ◌&&◌, ◌==◌, not, List, map, count_by, find, Option, Some, None, option_map, if◌then◌else◌}
+use Rattle.std.specs.Prelude.{ℕ, Bool, ◌&&◌, ◌==◌, not, nat_lt, List, map, count_by, find, Option, Some, None, option_map, if◌then◌else◌}
+use Rattle.std.specs.List.{list_any}
 use Rattle.farm_history.specs.declared.keys.Key.{Key}
 use Rattle.farm_history.specs.declared.keys.Mark.{Mark}
 use Rattle.farm_history.specs.Plans.{same_key}
 use Rattle.plain_world.specs.World.{meta_square}
-use Rattle.expiry_lists.specs.declared.boxes.Rectangle.{Rectangle}
-use Rattle.expiry_lists.specs.Boxes.{holds_some}
+use Rattle.geo_model.specs.declared.bounds.Bounds.{Bounds}
+use Rattle.plain_data.specs.Reach.{margin_of}
+use Rattle.expiry_lists.specs.Boxes.{holds_some, widened}
 
 -- a shown metatile with its mark
 pub record Shown : Type 0 where
@@ -45,13 +47,17 @@ clean_marks test shown = count_by (λ s. s.mark.clean && test s.key) shown
 abbrev pub is_of_map : ℕ → Key → Bool
 is_of_map map k = map == k.map
 
--- whether the key is of that zoom, and its metatile's square holds a point of the rectangle
-abbrev pub is_picked : ℕ → Rectangle → Key → Bool
-is_picked z b k = (k.meta.z == z) && holds_some b (meta_square k.meta)
+-- whether the box, widened by 64 pixels of tiles of that size at the key's zoom, holds a point of the key's square
+abbrev pub is_met : Bounds → ℕ → Key → Bool
+is_met b size k = holds_some (widened b (margin_of size k.meta.z)) (meta_square k.meta)
 
--- whether the key is of that map and zoom, and its metatile's square holds a point of the rectangle
-abbrev pub is_in_box : ℕ → ℕ → Rectangle → Key → Bool
-is_in_box map z b k = is_of_map map k && is_picked z b k
+-- whether some of the boxes is that near
+abbrev pub some_meets : ℕ → List Bounds → Key → Bool
+some_meets size boxes k = list_any (λ b. is_met b size k) boxes
+
+-- whether the key is of that map, at one of the zooms 0 to 18, and some of the boxes is that near
+abbrev pub is_near_boxes : ℕ → ℕ → List Bounds → Key → Bool
+is_near_boxes map size boxes k = is_of_map map k && (nat_lt k.meta.z 19 && some_meets size boxes k)
 
 -- the version of a mark that is clean
 abbrev pub clean_version : Option Mark → Option ℕ

@@ -1,20 +1,19 @@
 //! Marks: what is shown of metatiles, and whether it is clean.
-ghost use Rattle.std.specs.Prelude.{◌≡◌, ◌≤◌, ◌<◌, ◌+◌, ◌==◌, ℕ, [], Some, None, IsSome, IfOk, OnOk, option_map, if◌then◌else◌, true, false, vec_len, vec_capacity};
+ghost use Rattle.std.specs.Prelude.{◌≡◌, ◌≤◌, ◌<◌, ◌+◌, ◌==◌, ℕ, [], Some, None, IsSome, IfOk, OnOk, option_map, if◌then◌else◌, true, false, vec_len, vec_capacity, IsPermutation};
 ghost use Rattle.std.specs.List.{list_any};
 ghost use Rattle.farm_history.specs.declared.keys.Key.{Key};
 ghost use Rattle.farm_history.specs.Plans.{same_key, overlaps, AreApart};
 ghost use Rattle.farm_history.specs.Replays.{are_rising, kept_of, kept_version};
-ghost use Rattle.plain_world.specs.World.{IsMeta, IsTile};
-ghost use Rattle.expiry_lists.specs.Boxes.{rectangle};
-ghost use Rattle.expiry_lists.specs.Marks.{shown_key, mark_of, dirtied_marks, clean_marks, is_of_map, is_in_box, clean_version};
+ghost use Rattle.plain_world.specs.World.{IsMeta, IsTile, IsTileSize};
+ghost use Rattle.expiry_lists.specs.Marks.{shown_key, mark_of, dirtied_marks, clean_marks, is_of_map, is_near_boxes, clean_version};
 
-use crate::boxes::Rectangle;
 use crate::keeping::{clean_entries, sort_by_key};
-use crate::nodes::{Nodes, mark_at, mark_one_dirty};
+use crate::nodes::{Nodes, mark_at, mark_one_dirty, settle_all};
 use crate::waking::{put_mark, wake};
-use crate::walks::{mark_map_box_dirty, mark_map_dirty, mark_maps_dirty};
+use crate::walks::{is_some_live, mark_map_boxes_dirty, mark_map_dirty, mark_maps_dirty};
 use farm_base::NoMemory;
 use farm_history::{Kept, Key, Mark};
+use geo_model::Bounds;
 use indexmap::IndexMap;
 use plain_world::Tile;
 use std::alloc::Global;
@@ -109,6 +108,10 @@ impl Marks {
         ensures room { self.new.room ≡ self.old.room }
     {
         let _count = self.nodes.len();
+        // A tile of zoom 0 overlaps all: a pass over the table takes a small part of the time of a walk.
+        if t.z == 0 && is_some_live(&self.nodes, &self.maps) {
+            return settle_all(&mut self.nodes);
+        }
         mark_maps_dirty(&mut self.nodes, &self.maps, t)
     }
 
@@ -123,35 +126,19 @@ impl Marks {
         mark_map_dirty(&mut self.nodes, map)
     }
 
-    /// Makes dirty what is shown of the map at zoom `z` where the metatile's square holds a point of the
-    /// rectangle, whose edges belong to it, and counts what was clean of it.
-    pub fn expire_box(
-        &mut self,
-        map: u32,
-        z: u32,
-        west: u32,
-        north: u32,
-        east: u32,
-        south: u32,
-    ) -> u64
-        requires zoom { z ≤ 18 }
-        requires across { west ≤ east }
-        requires down { north ≤ south }
-        ensures shown { let b = rectangle west north east south in
-            self.new.shown ≡ dirtied_marks (is_in_box map z b) self.old.shown }
-        ensures count { let b = rectangle west north east south in
-            result ≡ clean_marks (is_in_box map z b) self.old.shown }
+    /// Makes dirty what is shown of the map where the metatile's square holds a point of some box, widened by 64
+    /// pixels of tiles of `size` by `size` pixels at the metatile's zoom, and counts what was clean of it. The
+    /// boxes end in another order.
+    pub fn expire_boxes(&mut self, map: u32, size: u32, boxes: &mut [Bounds]) -> u64
+        requires { IsTileSize size }
+        ensures shown { self.new.shown ≡ dirtied_marks (is_near_boxes map size boxes.old) self.old.shown }
+        ensures count { result ≡ clean_marks (is_near_boxes map size boxes.old) self.old.shown }
+        ensures moved { IsPermutation boxes.old boxes.new }
         ensures apart { AreApart shown_key self.old.shown }
         ensures room { self.new.room ≡ self.old.room }
     {
         let _count = self.nodes.len();
-        let b = Rectangle {
-            west,
-            north,
-            east,
-            south,
-        };
-        mark_map_box_dirty(&mut self.nodes, map, z, b)
+        mark_map_boxes_dirty(&mut self.nodes, map, size, boxes)
     }
 
     /// Makes a key dirty, where it is shown.

@@ -70,6 +70,26 @@ pub fn settle(nodes: &mut Nodes, key: Key) -> u64
     was.clean_count()
 }
 
+/// Makes all marks dirty and no node live, entry by entry and not along the tree, and counts what was clean.
+pub fn settle_all(nodes: &mut Nodes) -> u64
+    requires { IsTree nodes.old.entries }
+    ensures walks { Walks (λ k. true) nodes.old.entries nodes.new.entries result }
+    ensures room { spare nodes.new ≡ spare nodes.old }
+{
+    let mut count = 0;
+    for i in 0..nodes.len() {
+        if let Some(node) = nodes.get_index_mut(i) {
+            let was = *node;
+            *node = Node {
+                live: false,
+                ..was.dirtied()
+            };
+            count += was.clean_count();
+        }
+    }
+    count
+}
+
 impl Node {
     /// The node with its mark, if any, dirty.
     fn dirtied(self) -> Node

@@ -1,16 +1,18 @@
 //! Walks over the quadtree of a map: down from a key over the live nodes, and up to the root.
-ghost use Rattle.std.specs.Prelude.{◌≡◌, ◌<◌, ◌≤◌, ◌-◌, ◌&&◌, ◌||◌, ◌==◌, false};
+ghost use Rattle.std.specs.Prelude.{◌≡◌, ◌<◌, ◌≤◌, ◌-◌, ◌&&◌, true, false, IsPermutation};
+ghost use Rattle.std.specs.List.{list_any};
 ghost use Rattle.indexmap.specs.IndexMap.{spare};
-ghost use Rattle.farm_history.specs.Plans.{overlaps};
-ghost use Rattle.plain_world.specs.World.{IsTile, IsMeta};
-ghost use Rattle.expiry_lists.specs.Marks.{is_of_map, is_picked, is_in_box};
+ghost use Rattle.farm_history.specs.Plans.{overlaps, same_key};
+ghost use Rattle.plain_world.specs.World.{IsTile, IsTileSize};
+ghost use Rattle.expiry_lists.specs.Marks.{is_of_map, some_meets, is_near_boxes};
 ghost use Rattle.expiry_lists.specs.inner.Nodes.{is_live, parent, IsTree};
 ghost use Rattle.expiry_lists.specs.inner.Tiles.{world_key, is_flat, key_over, is_of_maps};
 ghost use Rattle.expiry_lists.specs.inner.Walks.{child, is_under, is_above, IsNode, Walks};
 
-use crate::boxes::{Rectangle, holds_some};
+use crate::boxes::{gather, margin_of, some_comes_near};
 use crate::nodes::{Nodes, is_live, mark_one_dirty, settle};
 use farm_history::Key;
+use geo_model::Bounds;
 use merc_fixed::meta_square;
 use plain_world::{Meta, Tile};
 
@@ -55,6 +57,14 @@ pub fn parent(key: Key) -> Key
     }
 }
 
+/// Whether some key of the maps from zoom 3 on may be clean.
+pub fn is_some_live(nodes: &Nodes, maps: &[u32]) -> bool
+    ensures { result ≡ list_any (λ map. is_live nodes.now.entries (world_key map 3)) maps.now }
+{
+    maps.iter()
+        .any(|map| is_live(nodes, world_key(*map, ROOT_ZOOM)))
+}
+
 /// Makes the key and all below it dirty, and counts what was clean. It goes down over live nodes alone,
 /// and leaves none live.
 pub fn mark_below_dirty(nodes: &mut Nodes, top: Key) -> u64
@@ -95,32 +105,53 @@ pub fn mark_above_dirty(nodes: &mut Nodes, low: Key) -> u64
     above + mark_one_dirty(nodes, up)
 }
 
-/// Makes dirty the keys of zoom `z` at or below the key whose squares hold a point of the rectangle, and
-/// counts what was clean. It goes down over live nodes alone whose squares hold a point of it.
-pub fn mark_box_dirty(nodes: &mut Nodes, top: Key, z: u32, b: Rectangle) -> u64
+/// Makes dirty the keys at or below the key that some of the boxes is near, each at its own zoom, and counts
+/// what was clean. It goes down over live nodes alone that some box is near, with the boxes that are: what no
+/// box is near has nothing below it that one is. The boxes end in another order.
+#[cycle(boxes)]
+fn mark_boxes_dirty(nodes: &mut Nodes, top: Key, size: u32, boxes: &mut [Bounds]) -> u64
     requires node { IsNode top }
-    requires above { top.meta.z ≤ z }
-    requires zoom { z ≤ 18 }
+    requires size { IsTileSize size }
     requires tree { IsTree nodes.old.entries }
-    ensures walks { Walks (λ k. is_under (z - top.meta.z) top k && is_picked z b k)
+    ensures walks { Walks (λ k. is_under (18 - top.meta.z) top k && some_meets size boxes.old k)
         nodes.old.entries nodes.new.entries result }
     ensures room { spare nodes.new ≡ spare nodes.old }
+    ensures moved { IsPermutation boxes.old boxes.new }
 {
     let _count = nodes.len();
+    let margin = margin_of(size, top.meta.z);
+    let near = gather(boxes, margin, meta_square(top.meta));
+    if near == 0 {
+        return 0;
+    }
     if !is_live(nodes, top) {
         return 0;
     }
-    if !holds_some(b, meta_square(top.meta)) {
-        return 0;
-    }
-    if top.meta.z == z {
+    mark_near_dirty(nodes, top, size, &mut boxes[..near])
+}
+
+/// The same for a key that some of the boxes is near.
+#[cycle(boxes)]
+fn mark_near_dirty(nodes: &mut Nodes, top: Key, size: u32, boxes: &mut [Bounds]) -> u64
+    requires node { IsNode top }
+    requires size { IsTileSize size }
+    requires tree { IsTree nodes.old.entries }
+    requires near { some_meets size boxes.old top ≡ true }
+    ensures walks { Walks (λ k. is_under (18 - top.meta.z) top k && some_meets size boxes.old k)
+        nodes.old.entries nodes.new.entries result }
+    ensures room { spare nodes.new ≡ spare nodes.old }
+    ensures moved { IsPermutation boxes.old boxes.new }
+{
+    let _count = nodes.len();
+    if top.meta.z == LAST_ZOOM {
         return mark_one_dirty(nodes, top);
     }
-    let first = mark_box_dirty(nodes, child(top, 0), z, b);
-    let second = mark_box_dirty(nodes, child(top, 1), z, b);
-    let third = mark_box_dirty(nodes, child(top, 2), z, b);
-    let fourth = mark_box_dirty(nodes, child(top, 3), z, b);
-    first + second + third + fourth
+    let first = mark_boxes_dirty(nodes, child(top, 0), size, boxes);
+    let second = mark_boxes_dirty(nodes, child(top, 1), size, boxes);
+    let third = mark_boxes_dirty(nodes, child(top, 2), size, boxes);
+    let fourth = mark_boxes_dirty(nodes, child(top, 3), size, boxes);
+    let own = mark_one_dirty(nodes, top);
+    first + second + third + fourth + own
 }
 
 /// The map's key of that zoom, up to 3, whose square is the whole world.
@@ -209,22 +240,39 @@ pub fn mark_map_dirty(nodes: &mut Nodes, map: u32) -> u64
     flat + below
 }
 
-/// Makes the map's keys of that zoom dirty whose squares hold a point of the rectangle, and counts what was
-/// clean.
-pub fn mark_map_box_dirty(nodes: &mut Nodes, map: u32, z: u32, b: Rectangle) -> u64
-    requires zoom { z ≤ 18 }
+/// Makes the map's key of that zoom, up to 2, dirty where some of the boxes is near it, and counts what was
+/// clean: 0 or 1.
+fn mark_world_dirty(nodes: &mut Nodes, map: u32, z: u32, size: u32, boxes: &[Bounds]) -> u64
+    requires zoom { z ≤ 2 }
+    requires size { IsTileSize size }
     requires tree { IsTree nodes.old.entries }
-    ensures walks { Walks (is_in_box map z b) nodes.old.entries nodes.new.entries result }
+    ensures walks { Walks (λ k. same_key (world_key map z) k && some_meets size boxes.now k)
+        nodes.old.entries nodes.new.entries result }
     ensures room { spare nodes.new ≡ spare nodes.old }
 {
     let _count = nodes.len();
-    if z >= ROOT_ZOOM {
-        return mark_box_dirty(nodes, world_key(map, ROOT_ZOOM), z, b);
-    }
     let key = world_key(map, z);
-    if holds_some(b, meta_square(key.meta)) {
+    let margin = margin_of(size, z);
+    if some_comes_near(boxes, margin, meta_square(key.meta)) {
         mark_one_dirty(nodes, key)
     } else {
         0
     }
+}
+
+/// Makes the map's keys dirty that some of the boxes is near, each at its own zoom, and counts what was clean.
+/// The boxes end in another order.
+pub fn mark_map_boxes_dirty(nodes: &mut Nodes, map: u32, size: u32, boxes: &mut [Bounds]) -> u64
+    requires size { IsTileSize size }
+    requires tree { IsTree nodes.old.entries }
+    ensures walks { Walks (is_near_boxes map size boxes.old) nodes.old.entries nodes.new.entries result }
+    ensures room { spare nodes.new ≡ spare nodes.old }
+    ensures moved { IsPermutation boxes.old boxes.new }
+{
+    let _count = nodes.len();
+    let first = mark_world_dirty(nodes, map, 0, size, boxes);
+    let second = mark_world_dirty(nodes, map, 1, size, boxes);
+    let third = mark_world_dirty(nodes, map, 2, size, boxes);
+    let below = mark_boxes_dirty(nodes, world_key(map, ROOT_ZOOM), size, boxes);
+    first + second + third + below
 }

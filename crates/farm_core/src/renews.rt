@@ -55,10 +55,10 @@ impl<D> Farm<D> {
         named_boxes(alloc, self.own.snapshot(), update)
     }
 
-    /// Touches what the boxes reach, and counts what was clean of it.
-    fn mark_reached_dirty(&mut self, boxes: &[Bounds]) -> u64
-        requires { Each IsBox boxes.now }
-        ensures { Reaches boxes.now self.old self.new result }
+    /// Touches what the boxes reach, and counts what was clean of it. The boxes end in another order.
+    fn mark_reached_dirty(&mut self, boxes: &mut [Bounds]) -> u64
+        requires { Each IsBox boxes.old }
+        ensures { Reaches boxes.old self.old self.new result }
     {
         touch_reached(self.taken.as_mut_slice(), self.own.setup(), boxes);
         mark_maps_dirty(&mut self.marks, self.own.setup().maps(), boxes)
@@ -73,11 +73,11 @@ impl<D> Farm<D> {
         ensures refused { IfErr result (λ e. e ≢ ApplyFault.NoMemory → update_result (update_of self.old.plan number) self.old.data_now ≡ Err e) }
         ensures same { IfErr result (λ e. self.new ≡ self.old) }
     {
-        let Ok(boxes) = self.named(alloc, number) else {
+        let Ok(mut boxes) = self.named(alloc, number) else {
             return Err(ApplyFault::NoMemory);
         };
         self.advance(alloc, number, Past::Renew(number))?;
-        Ok(self.mark_reached_dirty(boxes.as_slice()))
+        Ok(self.mark_reached_dirty(boxes.as_mut_slice()))
     }
 }
 

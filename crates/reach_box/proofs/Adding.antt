@@ -1,12 +1,12 @@
 -- Boxes are added one after another.
-use Rattle.std.proofs.Common.{◌≡◌, ℕ, ◌+◌, ◌<◌, ◌≤◌, Bool, true, false, cond, nat_lt, ◌||◌, List, [], ◌∷◌, ◌++◌, length, take, get_or, flat_map, position, Option, Some, None, refl, sym, ap, ap₂, ◌∙◌, subst, append-nil, append_assoc}
+use Rattle.std.proofs.Common.{◌≡◌, ℕ, ◌+◌, ◌<◌, ◌≤◌, Bool, true, false, cond, nat_lt, ◌||◌, List, [], ◌∷◌, ◌++◌, length, take, drop, get_or, flat_map, position, Option, Some, None, refl, sym, ap, ap₂, ◌∙◌, subst, append-nil, append_assoc, arith}
 use Rattle.std.specs.Prelude.{slice_get, nat_eq}
 use Rattle.std.specs.List.{list_any, position_or_len}
 use Rattle.std.proofs.lemmas.Bool.{ltb-false}
 use Rattle.std.proofs.lemmas.List.Folds.{find_at}
 use Rattle.std.proofs.lemmas.Option.{slice_get_past}
 use Rattle.std.proofs.lemmas.Grind.{flat_map-append}
-use Rattle.std.proofs.lemmas.List.{take_more, take_all}
+use Rattle.std.proofs.lemmas.List.{take_more, take_all, drop_all}
 use Rattle.farm_history.proofs.Lists.{any-append, each-join}
 use Rattle.plain_world.specs.declared.world.Square.{Square}
 use Rattle.plain_data.specs.Features.{Feature}
@@ -93,3 +93,8 @@ all_put (p ∷ puts) = ap (λ xs. p ∷ xs) (all_put puts)
 -- over no old features all that is put is named, and nothing else
 pub met_new : (c : Change) → c.put ≡ met_by [] c
 met_new c = sym (ap₂ (λ a b. a ++ b) (none_removed c.remove) (all_put c.put))
+
+-- a list whose slice ends as it was ends as it was
+pub kept_whole : {X : Type 0} (xs ys : List X) (n : ℕ) → ys ≡ xs → n ≡ length xs → take n (ys ++ drop (length ys) xs) ≡ xs
+kept_whole xs ys n same long =
+    rw (same, long) (ap (λ zs. take (length xs) (xs ++ zs)) (drop_all (length xs) xs (omega arith)) ∙ ap (take (length xs)) (append-nil xs) ∙ take_all (length xs) xs (omega arith))

@@ -1,22 +1,19 @@
 -- Expiries of what boxes reach, one after another.
-use Rattle.std.proofs.Common.{◌≡◌, ℕ, ◌+◌, ◌^◌, ◌<◌, ◌≤◌, min, Bool, true, false, ◌||◌, ◌&&◌, ◌==◌, nat_lt, List, [], ◌∷◌, length, take, get_or, slice_get, Option, Some, None, refl, sym, ap, ◌∙◌, subst, arith}
+use Rattle.std.proofs.Common.{◌≡◌, ℕ, ◌+◌, ◌^◌, ◌<◌, ◌≤◌, min, Bool, true, false, ◌||◌, ◌&&◌, ◌==◌, nat_lt, List, [], ◌∷◌, length, slice_get, Option, Some, None, refl, sym, ap, ◌∙◌, subst, arith}
+use Rattle.std.specs.Prelude.{IsPermutation}
 use Rattle.std.specs.List.{list_any}
 use Rattle.std.proofs.lemmas.Bool.{eqb-true}
 use Rattle.std.proofs.lemmas.Bool.Decides.{nat_tests}
-use Rattle.std.proofs.lemmas.List.{take_all}
-use Rattle.std.proofs.lemmas.List.Folds.{list_any_more}
+use Rattle.std.proofs.lemmas.List.Sorted.{list_any-IsPermutation}
 use Rattle.std.proofs.lemmas.Option.{slice_get_past}
 use Rattle.farm_history.specs.declared.keys.Key.{Key}
 use Rattle.farm_history.specs.Plans.{AreApart, same_key}
 use Rattle.farm_history.proofs.Lists.{each-all}
-use Rattle.plain_world.specs.World.{meta_square}
 use Rattle.geo_model.specs.declared.bounds.Bounds.{Bounds}
-use Rattle.reach_box.specs.Boxes.{reach_of}
-use Rattle.expiry_lists.specs.Boxes.{holds_some}
-use Rattle.expiry_lists.specs.Marks.{Shown, shown_key, dirtied_mark, dirtied_marks, clean_marks, is_of_map, is_in_box}
+use Rattle.expiry_lists.specs.Marks.{Shown, shown_key, dirtied_mark, dirtied_marks, clean_marks, is_of_map, is_met, is_near_boxes}
 use Rattle.expiry_lists.proofs.Dirtying.{dirties_none, dirtied_marks-dirtied_marks, clean_marks-dirtied_marks}
 use Rattle.farm_plan.specs.Plans.{MapPlan}
-use Rattle.reach_box.specs.Marks.{box_rectangle, is_met, is_met_by, is_reached, most_told, Expires}
+use Rattle.reach_box.specs.Marks.{is_met_by, is_reached, most_told, Expires}
 use Rattle.reach_box.proofs.Naming.{any_map}
 
 -- nothing is expired by a test that no key passes
@@ -49,72 +46,14 @@ apart_before test a b is apart = go a (subst (AreApart shown_key) is apart)
     go [] h = tt
     go (x ∷ xs) h = (sym (any_map (λ (y : Shown). same_key y.key x.key) (dirtied_mark test) xs) ∙ h.0, go xs h.1)
 
--- ---- zooms
-
-zoom_here : (m h : Bool) (kz z : ℕ) → kz ≡ z → ((m && (nat_lt kz z && h)) || (m && ((kz == z) && h))) ≡ (m && (nat_lt kz (z + 1) && h))
-zoom_here m h kz z same = grind (arith, nat_tests)
-
-zoom_other : (m h other : Bool) (kz z : ℕ) → (kz == z) ≡ false → ((m && (nat_lt kz z && h)) || (m && ((kz == z) && other))) ≡ (m && (nat_lt kz (z + 1) && h))
-zoom_other m h other kz z differs = grind (arith, nat_tests)
-
-zoom_test : (m : Bool) (h : ℕ → Bool) (kz z : ℕ) → ((m && (nat_lt kz z && h kz)) || (m && ((kz == z) && h z))) ≡ (m && (nat_lt kz (z + 1) && h kz))
-zoom_test m h kz z = go (kz == z) refl
+-- what boxes reach of a map, told of them in another order
+pub near_told : (map size : ℕ) (boxes now : List Bounds) (a b : List Shown) (n : ℕ) → IsPermutation boxes now → n < 2 ^ 64 → b ≡ dirtied_marks (is_near_boxes map size now) a → n ≡ clean_marks (is_near_boxes map size now) a
+    → Expires (is_near_boxes map size boxes) a b n
+near_told map size boxes now a b n moved fits shown count =
+    subst (λ t. Expires t a b n) (λ i k. same k i) (expires_told (is_near_boxes map size now) a b n fits shown count)
   where
-    go : (b : Bool) → (kz == z) ≡ b → ((m && (nat_lt kz z && h kz)) || (m && ((kz == z) && h z))) ≡ (m && (nat_lt kz (z + 1) && h kz))
-    go true e = let same : kz ≡ z = eqb-true kz z e in ap (λ x. (m && (nat_lt kz z && h kz)) || (m && ((kz == z) && x))) (ap h (sym same)) ∙ zoom_here m (h kz) kz z same
-    go false e = zoom_other m (h kz) (h z) kz z e
-
--- what a box reaches of a map, at the zooms below this one
-abbrev pub below_zoom : ℕ → ℕ → Bounds → ℕ → Key → Bool
-below_zoom map size b z k = is_of_map map k && (nat_lt k.meta.z z && is_met b size k)
-
-pub no_zoom : (map size : ℕ) (b : Bounds) (k : Key) → below_zoom map size b 0 k ≡ false
-no_zoom map size b k = go (map == k.map) (is_met b size k) k.meta.z
-  where
-    go : (m h : Bool) (kz : ℕ) → (m && (nat_lt kz 0 && h)) ≡ false
-    go m h kz = grind (arith, nat_tests)
-
-pub zoom_more : (map size z : ℕ) (b r : Bounds) (old before after : List Shown) (m n total : ℕ) → r ≡ reach_of b size z → n < 2 ^ 64 → after ≡ dirtied_marks (is_in_box map z (box_rectangle r)) before → n ≡ clean_marks (is_in_box map z (box_rectangle r)) before → total ≡ min (m + n) most_told →
-    Expires (below_zoom map size b z) old before m → Expires (below_zoom map size b (z + 1)) old after total
-zoom_more map size z b r old before after m n total is fits shown count sum x =
-    expires_then (below_zoom map size b z) (is_in_box map z (box_rectangle r)) (below_zoom map size b (z + 1)) old before after m n total same x (expires_told (is_in_box map z (box_rectangle r)) before after n fits shown count) sum
-  where
-    same : (k : Key) → (below_zoom map size b z k || is_in_box map z (box_rectangle r) k) ≡ below_zoom map size b (z + 1) k
-    same k =
-        ap (λ (x : Bounds). below_zoom map size b z k || (is_of_map map k && ((k.meta.z == z) && holds_some (box_rectangle x) (meta_square k.meta)))) is
-        ∙ zoom_test (map == k.map) (λ n. holds_some (box_rectangle (reach_of b size n)) (meta_square k.meta)) k.meta.z z
-
--- ---- boxes
-
--- what the boxes reach of a map
-abbrev pub of_boxes : ℕ → ℕ → List Bounds → Key → Bool
-of_boxes map size boxes k = is_of_map map k && (nat_lt k.meta.z 19 && list_any (λ b. is_met b size k) boxes)
-
-pub no_box : (map size : ℕ) (k : Key) → of_boxes map size [] k ≡ false
-no_box map size k = go (map == k.map) (nat_lt k.meta.z 19)
-  where
-    go : (m z : Bool) → (m && (z && false)) ≡ false
-    go true true = refl
-    go true false = refl
-    go false z = refl
-
-joined : (m z a h : Bool) → ((m && (z && a)) || (m && (z && h))) ≡ (m && (z && (a || h)))
-joined true true a h = refl
-joined true false a h = refl
-joined false z a h = refl
-
-pub box_more : (map size i : ℕ) (boxes : List Bounds) (d : Bounds) (old before after : List Shown) (m n total : ℕ) → i < length boxes → Expires (below_zoom map size (get_or boxes i d) 19) before after n → total ≡ min (m + n) most_told →
-    Expires (of_boxes map size (take i boxes)) old before m → Expires (of_boxes map size (take (i + 1) boxes)) old after total
-box_more map size i boxes d old before after m n total lt y sum x =
-    expires_then (of_boxes map size (take i boxes)) (below_zoom map size (get_or boxes i d) 19) (of_boxes map size (take (i + 1) boxes)) old before after m n total same x y sum
-  where
-    same : (k : Key) → (of_boxes map size (take i boxes) k || below_zoom map size (get_or boxes i d) 19 k) ≡ of_boxes map size (take (i + 1) boxes) k
-    same k =
-        joined (map == k.map) (nat_lt k.meta.z 19) (list_any (λ c. is_met c size k) (take i boxes)) (is_met (get_or boxes i d) size k)
-        ∙ ap (λ a. is_of_map map k && (nat_lt k.meta.z 19 && a)) (sym (list_any_more (λ c. is_met c size k) boxes i d lt))
-
-pub box_all : (map size i : ℕ) (boxes : List Bounds) (old new : List Shown) (n : ℕ) → length boxes ≤ i → Expires (of_boxes map size (take i boxes)) old new n → Expires (of_boxes map size boxes) old new n
-box_all map size i boxes old new n all x = subst (λ bs. Expires (of_boxes map size bs) old new n) (take_all i boxes all) x
+    same : (k : Key) → is_near_boxes map size now k ≡ is_near_boxes map size boxes k
+    same k = ap (λ x. is_of_map map k && (nat_lt k.meta.z 19 && x)) (sym (list_any-IsPermutation (λ b. is_met b size k) boxes now moved))
 
 -- ---- maps
 
@@ -141,12 +80,12 @@ map_test r q km i by = go (i == km) refl
     go true e = let same : i ≡ km = eqb-true i km e in ap (λ x. (nat_lt km i && r) || ((i == km) && x)) (by same) ∙ map_here r km i same
     go false e = map_other r q km i e
 
-pub map_more : (maps : List MapPlan) (boxes : List Bounds) (i : ℕ) (mp : MapPlan) (old before after : List Shown) (m n total : ℕ) → slice_get maps i ≡ Some mp → Expires (of_boxes i mp.tile boxes) before after n → total ≡ min (m + n) most_told →
+pub map_more : (maps : List MapPlan) (boxes : List Bounds) (i : ℕ) (mp : MapPlan) (old before after : List Shown) (m n total : ℕ) → slice_get maps i ≡ Some mp → Expires (is_near_boxes i mp.tile boxes) before after n → total ≡ min (m + n) most_told →
     Expires (below_map maps boxes i) old before m → Expires (below_map maps boxes (i + 1)) old after total
 map_more maps boxes i mp old before after m n total at y sum x =
-    expires_then (below_map maps boxes i) (of_boxes i mp.tile boxes) (below_map maps boxes (i + 1)) old before after m n total same x y sum
+    expires_then (below_map maps boxes i) (is_near_boxes i mp.tile boxes) (below_map maps boxes (i + 1)) old before after m n total same x y sum
   where
-    same : (k : Key) → (below_map maps boxes i k || of_boxes i mp.tile boxes k) ≡ below_map maps boxes (i + 1) k
+    same : (k : Key) → (below_map maps boxes i k || is_near_boxes i mp.tile boxes k) ≡ below_map maps boxes (i + 1) k
     same k = map_test (is_reached maps boxes k) (nat_lt k.meta.z 19 && list_any (λ b. is_met b mp.tile k) boxes) k.map i (λ e. ap (λ o. nat_lt k.meta.z 19 && is_met_by boxes o k) (sym at ∙ ap (slice_get maps) e))
 
 pub map_all : (maps : List MapPlan) (boxes : List Bounds) (i : ℕ) (old new : List Shown) (n : ℕ) → length maps ≤ i → Expires (below_map maps boxes i) old new n → Expires (is_reached maps boxes) old new n

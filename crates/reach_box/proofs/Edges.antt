@@ -17,8 +17,8 @@ use Rattle.plain_data.specs.Reach.{all_points, margin_of, points_reach}
 use Rattle.geo_model.specs.declared.bounds.Bounds.{Bounds}
 use Rattle.geo_model.specs.Bounds.{box_with, no_bounds, bounds_of}
 use Rattle.geo_model.specs.Shapes.{is_none, parts_of, IsShape}
-use Rattle.expiry_lists.specs.Boxes.{spans, holds_some, rectangle}
-use Rattle.reach_box.specs.Boxes.{IsBox, box_reaches, reach_of}
+use Rattle.expiry_lists.specs.Boxes.{spans, holds_some, widened}
+use Rattle.reach_box.specs.Boxes.{IsBox, box_reaches}
 
 or_false : (a : Bool) → (a || false) ≡ a
 or_false true = refl
@@ -117,8 +117,8 @@ cut_spans low high place units margin some fits =
 sound : (b : Bounds) (x y : ℕ) → nat_lt b.west (x + 1) ≡ true → nat_lt b.north (y + 1) ≡ true → nat_le x (b.east + 0) ≡ true → nat_le y (b.south + 0) ≡ true → x ≤ 2 ^ 30 → y ≤ 2 ^ 30 → IsBox b
 sound b x y w n e s fx fy = record { across = grind (arith, nat_tests); down = grind (arith, nat_tests); from_west = grind (arith, nat_tests); from_north = grind (arith, nat_tests) }
 
--- the rectangle that a box reaches, cut to the world, holds a point of the same squares
-pub cut_reaches : (b : Bounds) (size z : ℕ) (s : Square) → IsSquare s → holds_some (rectangle (reach_of b size z).west (reach_of b size z).north (reach_of b size z).east (reach_of b size z).south) s ≡ box_reaches b size z s
+-- the widened box, cut to the world, holds a point of the same squares
+pub cut_reaches : (b : Bounds) (size z : ℕ) (s : Square) → IsSquare s → holds_some (widened b (margin_of size z)) s ≡ box_reaches b size z s
 cut_reaches b size z s square =
     let some : 0 < side_at s.z = pow_pos (30 - s.z) in
     let x = columns_fit s.z s.x 1 square.z_fits (let h = square.x_fits in omega (arith, h)) in

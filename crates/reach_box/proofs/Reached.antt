@@ -13,7 +13,8 @@ use Rattle.farm_plan.specs.Plans.{MapPlan, FarmPlan}
 use Rattle.farm_plan.specs.Drawings.{update_of, named, any_reaches_map, reaches_of}
 use Rattle.farm_plan.specs.Spots.{IsKeyOf}
 use Rattle.reach_box.specs.NamedBoxes.{AreBoxesOf, boxes_reach, boxes_reach_map}
-use Rattle.reach_box.specs.Marks.{is_met, is_met_by, is_reached}
+use Rattle.expiry_lists.specs.Marks.{is_met}
+use Rattle.reach_box.specs.Marks.{is_met_by, is_reached}
 
 same_boxes : (boxes : List Bounds) (size : ℕ) (k : Key) → IsSquare (meta_square k.meta) → list_any (λ b. is_met b size k) boxes ≡ boxes_reach boxes size k.meta.z (meta_square k.meta)
 same_boxes [] size k square = refl

@@ -1,5 +1,5 @@
 -- What a bounding box reaches: the box widened by 64 pixels on each side.
-use Rattle.std.specs.Prelude.{ℕ, ◌+◌, ◌-◌, ◌*◌, ◌^◌, ◌≤◌, min, Bool, ◌&&◌, nat_le, nat_lt}
+use Rattle.std.specs.Prelude.{ℕ, ◌+◌, ◌*◌, ◌^◌, ◌≤◌, Bool, ◌&&◌, nat_le, nat_lt}
 use Rattle.plain_world.specs.declared.world.Square.{Square}
 use Rattle.plain_world.specs.World.{side_at}
 use Rattle.plain_data.specs.Reach.{margin_of}
@@ -21,12 +21,3 @@ abbrev pub box_reaches : Bounds → ℕ → ℕ → Square → Bool
 box_reaches b size z s =
     is_near b.west b.east s.x (side_at s.z) (margin_of size z)
     && is_near b.north b.south s.y (side_at s.z) (margin_of size z)
-
--- the box, widened by 64 pixels of tiles of that size at zoom z, and cut to the world
-abbrev pub reach_of : Bounds → ℕ → ℕ → Bounds
-reach_of b size z = record {
-  west = b.west - margin_of size z;
-  north = b.north - margin_of size z;
-  east = min (b.east + margin_of size z) (2 ^ 30);
-  south = min (b.south + margin_of size z) (2 ^ 30);
-}

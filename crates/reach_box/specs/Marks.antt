@@ -1,22 +1,10 @@
 -- What boxes reach among the marks.
 use Rattle.std.specs.Prelude.{ℕ, ◌-◌, ◌^◌, ◌≡◌, min, Bool, false, ◌&&◌, nat_lt, List, Option, Some, None, slice_get}
 use Rattle.std.specs.List.{list_any}
-use Rattle.plain_world.specs.World.{meta_square}
 use Rattle.geo_model.specs.declared.bounds.Bounds.{Bounds}
-use Rattle.reach_box.specs.Boxes.{reach_of}
-use Rattle.expiry_lists.specs.declared.boxes.Rectangle.{Rectangle}
-use Rattle.expiry_lists.specs.Boxes.{rectangle, holds_some}
-use Rattle.expiry_lists.specs.Marks.{Shown, dirtied_marks, clean_marks}
+use Rattle.expiry_lists.specs.Marks.{Shown, dirtied_marks, clean_marks, is_met}
 use Rattle.farm_history.specs.declared.keys.Key.{Key}
 use Rattle.farm_plan.specs.Plans.{MapPlan}
-
--- the rectangle of the same edges
-abbrev pub box_rectangle : Bounds → Rectangle
-box_rectangle b = rectangle b.west b.north b.east b.south
-
--- the rectangle that the box reaches at the key's zoom holds a point of the key's square
-abbrev pub is_met : Bounds → ℕ → Key → Bool
-is_met b size k = holds_some (box_rectangle (reach_of b size k.meta.z)) (meta_square k.meta)
 
 -- some box meets the key, for tiles of the map of its place
 abbrev pub is_met_by : List Bounds → Option MapPlan → Key → Bool

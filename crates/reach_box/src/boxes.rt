@@ -1,5 +1,6 @@
 //! The bounding boxes of the features that an update names.
-ghost use Rattle.std.specs.Prelude.{◌≡◌, ◌≤◌, ◌∷◌, [], All, flat_map, OnOk, IfOk};
+ghost use Rattle.std.specs.Prelude.{◌≡◌, ◌≤◌, ◌∷◌, [], All, flat_map, position, OnOk, IfOk};
+ghost use Rattle.std.specs.Str.{bytes_eq};
 ghost use Rattle.plain_world.specs.World.{IsMeta, IsTileSize, meta_square};
 ghost use Rattle.plain_data.specs.Data.{IsLayer};
 ghost use Rattle.farm_history.specs.Lists.{Each};
@@ -8,7 +9,7 @@ ghost use Rattle.farm_plan.specs.Drawings.{features_in, named};
 ghost use Rattle.reach_box.specs.NamedBoxes.{Adds, AreBoxesOf, at_id, at_put, boxes_reach, features_met, met_by};
 
 use crate::{box_of, box_reaches};
-use data_versions::{Change, Feature, LayerView, Snapshot, Update};
+use data_versions::{Change, Feature, LayerFinder, Snapshot, Update};
 use farm_base::NoMemory;
 use geo_model::Bounds;
 use merc_fixed::meta_square;
@@ -24,8 +25,8 @@ fn add_box(boxes: &mut Vec<Bounds>, f: &Feature) -> Result<(), NoMemory>
 }
 
 /// Adds the box of the layer's feature of the id, if there is one.
-fn add_old(boxes: &mut Vec<Bounds>, layer: &LayerView<'_>, id: u64) -> Result<(), NoMemory>
-    ensures { OnOk result (Adds (at_id layer.now id) boxes.old.items boxes.new.items) }
+fn add_old(boxes: &mut Vec<Bounds>, layer: &LayerFinder<'_>, id: u64) -> Result<(), NoMemory>
+    ensures { OnOk result (Adds (at_id layer.now.features id) boxes.old.items boxes.new.items) }
 {
     match layer.place_of(id) {
         Some(place) => add_box(boxes, layer.get(place).unwrap()),
@@ -34,8 +35,12 @@ fn add_old(boxes: &mut Vec<Bounds>, layer: &LayerView<'_>, id: u64) -> Result<()
 }
 
 /// Adds the boxes of the layer's features of the ids.
-fn add_removed(boxes: &mut Vec<Bounds>, layer: &LayerView<'_>, ids: &[u64]) -> Result<(), NoMemory>
-    ensures { OnOk result (Adds (flat_map (at_id layer.now) ids.now) boxes.old.items boxes.new.items) }
+fn add_removed(
+    boxes: &mut Vec<Bounds>,
+    layer: &LayerFinder<'_>,
+    ids: &[u64],
+) -> Result<(), NoMemory>
+    ensures { OnOk result (Adds (flat_map (at_id layer.now.features) ids.now) boxes.old.items boxes.new.items) }
 {
     for id in ids {
         add_old(boxes, layer, *id)?;
@@ -44,8 +49,12 @@ fn add_removed(boxes: &mut Vec<Bounds>, layer: &LayerView<'_>, ids: &[u64]) -> R
 }
 
 /// Adds the boxes of the features that are put, and of the layer's features of their ids.
-fn add_put(boxes: &mut Vec<Bounds>, layer: &LayerView<'_>, puts: &[Feature]) -> Result<(), NoMemory>
-    ensures { OnOk result (Adds (flat_map (at_put layer.now) puts.now) boxes.old.items boxes.new.items) }
+fn add_put(
+    boxes: &mut Vec<Bounds>,
+    layer: &LayerFinder<'_>,
+    puts: &[Feature],
+) -> Result<(), NoMemory>
+    ensures { OnOk result (Adds (flat_map (at_put layer.now.features) puts.now) boxes.old.items boxes.new.items) }
 {
     for f in puts {
         add_old(boxes, layer, f.id())?;
@@ -67,21 +76,38 @@ fn add_new(boxes: &mut Vec<Bounds>, puts: &[Feature]) -> Result<(), NoMemory>
 /// Adds the boxes of the features of the layer that the change names.
 fn add_changed(
     boxes: &mut Vec<Bounds>,
-    layer: &LayerView<'_>,
+    layer: &LayerFinder<'_>,
     change: &Change,
 ) -> Result<(), NoMemory>
-    ensures { OnOk result (Adds (met_by layer.now change.now) boxes.old.items boxes.new.items) }
+    ensures { OnOk result (Adds (met_by layer.now.features change.now) boxes.old.items boxes.new.items) }
 {
     add_removed(boxes, layer, change.remove.as_slice())?;
     add_put(boxes, layer, change.put.as_slice())
 }
 
-/// Adds the boxes of the features that the change names.
-fn add_named(boxes: &mut Vec<Bounds>, snapshot: &Snapshot, change: &Change) -> Result<(), NoMemory>
-    ensures { OnOk result (Adds (met_by (features_in snapshot.now change.now.layer) change.now) boxes.old.items boxes.new.items) }
+/// The place of the layer of the name.
+fn place_named(layers: &[LayerFinder<'_>], name: &str) -> Option<usize>
+    ensures { result ≡ position (λ l. bytes_eq l.name name.now) layers.now }
 {
-    match snapshot.layer(change.layer.as_str()) {
-        Some(layer) => add_changed(boxes, &layer, change),
+    layers.iter().position(|layer| layer.is_named(name))
+}
+
+/// Adds the boxes of the features that the change names.
+fn add_named(
+    alloc: Global,
+    boxes: &mut Vec<Bounds>,
+    layers: &mut [LayerFinder<'_>],
+    change: &Change,
+) -> Result<(), NoMemory>
+    ensures same { layers.new ≡ layers.old }
+    ensures added { OnOk result (Adds (met_by (features_in layers.old change.now.layer) change.now) boxes.old.items boxes.new.items) }
+{
+    match place_named(layers, change.layer.as_str()) {
+        Some(at) => {
+            let layer = &mut layers[at];
+            layer.expect(alloc, change.remove.len().saturating_add(change.put.len()))?;
+            add_changed(boxes, layer, change)
+        }
         None => add_new(boxes, change.put.as_slice()),
     }
 }
@@ -97,8 +123,9 @@ pub fn named_boxes(
     ensures named { IfOk result (λ v. All IsLayer snapshot.now → AreBoxesOf (named snapshot.now update.now) v.items) }
 {
     let mut boxes = Vec::new(alloc);
+    let mut layers = snapshot.finders(alloc)?;
     for change in update.changes() {
-        add_named(&mut boxes, snapshot, change)?;
+        add_named(alloc, &mut boxes, layers.as_mut_slice(), change)?;
     }
     Ok(boxes)
 }

@@ -3,23 +3,20 @@
 //! farm reaches: the boxes of the features that it names, and the marks of the metatiles that these reach.
 #![tactic(auto)]
 
-ghost use Rattle.std.specs.Prelude.{◌≡◌, ℕ, ◌+◌, ◌-◌, ◌<◌, ◌≤◌, ◌^◌, ◌↔◌, IsTrue, min};
+ghost use Rattle.std.specs.Prelude.{◌≡◌, ℕ, ◌<◌, ◌≤◌, ◌^◌, ◌↔◌, IsTrue};
 ghost use Rattle.plain_world.specs.World.{IsSquare, IsTileSize, side_at};
 ghost use Rattle.plain_world.specs.declared.world.Square.{Square};
-ghost use Rattle.plain_data.specs.Reach.{Reaches, feature_reaches, margin_of};
-ghost use Rattle.expiry_lists.specs.Boxes.{holds_some, rectangle};
-ghost use Rattle.reach_box.specs.Boxes.{IsBox, box_reaches, is_near, reach_of};
+ghost use Rattle.plain_data.specs.Reach.{Reaches, feature_reaches};
+ghost use Rattle.reach_box.specs.Boxes.{IsBox, box_reaches, is_near};
 
 mod boxes;
 mod dirties;
 
 pub use boxes::{boxes_reach, named_boxes};
 pub use dirties::mark_maps_dirty;
+use expiry_lists::margin_of;
 use geo_model::{Bounds, Feature};
 use plain_world::Square;
-
-/// The world's side in units.
-const WORLD: u64 = 1 << 30;
 
 /// The side of a square of that zoom, in units.
 fn side_at(z: u32) -> u64
@@ -29,16 +26,6 @@ fn side_at(z: u32) -> u64
     ensures small { result ≤ 2 ^ 30 }
 {
     1 << (30 - z)
-}
-
-/// 64 pixels at that zoom, in units.
-fn margin_of(size: u32, z: u32) -> u64
-    requires size { IsTileSize size }
-    requires zoom { z ≤ 18 }
-    ensures value { result ≡ margin_of size z }
-    ensures small { result ≤ 2 ^ 36 }
-{
-    64 * side_at(z) / u64::from(size)
 }
 
 /// Whether the stretch from `least` to `greatest`, widened by the margin on both sides, holds a number of the
@@ -87,41 +74,4 @@ pub fn box_of(f: &Feature) -> Bounds
 {
     let _shape = f.geometry();
     f.bbox()
-}
-
-/// What a bounding box reaches of the world, for tiles of `size` by `size` pixels at zoom `z`: a square holds
-/// a point of this rectangle exactly where the box reaches it. Takes no memory.
-pub fn reach(b: Bounds, size: u32, z: u32) -> Bounds
-    requires sound { IsBox b }
-    requires size { IsTileSize size }
-    requires zoom { z ≤ 18 }
-    ensures value { result ≡ reach_of b size z }
-    ensures across { result.west ≤ result.east }
-    ensures down { result.north ≤ result.south }
-    ensures squares { (s : Square) → IsSquare s
-        → holds_some (rectangle result.west result.north result.east result.south) s
-        ≡ box_reaches b size z s }
-{
-    let margin = margin_of(size, z);
-    Bounds {
-        west: before(b.west, margin),
-        north: before(b.north, margin),
-        east: after(b.east, margin),
-        south: after(b.south, margin),
-    }
-}
-
-/// The number less the margin, or 0.
-fn before(n: u32, margin: u64) -> u32
-    ensures { result ≡ n - margin }
-{
-    u64::from(n).saturating_sub(margin) as u32
-}
-
-/// The number and the margin, or the world's side where that is less.
-fn after(n: u32, margin: u64) -> u32
-    requires { margin ≤ 2 ^ 36 }
-    ensures { result ≡ min (n + margin) (2 ^ 30) }
-{
-    (u64::from(n) + margin).min(WORLD) as u32
 }

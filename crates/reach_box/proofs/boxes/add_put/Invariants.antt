@@ -3,4 +3,4 @@ use Rattle.reach_box.specs.NamedBoxes.{Adds, at_put}
 use Rattle.reach_box.proofs.boxes.add_put.Given as goal
 
 abbrev pub invariant-loop-f : goal.invariant-loop-f
-invariant-loop-f l = Adds (flat_map (at_put l.layer) (take l.f-index l.puts)) l.initial.boxes.items l.boxes.items
+invariant-loop-f l = Adds (flat_map (at_put l.layer.features) (take l.f-index l.puts)) l.initial.boxes.items l.boxes.items

@@ -3,4 +3,4 @@ use Rattle.reach_box.specs.NamedBoxes.{Adds, at_id}
 use Rattle.reach_box.proofs.boxes.add_removed.Given as goal
 
 abbrev pub invariant-loop-id : goal.invariant-loop-id
-invariant-loop-id l = Adds (flat_map (at_id l.layer) (take l.id-index l.ids)) l.initial.boxes.items l.boxes.items
+invariant-loop-id l = Adds (flat_map (at_id l.layer.features) (take l.id-index l.ids)) l.initial.boxes.items l.boxes.items

@@ -1,0 +1,280 @@
+-- Which keys boxes come near, in a walk down with those boxes alone that come near the key over them.
+use Rattle.std.proofs.Common.{◌≡◌, ℕ, suc, ◌+◌, ◌-◌, ◌*◌, ◌^◌, ◌<◌, ◌≤◌, min, Bool, true, false, ◌&&◌, ◌||◌, nat_lt, List, [], ◌∷◌, ◌++◌, length, take, drop, get_or, refl, sym, ap, ap₂, ◌∙◌, subst, inl, inr, arith}
+use Rattle.std.specs.Prelude.{All, IsPermutation}
+use Rattle.std.specs.List.{list_any, swap}
+use Rattle.std.proofs.lemmas.Bool.{cases_eq, and_from, and_parts, false_from_ne_true}
+use Rattle.std.proofs.lemmas.Bool.Decides.{nat_tests}
+use Rattle.std.proofs.lemmas.Nat.{le-div, div-add-mod'}
+use Rattle.std.proofs.Math.Nat.{pow-le-pow_right}
+use Rattle.std.proofs.lemmas.List.{get_or-take, get_or-drop, get_or_default, take-append-drop, length-take-le, length-drop}
+use Rattle.std.proofs.lemmas.List.Folds.{list_any-append, list_any_none, list_any_at}
+use Rattle.std.proofs.lemmas.List.Edits.{swapped_from_swap}
+use Rattle.std.proofs.lemmas.List.Sorted.{list_any-IsPermutation, IsPermutation-trans, IsPermutation-append_left}
+use Rattle.plain_world.specs.declared.world.Square.{Square}
+use Rattle.plain_world.specs.World.{IsMeta, IsTileSize, meta_square, side_at}
+use Rattle.plain_data.specs.Reach.{margin_of}
+use Rattle.geo_model.specs.declared.bounds.Bounds.{Bounds}
+use Rattle.farm_history.specs.declared.keys.Key.{Key}
+use Rattle.farm_history.specs.Plans.{same_key}
+use Rattle.farm_history.proofs.Lists.{each-map, each-all, same_key-true}
+use Rattle.expiry_lists.specs.declared.nodes.Node.{Node}
+use Rattle.expiry_lists.specs.Boxes.{spans, holds_some, widened}
+use Rattle.expiry_lists.specs.Marks.{is_met, some_meets, is_near_boxes}
+use Rattle.expiry_lists.specs.inner.Nodes.{is_live, shown_of, IsTree}
+use Rattle.expiry_lists.specs.inner.Tiles.{world_key}
+use Rattle.expiry_lists.specs.inner.Walks.{child, is_under, IsNode, Walks}
+use Rattle.expiry_lists.proofs.Finding.{Distinct}
+use Rattle.expiry_lists.proofs.Live.{node_on_grid, none_under}
+use Rattle.expiry_lists.proofs.Walked.{walks_agree, walks_none}
+use Rattle.expiry_lists.proofs.BoxLaws.{over_holds}
+use Rattle.expiry_lists.proofs.Over.{node_square, meta_square-node, under_below, below_over}
+use Rattle.expiry_lists.proofs.Tiles.{agree_metas, none_metas, map_agrees}
+
+-- ---- a wider margin reaches no less
+
+wider_spans : (low high from units m n : ℕ) → n ≤ m → spans (low - n) (min (high + n) (2 ^ 30)) from units ≡ true → spans (low - m) (min (high + m) (2 ^ 30)) from units ≡ true
+wider_spans low high from units m n few h = grind (arith, nat_tests)
+
+wider_near : (b : Bounds) (s : Square) (m n : ℕ) → n ≤ m → holds_some (widened b n) s ≡ true → holds_some (widened b m) s ≡ true
+wider_near b s m n few h =
+    let parts = and_parts (spans (b.west - n) (min (b.east + n) (2 ^ 30)) (s.x * side_at s.z) (side_at s.z)) (spans (b.north - n) (min (b.south + n) (2 ^ 30)) (s.y * side_at s.z) (side_at s.z)) h in
+    and_from _ _ (wider_spans b.west b.east (s.x * side_at s.z) (side_at s.z) m n few parts.0) (wider_spans b.north b.south (s.y * side_at s.z) (side_at s.z) m n few parts.1)
+
+some_pixels : (size : ℕ) → IsTileSize size → 0 < size
+some_pixels size tile = grind (arith, tile)
+
+-- a later zoom's margin is no wider
+pub margin_less : (size y z : ℕ) → IsTileSize size → y ≤ z → margin_of size z ≤ margin_of size y
+margin_less size y z tile later =
+    let less : side_at z ≤ side_at y = pow-le-pow_right (omega arith) (omega (arith, later)) in
+    let rest = div-add-mod' (64 * side_at z) size in
+    le-div (margin_of size z) (64 * side_at y) size (some_pixels size tile) (omega (arith, less, rest))
+
+-- ---- boxes in parts
+
+-- boxes before place n pass the test, and those from there on before place i don't
+pub record Parted (near : Bounds → Bool) (n i : ℕ) (boxes : List Bounds) : Type 0 where
+  pub before : (k : ℕ) (d : Bounds) → k < n → near (get_or boxes k d) ≡ true
+  pub behind : (k : ℕ) (d : Bounds) → n ≤ k → k < i → near (get_or boxes k d) ≡ false
+
+pub parted_none : (near : Bounds → Bool) (boxes : List Bounds) → Parted near 0 0 boxes
+parted_none near boxes = record { before = λ k d small. absurd (omega (arith, small)); behind = λ k d low small. absurd (omega (arith, small)) }
+
+pub parted_other : (near : Bounds → Bool) (n i : ℕ) (boxes : List Bounds) (b : Bounds) → i < length boxes → near (get_or boxes i b) ≡ false → Parted near n i boxes → Parted near n (i + 1) boxes
+parted_other near n i boxes b small other parts = record {
+  before = parts.before;
+  behind = λ k d low high. elim (cases_eq k i) [
+    | inl same ↦ subst (λ (m : ℕ). near (get_or boxes m d) ≡ false) (sym same) (ap near (get_or_default boxes i d b small) ∙ other)
+    | inr away ↦ parts.behind k d low (omega (arith, away, high))
+  ];
+}
+
+pub parted_more : (near : Bounds → Bool) (n i : ℕ) (boxes after : List Bounds) (b : Bounds) → n ≤ i → i < length boxes → near (get_or boxes i b) ≡ true → after ≡ swap boxes n i → Parted near n i boxes → Parted near (n + 1) (i + 1) after
+parted_more near n i boxes after b low small passes is parts = record {
+  before = λ k d less. elim (cases_eq k n) [
+    | inl same ↦ subst (λ (m : ℕ). near (get_or after m d) ≡ true) (sym same) (here d)
+    | inr away ↦ ap near (rest d k (λ e. away e) (λ e. absurd (omega (arith, e, less, away, low)))) ∙ parts.before k d (omega (arith, away, less))
+  ];
+  behind = λ k d above high. elim (cases_eq k i) [
+    | inl same ↦ subst (λ (m : ℕ). near (get_or after m d) ≡ false) (sym same) (ap near ((moved d).1) ∙ parts.behind n d (omega arith) (omega (arith, above, same)))
+    | inr away ↦ ap near (rest d k (λ e. absurd (omega (arith, e, above))) (λ e. away e)) ∙ parts.behind k d (omega (arith, above)) (omega (arith, away, high))
+  ];
+}
+  where
+    moved : (d : Bounds) → (get_or after n d ≡ get_or boxes i d) × (get_or after i d ≡ get_or boxes n d) × ((m : ℕ) → (m ≡ n → ⊥) → (m ≡ i → ⊥) → get_or after m d ≡ get_or boxes m d)
+    moved d = swapped_from_swap boxes after n i d (omega (arith, low, small)) small is
+
+    here : (d : Bounds) → near (get_or after n d) ≡ true
+    here d = ap near ((moved d).0 ∙ get_or_default boxes i d b small) ∙ passes
+
+    rest : (d : Bounds) (m : ℕ) → (m ≡ n → ⊥) → (m ≡ i → ⊥) → get_or after m d ≡ get_or boxes m d
+    rest d = (moved d).2
+
+pub all_before : (near : Bounds → Bool) (n i : ℕ) (boxes : List Bounds) → n ≤ length boxes → Parted near n i boxes → All (λ b. near b ≡ true) (take n boxes)
+all_before near n i boxes few parts k d small =
+    let less : k < n = omega (arith, small, length-take-le n boxes few) in
+    ap near (get_or-take n boxes k d less) ∙ parts.before k d less
+
+pub all_behind : (near : Bounds → Bool) (n i : ℕ) (boxes : List Bounds) → n ≤ length boxes → length boxes ≤ i → Parted near n i boxes → All (λ b. near b ≡ false) (drop n boxes)
+all_behind near n i boxes few all parts k d small =
+    ap near (get_or-drop n boxes k d) ∙ parts.behind (n + k) d (omega arith) (omega (arith, small, length-drop n boxes, all, few))
+
+-- boxes at the front that are put in another order
+pub front_moved : (boxes after front : List Bounds) (m : ℕ) → IsPermutation boxes after → IsPermutation (take m after) front → IsPermutation boxes (front ++ drop m after)
+front_moved boxes after front m moved turned =
+    IsPermutation-trans boxes after (front ++ drop m after) moved
+    (subst (λ (bs : List Bounds). IsPermutation bs (front ++ drop m after)) (take-append-drop m after) (IsPermutation-append_left (drop m after) (take m after) front turned))
+
+-- a test by margin and square that are told by equations
+pub test_near : (boxes : List Bounds) (size : ℕ) (top : Key) (margin : ℕ) (s : Square) (answer : Bool) → margin ≡ margin_of size top.meta.z → s ≡ meta_square top.meta → All (λ b. holds_some (widened b margin) s ≡ answer) boxes
+    → All (λ b. is_met b size top ≡ answer) boxes
+test_near boxes size top margin s answer wide square all k d small =
+    ap₂ (λ (x : ℕ) (y : Square). holds_some (widened (get_or boxes k d) x) y) (sym wide) (sym square) ∙ all k d small
+
+-- ---- what the boxes come near under a key
+
+-- a box that comes near a key comes near each key over it, at that key's zoom
+near_above : (b : Bounds) (size n : ℕ) (top k : Key) → IsTileSize size → IsNode top → IsMeta k.meta → is_under n top k ≡ true → is_met b size k ≡ true → is_met b size top ≡ true
+near_above b size n top k tile node meta under near =
+    let found = under_below n top k (node_on_grid top node) under in
+    let deep : 3 ≤ k.meta.z = omega (arith, node.deep, found.2.zoom) in
+    let wide : holds_some (widened b (margin_of size top.meta.z)) (node_square k) ≡ true =
+    wider_near b (node_square k) (margin_of size top.meta.z) (margin_of size k.meta.z) (margin_less size top.meta.z k.meta.z tile (omega (arith, found.2.zoom)))
+    (sym (ap (holds_some (widened b (margin_of size k.meta.z))) (meta_square-node k deep)) ∙ near) in
+    ap (holds_some (widened b (margin_of size top.meta.z))) (meta_square-node top node.deep)
+    ∙ over_holds (widened b (margin_of size top.meta.z)) (node_square top) (node_square k) (omega (arith, meta.z_fits)) (below_over found.0 top k node.deep found.2) wide
+
+-- what a walk from a key is to make dirty
+abbrev pub near_under : ℕ → ℕ → List Bounds → Key → Key → Bool
+near_under n size boxes top k = is_under n top k && some_meets size boxes k
+
+none_and : (x y : Bool) → (x ≡ true → y ≡ false) → (x && y) ≡ false
+none_and true y none = none refl
+none_and false y none = refl
+
+same_and : (x y z : Bool) → (x ≡ true → y ≡ z) → (x && y) ≡ (x && z)
+same_and true y z same = same refl
+same_and false y z same = refl
+
+no_and : (x y : Bool) → x ≡ false → (x && y) ≡ false
+no_and x y is = rw is refl
+
+-- boxes none of which comes near the key come near nothing under it
+none_near : (boxes : List Bounds) (size n : ℕ) (top k : Key) → IsTileSize size → IsNode top → IsMeta k.meta → All (λ b. is_met b size top ≡ false) boxes → is_under n top k ≡ true → some_meets size boxes k ≡ false
+none_near boxes size n top k tile node meta others under =
+    list_any_none (λ b. is_met b size k) boxes (λ i d small.
+    false_from_ne_true (is_met (get_or boxes i d) size k) (λ near.
+    let above : is_met (get_or boxes i d) size top ≡ true = near_above (get_or boxes i d) size n top k tile node meta under near in
+    let not : is_met (get_or boxes i d) size top ≡ false = others i d small in
+    cc))
+
+-- so those that come near the key are all that count
+front_near : (boxes after : List Bounds) (m size n : ℕ) (top k : Key) → IsTileSize size → IsNode top → IsMeta k.meta → IsPermutation boxes after → All (λ b. is_met b size top ≡ false) (drop m after) → is_under n top k ≡ true
+    → some_meets size (take m after) k ≡ some_meets size boxes k
+front_near boxes after m size n top k tile node meta moved others under =
+    let p : Bounds → Bool = λ b. is_met b size k in
+    let none : list_any p (drop m after) ≡ false = none_near (drop m after) size n top k tile node meta others under in
+    let split : list_any p after ≡ (list_any p (take m after) || list_any p (drop m after)) = ap (list_any p) (sym (take-append-drop m after)) ∙ list_any-append p (take m after) (drop m after) in
+    sym (list_any-IsPermutation p boxes after moved ∙ (split ∙ (ap (λ x. list_any p (take m after) || x) none ∙ or_none (list_any p (take m after)))))
+  where
+    or_none : (x : Bool) → (x || false) ≡ x
+    or_none true = refl
+    or_none false = refl
+
+-- ---- the walk
+
+module _ (es : List (Key × Node)) (apart : Distinct es) (tree : IsTree es) (size n : ℕ) (top : Key) (tile : IsTileSize size) (node : IsNode top) where
+  -- where no box comes near the key
+  pub near_none : (boxes after : List Bounds) (m : ℕ) → IsPermutation boxes after → m ≡ 0 → All (λ b. is_met b size top ≡ false) (drop m after) → Walks (near_under n size boxes top) es es 0
+  near_none boxes after m moved is others =
+      walks_none (near_under n size boxes top) es (none_metas es apart tree (near_under n size boxes top) (λ k meta.
+      none_and (is_under n top k) (some_meets size boxes k) (λ under.
+      list_any-IsPermutation (λ b. is_met b size k) boxes after moved
+      ∙ none_near after size n top k tile node meta (subst (λ (i : ℕ). All (λ b. is_met b size top ≡ false) (drop i after)) is others) under))) tree
+
+  -- where the key is not live
+  pub near_quiet : (boxes : List Bounds) → is_live es top ≡ false → Walks (near_under n size boxes top) es es 0
+  near_quiet boxes still =
+      walks_none (near_under n size boxes top) es (each-map _ _ (shown_of es) (λ s none clean. no_and (is_under n top s.key) (some_meets size boxes s.key) (none clean)) (none_under es apart tree n top (node_on_grid top node) still)) tree
+
+  -- what the boxes at the front come near is what all do
+  pub near_front : {new : List (Key × Node)} {count : ℕ} (boxes after front : List Bounds) (m : ℕ) → IsPermutation boxes after → front ≡ take m after → All (λ b. is_met b size top ≡ false) (drop m after)
+      → Walks (near_under n size front top) es new count → Walks (near_under n size boxes top) es new count
+  near_front {new} {count} boxes after front m moved is others w =
+      walks_agree (near_under n size boxes top) (agree_metas es apart tree (near_under n size front top) (near_under n size boxes top) (λ k meta.
+      same_and (is_under n top k) (some_meets size front k) (some_meets size boxes k) (λ under.
+      ap (λ bs. some_meets size bs k) is ∙ front_near boxes after m size n top k tile node meta moved others under))) w
+
+-- some box that is at the front comes near the key
+pub front_some : (boxes front : List Bounds) (m size : ℕ) (top : Key) → (m ≡ 0 → ⊥) → m ≤ length boxes → front ≡ take m boxes → All (λ b. is_met b size top ≡ true) (take m boxes) → some_meets size front top ≡ true
+front_some [] front m size top some few is near = absurd (some (omega (arith, few)))
+front_some (b ∷ boxes) front m size top some few is near =
+    ap (λ bs. some_meets size bs top) is
+    ∙ list_any_at (λ c. is_met c size top) (take m (b ∷ boxes)) 0 b (omega (arith, long)) (near 0 b (omega (arith, long)))
+  where
+    long : 0 < length (take m (b ∷ boxes))
+    long = omega (arith, length-take-le m (b ∷ boxes) few, positive m some)
+      where
+        positive : (i : ℕ) → (i ≡ 0 → ⊥) → 0 < i
+        positive i h = elim (cases_eq i 0) [ inl e ↦ absurd (h e) | inr e ↦ omega (arith, e) ]
+
+-- the last zoom's key alone
+pub near_own : {es new : List (Key × Node)} {count : ℕ} (n size : ℕ) (boxes : List Bounds) (top : Key) → 0 ≡ n → some_meets size boxes top ≡ true → Walks (same_key top) es new count → Walks (near_under n size boxes top) es new count
+unfolding is_under
+near_own {es} {new} {count} n size boxes top depth near w =
+    subst (λ d. Walks (near_under d size boxes top) es new count) depth (walks_agree (near_under 0 size boxes top) (each-all _ (shown_of es) (λ s clean. go s.key (same_key top s.key) refl)) w)
+  where
+    go : (k : Key) (x : Bool) → same_key top k ≡ x → x ≡ (x && some_meets size boxes k)
+    go k false other = refl
+    go k true same = sym (ap (some_meets size boxes) (sym (same_key-true top k same)) ∙ near)
+
+-- a quarter, with the boxes in another order
+pub near_quarter : {es new : List (Key × Node)} {count : ℕ} (size : ℕ) (boxes now : List Bounds) (top r : Key) (j : ℕ) → r ≡ child j top → IsPermutation boxes now → Walks (near_under (18 - r.meta.z) size now r) es new count
+    → Walks (near_under (17 - top.meta.z) size boxes (child j top)) es new count
+near_quarter {es} {new} {count} size boxes now top r j is moved w =
+    let depth : 18 - (top.meta.z + 1) ≡ 17 - top.meta.z = omega arith in
+    walks_agree (near_under (17 - top.meta.z) size boxes (child j top)) (each-all _ (shown_of es) (λ s clean.
+    ap (λ x. is_under (17 - top.meta.z) (child j top) s.key && x) (sym (list_any-IsPermutation (λ b. is_met b size s.key) boxes now moved))))
+    (subst (λ d. Walks (near_under d size now (child j top)) es new count) depth (subst (λ (x : Key). Walks (near_under (18 - x.meta.z) size now x) es new count) is w))
+
+five_parts : (p q r s own near : Bool) → (own ≡ true → near ≡ true) → (((((p && near) || (q && near)) || (r && near)) || (s && near)) || own) ≡ (((((p || q) || r) || s) || own) && near)
+five_parts p q r s own true some = plain p q r s own
+  where
+    plain : (p q r s own : Bool) → (((((p && true) || (q && true)) || (r && true)) || (s && true)) || own) ≡ (((((p || q) || r) || s) || own) && true)
+    plain true q r s own = grind arith
+    plain false q r s own = grind arith
+five_parts p q r s true false some = let never : false ≡ true = some refl in cc
+five_parts p q r s false false some = grind arith
+
+-- the four quarters and the key itself
+pub near_quarters : {es new : List (Key × Node)} {count : ℕ} (size : ℕ) (boxes : List Bounds) (top : Key) → top.meta.z < 18 → some_meets size boxes top ≡ true →
+    Walks (λ k. (((near_under (17 - top.meta.z) size boxes (child 0 top) k || near_under (17 - top.meta.z) size boxes (child 1 top) k) || near_under (17 - top.meta.z) size boxes (child 2 top) k) || near_under (17 - top.meta.z) size boxes (child 3 top) k) || same_key top k) es new count →
+    Walks (near_under (18 - top.meta.z) size boxes top) es new count
+unfolding is_under
+near_quarters {es} {new} {count} size boxes top above near w =
+    let depth : suc (17 - top.meta.z) ≡ 18 - top.meta.z = omega (arith, above) in
+    subst (λ d. Walks (near_under d size boxes top) es new count) depth (walks_agree (near_under (suc (17 - top.meta.z)) size boxes top) (each-all _ (shown_of es) (λ s clean. same s.key)) w)
+  where
+    own : (k : Key) → same_key top k ≡ true → some_meets size boxes k ≡ true
+    own k same = ap (some_meets size boxes) (sym (same_key-true top k same)) ∙ near
+
+    same : (k : Key) → ((((near_under (17 - top.meta.z) size boxes (child 0 top) k || near_under (17 - top.meta.z) size boxes (child 1 top) k) || near_under (17 - top.meta.z) size boxes (child 2 top) k) || near_under (17 - top.meta.z) size boxes (child 3 top) k) || same_key top k)
+        ≡ near_under (suc (17 - top.meta.z)) size boxes top k
+    same k = five_parts _ _ _ _ (same_key top k) (some_meets size boxes k) (own k)
+
+-- ---- a map
+
+zooms : (k : Key) → IsMeta k.meta → nat_lt k.meta.z 19 ≡ true
+zooms k meta = let fits = meta.z_fits in grind (arith, nat_tests)
+
+four_parts : (p q r s near : Bool) → ((((p && near) || (q && near)) || (r && near)) || (s && near)) ≡ ((((p || q) || r) || s) && near)
+four_parts p q r s near = grind arith
+
+-- its keys of zooms 0 to 2 and those below its root
+pub map_near : (map size : ℕ) (boxes : List Bounds) (k : Key) → IsMeta k.meta →
+    ((((same_key (world_key map 0) k && some_meets size boxes k) || (same_key (world_key map 1) k && some_meets size boxes k)) || (same_key (world_key map 2) k && some_meets size boxes k)) || near_under 15 size boxes (world_key map 3) k)
+    ≡ is_near_boxes map size boxes k
+map_near map size boxes k meta =
+    four_parts (same_key (world_key map 0) k) (same_key (world_key map 1) k) (same_key (world_key map 2) k) (is_under 15 (world_key map 3) k) (some_meets size boxes k)
+    ∙ ap₂ (λ x y. x && (y && some_meets size boxes k)) (map_agrees map k meta) (sym (zooms k meta))
+
+-- a test at a key of one of the first zooms, by margin and square that are told by equations
+pub some_told : (boxes : List Bounds) (size map z margin : ℕ) (key : Key) (s : Square) (answer : Bool) → margin ≡ margin_of size z → key ≡ world_key map z → s ≡ meta_square key.meta → answer ≡ list_any (λ b. holds_some (widened b margin) s) boxes
+    → some_meets size boxes (world_key map z) ≡ answer
+some_told boxes size map z margin key s answer wide is square told =
+    ap₂ (λ (x : ℕ) (y : Square). list_any (λ b. holds_some (widened b x) y) boxes) (sym wide) (sym (square ∙ ap (λ (k : Key). meta_square k.meta) is)) ∙ sym told
+
+-- a key of one of the first zooms, which some box is near or none
+pub world_near : {es new : List (Key × Node)} {count : ℕ} (map z size : ℕ) (boxes : List Bounds) → some_meets size boxes (world_key map z) ≡ true → Walks (same_key (world_key map z)) es new count
+    → Walks (λ k. same_key (world_key map z) k && some_meets size boxes k) es new count
+world_near {es} {new} {count} map z size boxes near w =
+    walks_agree (λ k. same_key (world_key map z) k && some_meets size boxes k) (each-all _ (shown_of es) (λ s clean. go s.key (same_key (world_key map z) s.key) refl)) w
+  where
+    go : (k : Key) (x : Bool) → same_key (world_key map z) k ≡ x → x ≡ (x && some_meets size boxes k)
+    go k false other = refl
+    go k true same = sym (ap (some_meets size boxes) (sym (same_key-true (world_key map z) k same)) ∙ near)
+
+pub world_far : (es : List (Key × Node)) → IsTree es → (map z size : ℕ) (boxes : List Bounds) → some_meets size boxes (world_key map z) ≡ false → Walks (λ k. same_key (world_key map z) k && some_meets size boxes k) es es 0
+world_far es tree map z size boxes far =
+    walks_none (λ k. same_key (world_key map z) k && some_meets size boxes k) es (each-all _ (shown_of es) (λ s clean. none_and (same_key (world_key map z) s.key) (some_meets size boxes s.key)
+    (λ same. ap (some_meets size boxes) (sym (same_key-true (world_key map z) s.key same)) ∙ far))) tree
