@@ -162,6 +162,8 @@ def first_run(farm):
 def second_run(farm):
     told("the tile is clean still", farm.tiles, wanted.get("/default/0/0/0.ppm/status"), wanted.plain(200, "OK", "clean 1\n"), True)
     told("and the same", farm.tiles, wanted.get("/default/0/0/0.ppm"), wanted.WEST, True)
+    behind = wanted.get("/default/0/0/0.ppm/status") + b"behind the head\n" * 2000
+    told("an answer, whatever stands behind the head", farm.tiles, behind, wanted.plain(200, "OK", "clean 1\n"), True)
     told("stop", farm.control, b"stop\n", b"stopping\n")
     same("the second end", farm.ended(), (0, wanted.tally(2, 2, 1, 1), ""))
 

@@ -8,6 +8,9 @@ use farm_base::MOST_PIECE_BYTES;
 use mio::{Interest, Registry, Token};
 use std::io;
 
+/// How many reads pass over what was not read of a connection that is closed.
+const LAST_READS: u32 = 16;
+
 /// What a read of a connection gave.
 #[derive(Clone, Copy, Debug, PartialEq, Eq)]
 pub enum Heard {
@@ -159,6 +162,18 @@ impl Link {
         {
             Ok(()) => Ok(count),
             Err(_) => Err(io::Error::from(io::ErrorKind::BrokenPipe)),
+        }
+    }
+
+    /// Passes over what the peer has sent so far, up to 65,536 bytes: where bytes are left unread as a
+    /// socket is closed, the system may drop the end of what was sent on it.
+    pub(crate) fn pass_over(&mut self) {
+        let mut room = [0; MOST_PIECE_BYTES];
+        for _ in 0..LAST_READS {
+            match self.stream.read(&mut room) {
+                Ok(count) if count > 0 => {}
+                _ => return,
+            }
         }
     }
 }

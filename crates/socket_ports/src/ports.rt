@@ -412,9 +412,11 @@ impl<R: Net + rt::Files> Ports for SocketPorts<R> {
         }
     }
 
-    /// As the trait says. Closes nothing where the connection is not open.
+    /// As the trait says. Closes nothing where the connection is not open. What has come on it and was not
+    /// read is passed over first.
     fn close(&mut self, conn: u32) {
         if let Some(place) = self.place_of(conn) {
+            self.links[place].pass_over();
             self.remove(place);
         }
     }
