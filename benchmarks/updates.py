@@ -20,7 +20,7 @@ import tempfile
 import time
 
 TOP = os.path.dirname(os.path.dirname(os.path.abspath(__file__)))
-PROGRAM = os.environ.get("TILEFARM", os.path.join(TOP, "tilefarm"))
+PROGRAM = os.path.abspath(os.environ.get("TILEFARM", os.path.join(TOP, "tilefarm")))
 STYLE = {
     "styles": [{"name": "s", "rules": [{"symbolizers": [{"symbolizer": "PolygonSymbolizer"}]}]}],
     "layers": [{"name": "l", "source": "land", "styles": ["s"]}],
