@@ -112,6 +112,8 @@ def serve_kind(ran, whole):
         return "no memory for the case"
     status, sent = told_of(ran.out)
     wanted = told_of(whole.out)[1]
+    # The first peer leaves; where its drawing ends before that, it is sent its Done.
+    wanted[b"0.0"] = serve_cases.message(serve_cases.DONE, 5, 8, 8)
     is_beginning = all(wanted.get(conn, b"").startswith(data) for conn, data in sent.items())
     return "status %s" % status if ran.status == 0 and status in (0, 5) and is_beginning else None
 
