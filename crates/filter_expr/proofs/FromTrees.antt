@@ -9,7 +9,7 @@ use Rattle.plain_filters.specs.Filters.{FilterTree, not_tree, compare_tree, nega
 use Rattle.filter_expr.specs.declared.tokens.Token.{Token}
 use Rattle.filter_expr.specs.declared.tokens.Token.TheVariants as token
 use Rattle.filter_expr.specs.declared.tokens.PlacedToken.{PlacedToken}
-use Rattle.filter_expr.specs.Spelled.{Spelled, Parts, Sums, Products, any_of, all_of, not_of, compared, sum_of, product_of, minus_of, in_parens, name, text, number, great_number, is_true, is_false, is_null, last_part, part_then, last_sum, sum_more, last_product, product_more, sum_token, product_token}
+use Rattle.filter_expr.specs.Spelled.{Spelled, Parts, Sums, Products, or_form, and_form, not_form, compare_form, sum_form, product_form, negate_form, parens_form, name_form, text_form, number_form, out_of_range_form, true_form, false_form, null_form, last_part, more_parts, last_sum, more_sums, last_product, more_products, sum_token, product_token}
 use Rattle.filter_expr.specs.Trees.{Kind, JoinSign, or_sign, and_sign, sum_sign, product_sign, Tree, Terms, leaf, negation, negative, comparison, chain, parens, no_terms, term, or_chain, and_chain, sum_chain, product_chain, joins, sign_token, is_leaf, is_out_of_range, bare, bare_terms, nesting, nesting_terms, InRange, TermsInRange}
 use Rattle.filter_expr.specs.Grammar.{IsSpelled, AreSpelled, kind_strength, IsMany, Stands, StandTerms}
 use Rattle.filter_expr.specs.FilterTexts.{sum_sign_of, product_sign_of, leaf_back, back, backs, back_sums, back_products}
@@ -39,17 +39,17 @@ sign_in_range (product_sign product.Rest) = refl
 parts_join : (wide : Bool) (view : Token → Token) (s : Token) (n d : ℕ) (t : FilterTree) (us : List Token) (ts : Terms) (qs : List PlacedToken) → AreSpelled ts qs → Spelled wide n d t us →
     (IsMany ts → Parts wide s n d (backs (bare_terms ts)) (views view qs)) → Parts wide s n d (tree_then t (backs (bare_terms ts))) (s ∷ (us ++ views view qs))
 parts_join wide view s n d t us no_terms qs a p f = subst (λ l. Parts wide s n d (tree_then t no_trees) (s ∷ l)) (sym (ap (λ l. us ++ views view l) a ∙ append-nil us)) (last_part p)
-parts_join wide view s n d t us (term j e ts) qs a p f = part_then p (f tt)
+parts_join wide view s n d t us (term j e ts) qs a p f = more_parts p (f tt)
 
 sums_join : (wide : Bool) (view : Token → Token) (s : SumSign) (d : ℕ) (t : FilterTree) (us : List Token) (ts : Terms) (qs : List PlacedToken) → AreSpelled ts qs → Spelled wide 5 d t us →
     (IsMany ts → Sums wide d (back_sums (bare_terms ts)) (views view qs)) → Sums wide d (sum_then s t (back_sums (bare_terms ts))) (sum_token s ∷ (us ++ views view qs))
 sums_join wide view s d t us no_terms qs a p f = subst (λ l. Sums wide d (sum_then s t no_sums) (sum_token s ∷ l)) (sym (ap (λ l. us ++ views view l) a ∙ append-nil us)) (last_sum p)
-sums_join wide view s d t us (term j e ts) qs a p f = sum_more p (f tt)
+sums_join wide view s d t us (term j e ts) qs a p f = more_sums p (f tt)
 
 products_join : (wide : Bool) (view : Token → Token) (s : ProductSign) (d : ℕ) (t : FilterTree) (us : List Token) (ts : Terms) (qs : List PlacedToken) → AreSpelled ts qs → Spelled wide 6 d t us →
     (IsMany ts → Products wide d (back_products (bare_terms ts)) (views view qs)) → Products wide d (product_then s t (back_products (bare_terms ts))) (product_token s ∷ (us ++ views view qs))
 products_join wide view s d t us no_terms qs a p f = subst (λ l. Products wide d (product_then s t no_products) (product_token s ∷ l)) (sym (ap (λ l. us ++ views view l) a ∙ append-nil us)) (last_product p)
-products_join wide view s d t us (term j e ts) qs a p f = product_more p (f tt)
+products_join wide view s d t us (term j e ts) qs a p f = more_products p (f tt)
 
 -- ---- for each way of seeing numbers that are too great
 
@@ -69,33 +69,33 @@ module _ (wide bounded : Bool) (view : Token → Token) (keeps : (t : Token) →
     spells (leaf t) n d ps s p h r = subst (Spelled wide n d (leaf_back t)) (sym (ap (views view) p.1 ∙ ap (λ u. view u ∷ []) p.2)) (atom t s r n d)
     spells (negation e) n d ps s p h r =
         subst (Spelled wide n d (not_tree (back (bare e)))) (sym (seen_first ps p.1 p.0 token.Not refl p.2 p.3))
-        (opened (λ c. Spelled wide n c (not_tree (back (bare e))) (token.Not ∷ views view p.1)) d (nesting e) h (λ c g. not_of s.0 (spells e 2 c p.1 s.1 p.4 g r)))
+        (opened (λ c. Spelled wide n c (not_tree (back (bare e))) (token.Not ∷ views view p.1)) d (nesting e) h (λ c g. not_form s.0 (spells e 2 c p.1 s.1 p.4 g r)))
     spells (negative e) n d ps s p h r =
         subst (Spelled wide n d (negate_tree (back (bare e)))) (sym (seen_first ps p.1 p.0 token.Minus refl p.2 p.3))
-        (opened (λ c. Spelled wide n c (negate_tree (back (bare e))) (token.Minus ∷ views view p.1)) d (nesting e) h (λ c g. minus_of s.0 (spells e 6 c p.1 s.1 p.4 g r)))
+        (opened (λ c. Spelled wide n c (negate_tree (back (bare e))) (token.Minus ∷ views view p.1)) d (nesting e) h (λ c g. negate_form s.0 (spells e 6 c p.1 s.1 p.4 g r)))
     spells (comparison a c b) n d ps s p h r =
         subst (Spelled wide n d (compare_tree (back (bare a)) c (back (bare b))))
         (sym (ap (views view) p.3 ∙ map-append (λ (x : PlacedToken). view x.token) p.0 (p.1 ∷ p.2) ∙ ap (λ l. views view p.0 ++ l) (seen_first (p.1 ∷ p.2) p.2 p.1 (token.Compare c) refl refl p.4)))
-        (compared s.0 (spells a 4 d p.0 s.1 p.5 (omega (arith, h)) (λ g. (r g).0)) (spells b 4 d p.2 s.2 p.6 (omega (arith, h)) (λ g. (r g).1)))
+        (compare_form s.0 (spells a 4 d p.0 s.1 p.5 (omega (arith, h)) (λ g. (r g).0)) (spells b 4 d p.2 s.2 p.6 (omega (arith, h)) (λ g. (r g).1)))
     spells (chain or_chain e ts) n d ps s p h r =
         subst (Spelled wide n d (back (bare (chain or_chain e ts)))) (sym (ap (views view) p.2 ∙ map-append (λ (x : PlacedToken). view x.token) p.0 p.1))
-        (any_of s.0 (spells e 1 d p.0 s.1 p.3 (omega (arith, h)) (λ g. (r g).0)) (part_terms ts or_chain or_sign or_again d p.1 s.2 s.3 p.4 (omega (arith, h)) (λ g. (r g).1)))
+        (or_form s.0 (spells e 1 d p.0 s.1 p.3 (omega (arith, h)) (λ g. (r g).0)) (part_terms ts or_chain or_sign or_again d p.1 s.2 s.3 p.4 (omega (arith, h)) (λ g. (r g).1)))
     spells (chain and_chain e ts) n d ps s p h r =
         subst (Spelled wide n d (back (bare (chain and_chain e ts)))) (sym (ap (views view) p.2 ∙ map-append (λ (x : PlacedToken). view x.token) p.0 p.1))
-        (all_of s.0 (spells e 2 d p.0 s.1 p.3 (omega (arith, h)) (λ g. (r g).0)) (part_terms ts and_chain and_sign and_again d p.1 s.2 s.3 p.4 (omega (arith, h)) (λ g. (r g).1)))
+        (and_form s.0 (spells e 2 d p.0 s.1 p.3 (omega (arith, h)) (λ g. (r g).0)) (part_terms ts and_chain and_sign and_again d p.1 s.2 s.3 p.4 (omega (arith, h)) (λ g. (r g).1)))
     spells (chain sum_chain e ts) n d ps s p h r =
         subst (Spelled wide n d (back (bare (chain sum_chain e ts)))) (sym (ap (views view) p.2 ∙ map-append (λ (x : PlacedToken). view x.token) p.0 p.1))
-        (sum_of s.0 (spells e 5 d p.0 s.1 p.3 (omega (arith, h)) (λ g. (r g).0)) (sum_terms_of ts d p.1 s.2 s.3 p.4 (omega (arith, h)) (λ g. (r g).1)))
+        (sum_form s.0 (spells e 5 d p.0 s.1 p.3 (omega (arith, h)) (λ g. (r g).0)) (sum_terms_of ts d p.1 s.2 s.3 p.4 (omega (arith, h)) (λ g. (r g).1)))
     spells (chain product_chain e ts) n d ps s p h r =
         subst (Spelled wide n d (back (bare (chain product_chain e ts)))) (sym (ap (views view) p.2 ∙ map-append (λ (x : PlacedToken). view x.token) p.0 p.1))
-        (product_of s.0 (spells e 6 d p.0 s.1 p.3 (omega (arith, h)) (λ g. (r g).0)) (product_terms_of ts d p.1 s.2 s.3 p.4 (omega (arith, h)) (λ g. (r g).1)))
+        (product_form s.0 (spells e 6 d p.0 s.1 p.3 (omega (arith, h)) (λ g. (r g).0)) (product_terms_of ts d p.1 s.2 s.3 p.4 (omega (arith, h)) (λ g. (r g).1)))
     spells (parens e) n d ps s p h r =
         subst (Spelled wide n d (back (bare e)))
         (sym (
-          seen_first ps (p.1 ++ p.2 ∷ []) p.0 token.Open refl p.3 p.4
-          ∙ ap (λ l. token.Open ∷ l) (map-append (λ (x : PlacedToken). view x.token) p.1 (p.2 ∷ []) ∙ ap (λ l. views view p.1 ++ l) (seen_first (p.2 ∷ []) [] p.2 token.Close refl refl p.5))
+        seen_first ps (p.1 ++ p.2 ∷ []) p.0 token.Open refl p.3 p.4
+        ∙ ap (λ l. token.Open ∷ l) (map-append (λ (x : PlacedToken). view x.token) p.1 (p.2 ∷ []) ∙ ap (λ l. views view p.1 ++ l) (seen_first (p.2 ∷ []) [] p.2 token.Close refl refl p.5))
         ))
-        (opened (λ c. Spelled wide n c (back (bare e)) (token.Open ∷ (views view p.1 ++ token.Close ∷ []))) d (nesting e) h (λ c g. in_parens (spells e 0 c p.1 s p.6 g r)))
+        (opened (λ c. Spelled wide n c (back (bare e)) (token.Open ∷ (views view p.1 ++ token.Close ∷ []))) d (nesting e) h (λ c g. parens_form (spells e 0 c p.1 s p.6 g r)))
 
     part_terms : (ts : Terms) (k : Kind) (j : JoinSign) → ((u : JoinSign) → joins k (sign_token u) ≡ true → j ≡ u) → (d : ℕ) (ps : List PlacedToken) → IsMany ts → StandTerms k ts → AreSpelled ts ps → nesting_terms ts ≤ d →
         (bounded ≡ true → TermsInRange ts) → Parts wide (sign_token j) (kind_strength k + 1) d (backs (bare_terms ts)) (views view ps)
@@ -125,12 +125,12 @@ module _ (wide bounded : Bool) (view : Token → Token) (keeps : (t : Token) →
 -- ---- numbers in range
 
 leaf_spells : (t : Token) → IsTrue (is_leaf t) → (n d : ℕ) → Spelled false n d (leaf_back t) (t ∷ [])
-leaf_spells (token.Name s) h n d = name s
-leaf_spells (token.Quoted s) h n d = text s
-leaf_spells (token.Number z) h n d = number z
-leaf_spells token.True h n d = is_true
-leaf_spells token.False h n d = is_false
-leaf_spells token.Null h n d = is_null
+leaf_spells (token.Name s) h n d = name_form s
+leaf_spells (token.Quoted s) h n d = text_form s
+leaf_spells (token.Number z) h n d = number_form z
+leaf_spells token.True h n d = true_form
+leaf_spells token.False h n d = false_form
+leaf_spells token.Null h n d = null_form
 leaf_spells _ h n d = absurd (wrong h)
 
 pub in_range : (e : Tree) (d : ℕ) (ps : List PlacedToken) → Stands 0 e → IsSpelled e ps → nesting e ≤ d → InRange e → Spelled false 0 d (back (bare e)) (tokens ps)
@@ -139,13 +139,13 @@ in_range e d ps s p h r = spells false true (λ t. t) (λ t g. refl) (λ t l b. 
 -- ---- any numbers
 
 wide_spells : (t : Token) → IsTrue (is_leaf t || is_out_of_range t) → (n d : ℕ) → Spelled true n d (leaf_back t) (t ∷ [])
-wide_spells (token.Name s) h n d = name s
-wide_spells (token.Quoted s) h n d = text s
-wide_spells (token.Number z) h n d = number z
-wide_spells token.OutOfRange h n d = great_number (pos 0) refl
-wide_spells token.True h n d = is_true
-wide_spells token.False h n d = is_false
-wide_spells token.Null h n d = is_null
+wide_spells (token.Name s) h n d = name_form s
+wide_spells (token.Quoted s) h n d = text_form s
+wide_spells (token.Number z) h n d = number_form z
+wide_spells token.OutOfRange h n d = out_of_range_form (pos 0) refl
+wide_spells token.True h n d = true_form
+wide_spells token.False h n d = false_form
+wide_spells token.Null h n d = null_form
 wide_spells _ h n d = absurd (wrong h)
 
 pub any_range : (e : Tree) (d : ℕ) (ps : List PlacedToken) → Stands 0 e → IsSpelled e ps → nesting e ≤ d → Spelled true 0 d (back (bare e)) (tokens ps)
@@ -162,13 +162,13 @@ keeps_filled token.OutOfRange h = absurd (wrong (sym h))
 keeps_filled _ h = refl
 
 filled_spells : (t : Token) → IsTrue (is_leaf t || is_out_of_range t) → (n d : ℕ) → Spelled false n d (leaf_back t) (filled t ∷ [])
-filled_spells (token.Name s) h n d = name s
-filled_spells (token.Quoted s) h n d = text s
-filled_spells (token.Number z) h n d = number z
-filled_spells token.OutOfRange h n d = number (pos 0)
-filled_spells token.True h n d = is_true
-filled_spells token.False h n d = is_false
-filled_spells token.Null h n d = is_null
+filled_spells (token.Name s) h n d = name_form s
+filled_spells (token.Quoted s) h n d = text_form s
+filled_spells (token.Number z) h n d = number_form z
+filled_spells token.OutOfRange h n d = number_form (pos 0)
+filled_spells token.True h n d = true_form
+filled_spells token.False h n d = false_form
+filled_spells token.Null h n d = null_form
 filled_spells _ h n d = absurd (wrong h)
 
 pub filled_range : (e : Tree) (d : ℕ) (ps : List PlacedToken) → Stands 0 e → IsSpelled e ps → nesting e ≤ d → Spelled false 0 d (back (bare e)) (views filled ps)

@@ -1,24 +1,19 @@
 -- Each text has one answer at most, and the reading is it.
-use Rattle.std.proofs.Common.{◌≡◌, ℕ, ◌+◌, ◌≤◌, true, List, [], ◌∷◌, ◌++◌, ◌⊎◌, inl, inr, Result, Ok, Err, refl, sym, ap, ◌∙◌, subst, arith, append_assoc}
-use Rattle.plain_filters.specs.declared.Expr.{Expr}
+use Rattle.std.proofs.Common.{◌≡◌, ℕ, ◌+◌, ◌≤◌, true, List, [], ◌∷◌, ◌++◌, ◌⊎◌, inl, inr, refl, sym, ap, ◌∙◌, subst, arith, append_assoc}
 use Rattle.filter_expr.specs.declared.tokens.Token.{Token}
 use Rattle.filter_expr.specs.declared.tokens.Token.TheVariants as token
 use Rattle.filter_expr.specs.declared.tokens.PlacedToken.{PlacedToken}
 use Rattle.filter_expr.specs.declared.faults.FilterFault.{FilterFault}
 use Rattle.filter_expr.specs.declared.faults.FilterFault.TheVariants.{Bad, NumberRange, TooDeep, NoMemory}
 use Rattle.filter_expr.specs.Trees.{Tree, bare, nesting, InRange, is_out_of_range}
-use Rattle.filter_expr.specs.Seen.{seen, shape}
-use Rattle.plain_filters.specs.Filters.{FilterTree, tree_of}
-use Rattle.filter_expr.proofs.SeenLemmas.{shape_known}
 use Rattle.filter_expr.specs.Lexing.{tokens_from}
 use Rattle.filter_expr.specs.Grammar.{IsSpelled, Stands}
 use Rattle.filter_expr.specs.Filters.{OneTokenList}
 use Rattle.filter_expr.specs.inner.ByTrees.{IsText, IsFilter, IsFault, Begins, GoesOn, StandsAt, Passes, HasCause, may_open}
-use Rattle.filter_expr.specs.inner.Gives.{Answers}
 use Rattle.filter_expr.specs.Reading.{Step, got, failed, or_in, within_depth, whole_filter}
 use Rattle.filter_expr.proofs.Complete.{Fine, complete}
 use Rattle.filter_expr.proofs.Rows.{Stops, wrong}
-use Rattle.filter_expr.proofs.Final.{IsAnswer, right, Reads, reads_whole, kept, not_both}
+use Rattle.filter_expr.proofs.Final.{IsAnswer, right, Reads, reads_whole, kept}
 use Rattle.filter_expr.proofs.Tokenised.{lexed_tokens, tokens_unique, tokens_stopped}
 
 -- ---- trees

@@ -1,5 +1,5 @@
 -- What the grammar says of a text is what trees with the text's parentheses say of it; and each text has one answer at most.
-use Rattle.std.proofs.Common.{◌≡◌, ℕ, ◌≤◌, Bool, true, false, ◌||◌, IsTrue, List, [], ◌∷◌, ◌++◌, map, ◌⊎◌, inl, inr, Result, Ok, Err, refl, sym, ap, ◌∙◌, subst, arith, append_assoc}
+use Rattle.std.proofs.Common.{◌≡◌, ℕ, ◌≤◌, Bool, true, false, IsTrue, List, [], ◌∷◌, ◌++◌, map, inl, inr, Result, Ok, Err, refl, sym, ap, ◌∙◌, subst, arith, append_assoc}
 use Rattle.std.proofs.lemmas.List.{map-append}
 use Rattle.plain_filters.specs.declared.Expr.{Expr}
 use Rattle.plain_filters.specs.Filters.{FilterTree, tree_of}
@@ -8,14 +8,14 @@ use Rattle.filter_expr.specs.declared.tokens.Token.TheVariants as token
 use Rattle.filter_expr.specs.declared.tokens.PlacedToken.{PlacedToken}
 use Rattle.filter_expr.specs.declared.faults.FilterFault.{FilterFault}
 use Rattle.filter_expr.specs.declared.faults.FilterFault.TheVariants.{Bad, NumberRange, TooDeep, NoMemory}
-use Rattle.filter_expr.specs.Trees.{Tree, bare, nesting, InRange, is_not, is_minus, is_open_paren}
+use Rattle.filter_expr.specs.Trees.{Tree, bare, nesting, InRange}
 use Rattle.filter_expr.specs.Grammar.{Stands}
 use Rattle.filter_expr.specs.Seen.{seen, shape}
 use Rattle.filter_expr.specs.Spelling.{TokensOf}
 use Rattle.filter_expr.specs.Lexing.{tokens_from}
 use Rattle.filter_expr.specs.Reading.{whole_filter}
 use Rattle.filter_expr.specs.Spelled.{Spelled}
-use Rattle.filter_expr.specs.Filters.{tokens, IsWhole, CanGoOn, Stops, FilterOf, FaultOf, MayAnswer, AnswersTree, AnswersFault, OneTree, OneFilter, NotBoth, OneFault}
+use Rattle.filter_expr.specs.Filters.{tokens, AreFilter, CanGoOn, FaultsAt, FilterOf, FaultOf, MayAnswer, AnswersTree, AnswersFault, OneTree, OneFilter, NotBoth, OneFault}
 use Rattle.filter_expr.specs.FilterTexts.{back}
 use Rattle.filter_expr.specs.inner.ByTrees.{IsText, IsFilter, IsFault, Begins, GoesOn, StandsAt, HasCause, may_open}
 use Rattle.filter_expr.specs.inner.Gives.{Answers}
@@ -33,13 +33,13 @@ tokens_both us vs = map-append (λ (s : PlacedToken). s.token) us vs
 
 -- ---- filters
 
-pub to_filter : (ts : List PlacedToken) (t : FilterTree) → IsWhole false 64 t (tokens ts) → IsFilter ts (shape t)
+pub to_filter : (ts : List PlacedToken) (t : FilterTree) → AreFilter false 64 t (tokens ts) → IsFilter ts (shape t)
 to_filter ts t w =
     let x : Ended ts w.0 = ended w.0 ts w.1 in
     let h : Held false 0 64 t x.front = held w.2 x.front x.fronts in
     record { tree = h.tree; stands = h.stands; text = (x.front, x.last, x.is, x.end, h.spelled); range = h.range refl; deep = h.deep; is = h.same refl }
 
-pub from_filter : (ts : List PlacedToken) (t : FilterTree) → IsFilter ts (shape t) → IsWhole false 64 t (tokens ts)
+pub from_filter : (ts : List PlacedToken) (t : FilterTree) → IsFilter ts (shape t) → AreFilter false 64 t (tokens ts)
 from_filter ts t a = (
   tokens a.text.0,
   ap (λ l. tokens l) a.text.2 ∙ tokens_both a.text.0 (a.text.1 ∷ []) ∙ ap (λ u. tokens a.text.0 ++ u ∷ []) a.text.3,
@@ -101,7 +101,7 @@ going wide d before here c =
 
 -- ---- faults
 
-stops : (f : FilterFault) (before : List PlacedToken) (here : PlacedToken) → Begins before → StandsAt f here → HasCause f before here → Refuses f before here → Stops f (tokens before ++ here.token ∷ []) here.offset
+stops : (f : FilterFault) (before : List PlacedToken) (here : PlacedToken) → Begins before → StandsAt f here → HasCause f before here → Refuses f before here → FaultsAt f (tokens before ++ here.token ∷ []) here.offset
 stops (Bad o) before here b a c m = (a, λ d p. let g : Going true d before here = going true d before here p in m g.tree g.after g.stands g.text)
 stops (NumberRange o) before here b a c m =
     (a, (nesting c.1.tree, goes_on before here c.1), λ d p. let g : Going false d before here = going false d before here p in m g.tree g.after g.stands g.text (g.range refl))
@@ -125,13 +125,13 @@ widened d us c =
     (back (bare h.tree), c.1, (c.2.0, c.2.1, subst (Spelled true 0 d (back (bare h.tree))) (placed_tokens c.2.0) (any_range h.tree d ps h.stands h.spelled h.deep)))
 
 -- no filter within the limits goes on with a fault
-stopped : (f : FilterFault) (us : List Token) (at : ℕ) → Stops f us at → CanGoOn false 64 us → ⊥
+stopped : (f : FilterFault) (us : List Token) (at : ℕ) → FaultsAt f us at → CanGoOn false 64 us → ⊥
 stopped (Bad o) us at s c = s.1 64 (widened 64 us c)
 stopped (NumberRange o) us at s c = s.2 64 c
 stopped (TooDeep o) us at s c = s.2 c
 stopped NoMemory us at s c = s
 
-one_stop : (f g : FilterFault) (us : List Token) (at : ℕ) → Stops f us at → Stops g us at → f ≡ g
+one_stop : (f g : FilterFault) (us : List Token) (at : ℕ) → FaultsAt f us at → FaultsAt g us at → f ≡ g
 one_stop (Bad o) (Bad p) us at a b = ap Bad (a.0 ∙ sym b.0)
 one_stop (Bad o) (NumberRange p) us at a b = absurd (a.1 b.1.0 b.1.1)
 one_stop (Bad o) (TooDeep p) us at a b = absurd (a.1 b.1.0 (widened b.1.0 us b.1.1))
@@ -150,7 +150,7 @@ earlier : (us vs : List Token) → CanGoOn false 64 (us ++ vs) → CanGoOn false
 earlier us vs c = (c.0, vs ++ c.1, (c.2.0, sym (append_assoc us vs c.1) ∙ c.2.1, c.2.2))
 
 -- no filter within the limits goes on past a fault
-not_past : (f : FilterFault) (before m us : List PlacedToken) (here : PlacedToken) → us ≡ before ++ here ∷ m → Stops f (tokens before ++ here.token ∷ []) here.offset → CanGoOn false 64 (tokens us) → ⊥
+not_past : (f : FilterFault) (before m us : List PlacedToken) (here : PlacedToken) → us ≡ before ++ here ∷ m → FaultsAt f (tokens before ++ here.token ∷ []) here.offset → CanGoOn false 64 (tokens us) → ⊥
 not_past f before m us here e s c =
     stopped f (tokens before ++ here.token ∷ []) here.offset s
     (earlier (tokens before ++ here.token ∷ []) (tokens m)
@@ -162,7 +162,7 @@ one_fault text f g a b = by (meet a.0 b.0 a.2 b.2 a.1 b.1 (one_token_list text (
     by : Meet a.0 b.0 a.1 b.1 → f ≡ g
     by (inl e) =
         one_stop f g (tokens a.0 ++ a.1.token ∷ []) a.1.offset a.5
-        (subst (λ l. Stops g (tokens l ++ a.1.token ∷ []) a.1.offset) (sym e.0) (subst (λ (h : PlacedToken). Stops g (tokens b.0 ++ h.token ∷ []) h.offset) (sym e.1) b.5))
+        (subst (λ l. FaultsAt g (tokens l ++ a.1.token ∷ []) a.1.offset) (sym e.0) (subst (λ (h : PlacedToken). FaultsAt g (tokens b.0 ++ h.token ∷ []) h.offset) (sym e.1) b.5))
     by (inr (inl e)) = absurd (not_past f a.0 e.0 b.0 a.1 e.1 a.5 b.4)
     by (inr (inr e)) = absurd (not_past g b.0 e.0 a.0 b.1 e.1 b.5 a.4)
 

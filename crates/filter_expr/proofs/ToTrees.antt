@@ -5,11 +5,11 @@ use Rattle.plain_filters.specs.declared.SumSign.{SumSign}
 use Rattle.plain_filters.specs.declared.SumSign.TheVariants as sum
 use Rattle.plain_filters.specs.declared.ProductSign.{ProductSign}
 use Rattle.plain_filters.specs.declared.ProductSign.TheVariants as product
-use Rattle.plain_filters.specs.Filters.{FilterTree, FilterTrees, SumTrees, ProductTrees, or_tree, and_tree, not_tree, compare_tree, sum_tree, product_tree, negate_tree, name_tree, text_tree, number_tree, truth_tree, null_tree, no_trees, tree_then, no_sums, sum_then, no_products, product_then}
+use Rattle.plain_filters.specs.Filters.{FilterTree, FilterTrees, SumTrees, ProductTrees, or_tree, and_tree, not_tree, compare_tree, sum_tree, product_tree, negate_tree, name_tree, text_tree, number_tree, truth_tree, null_tree, tree_then}
 use Rattle.filter_expr.specs.declared.tokens.Token.{Token}
 use Rattle.filter_expr.specs.declared.tokens.Token.TheVariants as token
 use Rattle.filter_expr.specs.declared.tokens.PlacedToken.{PlacedToken}
-use Rattle.filter_expr.specs.Spelled.{Spelled, Parts, Sums, Products, any_of, all_of, not_of, compared, sum_of, product_of, minus_of, in_parens, name, text, number, great_number, is_true, is_false, is_null, last_part, part_then, last_sum, sum_more, last_product, product_more, sum_token, product_token}
+use Rattle.filter_expr.specs.Spelled.{Spelled, Parts, Sums, Products, or_form, and_form, not_form, compare_form, sum_form, product_form, negate_form, parens_form, name_form, text_form, number_form, out_of_range_form, true_form, false_form, null_form, last_part, more_parts, last_sum, more_sums, last_product, more_products, sum_token, product_token}
 use Rattle.filter_expr.specs.Trees.{Kind, JoinSign, or_sign, and_sign, sum_sign, product_sign, Tree, Terms, leaf, negation, negative, comparison, chain, parens, no_terms, term, or_chain, and_chain, sum_chain, product_chain, joins, sign_token, is_leaf, is_out_of_range, is_sum_sign, is_product_sign, bare, bare_terms, nesting, nesting_terms, InRange, TermsInRange}
 use Rattle.filter_expr.specs.Grammar.{IsSpelled, AreSpelled, kind_strength, IsMany, Stands, StandTerms}
 use Rattle.filter_expr.specs.Seen.{shape, same_terms, sum_terms, product_terms}
@@ -158,39 +158,39 @@ product_joins product.Rest = refl
 
 mutual
   pub held : {wide : Bool} {n d : ℕ} {t : FilterTree} {us : List Token} → Spelled wide n d t us → Holds wide n d t us
-  held {wide = wide} (any_of {n = n} {d = d} {t = t} {ts = ts} {us = us} {vs = vs} le p q) =
+  held {wide = wide} (or_form {n = n} {d = d} {t = t} {ts = ts} {us = us} {vs = vs} le p q) =
       chain_held wide or_chain n d (or_tree (tree_then t ts)) t (same_terms or_sign ts) us vs le refl (held p) (parts_held q or_chain or_sign refl refl refl)
-  held {wide = wide} (all_of {n = n} {d = d} {t = t} {ts = ts} {us = us} {vs = vs} le p q) =
+  held {wide = wide} (and_form {n = n} {d = d} {t = t} {ts = ts} {us = us} {vs = vs} le p q) =
       chain_held wide and_chain n d (and_tree (tree_then t ts)) t (same_terms and_sign ts) us vs le refl (held p) (parts_held q and_chain and_sign refl refl refl)
-  held {wide = wide} (not_of {n = n} {d = d} {t = t} {us = us} le p) = not_held wide n d t us le (held p)
-  held {wide = wide} (compared {n = n} {d = d} {s = s} {t = t} {c = c} {us = us} {vs = vs} le p q) = compare_held wide n d s t c us vs le (held p) (held q)
-  held {wide = wide} (sum_of {n = n} {d = d} {t = t} {ts = ts} {us = us} {vs = vs} le p q) =
+  held {wide = wide} (not_form {n = n} {d = d} {t = t} {us = us} le p) = not_held wide n d t us le (held p)
+  held {wide = wide} (compare_form {n = n} {d = d} {s = s} {t = t} {c = c} {us = us} {vs = vs} le p q) = compare_held wide n d s t c us vs le (held p) (held q)
+  held {wide = wide} (sum_form {n = n} {d = d} {t = t} {ts = ts} {us = us} {vs = vs} le p q) =
       chain_held wide sum_chain n d (sum_tree t ts) t (sum_terms ts) us vs le refl (held p) (sums_held q)
-  held {wide = wide} (product_of {n = n} {d = d} {t = t} {ts = ts} {us = us} {vs = vs} le p q) =
+  held {wide = wide} (product_form {n = n} {d = d} {t = t} {ts = ts} {us = us} {vs = vs} le p q) =
       chain_held wide product_chain n d (product_tree t ts) t (product_terms ts) us vs le refl (held p) (products_held q)
-  held {wide = wide} (minus_of {n = n} {d = d} {t = t} {us = us} le p) = minus_held wide n d t us le (held p)
-  held {wide = wide} (in_parens {n = n} {d = d} {t = t} {us = us} p) = parens_held wide n d t us (held p)
-  held {wide = wide} (name {n = n} {d = d} s) = leaf_held wide n d (name_tree s) (token.Name s) refl (λ w. refl) (λ w. refl)
-  held {wide = wide} (text {n = n} {d = d} s) = leaf_held wide n d (text_tree s) (token.Quoted s) refl (λ w. refl) (λ w. refl)
-  held {wide = wide} (number {n = n} {d = d} z) = leaf_held wide n d (number_tree z) (token.Number z) refl (λ w. refl) (λ w. refl)
-  held {wide = wide} (great_number {n = n} {d = d} z b) =
+  held {wide = wide} (negate_form {n = n} {d = d} {t = t} {us = us} le p) = minus_held wide n d t us le (held p)
+  held {wide = wide} (parens_form {n = n} {d = d} {t = t} {us = us} p) = parens_held wide n d t us (held p)
+  held {wide = wide} (name_form {n = n} {d = d} s) = leaf_held wide n d (name_tree s) (token.Name s) refl (λ w. refl) (λ w. refl)
+  held {wide = wide} (text_form {n = n} {d = d} s) = leaf_held wide n d (text_tree s) (token.Quoted s) refl (λ w. refl) (λ w. refl)
+  held {wide = wide} (number_form {n = n} {d = d} z) = leaf_held wide n d (number_tree z) (token.Number z) refl (λ w. refl) (λ w. refl)
+  held {wide = wide} (out_of_range_form {n = n} {d = d} z b) =
       leaf_held wide n d (number_tree z) token.OutOfRange refl (λ w. absurd (wrong (sym w ∙ b))) (λ w. absurd (wrong (sym w ∙ b)))
-  held {wide = wide} (is_true {n = n} {d = d}) = leaf_held wide n d (truth_tree true) token.True refl (λ w. refl) (λ w. refl)
-  held {wide = wide} (is_false {n = n} {d = d}) = leaf_held wide n d (truth_tree false) token.False refl (λ w. refl) (λ w. refl)
-  held {wide = wide} (is_null {n = n} {d = d}) = leaf_held wide n d null_tree token.Null refl (λ w. refl) (λ w. refl)
+  held {wide = wide} (true_form {n = n} {d = d}) = leaf_held wide n d (truth_tree true) token.True refl (λ w. refl) (λ w. refl)
+  held {wide = wide} (false_form {n = n} {d = d}) = leaf_held wide n d (truth_tree false) token.False refl (λ w. refl) (λ w. refl)
+  held {wide = wide} (null_form {n = n} {d = d}) = leaf_held wide n d null_tree token.Null refl (λ w. refl) (λ w. refl)
 
   parts_held : {wide : Bool} {s : Token} {n d : ℕ} {ts : FilterTrees} {us : List Token} → Parts wide s n d ts us → (k : Kind) (j : JoinSign) → s ≡ sign_token j → n ≡ kind_strength k + 1 → IsTrue (joins k (sign_token j)) → HoldsTerms wide k d (same_terms j ts) us
   parts_held {wide = wide} (last_part {s = s} {n = n} {d = d} {t = t} {us = us} p) k j q m l =
       subst (λ u. HoldsTerms wide k d (term j (shape t) no_terms) (u ∷ us)) (sym q) (last_held wide k d j t us l (subst (λ x. Holds wide x d t us) m (held p)))
-  parts_held {wide = wide} (part_then {s = s} {n = n} {d = d} {t = t} {ts = ts} {us = us} {vs = vs} p r) k j q m l =
+  parts_held {wide = wide} (more_parts {s = s} {n = n} {d = d} {t = t} {ts = ts} {us = us} {vs = vs} p r) k j q m l =
       subst (λ u. HoldsTerms wide k d (term j (shape t) (same_terms j ts)) (u ∷ (us ++ vs))) (sym q)
       (more_held wide k d j t (same_terms j ts) us vs l (subst (λ x. Holds wide x d t us) m (held p)) (parts_held r k j q m l))
 
   sums_held : {wide : Bool} {d : ℕ} {ts : SumTrees} {us : List Token} → Sums wide d ts us → HoldsTerms wide sum_chain d (sum_terms ts) us
   sums_held {wide = wide} (last_sum {s = s} {d = d} {t = t} {us = us} p) = last_held wide sum_chain d (sum_sign s) t us (sum_joins s) (held p)
-  sums_held {wide = wide} (sum_more {s = s} {d = d} {t = t} {ts = ts} {us = us} {vs = vs} p q) = more_held wide sum_chain d (sum_sign s) t (sum_terms ts) us vs (sum_joins s) (held p) (sums_held q)
+  sums_held {wide = wide} (more_sums {s = s} {d = d} {t = t} {ts = ts} {us = us} {vs = vs} p q) = more_held wide sum_chain d (sum_sign s) t (sum_terms ts) us vs (sum_joins s) (held p) (sums_held q)
 
   products_held : {wide : Bool} {d : ℕ} {ts : ProductTrees} {us : List Token} → Products wide d ts us → HoldsTerms wide product_chain d (product_terms ts) us
   products_held {wide = wide} (last_product {s = s} {d = d} {t = t} {us = us} p) = last_held wide product_chain d (product_sign s) t us (product_joins s) (held p)
-  products_held {wide = wide} (product_more {s = s} {d = d} {t = t} {ts = ts} {us = us} {vs = vs} p q) =
+  products_held {wide = wide} (more_products {s = s} {d = d} {t = t} {ts = ts} {us = us} {vs = vs} p q) =
       more_held wide product_chain d (product_sign s) t (product_terms ts) us vs (product_joins s) (held p) (products_held q)

@@ -14,34 +14,34 @@ use Rattle.filter_expr.specs.Spelled.{Spelled}
 abbrev pub tokens : List PlacedToken → List Token
 tokens ts = map (λ s. s.token) ts
 
--- the tokens, the end of the text behind them, spell this filter, where so many things may be open at once
-abbrev pub IsWhole : Bool → ℕ → FilterTree → List Token → Type 0
-IsWhole wide d t ts = (us : List Token) × (ts ≡ us ++ token.End ∷ []) × Spelled wide 0 d t us
+-- up to the end of the text the tokens spell this filter, with so many things open at once at most
+abbrev pub AreFilter : Bool → ℕ → FilterTree → List Token → Type 0
+AreFilter wide d t ts = (us : List Token) × (ts ≡ us ++ token.End ∷ []) × Spelled wide 0 d t us
 
--- some such filter begins with these tokens
+-- some filter begins with these tokens: its numbers are in range, unless `wide`, and so many things are open at once at most
 abbrev pub CanGoOn : Bool → ℕ → List Token → Type 0
-CanGoOn wide d us = (t : FilterTree) × (more : List Token) × IsWhole wide d t (us ++ more)
+CanGoOn wide d us = (t : FilterTree) × (more : List Token) × AreFilter wide d t (us ++ more)
 
--- The fault is that of these tokens, the last of which stands at this place. Bad: no filter begins so, whatever its
--- numbers and its depth. NumberRange: one does, but none with its numbers in range. TooDeep: one with its numbers
--- in range does, but none in which no more than 64 things are open at once.
-abbrev pub Stops : FilterFault → List Token → ℕ → Type 0
-Stops (Bad o) us at = (o ≡ at) × ((d : ℕ) → ¬ (CanGoOn true d us))
-Stops (NumberRange o) us at = (o ≡ at) × ((d : ℕ) × CanGoOn true d us) × ((d : ℕ) → ¬ (CanGoOn false d us))
-Stops (TooDeep o) us at = (o ≡ at) × ((d : ℕ) × CanGoOn false d us) × (¬ (CanGoOn false 64 us))
-Stops NoMemory us at = ⊥
+-- The fault that the last of these tokens is, which stands at this place. Bad: no filter begins so, whatever its numbers
+-- and its depth. NumberRange: one does, but none whose numbers are in range. TooDeep: one whose numbers are in range does,
+-- but none in which no more than 64 things are open at once.
+abbrev pub FaultsAt : FilterFault → List Token → ℕ → Type 0
+FaultsAt (Bad o) us at = (o ≡ at) × ((d : ℕ) → ¬ (CanGoOn true d us))
+FaultsAt (NumberRange o) us at = (o ≡ at) × ((d : ℕ) × CanGoOn true d us) × ((d : ℕ) → ¬ (CanGoOn false d us))
+FaultsAt (TooDeep o) us at = (o ≡ at) × ((d : ℕ) × CanGoOn false d us) × (¬ (CanGoOn false 64 us))
+FaultsAt NoMemory us at = ⊥
 
 -- ---- texts
 
 -- the text is a filter within the limits, and this is its tree
 abbrev pub FilterOf : List ℕ → FilterTree → Type 0
-FilterOf text t = (ts : List PlacedToken) × TokensOf text ts × IsWhole false 64 t (tokens ts)
+FilterOf text t = (ts : List PlacedToken) × TokensOf text ts × AreFilter false 64 t (tokens ts)
 
--- a filter within the limits begins with the tokens before this one, and with this one the fault is there
+-- the text begins as a filter within the limits does, and the token behind that beginning is this fault
 abbrev pub FaultOf : List ℕ → FilterFault → Type 0
 FaultOf text f =
     (before : List PlacedToken) × (here : PlacedToken) × (after : List PlacedToken) × TokensOf text (before ++ here ∷ after)
-    × CanGoOn false 64 (tokens before) × Stops f (tokens before ++ here.token ∷ []) here.offset
+    × CanGoOn false 64 (tokens before) × FaultsAt f (tokens before ++ here.token ∷ []) here.offset
 
 -- ---- answers
 
