@@ -1,6 +1,9 @@
 //! A worker.
-ghost use Rattle.std.specs.Prelude.{◌≡◌, true};
-ghost use Rattle.turn_cell.specs.SeatStates.{IsSeatOf, Knows, SameSeat};
+ghost use Rattle.std.specs.Prelude.{◌≡◌, true, MatchResult};
+ghost use Rattle.farm_history.specs.Entries.{Finish};
+ghost use Rattle.farm_core.specs.Answers.{IsDrawingOf, is_drawn};
+ghost use Rattle.farm_shared.specs.Shared.{Adds, HasJob, lasts};
+ghost use Rattle.turn_cell.specs.SeatStates.{IsSeatOf, Knows, SameSeat, worn_out};
 ghost use Rattle.render_workers.specs.Rounds.{Worked};
 ghost use Rattle.render_workers.specs.inner.Nexts.{AddsRound, IsWornOut};
 ghost use Rattle.render_workers.specs.declared.worker.WorkEnd.{WorkEnd};
@@ -8,8 +11,8 @@ ghost use Rattle.render_workers.specs.declared.worker.WorkEnd.{WorkEnd};
 use crate::drawing::draw;
 use crossbeam_utils::sync::Parker;
 use farm_base::{Bell, Gate};
-use farm_core::Claimed;
-use farm_shared::{Alarms, Seat, SharedFarm};
+use farm_core::{Claimed, Drawn, Finished, Job};
+use farm_shared::{Alarms, Seat, SharedFarm, Worn};
 use meta_drawing::PictureBuffer;
 use std::alloc::Global;
 use std::sync::Wait;
@@ -35,7 +38,36 @@ enum Next {
     End(WorkEnd),
 }
 
-/// Claims. A job is drawn after the gate let it pass, while no turn is taken, and handed back; then all are woken.
+/// Hands back what was drawn of a job. Its bytes are staged first, while no turn is taken, so that the turn has
+/// little to do; where that fails the turn is given them.
+fn hand_back<R: Wait, D: TileStore>(
+    rt: &R,
+    farm: &SharedFarm<D>,
+    seat: &mut Seat<D>,
+    stager: &D::Stager,
+    alloc: Global,
+    job: Job,
+    drawn: Drawn,
+) -> Result<Finished, Worn>
+    requires seat { IsSeatOf farm.now seat.old }
+    requires job { HasJob (lasts D.state farm.now) seat.old.number seat.old.seen job }
+    requires drawn { IsDrawingOf job drawn }
+    ensures seat { IsSeatOf farm.now seat.new }
+    ensures same { SameSeat seat.old seat.new }
+    ensures known { Knows seat.new }
+    ensures turn { MatchResult result (λ answer. Adds (Finish job.ticket (is_drawn drawn) answer) seat.old seat.new) (λ _. seat.new ≡ worn_out seat.old) }
+{
+    let Drawn::Bytes(bytes) = drawn else {
+        return farm.finish(rt, seat, alloc, job, Drawn::NoMemory);
+    };
+    match D::stage(stager, alloc, job.ticket, bytes) {
+        Ok(staged) => farm.finish_staged(rt, seat, alloc, job, staged),
+        Err(bytes) => farm.finish(rt, seat, alloc, job, Drawn::Bytes(bytes)),
+    }
+}
+
+/// Claims. A job is drawn after the gate let it pass, while no turn is taken, and handed back; then all are woken,
+/// and what its staging has left is removed.
 fn round<R: Wait, D: TileStore, G: Gate, B: Bell>(
     rt: &R,
     picture_buffer: &mut PictureBuffer,
@@ -52,17 +84,20 @@ fn round<R: Wait, D: TileStore, G: Gate, B: Bell>(
     ensures entries { AddsRound worker result seat.old seat.new }
     ensures worn { IsWornOut result seat.new }
 {
-    let Ok(claimed) = farm.claim(rt, seat, worker) else {
+    let Ok((claimed, stager)) = farm.claim_staging(rt, seat, worker) else {
         return Next::End(WorkEnd::Worn);
     };
     match claimed {
         Claimed::Job(job) => {
             gate.before_draw(job.ticket);
             let drawn = draw(picture_buffer, &job);
-            let Ok(_answer) = farm.finish(rt, seat, picture_buffer.alloc(), job, drawn) else {
+            let (alloc, ticket) = (picture_buffer.alloc(), job.ticket);
+            let handed = hand_back(rt, farm, seat, &stager, alloc, job, drawn);
+            alarms.ring_all();
+            D::clear(&stager, alloc, ticket);
+            let Ok(_answer) = handed else {
                 return Next::End(WorkEnd::Worn);
             };
-            alarms.ring_all();
             Next::Again
         }
         Claimed::Idle | Claimed::Crowded => Next::Rest,
