@@ -1,5 +1,5 @@
 -- How a history names the farm's answers, and what no event changes of a farm.
-use Rattle.std.specs.Prelude.{ℕ, ◌≡◌, Bool, true, false, List, Option, Some, None, Result, Ok, Err, option_map, codes}
+use Rattle.std.specs.Prelude.{ℕ, ◌≡◌, Bool, true, false, List, Option, Some, None, Result, Ok, Err, option_map}
 use Rattle.farm_base.specs.Outside.{Outside}
 use Rattle.tile_store.specs.declared.stores.StoreFault.TheVariants.{Failed}
 use Rattle.tile_store.specs.Stores.{StoreTold, StorePuts}

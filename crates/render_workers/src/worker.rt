@@ -1,18 +1,16 @@
 //! A worker.
-ghost use Rattle.std.specs.Prelude.{◌≡◌, true, MatchResult};
-ghost use Rattle.farm_history.specs.Entries.{Finish};
-ghost use Rattle.farm_core.specs.Answers.{IsDrawingOf, is_drawn};
-ghost use Rattle.farm_shared.specs.Shared.{Adds, HasJob, lasts};
-ghost use Rattle.turn_cell.specs.SeatStates.{IsSeatOf, Knows, SameSeat, worn_out};
+ghost use Rattle.std.specs.Prelude.{◌≡◌, true};
+ghost use Rattle.turn_cell.specs.SeatStates.{IsSeatOf, Knows, SameSeat};
 ghost use Rattle.render_workers.specs.Rounds.{Worked};
 ghost use Rattle.render_workers.specs.inner.Nexts.{AddsRound, IsWornOut};
 ghost use Rattle.render_workers.specs.declared.worker.WorkEnd.{WorkEnd};
 
 use crate::drawing::draw;
+use crate::handing::hand_back;
 use crossbeam_utils::sync::Parker;
 use farm_base::{Bell, Gate};
-use farm_core::{Claimed, Drawn, Finished, Job};
-use farm_shared::{Alarms, Seat, SharedFarm, Worn};
+use farm_core::Claimed;
+use farm_shared::{Alarms, Seat, SharedFarm};
 use meta_drawing::PictureBuffer;
 use std::alloc::Global;
 use std::sync::Wait;
@@ -36,34 +34,6 @@ enum Next {
     Rest,
     /// It ends.
     End(WorkEnd),
-}
-
-/// Hands back what was drawn of a job. Its bytes are staged first, while no turn is taken, so that the turn has
-/// little to do; where that fails the turn is given them.
-fn hand_back<R: Wait, D: TileStore>(
-    rt: &R,
-    farm: &SharedFarm<D>,
-    seat: &mut Seat<D>,
-    stager: &D::Stager,
-    alloc: Global,
-    job: Job,
-    drawn: Drawn,
-) -> Result<Finished, Worn>
-    requires seat { IsSeatOf farm.now seat.old }
-    requires job { HasJob (lasts D.state farm.now) seat.old.number seat.old.seen job }
-    requires drawn { IsDrawingOf job drawn }
-    ensures seat { IsSeatOf farm.now seat.new }
-    ensures same { SameSeat seat.old seat.new }
-    ensures known { Knows seat.new }
-    ensures turn { MatchResult result (λ answer. Adds (Finish job.ticket (is_drawn drawn) answer) seat.old seat.new) (λ _. seat.new ≡ worn_out seat.old) }
-{
-    let Drawn::Bytes(bytes) = drawn else {
-        return farm.finish(rt, seat, alloc, job, Drawn::NoMemory);
-    };
-    match D::stage(stager, alloc, job.ticket, bytes) {
-        Ok(staged) => farm.finish_staged(rt, seat, alloc, job, staged),
-        Err(bytes) => farm.finish(rt, seat, alloc, job, Drawn::Bytes(bytes)),
-    }
 }
 
 /// Claims. A job is drawn after the gate let it pass, while no turn is taken, and handed back; then all are woken,
