@@ -50,6 +50,23 @@ fn puts_staged<S: TileStore>(
     answer
 }
 
+/// Of two that are staged at once each is put at its own path, the later one first.
+fn puts_two<S: TileStore>(rt: &impl Abort, store: &mut S, alloc: Global) -> Result<(), StoreFault> {
+    let stager = store.stager();
+    let first = S::stage(&stager, alloc, 7, Vec::from_slice(alloc, b"seven")?);
+    let other = S::stage(&stager, alloc, 8, Vec::from_slice(alloc, b"eight")?);
+    let (Ok(first), Ok(other)) = (first, other) else {
+        return Err(StoreFault::NoMemory);
+    };
+    store.put_staged(alloc, "map/8", other)?;
+    store.put_staged(alloc, "map/7", first)?;
+    S::clear(&stager, alloc, 7);
+    S::clear(&stager, alloc, 8);
+    gets(rt, store, alloc, "map/7", b"seven");
+    gets(rt, store, alloc, "map/8", b"eight");
+    Ok(())
+}
+
 /// What every store does with paths, whole contents and parts.
 fn holds<S: TileStore>(rt: &impl Abort, store: &mut S, alloc: Global) {
     let path = "map/0/0/0/0/0/0.meta";
@@ -72,6 +89,7 @@ fn holds<S: TileStore>(rt: &impl Abort, store: &mut S, alloc: Global) {
     );
     gets(rt, store, alloc, path, b"staged");
     gets(rt, store, alloc, "map/1/0/0/0/0/0.meta", b"first");
+    assert_eq!(rt; puts_two(rt, store, alloc), Ok(()));
     assert_eq!(rt; store.put(alloc, path, b"xy"), Ok(()));
     gets(rt, store, alloc, path, b"xy");
     gets(rt, store, alloc, "farm.saved", b"");

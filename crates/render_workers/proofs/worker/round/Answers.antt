@@ -7,11 +7,11 @@ returns-in_default-clause-entries g c = found_worn c.args.worker c.args.seat.now
 pub returns-in-Idle-clause-entries : goal.returns-in-Idle-clause-entries
 returns-in-Idle-clause-entries g c = found_nothing c.args.worker c.args.seat.now c.claim_staging.new.seat _ c.in-Idle.is c.in-Ok.ensures.turn
 
-pub returns-in-Stopped-clause-entries : goal.returns-in-Stopped-clause-entries
-returns-in-Stopped-clause-entries g c = found_stopped c.args.worker c.args.seat.now c.claim_staging.new.seat _ c.in-Stopped.is c.in-Ok.ensures.turn
+pub returns-clause-entries : goal.returns-clause-entries
+returns-clause-entries g c = found_stopped c.args.worker c.args.seat.now c.claim_staging.new.seat _ c.in-Stopped.is c.in-Ok.ensures.turn
 
-pub returns-in_default-hand_back-clause-entries : goal.returns-in_default-hand_back-clause-entries
-returns-in_default-hand_back-clause-entries g c = drew_worn c.args.worker c.args.seat.now c.claim_staging.new.seat c.hand_back.new.seat _ c.in-Job.job c.in-Job.is c.in-Ok.ensures.turn c.in_default-hand_back.ensures.turn
+pub returns-in_default-handed-clause-entries : goal.returns-in_default-handed-clause-entries
+returns-in_default-handed-clause-entries g c = drew_worn c.args.worker c.args.seat.now c.claim_staging.new.seat c.hand_back-handed.new.seat _ c.in-Job.job c.in-Job.is c.in-Ok.ensures.turn c.in_default-handed.ensures.turn
 
-pub returns-in-Ok-hand_back-clause-entries : goal.returns-in-Ok-hand_back-clause-entries
-returns-in-Ok-hand_back-clause-entries g c = drew c.args.worker c.args.seat.now c.claim_staging.new.seat c.hand_back.new.seat _ c.in-Job.job _ _ c.in-Job.is c.in-Ok.ensures.turn c.in-Ok-hand_back.ensures.turn
+pub returns-in-Job-clause-entries : goal.returns-in-Job-clause-entries
+returns-in-Job-clause-entries g c = drew c.args.worker c.args.seat.now c.claim_staging.new.seat c.hand_back-handed.new.seat _ c.in-Job.job _ _ c.in-Job.is c.in-Ok.ensures.turn c.in-Ok-handed.ensures.turn
