@@ -18,11 +18,11 @@ use Rattle.front_loop.specs.declared.dispositions.Reason.{Reason}
 use Rattle.front_loop.specs.declared.dispositions.Reason.TheVariants as reason
 use Rattle.front_loop.specs.Rules.{Rules, Move, Does, Gets, is_cut, wants_of, answer_bytes, each_whole, each_fits, any_starves, BeginsWanted}
 use Rattle.front_loop.specs.Rounds.{Gathered, Send, Departure, FrontRound, has, remove, connections_after, there, with_refused, with_starved, starved_in, no_reply, own}
-use Rattle.front_loop.specs.Conns.{Conn, ends_at, loses, calls, stops, opens, with_bytes, send_answer, taken_by, send_failed, shut_out, took_after, is_tried, send_fails, asks_on, gets_on, made, blank, conn, before, is_open, is_excused, complete, due, must, Offered, closes, Kept, told_after}
-use Rattle.front_loop.specs.RoundRules.{EachSoFar, OpensNew, SendFits, Caused, AskedAll, LeaveFits, EndsWhole, MayFollow, RoundFits, Sound}
+use Rattle.front_loop.specs.Conns.{Conn, ends_at, loses, calls, stops, opens, brings, with_bytes, send_answer, taken_by, send_failed, shut_out, took_after, is_tried, send_fails, asks_on, gets_on, made, blank, conn, before, is_open, is_excused, complete, due, must, Offered, closes_by, closes, Runs, MayLack, InHearing, AtReply, AtOffer, Kept, told_after}
+use Rattle.front_loop.specs.RoundRules.{EachSoFar, OpensNew, SendFits, IsStarved, Caused, AskedAll, LeaveFits, EndsWhole, MayFollow, RoundFits, Sound}
 use Rattle.front_loop.specs.Serving.{with_break, is_open_after, rests_of, EndHasCause, RestsFit, TellsOf, FrontRun}
 use Rattle.front_loop.specs.inner.Steps.{Step, Came, Did, Got, Through, Tried, Left, Phase, Fresh, Hearing, Collecting, Offering, Leaving, phase, collecting, offering, leaving, Gathers, IsThrough, MayBegin, Offers, goes_on, there as steps_there, own as steps_own, starved_in as steps_starved}
-use Rattle.front_loop.specs.inner.Parts.{Part, part, came, after_move, with_try, blank as part_blank, is_open as part_open, is_excused as part_excused, told_after as steps_told, due as part_due, must as part_must, Offered as PartOffered, Caused as PartCaused, Calm}
+use Rattle.front_loop.specs.inner.Parts.{Part, part, came, after_move, with_try, blank as part_blank, is_open as part_open, is_excused as part_excused, told_after as steps_told, due as part_due, must as part_must, Offered as PartOffered, Caused as PartCaused, is_full as part_full, runs, meets, Lacks, WhenHeard, WhenReplied, WhenOffered, Calm}
 use Rattle.front_loop.specs.inner.Sound.{Kept as PartKept, AllKept, HasAll as PartHasAll, AskedAll as PartAskedAll, LastTry, TryFits, LeftFits, CameFits, Sound as StepsSound}
 use Rattle.front_loop.specs.inner.StepRuns.{StepRun, EndsAt, StopsAt, rests_of as steps_rests, EndHasCause as StepsEnd, RestsFit as StepsRest, TellsOf as StepsTell}
 
@@ -34,6 +34,14 @@ clash h = cc
 or_split : (b x : Bool) → (b || x) ≡ false → (b ≡ false) × (x ≡ false)
 or_split true x h = clash h
 or_split false x h = (refl, h)
+
+not_true : (b : Bool) → not b ≡ true → b ≡ false
+not_true true h = clash (sym h)
+not_true false h = refl
+
+and_split : (a b : Bool) → (a && b) ≡ true → (a ≡ true) × (b ≡ true)
+and_split true b h = (refl, h)
+and_split false b h = clash (sym h)
 
 or_assoc : (a b x : Bool) → (a || (b || x)) ≡ ((a || b) || x)
 or_assoc true b x = refl
@@ -75,6 +83,24 @@ a_round e piece kept acts gs last sends left = record { event = e; piece = piece
 module _ {A W : Type 0} (R : Rules A W) where
   -- ---- one connection
 
+  -- nothing of the round has closed it with these moves but what may stand in its bytes, as long as no bytes were offered
+  record Held (q : Conn A) (e : PortEvent) (ms : List (Move A)) (c : ℕ) : Type 0 where
+    ended : ends_at e c ≡ false
+    lost : loses e c ≡ false
+    cut : list_any is_cut ms ≡ false
+    full : nat_lt (q.took + most_rest_bytes) (length (answer_bytes R (ms ++ q.moves))) ≡ false
+    memory : any_starves R ms ≡ false
+
+  -- a reply that was not cut came then
+  record Met (q : Conn A) (e : PortEvent) (ms : List (Move A)) (c : ℕ) : Type 0 where
+    later : List (Move A)
+    earlier : List (Move A)
+    reply : Reply
+    behind : List Entry
+    made_is : ms ≡ later ++ Gets reply behind ∷ earlier
+    uncut : is_cut {A = A} (Gets reply behind) ≡ false
+    held : Held q e earlier c
+
   -- what stands of it after the steps is what stood of it before the newest round, and what the round made of it
   record PartIs (p : Part A) (q : Conn A) (e : PortEvent) (piece : List ℕ) (ms : List (Move A)) (last : Option Bool) (sends : List Send) (c : ℕ) : Type 0 where
     given : p.given ≡ with_bytes e piece c q.given
@@ -91,6 +117,37 @@ module _ {A W : Type 0} (R : Rules A W) where
     failed : p.failed ≡ send_fails sends c
     sent : p.sent_whole ≡ (is_tried sends c && (R.ends (ms ++ q.moves) && nat_le (length (answer_bytes R (ms ++ q.moves))) (took_after sends c q.took)))
     whole : p.complete ≡ complete R (ends_at e c || loses e c) ms q.moves
+    heard : p.heard ≡ brings e c
+    met : p.met ≡ true → Met q e ms c
+
+  -- what has not closed it is no cause
+  held_of : (p : Part A) (q : Conn A) (e : PortEvent) (piece : List ℕ) (ms : List (Move A)) (last : Option Bool) (sends : List Send) (c : ℕ) → PartIs p q e piece ms last sends c → runs R p ≡ true → Held q e ms c
+  held_of p q e piece ms last sends c h n =
+      let a = or_split p.ended (p.lost || (p.cut || (part_full R p || p.starved))) (not_true (p.ended || (p.lost || (p.cut || (part_full R p || p.starved)))) n) in
+      let b = or_split p.lost (p.cut || (part_full R p || p.starved)) a.1 in
+      let d = or_split p.cut (part_full R p || p.starved) b.1 in
+      let f = or_split (part_full R p) p.starved d.1 in
+      record {
+        ended = sym h.ended ∙ a.0;
+        lost = sym h.lost ∙ b.0;
+        cut = sym h.cut ∙ d.0;
+        full = sym (ap (λ n. nat_lt (n + most_rest_bytes) (length (answer_bytes R p.moves))) h.had ∙ ap (λ l. nat_lt (q.took + most_rest_bytes) (length (answer_bytes R l))) h.moves) ∙ f.0;
+        memory = sym h.starved ∙ f.1;
+      }
+
+  met_more : (m : Move A) (q : Conn A) (e : PortEvent) (ms : List (Move A)) (c : ℕ) → Met q e ms c → Met q e (m ∷ ms) c
+  met_more m q e ms c h = record { later = m ∷ h.later; earlier = h.earlier; reply = h.reply; behind = h.behind; made_is = ap (λ (l : List (Move A)). m ∷ l) h.made_is; uncut = h.uncut; held = h.held }
+
+  met_by : (b : Bool) (p : Part A) (q : Conn A) (e : PortEvent) (piece : List ℕ) (ms : List (Move A)) (c : ℕ) (r : Reply) (behind : List Entry) → PartIs p q e piece ms None [] c
+      → meets R (Gets r behind) p ≡ b → (b || p.met) ≡ true → Met q e (Gets r behind ∷ ms) c
+  met_by true p q e piece ms c r behind h k x =
+      let a = and_split (not (is_cut {A = A} (Gets r behind))) (runs R p) k in
+      record { later = []; earlier = ms; reply = r; behind = behind; made_is = refl; uncut = not_true (is_cut {A = A} (Gets r behind)) a.0; held = held_of p q e piece ms None [] c h a.1 }
+  met_by false p q e piece ms c r behind h k x = met_more (Gets r behind) q e ms c (h.met x)
+
+  met_moved : (m : Move A) (p : Part A) (q : Conn A) (e : PortEvent) (piece : List ℕ) (ms : List (Move A)) (c : ℕ) → PartIs p q e piece ms None [] c → (after_move R m p).met ≡ true → Met q e (m ∷ ms) c
+  met_moved (Does a) p q e piece ms c h x = met_more (Does a) q e ms c (h.met x)
+  met_moved (Gets r behind) p q e piece ms c h x = met_by (meets R (Gets r behind) p) p q e piece ms c r behind h refl x
 
   came_is : (e : PortEvent) (piece : List ℕ) (p : Part A) (q : Conn A) (c : ℕ) → p.given ≡ q.given → p.moves ≡ q.moves → p.took ≡ q.took → PartIs (came R e piece c p) q e piece [] None [] c
   came_is e piece p q c g m t = record {
@@ -108,6 +165,8 @@ module _ {A W : Type 0} (R : Rules A W) where
     failed = refl;
     sent = refl;
     whole = ap (each_whole R) m;
+    heard = refl;
+    met = λ x. clash (sym x);
   }
 
   came_by : (b : Bool) (e : PortEvent) (piece : List ℕ) (p : Part A) (q : Conn A) (c : ℕ) → p.given ≡ q.given → p.moves ≡ q.moves → p.took ≡ q.took
@@ -143,6 +202,8 @@ module _ {A W : Type 0} (R : Rules A W) where
         ap (λ b. (b || R.whole p.moves m) && p.complete) (excuse m p q e piece ms c h)
         ∙ ap (λ l. (is_excused (ends_at e c || loses e c) ms m || R.whole l m) && p.complete) h.moves
         ∙ ap (λ b. (is_excused (ends_at e c || loses e c) ms m || R.whole (ms ++ q.moves) m) && b) h.whole;
+    heard = h.heard;
+    met = met_moved m p q e piece ms c h;
   }
 
   moved_by : (b : Bool) (m : Move A) (p : Part A) (q : Conn A) (e : PortEvent) (piece : List ℕ) (ms : List (Move A)) (c : ℕ) → PartIs p q e piece ms None [] c
@@ -150,9 +211,13 @@ module _ {A W : Type 0} (R : Rules A W) where
   moved_by true m p q e piece ms c h = moved m p q e piece ms c h
   moved_by false m p q e piece ms c h = h
 
-  recalled : (x : Bool) (last last' : Option Bool) (p : Part A) (q : Conn A) (e : PortEvent) (piece : List ℕ) (ms : List (Move A)) (c : ℕ) → PartIs p q e piece ms last [] c → x ≡ (calls e c || stops last')
-      → PartIs (record p { called = x }) q e piece ms last' [] c
-  recalled x last last' p q e piece ms c h k = record {
+  over_by : (b : Bool) (p : Part A) (q : Conn A) (e : PortEvent) (piece : List ℕ) (ms : List (Move A)) (c : ℕ) → PartIs p q e piece ms None [] c → (b || p.called) ≡ (calls e c || stops (Some b))
+  over_by true p q e piece ms c h = sym (or-true (calls e c))
+  over_by false p q e piece ms c h = h.called
+
+  through_is : (b : Bool) (p : Part A) (q : Conn A) (e : PortEvent) (piece : List ℕ) (ms : List (Move A)) (c : ℕ) → PartIs p q e piece ms None [] c
+      → PartIs (record p { called = b || p.called; through = true }) q e piece ms (Some b) [] c
+  through_is b p q e piece ms c h = record {
     given = h.given;
     moves = h.moves;
     took = h.took;
@@ -160,19 +225,16 @@ module _ {A W : Type 0} (R : Rules A W) where
     was = h.was;
     ended = h.ended;
     lost = h.lost;
-    called = k;
+    called = over_by b p q e piece ms c h;
     cut = h.cut;
     starved = h.starved;
     tried = h.tried;
     failed = h.failed;
     sent = h.sent;
     whole = h.whole;
+    heard = h.heard;
+    met = h.met;
   }
-
-  through_is : (b : Bool) (p : Part A) (q : Conn A) (e : PortEvent) (piece : List ℕ) (ms : List (Move A)) (c : ℕ) → PartIs p q e piece ms None [] c
-      → PartIs (cond b (record p { called = true }) p) q e piece ms (Some b) [] c
-  through_is true p q e piece ms c h = recalled true None (Some true) p q e piece ms c h (sym (or-true (calls e c)))
-  through_is false p q e piece ms c h = recalled p.called None (Some false) p q e piece ms c h h.called
 
   tried_is : (b : Bool) (c d : ℕ) (taken : Option ℕ) (p : Part A) (q : Conn A) (e : PortEvent) (piece : List ℕ) (ms : List (Move A)) (last : Option Bool) (sends : List Send) → PartIs p q e piece ms last sends d
       → (c == d) ≡ b → (b ≡ true → is_tried sends d ≡ false) → PartIs (cond b (with_try R taken p) p) q e piece ms last (record { conn = c; taken = taken } ∷ sends) d
@@ -200,6 +262,8 @@ module _ {A W : Type 0} (R : Rules A W) where
             ∙ ap (λ n. R.ends (ms ++ q.moves) && nat_le (length (answer_bytes R (ms ++ q.moves))) n) tk
             ∙ sym (ap (λ x. x && (R.ends (ms ++ q.moves) && nat_le (length (answer_bytes R (ms ++ q.moves))) (cond (c == d) (took_after sends d q.took + taken_by taken) (took_after sends d q.took)))) tr);
         whole = h.whole;
+        heard = h.heard;
+        met = h.met;
       }
   tried_is false c d taken p q e piece ms last sends h k once =
       let tk : took_after sends d q.took ≡ cond (c == d) (took_after sends d q.took + taken_by taken) (took_after sends d q.took) =
@@ -223,6 +287,8 @@ module _ {A W : Type 0} (R : Rules A W) where
             h.sent ∙ ap (λ x. x && (R.ends (ms ++ q.moves) && nat_le (length (answer_bytes R (ms ++ q.moves))) (took_after sends d q.took))) tr
             ∙ ap (λ n. ((c == d) || is_tried sends d) && (R.ends (ms ++ q.moves) && nat_le (length (answer_bytes R (ms ++ q.moves))) n)) tk;
         whole = h.whole;
+        heard = h.heard;
+        met = h.met;
       }
 
   -- ---- what is said of one connection
@@ -280,16 +346,38 @@ module _ {A W : Type 0} (R : Rules A W) where
     all_is : PartHasAll R p → R.wanted (with_bytes e piece c q.given) (wants_of R (made the_round c ++ q.moves)) × (complete R (ends_at e c || loses e c) (made the_round c) q.moves ≡ true)
     all_is a = (wanted_is a.0, sym h.whole ∙ a.1)
 
-    starving_is : PartCaused R p reason.Starved → (why : Reason) → closes R q the_round c why ≡ true → (why ≡ reason.Cut) ⊎ ((why ≡ reason.Full) ⊎ (why ≡ reason.Unread))
-    starving_is k reason.Ended x = clash (sym x ∙ sym h.ended ∙ k.0.ended)
-    starving_is k reason.Lost x = clash (sym x ∙ sym h.lost ∙ k.0.lost)
-    starving_is k reason.Cut x = inl refl
-    starving_is k reason.Full x = inr (inl refl)
-    starving_is k reason.Unread x = inr (inr refl)
-    starving_is k reason.SentWhole x = clash (sym x ∙ sym h.sent ∙ k.0.sent)
-    starving_is k reason.SendFailed x = clash (sym x ∙ sym h.failed ∙ k.0.sends)
-    starving_is k reason.NoMemory x = clash (sym x ∙ sym h.starved ∙ k.1)
-    starving_is k reason.Starved x = clash (sym x)
+    alone_is : PartCaused R p reason.Starved → (why : Reason) → closes R q the_round c why ≡ true → (why ≡ reason.Cut) ⊎ ((why ≡ reason.Full) ⊎ (why ≡ reason.Unread))
+    alone_is k reason.Ended x = clash (sym x ∙ sym h.ended ∙ k.0.ended)
+    alone_is k reason.Lost x = clash (sym x ∙ sym h.lost ∙ k.0.lost)
+    alone_is k reason.Cut x = inl refl
+    alone_is k reason.Full x = inr (inl refl)
+    alone_is k reason.Unread x = inr (inr refl)
+    alone_is k reason.SentWhole x = clash (sym x ∙ sym h.sent ∙ k.0.sent)
+    alone_is k reason.SendFailed x = clash (sym x ∙ sym h.failed ∙ k.0.sends)
+    alone_is k reason.NoMemory x = clash (sym x ∙ sym h.starved ∙ k.1)
+    alone_is k reason.Starved x = clash (sym x)
+
+    runs_is : is_tried sends c ≡ false → (ms : List (Move A)) → Held q e ms c → Runs R q the_round c ms
+    runs_is u ms k reason.Ended x = clash (sym x ∙ k.ended)
+    runs_is u ms k reason.Lost x = clash (sym x ∙ k.lost)
+    runs_is u ms k reason.Cut x = clash (sym x ∙ k.cut)
+    runs_is u ms k reason.Full x = clash (sym x ∙ k.full)
+    runs_is u ms k reason.Unread x = refl
+    runs_is u ms k reason.SentWhole x =
+        clash (sym x ∙ ap (λ b. b && (R.ends (ms ++ q.moves) && nat_le (length (answer_bytes R (ms ++ q.moves))) (took_after sends c q.took))) u)
+    runs_is u ms k reason.SendFailed x = clash (sym x ∙ untried_failed sends c u)
+    runs_is u ms k reason.NoMemory x = clash (sym x ∙ k.memory)
+    runs_is u ms k reason.Starved x = clash (sym x)
+
+    lacks_is : is_tried sends c ≡ false → Lacks R p → MayLack R q the_round c
+    lacks_is u (WhenHeard x) = InHearing (sym h.heard ∙ x)
+    lacks_is u (WhenReplied x) = let m = h.met x in AtReply m.later m.earlier m.reply m.behind m.made_is m.uncut (runs_is u m.earlier m.held)
+    lacks_is u (WhenOffered t m d n) =
+        AtOffer (sym must_is ∙ m) (subst (λ (bytes : List ℕ). 0 < length bytes) (due_is u) d)
+        (runs_is u (made the_round c) (held_of p q e piece (gets_on gs c (asks_on e acts c)) last sends c h n))
+
+    starving_is : PartCaused R p reason.Starved → IsStarved R q the_round c
+    starving_is k = let u = sym h.tried ∙ k.2 in record { lacks = lacks_is u k.3; untried = u; alone = alone_is k }
 
   -- the same of a connection in the newest round
   module _ (rs : List (FrontRound A)) (p : Part A) (e : PortEvent) (piece : List ℕ) (kept : Bool) (acts : List A) (gs : List Gathered) (last : Option Bool) (sends : List Send) (left : List Departure) (c : ℕ)
@@ -482,18 +570,23 @@ module _ {A W : Type 0} (R : Rules A W) where
       recause reason.SentWhole k = k
       recause reason.SendFailed k = k
       recause reason.NoMemory k = k
-      recause reason.Starved k = λ why x. k why (reclose why x)
+      recause reason.Starved k = record { lacks = relack k.lacks; untried = k.untried; alone = λ why x. k.alone why (reclose (made (a_round e piece kept acts gs last sends left) d.conn) why x) }
         where
-          reclose : (why : Reason) → closes R (before rs (a_round e piece kept acts gs last sends left) d.conn) (a_round e piece kept acts gs last sends left') d.conn why ≡ true → closes R (before rs (a_round e piece kept acts gs last sends left) d.conn) (a_round e piece kept acts gs last sends left) d.conn why ≡ true
-          reclose reason.Ended k = k
-          reclose reason.Lost k = k
-          reclose reason.Cut k = k
-          reclose reason.Full k = k
-          reclose reason.Unread k = k
-          reclose reason.SentWhole k = k
-          reclose reason.SendFailed k = k
-          reclose reason.NoMemory k = k
-          reclose reason.Starved k = k
+          reclose : (ms : List (Move A)) (why : Reason) → closes_by R (cond (opens e d.conn && kept) blank (conn rs d.conn)) (a_round e piece kept acts gs last sends left') d.conn ms why ≡ true → closes_by R (cond (opens e d.conn && kept) blank (conn rs d.conn)) (a_round e piece kept acts gs last sends left) d.conn ms why ≡ true
+          reclose ms reason.Ended k = k
+          reclose ms reason.Lost k = k
+          reclose ms reason.Cut k = k
+          reclose ms reason.Full k = k
+          reclose ms reason.Unread k = k
+          reclose ms reason.SentWhole k = k
+          reclose ms reason.SendFailed k = k
+          reclose ms reason.NoMemory k = k
+          reclose ms reason.Starved k = k
+
+          relack : MayLack R (cond (opens e d.conn && kept) blank (conn rs d.conn)) (a_round e piece kept acts gs last sends left) d.conn → MayLack R (cond (opens e d.conn && kept) blank (conn rs d.conn)) (a_round e piece kept acts gs last sends left') d.conn
+          relack (InHearing x) = InHearing x
+          relack (AtReply later earlier reply behind m u k) = AtReply later earlier reply behind m u (λ why x. k why (reclose earlier why x))
+          relack (AtOffer m d k) = AtOffer m d (λ why x. k why (reclose (made (a_round e piece kept acts gs last sends left) _) why x))
 
       reask : (why : Reason) → AskedAll R rs (a_round e piece kept acts gs last sends left) d.conn why → AskedAll R rs (a_round e piece kept acts gs last sends left') d.conn why
       reask reason.Full k = k

@@ -1,7 +1,9 @@
 -- What stands of one connection as a round begins, and what the round makes of it.
-use Rattle.std.specs.Prelude.{◌≡◌, ℕ, ◌+◌, ◌==◌, Bool, true, false, not, ◌&&◌, ◌||◌, cond, List, [], ◌∷◌, ◌++◌, length, drop, Option, Some, None, Result, Ok, Err, nat_lt, nat_le}
+use Rattle.std.specs.Prelude.{◌≡◌, ℕ, ◌+◌, ◌<◌, ◌==◌, Bool, true, false, not, ◌&&◌, ◌||◌, cond, List, [], ◌∷◌, ◌++◌, length, drop, Option, Some, None, Result, Ok, Err, nat_lt, nat_le}
 use Rattle.std.specs.List.{list_any}
 use Rattle.farm_base.specs.Limits.{most_rest_bytes}
+use Rattle.farm_history.specs.declared.queues.Reply.{Reply}
+use Rattle.farm_history.specs.Entries.{Entry}
 use Rattle.port_events.specs.declared.events.PortEvent.{PortEvent}
 use Rattle.port_events.specs.declared.events.PortEvent.TheVariants as event
 use Rattle.port_events.specs.declared.events.SendFault.{SendFault}
@@ -149,17 +151,32 @@ module _ {A W : Type 0} (R : Rules A W) where
     abbrev pub Offered : Type 0
     Offered = must ≡ true → is_tried r.sends c ≡ false → due ≡ []
 
-    -- what closes a connection is there
+    -- what closes a connection is there, with these moves of the round
+    abbrev pub closes_by : List (Move A) → Reason → Bool
+    closes_by ms reason.Ended = ends_at r.event c
+    closes_by ms reason.Lost = loses r.event c
+    closes_by ms reason.Cut = list_any is_cut ms
+    closes_by ms reason.Full = nat_lt (p.took + most_rest_bytes) (length (answer_bytes R (ms ++ p.moves)))
+    closes_by ms reason.Unread = R.refuses (after r c p).given
+    closes_by ms reason.SentWhole = is_tried r.sends c && (R.ends (ms ++ p.moves) && nat_le (length (answer_bytes R (ms ++ p.moves))) (after r c p).took)
+    closes_by ms reason.SendFailed = send_fails r.sends c
+    closes_by ms reason.NoMemory = any_starves R ms
+    closes_by ms reason.Starved = false
+
+    -- and with all that the round made
     abbrev pub closes : Reason → Bool
-    closes reason.Ended = ends_at r.event c
-    closes reason.Lost = loses r.event c
-    closes reason.Cut = list_any is_cut (made r c)
-    closes reason.Full = nat_lt (p.took + most_rest_bytes) (length answered)
-    closes reason.Unread = R.refuses (after r c p).given
-    closes reason.SentWhole = is_tried r.sends c && (R.ends (made r c ++ p.moves) && nat_le (length answered) (after r c p).took)
-    closes reason.SendFailed = send_fails r.sends c
-    closes reason.NoMemory = any_starves R (made r c)
-    closes reason.Starved = false
+    closes = closes_by (made r c)
+
+    -- nothing closes it with these moves but what may stand in its bytes
+    abbrev pub Runs : List (Move A) → Type 0
+    Runs ms = (why : Reason) → closes_by ms why ≡ true → why ≡ reason.Unread
+
+    -- Memory may have been wanting to it: while the bytes of the event were heard; at a reply that was not cut; or where
+    -- it was to be offered its bytes and was not. What was done before the last two had not closed it.
+    pub data MayLack : Type 0 where
+      InHearing : brings r.event c ≡ true → MayLack
+      AtReply : (later earlier : List (Move A)) (reply : Reply) (behind : List Entry) → made r c ≡ later ++ Gets reply behind ∷ earlier → is_cut {A = A} (Gets reply behind) ≡ false → Runs earlier → MayLack
+      AtOffer : must ≡ true → 0 < length due → Runs (made r c) → MayLack
 
     -- all that its bytes ask was asked, and each move has all its entries but for the replies that may lack them
     abbrev pub HasAll : Type 0

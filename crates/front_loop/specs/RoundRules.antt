@@ -7,7 +7,7 @@ use Rattle.front_loop.specs.declared.dispositions.Reason.{Reason}
 use Rattle.front_loop.specs.declared.dispositions.Reason.TheVariants as reason
 use Rattle.front_loop.specs.Rules.{Rules, each_fits, wants_of, BeginsWanted}
 use Rattle.front_loop.specs.Rounds.{Send, Departure, FrontRound, has, gone, connections_after, there}
-use Rattle.front_loop.specs.Conns.{before, after, asks_on, made, is_tried, due, must, Offered, closes, HasAll, Kept}
+use Rattle.front_loop.specs.Conns.{Conn, before, after, asks_on, made, is_tried, due, must, Offered, closes, MayLack, HasAll, Kept}
 
 -- each of a list, whose newest comes first, is right after those before it
 abbrev pub EachSoFar : {A : Type 0} → (List A → A → Type 0) → List A → Type 0
@@ -35,10 +35,17 @@ module _ {A W : Type 0} (R : Rules A W) where
     pub some : 0 < length (due R (before rs r s.conn) r s.conn)
     pub most : IfSome s.taken (λ n. n ≤ length (due R (before rs r s.conn) r s.conn))
 
-  -- The cause for which a connection is left is there. It is left as starved where nothing else of the round closes it
-  -- but what may have come behind the want of memory: a reply that was Cut, a rest that was full, or what stands in its bytes.
+  -- A connection is left as starved where memory may have been wanting to it before anything of the round closed it: nothing
+  -- was offered to it, and nothing else closes it but what may stand beside that want, a reply that was Cut, a rest that was
+  -- full, or what stands in its bytes.
+  pub record IsStarved (p : Conn A) (r : FrontRound A) (c : ℕ) : Type 0 where
+    pub lacks : MayLack R p r c
+    pub untried : is_tried r.sends c ≡ false
+    pub alone : (why : Reason) → closes R p r c why ≡ true → (why ≡ reason.Cut) ⊎ ((why ≡ reason.Full) ⊎ (why ≡ reason.Unread))
+
+  -- the cause for which a connection is left is there
   abbrev pub Caused : List (FrontRound A) → FrontRound A → ℕ → Reason → Type 0
-  Caused rs r c reason.Starved = (why : Reason) → closes R (before rs r c) r c why ≡ true → (why ≡ reason.Cut) ⊎ ((why ≡ reason.Full) ⊎ (why ≡ reason.Unread))
+  Caused rs r c reason.Starved = IsStarved (before rs r c) r c
   Caused rs r c why = closes R (before rs r c) r c why ≡ true
 
   -- requests may be missing where the rest was full or memory was wanting
