@@ -16,7 +16,8 @@ use Rattle.control_handler.specs.declared.acts.Line.{Line}
 use Rattle.control_handler.specs.declared.acts.Line.TheVariants as line
 use Rattle.control_handler.specs.declared.acts.Act.{Act}
 use Rattle.control_handler.specs.declared.acts.Act.TheVariants.{Updates, Restyles, Renews, Expires, Counts, Stops, Refuses}
-use Rattle.control_handler.specs.Lines.{read_all, wants}
+use Rattle.std.specs.List.{list_any}
+use Rattle.control_handler.specs.Lines.{line_parts, is_long, requests_in}
 
 -- ---- answers; want of memory has none
 
@@ -93,8 +94,8 @@ line_done lists Refuses = whole_line line.Bad [] (Some (codes "bad line\n"))
 abbrev pub control_rules : ℕ → List (List Tile) → Rules Act Line
 control_rules number lists = record {
   number = number;
-  wanted = λ given ws. wants (read_all given) ≡ ws;
-  refuses = λ given. (read_all given).long;
+  wanted = λ given ws. requests_in (line_parts given) ≡ ws;
+  refuses = λ given. list_any is_long (line_parts given);
   want = λ a. (line_done lists a).line;
   entries = λ c a. (line_done lists a).entries;
   fits = λ ms m. by_move (λ a. (line_done lists a).fits) (λ r behind. is_empty behind) m;

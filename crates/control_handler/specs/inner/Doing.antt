@@ -12,7 +12,7 @@ use Rattle.front_loop.specs.Front.{keeps, does, EachFits, with_acts}
 use Rattle.control_handler.specs.declared.acts.Line.{Line}
 use Rattle.control_handler.specs.declared.acts.Act.{Act}
 use Rattle.control_handler.specs.declared.hearing.ConnState.{ConnState}
-use Rattle.control_handler.specs.Lines.{read_on, read_all, part_alone, wants}
+use Rattle.control_handler.specs.inner.Readings.{read_on, read_all, part_alone, wants}
 use Rattle.control_handler.specs.Control.{control_rules, line_done, total_of, expiries}
 use Rattle.std.specs.Option.{is_none}
 
