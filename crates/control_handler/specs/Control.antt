@@ -1,5 +1,5 @@
 -- What the control front makes of a connection: the entries of each line and the text that it is answered.
-use Rattle.std.specs.Prelude.{◌≡◌, ℕ, ◌+◌, ◌-◌, ◌^◌, ◌==◌, Bool, true, false, List, [], ◌∷◌, length, min, nat_le, codes, slice_get, Option, Some, None}
+use Rattle.std.specs.Prelude.{◌≡◌, ℕ, ◌+◌, ◌-◌, ◌^◌, ◌==◌, Bool, true, false, List, [], ◌∷◌, length, min, nat_le, codes, slice_get, Option, Some, None, map, zip, unwrap_or}
 use Rattle.plain_world.specs.declared.world.Tile.{Tile}
 use Rattle.std.specs.Option.{is_none}
 use Rattle.farm_history.specs.declared.answers.Updated.{Updated}
@@ -10,7 +10,7 @@ use Rattle.farm_history.specs.declared.answers.Renewed.{Renewed}
 use Rattle.farm_history.specs.declared.answers.Renewed.TheVariants as renewed
 use Rattle.farm_history.specs.Entries.{Entry, Update, Restyle, Renew, Expire, Stop, Tally}
 use Rattle.front_loop.specs.Rules.{Rules, is_empty}
-use Rattle.front_loop.specs.Moves.{by_move, or_empty}
+use Rattle.front_loop.specs.Moves.{by_move}
 use Rattle.script_answers.specs.Answers.{update_line, restyle_line, renew_line, expire_line, tally_line, stop_line}
 use Rattle.control_handler.specs.declared.acts.Line.{Line}
 use Rattle.control_handler.specs.declared.acts.Line.TheVariants as line
@@ -50,13 +50,11 @@ expire_text (Some tiles) counts = expire_line (min (total_of counts) (2 ^ 64 - 1
 
 -- the tiles of the list of this number; none where it is not in the table
 abbrev pub tiles_at : List (List Tile) → ℕ → List Tile
-tiles_at lists n = or_empty (slice_get lists n)
+tiles_at lists n = unwrap_or (slice_get lists n) []
 
 -- an Expire for each count, of the first tiles in order
 abbrev pub expiries : List Tile → List ℕ → List Entry
-expiries [] counts = []
-expiries (t ∷ tiles) [] = []
-expiries (t ∷ tiles) (k ∷ counts) = Expire t k ∷ expiries tiles counts
+expiries tiles counts = map (λ (p : Tile × ℕ). Expire p.0 p.1) (zip tiles counts)
 
 -- ---- what was done at a line
 
@@ -100,7 +98,7 @@ control_rules number lists = record {
   entries = λ c a. (line_done lists a).entries;
   fits = λ ms m. by_move (λ a. (line_done lists a).fits) (λ r behind. is_empty behind) m;
   whole = λ ms m. by_move (λ a. (line_done lists a).whole) (λ r behind. true) m;
-  says = λ ms m. by_move (λ a. or_empty (line_done lists a).answer) (λ r behind. []) m;
+  says = λ ms m. by_move (λ a. unwrap_or (line_done lists a).answer []) (λ r behind. []) m;
   starves = λ m. by_move (λ a. is_none (line_done lists a).answer) (λ r behind. false) m;
   ends = λ ms. false;
 }

@@ -1,5 +1,5 @@
 -- The lines of a connection, and what each says.
-use Rattle.std.specs.Prelude.{ℕ, ◌^◌, ◌==◌, Bool, cond, nat_lt, if◌then◌else◌, List, [], ◌∷◌, length, codes, Option, Some, None}
+use Rattle.std.specs.Prelude.{ℕ, ◌^◌, ◌==◌, Bool, cond, nat_lt, if◌then◌else◌, List, [], ◌∷◌, length, codes, Option, Some, None, option_map, unwrap_or}
 use Rattle.std.specs.Str.{bytes_eq, is_utf8}
 use Rattle.std.specs.List.{slice_split}
 use Rattle.std.specs.Str.Lines.{strip_carriage_return}
@@ -19,8 +19,7 @@ command_alone word =
 
 -- a line whose word behind its name is a number, decimal without leading zeros
 abbrev pub with_number : (ℕ → Line) → Option ℕ → Line
-with_number make None = line.Bad
-with_number make (Some n) = make n
+with_number make number = unwrap_or (option_map make number) line.Bad
 
 -- the line of this name with these words behind it
 unfoldable pub command_named : List ℕ → List ℕ → Line
@@ -30,27 +29,17 @@ command_named name words =
     if bytes_eq name (codes "renew") then with_number line.Renew (decimal_below (2 ^ 32) words) else
     if bytes_eq name (codes "expire") then with_number line.Expire (decimal_below (2 ^ 32) words) else line.Bad
 
--- a line that is cut at its first space, if it has one
-abbrev pub command_cut : List ℕ → Option (List ℕ × List ℕ) → Line
-command_cut text None = command_alone text
-command_cut text (Some p) = command_named p.0 p.1
-
--- a line in words
+-- a line in words: it is cut at its first space, if it has one
 unfoldable pub control_line : List ℕ → Line
-control_line text = command_cut text (cut_at 32 text)
+control_line text = unwrap_or (option_map (λ (p : List ℕ × List ℕ). command_named p.0 p.1) (cut_at 32 text)) (command_alone text)
 
 -- bytes as a text
 unfoldable pub utf8_text : List ℕ → Option (List ℕ)
 utf8_text bytes = if is_utf8 bytes then Some bytes else None
 
--- bytes that are no text are a bad line
-abbrev pub text_says : Option (List ℕ) → Line
-text_says None = line.Bad
-text_says (Some text) = control_line text
-
--- what a line says; one carriage return at its end is dropped
+-- what a line says; one carriage return at its end is dropped, and bytes that are no text are a bad line
 abbrev pub line_in : List ℕ → Line
-line_in bytes = text_says (utf8_text (strip_carriage_return bytes))
+line_in bytes = unwrap_or (option_map control_line (utf8_text (strip_carriage_return bytes))) line.Bad
 
 -- ---- lines
 

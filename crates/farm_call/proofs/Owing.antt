@@ -80,8 +80,8 @@ module _ {A W : Type 0} (R : Rules A W) where
   -- a front that ended in order owes nothing
   pub paid_up : (start told : Option PortsTold) (mine : List Entry) (end : FrontEnd) (rests : List Rest) (starved : ℕ) (worn : Bool) (run : FrontRun R start told mine end rests starved worn)
       → (end ≡ FrontEnd.Finished) ⊎ (end ≡ FrontEnd.Stopped) → OwesNothing R run.rounds rests
-  paid_up start told mine FrontEnd.Finished rests starved worn run ended = nothing_owed run.rounds rests run.sound (finished_whole run.rounds run.stop worn run.end_fits) run.rests_fit
-  paid_up start told mine FrontEnd.Stopped rests starved worn run ended = nothing_owed run.rounds rests run.sound (stopped_whole run.rounds run.stop worn run.end_fits) run.rests_fit
+  paid_up start told mine FrontEnd.Finished rests starved worn run ended = nothing_owed run.rounds rests run.sound (finished_whole run.rounds run.stop worn run.end_fits) (run.rests_fit (λ never. cc))
+  paid_up start told mine FrontEnd.Stopped rests starved worn run ended = nothing_owed run.rounds rests run.sound (stopped_whole run.rounds run.stop worn run.end_fits) (run.rests_fit (λ never. cc))
   paid_up start told mine FrontEnd.Broken rests starved worn run ended = absurd (elim ended [ inl e ↦ cc | inr e ↦ cc ])
   paid_up start told mine FrontEnd.NoMemory rests starved worn run ended = absurd (elim ended [ inl e ↦ cc | inr e ↦ cc ])
   paid_up start told mine FrontEnd.Worn rests starved worn run ended = absurd (elim ended [ inl e ↦ cc | inr e ↦ cc ])

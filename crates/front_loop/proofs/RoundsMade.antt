@@ -1,12 +1,13 @@
 -- Steps make rounds: what a front did step by step, told as rounds.
 use Rattle.std.proofs.Common.{◌≡◌, ◌==◌, ◌≤◌, ◌<◌, ◌+◌, ℕ, Bool, true, false, not, ◌&&◌, ◌||◌, cond, List, [], ◌∷◌, ◌++◌, length, take, drop, map, Option, Some, None, option_map, IfSome, refl, sym, ap, subst, ◌∙◌, inl, inr, ◌⊎◌, nat_lt}
-use Rattle.std.specs.Prelude.{◌≢◌, nat_le, min, ◌-◌, ◌^◌}
+use Rattle.std.specs.Prelude.{◌≢◌, nat_le, min, unwrap_or, ◌-◌, ◌^◌}
 use Rattle.std.specs.List.{list_any}
 use Rattle.std.proofs.Math.Bool.{or-true, or-false}
 use Rattle.std.proofs.lemmas.Bool.{eqb-true, eq-eqb}
 use Rattle.farm_base.specs.Limits.{most_rest_bytes, most_sessions}
 use Rattle.farm_history.specs.declared.queues.Reply.{Reply}
 use Rattle.farm_history.specs.declared.answers.Collected.TheVariants as collected
+use Rattle.farm_history.specs.Lists.{Each}
 use Rattle.farm_history.specs.Entries.{Entry, Collect, Leave, Stop}
 use Rattle.port_events.specs.declared.events.PortEvent.{PortEvent}
 use Rattle.port_events.specs.declared.events.PortEvent.TheVariants as event
@@ -17,17 +18,32 @@ use Rattle.port_events.specs.Told.{PortsTold, heard, after_send, after_close}
 use Rattle.front_loop.specs.declared.dispositions.Reason.{Reason}
 use Rattle.front_loop.specs.declared.dispositions.Reason.TheVariants as reason
 use Rattle.front_loop.specs.Rules.{Rules, Move, Does, Gets, is_cut, wants_of, answer_bytes, each_whole, each_fits, any_starves, BeginsWanted}
-use Rattle.front_loop.specs.Rounds.{Gathered, Send, Departure, FrontRound, has, remove, connections_after, there, with_refused, with_starved, starved_in, no_reply, own}
-use Rattle.front_loop.specs.Conns.{Conn, ends_at, loses, calls, stops, opens, brings, with_bytes, send_answer, taken_by, send_failed, shut_out, took_after, is_tried, send_fails, asks_on, gets_on, made, blank, conn, before, is_open, is_excused, complete, due, must, Offered, closes_by, closes, Runs, MayLack, InHearing, AtReply, AtOffer, Kept, told_after}
-use Rattle.front_loop.specs.RoundRules.{EachSoFar, OpensNew, SendFits, IsStarved, Caused, AskedAll, LeaveFits, EndsWhole, MayFollow, RoundFits, Sound}
-use Rattle.front_loop.specs.Serving.{with_break, is_open_after, rests_of, EndHasCause, RestsFit, TellsOf, FrontRun}
-use Rattle.front_loop.specs.inner.Steps.{Step, Came, Did, Got, Through, Tried, Left, Phase, Fresh, Hearing, Collecting, Offering, Leaving, phase, collecting, offering, leaving, Gathers, IsThrough, MayBegin, Offers, goes_on, there as steps_there, own as steps_own, starved_in as steps_starved}
-use Rattle.front_loop.specs.inner.Parts.{Part, part, came, after_move, with_try, blank as part_blank, is_open as part_open, is_excused as part_excused, told_after as steps_told, due as part_due, must as part_must, Offered as PartOffered, Caused as PartCaused, is_full as part_full, runs, meets, Lacks, WhenHeard, WhenReplied, WhenOffered, Calm}
-use Rattle.front_loop.specs.inner.Sound.{Kept as PartKept, AllKept, HasAll as PartHasAll, AskedAll as PartAskedAll, LastTry, TryFits, LeftFits, CameFits, Sound as StepsSound}
-use Rattle.front_loop.specs.inner.StepRuns.{StepRun, EndsAt, StopsAt, rests_of as steps_rests, EndHasCause as StepsEnd, RestsFit as StepsRest, TellsOf as StepsTell}
+use Rattle.front_loop.specs.Rounds.{Gathered, Send, Departure, FrontRound, has, remove, connections_after, in_turn, there, with_refused, with_starved, starved_in, own}
+use Rattle.front_loop.specs.Conns.{Conn, ends_at, loses, calls, opens, brings, shut_out, is_tried, send_fails, made, blank, conn, before, is_open, is_excused, complete, due, must, HasAll, Offered, closes, Unclosed, MayLack, InHearing, AtReply, AtOffer, Kept, told_after}
+use Rattle.front_loop.specs.RoundRules.{EachSoFar, SendFits, IsStarved, LeaveFits, EndsWhole, MayFollow, RoundFits, Sound}
+use Rattle.front_loop.specs.Serving.{is_open_after, rests_of, EndHasCause, TellsOf, FrontRun}
+use Rattle.front_loop.specs.inner.Steps.{Step, Came, Did, Got, Through, Tried, Left, Phase, Fresh, Hearing, Collecting, Offering, Leaving, phase, no_reply, collecting, offering, leaving, Gathers, IsThrough, MayBegin, Offers, goes_on, there as steps_there, own as steps_own, starved_in as steps_starved}
+use Rattle.front_loop.specs.inner.Parts.{Part, with_bytes, send_answer, taken_by, send_failed, part, came, after_move, with_try, blank as part_blank, is_open as part_open, is_excused as part_excused, told_after as steps_told, due as part_due, must as part_must, Offered as PartOffered, Caused as PartCaused, is_full as part_full, runs, meets, Lacks, WhenHeard, WhenReplied, WhenOffered, Calm}
+use Rattle.front_loop.specs.inner.Sound.{BeginsRound, OpensNew, Kept as PartKept, AllKept, HasAll as PartHasAll, AskedAll as PartAskedAll, LastTry, TryFits, LeftFits, CameFits, Sound as StepsSound}
+use Rattle.front_loop.specs.inner.StepRuns.{StepRun, with_break, BreakFits, EndsAt, StopsAt, rests_of as steps_rests, EndHasCause as StepsEnd, RestsFit as StepsRest, TellsOf as StepsTell}
 
 clash : {T : Type 0} → true ≡ false → T
 clash h = cc
+
+-- the last Collect was answered Stopped
+abbrev stops : Option Bool → Bool
+stops last = unwrap_or last false
+
+-- how many bytes of a connection were taken after these sends
+abbrev took_after : List Send → ℕ → ℕ → ℕ
+took_after sends c n = in_turn (λ (s : Send) n. cond (s.conn == c) (n + taken_by s.taken) n) sends n
+
+-- the moves of the requests, if they are of this connection; and with the replies to it
+abbrev asks_on : {A : Type 0} → PortEvent → List A → ℕ → List (Move A)
+asks_on e acts c = in_turn (λ a ms. cond (brings e c) (Does a ∷ ms) ms) acts []
+
+abbrev gets_on : {A : Type 0} → List Gathered → ℕ → List (Move A) → List (Move A)
+gets_on gs c ms = in_turn (λ (g : Gathered) ms. cond (g.reply.conn.number == c) (Gets g.reply g.behind ∷ ms) ms) gs ms
 
 -- ---- sends
 
@@ -71,7 +87,22 @@ goes_last : (e : PortEvent) (b : Bool) → goes_on e b ≡ true → (b ≡ false
 goes_last e true h = clash (sym h)
 goes_last e false h = (refl, λ q. clash (sym (sym (ap (λ x. goes_on x false) q) ∙ h)))
 
+opens_is : (e : PortEvent) (cs : List ℕ) → length cs < most_sessions → OpensNew e cs → (c : ℕ) × (e ≡ event.Opened c) × (has cs c ≡ false) × (length cs < most_sessions)
+opens_is (event.Opened c) cs l n = (c, refl, n, l)
+opens_is (event.Bytes c) cs l n = absurd n
+opens_is (event.Writable c) cs l n = absurd n
+opens_is (event.Ended c) cs l n = absurd n
+opens_is (event.Lost c) cs l n = absurd n
+opens_is event.Woken cs l n = absurd n
+opens_is event.Finished cs l n = absurd n
+opens_is event.Broken cs l n = absurd n
+opens_is event.NoMemory cs l n = absurd n
+
 -- ---- lists
+
+none_snoc : {X : Type 0} (xs : List X) (x : X) → xs ++ x ∷ [] ≡ [] → ⊥
+none_snoc [] x h = cc
+none_snoc (y ∷ xs) x h = cc
 
 map_same : {X Y : Type 0} (f g : X → Y) (xs : List X) → ((x : X) → f x ≡ g x) → map f xs ≡ map g xs
 map_same f g [] h = refl
@@ -81,6 +112,21 @@ abbrev a_round : {A : Type 0} → PortEvent → List ℕ → Bool → List A →
 a_round e piece kept acts gs last sends left = record { event = e; piece = piece; kept = kept; acts = acts; replies = gs; last = last; sends = sends; left = left }
 
 module _ {A W : Type 0} (R : Rules A W) where
+  -- ---- requests
+
+  -- these are the first of the requests that stand in the bytes
+  abbrev AsksFirst : List ℕ → List W → Type 0
+  AsksFirst given ws = (more : List W) × R.wanted given (ws ++ more)
+
+  asks_some : (given : List ℕ) (ws : List W) (w : W) → BeginsWanted R given (ws ++ w ∷ []) → AsksFirst given (ws ++ w ∷ [])
+  asks_some given ws w (inl e) = absurd (none_snoc ws w e)
+  asks_some given ws w (inr more) = more
+
+  asked_too : (b : Bool) (acts : List A) (given : List ℕ) (r : Reply) (behind : List Entry) (ms old : List (Move A)) → (acts ≡ []) ⊎ AsksFirst given (wants_of R (ms ++ old))
+      → (acts ≡ []) ⊎ AsksFirst given (wants_of R (cond b (Gets r behind ∷ ms) ms ++ old))
+  asked_too true acts given r behind ms old h = h
+  asked_too false acts given r behind ms old h = h
+
   -- ---- one connection
 
   -- nothing of the round has closed it with these moves but what may stand in its bytes, as long as no bytes were offered
@@ -310,7 +356,7 @@ module _ {A W : Type 0} (R : Rules A W) where
         ∙ ap (λ l. (calls e c || stops last) || (nat_lt (length (answer_bytes R q.moves)) (length (answer_bytes R l)) || R.refuses p.given)) h.moves
         ∙ ap (λ g. (calls e c || stops last) || (nat_lt (length (answer_bytes R q.moves)) (length (answer_bytes R (made the_round c ++ q.moves))) || R.refuses g)) h.given
 
-    full_is : nat_lt (p.had + most_rest_bytes) (length (answer_bytes R p.moves)) ≡ closes R q the_round c reason.Full
+    full_is : nat_lt (p.had + most_rest_bytes) (length (answer_bytes R p.moves)) ≡ closes R q the_round c (made the_round c) reason.Full
     full_is =
         ap (λ n. nat_lt (n + most_rest_bytes) (length (answer_bytes R p.moves))) h.had
         ∙ ap (λ l. nat_lt (q.took + most_rest_bytes) (length (answer_bytes R l))) h.moves
@@ -324,7 +370,7 @@ module _ {A W : Type 0} (R : Rules A W) where
     offered_is : PartOffered R p → Offered R q the_round c
     offered_is o = λ m once. sym (due_is once) ∙ o (must_is ∙ m) (h.tried ∙ once)
 
-    calm_is : Calm R p → (why : Reason) → closes R q the_round c why ≡ false
+    calm_is : Calm R p → (why : Reason) → closes R q the_round c (made the_round c) why ≡ false
     calm_is k reason.Ended = sym h.ended ∙ k.ended
     calm_is k reason.Lost = sym h.lost ∙ k.lost
     calm_is k reason.Cut = sym h.cut ∙ k.cut
@@ -346,7 +392,7 @@ module _ {A W : Type 0} (R : Rules A W) where
     all_is : PartHasAll R p → R.wanted (with_bytes e piece c q.given) (wants_of R (made the_round c ++ q.moves)) × (complete R (ends_at e c || loses e c) (made the_round c) q.moves ≡ true)
     all_is a = (wanted_is a.0, sym h.whole ∙ a.1)
 
-    alone_is : PartCaused R p reason.Starved → (why : Reason) → closes R q the_round c why ≡ true → (why ≡ reason.Cut) ⊎ ((why ≡ reason.Full) ⊎ (why ≡ reason.Unread))
+    alone_is : PartCaused R p reason.Starved → (why : Reason) → closes R q the_round c (made the_round c) why ≡ true → (why ≡ reason.Cut) ⊎ ((why ≡ reason.Full) ⊎ (why ≡ reason.Unread))
     alone_is k reason.Ended x = clash (sym x ∙ sym h.ended ∙ k.0.ended)
     alone_is k reason.Lost x = clash (sym x ∙ sym h.lost ∙ k.0.lost)
     alone_is k reason.Cut x = inl refl
@@ -357,7 +403,7 @@ module _ {A W : Type 0} (R : Rules A W) where
     alone_is k reason.NoMemory x = clash (sym x ∙ sym h.starved ∙ k.1)
     alone_is k reason.Starved x = clash (sym x)
 
-    runs_is : is_tried sends c ≡ false → (ms : List (Move A)) → Held q e ms c → Runs R q the_round c ms
+    runs_is : is_tried sends c ≡ false → (ms : List (Move A)) → Held q e ms c → Unclosed R q the_round c ms
     runs_is u ms k reason.Ended x = clash (sym x ∙ k.ended)
     runs_is u ms k reason.Lost x = clash (sym x ∙ k.lost)
     runs_is u ms k reason.Cut x = clash (sym x ∙ k.cut)
@@ -385,27 +431,30 @@ module _ {A W : Type 0} (R : Rules A W) where
     abbrev began : Conn A
     began = cond (opens e c && kept) blank (conn rs c)
 
-    caused_is : (why : Reason) → PartCaused R p why → Caused R rs (a_round e piece kept acts gs last sends left) c why
-    caused_is reason.Ended k = sym h.ended ∙ k
-    caused_is reason.Lost k = sym h.lost ∙ k
-    caused_is reason.Cut k = sym h.cut ∙ k
-    caused_is reason.Full k = sym (full_is p began e piece kept acts gs last sends left c h) ∙ k
-    caused_is reason.Unread k = sym (ap R.refuses h.given) ∙ k
-    caused_is reason.SentWhole k = sym h.sent ∙ k
-    caused_is reason.SendFailed k = sym h.failed ∙ k
-    caused_is reason.NoMemory k = sym h.starved ∙ k
-    caused_is reason.Starved k = starving_is p began e piece kept acts gs last sends left c h k
+    closes_is : (why : Reason) → PartCaused R p why → why ≢ reason.Starved → closes R began (a_round e piece kept acts gs last sends left) c (made (a_round e piece kept acts gs last sends left) c) why ≡ true
+    closes_is reason.Ended k n = sym h.ended ∙ k
+    closes_is reason.Lost k n = sym h.lost ∙ k
+    closes_is reason.Cut k n = sym h.cut ∙ k
+    closes_is reason.Full k n = sym (full_is p began e piece kept acts gs last sends left c h) ∙ k
+    closes_is reason.Unread k n = sym (ap R.refuses h.given) ∙ k
+    closes_is reason.SentWhole k n = sym h.sent ∙ k
+    closes_is reason.SendFailed k n = sym h.failed ∙ k
+    closes_is reason.NoMemory k n = sym h.starved ∙ k
+    closes_is reason.Starved k n = absurd (n refl)
 
-    asked_is : (why : Reason) → PartAskedAll R p why → AskedAll R rs (a_round e piece kept acts gs last sends left) c why
-    asked_is reason.Full k = tt
-    asked_is reason.NoMemory k = tt
-    asked_is reason.Starved k = tt
-    asked_is reason.Ended k = all_is p began e piece kept acts gs last sends left c h k
-    asked_is reason.Lost k = all_is p began e piece kept acts gs last sends left c h k
-    asked_is reason.Cut k = all_is p began e piece kept acts gs last sends left c h k
-    asked_is reason.Unread k = all_is p began e piece kept acts gs last sends left c h k
-    asked_is reason.SentWhole k = all_is p began e piece kept acts gs last sends left c h k
-    asked_is reason.SendFailed k = all_is p began e piece kept acts gs last sends left c h k
+    starved_is : (why : Reason) → PartCaused R p why → why ≡ reason.Starved → IsStarved R began (a_round e piece kept acts gs last sends left) c
+    starved_is why k s = starving_is p began e piece kept acts gs last sends left c h (subst (PartCaused R p) s k)
+
+    asked_is : (why : Reason) → PartAskedAll R p why → why ≢ reason.Full → why ≢ reason.NoMemory → why ≢ reason.Starved → HasAll R began (a_round e piece kept acts gs last sends left) c
+    asked_is reason.Full k f n s = absurd (f refl)
+    asked_is reason.NoMemory k f n s = absurd (n refl)
+    asked_is reason.Starved k f n s = absurd (s refl)
+    asked_is reason.Ended k f n s = all_is p began e piece kept acts gs last sends left c h k
+    asked_is reason.Lost k f n s = all_is p began e piece kept acts gs last sends left c h k
+    asked_is reason.Cut k f n s = all_is p began e piece kept acts gs last sends left c h k
+    asked_is reason.Unread k f n s = all_is p began e piece kept acts gs last sends left c h k
+    asked_is reason.SentWhole k f n s = all_is p began e piece kept acts gs last sends left c h k
+    asked_is reason.SendFailed k f n s = all_is p began e piece kept acts gs last sends left c h k
 
     last_try_is : (why : Reason) → LastTry R p why → why ≡ reason.Unread → Offered R began (a_round e piece kept acts gs last sends left) c
     last_try_is why k u = offered_is p began e piece kept acts gs last sends left c h (subst (LastTry R p) u k)
@@ -453,8 +502,8 @@ module _ {A W : Type 0} (R : Rules A W) where
     parts = λ c. came_by (opens e c && kept) e piece (part R ss c) (conn rs c) c (h.given c) (h.moves c) (h.took c);
     fits = record {
       follows = h.goes_on;
-      begins = f.begins;
-      room = λ k. (subst (λ (cs : List ℕ). length cs < most_sessions) h.there_is (f.room k).0, subst (OpensNew e) h.there_is (f.room k).1);
+      begins = (λ (q : e ≡ event.Broken). subst BeginsRound q f.begins, λ (q : e ≡ event.NoMemory). subst BeginsRound q f.begins);
+      room = λ k. opens_is e (there rs) (subst (λ (cs : List ℕ). length cs < most_sessions) h.there_is (f.room k).0) (subst (OpensNew e) h.there_is (f.room k).1);
       asks = λ c b. inl refl;
       fits = λ c. fits_before (opens e c && kept) (conn rs c) (fits_of rs h.sound c);
       order = λ n. (refl, refl);
@@ -478,10 +527,10 @@ module _ {A W : Type 0} (R : Rules A W) where
   did_same ss rs c piece kept acts a h f b =
       let e : PortEvent = event.Bytes c in
       let q : ℕ → Conn A = λ d. cond (opens (event.Bytes c) d && kept) blank (conn rs d) in
-      let here : BeginsWanted R (with_bytes (event.Bytes c) piece c (q c).given) (wants_of R (cond (c == c) (Does a ∷ asks_on (event.Bytes c) acts c) (asks_on (event.Bytes c) acts c) ++ (q c).moves)) =
-      subst (λ y. BeginsWanted R (with_bytes (event.Bytes c) piece c (q c).given) (wants_of R (cond y (Does a ∷ asks_on (event.Bytes c) acts c) (asks_on (event.Bytes c) acts c) ++ (q c).moves))) (sym (eq-eqb c c refl))
-      (subst (λ l. BeginsWanted R (with_bytes (event.Bytes c) piece c (q c).given) (wants_of R l ++ R.want a ∷ [])) (h.parts c).moves
-      (subst (λ g. BeginsWanted R g (wants_of R (part R ss c).moves ++ R.want a ∷ [])) (h.parts c).given b))
+      let here : AsksFirst (with_bytes (event.Bytes c) piece c (q c).given) (wants_of R (cond (c == c) (Does a ∷ asks_on (event.Bytes c) acts c) (asks_on (event.Bytes c) acts c) ++ (q c).moves)) =
+      subst (λ y. AsksFirst (with_bytes (event.Bytes c) piece c (q c).given) (wants_of R (cond y (Does a ∷ asks_on (event.Bytes c) acts c) (asks_on (event.Bytes c) acts c) ++ (q c).moves))) (sym (eq-eqb c c refl))
+      (subst (λ l. AsksFirst (with_bytes (event.Bytes c) piece c (q c).given) (wants_of R l ++ R.want a ∷ [])) (h.parts c).moves
+      (subst (λ g. AsksFirst g (wants_of R (part R ss c).moves ++ R.want a ∷ [])) (h.parts c).given (asks_some (part R ss c).given (wants_of R (part R ss c).moves) (R.want a) b)))
       in
       record {
         own_is = ap (λ es. es ++ R.entries c a) h.own_is;
@@ -493,7 +542,7 @@ module _ {A W : Type 0} (R : Rules A W) where
           follows = h.fits.follows;
           begins = h.fits.begins;
           room = h.fits.room;
-          asks = λ d i. inr (subst (λ x. BeginsWanted R (with_bytes (event.Bytes c) piece x (q x).given) (wants_of R (asks_on (event.Bytes c) (a ∷ acts) x ++ (q x).moves))) (bytes_same c d i) here);
+          asks = λ d i. inr (subst (λ x. AsksFirst (with_bytes (event.Bytes c) piece x (q x).given) (wants_of R (asks_on (event.Bytes c) (a ∷ acts) x ++ (q x).moves))) (bytes_same c d i) here);
           fits = λ d. fits_moved (c == d) (Does a) (asks_on (event.Bytes c) acts d) (q d).moves (fits_at ss (Does a) c d _ f (h.parts d).moves) (h.fits.fits d);
           order = λ n. (refl, refl);
           sends = tt;
@@ -517,7 +566,7 @@ module _ {A W : Type 0} (R : Rules A W) where
           follows = h.fits.follows;
           begins = h.fits.begins;
           room = h.fits.room;
-          asks = h.fits.asks;
+          asks = λ d x. asked_too (r.conn.number == d) acts (with_bytes e piece d (q d).given) r behind (gets_on gs d (asks_on e acts d)) (q d).moves (h.fits.asks d x);
           fits = λ d. fits_moved (r.conn.number == d) (Gets r behind) (gets_on gs d (asks_on e acts d)) (q d).moves (fits_at ss (Gets r behind) r.conn.number d _ f (h.parts d).moves) (h.fits.fits d);
           order = λ n. (refl, refl);
           sends = tt;
@@ -558,46 +607,34 @@ module _ {A W : Type 0} (R : Rules A W) where
   releave : (rs : List (FrontRound A)) (e : PortEvent) (piece : List ℕ) (kept : Bool) (acts : List A) (gs : List Gathered) (last : Option Bool) (sends : List Send) (left left' : List Departure) (ds : List Departure)
       → EachSoFar (LeaveFits R rs (a_round e piece kept acts gs last sends left)) ds → EachSoFar (LeaveFits R rs (a_round e piece kept acts gs last sends left')) ds
   releave rs e piece kept acts gs last sends left left' [] h = tt
-  releave rs e piece kept acts gs last sends left left' (d ∷ ds) h =
-      (record { is_there = h.0.is_there; caused = recause d.why h.0.caused; last_try = h.0.last_try; asked_all = reask d.why h.0.asked_all }, releave rs e piece kept acts gs last sends left left' ds h.1)
+  releave rs e piece kept acts gs last sends left left' (d ∷ ds) h = (
+    record {
+      is_there = h.0.is_there;
+      caused = λ n. sym (same_closes (made (a_round e piece kept acts gs last sends left) d.conn) d.why) ∙ h.0.caused n;
+      starved = λ q. let k = h.0.starved q in
+          record { lacks = relack k.lacks; untried = k.untried; alone = λ why x. k.alone why (same_closes (made (a_round e piece kept acts gs last sends left) d.conn) why ∙ x) };
+      last_try = h.0.last_try;
+      asked_all = h.0.asked_all;
+    },
+    releave rs e piece kept acts gs last sends left left' ds h.1,
+  )
     where
-      recause : (why : Reason) → Caused R rs (a_round e piece kept acts gs last sends left) d.conn why → Caused R rs (a_round e piece kept acts gs last sends left') d.conn why
-      recause reason.Ended k = k
-      recause reason.Lost k = k
-      recause reason.Cut k = k
-      recause reason.Full k = k
-      recause reason.Unread k = k
-      recause reason.SentWhole k = k
-      recause reason.SendFailed k = k
-      recause reason.NoMemory k = k
-      recause reason.Starved k = record { lacks = relack k.lacks; untried = k.untried; alone = λ why x. k.alone why (reclose (made (a_round e piece kept acts gs last sends left) d.conn) why x) }
-        where
-          reclose : (ms : List (Move A)) (why : Reason) → closes_by R (cond (opens e d.conn && kept) blank (conn rs d.conn)) (a_round e piece kept acts gs last sends left') d.conn ms why ≡ true → closes_by R (cond (opens e d.conn && kept) blank (conn rs d.conn)) (a_round e piece kept acts gs last sends left) d.conn ms why ≡ true
-          reclose ms reason.Ended k = k
-          reclose ms reason.Lost k = k
-          reclose ms reason.Cut k = k
-          reclose ms reason.Full k = k
-          reclose ms reason.Unread k = k
-          reclose ms reason.SentWhole k = k
-          reclose ms reason.SendFailed k = k
-          reclose ms reason.NoMemory k = k
-          reclose ms reason.Starved k = k
+      same_closes : (ms : List (Move A)) (why : Reason) → closes R (cond (opens e d.conn && kept) blank (conn rs d.conn)) (a_round e piece kept acts gs last sends left) d.conn ms why
+          ≡ closes R (cond (opens e d.conn && kept) blank (conn rs d.conn)) (a_round e piece kept acts gs last sends left') d.conn ms why
+      same_closes ms reason.Ended = refl
+      same_closes ms reason.Lost = refl
+      same_closes ms reason.Cut = refl
+      same_closes ms reason.Full = refl
+      same_closes ms reason.Unread = refl
+      same_closes ms reason.SentWhole = refl
+      same_closes ms reason.SendFailed = refl
+      same_closes ms reason.NoMemory = refl
+      same_closes ms reason.Starved = refl
 
-          relack : MayLack R (cond (opens e d.conn && kept) blank (conn rs d.conn)) (a_round e piece kept acts gs last sends left) d.conn → MayLack R (cond (opens e d.conn && kept) blank (conn rs d.conn)) (a_round e piece kept acts gs last sends left') d.conn
-          relack (InHearing x) = InHearing x
-          relack (AtReply later earlier reply behind m u k) = AtReply later earlier reply behind m u (λ why x. k why (reclose earlier why x))
-          relack (AtOffer m d k) = AtOffer m d (λ why x. k why (reclose (made (a_round e piece kept acts gs last sends left) _) why x))
-
-      reask : (why : Reason) → AskedAll R rs (a_round e piece kept acts gs last sends left) d.conn why → AskedAll R rs (a_round e piece kept acts gs last sends left') d.conn why
-      reask reason.Full k = k
-      reask reason.NoMemory k = k
-      reask reason.Starved k = k
-      reask reason.Ended k = k
-      reask reason.Lost k = k
-      reask reason.Cut k = k
-      reask reason.Unread k = k
-      reask reason.SentWhole k = k
-      reask reason.SendFailed k = k
+      relack : MayLack R (cond (opens e d.conn && kept) blank (conn rs d.conn)) (a_round e piece kept acts gs last sends left) d.conn → MayLack R (cond (opens e d.conn && kept) blank (conn rs d.conn)) (a_round e piece kept acts gs last sends left') d.conn
+      relack (InHearing x) = InHearing x
+      relack (AtReply later earlier reply behind m u k) = AtReply later earlier reply behind m u (λ why x. k why (same_closes earlier why ∙ x))
+      relack (AtOffer m b k) = AtOffer m b (λ why x. k why (same_closes (made (a_round e piece kept acts gs last sends left) d.conn) why ∙ x))
 
   tried_same : (ss : List (Step A)) (rs : List (FrontRound A)) (e : PortEvent) (piece : List ℕ) (kept : Bool) (acts : List A) (gs : List Gathered) (b : Bool) (sends : List Send) (c : ℕ) (taken : Option ℕ)
       → Same ss rs (a_round e piece kept acts gs (Some b) sends []) → TryFits R ss c taken
@@ -659,7 +696,8 @@ module _ {A W : Type 0} (R : Rules A W) where
           left = (
             record {
               is_there = ap (λ cs. has cs c) (sym h.there_is) ∙ f.is_there;
-              caused = caused_is rs (part R ss c) e piece kept acts gs (Some b) sends (record { conn = c; asks = asks; why = why } ∷ left) c (h.parts c) why f.caused;
+              caused = closes_is rs (part R ss c) e piece kept acts gs (Some b) sends (record { conn = c; asks = asks; why = why } ∷ left) c (h.parts c) why f.caused;
+              starved = starved_is rs (part R ss c) e piece kept acts gs (Some b) sends (record { conn = c; asks = asks; why = why } ∷ left) c (h.parts c) why f.caused;
               last_try = last_try_is rs (part R ss c) e piece kept acts gs (Some b) sends (record { conn = c; asks = asks; why = why } ∷ left) c (h.parts c) why f.last_try;
               asked_all = asked_is rs (part R ss c) e piece kept acts gs (Some b) sends (record { conn = c; asks = asks; why = why } ∷ left) c (h.parts c) why f.asked_all;
             },
@@ -862,14 +900,36 @@ module _ {A W : Type 0} (R : Rules A W) where
       (λ c. ap (λ n. record { front = R.number; conn = c; bytes = drop n (answer_bytes R (part R ss c).moves) }) (t.took c)
       ∙ ap (λ l. record { front = R.number; conn = c; bytes = drop (conn rs c).took (answer_bytes R l) }) (t.moves c))
 
-  rest_at : (end : FrontEnd) (ss : List (Step A)) (rs : List (FrontRound A)) (rests : List Rest) → Tells ss rs → StepsRest R end ss rests → RestsFit R end rs rests
-  rest_at ended.Worn ss rs rests t k = k
-  rest_at ended.Finished ss rs rests t k = k ∙ rests_are ss rs t
-  rest_at ended.Stopped ss rs rests t k = k ∙ rests_are ss rs t
-  rest_at ended.Broken ss rs rests t k = k ∙ rests_are ss rs t
-  rest_at ended.NoMemory ss rs rests t k = k ∙ rests_are ss rs t
+  rest_at : (end : FrontEnd) (ss : List (Step A)) (rs : List (FrontRound A)) (rests : List Rest) → Tells ss rs → StepsRest R end ss rests → end ≢ ended.Worn → rests ≡ rests_of R rs
+  rest_at ended.Worn ss rs rests t k n = absurd (n refl)
+  rest_at ended.Finished ss rs rests t k n = k ∙ rests_are ss rs t
+  rest_at ended.Stopped ss rs rests t k n = k ∙ rests_are ss rs t
+  rest_at ended.Broken ss rs rests t k n = k ∙ rests_are ss rs t
+  rest_at ended.NoMemory ss rs rests t k n = k ∙ rests_are ss rs t
 
-  telling_is : (ss : List (Step A)) (rs : List (FrontRound A)) (broke : Bool) (start : Option PortsTold) → Tells ss rs → option_map (λ t. with_break broke (steps_told R ss t)) start ≡ option_map (λ t. with_break broke (told_after R rs t)) start
+  each_handed : (f : ℕ → List ℕ) (cs : List ℕ) → Each (λ (r : Rest). r.front ≡ R.number) (map (λ c. record { front = R.number; conn = c; bytes = f c }) cs)
+  each_handed f [] = tt
+  each_handed f (c ∷ cs) = (refl, each_handed f cs)
+
+  handed_at : (end : FrontEnd) (ss : List (Step A)) (rests : List Rest) → StepsRest R end ss rests → Each (λ (r : Rest). r.front ≡ R.number) rests
+  handed_at ended.Worn ss rests k = k
+  handed_at ended.Finished ss rests k = subst (Each (λ (r : Rest). r.front ≡ R.number)) (sym k) (each_handed (λ c. part_due R (part R ss c)) (steps_there ss))
+  handed_at ended.Stopped ss rests k = subst (Each (λ (r : Rest). r.front ≡ R.number)) (sym k) (each_handed (λ c. part_due R (part R ss c)) (steps_there ss))
+  handed_at ended.Broken ss rests k = subst (Each (λ (r : Rest). r.front ≡ R.number)) (sym k) (each_handed (λ c. part_due R (part R ss c)) (steps_there ss))
+  handed_at ended.NoMemory ss rests k = subst (Each (λ (r : Rest). r.front ≡ R.number)) (sym k) (each_handed (λ c. part_due R (part R ss c)) (steps_there ss))
+
+  -- ports that broke
+  broken_at : (end : FrontEnd) (broke : Bool) → BreakFits end broke → end ≡ ended.Broken → broke ≡ true
+  broken_at end broke k e = subst (λ x. BreakFits x broke) e k
+
+  breaks_at : (end : FrontEnd) (broke : Bool) → BreakFits end broke → broke ≡ true → (end ≡ ended.Broken) ⊎ (end ≡ ended.Worn)
+  breaks_at ended.Broken broke k b = inl refl
+  breaks_at ended.Worn broke k b = inr refl
+  breaks_at ended.Finished broke k b = clash (sym b ∙ k)
+  breaks_at ended.Stopped broke k b = clash (sym b ∙ k)
+  breaks_at ended.NoMemory broke k b = clash (sym b ∙ k)
+
+  telling_is : (ss : List (Step A)) (rs : List (FrontRound A)) (broke : Bool) (start : Option PortsTold) → Tells ss rs → option_map (λ t. with_break broke (steps_told R ss t)) start ≡ option_map (λ t. with_break broke t) (option_map (told_after R rs) start)
   telling_is ss rs broke None h = refl
   telling_is ss rs broke (Some t) h = ap (λ u. Some (with_break broke u)) (h.told_is t)
 
@@ -895,8 +955,9 @@ module _ {A W : Type 0} (R : Rules A W) where
         sound = t.sound;
         tells = tells_of s.steps rs start t s.tells;
         end_fits = end_at end s.steps h s.stop worn s.end_fits;
-        break_fits = s.break_fits;
-        break_time = λ b. goes_at (phase s.steps) s.steps h (s.break_time b).1 (s.break_time b).0;
+        broken = broken_at end s.broke s.break_fits;
+        breaks = λ b. (goes_at (phase s.steps) s.steps h (s.break_time b).1 (s.break_time b).0, breaks_at end s.broke s.break_fits b);
+        handed = handed_at end s.steps rests s.rests_fit;
         rests_fit = rest_at end s.steps rs rests t s.rests_fit;
         counted = s.counted ∙ ap (λ n. min n (2 ^ 64 - 1)) t.starved_is;
       }

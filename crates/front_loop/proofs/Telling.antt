@@ -10,10 +10,9 @@ use Rattle.port_events.specs.Told.{PortsTold, MayCome, heard, after_send, after_
 use Rattle.front_loop.specs.Rules.{Rules, Move, Does, Gets, answer_bytes}
 use Rattle.front_loop.specs.inner.Steps.{Step, Came, Did, Got, Through, Tried, Left, there}
 use Rattle.front_loop.specs.Rounds.{has, remove, connections_after}
-use Rattle.front_loop.specs.inner.Parts.{Part, part, due, came, after_move, with_try, blank, is_open, told_after, EachMayCome}
-use Rattle.front_loop.specs.Conns.{opens, send_answer, shut_out}
-use Rattle.front_loop.specs.inner.Sound.{Sound, AllKept}
-use Rattle.front_loop.specs.RoundRules.{OpensNew}
+use Rattle.front_loop.specs.inner.Parts.{Part, part, due, came, after_move, with_try, blank, is_open, told_after, EachMayCome, send_answer}
+use Rattle.front_loop.specs.Conns.{opens, shut_out}
+use Rattle.front_loop.specs.inner.Sound.{Sound, AllKept, OpensNew}
 use Rattle.front_loop.specs.inner.StepRuns.{TellsOf}
 use Rattle.front_loop.specs.inner.Sessions.{Apart}
 use Rattle.front_loop.proofs.Tables.{same, flipped, has_more, apart_snoc, apart_remove}

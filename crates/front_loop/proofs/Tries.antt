@@ -16,9 +16,8 @@ use Rattle.front_loop.specs.declared.offering.Gave.TheVariants as gave
 use Rattle.front_loop.specs.Rules.{Rules, Move, answer_bytes}
 use Rattle.front_loop.specs.inner.Steps.{Step, Came, Did, Got, Through, Tried, Left, Phase, Fresh, Hearing, Collecting, Offering, Leaving, phase, collecting, leaving, Gathers, Offers}
 use Rattle.front_loop.specs.Rounds.{has}
-use Rattle.front_loop.specs.inner.Parts.{Part, part, due, must, with_try, told_after, WhenOffered}
+use Rattle.front_loop.specs.inner.Parts.{Part, part, due, must, with_try, told_after, WhenOffered, send_answer}
 use Rattle.front_loop.specs.inner.Sound.{Sound}
-use Rattle.front_loop.specs.Conns.{send_answer}
 use Rattle.front_loop.specs.inner.StepRuns.{EndsAt}
 use Rattle.front_loop.specs.Front.{keeps}
 use Rattle.front_loop.specs.inner.Sessions.{keys, Apart, StandsAt, is_up}

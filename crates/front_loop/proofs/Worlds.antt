@@ -15,8 +15,7 @@ use Rattle.front_loop.specs.inner.Steps.{Step, Came, Did, phase, Phase, Hearing,
 use Rattle.front_loop.specs.Rounds.{has, connections_after, with_refused}
 use Rattle.front_loop.specs.inner.Parts.{Part, part, came, after_move, told_after, EachMayCome}
 use Rattle.front_loop.specs.Conns.{shut_out}
-use Rattle.front_loop.specs.inner.Sound.{Sound, AllKept, Kept}
-use Rattle.front_loop.specs.RoundRules.{BeginsRound}
+use Rattle.front_loop.specs.inner.Sound.{Sound, AllKept, Kept, BeginsRound}
 use Rattle.front_loop.specs.Front.{does, with_acts, EachFits}
 use Rattle.front_loop.specs.inner.Sessions.{conns, keys, Apart, StandsAt, woken}
 use Rattle.front_loop.specs.inner.Stands.{World, world, IsAtRest, Sits, Stands}

@@ -5,7 +5,6 @@ use Rattle.farm_base.specs.Limits.{most_sessions}
 use Rattle.port_events.specs.declared.events.PortEvent.{PortEvent}
 use Rattle.port_events.specs.declared.events.PortEvent.TheVariants as event
 use Rattle.farm_history.specs.declared.queues.Reply.{Reply}
-use Rattle.farm_history.specs.declared.answers.Collected.{Collected}
 use Rattle.farm_history.specs.declared.answers.Collected.TheVariants as collected
 use Rattle.farm_history.specs.Entries.{Entry, Collect, Leave}
 use Rattle.front_loop.specs.declared.dispositions.Reason.{Reason}
@@ -93,11 +92,6 @@ starved_in (r ∷ rs) = in_turn (λ (d : Departure) n. with_starved n d.why) r.l
 
 -- ---- entries
 
--- the answer of the Collect that gives no reply
-abbrev pub no_reply : Bool → Collected
-no_reply true = collected.Stopped
-no_reply false = collected.Empty
-
 module _ {A W : Type 0} (R : Rules A W) where
   -- the entries of a request of the connection whose bytes came
   abbrev pub asked_by : PortEvent → A → List Entry
@@ -107,7 +101,7 @@ module _ {A W : Type 0} (R : Rules A W) where
   -- the entry of the Collect that gave no reply, behind others
   abbrev pub with_last : Option Bool → List Entry → List Entry
   with_last None es = es
-  with_last (Some stopped) es = es ++ Collect R.number (no_reply stopped) ∷ []
+  with_last (Some stopped) es = es ++ Collect R.number (cond stopped collected.Stopped collected.Empty) ∷ []
 
   -- the front's own entries, in order: in each round those of the requests, then the Collects with what stands behind them, then the Leaves
   abbrev pub own : List (FrontRound A) → List Entry

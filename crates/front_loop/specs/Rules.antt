@@ -1,7 +1,8 @@
 -- What a front makes of a connection: what the bytes that came ask for, the entries that this has, and the
 -- bytes that are answered. Lists of things that happened have the newest first; lists of bytes, of requests
 -- and of entries have the oldest first.
-use Rattle.std.specs.Prelude.{◌≡◌, ℕ, Bool, true, false, ◌&&◌, ◌||◌, ◌⊎◌, List, [], ◌∷◌, ◌++◌}
+use Rattle.std.specs.Prelude.{◌≡◌, ℕ, Bool, true, false, ◌&&◌, ◌⊎◌, List, [], ◌∷◌, ◌++◌}
+use Rattle.std.specs.List.{list_any}
 use Rattle.farm_history.specs.declared.queues.Reply.{Reply}
 use Rattle.farm_history.specs.declared.queues.Outcome.TheVariants as outcome
 use Rattle.farm_history.specs.Entries.{Entry}
@@ -68,8 +69,7 @@ module _ {A W : Type 0} (R : Rules A W) where
 
   -- some move found no memory
   abbrev pub any_starves : List (Move A) → Bool
-  any_starves [] = false
-  any_starves (m ∷ ms) = R.starves m || any_starves ms
+  any_starves ms = list_any R.starves ms
 
   -- these are the first of the requests that stand in the bytes
   abbrev pub BeginsWanted : List ℕ → List W → Type 0

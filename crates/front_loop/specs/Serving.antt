@@ -1,5 +1,5 @@
 -- What a front leaves: its own entries, what its ports tell, and what it hands back.
-use Rattle.std.specs.Prelude.{◌≡◌, ℕ, ◌-◌, ◌^◌, Bool, true, false, ◌&&◌, List, [], ◌∷◌, ◌++◌, map, min, take, drop, Option, Some, option_map, IfSome}
+use Rattle.std.specs.Prelude.{◌≡◌, ◌≢◌, ℕ, ◌-◌, ◌^◌, Bool, true, false, ◌&&◌, ◌⊎◌, cond, List, [], ◌∷◌, ◌++◌, map, min, take, drop, Option, Some, option_map, IfSome}
 use Rattle.port_events.specs.declared.events.PortEvent.TheVariants as event
 use Rattle.port_events.specs.declared.ends.FrontEnd.{FrontEnd}
 use Rattle.port_events.specs.declared.ends.FrontEnd.TheVariants as ended
@@ -11,17 +11,6 @@ use Rattle.front_loop.specs.Rules.{Rules, answer_bytes}
 use Rattle.front_loop.specs.Rounds.{FrontRound, there, has, own, starved_in}
 use Rattle.front_loop.specs.Conns.{conn, is_open, told_after}
 use Rattle.front_loop.specs.RoundRules.{EndsWhole, MayFollow, Sound}
-
--- the ports broke as a whole, or not: it is the last line of their record, and no round
-abbrev pub with_break : Bool → PortsTold → PortsTold
-with_break true t = heard event.Broken [] t
-with_break false t = t
-
--- a front whose ports broke ends Broken, but where its Stop was worn
-abbrev pub BreakFits : FrontEnd → Bool → Type 0
-BreakFits ended.Broken broke = broke ≡ true
-BreakFits ended.Worn broke = Unit {0}
-BreakFits _ broke = broke ≡ false
 
 -- the connection is open in the ports after the rounds, if it is there
 abbrev pub is_open_after : {A : Type 0} → List (FrontRound A) → ℕ → Bool
@@ -43,11 +32,6 @@ module _ {A W : Type 0} (R : Rules A W) where
   EndHasCause ended.Stopped (r ∷ rs) stop worn = EndsWhole R rs r × (r.last ≡ Some true) × (stop ≡ Stop ∷ [])
   EndHasCause _ _ stop worn = ⊥
 
-  -- where a turn was worn, what the rests are is free, but for the front's number in them
-  abbrev pub RestsFit : FrontEnd → List (FrontRound A) → List Rest → Type 0
-  RestsFit ended.Worn rs rests = Each (λ (r : Rest). r.front ≡ R.number) rests
-  RestsFit _ rs rests = rests ≡ rests_of rs
-
   -- What ports that told t before tell of a connection after the rounds. The bytes taken since are a beginning of its
   -- answers. It is open exactly where it is there and has not failed, if it was not open before.
   abbrev pub TellsOf : List (FrontRound A) → PortsTold → ℕ → Type 0
@@ -63,11 +47,15 @@ module _ {A W : Type 0} (R : Rules A W) where
     pub broke : Bool
     pub stop : List Entry
     pub entries : mine ≡ own R rounds ++ stop
-    pub telling : told ≡ option_map (λ t. with_break broke (told_after R rounds t)) start
+    -- that the ports broke as a whole is the last line of their record
+    pub telling : told ≡ option_map (λ t. cond broke (heard event.Broken [] t) t) (option_map (told_after R rounds) start)
     pub sound : Sound R rounds
     pub tells : IfSome start (λ t. (c : ℕ) → TellsOf rounds t c)
     pub end_fits : EndHasCause end rounds stop worn
-    pub break_fits : BreakFits end broke
-    pub break_time : broke ≡ true → MayFollow R rounds
-    pub rests_fit : RestsFit end rounds rests
+    -- a front whose ports broke ends Broken, but where its Stop was worn
+    pub broken : end ≡ ended.Broken → broke ≡ true
+    pub breaks : broke ≡ true → MayFollow R rounds × ((end ≡ ended.Broken) ⊎ (end ≡ ended.Worn))
+    -- where a turn was worn, what the rests are is free, but for the front's number in them
+    pub handed : Each (λ (r : Rest). r.front ≡ R.number) rests
+    pub rests_fit : end ≢ ended.Worn → rests ≡ rests_of rounds
     pub counted : starved ≡ min (starved_in rounds) (2 ^ 64 - 1)

@@ -15,7 +15,9 @@ use Rattle.http_handler.specs.declared.acts.Act.{Act}
 use Rattle.http_handler.specs.declared.conn_states.Stage.{Stage}
 use Rattle.http_handler.specs.declared.conn_states.Stage.TheVariants.{Reading, Waiting, Answered}
 use Rattle.http_handler.specs.ConnStates.{is_reading, is_answered, waits_in, spot_at}
-use Rattle.http_handler.specs.Tiles.{GetsSpot, http_ask_of, BytesAsk, http_asks, still_waits, same_map, same_spot, tile_rules}
+use Rattle.std.specs.Prelude.{◌==◌}
+use Rattle.std.specs.Option.{option_eq}
+use Rattle.http_handler.specs.Tiles.{GetsSpot, http_ask_of, BytesAsk, http_asks, still_waits, same_spot, tile_rules}
 use Rattle.http_handler.specs.Steps.{want}
 
 -- no test is passed and failed
@@ -67,7 +69,7 @@ shown_twice given = let e = length-take most_head_bytes given in take_all most_h
 same_number : (n : ℕ) → eqb n n ≡ true
 same_number n = eq-eqb n n refl
 
-same_place : (m : Option ℕ) → same_map m m ≡ true
+same_place : (m : Option ℕ) → option_eq (λ a b. a == b) m m ≡ true
 same_place None = refl
 same_place (Some n) = same_number n
 

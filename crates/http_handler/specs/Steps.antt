@@ -1,6 +1,6 @@
 -- The steps of the tile front's calls: what is found in a head, what a fetch and an ask leave.
 use Rattle.std.specs.Option.{is_some}
-use Rattle.std.specs.Prelude.{◌≡◌, ℕ, Bool, true, false, ◌||◌, ◌⊎◌, List, [], ◌∷◌, ◌++◌, Option, Some, None}
+use Rattle.std.specs.Prelude.{◌≡◌, ℕ, Bool, true, false, ◌||◌, ◌⊎◌, List, [], ◌∷◌, ◌++◌, Option, Some, None, unwrap_or}
 use Rattle.farm_history.specs.declared.asks.Spot.{Spot}
 use Rattle.farm_history.specs.declared.queues.Conn.{Conn}
 use Rattle.farm_history.specs.declared.answers.Fetched.{Fetched}
@@ -15,7 +15,6 @@ use Rattle.http_handler.specs.declared.acts.HttpAsk.{HttpAsk}
 use Rattle.http_handler.specs.declared.acts.Act.{Act}
 use Rattle.http_handler.specs.declared.conn_states.Stage.{Stage}
 use Rattle.http_handler.specs.ConnStates.{is_reading, is_answered, waits_in}
-use Rattle.front_loop.specs.Moves.{or_empty}
 use Rattle.http_handler.specs.Tiles.{BytesAsk, found_no_memory, ask_done}
 
 -- ---- an act, by what is made of it
@@ -42,7 +41,7 @@ whole_act a = is_some (ask_done a).answer || is_some (ask_done a).waits
 
 -- the bytes that are answered to it
 abbrev pub answer_of : Act → List ℕ
-answer_of a = or_empty (ask_done a).answer
+answer_of a = unwrap_or (ask_done a).answer []
 
 -- it is answered
 abbrev pub is_answer : Act → Bool

@@ -1,7 +1,7 @@
 -- What the tile front makes of a connection: which request stands in its bytes, which entries this has, and what is
 -- answered to it.
-use Rattle.std.specs.Prelude.{◌≡◌, ℕ, ◌<◌, ◌==◌, Bool, true, false, cond, not, ◌&&◌, ◌||◌, List, [], ◌∷◌, ◌++◌, length, Option, Some, None, option_map}
-use Rattle.std.specs.Option.{is_some, is_none}
+use Rattle.std.specs.Prelude.{◌≡◌, ℕ, ◌<◌, ◌==◌, Bool, true, false, cond, not, ◌&&◌, ◌||◌, List, [], ◌∷◌, ◌++◌, length, Option, Some, None, option_map, unwrap_or}
+use Rattle.std.specs.Option.{is_some, is_none, option_eq}
 use Rattle.farm_base.specs.Limits.{most_head_bytes}
 use Rattle.farm_history.specs.declared.queues.Conn.{Conn}
 use Rattle.farm_history.specs.declared.asks.Spot.{Spot}
@@ -11,7 +11,7 @@ use Rattle.farm_history.specs.declared.answers.Fetched.TheVariants as fetched
 use Rattle.farm_history.specs.Entries.{Entry, Ask, Fetch, Look}
 use Rattle.farm_history.specs.Past.{number_in}
 use Rattle.front_loop.specs.Rules.{Rules, Move, Does, Gets, is_empty, is_cut}
-use Rattle.front_loop.specs.Moves.{by_move, or_empty}
+use Rattle.front_loop.specs.Moves.{by_move}
 use Rattle.tile_requests.specs.declared.targets.Kind.{Kind}
 use Rattle.tile_requests.specs.declared.targets.Kind.TheVariants as kind
 use Rattle.tile_requests.specs.Targets.{Place}
@@ -112,25 +112,14 @@ waiting_ask (Gets r behind ∷ ms) = still_waits r.ask (waiting_ask ms)
 
 -- ---- which entries stand behind a Collect
 
--- both are the same map, or none
-abbrev pub same_map : Option ℕ → Option ℕ → Bool
-same_map None None = true
-same_map (Some m) (Some n) = m == n
-same_map _ _ = false
-
 -- both are the same spot
 abbrev pub same_spot : Spot → Spot → Bool
-same_spot s t = same_map s.map t.map && (s.z == t.z && (s.x == t.x && s.y == t.y))
-
--- the entry is the Fetch of that spot
-abbrev pub is_fetch : Spot → Entry → Bool
-is_fetch s (Fetch t f) = same_spot s t
-is_fetch s e = false
+same_spot s t = option_eq (λ m n. m == n) s.map t.map && (s.z == t.z && (s.x == t.x && s.y == t.y))
 
 -- none, or the Fetch of the spot that waited
 abbrev pub fits_behind : Option Spot → List Entry → Bool
 fits_behind o [] = true
-fits_behind (Some s) (e ∷ []) = is_fetch s e
+fits_behind (Some s) (Fetch t f ∷ []) = same_spot s t
 fits_behind _ _ = false
 
 -- ---- the rules
@@ -162,7 +151,7 @@ tile_rules front maps = record {
   entries = λ c a. (ask_done a).entries (record { front = front; number = c });
   fits = λ ms m. by_move (λ a. (ask_done a).fits) (λ r behind. fits_behind (spot_at r.ask (waiting_ask ms)) behind) m;
   whole = λ ms m. by_move (λ a. is_some (ask_done a).answer || is_some (ask_done a).waits) (λ r behind. is_none (spot_at r.ask (waiting_ask ms)) || (not (is_empty behind) || is_cut m)) m;
-  says = λ ms m. by_move (λ a. or_empty (ask_done a).answer) (λ r behind. answer_behind behind) m;
+  says = λ ms m. by_move (λ a. unwrap_or (ask_done a).answer []) (λ r behind. answer_behind behind) m;
   starves = λ m. by_move (λ a. (ask_done a).starves) (λ r behind. starves_behind behind) m;
   ends = ends;
 }

@@ -1,12 +1,11 @@
 -- How requests are done one after another, and what becomes of a session by them.
-use Rattle.std.specs.Prelude.{◌≡◌, ℕ, ◌-◌, ◌^◌, ◌≤◌, Bool, true, false, List, [], ◌++◌, length, min, Result, Ok, Err}
+use Rattle.std.specs.Prelude.{◌≡◌, ℕ, ◌-◌, ◌^◌, ◌≤◌, Bool, true, false, List, [], ◌++◌, length, min, Result, Ok, Err, unwrap_or}
 use Rattle.plain_world.specs.declared.world.Tile.{Tile}
 use Rattle.farm_history.specs.Entries.{Entry}
 use Rattle.farm_base.specs.declared.turns.Worn.{Worn}
 use Rattle.front_loop.specs.declared.dispositions.Disposition.{Disposition}
 use Rattle.front_loop.specs.declared.dispositions.Disposition.TheVariants.{Stays, Leaves}
 use Rattle.front_loop.specs.declared.dispositions.Reason.TheVariants as reason
-use Rattle.front_loop.specs.Moves.{or_empty}
 use Rattle.front_loop.specs.Rules.{Move, wants_of, answer_bytes, each_whole, any_starves}
 use Rattle.front_loop.specs.Front.{keeps, does, EachFits, with_acts}
 use Rattle.control_handler.specs.declared.acts.Line.{Line}
@@ -23,7 +22,7 @@ module _ (lists : List (List Tile)) where
 
   -- the bytes that are answered to it
   abbrev pub act_text : Act → List ℕ
-  act_text a = or_empty (line_done lists a).answer
+  act_text a = unwrap_or (line_done lists a).answer []
 
   -- no more tiles were expired than the list has
   abbrev pub act_fits : Act → Bool

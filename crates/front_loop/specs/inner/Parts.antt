@@ -1,13 +1,32 @@
 -- What stands of one connection after a front's steps.
-use Rattle.std.specs.Prelude.{◌≡◌, ℕ, ◌+◌, ◌<◌, ◌==◌, Bool, true, false, not, ◌&&◌, ◌||◌, cond, List, [], ◌∷◌, length, drop, Option, nat_lt, nat_le}
+use Rattle.std.specs.Prelude.{◌≡◌, ℕ, ◌+◌, ◌<◌, ◌==◌, Bool, true, false, not, ◌&&◌, ◌||◌, cond, List, [], ◌∷◌, ◌++◌, length, drop, Option, Result, unwrap_or, ok_or, nat_lt, nat_le}
+use Rattle.std.specs.Option.{is_none}
 use Rattle.farm_base.specs.Limits.{most_rest_bytes}
 use Rattle.port_events.specs.declared.events.PortEvent.{PortEvent}
+use Rattle.port_events.specs.declared.events.SendFault.{SendFault}
+use Rattle.port_events.specs.declared.events.SendFault.TheVariants as send_fault
 use Rattle.port_events.specs.Told.{PortsTold, MayCome, heard, after_send, after_close}
 use Rattle.front_loop.specs.declared.dispositions.Reason.{Reason}
 use Rattle.front_loop.specs.declared.dispositions.Reason.TheVariants as reason
 use Rattle.front_loop.specs.Rules.{Rules, Move, Does, Gets, is_cut, answer_bytes, each_whole}
-use Rattle.front_loop.specs.Conns.{opens, ends_at, loses, calls, brings, with_bytes, send_answer, taken_by, send_failed, shut_out}
+use Rattle.front_loop.specs.Conns.{opens, ends_at, loses, calls, brings, shut_out}
 use Rattle.front_loop.specs.inner.Steps.{Step, Came, Did, Got, Through, Tried, Left}
+
+-- the bytes that came on it, with the piece that the event brings
+abbrev pub with_bytes : PortEvent → List ℕ → ℕ → List ℕ → List ℕ
+with_bytes e piece c given = cond (brings e c) (given ++ piece) given
+
+-- a send that took so many bytes, or failed
+abbrev pub send_answer : Option ℕ → Result ℕ SendFault
+send_answer taken = ok_or taken send_fault.Failed
+
+-- how many bytes a send took
+abbrev pub taken_by : Option ℕ → ℕ
+taken_by taken = unwrap_or taken 0
+
+-- the send failed
+abbrev pub send_failed : Option ℕ → Bool
+send_failed taken = is_none taken
 
 pub record Part (A : Type 0) : Type 0 where
   -- the bytes that came, the moves that were made, and how many bytes of the answers were taken
