@@ -19,7 +19,7 @@ use Rattle.front_loop.specs.declared.dispositions.Reason.{Reason}
 use Rattle.front_loop.specs.declared.dispositions.Reason.TheVariants as reason
 use Rattle.front_loop.specs.Rules.{Rules, Move, Does, Gets, is_cut, wants_of, answer_bytes, each_whole, each_fits, any_starves, BeginsWanted}
 use Rattle.front_loop.specs.Rounds.{Gathered, Send, Departure, FrontRound, has, remove, connections_after, in_turn, there, with_refused, with_starved, starved_in, own}
-use Rattle.front_loop.specs.Conns.{Conn, ends_at, loses, calls, opens, brings, shut_out, is_tried, send_fails, made, blank, conn, before, is_open, is_excused, complete, due, must, HasAll, Offered, closes, Unclosed, MayLack, InHearing, AtReply, AtOffer, Kept, told_after}
+use Rattle.front_loop.specs.Conns.{Standing, ends_at, loses, calls, opens, brings, shut_out, is_tried, send_fails, made, blank, conn, before, is_open, is_excused, complete, due, must, HasAll, Offered, closes, Unclosed, MayLack, InHearing, AtReply, AtOffer, Kept, told_after}
 use Rattle.front_loop.specs.RoundRules.{EachSoFar, SendFits, IsStarved, LeaveFits, EndsWhole, MayFollow, RoundFits, Sound}
 use Rattle.front_loop.specs.Serving.{is_open_after, rests_of, EndHasCause, TellsOf, FrontRun}
 use Rattle.front_loop.specs.inner.Steps.{Step, Came, Did, Got, Through, Tried, Left, Phase, Fresh, Hearing, Collecting, Offering, Leaving, phase, no_reply, collecting, offering, leaving, Gathers, IsThrough, MayBegin, Offers, goes_on, there as steps_there, own as steps_own, starved_in as steps_starved}
@@ -130,7 +130,7 @@ module _ {A W : Type 0} (R : Rules A W) where
   -- ---- one connection
 
   -- nothing of the round has closed it with these moves but what may stand in its bytes, as long as no bytes were offered
-  record Held (q : Conn A) (e : PortEvent) (ms : List (Move A)) (c : ℕ) : Type 0 where
+  record Held (q : Standing A) (e : PortEvent) (ms : List (Move A)) (c : ℕ) : Type 0 where
     ended : ends_at e c ≡ false
     lost : loses e c ≡ false
     cut : list_any is_cut ms ≡ false
@@ -138,7 +138,7 @@ module _ {A W : Type 0} (R : Rules A W) where
     memory : any_starves R ms ≡ false
 
   -- a reply that was not cut came then
-  record Met (q : Conn A) (e : PortEvent) (ms : List (Move A)) (c : ℕ) : Type 0 where
+  record Met (q : Standing A) (e : PortEvent) (ms : List (Move A)) (c : ℕ) : Type 0 where
     later : List (Move A)
     earlier : List (Move A)
     reply : Reply
@@ -148,7 +148,7 @@ module _ {A W : Type 0} (R : Rules A W) where
     held : Held q e earlier c
 
   -- what stands of it after the steps is what stood of it before the newest round, and what the round made of it
-  record PartIs (p : Part A) (q : Conn A) (e : PortEvent) (piece : List ℕ) (ms : List (Move A)) (last : Option Bool) (sends : List Send) (c : ℕ) : Type 0 where
+  record PartIs (p : Part A) (q : Standing A) (e : PortEvent) (piece : List ℕ) (ms : List (Move A)) (last : Option Bool) (sends : List Send) (c : ℕ) : Type 0 where
     given : p.given ≡ with_bytes e piece c q.given
     moves : p.moves ≡ ms ++ q.moves
     took : p.took ≡ took_after sends c q.took
@@ -167,7 +167,7 @@ module _ {A W : Type 0} (R : Rules A W) where
     met : p.met ≡ true → Met q e ms c
 
   -- what has not closed it is no cause
-  held_of : (p : Part A) (q : Conn A) (e : PortEvent) (piece : List ℕ) (ms : List (Move A)) (last : Option Bool) (sends : List Send) (c : ℕ) → PartIs p q e piece ms last sends c → runs R p ≡ true → Held q e ms c
+  held_of : (p : Part A) (q : Standing A) (e : PortEvent) (piece : List ℕ) (ms : List (Move A)) (last : Option Bool) (sends : List Send) (c : ℕ) → PartIs p q e piece ms last sends c → runs R p ≡ true → Held q e ms c
   held_of p q e piece ms last sends c h n =
       let a = or_split p.ended (p.lost || (p.cut || (part_full R p || p.starved))) (not_true (p.ended || (p.lost || (p.cut || (part_full R p || p.starved)))) n) in
       let b = or_split p.lost (p.cut || (part_full R p || p.starved)) a.1 in
@@ -181,21 +181,21 @@ module _ {A W : Type 0} (R : Rules A W) where
         memory = sym h.starved ∙ f.1;
       }
 
-  met_more : (m : Move A) (q : Conn A) (e : PortEvent) (ms : List (Move A)) (c : ℕ) → Met q e ms c → Met q e (m ∷ ms) c
+  met_more : (m : Move A) (q : Standing A) (e : PortEvent) (ms : List (Move A)) (c : ℕ) → Met q e ms c → Met q e (m ∷ ms) c
   met_more m q e ms c h = record { later = m ∷ h.later; earlier = h.earlier; reply = h.reply; behind = h.behind; made_is = ap (λ (l : List (Move A)). m ∷ l) h.made_is; uncut = h.uncut; held = h.held }
 
-  met_by : (b : Bool) (p : Part A) (q : Conn A) (e : PortEvent) (piece : List ℕ) (ms : List (Move A)) (c : ℕ) (r : Reply) (behind : List Entry) → PartIs p q e piece ms None [] c
+  met_by : (b : Bool) (p : Part A) (q : Standing A) (e : PortEvent) (piece : List ℕ) (ms : List (Move A)) (c : ℕ) (r : Reply) (behind : List Entry) → PartIs p q e piece ms None [] c
       → meets R (Gets r behind) p ≡ b → (b || p.met) ≡ true → Met q e (Gets r behind ∷ ms) c
   met_by true p q e piece ms c r behind h k x =
       let a = and_split (not (is_cut {A = A} (Gets r behind))) (runs R p) k in
       record { later = []; earlier = ms; reply = r; behind = behind; made_is = refl; uncut = not_true (is_cut {A = A} (Gets r behind)) a.0; held = held_of p q e piece ms None [] c h a.1 }
   met_by false p q e piece ms c r behind h k x = met_more (Gets r behind) q e ms c (h.met x)
 
-  met_moved : (m : Move A) (p : Part A) (q : Conn A) (e : PortEvent) (piece : List ℕ) (ms : List (Move A)) (c : ℕ) → PartIs p q e piece ms None [] c → (after_move R m p).met ≡ true → Met q e (m ∷ ms) c
+  met_moved : (m : Move A) (p : Part A) (q : Standing A) (e : PortEvent) (piece : List ℕ) (ms : List (Move A)) (c : ℕ) → PartIs p q e piece ms None [] c → (after_move R m p).met ≡ true → Met q e (m ∷ ms) c
   met_moved (Does a) p q e piece ms c h x = met_more (Does a) q e ms c (h.met x)
   met_moved (Gets r behind) p q e piece ms c h x = met_by (meets R (Gets r behind) p) p q e piece ms c r behind h refl x
 
-  came_is : (e : PortEvent) (piece : List ℕ) (p : Part A) (q : Conn A) (c : ℕ) → p.given ≡ q.given → p.moves ≡ q.moves → p.took ≡ q.took → PartIs (came R e piece c p) q e piece [] None [] c
+  came_is : (e : PortEvent) (piece : List ℕ) (p : Part A) (q : Standing A) (c : ℕ) → p.given ≡ q.given → p.moves ≡ q.moves → p.took ≡ q.took → PartIs (came R e piece c p) q e piece [] None [] c
   came_is e piece p q c g m t = record {
     given = ap (with_bytes e piece c) g;
     moves = m;
@@ -215,12 +215,12 @@ module _ {A W : Type 0} (R : Rules A W) where
     met = λ x. clash (sym x);
   }
 
-  came_by : (b : Bool) (e : PortEvent) (piece : List ℕ) (p : Part A) (q : Conn A) (c : ℕ) → p.given ≡ q.given → p.moves ≡ q.moves → p.took ≡ q.took
+  came_by : (b : Bool) (e : PortEvent) (piece : List ℕ) (p : Part A) (q : Standing A) (c : ℕ) → p.given ≡ q.given → p.moves ≡ q.moves → p.took ≡ q.took
       → PartIs (came R e piece c (cond b part_blank p)) (cond b blank q) e piece [] None [] c
   came_by true e piece p q c g m t = came_is e piece part_blank blank c refl refl refl
   came_by false e piece p q c g m t = came_is e piece p q c g m t
 
-  excuse : (m : Move A) (p : Part A) (q : Conn A) (e : PortEvent) (piece : List ℕ) (ms : List (Move A)) (c : ℕ) → PartIs p q e piece ms None [] c
+  excuse : (m : Move A) (p : Part A) (q : Standing A) (e : PortEvent) (piece : List ℕ) (ms : List (Move A)) (c : ℕ) → PartIs p q e piece ms None [] c
       → part_excused m p ≡ is_excused (ends_at e c || loses e c) ms m
   excuse (Does a) p q e piece ms c h = refl
   excuse (Gets r behind) p q e piece ms c h =
@@ -228,7 +228,7 @@ module _ {A W : Type 0} (R : Rules A W) where
       ap (λ b. b || (p.lost || (p.cut || cut))) h.ended ∙ ap (λ b. ends_at e c || (b || (p.cut || cut))) h.lost ∙ ap (λ b. ends_at e c || (loses e c || (b || cut))) h.cut
       ∙ or_assoc (ends_at e c) (loses e c) (list_any is_cut ms || cut)
 
-  moved : (m : Move A) (p : Part A) (q : Conn A) (e : PortEvent) (piece : List ℕ) (ms : List (Move A)) (c : ℕ) → PartIs p q e piece ms None [] c
+  moved : (m : Move A) (p : Part A) (q : Standing A) (e : PortEvent) (piece : List ℕ) (ms : List (Move A)) (c : ℕ) → PartIs p q e piece ms None [] c
       → PartIs (after_move R m p) q e piece (m ∷ ms) None [] c
   moved m p q e piece ms c h = record {
     given = h.given;
@@ -252,16 +252,16 @@ module _ {A W : Type 0} (R : Rules A W) where
     met = met_moved m p q e piece ms c h;
   }
 
-  moved_by : (b : Bool) (m : Move A) (p : Part A) (q : Conn A) (e : PortEvent) (piece : List ℕ) (ms : List (Move A)) (c : ℕ) → PartIs p q e piece ms None [] c
+  moved_by : (b : Bool) (m : Move A) (p : Part A) (q : Standing A) (e : PortEvent) (piece : List ℕ) (ms : List (Move A)) (c : ℕ) → PartIs p q e piece ms None [] c
       → PartIs (cond b (after_move R m p) p) q e piece (cond b (m ∷ ms) ms) None [] c
   moved_by true m p q e piece ms c h = moved m p q e piece ms c h
   moved_by false m p q e piece ms c h = h
 
-  over_by : (b : Bool) (p : Part A) (q : Conn A) (e : PortEvent) (piece : List ℕ) (ms : List (Move A)) (c : ℕ) → PartIs p q e piece ms None [] c → (b || p.called) ≡ (calls e c || stops (Some b))
+  over_by : (b : Bool) (p : Part A) (q : Standing A) (e : PortEvent) (piece : List ℕ) (ms : List (Move A)) (c : ℕ) → PartIs p q e piece ms None [] c → (b || p.called) ≡ (calls e c || stops (Some b))
   over_by true p q e piece ms c h = sym (or-true (calls e c))
   over_by false p q e piece ms c h = h.called
 
-  through_is : (b : Bool) (p : Part A) (q : Conn A) (e : PortEvent) (piece : List ℕ) (ms : List (Move A)) (c : ℕ) → PartIs p q e piece ms None [] c
+  through_is : (b : Bool) (p : Part A) (q : Standing A) (e : PortEvent) (piece : List ℕ) (ms : List (Move A)) (c : ℕ) → PartIs p q e piece ms None [] c
       → PartIs (record p { called = b || p.called; through = true }) q e piece ms (Some b) [] c
   through_is b p q e piece ms c h = record {
     given = h.given;
@@ -282,7 +282,7 @@ module _ {A W : Type 0} (R : Rules A W) where
     met = h.met;
   }
 
-  tried_is : (b : Bool) (c d : ℕ) (taken : Option ℕ) (p : Part A) (q : Conn A) (e : PortEvent) (piece : List ℕ) (ms : List (Move A)) (last : Option Bool) (sends : List Send) → PartIs p q e piece ms last sends d
+  tried_is : (b : Bool) (c d : ℕ) (taken : Option ℕ) (p : Part A) (q : Standing A) (e : PortEvent) (piece : List ℕ) (ms : List (Move A)) (last : Option Bool) (sends : List Send) → PartIs p q e piece ms last sends d
       → (c == d) ≡ b → (b ≡ true → is_tried sends d ≡ false) → PartIs (cond b (with_try R taken p) p) q e piece ms last (record { conn = c; taken = taken } ∷ sends) d
   tried_is true c d taken p q e piece ms last sends h k once =
       let had_none : send_fails sends d ≡ false = untried_failed sends d (once refl) in
@@ -339,7 +339,7 @@ module _ {A W : Type 0} (R : Rules A W) where
 
   -- ---- what is said of one connection
 
-  module _ (p : Part A) (q : Conn A) (e : PortEvent) (piece : List ℕ) (kept : Bool) (acts : List A) (gs : List Gathered) (last : Option Bool) (sends : List Send) (left : List Departure) (c : ℕ)
+  module _ (p : Part A) (q : Standing A) (e : PortEvent) (piece : List ℕ) (kept : Bool) (acts : List A) (gs : List Gathered) (last : Option Bool) (sends : List Send) (left : List Departure) (c : ℕ)
       (h : PartIs p q e piece (gets_on gs c (asks_on e acts c)) last sends c) where
     abbrev the_round : FrontRound A
     the_round = a_round e piece kept acts gs last sends left
@@ -428,7 +428,7 @@ module _ {A W : Type 0} (R : Rules A W) where
   -- the same of a connection in the newest round
   module _ (rs : List (FrontRound A)) (p : Part A) (e : PortEvent) (piece : List ℕ) (kept : Bool) (acts : List A) (gs : List Gathered) (last : Option Bool) (sends : List Send) (left : List Departure) (c : ℕ)
       (h : PartIs p (cond (opens e c && kept) blank (conn rs c)) e piece (gets_on gs c (asks_on e acts c)) last sends c) where
-    abbrev began : Conn A
+    abbrev began : Standing A
     began = cond (opens e c && kept) blank (conn rs c)
 
     closes_is : (why : Reason) → PartCaused R p why → why ≢ reason.Starved → closes R began (a_round e piece kept acts gs last sends left) c (made (a_round e piece kept acts gs last sends left) c) why ≡ true
@@ -487,7 +487,7 @@ module _ {A W : Type 0} (R : Rules A W) where
   fits_of [] s c = refl
   fits_of (r ∷ rs) s c = s.0.fits c
 
-  fits_before : (b : Bool) (q : Conn A) → each_fits R q.moves ≡ true → each_fits R (cond b blank q).moves ≡ true
+  fits_before : (b : Bool) (q : Standing A) → each_fits R q.moves ≡ true → each_fits R (cond b blank q).moves ≡ true
   fits_before true q h = refl
   fits_before false q h = h
 
@@ -526,7 +526,7 @@ module _ {A W : Type 0} (R : Rules A W) where
       → Same (Did c a ∷ ss) rs (a_round (event.Bytes c) piece kept (a ∷ acts) [] None [] [])
   did_same ss rs c piece kept acts a h f b =
       let e : PortEvent = event.Bytes c in
-      let q : ℕ → Conn A = λ d. cond (opens (event.Bytes c) d && kept) blank (conn rs d) in
+      let q : ℕ → Standing A = λ d. cond (opens (event.Bytes c) d && kept) blank (conn rs d) in
       let here : AsksFirst (with_bytes (event.Bytes c) piece c (q c).given) (wants_of R (cond (c == c) (Does a ∷ asks_on (event.Bytes c) acts c) (asks_on (event.Bytes c) acts c) ++ (q c).moves)) =
       subst (λ y. AsksFirst (with_bytes (event.Bytes c) piece c (q c).given) (wants_of R (cond y (Does a ∷ asks_on (event.Bytes c) acts c) (asks_on (event.Bytes c) acts c) ++ (q c).moves))) (sym (eq-eqb c c refl))
       (subst (λ l. AsksFirst (with_bytes (event.Bytes c) piece c (q c).given) (wants_of R l ++ R.want a ∷ [])) (h.parts c).moves
@@ -555,7 +555,7 @@ module _ {A W : Type 0} (R : Rules A W) where
       → Same ss rs (a_round e piece kept acts gs None [] []) → R.fits (part R ss r.conn.number).moves (Gets r behind) ≡ true
       → Same (Got r behind ∷ ss) rs (a_round e piece kept acts (record { reply = r; behind = behind } ∷ gs) None [] [])
   got_same ss rs e piece kept acts gs r behind h f =
-      let q : ℕ → Conn A = λ d. cond (opens e d && kept) blank (conn rs d) in
+      let q : ℕ → Standing A = λ d. cond (opens e d && kept) blank (conn rs d) in
       record {
         own_is = ap (λ es. es ++ Collect R.number (collected.Reply r) ∷ behind) h.own_is;
         there_is = h.there_is;
@@ -578,7 +578,7 @@ module _ {A W : Type 0} (R : Rules A W) where
   through_same : (ss : List (Step A)) (rs : List (FrontRound A)) (e : PortEvent) (piece : List ℕ) (kept : Bool) (acts : List A) (gs : List Gathered) (b : Bool)
       → Same ss rs (a_round e piece kept acts gs None [] []) → Same (Through b ∷ ss) rs (a_round e piece kept acts gs (Some b) [] [])
   through_same ss rs e piece kept acts gs b h =
-      let q : ℕ → Conn A = λ d. cond (opens e d && kept) blank (conn rs d) in
+      let q : ℕ → Standing A = λ d. cond (opens e d && kept) blank (conn rs d) in
       record {
         own_is = ap (λ es. es ++ Collect R.number (no_reply b) ∷ []) h.own_is;
         there_is = h.there_is;
@@ -640,7 +640,7 @@ module _ {A W : Type 0} (R : Rules A W) where
       → Same ss rs (a_round e piece kept acts gs (Some b) sends []) → TryFits R ss c taken
       → Same (Tried c taken ∷ ss) rs (a_round e piece kept acts gs (Some b) (record { conn = c; taken = taken } ∷ sends) [])
   tried_same ss rs e piece kept acts gs b sends c taken h f =
-      let q : ℕ → Conn A = λ d. cond (opens e d && kept) blank (conn rs d) in
+      let q : ℕ → Standing A = λ d. cond (opens e d && kept) blank (conn rs d) in
       let once : is_tried sends c ≡ false = sym (h.parts c).tried ∙ f.once in
       let sent : List Send = record { conn = c; taken = taken } ∷ sends in
       let all : part_due R (part R ss c) ≡ due R (q c) (a_round e piece kept acts gs (Some b) sends []) c = due_is (part R ss c) (q c) e piece kept acts gs (Some b) sends [] c (h.parts c) once in
@@ -676,7 +676,7 @@ module _ {A W : Type 0} (R : Rules A W) where
       → Same ss rs (a_round e piece kept acts gs (Some b) sends left) → LeftFits R ss c why
       → Same (Left c asks why ∷ ss) rs (a_round e piece kept acts gs (Some b) sends (record { conn = c; asks = asks; why = why } ∷ left))
   left_same ss rs e piece kept acts gs b sends left c asks why h f =
-      let q : ℕ → Conn A = λ d. cond (opens e d && kept) blank (conn rs d) in
+      let q : ℕ → Standing A = λ d. cond (opens e d && kept) blank (conn rs d) in
       let more : List Departure = record { conn = c; asks = asks; why = why } ∷ left in
       record {
         own_is = ap (λ es. es ++ Leave (record { front = R.number; number = c }) asks ∷ []) h.own_is;

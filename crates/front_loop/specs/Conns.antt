@@ -15,7 +15,7 @@ use Rattle.front_loop.specs.Rules.{Rules, Move, Does, Gets, is_cut, wants_of, an
 use Rattle.front_loop.specs.Rounds.{Gathered, Send, Departure, FrontRound, in_turn}
 
 -- what stands of a connection: the bytes that came, the moves that were made, and how many bytes of its answers were taken
-pub record Conn (A : Type 0) : Type 0 where
+pub record Standing (A : Type 0) : Type 0 where
   pub given : List ℕ
   pub moves : List (Move A)
   pub took : ℕ
@@ -68,7 +68,7 @@ module _ {A : Type 0} where
       (in_turn (λ a ms. cond (brings r.event c) (Does a ∷ ms) ms) r.acts [])
 
   -- what stands of the connection after a round, where this stood of it before
-  abbrev pub after : FrontRound A → ℕ → Conn A → Conn A
+  abbrev pub after : FrontRound A → ℕ → Standing A → Standing A
   after r c p = record {
     given = cond (brings r.event c) (p.given ++ r.piece) p.given;
     moves = made r c ++ p.moves;
@@ -76,16 +76,16 @@ module _ {A : Type 0} where
   }
 
   -- nothing has happened on it
-  abbrev pub blank : Conn A
+  abbrev pub blank : Standing A
   blank = record { given = []; moves = []; took = 0 }
 
   -- what stands of it after the rounds: all begins anew where its Opened made a session
-  abbrev pub conn : List (FrontRound A) → ℕ → Conn A
+  abbrev pub conn : List (FrontRound A) → ℕ → Standing A
   conn [] c = blank
   conn (r ∷ rs) c = after r c (cond (opens r.event c && r.kept) blank (conn rs c))
 
   -- and as this round began after those
-  abbrev pub before : List (FrontRound A) → FrontRound A → ℕ → Conn A
+  abbrev pub before : List (FrontRound A) → FrontRound A → ℕ → Standing A
   before rs r c = cond (opens r.event c && r.kept) blank (conn rs c)
 
   -- it is still open in the ports: it was not lost, and no send on it failed
@@ -104,7 +104,7 @@ module _ {A W : Type 0} (R : Rules A W) where
   complete over (m ∷ ms) old = (is_excused over ms m || R.whole (ms ++ old) m) && complete over ms old
 
   -- What follows is of a connection of which this stood as the round began.
-  module _ (p : Conn A) (r : FrontRound A) (c : ℕ) where
+  module _ (p : Standing A) (r : FrontRound A) (c : ℕ) where
     -- all that was answered on it
     abbrev pub answered : List ℕ
     answered = answer_bytes R (made r c ++ p.moves)

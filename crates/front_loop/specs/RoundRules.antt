@@ -6,7 +6,7 @@ use Rattle.front_loop.specs.declared.dispositions.Reason.{Reason}
 use Rattle.front_loop.specs.declared.dispositions.Reason.TheVariants as reason
 use Rattle.front_loop.specs.Rules.{Rules, each_fits, wants_of}
 use Rattle.front_loop.specs.Rounds.{Send, Departure, FrontRound, has, gone, connections_after, there}
-use Rattle.front_loop.specs.Conns.{Conn, before, after, made, is_tried, due, must, Offered, closes, MayLack, HasAll, Kept}
+use Rattle.front_loop.specs.Conns.{Standing, before, after, made, is_tried, due, must, Offered, closes, MayLack, HasAll, Kept}
 
 -- each of a list, whose newest comes first, is right after those before it
 abbrev pub EachSoFar : {A : Type 0} → (List A → A → Type 0) → List A → Type 0
@@ -26,7 +26,7 @@ module _ {A W : Type 0} (R : Rules A W) where
   -- A connection is left as starved where memory may have been wanting to it before anything of the round closed it: nothing
   -- was offered to it, and nothing else closes it but what may stand beside that want, a reply that was Cut, a rest that was
   -- full, or what stands in its bytes.
-  pub record IsStarved (p : Conn A) (r : FrontRound A) (c : ℕ) : Type 0 where
+  pub record IsStarved (p : Standing A) (r : FrontRound A) (c : ℕ) : Type 0 where
     pub lacks : MayLack R p r c
     pub untried : is_tried r.sends c ≡ false
     pub alone : (why : Reason) → closes R p r c (made r c) why ≡ true → (why ≡ reason.Cut) ⊎ ((why ≡ reason.Full) ⊎ (why ≡ reason.Unread))

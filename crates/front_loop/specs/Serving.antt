@@ -39,9 +39,11 @@ module _ {A W : Type 0} (R : Rules A W) where
       ((told_after R rs t).taken c ≡ t.taken c ++ take (conn rs c).took (answer_bytes R (conn rs c).moves))
       × (t.is_open c ≡ false → (told_after R rs t).is_open c ≡ (has (there rs) c && is_open_after rs c))
 
-  -- **What a front leaves.** Its own entries are those of its rounds, and then at most the Stop of its end. What its
-  -- ports tell is what the rounds make of what they told, and then at most that they broke. Each round may be made after those before it. The end has its
-  -- cause; the ports break only where no round is under way; and the rests and the count of the starved are those of the rounds.
+  -- **What a front leaves.** Its own entries are those of its rounds, and then at most the Stop of its end. They fall
+  -- into rounds in one way, where no request or reply has a Collect or a Leave among its entries: a round that is not cut
+  -- short ends with the Collect that is answered Empty or Stopped and the Leaves behind it. What its ports tell is what the rounds make of what they told,
+  -- and then at most that they broke. Each round may be made after those before it. The end has its cause; the ports
+  -- break only where no round is under way; and the rests and the count of the starved are those of the rounds.
   pub record FrontRun (start told : Option PortsTold) (mine : List Entry) (end : FrontEnd) (rests : List Rest) (starved : ℕ) (worn : Bool) : Type 0 where
     pub rounds : List (FrontRound A)
     pub broke : Bool

@@ -1,7 +1,7 @@
 -- What is said, and what a ask leaves, by cases.
 use Rattle.std.proofs.Common.{◌≡◌, ◌||◌, ℕ, List, [], ◌∷◌, ◌++◌, true, false, Option, Some, None, Result, Ok, Err, inl, inr, refl, sym, ap, subst, ◌∙◌, append_assoc, append-nil}
 use Rattle.std.proofs.lemmas.Bool.{false≢true}
-use Rattle.std.specs.Prelude.{OnOk, MatchResult, option_map}
+use Rattle.std.specs.Prelude.{OnOk, MatchResult, option_map, unwrap_or}
 use Rattle.std.specs.Option.{is_some, is_none}
 use Rattle.farm_history.specs.Entries.{Entry, Ask, Fetch, Look}
 use Rattle.farm_history.specs.declared.queues.Conn.{Conn}
@@ -12,7 +12,6 @@ use Rattle.farm_history.specs.declared.answers.Looked.{Looked}
 use Rattle.front_loop.specs.declared.dispositions.Disposition.{Disposition}
 use Rattle.front_loop.specs.declared.dispositions.Disposition.TheVariants.{Stays, Leaves}
 use Rattle.front_loop.specs.declared.dispositions.Reason.TheVariants as reason
-use Rattle.std.specs.Prelude.{unwrap_or}
 use Rattle.front_loop.specs.Front.{keeps}
 use Rattle.tile_answers.specs.Answers.{status_answer, dirty_answer}
 use Rattle.http_handler.specs.declared.acts.HttpAsk.{HttpAsk}
