@@ -336,7 +336,7 @@ module _ (number : ℕ) (lists : List (List Tile)) (c : ℕ) where
   heeds_kept part part' b mine response disposition n l (Said q e) =
       subst (Heeds number lists c part (b ∷ []) mine mine part' response response) (sym q)
       (subst (λ p. Heeds number lists c part (b ∷ []) mine mine p response response Stays) (sym e) (heeds_byte part b mine response n l))
-  heeds_kept part part' b mine response disposition n l (Lacks q) =
+  heeds_kept part part' b mine response disposition n l (Lacks q same) =
       subst (Heeds number lists c part (b ∷ []) mine mine part' response response) (sym q) (heeds_lost part part' (b ∷ []) mine response response)
 
   -- one byte more of a piece

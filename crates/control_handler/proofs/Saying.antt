@@ -11,8 +11,7 @@ use Rattle.front_loop.specs.declared.dispositions.Disposition.{Disposition}
 use Rattle.front_loop.specs.declared.dispositions.Disposition.TheVariants.{Leaves}
 use Rattle.front_loop.specs.declared.dispositions.Reason.TheVariants as reason
 use Rattle.std.specs.Option.{is_none}
-use Rattle.std.specs.Prelude.{Option}
-use Rattle.std.specs.Prelude.{unwrap_or}
+use Rattle.std.specs.Prelude.{Option, unwrap_or}
 use Rattle.script_answers.specs.Answers.{expire_line}
 use Rattle.control_handler.specs.declared.acts.Line.TheVariants as line
 use Rattle.control_handler.specs.declared.acts.Act.{Act}
@@ -23,7 +22,12 @@ use Rattle.control_handler.proofs.Deeds.{did_one, did_part}
 
 pub says_answer : (lists : List (List Tile)) (a : Act) (text old new : List ℕ) (disposition : Disposition) → act_text lists a ≡ text → act_starves lists a ≡ false → Says text old new disposition → Answers lists a old new disposition
 says_answer lists a text old new disposition t s (Said q e) = Gives q s (e ∙ ap (λ xs. old ++ xs) (sym t))
-says_answer lists a text old new disposition t s (Lacks q) = Wants q s
+says_answer lists a text old new disposition t s (Lacks q n) = Wants q s
+
+-- where there was no memory for a text, nothing was said
+pub lacks_same : (text old new : List ℕ) (disposition : Disposition) → Says text old new disposition → disposition ≡ Leaves reason.Starved → new ≡ old
+lacks_same text old new disposition (Said q n) e = let never = sym q ∙ e in cc
+lacks_same text old new disposition (Lacks q n) e = n
 
 pub says_update : (lists : List (List Tile)) (n : ℕ) (answer : Updated) (t old new : List ℕ) (disposition : Disposition) → update_text answer ≡ Some t → Says t old new disposition
     → Answers lists (Updates n answer) old new disposition

@@ -36,10 +36,10 @@ module _ (lists : List (List Tile)) where
   abbrev pub act_starves : Act → Bool
   act_starves a = is_none (line_done lists a).answer
 
--- a text is said, or there is no memory for it
+-- a text is said, or there is no memory for it and nothing is
 pub data Says (answer_bytes old new : List ℕ) (disposition : Disposition) : Type 0 where
   Said : disposition ≡ Stays → new ≡ old ++ answer_bytes → Says answer_bytes old new disposition
-  Lacks : disposition ≡ Leaves reason.Starved → Says answer_bytes old new disposition
+  Lacks : disposition ≡ Leaves reason.Starved → new ≡ old → Says answer_bytes old new disposition
 
 -- the answer to a line that was done is said; or there is no memory for it; or there was none for what was done
 pub data Answers (lists : List (List Tile)) (a : Act) (old new : List ℕ) (disposition : Disposition) : Type 0 where
