@@ -1,5 +1,5 @@
 -- What is so of all that a front leaves: of which kinds its entries are, and where it ends worn; and that a front that was not begun leaves what it may.
-use Rattle.std.proofs.Common.{◌≡◌, ◌≢◌, ◌⊎◌, inl, inr, ℕ, Bool, true, false, not, ◌&&◌, ◌||◌, ◌==◌, cond, List, [], ◌∷◌, ◌++◌, Option, Some, None, IfSome, option_map, refl, sym, ◌∙◌, subst, arith, append-nil}
+use Rattle.std.proofs.Common.{◌≡◌, ◌≢◌, ◌⊎◌, inl, inr, ℕ, Bool, true, false, not, ◌||◌, ◌==◌, cond, List, [], ◌∷◌, ◌++◌, Option, Some, None, IfSome, option_map, refl, sym, ◌∙◌, subst, arith, append-nil}
 use Rattle.std.proofs.lemmas.Bool.{eq-eqb}
 use Rattle.std.proofs.lemmas.Bool.Decides.{nat_tests}
 use Rattle.std.specs.List.{list_any}
@@ -13,11 +13,11 @@ use Rattle.port_events.specs.declared.ends.FrontDone.{FrontDone}
 use Rattle.port_events.specs.declared.ends.FrontEnd.{FrontEnd}
 use Rattle.port_events.specs.declared.ends.Rest.{Rest}
 use Rattle.port_events.specs.Told.{PortsTold, heard}
-use Rattle.front_loop.specs.Rules.{Rules, Move, Does, Gets, each_fits}
+use Rattle.front_loop.specs.Rules.{EachSoFar, Rules, Move, Does, Gets}
 use Rattle.front_loop.specs.Rounds.{Gathered, Departure, FrontRound, in_turn, asked_by, with_last, own}
 use Rattle.front_loop.specs.Conns.{brings, before, told_after}
-use Rattle.front_loop.specs.RoundRules.{Sound}
-use Rattle.front_loop.specs.Serving.{EndHasCause, TellsOf, rests_of}
+use Rattle.front_loop.specs.RoundRules.{RoundFits}
+use Rattle.front_loop.specs.Serving.{EndHasCause, TellsOf}
 use Rattle.port_events.specs.declared.events.PortEvent.{PortEvent}
 use Rattle.port_events.specs.declared.events.PortEvent.TheVariants as event
 use Rattle.renderd_handler.specs.Renderd.{renderd_rules}
@@ -67,14 +67,6 @@ may_stop R rs stop worn FrontEnd.Broken fits = inr (fits.1, λ never. cc)
 may_stop R rs stop worn FrontEnd.NoMemory fits = inr (fits.1, λ never. cc)
 may_stop R rs stop worn FrontEnd.Worn fits = inl fits.1
 
-and_first : (a b : Bool) → (a && b) ≡ true → a ≡ true
-and_first true b h = refl
-and_first false b h = h
-
-and_second : (a b : Bool) → (a && b) ≡ true → b ≡ true
-and_second true b h = h
-and_second false b h = cc
-
 module _ {A W : Type 0} (R : Rules A W) where
   pub marked : (shown after : Outside PortsTold) (es : List Entry) (done : FrontDone) (worn : Bool) → FrontLeaves R shown after es done worn → done.end ≡ FrontEnd.Worn → worn ≡ true
   marked shown after es done worn left is = (subst (λ end. EndHasCause R end left.served.rounds left.served.stop worn) is left.served.end_fits).0
@@ -86,16 +78,20 @@ module _ {A W : Type 0} (R : Rules A W) where
   abbrev gets_on : List Gathered → ℕ → List (Move A) → List (Move A)
   gets_on gs c ms = in_turn (λ (g : Gathered) ms. cond (g.reply.conn.number == c) (Gets g.reply g.behind ∷ ms) ms) gs ms
 
+  -- every move fits those before it
+  abbrev AllFit : List (Move A) → Type 0
+  AllFit ms = EachSoFar (λ ns m. R.fits ns m ≡ true) ms
+
   -- the replies of a round fit what came before them on their connection
   abbrev RepliesFit : PortEvent → List A → (ℕ → List (Move A)) → List Gathered → Type 0
-  RepliesFit e acts old gs = (c : ℕ) → each_fits R (gets_on gs c (asks_on e acts c) ++ old c) ≡ true
+  RepliesFit e acts old gs = (c : ℕ) → AllFit (gets_on gs c (asks_on e acts c) ++ old c)
 
-  fewer : (b : Bool) (g : Gathered) (ms old : List (Move A)) → each_fits R (cond b (Gets g.reply g.behind ∷ ms) ms ++ old) ≡ true → each_fits R (ms ++ old) ≡ true
-  fewer true g ms old h = and_second (R.fits (ms ++ old) (Gets g.reply g.behind)) (each_fits R (ms ++ old)) h
+  fewer : (b : Bool) (g : Gathered) (ms old : List (Move A)) → AllFit (cond b (Gets g.reply g.behind ∷ ms) ms ++ old) → AllFit (ms ++ old)
+  fewer true g ms old h = h.1
   fewer false g ms old h = h
 
-  first_fits : (b : Bool) (g : Gathered) (ms old : List (Move A)) → b ≡ true → each_fits R (cond b (Gets g.reply g.behind ∷ ms) ms ++ old) ≡ true → R.fits (ms ++ old) (Gets g.reply g.behind) ≡ true
-  first_fits true g ms old is h = and_first (R.fits (ms ++ old) (Gets g.reply g.behind)) (each_fits R (ms ++ old)) h
+  first_fits : (b : Bool) (g : Gathered) (ms old : List (Move A)) → b ≡ true → AllFit (cond b (Gets g.reply g.behind ∷ ms) ms ++ old) → R.fits (ms ++ old) (Gets g.reply g.behind) ≡ true
+  first_fits true g ms old is h = h.0
   first_fits false g ms old is h = cc
 
   -- the entries of each round are a front's
@@ -132,7 +128,7 @@ module _ {A W : Type 0} (R : Rules A W) where
     each_leave [] es h = h
     each_leave (d ∷ ds) es h = each-join (IsOfFront n) (with_leaves ds es) _ (each_leave ds es h) (tt, tt)
 
-    each_own : (rs : List (FrontRound A)) → Sound R rs → Each (IsOfFront n) (own R rs)
+    each_own : (rs : List (FrontRound A)) → EachSoFar (RoundFits R) rs → Each (IsOfFront n) (own R rs)
     each_own [] sound = tt
     each_own (r ∷ rs) sound =
         each_leave r.left _ (each_last r.last _ (each_reply r.event r.acts (λ c. (before rs r c).moves) r.replies _ sound.0.fits (each_asked r.event r.acts (own R rs) (each_own rs sound.1))))

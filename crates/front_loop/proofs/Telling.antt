@@ -8,8 +8,8 @@ use Rattle.port_events.specs.declared.events.PortEvent.{PortEvent}
 use Rattle.port_events.specs.declared.events.PortEvent.TheVariants as event
 use Rattle.port_events.specs.Told.{PortsTold, MayCome, heard, after_send, after_close}
 use Rattle.front_loop.specs.Rules.{Rules, Move, Does, Gets, answer_bytes}
-use Rattle.front_loop.specs.inner.Steps.{Step, Came, Did, Got, Through, Tried, Left, there}
-use Rattle.front_loop.specs.Rounds.{has, remove, connections_after}
+use Rattle.front_loop.specs.inner.Steps.{Step, Came, Did, Got, Through, Tried, Left, there, remove}
+use Rattle.front_loop.specs.Rounds.{has, connections_after}
 use Rattle.front_loop.specs.inner.Parts.{Part, part, due, came, after_move, with_try, blank, is_open, told_after, EachMayCome, send_answer}
 use Rattle.front_loop.specs.Conns.{opens, shut_out}
 use Rattle.front_loop.specs.inner.Sound.{Sound, AllKept, OpensNew}

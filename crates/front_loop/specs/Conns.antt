@@ -11,7 +11,7 @@ use Rattle.port_events.specs.declared.events.SendFault.TheVariants as send_fault
 use Rattle.port_events.specs.Told.{PortsTold, heard, after_send, after_close}
 use Rattle.front_loop.specs.declared.dispositions.Reason.{Reason}
 use Rattle.front_loop.specs.declared.dispositions.Reason.TheVariants as reason
-use Rattle.front_loop.specs.Rules.{Rules, Move, Does, Gets, is_cut, wants_of, answer_bytes, each_whole}
+use Rattle.front_loop.specs.Rules.{EachSoFar, Rules, Move, Does, Gets, is_cut, wants_of, answer_bytes}
 use Rattle.front_loop.specs.Rounds.{Gathered, Send, Departure, FrontRound, in_turn}
 
 -- what stands of a connection: the bytes that came, the moves that were made, and how many bytes of its answers were taken
@@ -92,30 +92,18 @@ module _ {A : Type 0} where
   abbrev pub is_open : FrontRound A → ℕ → Bool
   is_open r c = not (loses r.event c || send_fails r.sends c)
 
--- A reply may lack entries in the round of its connection's Ended or Lost, where it is Cut, and after one that was Cut.
-abbrev pub is_excused : {A : Type 0} → Bool → List (Move A) → Move A → Bool
-is_excused over ms (Does a) = false
-is_excused {A} over ms (Gets r behind) = over || (list_any is_cut ms || is_cut {A = A} (Gets r behind))
-
 module _ {A W : Type 0} (R : Rules A W) where
-  -- each move has all its entries, but for the replies of the round that may lack them: those are the first
-  abbrev pub complete : Bool → List (Move A) → List (Move A) → Bool
-  complete over [] old = each_whole R old
-  complete over (m ∷ ms) old = (is_excused over ms m || R.whole (ms ++ old) m) && complete over ms old
-
   -- What follows is of a connection of which this stood as the round began.
   module _ (p : Standing A) (r : FrontRound A) (c : ℕ) where
-    -- all that was answered on it
-    abbrev pub answered : List ℕ
-    answered = answer_bytes R (made r c ++ p.moves)
-
     -- the bytes that were answered and not taken as the round began to offer
     abbrev pub due : List ℕ
-    due = drop p.took answered
+    due = drop p.took (answer_bytes R (made r c ++ p.moves))
 
     -- There is a reason to offer it its bytes: the event, the stop of the farm, new bytes, or that its bytes end it
     abbrev pub must : Bool
-    must = (calls r.event c || unwrap_or r.last false) || (nat_lt (length (answer_bytes R p.moves)) (length answered) || R.refuses (after r c p).given)
+    must =
+        (calls r.event c || unwrap_or r.last false)
+        || (nat_lt (length (answer_bytes R p.moves)) (length (answer_bytes R (made r c ++ p.moves))) || R.refuses (after r c p).given)
 
     -- where there is a reason and nothing was offered, nothing was due
     abbrev pub Offered : Type 0
@@ -144,15 +132,18 @@ module _ {A W : Type 0} (R : Rules A W) where
       AtReply : (later earlier : List (Move A)) (reply : Reply) (behind : List Entry) → made r c ≡ later ++ Gets reply behind ∷ earlier → is_cut {A = A} (Gets reply behind) ≡ false → Unclosed earlier → MayLack
       AtOffer : must ≡ true → 0 < length due → Unclosed (made r c) → MayLack
 
-    -- all that its bytes ask was asked, and each move has all its entries but for the replies that may lack them
+    -- All that its bytes ask was asked, and each move has all its entries; but a reply of the round may lack entries where
+    -- its event was the connection's Ended or Lost, where it is Cut, and after one that was Cut.
     abbrev pub HasAll : Type 0
-    HasAll = R.wanted (after r c p).given (wants_of R (made r c ++ p.moves)) × (complete (ends_at r.event c || loses r.event c) (made r c) p.moves ≡ true)
+    HasAll =
+        R.wanted (after r c p).given (wants_of R (made r c ++ p.moves)) × EachSoFar (λ ms m. R.whole ms m ≡ true) p.moves
+        × EachSoFar (λ ms m. ((ends_at r.event c || loses r.event c) || (list_any is_cut (m ∷ ms) || R.whole (ms ++ p.moves) m)) ≡ true) (made r c)
 
     -- What holds of a connection that is there as the round ends: all that its bytes ask was asked and has all its
     -- entries; nothing closes it; and it was offered its bytes where there was a reason.
     pub record Kept : Type 0 where
       pub asked_all : R.wanted (after r c p).given (wants_of R (made r c ++ p.moves))
-      pub whole : each_whole R (made r c ++ p.moves) ≡ true
+      pub whole : EachSoFar (λ ms m. R.whole ms m ≡ true) (made r c ++ p.moves)
       pub calm : (why : Reason) → closes (made r c) why ≡ false
       pub offered : Offered
 

@@ -4,14 +4,9 @@ use Rattle.farm_base.specs.Limits.{most_sessions}
 use Rattle.port_events.specs.declared.events.PortEvent.TheVariants as event
 use Rattle.front_loop.specs.declared.dispositions.Reason.{Reason}
 use Rattle.front_loop.specs.declared.dispositions.Reason.TheVariants as reason
-use Rattle.front_loop.specs.Rules.{Rules, each_fits, wants_of}
+use Rattle.front_loop.specs.Rules.{EachSoFar, Rules, wants_of}
 use Rattle.front_loop.specs.Rounds.{Send, Departure, FrontRound, has, gone, connections_after, there}
 use Rattle.front_loop.specs.Conns.{Standing, before, after, made, is_tried, due, must, Offered, closes, MayLack, HasAll, Kept}
-
--- each of a list, whose newest comes first, is right after those before it
-abbrev pub EachSoFar : {A : Type 0} → (List A → A → Type 0) → List A → Type 0
-EachSoFar P [] = Unit {0}
-EachSoFar P (x ∷ xs) = P xs x × EachSoFar P xs
 
 module _ {A W : Type 0} (R : Rules A W) where
   -- A send: to a connection that is there, for a reason, once in a round, and of more than 0 bytes, of which no more
@@ -63,12 +58,8 @@ module _ {A W : Type 0} (R : Rules A W) where
     pub asks : (c : ℕ) → r.event ≡ event.Bytes c
         → (r.acts ≡ []) ⊎ ((more : List W) × R.wanted (after r c (before rs r c)).given (wants_of R (made r c ++ (before rs r c).moves) ++ more))
     -- each move has entries that fit
-    pub fits : (c : ℕ) → each_fits R (made r c ++ (before rs r c).moves) ≡ true
+    pub fits : (c : ℕ) → EachSoFar (λ ms m. R.fits ms m ≡ true) (made r c ++ (before rs r c).moves)
     -- sends and Leaves stand behind the last Collect
     pub order : r.last ≡ None → (r.sends ≡ []) × (r.left ≡ [])
     pub sends : EachSoFar (SendFits rs r) r.sends
     pub left : EachSoFar (LeaveFits rs r) r.left
-
-  -- each round may be made after those before it
-  abbrev pub Sound : List (FrontRound A) → Type 0
-  Sound rs = EachSoFar RoundFits rs

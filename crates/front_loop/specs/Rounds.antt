@@ -7,6 +7,7 @@ use Rattle.port_events.specs.declared.events.PortEvent.TheVariants as event
 use Rattle.farm_history.specs.declared.queues.Reply.{Reply}
 use Rattle.farm_history.specs.declared.answers.Collected.TheVariants as collected
 use Rattle.farm_history.specs.Entries.{Entry, Collect, Leave}
+use Rattle.farm_history.specs.Lists.{without_first}
 use Rattle.front_loop.specs.declared.dispositions.Reason.{Reason}
 use Rattle.front_loop.specs.declared.dispositions.Reason.TheVariants as reason
 use Rattle.front_loop.specs.Rules.{Rules}
@@ -50,11 +51,6 @@ in_turn f (x ∷ xs) t = f x (in_turn f xs t)
 
 -- ---- connections
 
--- a list of connections without the first of that number
-abbrev pub remove : List ℕ → ℕ → List ℕ
-remove [] c = []
-remove (d ∷ ds) c = cond (d == c) ds (d ∷ remove ds c)
-
 -- whether a connection is in the list
 abbrev pub has : List ℕ → ℕ → Bool
 has [] c = false
@@ -67,7 +63,7 @@ connections_after cs _ _ = cs
 
 -- those that are there when these were left
 abbrev pub gone : List Departure → List ℕ → List ℕ
-gone ds cs = in_turn (λ (d : Departure) ds. remove ds d.conn) ds cs
+gone ds cs = in_turn (λ (d : Departure) cs. without_first (λ c. c == d.conn) cs) ds cs
 
 -- the connections that are there after the rounds, in the order in which they were opened
 abbrev pub there : {A : Type 0} → List (FrontRound A) → List ℕ

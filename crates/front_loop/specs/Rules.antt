@@ -7,6 +7,11 @@ use Rattle.farm_history.specs.declared.queues.Reply.{Reply}
 use Rattle.farm_history.specs.declared.queues.Outcome.TheVariants as outcome
 use Rattle.farm_history.specs.Entries.{Entry}
 
+-- each of a list, whose newest comes first, is right after those before it
+abbrev pub EachSoFar : {A : Type 0} → (List A → A → Type 0) → List A → Type 0
+EachSoFar P [] = Unit {0}
+EachSoFar P (x ∷ xs) = P xs x × EachSoFar P xs
+
 -- the list is empty
 abbrev pub is_empty : {A : Type 0} → List A → Bool
 is_empty [] = true
@@ -61,11 +66,6 @@ module _ {A W : Type 0} (R : Rules A W) where
   abbrev pub each_whole : List (Move A) → Bool
   each_whole [] = true
   each_whole (m ∷ ms) = R.whole ms m && each_whole ms
-
-  -- every move fits those before it
-  abbrev pub each_fits : List (Move A) → Bool
-  each_fits [] = true
-  each_fits (m ∷ ms) = R.fits ms m && each_fits ms
 
   -- some move found no memory
   abbrev pub any_starves : List (Move A) → Bool

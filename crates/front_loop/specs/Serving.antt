@@ -1,5 +1,6 @@
 -- What a front leaves: its own entries, what its ports tell, and what it hands back.
 use Rattle.std.specs.Prelude.{◌≡◌, ◌≢◌, ℕ, ◌-◌, ◌^◌, Bool, true, false, ◌&&◌, ◌⊎◌, cond, List, [], ◌∷◌, ◌++◌, map, min, take, drop, Option, Some, option_map, IfSome}
+use Rattle.std.specs.List.{list_all}
 use Rattle.port_events.specs.declared.events.PortEvent.TheVariants as event
 use Rattle.port_events.specs.declared.ends.FrontEnd.{FrontEnd}
 use Rattle.port_events.specs.declared.ends.FrontEnd.TheVariants as ended
@@ -7,15 +8,10 @@ use Rattle.port_events.specs.declared.ends.Rest.{Rest}
 use Rattle.port_events.specs.Told.{PortsTold, heard}
 use Rattle.farm_history.specs.Entries.{Entry, Stop}
 use Rattle.farm_history.specs.Lists.{Each}
-use Rattle.front_loop.specs.Rules.{Rules, answer_bytes}
+use Rattle.front_loop.specs.Rules.{EachSoFar, Rules, answer_bytes}
 use Rattle.front_loop.specs.Rounds.{FrontRound, there, has, own, starved_in}
 use Rattle.front_loop.specs.Conns.{conn, is_open, told_after}
-use Rattle.front_loop.specs.RoundRules.{EndsWhole, MayFollow, Sound}
-
--- the connection is open in the ports after the rounds, if it is there
-abbrev pub is_open_after : {A : Type 0} → List (FrontRound A) → ℕ → Bool
-is_open_after [] c = true
-is_open_after (r ∷ rs) c = is_open r c
+use Rattle.front_loop.specs.RoundRules.{EndsWhole, MayFollow, RoundFits}
 
 module _ {A W : Type 0} (R : Rules A W) where
   -- the rests are those of the connections that are there, in the order in which they were opened: all bytes that
@@ -33,11 +29,11 @@ module _ {A W : Type 0} (R : Rules A W) where
   EndHasCause _ _ stop worn = ⊥
 
   -- What ports that told t before tell of a connection after the rounds. The bytes taken since are a beginning of its
-  -- answers. It is open exactly where it is there and has not failed, if it was not open before.
+  -- answers. If it was not open before, it is open exactly where it is there and has not failed in the newest round.
   abbrev pub TellsOf : List (FrontRound A) → PortsTold → ℕ → Type 0
   TellsOf rs t c =
       ((told_after R rs t).taken c ≡ t.taken c ++ take (conn rs c).took (answer_bytes R (conn rs c).moves))
-      × (t.is_open c ≡ false → (told_after R rs t).is_open c ≡ (has (there rs) c && is_open_after rs c))
+      × (t.is_open c ≡ false → (told_after R rs t).is_open c ≡ (has (there rs) c && list_all (λ (r : FrontRound A). is_open r c) (take 1 rs)))
 
   -- **What a front leaves.** Its own entries are those of its rounds, and then at most the Stop of its end. They fall
   -- into rounds in one way, where no request or reply has a Collect or a Leave among its entries: a round that is not cut
@@ -51,7 +47,7 @@ module _ {A W : Type 0} (R : Rules A W) where
     pub entries : mine ≡ own R rounds ++ stop
     -- that the ports broke as a whole is the last line of their record
     pub telling : told ≡ option_map (λ t. cond broke (heard event.Broken [] t) t) (option_map (told_after R rounds) start)
-    pub sound : Sound R rounds
+    pub sound : EachSoFar (RoundFits R) rounds
     pub tells : IfSome start (λ t. (c : ℕ) → TellsOf rounds t c)
     pub end_fits : EndHasCause end rounds stop worn
     -- a front whose ports broke ends Broken, but where its Stop was worn

@@ -1,5 +1,5 @@
 -- What a front does, step by step, and what its steps put into the history. The newest step comes first.
-use Rattle.std.specs.Prelude.{◌≡◌, ℕ, Bool, true, false, cond, List, [], ◌∷◌, ◌++◌, length, Option}
+use Rattle.std.specs.Prelude.{◌≡◌, ℕ, ◌==◌, Bool, true, false, cond, List, [], ◌∷◌, ◌++◌, length, Option}
 use Rattle.port_events.specs.declared.events.PortEvent.{PortEvent}
 use Rattle.port_events.specs.declared.events.PortEvent.TheVariants as event
 use Rattle.farm_history.specs.declared.queues.Reply.{Reply}
@@ -8,7 +8,7 @@ use Rattle.farm_history.specs.declared.answers.Collected.TheVariants as collecte
 use Rattle.farm_history.specs.Entries.{Entry, Collect, Leave}
 use Rattle.front_loop.specs.declared.dispositions.Reason.{Reason}
 use Rattle.front_loop.specs.Rules.{Rules}
-use Rattle.front_loop.specs.Rounds.{remove, connections_after, with_refused, with_starved}
+use Rattle.front_loop.specs.Rounds.{connections_after, with_refused, with_starved}
 
 pub data Step (A : Type 0) : Type 0 where
   -- an event of the ports came, with the bytes of its piece; true where an Opened made a session
@@ -94,6 +94,11 @@ MayBegin _ = ⊥
 abbrev pub Offers : Phase → Type 0
 Offers (Offering e stopped) = Unit {0}
 Offers _ = ⊥
+
+-- a list of connections without the first of that number
+abbrev pub remove : List ℕ → ℕ → List ℕ
+remove [] c = []
+remove (d ∷ ds) c = cond (d == c) ds (d ∷ remove ds c)
 
 module _ {A : Type 0} where
   -- the connections that are there, in the order in which they were opened
