@@ -16,8 +16,8 @@ use Rattle.control_handler.specs.declared.acts.Line.{Line}
 use Rattle.control_handler.specs.declared.acts.Line.TheVariants as line
 use Rattle.control_handler.specs.declared.acts.Act.{Act}
 use Rattle.control_handler.specs.declared.hearing.ConnState.{ConnState}
-use Rattle.control_handler.specs.Lines.{line_parts, is_long, requests_in, line_in}
-use Rattle.control_handler.specs.inner.Readings.{Reading, read_on, read_all, part_alone, wants}
+use Rattle.control_handler.specs.Lines.{is_long, requests_in, line_in}
+use Rattle.control_handler.specs.inner.Readings.{Reading, read_on, read_all, part_alone, wants, line_parts}
 use Rattle.control_handler.specs.Control.{control_rules, line_done}
 use Rattle.control_handler.specs.inner.Doing.{control_entries, act_text, act_fits, act_whole, act_starves, Says, Said, Lacks, Answers, Gives, Wants, Starves, DoneWhy, Did, LongWhy, as_done, Heeds, Knows}
 use Rattle.std.specs.List.{list_any}

@@ -6,8 +6,8 @@ use Rattle.std.proofs.lemmas.Bool.Decides.{nat_tests}
 use Rattle.farm_base.specs.Limits.{most_control_bytes}
 use Rattle.control_handler.specs.declared.acts.Line.{Line}
 use Rattle.control_handler.specs.declared.acts.Line.TheVariants as line
-use Rattle.control_handler.specs.Lines.{line_parts, is_long, requests_in, line_in}
-use Rattle.control_handler.specs.inner.Readings.{Reading, read_on, read_all, part_alone, wants}
+use Rattle.control_handler.specs.Lines.{is_long, requests_in, line_in}
+use Rattle.control_handler.specs.inner.Readings.{Reading, read_on, read_all, part_alone, wants, line_parts}
 use Rattle.control_handler.proofs.Streams.{opened, shut, read_none, read_from, wants_behind}
 
 -- a part of a line, in front of the first of these parts

@@ -16,8 +16,8 @@ use Rattle.script_answers.specs.Answers.{expire_line}
 use Rattle.control_handler.specs.declared.acts.Line.TheVariants as line
 use Rattle.control_handler.specs.declared.acts.Act.{Act}
 use Rattle.control_handler.specs.declared.acts.Act.TheVariants.{Updates, Renews, Expires}
-use Rattle.control_handler.specs.Control.{update_text, renew_text, expire_text, tiles_at, total_of, expiries}
-use Rattle.control_handler.specs.inner.Doing.{act_text, act_starves, Says, Said, Lacks, Answers, Gives, Wants, Expired, Did}
+use Rattle.control_handler.specs.Control.{update_text, renew_text, expire_text, tiles_at, total_of}
+use Rattle.control_handler.specs.inner.Doing.{act_text, act_starves, Says, Said, Lacks, Answers, Gives, Wants, Expired, Did, expiries}
 use Rattle.control_handler.proofs.Deeds.{did_one, did_part}
 
 pub says_answer : (lists : List (List Tile)) (a : Act) (text old new : List ℕ) (disposition : Disposition) → act_text lists a ≡ text → act_starves lists a ≡ false → Says text old new disposition → Answers lists a old new disposition

@@ -2,6 +2,7 @@
 use Rattle.std.specs.Prelude.{◌≡◌, ℕ, ◌+◌, ◌-◌, ◌^◌, ◌==◌, Bool, true, false, List, [], ◌∷◌, length, min, nat_le, codes, slice_get, Option, Some, None, map, zip, unwrap_or}
 use Rattle.plain_world.specs.declared.world.Tile.{Tile}
 use Rattle.std.specs.Option.{is_none}
+use Rattle.std.specs.List.{list_any, slice_split}
 use Rattle.farm_history.specs.declared.answers.Updated.{Updated}
 use Rattle.farm_history.specs.declared.answers.Updated.TheVariants as updated
 use Rattle.farm_history.specs.declared.answers.Restyled.{Restyled}
@@ -16,8 +17,7 @@ use Rattle.control_handler.specs.declared.acts.Line.{Line}
 use Rattle.control_handler.specs.declared.acts.Line.TheVariants as line
 use Rattle.control_handler.specs.declared.acts.Act.{Act}
 use Rattle.control_handler.specs.declared.acts.Act.TheVariants.{Updates, Restyles, Renews, Expires, Counts, Stops, Refuses}
-use Rattle.std.specs.List.{list_any}
-use Rattle.control_handler.specs.Lines.{line_parts, is_long, requests_in}
+use Rattle.control_handler.specs.Lines.{is_long, requests_in}
 
 -- ---- answers; want of memory has none
 
@@ -52,10 +52,6 @@ expire_text (Some tiles) counts = expire_line (min (total_of counts) (2 ^ 64 - 1
 abbrev pub tiles_at : List (List Tile) → ℕ → List Tile
 tiles_at lists n = unwrap_or (slice_get lists n) []
 
--- an Expire for each count, of the first tiles in order
-abbrev pub expiries : List Tile → List ℕ → List Entry
-expiries tiles counts = map (λ (p : Tile × ℕ). Expire p.0 p.1) (zip tiles counts)
-
 -- ---- what was done at a line
 
 -- what is made of a line that was done
@@ -72,14 +68,14 @@ pub record LineDone : Type 0 where
 abbrev pub whole_line : Line → List Entry → Option (List ℕ) → LineDone
 whole_line asked entries answer = record { line = asked; entries = entries; answer = answer; fits = true; whole = true }
 
--- **The lines, their entries and their answers.** `expire N` has an Expire for each tile of its list, and a worn turn
--- leaves it without the last of them.
+-- **The lines, their entries and their answers.** `expire N` has an Expire for each tile of its list, in order, and a worn
+-- turn leaves it without the last of them.
 abbrev pub line_done : List (List Tile) → Act → LineDone
 line_done lists (Updates n answer) = whole_line (line.Update n) (Update n answer ∷ []) (update_text answer)
 line_done lists (Restyles n answer) = whole_line (line.Restyle n) (Restyle n answer ∷ []) (Some (restyle_text answer))
 line_done lists (Renews n answer) = whole_line (line.Renew n) (Renew n answer ∷ []) (renew_text answer)
 line_done lists (Expires n counts) =
-    record (whole_line (line.Expire n) (expiries (tiles_at lists n) counts) (Some (expire_text (slice_get lists n) counts))) {
+    record (whole_line (line.Expire n) (map (λ (p : Tile × ℕ). Expire p.0 p.1) (zip (tiles_at lists n) counts)) (Some (expire_text (slice_get lists n) counts))) {
       fits = nat_le (length counts) (length (tiles_at lists n));
       whole = length counts == length (tiles_at lists n);
     }
@@ -87,13 +83,14 @@ line_done lists (Counts totals) = whole_line line.Stats (Tally totals ∷ []) (S
 line_done lists Stops = whole_line line.Stop (Stop ∷ []) (Some stop_line)
 line_done lists Refuses = whole_line line.Bad [] (Some (codes "bad line\n"))
 
--- **What the control front of this number makes of a connection**, with the tile lists of its `expire N`. No ask is
+-- **What the control front of this number makes of a connection**, with the tile lists of its `expire N`. Its lines are
+-- the parts of the bytes between newlines, the last of which has not ended. No ask is
 -- made, so no reply comes; one that came would stand alone.
 abbrev pub control_rules : ℕ → List (List Tile) → Rules Act Line
 control_rules number lists = record {
   number = number;
-  wanted = λ given ws. requests_in (line_parts given) ≡ ws;
-  refuses = λ given. list_any is_long (line_parts given);
+  wanted = λ given ws. requests_in (slice_split (λ b. b == 10) given) ≡ ws;
+  refuses = λ given. list_any is_long (slice_split (λ b. b == 10) given);
   want = λ a. (line_done lists a).line;
   entries = λ c a. (line_done lists a).entries;
   fits = λ ms m. by_move (λ a. (line_done lists a).fits) (λ r behind. is_empty behind) m;

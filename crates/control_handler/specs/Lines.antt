@@ -1,7 +1,6 @@
 -- The lines of a connection, and what each says.
-use Rattle.std.specs.Prelude.{ℕ, ◌^◌, ◌==◌, Bool, cond, nat_lt, if◌then◌else◌, List, [], ◌∷◌, length, codes, Option, Some, None, option_map, unwrap_or}
+use Rattle.std.specs.Prelude.{ℕ, ◌^◌, Bool, cond, nat_lt, if◌then◌else◌, List, [], ◌∷◌, length, codes, Option, Some, None, option_map, unwrap_or}
 use Rattle.std.specs.Str.{bytes_eq, is_utf8}
-use Rattle.std.specs.List.{slice_split}
 use Rattle.std.specs.Str.Lines.{strip_carriage_return}
 use Rattle.farm_base.specs.Limits.{most_control_bytes}
 use Rattle.line_reading.specs.Cuts.{cut_at}
@@ -43,15 +42,11 @@ line_in bytes = unwrap_or (option_map control_line (utf8_text (strip_carriage_re
 
 -- ---- lines
 
--- the parts of the bytes between newlines: the whole lines, and then what stands behind the last newline
-abbrev pub line_parts : List ℕ → List (List ℕ)
-line_parts given = slice_split (λ b. b == 10) given
-
 -- a line has at most 64 bytes
 abbrev pub is_long : List ℕ → Bool
 is_long part = nat_lt most_control_bytes (length part)
 
--- The requests in these parts: what each whole line says. One that is too long is a bad line, as soon as its 65th byte
+-- The requests in these parts, the whole lines and then what stands behind the last newline: what each whole line says. One that is too long is a bad line, as soon as its 65th byte
 -- is there, and the last that is read.
 abbrev pub requests_in : List (List ℕ) → List Line
 requests_in [] = []

@@ -1,7 +1,7 @@
 -- How requests are done one after another, and what becomes of a session by them.
-use Rattle.std.specs.Prelude.{◌≡◌, ℕ, ◌-◌, ◌^◌, ◌≤◌, Bool, true, false, List, [], ◌++◌, length, min, Result, Ok, Err, unwrap_or}
+use Rattle.std.specs.Prelude.{◌≡◌, ℕ, ◌-◌, ◌^◌, ◌≤◌, Bool, true, false, List, [], ◌++◌, length, map, min, zip, Result, Ok, Err, unwrap_or}
 use Rattle.plain_world.specs.declared.world.Tile.{Tile}
-use Rattle.farm_history.specs.Entries.{Entry}
+use Rattle.farm_history.specs.Entries.{Entry, Expire}
 use Rattle.farm_base.specs.declared.turns.Worn.{Worn}
 use Rattle.front_loop.specs.declared.dispositions.Disposition.{Disposition}
 use Rattle.front_loop.specs.declared.dispositions.Disposition.TheVariants.{Stays, Leaves}
@@ -12,7 +12,7 @@ use Rattle.control_handler.specs.declared.acts.Line.{Line}
 use Rattle.control_handler.specs.declared.acts.Act.{Act}
 use Rattle.control_handler.specs.declared.hearing.ConnState.{ConnState}
 use Rattle.control_handler.specs.inner.Readings.{read_on, read_all, part_alone, wants}
-use Rattle.control_handler.specs.Control.{control_rules, line_done, total_of, expiries}
+use Rattle.control_handler.specs.Control.{control_rules, line_done, total_of}
 use Rattle.std.specs.Option.{is_none}
 
 module _ (lists : List (List Tile)) where
@@ -46,6 +46,10 @@ pub data Answers (lists : List (List Tile)) (a : Act) (old new : List ℕ) (disp
   Gives : disposition ≡ Stays → act_starves lists a ≡ false → new ≡ old ++ act_text lists a → Answers lists a old new disposition
   Wants : disposition ≡ Leaves reason.Starved → act_starves lists a ≡ false → Answers lists a old new disposition
   Starves : disposition ≡ Leaves reason.NoMemory → act_starves lists a ≡ true → Answers lists a old new disposition
+
+-- an Expire for each count, of the first tiles in order
+abbrev pub expiries : List Tile → List ℕ → List Entry
+expiries tiles counts = map (λ (p : Tile × ℕ). Expire p.0 p.1) (zip tiles counts)
 
 -- so many of the tiles were expired, all of them where no turn was worn; the answer is the sum of the counts
 abbrev pub Expired : List Tile → List Entry → List Entry → Result ℕ Worn → Type 0

@@ -1,9 +1,14 @@
 -- The bytes of a connection as they are read, one after another.
 use Rattle.std.specs.Prelude.{ℕ, ◌==◌, Bool, true, false, cond, nat_lt, List, [], ◌∷◌, ◌++◌, length, map}
+use Rattle.std.specs.List.{slice_split}
 use Rattle.farm_base.specs.Limits.{most_control_bytes}
 use Rattle.control_handler.specs.declared.acts.Line.{Line}
 use Rattle.control_handler.specs.declared.acts.Line.TheVariants as line
 use Rattle.control_handler.specs.Lines.{line_in}
+
+-- the parts of the bytes between newlines: the whole lines, and then what stands behind the last newline
+abbrev pub line_parts : List ℕ → List (List ℕ)
+line_parts given = slice_split (λ b. b == 10) given
 
 -- What was read of a connection: its whole lines without their newlines, the oldest first; the bytes of the line that
 -- has not ended; and whether that line is too long.
