@@ -1,5 +1,5 @@
 -- A rule is the same when it is read in parts.
-use Rattle.std.proofs.Common.{◌≡◌, ℕ, List, Option, None, Result, Ok, Err, codes, refl}
+use Rattle.std.proofs.Common.{◌≡◌, ℕ, List, length, Option, None, Result, Ok, Err, codes, refl}
 use Rattle.std.specs.Option.{ok_or}
 use Rattle.serde_json.specs.Data.{Data, Items}
 use Rattle.serde_json.specs.Find.{get}
@@ -13,9 +13,12 @@ use Rattle.style_objects.specs.declared.fault.StyleFault.TheVariants as fault
 use Rattle.style_objects.specs.declared.keys.Object.TheVariants as object
 use Rattle.style_objects.specs.TextReadings.{TextReading}
 use Rattle.style_objects.specs.Keys.{opened_as}
-use Rattle.style_objects.specs.Kinds.{a_scale, a_bound}
-use Rattle.style_objects.specs.Places.{at_rule}
-use Rattle.style_objects.specs.Tables.{filters_of, rule_of, symbolizer_after}
+use Rattle.style_objects.specs.inner.Keys.{keys_of}
+use Rattle.style_objects.specs.declared.fault.At.{At}
+use Rattle.style_objects.specs.declared.fault.Part.TheVariants as part
+use Rattle.style_objects.specs.Kinds.{in_grammar, a_bound}
+use Rattle.style_objects.specs.Places.{at_place}
+use Rattle.style_objects.specs.Tables.{filters_of, rule_of, symbolizer_of}
 use Rattle.style_objects.specs.inner.Parts.{painting_of, rule_by_parts}
 
 abbrev painting : ℕ → Option ℕ → List Symbolizer → ℕ × Option ℕ × List Symbolizer
@@ -33,11 +36,11 @@ grouped {E = E} (Ok x) (Ok y) (Ok items) d K = last (d items)
     last (Err e) = refl
     last (Ok z) = refl
 
-pub in_parts : (says : TextReading) (style rule : ℕ) (d : Data) → rule_of says style rule d ≡ rule_by_parts says style rule d
+pub in_parts : (says : TextReading) (at : At) (d : Data) → rule_of says at d ≡ rule_by_parts says at d
 unfolding rule_of rule_by_parts painting_of
-in_parts says style rule d = λ i.
-    opened_as object.Rule (at_rule style rule) d >>= λ u. within most_symbolizers (fault.Range (at_rule style rule)) (get (codes "symbolizers") d) >>= λ found.
-    filters_of says (at_rule style rule) d >>= λ filters.
-    grouped (or_value 0 (a_scale says (at_rule style rule)) (get (codes "MinScaleDenominator") d)) (or_value None (a_bound says (at_rule style rule)) (get (codes "MaxScaleDenominator") d))
-    (ok_or found (fault.Shape (at_rule style rule))) (list_of (symbolizer_after says style rule))
+in_parts says at d = λ i.
+    opened_as (keys_of object.Rule) at d >>= λ u. within most_symbolizers (fault.Range at) (get (codes "symbolizers") d) >>= λ found.
+    filters_of says at d >>= λ filters.
+    grouped (or_value 0 (in_grammar says.hundredths at) (get (codes "MinScaleDenominator") d)) (or_value None (a_bound says at) (get (codes "MaxScaleDenominator") d))
+    (ok_or found (fault.Shape at)) (list_of (λ before e. symbolizer_of says (at_place part.Symbolizer at.first at.second (length before)) e))
     (λ p. record { filter = filters.0; else_filter = filters.1; min_scale_denominator = p.0; max_scale_denominator = p.1; symbolizers = p.2 }) i

@@ -4,6 +4,8 @@ ghost use Rattle.serde_json.specs.View.{view};
 ghost use Rattle.reading.specs.Steps.{Gives};
 ghost use Rattle.style_objects.specs.TextReadings.{TextReading, SaysGrammar, text_reading};
 ghost use Rattle.style_objects.specs.Tables as spec;
+ghost use Rattle.style_objects.specs.Places.{at_place};
+ghost use Rattle.style_objects.specs.declared.fault.Part.TheVariants as part;
 ghost use Rattle.style_objects.specs.declared.fault.StyleFault.TheVariants as fault;
 
 use crate::fault::{At, StyleFault};
@@ -26,7 +28,7 @@ const WHITE: Colour = Colour {
 
 #[tactic(auto, unfolding(crate::specs::Tables::map_object))]
 fn map_style(alloc: Global, object: &Value) -> Result<MapStyle, StyleFault>
-    ensures { Gives fault.NoMemory (λ x. x) (spec.map_object text_reading (view object.now)) result }
+    ensures { Gives fault.NoMemory (λ x. x) (spec.map_object text_reading (at_place part.Map 0 0 0) (view object.now)) result }
 {
     let at = At::map();
     open(object, Object::Map, at)?;
