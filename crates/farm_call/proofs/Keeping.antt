@@ -28,7 +28,7 @@ use Rattle.serve_command.specs.declared.left.Left.{Left}
 use Rattle.serve_command.specs.declared.left.Left.TheVariants.{Store, Farm}
 use Rattle.farm_call.specs.Call.{CallBefore, CallAfter, Work, puts, scripts, loads, serves, store_of, PortsRose}
 use Rattle.farm_call.specs.Words.{Asks}
-use Rattle.farm_call.specs.Keeps.{AreLed, SavedRefused, ReadFailed, Idle, StoreIsLeft, MaySay, ServesTo, Done, Worked, Refuses, Cause, EndsFor, ReadsFailed, StoreFailed, TurnsAreGone, Unhindered, Keeps}
+use Rattle.farm_call.specs.Keeps.{AreLed, SavedRefused, ReadFailed, Idle, StoreIsLeft, MaySay, ServesTo, Done, Worked, Cause, EndsFor, StoreFailed, TurnsAreGone, Unhindered, Keeps}
 use Rattle.farm_call.specs.inner.Works.{Does, world_before, world_after}
 use Rattle.farm_call.proofs.Asked.{asks_one}
 use Rattle.farm_call.proofs.Followed as follow
@@ -128,7 +128,10 @@ module _ {D : Type 0} (state : D → Outside StoreTold) (was : CallBefore D) (is
 
   idles : w' ≡ w → Idles
   idles same = (
-    record { out = ap (λ (x : World D). x.out) same; left = ap (λ (x : World D). x.left) same; ports = ap (λ (x : World D). x.ports) same },
+    (
+      ap (λ (x : World D). x.out) same,
+      record { store = was.store; left = ap (λ (x : World D). x.left) same; ports = ap (λ (x : World D). x.ports) same; it_holds = refl },
+    ),
     ap (λ (x : World D). x.fronts) same,
   )
 
@@ -223,10 +226,10 @@ module _ {D : Type 0} (state : D → Outside StoreTold) (was : CallBefore D) (is
 
   served : (end : Result (Unit {0}) Stop) → Ran end → (closed : ClosedFarm D) → is.left ≡ Farm closed → (x : Served) × HasServed state x was.store closed w w' end
   served end (worked v asked files did) closed left = serving v end did closed left
-  served end (refuses line file files idle e) closed left = absurd (is_farm closed left was.store idle.0.left)
-  served end (misses line read idle e) closed left = absurd (is_farm closed left was.store idle.0.left)
-  served end (words none files idle e) closed left = absurd (is_farm closed left was.store idle.0.left)
-  served end (wants files idle e) closed left = absurd (is_farm closed left was.store idle.0.left)
+  served end (refuses line file files idle e) closed left = absurd (is_farm closed left idle.0.1.store idle.0.1.left)
+  served end (misses line read idle e) closed left = absurd (is_farm closed left idle.0.1.store idle.0.1.left)
+  served end (words none files idle e) closed left = absurd (is_farm closed left idle.0.1.store idle.0.1.left)
+  served end (wants files idle e) closed left = absurd (is_farm closed left idle.0.1.store idle.0.1.left)
 
   -- ---- and it ends so wherever there is cause
 
@@ -260,7 +263,7 @@ module _ {D : Type 0} (state : D → Outside StoreTold) (was : CallBefore D) (is
     same_work : was.files.told ≢ None → (v u : Work) → AreLed state was is (made v) → AreLed state was is (made u) → v ≡ u
     same_work known v u a b = let same : made v ≡ made u = same_end known (made v) (made u) tt tt a b in cc
 
-    file_refused : (line : List ℕ) → was.files.told ≢ None → AreLed state was is (refused line) → ¬ (ReadsFailed state was is) → EndsFor state was is end (stop.Refused line)
+    file_refused : (line : List ℕ) → was.files.told ≢ None → AreLed state was is (refused line) → ¬ (Rose was.files.faults is.files.faults) → EndsFor state was is end (stop.Refused line)
     file_refused line known file calm = by_end how
       where
         by_end : Ran end → EndsFor state was is end (stop.Refused line)
@@ -270,7 +273,7 @@ module _ {D : Type 0} (state : D → Outside StoreTold) (was : CallBefore D) (is
         by_end (words none files idle e) = absurd (none file.course file.asks)
         by_end (wants files idle e) = inr e
 
-    store_refused : (line : List ℕ) → was.files.told ≢ None → (state was.store).told ≢ None → SavedRefused state was is line → ¬ (ReadsFailed state was is) → ¬ (StoreFailed state was is) → EndsFor state was is end (stop.Refused line)
+    store_refused : (line : List ℕ) → was.files.told ≢ None → (state was.store).told ≢ None → SavedRefused state was is line → ¬ (Rose was.files.faults is.files.faults) → ¬ (StoreFailed state was is) → EndsFor state was is end (stop.Refused line)
     store_refused line known shown bad calm kept = by_end how
       where
         by_work : (v : Work) → v ≡ serves bad.served → Does state v w w' end → EndsFor state was is end (stop.Refused line)
@@ -299,7 +302,7 @@ module _ {D : Type 0} (state : D → Outside StoreTold) (was : CallBefore D) (is
     unput other = by_end how
       where
         kept : Idles → ⊥
-        kept idle = other (ap (λ (x : SinkAt). x.faults) idle.0.out)
+        kept idle = other (ap (λ (x : SinkAt). x.faults) idle.0.0)
 
         by_end : Ran end → end ≡ Err stop.SinkFailed
         by_end (worked v asked files did) = noticed v end did other

@@ -1,5 +1,5 @@
 -- From what the program did to what it promises.
-use Rattle.std.proofs.Common.{◌≡◌, ℕ, inl, inr, List, []}
+use Rattle.std.proofs.Common.{◌≡◌, ℕ, inl, inr, List, [], refl}
 use Rattle.std.specs.Prelude.{Err}
 use Rattle.farm_base.specs.Outside.{Outside}
 use Rattle.tile_store.specs.Stores.{StoreTold}
@@ -19,4 +19,4 @@ module _ {D : Type 0} (state : D → Outside StoreTold) (was : CallBefore D) (is
   pub wordless : (why : Stop) → IsWordless why → Reports (told_of (Err why)) was.err is.err is.status → is.files ≡ was.files → is.out ≡ was.out → is.left ≡ Store was.store → is.ports ≡ was.ports → is.fronts ≡ []
       → ProgramKeeps state was is
   wordless why is_wordless report files out left ports none =
-      inr (record { why = why; is_wordless = is_wordless; report = report; files = files; idle = record { out = out; left = left; ports = ports }; no_fronts = none })
+      inr (record { why = why; is_wordless = is_wordless; report = report; files = files; idle = (out, record { store = was.store; left = left; ports = ports; it_holds = refl }); no_fronts = none })

@@ -85,18 +85,16 @@ module _ {D : Type 0} (state : D → Outside StoreTold) (was : CallBefore D) (is
 
   -- ---- What is done
 
-  -- nothing is: out, the store and the ports are as they were
-  pub record Idle : Type 0 where
-    pub out : is.out ≡ was.out
-    pub left : is.left ≡ Store was.store
-    pub ports : is.ports ≡ was.ports
-
   -- the store is left, of which this holds, and the ports are as they were
   pub record StoreIsLeft (holds : D → Type 0) : Type 0 where
     pub store : D
     pub left : is.left ≡ Store store
     pub ports : is.ports ≡ was.ports
     pub it_holds : holds store
+
+  -- nothing is: out, the store and the ports are as they were
+  abbrev pub Idle : Type 0
+  Idle = (is.out ≡ was.out) × StoreIsLeft (λ store. store ≡ was.store)
 
   -- it may be said that the store tells what it holds: where it does; and for a farm that was
   -- resumed, where it also holds what was shown when the other farm stopped
@@ -203,20 +201,16 @@ module _ {D : Type 0} (state : D → Outside StoreTold) (was : CallBefore D) (is
     pub files : is.files ≡ was.files
     pub done : Done work end
 
-  -- the first file that has a fault, in the order in which they are read, is refused, and nothing
-  -- was done; or what is saved is, and the store shows what it
-  -- showed
-  abbrev pub Refuses : List ℕ → Type 0
-  Refuses line = (AreLed (refused line) × Idle)
-      ⊎ (SavedRefused line × (is.out ≡ was.out)
-      × StoreIsLeft (λ store. state store ≡ state was.store))
-
-  -- why the call ended so, and what it did until then
+  -- Why the call ended so, and what it did until then. Where a file is refused, the first that has a
+  -- fault in the order in which they are read, nothing was done; where what is saved is refused, the
+  -- store shows what it showed
   abbrev pub Cause : Result (Unit {0}) Stop → Type 0
   Cause (Err stop.Words) =
       ((course : Course Work) → ¬ (Asks was.words course)) × (is.files ≡ was.files) × Idle
   Cause (Err (stop.Unreadable line)) = ReadFailed line × Idle
-  Cause (Err (stop.Refused line)) = (is.files ≡ was.files) × Refuses line
+  Cause (Err (stop.Refused line)) = (is.files ≡ was.files) × ((AreLed (refused line) × Idle)
+      ⊎ (SavedRefused line × (is.out ≡ was.out)
+      × StoreIsLeft (λ store. state store ≡ state was.store)))
   Cause (Err stop.NoMemory) = Idle ⊎ Worked (Err stop.NoMemory)
   Cause end = Worked end
 
@@ -226,10 +220,7 @@ module _ {D : Type 0} (state : D → Outside StoreTold) (was : CallBefore D) (is
   abbrev pub EndsFor : Result (Unit {0}) Stop → Stop → Type 0
   EndsFor end why = (end ≡ Err why) ⊎ (end ≡ Err stop.NoMemory)
 
-  -- a count of faults rose over the call: that of the files, or that of the store
-  abbrev pub ReadsFailed : Type 0
-  ReadsFailed = Rose was.files.faults is.files.faults
-
+  -- the store's count of faults rose over the call
   abbrev pub StoreFailed : Type 0
   StoreFailed = Rose (state was.store).faults (state (store_of is.left)).faults
 
@@ -239,7 +230,7 @@ module _ {D : Type 0} (state : D → Outside StoreTold) (was : CallBefore D) (is
 
   -- no count rose, not all turns were drawn, and nothing that is saved is refused
   pub record Unhindered : Type 0 where
-    pub files : ¬ ReadsFailed
+    pub files : ¬ (Rose was.files.faults is.files.faults)
     pub out : ¬ (Rose was.out.faults is.out.faults)
     pub store : ¬ StoreFailed
     pub ports : ¬ (PortsRose was.ports is.ports)
@@ -273,11 +264,12 @@ module _ {D : Type 0} (state : D → Outside StoreTold) (was : CallBefore D) (is
     -- Words that ask for nothing are refused, unless memory is wanting
     pub no_words : ((course : Course Work) → ¬ (Asks was.words course)) → EndsFor end stop.Words
     -- So is the first file that has a fault, where no read fails,
-    pub refused : (line : List ℕ) → was.files.told ≢ None → AreLed (refused line) → ¬ ReadsFailed
-        → EndsFor end (stop.Refused line)
+    pub refused : (line : List ℕ) → was.files.told ≢ None → AreLed (refused line)
+        → ¬ (Rose was.files.faults is.files.faults) → EndsFor end (stop.Refused line)
     -- and what is saved in the store, where no call of the store fails either
     pub saved_refused : (line : List ℕ) → was.files.told ≢ None → (state was.store).told ≢ None
-        → SavedRefused line → ¬ ReadsFailed → ¬ StoreFailed → EndsFor end (stop.Refused line)
+        → SavedRefused line → ¬ (Rose was.files.faults is.files.faults) → ¬ StoreFailed
+        → EndsFor end (stop.Refused line)
     -- A read that failed is the end
     pub unread : is.files ≢ was.files → (line : List ℕ) × EndsFor end (stop.Unreadable line)
     -- So is a put on out that failed
