@@ -3,7 +3,7 @@ use Rattle.std.specs.Prelude.{ℕ, ◌^◌, Bool, true, false, List, [], length,
 use Rattle.std.specs.Option.{ok_or}
 use Rattle.std.specs.Result.{result_map_both}
 use Rattle.std.specs.Str.{bytes_eq}
-use Rattle.serde_json.specs.Data.{Data, Items}
+use Rattle.serde_json.specs.Data.{Data, no_items}
 use Rattle.serde_json.specs.Find.{get, as_str, as_array}
 use Rattle.plain_shapes.specs.declared.shapes.LineCap.TheVariants as cap
 use Rattle.plain_drawing.specs.declared.style.FilterMode.TheVariants as mode
@@ -26,7 +26,7 @@ use Rattle.style_objects.specs.declared.keys.Object.{Object}
 use Rattle.style_objects.specs.declared.keys.Object.TheVariants as object
 use Rattle.style_objects.specs.Keys.{opened_as}
 use Rattle.style_objects.specs.inner.Keys.{keys_of}
-use Rattle.style_objects.specs.Kinds.{in_grammar, a_bound, a_width, a_text_to, any_text, mode_of, cap_of, a_number, a_filter, is_true, an_else, list_or_none}
+use Rattle.style_objects.specs.Kinds.{in_grammar, a_bound, a_width, a_text_to, any_text, mode_of, cap_of, a_number, a_filter, is_true, an_else}
 use Rattle.style_objects.specs.declared.fault.Part.TheVariants as part
 use Rattle.style_objects.specs.Places.{at_place}
 use Rattle.style_objects.specs.Tables.{polygon_of, line_symbolizer_of, markers_of, raster_symbolizer_of, symbolizer_named, symbolizer_of, filters_of, rule_of, style_of, style_name_of, layer_of, raster_of, map_object, style_by, style_in}
@@ -88,11 +88,6 @@ filter_at_told at d = step HasText _ _ (string_told at d) (λ s. filter_told s a
 else_told : (has_filter : Bool) (at : At) (d : Data) → Told (an_else has_filter at d)
 unfolding an_else
 else_told has_filter at d = step HasText _ _ (checks HasText (is_true d) (fault.Shape at) refl) (λ u. either HasText has_filter (Err (fault.Shape at)) (Ok true) refl tt)
-
-rasters_told : (at : At) (found : Option Items) (o : Option Data) → Told (list_or_none at found o)
-rasters_told at (Some items) o = tt
-rasters_told at None None = tt
-rasters_told at None (Some d) = refl
 
 opened_told : (kind : Object) (at : At) (d : Data) → Told (opened_as (keys_of kind) at d)
 unfolding opened_as
@@ -212,7 +207,7 @@ map_told at d =
     step HasText _ _ (may HasText (rgb 255 255 255) (in_grammar text_reading.colour at) (get (codes "background-color") d) (grammar_told text_reading.colour at)) (λ background.
     step HasText _ _ (has HasText found_styles (fault.Shape at) refl) (λ style_items.
     step HasText _ _ (has HasText found_layers (fault.Shape at) refl) (λ layer_items.
-    step HasText _ _ (rasters_told at found_rasters (get (codes "rasters") d)) (λ raster_items.
+    step HasText _ _ (may HasText no_items (list (fault.Shape at)) (get (codes "rasters") d) (λ e. has HasText (as_array e) (fault.Shape at) refl)) (λ raster_items.
     step HasText _ _ (lists HasText (λ before e. raster_of (at_place part.Raster (length before) 0 0) before e) [] raster_items (λ before e. raster_told (at_place part.Raster (length before) 0 0) before e)) (λ rasters.
     step HasText _ _ (lists HasText (λ before e. style_of text_reading (at_place part.Style (length before) 0 0) before e) [] style_items
     (λ before e. style_told (at_place part.Style (length before) 0 0) before e)) (λ styles.

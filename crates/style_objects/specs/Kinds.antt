@@ -4,7 +4,7 @@ use Rattle.std.specs.Prelude.{ℕ, ◌^◌, Bool, true, false, if◌then◌else�
 use Rattle.std.specs.Option.{ok_or}
 use Rattle.std.specs.Result.{result_map_both}
 use Rattle.std.specs.Str.{bytes_eq}
-use Rattle.serde_json.specs.Data.{Data, boolean, number, object, Items, no_items}
+use Rattle.serde_json.specs.Data.{Data, boolean, number, object}
 use Rattle.plain_shapes.specs.declared.shapes.LineCap.{LineCap}
 use Rattle.plain_shapes.specs.declared.shapes.LineCap.TheVariants as cap
 use Rattle.plain_drawing.specs.declared.style.FilterMode.{FilterMode}
@@ -63,9 +63,3 @@ is_true _ = false
 -- the value of ElseFilter, which has to be true, in a rule that has no Filter
 unfoldable pub an_else : Bool → At → Data → Result Bool StyleFault
 an_else has_filter at d = check (is_true d) (fault.Shape at) >>= λ u. if has_filter then Err (fault.Shape at) else Ok true
-
--- a list of rasters, which may be absent: its items were found within their limit, unless the value is no list
-abbrev pub list_or_none : At → Option Items → Option Data → Result Items StyleFault
-list_or_none at (Some items) found = Ok items
-list_or_none at None None = Ok no_items
-list_or_none at None (Some d) = Err (fault.Shape at)

@@ -4,7 +4,7 @@
 use Rattle.std.specs.Prelude.{ℕ, Bool, false, not, if◌then◌else◌, List, [], ◌∷◌, length, codes, Option, None, is_some, Result, Ok, Err}
 use Rattle.std.specs.Option.{ok_or}
 use Rattle.std.specs.Str.{bytes_eq}
-use Rattle.serde_json.specs.Data.{Data}
+use Rattle.serde_json.specs.Data.{Data, no_items}
 use Rattle.serde_json.specs.Find.{get}
 use Rattle.plain_shapes.specs.declared.shapes.LineCap.TheVariants as cap
 use Rattle.plain_drawing.specs.declared.style.FilterMode.TheVariants as mode
@@ -23,7 +23,7 @@ use Rattle.style_objects.specs.declared.fault.StyleFault.{StyleFault}
 use Rattle.style_objects.specs.declared.fault.StyleFault.TheVariants as fault
 use Rattle.style_objects.specs.TextReadings.{TextReading, text_reading}
 use Rattle.style_objects.specs.Keys.{opened_as}
-use Rattle.style_objects.specs.Kinds.{in_grammar, a_bound, a_width, a_text_to, any_text, mode_of, cap_of, a_number, a_filter, an_else, list_or_none}
+use Rattle.style_objects.specs.Kinds.{in_grammar, a_bound, a_width, a_text_to, any_text, mode_of, cap_of, a_number, a_filter, an_else}
 use Rattle.style_objects.specs.Places.{at_place}
 use Rattle.plain_data.specs.Limits.{most_name_bytes}
 use Rattle.plain_drawing.specs.Limits.{most_styles, most_rules, most_symbolizers, most_map_layers, most_rasters, most_file_bytes}
@@ -152,7 +152,7 @@ map_object says at d = do
   background ← or_value (rgb 255 255 255) (in_grammar says.colour at) (get (codes "background-color") d)
   style_items ← ok_or found_styles (fault.Shape at)
   layer_items ← ok_or found_layers (fault.Shape at)
-  raster_items ← list_or_none at found_rasters (get (codes "rasters") d)
+  raster_items ← or_value no_items (list (fault.Shape at)) (get (codes "rasters") d)
   rasters ← list_of (λ before e. raster_of (at_place part.Raster (length before) 0 0) before e) raster_items
   styles ← list_of (λ before e. style_of says (at_place part.Style (length before) 0 0) before e) style_items
   layers ← list_of (λ before e. layer_of says styles (at_place part.Layer (length before) 0 0) before e) layer_items

@@ -10,6 +10,7 @@ ghost use Rattle.plain_shapes.specs.declared.shapes.LineCap.TheVariants as cap;
 ghost use Rattle.plain_drawing.specs.declared.style.FilterMode.TheVariants as mode;
 ghost use Rattle.style_objects.specs.TextReadings.{text_reading};
 ghost use Rattle.style_objects.specs.Kinds as spec;
+ghost use Rattle.style_objects.specs.inner.Parts as parts;
 ghost use Rattle.style_objects.specs.declared.fault.StyleFault.TheVariants as fault;
 
 use crate::fault::{At, StyleFault};
@@ -305,7 +306,7 @@ pub fn list_or_none<'a>(
 ) -> Result<&'a [Value], StyleFault>
     requires { IfSome found (λ vs. length vs.now ≤ 2) }
     ensures short { IfOk result (λ vs. length vs.now ≤ 2) }
-    ensures value { seen (λ vs. items_view vs.now) result ≡ spec.list_or_none at (option_map (λ vs. items_view vs.now) found.entry) (option_map (λ v. view v.now) value.entry) }
+    ensures value { seen (λ vs. items_view vs.now) result ≡ parts.list_or_none at (option_map (λ vs. items_view vs.now) found.entry) (option_map (λ v. view v.now) value.entry) }
 {
     match found {
         Some(items) => Ok(items),
