@@ -9,7 +9,7 @@ use Rattle.exit_status.proofs.Outsides.{PutCounts, put_counts}
 use Rattle.exit_status.specs.declared.stops.Stop.{Stop}
 use Rattle.exit_status.specs.declared.stops.Stop.TheVariants as stop
 
-by_put : (out out' : SinkAt) (put : Result (Unit {0}) SinkFault) (s : Stop) → Err s ≡ result_map_both (λ done. tt) (λ fault. stop.SinkFailed) put → PutCounts out.faults out'.faults put → (s ≡ stop.SinkFailed) × Rose out.faults out'.faults
+by_put : (out out' : SinkAt) (put : Result (Unit {0}) SinkFault) (s : Stop) → ◌≡◌ {A = Result (Unit {0}) Stop} (Err s) (result_map_both (λ done. tt) (λ fault. stop.SinkFailed) put) → PutCounts out.faults out'.faults put → (s ≡ stop.SinkFailed) × Rose out.faults out'.faults
 by_put out out' (Ok u) s e c = absurd (cc)
 by_put out out' (Err f) s e c = (cc, c.1)
 

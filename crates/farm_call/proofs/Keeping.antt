@@ -41,7 +41,7 @@ use Rattle.farm_call.proofs.Serving.{serves_stops, serves_noticed, serves_fault}
 
 -- ---- a put on out
 
-stays : (put : Result (Unit {0}) SinkFault) (before now : ℕ) → Ok tt ≡ result_map_both (λ done. tt) (λ fault. stop.SinkFailed) put → PutCounts before now put → now ≡ before
+stays : (put : Result (Unit {0}) SinkFault) (before now : ℕ) → ◌≡◌ {A = Result (Unit {0}) Stop} (Ok tt) (result_map_both (λ done. tt) (λ fault. stop.SinkFailed) put) → PutCounts before now put → now ≡ before
 stays (Ok u) before now e counts = counts
 stays (Err f) before now e counts = absurd (cc)
 
@@ -258,7 +258,7 @@ module _ {D : Type 0} (state : D → Outside StoreTold) (was : CallBefore D) (is
 
     same_fault : was.files.told ≢ None → (line other : List ℕ) → AreLed state was is (refused line) → AreLed state was is (refused other) → line ≡ other
     same_fault known line other a b =
-        let same : refused {V = Work} line ≡ refused other = same_end known (refused line) (refused other) tt tt a b in cc
+        let same : ◌≡◌ {A = Course Work} (refused line) (refused other) = same_end known (refused line) (refused other) tt tt a b in cc
 
     same_work : was.files.told ≢ None → (v u : Work) → AreLed state was is (made v) → AreLed state was is (made u) → v ≡ u
     same_work known v u a b = let same : made v ≡ made u = same_end known (made v) (made u) tt tt a b in cc
