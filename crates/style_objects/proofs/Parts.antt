@@ -54,7 +54,7 @@ found_list : {A : Type 0} (at : At) (limit : ℕ) (range : StyleFault) (o : Opti
     → (within limit range o >>= λ found. on (list_or_none at found o)) ≡ (within limit range o >>= λ found. on (or_value no_items (list (fault.Shape at)) o))
 unfolding within
 found_list at limit range None on = refl
-found_list {A} at limit range (Some d) on = by (as_array d)
+found_list at limit range (Some d) on = by (as_array d)
   where
     by : (a : Option Items) → (items_within limit range a >>= λ found. on (list_or_none at found (Some d))) ≡ (items_within limit range a >>= λ found. on (ok_or a (fault.Shape at)))
     by None = refl
@@ -69,9 +69,9 @@ unfolding map_object map_by_parts
 map_in_parts says at d = λ i.
     opened_as (keys_of object.Map) at d >>= λ u. within most_styles (fault.Range at) (get (codes "styles") d) >>= λ found_styles.
     within most_map_layers (fault.Range at) (get (codes "layers") d) >>= λ found_layers.
-    sym (found_list at most_rasters (fault.Range at) (get (codes "rasters") d) (λ found_list.
+    sym (found_list at most_rasters (fault.Range at) (get (codes "rasters") d) (λ read.
     or_value (rgb 255 255 255) (in_grammar says.colour at) (get (codes "background-color") d) >>= λ background.
-    ok_or found_styles (fault.Shape at) >>= λ style_items. ok_or found_layers (fault.Shape at) >>= λ layer_items. found_list >>= λ raster_items.
+    ok_or found_styles (fault.Shape at) >>= λ style_items. ok_or found_layers (fault.Shape at) >>= λ layer_items. read >>= λ raster_items.
     list_of (λ before e. raster_of (at_place part.Raster (length before) 0 0) before e) raster_items >>= λ rasters.
     list_of (λ before e. style_of says (at_place part.Style (length before) 0 0) before e) style_items >>= λ styles.
     list_of (λ before e. layer_of says styles (at_place part.Layer (length before) 0 0) before e) layer_items >>= λ layers.
