@@ -14,6 +14,6 @@ nothing_put : (at : SinkAt) → Puts at at [] (Ok tt)
 nothing_put at = (same_told at.told, refl)
 
 -- where the line is empty, nothing is put and the status stays
-pub report_none : (status : ℕ) (line : List ℕ) (at : SinkAt) (result : ℕ) → (length line == 0) ≡ true → result ≡ status → Reports status line at at result
-report_none status [] at result none same = record { put = Ok tt; puts = nothing_put at; status_is = same; quiet = λ e. (refl, refl) }
-report_none status (x ∷ xs) at result none same = absurd (grind (arith, nat_tests))
+pub report_none : (told : ℕ × List ℕ) (at : SinkAt) (result : ℕ) → (length told.1 == 0) ≡ true → result ≡ told.0 → Reports told at at result
+report_none (status, []) at result none same = record { put = Ok tt; puts = nothing_put at; status_is = same; quiet = λ e. (refl, refl) }
+report_none (status, x ∷ xs) at result none same = absurd (grind (arith, nat_tests))

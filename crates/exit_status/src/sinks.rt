@@ -1,6 +1,7 @@
 //! What a command puts on out, and how its end is told on err.
 ghost use Rattle.std.specs.Prelude.{◌≡◌};
-ghost use Rattle.exit_status.specs.Stops as spec;
+ghost use Rattle.exit_status.specs.Stops.{told_of};
+ghost use Rattle.exit_status.specs.inner.Told as spec;
 ghost use Rattle.exit_status.specs.Ends.{PutsAll, Reports};
 
 use crate::stops::Stop;
@@ -53,7 +54,7 @@ fn err_line(end: &Result<(), Stop>) -> &str
 
 /// Puts the line of an end on err, if it has one, and answers the status; 4 where that put failed.
 pub fn report<E: Sink>(err: &mut E, end: &Result<(), Stop>) -> u8
-    ensures { Reports (spec.status_of end.now) (spec.err_line end.now) (E.state err.old) (E.state err.new) result }
+    ensures { Reports (told_of end.now) (E.state err.old) (E.state err.new) result }
 {
     let status = status_of(end);
     let line = err_line(end);

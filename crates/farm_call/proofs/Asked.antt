@@ -24,7 +24,7 @@ use Rattle.farm_files.specs.Inputs.{Scripted, Served}
 use Rattle.style_objects.specs.TextReadings.{TextReading, text_reading}
 use Rattle.style_objects.proofs.ByGrammar.{one_reading, reads_grammar}
 use Rattle.farm_files.specs.Courses.{script_course, script_course_by, serve_course, serve_course_by}
-use Rattle.script_command.specs.Scripts as script
+use Rattle.script_command.specs.inner.Runs as script
 use Rattle.render_command.specs.Courses.{render_course, render_course_by}
 use Rattle.render_command.specs.MetaCourses.{meta_course}
 use Rattle.farm_call.specs.Words.{AsksFor, IsCourse, Asks}

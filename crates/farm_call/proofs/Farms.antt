@@ -339,8 +339,8 @@ module _ {D : Type 0} (state : D → Outside StoreTold) (was : CallBefore D) (is
     plan_is = plan_left;
     first_is = first_left;
     resumes = resumes;
-    legal = legal;
-    stands = kept.after;
+    stands = λ told may. kept.after.each told (may_left told may);
+    seated = kept.after.seated;
     ends = served.ends;
     owned = owned;
     listening = served.listening;

@@ -1,4 +1,4 @@
--- What it says of files that a course was followed in them, and that it has one value and one first fault.
+-- What it says of files that a course was followed in them.
 use Rattle.std.proofs.Common.{◌≡◌, ℕ, ◌⊎◌, inl, inr, List, refl, sym, ap, subst, ◌∙◌}
 use Rattle.std.specs.Prelude.{Option, Some, None, Result, Ok, Err, Vec, IfSome, option_map}
 use Rattle.std.specs.declared.alloc.Global.{Global}
@@ -9,27 +9,8 @@ use Rattle.exit_status.specs.Stops.{unreadable_line}
 use Rattle.exit_status.specs.Ends.{FilesAt}
 use Rattle.exit_status.specs.declared.stops.Stop.{Stop}
 use Rattle.exit_status.specs.declared.stops.Stop.TheVariants as stop
-use Rattle.input_files.specs.Course.{Course, made, refused, reads, Makes, RefusedBy, ComesTo}
+use Rattle.input_files.specs.Course.{Course, made, refused, reads, Leads}
 use Rattle.input_files.specs.inner.Follows.{After, Follows}
-
--- ---- one end at most
-
-one_content : (held : List ℕ → Option (List ℕ)) (name a b : List ℕ) → held name ≡ Some a → held name ≡ Some b → b ≡ a
-one_content held name a b x y = let both : Some b ≡ Some a = sym y ∙ x in cc
-
--- files lead a course to one value at most
-pub one_value : {V : Type 0} (held : List ℕ → Option (List ℕ)) (c : Course V) (v w : V) → Makes held c v → Makes held c w → v ≡ w
-one_value held (made its) v w m n = m ∙ sym n
-one_value held (refused line) v w m n = absurd m
-one_value {V} held (reads name on) v w m n =
-    one_value held (on m.0) v w m.2 (subst (λ (bytes : List ℕ). Makes held (on bytes) w) (one_content held name m.0 n.0 m.1 n.1) n.2)
-
--- and to one first fault
-pub one_fault : {V : Type 0} (held : List ℕ → Option (List ℕ)) (c : Course V) (line other : List ℕ) → RefusedBy held c line → RefusedBy held c other → line ≡ other
-one_fault held (made value) line other m n = absurd m
-one_fault held (refused its) line other m n = m ∙ sym n
-one_fault {V} held (reads name on) line other m n =
-    one_fault held (on m.0) line other m.2 (subst (λ (bytes : List ℕ). RefusedBy held (on bytes) other) (one_content held name m.0 n.0 m.1 n.1) n.2)
 
 -- ---- what is so where it is told
 
@@ -45,9 +26,9 @@ always_told None P f = tt
 
 -- Four ends: a value is made; a line refuses; a read failed, and but for that the files are as they were; or memory was wanting
 pub data Followed {V : Type 0} (c : Course V) (old new : FilesAt) (result : Result V Stop) : Type 0 where
-  makes : (v : V) → result ≡ Ok v → IfSome old.told (λ t. Makes t.content c v) → new ≡ old → Followed c old new result
-  refuses : (line : List ℕ) → result ≡ Err (stop.Refused line) → IfSome old.told (λ t. RefusedBy t.content c line) → new ≡ old → Followed c old new result
-  misses : (name : List ℕ) → (result ≡ Err (stop.Unreadable (unreadable_line name))) ⊎ (result ≡ Err stop.NoMemory) → IfSome old.told (λ t. ComesTo t.content c name)
+  makes : (v : V) → result ≡ Ok v → IfSome old.told (λ t. Leads t.content c (made v)) → new ≡ old → Followed c old new result
+  refuses : (line : List ℕ) → result ≡ Err (stop.Refused line) → IfSome old.told (λ t. Leads t.content c (refused line)) → new ≡ old → Followed c old new result
+  misses : (name : List ℕ) (on : List ℕ → Course V) → (result ≡ Err (stop.Unreadable (unreadable_line name))) ⊎ (result ≡ Err stop.NoMemory) → IfSome old.told (λ t. Leads t.content c (reads name on))
       → new.told ≡ option_map (with_failed (failed_read name)) old.told → Rose old.faults new.faults → Followed c old new result
   wants : result ≡ Err stop.NoMemory → new ≡ old → Followed c old new result
 
@@ -55,11 +36,11 @@ pub data Followed {V : Type 0} (c : Course V) (old new : FilesAt) (result : Resu
 led : {V : Type 0} (name : List ℕ) (on : List ℕ → Course V) (bytes : List ℕ) (old new : FilesAt) (result : Result V Stop)
     → IfSome old.told (λ t. t.content name ≡ Some bytes) → Followed (on bytes) old new result → Followed (reads name on) old new result
 led name on bytes old new result held (makes v e m same) =
-    makes v e (both_told old.told (λ t. t.content name ≡ Some bytes) (λ t. Makes t.content (on bytes) v) (λ t. Makes t.content (reads name on) v) (λ t h n. (bytes, h, n)) held m) same
+    makes v e (both_told old.told (λ t. t.content name ≡ Some bytes) (λ t. Leads t.content (on bytes) (made v)) (λ t. Leads t.content (reads name on) (made v)) (λ t h n. inr (bytes, h, n)) held m) same
 led name on bytes old new result held (refuses line e m same) =
-    refuses line e (both_told old.told (λ t. t.content name ≡ Some bytes) (λ t. RefusedBy t.content (on bytes) line) (λ t. RefusedBy t.content (reads name on) line) (λ t h n. (bytes, h, n)) held m) same
-led name on bytes old new result held (misses other e m failed rose) =
-    misses other e (both_told old.told (λ t. t.content name ≡ Some bytes) (λ t. ComesTo t.content (on bytes) other) (λ t. ComesTo t.content (reads name on) other) (λ t h n. inr (bytes, h, n)) held m) failed rose
+    refuses line e (both_told old.told (λ t. t.content name ≡ Some bytes) (λ t. Leads t.content (on bytes) (refused line)) (λ t. Leads t.content (reads name on) (refused line)) (λ t h n. inr (bytes, h, n)) held m) same
+led name on bytes old new result held (misses other next e m failed rose) =
+    misses other next e (both_told old.told (λ t. t.content name ≡ Some bytes) (λ t. Leads t.content (on bytes) (reads other next)) (λ t. Leads t.content (reads name on) (reads other next)) (λ t h n. inr (bytes, h, n)) held m) failed rose
 led name on bytes old new result held (wants e same) = wants e same
 
 read_then : {V : Type 0} (name : List ℕ) (on : List ℕ → Course V) (old middle new : FilesAt) (result : Result V Stop) (read : Result (Vec ℕ Global) FileFault)
@@ -68,15 +49,15 @@ read_then : {V : Type 0} (name : List ℕ) (on : List ℕ → Course V) (old mid
 read_then name on old middle new result (Ok bytes) has more after =
     led name on bytes.items old new result has.1 (subst (λ (at : FilesAt). Followed (on bytes.items) at new result) has.0 (more bytes.items after))
 read_then name on old middle new result (Err file.Failed) has more after =
-    misses name after.0 (always_told old.told (λ t. ComesTo t.content (reads name on) name) (λ t. inl refl)) (ap (λ (at : FilesAt). at.told) after.1 ∙ has.0)
+    misses name on after.0 (always_told old.told (λ t. Leads t.content (reads name on) (reads name on)) (λ t. inl refl)) (ap (λ (at : FilesAt). at.told) after.1 ∙ has.0)
     (subst (λ (n : ℕ). Rose old.faults n) (sym (ap (λ (at : FilesAt). at.faults) after.1)) has.1.1)
 read_then name on old middle new result (Err file.NoMemory) has more (inl e, same) = wants e (same ∙ has)
 read_then name on old middle new result (Err file.NoMemory) has more (inr e, same) = wants e (same ∙ has)
 
 pub followed : {V : Type 0} (c : Course V) (old new : FilesAt) (result : Result V Stop) → Follows c old new result → Followed c old new result
-followed (made v) old new result (inl e, same) = makes v e (always_told old.told (λ t. Makes t.content (made v) v) (λ t. refl)) same
+followed (made v) old new result (inl e, same) = makes v e (always_told old.told (λ t. Leads t.content (made v) (made v)) (λ t. refl)) same
 followed (made v) old new result (inr e, same) = wants e same
-followed {V} (refused line) old new result (inl e, same) = refuses line e (always_told old.told (λ t. RefusedBy {V = V} t.content (refused line) line) (λ t. refl)) same
+followed {V} (refused line) old new result (inl e, same) = refuses line e (always_told old.told (λ t. Leads {V = V} t.content (refused line) (refused line)) (λ t. refl)) same
 followed (refused line) old new result (inr e, same) = wants e same
 followed (reads name on) old new result (inl (inl e, same)) = wants e same
 followed (reads name on) old new result (inl (inr e, same)) = wants e same

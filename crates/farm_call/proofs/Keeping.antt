@@ -1,21 +1,22 @@
 -- From what a call did to what it promises.
 use Rattle.std.proofs.Common.{◌≡◌, ◌≢◌, ℕ, ◌⊎◌, inl, inr, List, [], true, refl, sym, ap, subst, ◌∙◌}
 use Rattle.std.specs.Prelude.{Option, Some, None, IfSome, Result, Ok, Err}
+use Rattle.std.specs.Result.{result_map_both}
 use Rattle.farm_base.specs.Outside.{Outside, FilesTold, Rose}
 use Rattle.farm_base.specs.declared.sinks.SinkFault.{SinkFault}
 use Rattle.tile_store.specs.Stores.{StoreTold}
 use Rattle.port_events.specs.declared.ends.FrontDone.{FrontDone}
 use Rattle.port_events.specs.Told.{PortsTold}
-use Rattle.exit_status.specs.Stops.{status_of, err_line, unreadable_line}
-use Rattle.exit_status.specs.Ends.{SinkAt, put_end, PutsAll, Reports, EndsWith}
+use Rattle.exit_status.specs.Stops.{unreadable_line}
+use Rattle.exit_status.specs.Ends.{SinkAt, PutsAll, Reports, EndsWith}
 use Rattle.exit_status.specs.declared.stops.Stop.{Stop}
 use Rattle.exit_status.specs.declared.stops.Stop.TheVariants as stop
 use Rattle.exit_status.proofs.Outsides.{PutCounts, put_counts}
 use Rattle.exit_status.proofs.Statuses.{puts_failed}
-use Rattle.input_files.specs.Course.{Course, Makes, RefusedBy}
+use Rattle.input_files.specs.Course.{Course, made, refused, reads, Leads}
 use Rattle.input_files.specs.inner.Follows.{Follows}
 use Rattle.input_files.specs.inner.Runs as calls
-use Rattle.input_files.proofs.Courses.{made_apart, ended}
+use Rattle.input_files.proofs.Courses.{IsEnd, one_end, ended}
 use Rattle.farm_files.specs.Inputs.{Served}
 use Rattle.farm_runs.specs.declared.each_front.EachFront.{EachFront}
 use Rattle.script_command.specs.Scripts.{Scripts}
@@ -27,11 +28,11 @@ use Rattle.serve_command.specs.declared.left.Left.{Left}
 use Rattle.serve_command.specs.declared.left.Left.TheVariants.{Store, Farm}
 use Rattle.farm_call.specs.Call.{CallBefore, CallAfter, Work, puts, scripts, loads, serves, store_of, PortsRose}
 use Rattle.farm_call.specs.Words.{Asks}
-use Rattle.farm_call.specs.Keeps.{Held, Asked, FileRefused, SavedRefused, ReadFailed, Idle, StoreIsLeft, MaySay, ServesTo, Done, Worked, Refuses, Cause, EndsFor, ReadsFailed, StoreFailed, TurnsAreGone, Unhindered, Keeps}
+use Rattle.farm_call.specs.Keeps.{AreLed, SavedRefused, ReadFailed, Idle, StoreIsLeft, MaySay, ServesTo, Done, Worked, Cause, EndsFor, StoreFailed, TurnsAreGone, Unhindered, Keeps}
 use Rattle.farm_call.specs.inner.Works.{Does, world_before, world_after}
 use Rattle.farm_call.proofs.Asked.{asks_one}
 use Rattle.farm_call.proofs.Followed as follow
-use Rattle.farm_call.proofs.Followed.{Followed, followed, one_value, one_fault}
+use Rattle.farm_call.proofs.Followed.{Followed, followed}
 use Rattle.farm_call.proofs.Farms.{headline, sent_now, served_well}
 use Rattle.farm_call.proofs.Whys.{Why, by_store}
 use Rattle.farm_call.proofs.Scripting.{scripts_stops, scripts_noticed}
@@ -40,7 +41,7 @@ use Rattle.farm_call.proofs.Serving.{serves_stops, serves_noticed, serves_fault}
 
 -- ---- a put on out
 
-stays : (put : Result (Unit {0}) SinkFault) (before now : ℕ) → Ok tt ≡ put_end put → PutCounts before now put → now ≡ before
+stays : (put : Result (Unit {0}) SinkFault) (before now : ℕ) → ◌≡◌ {A = Result (Unit {0}) Stop} (Ok tt) (result_map_both (λ done. tt) (λ fault. stop.SinkFailed) put) → PutCounts before now put → now ≡ before
 stays (Ok u) before now e counts = counts
 stays (Err f) before now e counts = absurd (cc)
 
@@ -102,7 +103,7 @@ module _ {D : Type 0} (state : D → Outside StoreTold) (was : CallBefore D) (is
   noticed (serves x) end did other = serves_noticed state was is x end (subst (λ (d : D). Serves state x d w w' end) (same_store did.0 did.1) did.2) other
 
   serves_to : (x : Served) (end : Result (Unit {0}) Stop) (l : Left D) → is.left ≡ l → inner.ServesTo state x was.store w w' end l → ServesTo state was is x end l
-  serves_to x end (Store store) left_is h = (h.why, h.end_is, record { silent = h.silent; because = h.why_not })
+  serves_to x end (Store store) left_is h = (h.why, h.end_is, h.silent, h.why_not)
   serves_to x end (Farm closed) left_is h = served_well state was is x closed left_is end h
 
   done_so : (v : Work) (end : Result (Unit {0}) Stop) → Does state v w w' end → Done state was is v end
@@ -127,13 +128,16 @@ module _ {D : Type 0} (state : D → Outside StoreTold) (was : CallBefore D) (is
 
   idles : w' ≡ w → Idles
   idles same = (
-    record { out = ap (λ (x : World D). x.out) same; left = ap (λ (x : World D). x.left) same; ports = ap (λ (x : World D). x.ports) same },
+    (
+      ap (λ (x : World D). x.out) same,
+      record { store = was.store; left = ap (λ (x : World D). x.left) same; ports = ap (λ (x : World D). x.ports) same; it_holds = refl },
+    ),
     ap (λ (x : World D). x.fronts) same,
   )
 
   data Ran (end : Result (Unit {0}) Stop) : Type 0 where
-    worked : (v : Work) → Asked state was is v → is.files ≡ was.files → Does state v w w' end → Ran end
-    refuses : (line : List ℕ) → FileRefused state was is line → is.files ≡ was.files → Idles → end ≡ Err (stop.Refused line) → Ran end
+    worked : (v : Work) → AreLed state was is (made v) → is.files ≡ was.files → Does state v w w' end → Ran end
+    refuses : (line : List ℕ) → AreLed state was is (refused line) → is.files ≡ was.files → Idles → end ≡ Err (stop.Refused line) → Ran end
     misses : (line : List ℕ) → ReadFailed state was is line → Idles → (end ≡ Err (stop.Unreadable line)) ⊎ (end ≡ Err stop.NoMemory) → Ran end
     words : ((course : Course Work) → ¬ (Asks was.words course)) → is.files ≡ was.files → Idles → end ≡ Err stop.Words → Ran end
     wants : is.files ≡ was.files → Idles → end ≡ Err stop.NoMemory → Ran end
@@ -141,25 +145,25 @@ module _ {D : Type 0} (state : D → Outside StoreTold) (was : CallBefore D) (is
   value_worked : (c : Course Work) → Asks was.words c → (v : Work) (end : Result (Unit {0}) Stop) → Followed c was.files is.files (Ok v) → Does state v w w' end → Ran end
   value_worked c asks v end (follow.makes u e m same) did =
       let is_v : u ≡ v = cc in
-      worked v (record { course = c; asks = asks; makes = subst (λ (x : Work). IfSome was.files.told (λ t. Makes t.content c x)) is_v m }) same did
+      worked v (record { course = c; asks = asks; leads = subst (λ (x : Work). IfSome was.files.told (λ t. Leads t.content c (made x))) is_v m }) same did
   value_worked c asks v end (follow.refuses line e m same) did = absurd (cc)
-  value_worked c asks v end (follow.misses name (inl e) m failed rose) did = absurd (cc)
-  value_worked c asks v end (follow.misses name (inr e) m failed rose) did = absurd (cc)
+  value_worked c asks v end (follow.misses name on (inl e) m failed rose) did = absurd (cc)
+  value_worked c asks v end (follow.misses name on (inr e) m failed rose) did = absurd (cc)
   value_worked c asks v end (follow.wants e same) did = absurd (cc)
 
   no_value : (c : Course Work) → Asks was.words c → (s : Stop) (end : Result (Unit {0}) Stop) → Followed c was.files is.files (ended {A = Work} s) → end ≡ Err s → w' ≡ w → Ran end
   no_value c asks s end (follow.makes u e m same) end_is idle = absurd (not_made Work s u e)
   no_value c asks s end (follow.refuses line e m same) end_is idle =
-      refuses line (record { course = c; asks = asks; first = m }) same (idles idle) (end_of Work s (stop.Refused line) e end end_is)
-  no_value c asks s end (follow.misses name (inl e) m failed rose) end_is idle =
-      misses (unreadable_line name) (record { course = c; asks = asks; name = name; next = m; line_is = refl; failed = failed; rose = rose }) (idles idle)
+      refuses line (record { course = c; asks = asks; leads = m }) same (idles idle) (end_of Work s (stop.Refused line) e end end_is)
+  no_value c asks s end (follow.misses name on (inl e) m failed rose) end_is idle =
+      misses (unreadable_line name) (record { name = name; on = on; next = record { course = c; asks = asks; leads = m }; line_is = refl; failed = failed; rose = rose }) (idles idle)
       (inl (end_of Work s (stop.Unreadable (unreadable_line name)) e end end_is))
-  no_value c asks s end (follow.misses name (inr e) m failed rose) end_is idle =
-      misses (unreadable_line name) (record { course = c; asks = asks; name = name; next = m; line_is = refl; failed = failed; rose = rose }) (idles idle)
+  no_value c asks s end (follow.misses name on (inr e) m failed rose) end_is idle =
+      misses (unreadable_line name) (record { name = name; on = on; next = record { course = c; asks = asks; leads = m }; line_is = refl; failed = failed; rose = rose }) (idles idle)
       (inr (end_of Work s stop.NoMemory e end end_is))
   no_value c asks s end (follow.wants e same) end_is idle = wants same (idles idle) (end_of Work s stop.NoMemory e end end_is)
 
-  works_ran : (c : Course Work) → Asks was.words c → (made : Result Work Stop) (end : Result (Unit {0}) Stop) → Follows c was.files is.files made → calls.Goes (Does state) w w' end made → Ran end
+  works_ran : (c : Course Work) → Asks was.words c → (course_end : Result Work Stop) (end : Result (Unit {0}) Stop) → Follows c was.files is.files course_end → calls.Goes (Does state) w w' end course_end → Ran end
   works_ran c asks (Ok v) end h goes = value_worked c asks v end (followed c was.files is.files (Ok v) h) goes
   works_ran c asks (Err s) end h goes = no_value c asks s end (followed c was.files is.files (ended {A = Work} s) h) goes.0 goes.1
 
@@ -171,14 +175,14 @@ module _ {D : Type 0} (state : D → Outside StoreTold) (was : CallBefore D) (is
   -- ---- why it ended
 
   -- what is saved is refused, of the work that is asked
-  saved_refused : (v : Work) → Asked state was is v → (line : List ℕ) → Why state v (stop.Refused line) w w' → SavedRefused state was is line
+  saved_refused : (v : Work) → AreLed state was is (made v) → (line : List ℕ) → Why state v (stop.Refused line) w w' → SavedRefused state was is line
   saved_refused v asked line why =
-      record { served = why.served; asked = subst (Asked state was is) why.is_work asked; resume = why.resume; why = why.why; fault = why.fault; line_is = why.line_is }
+      record { served = why.served; asked = subst (λ (x : Work). AreLed state was is (made x)) why.is_work asked; resume = why.resume; why = why.why; fault = why.fault; line_is = why.line_is }
 
-  worked_for : (v : Work) → Asked state was is v → is.files ≡ was.files → (end : Result (Unit {0}) Stop) → Does state v w w' end → Worked state was is end
+  worked_for : (v : Work) → AreLed state was is (made v) → is.files ≡ was.files → (end : Result (Unit {0}) Stop) → Does state v w w' end → Worked state was is end
   worked_for v asked files end did = record { work = v; asked = asked; files = files; done = done_so v end did }
 
-  stopped_for : (v : Work) → Asked state was is v → is.files ≡ was.files → (q : Stop) → Why state v q w w' → Worked state was is (Err q) → Cause state was is (Err q)
+  stopped_for : (v : Work) → AreLed state was is (made v) → is.files ≡ was.files → (q : Stop) → Why state v q w w' → Worked state was is (Err q) → Cause state was is (Err q)
   stopped_for v asked files (stop.Refused line) why did =
       (files, inr (saved_refused v asked line why, why.out, record { store = why.store; left = why.left; ports = why.ports; it_holds = why.shows }))
   stopped_for v asked files stop.Words why did = absurd why
@@ -189,7 +193,7 @@ module _ {D : Type 0} (state : D → Outside StoreTold) (was : CallBefore D) (is
   stopped_for v asked files stop.PortsFailed why did = did
   stopped_for v asked files stop.TurnsUsedUp why did = did
 
-  worked_cause : (v : Work) → Asked state was is v → is.files ≡ was.files → (end : Result (Unit {0}) Stop) → Does state v w w' end → Cause state was is end
+  worked_cause : (v : Work) → AreLed state was is (made v) → is.files ≡ was.files → (end : Result (Unit {0}) Stop) → Does state v w w' end → Cause state was is end
   worked_cause v asked files (Ok u) did = worked_for v asked files (Ok tt) did
   worked_cause v asked files (Err q) did = stopped_for v asked files q (stops v q did) (worked_for v asked files (Err q) did)
 
@@ -222,10 +226,10 @@ module _ {D : Type 0} (state : D → Outside StoreTold) (was : CallBefore D) (is
 
   served : (end : Result (Unit {0}) Stop) → Ran end → (closed : ClosedFarm D) → is.left ≡ Farm closed → (x : Served) × HasServed state x was.store closed w w' end
   served end (worked v asked files did) closed left = serving v end did closed left
-  served end (refuses line file files idle e) closed left = absurd (is_farm closed left was.store idle.0.left)
-  served end (misses line read idle e) closed left = absurd (is_farm closed left was.store idle.0.left)
-  served end (words none files idle e) closed left = absurd (is_farm closed left was.store idle.0.left)
-  served end (wants files idle e) closed left = absurd (is_farm closed left was.store idle.0.left)
+  served end (refuses line file files idle e) closed left = absurd (is_farm closed left idle.0.1.store idle.0.1.left)
+  served end (misses line read idle e) closed left = absurd (is_farm closed left idle.0.1.store idle.0.1.left)
+  served end (words none files idle e) closed left = absurd (is_farm closed left idle.0.1.store idle.0.1.left)
+  served end (wants files idle e) closed left = absurd (is_farm closed left idle.0.1.store idle.0.1.left)
 
   -- ---- and it ends so wherever there is cause
 
@@ -236,35 +240,30 @@ module _ {D : Type 0} (state : D → Outside StoreTold) (was : CallBefore D) (is
         by_end : Ran end → EndsFor state was is end stop.Words
         by_end (worked v asked files did) = absurd (nothing asked.course asked.asks)
         by_end (refuses line file files idle e) = absurd (nothing file.course file.asks)
-        by_end (misses line read idle e) = absurd (nothing read.course read.asks)
+        by_end (misses line read idle e) = absurd (nothing read.next.course read.next.asks)
         by_end (words none files idle e) = inl e
         by_end (wants files idle e) = inr e
 
-    -- files that make something of what is asked have no first fault
-    no_fault : was.files.told ≢ None → (v : Work) → Asked state was is v → (line : List ℕ) → FileRefused state was is line → ⊥
-    no_fault known v asked line file =
-        let makes = told was.files.told (λ t. Makes t.content asked.course v) known asked.makes in
-        let first = at_told was.files.told makes.it (λ t. RefusedBy t.content file.course line) makes.is_told file.first in
-        made_apart makes.it.content asked.course v line makes.so
-        (subst (λ (c : Course Work). RefusedBy makes.it.content c line) (asks_one was.words file.course asked.course file.asks asked.asks) first)
+    -- the files lead what is asked to one end
+    same_end : was.files.told ≢ None → (x y : Course Work) → IsEnd x → IsEnd y → AreLed state was is x → AreLed state was is y → x ≡ y
+    same_end known x y ends also a b =
+        let first = told was.files.told (λ t. Leads t.content a.course x) known a.leads in
+        let second = at_told was.files.told first.it (λ t. Leads t.content b.course y) first.is_told b.leads in
+        one_end first.it.content a.course x y ends also first.so
+        (subst (λ (c : Course Work). Leads first.it.content c y) (asks_one was.words b.course a.course b.asks a.asks) second)
 
-    -- they have one
-    same_fault : was.files.told ≢ None → (line other : List ℕ) → FileRefused state was is line → FileRefused state was is other → line ≡ other
+    -- where they make something of it, no file is refused
+    no_fault : was.files.told ≢ None → (v : Work) → AreLed state was is (made v) → (line : List ℕ) → AreLed state was is (refused line) → ⊥
+    no_fault known v a line b = let same : made v ≡ refused line = same_end known (made v) (refused line) tt tt a b in absurd (cc)
+
+    same_fault : was.files.told ≢ None → (line other : List ℕ) → AreLed state was is (refused line) → AreLed state was is (refused other) → line ≡ other
     same_fault known line other a b =
-        let first = told was.files.told (λ t. RefusedBy t.content a.course line) known a.first in
-        let second = at_told was.files.told first.it (λ t. RefusedBy t.content b.course other) first.is_told b.first in
-        one_fault first.it.content a.course line other first.so
-        (subst (λ (c : Course Work). RefusedBy first.it.content c other) (asks_one was.words b.course a.course b.asks a.asks) second)
+        let same : ◌≡◌ {A = Course Work} (refused line) (refused other) = same_end known (refused line) (refused other) tt tt a b in cc
 
-    -- and make one work
-    same_work : was.files.told ≢ None → (v u : Work) → Asked state was is v → Asked state was is u → v ≡ u
-    same_work known v u a b =
-        let first = told was.files.told (λ t. Makes t.content a.course v) known a.makes in
-        let second = at_told was.files.told first.it (λ t. Makes t.content b.course u) first.is_told b.makes in
-        one_value first.it.content a.course v u first.so
-        (subst (λ (c : Course Work). Makes first.it.content c u) (asks_one was.words b.course a.course b.asks a.asks) second)
+    same_work : was.files.told ≢ None → (v u : Work) → AreLed state was is (made v) → AreLed state was is (made u) → v ≡ u
+    same_work known v u a b = let same : made v ≡ made u = same_end known (made v) (made u) tt tt a b in cc
 
-    file_refused : (line : List ℕ) → was.files.told ≢ None → FileRefused state was is line → ¬ (ReadsFailed state was is) → EndsFor state was is end (stop.Refused line)
+    file_refused : (line : List ℕ) → was.files.told ≢ None → AreLed state was is (refused line) → ¬ (Rose was.files.faults is.files.faults) → EndsFor state was is end (stop.Refused line)
     file_refused line known file calm = by_end how
       where
         by_end : Ran end → EndsFor state was is end (stop.Refused line)
@@ -274,7 +273,7 @@ module _ {D : Type 0} (state : D → Outside StoreTold) (was : CallBefore D) (is
         by_end (words none files idle e) = absurd (none file.course file.asks)
         by_end (wants files idle e) = inr e
 
-    store_refused : (line : List ℕ) → was.files.told ≢ None → (state was.store).told ≢ None → SavedRefused state was is line → ¬ (ReadsFailed state was is) → ¬ (StoreFailed state was is) → EndsFor state was is end (stop.Refused line)
+    store_refused : (line : List ℕ) → was.files.told ≢ None → (state was.store).told ≢ None → SavedRefused state was is line → ¬ (Rose was.files.faults is.files.faults) → ¬ (StoreFailed state was is) → EndsFor state was is end (stop.Refused line)
     store_refused line known shown bad calm kept = by_end how
       where
         by_work : (v : Work) → v ≡ serves bad.served → Does state v w w' end → EndsFor state was is end (stop.Refused line)
@@ -303,7 +302,7 @@ module _ {D : Type 0} (state : D → Outside StoreTold) (was : CallBefore D) (is
     unput other = by_end how
       where
         kept : Idles → ⊥
-        kept idle = other (ap (λ (x : SinkAt). x.faults) idle.0.out)
+        kept idle = other (ap (λ (x : SinkAt). x.faults) idle.0.0)
 
         by_end : Ran end → end ≡ Err stop.SinkFailed
         by_end (worked v asked files did) = noticed v end did other
@@ -312,10 +311,10 @@ module _ {D : Type 0} (state : D → Outside StoreTold) (was : CallBefore D) (is
         by_end (words none files idle e) = absurd (kept idle)
         by_end (wants files idle e) = absurd (kept idle)
 
-    complete : was.files.told ≢ None → (v : Work) → Asked state was is v → Unhindered state was is → (end ≡ Ok tt) ⊎ (end ≡ Err stop.NoMemory)
+    complete : was.files.told ≢ None → (v : Work) → AreLed state was is (made v) → Unhindered state was is → (end ≡ Ok tt) ⊎ (end ≡ Err stop.NoMemory)
     complete known v asks free = by_end how
       where
-        by_why : (u : Work) → Asked state was is u → (q : Stop) → Why state u q w w' → (fails q ≡ Ok tt) ⊎ (fails q ≡ Err stop.NoMemory)
+        by_why : (u : Work) → AreLed state was is (made u) → (q : Stop) → Why state u q w w' → (fails q ≡ Ok tt) ⊎ (fails q ≡ Err stop.NoMemory)
         by_why u asked (stop.Refused line) why = absurd (free.saved line (saved_refused u asked line why))
         by_why u asked stop.Words why = absurd why
         by_why u asked (stop.Unreadable line) why = absurd why
@@ -325,7 +324,7 @@ module _ {D : Type 0} (state : D → Outside StoreTold) (was : CallBefore D) (is
         by_why u asked stop.PortsFailed why = absurd (free.ports why)
         by_why u asked stop.TurnsUsedUp why = absurd (free.turns why)
 
-        by_work : (u : Work) → Asked state was is u → (e : Result (Unit {0}) Stop) → Does state u w w' e → (e ≡ Ok tt) ⊎ (e ≡ Err stop.NoMemory)
+        by_work : (u : Work) → AreLed state was is (made u) → (e : Result (Unit {0}) Stop) → Does state u w w' e → (e ≡ Ok tt) ⊎ (e ≡ Err stop.NoMemory)
         by_work u asked (Ok done) did = inl refl
         by_work u asked (Err q) did = by_why u asked q (stops u q did)
 

@@ -15,25 +15,25 @@ use Rattle.farm_call.proofs.Whys.{StoreWhys, by_end, store_rose}
 module _ (seed n : ℕ) (stands : List Entry → Type 0) (out out' : SinkAt) where
   -- why it ended so; `lose` says what a history means in which a call of the store failed
   why_on : {Q : Type 0} → ((h : List Entry) → stands h → has_failed h ≡ true → Q) → (q : Stop) → LoadsOn seed n stands out out' (Err q) → StoreWhys (Rose out.faults out'.faults) Q q
-  why_on lose (stop.Refused line) did = absurd did
-  why_on lose stop.Words did = absurd did
-  why_on lose (stop.Unreadable line) did = absurd did
-  why_on lose stop.SinkFailed did = did.1.puts.3.1
+  why_on lose (stop.Refused line) did = absurd did.loaded
+  why_on lose stop.Words did = absurd did.loaded
+  why_on lose (stop.Unreadable line) did = absurd did.loaded
+  why_on lose stop.SinkFailed did = did.loaded.2.3.1
   why_on lose stop.NoMemory did = tt
-  why_on lose stop.StoreFailed did = lose did.after did.stood_for did.noted
-  why_on lose stop.PortsFailed did = absurd did
-  why_on lose stop.TurnsUsedUp did = absurd did
+  why_on lose stop.StoreFailed did = lose did.after did.stood_for did.loaded.2
+  why_on lose stop.PortsFailed did = absurd did.loaded
+  why_on lose stop.TurnsUsedUp did = absurd did.loaded
 
   noticed_on : (end : Result (Unit {0}) Stop) → LoadsOn seed n stands out out' end → out'.faults ≢ out.faults → end ≡ Err stop.SinkFailed
-  noticed_on (Ok u) did other = absurd (other did.puts.1)
-  noticed_on (Err (stop.Refused line)) did other = absurd did
-  noticed_on (Err stop.Words) did other = absurd did
-  noticed_on (Err (stop.Unreadable line)) did other = absurd did
+  noticed_on (Ok u) did other = absurd (other did.loaded.3.1)
+  noticed_on (Err (stop.Refused line)) did other = absurd did.loaded
+  noticed_on (Err stop.Words) did other = absurd did.loaded
+  noticed_on (Err (stop.Unreadable line)) did other = absurd did.loaded
   noticed_on (Err stop.SinkFailed) did other = refl
-  noticed_on (Err stop.NoMemory) did other = absurd (other (ap (λ (at : SinkAt). at.faults) did.0))
-  noticed_on (Err stop.StoreFailed) did other = absurd (other did.puts.1)
-  noticed_on (Err stop.PortsFailed) did other = absurd did
-  noticed_on (Err stop.TurnsUsedUp) did other = absurd did
+  noticed_on (Err stop.NoMemory) did other = absurd (other (ap (λ (at : SinkAt). at.faults) did.loaded.0))
+  noticed_on (Err stop.StoreFailed) did other = absurd (other did.loaded.3.1)
+  noticed_on (Err stop.PortsFailed) did other = absurd did.loaded
+  noticed_on (Err stop.TurnsUsedUp) did other = absurd did.loaded
 
 module _ {D : Type 0} (state : D → Outside StoreTold) (seed n : ℕ) (store store' : D) (out out' : SinkAt) where
   pub loads_stops : (q : Stop) → Loads state seed n store store' out out' (Err q) → StoreWhys (Rose out.faults out'.faults) (Rose (state store).faults (state store').faults) q

@@ -16,7 +16,8 @@ use Rattle.front_loop.specs.Rounds.{FrontRound}
 use Rattle.front_loop.specs.RoundRules.{RoundFits}
 use Rattle.front_loop.specs.Serving.{EndHasCause, FrontRun, rests_of}
 use Rattle.farm_shared.specs.Seats.{plain}
-use Rattle.farm_call.specs.Owing.{LastIsWhole, OwesNothing, GivesNone}
+use Rattle.load_command.specs.Loads.{GivesNone}
+use Rattle.farm_call.specs.Owing.{LastIsWhole, OwesNothing}
 
 -- ---- replies
 

@@ -29,7 +29,7 @@ use Rattle.farm_runs.specs.declared.each_front.EachFront.{EachFront}
 use Rattle.farm_shared.specs.declared.turned.LastingPart.{LastingPart}
 use Rattle.serve_command.specs.Listens.{ListenEnds, Listening, listen_end}
 use Rattle.tile_paths.specs.Paths.{saved_path}
-use Rattle.serve_command.specs.Beginnings.{HasBegun, CannotBegin, IsSavedIn, ResumeRefusal, RefusesFor, ResumesFrom, resumed_by}
+use Rattle.serve_command.specs.Beginnings.{HasBegun, CannotBegin, IsSavedIn, RefusesFor, ResumesFrom, resumed_by}
 use Rattle.serve_command.specs.Endings.{is_front_worn, is_broken, is_wanting, end_after_put, TellsCounts}
 use Rattle.serve_command.specs.Savings.{MaySave}
 use Rattle.serve_command.specs.Serves.{ClosedFarm, WhyNot, places, fronts_of, end_of, is_worn_out}
@@ -112,11 +112,11 @@ same_told None f a b told x y = absurd (told refl)
 same_told (Some t) f a b told x y = x ∙ sym y
 
 -- it is one thing
-one_saved : (at : Outside StoreTold) (plan : FarmPlan) → at.told ≢ None → (x y : Result (Option Saving) ResumeRefusal) → IsSavedIn at plan x → IsSavedIn at plan y → x ≡ y
+one_saved : (at : Outside StoreTold) (plan : FarmPlan) → at.told ≢ None → (x y : Result (Option Saving) (Option (List ℕ))) → IsSavedIn at plan x → IsSavedIn at plan y → x ≡ y
 one_saved at plan told x y a b = sym a.said ∙ ap (resumed_by plan) (same_told at.told (λ (t : StoreTold). t.content saved_path) a.found b.found told a.stands b.stands) ∙ b.said
 
 -- and its refusal has one line
-one_line : (why : ResumeRefusal) (line other : List ℕ) → RefusesFor why line → RefusesFor why other → line ≡ other
+one_line : (why : Option (List ℕ)) (line other : List ℕ) → RefusesFor why line → RefusesFor why other → line ≡ other
 one_line why line other a b =
     let both : Some a.0 ≡ Some b.0 = sym a.1 ∙ b.1 in
     let same : a.0 ≡ b.0 = cc in
@@ -283,14 +283,14 @@ module _ {D : Type 0} (state : D → Outside StoreTold) (was : CallBefore D) (is
   -- ---- what is saved is a fault
 
   -- no farm was begun where what is saved is refused
-  pub not_begun : (farm : FarmSeen D) → HasBegun state s.inputs.plan s.config.resume was.store farm → s.config.resume ≡ true → (state was.store).told ≢ None → (why : ResumeRefusal) → ¬ (IsSavedIn (state was.store) s.inputs.plan (Err why))
+  pub not_begun : (farm : FarmSeen D) → HasBegun state s.inputs.plan s.config.resume was.store farm → s.config.resume ≡ true → (state was.store).told ≢ None → (why : Option (List ℕ)) → ¬ (IsSavedIn (state was.store) s.inputs.plan (Err why))
   not_begun farm begun resume told why fault =
       let ok : IsSavedIn (state was.store) s.inputs.plan (Ok farm.saved) = subst (λ (b : Bool). ResumesFrom (state was.store) s.inputs.plan b farm.saved) resume begun.resumes in
       let both = one_saved (state was.store) s.inputs.plan told (Ok farm.saved) (Err why) ok fault in
       cc
 
   -- so the call ends for that fault, where no call of the store fails
-  pub serves_fault : (end : Result (Unit {0}) Stop) → Serves state s was.store old new end → s.config.resume ≡ true → (state was.store).told ≢ None → (why : ResumeRefusal) → IsSavedIn (state was.store) s.inputs.plan (Err why)
+  pub serves_fault : (end : Result (Unit {0}) Stop) → Serves state s was.store old new end → s.config.resume ≡ true → (state was.store).told ≢ None → (why : Option (List ℕ)) → IsSavedIn (state was.store) s.inputs.plan (Err why)
       → (line : List ℕ) → RefusesFor why line → ¬ (Rose (state was.store).faults (state (store_of is.left)).faults) → (end ≡ Err (stop.Refused line)) ⊎ (end ≡ Err stop.NoMemory)
   serves_fault end h resume told why fault line refuses kept = by_left is.left refl h
     where
@@ -298,7 +298,7 @@ module _ {D : Type 0} (state : D → Outside StoreTold) (was : CallBefore D) (is
       by_stop (stop.Refused other) store' left_is c =
           let both = one_saved (state was.store) s.inputs.plan told (Err c.1) (Err why) c.2 fault in
           let same : c.1 ≡ why = cc in
-          inl (ap (λ (l : List ℕ). fails (stop.Refused l)) (one_line why other line (subst (λ (w : ResumeRefusal). RefusesFor w other) same c.3) refuses))
+          inl (ap (λ (l : List ℕ). fails (stop.Refused l)) (one_line why other line (subst (λ (w : Option (List ℕ)). RefusesFor w other) same c.3) refuses))
       by_stop stop.NoMemory store' left_is c = inr refl
       by_stop stop.StoreFailed store' left_is c = absurd (kept (elim c.1 [ inl got ↦ lost_here store' left_is got.1.1 | inr put ↦ lost_here store' left_is put.2.1.1 ]))
       by_stop stop.Words store' left_is c = absurd c

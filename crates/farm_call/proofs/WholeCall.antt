@@ -1,9 +1,9 @@
 -- From what the program did to what it promises.
-use Rattle.std.proofs.Common.{◌≡◌, ℕ, inl, inr, List, []}
+use Rattle.std.proofs.Common.{◌≡◌, ℕ, inl, inr, List, [], refl}
 use Rattle.std.specs.Prelude.{Err}
 use Rattle.farm_base.specs.Outside.{Outside}
 use Rattle.tile_store.specs.Stores.{StoreTold}
-use Rattle.exit_status.specs.Stops.{status_of, err_line}
+use Rattle.exit_status.specs.Stops.{told_of}
 use Rattle.exit_status.specs.Ends.{Reports}
 use Rattle.exit_status.specs.declared.stops.Stop.{Stop}
 use Rattle.serve_command.specs.declared.left.Left.TheVariants.{Store}
@@ -16,7 +16,7 @@ module _ {D : Type 0} (state : D → Outside StoreTold) (was : CallBefore D) (is
   called words keeps = inl (words, keeps)
 
   -- it had none, and did nothing else
-  pub wordless : (why : Stop) → IsWordless why → Reports (status_of (Err why)) (err_line (Err why)) was.err is.err is.status → is.files ≡ was.files → is.out ≡ was.out → is.left ≡ Store was.store → is.ports ≡ was.ports → is.fronts ≡ []
+  pub wordless : (why : Stop) → IsWordless why → Reports (told_of (Err why)) was.err is.err is.status → is.files ≡ was.files → is.out ≡ was.out → is.left ≡ Store was.store → is.ports ≡ was.ports → is.fronts ≡ []
       → ProgramKeeps state was is
   wordless why is_wordless report files out left ports none =
-      inr (record { why = why; is_wordless = is_wordless; report = report; files = files; idle = record { out = out; left = left; ports = ports }; no_fronts = none })
+      inr (record { why = why; is_wordless = is_wordless; report = report; files = files; idle = (out, record { store = was.store; left = left; ports = ports; it_holds = refl }); no_fronts = none })

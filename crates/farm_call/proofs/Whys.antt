@@ -1,6 +1,6 @@
 -- Why work on a store may end early.
 use Rattle.std.proofs.Common.{◌≡◌, ℕ, ◌≤◌, List, length, true, sym, subst}
-use Rattle.std.specs.Prelude.{Err, is_some}
+use Rattle.std.specs.Prelude.{Option, Err, is_some}
 use Rattle.farm_base.specs.Limits.{most_turns}
 use Rattle.farm_base.specs.Outside.{Outside, Rose}
 use Rattle.tile_store.specs.Stores.{StoreTold}
@@ -13,7 +13,7 @@ use Rattle.exit_status.specs.declared.stops.Stop.TheVariants as stop
 use Rattle.input_files.proofs.Courses.{ended}
 use Rattle.script_text.proofs.Lost.{lost}
 use Rattle.farm_files.specs.Inputs.{Served}
-use Rattle.serve_command.specs.Beginnings.{ResumeRefusal, RefusesFor, IsSavedIn}
+use Rattle.serve_command.specs.Beginnings.{RefusesFor, IsSavedIn}
 use Rattle.serve_command.specs.inner.Serving.{World}
 use Rattle.serve_command.specs.declared.left.Left.{Left}
 use Rattle.serve_command.specs.declared.left.Left.TheVariants.{Store, Farm}
@@ -52,7 +52,7 @@ module _ {D : Type 0} (state : D → Outside StoreTold) where
     pub served : Served
     pub is_work : work ≡ serves served
     pub resume : served.config.resume ≡ true
-    pub why : ResumeRefusal
+    pub why : Option (List ℕ)
     pub fault : IsSavedIn (state (store_of old.left)) served.inputs.plan (Err why)
     pub line_is : RefusesFor why line
     pub out : new.out ≡ old.out

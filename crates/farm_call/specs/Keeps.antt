@@ -2,8 +2,8 @@
 -- moment. A history of turns is a list of pairs, a seat's number and an entry, in the order of the
 -- turns: seat 0 is the call's own, seats 1 to 3 are those of the renderd front, the tile front and
 -- the control front, and seat w + 4 is that of worker w.
-use Rattle.std.specs.Prelude.{◌≡◌, ◌≢◌, ◌⊎◌, ℕ, ◌≤◌, Bool, true, false}
-use Rattle.std.specs.Prelude.{List, [], ◌∷◌, ◌++◌, length, map, Option, Some, None, option_map}
+use Rattle.std.specs.Prelude.{◌≡◌, ◌≢◌, ◌⊎◌, ℕ, ◌≤◌, Bool, true, false, not, ◌||◌, is_none}
+use Rattle.std.specs.Prelude.{List, [], ◌∷◌, ◌++◌, length, map, reverse, Option, Some, None, option_map}
 use Rattle.std.specs.Prelude.{Result, Ok, Err, IfSome}
 use Rattle.farm_base.specs.Limits.{most_turns}
 use Rattle.farm_base.specs.Outside.{Outside, Rose, failed_read, with_failed}
@@ -11,91 +11,79 @@ use Rattle.tile_store.specs.Stores.{StoreTold, StorePuts}
 use Rattle.tile_store.specs.declared.stores.StoreFault.TheVariants.{Failed}
 use Rattle.port_events.specs.declared.ends.FrontDone.{FrontDone}
 use Rattle.port_events.specs.Told.{PortsTold}
-use Rattle.exit_status.specs.Stops.{status_of, err_line, unreadable_line}
+use Rattle.exit_status.specs.Stops.{told_of, unreadable_line}
 use Rattle.exit_status.specs.Ends.{PutsAll, Reports}
 use Rattle.exit_status.specs.declared.stops.Stop.{Stop}
 use Rattle.exit_status.specs.declared.stops.Stop.TheVariants as stop
-use Rattle.input_files.specs.Course.{Course, Makes, RefusedBy, ComesTo}
+use Rattle.input_files.specs.Course.{Course, made, refused, reads, Leads}
 use Rattle.farm_history.specs.declared.answers.Collected.{Collected}
 use Rattle.farm_history.specs.Entries.{Entry, EachMoment, Collect, Stop as StopEntry}
 use Rattle.farm_history.specs.Laws.{has_plain_update}
 use Rattle.farm_history.specs.Past.{due_replies}
 use Rattle.farm_history.specs.Replays.{Saving, IsSaved}
-use Rattle.farm_history.specs.Rules.{Legal}
 use Rattle.farm_plan.specs.Plans.{FarmPlan, maps_in}
 use Rattle.farm_plan.specs.Drawings.{plan_of}
 use Rattle.farm_saved.specs.Writing.{saved_bytes}
 use Rattle.farm_core.specs.Begins.{Tells}
-use Rattle.farm_shared.specs.Seats.{plain}
-use Rattle.farm_shared.specs.Shared.{lasting_of, past, IsAfter}
+use Rattle.farm_refinement.specs.Stands.{StandsFor}
+use Rattle.farm_shared.specs.Seats.{plain, Seated}
+use Rattle.farm_shared.specs.Shared.{lasting_of, past}
 use Rattle.turn_cell.specs.Turns.{by}
 use Rattle.farm_laws.specs.Locality.{IsSentNow}
 use Rattle.farm_headline.specs.Headline.{Headline}
 use Rattle.farm_runs.specs.declared.each_front.EachFront.{EachFront}
 use Rattle.farm_runs.specs.Promise.{Ends, AreSeated, IsServed, AreWorked, IsStop}
-use Rattle.front_leaves.specs.Fronts.{renderd_leaves, tiles_leave, control_leaves}
+use Rattle.renderd_handler.specs.Renderd.{renderd_rules}
+use Rattle.http_handler.specs.Tiles.{tile_rules}
+use Rattle.control_handler.specs.Control.{control_rules}
+use Rattle.front_leaves.specs.Fronts.{FrontLeaves}
 use Rattle.farm_files.specs.Inputs.{Served}
-use Rattle.serve_command.specs.Beginnings.{IsSavedIn, ResumeRefusal, RefusesFor, ResumesFrom}
+use Rattle.serve_command.specs.Beginnings.{IsSavedIn, RefusesFor, ResumesFrom}
 use Rattle.tile_paths.specs.Paths.{saved_path}
 use Rattle.serve_command.specs.Listens.{Listening}
 use Rattle.serve_command.specs.Endings.{why_ended, TellsCounts}
 use Rattle.script_command.specs.Scripts.{Scripts}
+use Rattle.load_command.specs.Loads.{GivesNone}
 use Rattle.load_command.specs.Runs.{Loads}
 use Rattle.serve_command.specs.Serves.{ClosedFarm, whole_history, WhyNot}
-use Rattle.serve_command.specs.Serves.{places, fronts_of, end_of, is_worn_out}
+use Rattle.serve_command.specs.Serves.{places}
 use Rattle.serve_command.specs.declared.left.Left.{Left}
 use Rattle.serve_command.specs.declared.left.Left.TheVariants.{Store, Farm}
 use Rattle.farm_call.specs.Call.{CallBefore, CallAfter, store_of, PortsRose}
 use Rattle.farm_call.specs.Call.{Work, puts, scripts, loads, serves}
-use Rattle.farm_call.specs.Owing.{GivesNone, IsPaidUp}
+use Rattle.farm_call.specs.Owing.{IsPaidUp}
 use Rattle.farm_call.specs.Words.{Asks}
 
 module _ {D : Type 0} (state : D → Outside StoreTold) (was : CallBefore D) (is : CallAfter D) where
   -- ---- What is asked
 
-  -- where the files tell what each name holds, this is so of it
-  abbrev pub Held : ((List ℕ → Option (List ℕ)) → Type 0) → Type 0
-  Held holds = IfSome was.files.told (λ t. holds t.content)
-
-  -- the words ask for this work, and the files that stand there make it
-  pub record Asked (work : Work) : Type 0 where
+  -- the words ask for a course, and the files that stand there, where they tell what they hold, lead
+  -- it here
+  pub record AreLed (left : Course Work) : Type 0 where
     pub course : Course Work
     pub asks : Asks was.words course
-    pub makes : Held (λ held. Makes held course work)
-
-  -- it is the line of the first file, in the order in which they are read, that has a fault
-  pub record FileRefused (line : List ℕ) : Type 0 where
-    pub course : Course Work
-    pub asks : Asks was.words course
-    pub first : Held (λ held. RefusedBy held course line)
+    pub leads : IfSome was.files.told (λ t. Leads t.content course left)
 
   -- it is the line of what is saved in the store, which the configuration says is to be resumed
   pub record SavedRefused (line : List ℕ) : Type 0 where
     pub served : Served
-    pub asked : Asked (serves served)
+    pub asked : AreLed (made (serves served))
     pub resume : served.config.resume ≡ true
-    pub why : ResumeRefusal
+    pub why : Option (List ℕ)
     pub fault : IsSavedIn (state was.store) served.inputs.plan (Err why)
     pub line_is : RefusesFor why line
 
   -- it is the line of the file that is read next: that read failed, and else the files are as they
   -- were
   pub record ReadFailed (line : List ℕ) : Type 0 where
-    pub course : Course Work
-    pub asks : Asks was.words course
     pub name : List ℕ
-    pub next : Held (λ held. ComesTo held course name)
+    pub on : List ℕ → Course Work
+    pub next : AreLed (reads name on)
     pub line_is : line ≡ unreadable_line name
     pub failed : is.files.told ≡ option_map (with_failed (failed_read name)) was.files.told
     pub rose : Rose was.files.faults is.files.faults
 
   -- ---- What is done
-
-  -- nothing is: out, the store and the ports are as they were
-  pub record Idle : Type 0 where
-    pub out : is.out ≡ was.out
-    pub left : is.left ≡ Store was.store
-    pub ports : is.ports ≡ was.ports
 
   -- the store is left, of which this holds, and the ports are as they were
   pub record StoreIsLeft (holds : D → Type 0) : Type 0 where
@@ -104,10 +92,9 @@ module _ {D : Type 0} (state : D → Outside StoreTold) (was : CallBefore D) (is
     pub ports : is.ports ≡ was.ports
     pub it_holds : holds store
 
-  -- No actor was started, for this cause, and nothing was put on out
-  pub record NotServed (s : Served) (store : D) (why : Stop) : Type 0 where
-    pub silent : is.out ≡ was.out
-    pub because : WhyNot state s was.store store was.ports is.ports why
+  -- nothing is: out, the store and the ports are as they were
+  abbrev pub Idle : Type 0
+  Idle = (is.out ≡ was.out) × StoreIsLeft (λ store. store ≡ was.store)
 
   -- it may be said that the store tells what it holds: where it does; and for a farm that was
   -- resumed, where it also holds what was shown when the other farm stopped
@@ -144,14 +131,14 @@ module _ {D : Type 0} (state : D → Outside StoreTold) (was : CallBefore D) (is
   pub record ServedWell (s : Served) (closed : ClosedFarm D)
       (end : Result (Unit {0}) Stop) : Type 0 where
     -- 1. The farm has the plan that the files spell; it began over the store that was handed in,
-    -- with what is saved there, if the configuration says so; all that happened is legal, and the
-    -- farm stands for it
+    -- with what is saved there, if the configuration says so; it stands for all that happened,
+    -- which is legal; and each entry is of a seat that may make it
     pub plan_is : closed.0.plan ≡ s.inputs.plan
     pub first_is : state closed.0.first ≡ state was.store
     pub resumes : ResumesFrom (state was.store) closed.0.plan s.config.resume closed.0.saved
-    pub legal : (told : Bool) → MaySay closed told
-        → Legal (plan_of closed.0.plan) told (whole_history state closed)
-    pub stands : IsAfter state closed.0 closed.1
+    pub stands : (told : Bool) → MaySay closed told
+        → StandsFor state told closed.0 (whole_history state closed)
+    pub seated : Seated (reverse closed.1)
     -- 2. Each entry is of the call's own seat, which has a Stop and then a Tally, of a front's or a
     -- worker's
     pub ends : Ends
@@ -161,12 +148,12 @@ module _ {D : Type 0} (state : D → Outside StoreTold) (was : CallBefore D) (is
     pub listening : EachFront (Outside PortsTold)
     pub listens : Listening (places s.config was.ports listening) (Ok tt)
     pub done : EachFront FrontDone
-    pub fronts_are : is.fronts ≡ fronts_of done
-    pub renderd : IsServed (renderd_leaves (maps_in closed.0.plan))
+    pub fronts_are : is.fronts ≡ done.renderd ∷ done.tiles ∷ done.control ∷ []
+    pub renderd : IsServed (FrontLeaves (renderd_rules 0 (maps_in closed.0.plan)))
         listening.renderd is.ports.renderd done.renderd (plain (by 1 closed.1)) (length closed.1)
-    pub tiles : IsServed (tiles_leave (maps_in closed.0.plan))
+    pub tiles : IsServed (FrontLeaves (tile_rules 1 (maps_in closed.0.plan)))
         listening.tiles is.ports.tiles done.tiles (plain (by 2 closed.1)) (length closed.1)
-    pub control : IsServed (control_leaves s.inputs.lists)
+    pub control : IsServed (FrontLeaves (control_rules 2 s.inputs.lists))
         listening.control is.ports.control done.control (plain (by 3 closed.1)) (length closed.1)
     -- 4. The entries of each worker are its Claims, each Job with its Finish, and no drawing is
     -- under way at the end, unless all turns were drawn
@@ -175,12 +162,13 @@ module _ {D : Type 0} (state : D → Outside StoreTold) (was : CallBefore D) (is
     -- Finished, or stands after all entries of the fronts
     pub stopped : (before after : List (ℕ × Entry)) (n : ℕ)
         → closed.1 ≡ before ++ (n, StopEntry) ∷ after → IsStop done n after
-    -- 6, 7. Why it ended: by what the fronts and the call itself met, the first that applies of
-    -- TurnsUsedUp, PortsFailed and NoMemory; else as the saving went; and SinkFailed where the line
-    -- of the counts, which are those of the last entry, could not be put
+    -- 6, 7. Why it ended: by what the workers, the call itself and the fronts met, the first that
+    -- applies of TurnsUsedUp, PortsFailed and NoMemory; else as the saving went; and SinkFailed
+    -- where the line of the counts, which are those of the last entry, could not be put
     pub saved : Result (Unit {0}) Stop
     pub saves : SavesSo closed.0.plan (whole_history state closed) s.config.resume
-        (why_ended (is_worn_out ends) (map end_of is.fronts)) saved
+        (why_ended (ends.worn || not ends.stopped || is_none ends.tally)
+        (map (λ (d : FrontDone). d.end) is.fronts)) saved
     pub turns_gone : saved ≡ Err stop.TurnsUsedUp → most_turns ≤ length closed.1
     pub counted : TellsCounts ends.tally was.out is.out saved end
     -- 8. A Collect that gave no reply left none that had ended; and where all ended in order
@@ -191,9 +179,11 @@ module _ {D : Type 0} (state : D → Outside StoreTold) (was : CallBefore D) (is
     pub owes_nothing : end ≡ Ok tt → IsPaidUp renderd.left.served × IsPaidUp tiles.left.served
         × IsPaidUp control.left.served
 
-  -- a farm was served to this end, or no actor was started, by what is left
+  -- a farm was served to this end; or no actor was started, for a cause, and nothing was put on
+  -- out; by what is left
   abbrev pub ServesTo : Served → Result (Unit {0}) Stop → Left D → Type 0
-  ServesTo s end (Store store) = (why : Stop) × (end ≡ Err why) × NotServed s store why
+  ServesTo s end (Store store) = (why : Stop) × (end ≡ Err why) × (is.out ≡ was.out)
+      × WhyNot state s was.store store was.ports is.ports why
   ServesTo s end (Farm closed) = ServedWell s closed end
 
   -- the work was done to this end
@@ -207,23 +197,20 @@ module _ {D : Type 0} (state : D → Outside StoreTold) (was : CallBefore D) (is
   -- the files made what is asked, and it was done to this end
   pub record Worked (end : Result (Unit {0}) Stop) : Type 0 where
     pub work : Work
-    pub asked : Asked work
+    pub asked : AreLed (made work)
     pub files : is.files ≡ was.files
     pub done : Done work end
 
-  -- a file is refused, and nothing was done; or what is saved is, and the store shows what it
-  -- showed
-  abbrev pub Refuses : List ℕ → Type 0
-  Refuses line = (FileRefused line × Idle)
-      ⊎ (SavedRefused line × (is.out ≡ was.out)
-      × StoreIsLeft (λ store. state store ≡ state was.store))
-
-  -- why the call ended so, and what it did until then
+  -- Why the call ended so, and what it did until then. Where a file is refused, the first that has a
+  -- fault in the order in which they are read, nothing was done; where what is saved is refused, the
+  -- store shows what it showed
   abbrev pub Cause : Result (Unit {0}) Stop → Type 0
   Cause (Err stop.Words) =
       ((course : Course Work) → ¬ (Asks was.words course)) × (is.files ≡ was.files) × Idle
   Cause (Err (stop.Unreadable line)) = ReadFailed line × Idle
-  Cause (Err (stop.Refused line)) = (is.files ≡ was.files) × Refuses line
+  Cause (Err (stop.Refused line)) = (is.files ≡ was.files) × ((AreLed (refused line) × Idle)
+      ⊎ (SavedRefused line × (is.out ≡ was.out)
+      × StoreIsLeft (λ store. state store ≡ state was.store)))
   Cause (Err stop.NoMemory) = Idle ⊎ Worked (Err stop.NoMemory)
   Cause end = Worked end
 
@@ -233,10 +220,7 @@ module _ {D : Type 0} (state : D → Outside StoreTold) (was : CallBefore D) (is
   abbrev pub EndsFor : Result (Unit {0}) Stop → Stop → Type 0
   EndsFor end why = (end ≡ Err why) ⊎ (end ≡ Err stop.NoMemory)
 
-  -- a count of faults rose over the call: that of the files, or that of the store
-  abbrev pub ReadsFailed : Type 0
-  ReadsFailed = Rose was.files.faults is.files.faults
-
+  -- the store's count of faults rose over the call
   abbrev pub StoreFailed : Type 0
   StoreFailed = Rose (state was.store).faults (state (store_of is.left)).faults
 
@@ -246,7 +230,7 @@ module _ {D : Type 0} (state : D → Outside StoreTold) (was : CallBefore D) (is
 
   -- no count rose, not all turns were drawn, and nothing that is saved is refused
   pub record Unhindered : Type 0 where
-    pub files : ¬ ReadsFailed
+    pub files : ¬ (Rose was.files.faults is.files.faults)
     pub out : ¬ (Rose was.out.faults is.out.faults)
     pub store : ¬ StoreFailed
     pub ports : ¬ (PortsRose was.ports is.ports)
@@ -258,7 +242,7 @@ module _ {D : Type 0} (state : D → Outside StoreTold) (was : CallBefore D) (is
     -- How it ended: the status and the line on err are those of this end; the status is 4 where the
     -- line could not be put
     pub end : Result (Unit {0}) Stop
-    pub report : Reports (status_of end) (err_line end) was.err is.err is.status
+    pub report : Reports (told_of end) was.err is.err is.status
     -- Why it ended so, and what was done until then
     pub cause : Cause end
     -- Where a farm is left: whatever clients, workers, updates and expiries did, in any order,
@@ -280,17 +264,18 @@ module _ {D : Type 0} (state : D → Outside StoreTold) (was : CallBefore D) (is
     -- Words that ask for nothing are refused, unless memory is wanting
     pub no_words : ((course : Course Work) → ¬ (Asks was.words course)) → EndsFor end stop.Words
     -- So is the first file that has a fault, where no read fails,
-    pub refused : (line : List ℕ) → was.files.told ≢ None → FileRefused line → ¬ ReadsFailed
-        → EndsFor end (stop.Refused line)
+    pub refused : (line : List ℕ) → was.files.told ≢ None → AreLed (refused line)
+        → ¬ (Rose was.files.faults is.files.faults) → EndsFor end (stop.Refused line)
     -- and what is saved in the store, where no call of the store fails either
     pub saved_refused : (line : List ℕ) → was.files.told ≢ None → (state was.store).told ≢ None
-        → SavedRefused line → ¬ ReadsFailed → ¬ StoreFailed → EndsFor end (stop.Refused line)
+        → SavedRefused line → ¬ (Rose was.files.faults is.files.faults) → ¬ StoreFailed
+        → EndsFor end (stop.Refused line)
     -- A read that failed is the end
     pub unread : is.files ≢ was.files → (line : List ℕ) × EndsFor end (stop.Unreadable line)
     -- So is a put on out that failed
     pub unput : is.out.faults ≢ was.out.faults → end ≡ Err stop.SinkFailed
     -- Where nothing hinders it, what is asked is done to its end
-    pub complete : was.files.told ≢ None → (work : Work) → Asked work → Unhindered
+    pub complete : was.files.told ≢ None → (work : Work) → AreLed (made work) → Unhindered
         → (end ≡ Ok tt) ⊎ (end ≡ Err stop.NoMemory)
     -- Where the call says so, a put on out failed, a call of the store or one of a port, or all
     -- turns were drawn
@@ -312,7 +297,7 @@ module _ {D : Type 0} (state : D → Outside StoreTold) where
   pub record Wordless (was : CallBefore D) (is : CallAfter D) : Type 0 where
     pub why : Stop
     pub is_wordless : IsWordless why
-    pub report : Reports (status_of (Err why)) (err_line (Err why)) was.err is.err is.status
+    pub report : Reports (told_of (Err why)) was.err is.err is.status
     pub files : is.files ≡ was.files
     pub idle : Idle state was is
     pub no_fronts : is.fronts ≡ []

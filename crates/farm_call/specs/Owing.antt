@@ -33,8 +33,3 @@ abbrev pub IsPaidUp : {A W : Type 0} {R : Rules A W} {start told : Option PortsT
     {mine : List Entry} {end : FrontEnd} {rests : List Rest} {starved : ℕ} {worn : Bool}
     → FrontRun R start told mine end rests starved worn → Type 0
 IsPaidUp {A} {W} {R} {start} {told} {mine} {end} {rests} run = OwesNothing R run.rounds rests
-
--- a Collect that was answered so gave no reply
-abbrev pub GivesNone : Collected → Type 0
-GivesNone (Collected.Reply reply) = ⊥
-GivesNone answer = Unit {0}

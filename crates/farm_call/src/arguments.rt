@@ -1,6 +1,6 @@
 //! The program over the words of its runtime.
 ghost use Rattle.std.specs.Prelude.{◌≡◌, [], Err};
-ghost use Rattle.exit_status.specs.Stops.{status_of, err_line};
+ghost use Rattle.exit_status.specs.Stops.{told_of};
 ghost use Rattle.exit_status.specs.Ends.{Reports};
 ghost use Rattle.farm_runs.specs.Actors.{three};
 ghost use Rattle.serve_command.specs.declared.left.Left.TheVariants.{Store};
@@ -94,7 +94,7 @@ fn words<R: Env + Alloc<A = Global>>(rt: &R) -> io::Result<Vec<String>> {
 
 // The end of a call whose words cannot be had.
 fn wordless<E: Sink, D: TileStore>(alloc: Global, err: &mut E, stop: Stop, store: D) -> FarmEnd<D>
-    ensures report { Reports (status_of (Err stop)) (err_line (Err stop)) (E.state err.old)
+    ensures report { Reports (told_of (Err stop)) (E.state err.old)
         (E.state err.new) result.status }
     ensures left { result.left ≡ Store store }
     ensures no_fronts { result.fronts.items ≡ [] }

@@ -7,9 +7,11 @@ use Rattle.reading.specs.Steps.{◌>>=◌}
 use Rattle.reading.specs.Values.{needed, or_value, opened}
 use Rattle.farm_config.specs.Configs.{Config, greatest_limits}
 use Rattle.farm_config.specs.Limits.{most_workers}
-use Rattle.farm_config.specs.Kinds.{a_file, number_within, an_address, a_truth}
-use Rattle.farm_config.specs.Tables.{config_keys, config_of, maps_of, files_of, limits_of, restyles_of}
+use Rattle.farm_config.specs.Kinds.{number_within, an_address}
+use Rattle.farm_config.specs.Tables.{config_of, maps_of, files_of, limits_of, restyles_of}
 use Rattle.farm_config.specs.declared.config.RestyleEntry.{RestyleEntry}
+use Rattle.farm_config.specs.inner.Keys.{config_keys}
+use Rattle.farm_config.specs.inner.Kinds.{a_file, a_truth}
 use Rattle.farm_config.specs.declared.fault.ConfigFault.TheVariants.{Shape}
 use Rattle.farm_config.specs.declared.reading_config.Service.{Service}
 use Rattle.farm_config.specs.inner.Parts.{service_of, start_of, config_by_parts}

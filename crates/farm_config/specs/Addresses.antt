@@ -6,13 +6,9 @@ use Rattle.line_reading.specs.Cuts.{cut_at}
 use Rattle.line_reading.specs.Numbers.{decimal_below}
 use Rattle.farm_config.specs.Limits.{most_path_bytes}
 
--- what stands behind a number below the bound and this byte
-abbrev pub after_number : ℕ → ℕ → List ℕ → Option (List ℕ)
-after_number bound byte text = option_and_then (λ p. if is_some (decimal_below bound p.0) then Some p.1 else None) (cut_at byte text)
-
 -- what stands behind an octet, a number below 256, and this byte
 abbrev pub after_octet : ℕ → List ℕ → Option (List ℕ)
-after_octet byte text = after_number 256 byte text
+after_octet byte text = option_and_then (λ p. if is_some (decimal_below 256 p.0) then Some p.1 else None) (cut_at byte text)
 
 -- the port behind four octets, `a.b.c.d:port`, a number below 65536
 unfoldable pub port_of : List ℕ → Option ℕ

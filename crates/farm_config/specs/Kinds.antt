@@ -12,10 +12,6 @@ use Rattle.farm_config.specs.Configs.{is_tile_size}
 use Rattle.farm_config.specs.declared.fault.ConfigFault.{ConfigFault}
 use Rattle.farm_config.specs.declared.fault.ConfigFault.TheVariants.{Shape, Range}
 
--- the name of a file: any text
-unfoldable pub a_file : ℕ → Data → Result (List ℕ) ConfigFault
-a_file key d = text (Shape key) d
-
 -- the name of a map
 unfoldable pub a_map_name : ℕ → Data → Result (List ℕ) ConfigFault
 a_map_name key d = text (Shape key) d >>= λ s. if is_map_name s then Ok s else Err (Shape key)
@@ -31,7 +27,3 @@ a_tile_size key d = whole_number (Shape key) (Range key) 16 512 d >>= λ n. if i
 -- an address
 unfoldable pub an_address : ℕ → Data → Result (Option (List ℕ)) ConfigFault
 an_address key d = text (Shape key) d >>= λ s. if is_address s then Ok (Some s) else Err (Shape key)
-
--- true or false
-unfoldable pub a_truth : ℕ → Data → Result Bool ConfigFault
-a_truth key d = ok_or (as_bool d) (Shape key)

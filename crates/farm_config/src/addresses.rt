@@ -1,5 +1,7 @@
 //! The addresses at which a farm listens.
-ghost use Rattle.std.specs.Prelude.{◌≡◌, ◌<◌, option_map};
+ghost use Rattle.std.specs.Prelude.{◌≡◌, ◌<◌, if◌then◌else◌, Some, None, is_some, option_map, option_and_then};
+ghost use Rattle.line_reading.specs.Cuts.{cut_at};
+ghost use Rattle.line_reading.specs.Numbers.{decimal_below};
 ghost use Rattle.farm_config.specs.Addresses as spec;
 
 use crate::limits::MOST_PATH_BYTES;
@@ -8,7 +10,7 @@ use line_reading::{cut, number_below};
 /// What stands behind a number below `bound` and the byte `end`.
 fn after_number(text: &str, end: char, bound: u32) -> Option<&str>
     requires { end < 128 }
-    ensures { option_map (λ s. s.now) result ≡ spec.after_number bound end text.entry.now }
+    ensures { option_map (λ s. s.now) result ≡ option_and_then (λ p. if is_some (decimal_below bound p.0) then Some p.1 else None) (cut_at end text.entry.now) }
 {
     match cut(text, end) {
         Some((number, rest)) if number_below(number, bound).is_some() => Some(rest),

@@ -7,6 +7,7 @@ ghost use Rattle.reading.specs.Values.{needed, or_value};
 ghost use Rattle.tile_paths.specs.Paths.{is_map_name};
 ghost use Rattle.farm_config.specs.Configs as plain;
 ghost use Rattle.farm_config.specs.Kinds as spec;
+ghost use Rattle.farm_config.specs.inner.Kinds as inner;
 ghost use Rattle.farm_config.specs.declared.fault.ConfigFault.TheVariants as fault;
 
 use crate::addresses::is_address;
@@ -18,16 +19,15 @@ use std::alloc::Global;
 use tile_paths::is_name;
 
 /// The name of a file.
-#[tactic(auto, unfolding(crate::specs::Kinds::a_file))]
 pub fn a_file(value: &Value, key: u32) -> Result<&str, ConfigFault>
-    ensures { seen (λ s. s.now) result ≡ spec.a_file key (view value.entry.now) }
+    ensures { seen (λ s. s.now) result ≡ inner.a_file key (view value.entry.now) }
 {
     text(value, ConfigFault::Shape(key))
 }
 
 /// The name of a file, which has to be there.
 pub fn file_at<'a>(object: &'a Value, name: &str, key: u32) -> Result<&'a str, ConfigFault>
-    ensures { seen (λ s. s.now) result ≡ needed (fault.Shape key) (spec.a_file key) (get name.now (view object.entry.now)) }
+    ensures { seen (λ s. s.now) result ≡ needed (fault.Shape key) (inner.a_file key) (get name.now (view object.entry.now)) }
 {
     match object.get(name) {
         Some(value) => a_file(value, key),
@@ -152,16 +152,15 @@ pub fn address_or_none(
     }
 }
 
-#[tactic(auto, unfolding(crate::specs::Kinds::a_truth))]
 fn a_truth(value: &Value, key: u32) -> Result<bool, ConfigFault>
-    ensures { result ≡ spec.a_truth key (view value.now) }
+    ensures { result ≡ inner.a_truth key (view value.now) }
 {
     value.as_bool().ok_or(ConfigFault::Shape(key))
 }
 
 /// True or false, and false where it is absent.
 pub fn truth_or_false(object: &Value, name: &str, key: u32) -> Result<bool, ConfigFault>
-    ensures { result ≡ or_value false (spec.a_truth key) (get name.now (view object.now)) }
+    ensures { result ≡ or_value false (inner.a_truth key) (get name.now (view object.now)) }
 {
     object.get(name).map_or(Ok(false), |v| a_truth(v, key))
 }

@@ -40,7 +40,7 @@ pub fn map_place(name: &str, maps: &[MapEntry]) -> Option<usize>
 /// A map at the place behind those before it.
 #[tactic(auto, unfolding(crate::specs::Tables::map_entry))]
 fn map(alloc: Global, before: &[MapEntry], object: &Value) -> Result<MapEntry, ConfigFault>
-    ensures value { Gives fault.NoMemory (λ x. x) (spec.map_after before.now (view object.now)) result }
+    ensures value { Gives fault.NoMemory (λ x. x) (spec.map_entry (length before.now) before.now (view object.now)) result }
     ensures place { IfOk result (λ m. IsTrue (nat_lt (length before.now) most_maps)) }
     ensures fit { IfOk result (λ m. IsTrue (plain.map_fits before.now m)) }
 {
@@ -81,7 +81,7 @@ impl ReadItem for MapItems {
 
     ghost limit = { λ r. 2 ^ 64 };
 
-    ghost reads = { λ r before d. spec.map_after before d };
+    ghost reads = { λ r before d. spec.map_entry (length before) before d };
 
     ghost keeps = { λ r before m. nat_lt (length before) most_maps && plain.map_fits before m };
 
@@ -97,7 +97,7 @@ impl ReadItem for MapItems {
 
 fn map_list(alloc: Global, items: &[Value]) -> Result<Vec<MapEntry>, ConfigFault>
     requires { length items.now < 2 ^ 64 }
-    ensures value { Gives fault.NoMemory (λ v. v.items) (list_of spec.map_after (items_view items.now)) result }
+    ensures value { Gives fault.NoMemory (λ v. v.items) (list_of (λ before e. spec.map_entry (length before) before e) (items_view items.now)) result }
     ensures few { IfOk result (λ v. length v.items ≤ most_maps) }
     ensures fit { IfOk result (λ v. IsTrue (each_after plain.map_fits [] v.items)) }
 {

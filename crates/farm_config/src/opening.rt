@@ -2,7 +2,7 @@
 ghost use Rattle.std.specs.Prelude.{◌≡◌};
 ghost use Rattle.serde_json.specs.View.{view};
 ghost use Rattle.reading.specs.Values.{opened};
-ghost use Rattle.farm_config.specs.Tables as spec;
+ghost use Rattle.farm_config.specs.inner.Keys as spec;
 ghost use Rattle.farm_config.specs.declared.fault.ConfigFault.TheVariants as fault;
 
 use crate::fault::ConfigFault;

@@ -13,7 +13,7 @@ use Rattle.farm_history.specs.declared.asks.AskAnswer.TheVariants.{NotDone, Sile
 use Rattle.farm_history.specs.Entries.{Entry, Ask}
 use Rattle.farm_history.specs.Plans.{is_servable, is_dirty_command, key_of, own_queue, same_key}
 use Rattle.farm_history.specs.Past.{number_in, is_done_answer}
-use Rattle.farm_history.specs.Rules.{answer_by}
+use Rattle.farm_history.specs.inner.Asks.{answer_by}
 use Rattle.farm_plan.specs.Drawings.{plan_of}
 use Rattle.render_queues.specs.Tables.{Tables}
 use Rattle.expiry_lists.specs.Marks.{mark_of}

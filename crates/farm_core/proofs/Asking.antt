@@ -11,7 +11,7 @@ use Rattle.farm_history.specs.declared.asks.Why.TheVariants.{Backlog, Overtaken,
 use Rattle.farm_history.specs.declared.asks.AskAnswer.{AskAnswer}
 use Rattle.farm_history.specs.declared.asks.AskAnswer.TheVariants.{Queued, Joined, Lifted, NotDone}
 use Rattle.farm_history.specs.Plans.{is_in, is_lifting, own_queue, same_key}
-use Rattle.farm_history.specs.Rules.{answer_of_waiting}
+use Rattle.farm_history.specs.inner.Asks.{answer_of_waiting}
 use Rattle.farm_history.specs.Seen.{Taken as Flying, is_clean_mark}
 use Rattle.render_queues.specs.declared.standing.Standing.{Standing}
 use Rattle.render_queues.specs.declared.standing.Standing.TheVariants.{Waits as InLine, Taken}

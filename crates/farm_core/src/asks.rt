@@ -3,7 +3,7 @@ ghost use Rattle.std.specs.Prelude.{◌≡◌, ◌<◌, ◌≤◌, ◌+◌, ◌^
 ghost use Rattle.farm_base.specs.Limits.{most_asks, most_asks_of_one};
 ghost use Rattle.farm_history.specs.Plans.{is_dirty_command, is_in, is_lifting, is_servable, key_of, own_queue, same_queue};
 ghost use Rattle.farm_history.specs.declared.queues.Queue.{Queue};
-ghost use Rattle.farm_history.specs.Rules.{answer_of_waiting};
+ghost use Rattle.farm_history.specs.inner.Asks.{answer_of_waiting};
 ghost use Rattle.farm_history.specs.Seen.{is_clean_mark};
 ghost use Rattle.render_queues.specs.Tables.{open_count, open_of};
 ghost use Rattle.farm_core.specs.inner.Asks.{Dirtied, Dirties, Needs, answer_at, noted_tables, rendered_at, rendered_counts};
@@ -126,7 +126,7 @@ fn place_of(queues: &Queues, key: Key) -> Place
 }
 
 /// What an ask is answered whose metatile is not being drawn; `n` is its number.
-#[tactic(auto, unfolding(farm_history::specs::Rules::answer_of_waiting))]
+#[tactic(auto, unfolding(farm_history::specs::inner::Asks::answer_of_waiting))]
 fn answer_of_waiting(
     liftable: bool,
     in_dirty: bool,

@@ -10,15 +10,18 @@ use Rattle.plain_drawing.specs.Grids.{Grid}
 use Rattle.plain_drawing.specs.Styles.{RasterRef, grid_matches, grids_match}
 use Rattle.plain_image.specs.PpmText.{ppm_of}
 use Rattle.plain_image.specs.declared.reading.PpmFault.{PpmFault}
+use Rattle.raster_layers.specs.Scales.{grid_or_fault}
+use Rattle.raster_layers.specs.declared.grids.GridFault.{GridFault}
 use Rattle.raster_layers.specs.declared.grids.GridFault.TheVariants.{Size}
+use Rattle.fault_texts.specs.RasterFaults.{ppm_text, grid_text}
 use Rattle.exit_status.specs.Ends.{FilesAt}
 use Rattle.exit_status.specs.declared.stops.Stop.{Stop}
-use Rattle.input_files.specs.Course.{made, reads, ◌>>=◌, judged, file, each}
+use Rattle.input_files.specs.Course.{Course, made, reads, ◌>>=◌, judged, file, each}
 use Rattle.input_files.specs.inner.Follows.{Follows, Says, Tells}
 use Rattle.input_files.proofs.Courses.{ended, Could, could_parts, followed_could}
 use Rattle.input_files.proofs.Judged.{file_checked, file_stops}
-use Rattle.farm_files.specs.MapCourses.{raster_course, raster_course_by}
-use Rattle.farm_files.specs.Rasters.{as_raster, grid_with, after_ppm, raster_in, raster_text}
+use Rattle.farm_files.specs.MapCourses.{grid_with, raster_course, raster_course_by}
+use Rattle.farm_files.specs.inner.Rasters.{as_raster, after_ppm, raster_in, raster_text}
 use Rattle.farm_files.specs.declared.rasters.RasterFault.{RasterFault}
 
 -- ---- a grid fits its raster
@@ -44,9 +47,26 @@ judged_could : (name : List ℕ) (says : Result Grid RasterFault) (g : Grid) →
 judged_could name (Ok h) g could = ap Ok (sym could)
 judged_could name (Err f) g could = absurd could
 
-raster_fits : (r : RasterRef) (g : Grid) → Could (raster_course r) g → grid_matches r g ≡ true
+-- the picture is judged, and then the grid; or both in one
+judged_same : (r : RasterRef) (name : List ℕ) (says : Result Pixels PpmFault)
+    → (judged ppm_text name says >>= λ image. judged grid_text name (grid_or_fault (grid_with r image))) ≡ judged raster_text name (after_ppm r says)
+judged_same r name (Ok image) = by_grid (grid_or_fault (grid_with r image))
+  where
+    by_grid : (g : Result Grid GridFault) → judged grid_text name g ≡ judged raster_text name (as_raster g)
+    by_grid (Ok h) = refl
+    by_grid (Err f) = refl
+judged_same r name (Err f) = refl
+
+course_same : (r : RasterRef) → raster_course r ≡ file (raster_in r) raster_text r.file
 unfolding raster_course_by file
-raster_fits r g could = after_matches r (ppm_of could.0) g (judged_could r.file (raster_in r could.0) g could.1)
+course_same r = λ i. reads r.file (λ bytes. judged_same r r.file (ppm_of bytes) i)
+
+file_fits : (r : RasterRef) (g : Grid) → Could (file (raster_in r) raster_text r.file) g → grid_matches r g ≡ true
+unfolding file
+file_fits r g could = after_matches r (ppm_of could.0) g (judged_could r.file (raster_in r could.0) g could.1)
+
+raster_fits : (r : RasterRef) (g : Grid) → Could (raster_course r) g → grid_matches r g ≡ true
+raster_fits r g could = file_fits r g (subst (λ (c : Course Grid). Could c g) (course_same r) could)
 
 grids_fit : (rs : List RasterRef) (all : List Grid) → Could (each raster_course rs) all → grids_match rs all ≡ true
 grids_fit [] all could = ap (grids_match []) could
@@ -63,14 +83,14 @@ grids_bound rs items old new all is h = ap (λ (x : List RasterRef). grids_match
 pub raster_checked : (r : RasterRef) (name bytes slice : List ℕ) (old new : FilesAt) (read : Result Grid RasterFault) (result : Result Grid Stop) → name ≡ r.file
     → Follows (reads name made) old new (Ok bytes) → slice ≡ bytes → Tells raster_text (raster_in r slice) read
     → ((means : Result Grid RasterFault) → Tells raster_text means read → Says (judged raster_text name means) result) → Follows (raster_course r) old new result
-unfolding raster_course_by
 raster_checked r name bytes slice old new read result is h same tells says =
-    subst (λ (n : List ℕ). Follows (file (raster_in r) raster_text n) old new result) is
-    (file_checked (raster_in r) raster_text name bytes slice old new read result h same tells says)
+    subst (λ (c : Course Grid). Follows c old new result) (sym (course_same r))
+    (subst (λ (n : List ℕ). Follows (file (raster_in r) raster_text n) old new result) is
+    (file_checked (raster_in r) raster_text name bytes slice old new read result h same tells says))
 
 -- the read of a raster's file came to an early end
 pub raster_stops : (r : RasterRef) (name : List ℕ) (old new : FilesAt) (s : Stop) → name ≡ r.file → Follows (reads name made) old new (ended {A = List ℕ} s)
     → Follows (raster_course r) old new (ended {A = Grid} s)
-unfolding raster_course_by
 raster_stops r name old new s is h =
-    subst (λ (n : List ℕ). Follows (file (raster_in r) raster_text n) old new (ended {A = Grid} s)) is (file_stops Grid (raster_in r) raster_text name old new s h)
+    subst (λ (c : Course Grid). Follows c old new (ended {A = Grid} s)) (sym (course_same r))
+    (subst (λ (n : List ℕ). Follows (file (raster_in r) raster_text n) old new (ended {A = Grid} s)) is (file_stops Grid (raster_in r) raster_text name old new s h))

@@ -8,7 +8,7 @@ use Rattle.plain_drawing.specs.Styles.{RasterRef}
 use Rattle.plain_image.specs.PpmText.{ReadsPpm}
 use Rattle.plain_image.specs.declared.reading.PpmFault.{PpmFault}
 use Rattle.plain_image.specs.declared.reading.PpmFault.TheVariants as ppm
-use Rattle.farm_files.specs.Rasters.{with_image, after_ppm}
+use Rattle.farm_files.specs.inner.Rasters.{with_image, after_ppm}
 use Rattle.farm_files.specs.declared.rasters.RasterFault.{RasterFault}
 use Rattle.farm_files.specs.declared.rasters.RasterFault.TheVariants as fault
 

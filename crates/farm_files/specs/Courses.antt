@@ -29,22 +29,14 @@ map_course_by says m = style_course_by says m.style >>= λ style. made (record {
 unfoldable pub restyle_course_by : TextReading → RestyleEntry → Course Restyle
 restyle_course_by says r = style_course_by says r.style >>= λ style. made (record { map = r.map; style = style })
 
--- an update
-abbrev pub update_course : List ℕ → Course (List Change)
-update_course name = file update_in data_text name
-
--- an expiry list
-abbrev pub list_course : List ℕ → Course (List Tile)
-list_course name = file list_in list_text name
-
 -- all files that a configuration names, in order, say a farm
 unfoldable pub inputs_course_by : TextReading → Config → Course FarmInputs
 inputs_course_by says config = do
   maps ← each (map_course_by says) config.maps
   restyles ← each (restyle_course_by says) config.restyles
   layers ← file dataset_in data_text config.dataset
-  updates ← each update_course config.updates
-  lists ← each list_course config.expiries
+  updates ← each (file update_in data_text) config.updates
+  lists ← each (file list_in list_text) config.expiries
   made (record {
     plan = record { maps = maps; dataset = layers; updates = updates; workers = config.workers; limits = config.limits; restyles = restyles };
     lists = lists;
@@ -74,6 +66,12 @@ map_course m = map_course_by text_reading m
 
 abbrev pub restyle_course : RestyleEntry → Course Restyle
 restyle_course r = restyle_course_by text_reading r
+
+abbrev pub update_course : List ℕ → Course (List Change)
+update_course name = file update_in data_text name
+
+abbrev pub list_course : List ℕ → Course (List Tile)
+list_course name = file list_in list_text name
 
 abbrev pub inputs_course : Config → Course FarmInputs
 inputs_course config = inputs_course_by text_reading config

@@ -2,4 +2,4 @@ pub mod Addresses
 pub mod Courses
 pub mod Inputs
 pub mod MapCourses
-pub mod Rasters
+pub mod inner

@@ -4,7 +4,7 @@ ghost use Rattle.plain_image.specs.declared.reading.PpmFault.TheVariants as ppm;
 ghost use Rattle.reading.specs.Steps.{Gives};
 ghost use Rattle.input_files.specs.inner.Follows.{Follows};
 ghost use Rattle.farm_files.specs.MapCourses.{raster_course};
-ghost use Rattle.farm_files.specs.Rasters.{raster_in, raster_text, with_image};
+ghost use Rattle.farm_files.specs.inner.Rasters.{raster_in, raster_text, with_image};
 ghost use Rattle.farm_files.specs.declared.rasters.RasterFault.TheVariants as fault;
 
 use exit_status::Stop;
@@ -38,7 +38,7 @@ impl From<NoMemory> for RasterFault {
 }
 
 impl FaultText for RasterFault {
-    ghost use Rattle.farm_files.specs.Rasters.{raster_text};
+    ghost use Rattle.farm_files.specs.inner.Rasters.{raster_text};
 
     ghost text = { raster_text };
 

@@ -17,7 +17,8 @@ use Rattle.farm_history.specs.declared.answers.Finished.TheVariants.{Stored, Put
 use Rattle.farm_history.specs.Entries.{Entry, Ask, Claim, Finish}
 use Rattle.farm_history.specs.Plans.{Plan, Waits, AreApart, same_key, key_of, is_dirty_command, own_queue, waits_in, without_key, has_room, same_queue, first_in, next}
 use Rattle.farm_history.specs.Past.{Flight, is_stopped, version, flights, flight_in, without_ticket, flies_in, flies, jobs, stored_on, lost_on, shown, touches, is_touched_after, is_clean, with_dirty, after_answer, waiting, waits, numbers}
-use Rattle.farm_history.specs.Rules.{Tests, answer_of_waiting, answer_by, tests_of, ask_rule, job_of, claim_rule, EndFits, FlightFits, Fits, Legal}
+use Rattle.farm_history.specs.Rules.{ask_rule, job_of, claim_rule, EndFits, FlightFits, Fits, Legal}
+use Rattle.farm_history.specs.inner.Asks.{Tests, answer_of_waiting, answer_by, tests_of}
 use Rattle.farm_history.specs.Laws.{AtMostOne, flight_key, Single}
 use Rattle.farm_history.proofs.Lists.{same_key-true, same_key-self, same_key-sym, any-append, any-filter, not_any, find-any, find-not, waits_without_same, waits_without_other, apart-append, apart-filter}
 use Rattle.farm_history.proofs.Places.{shown_earlier, fresh_less, stale_stays, touched_stale}
@@ -55,7 +56,8 @@ pub ask_dirty : (p : Plan) (g : List Entry) (conn : Conn) (command : Cmd) (spot 
 ask_dirty p g conn command spot h = rw h refl
 
 pub ask_render : (p : Plan) (g : List Entry) (conn : Conn) (command : Cmd) (spot : Spot) → is_dirty_command command ≡ false → ask_rule p g conn command spot ≡ answer_by (tests_of p g conn command spot) (numbers g)
-ask_render p g conn command spot h = rw h refl
+unfolding answer_by answer_of_waiting
+ask_render p g conn command spot h = ap (λ (b : Bool). cond b Silent (answer_by (tests_of p g conn command spot) (numbers g))) h
 
 -- How answers change what waits.
 

@@ -17,7 +17,8 @@ use Rattle.farm_history.specs.declared.answers.Collected.{Collected}
 use Rattle.farm_history.specs.Entries.{Entry, Ask, Claim, Finish, Collect, Leave}
 use Rattle.farm_history.specs.Plans.{Plan, Waits, same_key, key_of, is_dirty_command, own_queue, waits_in, without_key, has_room}
 use Rattle.farm_history.specs.Past.{Flight, flights, flight_in, without_ticket, flies_in, flies, is_on, touches, with_dirty, after_answer, after_stale, waiting, waits, Numbered, number_in, numbers, with_ask, open_asks, is_ended_after}
-use Rattle.farm_history.specs.Rules.{Tests, answer_of_waiting, answer_by, tests_of, ask_rule, FlightFits, Fits, Legal}
+use Rattle.farm_history.specs.Rules.{ask_rule, FlightFits, Fits, Legal}
+use Rattle.farm_history.specs.inner.Asks.{Tests, answer_of_waiting, answer_by, tests_of}
 use Rattle.farm_history.specs.Lists.{Each, Differ}
 use Rattle.farm_history.proofs.Lists.{same_key-self, each-append, each-map, each-filter, each-both, any-append, waits_without_other, none-each, filter-all}
 use Rattle.farm_history.proofs.Apart.{ask_dirty, ask_render}

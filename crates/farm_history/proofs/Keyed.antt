@@ -16,7 +16,8 @@ use Rattle.farm_history.specs.declared.answers.Finished.TheVariants.{Stored, Put
 use Rattle.farm_history.specs.Entries.{Entry, Ask, Claim, Finish}
 use Rattle.farm_history.specs.Plans.{Plan, Waits, same_key, key_of, is_servable, is_dirty_command, own_queue, waits_in, without_key, has_room}
 use Rattle.farm_history.specs.Past.{Flight, flights, flight_in, flies, is_on, stored_on, shown, touches, with_dirty, after_answer, after_stale, waiting, numbers}
-use Rattle.farm_history.specs.Rules.{Tests, answer_of_waiting, answer_by, tests_of, ask_rule, Fits, Legal}
+use Rattle.farm_history.specs.Rules.{ask_rule, Fits, Legal}
+use Rattle.farm_history.specs.inner.Asks.{Tests, answer_of_waiting, answer_by, tests_of}
 use Rattle.farm_history.specs.Replays.{lowest}
 use Rattle.farm_history.specs.Lists.{Each}
 use Rattle.farm_history.proofs.Lists.{same_key-true, each-append, each-filter, each-find}

@@ -11,7 +11,8 @@ use Rattle.farm_history.specs.declared.answers.Collected.{Collected}
 use Rattle.farm_history.specs.Entries.{Entry, Ask, Collect, Leave}
 use Rattle.farm_history.specs.Plans.{Plan, same_conn, key_of, is_dirty_command}
 use Rattle.farm_history.specs.Past.{Numbered, number_in, numbers, with_ask, without_conn, without_number, open_asks}
-use Rattle.farm_history.specs.Rules.{Tests, answer_of_waiting, answer_by, tests_of, ask_rule, Fits, Legal}
+use Rattle.farm_history.specs.Rules.{ask_rule, Fits, Legal}
+use Rattle.farm_history.specs.inner.Asks.{Tests, answer_of_waiting, answer_by, tests_of}
 use Rattle.farm_history.specs.Laws.{asked_here, ask_numbered, is_left_after, is_replied, IsOnlyReply, IsNewNumber, LawOneReply}
 use Rattle.farm_history.specs.Lists.{Each}
 use Rattle.farm_history.proofs.Lists.{each-append, each-map, each-filter, each-passes, each-both}

@@ -15,11 +15,12 @@ use Rattle.farm_history.specs.declared.answers.Collected.{Collected}
 use Rattle.farm_history.specs.Entries.{Entry, Ask, Claim, Finish}
 use Rattle.farm_history.specs.Plans.{Plan, waits_in, waits_in_queue, how_many_in, same_key, key_of, next, without_key}
 use Rattle.farm_history.specs.Past.{is_clean, is_fresh, how_many_of, flies_in, is_ended_after, Flight, is_stopped, data_after, version, style_after, flights, flight_in, without_ticket, jobs, shown, is_touched_after, waiting, numbers, Numbered, open_asks, without_number, due_replies, replies_to}
-use Rattle.farm_history.specs.Rules.{Tests, answer_of_waiting, answer_by, tests_of, ask_rule, job_of, claim_rule, FlightFits, collect_from, collect_rule, Fits, Legal}
+use Rattle.farm_history.specs.Rules.{ask_rule, job_of, claim_rule, FlightFits, collect_from, collect_rule, Fits, Legal}
+use Rattle.farm_history.specs.inner.Asks.{Tests, answer_of_waiting, answer_by, tests_of}
 use Rattle.farm_history.specs.Seen.{is_waiter, chain_after, outbox, waiter_of}
 use Rattle.farm_history.specs.Replays.{replay_front, replayer, lowest, replay_key}
 use Rattle.farm_history.proofs.Lists.{same_key-self}
-use Rattle.farm_history.proofs.Apart.{stored_here, stored_other}
+use Rattle.farm_history.proofs.Apart.{ask_render, stored_here, stored_other}
 use Rattle.farm_history.proofs.Marks.{touched_never}
 use Rattle.farm_history.proofs.Ends.{asks_on_ask, outbox_ask, outbox_finish, ended_outbox, reply_for}
 use Rattle.farm_history.proofs.Keyed.{IsServed}
@@ -48,6 +49,7 @@ ask_fits p told g k q served room unseen =
     (ap (λ ws. waits_in_queue ws Queue.Dirty (key_of (lowest k))) q.idle)
     (ap (λ ws. waits_in ws (key_of (lowest k))) q.idle)
     (ap (λ ws. nat_lt (how_many_in ws Queue.Bulk) p.limits.bulk) q.idle ∙ grind (arith, nat_tests))
+    ∙ sym (ask_render p g replayer Cmd.Bulk (lowest k) refl)
 
 -- its Claim is answered with it
 claim_fits : (p : Plan) (g : List Entry) (k : Key) → is_stopped g ≡ false → flights g ≡ [] → waiting p g ≡ record { queue = Queue.Bulk; key = k } ∷ [] → 0 < p.workers → Job (jobs g) k (version g) ≡ claim_rule p g

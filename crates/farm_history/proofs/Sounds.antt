@@ -18,7 +18,8 @@ use Rattle.farm_history.specs.declared.answers.Collected.{Collected}
 use Rattle.farm_history.specs.Entries.{Entry, Ask, Claim, Finish, Fetch, Collect, Leave}
 use Rattle.farm_history.specs.Plans.{Plan, AreApart, same_key, key_of, is_servable, is_dirty_command}
 use Rattle.farm_history.specs.Past.{Flight, version, flights, flight_in, is_on, stored_on, shown, is_touched_after, is_fresh, is_clean, without_ticket, number_in, numbers, Numbered, with_ask, open_asks, drawn_after}
-use Rattle.farm_history.specs.Rules.{Tests, answer_of_waiting, answer_by, tests_of, ask_rule, FlightFits, ShownFits, FetchFits, Fits, Legal}
+use Rattle.farm_history.specs.Rules.{ask_rule, FlightFits, ShownFits, FetchFits, Fits, Legal}
+use Rattle.farm_history.specs.inner.Asks.{Tests, answer_of_waiting, answer_by, tests_of}
 use Rattle.farm_history.specs.Laws.{is_stored_in, IsDrawnFresh, Fresh, flight_key, Single, is_claimed_after, is_redrawn_after, GapAt, Gap, is_stored_after, IsStoredFor, DoneReply, EachDone, LawSound}
 use Rattle.farm_history.specs.Lists.{Each}
 use Rattle.farm_history.proofs.Lists.{same_key-true, each-append, each-map, each-filter, each-find, none-each, find-passes}

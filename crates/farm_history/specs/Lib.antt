@@ -6,3 +6,4 @@ pub mod Plans
 pub mod Replays
 pub mod Rules
 pub mod Seen
+pub mod inner

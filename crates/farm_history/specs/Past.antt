@@ -20,7 +20,7 @@ use Rattle.farm_history.specs.declared.answers.Restyled.TheVariants.{Styled}
 use Rattle.farm_history.specs.declared.answers.Collected.{Collected}
 use Rattle.farm_history.specs.declared.answers.Tally.{Tally as Totals}
 use Rattle.farm_history.specs.Entries.{Entry, Ask, Claim, Finish, Update, Renew, Restyle, Expire, Collect, Leave, Stop}
-use Rattle.farm_history.specs.Plans.{Plan, Waits, same_key, same_conn, is_in, key_of, map_of, spot_tile, is_servable, overlaps, is_style_of, is_dirty_command, own_queue, waits_in, without_key, has_room}
+use Rattle.farm_history.specs.Plans.{Plan, Waits, same_key, same_conn, key_of, map_of, spot_tile, is_servable, overlaps, is_style_of, is_dirty_command, own_queue, waits_in, without_key, has_room}
 
 -- whether a Stop stands in the history
 unfoldable pub is_stopped : List Entry → Bool
@@ -55,28 +55,20 @@ pub record Flight : Type 0 where
   pub key : Key
   pub before : List Entry
 
--- the flights that do not have that ticket
-abbrev pub without_ticket : ℕ → List Flight → List Flight
-without_ticket t fs = filter (λ f. not (f.ticket == t)) fs
-
 -- the Claims answered Job whose ticket has no later Finish, in order
 unfoldable pub flights : List Entry → List Flight
 flights [] = []
 flights (Claim worker (Job t k v) ∷ g) = flights g ++ record { ticket = t; key = k; before = g } ∷ []
-flights (Finish t drawn answer ∷ g) = without_ticket t (flights g)
+flights (Finish t drawn answer ∷ g) = filter (λ f. not (f.ticket == t)) (flights g)
 flights (_ ∷ g) = flights g
 
 -- the flight of that ticket
 abbrev pub flight_in : List Flight → ℕ → Option Flight
 flight_in fs t = find (λ f. f.ticket == t) fs
 
--- whether a flight has that key
-abbrev pub flies_in : List Flight → Key → Bool
-flies_in fs k = list_any (λ f. same_key f.key k) fs
-
 -- whether the key is being drawn
 abbrev pub flies : List Entry → Key → Bool
-flies h k = flies_in (flights h) k
+flies h k = list_any (λ f. same_key f.key k) (flights h)
 
 -- how many Claims were answered Job
 unfoldable pub jobs : List Entry → ℕ
@@ -87,7 +79,7 @@ jobs (_ ∷ g) = jobs g
 -- the keys of the Claims answered Job, each once
 unfoldable pub claimed_keys : List Entry → List Key
 claimed_keys [] = []
-claimed_keys (Claim worker (Job t k v) ∷ g) = if is_in k (claimed_keys g) then claimed_keys g else claimed_keys g ++ k ∷ []
+claimed_keys (Claim worker (Job t k v) ∷ g) = if list_any (λ x. same_key x k) (claimed_keys g) then claimed_keys g else claimed_keys g ++ k ∷ []
 claimed_keys (_ ∷ g) = claimed_keys g
 
 -- whether there is a flight, and it is of the key
@@ -105,15 +97,11 @@ abbrev pub stored_on : Option Flight → Key → Option (List Entry) → Option 
 stored_on None k otherwise = otherwise
 stored_on (Some f) k otherwise = if same_key f.key k then Some f.before else otherwise
 
--- what is shown of a key after a drawing was refused by the store: nothing, where the drawing is of the key
-abbrev pub lost_on : Option Flight → Key → Option (List Entry) → Option (List Entry)
-lost_on f k otherwise = if is_on f k then None else otherwise
-
 -- Look at the last Finish on the key that was answered Stored or PutFailed. Where it was Stored, this is what came before its Claim; else none
 unfoldable pub shown : List Entry → Key → Option (List Entry)
 shown [] k = None
 shown (Finish t drawn (Stored clean) ∷ g) k = stored_on (flight_in (flights g) t) k (shown g k)
-shown (Finish t drawn PutFailed ∷ g) k = lost_on (flight_in (flights g) t) k (shown g k)
+shown (Finish t drawn PutFailed ∷ g) k = if is_on (flight_in (flights g) t) k then None else shown g k
 shown (_ ∷ g) k = shown g k
 
 -- Whether an entry touches a key, where g came before it:
@@ -207,20 +195,12 @@ abbrev pub with_ask : Option ℕ → Conn → Key → List Entry → List Number
 with_ask None conn k g asks = asks
 with_ask (Some n) conn k g asks = asks ++ record { conn = conn; number = n; key = k; before = g } ∷ []
 
--- the asks that are not of the connection
-abbrev pub without_conn : Conn → List Numbered → List Numbered
-without_conn conn asks = filter (λ a. not (same_conn a.conn conn)) asks
-
--- the asks that do not have that number
-abbrev pub without_number : ℕ → List Numbered → List Numbered
-without_number n asks = filter (λ a. not (a.number == n)) asks
-
 -- the open asks, in order: those with a number, without a later Leave of their connection and without a later Collect of their reply
 unfoldable pub open_asks : List Entry → List Numbered
 open_asks [] = []
 open_asks (Ask conn command spot answer ∷ g) = with_ask (number_in answer) conn (key_of spot) g (open_asks g)
-open_asks (Collect front (Collected.Reply r) ∷ g) = without_number r.ask (open_asks g)
-open_asks (Leave conn count ∷ g) = without_conn conn (open_asks g)
+open_asks (Collect front (Collected.Reply r) ∷ g) = filter (λ a. not (a.number == r.ask)) (open_asks g)
+open_asks (Leave conn count ∷ g) = filter (λ a. not (same_conn a.conn conn)) (open_asks g)
 open_asks (_ ∷ g) = open_asks g
 
 -- how many of the asks are of the connection
@@ -284,6 +264,28 @@ unfoldable pub stored_drawings : List Entry → ℕ
 stored_drawings [] = 0
 stored_drawings (Finish t drawn (Stored clean) ∷ g) = stored_drawings g + 1
 stored_drawings (_ ∷ g) = stored_drawings g
+
+-- Words of proofs, which say parts of the above.
+
+-- the flights that do not have that ticket
+abbrev pub without_ticket : ℕ → List Flight → List Flight
+without_ticket t fs = filter (λ f. not (f.ticket == t)) fs
+
+-- whether a flight has that key
+abbrev pub flies_in : List Flight → Key → Bool
+flies_in fs k = list_any (λ f. same_key f.key k) fs
+
+-- what is shown of a key after a drawing was refused by the store: nothing, where the drawing is of the key
+abbrev pub lost_on : Option Flight → Key → Option (List Entry) → Option (List Entry)
+lost_on f k otherwise = if is_on f k then None else otherwise
+
+-- the asks that are not of the connection
+abbrev pub without_conn : Conn → List Numbered → List Numbered
+without_conn conn asks = filter (λ a. not (same_conn a.conn conn)) asks
+
+-- the asks that do not have that number
+abbrev pub without_number : ℕ → List Numbered → List Numbered
+without_number n asks = filter (λ a. not (a.number == n)) asks
 
 -- what a farm counts
 abbrev pub totals : List Entry → Totals

@@ -39,7 +39,7 @@ same_meta a b = (a.z == b.z) && ((a.x == b.x) && (a.y == b.y))
 
 -- whether two keys are one
 abbrev pub same_key : Key → Key → Bool
-same_key a b = (a.map == b.map) && same_meta a.meta b.meta
+same_key a b = (a.map == b.map) && ((a.meta.z == b.meta.z) && ((a.meta.x == b.meta.x) && (a.meta.y == b.meta.y)))
 
 -- whether two connections are one
 abbrev pub same_conn : Conn → Conn → Bool
@@ -165,7 +165,7 @@ how_many_in ws queue = count_by (λ w. same_queue w.queue queue) ws
 
 -- whether a queue is below its limit
 abbrev pub has_room : Limits → Queue → List Waits → Bool
-has_room limits queue ws = nat_lt (how_many_in ws queue) (limit_of limits queue)
+has_room limits queue ws = nat_lt (count_by (λ w. same_queue w.queue queue) ws) (limit_of limits queue)
 
 -- the first that waits in a queue
 abbrev pub first_in : List Waits → Queue → Option Waits

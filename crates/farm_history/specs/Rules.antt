@@ -26,75 +26,26 @@ use Rattle.farm_history.specs.declared.answers.Collected.{Collected}
 use Rattle.farm_history.specs.declared.answers.Collected.TheVariants.{Empty}
 use Rattle.farm_history.specs.Entries.{Entry, Ask, Claim, Finish, Update, Renew, Restyle, Expire, Fetch, Look, Collect, Leave, Stop, Tally, EachMoment}
 use Rattle.farm_history.specs.Plans.{Plan, Waits, key_of, is_servable, overlaps, is_style_of, is_dirty_command, is_lifting, own_queue, waits_in_queue, has_room, next}
-use Rattle.farm_history.specs.Past.{Flight, is_stopped, data_after, version, drawn_after, flights, flight_in, flies, jobs, shown, is_touched_after, is_clean, clean_count, is_overtaken, waiting, waits, numbers, open_asks, how_many_of, due_replies, totals}
+use Rattle.farm_history.specs.Past.{Flight, is_stopped, data_after, version, drawn_after, flights, flight_in, flies, jobs, shown, is_touched_after, is_clean, clean_count, is_overtaken, waiting, waits, numbers, open_asks, how_many_of, due_replies, asks_made, done_asks, stored_drawings}
 
--- Asks with a render command. The queues, and that an ask whose own queue is full goes to the dirty queue, are renderd's; all other lines, and the limits, are this farm's own rule.
-
--- what the answer to such an ask depends on
-pub record Tests : Type 0 where
-  -- a Stop came
-  pub stopped : Bool
-  -- the spot can be served
-  pub servable : Bool
-  -- its metatile is clean
-  pub clean : Bool
-  -- the connection has 64 open asks, or 4,096 are open in all
-  pub backlog : Bool
-  -- the metatile is being drawn and was touched after that drawing's Claim
-  pub overtaken : Bool
-  -- it is being drawn
-  pub flies : Bool
-  -- it waits in the dirty or bulk queue, and the command is Prio, Render or Low
-  pub liftable : Bool
-  -- it waits in the dirty queue
-  pub in_dirty : Bool
-  -- it waits
-  pub waits : Bool
-  -- the command's own queue is below its limit
-  pub own_room : Bool
-  -- the dirty queue is below its limit
-  pub dirty_room : Bool
-
--- the answer where the metatile is not being drawn, by the first line that holds; n is the number of the ask
-unfoldable pub answer_of_waiting : Bool → Bool → Bool → Bool → Bool → ℕ → AskAnswer
-answer_of_waiting liftable in_dirty waits own_room dirty_room n =
-    if liftable && own_room then Lifted n
-    else if in_dirty then NotDone InDirty
-    else if waits then Joined n
-    else if own_room then Queued n
-    else if dirty_room then NotDone Deferred
-    else NotDone Dropped
-
--- the answer, by the first line that holds
-unfoldable pub answer_by : Tests → ℕ → AskAnswer
-answer_by t n =
-    if t.stopped then NotDone Stopping
-    else if not t.servable then NotDone Unservable
-    else if t.clean then AskAnswer.Done
-    else if t.backlog then NotDone Backlog
-    else if t.overtaken then NotDone Overtaken
-    else if t.flies then Joined n
-    else answer_of_waiting t.liftable t.in_dirty t.waits t.own_room t.dirty_room n
-
--- the tests of an ask after the history
-abbrev pub tests_of : Plan → List Entry → Conn → Cmd → Spot → Tests
-tests_of p g conn command spot = record {
-  stopped = is_stopped g;
-  servable = is_servable p spot;
-  clean = is_clean p g (key_of spot);
-  backlog = nat_le most_asks_of_one (how_many_of conn (open_asks g)) || nat_le most_asks (length (open_asks g));
-  overtaken = is_overtaken p g (key_of spot);
-  flies = flies g (key_of spot);
-  liftable = is_lifting command && (waits_in_queue (waiting p g) Queue.Dirty (key_of spot) || waits_in_queue (waiting p g) Queue.Bulk (key_of spot));
-  in_dirty = waits_in_queue (waiting p g) Queue.Dirty (key_of spot);
-  waits = waits p g (key_of spot);
-  own_room = has_room p.limits (own_queue command) (waiting p g);
-  dirty_room = has_room p.limits Queue.Dirty (waiting p g);
-}
-
--- what an ask is answered: Silent with the command Dirty, else by the tests. Its number is how many were given before
+-- What an ask is answered, by the first line that holds; its number is how many were given before. Of a backlog: the connection has 64 open asks, or 4,096 are open in all.
+-- A metatile is overtaken where it is being drawn and was touched after that drawing's Claim. Prio, Render and Low lift it out of the dirty or the bulk queue.
+-- The queues, and that an ask whose own queue is full goes to the dirty queue, are renderd's; all other lines, and the limits, are this farm's own rule
 abbrev pub ask_rule : Plan → List Entry → Conn → Cmd → Spot → AskAnswer
-ask_rule p g conn command spot = if is_dirty_command command then Silent else answer_by (tests_of p g conn command spot) (numbers g)
+ask_rule p g conn command spot =
+    if is_dirty_command command then Silent
+    else if is_stopped g then NotDone Stopping
+    else if not (is_servable p spot) then NotDone Unservable
+    else if is_clean p g (key_of spot) then AskAnswer.Done
+    else if nat_le most_asks_of_one (how_many_of conn (open_asks g)) || nat_le most_asks (length (open_asks g)) then NotDone Backlog
+    else if is_overtaken p g (key_of spot) then NotDone Overtaken
+    else if flies g (key_of spot) then Joined (numbers g)
+    else if (is_lifting command && (waits_in_queue (waiting p g) Queue.Dirty (key_of spot) || waits_in_queue (waiting p g) Queue.Bulk (key_of spot))) && has_room p.limits (own_queue command) (waiting p g) then Lifted (numbers g)
+    else if waits_in_queue (waiting p g) Queue.Dirty (key_of spot) then NotDone InDirty
+    else if waits p g (key_of spot) then Joined (numbers g)
+    else if has_room p.limits (own_queue command) (waiting p g) then Queued (numbers g)
+    else if has_room p.limits Queue.Dirty (waiting p g) then NotDone Deferred
+    else NotDone Dropped
 
 -- Claims.
 
@@ -206,7 +157,7 @@ Fits p told g (Look spot answer) = answer ≡ look_rule p g spot
 Fits p told g (Collect front answer) = answer ≡ collect_rule g front
 Fits p told g (Leave conn count) = count ≡ how_many_of conn (open_asks g)
 Fits p told g Stop = Unit {0}
-Fits p told g (Tally counts) = counts ≡ totals g
+Fits p told g (Tally counts) = counts ≡ record { asks = asks_made g; done = done_asks g; stored = stored_drawings g; version = version g }
 
 -- a history is legal where each entry has the answer that those before it give it
 abbrev pub Legal : Plan → Bool → List Entry → Type 0

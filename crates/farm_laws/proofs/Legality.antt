@@ -4,7 +4,8 @@ use Rattle.std.proofs.lemmas.Bool.Decides.{nat_tests}
 use Rattle.farm_history.specs.declared.keys.Key.{Key}
 use Rattle.farm_history.specs.Plans.{same_key, key_of, map_of, spot_tile, is_at_most, greatest_zoom, is_servable, overlaps, is_style_of, next}
 use Rattle.farm_history.specs.Past.{is_stopped, data_after, style_after, flights, jobs, claimed_keys, shown, is_touched_after, waiting, numbers, open_asks, is_ended_after, replies_to, asks_made, done_asks, stored_drawings}
-use Rattle.farm_history.specs.Rules.{answer_of_waiting, answer_by, Fits, Legal}
+use Rattle.farm_history.specs.Rules.{Fits, Legal}
+use Rattle.farm_history.specs.inner.Asks.{answer_of_waiting, answer_by}
 use Rattle.farm_history.specs.Laws.{has_plain_update, IsLocal}
 use Rattle.farm_history.proofs.Lists.{filter-append, same_key-true}
 use Rattle.farm_history.specs.Replays.{changes_after, kept_of, kept_version, version_if_fresh, IsSaved, replay_styles, replay_keys, replay_from, replay}

@@ -19,7 +19,7 @@ use Rattle.plain_data.specs.Reach.{Reaches, feature_reaches}
 use Rattle.plain_drawing.specs.Styles.{Style, LayerRef, MapStyle, KeepsRanges}
 use Rattle.plain_drawing.specs.Grids.{Grid}
 use Rattle.plain_drawing.specs.Rules.{denominator_of, is_active}
-use Rattle.plain_drawing.specs.Drawing.{drawn_tile, feature, features_of, grid_or_features, items_of, style_named}
+use Rattle.plain_drawing.specs.Drawing.{drawn_tile, Item, feature, raster, features_of, items_of, style_named}
 use Rattle.plain_drawing.specs.inner.Pictures.{with_item, with_style, with_layer, with_map}
 use Rattle.plain_drawing.proofs.Steps.{one_colour, drawn_as_tile}
 use Rattle.drawing_reach.proofs.Edges.{by_edges}
@@ -75,6 +75,10 @@ named_each P styles (name ∷ names) each =
         go : (b : Bool) → Each P (option_to_list (find (λ k. bytes_eq k.name name) ss)) → Each P (option_to_list (cond b (Some s) (find (λ k. bytes_eq k.name name) ss)))
         go true h = (e.0, tt)
         go false h = h
+
+-- the items of the grid, if there is one, else features
+abbrev grid_or_features : Option Grid → List Feature → List Item
+grid_or_features grid features = unwrap_or (option_map (λ g. raster g ∷ []) grid) (map feature features)
 
 -- one style draws the same over the items of data that are alike near the tile
 same_style : (size d : ℕ) (t : Tile) (grid : Option Grid) (xs ys : List Feature) (s : Style) (image : Pixels) → IsTile t → IsTileSize size → KeepsRanges s →

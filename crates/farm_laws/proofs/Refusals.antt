@@ -5,7 +5,8 @@ use Rattle.farm_history.specs.declared.answers.Collected.{Collected}
 use Rattle.farm_history.specs.declared.answers.Tally.{Tally}
 use Rattle.farm_history.specs.Plans.{is_servable, overlaps, is_style_of, next}
 use Rattle.farm_history.specs.Past.{is_stopped, data_after, style_after, flights, jobs, claimed_keys, shown, is_touched_after, waiting, numbers, open_asks, is_ended_after, replies_to, asks_made, done_asks, stored_drawings}
-use Rattle.farm_history.specs.Rules.{answer_of_waiting, answer_by, Fits}
+use Rattle.farm_history.specs.Rules.{Fits}
+use Rattle.farm_history.specs.inner.Asks.{answer_of_waiting, answer_by}
 use Rattle.farm_laws.specs.Examples.{plain, updated, narrow, restyled, renewed}
 use Rattle.farm_laws.specs.Mistakes.{IsMistake, stored_clean_though_expired, clean_by_version, dirty_by_update, updated_past_the_table, update_fault_passed_over, queued_while_drawn, claimed_twice, replied_out_of_order, drawn_over_newest_data, expired_on_its_zoom_alone, expired_beside, joined_though_overtaken, dirty_before_low, dropped_though_room, deferred_past_the_limit, more_drawn_than_workers, claimed_after_stop, shown_after_failed_put, done_after_failed_put, stored_though_cut, ended_twice, replied_though_left, left_with_its_items, counted_before_collected, queued_a_second_time, joined_in_bulk, marked_and_clean, clean_in_the_old_style, drawn_in_the_old_style, restyled_past_the_table, clean_though_reached, renewed_out_of_reach, gone_though_told}
 

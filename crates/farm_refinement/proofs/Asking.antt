@@ -13,7 +13,8 @@ use Rattle.farm_history.specs.declared.asks.AskAnswer.TheVariants.{Lifted, Silen
 use Rattle.farm_history.specs.Entries.{Entry, Ask}
 use Rattle.farm_history.specs.Plans.{Plan, same_key, is_in, key_of, is_servable, is_dirty_command, is_lifting, own_queue, waits_in_queue}
 use Rattle.farm_history.specs.Past.{is_stopped, data_after, style_after, flights, shown, is_clean, is_overtaken, waiting, numbers, open_asks, how_many_of, asks_made, done_asks, stored_drawings, jobs, touches}
-use Rattle.farm_history.specs.Rules.{answer_by, tests_of, ask_rule, Fits}
+use Rattle.farm_history.specs.Rules.{ask_rule, Fits}
+use Rattle.farm_history.specs.inner.Asks.{answer_by, tests_of}
 use Rattle.farm_history.specs.Seen.{dirtied, Taken, taken_of, is_clean_mark}
 use Rattle.farm_history.specs.Replays.{changes_after}
 use Rattle.farm_history.proofs.Lists.{same_key-self}

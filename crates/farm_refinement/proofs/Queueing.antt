@@ -21,7 +21,7 @@ use Rattle.farm_history.specs.Lists.{Each, Differ}
 use Rattle.farm_history.specs.Entries.{Entry, Ask, Claim, Finish, Collect, Leave}
 use Rattle.farm_history.specs.Plans.{Plan, Waits, AreApart, same_key, same_conn, is_in, key_of, is_servable, is_dirty_command, own_queue, limit_of, waits_in, waits_in_queue, without_key, has_room, next}
 use Rattle.farm_history.specs.Past.{Flight, is_stopped, flights, flight_in, without_ticket, flies, touches, with_dirty, after_answer, after_stale, waiting, waits, number_in, open_asks, is_ended_after, replies_to, how_many_of, outcome_of}
-use Rattle.farm_history.specs.Rules.{Tests, answer_of_waiting, answer_by}
+use Rattle.farm_history.specs.inner.Asks.{Tests, answer_of_waiting, answer_by}
 use Rattle.farm_history.specs.Laws.{flight_key}
 use Rattle.farm_history.specs.Seen.{in_queue, waiting_asks, outbox, chain_after}
 use Rattle.farm_history.proofs.Lists.{same_key-self, same_key-sym, find-not, each-map, none-each, filter-all, map-filter}

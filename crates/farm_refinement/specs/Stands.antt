@@ -12,7 +12,6 @@ use Rattle.farm_history.specs.Entries.{Entry, Finish, Fetch}
 use Rattle.farm_history.specs.Plans.{Waits, key_of, limit_of}
 use Rattle.farm_history.specs.Past.{is_stopped, data_after, version, style_after, Flight, flights, flight_in, jobs, shown, waiting, numbers, Numbered, asks_made, done_asks, stored_drawings}
 use Rattle.farm_history.specs.Rules.{Legal}
-use Rattle.farm_history.specs.Laws.{flight_key}
 use Rattle.farm_history.specs.Seen.{mark_after, taken_after, waiter_of, waiting_asks, outbox, in_queue}
 use Rattle.farm_history.specs.Replays.{changes_after}
 use Rattle.farm_plan.specs.Plans.{FarmPlan, IsPlan}
@@ -37,10 +36,6 @@ pub record CountsStand (c : Counts) (h : List Entry) : Type 0 where
 
 -- Queues.
 
--- the key of what waits
-abbrev pub waits_key : Waits → Key
-waits_key w = w.key
-
 -- an ask that waits, as the tables keep it
 abbrev pub asked_of : Numbered → Asked
 asked_of a = record { key = a.key; waiter = waiter_of a }
@@ -50,8 +45,8 @@ asked_of a = record { key = a.key; waiter = waiter_of a }
 pub record QueuesStand (plan : FarmPlan) (t : Tables) (h : List Entry) : Type 0 where
   pub limits_are : (queue : Queue) → (line_of t.lines queue).limit ≡ limit_of plan.limits queue
   pub workers_are : t.workers ≡ plan.workers
-  pub waiting_is : (queue : Queue) → (line_of t.lines queue).keys ≡ map waits_key (in_queue queue (waiting (plan_of plan) h))
-  pub taken_is : t.taken ≡ map flight_key (flights h)
+  pub waiting_is : (queue : Queue) → (line_of t.lines queue).keys ≡ map (λ (w : Waits). w.key) (in_queue queue (waiting (plan_of plan) h))
+  pub taken_is : t.taken ≡ map (λ (f : Flight). f.key) (flights h)
   pub asks_are : t.asks ≡ map asked_of (waiting_asks h)
   pub ended_are : t.ended ≡ outbox h
 
@@ -110,3 +105,9 @@ pub record StandsFor {D : Type 0} (state : D → Outside StoreTold) (told : Bool
   pub marks_are : (k : Key) → mark_of farm.marks.shown k ≡ mark_after (plan_of farm.plan) h k
   pub queues_are : QueuesStand farm.plan farm.queues h
   pub store_is : StoreStands farm.plan (state farm.first).faults told h (state farm.store)
+
+-- Words of proofs, which say parts of the above.
+
+-- the key of what waits
+abbrev pub waits_key : Waits → Key
+waits_key w = w.key

@@ -20,7 +20,8 @@ use Rattle.farm_saved.specs.declared.fault.SavedFault.{SavedFault}
 use Rattle.farm_saved.specs.declared.fault.SavedFault.TheVariants.{Short, Kind}
 use Rattle.farm_saved.specs.Savings.{StyleFits, IsKept, IsSaving}
 use Rattle.farm_saved.specs.Writing.{style_bytes, past_bytes, kept_bytes, saved_bytes}
-use Rattle.farm_saved.specs.Reading.{saved_magic, after_magic, bytes_number, many, style_if_any, style_in, past_of, past_in, is_behind, last_of, is_kept, fields_in, entry_in, nothing_left, saved_in, saving_in}
+use Rattle.farm_saved.specs.Reading.{after_magic, bytes_number, many, style_if_any, style_in, past_in, is_behind, is_kept, fields_in, entry_in, nothing_left, saved_in, saving_in}
+use Rattle.farm_saved.specs.inner.Fields.{saved_magic, past_of, last_of}
 use Rattle.farm_saved.proofs.Loops.{many_step, many_none}
 use Rattle.farm_saved.specs.Laws.{PastFits, MapFits, HasNumbers, ReadsBack}
 

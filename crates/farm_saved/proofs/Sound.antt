@@ -12,7 +12,8 @@ use Rattle.farm_history.specs.declared.keys.Key.{Key}
 use Rattle.farm_history.specs.declared.keys.Kept.{Kept}
 use Rattle.farm_history.specs.Replays.{key_before, are_rising}
 use Rattle.farm_saved.specs.Savings.{IsKept, IsClean}
-use Rattle.farm_saved.specs.Reading.{is_behind, last_of, is_kept}
+use Rattle.farm_saved.specs.Reading.{is_behind, is_kept}
+use Rattle.farm_saved.specs.inner.Fields.{last_of}
 
 -- ---- the order of keys
 

@@ -12,13 +12,9 @@ use Rattle.farm_history.specs.Replays.{Saving, key_before}
 use Rattle.farm_saved.specs.declared.fault.SavedFault.{SavedFault}
 use Rattle.farm_saved.specs.declared.fault.SavedFault.TheVariants.{Short, Magic, Kind, Order, Extra}
 
--- the bytes at the front
-abbrev pub saved_magic : List ℕ
-saved_magic = codes "FSV1"
-
 -- all saved texts begin with these bytes
 unfoldable pub after_magic : SavedFault → List ℕ → Result (List ℕ) SavedFault
-after_magic short bytes = check (nat_le 4 (length bytes)) short >>= λ u. check (bytes_eq (take 4 bytes) saved_magic) Magic >>= λ u. Ok (drop 4 bytes)
+after_magic short bytes = check (nat_le 4 (length bytes)) short >>= λ u. check (bytes_eq (take 4 bytes) (codes "FSV1")) Magic >>= λ u. Ok (drop 4 bytes)
 
 -- a number of so many bytes, and the bytes behind it
 unfoldable pub bytes_number : SavedFault → ℕ → List ℕ → Result (ℕ × List ℕ) SavedFault
@@ -38,30 +34,22 @@ style_if_any (suc n) = Some n
 unfoldable pub style_in : SavedFault → List (Option ℕ) → List ℕ → Result (Option ℕ × List ℕ) SavedFault
 style_in short before bytes = bytes_number short 4 bytes >>= λ number. Ok (style_if_any number.0, number.1)
 
--- the update of a kind
-abbrev pub past_of : ℕ → ℕ → Past
-past_of kind n = if kind == 0 then Past.Update n else Past.Renew n
-
--- an update: its kind, which is 0 or 1, and its number
+-- an update: its kind, 0 for an update and 1 for one that expired what it reaches, and its number
 unfoldable pub past_in : SavedFault → List Past → List ℕ → Result (Past × List ℕ) SavedFault
 past_in short before bytes = do
   kind ← bytes_number short 4 bytes
   u ← check (nat_le kind.0 1) (Kind (length before))
   number ← bytes_number short 4 kind.1
-  Ok (past_of kind.0 number.0, number.1)
+  Ok ((if kind.0 == 0 then Past.Update number.0 else Past.Renew number.0), number.1)
 
 -- the key comes behind that of the entry before it, if there is one
 abbrev pub is_behind : Option Kept → Key → Bool
 is_behind None k = true
 is_behind (Some last) k = key_before last.key k
 
--- the last of a list
-abbrev pub last_of : List Kept → Option Kept
-last_of kept = slice_get kept (length kept - 1)
-
 -- an entry may stand behind those before it: it is of a metatile, its version is at most the number of updates, and its key comes behind theirs
 unfoldable pub is_kept : ℕ → List Kept → Kept → Bool
-is_kept updates before k = is_meta k.key.meta && nat_le k.version updates && is_behind (last_of before) k.key
+is_kept updates before k = is_meta k.key.meta && nat_le k.version updates && is_behind (slice_get before (length before - 1)) k.key
 
 -- the fields of a clean entry: map, zoom, column, row and version
 unfoldable pub fields_in : SavedFault → List ℕ → Result (Kept × List ℕ) SavedFault

@@ -1,6 +1,6 @@
 -- Where no word is empty or begins with `-`, clap's values are the words.
-use Rattle.std.proofs.Common.{◌≡◌, List, [], ◌∷◌, ◌++◌, false, Option, Some, None, Result, Ok, Err, fold, refl, sym, ap, ◌∙◌, append_assoc}
-use Rattle.std.specs.Prelude.{codes, is_some, unwrap_or, IfOk}
+use Rattle.std.proofs.Common.{◌≡◌, ℕ, suc, List, [], ◌∷◌, ◌++◌, length, false, arith, ne_eqb, Option, Some, None, Result, Ok, Err, fold, refl, sym, ap, ◌∙◌, append_assoc}
+use Rattle.std.specs.Prelude.{codes, is_some, unwrap_or, IfOk, ◌==◌, if◌then◌else◌}
 use Rattle.clap.specs.Kinds.{Kinds, or_else}
 use Rattle.clap.specs.Walk.{Text, Row, Rule, Walk, positional, walked, walk_from, nothing_held, settled, with_default}
 use Rattle.clap.specs.Simple.{Shape, built, entered}
@@ -8,7 +8,7 @@ use Rattle.clap.specs.Faults.{turn_fault, walk_fault, settle_fault, defaults_fau
 use Rattle.clap.specs.Words.{fault_of, matches_of, all_of, reading_of}
 use Rattle.clap.specs.declared.builder.value_parser.ValueParser.TheVariants as vp
 use Rattle.clap.specs.declared.parser.matches.ValueSource.TheVariants.{CommandLine}
-use Rattle.farm_words.specs.Values.{farm_app, unless_fault, values_of, IsPlain, ArePlain}
+use Rattle.farm_words.specs.Values.{farm_app, values_of, IsPlain, ArePlain}
 
 abbrev shape : Shape
 shape = (built farm_app).top
@@ -121,13 +121,17 @@ plain_rows w ws h =
     ap (λ (s : Walk). unwrap_or (all_of (codes "words") (fold with_default (settled rule_list s.held).rows rule_list)) []) (start_is w ws h.0)
     ∙ ap (λ (rows : List Row). unwrap_or (all_of (codes "words") (fold with_default rows rule_list)) []) (settled_after [] w ws h.1)
 
+-- the values, unless there is a fault
+abbrev pub unless_fault : Kinds → List Text → Option (List Text)
+unless_fault kinds values = if length kinds == 0 then Some values else None
+
 pub unless_fault-Some : (kinds : Kinds) (values : List Text) → kinds ≡ [] → unless_fault kinds values ≡ Some values
 unless_fault-Some [] values h = refl
 unless_fault-Some (k ∷ ks) values h = cc
 
 pub unless_fault-None : (kinds : Kinds) (values : List Text) → (kinds ≡ [] → ⊥) → unless_fault kinds values ≡ None
 unless_fault-None [] values h = absurd (h refl)
-unless_fault-None (k ∷ ks) values h = refl
+unless_fault-None (k ∷ ks) values h = rw (ne_eqb (suc (length ks)) 0 (λ e. omega arith)) refl
 
 no_word : values_of [] ≡ Some []
 unfolding values_of walk_fault defaults_fault

@@ -9,9 +9,11 @@ use Rattle.farm_config.specs.Addresses.{is_address}
 use Rattle.farm_config.specs.Configs.{MapEntry, map_has, map_place, greatest_limits, is_tile_size}
 use Rattle.tile_paths.specs.Paths.{is_map_name}
 use Rattle.farm_config.specs.Limits.{most_maps, most_zoom, most_files, most_workers, most_waiting, most_dirty}
-use Rattle.farm_config.specs.Kinds.{a_file, a_map_name, number_within, a_tile_size, an_address, a_truth}
-use Rattle.farm_config.specs.Tables.{map_keys, map_entry, map_after, maps_of, file_after, files_of, limit_keys, limits_of, restyle_keys, restyle_after, restyles_of, config_keys, config_of, config_in}
+use Rattle.farm_config.specs.Kinds.{a_map_name, number_within, a_tile_size, an_address}
+use Rattle.farm_config.specs.Tables.{map_entry, maps_of, file_after, files_of, limits_of, restyle_after, restyles_of, config_of, config_in}
 use Rattle.farm_config.specs.declared.config.RestyleEntry.{RestyleEntry}
+use Rattle.farm_config.specs.inner.Keys.{map_keys, limit_keys, restyle_keys, config_keys}
+use Rattle.farm_config.specs.inner.Kinds.{a_file, a_truth}
 use Rattle.farm_config.specs.declared.fault.ConfigFault.{ConfigFault}
 use Rattle.farm_config.specs.declared.fault.ConfigFault.TheVariants.{NotJson, Shape, Range, Double}
 use Rattle.fault_texts.specs.ConfigFaults.{config_text}
@@ -27,7 +29,6 @@ Told r = OnFault HasText r
 -- ---- values
 
 file_told : (key : ℕ) (d : Data) → Told (a_file key d)
-unfolding a_file
 file_told key d = has HasText (as_str d) (Shape key) refl
 
 map_name_told : (key : ℕ) (d : Data) → Told (a_map_name key d)
@@ -47,7 +48,6 @@ unfolding an_address
 address_told key d = step HasText _ _ (has HasText (as_str d) (Shape key) refl) (λ s. either HasText (is_address s) _ (Err (Shape key)) tt refl)
 
 truth_told : (key : ℕ) (d : Data) → Told (a_truth key d)
-unfolding a_truth
 truth_told key d = has HasText (as_bool d) (Shape key) refl
 
 -- ---- objects
@@ -67,7 +67,7 @@ maps_told : (d : Data) → Told (maps_of d)
 unfolding maps_of
 maps_told d =
     step HasText _ _ (has HasText (as_array d) (Shape 1) refl) (λ items.
-    step HasText _ _ (lists HasText map_after [] items (λ before e. map_told (length before) before e)) (λ maps.
+    step HasText _ _ (lists HasText (λ before e. map_entry (length before) before e) [] items (λ before e. map_told (length before) before e)) (λ maps.
     step HasText _ _ (checks HasText (nat_le 1 (length maps)) (Range 1) refl) (λ u. tt)))
 
 file_after_told : (key : ℕ) (before : List (List ℕ)) (d : Data) → Told (file_after key before d)

@@ -9,8 +9,9 @@ use Rattle.farm_base.specs.declared.values.Attr.{Attr}
 use Rattle.plain_shapes.specs.declared.shapes.Geometry.{Geometry}
 use Rattle.plain_data.specs.Features.{Feature, Layer}
 use Rattle.plain_data.specs.Data.{is_name}
+use Rattle.plain_data.specs.Limits.{most_points, most_attrs}
 use Rattle.geo_model.specs.declared.faults.GeoFault.TheVariants.{TooFewPoints, OutOfWorld, TooManyPoints, TooManyAttrs}
-use Rattle.geo_model.specs.Shapes.{has_too_few, is_outside, parts_of, point_count, first_of}
+use Rattle.geo_model.specs.Shapes.{has_too_few, is_outside, parts_of, point_count}
 use Rattle.reading.specs.Json.{json_of}
 use Rattle.reading.specs.Steps.{◌>>=◌}
 use Rattle.reading.specs.Values.{text, list, signed}
@@ -18,12 +19,13 @@ use Rattle.geo_json.specs.declared.faults.DataFault.{DataFault}
 use Rattle.geo_json.specs.declared.faults.DataFault.TheVariants as fault
 use Rattle.geo_json.specs.declared.coordinates.Units.{Units}
 use Rattle.geo_json.specs.declared.coordinates.Units.TheVariants.{Centimetres}
-use Rattle.geo_json.specs.Attributes.{attr_value, attr_of, attrs_after, attrs_of, attrs_at}
+use Rattle.geo_json.specs.Attributes.{attr_value, attr_of, attrs_after, attrs_of}
 use Rattle.geo_json.specs.Coordinates.{units_named, units_at, pair_of, point_of}
-use Rattle.geo_json.specs.DataTexts.{has_layer, layer_said, data_layer_after, layers_of, dataset_in}
-use Rattle.geo_json.specs.FeatureTexts.{id_of, made_unless, made_of, feature_of, is_new, new_feature_after}
+use Rattle.geo_json.specs.DataTexts.{has_layer, layer_said, layers_of, dataset_in}
+use Rattle.geo_json.specs.FeatureTexts.{id_of, feature_of, is_new, new_feature_after}
 use Rattle.geo_json.specs.Geometries.{path_points, paths_of, one_shape, geometry_of}
 use Rattle.geo_json.specs.Openings.{object_of, name_of, name_at}
+use Rattle.geo_json.specs.inner.Parts.{attrs_at, made_by_checks}
 use Rattle.fault_texts.specs.DataFaults.{data_text}
 use Rattle.fault_texts.specs.Told.{DataAreTold}
 use Rattle.fault_texts.proofs.Steps.{OnFault, of_fault, step, either, checks, has, needs, may, opens, wholes, lists}
@@ -123,16 +125,12 @@ geometry_told units shape h d = step HasText _ _ (object_told shape h _ d) (λ u
 
 -- ---- features
 
-made_told : (part place : ℕ) (f : Feature) (a b c e : Bool)
-    → Told (made_unless part place f (first_of (if a then Some TooFewPoints else (if b then Some OutOfWorld else (if c then Some TooManyPoints else None))) (if e then Some TooManyAttrs else None)))
-made_told part place f true b c e = refl
-made_told part place f false true c e = refl
-made_told part place f false false true e = refl
-made_told part place f false false false true = refl
-made_told part place f false false false false = tt
-
-parts_told : (part place id : ℕ) (g : Geometry) (attrs : List Attr) → Told (made_of part place id g attrs)
-parts_told part place id g attrs = made_told part place (record { id = id; geometry = g; attrs = attrs }) (has_too_few g) (list_any (list_any is_outside) (parts_of g)) (nat_lt 65536 (point_count g)) (nat_lt 64 (length attrs))
+parts_told : (part place id : ℕ) (g : Geometry) (attrs : List Attr) → Told (made_by_checks part place id g attrs)
+parts_told part place id g attrs =
+    step HasText _ _ (checks HasText (not (has_too_few g)) (fault.Geo TooFewPoints part place) refl) (λ a.
+    step HasText _ _ (checks HasText (not (list_any (list_any is_outside) (parts_of g))) (fault.Geo OutOfWorld part place) refl) (λ b.
+    step HasText _ _ (checks HasText (not (nat_lt most_points (point_count g))) (fault.Geo TooManyPoints part place) refl) (λ c.
+    step HasText _ _ (checks HasText (not (nat_lt most_attrs (length attrs))) (fault.Geo TooManyAttrs part place) refl) (λ e. tt))))
 
 id_told : (shape : DataFault) → HasText shape → (d : Data) → Told (id_of shape d)
 unfolding id_of
@@ -172,7 +170,7 @@ layers_told d =
     step HasText _ _ (object_told (fault.Shape 0 0) refl _ d) (λ u.
     step HasText _ _ (units_told (fault.Shape 0 0) refl d) (λ units.
     step HasText _ _ (needs HasText (fault.Shape 0 0) (list (fault.Shape 0 0)) (get (codes "layers") d) refl (list_told (fault.Shape 0 0) refl)) (λ items.
-    lists HasText (data_layer_after units) [] items (λ before e. layer_told units (length before) before e))))
+    lists HasText (λ before e. layer_said units (length before) before e) [] items (λ before e. layer_told units (length before) before e))))
 
 in_told : (bytes : List ℕ) → Told (dataset_in bytes)
 unfolding dataset_in

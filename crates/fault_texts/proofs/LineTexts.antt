@@ -10,7 +10,8 @@ use Rattle.reading.specs.Steps.{◌>>=◌}
 use Rattle.expiry_lists.specs.Lists as list
 use Rattle.expiry_lists.specs.declared.faults.ListFault.{ListFault}
 use Rattle.expiry_lists.specs.declared.faults.ListFault.TheVariants.{Line}
-use Rattle.script_lines.specs.Lines.{cmd_of, line_tile, place_of, ask_of, fetch_of, look_of, expire_of, line_named, line_alone, line_cut, script_line_of}
+use Rattle.script_lines.specs.Lines.{cmd_of, line_tile, place_of, ask_of, line_named, line_alone, line_cut, script_line_of}
+use Rattle.script_lines.specs.inner.Lines.{fetch_of, look_of, expire_of}
 use Rattle.script_lines.specs.Scripts.{is_skipped, line_read, script_in}
 use Rattle.script_lines.specs.declared.script.ScriptFault.{ScriptFault}
 use Rattle.script_lines.specs.declared.script.ScriptFault.TheVariants as script
@@ -100,15 +101,12 @@ ask_told fault h text =
     step HasText _ _ (place_told fault h second.1) (λ place. tt)))))
 
 fetch_told : (fault : ScriptFault) → HasText fault → (text : List ℕ) → Told (fetch_of fault text)
-unfolding fetch_of
 fetch_told fault h text = step HasText _ _ (place_told fault h text) (λ place. tt)
 
 look_told : (fault : ScriptFault) → HasText fault → (text : List ℕ) → Told (look_of fault text)
-unfolding look_of
 look_told fault h text = step HasText _ _ (place_told fault h text) (λ place. tt)
 
 expire_told : (fault : ScriptFault) → HasText fault → (text : List ℕ) → Told (expire_of fault text)
-unfolding expire_of
 expire_told fault h text = step HasText _ _ (numbers_told fault h text) (λ tile. tt)
 
 -- a line of one number below a bound

@@ -4,7 +4,8 @@ use Rattle.std.specs.Str.{bytes_eq}
 use Rattle.reading.specs.Steps.{◌>>=◌}
 use Rattle.farm_history.specs.declared.keys.Kept.{Kept}
 use Rattle.farm_history.specs.declared.saved.Past.{Past}
-use Rattle.farm_saved.specs.Reading.{saved_magic, after_magic, bytes_number, many, style_in, past_in, is_kept, fields_in, entry_in, nothing_left, saving_in, saved_in}
+use Rattle.farm_saved.specs.Reading.{after_magic, bytes_number, many, style_in, past_in, is_kept, fields_in, entry_in, nothing_left, saving_in, saved_in}
+use Rattle.farm_saved.specs.inner.Fields.{saved_magic}
 use Rattle.farm_saved.specs.declared.fault.SavedFault.{SavedFault}
 use Rattle.farm_saved.specs.declared.fault.SavedFault.TheVariants.{Short, Magic, Kind, Order, Extra}
 use Rattle.fault_texts.specs.SavedFaults.{saved_text}

@@ -2,13 +2,13 @@
 use Rattle.std.specs.Prelude.{ℕ, List, [], ◌∷◌, ◌++◌, codes, Result, Ok, Err}
 use Rattle.std.specs.Option.{ok_or}
 use Rattle.serde_json.specs.Data.{Data, null, boolean, number, string, array, object, Members, no_members, member}
-use Rattle.serde_json.specs.Find.{get, as_object}
+use Rattle.serde_json.specs.Find.{as_object}
 use Rattle.farm_base.specs.declared.values.Value.{Value}
 use Rattle.farm_base.specs.declared.values.Value.TheVariants.{Null, Truth, Whole, Text}
 use Rattle.farm_base.specs.declared.values.Attr.{Attr}
 use Rattle.plain_data.specs.Data.{is_name}
 use Rattle.reading.specs.Steps.{◌>>=◌, check}
-use Rattle.reading.specs.Values.{or_value, signed}
+use Rattle.reading.specs.Values.{signed}
 use Rattle.geo_json.specs.declared.faults.DataFault.{DataFault}
 
 -- the value of an attribute: null, a truth value, a whole number of 64 bits with a sign, or a string
@@ -35,7 +35,3 @@ attrs_after shape before (member key d others) = attr_of shape key d >>= λ a. a
 -- all attributes of a JSON object; any other value is a fault
 unfoldable pub attrs_of : DataFault → Data → Result (List Attr) DataFault
 attrs_of shape d = ok_or (as_object d) shape >>= λ members. attrs_after shape [] members
-
--- the attributes at the key `attrs`, none where it is absent
-abbrev pub attrs_at : DataFault → Data → Result (List Attr) DataFault
-attrs_at shape d = or_value [] (attrs_of shape) (get (codes "attrs") d)

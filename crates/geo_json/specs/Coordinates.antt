@@ -1,5 +1,5 @@
 -- The units of a text, and coordinates in them.
-use Rattle.std.specs.Prelude.{ℕ, ℤ, pos, negsuc, ◌+◌, ◌^◌, nat_le, if◌then◌else◌, codes, unwrap_or, List, Result, Ok, Err}
+use Rattle.std.specs.Prelude.{ℕ, ℤ, pos, negsuc, ◌+◌, ◌^◌, nat_le, if◌then◌else◌, codes, unwrap_or, List, Option, Result, Ok, Err}
 use Rattle.std.specs.Str.{bytes_eq}
 use Rattle.serde_json.specs.Data.{Data, Items, no_items, item}
 use Rattle.serde_json.specs.Find.{get}
@@ -28,21 +28,16 @@ abbrev pub in_world : ℤ → ℕ
 in_world (pos n) = if nat_le n (2 ^ 30) then n else outside
 in_world (negsuc n) = outside
 
--- the world coordinate, from the west edge, of a number in these units
-abbrev pub x_of : Units → ℤ → ℕ
-x_of Centimetres c = unwrap_or (x_from_cm c) outside
-x_of World c = in_world c
-
--- the world coordinate, from the north edge, of a number in these units
-abbrev pub y_of : Units → ℤ → ℕ
-y_of Centimetres c = unwrap_or (y_from_cm c) outside
-y_of World c = in_world c
+-- the world coordinate of a number in these units, where centimetres are counted so
+abbrev pub coordinate : (ℤ → Option ℕ) → Units → ℤ → ℕ
+coordinate from_cm Centimetres c = unwrap_or (from_cm c) outside
+coordinate from_cm World c = in_world c
 
 -- a point by its two coordinates
 abbrev pub pair_of : Units → DataFault → Items → Result Point DataFault
 pair_of units shape no_items = Err shape
 pair_of units shape (item x no_items) = Err shape
-pair_of units shape (item x (item y no_items)) = signed shape x >>= λ a. signed shape y >>= λ b. Ok (record { x = x_of units a; y = y_of units b })
+pair_of units shape (item x (item y no_items)) = signed shape x >>= λ a. signed shape y >>= λ b. Ok (record { x = coordinate x_from_cm units a; y = coordinate y_from_cm units b })
 pair_of units shape (item x (item y (item z ds))) = Err shape
 
 -- a point as a JSON value: a list of its two coordinates

@@ -25,16 +25,12 @@ use Rattle.plain_data.specs.Limits.{most_data_layers, most_features}
 abbrev pub has_layer : List Layer → List ℕ → Bool
 has_layer before name = list_any (λ l. bytes_eq l.name name) before
 
--- the keys that a layer may have
-abbrev pub layer_keys : List (List ℕ)
-layer_keys = codes "name" ∷ codes "features" ∷ []
-
 -- a layer at its place after those before it: its own keys, its name among the earlier ones, how many features it has,
 -- and then each feature; there is no layer after 64
 unfoldable pub layer_said : Units → ℕ → List Layer → Data → Result Layer DataFault
 layer_said units part before d = do
   u ← check (nat_lt part most_data_layers) (Shape most_data_layers 0)
-  u ← object_of (Shape part 0) layer_keys d
+  u ← object_of (Shape part 0) (codes "name" ∷ codes "features" ∷ []) d
   name ← name_at (Shape part 0) (codes "name") d
   items ← needed (Shape part 0) (list (Shape part 0)) (get (codes "features") d)
   u ← check (not (has_layer before name)) (DoubleLayer part)
@@ -42,26 +38,18 @@ layer_said units part before d = do
   features ← list_of (new_feature_after units part) items
   Ok (record { name = name; features = features })
 
--- a layer of the list, at the place behind those that were read before it
-abbrev pub data_layer_after : Units → List Layer → Data → Result Layer DataFault
-data_layer_after units before d = layer_said units (length before) before d
-
 -- what holds of a layer that was read after those before it
 abbrev pub is_read : List Layer → Layer → Bool
 is_read before l = nat_lt (length before) most_data_layers && not (has_layer before l.name)
     && is_name l.name && nat_le (length l.features) most_features && each_after is_new [] l.features
 
--- the keys that data may have
-abbrev pub data_keys : List (List ℕ)
-data_keys = codes "units" ∷ codes "layers" ∷ []
-
 -- data by their units and layers
 unfoldable pub layers_of : Data → Result (List Layer) DataFault
 layers_of d = do
-  u ← object_of (Shape 0 0) data_keys d
+  u ← object_of (Shape 0 0) (codes "units" ∷ codes "layers" ∷ []) d
   units ← units_at (Shape 0 0) d
   items ← needed (Shape 0 0) (list (Shape 0 0)) (get (codes "layers") d)
-  list_of (data_layer_after units) items
+  list_of (λ before e. layer_said units (length before) before e) items
 
 -- the dataset that the bytes say, as the list of its layers, or the first fault
 unfoldable pub dataset_in : List ℕ → Result (List Layer) DataFault

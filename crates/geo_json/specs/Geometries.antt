@@ -28,12 +28,8 @@ one_shape units shape None (Some d) None = paths_of units shape d >>= λ lines. 
 one_shape units shape None None (Some d) = paths_of units shape d >>= λ rings. Ok (Polygon rings)
 one_shape units shape _ _ _ = Err shape
 
--- the three keys of which a shape has one
-abbrev pub geometry_keys : List (List ℕ)
-geometry_keys = codes "points" ∷ codes "lines" ∷ codes "polygon" ∷ []
-
 -- a shape is an object with exactly one key
 unfoldable pub geometry_of : Units → DataFault → Data → Result Geometry DataFault
 geometry_of units shape d = do
-  u ← object_of shape geometry_keys d
+  u ← object_of shape (codes "points" ∷ codes "lines" ∷ codes "polygon" ∷ []) d
   one_shape units shape (get (codes "points") d) (get (codes "lines") d) (get (codes "polygon") d)

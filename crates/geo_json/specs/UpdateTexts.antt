@@ -21,15 +21,11 @@ use Rattle.plain_data.specs.Limits.{most_features}
 unfoldable pub ids_in : DataFault → Data → Result (List ℕ) DataFault
 ids_in shape d = list shape d >>= λ items. list_of (λ before id. id_of shape id) items
 
--- the keys that a change may have
-abbrev pub change_keys : List (List ℕ)
-change_keys = codes "layer" ∷ codes "remove" ∷ codes "put" ∷ []
-
 -- a change at its place: its own keys, how many puts it has, and then each feature; there is no change after 1,000,000
 unfoldable pub change_at : Units → ℕ → Data → Result Change DataFault
 change_at units part d = do
   u ← check (nat_lt part most_features) (Shape most_features 0)
-  u ← object_of (Shape part 0) change_keys d
+  u ← object_of (Shape part 0) (codes "layer" ∷ codes "remove" ∷ codes "put" ∷ []) d
   name ← name_at (Shape part 0) (codes "layer") d
   remove ← or_value [] (ids_in (Shape part 0)) (get (codes "remove") d)
   items ← or_value no_items (list (Shape part 0)) (get (codes "put") d)
@@ -37,25 +33,17 @@ change_at units part d = do
   put ← list_of (feature_after units part) items
   Ok (record { layer = name; remove = remove; put = put })
 
--- a change of the list, at the place behind those that were read before it
-abbrev pub change_after : Units → List Change → Data → Result Change DataFault
-change_after units before d = change_at units (length before) d
-
 -- what holds of a change that was read after those before it
 abbrev pub is_read : List Change → Change → Bool
 is_read before c = nat_lt (length before) most_features && is_name c.layer && nat_le (length c.put) most_features
 
--- the keys that an update may have
-abbrev pub update_keys : List (List ℕ)
-update_keys = codes "units" ∷ codes "changes" ∷ []
-
 -- an update by its units and changes
 unfoldable pub changes_of : Data → Result (List Change) DataFault
 changes_of d = do
-  u ← object_of (Shape 0 0) update_keys d
+  u ← object_of (Shape 0 0) (codes "units" ∷ codes "changes" ∷ []) d
   units ← units_at (Shape 0 0) d
   items ← needed (Shape 0 0) (list (Shape 0 0)) (get (codes "changes") d)
-  list_of (change_after units) items
+  list_of (λ before e. change_at units (length before) e) items
 
 -- the update that the bytes say, as the list of its changes, or the first fault
 unfoldable pub update_in : List ℕ → Result (List Change) DataFault

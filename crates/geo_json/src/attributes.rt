@@ -4,6 +4,7 @@ ghost use Rattle.serde_json.specs.View.{view, members_view};
 ghost use Rattle.geo_model.specs.Shapes.{has_double_name};
 ghost use Rattle.reading.specs.Steps.{Gives};
 ghost use Rattle.geo_json.specs.Attributes as spec;
+ghost use Rattle.geo_json.specs.inner.Parts.{attrs_at};
 ghost use Rattle.geo_json.specs.declared.faults.DataFault.TheVariants as fault;
 
 use crate::faults::DataFault;
@@ -78,7 +79,7 @@ pub(crate) fn attrs_at(
     object: &Value,
     shape: DataFault,
 ) -> Result<Vec<Attr>, DataFault>
-    ensures value { Gives fault.NoMemory (λ v. v.items) (spec.attrs_at shape (view object.now)) result }
+    ensures value { Gives fault.NoMemory (λ v. v.items) (attrs_at shape (view object.now)) result }
     ensures apart { IfOk result (λ v. has_double_name v.items ≡ false) }
 {
     match object.get("attrs") {

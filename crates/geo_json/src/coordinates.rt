@@ -1,6 +1,7 @@
 //! The units of a text, and points in them.
 ghost use Rattle.std.specs.Prelude.{◌≡◌};
 ghost use Rattle.serde_json.specs.View.{view};
+ghost use Rattle.plain_world.specs.World as world;
 ghost use Rattle.geo_json.specs.Coordinates as spec;
 
 use crate::faults::DataFault;
@@ -55,7 +56,7 @@ fn in_world(c: i64) -> u32
 }
 
 fn x_of(units: Units, c: i64) -> u32
-    ensures { result ≡ spec.x_of units c }
+    ensures { result ≡ spec.coordinate world.x_from_cm units c }
 {
     match units {
         Units::Centimetres => x_from_cm(c).unwrap_or(OUTSIDE),
@@ -64,7 +65,7 @@ fn x_of(units: Units, c: i64) -> u32
 }
 
 fn y_of(units: Units, c: i64) -> u32
-    ensures { result ≡ spec.y_of units c }
+    ensures { result ≡ spec.coordinate world.y_from_cm units c }
 {
     match units {
         Units::Centimetres => y_from_cm(c).unwrap_or(OUTSIDE),

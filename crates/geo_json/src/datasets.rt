@@ -7,6 +7,7 @@ ghost use Rattle.farm_base.specs.Earlier.{each_after};
 ghost use Rattle.reading.specs.Lists.{list_of};
 ghost use Rattle.reading.specs.Steps.{Gives};
 ghost use Rattle.geo_json.specs.DataTexts as spec;
+ghost use Rattle.geo_json.specs.inner.Keys as keys;
 ghost use Rattle.geo_json.specs.Openings.{object_of};
 ghost use Rattle.geo_json.specs.declared.faults.DataFault.TheVariants as fault;
 ghost use Rattle.plain_data.specs.Limits.{most_features};
@@ -34,7 +35,7 @@ pub fn read_data(alloc: Global, bytes: &[u8]) -> Result<Dataset, DataFault>
 }
 
 fn open_data(object: &Value, shape: DataFault) -> Result<(), DataFault>
-    ensures { result ≡ object_of shape spec.data_keys (view object.now) }
+    ensures { result ≡ object_of shape keys.data_keys (view object.now) }
 {
     open(object, &["units", "layers"], shape)
 }
@@ -54,7 +55,7 @@ fn dataset(alloc: Global, object: &Value) -> Result<Dataset, DataFault>
 fn layers(alloc: Global, units: Units, items: &[Value]) -> Result<Vec<Layer>, DataFault>
     requires { length items.now < 2 ^ 64 }
     ensures value { Gives fault.NoMemory (λ v. v.items)
-        (list_of (spec.data_layer_after units) (items_view items.now)) result }
+        (list_of (λ before e. spec.layer_said units (length before) before e) (items_view items.now)) result }
     ensures valid { IfOk result (λ v. IsTrue (each_after spec.is_read [] v.items)) }
 {
     read_list(alloc, &LayerItems { units }, items)
@@ -81,7 +82,7 @@ fn is_named(layer: &Layer, name: &str) -> bool
 }
 
 fn open_layer(object: &Value, shape: DataFault) -> Result<(), DataFault>
-    ensures { result ≡ object_of shape spec.layer_keys (view object.now) }
+    ensures { result ≡ object_of shape keys.layer_keys (view object.now) }
 {
     open(object, &["name", "features"], shape)
 }
@@ -90,7 +91,7 @@ fn open_layer(object: &Value, shape: DataFault) -> Result<(), DataFault>
 #[tactic(auto, unfolding(crate::specs::DataTexts::layer_said), using(crate::proofs::Validity::values_few))]
 fn layer(alloc: Global, units: Units, before: &[Layer], object: &Value) -> Result<Layer, DataFault>
     ensures value { Gives fault.NoMemory (λ l. l)
-        (spec.data_layer_after units before.now (view object.now)) result }
+        (spec.layer_said units (length before.now) before.now (view object.now)) result }
     ensures valid { IfOk result (λ l. IsTrue (spec.is_read before.now l)) }
 {
     if before.len() >= MOST_DATA_LAYERS {
@@ -127,7 +128,7 @@ impl ReadItem for LayerItems {
 
     ghost limit = { λ r. 2 ^ 64 };
 
-    ghost reads = { λ r before d. spec.data_layer_after r.units before d };
+    ghost reads = { λ r before d. spec.layer_said r.units (length before) before d };
 
     ghost keeps = { λ r before l. spec.is_read before l };
 

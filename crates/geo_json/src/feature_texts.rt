@@ -8,6 +8,8 @@ ghost use Rattle.reading.specs.Steps.{Gives};
 ghost use Rattle.reading.specs.Values.{needed};
 ghost use Rattle.serde_json.specs.Find.{get};
 ghost use Rattle.geo_json.specs.FeatureTexts as spec;
+ghost use Rattle.geo_json.specs.inner.Keys as keys;
+ghost use Rattle.geo_json.specs.inner.Parts as parts;
 ghost use Rattle.geo_json.specs.Geometries.{geometry_of};
 ghost use Rattle.geo_json.specs.inner.KnownIds.{KnowsIds};
 ghost use Rattle.geo_json.specs.Openings.{object_of};
@@ -60,6 +62,24 @@ fn geometry_at(
 
 /// The feature of the parts, whose attributes have distinct names, or their first fault.
 #[tactic(auto, using(crate::proofs::Parts::no_double))]
+fn made_of(
+    part: u32,
+    place: u32,
+    id: u64,
+    geometry: Geometry,
+    attrs: Vec<Attr>,
+) -> Result<Feature, DataFault>
+    requires { has_double_name attrs.items ≡ false }
+    ensures { result ≡ parts.made_of part place id geometry attrs.items }
+{
+    match make_feature(id, geometry, attrs) {
+        Ok(feature) => Ok(feature),
+        Err(fault) => Err(DataFault::Geo(fault, part, place)),
+    }
+}
+
+/// The same, as one check after another.
+#[tactic(auto, using(crate::proofs::Parts::made_checked))]
 fn made(
     part: u32,
     place: u32,
@@ -68,16 +88,13 @@ fn made(
     attrs: Vec<Attr>,
 ) -> Result<Feature, DataFault>
     requires { has_double_name attrs.items ≡ false }
-    ensures { result ≡ spec.made_of part place id geometry attrs.items }
+    ensures { result ≡ parts.made_by_checks part place id geometry attrs.items }
 {
-    match make_feature(id, geometry, attrs) {
-        Ok(feature) => Ok(feature),
-        Err(fault) => Err(DataFault::Geo(fault, part, place)),
-    }
+    made_of(part, place, id, geometry, attrs)
 }
 
 fn open_feature(object: &Value, shape: DataFault) -> Result<(), DataFault>
-    ensures { result ≡ object_of shape spec.feature_keys (view object.now) }
+    ensures { result ≡ object_of shape keys.feature_keys (view object.now) }
 {
     open(object, &["id", "geometry", "attrs"], shape)
 }

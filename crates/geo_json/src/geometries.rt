@@ -5,6 +5,7 @@ ghost use Rattle.reading.specs.Lists.{list_of};
 ghost use Rattle.reading.specs.Steps.{Gives};
 ghost use Rattle.geo_json.specs.Coordinates.{point_of};
 ghost use Rattle.geo_json.specs.Geometries as spec;
+ghost use Rattle.geo_json.specs.inner.Keys as keys;
 ghost use Rattle.geo_json.specs.Openings.{object_of};
 ghost use Rattle.geo_json.specs.declared.faults.DataFault.TheVariants as fault;
 
@@ -68,7 +69,7 @@ fn paths(
 }
 
 fn open_geometry(object: &Value, shape: DataFault) -> Result<(), DataFault>
-    ensures { result ≡ object_of shape spec.geometry_keys (view object.now) }
+    ensures { result ≡ object_of shape keys.geometry_keys (view object.now) }
 {
     open(object, &["points", "lines", "polygon"], shape)
 }

@@ -10,6 +10,7 @@ ghost use Rattle.reading.specs.Values as values;
 ghost use Rattle.geo_json.specs.FeatureTexts.{id_of};
 ghost use Rattle.geo_json.specs.Openings.{object_of};
 ghost use Rattle.geo_json.specs.UpdateTexts as spec;
+ghost use Rattle.geo_json.specs.inner.Keys as keys;
 ghost use Rattle.geo_json.specs.declared.faults.DataFault.TheVariants as fault;
 
 use crate::coordinates::{Units, units_at};
@@ -36,7 +37,7 @@ pub fn read_update(alloc: Global, bytes: &[u8]) -> Result<Update, DataFault>
 }
 
 fn open_update(object: &Value, shape: DataFault) -> Result<(), DataFault>
-    ensures { result ≡ object_of shape spec.update_keys (view object.now) }
+    ensures { result ≡ object_of shape keys.update_keys (view object.now) }
 {
     open(object, &["units", "changes"], shape)
 }
@@ -55,7 +56,7 @@ fn update(alloc: Global, object: &Value) -> Result<Update, DataFault>
 
 fn changes(alloc: Global, units: Units, items: &[Value]) -> Result<Vec<Change>, DataFault>
     requires { length items.now < 2 ^ 64 }
-    ensures value { Gives fault.NoMemory (λ v. v.items) (list_of (spec.change_after units) (items_view items.now)) result }
+    ensures value { Gives fault.NoMemory (λ v. v.items) (list_of (λ before e. spec.change_at units (length before) e) (items_view items.now)) result }
     ensures valid { IfOk result (λ v. IsTrue (each_after spec.is_read [] v.items)) }
 {
     read_list(alloc, &ChangeItems { units }, items)
@@ -95,7 +96,7 @@ fn puts(object: &Value, shape: DataFault) -> Result<&[Value], DataFault>
 }
 
 fn open_change(object: &Value, shape: DataFault) -> Result<(), DataFault>
-    ensures { result ≡ object_of shape spec.change_keys (view object.now) }
+    ensures { result ≡ object_of shape keys.change_keys (view object.now) }
 {
     open(object, &["layer", "remove", "put"], shape)
 }
@@ -108,7 +109,7 @@ fn change(
     before: &[Change],
     object: &Value,
 ) -> Result<Change, DataFault>
-    ensures value { Gives fault.NoMemory (λ c. c) (spec.change_after units before.now (view object.now)) result }
+    ensures value { Gives fault.NoMemory (λ c. c) (spec.change_at units (length before.now) (view object.now)) result }
     ensures valid { IfOk result (λ c. IsTrue (spec.is_read before.now c)) }
 {
     if before.len() >= MOST_FEATURES {
@@ -166,7 +167,7 @@ impl ReadItem for ChangeItems {
 
     ghost limit = { λ r. 2 ^ 64 };
 
-    ghost reads = { λ r before d. spec.change_after r.units before d };
+    ghost reads = { λ r before d. spec.change_at r.units (length before) d };
 
     ghost keeps = { λ r before c. spec.is_read before c };
 

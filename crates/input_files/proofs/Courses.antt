@@ -10,7 +10,7 @@ use Rattle.exit_status.specs.Ends.{FilesAt}
 use Rattle.exit_status.specs.declared.stops.Stop.{Stop}
 use Rattle.exit_status.specs.declared.stops.Stop.TheVariants as stop
 use Rattle.exit_status.proofs.Outsides.{read_tells}
-use Rattle.input_files.specs.Course.{Course, made, refused, reads, ◌>>=◌, Makes, RefusedBy, ComesTo}
+use Rattle.input_files.specs.Course.{Course, made, refused, reads, ◌>>=◌, Leads}
 use Rattle.input_files.specs.inner.Follows.{After, Follows}
 
 -- ---- one end at most
@@ -18,13 +18,19 @@ use Rattle.input_files.specs.inner.Follows.{After, Follows}
 one_content : (held : List ℕ → Option (List ℕ)) (name a b : List ℕ) → held name ≡ Some a → held name ≡ Some b → b ≡ a
 one_content held name a b ha hb = let both : Some b ≡ Some a = sym hb ∙ ha in cc
 
--- files that lead a course to a value lead it to no refusal
-pub made_apart : {V : Type 0} (held : List ℕ → Option (List ℕ)) (c : Course V) (v : V) (line : List ℕ) → Makes held c v → RefusedBy held c line → ⊥
-made_apart held (made its) v line m r = r
-made_apart held (refused its) v line m r = m
-made_apart {V} held (reads name on) v line m r =
-    made_apart held (on m.0) v line m.2
-    (subst (λ (bytes : List ℕ). RefusedBy held (on bytes) line) (one_content held name m.0 r.0 m.1 r.1) r.2)
+-- no file is read next
+abbrev pub IsEnd : {V : Type 0} → Course V → Type 0
+IsEnd (reads name on) = ⊥
+IsEnd course = Unit {0}
+
+-- files lead a course to one end at most
+pub one_end : {V : Type 0} (held : List ℕ → Option (List ℕ)) (c a b : Course V) → IsEnd a → IsEnd b → Leads held c a → Leads held c b → a ≡ b
+one_end held (made v) a b x y m n = m ∙ sym n
+one_end held (refused line) a b x y m n = m ∙ sym n
+one_end {V} held (reads name on) a b x y (inl e) n = absurd (subst (λ (c : Course V). IsEnd c) e x)
+one_end {V} held (reads name on) a b x y (inr m) (inl e) = absurd (subst (λ (c : Course V). IsEnd c) e y)
+one_end {V} held (reads name on) a b x y (inr m) (inr n) =
+    one_end held (on m.0) a b x y m.2 (subst (λ (bytes : List ℕ). Leads held (on bytes) b) (one_content held name m.0 n.0 m.1 n.1) n.2)
 
 -- ---- what some bytes lead to
 
@@ -65,12 +71,12 @@ followed_could (reads name on) old new v (inr r) =
 -- The four ends: the files lead it to the value that was made; to the line that refuses; to the read that
 -- failed, which is noted and counted; or memory was wanting. But for that read they are as they were.
 pub data Outcome {V : Type 0} (c : Course V) (old new : FilesAt) (result : Result V Stop) : Type 0 where
-  makes : (v : V) → result ≡ Ok v → ((t : FilesTold) → old.told ≡ Some t → Makes t.content c v × (new.told ≡ Some t))
+  makes : (v : V) → result ≡ Ok v → ((t : FilesTold) → old.told ≡ Some t → Leads t.content c (made v) × (new.told ≡ Some t))
       → new.faults ≡ old.faults → Outcome c old new result
   refuses : (line : List ℕ) → result ≡ Err (stop.Refused line)
-      → ((t : FilesTold) → old.told ≡ Some t → RefusedBy t.content c line × (new.told ≡ Some t)) → new.faults ≡ old.faults → Outcome c old new result
-  misses : (name : List ℕ) → (result ≡ Err (stop.Unreadable (unreadable_line name))) ⊎ (result ≡ Err stop.NoMemory)
-      → ((t : FilesTold) → old.told ≡ Some t → ComesTo t.content c name × (new.told ≡ Some (with_failed (failed_read name) t)))
+      → ((t : FilesTold) → old.told ≡ Some t → Leads t.content c (refused line) × (new.told ≡ Some t)) → new.faults ≡ old.faults → Outcome c old new result
+  misses : (name : List ℕ) (on : List ℕ → Course V) → (result ≡ Err (stop.Unreadable (unreadable_line name))) ⊎ (result ≡ Err stop.NoMemory)
+      → ((t : FilesTold) → old.told ≡ Some t → Leads t.content c (reads name on) × (new.told ≡ Some (with_failed (failed_read name) t)))
       → Rose old.faults new.faults → Outcome c old new result
   wants : result ≡ Err stop.NoMemory → ((t : FilesTold) → old.told ≡ Some t → new.told ≡ Some t) → new.faults ≡ old.faults → Outcome c old new result
 
@@ -86,15 +92,15 @@ wanting c old new result e same = wants e (still_told old new same) (still_count
 -- what the bytes lead to, the file leads to
 led : {V : Type 0} (name : List ℕ) (on : List ℕ → Course V) (bytes : List ℕ) (old new : FilesAt) (result : Result V Stop)
     → ((t : FilesTold) → old.told ≡ Some t → t.content name ≡ Some bytes) → Outcome (on bytes) old new result → Outcome (reads name on) old new result
-led name on bytes old new result held (makes v e told calm) = makes v e (λ t is. ((bytes, held t is, (told t is).0), (told t is).1)) calm
-led name on bytes old new result held (refuses line e told calm) = refuses line e (λ t is. ((bytes, held t is, (told t is).0), (told t is).1)) calm
-led name on bytes old new result held (misses other e told rose) = misses other e (λ t is. (inr (bytes, held t is, (told t is).0), (told t is).1)) rose
+led name on bytes old new result held (makes v e told calm) = makes v e (λ t is. (inr (bytes, held t is, (told t is).0), (told t is).1)) calm
+led name on bytes old new result held (refuses line e told calm) = refuses line e (λ t is. (inr (bytes, held t is, (told t is).0), (told t is).1)) calm
+led name on bytes old new result held (misses other next e told rose) = misses other next e (λ t is. (inr (bytes, held t is, (told t is).0), (told t is).1)) rose
 led name on bytes old new result held (wants e told calm) = wants e told calm
 
 failed : {V : Type 0} (name : List ℕ) (on : List ℕ → Course V) (old middle new : FilesAt) (result : Result V Stop) → Reads old middle name (Err file.Failed)
     → (result ≡ Err (stop.Unreadable (unreadable_line name))) ⊎ (result ≡ Err stop.NoMemory) → new ≡ middle → Outcome (reads name on) old new result
 failed name on old middle new result has e same =
-    misses name e (λ t is. (inl refl, ap (λ (at : FilesAt). at.told) same ∙ read_tells t old middle name (Err file.Failed) is has))
+    misses name on e (λ t is. (inl refl, ap (λ (at : FilesAt). at.told) same ∙ read_tells t old middle name (Err file.Failed) is has))
     (subst (λ (n : ℕ). Rose old.faults n) (sym (still_counted middle new same)) has.1.1)
 
 read_then : {V : Type 0} (name : List ℕ) (on : List ℕ → Course V) (old middle new : FilesAt) (result : Result V Stop) (read : Result (Vec ℕ Global) FileFault)

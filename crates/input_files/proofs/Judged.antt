@@ -1,6 +1,6 @@
 -- A file that is read and judged.
 use Rattle.std.proofs.Common.{◌≡◌, ℕ, ◌⊎◌, inl, inr, List, refl, sym, ap, subst, ◌∙◌}
-use Rattle.std.specs.Prelude.{Option, Some, None, Result, Ok, Err, Vec}
+use Rattle.std.specs.Prelude.{Option, Some, None, unwrap_or, Result, Ok, Err, Vec}
 use Rattle.std.specs.declared.alloc.Global.{Global}
 use Rattle.farm_base.specs.declared.files.FileFault.{FileFault}
 use Rattle.farm_base.specs.declared.files.FileFault.TheVariants as file_fault
@@ -10,7 +10,7 @@ use Rattle.exit_status.specs.Stops.{refused_line, unreadable_line}
 use Rattle.exit_status.specs.Ends.{FilesAt}
 use Rattle.exit_status.specs.declared.stops.Stop.{Stop}
 use Rattle.exit_status.specs.declared.stops.Stop.TheVariants as stop
-use Rattle.input_files.specs.Course.{made, reads, text_or_none, judged, file}
+use Rattle.input_files.specs.Course.{made, reads, judged, file}
 use Rattle.input_files.specs.inner.Follows.{After, Follows, Says, Tells}
 use Rattle.input_files.proofs.Courses.{ended, follows_wanting, follows_stop}
 
@@ -26,7 +26,7 @@ judged_fault A {E} text name said fault s means has (inl none) told at =
     subst (λ (x : Stop). Follows (judged text name means) at at (ended {A = A} x)) (sym none) (follows_wanting (judged text name means) at)
 judged_fault A {E} text name said fault s means has (inr line) told at =
     subst (λ (m : Result A E). Follows (judged text name m) at at (ended {A = A} s)) (sym (told said has))
-    (inl (ap (λ (x : Stop). ended {A = A} x) (line ∙ ap (λ (o : Option (List ℕ)). stop.Refused (refused_line name (text_or_none o))) (sym has))), refl)
+    (inl (ap (λ (x : Stop). ended {A = A} x) (line ∙ ap (λ (o : Option (List ℕ)). stop.Refused (refused_line name (unwrap_or o []))) (sym has))), refl)
 
 pub judged_wanting : (A : Type 0) {E : Type 0} (text : E → Option (List ℕ)) (name : List ℕ) (fault : E) (means : Result A E) → Tells text means (Err fault)
     → Says (judged text name means) (ended {A = A} stop.NoMemory)

@@ -1,5 +1,5 @@
 -- What the files of a command lead to, in the order in which they are read.
-use Rattle.std.specs.Prelude.{◌≡◌, ℕ, ◌⊎◌, List, [], ◌∷◌, Option, Some, None, Result, Ok, Err}
+use Rattle.std.specs.Prelude.{◌≡◌, ℕ, ◌⊎◌, List, [], ◌∷◌, Option, Some, unwrap_or, Result, Ok, Err}
 use Rattle.exit_status.specs.Stops.{refused_line}
 
 -- A reading of files: it has made a value; or a line refuses a file; or the file of this name is read
@@ -16,15 +16,11 @@ abbrev pub ◌>>=◌ : {A B : Type 0} → Course A → (A → Course B) → Cour
 (refused line) >>= next = refused line
 (reads name on) >>= next = reads name (λ bytes. on bytes >>= next)
 
--- the text of a fault; a fault without one is want of memory, and no bytes mean that
-abbrev pub text_or_none : Option (List ℕ) → List ℕ
-text_or_none (Some text) = text
-text_or_none None = []
-
--- what the bytes of the file of this name mean, or the line of their first fault
+-- What the bytes of the file of this name mean, or the line of their first fault. A fault without a text is want of memory,
+-- and no bytes mean that.
 abbrev pub judged : {V F : Type 0} → (F → Option (List ℕ)) → List ℕ → Result V F → Course V
 judged text name (Ok value) = made value
-judged text name (Err fault) = refused (refused_line name (text_or_none (text fault)))
+judged text name (Err fault) = refused (refused_line name (unwrap_or (text fault) []))
 
 -- the file of this name is read, and then its bytes are judged by what they mean
 unfoldable pub file : {V F : Type 0} → (List ℕ → Result V F) → (F → Option (List ℕ)) → List ℕ → Course V
@@ -35,20 +31,9 @@ abbrev pub each : {A V : Type 0} → (A → Course V) → List A → Course (Lis
 each course [] = made []
 each course (x ∷ xs) = course x >>= λ y. each course xs >>= λ ys. made (y ∷ ys)
 
--- files that hold this lead the course to this value
-abbrev pub Makes : {V : Type 0} → (List ℕ → Option (List ℕ)) → Course V → V → Type 0
-Makes held (made its) value = value ≡ its
-Makes held (refused line) value = ⊥
-Makes held (reads name on) value = (bytes : List ℕ) × (held name ≡ Some bytes) × Makes held (on bytes) value
-
--- they lead it to this line, that of the first fault in order
-abbrev pub RefusedBy : {V : Type 0} → (List ℕ → Option (List ℕ)) → Course V → List ℕ → Type 0
-RefusedBy held (made value) line = ⊥
-RefusedBy held (refused its) line = line ≡ its
-RefusedBy held (reads name on) line = (bytes : List ℕ) × (held name ≡ Some bytes) × RefusedBy held (on bytes) line
-
--- they lead it to the read of the file of this name
-abbrev pub ComesTo : {V : Type 0} → (List ℕ → Option (List ℕ)) → Course V → List ℕ → Type 0
-ComesTo held (made value) name = ⊥
-ComesTo held (refused line) name = ⊥
-ComesTo held (reads next on) name = (name ≡ next) ⊎ ((bytes : List ℕ) × (held next ≡ Some bytes) × ComesTo held (on bytes) name)
+-- Files that hold this lead the first course to the second: it is the same; or the file that it reads
+-- next is held, and what its bytes make of it leads there.
+abbrev pub Leads : {V : Type 0} → (List ℕ → Option (List ℕ)) → Course V → Course V → Type 0
+Leads held (reads name on) left =
+    (left ≡ reads name on) ⊎ ((bytes : List ℕ) × (held name ≡ Some bytes) × Leads held (on bytes) left)
+Leads held course left = left ≡ course

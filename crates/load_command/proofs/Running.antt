@@ -1,10 +1,11 @@
 -- Steps one after another.
 use Rattle.std.proofs.Common.{◌≡◌, ℕ, zero, suc, ◌+◌, ◌*◌, ◌<◌, ◌≤◌, Bool, false, List, [], ◌∷◌, ◌++◌, length, take, get_or, refl, sym, ap, subst, ◌∙◌, arith}
 use Rattle.std.specs.Prelude.{Option, Some, None, Result, Ok, Err, slice_get}
-use Rattle.std.proofs.lemmas.List.{take_all, take_more}
+use Rattle.std.proofs.lemmas.List.{take_all, take_more, length-append}
 use Rattle.std.proofs.lemmas.Option.{slice_get_read, slice_get-get_or}
 use Rattle.farm_base.specs.Outside.{Outside, Puts}
 use Rattle.farm_base.specs.declared.memory.NoMemory.{NoMemory}
+use Rattle.farm_base.specs.declared.sinks.SinkFault.{SinkFault}
 use Rattle.farm_base.specs.declared.sinks.SinkFault.TheVariants.{Failed}
 use Rattle.tile_store.specs.Stores.{StoreTold}
 use Rattle.farm_history.specs.Entries.{Entry}
@@ -16,13 +17,13 @@ use Rattle.exit_status.specs.Ends.{SinkAt}
 use Rattle.exit_status.specs.declared.stops.Stop.{Stop}
 use Rattle.exit_status.specs.declared.stops.Stop.TheVariants as stop
 use Rattle.script_text.specs.ScriptTexts.{has_failed}
-use Rattle.work_gen.specs.Work.{steps_of}
+use Rattle.work_gen.specs.Work.{step_at, steps_of}
 use Rattle.work_gen.specs.declared.stepping.Step.{Step}
 use Rattle.load_command.specs.declared.totals.Totals.{Totals}
 use Rattle.load_command.specs.declared.steps.StepSeen.{StepSeen}
 use Rattle.load_command.specs.Loads.{IsStep, IsLoad, IsEventOf, load_text}
-use Rattle.load_command.specs.Runs.{LoadsShort, LoadsOn, IsEventAt}
-use Rattle.load_command.specs.inner.Progress.{weight, Grows, Steps, Adds, Tells, Summed, Runs, TellsLine}
+use Rattle.load_command.specs.Runs.{LoadsOn, IsEventAt}
+use Rattle.load_command.specs.inner.Progress.{weight, Grows, Steps, Adds, Tells, Summed, LoadsShort, Runs, TellsLine}
 use Rattle.load_command.proofs.Summing.{tells_more}
 
 load_then : (xs : List Step) (s : Step) (a b c : List Entry) → IsLoad xs a b → IsStep s b c → IsLoad (xs ++ s ∷ []) a c
@@ -41,6 +42,15 @@ pub each_get : {X : Type 0} (P : X → Type 0) (xs : List X) (i : ℕ) (x : X) �
 each_get P [] i x inside is each = absurd (omega (arith, inside))
 each_get P (y ∷ ys) zero x inside is each = subst P (sym is) each.0
 each_get P (y ∷ ys) (suc i) x inside is each = each_get P ys i x (omega (arith, inside)) is each.1
+
+-- there are so many steps
+few_steps : (seed n k : ℕ) → length (steps_of seed n k) ≤ k
+unfolding steps_of
+few_steps seed n zero = omega arith
+few_steps seed n (suc k) =
+    let few = few_steps seed n k in
+    let both = length-append (steps_of seed n k) (step_at seed n k ∷ []) in
+    omega (arith, few, both)
 
 -- an item inside is the same whatever stands for one outside
 pub own_get : {X : Type 0} (xs : List X) (i : ℕ) (d : X) → i < length xs → get_or xs i d ≡ get_or xs i (get_or xs i d)
@@ -86,9 +96,19 @@ module _ {D : Type 0} (state : D → Outside StoreTold) (told : Bool) where
 
   -- ---- the whole work
 
+  short_on : (seed n : ℕ) (farm : FarmSeen D) (out : SinkAt) → LoadsShort (steps_of seed n 32) (λ h. StandsFor state told farm h) → LoadsOn seed n (λ h. StandsFor state told farm h) out out (Err stop.NoMemory)
+  short_on seed n farm out short = record {
+    count = short.count;
+    middle = short.middle;
+    run = short.run;
+    after = short.rest ++ short.middle;
+    stood_for = short.stood_for;
+    loaded = (refl, (short.rest, refl, short.events));
+  }
+
   pub short_work : (seed n : ℕ) (steps : List Step) (farm : FarmSeen D) (out : SinkAt) → steps ≡ steps_of seed n 32 → LoadsShort steps (λ h. StandsFor state told farm h)
       → LoadsOn seed n (λ h. StandsFor state told farm h) out out (Err stop.NoMemory)
-  short_work seed n steps farm out is short = (refl, subst (λ (xs : List Step). LoadsShort xs (λ h. StandsFor state told farm h)) is short)
+  short_work seed n steps farm out is short = short_on seed n farm out (subst (λ (xs : List Step). LoadsShort xs (λ h. StandsFor state told farm h)) is short)
 
   pub lineless_work : (seed n : ℕ) (steps : List Step) (totals : Totals) (farm : FarmSeen D) (out : SinkAt) → steps ≡ steps_of seed n 32 → Runs state told farm steps (Ok totals)
       → LoadsOn seed n (λ h. StandsFor state told farm h) out out (Err stop.NoMemory)
@@ -116,10 +136,16 @@ module _ {D : Type 0} (state : D → Outside StoreTold) (told : Bool) where
       line_is : line ≡ load_text n run.0
       line_is = text (length steps) run.0 run.3
 
+      all : IsLoad (take 32 (steps_of seed n 32)) [] run.0
+      all = subst (λ (xs : List Step). IsLoad xs [] run.0) (sym (take_all 32 (steps_of seed n 32) (few_steps seed n 32))) ran
+
+      put : (answer : Result (Unit {0}) SinkFault) → Puts out out' line answer → Puts out out' (load_text n run.0) answer
+      put answer puts = subst (λ (x : List ℕ). Puts out out' x answer) line_is puts
+
       by_end : (end : Result (Unit {0}) Stop) → TellsLine out out' line failed end → LoadsOn seed n (λ h. StandsFor state told farm h) out out' end
-      by_end (Ok u) t = record { after = run.0; stood_for = run.1; run = ran; noted = noted ∙ t.1; puts = subst (λ (x : List ℕ). Puts out out' x (Ok tt)) line_is t.0 }
-      by_end (Err stop.StoreFailed) t = record { after = run.0; stood_for = run.1; run = ran; noted = noted ∙ t.1; puts = subst (λ (x : List ℕ). Puts out out' x (Ok tt)) line_is t.0 }
-      by_end (Err stop.SinkFailed) t = (failed, record { after = run.0; stood_for = run.1; run = ran; noted = noted; puts = subst (λ (x : List ℕ). Puts out out' x (Err Failed)) line_is t })
+      by_end (Ok u) t = record { count = 32; middle = run.0; run = all; after = run.0; stood_for = run.1; loaded = (refl, refl, noted ∙ t.1, put (Ok tt) t.0) }
+      by_end (Err stop.StoreFailed) t = record { count = 32; middle = run.0; run = all; after = run.0; stood_for = run.1; loaded = (refl, refl, noted ∙ t.1, put (Ok tt) t.0) }
+      by_end (Err stop.SinkFailed) t = record { count = 32; middle = run.0; run = all; after = run.0; stood_for = run.1; loaded = (refl, refl, put (Err Failed) t) }
       by_end (Err (stop.Refused l)) t = absurd t
       by_end (Err stop.Words) t = absurd t
       by_end (Err (stop.Unreadable l)) t = absurd t

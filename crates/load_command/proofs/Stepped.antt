@@ -22,8 +22,8 @@ use Rattle.script_text.specs.ScriptTexts.{has_failed}
 use Rattle.script_text.specs.inner.Steps.{is_failed_fetch}
 use Rattle.work_gen.specs.declared.stepping.Step.{Step}
 use Rattle.load_command.specs.declared.steps.StepSeen.{StepSeen}
-use Rattle.load_command.specs.Loads.{Expires, EndsClaim, collect_entry, IsEventOf, clean_tiles, loader}
-use Rattle.load_command.specs.inner.Progress.{weight, Grows, BreaksOff, Draws, CollectsAll, FetchesOne, Steps, clean_of}
+use Rattle.load_command.specs.Loads.{EndsClaim, IsEventOf, clean_tiles, loader}
+use Rattle.load_command.specs.inner.Progress.{Expires, collect_entry, weight, Grows, BreaksOff, Draws, CollectsAll, FetchesOne, Steps, clean_of}
 use Rattle.load_command.proofs.Weights.{ask_weighs}
 
 -- ---- what events leave of the sums

@@ -29,8 +29,8 @@ use Rattle.script_text.specs.ScriptTexts.{has_failed}
 use Rattle.script_text.specs.inner.Steps.{is_failed_finish, is_failed_fetch}
 use Rattle.work_gen.specs.declared.stepping.Step.{Step}
 use Rattle.load_command.specs.declared.steps.StepSeen.{StepSeen}
-use Rattle.load_command.specs.Loads.{Expires, EndsClaim, IsLast, collect_entry}
-use Rattle.load_command.specs.inner.Progress.{weight, Grows, Draws, CollectsAll, FetchesOne}
+use Rattle.load_command.specs.Loads.{EndsClaim, GivesNone}
+use Rattle.load_command.specs.inner.Progress.{Expires, collect_entry, weight, Grows, Draws, CollectsAll, FetchesOne}
 use Rattle.load_command.proofs.Weights.{expire_weighs, claim_weighs, finish_weighs, fetch_weighs, last_weighs, reply_lowers, reply_closes, open_kept}
 
 module _ {D : Type 0} (state : D → Outside StoreTold) (told : Bool) where
@@ -144,7 +144,7 @@ module _ {D : Type 0} (state : D → Outside StoreTold) (told : Bool) where
     held = (c.replies, last, is_last last none, refl);
   }
     where
-      is_last : (x : Collected) → ((r : Reply) → x ≡ Collected.Reply r → ⊥) → IsLast x
+      is_last : (x : Collected) → ((r : Reply) → x ≡ Collected.Reply r → ⊥) → GivesNone x
       is_last (Collected.Reply r) none = absurd (none r refl)
       is_last Collected.Stopped none = tt
       is_last Collected.Empty none = tt

@@ -11,8 +11,8 @@ use Rattle.farm_history.specs.Entries.{Entry}
 use Rattle.work_gen.specs.declared.stepping.Step.{Step}
 use Rattle.load_command.specs.declared.totals.Totals.{Totals}
 use Rattle.load_command.specs.declared.steps.StepSeen.{StepSeen}
-use Rattle.load_command.specs.Loads.{clean_tiles, byte_sum, load_text}
-use Rattle.load_command.specs.inner.Progress.{clean_of, Steps, Adds, Tells}
+use Rattle.load_command.specs.Loads.{clean_tiles, load_text}
+use Rattle.load_command.specs.inner.Progress.{byte_sum, clean_of, Steps, Adds, Tells}
 
 pub tells_none : Tells (record { clean = 0; bytes = 0; sum = 0; failed = false }) 0 []
 unfolding clean_tiles

@@ -28,7 +28,7 @@ use Rattle.farm_history.proofs.Replies.{collected}
 use Rattle.farm_history.proofs.Unended.{open_split}
 use Rattle.farm_refinement.specs.Seen.{FarmSeen}
 use Rattle.farm_refinement.specs.Stands.{asked_of, StandsFor}
-use Rattle.load_command.specs.Loads.{IsLast}
+use Rattle.load_command.specs.Loads.{GivesNone}
 use Rattle.load_command.specs.inner.Progress.{weight}
 
 -- a list without what passes is shorter, where something passes
@@ -68,7 +68,7 @@ pub reply_lowers : (p : Plan) (told : Bool) (front : ℕ) (r : Reply) (g : List 
 reply_lowers p told front r g legal = let less = reply_closes p told front r g legal in omega (arith, less)
 
 -- one that gives none leaves them
-pub last_weighs : (front : ℕ) (last : Collected) (g : List Entry) → IsLast last → weight (Collect front last ∷ g) ≤ weight g + 1
+pub last_weighs : (front : ℕ) (last : Collected) (g : List Entry) → GivesNone last → weight (Collect front last ∷ g) ≤ weight g + 1
 unfolding open_asks
 last_weighs front (Collected.Reply r) g is = absurd is
 last_weighs front Collected.Stopped g is = omega arith

@@ -22,39 +22,31 @@ use Rattle.work_gen.specs.declared.stepping.Step.{Step}
 abbrev pub loader : Conn
 loader = record { front = 0; number = 0 }
 
--- a tile is expired first, where the step says so
-abbrev pub Expires : Step → List Entry → List Entry → Type 0
-Expires s before after = MatchBool s.expire ((count : ℕ) × (after ≡ Expire (spot_tile s.spot) count ∷ before)) (after ≡ before)
-
 -- what was claimed is drawn and ended, if it is a job; memory was not wanting
 abbrev pub EndsClaim : ClaimAnswer → List Entry → List Entry → Type 0
 EndsClaim (Job ticket key version) before after = (answer : Finished) × (answer ≢ Finished.NoMemory) × (after ≡ Finish ticket true answer ∷ before)
 EndsClaim answer before after = after ≡ before
 
--- a Collect that gave this reply
-abbrev pub collect_entry : Reply → Entry
-collect_entry reply = Collect 0 (Collected.Reply reply)
-
 -- the answer of a Collect gives no reply
-abbrev pub IsLast : Collected → Type 0
-IsLast (Collected.Reply reply) = ⊥
-IsLast answer = Unit {0}
+abbrev pub GivesNone : Collected → Type 0
+GivesNone (Collected.Reply reply) = ⊥
+GivesNone answer = Unit {0}
 
 -- A step: its tile is expired, if so marked, and asked for; what waits first is claimed, drawn and ended; the replies are
 -- collected until there is none; and the tile is fetched.
 pub record IsStep (s : Step) (before after : List Entry) : Type 0 where
   pub expired : List Entry
-  pub expires : Expires s before expired
+  pub expires : MatchBool s.expire ((count : ℕ) × (expired ≡ Expire (spot_tile s.spot) count ∷ before)) (expired ≡ before)
   pub asked : AskAnswer
   pub claimed : ClaimAnswer
   pub ended : List Entry
   pub ends : EndsClaim claimed (Claim 0 claimed ∷ Ask loader Render s.spot asked ∷ expired) ended
   pub replies : List Reply
   pub last : Collected
-  pub is_last : IsLast last
+  pub is_last : GivesNone last
   pub fetched : Fetched
   pub has_memory : fetched ≢ Fetched.NoMemory
-  pub after_is : after ≡ Fetch s.spot fetched ∷ Collect 0 last ∷ (map collect_entry replies ++ ended)
+  pub after_is : after ≡ Fetch s.spot fetched ∷ Collect 0 last ∷ (map (λ reply. Collect 0 (Collected.Reply reply)) replies ++ ended)
 
 -- steps one after another
 abbrev pub IsLoad : List Step → List Entry → List Entry → Type 0
@@ -69,15 +61,11 @@ clean_tiles [] = []
 clean_tiles (Fetch spot (Clean version bytes) ∷ g) = bytes ∷ clean_tiles g
 clean_tiles (_ ∷ g) = clean_tiles g
 
--- the sum of the bytes
-abbrev pub byte_sum : List ℕ → ℕ
-byte_sum bytes = sum_by (λ b. b) bytes
-
 -- the line of work with so many features: how many tiles were fetched clean, how many bytes they have, and the sum of these bytes
 unfoldable pub load_text : ℕ → List Entry → List ℕ
 load_text n h =
     codes "features " ++ decimal n ++ codes " asks 32 clean " ++ decimal (length (clean_tiles h))
-    ++ codes " bytes " ++ decimal (sum_by length (clean_tiles h)) ++ codes " sum " ++ decimal (sum_by byte_sum (clean_tiles h)) ++ codes "\n"
+    ++ codes " bytes " ++ decimal (sum_by length (clean_tiles h)) ++ codes " sum " ++ decimal (sum_by (λ bytes. sum_by (λ b. b) bytes) (clean_tiles h)) ++ codes "\n"
 
 -- ---- work that broke off
 

@@ -1,8 +1,8 @@
 //! What is summed up, and the line that tells it.
 ghost use Rattle.std.specs.Prelude.{◌≡◌, ◌≤◌, ◌<◌, ◌*◌, ◌^◌, ◌||◌, ℕ, List, [], IfOk, string_bytes};
 ghost use Rattle.farm_history.specs.Entries.{Entry};
-ghost use Rattle.load_command.specs.Loads.{byte_sum, load_text};
-ghost use Rattle.load_command.specs.inner.Progress.{Tells, Adds};
+ghost use Rattle.load_command.specs.Loads.{load_text};
+ghost use Rattle.load_command.specs.inner.Progress.{byte_sum, Tells, Adds};
 
 use crate::steps::StepSeen;
 use farm_plan::Fetched;

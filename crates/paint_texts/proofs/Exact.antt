@@ -13,7 +13,7 @@ use Rattle.std.proofs.Math.Seq.{take-append_seam, drop-append_seam}
 use Rattle.plain_shapes.specs.declared.colour.Colour.{Colour}
 use Rattle.farm_base.specs.Digits.{is_digit}
 use Rattle.paint_texts.specs.Decimals.{number}
-use Rattle.paint_texts.specs.Colours.{rgb, colour_names, colour_by_name, hex, IsChannel, IsShortHash, IsLongHash, is_space, IsPart, IsMixed, IsNamed, IsColour, two_digits, three_channels, channels, behind, hash_colour, without_spaces, part_of, number_before, only, parts, rgb_colour, colour_of}
+use Rattle.paint_texts.specs.Colours.{rgb, colour_names, colour_by_name, hex, IsChannel, IsShortHash, IsLongHash, is_space, IsPart, IsMixed, IsColour, two_digits, three_channels, channels, behind, hash_colour, without_spaces, part_of, number_before, only, parts, rgb_colour, colour_of}
 use Rattle.paint_texts.proofs.Runs.{front_passes, front_spelled}
 
 -- ---- hexadecimal digits
@@ -136,11 +136,11 @@ part_is sign text n rest e =
       record {
         before = before;
         digits = digits;
-        behind = after;
+        after = after;
         spelled = refl;
         spaces_before = front_passes is_space text;
         are_digits = front_passes is_digit t;
-        spaces_behind = front_passes is_space u;
+        spaces_after = front_passes is_space u;
         some = omega (arith, some, long);
         few = omega (arith, few, long);
         value = sym value;
@@ -174,13 +174,13 @@ spaces_stop (d ∷ after) rest sign e h = run_stops is_digit d (after ++ sign �
 is_part : (sign : ℕ) (s : List ℕ) (n : ℕ) (rest : List ℕ) → is_space sign ≡ false → is_digit sign ≡ false → IsPart s n → number_before sign (s ++ sign ∷ rest) ≡ Some (n, rest)
 unfolding number_before
 is_part sign s n rest space digit p =
-    let u : List ℕ = p.behind ++ sign ∷ rest in
+    let u : List ℕ = p.after ++ sign ∷ rest in
     let t : List ℕ = p.digits ++ u in
-    let text : s ++ sign ∷ rest ≡ p.before ++ t = ap (λ x. x ++ sign ∷ rest) p.spelled ∙ sym (flat p.before p.digits p.behind (sign ∷ rest)) in
+    let text : s ++ sign ∷ rest ≡ p.before ++ t = ap (λ x. x ++ sign ∷ rest) p.spelled ∙ sym (flat p.before p.digits p.after (sign ∷ rest)) in
     let front : without_spaces (s ++ sign ∷ rest) ≡ t =
     ap without_spaces text ∙ trimmed_is p.before t p.spaces_before (digits_stop p.digits u p.are_digits p.some) in
-    let len : prefix_len is_digit t ≡ length p.digits = front_spelled is_digit p.digits u p.are_digits (spaces_stop p.behind rest sign p.spaces_behind digit) in
-    let ending : without_spaces u ≡ sign ∷ rest = trimmed_is p.behind (sign ∷ rest) p.spaces_behind (run_stops is_space sign rest space) in
+    let len : prefix_len is_digit t ≡ length p.digits = front_spelled is_digit p.digits u p.are_digits (spaces_stop p.after rest sign p.spaces_after digit) in
+    let ending : without_spaces u ≡ sign ∷ rest = trimmed_is p.after (sign ∷ rest) p.spaces_after (run_stops is_space sign rest space) in
     let same : behind sign (sign ∷ rest) ≡ Some rest = rw (eq-eqb sign sign refl) refl in
     let fits : number p.digits ≤ 255 = let v = p.value in omega (arith, v, p.fits) in
     ap (λ x. part_of sign (prefix_len is_digit x) x) front
@@ -264,7 +264,7 @@ find_in p (y ∷ xs) x e = go (p y) refl e (find_in p xs x)
     go true q e ih = let s = same_Some y x e in ((0, omega arith, s), sym (ap p s) ∙ q)
     go false q e ih = let k = ih e in (Contains-append_right (y ∷ []) xs x k.0, k.1)
 
-named_is : (text : List ℕ) (c : Colour) → colour_by_name text ≡ Some c → IsNamed text c
+named_is : (text : List ℕ) (c : Colour) → colour_by_name text ≡ Some c → Contains colour_names (text, c)
 unfolding colour_by_name
 named_is text c e =
     let k = map_some (λ e. e.1) (find (λ e. bytes_eq text e.0) colour_names) c e in

@@ -52,11 +52,11 @@ is_space c = c == 32
 pub record IsPart (text : List ℕ) (n : ℕ) : Type 0 where
   pub before : List ℕ
   pub digits : List ℕ
-  pub behind : List ℕ
-  pub spelled : text ≡ before ++ digits ++ behind
+  pub after : List ℕ
+  pub spelled : text ≡ before ++ digits ++ after
   pub spaces_before : list_all is_space before ≡ true
   pub are_digits : list_all is_digit digits ≡ true
-  pub spaces_behind : list_all is_space behind ≡ true
+  pub spaces_after : list_all is_space after ≡ true
   pub some : 1 ≤ length digits
   pub few : length digits ≤ 3
   pub value : n ≡ number digits
@@ -67,13 +67,9 @@ abbrev pub IsMixed : List ℕ → Colour → Type 0
 IsMixed text c =
     (r : List ℕ) × (g : List ℕ) × (b : List ℕ) × (text ≡ codes "rgb(" ++ r ++ codes "," ++ g ++ codes "," ++ b ++ codes ")") × IsPart r c.r × IsPart g c.g × IsPart b c.b
 
--- one of the sixteen names
-abbrev pub IsNamed : List ℕ → Colour → Type 0
-IsNamed text c = Contains colour_names (text, c)
-
--- a text of this colour
+-- a text of this colour: one of the three, or one of the sixteen names
 abbrev pub IsColour : List ℕ → Colour → Type 0
-IsColour text c = IsShortHash text c ⊎ (IsLongHash text c ⊎ (IsMixed text c ⊎ IsNamed text c))
+IsColour text c = IsShortHash text c ⊎ (IsLongHash text c ⊎ (IsMixed text c ⊎ Contains colour_names (text, c)))
 
 -- ---- the colour of a text, as a function
 

@@ -1,5 +1,5 @@
 -- The plain drawing: the colour at a point, and the tile that has it at the centre of each pixel. Layers, styles and symbolizers are painted in Mapnik's painter order.
-use Rattle.std.specs.Prelude.{ℕ, ◌/◌, Bool, false, if◌then◌else◌, List, [], ◌∷◌, map, flat_map, fold, find, Option, Some, None, option_map, option_to_list, unwrap_or}
+use Rattle.std.specs.Prelude.{ℕ, ◌/◌, Bool, false, if◌then◌else◌, List, [], ◌∷◌, map, flat_map, fold, find, Option, option_map, option_to_list, unwrap_or}
 use Rattle.std.specs.Str.{bytes_eq}
 use Rattle.farm_base.specs.declared.Attr.{Attr}
 use Rattle.plain_world.specs.declared.world.Point.{Point}
@@ -39,12 +39,7 @@ covers pixel (shape.Polygon rings) c (paint.Polygon fill opacity) = in_rings rin
 covers pixel (shape.Lines lines) c (paint.Line stroke width opacity cap) = on_stroke lines (half_of width pixel) cap c
 covers pixel (shape.Polygon rings) c (paint.Line stroke width opacity cap) = on_outline rings (half_of width pixel) c
 covers pixel (shape.Points points) c (paint.Markers fill width height opacity) = on_marks points (half_of width pixel) (half_of height pixel) c
-covers pixel (shape.Points points) c (paint.Polygon fill opacity) = false
-covers pixel (shape.Lines lines) c (paint.Polygon fill opacity) = false
-covers pixel (shape.Points points) c (paint.Line stroke width opacity cap) = false
-covers pixel (shape.Lines lines) c (paint.Markers fill width height opacity) = false
-covers pixel (shape.Polygon rings) c (paint.Markers fill width height opacity) = false
-covers pixel g c (paint.Raster opacity) = false
+covers _ _ _ _ = false
 
 -- the symbolizer's colour painted over d in its opacity; a RasterSymbolizer has no colour of its own
 abbrev pub painted_over : Colour → Symbolizer → Colour
@@ -56,9 +51,7 @@ painted_over d (paint.Raster opacity) = d
 -- a grid painted over d at the point: a RasterSymbolizer paints the grid's colour where it has one, the others nothing
 abbrev pub raster_over : Grid → Point → Colour → Symbolizer → Colour
 raster_over g c d (paint.Raster opacity) = unwrap_or (option_map (λ s. blend s opacity d) (grid_at g c)) d
-raster_over g c d (paint.Polygon fill opacity) = d
-raster_over g c d (paint.Line stroke width opacity cap) = d
-raster_over g c d (paint.Markers fill width height opacity) = d
+raster_over _ _ d _ = d
 
 -- the colour d of the point after one symbolizer on an item
 abbrev pub symbolizer_at : ℕ → Item → Point → Colour → Symbolizer → Colour
@@ -77,14 +70,10 @@ style_at pixel denominator items c d style = fold (item_at pixel denominator sty
 abbrev pub features_of : List Layer → List ℕ → List Feature
 features_of data_layers name = unwrap_or (option_map (λ l. l.features) (find (λ l. bytes_eq l.name name) data_layers)) []
 
--- the items of the grid, if there is one, else features
-abbrev pub grid_or_features : Option Grid → List Feature → List Item
-grid_or_features (Some g) features = raster g ∷ []
-grid_or_features None features = map feature features
-
 -- the items of a source: the bound grid of this name, else the features of the data layer of this name, else none
 abbrev pub items_of : List Grid → List Layer → List ℕ → List Item
-items_of grids data_layers name = grid_or_features (find (λ g. bytes_eq g.name name) grids) (features_of data_layers name)
+items_of grids data_layers name =
+    unwrap_or (option_map (λ g. raster g ∷ []) (find (λ g. bytes_eq g.name name) grids)) (map feature (features_of data_layers name))
 
 -- the style of this name
 abbrev pub style_named : List Style → List ℕ → List Style

@@ -12,7 +12,7 @@ use Rattle.plain_image.specs.declared.reading.PpmFault.{PpmFault}
 use Rattle.plain_image.specs.declared.reading.PpmFault.TheVariants.{Bad, TooLarge, NoMemory}
 use Rattle.plain_image.specs.declared.reading.Gap.{Gap}
 use Rattle.plain_image.specs.declared.reading.Gap.TheVariants.{Bare, Blank, Comment}
-use Rattle.ppm_laws.specs.PpmGrammar.{IsPiece, IsGap}
+use Rattle.ppm_laws.specs.PpmGrammar.{IsBlank, IsGap}
 use Rattle.ppm_laws.proofs.Parts.{Reader, BadAt, Knows, IsFirm, firm_ok, firm_large, firm_memory, bad_same, nil_cons, cons_parts, same_first}
 
 -- ---- the words of a gap, by its places
@@ -202,6 +202,10 @@ comment_ends (b ∷ words) rest h = go (b == 10) refl h (comment_ends words rest
         → ends Comment (b ∷ (words ++ 10 ∷ rest)) ≡ ends Blank rest
     go true e h ih = absurd (false≢true h)
     go false e h ih = ap (λ o. option_map_or (λ next. ends next (words ++ 10 ∷ rest)) (if o then Some Blank else Some Comment) false) e ∙ ih h
+
+-- a blank, or a comment with its newline
+abbrev IsPiece : List ℕ → Type 0
+IsPiece text = IsBlank text ⊎ ((words : List ℕ) × (text ≡ 35 ∷ (words ++ 10 ∷ [])) × (list_all (λ b. not (b == 10)) words ≡ true))
 
 -- a piece leads from a place outside of comments to one where a gap may end
 piece_ends : (p : Gap) → ((b : ℕ) → after_in_gap p b ≡ after_in_gap Bare b) → (piece rest : List ℕ) → IsPiece piece → ends p (piece ++ rest) ≡ ends Blank rest

@@ -13,17 +13,11 @@ use Rattle.plain_image.specs.PpmText.{is_whitespace}
 abbrev pub IsBlank : List ℕ → Type 0
 IsBlank text = (b : ℕ) × (text ≡ b ∷ []) × (is_whitespace b ≡ true)
 
--- a comment with the newline that ends its line: `#`, any bytes but newlines, and the newline
-abbrev pub IsComment : List ℕ → Type 0
-IsComment text = (words : List ℕ) × (text ≡ 35 ∷ (words ++ 10 ∷ [])) × (list_all (λ b. not (b == 10)) words ≡ true)
-
--- a blank, or a comment with its newline
-abbrev pub IsPiece : List ℕ → Type 0
-IsPiece text = IsBlank text ⊎ IsComment text
-
--- one blank or comment or more, one after another; the last byte is a blank
+-- One piece or more, one after another, each a blank, or a comment with the newline that ends its line:
+-- `#`, any bytes but newlines, and the newline. The last byte is a blank.
 abbrev pub IsGap : List ℕ → Type 0
-IsGap text = (pieces : List (List ℕ)) × (text ≡ concat pieces) × (1 ≤ length pieces) × All IsPiece pieces
+IsGap text = (pieces : List (List ℕ)) × (text ≡ concat pieces) × (1 ≤ length pieces) × All (λ piece.
+    IsBlank piece ⊎ ((words : List ℕ) × (piece ≡ 35 ∷ (words ++ 10 ∷ [])) × (list_all (λ b. not (b == 10)) words ≡ true))) pieces
 
 -- ---- sides
 
@@ -62,19 +56,16 @@ pub record IsPpm (text : List ℕ) (image : Pixels) : Type 0 where
 abbrev pub IsBeforeCols : List ℕ → Type 0
 IsBeforeCols text = (gap : List ℕ) × (text ≡ codes "P6" ++ gap) × IsGap gap
 
--- what stands before the rows, behind columns within the limit
-abbrev pub IsBeforeRows : List ℕ → Type 0
-IsBeforeRows text =
-    (front : List ℕ) × (cols : List ℕ) × (gap : List ℕ) × (n : ℕ) × (text ≡ front ++ cols ++ gap) × IsBeforeCols front × IsNumber cols n × (n ≤ most_side) × IsGap gap
-
--- the text begins as a PPM text up to a side, and there stand digits of more than 4,096, whatever follows
+-- The text begins as a PPM text up to a side, the columns, or the rows behind columns within the limit, and there stand
+-- digits of more than 4,096, whatever follows.
 pub record IsTooLarge (text : List ℕ) : Type 0 where
   pub front : List ℕ
   pub side : List ℕ
   pub rest : List ℕ
   pub n : ℕ
   pub spelled : text ≡ front ++ side ++ rest
-  pub before : IsBeforeCols front ⊎ IsBeforeRows front
+  pub before : IsBeforeCols front ⊎ ((first : List ℕ) × (cols : List ℕ) × (gap : List ℕ) × (m : ℕ) × (front ≡ first ++ cols ++ gap)
+      × IsBeforeCols first × IsNumber cols m × (m ≤ most_side) × IsGap gap)
   pub number : IsNumber side n
   pub large : most_side < n
 

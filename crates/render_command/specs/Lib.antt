@@ -1,3 +1,4 @@
 pub mod Courses
 pub mod MetaCourses
 pub mod MetaLines
+pub mod inner

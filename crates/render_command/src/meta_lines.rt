@@ -1,6 +1,7 @@
 //! The lines of a listing.
 ghost use Rattle.std.specs.Prelude.{◌≡◌, IfOk, string_bytes};
-ghost use Rattle.render_command.specs.MetaLines.{meta_line, entry_line, listing_text};
+ghost use Rattle.render_command.specs.MetaLines.{listing_text};
+ghost use Rattle.render_command.specs.inner.MetaLines.{meta_line, entry_line};
 
 use meta_container::{Entry, Listing};
 use plain_world::Meta;

@@ -13,7 +13,8 @@ use Rattle.farm_plan.specs.Plans.{Restyle, FarmPlan}
 use Rattle.farm_plan.specs.Drawings.{plan_of}
 use Rattle.render_jobs.specs.declared.faults.ResumeFault.{ResumeFault}
 use Rattle.render_jobs.specs.declared.faults.ResumeFault.TheVariants.{Maps}
-use Rattle.render_jobs.specs.Faults.{names_map, is_style_at, first_failing, styles_fault, updates_fault, kept_fault, form_fault}
+use Rattle.render_jobs.specs.Faults.{names_map, is_style_at, first_failing, form_fault}
+use Rattle.render_jobs.specs.inner.Faults.{styles_fault, updates_fault, kept_fault}
 
 pub failing_more : {X : Type 0} (test : ℕ → X → Bool) (fault : ℕ → ResumeFault) (xs : List X) (i : ℕ) (d : X) → i < length xs → test i (get_or xs i d) ≡ true → first_failing test fault i (drop i xs) ≡ first_failing test fault (i + 1) (drop (i + 1) xs)
 unfolding first_failing

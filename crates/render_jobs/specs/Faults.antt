@@ -37,18 +37,6 @@ unfoldable pub first_failing : {X : Type 0} → (ℕ → X → Bool) → (ℕ �
 first_failing test fault place [] = None
 first_failing test fault place (x ∷ xs) = if test place x then first_failing test fault (place + 1) xs else Some (fault place)
 
--- a style that is none of its map
-abbrev pub styles_fault : FarmPlan → List (Option ℕ) → Option ResumeFault
-styles_fault plan styles = first_failing (is_style_at plan) (λ place. Number place) 0 styles
-
--- an update that is not in the table; its place is counted on from those of the styles
-abbrev pub updates_fault : FarmPlan → ℕ → List Past → Option ResumeFault
-updates_fault plan styles updates = first_failing (λ place c. nat_lt (past_number c) (length plan.updates)) (λ place. Number (styles + place)) 0 updates
-
--- a clean key that the plan does not have
-abbrev pub kept_fault : FarmPlan → List Kept → Option ResumeFault
-kept_fault plan clean = first_failing (λ place x. can_show plan x.key) (λ place. NotKept place) 0 clean
-
 -- the fault of an update that is refused at that place
 abbrev pub refused_at : ℕ → ApplyFault → ResumeFault
 refused_at place ApplyFault.NoMemory = ResumeFault.NoMemory
@@ -64,11 +52,14 @@ unfoldable pub apply_fault : FarmPlan → List Layer → ℕ → List Past → O
 apply_fault plan layers place [] = None
 apply_fault plan layers place (c ∷ cs) = update_fault place (update_result (update_of plan (past_number c)) layers) (λ new. apply_fault plan new (place + 1) cs)
 
--- the first fault but those of the updates themselves: another number of maps, a number, a clean key
+-- The first fault but those of the updates themselves: another number of maps; a style that is none of its map; an update that
+-- is not in the table, whose place is counted on from those of the styles; a clean key that the plan does not have.
 abbrev pub form_fault : FarmPlan → Saving → Option ResumeFault
 form_fault plan s =
     if length s.styles == length plan.maps
-    then option_or (styles_fault plan s.styles) (option_or (updates_fault plan (length s.styles) s.updates) (kept_fault plan s.clean))
+    then option_or (first_failing (is_style_at plan) (λ place. Number place) 0 s.styles)
+    (option_or (first_failing (λ place c. nat_lt (past_number c) (length plan.updates)) (λ place. Number (length s.styles + place)) 0 s.updates)
+    (first_failing (λ place x. can_show plan x.key) (λ place. NotKept place) 0 s.clean))
     else Some (Maps (length s.styles))
 
 -- the first fault

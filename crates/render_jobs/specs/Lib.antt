@@ -1,3 +1,4 @@
 pub mod Shared
 pub mod Faults
 pub mod Given
+pub mod inner

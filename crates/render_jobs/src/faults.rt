@@ -1,7 +1,8 @@
 //! Why a farm is not resumed: the first fault of what was saved, over a plan.
 ghost use Rattle.std.specs.Prelude.{◌≡◌, ◌<◌, ◌+◌, ◌^◌, length, nat_lt};
 ghost use Rattle.farm_history.specs.Replays.{past_number};
-ghost use Rattle.render_jobs.specs.Faults.{can_show, cause, is_style_at, kept_fault, refused_at, form_fault, styles_fault, updates_fault};
+ghost use Rattle.render_jobs.specs.Faults.{can_show, cause, is_style_at, refused_at, form_fault};
+ghost use Rattle.render_jobs.specs.inner.Faults.{kept_fault, styles_fault, updates_fault};
 
 use crate::shares::Setup;
 use farm_base::{ApplyFault, NoMemory};

@@ -31,13 +31,9 @@ use Rattle.farm_history.specs.declared.queues.Outcome.{Outcome}
 use Rattle.farm_history.specs.declared.queues.Outcome.TheVariants as outcome
 use Rattle.farm_history.specs.Entries.{Entry, Ask, Claim, Finish, Update, Renew, Restyle, Expire, Fetch, Look, Collect, Leave, Stop, Tally}
 
--- a newline
-abbrev pub end : List ℕ
-end = codes "\n"
-
 -- a word and a number, as a line
 abbrev pub number_line : List ℕ → ℕ → List ℕ
-number_line word n = word ++ decimal n ++ end
+number_line word n = word ++ decimal n ++ codes "\n"
 
 -- ---- asks
 
@@ -62,43 +58,21 @@ ask_line ask.Silent = codes "silent\n"
 
 -- ---- drawings
 
--- the numbers of a metatile's lowest tile
-abbrev pub place_words : Key → List ℕ
-place_words key = decimal key.meta.z ++ codes " " ++ decimal key.meta.x ++ codes " " ++ decimal key.meta.y
-
--- a drawing to make: its ticket, its map's name, its place in words and the data version
-abbrev pub job_words : ℕ → List ℕ → List ℕ → ℕ → List ℕ
-job_words ticket name place version = codes "job " ++ decimal ticket ++ codes " " ++ name ++ codes " " ++ place ++ codes " " ++ decimal version ++ end
-
--- the same by its key
-abbrev pub job_line : ℕ → List ℕ → Key → ℕ → List ℕ
-job_line ticket name key version = job_words ticket name (place_words key) version
-
--- the line of a claim on a farm whose maps have these names
+-- The line of a claim on a farm whose maps have these names. Of a drawing to make: its ticket, its map's name, the numbers of
+-- the metatile's lowest tile, and the data version.
 abbrev pub claim_line : List (List ℕ) → ClaimAnswer → List ℕ
-claim_line names (claim.Job ticket key version) = job_line ticket (unwrap_or (slice_get names key.map) []) key version
+claim_line names (claim.Job ticket key version) =
+    codes "job " ++ decimal ticket ++ codes " " ++ unwrap_or (slice_get names key.map) [] ++ codes " "
+    ++ (decimal key.meta.z ++ codes " " ++ decimal key.meta.x ++ codes " " ++ decimal key.meta.y) ++ codes " " ++ decimal version ++ codes "\n"
 claim_line names claim.Idle = codes "idle\n"
 claim_line names claim.Crowded = codes "crowded\n"
 claim_line names claim.Stopped = codes "stopped\n"
-
--- the name is that of a job's map, among the names of all maps
-abbrev pub NamesJob : List (List ℕ) → List ℕ → ClaimAnswer → Type 0
-NamesJob names name (claim.Job ticket key version) = slice_get names key.map ≡ Some name
-NamesJob names name _ = Unit {0}
 
 -- the line of the end of a drawing
 abbrev pub finish_line : Finished → Option (List ℕ)
 finish_line (finished.Stored clean) = Some (if clean then codes "clean\n" else codes "dirty\n")
 finish_line finished.PutFailed = Some (codes "putfailed\n")
 finish_line finished.NoMemory = None
-
--- the line of a drawing that is cut
-abbrev pub cut_line : List ℕ
-cut_line = codes "cut\n"
-
--- the line where no drawing of the ticket is in hand
-abbrev pub nojob_line : List ℕ
-nojob_line = codes "nojob\n"
 
 -- ---- changes
 
@@ -120,23 +94,15 @@ abbrev pub restyle_line : Restyled → List ℕ
 restyle_line (restyled.Styled count) = number_line (codes "styled ") count
 restyle_line restyled.NoRestyle = codes "norestyle\n"
 
--- a new data version, and how many clean metatiles became dirty
-abbrev pub renewed_line : ℕ → ℕ → List ℕ
-renewed_line v count = codes "version " ++ decimal v ++ codes " renewed " ++ decimal count ++ end
-
--- the line of an update that expires what it reaches
+-- the line of an update that expires what it reaches: its data version, and how many clean metatiles became dirty
 abbrev pub renew_line : Renewed → Option (List ℕ)
-renew_line (renewed.Version v count) = Some (renewed_line v count)
+renew_line (renewed.Version v count) = Some (codes "version " ++ decimal v ++ codes " renewed " ++ decimal count ++ codes "\n")
 renew_line renewed.NoUpdate = Some (codes "noupdate\n")
 renew_line (renewed.Refused fault) = fault_line fault
 
 -- the line of an expired tile
 abbrev pub expire_line : ℕ → List ℕ
 expire_line count = number_line (codes "expired ") count
-
--- the line where the numbers to be expired are those of no tile
-abbrev pub unservable_line : List ℕ
-unservable_line = codes "unservable\n"
 
 -- ---- tiles
 
@@ -149,35 +115,20 @@ meta_number (container.Count n) = 4
 meta_number (container.Place x y z) = 5
 meta_number (container.Index place) = 6
 
--- the line before a tile's bytes: its version and their number
-abbrev pub tile_head : List ℕ → ℕ → List ℕ → List ℕ
-tile_head word version bytes = word ++ decimal version ++ codes " " ++ decimal (length bytes) ++ end
+-- a tile: a line with its version and the number of its bytes, then these and a newline
+abbrev pub tile_text : List ℕ → ℕ → List ℕ → List ℕ
+tile_text word version bytes = (word ++ decimal version ++ codes " " ++ decimal (length bytes) ++ codes "\n") ++ bytes ++ codes "\n"
 
--- the first line of a fetch
-abbrev pub fetch_head : Fetched → Option (List ℕ)
-fetch_head (fetched.Clean version bytes) = Some (tile_head (codes "clean ") version bytes)
-fetch_head (fetched.Dirty version bytes) = Some (tile_head (codes "dirty ") version bytes)
-fetch_head fetched.Missing = Some (codes "missing\n")
-fetch_head fetched.Unservable = Some (codes "unservable\n")
-fetch_head fetched.Gone = Some (codes "gone\n")
-fetch_head (fetched.Spoilt fault) = Some (number_line (codes "spoilt ") (meta_number fault))
-fetch_head fetched.GetFailed = Some (codes "getfailed\n")
-fetch_head fetched.NoMemory = None
-
--- what stands behind the first line of a fetch: the tile's bytes and a newline
-abbrev pub fetch_rest : Fetched → List ℕ
-fetch_rest (fetched.Clean version bytes) = bytes ++ end
-fetch_rest (fetched.Dirty version bytes) = bytes ++ end
-fetch_rest _ = []
-
--- a line with what stands behind it
-abbrev pub with_rest : List ℕ → Option (List ℕ) → Option (List ℕ)
-with_rest rest None = None
-with_rest rest (Some head) = Some (head ++ rest)
-
--- all of a fetch
+-- the text of a fetch
 abbrev pub fetch_text : Fetched → Option (List ℕ)
-fetch_text answer = with_rest (fetch_rest answer) (fetch_head answer)
+fetch_text (fetched.Clean version bytes) = Some (tile_text (codes "clean ") version bytes)
+fetch_text (fetched.Dirty version bytes) = Some (tile_text (codes "dirty ") version bytes)
+fetch_text fetched.Missing = Some (codes "missing\n")
+fetch_text fetched.Unservable = Some (codes "unservable\n")
+fetch_text fetched.Gone = Some (codes "gone\n")
+fetch_text (fetched.Spoilt fault) = Some (number_line (codes "spoilt ") (meta_number fault))
+fetch_text fetched.GetFailed = Some (codes "getfailed\n")
+fetch_text fetched.NoMemory = None
 
 -- the line of a look
 abbrev pub look_line : Looked → List ℕ
@@ -200,15 +151,11 @@ collect_line (collected.Reply r) = codes "reply " ++ decimal r.conn.number ++ co
 collect_line collected.Stopped = codes "stopped\n"
 collect_line collected.Empty = codes "empty\n"
 
--- the line of a connection that was left
-abbrev pub leave_line : ℕ → List ℕ
-leave_line count = number_line (codes "left ") count
-
 -- the line of the counts
 abbrev pub tally_line : Totals → List ℕ
 tally_line t =
     codes "asks " ++ decimal t.asks ++ codes " done " ++ decimal t.done ++ codes " stored " ++ decimal t.stored ++ codes " version "
-    ++ decimal t.version ++ end
+    ++ decimal t.version ++ codes "\n"
 
 -- the line of a stop
 abbrev pub stop_line : List ℕ
@@ -221,7 +168,7 @@ abbrev pub entry_text : List (List ℕ) → Entry → Option (List ℕ)
 entry_text names (Ask conn cmd spot answer) = Some (ask_line answer)
 entry_text names (Claim worker answer) = Some (claim_line names answer)
 entry_text names (Finish ticket true answer) = finish_line answer
-entry_text names (Finish ticket false answer) = Some cut_line
+entry_text names (Finish ticket false answer) = Some (codes "cut\n")
 entry_text names (Update n answer) = update_line answer
 entry_text names (Renew n answer) = renew_line answer
 entry_text names (Restyle n answer) = Some (restyle_line answer)
@@ -229,6 +176,6 @@ entry_text names (Expire tile count) = Some (expire_line count)
 entry_text names (Fetch spot answer) = fetch_text answer
 entry_text names (Look spot answer) = Some (look_line answer)
 entry_text names (Collect front answer) = Some (collect_line answer)
-entry_text names (Leave conn count) = Some (leave_line count)
+entry_text names (Leave conn count) = Some (number_line (codes "left ") count)
 entry_text names Stop = Some stop_line
 entry_text names (Tally totals) = Some (tally_line totals)

@@ -1,6 +1,7 @@
 //! Changes of data and styles, and what is expired.
 ghost use Rattle.std.specs.Prelude.{◌≡◌, IfOk, Some};
 ghost use Rattle.script_answers.specs.Answers as spec;
+ghost use Rattle.script_answers.specs.inner.Parts as parts;
 
 use crate::asks::numbered;
 use farm_base::{ApplyFault, NoMemory, Text};
@@ -41,7 +42,7 @@ pub fn restyle_line(alloc: Global, answer: Restyled) -> Result<Text, NoMemory>
 }
 
 fn renewed_line(alloc: Global, version: u64, count: u64) -> Result<Text, NoMemory>
-    ensures { IfOk result (λ t. t ≡ spec.renewed_line version count) }
+    ensures { IfOk result (λ t. t ≡ parts.renewed_line version count) }
 {
     Ok(Text::from_string(format!(in alloc; "version {version} renewed {count}\n")?))
 }

@@ -1,7 +1,7 @@
 //! Drawings.
 ghost use Rattle.std.specs.Prelude.{◌≡◌, ℕ, List, IfOk, Some};
 ghost use Rattle.script_answers.specs.Answers as spec;
-ghost use Rattle.script_answers.specs.Answers.{NamesJob};
+ghost use Rattle.script_answers.specs.inner.Parts as parts;
 
 use farm_base::{NoMemory, Text};
 use farm_history::{ClaimAnswer, Finished, Key};
@@ -9,7 +9,7 @@ use std::alloc::Global;
 
 /// The numbers of a metatile's lowest tile.
 fn place_words(alloc: Global, key: Key) -> Result<Text, NoMemory>
-    ensures { IfOk result (λ t. t ≡ spec.place_words key) }
+    ensures { IfOk result (λ t. t ≡ parts.place_words key) }
 {
     let (z, x, y) = (key.meta.z, key.meta.x, key.meta.y);
     Ok(Text::from_string(format!(in alloc; "{z} {x} {y}")?))
@@ -23,7 +23,7 @@ fn job_words(
     place: &str,
     version: u64,
 ) -> Result<Text, NoMemory>
-    ensures { IfOk result (λ t. t ≡ spec.job_words ticket name.now place.now version) }
+    ensures { IfOk result (λ t. t ≡ parts.job_words ticket name.now place.now version) }
 {
     Ok(Text::from_string(format!(in alloc; "job {ticket} {name} {place} {version}\n")?))
 }
@@ -36,7 +36,7 @@ fn job_line(
     key: Key,
     version: u64,
 ) -> Result<Text, NoMemory>
-    ensures { IfOk result (λ t. t ≡ spec.job_line ticket name.now key version) }
+    ensures { IfOk result (λ t. t ≡ parts.job_line ticket name.now key version) }
 {
     let place = place_words(alloc, key)?;
     job_words(alloc, ticket, name, place.as_str(), version)
@@ -45,7 +45,7 @@ fn job_line(
 /// The line of a claim: `job T MAP Z X Y V` with the lowest tile of the metatile, `idle`, `crowded` or
 /// `stopped`. `name` is the name of the job's map.
 pub fn claim_line(alloc: Global, name: &str, answer: ClaimAnswer) -> Result<Text, NoMemory>
-    ensures { (names : List (List ℕ)) → NamesJob names name.now answer → IfOk result (λ t. t ≡ spec.claim_line names answer) }
+    ensures { (names : List (List ℕ)) → parts.NamesJob names name.now answer → IfOk result (λ t. t ≡ spec.claim_line names answer) }
 {
     match answer {
         ClaimAnswer::Job(ticket, key, version) => job_line(alloc, ticket, name, key, version),

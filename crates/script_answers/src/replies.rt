@@ -1,5 +1,5 @@
 //! Replies and counts.
-ghost use Rattle.std.specs.Prelude.{◌≡◌, IfOk};
+ghost use Rattle.std.specs.Prelude.{◌≡◌, IfOk, codes};
 ghost use Rattle.farm_history.specs.declared.answers.Collected.TheVariants as collected;
 ghost use Rattle.script_answers.specs.Answers as spec;
 
@@ -39,7 +39,7 @@ pub fn collect_line(alloc: Global, answer: Collected) -> Result<Text, NoMemory>
 
 /// The line of a connection that was left, `left N`.
 pub fn leave_line(alloc: Global, count: u32) -> Result<Text, NoMemory>
-    ensures { IfOk result (λ t. t ≡ spec.leave_line count) }
+    ensures { IfOk result (λ t. t ≡ spec.number_line (codes "left ") count) }
 {
     numbered(alloc, "left ", u64::from(count))
 }

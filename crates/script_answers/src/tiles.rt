@@ -1,6 +1,7 @@
 //! Tiles.
 ghost use Rattle.std.specs.Prelude.{◌≡◌, IfOk, Some};
 ghost use Rattle.script_answers.specs.Answers as spec;
+ghost use Rattle.script_answers.specs.inner.Parts as parts;
 
 use crate::asks::numbered;
 use farm_base::{Bytes, MetaFault, NoMemory, Text};
@@ -22,7 +23,7 @@ fn meta_number(fault: MetaFault) -> u64
 
 /// The line before a tile's bytes.
 fn tile_head(alloc: Global, word: &str, version: u64, bytes: &Bytes) -> Result<Text, NoMemory>
-    ensures { IfOk result (λ t. t ≡ spec.tile_head word.now version bytes.now) }
+    ensures { IfOk result (λ t. t ≡ parts.tile_head word.now version bytes.now) }
 {
     let len = bytes.as_slice().len();
     Ok(Text::from_string(format!(in alloc; "{word}{version} {len}\n")?))
@@ -31,7 +32,7 @@ fn tile_head(alloc: Global, word: &str, version: u64, bytes: &Bytes) -> Result<T
 /// The first line of a fetch: `clean V LEN` or `dirty V LEN`, behind which the tile's bytes stand and a
 /// newline, or `missing`, `unservable`, `gone`, `spoilt K` or `getfailed`, behind which nothing stands.
 pub fn fetch_head(alloc: Global, answer: &Fetched) -> Result<Text, NoMemory>
-    ensures { IfOk result (λ t. spec.fetch_head answer.now ≡ Some t) }
+    ensures { IfOk result (λ t. parts.fetch_head answer.now ≡ Some t) }
 {
     match answer {
         Fetched::Clean(version, bytes) => tile_head(alloc, "clean ", *version, bytes),

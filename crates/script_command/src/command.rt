@@ -4,7 +4,8 @@ ghost use Rattle.farm_plan.specs.Plans.{IsPlan};
 ghost use Rattle.farm_core.specs.Begins.{Begins};
 ghost use Rattle.farm_files.specs.Courses.{script_course};
 ghost use Rattle.script_text.specs.Left.{Leaves};
-ghost use Rattle.script_command.specs.Scripts.{Scripts, ScriptsOn, Runs, command_end};
+ghost use Rattle.script_command.specs.Scripts.{Scripts, ScriptsOn};
+ghost use Rattle.script_command.specs.inner.Runs.{Runs, command_end};
 
 use exit_status::Stop;
 use farm_base::{Files, Sink};

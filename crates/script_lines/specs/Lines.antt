@@ -20,10 +20,6 @@ word_of fault text = ok_or (cut_at 32 text) fault
 abbrev pub number_of : ScriptFault → List ℕ → Result ℕ ScriptFault
 number_of fault word = ok_or (decimal_below (2 ^ 32) word) fault
 
--- a ticket, a number of 64 bits
-abbrev pub ticket_of : ScriptFault → List ℕ → Result ℕ ScriptFault
-ticket_of fault word = ok_or (decimal_below (2 ^ 64) word) fault
-
 -- the command of a word
 abbrev pub cmd_of : List ℕ → Option Cmd
 cmd_of word =
@@ -32,10 +28,6 @@ cmd_of word =
     if bytes_eq word (codes "low") then Some cmd.Low else
     if bytes_eq word (codes "bulk") then Some cmd.Bulk else
     if bytes_eq word (codes "dirty") then Some cmd.Dirty else None
-
--- the name of a map, which need not be one of the farm: any word of at least one byte
-abbrev pub map_word : ScriptFault → List ℕ → Result (List ℕ) ScriptFault
-map_word fault word = check (nat_le 1 (length word)) fault >>= λ u. Ok word
 
 -- the three numbers of a tile: Z X Y
 unfoldable pub line_tile : ScriptFault → List ℕ → Result (ℕ × ℕ × ℕ) ScriptFault
@@ -47,11 +39,11 @@ line_tile fault text = do
   y ← number_of fault second.1
   Ok (z, x, y)
 
--- a tile of a map: MAP Z X Y
+-- a tile of a map: MAP Z X Y; the map need not be one of the farm, and its name is any word of at least one byte
 unfoldable pub place_of : ScriptFault → List ℕ → Result (List ℕ × (ℕ × ℕ × ℕ)) ScriptFault
 place_of fault text = do
   first ← word_of fault text
-  map ← map_word fault first.0
+  map ← check (nat_le 1 (length first.0)) fault >>= λ u. Ok first.0
   tile ← line_tile fault first.1
   Ok (map, tile)
 
@@ -65,25 +57,13 @@ ask_of fault text = do
   place ← place_of fault second.1
   Ok (Ask conn command place.0 place.1.0 place.1.1 place.1.2)
 
--- fetch MAP Z X Y
-unfoldable pub fetch_of : ScriptFault → List ℕ → Result ScriptLine ScriptFault
-fetch_of fault text = place_of fault text >>= λ place. Ok (Fetch place.0 place.1.0 place.1.1 place.1.2)
-
--- look MAP Z X Y
-unfoldable pub look_of : ScriptFault → List ℕ → Result ScriptLine ScriptFault
-look_of fault text = place_of fault text >>= λ place. Ok (Look place.0 place.1.0 place.1.1 place.1.2)
-
--- expire Z X Y
-unfoldable pub expire_of : ScriptFault → List ℕ → Result ScriptLine ScriptFault
-expire_of fault text = line_tile fault text >>= λ tile. Ok (Expire tile.0 tile.1 tile.2)
-
 -- a line whose one word behind its name is a number
 abbrev pub number_command : (ℕ → ScriptLine) → ScriptFault → List ℕ → Result ScriptLine ScriptFault
 number_command line fault word = number_of fault word >>= λ n. Ok (line n)
 
--- a line whose one word behind its name is a ticket
+-- a line whose one word behind its name is a ticket, a number of 64 bits
 abbrev pub ticket_command : (ℕ → ScriptLine) → ScriptFault → List ℕ → Result ScriptLine ScriptFault
-ticket_command line fault word = ticket_of fault word >>= λ n. Ok (line n)
+ticket_command line fault word = ok_or (decimal_below (2 ^ 64) word) fault >>= λ n. Ok (line n)
 
 -- the line of this name with these words behind it; there is no line of another name
 unfoldable pub line_named : ScriptFault → List ℕ → List ℕ → Result ScriptLine ScriptFault
@@ -95,9 +75,9 @@ line_named fault name rest =
     if bytes_eq name (codes "update") then number_command Update fault rest else
     if bytes_eq name (codes "restyle") then number_command Restyle fault rest else
     if bytes_eq name (codes "renew") then number_command Renew fault rest else
-    if bytes_eq name (codes "expire") then expire_of fault rest else
-    if bytes_eq name (codes "fetch") then fetch_of fault rest else
-    if bytes_eq name (codes "look") then look_of fault rest else
+    if bytes_eq name (codes "expire") then (line_tile fault rest >>= λ tile. Ok (Expire tile.0 tile.1 tile.2)) else
+    if bytes_eq name (codes "fetch") then (place_of fault rest >>= λ place. Ok (Fetch place.0 place.1.0 place.1.1 place.1.2)) else
+    if bytes_eq name (codes "look") then (place_of fault rest >>= λ place. Ok (Look place.0 place.1.0 place.1.1 place.1.2)) else
     if bytes_eq name (codes "collect") then number_command Collect fault rest else
     if bytes_eq name (codes "leave") then number_command Leave fault rest else Err fault
 

@@ -2,6 +2,7 @@
 ghost use Rattle.std.specs.Prelude.{◌≡◌};
 ghost use Rattle.reading.specs.Steps.{Gives};
 ghost use Rattle.script_lines.specs.Lines as spec;
+ghost use Rattle.script_lines.specs.inner.Lines as inner;
 ghost use Rattle.script_lines.specs.Scripts.{is_skipped, line_read};
 ghost use Rattle.script_lines.specs.declared.script.ScriptFault.TheVariants.{NoMemory};
 
@@ -26,27 +27,24 @@ fn ask(alloc: Global, text: &str, fault: ScriptFault) -> Result<ScriptLine, Scri
 }
 
 /// `fetch MAP Z X Y`.
-#[tactic(auto, unfolding(crate::specs::Lines::fetch_of))]
 fn fetch(alloc: Global, text: &str, fault: ScriptFault) -> Result<ScriptLine, ScriptFault>
-    ensures { Gives NoMemory (λ l. l) (spec.fetch_of fault text.now) result }
+    ensures { Gives NoMemory (λ l. l) (inner.fetch_of fault text.now) result }
 {
     let (map, (z, x, y)) = place(text, fault)?;
     Ok(ScriptLine::Fetch(Text::of(alloc, map)?, z, x, y))
 }
 
 /// `look MAP Z X Y`.
-#[tactic(auto, unfolding(crate::specs::Lines::look_of))]
 fn look(alloc: Global, text: &str, fault: ScriptFault) -> Result<ScriptLine, ScriptFault>
-    ensures { Gives NoMemory (λ l. l) (spec.look_of fault text.now) result }
+    ensures { Gives NoMemory (λ l. l) (inner.look_of fault text.now) result }
 {
     let (map, (z, x, y)) = place(text, fault)?;
     Ok(ScriptLine::Look(Text::of(alloc, map)?, z, x, y))
 }
 
 /// `expire Z X Y`.
-#[tactic(auto, unfolding(crate::specs::Lines::expire_of))]
 fn expire(text: &str, fault: ScriptFault) -> Result<ScriptLine, ScriptFault>
-    ensures { result ≡ spec.expire_of fault text.now }
+    ensures { result ≡ inner.expire_of fault text.now }
 {
     let (z, x, y) = tile(text, fault)?;
     Ok(ScriptLine::Expire(z, x, y))

@@ -3,6 +3,7 @@ ghost use Rattle.std.specs.Prelude.{◌≡◌, ◌≤◌, ◌<◌, ◌^◌};
 ghost use Rattle.std.specs.Option.{ok_or};
 ghost use Rattle.reading.specs.Steps.{seen};
 ghost use Rattle.script_lines.specs.Lines as spec;
+ghost use Rattle.script_lines.specs.inner.Lines as inner;
 
 use crate::script::ScriptFault;
 use farm_history::Cmd;
@@ -22,7 +23,7 @@ pub fn number(word: &str, fault: ScriptFault) -> Result<u32, ScriptFault>
 }
 
 pub fn ticket(word: &str, fault: ScriptFault) -> Result<u64, ScriptFault>
-    ensures { result ≡ spec.ticket_of fault word.now }
+    ensures { result ≡ inner.ticket_of fault word.now }
 {
     line_reading::number(word).ok_or(fault)
 }
@@ -48,7 +49,7 @@ pub fn command(word: &str, fault: ScriptFault) -> Result<Cmd, ScriptFault>
 
 /// The name of a map.
 fn map(word: &str, fault: ScriptFault) -> Result<&str, ScriptFault>
-    ensures { seen (λ s. s.now) result ≡ spec.map_word fault word.entry.now }
+    ensures { seen (λ s. s.now) result ≡ inner.map_word fault word.entry.now }
 {
     if word.is_empty() {
         Err(fault)

@@ -1,5 +1,6 @@
 -- The answers of lines.
-use Rattle.std.proofs.Common.{◌≡◌, ℕ, Bool, true, false, List, refl, ap, sym, subst, ◌∙◌}
+use Rattle.std.proofs.Common.{◌≡◌, ℕ, Bool, true, false, List, [], ◌++◌, append-nil, refl, ap, sym, subst, ◌∙◌}
+use Rattle.std.proofs.lemmas.Option.{none-some}
 use Rattle.std.specs.Prelude.{Some, Result, Ok, Err, IfOk}
 use Rattle.reading.specs.Steps.{seen}
 use Rattle.farm_base.specs.declared.memory.NoMemory.{NoMemory}
@@ -11,7 +12,8 @@ use Rattle.farm_history.specs.declared.asks.Spot.{Spot}
 use Rattle.farm_history.specs.Entries as entry
 use Rattle.farm_history.specs.Entries.{Entry}
 use Rattle.farm_plan.specs.Plans.{FarmPlan}
-use Rattle.script_answers.specs.Answers.{entry_text}
+use Rattle.script_answers.specs.Answers.{entry_text, fetch_text}
+use Rattle.script_answers.specs.inner.Parts.{fetch_head, fetch_rest}
 use Rattle.script_text.specs.ScriptTexts.{names_of, is_failed}
 use Rattle.script_text.specs.inner.Steps.{SaidSeen, SaysEntry, is_failed_fetch, is_failed_finish}
 
@@ -33,6 +35,24 @@ pub both_said : (plan : FarmPlan) (e : Entry) (failed : Bool) (result : Result S
     → IfOk result (SaysEntry plan e)
 both_said plan e failed (Ok s) h g same = record { text_is = h; failed_is = g ∙ same }
 both_said plan e failed (Err wanting) h g same = tt
+
+-- a line, and what stands behind it
+joined : (line tail head rest : List ℕ) → Some line ≡ Some head → rest ≡ tail → Some (line ++ tail) ≡ Some (head ++ rest)
+joined line tail head rest h r = let e : line ≡ head = cc in rw (e, r) refl
+
+alone : (line head rest : List ℕ) → Some line ≡ Some head → rest ≡ [] → Some line ≡ Some (head ++ rest)
+alone line head rest h r = let e : line ≡ head = cc in rw (e, r) (ap Some (sym (append-nil head)))
+
+-- the text of a fetch, by its two parts
+pub fetch_parts : (answer : Fetched) (head rest : List ℕ) → fetch_head answer ≡ Some head → rest ≡ fetch_rest answer → fetch_text answer ≡ Some (head ++ rest)
+fetch_parts (fetched.Clean v bytes) head rest h r = joined _ _ head rest h r
+fetch_parts (fetched.Dirty v bytes) head rest h r = joined _ _ head rest h r
+fetch_parts fetched.Missing head rest h r = alone _ head rest h r
+fetch_parts fetched.Unservable head rest h r = alone _ head rest h r
+fetch_parts fetched.Gone head rest h r = alone _ head rest h r
+fetch_parts (fetched.Spoilt fault) head rest h r = alone _ head rest h r
+fetch_parts fetched.GetFailed head rest h r = alone _ head rest h r
+fetch_parts fetched.NoMemory head rest h r = absurd (none-some head h)
 
 -- whether a call failed is told by the answer
 pub fetch_failed : (spot : Spot) (answer : Fetched) → is_failed_fetch answer ≡ is_failed (entry.Fetch spot answer)

@@ -1,5 +1,5 @@
 -- What a script puts: line by line its entry, if it has one, and its answer.
-use Rattle.std.specs.Prelude.{◌≡◌, ℕ, ◌==◌, Bool, true, false, List, [], ◌∷◌, ◌++◌, map, Some}
+use Rattle.std.specs.Prelude.{◌≡◌, ℕ, ◌==◌, Bool, true, false, List, [], ◌∷◌, ◌++◌, map, codes, Some}
 use Rattle.std.specs.List.{list_any}
 use Rattle.std.specs.Str.{bytes_eq}
 use Rattle.plain_world.specs.declared.world.Tile.{Tile}
@@ -25,7 +25,7 @@ use Rattle.farm_history.specs.Lists.{without_first}
 use Rattle.farm_plan.specs.Plans.{FarmPlan, maps_in}
 use Rattle.script_lines.specs.declared.script.ScriptLine.{ScriptLine}
 use Rattle.script_lines.specs.declared.script.ScriptLine.TheVariants as line
-use Rattle.script_answers.specs.Answers.{entry_text, nojob_line, unservable_line}
+use Rattle.script_answers.specs.Answers.{entry_text}
 
 -- ---- the words of a line
 
@@ -82,9 +82,9 @@ HasEvent hand l = Unit {0}
 
 -- it has none, and this is its answer
 abbrev pub HasNone : List ℕ → ScriptLine → List ℕ → Type 0
-HasNone hand (line.Finish ticket) said = (is_in_hand hand ticket ≡ false) × (said ≡ nojob_line)
-HasNone hand (line.Cut ticket) said = (is_in_hand hand ticket ≡ false) × (said ≡ nojob_line)
-HasNone hand (line.Expire z x y) said = ¬ (IsTile (numbered_tile z x y)) × (said ≡ unservable_line)
+HasNone hand (line.Finish ticket) said = (is_in_hand hand ticket ≡ false) × (said ≡ codes "nojob\n")
+HasNone hand (line.Cut ticket) said = (is_in_hand hand ticket ≡ false) × (said ≡ codes "nojob\n")
+HasNone hand (line.Expire z x y) said = ¬ (IsTile (numbered_tile z x y)) × (said ≡ codes "unservable\n")
 HasNone hand l said = ⊥
 
 -- ---- failures of the store

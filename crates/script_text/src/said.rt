@@ -3,7 +3,8 @@ ghost use Rattle.std.specs.Prelude.{◌≡◌, ◌++◌, ◌||◌, Some, false, 
 ghost use Rattle.farm_base.specs.Outside.{Puts};
 ghost use Rattle.farm_history.specs.declared.answers.Fetched.{Fetched};
 ghost use Rattle.reading.specs.Steps.{seen};
-ghost use Rattle.script_answers.specs.Answers.{fetch_text, fetch_rest};
+ghost use Rattle.script_answers.specs.Answers.{fetch_text};
+ghost use Rattle.script_answers.specs.inner.Parts.{fetch_rest};
 ghost use Rattle.script_text.specs.inner.Steps.{behind, is_failed_fetch};
 
 use farm_base::{Bytes, NoMemory, Sink, SinkFault, Text};
@@ -71,6 +72,7 @@ fn tile_of(answer: Fetched) -> Option<Bytes>
 }
 
 /// The answer of a fetch.
+#[tactic(auto, using(crate::proofs::Saying::fetch_parts))]
 pub(crate) fn fetch_said(alloc: Global, answer: Fetched) -> Result<LineAnswer, NoMemory>
     ensures text { IfOk result (λ s. fetch_text answer ≡ Some s.text) }
     ensures failed { IfOk result (λ s. s.failed ≡ is_failed_fetch answer) }

@@ -46,28 +46,40 @@ module _ {D : Type 0} (state : D → Outside StoreTold) (plan : FarmPlan) where
 
   module _ (store middle : D) (shows : state middle ≡ state store) where
     -- a farm began anew, where none was to be resumed
-    pub begun_anew : (farm : FarmSeen D) → middle ≡ store → BeganWith state plan middle None farm → HasBegun state plan false store farm
-    begun_anew farm same began = record {
-      plan_is = began.begins.plan_is;
-      resumes = began.begins.saved_is ∙ none began.saved began.said;
-      first_shows = ap state began.begins.first_is ∙ shows;
-      emptied = ap state began.begins.store_is ∙ shows;
-      after = after_put middle began.saved farm farm began.begins began.short refl (λ told h s. s);
-    }
+    pub begun_anew : (farm : FarmSeen D) → middle ≡ store → BeganWith state plan middle None farm → HasBegun state plan false store farm × IsAfter state farm []
+    begun_anew farm same began = (
+      record {
+        plan_is = began.begins.plan_is;
+        resumes = began.begins.saved_is ∙ none began.saved began.said;
+        first_shows = ap state began.begins.first_is ∙ shows;
+        emptied = ap state began.begins.store_is ∙ shows;
+        stands = after.each;
+      },
+      after,
+    )
       where
+        after : IsAfter state farm []
+        after = after_put middle began.saved farm farm began.begins began.short refl (λ told h s. s)
+
         none : (saved : Option Saving) → resumed_by plan None ≡ Ok saved → saved ≡ None
         none saved is = cc
 
     module _ (found : Option (List ℕ)) (stands : IfSome (state store).told (λ t. found ≡ t.content saved_path)) where
       -- a farm began by what was found, and what was saved is emptied
-      pub begun_saved : (old new : FarmSeen D) → BeganWith state plan middle found old → Empties state old (Ok new) → HasBegun state plan true store new
-      begun_saved old new began empties = record {
-        plan_is = ap (λ (f : FarmSeen D). f.plan) empties.1 ∙ began.begins.plan_is;
-        resumes = record { found = found; stands = stands; said = began.said ∙ ap Ok (sym (ap (λ (f : FarmSeen D). f.saved) empties.1 ∙ began.begins.saved_is)) };
-        first_shows = ap (λ (f : FarmSeen D). state f.first) empties.1 ∙ ap state began.begins.first_is ∙ shows;
-        emptied = subst (λ (at : Outside StoreTold). StorePuts at (state new.store) saved_path [] (Ok tt)) (ap state began.begins.store_is ∙ shows) empties.0;
-        after = after_put middle began.saved old new began.begins began.short empties.1 empties.2;
-      }
+      pub begun_saved : (old new : FarmSeen D) → BeganWith state plan middle found old → Empties state old (Ok new) → HasBegun state plan true store new × IsAfter state new []
+      begun_saved old new began empties = (
+        record {
+          plan_is = ap (λ (f : FarmSeen D). f.plan) empties.1 ∙ began.begins.plan_is;
+          resumes = record { found = found; stands = stands; said = began.said ∙ ap Ok (sym (ap (λ (f : FarmSeen D). f.saved) empties.1 ∙ began.begins.saved_is)) };
+          first_shows = ap (λ (f : FarmSeen D). state f.first) empties.1 ∙ ap state began.begins.first_is ∙ shows;
+          emptied = subst (λ (at : Outside StoreTold). StorePuts at (state new.store) saved_path [] (Ok tt)) (ap state began.begins.store_is ∙ shows) empties.0;
+          stands = after.each;
+        },
+        after,
+      )
+        where
+          after : IsAfter state new []
+          after = after_put middle began.saved old new began.begins began.short empties.1 empties.2
 
       -- what was found is refused
       pub cannot_read : (back : D) (why : Stop) → back ≡ middle → Refuses plan found why → CannotBegin (state store) plan true (state back) why

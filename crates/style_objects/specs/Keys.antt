@@ -1,25 +1,11 @@
--- The keys that each object of a style text may have.
-use Rattle.std.specs.Prelude.{ℕ, List, [], ◌∷◌, codes, Result}
+-- The keys that an object of a style text may have.
+use Rattle.std.specs.Prelude.{ℕ, List, Result}
 use Rattle.serde_json.specs.Data.{Data}
 use Rattle.reading.specs.Values.{opened}
 use Rattle.style_objects.specs.declared.fault.At.{At}
 use Rattle.style_objects.specs.declared.fault.StyleFault.{StyleFault}
 use Rattle.style_objects.specs.declared.fault.StyleFault.TheVariants as fault
-use Rattle.style_objects.specs.declared.keys.Object.{Object}
-use Rattle.style_objects.specs.declared.keys.Object.TheVariants as object
 
--- the keys that an object of each kind may have
-abbrev pub keys_of : Object → List (List ℕ)
-keys_of object.Map = codes "background-color" ∷ codes "styles" ∷ codes "layers" ∷ codes "rasters" ∷ []
-keys_of object.Style = codes "name" ∷ codes "filter-mode" ∷ codes "rules" ∷ []
-keys_of object.Rule = codes "Filter" ∷ codes "ElseFilter" ∷ codes "MinScaleDenominator" ∷ codes "MaxScaleDenominator" ∷ codes "symbolizers" ∷ []
-keys_of object.Layer = codes "name" ∷ codes "source" ∷ codes "minimum-scale-denominator" ∷ codes "maximum-scale-denominator" ∷ codes "styles" ∷ []
-keys_of object.Raster = codes "name" ∷ codes "file" ∷ codes "west" ∷ codes "north" ∷ codes "pixel" ∷ []
-keys_of object.PolygonSymbolizer = codes "symbolizer" ∷ codes "fill" ∷ codes "fill-opacity" ∷ []
-keys_of object.LineSymbolizer = codes "symbolizer" ∷ codes "stroke" ∷ codes "stroke-width" ∷ codes "stroke-opacity" ∷ codes "stroke-linecap" ∷ codes "stroke-linejoin" ∷ []
-keys_of object.MarkersSymbolizer = codes "symbolizer" ∷ codes "fill" ∷ codes "width" ∷ codes "height" ∷ codes "opacity" ∷ []
-keys_of object.RasterSymbolizer = codes "symbolizer" ∷ codes "opacity" ∷ []
-
--- the first step of each object: Shape where it is no object, Unsupported where it has a key of another name
-unfoldable pub opened_as : Object → At → Data → Result (Unit {0}) StyleFault
-opened_as kind at d = opened (fault.Shape at) (fault.Unsupported at) (keys_of kind) d
+-- the first step of each object: Shape where it is no object, Unsupported where it has another key than these
+unfoldable pub opened_as : List (List ℕ) → At → Data → Result (Unit {0}) StyleFault
+opened_as keys at d = opened (fault.Shape at) (fault.Unsupported at) keys d

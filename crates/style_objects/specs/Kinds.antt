@@ -2,16 +2,15 @@
 -- set is Text, a number outside its range is Range, at the object that holds it.
 use Rattle.std.specs.Prelude.{ℕ, ◌^◌, Bool, true, false, if◌then◌else◌, List, codes, Option, Some, None, Result, Ok, Err}
 use Rattle.std.specs.Option.{ok_or}
+use Rattle.std.specs.Result.{result_map_both}
 use Rattle.std.specs.Str.{bytes_eq}
-use Rattle.serde_json.specs.Data.{Data, boolean, number, object, Items, no_items}
-use Rattle.plain_shapes.specs.declared.colour.Colour.{Colour}
+use Rattle.serde_json.specs.Data.{Data, boolean, number, object}
 use Rattle.plain_shapes.specs.declared.shapes.LineCap.{LineCap}
 use Rattle.plain_shapes.specs.declared.shapes.LineCap.TheVariants as cap
 use Rattle.plain_drawing.specs.declared.style.FilterMode.{FilterMode}
 use Rattle.plain_drawing.specs.declared.style.FilterMode.TheVariants as mode
 use Rattle.plain_filters.specs.Filters.{FilterTree}
 use Rattle.plain_drawing.specs.Styles.{is_text_to, is_width}
-use Rattle.filter_expr.specs.declared.faults.FilterFault.{FilterFault}
 use Rattle.reading.specs.Steps.{◌>>=◌, check}
 use Rattle.reading.specs.Values.{text, whole_number}
 use Rattle.style_objects.specs.declared.fault.At.{At}
@@ -23,21 +22,9 @@ use Rattle.style_objects.specs.TextReadings.{TextReading}
 abbrev pub in_grammar : {A : Type 0} → (List ℕ → Option A) → At → Data → Result A StyleFault
 in_grammar value at d = text (fault.Shape at) d >>= λ s. ok_or (value s) (fault.Text at)
 
--- a colour
-unfoldable pub a_colour : TextReading → At → Data → Result Colour StyleFault
-a_colour says at d = in_grammar says.colour at d
-
--- a scale denominator, in hundredths
-unfoldable pub a_scale : TextReading → At → Data → Result ℕ StyleFault
-a_scale says at d = in_grammar says.hundredths at d
-
 -- a greatest scale denominator, in hundredths, where there is one
 unfoldable pub a_bound : TextReading → At → Data → Result (Option ℕ) StyleFault
-a_bound says at d = a_scale says at d >>= λ n. Ok (Some n)
-
--- an opacity from 0 to 1, in thousandths
-unfoldable pub an_opacity : TextReading → At → Data → Result ℕ StyleFault
-an_opacity says at d = in_grammar says.thousandths at d
+a_bound says at d = in_grammar says.hundredths at d >>= λ n. Ok (Some n)
 
 -- a width or height of 0.01 to 64 pixels, in hundredths
 unfoldable pub a_width : TextReading → At → Data → Result ℕ StyleFault
@@ -55,31 +42,18 @@ any_text at d = text (fault.Shape at) d >>= λ s. Ok tt
 abbrev pub mode_of : List ℕ → Option FilterMode
 mode_of s = if bytes_eq s (codes "all") then Some mode.All else if bytes_eq s (codes "first") then Some mode.First else None
 
--- a filter mode
-unfoldable pub a_mode : At → Data → Result FilterMode StyleFault
-a_mode at d = in_grammar mode_of at d
-
 -- the line cap of a text, `butt`, `round` or `square`
 abbrev pub cap_of : List ℕ → Option LineCap
 cap_of s = if bytes_eq s (codes "butt") then Some cap.Butt else if bytes_eq s (codes "round") then Some cap.Round else
     if bytes_eq s (codes "square") then Some cap.Square else None
 
--- a line cap
-unfoldable pub a_cap : At → Data → Result LineCap StyleFault
-a_cap at d = in_grammar cap_of at d
-
 -- a whole number of a raster, from this least one to 2^30
 unfoldable pub a_number : ℕ → At → Data → Result ℕ StyleFault
 a_number low at d = whole_number (fault.Shape at) (fault.Range at) low (2 ^ 30) d
 
--- what a filter text says, or its fault
-abbrev pub filter_at : At → Result FilterTree FilterFault → Result (Option FilterTree) StyleFault
-filter_at at (Ok tree) = Ok (Some tree)
-filter_at at (Err f) = Err (fault.Filter at f)
-
--- a filter, as its text is read
+-- a filter, as its text is read, or the fault of that text
 unfoldable pub a_filter : TextReading → At → Data → Result (Option FilterTree) StyleFault
-a_filter says at d = text (fault.Shape at) d >>= λ s. filter_at at (says.filter s)
+a_filter says at d = text (fault.Shape at) d >>= λ s. result_map_both (λ t. Some t) (λ f. fault.Filter at f) (says.filter s)
 
 -- the JSON value true
 abbrev pub is_true : Data → Bool
@@ -89,9 +63,3 @@ is_true _ = false
 -- the value of ElseFilter, which has to be true, in a rule that has no Filter
 unfoldable pub an_else : Bool → At → Data → Result Bool StyleFault
 an_else has_filter at d = check (is_true d) (fault.Shape at) >>= λ u. if has_filter then Err (fault.Shape at) else Ok true
-
--- a list of rasters, which may be absent: its items were found within their limit, unless the value is no list
-abbrev pub list_or_none : At → Option Items → Option Data → Result Items StyleFault
-list_or_none at (Some items) found = Ok items
-list_or_none at None None = Ok no_items
-list_or_none at None (Some d) = Err (fault.Shape at)

@@ -54,52 +54,53 @@ pub enum StyleFault {
 
 impl At {
     ghost use Rattle.std.specs.Prelude.{◌≡◌};
-    ghost use Rattle.style_objects.specs.Places.{at_map, at_style, at_rule, at_symbolizer, at_layer, at_raster};
+    ghost use Rattle.style_objects.specs.declared.fault.Part.TheVariants as kind;
+    ghost use Rattle.style_objects.specs.Places.{at_place};
 
     /// The map itself.
     pub fn map() -> At
-        ensures { result ≡ at_map }
+        ensures { result ≡ at_place kind.Map 0 0 0 }
     {
         At::of(Part::Map, 0, 0, 0)
     }
 
     /// A style by its place.
     pub fn style(style: u32) -> At
-        ensures { result ≡ at_style style }
+        ensures { result ≡ at_place kind.Style style 0 0 }
     {
         At::of(Part::Style, style, 0, 0)
     }
 
     /// A rule by style and rule.
     pub fn rule(style: u32, rule: u32) -> At
-        ensures { result ≡ at_rule style rule }
+        ensures { result ≡ at_place kind.Rule style rule 0 }
     {
         At::of(Part::Rule, style, rule, 0)
     }
 
     /// A symbolizer by style, rule and symbolizer.
     pub fn symbolizer(style: u32, rule: u32, symbolizer: u32) -> At
-        ensures { result ≡ at_symbolizer style rule symbolizer }
+        ensures { result ≡ at_place kind.Symbolizer style rule symbolizer }
     {
         At::of(Part::Symbolizer, style, rule, symbolizer)
     }
 
     /// A layer by its place.
     pub fn layer(layer: u32) -> At
-        ensures { result ≡ at_layer layer }
+        ensures { result ≡ at_place kind.Layer layer 0 0 }
     {
         At::of(Part::Layer, layer, 0, 0)
     }
 
     /// A raster by its place.
     pub fn raster(raster: u32) -> At
-        ensures { result ≡ at_raster raster }
+        ensures { result ≡ at_place kind.Raster raster 0 0 }
     {
         At::of(Part::Raster, raster, 0, 0)
     }
 
     fn of(part: Part, first: u32, second: u32, third: u32) -> At
-        ensures { result ≡ record { part = part; first = first; second = second; third = third } }
+        ensures { result ≡ at_place part first second third }
     {
         At {
             part,

@@ -1,7 +1,8 @@
 //! The keys of the objects of a style text.
 ghost use Rattle.std.specs.Prelude.{◌≡◌, map};
 ghost use Rattle.serde_json.specs.View.{view};
-ghost use Rattle.style_objects.specs.Keys as spec;
+ghost use Rattle.style_objects.specs.Keys.{opened_as};
+ghost use Rattle.style_objects.specs.inner.Keys as inner;
 
 use crate::fault::{At, StyleFault};
 use reading::opened;
@@ -22,7 +23,7 @@ pub enum Object {
 }
 
 fn keys_of(kind: Object) -> &'static [&'static str]
-    ensures { map (λ s. s.now) result.now ≡ spec.keys_of kind }
+    ensures { map (λ s. s.now) result.now ≡ inner.keys_of kind }
 {
     match kind {
         Object::Map => &["background-color", "styles", "layers", "rasters"],
@@ -60,7 +61,7 @@ fn keys_of(kind: Object) -> &'static [&'static str]
 /// than those of its kind.
 #[tactic(auto, unfolding(crate::specs::Keys::opened_as))]
 pub fn open(value: &Value, kind: Object, at: At) -> Result<(), StyleFault>
-    ensures { result ≡ spec.opened_as kind at (view value.now) }
+    ensures { result ≡ opened_as (inner.keys_of kind) at (view value.now) }
 {
     opened(
         value,

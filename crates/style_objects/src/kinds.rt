@@ -10,6 +10,7 @@ ghost use Rattle.plain_shapes.specs.declared.shapes.LineCap.TheVariants as cap;
 ghost use Rattle.plain_drawing.specs.declared.style.FilterMode.TheVariants as mode;
 ghost use Rattle.style_objects.specs.TextReadings.{text_reading};
 ghost use Rattle.style_objects.specs.Kinds as spec;
+ghost use Rattle.style_objects.specs.inner.Parts as parts;
 ghost use Rattle.style_objects.specs.declared.fault.StyleFault.TheVariants as fault;
 
 use crate::fault::{At, StyleFault};
@@ -22,37 +23,35 @@ use reading::{text, whole_number};
 use serde_json::Value;
 use std::alloc::Global;
 
-#[tactic(auto, unfolding(crate::specs::Kinds::a_colour))]
 fn a_colour(value: &Value, at: At) -> Result<Colour, StyleFault>
-    ensures { result ≡ spec.a_colour text_reading at (view value.now) }
+    ensures { result ≡ spec.in_grammar text_reading.colour at (view value.now) }
 {
     paint_texts::colour(text(value, StyleFault::Shape(at))?).ok_or(StyleFault::Text(at))
 }
 
 pub fn colour_or(object: &Value, key: &str, absent: Colour, at: At) -> Result<Colour, StyleFault>
-    ensures { result ≡ or_value absent (spec.a_colour text_reading at) (get key.now (view object.now)) }
+    ensures { result ≡ or_value absent (spec.in_grammar text_reading.colour at) (get key.now (view object.now)) }
 {
     object.get(key).map_or(Ok(absent), |v| a_colour(v, at))
 }
 
 pub fn colour_at(object: &Value, key: &str, at: At) -> Result<Colour, StyleFault>
-    ensures { result ≡ needed (fault.Shape at) (spec.a_colour text_reading at) (get key.now (view object.now)) }
+    ensures { result ≡ needed (fault.Shape at) (spec.in_grammar text_reading.colour at) (get key.now (view object.now)) }
 {
     object
         .get(key)
         .map_or(Err(StyleFault::Shape(at)), |v| a_colour(v, at))
 }
 
-#[tactic(auto, unfolding(crate::specs::Kinds::a_scale))]
 fn a_scale(value: &Value, at: At) -> Result<u64, StyleFault>
-    ensures { result ≡ spec.a_scale text_reading at (view value.now) }
+    ensures { result ≡ spec.in_grammar text_reading.hundredths at (view value.now) }
 {
     hundredths(text(value, StyleFault::Shape(at))?).ok_or(StyleFault::Text(at))
 }
 
 /// The least scale denominator of a rule or layer, 0 where it is absent.
 pub fn scale_or_zero(object: &Value, key: &str, at: At) -> Result<u64, StyleFault>
-    ensures { result ≡ or_value 0 (spec.a_scale text_reading at) (get key.now (view object.now)) }
+    ensures { result ≡ or_value 0 (spec.in_grammar text_reading.hundredths at) (get key.now (view object.now)) }
 {
     object.get(key).map_or(Ok(0), |v| a_scale(v, at))
 }
@@ -71,9 +70,8 @@ pub fn bound_or_none(object: &Value, key: &str, at: At) -> Result<Option<u64>, S
     object.get(key).map_or(Ok(None), |v| a_bound(v, at))
 }
 
-#[tactic(auto, unfolding(crate::specs::Kinds::an_opacity))]
 fn an_opacity(value: &Value, at: At) -> Result<u32, StyleFault>
-    ensures value { result ≡ spec.an_opacity text_reading at (view value.now) }
+    ensures value { result ≡ spec.in_grammar text_reading.thousandths at (view value.now) }
     ensures fits { IfOk result (λ n. IsTrue (is_opacity n)) }
 {
     thousandths(text(value, StyleFault::Shape(at))?).ok_or(StyleFault::Text(at))
@@ -81,7 +79,7 @@ fn an_opacity(value: &Value, at: At) -> Result<u32, StyleFault>
 
 /// An opacity in thousandths, 1,000 where it is absent.
 pub fn opacity_or_full(object: &Value, key: &str, at: At) -> Result<u32, StyleFault>
-    ensures value { result ≡ or_value 1000 (spec.an_opacity text_reading at) (get key.now (view object.now)) }
+    ensures value { result ≡ or_value 1000 (spec.in_grammar text_reading.thousandths at) (get key.now (view object.now)) }
     ensures fits { IfOk result (λ n. IsTrue (is_opacity n)) }
 {
     object.get(key).map_or(Ok(1000), |v| an_opacity(v, at))
@@ -172,16 +170,15 @@ fn mode_of(text: &str) -> Option<FilterMode>
     }
 }
 
-#[tactic(auto, unfolding(crate::specs::Kinds::a_mode))]
 fn a_mode(value: &Value, at: At) -> Result<FilterMode, StyleFault>
-    ensures { result ≡ spec.a_mode at (view value.now) }
+    ensures { result ≡ spec.in_grammar spec.mode_of at (view value.now) }
 {
     mode_of(text(value, StyleFault::Shape(at))?).ok_or(StyleFault::Text(at))
 }
 
 /// A filter mode, `all` where it is absent.
 pub fn mode_or_all(object: &Value, key: &str, at: At) -> Result<FilterMode, StyleFault>
-    ensures { result ≡ or_value mode.All (spec.a_mode at) (get key.now (view object.now)) }
+    ensures { result ≡ or_value mode.All (spec.in_grammar spec.mode_of at) (get key.now (view object.now)) }
 {
     object
         .get(key)
@@ -199,16 +196,15 @@ fn cap_of(text: &str) -> Option<LineCap>
     }
 }
 
-#[tactic(auto, unfolding(crate::specs::Kinds::a_cap))]
 fn a_cap(value: &Value, at: At) -> Result<LineCap, StyleFault>
-    ensures { result ≡ spec.a_cap at (view value.now) }
+    ensures { result ≡ spec.in_grammar spec.cap_of at (view value.now) }
 {
     cap_of(text(value, StyleFault::Shape(at))?).ok_or(StyleFault::Text(at))
 }
 
 /// A line cap, `butt` where it is absent.
 pub fn cap_or_butt(object: &Value, key: &str, at: At) -> Result<LineCap, StyleFault>
-    ensures { result ≡ or_value cap.Butt (spec.a_cap at) (get key.now (view object.now)) }
+    ensures { result ≡ or_value cap.Butt (spec.in_grammar spec.cap_of at) (get key.now (view object.now)) }
 {
     object.get(key).map_or(Ok(LineCap::Butt), |v| a_cap(v, at))
 }
@@ -310,7 +306,7 @@ pub fn list_or_none<'a>(
 ) -> Result<&'a [Value], StyleFault>
     requires { IfSome found (λ vs. length vs.now ≤ 2) }
     ensures short { IfOk result (λ vs. length vs.now ≤ 2) }
-    ensures value { seen (λ vs. items_view vs.now) result ≡ spec.list_or_none at (option_map (λ vs. items_view vs.now) found.entry) (option_map (λ v. view v.now) value.entry) }
+    ensures value { seen (λ vs. items_view vs.now) result ≡ parts.list_or_none at (option_map (λ vs. items_view vs.now) found.entry) (option_map (λ v. view v.now) value.entry) }
 {
     match found {
         Some(items) => Ok(items),

@@ -9,6 +9,8 @@ ghost use Rattle.reading.specs.Lists.{list_of};
 ghost use Rattle.reading.specs.Steps.{Gives};
 ghost use Rattle.style_objects.specs.TextReadings.{text_reading};
 ghost use Rattle.style_objects.specs.Tables as spec;
+ghost use Rattle.style_objects.specs.Places.{at_place};
+ghost use Rattle.style_objects.specs.declared.fault.Part.TheVariants as part;
 ghost use Rattle.style_objects.specs.declared.fault.StyleFault.TheVariants as fault;
 ghost use Rattle.plain_drawing.specs.Limits.{most_map_layers};
 
@@ -80,7 +82,7 @@ fn layer(
     before: &[LayerRef],
     object: &Value,
 ) -> Result<LayerRef, StyleFault>
-    ensures value { Gives fault.NoMemory (λ x. x) (spec.layer_of text_reading styles.now place before.now (view object.now)) result }
+    ensures value { Gives fault.NoMemory (λ x. x) (spec.layer_of text_reading styles.now (at_place part.Layer place 0 0) before.now (view object.now)) result }
     ensures apart { IfOk result (λ l. IsTrue (layer_apart styles.now before.now l)) }
 {
     let at = At::layer(place);
@@ -116,7 +118,7 @@ impl ReadItem for LayerItems<'_> {
 
     ghost limit = { λ r. most_map_layers };
 
-    ghost reads = { λ r before d. spec.layer_ref_after text_reading r.styles.now before d };
+    ghost reads = { λ r before d. spec.layer_of text_reading r.styles.now (at_place part.Layer (length before) 0 0) before d };
 
     ghost keeps = { λ r before l. layer_apart r.styles.now before l };
 
@@ -132,7 +134,7 @@ impl ReadItem for LayerItems<'_> {
 
 pub fn layers(alloc: Global, styles: &[Style], items: &[Value]) -> Result<Vec<LayerRef>, StyleFault>
     requires { length items.now ≤ most_map_layers }
-    ensures value { Gives fault.NoMemory (λ v. v.items) (list_of (spec.layer_ref_after text_reading styles.now) (items_view items.now)) result }
+    ensures value { Gives fault.NoMemory (λ v. v.items) (list_of (λ before e. spec.layer_of text_reading styles.now (at_place part.Layer (length before) 0 0) before e) (items_view items.now)) result }
     ensures apart { IfOk result (λ v. IsTrue (each_after (layer_apart styles.now) [] v.items)) }
     ensures count { IfOk result (λ v. length v.items ≤ most_map_layers) }
 {

@@ -4,6 +4,9 @@ ghost use Rattle.serde_json.specs.View.{view};
 ghost use Rattle.reading.specs.Steps.{Gives};
 ghost use Rattle.style_objects.specs.TextReadings.{TextReading, SaysGrammar, text_reading};
 ghost use Rattle.style_objects.specs.Tables as spec;
+ghost use Rattle.style_objects.specs.inner.Parts as parts;
+ghost use Rattle.style_objects.specs.Places.{at_place};
+ghost use Rattle.style_objects.specs.declared.fault.Part.TheVariants as part;
 ghost use Rattle.style_objects.specs.declared.fault.StyleFault.TheVariants as fault;
 
 use crate::fault::{At, StyleFault};
@@ -24,9 +27,9 @@ const WHITE: Colour = Colour {
     b: 255,
 };
 
-#[tactic(auto, unfolding(crate::specs::Tables::map_object))]
-fn map_style(alloc: Global, object: &Value) -> Result<MapStyle, StyleFault>
-    ensures { Gives fault.NoMemory (λ x. x) (spec.map_object text_reading (view object.now)) result }
+#[tactic(auto, unfolding(crate::specs::inner::Parts::map_by_parts))]
+fn map_by_parts(alloc: Global, object: &Value) -> Result<MapStyle, StyleFault>
+    ensures { Gives fault.NoMemory (λ x. x) (parts.map_by_parts text_reading (at_place part.Map 0 0 0) (view object.now)) result }
 {
     let at = At::map();
     open(object, Object::Map, at)?;
@@ -47,6 +50,12 @@ fn map_style(alloc: Global, object: &Value) -> Result<MapStyle, StyleFault>
         rasters,
         grids: Vec::new(alloc),
     })
+}
+
+fn map_style(alloc: Global, object: &Value) -> Result<MapStyle, StyleFault>
+    ensures { Gives fault.NoMemory (λ x. x) (spec.map_object text_reading (at_place part.Map 0 0 0) (view object.now)) result }
+{
+    map_by_parts(alloc, object)
 }
 
 /// Reads a style: the map that its text says, without grids, or the first fault in reading order.

@@ -7,6 +7,8 @@ ghost use Rattle.plain_drawing.specs.Styles as plain;
 ghost use Rattle.reading.specs.Lists.{list_of};
 ghost use Rattle.reading.specs.Steps.{Gives};
 ghost use Rattle.style_objects.specs.Tables as spec;
+ghost use Rattle.style_objects.specs.Places.{at_place};
+ghost use Rattle.style_objects.specs.declared.fault.Part.TheVariants as part;
 ghost use Rattle.style_objects.specs.declared.fault.StyleFault.TheVariants as fault;
 ghost use Rattle.plain_drawing.specs.Limits.{most_rasters};
 
@@ -33,7 +35,7 @@ fn raster(
     before: &[RasterRef],
     object: &Value,
 ) -> Result<RasterRef, StyleFault>
-    ensures value { Gives fault.NoMemory (λ x. x) (spec.raster_of place before.now (view object.now)) result }
+    ensures value { Gives fault.NoMemory (λ x. x) (spec.raster_of (at_place part.Raster place 0 0) before.now (view object.now)) result }
     ensures apart { IfOk result (λ r. IsTrue (raster_apart before.now r)) }
 {
     let at = At::raster(place);
@@ -66,7 +68,7 @@ impl ReadItem for RasterItems {
 
     ghost limit = { λ r. most_rasters };
 
-    ghost reads = { λ r before d. spec.raster_after before d };
+    ghost reads = { λ r before d. spec.raster_of (at_place part.Raster (length before) 0 0) before d };
 
     ghost keeps = { λ r before x. raster_apart before x };
 
@@ -82,7 +84,7 @@ impl ReadItem for RasterItems {
 
 pub fn rasters(alloc: Global, items: &[Value]) -> Result<Vec<RasterRef>, StyleFault>
     requires { length items.now ≤ most_rasters }
-    ensures value { Gives fault.NoMemory (λ v. v.items) (list_of spec.raster_after (items_view items.now)) result }
+    ensures value { Gives fault.NoMemory (λ v. v.items) (list_of (λ before e. spec.raster_of (at_place part.Raster (length before) 0 0) before e) (items_view items.now)) result }
     ensures apart { IfOk result (λ v. IsTrue (each_after raster_apart [] v.items)) }
     ensures count { IfOk result (λ v. length v.items ≤ most_rasters) }
 {

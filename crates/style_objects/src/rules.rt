@@ -7,6 +7,8 @@ ghost use Rattle.reading.specs.Lists.{list_of};
 ghost use Rattle.reading.specs.Steps.{Gives};
 ghost use Rattle.style_objects.specs.TextReadings.{text_reading};
 ghost use Rattle.style_objects.specs.Tables as spec;
+ghost use Rattle.style_objects.specs.Places.{at_place};
+ghost use Rattle.style_objects.specs.declared.fault.Part.TheVariants as part;
 ghost use Rattle.style_objects.specs.declared.fault.StyleFault.TheVariants as fault;
 ghost use Rattle.style_objects.specs.inner.Parts.{painting_of, rule_by_parts};
 ghost use Rattle.plain_drawing.specs.Limits.{most_rules, most_symbolizers};
@@ -48,7 +50,7 @@ fn painting(
     object: &Value,
 ) -> Result<(u64, Option<u64>, Vec<Symbolizer>), StyleFault>
     requires { IfSome found (λ vs. length vs.now ≤ most_symbolizers) }
-    ensures value { Gives fault.NoMemory (λ p. (p.0, p.1, p.2.items)) (painting_of text_reading style place (option_map (λ vs. items_view vs.now) found.entry) (view object.now)) result }
+    ensures value { Gives fault.NoMemory (λ p. (p.0, p.1, p.2.items)) (painting_of text_reading (at_place part.Rule style place 0) (option_map (λ vs. items_view vs.now) found.entry) (view object.now)) result }
     ensures fits { IfOk result (λ p. IsTrue (list_all is_paint p.2.items)) }
     ensures count { IfOk result (λ p. length p.2.items ≤ most_symbolizers) }
 {
@@ -62,7 +64,7 @@ fn painting(
 
 #[tactic(auto, unfolding(crate::specs::inner::Parts::rule_by_parts))]
 fn rule_by_parts(alloc: Global, style: u32, place: u32, object: &Value) -> Result<Rule, StyleFault>
-    ensures { Gives fault.NoMemory (λ x. x) (rule_by_parts text_reading style place (view object.now)) result }
+    ensures { Gives fault.NoMemory (λ x. x) (rule_by_parts text_reading (at_place part.Rule style place 0) (view object.now)) result }
 {
     let at = At::rule(style, place);
     open(object, Object::Rule, at)?;
@@ -89,7 +91,7 @@ fn rule_by_parts(alloc: Global, style: u32, place: u32, object: &Value) -> Resul
 }
 
 fn rule(alloc: Global, style: u32, place: u32, object: &Value) -> Result<Rule, StyleFault>
-    ensures { Gives fault.NoMemory (λ x. x) (spec.rule_of text_reading style place (view object.now)) result }
+    ensures { Gives fault.NoMemory (λ x. x) (spec.rule_of text_reading (at_place part.Rule style place 0) (view object.now)) result }
 {
     rule_by_parts(alloc, style, place, object)
 }
@@ -107,7 +109,7 @@ impl ReadItem for RuleItems {
 
     ghost limit = { λ r. most_rules };
 
-    ghost reads = { λ r before d. spec.rule_after text_reading r.style before d };
+    ghost reads = { λ r before d. spec.rule_of text_reading (at_place part.Rule r.style (length before) 0) d };
 
     ghost keeps = { λ r before x. true };
 
@@ -118,7 +120,7 @@ impl ReadItem for RuleItems {
 
 pub fn rules(alloc: Global, style: u32, items: &[Value]) -> Result<Vec<Rule>, StyleFault>
     requires { length items.now ≤ most_rules }
-    ensures value { Gives fault.NoMemory (λ v. v.items) (list_of (spec.rule_after text_reading style) (items_view items.now)) result }
+    ensures value { Gives fault.NoMemory (λ v. v.items) (list_of (λ before e. spec.rule_of text_reading (at_place part.Rule style (length before) 0) e) (items_view items.now)) result }
     ensures count { IfOk result (λ v. length v.items ≤ most_rules) }
 {
     read_list(alloc, &RuleItems { style }, items)

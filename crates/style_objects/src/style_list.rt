@@ -8,6 +8,8 @@ ghost use Rattle.reading.specs.Lists.{list_of};
 ghost use Rattle.reading.specs.Steps.{Gives};
 ghost use Rattle.style_objects.specs.TextReadings.{text_reading};
 ghost use Rattle.style_objects.specs.Tables as spec;
+ghost use Rattle.style_objects.specs.Places.{at_place};
+ghost use Rattle.style_objects.specs.declared.fault.Part.TheVariants as part;
 ghost use Rattle.style_objects.specs.declared.fault.StyleFault.TheVariants as fault;
 ghost use Rattle.plain_drawing.specs.Limits.{most_styles};
 
@@ -31,7 +33,7 @@ pub fn style_has(name: &str, styles: &[Style]) -> bool
 
 #[tactic(auto, unfolding(crate::specs::Tables::style_of))]
 fn style(alloc: Global, place: u32, before: &[Style], object: &Value) -> Result<Style, StyleFault>
-    ensures value { Gives fault.NoMemory (λ x. x) (spec.style_of text_reading place before.now (view object.now)) result }
+    ensures value { Gives fault.NoMemory (λ x. x) (spec.style_of text_reading (at_place part.Style place 0 0) before.now (view object.now)) result }
     ensures apart { IfOk result (λ s. IsTrue (style_apart before.now s)) }
 {
     let at = At::style(place);
@@ -62,7 +64,7 @@ impl ReadItem for StyleItems {
 
     ghost limit = { λ r. most_styles };
 
-    ghost reads = { λ r before d. spec.style_object_after text_reading before d };
+    ghost reads = { λ r before d. spec.style_of text_reading (at_place part.Style (length before) 0 0) before d };
 
     ghost keeps = { λ r before s. style_apart before s };
 
@@ -73,7 +75,7 @@ impl ReadItem for StyleItems {
 
 pub fn styles(alloc: Global, items: &[Value]) -> Result<Vec<Style>, StyleFault>
     requires { length items.now ≤ most_styles }
-    ensures value { Gives fault.NoMemory (λ v. v.items) (list_of (spec.style_object_after text_reading) (items_view items.now)) result }
+    ensures value { Gives fault.NoMemory (λ v. v.items) (list_of (λ before e. spec.style_of text_reading (at_place part.Style (length before) 0 0) before e) (items_view items.now)) result }
     ensures apart { IfOk result (λ v. IsTrue (each_after style_apart [] v.items)) }
     ensures count { IfOk result (λ v. length v.items ≤ most_styles) }
 {

@@ -10,6 +10,8 @@ ghost use Rattle.reading.specs.Values.{needed, text as spec_text};
 ghost use Rattle.serde_json.specs.Find.{get};
 ghost use Rattle.style_objects.specs.TextReadings.{text_reading};
 ghost use Rattle.style_objects.specs.Tables as spec;
+ghost use Rattle.style_objects.specs.Places.{at_place};
+ghost use Rattle.style_objects.specs.declared.fault.Part.TheVariants as part;
 ghost use Rattle.style_objects.specs.declared.fault.StyleFault.TheVariants as fault;
 ghost use Rattle.plain_drawing.specs.Limits.{most_symbolizers};
 
@@ -135,7 +137,7 @@ impl ReadItem for SymbolizerItems {
 
     ghost limit = { λ r. most_symbolizers };
 
-    ghost reads = { λ r before d. spec.symbolizer_after text_reading r.style r.rule before d };
+    ghost reads = { λ r before d. spec.symbolizer_of text_reading (at_place part.Symbolizer r.style r.rule (length before)) d };
 
     ghost keeps = { λ r before s. is_paint s };
 
@@ -160,7 +162,7 @@ pub fn symbolizers(
     items: &[Value],
 ) -> Result<Vec<Symbolizer>, StyleFault>
     requires { length items.now ≤ most_symbolizers }
-    ensures value { Gives fault.NoMemory (λ v. v.items) (list_of (spec.symbolizer_after text_reading style rule) (items_view items.now)) result }
+    ensures value { Gives fault.NoMemory (λ v. v.items) (list_of (λ before e. spec.symbolizer_of text_reading (at_place part.Symbolizer style rule (length before)) e) (items_view items.now)) result }
     ensures fits { IfOk result (λ v. IsTrue (list_all is_paint v.items)) }
     ensures count { IfOk result (λ v. length v.items ≤ most_symbolizers) }
 {

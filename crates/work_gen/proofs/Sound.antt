@@ -1,6 +1,6 @@
 -- The data and the plan are sound.
 use Rattle.std.proofs.Common.{◌≡◌, ◌≤◌, inl, inr, List, [], ◌∷◌, length, Bool, true, false, eqb, refl, arith}
-use Rattle.std.specs.Prelude.{ℕ, ◌/◌, if◌then◌else◌}
+use Rattle.std.specs.Prelude.{ℕ, ◌/◌, codes, if◌then◌else◌}
 use Rattle.std.specs.List.{IsDistinct}
 use Rattle.std.specs.Str.{bytes_eq}
 use Rattle.std.proofs.lemmas.List.Elements.{All-from_recursion}
@@ -11,7 +11,7 @@ use Rattle.plain_shapes.specs.declared.shapes.LineCap.TheVariants as cap
 use Rattle.plain_drawing.specs.Styles.{is_paint}
 use Rattle.plain_drawing.specs.declared.style.Symbolizer.TheVariants as paint
 use Rattle.farm_plan.specs.Plans.{MapPlan, IsPlan, IsMapPlan, HasNamesApart, NamesMap}
-use Rattle.work_gen.specs.Work.{land, roads, spots, work_features, dataset_of, paint_of, work_colour, work_plan}
+use Rattle.work_gen.specs.Work.{work_features, dataset_of, paint_of, work_colour, work_plan}
 use Rattle.work_gen.proofs.Features.{features_few, features_distinct}
 
 layer_sound : (name : List ℕ) (seed layer n : ℕ) → is_name name ≡ true → n ≤ 100000 → IsLayer (record { name = name; features = work_features seed layer n })
@@ -21,7 +21,7 @@ layer_sound name seed layer n fits h = record {
   distinct = features_distinct seed layer n;
 }
 
-names_distinct : IsDistinct bytes_eq (land ∷ roads ∷ spots ∷ [])
+names_distinct : IsDistinct bytes_eq (codes "land" ∷ codes "roads" ∷ codes "spots" ∷ [])
 unfolding IsDistinct
 names_distinct = ((refl, (refl, tt)), ((refl, tt), (tt, tt)))
 
@@ -29,7 +29,7 @@ names_distinct = ((refl, (refl, tt)), ((refl, tt), (tt, tt)))
 pub data_sound : (seed n : ℕ) → n ≤ 100000 → IsDataset (dataset_of seed n)
 data_sound seed n h = record {
   few = omega arith;
-  each = All-from_recursion IsLayer (dataset_of seed n) (layer_sound land seed 0 n refl h, (layer_sound roads seed 1 n refl h, (layer_sound spots seed 2 n refl h, tt)));
+  each = All-from_recursion IsLayer (dataset_of seed n) (layer_sound (codes "land") seed 0 n refl h, (layer_sound (codes "roads") seed 1 n refl h, (layer_sound (codes "spots") seed 2 n refl h, tt)));
   distinct = names_distinct;
 }
 

@@ -49,22 +49,12 @@ work_features seed layer zero = []
 work_features seed layer (suc n) =
     if n % 3 == layer then work_features seed layer n ++ feature_at seed n ∷ [] else work_features seed layer n
 
--- the names of the layers
-abbrev pub land : List ℕ
-land = codes "land"
-
-abbrev pub roads : List ℕ
-roads = codes "roads"
-
-abbrev pub spots : List ℕ
-spots = codes "spots"
-
 -- the data: three layers of n features in all
 abbrev pub dataset_of : ℕ → ℕ → List Layer
 dataset_of seed n =
-    record { name = land; features = work_features seed 0 n } ∷
-    record { name = roads; features = work_features seed 1 n } ∷
-    record { name = spots; features = work_features seed 2 n } ∷ []
+    record { name = codes "land"; features = work_features seed 0 n } ∷
+    record { name = codes "roads"; features = work_features seed 1 n } ∷
+    record { name = codes "spots"; features = work_features seed 2 n } ∷ []
 
 -- ---- the style
 
@@ -100,8 +90,8 @@ work_layer name = record { name = name; source = name; minimum_scale_denominator
 unfoldable pub map_style : MapStyle
 map_style = record {
   background_color = record { r = 255; g = 255; b = 255 };
-  styles = work_style land 0 ∷ work_style roads 4 ∷ work_style spots 8 ∷ [];
-  layers = work_layer land ∷ work_layer roads ∷ work_layer spots ∷ [];
+  styles = work_style (codes "land") 0 ∷ work_style (codes "roads") 4 ∷ work_style (codes "spots") 8 ∷ [];
+  layers = work_layer (codes "land") ∷ work_layer (codes "roads") ∷ work_layer (codes "spots") ∷ [];
   rasters = [];
   grids = [];
 }

@@ -123,7 +123,7 @@ fn layer(alloc: Global, name: &str) -> Result<LayerRef, NoMemory>
 
 /// The styles of the three layers.
 fn styles(alloc: Global) -> Result<Vec<Style>, NoMemory>
-    ensures { IfOk result (λ v. v.items ≡ spec.work_style spec.land 0 ∷ spec.work_style spec.roads 4 ∷ spec.work_style spec.spots 8 ∷ []) }
+    ensures { IfOk result (λ v. v.items ≡ spec.work_style (codes "land") 0 ∷ spec.work_style (codes "roads") 4 ∷ spec.work_style (codes "spots") 8 ∷ []) }
 {
     let mut styles = Vec::new(alloc);
     styles.push(style(alloc, "land", 0)?)?;
@@ -134,7 +134,7 @@ fn styles(alloc: Global) -> Result<Vec<Style>, NoMemory>
 
 /// The three layers.
 fn layers(alloc: Global) -> Result<Vec<LayerRef>, NoMemory>
-    ensures { IfOk result (λ v. v.items ≡ spec.work_layer spec.land ∷ spec.work_layer spec.roads ∷ spec.work_layer spec.spots ∷ []) }
+    ensures { IfOk result (λ v. v.items ≡ spec.work_layer (codes "land") ∷ spec.work_layer (codes "roads") ∷ spec.work_layer (codes "spots") ∷ []) }
 {
     let mut layers = Vec::new(alloc);
     layers.push(layer(alloc, "land")?)?;

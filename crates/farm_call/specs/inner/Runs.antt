@@ -9,7 +9,7 @@ use Rattle.exit_status.specs.Ends.{FilesAt}
 use Rattle.exit_status.specs.declared.stops.Stop.{Stop}
 use Rattle.input_files.specs.inner.Runs.{Writes}
 use Rattle.farm_files.specs.Courses.{script_course, serve_course}
-use Rattle.script_command.specs.Scripts as script
+use Rattle.script_command.specs.inner.Runs as script
 use Rattle.load_command.specs.Runs.{Loads}
 use Rattle.render_command.specs.Courses.{render_course}
 use Rattle.render_command.specs.MetaCourses.{meta_course}

@@ -6,9 +6,11 @@ use Rattle.reading.specs.Steps.{◌>>=◌}
 use Rattle.reading.specs.Values.{needed, or_value, opened}
 use Rattle.farm_config.specs.Configs.{MapEntry, Config, greatest_limits}
 use Rattle.farm_config.specs.Limits.{most_workers}
-use Rattle.farm_config.specs.Kinds.{a_file, number_within, an_address, a_truth}
-use Rattle.farm_config.specs.Tables.{config_keys, maps_of, files_of, limits_of, restyles_of}
+use Rattle.farm_config.specs.Kinds.{number_within, an_address}
+use Rattle.farm_config.specs.Tables.{maps_of, files_of, limits_of, restyles_of}
 use Rattle.farm_config.specs.declared.config.RestyleEntry.{RestyleEntry}
+use Rattle.farm_config.specs.inner.Keys.{config_keys}
+use Rattle.farm_config.specs.inner.Kinds.{a_file, a_truth}
 use Rattle.farm_config.specs.declared.fault.ConfigFault.{ConfigFault}
 use Rattle.farm_config.specs.declared.fault.ConfigFault.TheVariants.{Shape}
 use Rattle.farm_config.specs.declared.reading_config.Service.{Service}

@@ -10,7 +10,7 @@ use Rattle.farm_history.specs.declared.asks.AskAnswer.{AskAnswer}
 use Rattle.farm_history.specs.declared.asks.AskAnswer.TheVariants.{Queued, Joined, Lifted, NotDone}
 use Rattle.farm_history.specs.declared.queues.Queue.{Queue}
 use Rattle.farm_history.specs.Plans.{is_in, is_lifting, own_queue, same_key, same_queue}
-use Rattle.farm_history.specs.Rules.{answer_of_waiting}
+use Rattle.farm_history.specs.inner.Asks.{answer_of_waiting}
 use Rattle.farm_history.specs.Seen.{is_clean_mark}
 use Rattle.farm_history.specs.Seen as seen
 use Rattle.render_queues.specs.OneQueue.{is_below}

@@ -20,7 +20,8 @@ use Rattle.farm_history.specs.declared.answers.Tally.{Tally}
 use Rattle.farm_history.specs.declared.keys.Mark.{Mark}
 use Rattle.farm_history.specs.Plans.{key_of, is_in, is_servable, is_dirty_command, is_lifting, own_queue, same_key}
 use Rattle.farm_history.specs.Past.{number_in, is_done_answer, is_done}
-use Rattle.farm_history.specs.Rules.{Tests, job_of}
+use Rattle.farm_history.specs.Rules.{job_of}
+use Rattle.farm_history.specs.inner.Asks.{Tests}
 use Rattle.farm_history.specs.Seen.{Taken, overtaken_by, is_clean_mark}
 use Rattle.farm_history.specs.Replays.{Saving}
 use Rattle.farm_plan.specs.Plans.{FarmPlan}

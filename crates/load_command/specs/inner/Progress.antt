@@ -1,5 +1,5 @@
 -- How far generated work has come, for the code that runs it.
-use Rattle.std.specs.Prelude.{◌≡◌, ◌≢◌, ℕ, ◌+◌, ◌*◌, ◌^◌, ◌≤◌, ◌||◌, Bool, true, false, List, [], ◌∷◌, ◌++◌, length, map, take, Result, Ok, Err}
+use Rattle.std.specs.Prelude.{◌≡◌, ◌≢◌, ℕ, ◌+◌, ◌*◌, ◌^◌, ◌≤◌, ◌||◌, Bool, true, false, List, [], ◌∷◌, ◌++◌, length, map, slice_get, take, Result, Ok, Err, MatchBool}
 use Rattle.std.specs.List.{sum_by}
 use Rattle.farm_base.specs.Outside.{Outside, Puts}
 use Rattle.farm_base.specs.declared.sinks.SinkFault.TheVariants.{Failed}
@@ -14,7 +14,8 @@ use Rattle.farm_history.specs.declared.answers.ClaimAnswer.{ClaimAnswer}
 use Rattle.farm_history.specs.declared.answers.Fetched.{Fetched}
 use Rattle.farm_history.specs.declared.answers.Fetched.TheVariants.{Clean}
 use Rattle.farm_history.specs.declared.answers.Collected.{Collected}
-use Rattle.farm_history.specs.Entries.{Entry, Claim, Collect, Fetch}
+use Rattle.farm_history.specs.Entries.{Entry, Claim, Expire, Collect, Fetch}
+use Rattle.farm_history.specs.Plans.{spot_tile}
 use Rattle.farm_history.specs.Lists.{Each}
 use Rattle.farm_history.specs.Past.{open_asks}
 use Rattle.farm_refinement.specs.Seen.{FarmSeen}
@@ -24,8 +25,20 @@ use Rattle.script_text.specs.inner.Steps.{is_failed_fetch}
 use Rattle.work_gen.specs.declared.stepping.Step.{Step}
 use Rattle.load_command.specs.declared.totals.Totals.{Totals}
 use Rattle.load_command.specs.declared.steps.StepSeen.{StepSeen}
-use Rattle.load_command.specs.Loads.{clean_tiles, byte_sum, EndsClaim, IsLast, collect_entry, IsStep, IsEventOf, IsLoad}
-use Rattle.load_command.specs.Runs.{LoadsShort}
+use Rattle.load_command.specs.Loads.{clean_tiles, EndsClaim, GivesNone, IsStep, IsEventOf, IsLoad}
+use Rattle.load_command.specs.Runs.{IsEventAt}
+
+-- a Collect that gave this reply
+abbrev pub collect_entry : Reply → Entry
+collect_entry reply = Collect 0 (Collected.Reply reply)
+
+-- the sum of the bytes
+abbrev pub byte_sum : List ℕ → ℕ
+byte_sum bytes = sum_by (λ b. b) bytes
+
+-- a tile is expired first, where the step says so
+abbrev pub Expires : Step → List Entry → List Entry → Type 0
+Expires s before after = MatchBool s.expire ((count : ℕ) × (after ≡ Expire (spot_tile s.spot) count ∷ before)) (after ≡ before)
 
 -- how many events there were, and how many asks are open: a Collect that gives a reply makes it no more
 abbrev pub weight : List Entry → ℕ
@@ -49,7 +62,7 @@ Draws s before (Err wanting) after = BreaksOff s before after
 
 -- the replies were collected, until there was none
 abbrev pub CollectsAll : List Entry → List Entry → Type 0
-CollectsAll before after = (replies : List Reply) × (last : Collected) × IsLast last × (after ≡ Collect 0 last ∷ (map collect_entry replies ++ before))
+CollectsAll before after = (replies : List Reply) × (last : Collected) × GivesNone last × (after ≡ Collect 0 last ∷ (map collect_entry replies ++ before))
 
 -- the tile of a fetch that is clean
 abbrev pub clean_of : Fetched → List (List ℕ)
@@ -90,6 +103,15 @@ pub record Tells (totals : Totals) (count : ℕ) (h : List Entry) : Type 0 where
 -- so many steps were run, with these totals
 abbrev pub Summed : List Step → ℕ → Totals → List Entry → Type 0
 Summed steps count totals h = IsLoad (take count steps) [] h × Tells totals count h
+
+-- the first so many steps were run, and of the next one some events
+pub record LoadsShort (steps : List Step) (stands : List Entry → Type 0) : Type 0 where
+  pub count : ℕ
+  pub middle : List Entry
+  pub run : IsLoad (take count steps) [] middle
+  pub rest : List Entry
+  pub events : Each (IsEventAt (slice_get steps count)) rest
+  pub stood_for : stands (rest ++ middle)
 
 -- the steps were run; or memory was wanting in one
 abbrev pub Runs : {D : Type 0} → (D → Outside StoreTold) → Bool → FarmSeen D → List Step → Result Totals NoMemory → Type 0

@@ -16,7 +16,7 @@ use Rattle.farm_refinement.specs.Seen.{FarmSeen}
 use Rattle.farm_refinement.specs.Stands.{StandsFor}
 use Rattle.farm_core.specs.Begins.{Begins, origin}
 use Rattle.tile_paths.specs.Paths.{saved_path}
-use Rattle.serve_command.specs.Beginnings.{ResumeRefusal, RefusesFor, resumed_by}
+use Rattle.serve_command.specs.Beginnings.{RefusesFor, resumed_by}
 
 -- why a call ends in which the store did not do what it was asked
 abbrev pub stop_of : StoreFault → Stop
@@ -37,7 +37,7 @@ pub record BeganWith {D : Type 0} (state : D → Outside StoreTold) (plan : Farm
 
 -- why none was
 abbrev pub Refuses : FarmPlan → Option (List ℕ) → Stop → Type 0
-Refuses plan found (stop.Refused line) = (why : ResumeRefusal) × (resumed_by plan found ≡ Err why) × RefusesFor why line
+Refuses plan found (stop.Refused line) = (why : Option (List ℕ)) × (resumed_by plan found ≡ Err why) × RefusesFor why line
 Refuses plan found stop.NoMemory = Unit {0}
 Refuses plan found other = ⊥
 

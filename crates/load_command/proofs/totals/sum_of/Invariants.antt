@@ -1,5 +1,5 @@
 use Rattle.std.proofs.Common.{◌≡◌, ◌≤◌, ◌*◌, take}
-use Rattle.load_command.specs.Loads.{byte_sum}
+use Rattle.load_command.specs.inner.Progress.{byte_sum}
 use Rattle.load_command.proofs.totals.sum_of.Given as goal
 
 abbrev pub invariant-loop-byte : goal.invariant-loop-byte

@@ -1,7 +1,7 @@
 use Rattle.std.proofs.Common.{◌≡◌, append_assoc}
 use Rattle.std.specs.Prelude.{string_bytes}
 use Rattle.std.proofs.lemmas.Result.{IfOk-weaker}
-use Rattle.render_command.specs.MetaLines.{meta_line}
+use Rattle.render_command.specs.inner.MetaLines.{meta_line}
 use Rattle.render_command.proofs.meta_lines.meta_line.Goals as goal
 
 pub returns : goal.returns

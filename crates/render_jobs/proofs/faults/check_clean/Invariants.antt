@@ -1,6 +1,7 @@
 -- Those so far pass.
 use Rattle.std.proofs.Common.{◌≡◌, drop}
-use Rattle.render_jobs.specs.Faults.{can_show, first_failing, kept_fault}
+use Rattle.render_jobs.specs.Faults.{can_show, first_failing}
+use Rattle.render_jobs.specs.inner.Faults.{kept_fault}
 use Rattle.render_jobs.specs.declared.faults.ResumeFault.TheVariants.{Kept}
 use Rattle.render_jobs.proofs.faults.check_clean.Given as goal
 

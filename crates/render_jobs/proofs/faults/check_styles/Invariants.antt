@@ -1,6 +1,7 @@
 -- Those so far pass.
 use Rattle.std.proofs.Common.{◌≡◌, drop}
-use Rattle.render_jobs.specs.Faults.{is_style_at, first_failing, styles_fault}
+use Rattle.render_jobs.specs.Faults.{is_style_at, first_failing}
+use Rattle.render_jobs.specs.inner.Faults.{styles_fault}
 use Rattle.render_jobs.specs.declared.faults.ResumeFault.TheVariants.{Number}
 use Rattle.render_jobs.proofs.faults.check_styles.Given as goal
 

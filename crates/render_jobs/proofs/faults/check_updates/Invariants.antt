@@ -1,7 +1,8 @@
 -- Those so far pass.
 use Rattle.std.proofs.Common.{◌≡◌, ◌+◌, nat_lt, length, drop}
 use Rattle.farm_history.specs.Replays.{past_number}
-use Rattle.render_jobs.specs.Faults.{first_failing, updates_fault}
+use Rattle.render_jobs.specs.Faults.{first_failing}
+use Rattle.render_jobs.specs.inner.Faults.{updates_fault}
 use Rattle.render_jobs.specs.declared.faults.ResumeFault.TheVariants.{Number}
 use Rattle.render_jobs.proofs.faults.check_updates.Given as goal
 

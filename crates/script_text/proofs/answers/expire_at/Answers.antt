@@ -1,7 +1,6 @@
-use Rattle.std.proofs.Common.{refl, subst}
+use Rattle.std.proofs.Common.{codes, refl, subst}
 use Rattle.plain_world.specs.declared.world.Tile.{Tile}
 use Rattle.script_lines.specs.declared.script.ScriptLine.TheVariants as line
-use Rattle.script_answers.specs.Answers.{unservable_line}
 use Rattle.script_text.specs.ScriptTexts.{HasNone}
 use Rattle.script_text.specs.inner.Hands.{tickets}
 use Rattle.script_text.specs.inner.Steps.{Answers}
@@ -17,5 +16,5 @@ returns-in-Some-clause-step g c = λ told h s hand.
 pub returns-in-None-clause-step : goal.returns-in-None-clause-step
 returns-in-None-clause-step g c = λ told h s hand.
     answered_none _ _ _ _ _ _ _ _ _
-    (none_said _ _ unservable_line (HasNone (tickets c.args.hand.now.items) (line.Expire c.args.place.0 c.args.place.1 c.args.place.2)) c.said.ensures c.of.ensures (λ said is. (c.in-None.ensures.none, is)))
+    (none_said _ _ (codes "unservable\n") (HasNone (tickets c.args.hand.now.items) (line.Expire c.args.place.0 c.args.place.1 c.args.place.2)) c.said.ensures c.of.ensures (λ said is. (c.in-None.ensures.none, is)))
     refl hand s

@@ -1,7 +1,6 @@
 use Rattle.std.proofs.Common.{◌∙◌, refl, sym}
-use Rattle.std.specs.Prelude.{false}
+use Rattle.std.specs.Prelude.{false, codes}
 use Rattle.script_lines.specs.declared.script.ScriptLine.TheVariants as line
-use Rattle.script_answers.specs.Answers.{nojob_line}
 use Rattle.script_text.specs.ScriptTexts.{HasNone}
 use Rattle.script_text.specs.inner.Hands.{tickets}
 use Rattle.script_text.proofs.Entering.{answered_none, answered_end}
@@ -12,7 +11,7 @@ use Rattle.script_text.proofs.hands.cut.Goals as goal
 pub returns-in-None-clause-step : goal.returns-in-None-clause-step
 returns-in-None-clause-step g c = λ told h s hand.
     answered_none _ _ _ _ _ _ _ _ _
-    (none_said _ _ nojob_line (HasNone (tickets c.args.hand.now.items) (line.Cut c.args.ticket)) c.said.ensures c.of.ensures
+    (none_said _ _ (codes "nojob\n") (HasNone (tickets c.args.hand.now.items) (line.Cut c.args.ticket)) c.said.ensures c.of.ensures
     (λ said is. (not_in_hand c.args.hand.now.items c.args.ticket (sym c.in-None.ensures.found), is)))
     (c.in-None.ensures.left ∙ none_taken c.args.hand.now.items c.args.ticket (sym c.in-None.ensures.found)) hand s
 

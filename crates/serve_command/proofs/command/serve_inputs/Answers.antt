@@ -19,7 +19,7 @@ returns-in-Err-listen_at g c =
     (inr (
       c.in-Ok-begin.farm,
       begun g.D.TileStore.state c.args.served c.args.store _ (ap (λ (s : Served). s.config) c.served.view_is) _ (ap (λ (i : FarmInputs). i.plan) c.inputs.view_is ∙ ap (λ (s : Served). s.inputs.plan) c.served.view_is) _
-          (ap (λ (k : Config). k.resume) c.config.view_is ∙ ap (λ (s : Served). s.config.resume) c.served.view_is) c.in-Ok-begin.farm c.in-Ok-begin.ensures,
+          (ap (λ (k : Config). k.resume) c.config.view_is ∙ ap (λ (s : Served). s.config.resume) c.served.view_is) c.in-Ok-begin.farm c.in-Ok-begin.ensures.0,
       c.into_store.ensures,
       inl (listened g.D.TileStore.state c.args.served c.args.store _ (ap (λ (s : Served). s.config) c.served.view_is) _ (ap (λ (i : FarmInputs). i.plan) c.inputs.view_is ∙ ap (λ (s : Served). s.inputs.plan) c.served.view_is) _
           (ap (λ (k : Config). k.resume) c.config.view_is ∙ ap (λ (s : Served). s.config.resume) c.served.view_is) _ _ _ c.in-Err-listen_at.ensures),
@@ -30,6 +30,6 @@ returns g c =
     served g.D.TileStore.state c.args.served c.args.store _ _ _ _ _ (ap (λ (k : Config). k.resume) c.config.view_is ∙ ap (λ (s : Served). s.config.resume) c.served.view_is)
     (ap (λ (i : FarmInputs). i.lists) c.inputs.view_is ∙ ap (λ (s : Served). s.inputs.lists) c.served.view_is) _
     (begun g.D.TileStore.state c.args.served c.args.store _ (ap (λ (s : Served). s.config) c.served.view_is) _ (ap (λ (i : FarmInputs). i.plan) c.inputs.view_is ∙ ap (λ (s : Served). s.inputs.plan) c.served.view_is) _
-    (ap (λ (k : Config). k.resume) c.config.view_is ∙ ap (λ (s : Served). s.config.resume) c.served.view_is) c.in-Ok-begin.farm c.in-Ok-begin.ensures)
+    (ap (λ (k : Config). k.resume) c.config.view_is ∙ ap (λ (s : Served). s.config.resume) c.served.view_is) c.in-Ok-begin.farm c.in-Ok-begin.ensures.0)
     (listened g.D.TileStore.state c.args.served c.args.store _ (ap (λ (s : Served). s.config) c.served.view_is) _ (ap (λ (i : FarmInputs). i.plan) c.inputs.view_is ∙ ap (λ (s : Served). s.inputs.plan) c.served.view_is) _
     (ap (λ (k : Config). k.resume) c.config.view_is ∙ ap (λ (s : Served). s.config.resume) c.served.view_is) _ _ _ c.in_default-listen_at.ensures) c.run.result c.run.ensures

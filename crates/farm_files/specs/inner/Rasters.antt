@@ -1,14 +1,14 @@
--- What a raster file says.
-use Rattle.std.specs.Prelude.{ℕ, List, flat_map, Option, Result, Ok, Err}
+-- What a raster file says, as the code reads it: in one, with a fault of either kind. Words of inner contracts.
+use Rattle.std.specs.Prelude.{ℕ, List, Option, Result, Ok, Err}
 use Rattle.plain_shapes.specs.Images.{Pixels}
 use Rattle.plain_drawing.specs.Grids.{Grid}
-use Rattle.plain_shapes.specs.Ppm.{pixel_bytes}
 use Rattle.plain_drawing.specs.Styles.{RasterRef}
+use Rattle.plain_image.specs.PpmText.{ppm_of}
 use Rattle.plain_image.specs.declared.reading.PpmFault.{PpmFault}
-use Rattle.style_objects.specs.TextReadings.{TextReading, text_reading}
 use Rattle.raster_layers.specs.Scales.{grid_or_fault}
 use Rattle.raster_layers.specs.declared.grids.GridFault.{GridFault}
 use Rattle.fault_texts.specs.RasterFaults.{ppm_text, grid_text}
+use Rattle.farm_files.specs.MapCourses.{grid_with}
 use Rattle.farm_files.specs.declared.rasters.RasterFault.{RasterFault}
 use Rattle.farm_files.specs.declared.rasters.RasterFault.TheVariants.{Ppm, Grid as NoGrid}
 
@@ -22,10 +22,6 @@ abbrev pub as_raster : Result Grid GridFault → Result Grid RasterFault
 as_raster (Ok grid) = Ok grid
 as_raster (Err fault) = Err (NoGrid fault)
 
--- the grid of a raster with this picture: its name, place and pixel, the picture's sides and the three bytes of each of its pixels
-abbrev pub grid_with : RasterRef → Pixels → Grid
-grid_with r image = record { name = r.name; west = r.west; north = r.north; pixel = r.pixel; cols = image.cols; rows = image.rows; bytes = flat_map pixel_bytes image.pixels }
-
 -- the grid of a raster with this picture, unless a side is too long
 abbrev pub with_image : RasterRef → Pixels → Result Grid RasterFault
 with_image r image = as_raster (grid_or_fault (grid_with r image))
@@ -35,10 +31,6 @@ abbrev pub after_ppm : RasterRef → Result Pixels PpmFault → Result Grid Rast
 after_ppm r (Ok image) = with_image r image
 after_ppm r (Err fault) = Err (Ppm fault)
 
--- what the bytes of a raster's file say, where pictures are read so: the grid, or the fault of the PPM text, or that of the grid
-abbrev pub raster_by : TextReading → RasterRef → List ℕ → Result Grid RasterFault
-raster_by says r bytes = after_ppm r (says.picture bytes)
-
--- the same, where pictures are read by the function that goes over their bytes
+-- what the bytes of a raster's file say: the grid, or the fault of the PPM text, or that of the grid
 abbrev pub raster_in : RasterRef → List ℕ → Result Grid RasterFault
-raster_in r bytes = raster_by text_reading r bytes
+raster_in r bytes = after_ppm r (ppm_of bytes)

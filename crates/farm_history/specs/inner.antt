@@ -1,0 +1,2 @@
+-- Words that serve inner contracts and proofs alone.
+pub mod Asks

@@ -1,0 +1,2 @@
+-- Words that serve inner contracts alone.
+pub mod MetaLines
