@@ -157,6 +157,16 @@ def comb(teeth):
     return made
 
 
+def scattered(count):
+    """Small squares in no order of place, over the metatile of zoom 8 at the middle."""
+    west, north, side, _ = metatile(8, 2**7, 2**7)
+    draw, squares = random.Random(8), []
+    for _ in range(count):
+        x, y, wide = west + draw.randrange(side), north + draw.randrange(side), 1024 + draw.randrange(2048)
+        squares.append((0, "polygon", [[[x, y], [x + wide, y], [x + wide, y + wide], [x, y + wide]]]))
+    return {"all": squares}
+
+
 # ---- styles: for each layer of data some rules (kind or None for the rest, symbolizers)
 
 
@@ -214,6 +224,7 @@ CASES = {
     "contours": (contours, one(stroke("#996633", 1, "butt", 0.5)), [14], HERE),
     "comb8000": (comb(8000), one(fill("#336699")), [14], HERE),
     "comb32000": (comb(32000), one(fill("#336699")), [14], HERE),
+    "scattered": (lambda: scattered(300000), one(fill("#336699")), [18], HERE),
     "elsewhere": (lambda: mixed(100000), TWELVE, [18], HERE),
     "nothing": (lambda: {"all": []}, one(fill("#336699")), [14], HERE),
 }

@@ -1,8 +1,9 @@
 -- Bits that stand for cells, and why cells that share no bit hold no common point.
 use Rattle.std.proofs.Common.{◌≡◌, ℕ, get_or, ◌+◌, ◌-◌, ◌*◌, ◌/◌, ◌%◌, ◌^◌, ◌<◌, ◌≤◌, refl, sym, ap, ◌∙◌, subst, inl, inr, arith}
-use Rattle.std.specs.Prelude.{Bool, true, false, not, ◌||◌, nat_eq, nat_lt, min, max, List, [], ◌∷◌, length, take, All}
+use Rattle.std.specs.Prelude.{Bool, true, false, not, ◌||◌, nat_eq, nat_lt, min, max, List, [], ◌∷◌, length, take, set, All}
 use Rattle.std.specs.List.{AllByRecursion, list_any}
 use Rattle.std.proofs.lemmas.Bool.Decides.{nat_tests}
+use Rattle.std.proofs.lemmas.List.{get_or-set_same, get_or-set_other}
 use Rattle.std.proofs.lemmas.List.Elements.{All-more, All-weaker, recursion_from_All}
 use Rattle.std.specs.Int.{bit_at, w64}
 use Rattle.std.specs.Int.RustNames.{bit_or}
@@ -16,7 +17,8 @@ use Rattle.plain_data.specs.Features.{Feature}
 use Rattle.geo_model.specs.Bounds.{InBounds, Within, IsLeastBounds, meets}
 use Rattle.geo_model.specs.Shapes.{parts_of, least_points, is_none, IsShape}
 use Rattle.data_versions.specs.Near.{is_near}
-use Rattle.data_versions.specs.inner.Cells.{part_of, cell_at, Marks, IsWide, box_of, IsBoxed, IsMarked, IsChunk}
+use Rattle.data_versions.specs.declared.cells.CellBlock.{CellBlock}
+use Rattle.data_versions.specs.inner.Cells.{part_of, row_of, column_of, Marks, HasCells, IsWide, box_of, IsBoxed, IsMarked, IsChunk}
 use Rattle.std.proofs.Math.Nat.{div-mul-le_self}
 use Rattle.std.proofs.lemmas.Nat.{le-div}
 use Rattle.std.proofs.lemmas.Nat.Bits.{bit_at_or, bit_at_and, bit_at-lt, bit_at-zero, bit_at_set_same}
@@ -32,12 +34,38 @@ or_right a b k h = omega (arith, bit_at_or a b k, bit_at-lt a k)
 pub in_both : (a b k : ℕ) → bit_at a k ≡ 1 → bit_at b k ≡ 1 → bit_at (bit_and a b) k ≡ 1
 in_both a b k g h = omega (arith, bit_at_and a b k)
 
--- one more cell of a row
-pub row_more : (n row first column : ℕ) → 8 * row + column < 64 → ((i : ℕ) → first ≤ i → i < column → bit_at n (8 * row + i) ≡ 1)
-    → (i : ℕ) → first ≤ i → i < column + 1 → bit_at (bit_or n (1 * 2 ^ (8 * row + column) % 2 ^ 64)) (8 * row + i) ≡ 1
-row_more n row first column small marked i from below = elim (cases_eq i column) [
-  | inl e ↦ subst (λ (x : ℕ). bit_at (bit_or n (1 * 2 ^ (8 * row + column) % 2 ^ 64)) (8 * row + x) ≡ 1) (sym e) (bit_at_set_same w64 n (8 * row + column) small)
-  | inr other ↦ or_left n (1 * 2 ^ (8 * row + column) % 2 ^ 64) (8 * row + i) (marked i from (omega arith))
+-- one more column
+pub column_more : (n first column : ℕ) → column < 64 → ((i : ℕ) → first ≤ i → i < column → bit_at n i ≡ 1)
+    → (i : ℕ) → first ≤ i → i < column + 1 → bit_at (bit_or n (1 * 2 ^ column % 2 ^ 64)) i ≡ 1
+column_more n first column small marked i from below = elim (cases_eq i column) [
+  | inl e ↦ subst (λ (x : ℕ). bit_at (bit_or n (1 * 2 ^ column % 2 ^ 64)) x ≡ 1) (sym e) (bit_at_set_same w64 n column small)
+  | inr other ↦ or_left n (1 * 2 ^ column % 2 ^ 64) i (marked i from (omega arith))
+]
+
+-- columns that are added to a row: what was set stays set, and they are set
+pub row_kept : (rows : List ℕ) (row columns k i : ℕ) → row < length rows → bit_at (get_or rows k 0) i ≡ 1
+    → bit_at (get_or (set rows row (bit_or (get_or rows row 0) columns)) k 0) i ≡ 1
+row_kept rows row columns k i within h =
+    let more : ℕ = bit_or (get_or rows row 0) columns in
+    elim (cases_eq k row) [
+      | inl e ↦ (
+          let here : bit_at (get_or rows row 0) i ≡ 1 = ap (λ (x : ℕ). bit_at (get_or rows x 0) i) (sym e) ∙ h in
+          ap (λ (x : ℕ). bit_at (get_or (set rows row more) x 0) i) e ∙ ap (λ (x : ℕ). bit_at x i) (get_or-set_same rows row more 0 within) ∙ or_left (get_or rows row 0) columns i here)
+      | inr other ↦ ap (λ (x : ℕ). bit_at x i) (get_or-set_other rows row k more 0 other) ∙ h
+    ]
+
+pub row_added : (rows : List ℕ) (row columns i : ℕ) → row < length rows → bit_at columns i ≡ 1
+    → bit_at (get_or (set rows row (bit_or (get_or rows row 0) columns)) row 0) i ≡ 1
+row_added rows row columns i within h =
+    ap (λ (x : ℕ). bit_at x i) (get_or-set_same rows row (bit_or (get_or rows row 0) columns) 0 within) ∙ or_right (get_or rows row 0) columns i h
+
+-- the rows of a block so far
+pub rows_added : (old now : List ℕ) (row columns top k i : ℕ) → row < length old → now ≡ set old row (bit_or (get_or old row 0) columns) → bit_at columns i ≡ 1
+    → ((j : ℕ) → top ≤ j → j < row → bit_at (get_or old j 0) i ≡ 1) → top ≤ k → k < row + 1 → bit_at (get_or now k 0) i ≡ 1
+rows_added old now row columns top k i within is set_in before from below = elim (cases_eq k row) [
+  | inl e ↦ (let at : ℕ → ℕ = λ x. bit_at (get_or now x 0) i in
+      ap at e ∙ ap (λ (xs : List ℕ). bit_at (get_or xs row 0) i) is ∙ row_added old row columns i within set_in)
+  | inr other ↦ ap (λ (xs : List ℕ). bit_at (get_or xs k 0) i) is ∙ row_kept old row columns k i within (before k from (omega arith))
 ]
 
 quotient_grows : (m n k : ℕ) → 0 < k → m ≤ n → m / k ≤ n / k
@@ -45,36 +73,45 @@ quotient_grows m n k some h = le-div (m / k) n k some (omega (arith, div-mul-le_
 
 -- a coordinate further on lies in no earlier part
 part_grows : (low high x y : ℕ) → x ≤ y → part_of low high x ≤ part_of low high y
-part_grows low high x y h = quotient_grows ((x - low) * 8) ((y - low) * 8) (high - low + 1) (omega arith) (omega arith)
+part_grows low high x y h = quotient_grows ((x - low) * 64) ((y - low) * 64) (high - low + 1) (omega arith) (omega arith)
 
 -- the cells of all columns and rows between those of the part's corners mark it
-pub marks_from : (box part : Bounds) (cells west east north south first last top row : ℕ) → west ≡ max box.west part.west → east ≡ min box.east part.east
+pub marks_from : (box part : Bounds) (block : CellBlock) (west east north south first last : ℕ) → west ≡ max box.west part.west → east ≡ min box.east part.east
     → north ≡ max box.north part.north → south ≡ min box.south part.south → first ≡ part_of box.west box.east west → last ≡ part_of box.west box.east east
-    → top ≡ part_of box.north box.south north → part_of box.north box.south south + 1 ≤ row
-    → ((i j : ℕ) → first ≤ i → i ≤ last → top ≤ j → j < row → bit_at cells (8 * j + i) ≡ 1) → Marks box part cells
-marks_from box part cells west east north south first last top row w e n s f l t past each = record {
-  each = λ p in_box in_part. each (part_of box.west box.east p.x) (part_of box.north box.south p.y)
+    → block.top ≡ part_of box.north box.south north → block.bottom ≡ part_of box.north box.south south
+    → ((i : ℕ) → first ≤ i → i ≤ last → bit_at block.columns i ≡ 1) → Marks box part block
+marks_from box part block west east north south first last w e n s f l t b each = record {
+  from = λ p in_box in_part. (rw t (part_grows box.north box.south north p.y (omega arith)));
+  to = λ p in_box in_part. (rw b (part_grows box.north box.south p.y south (omega arith)));
+  across = λ p in_box in_part. each (part_of box.west box.east p.x)
       (rw f (part_grows box.west box.east west p.x (omega arith)))
-      (rw l (part_grows box.west box.east p.x east (omega arith)))
-      (rw t (part_grows box.north box.south north p.y (omega arith)))
-      (omega (arith, part_grows box.north box.south p.y south (omega arith)));
+      (rw l (part_grows box.west box.east p.x east (omega arith)));
 }
 
 -- ---- cells that share no bit
+
+pub rows_apart : (rows : List ℕ) (columns top row : ℕ) → ((k : ℕ) → top ≤ k → k < row → bit_and (get_or rows k 0) columns ≡ 0) → bit_and (get_or rows row 0) columns ≡ 0
+    → (k : ℕ) → top ≤ k → k < row + 1 → bit_and (get_or rows k 0) columns ≡ 0
+rows_apart rows columns top row before here k from below = elim (cases_eq k row) [
+  | inl e ↦ ap (λ (x : ℕ). bit_and (get_or rows x 0) columns) e ∙ here
+  | inr other ↦ before k from (omega arith)
+]
 
 apart_at : (cells mask k : ℕ) → bit_and cells mask ≡ 0 → bit_at (bit_and cells mask) k ≡ 0
 apart_at cells mask k none = ap (λ (n : ℕ). bit_at n k) none ∙ bit_at-zero k
 
 -- two rectangles that meet have a point in common, and its cell is among the cells of both
-common_point : (box a b : Bounds) (cells mask : ℕ) → IsWide a → IsWide b → Within a box → Marks box a cells → Marks box b mask
-    → bit_and cells mask ≡ 0 → a.west ≤ b.east → b.west ≤ a.east → a.north ≤ b.south → b.north ≤ a.south → ⊥
-common_point box a b cells mask wide_a wide_b within marks_a marks_b none h1 h2 h3 h4 =
+common_point : (box a b : Bounds) (cells : List ℕ) (block : CellBlock) → IsWide a → IsWide b → Within a box → HasCells box a cells → Marks box b block
+    → ((k : ℕ) → block.top ≤ k → k ≤ block.bottom → bit_and (get_or cells k 0) block.columns ≡ 0)
+    → a.west ≤ b.east → b.west ≤ a.east → a.north ≤ b.south → b.north ≤ a.south → ⊥
+common_point box a b cells block wide_a wide_b within has_a marks_b none h1 h2 h3 h4 =
     let p : Point = record { x = max a.west b.west; y = max a.north b.north } in
     let in_a : InBounds a p = record { from_west = omega arith; to_east = omega arith; from_north = omega arith; to_south = omega arith } in
     let in_b : InBounds b p = record { from_west = omega arith; to_east = omega arith; from_north = omega arith; to_south = omega arith } in
     let in_box : InBounds box p = record { from_west = omega arith; to_east = omega arith; from_north = omega arith; to_south = omega arith } in
-    let one = in_both cells mask (cell_at box p) (marks_a.each p in_box in_a) (marks_b.each p in_box in_b) in
-    let zero = apart_at cells mask (cell_at box p) none in
+    let row : ℕ = get_or cells (row_of box p) 0 in
+    let one = in_both row block.columns (column_of box p) (has_a.each p in_box in_a) (marks_b.across p in_box in_b) in
+    let zero = apart_at row block.columns (column_of box p) (none (row_of box p) (marks_b.from p in_box in_b) (marks_b.to p in_box in_b)) in
     absurd (omega (arith, one, zero))
 
 tested : (a b : Bounds) → meets a b ≡ true → (a.west ≤ b.east) × (b.west ≤ a.east) × (a.north ≤ b.south) × (b.north ≤ a.south)
@@ -85,13 +122,13 @@ untrue true h = absurd (h refl)
 untrue false h = refl
 
 -- where the features' cells and the rectangle's share no bit, no feature is near
-pub none_near : (box around : Bounds) (cells mask : ℕ) (features : List Feature) → IsChunk box cells features → IsWide around → Marks box around mask
-    → bit_and cells mask ≡ 0 → All (λ f. is_near around f ≡ false) features
-none_near box around cells mask features chunk wide marks none = λ k d small.
+pub none_near : (box around : Bounds) (cells : List ℕ) (block : CellBlock) (features : List Feature) → IsChunk box cells features → IsWide around → Marks box around block
+    → ((k : ℕ) → block.top ≤ k → k ≤ block.bottom → bit_and (get_or cells k 0) block.columns ≡ 0) → All (λ f. is_near around f ≡ false) features
+none_near box around cells block features chunk wide marks none = λ k d small.
     untrue (is_near around (get_or features k d)) (λ near.
     let boxed : IsBoxed box (get_or features k d) = chunk.boxed k d small in
     let facts = tested (box_of (get_or features k d)) around near in
-    common_point box (box_of (get_or features k d)) around cells mask boxed.wide wide boxed.within (chunk.marked k d small) marks none facts.0 facts.1 facts.2 facts.3)
+    common_point box (box_of (get_or features k d)) around cells block boxed.wide wide boxed.within (chunk.marked k d small) marks none facts.0 facts.1 facts.2 facts.3)
 
 pub no_bits : (n : ℕ) → not (nat_eq n 0) ≡ false → n ≡ 0
 no_bits n h = grind (arith, nat_tests)
@@ -108,15 +145,18 @@ boxed_more features i f old new small at each larger within wide =
     let here : IsBoxed new f = record { within = within; wide = wide } in
     All-more (IsBoxed new) features i f small (All-weaker (IsBoxed old) (IsBoxed new) later (take i features) each) (subst (λ (g : Feature). IsBoxed new g) at here)
 
-pub marked_more : (features : List Feature) (i : ℕ) (f : Feature) (box : Bounds) (old more : ℕ) → i < length features → f ≡ get_or features i f
-    → All (IsMarked box old) (take i features) → Marks box (box_of f) more → All (IsMarked box (bit_or old more)) (take (i + 1) features)
-marked_more features i f box old more small at each marks =
-    let later : (g : Feature) → IsMarked box old g → IsMarked box (bit_or old more) g = λ g h. record {
-      each = λ p in_box in_part. or_left old more (cell_at box p) (h.each p in_box in_part);
+pub marked_more : (features : List Feature) (n : ℕ) (f : Feature) (box : Bounds) (old new : List ℕ) (block : CellBlock) → n < length features → f ≡ get_or features n f
+    → All (IsMarked box old) (take n features) → Marks box (box_of f) block
+    → ((k i : ℕ) → bit_at (get_or old k 0) i ≡ 1 → bit_at (get_or new k 0) i ≡ 1)
+    → ((k i : ℕ) → block.top ≤ k → k ≤ block.bottom → bit_at block.columns i ≡ 1 → bit_at (get_or new k 0) i ≡ 1) → All (IsMarked box new) (take (n + 1) features)
+marked_more features n f box old new block small at each marks kept added =
+    let later : (g : Feature) → IsMarked box old g → IsMarked box new g = λ g h. record {
+      each = λ p in_box in_part. kept (row_of box p) (column_of box p) (h.each p in_box in_part);
     } in
-    let here : IsMarked box (bit_or old more) f = record { each = λ p in_box in_part. or_right old more (cell_at box p) (marks.each p in_box in_part) } in
-    All-more (IsMarked box (bit_or old more)) features i f small
-    (All-weaker (IsMarked box old) (IsMarked box (bit_or old more)) later (take i features) each) (subst (λ (g : Feature). IsMarked box (bit_or old more) g) at here)
+    let here : IsMarked box new f = record {
+      each = λ p in_box in_part. added (row_of box p) (column_of box p) (marks.from p in_box in_part) (marks.to p in_box in_part) (marks.across p in_box in_part);
+    } in
+    All-more (IsMarked box new) features n f small (All-weaker (IsMarked box old) (IsMarked box new) later (take n features) each) (subst (λ (g : Feature). IsMarked box new g) at here)
 
 -- ---- the box of a shape holds a point
 

@@ -6,7 +6,7 @@ ghost use Rattle.data_versions.specs.inner.Cells.{IsWide, IsBoxed, IsMarked, box
 ghost use Rattle.data_versions.specs.inner.Chunks.{IsIndex};
 ghost use Rattle.geo_model.specs.Bounds.{Within};
 
-use crate::cells::cells_met;
+use crate::cells::{add_block, cells_met, has_one, no_cells};
 use farm_base::NoMemory;
 use geo_model::{Bounds, Feature};
 use std::alloc::Global;
@@ -15,15 +15,15 @@ use std::marker::Model;
 /// The most features of a chunk.
 pub(crate) const MOST_TOGETHER: usize = 256;
 
-/// Up to 256 features, their ids from least to greatest, the box that holds them, and those of its eight by
-/// eight cells that they meet: the bit `8 * row + column` stands for a cell, counted from the north and from
-/// the west. Contracts see it as the list of its features.
+/// Up to 256 features, their ids from least to greatest, the box that holds them, and those of its 64 by 64 cells
+/// that they meet: 2 bytes a feature, by which a chunk of features that lie far apart is passed over too. Contracts
+/// see it as the list of its features.
 #[derive(Drop)]
 pub(crate) struct Chunk {
     features: Vec<Feature>,
     ids: Vec<u64>,
     bounds: Bounds,
-    cells: u64,
+    cells: Vec<u64>,
 }
 
 impl Model for Chunk {
@@ -36,7 +36,7 @@ impl Model for Chunk {
 
     ghost view = { λ c. c.features.items };
 
-    ghost invariant = { λ c. IsChunk c.bounds c.cells c.features.items × IsIndex c.ids.items c.features.items };
+    ghost invariant = { λ c. IsChunk c.bounds c.cells.items c.features.items × IsIndex c.ids.items c.features.items };
 }
 
 /// The least rectangle that holds both.
@@ -79,14 +79,15 @@ fn box_around(features: &[Feature]) -> Bounds
 }
 
 /// The cells of the box that the features meet.
-fn cells_under(bounds: Bounds, features: &[Feature]) -> u64
-    ensures { All (IsMarked bounds result) features.now }
+fn cells_under(alloc: Global, bounds: Bounds, features: &[Feature]) -> Result<Vec<u64>, NoMemory>
+    ensures rows { IfOk result (λ v. length v.items ≡ 64) }
+    ensures marked { IfOk result (λ v. All (IsMarked bounds v.items) features.now) }
 {
-    let mut cells = 0;
+    let mut cells = no_cells(alloc)?;
     for feature in features {
-        cells |= cells_met(bounds, feature.bbox());
+        add_block(&mut cells, cells_met(bounds, feature.bbox()));
     }
-    cells
+    Ok(cells)
 }
 
 /// The ids of the features from least to greatest.
@@ -109,7 +110,7 @@ impl Chunk {
     {
         let ids = sorted_ids(alloc, features.as_slice())?;
         let bounds = box_around(features.as_slice());
-        let cells = cells_under(bounds, features.as_slice());
+        let cells = cells_under(alloc, bounds, features.as_slice())?;
         Ok(Chunk {
             features,
             ids,
@@ -138,7 +139,7 @@ impl Chunk {
         requires { IsWide around }
         ensures { result ≡ false → All (λ f. is_near around f ≡ false) self.now }
     {
-        self.cells & cells_met(self.bounds, around) != 0
+        has_one(self.cells.as_slice(), cells_met(self.bounds, around))
     }
 
     /// How many steps past the place `from` the first feature near the rectangle stands.

@@ -6,18 +6,9 @@ use crate::containers::draw_container;
 use crate::picture_buffer::PictureBuffer;
 use farm_base::NoMemory;
 use render_jobs::Job;
-use std::alloc::Global;
 
 /// Draws the metatile of a job, in its style and over its data, and gives it as the container that is
-/// stored.
-pub fn draw_job(alloc: Global, job: &Job) -> Result<Vec<u8>, NoMemory>
-    requires { IsValidJob job.now }
-    ensures { IfOk result (λ v. v.items ≡ job_text job.now) }
-{
-    draw_job_on(&mut PictureBuffer::new(alloc), job)
-}
-
-/// The same on a picture buffer, for who draws again and again.
+/// stored. The picture buffer is for who draws again and again.
 pub fn draw_job_on(picture_buffer: &mut PictureBuffer, job: &Job) -> Result<Vec<u8>, NoMemory>
     requires { IsValidJob job.now }
     ensures { IfOk result (λ v. v.items ≡ job_text job.now) }

@@ -6,5 +6,5 @@ mod jobs;
 mod picture_buffer;
 
 pub use containers::draw_container;
-pub use jobs::{draw_job, draw_job_on};
+pub use jobs::draw_job_on;
 pub use picture_buffer::PictureBuffer;

@@ -1,23 +1,33 @@
--- The eight by eight cells of a box, and the features of a chunk that its box and its cells speak of.
-use Rattle.std.specs.Prelude.{◌≡◌, ℕ, ◌+◌, ◌-◌, ◌*◌, ◌/◌, ◌≤◌, List, length, All}
+-- The 64 by 64 cells of a box, and the features of a chunk that its box and its cells speak of.
+use Rattle.std.specs.Prelude.{◌≡◌, ℕ, ◌+◌, ◌-◌, ◌*◌, ◌/◌, ◌≤◌, List, length, get_or, All}
 use Rattle.std.specs.Int.{bit_at}
 use Rattle.plain_world.specs.declared.world.Point.{Point}
 use Rattle.plain_data.specs.Features.{Feature}
 use Rattle.geo_model.specs.declared.bounds.Bounds.{Bounds}
 use Rattle.geo_model.specs.Bounds.{bounds_of, InBounds, Within}
 use Rattle.geo_model.specs.Shapes.{parts_of}
+use Rattle.data_versions.specs.declared.cells.CellBlock.{CellBlock}
 
--- in which of eight equal parts of the way from low to high x lies, counted from 0
+-- in which of 64 equal parts of the way from low to high x lies, counted from 0
 abbrev pub part_of : ℕ → ℕ → ℕ → ℕ
-part_of low high x = (x - low) * 8 / (high - low + 1)
+part_of low high x = (x - low) * 64 / (high - low + 1)
 
--- the number of the point's cell, row by row
-abbrev pub cell_at : Bounds → Point → ℕ
-cell_at b p = 8 * part_of b.north b.south p.y + part_of b.west b.east p.x
+-- the row of the point's cell, and its column
+abbrev pub row_of : Bounds → Point → ℕ
+row_of b p = part_of b.north b.south p.y
 
--- each point that lies in the box and in the part has its cell among the cells: the bit of it is set
-pub record Marks (box part : Bounds) (cells : ℕ) : Type 0 where
-  pub each : (p : Point) → InBounds box p → InBounds part p → bit_at cells (cell_at box p) ≡ 1
+abbrev pub column_of : Bounds → Point → ℕ
+column_of b p = part_of b.west b.east p.x
+
+-- each point that lies in the box and in the part has its cell in the block
+pub record Marks (box part : Bounds) (block : CellBlock) : Type 0 where
+  pub from : (p : Point) → InBounds box p → InBounds part p → block.top ≤ row_of box p
+  pub to : (p : Point) → InBounds box p → InBounds part p → row_of box p ≤ block.bottom
+  pub across : (p : Point) → InBounds box p → InBounds part p → bit_at block.columns (column_of box p) ≡ 1
+
+-- each point that lies in the box and in the part has its cell among the cells: in the number of its row the bit of its column is set
+pub record HasCells (box part : Bounds) (cells : List ℕ) : Type 0 where
+  pub each : (p : Point) → InBounds box p → InBounds part p → bit_at (get_or cells (row_of box p) 0) (column_of box p) ≡ 1
 
 -- the rectangle holds a point
 pub record IsWide (b : Bounds) : Type 0 where
@@ -34,11 +44,12 @@ pub record IsBoxed (box : Bounds) (f : Feature) : Type 0 where
   pub wide : IsWide (box_of f)
 
 -- the feature's cells are among the cells
-abbrev pub IsMarked : Bounds → ℕ → Feature → Type 0
-IsMarked box cells f = Marks box (box_of f) cells
+abbrev pub IsMarked : Bounds → List ℕ → Feature → Type 0
+IsMarked box cells f = HasCells box (box_of f) cells
 
--- at most 256 features, each of which lies in the box and in the cells
-pub record IsChunk (box : Bounds) (cells : ℕ) (features : List Feature) : Type 0 where
+-- at most 256 features, each of which lies in the box and in the cells, which have 64 rows
+pub record IsChunk (box : Bounds) (cells : List ℕ) (features : List Feature) : Type 0 where
   pub few : length features ≤ 256
+  pub rows : length cells ≡ 64
   pub boxed : All (IsBoxed box) features
   pub marked : All (IsMarked box cells) features

@@ -1,7 +1,7 @@
-use Rattle.data_versions.proofs.Bits.{none_near, no_bits}
+use Rattle.data_versions.proofs.Bits.{none_near}
 use Rattle.data_versions.proofs.chunk.Chunk.may_meet.Goals as goal
 
 pub returns : goal.returns
 returns c = λ apart.
-    rw (← c.self.view_is) (none_near c.self.inside.bounds c.args.around c.self.inside.cells c.cells_met.result c.self.inside.features.items c.self.invariant.0
-    c.requires c.cells_met.ensures (no_bits _ apart))
+    rw (← c.self.view_is) (none_near c.self.inside.bounds c.args.around c.self.inside.cells.items c.cells_met.result c.self.inside.features.items c.self.invariant.0
+    c.requires c.cells_met.ensures.marks (rw c.as_slice.ensures at c.has_one.ensures apart))
