@@ -3,7 +3,7 @@ use Rattle.std.proofs.Common.{◌≡◌, ℕ, zero, suc, ◌+◌, ◌≤◌, Lis
 use mathlib.Core.Logic.{dite}
 use native.Mathlib.Decide.{ℕ_discrete, dec_le}
 use Rattle.turn_cell.specs.Turns.{by, NoneAbove}
-use Rattle.turn_cell.specs.Cell.{below}
+use Rattle.turn_cell.specs.inner.Cell.{below}
 use Rattle.turn_cell.specs.SeatStates.{Made, SeatState, first_of, split_left, joining, Knows}
 use Rattle.turn_cell.proofs.Sums.{only, only-same, only-below, below_suc}
 

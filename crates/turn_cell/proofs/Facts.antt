@@ -7,7 +7,7 @@ use lib.ListN.{get_elem?}
 use Rattle.atomic_table.specs.Table.{State}
 use Rattle.atomic_table.proofs.Lists.{at_set}
 use Rattle.turn_cell.specs.Turns.{HasJoined, NoneAbove}
-use Rattle.turn_cell.specs.Cell.{below, if_some, named, gone, drawn, Moment, Fits, AtHome, Kept}
+use Rattle.turn_cell.specs.inner.Cell.{below, if_some, named, gone, drawn, Moment, Fits, AtHome, Kept}
 use Rattle.turn_cell.specs.declared.view.Terms.{Terms}
 use Rattle.turn_cell.specs.declared.view.View.{View}
 use Rattle.turn_cell.proofs.Sums.{sum_changed, one_within, two_within, weightless, only, only-same, only-once, only-inside}

@@ -10,8 +10,8 @@ use prog.Atomic.{either}
 use Rattle.atomic_table.specs.Table.{step, keeps, takes, gives, Allows}
 use Rattle.atomic_table.proofs.Lists.{set_here, set_else, set_again, exchanged}
 use Rattle.turn_cell.specs.Turns.{HasJoined, NoneAbove}
-use Rattle.turn_cell.specs.Cell.{below, Sat, Moment, Fits, Kept}
-use Rattle.turn_cell.specs.Plays.{after_draw, limit_of, drew, holding, looked, counting, counted_as, leaving, served, learned, KnowsJoined, KnowsStrangers}
+use Rattle.turn_cell.specs.inner.Cell.{below, Sat, Moment, Fits, Kept}
+use Rattle.turn_cell.specs.inner.Plays.{after_draw, limit_of, drew, holding, looked, counting, counted_as, leaving, served, learned, KnowsJoined, KnowsStrangers}
 use Rattle.turn_cell.specs.declared.view.Terms.{Terms}
 use Rattle.turn_cell.specs.declared.view.View.{View}
 use Rattle.turn_cell.proofs.Sums.{below_next}

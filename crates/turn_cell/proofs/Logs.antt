@@ -5,8 +5,7 @@ use Rattle.std.proofs.lemmas.Bool.{lt-leb}
 use Rattle.std.proofs.lemmas.List.Elements.{filter-append}
 use mathlib.Core.Logic.{dite}
 use native.Mathlib.Decide.{dec_le}
-use Rattle.turn_cell.specs.Turns.{by, StartsWith}
-use Rattle.turn_cell.specs.Plays.{longer}
+use Rattle.turn_cell.specs.Turns.{by, longer, StartsWith}
 
 module _ {A : Type 0} where
   -- a list that is no longer than itself with more at its end has nothing more there

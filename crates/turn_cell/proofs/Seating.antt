@@ -8,8 +8,8 @@ use lib.ListN.{get_elem?}
 use Rattle.atomic_table.specs.Table.{opening, Splits, Joins, Final, Seen}
 use Rattle.atomic_table.proofs.Lists.{at_set, set_else, at_snoc, at_longer}
 use Rattle.turn_cell.specs.Turns.{by, StartsWith}
-use Rattle.turn_cell.specs.Cell.{below, if_some, named, gone, drawn, newcomer, Moment, Fits, Kept}
-use Rattle.turn_cell.specs.Plays.{split_first, split_new, joining_views, spent}
+use Rattle.turn_cell.specs.inner.Cell.{below, if_some, named, gone, drawn, newcomer, Moment, Fits, Kept}
+use Rattle.turn_cell.specs.inner.Plays.{split_first, split_new, joining_views, spent}
 use Rattle.turn_cell.specs.declared.view.Terms.{Terms}
 use Rattle.turn_cell.specs.declared.view.View.{View}
 use Rattle.turn_cell.proofs.Sums.{sum_changed, two_within, weightless, weighty, sum-ones, below_suc, below-each, only, only-is, only-below}

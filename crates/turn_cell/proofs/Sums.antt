@@ -7,7 +7,7 @@ use native.Mathlib.Decide.{ℕ_discrete, dec_le}
 use mathlib.Core.Option.{some, some-injective, some-ne-none}
 use lib.ListN.{get_elem?}
 use Rattle.atomic_table.proofs.Lists.{at_map, set_else}
-use Rattle.turn_cell.specs.Cell.{below}
+use Rattle.turn_cell.specs.inner.Cell.{below}
 
 -- a place at which an item at_place is inside the list, and reads as the item
 at_place : {A : Type 0} (l : List A) (j : ℕ) (v : A) → get_elem? l j ≡ some v → (j < length l) × (get_or l j v ≡ v)

@@ -5,8 +5,8 @@ use lib.ListN.{get_elem?}
 use Rattle.atomic_table.specs.Seated.{TableId}
 use Rattle.atomic_table.specs.Table.{rest, Final, Seen}
 use Rattle.turn_cell.specs.Turns.{StartsWith, IsDue, Ran}
-use Rattle.turn_cell.specs.Cell.{Sat, Kept}
-use Rattle.turn_cell.specs.Plays.{holding, counting, leaving, Gets, KnowsHeard, joining_views}
+use Rattle.turn_cell.specs.inner.Cell.{Sat, Kept}
+use Rattle.turn_cell.specs.inner.Plays.{holding, counting, leaving, Gets, KnowsHeard, joining_views}
 use Rattle.turn_cell.specs.SeatStates.{seat_state, Took, Closes, IsWhole}
 use Rattle.turn_cell.specs.inner.Words.{IsIdle, with_ticket, Entered}
 use Rattle.turn_cell.specs.declared.view.Terms.{Terms}

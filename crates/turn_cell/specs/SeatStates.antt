@@ -1,8 +1,7 @@
 -- What a caller sees of a cell and of a seat, and the words of the public contracts.
 use Rattle.std.specs.Prelude.{◌≡◌, ℕ, ◌+◌, ◌<◌, ◌≤◌, Bool, true, false, ◌||◌, List, [], ◌∷◌, ◌++◌, length, Option, Some}
 use Rattle.atomic_table.specs.Seated.{TableId}
-use Rattle.turn_cell.specs.Turns.{by, Follows, HasJoined, NoneAbove}
-use Rattle.turn_cell.specs.Plays.{longer}
+use Rattle.turn_cell.specs.Turns.{by, longer, Follows, HasJoined, NoneAbove}
 use Rattle.turn_cell.specs.declared.view.Terms.{Terms}
 use Rattle.turn_cell.specs.declared.view.View.{View}
 

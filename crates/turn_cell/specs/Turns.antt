@@ -1,8 +1,12 @@
 -- What a turn is, over plain lists. A history is a list of pairs, a seat's number and an entry, in the order in which the turns were counted.
-use Rattle.std.specs.Prelude.{◌≡◌, ℕ, ◌<◌, ◌==◌, List, [], ◌∷◌, ◌++◌, length, filter}
+use Rattle.std.specs.Prelude.{◌≡◌, ℕ, ◌<◌, ◌==◌, nat_le, cond, List, [], ◌∷◌, ◌++◌, length, filter}
 use Rattle.farm_base.specs.Limits.{most_turns}
 use mathlib.Core.Option.{some}
 use lib.ListN.{get_elem?}
+
+-- the longer of two lists
+abbrev pub longer : {A : Type 0} → List A → List A → List A
+longer xs ys = cond (nat_le (length xs) (length ys)) ys xs
 
 module _ {E : Type 0} where
   -- the entries of one number, in order

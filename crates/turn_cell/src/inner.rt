@@ -1,9 +1,9 @@
 //! The cell's table and the steps of a turn, one function each.
 ghost use Rattle.std.specs.Prelude.{◌≡◌, ℕ, ◌+◌, ◌<◌, ◌≤◌, true, false, length, [], ◌∷◌, Some, None, IfOk, IfErr, MatchResult};
 ghost use Rattle.farm_base.specs.Limits.{most_turns};
-ghost use Rattle.turn_cell.specs.Cell.{newcomer};
+ghost use Rattle.turn_cell.specs.inner.Cell.{newcomer};
 ghost use Rattle.turn_cell.specs.SeatStates.{seat_state, Took, Closes, IsWhole, worn_out, joining};
-ghost use Rattle.turn_cell.specs.Plays.{counting, leaving, split_first, split_new, joining_views, KnowsJoined, KnowsStrangers};
+ghost use Rattle.turn_cell.specs.inner.Plays.{counting, leaving, split_first, split_new, joining_views, KnowsJoined, KnowsStrangers};
 ghost use Rattle.turn_cell.specs.Turns.{StartsWith};
 ghost use Rattle.turn_cell.specs.inner.Words.{IsIdle, KnowsAll, with_ticket, with_mark, Entered};
 

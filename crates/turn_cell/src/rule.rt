@@ -1,7 +1,7 @@
 //! The rule of the cell's table, and the kinds of step that keep it. All of it exists in proofs alone.
 ghost use Rattle.std.specs.Prelude.{Option, None};
-ghost use Rattle.turn_cell.specs.Cell.{Kept, newcomer};
-ghost use Rattle.turn_cell.specs.Plays.{drew, looked, counted_as, served, learned, split_first, split_new, joining_views, spent};
+ghost use Rattle.turn_cell.specs.inner.Cell.{Kept, newcomer};
+ghost use Rattle.turn_cell.specs.inner.Plays.{drew, looked, counted_as, served, learned, split_first, split_new, joining_views, spent};
 
 use crate::call::StandsFor;
 use crate::view::{Terms, View};

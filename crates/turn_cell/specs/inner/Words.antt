@@ -2,8 +2,8 @@
 use Rattle.std.specs.Prelude.{◌≡◌, ℕ, ◌<◌, ◌≤◌, true, false, List, [], ◌∷◌, length, None}
 use Rattle.farm_base.specs.Limits.{most_turns}
 use Rattle.turn_cell.specs.Turns.{Follows}
-use Rattle.turn_cell.specs.Cell.{Sat}
-use Rattle.turn_cell.specs.Plays.{KnowsOwn, KnowsJoined, KnowsStrangers, holding}
+use Rattle.turn_cell.specs.inner.Cell.{Sat}
+use Rattle.turn_cell.specs.inner.Plays.{KnowsOwn, KnowsJoined, KnowsStrangers, holding}
 use Rattle.turn_cell.specs.declared.view.Terms.{Terms}
 use Rattle.turn_cell.specs.declared.view.View.{View}
 

@@ -1,5 +1,5 @@
 use Rattle.std.proofs.Common.{rules, sym, subst}
-use Rattle.turn_cell.specs.Plays.{KnowsJoined, KnowsStrangers}
+use Rattle.turn_cell.specs.inner.Plays.{KnowsJoined, KnowsStrangers}
 use Rattle.turn_cell.proofs.Keeps.{counts}
 use Rattle.turn_cell.proofs.inner.Core.count.Goals as goal
 

@@ -1,8 +1,8 @@
 use Rattle.std.proofs.Common.{rules, sym, subst, ap, ◌∙◌, ◌+◌, ◌%◌, ◌^◌, ◌∷◌, Some}
 use mathlib.Core.Option.{none}
 use Rattle.atomic_table.specs.Table.{rest, step, Allows}
-use Rattle.turn_cell.specs.Cell.{Kept}
-use Rattle.turn_cell.specs.Plays.{served}
+use Rattle.turn_cell.specs.inner.Cell.{Kept}
+use Rattle.turn_cell.specs.inner.Plays.{served}
 use Rattle.turn_cell.proofs.Keeps.{serves}
 use Rattle.turn_cell.proofs.inner.Core.leave.Goals as goal
 

@@ -1,6 +1,6 @@
 use Rattle.std.proofs.Common.{sym, subst, ap, ◌∙◌, ◌++◌, ◌∷◌, [], Some}
 use Rattle.atomic_table.specs.Table.{opening}
-use Rattle.turn_cell.specs.Cell.{newcomer, Kept}
+use Rattle.turn_cell.specs.inner.Cell.{newcomer, Kept}
 use Rattle.turn_cell.specs.declared.view.Terms.{Terms}
 use Rattle.turn_cell.proofs.Seating.{opens}
 use Rattle.turn_cell.proofs.inner.Core.new.Goals as goal

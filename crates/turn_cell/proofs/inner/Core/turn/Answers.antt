@@ -1,5 +1,5 @@
 use Rattle.std.proofs.Common.{ap, ◌∙◌}
-use Rattle.turn_cell.specs.Plays.{counting}
+use Rattle.turn_cell.specs.inner.Plays.{counting}
 use Rattle.turn_cell.proofs.Turning.{took}
 use Rattle.turn_cell.proofs.inner.Core.turn.Goals as goal
 

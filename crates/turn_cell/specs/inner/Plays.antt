@@ -1,11 +1,11 @@
 -- What each kind of step tells the seat that makes it: of the step, the seat before, the number found and the seat after.
-use Rattle.std.specs.Prelude.{◌≡◌, ◌≢◌, ℕ, ◌+◌, ◌<◌, ◌≤◌, ◌==◌, nat_le, ◌||◌, cond, true, false, List, [], ◌∷◌, ◌++◌, length, Option, Some, None}
+use Rattle.std.specs.Prelude.{◌≡◌, ◌≢◌, ℕ, ◌+◌, ◌<◌, ◌≤◌, ◌==◌, ◌||◌, cond, true, false, List, [], ◌∷◌, ◌++◌, length, Option, Some, None}
 use Rattle.farm_base.specs.Limits.{most_turns}
 use mathlib.Core.Option.{some}
 use lib.ListN.{get_elem?}
 use Rattle.atomic_table.specs.Table.{Step, rest}
-use Rattle.turn_cell.specs.Turns.{by, StartsWith, Follows, HasJoined, NoneAbove}
-use Rattle.turn_cell.specs.Cell.{Sat}
+use Rattle.turn_cell.specs.Turns.{by, longer, StartsWith, Follows, HasJoined, NoneAbove}
+use Rattle.turn_cell.specs.inner.Cell.{Sat}
 use Rattle.turn_cell.specs.declared.view.Terms.{Terms}
 use Rattle.turn_cell.specs.declared.view.View.{View}
 
@@ -75,11 +75,6 @@ module _ {T E : Type 0} where
   abbrev pub split_new : View T E → View T E
   split_new v = record v { number = v.splits + 1; mine = []; tickets = []; holds = false; counted = 0; first = false; splits = 0; joined = []; heard = [] }
 
--- the longer of two lists
-abbrev pub longer : {A : Type 0} → List A → List A → List A
-longer xs ys = cond (nat_le (length xs) (length ys)) ys xs
-
-module _ {T E : Type 0} where
   -- the first seat after a join: it has seen what either had seen, and notes the number of the other with its entries
   abbrev pub joining_views : View T E → View T E → View T E
   joining_views v w = record v { seen = longer v.seen w.seen; worn = v.worn || w.worn; joined = v.joined ++ (w.number, w.mine) ∷ []; heard = v.seen ∷ w.seen ∷ [] }
