@@ -1,5 +1,5 @@
 //! Calls of which reads or puts fail, by the number of the read or put. What a call puts where none fails,
-//! and what it refuses, is shown by the program `drawn_cases`.
+//! and what it refuses, is shown by the program `command_cases`.
 use crate::call::{Ended, Faults, NONE, USAGE, call};
 use std::alloc::Global;
 use std::rt::Clock;
