@@ -2,12 +2,14 @@
 """`tilefarm script` and `tilefarm load`, written a second time: plainly and slowly, from the farm's rules and formats alone.
 
 It is no part of the product. The farm here is lists that are walked, and it shares no text with the crates. The
-wanted output of the crate `script_cases` is made by it, from the repository's top by
+wanted output of the crate `command_cases` is made by it, from the repository's top by
 
-    python3 oracle/farm.py cases crates/script_cases/data > crates/script_cases/stdout
+    python3 oracle/farm.py cases crates/command_cases/data > crates/command_cases/stdout
+
+which has the drawings of `oracle/tilefarm.py` behind its scripts,
 
 and one command is run by `python3 oracle/farm.py script CONFIG SCRIPT` or `.. load SEED N`. `.. answers FOLDER` tells
-how often each answer and each refusal comes in a folder's cases. A line of a folder's file `cases` is one of
+how often each answer and each refusal comes in a folder's scripts. A line of a folder's file `scripts` is one of
 
     script CONFIG SCRIPT    over the files beside it
     load SEED N
@@ -805,7 +807,7 @@ def rows_told(folder, kind, table, names):
 
 def told_cases(folder):
     """Of each case the lines that name it, what it puts on out and err and its status, and what else its table wanted."""
-    for line in tilefarm.read(folder, "cases").decode().splitlines():
+    for line in tilefarm.read(folder, "scripts").decode().splitlines():
         named = "case %s\n" % line
         words, gets = calls_after(line.split(" "), "gets")
         words, puts = calls_after(words, "puts")
@@ -827,6 +829,7 @@ def cases(folder):
         if want:
             print(want, file=sys.stderr)
             wrong = 1
+    tilefarm.cases(folder)
     return wrong
 
 

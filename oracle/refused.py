@@ -158,8 +158,8 @@ def main(words):
         render = ["render", "style.json", "data.json", "16", "0", "0", "0"]
         runs = (
             ("render", Program(shim, program, render, data("tilefarm")), command_kind, 1),
-            ("meta", Program(shim, program, ["meta", "world.meta"], data("drawn_cases")), command_kind, 1),
-            ("script", Program(shim, program, ["script", "square.config", "life_of_a_tile.script"], data("script_cases")), command_kind, 1),
+            ("meta", Program(shim, program, ["meta", "world.meta"], data("command_cases")), command_kind, 1),
+            ("script", Program(shim, program, ["script", "square.config", "life_of_a_tile.script"], data("command_cases")), command_kind, 1),
             ("load", Program(shim, program, ["load", "7", "200"], folder), command_kind, step),
             ("serve", Program(shim, serves, [], folder, three_fronts()), serve_kind, 10),
         )

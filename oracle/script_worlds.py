@@ -1,11 +1,11 @@
 #!/usr/bin/env python3
-"""Small worlds for the crate `script_cases`: configurations and scripts over all events, drawn from fixed seeds.
+"""Small worlds for the crate `command_cases`: configurations and scripts over all events, drawn from fixed seeds.
 
 From the repository's top,
 
-    python3 oracle/script_worlds.py crates/script_cases/data
+    python3 oracle/script_worlds.py crates/command_cases/data
 
-writes the files of the worlds, the same at each run, and prints their lines of `cases`. What the scripts answer is
+writes the files of the worlds, the same at each run, and prints their lines of `scripts`. What the scripts answer is
 `oracle/farm.py`'s business; here it only tells which tickets are in hand. It needs Python 3 and nothing else.
 """
 

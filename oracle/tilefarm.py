@@ -2,11 +2,12 @@
 """`tilefarm render` and `tilefarm meta`, written a second time: plainly and slowly, from the formats alone.
 
 It is no part of the product. It shares no text with the crates, so what both give alike was understood alike:
-the wanted output of the crate `drawn_cases` is made by it, from the repository's top by
+the wanted drawings of the crate `command_cases` are made by it (`oracle/farm.py` puts them behind its scripts), from the
+repository's top by
 
-    python3 oracle/tilefarm.py cases crates/drawn_cases/data > crates/drawn_cases/stdout
+    python3 oracle/tilefarm.py cases crates/command_cases/data
 
-with `case` and the line of `cases` before each answer;
+with `case` and the line of the file `drawings` before each answer;
 and one command is run by `python3 oracle/tilefarm.py render STYLE DATA T Z X Y` or `.. meta FILE`. Every pixel is
 computed by itself: for each pixel's centre, through layers, styles, features, rules and symbolizers in order.
 It needs Python 3 and nothing else.
@@ -900,15 +901,20 @@ def run(folder, words):
         return b"", (end.line + "\n").encode(), end.status
 
 
+def cases(folder):
+    """Of each drawing its line and what it ends with, and then the words that the program is called with."""
+    for line in read(folder, "drawings").decode().splitlines():
+        out, err, status = run(folder, line.split(" "))
+        sys.stdout.buffer.write(b"case %s\n" % line.encode() + out + err + b"status %d\n" % status)
+        sys.stdout.buffer.flush()
+    out, err, _status = run(folder, read(folder, "../args").decode().splitlines())
+    sys.stdout.buffer.write(out + err)
+    return 0
+
+
 def main(words):
     if len(words) == 2 and words[0] == "cases":
-        for line in read(words[1], "cases").decode().splitlines():
-            out, err, status = run(words[1], line.split(" "))
-            sys.stdout.buffer.write(b"case %s\n" % line.encode() + out + err + b"status %d\n" % status)
-            sys.stdout.buffer.flush()
-        out, err, _status = run(words[1], read(words[1], "../args").decode().splitlines())
-        sys.stdout.buffer.write(out + err)
-        return 0
+        return cases(words[1])
     out, err, status = run(".", words)
     sys.stdout.buffer.write(out)
     sys.stderr.buffer.write(err)

@@ -1,4 +1,4 @@
-//! Commands as cases of the gate's programs: those that stand in the file `cases`, one a line, are run over the
+//! Commands as cases of the gate's program: those that stand in a file, one a line, are run over the
 //! files beside it and a store in memory that holds nothing.
 //!
 //! A line `configs TABLE FILE..` or `scripts TABLE FILE..` runs `script` once for each row of the table, with the row
@@ -18,15 +18,16 @@ use std::sync::Wait;
 use std::thread::Threads;
 use tile_store::MemStore;
 
-/// Runs the cases, and writes of each its line, what it puts on out, then what it puts on err, then its status; `None`
+/// Runs the cases of the file `list`, and writes of each its line, what it puts on out, then what it puts on err, then its status; `None`
 /// where the cases cannot be read, a put on out fails, or memory runs out.
 pub fn run_cases<R: Threads + Wait + Clock + Sync, F: Files, O: Sink>(
     threads: &R,
     alloc: Global,
+    list: &str,
     files: &mut F,
     out: &mut O,
 ) -> Option<()> {
-    let cases = files.read(alloc, "cases").ok()?;
+    let cases = files.read(alloc, list).ok()?;
     for line in str::from_utf8(cases.as_slice()).ok()?.lines() {
         put_line(format!(in alloc; "case {line}\n").ok()?, out)?;
         case(threads, alloc, line, files, out)?;

@@ -2,21 +2,20 @@
 //! a picture that is read back, and a point that just reaches a square.
 ghost use Rattle.plain_world.specs.World.{IsMeta};
 
-use crate::drawings::{data, map};
-use crate::metatiles::{RED, SQUARE};
+use crate::drawings::data;
+use crate::metatiles::{RED, container, tile_of_the_square};
 use data_versions::{Snapshot, apply};
 use farm_base::MetaFault;
 use geo_json::read_update;
 use merc_fixed::{meta_of, tile, tile_square};
 use meta_container::{Entry, entry_in, tile_in};
-use meta_drawing::{PictureBuffer, draw_container};
+use meta_drawing::PictureBuffer;
 use plain_image::{Image, read_ppm};
 use plain_shapes::Colour;
 use plain_world::{Meta, Tile};
 use reach_box::reaches;
 use std::alloc::Global;
 use std::test::Fail;
-use tile_render::draw_tile;
 
 // The points with the ids 1 to 600, each at its id.
 fn points(alloc: Global) -> Result<Snapshot, Fail> {
@@ -57,31 +56,47 @@ fn count(snapshot: &Snapshot) -> Option<u32> {
     Some(snapshot.layer("land")?.len())
 }
 
+// How many features the changed layer has, the places of 5, 301 and 1000 in it, and what is found at the points 1000
+// and 300.
+fn places_now(new: &Snapshot) -> [Option<u32>; 6] {
+    [
+        count(new),
+        place_of(new, 5),
+        place_of(new, 301),
+        place_of(new, 1000),
+        place_at(new, 1000),
+        place_at(new, 300),
+    ]
+}
+
+// Where 300 stands in the layer as it was, and what is found there.
+fn places_before(old: &Snapshot) -> [Option<u32>; 2] {
+    [place_of(old, 300), place_at(old, 300)]
+}
+
+fn places(alloc: Global) -> Result<([Option<u32>; 6], [Option<u32>; 2]), Fail> {
+    let old = points(alloc)?;
+    let new = changed(alloc, &old)?;
+    Ok((places_now(&new), places_before(&old)))
+}
+
 // 300 goes, 5 is put into its own place, and 1000 behind all others.
 #[test]
 fn places_in_a_changed_layer(rt: HostRuntime) -> Result<(), Fail> {
-    let alloc = rt.alloc();
-    let old = points(alloc)?;
-    let new = changed(alloc, &old)?;
-    assert_eq!(rt; count(&new), Some(600));
-    assert_eq!(rt; place_of(&new, 5), Some(4));
-    assert_eq!(rt; place_of(&new, 301), Some(299));
-    assert_eq!(rt; place_of(&new, 1000), Some(599));
-    assert_eq!(rt; place_at(&new, 1000), Some(599));
-    assert_eq!(rt; place_at(&new, 300), None);
-    assert_eq!(rt; place_of(&old, 300), Some(299));
-    assert_eq!(rt; place_at(&old, 300), Some(299));
+    let (now, before) = places(rt.alloc())?;
+    assert_eq!(rt;
+        now,
+        [Some(600), Some(4), Some(299), Some(599), Some(599), None]
+    );
+    assert_eq!(rt; before, [Some(299), Some(299)]);
     Ok(())
 }
 
 // The square in red as a metatile of 16 pixels a tile.
-fn container(alloc: Global, m: Meta) -> Result<Vec<u8>, Fail>
+fn red_container(alloc: Global, m: Meta) -> Result<Vec<u8>, Fail>
     requires { IsMeta m }
 {
-    let style = map(alloc, RED)?;
-    let snapshot = data(alloc, SQUARE)?;
-    let mut buffer = PictureBuffer::new(alloc);
-    Ok(draw_container(&mut buffer, &style, 16, m, &snapshot)?)
+    container(&mut PictureBuffer::new(alloc), RED, 16, m)
 }
 
 // `META`, the count 64, x, y and z, and the tile at place 0: from byte 532 on, 781 bytes.
@@ -104,7 +119,7 @@ fn is_alone(bytes: &[u8]) -> bool {
 
 #[test]
 fn the_container_of_the_world(rt: HostRuntime) -> Result<(), Fail> {
-    let bytes = container(rt.alloc(), Meta { z: 0, x: 0, y: 0 })?;
+    let bytes = red_container(rt.alloc(), Meta { z: 0, x: 0, y: 0 })?;
     assert_eq!(rt; bytes.len(), 1313);
     assert!(rt; bytes.as_slice().starts_with(HEAD.as_slice()) && is_alone(bytes.as_slice()));
     Ok(())
@@ -129,18 +144,14 @@ fn is_there(found: Result<&[u8], MetaFault>, picture: &[u8]) -> bool {
 // Sixteen tiles of 781 bytes; the ninth is the second of the third column.
 #[test]
 fn the_container_of_sixteen_tiles(rt: HostRuntime) -> Result<(), Fail> {
-    let alloc = rt.alloc();
-    let bytes = container(alloc, Meta { z: 2, x: 0, y: 0 })?;
-    assert_eq!(rt; bytes.len(), 13028);
-    let style = map(alloc, RED)?;
-    let snapshot = data(alloc, SQUARE)?;
-    let drawn = draw_tile(alloc, &style, 16, Tile { z: 2, x: 2, y: 1 }, &snapshot)?;
+    let bytes = red_container(rt.alloc(), Meta { z: 2, x: 0, y: 0 })?;
+    let drawn = tile_of_the_square(rt.alloc(), RED, Tile { z: 2, x: 2, y: 1 })?;
     let entry = Entry {
         place: 17,
         offset: 7561,
         size: 781,
     };
-    assert!(rt; is_found(bytes.as_slice(), entry, drawn.as_slice()));
+    assert!(rt; bytes.len() == 13028 && is_found(bytes.as_slice(), entry, drawn.as_slice()));
     Ok(())
 }
 
@@ -148,15 +159,8 @@ fn is_coloured(image: &Image, i: u32, j: u32, c: Colour) -> bool {
     i < image.cols() && j < image.rows() && image.pixel(i, j) == c
 }
 
-// What a tile's text says: the square has the columns and rows 4 to 11.
-#[test]
-fn a_tile_read_back(rt: HostRuntime) -> Result<(), Fail> {
-    let alloc = rt.alloc();
-    let style = map(alloc, RED)?;
-    let snapshot = data(alloc, SQUARE)?;
-    let text = draw_tile(alloc, &style, 16, Tile { z: 0, x: 0, y: 0 }, &snapshot)?;
-    let image = read_ppm(alloc, text.as_slice())?;
-    assert!(rt; image.cols() == 16 && image.rows() == 16);
+// The first column and row at which the picture is not the square, which has the columns and rows 4 to 11.
+fn first_wrong(image: &Image) -> Option<(u32, u32)> {
     for j in 0..16 {
         for i in 0..16 {
             let g = if i >= 4 && i <= 11 && j >= 4 && j <= 11 {
@@ -164,10 +168,21 @@ fn a_tile_read_back(rt: HostRuntime) -> Result<(), Fail> {
             } else {
                 255
             };
-            let wanted = Colour { r: 255, g, b: g };
-            assert!(rt; is_coloured(&image, i, j, wanted), "column {i}, row {j}");
+            if !is_coloured(image, i, j, Colour { r: 255, g, b: g }) {
+                return Some((i, j));
+            }
         }
     }
+    None
+}
+
+// What a tile's text says.
+#[test]
+fn a_tile_read_back(rt: HostRuntime) -> Result<(), Fail> {
+    let text = tile_of_the_square(rt.alloc(), RED, Tile { z: 0, x: 0, y: 0 })?;
+    let image = read_ppm(rt.alloc(), text.as_slice())?;
+    assert!(rt; image.cols() == 16 && image.rows() == 16);
+    assert_eq!(rt; first_wrong(&image), None);
     Ok(())
 }
 
@@ -177,20 +192,23 @@ const AT_64_PIXELS: &str =
 const A_UNIT_FARTHER: &str =
     r#"{"units":"world","layers":[{"name":"land","features":[{"id":1,"geometry":{"points":[[268435455,0]]}}]}]}"#;
 
-// Whether the one feature reaches the square of the tile 1/1/0, at zoom 4 with 16 pixels a tile.
-fn reaches_east(snapshot: &Snapshot) -> Option<bool> {
+// Whether the one feature of the data reaches the square of the tile 1/1/0, at zoom 4 with 16 pixels a tile.
+fn reaches_east_in(snapshot: &Snapshot) -> Option<bool> {
     let square = tile_square(tile(1, 1, 0)?);
     let land = snapshot.layer("land")?;
     Some(reaches(land.get(0)?, 16, 4, square))
 }
 
+fn reaches_east(alloc: Global, text: &str) -> Result<Option<bool>, Fail> {
+    let snapshot = data(alloc, text)?;
+    Ok(reaches_east_in(&snapshot))
+}
+
 // The square begins at x = 2^29, and there 64 pixels are 2^28 units.
 #[test]
 fn a_point_that_just_reaches_a_square(rt: HostRuntime) -> Result<(), Fail> {
-    let alloc = rt.alloc();
-    let near = data(alloc, AT_64_PIXELS)?;
-    let far = data(alloc, A_UNIT_FARTHER)?;
-    assert_eq!(rt; reaches_east(&near), Some(true));
-    assert_eq!(rt; reaches_east(&far), Some(false));
+    let near = reaches_east(rt.alloc(), AT_64_PIXELS)?;
+    let far = reaches_east(rt.alloc(), A_UNIT_FARTHER)?;
+    assert_eq!(rt; (near, far), (Some(true), Some(false)));
     Ok(())
 }

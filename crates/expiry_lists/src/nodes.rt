@@ -11,7 +11,7 @@ use farm_history::{Key, Mark};
 use indexmap::IndexMap;
 
 /// What is kept of a key: its mark where it is shown, and whether it or a key below it may be clean.
-#[derive(Clone, Copy, Debug, PartialEq, Eq)]
+#[derive(Clone, Copy)]
 pub struct Node {
     pub mark: Option<Mark>,
     pub live: bool,

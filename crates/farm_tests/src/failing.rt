@@ -1,5 +1,5 @@
 //! Calls of which reads or puts fail, by the number of the read or put. What a call puts where none fails,
-//! and what it refuses, is shown by the program `drawn_cases`.
+//! and what it refuses, is shown by the program `command_cases`.
 use crate::call::{Ended, Faults, NONE, USAGE, call};
 use std::alloc::Global;
 use std::rt::Clock;
@@ -78,7 +78,8 @@ fn a_container_whose_read_or_put_fails(rt: HostRuntime) -> Result<(), Fail> {
     Ok(())
 }
 
-// A farm of one map over a square, and its files by the names that stand in them.
+// A farm of one map over a square, and its files by the names that stand in them. The script draws the world, draws it
+// again behind an expiry, and asks for it once more.
 const SQUARE: [(&str, &[u8]); 4] = [
     (
         "C",
@@ -94,12 +95,15 @@ const SQUARE: [(&str, &[u8]); 4] = [
     ),
     (
         "L",
-        b"ask 0 render default 0 0 0\nclaim 0\nfinish 0\ncollect 0\nexpire 0 0 0\nlook default 0 0 0\nfetch default 0 0 0\n",
+        b"ask 0 render default 0 0 0\nclaim 0\nfinish 0\ncollect 0\nexpire 0 0 0\nask 0 render default 0 0 0\nclaim 0\nfinish 1\ncollect 0\nlook default 0 0 0\nask 0 render default 0 0 0\nclaim 0\nfinish 2\nfetch default 0 0 0\n",
     ),
 ];
 
 const ANSWERS: &[u8] =
-    b"queued 0\njob 0 default 0 0 0 0\nclean\nreply 0 0 done\nexpired 1\ndirty 0\ndirty 0 781\nP6\n16 16\n255\n";
+    b"queued 0\njob 0 default 0 0 0 0\nclean\nreply 0 0 done\nexpired 1\nqueued 1\njob 1 default 0 0 0 0\nclean\nreply 0 1 done\nclean 0\ndone\nidle\nnojob\nclean 0 781\nP6\n16 16\n255\n";
+
+// One for each answer, and two more for the bytes of the tile.
+const PUTS: u64 = 16;
 
 // `script` over these files.
 fn script<R: Threads + Wait + Clock + Sync>(
@@ -108,6 +112,23 @@ fn script<R: Threads + Wait + Clock + Sync>(
     faults: Faults,
 ) -> Result<Ended, Fail> {
     call(rt, alloc, &["script", "C", "L"], &SQUARE, faults)
+}
+
+// The status where that put on out fails, and whether a front of all that is put else was put, and nothing on err.
+fn unput<R: Threads + Wait + Clock + Sync>(
+    rt: &R,
+    alloc: Global,
+    put: u64,
+    whole: &[u8],
+) -> Result<(u8, bool), Fail> {
+    let faults = Faults {
+        out: &[put],
+        ..NONE
+    };
+    let ended = script(rt, alloc, faults)?;
+    let was_put = ended.out.bytes();
+    let is_front = was_put.len() < whole.len() && whole.starts_with(was_put);
+    Ok((ended.status, is_front && ended.err.bytes().is_empty()))
 }
 
 #[test]
@@ -126,24 +147,15 @@ fn a_script_whose_reads_or_puts_fail(rt: HostRuntime) -> Result<(), Fail> {
         script(&rt, alloc, faults)?.says(&rt, 3, line);
     }
 
-    // Each put on out in turn: a front of the answers is put, and err stays empty.
     let whole = script(&rt, alloc, NONE)?;
     assert_eq!(rt; whole.status, 0);
     assert!(rt; whole.out.bytes().starts_with(ANSWERS));
     assert_eq!(rt; whole.out.bytes().len(), ANSWERS.len() + 769);
-    for put in 0..9 {
-        let ended = script(
-            &rt,
-            alloc,
-            Faults {
-                out: &[put],
-                ..NONE
-            },
-        )?;
-        assert_eq!(rt; ended.status, 4);
-        assert!(rt; whole.out.bytes().starts_with(ended.out.bytes()));
-        assert!(rt; ended.out.bytes().len() < whole.out.bytes().len());
-        assert!(rt; ended.err.bytes().is_empty());
+    for put in 0..PUTS {
+        let seen = unput(&rt, alloc, put, whole.out.bytes())?;
+        assert_eq!(rt; seen, (4, true), "at put {put}");
     }
+    // There is no further put that could fail.
+    assert_eq!(rt; unput(&rt, alloc, PUTS, whole.out.bytes())?, (0, false));
     Ok(())
 }

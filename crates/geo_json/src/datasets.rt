@@ -108,11 +108,9 @@ fn layer(alloc: Global, units: Units, before: &[Layer], object: &Value) -> Resul
     if !is_few(items) {
         return Err(DataFault::TooMany(part));
     }
+    let name = Text::of(alloc, name)?;
     let features = new_features(alloc, units, part, items)?;
-    Ok(Layer {
-        name: Text::of(alloc, name)?,
-        features,
-    })
+    Ok(Layer { name, features })
 }
 
 // The layers of data.

@@ -118,7 +118,7 @@ fn change(
     let part = before.len() as u32;
     let shape = DataFault::Shape(part, 0);
     open_change(object, shape)?;
-    let name = name_at(object, "layer", shape)?;
+    let layer = Text::of(alloc, name_at(object, "layer", shape)?)?;
     let remove = removed(alloc, object, shape)?;
     let items = puts(object, shape)?;
     if !is_few(items) {
@@ -126,7 +126,7 @@ fn change(
     }
     let put = features(alloc, units, part, items)?;
     Ok(Change {
-        layer: Text::of(alloc, name)?,
+        layer,
         remove,
         put,
     })

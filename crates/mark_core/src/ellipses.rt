@@ -6,7 +6,7 @@ use plain_world::Point;
 
 /// The ellipse round `centre` that is `a` wide and `b` high to each side, in world units. Where one of
 /// them is 0 it holds nothing.
-#[derive(Clone, Copy, Debug, PartialEq, Eq)]
+#[derive(Clone, Copy)]
 pub struct Ellipse {
     pub centre: Point,
     pub a: u32,

@@ -26,7 +26,7 @@ impl From<NoMemory> for PpmFault {
 }
 
 /// A place in a gap before a number: no blank stands before it yet, one does, or it is in a comment.
-#[derive(Clone, Copy, Debug, PartialEq, Eq)]
+#[derive(Clone, Copy)]
 pub enum Gap {
     Bare,
     Blank,
@@ -34,14 +34,14 @@ pub enum Gap {
 }
 
 /// A side that was read, and the offset behind it.
-#[derive(Clone, Copy, Debug, PartialEq, Eq)]
+#[derive(Clone, Copy)]
 pub struct Side {
     pub value: u32,
     pub next: usize,
 }
 
 /// What a text's head says: the sides, and the offset at which the pixels begin.
-#[derive(Clone, Copy, Debug, PartialEq, Eq)]
+#[derive(Clone, Copy)]
 pub struct Head {
     pub cols: u32,
     pub rows: u32,

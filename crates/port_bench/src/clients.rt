@@ -77,15 +77,21 @@ pub(crate) fn long_text(alloc: Global, length: usize) -> io::Result<Vec<u8>> {
 /// All that clients do on their connections, which they then close. How many echoes came that equal what
 /// was sent, or how many bytes of anything else, up to the first piece that is not what was sent.
 pub(crate) fn visit<S: Client>(alloc: Global, mut streams: Vec<S>, task: Task) -> io::Result<u64> {
+    let came = visit_all(alloc, streams.as_mut_slice(), task);
+    drop(streams);
+    came
+}
+
+fn visit_all<S: Client>(alloc: Global, streams: &mut [S], task: Task) -> io::Result<u64> {
+    if let Task::Echoes(_, rounds) = task {
+        return echoes(streams, rounds);
+    }
+    let Some(stream) = streams.first_mut() else {
+        return Ok(0);
+    };
     let mut room = vec![in alloc; 0u8; ROOM]?;
     let wanted = long_text(alloc, ROOM + PERIOD)?;
-    if let Task::Echoes(_, rounds) = task {
-        return echoes(streams.as_mut_slice(), rounds);
-    }
-    match streams.first_mut() {
-        Some(stream) => visit_one(stream, room.as_mut_slice(), wanted.as_slice(), task),
-        None => Ok(0),
-    }
+    visit_one(stream, room.as_mut_slice(), wanted.as_slice(), task)
 }
 
 /// What the client of one connection does. All that comes to it are bytes of the long text.

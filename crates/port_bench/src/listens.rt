@@ -22,12 +22,23 @@ where
     let other = TcpListener::bind(rt, "127.0.0.1:0")?;
     let port = other.local_addr()?.port();
     let taken = format!(in alloc; "tcp:127.0.0.1:{port}")?;
+    let shown = show_each(rt, ports, taken.as_str());
+    drop(taken);
+    drop(other);
+    shown
+}
+
+/// Prints of each address whether it is listened at; at `taken` another listens.
+fn show_each<R>(rt: &R, ports: &mut SocketPorts<R>, taken: &str) -> io::Result<()>
+where
+    R: Print + Files + Net<Listener = TcpListener, Stream = TcpStream>,
+{
     for (name, address) in [
         ("no address", ""),
         ("no kind", "127.0.0.1:80"),
         ("no port", "tcp:127.0.0.1"),
         ("a name", "tcp:localhost:80"),
-        ("a port that is taken", taken.as_str()),
+        ("a port that is taken", taken),
         ("no path", "unix:"),
         ("no such folder", "unix:no_folder/a.sock"),
         ("a plain file", "unix:plain"),

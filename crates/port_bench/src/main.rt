@@ -36,16 +36,33 @@ fn main(rt: HostRuntime) -> io::Result<ExitCode> {
     };
     let (ports, bell) = SocketPorts::new(rt.alloc(), rt)?;
     let mut echo = Echo::new(rt.alloc(), ports);
-    let is_done = match work {
-        Work::Counts => run_all(&rt, rt.alloc(), &mut echo, &bell, false)?,
-        Work::Rates => run_all(&rt, rt.alloc(), &mut echo, &bell, true)?,
-        Work::Serve(address) => { echo.ports.listen(address.as_str()).is_ok() && echo.serve() }
-    };
-    Ok(if is_done {
-        ExitCode::SUCCESS
-    } else {
-        ExitCode::FAILURE
-    })
+    let is_done = run(&rt, rt.alloc(), &mut echo, &bell, work);
+    drop(echo);
+    drop(bell);
+    match is_done {
+        Ok(true) => Ok(ExitCode::SUCCESS),
+        Ok(false) => Ok(ExitCode::FAILURE),
+        Err(error) => Err(error),
+    }
+}
+
+/// Does the work: false where the ports failed.
+fn run<R>(
+    rt: &R,
+    alloc: Global,
+    echo: &mut Echo<R>,
+    bell: &SocketBell,
+    work: Work,
+) -> io::Result<bool>
+where
+    R: Threads + Sync + Clock + Print + Files,
+    R: Net<Listener = TcpListener, Stream = TcpStream>,
+{
+    match work {
+        Work::Counts => run_all(rt, alloc, echo, bell, false),
+        Work::Rates => run_all(rt, alloc, echo, bell, true),
+        Work::Serve(address) => Ok(echo.ports.listen(address.as_str()).is_ok() && echo.serve()),
+    }
 }
 
 /// No word asks for the counts, the word `rates` for the rates too, and `serve` with an address for a

@@ -45,12 +45,41 @@ where
     R: Threads + Clock + Print + Files,
     R: Net<Listener = TcpListener, Stream = TcpStream>,
 {
-    let many = if rates { 100u32 } else { 1 };
     let Some(place) = listen_free(rt, alloc, &mut echo.ports, kind)? else {
         return Ok(false);
     };
-    if kind == Kind::Tcp {
-        show_elsewhere(rt, alloc, place.as_str())?;
+    let address = Address {
+        kind,
+        place: place.as_str(),
+    };
+    let shown = show_at(rt, alloc, echo, bell, address, rates);
+    drop(place);
+    shown
+}
+
+/// Where clients call: the kind of their sockets, and the address.
+#[derive(Clone, Copy)]
+struct Address<'a> {
+    kind: Kind,
+    place: &'a str,
+}
+
+/// Shows what clients do at that address.
+fn show_at<R>(
+    rt: &R,
+    alloc: Global,
+    echo: &mut Echo<R>,
+    bell: &SocketBell,
+    address: Address<'_>,
+    rates: bool,
+) -> io::Result<bool>
+where
+    R: Threads + Clock + Print + Files,
+    R: Net<Listener = TcpListener, Stream = TcpStream>,
+{
+    let many = if rates { 100u32 } else { 1 };
+    if address.kind == Kind::Tcp {
+        show_elsewhere(rt, alloc, address.place)?;
     }
     echo.part = long_text(alloc, PART)?;
     for (name, task) in [
@@ -66,31 +95,64 @@ where
         ("one that ends its sending", Task::Half(10_000)),
         ("one that closes with bytes unread", Task::Reset),
     ] {
-        let kind_name = kind.name();
+        let kind_name = address.kind.name();
         print!(rt; "{kind_name}, {name}")?;
-        let start = Instant::now(rt)?;
-        echo.large = task.large();
-        echo.taken = 0;
-        let (served, came) = match kind {
-            Kind::Tcp => {
-                let streams = connect_tcp(rt, alloc, place.as_str(), task)?;
-                serve(rt, alloc, echo, bell, streams, task)
-            }
-            Kind::Unix => {
-                let streams = connect_unix(rt, alloc, place.as_str(), task)?;
-                serve(rt, alloc, echo, bell, streams, task)
-            }
-        };
-        let took = start.elapsed(rt)?;
-        show(rt, echo, came?, took, rates)?;
-        if !served {
+        if !show_task(rt, alloc, echo, bell, address, task, rates)? {
             return Ok(false);
         }
     }
-    if kind == Kind::Unix {
-        fs::remove_file(rt, place.as_str())?;
+    if address.kind == Kind::Unix {
+        fs::remove_file(rt, address.place)?;
     }
     Ok(true)
+}
+
+/// Shows what the clients of one task do: false where the ports fail.
+fn show_task<R>(
+    rt: &R,
+    alloc: Global,
+    echo: &mut Echo<R>,
+    bell: &SocketBell,
+    address: Address<'_>,
+    task: Task,
+    rates: bool,
+) -> io::Result<bool>
+where
+    R: Threads + Clock + Print + Files,
+    R: Net<Listener = TcpListener, Stream = TcpStream>,
+{
+    let start = Instant::now(rt)?;
+    echo.large = task.large();
+    echo.taken = 0;
+    let (served, came) = call(rt, alloc, echo, bell, address, task)?;
+    let took = start.elapsed(rt)?;
+    show(rt, echo, came, took, rates)?;
+    Ok(served)
+}
+
+/// Connects the clients of a task and serves them: whether that went in order, and what came to them.
+fn call<R>(
+    rt: &R,
+    alloc: Global,
+    echo: &mut Echo<R>,
+    bell: &SocketBell,
+    address: Address<'_>,
+    task: Task,
+) -> io::Result<(bool, u64)>
+where
+    R: Threads + Clock + Print + Files,
+    R: Net<Listener = TcpListener, Stream = TcpStream>,
+{
+    match address.kind {
+        Kind::Tcp => {
+            let streams = connect_tcp(rt, alloc, address.place, task)?;
+            serve(rt, alloc, echo, bell, streams, task)
+        }
+        Kind::Unix => {
+            let streams = connect_unix(rt, alloc, address.place, task)?;
+            serve(rt, alloc, echo, bell, streams, task)
+        }
+    }
 }
 
 /// Prints what came to the clients and what the server heard, and where rates are asked for how much came
@@ -154,7 +216,7 @@ fn serve<R: Threads, E: Server, S: Client + Send>(
     bell: &SocketBell,
     streams: Vec<S>,
     task: Task,
-) -> (bool, io::Result<u64>) {
+) -> io::Result<(bool, u64)> {
     let (came, served) = thread::join(
         rt,
         || {
@@ -164,7 +226,7 @@ fn serve<R: Threads, E: Server, S: Client + Send>(
         },
         || server.serve(),
     );
-    (served, came)
+    Ok((served, came?))
 }
 
 fn connect_tcp<R: Net<Stream = TcpStream>>(

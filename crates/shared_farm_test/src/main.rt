@@ -28,7 +28,9 @@ fn main(rt: HostRuntime) -> io::Result<ExitCode> {
         return Ok(ExitCode::from(3));
     };
     let ran = run_script(rt.alloc(), script.as_slice(), &mut out);
+    drop(script);
     let lived = run_alone(&rt, rt.alloc(), &mut out);
+    drop(out);
     let (Some(()), Some(()), Some(left)) = (ran, lived, run(&rt, rt.alloc())) else {
         eprintln!(&rt; "no memory, or a life with another answer than the rules give")?;
         return Ok(ExitCode::from(1));

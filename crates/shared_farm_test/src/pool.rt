@@ -77,6 +77,7 @@ fn actors_of(
             finished: false,
         };
         if actors.push(actor).is_err() {
+            drop(actors);
             return None;
         }
     }

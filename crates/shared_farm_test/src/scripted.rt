@@ -28,6 +28,12 @@ fn run_on<D: TileStore + Drop, O: Sink>(
 /// the text is no script, memory was wanting, or a put failed.
 pub(crate) fn run_script<O: Sink>(alloc: Global, text: &[u8], out: &mut O) -> Option<()> {
     let script = read_script(alloc, text).ok()?;
+    let ran = run_over(alloc, &script, out);
+    drop(script);
+    ran
+}
+
+fn run_over<O: Sink>(alloc: Global, script: &Script, out: &mut O) -> Option<()> {
     let plan = plan(alloc).ok()?;
     let Ok(store) = MemStore::new(alloc, Vec::new(alloc), Vec::new(alloc), Vec::new(alloc)) else {
         drop(plan);
@@ -36,7 +42,7 @@ pub(crate) fn run_script<O: Sink>(alloc: Global, text: &[u8], out: &mut O) -> Op
     let Ok(farm) = Farm::start(alloc, plan, store) else {
         return None;
     };
-    if run_on(alloc, farm, &script, out) {
+    if run_on(alloc, farm, script, out) {
         Some(())
     } else {
         None

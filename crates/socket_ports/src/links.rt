@@ -12,7 +12,7 @@ use std::io;
 const LAST_READS: u32 = 16;
 
 /// What a read of a connection gave.
-#[derive(Clone, Copy, Debug, PartialEq, Eq)]
+#[derive(Clone, Copy)]
 pub enum Heard {
     /// A piece, which is in the room.
     Piece,

@@ -6,7 +6,7 @@ use crate::segments::{Segment, is_same, near};
 use centre_spans::{Shape, Stretch, narrowed, no_more, nowhere};
 
 /// The body of a segment; where its ends are one point it holds nothing.
-#[derive(Clone, Copy, Debug, PartialEq, Eq)]
+#[derive(Clone, Copy)]
 pub struct Body {
     pub of: Segment,
 }

@@ -6,7 +6,7 @@ use crate::segments::{Segment, is_same, near};
 use centre_spans::{Shape, Stretch, narrowed, no_more, nowhere};
 
 /// The square cap before the start of a segment; where its ends are one point it holds nothing.
-#[derive(Clone, Copy, Debug, PartialEq, Eq)]
+#[derive(Clone, Copy)]
 pub struct StartCap {
     pub of: Segment,
 }
@@ -38,7 +38,7 @@ impl Shape for StartCap {
 }
 
 /// The square cap past the end of a segment; where its ends are one point it holds nothing.
-#[derive(Clone, Copy, Debug, PartialEq, Eq)]
+#[derive(Clone, Copy)]
 pub struct EndCap {
     pub of: Segment,
 }

@@ -4,7 +4,7 @@ use centre_spans::{Shape, Stretch, apart, around, nowhere, root};
 use plain_world::Point;
 
 /// The disk round a point.
-#[derive(Clone, Copy, Debug, PartialEq, Eq)]
+#[derive(Clone, Copy)]
 pub struct Disk {
     pub half: u32,
     pub p: Point,
@@ -34,7 +34,7 @@ impl Shape for Disk {
 }
 
 /// The square round a point.
-#[derive(Clone, Copy, Debug, PartialEq, Eq)]
+#[derive(Clone, Copy)]
 pub struct Block {
     pub half: u32,
     pub p: Point,

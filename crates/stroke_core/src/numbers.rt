@@ -8,7 +8,7 @@ use centre_spans::{Growing, apart, root};
 use plain_world::Point;
 
 /// The number `plus - minus`, which may be below zero, at each x of one height.
-#[derive(Clone, Copy, Debug, PartialEq, Eq)]
+#[derive(Clone, Copy)]
 pub struct Difference {
     pub plus: Growing,
     pub minus: Growing,

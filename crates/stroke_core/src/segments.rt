@@ -12,7 +12,7 @@ use plain_world::Point;
 
 /// A segment that is stroked: half the stroke's width, the two ends, the square of its length, and half the
 /// width times the length.
-#[derive(Clone, Copy, Debug, PartialEq, Eq)]
+#[derive(Clone, Copy)]
 pub struct Segment {
     pub half: u32,
     pub a: Point,

@@ -9,7 +9,7 @@ use reading::opened;
 use serde_json::Value;
 
 /// The objects of a style text.
-#[derive(Clone, Copy, Debug, PartialEq, Eq)]
+#[derive(Clone, Copy)]
 pub enum Object {
     Map,
     Style,

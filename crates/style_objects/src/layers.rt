@@ -92,13 +92,17 @@ fn layer(
     let minimum_scale_denominator = scale_or_zero(object, "minimum-scale-denominator", at)?;
     let maximum_scale_denominator = bound_or_none(object, "maximum-scale-denominator", at)?;
     let items = list(object.get("styles"), StyleFault::Shape(at))?;
+    let is_double = layer_has(name, before);
+    let name = Text::of(alloc, name)?;
+    let source = Text::of(alloc, source)?;
     let names = style_names(alloc, styles, at, items)?;
-    if layer_has(name, before) {
+    if is_double {
+        drop(names);
         return Err(StyleFault::Double(at));
     }
     Ok(LayerRef {
-        name: Text::of(alloc, name)?,
-        source: Text::of(alloc, source)?,
+        name,
+        source,
         minimum_scale_denominator,
         maximum_scale_denominator,
         styles: names,

@@ -41,8 +41,21 @@ fn map_by_parts(alloc: Global, object: &Value) -> Result<MapStyle, StyleFault>
     let layer_items = found_layers.ok_or(StyleFault::Shape(at))?;
     let raster_items = list_or_none(found_rasters, object.get("rasters"), at)?;
     let rasters = rasters(alloc, raster_items)?;
-    let styles = styles(alloc, style_items)?;
-    let layers = layers(alloc, styles.as_slice(), layer_items)?;
+    let styles = match styles(alloc, style_items) {
+        Ok(styles) => styles,
+        Err(fault) => {
+            drop(rasters);
+            return Err(fault);
+        }
+    };
+    let layers = match layers(alloc, styles.as_slice(), layer_items) {
+        Ok(layers) => layers,
+        Err(fault) => {
+            drop(rasters);
+            drop(styles);
+            return Err(fault);
+        }
+    };
     Ok(MapStyle {
         background_color,
         styles,

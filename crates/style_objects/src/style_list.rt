@@ -45,9 +45,10 @@ fn style(alloc: Global, place: u32, before: &[Style], object: &Value) -> Result<
     if style_has(name, before) {
         return Err(StyleFault::Double(at));
     }
+    let name = Text::of(alloc, name)?;
     let rules = rules(alloc, place, items)?;
     Ok(Style {
-        name: Text::of(alloc, name)?,
+        name,
         filter_mode,
         rules,
     })

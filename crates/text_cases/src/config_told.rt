@@ -4,9 +4,9 @@ use std::alloc::{AllocError, Global};
 
 /// The first fault of a configuration's text, or that it is read.
 pub(crate) fn config_told(alloc: Global, text: &[u8]) -> Result<String, AllocError> {
-    match read_config(alloc, text) {
-        Ok(_) => String::from_str(alloc, "read"),
-        Err(fault) => fault_told(alloc, fault),
+    match read_config(alloc, text).err() {
+        None => String::from_str(alloc, "read"),
+        Some(fault) => fault_told(alloc, fault),
     }
 }
 

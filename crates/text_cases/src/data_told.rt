@@ -32,16 +32,16 @@ pub(crate) fn fault_told(alloc: Global, fault: DataFault) -> Result<String, Allo
 
 /// The first fault of a text of data, or that it is read.
 pub(crate) fn data_told(alloc: Global, text: &[u8]) -> Result<String, AllocError> {
-    match read_data(alloc, text) {
-        Ok(_) => String::from_str(alloc, "read"),
-        Err(fault) => fault_told(alloc, fault),
+    match read_data(alloc, text).err() {
+        None => String::from_str(alloc, "read"),
+        Some(fault) => fault_told(alloc, fault),
     }
 }
 
 /// The first fault of an update's text, or that it is read.
 pub(crate) fn update_told(alloc: Global, text: &[u8]) -> Result<String, AllocError> {
-    match read_update(alloc, text) {
-        Ok(_) => String::from_str(alloc, "read"),
-        Err(fault) => fault_told(alloc, fault),
+    match read_update(alloc, text).err() {
+        None => String::from_str(alloc, "read"),
+        Some(fault) => fault_told(alloc, fault),
     }
 }

@@ -175,29 +175,35 @@ pub(crate) fn written_told(alloc: Global, text: &str) -> Result<String, AllocErr
     }
 }
 
+// The tree of what is written of a filter.
+fn tree_of_written(alloc: Global, e: &Expr) -> Result<String, AllocError> {
+    let written = text_of(alloc, e)?;
+    filter_told(alloc, written.as_str())
+}
+
 /// The tree of what is written of the filter of a text, or the text's fault.
 pub(crate) fn again_told(alloc: Global, text: &str) -> Result<String, AllocError> {
     match parse(alloc, text) {
-        Ok(e) => {
-            let written = text_of(alloc, &e)?;
-            filter_told(alloc, written.as_str())
-        }
+        Ok(e) => tree_of_written(alloc, &e),
         Err(fault) => refusal_told(alloc, fault),
     }
 }
 
 /// The value of a filter text of these attributes, and whether it holds; or its fault.
 pub(crate) fn value_told(alloc: Global, text: &str, attrs: &[Attr]) -> Result<String, AllocError> {
-    let e = match parse(alloc, text) {
-        Ok(e) => e,
-        Err(fault) => return refusal_told(alloc, fault),
-    };
-    let end = if holds(&e, attrs) {
+    match parse(alloc, text) {
+        Ok(e) => value_of_told(alloc, &e, attrs),
+        Err(fault) => refusal_told(alloc, fault),
+    }
+}
+
+fn value_of_told(alloc: Global, e: &Expr, attrs: &[Attr]) -> Result<String, AllocError> {
+    let end = if holds(e, attrs) {
         "holds"
     } else {
         "does not hold"
     };
-    match eval(&e, attrs) {
+    match eval(e, attrs) {
         ValueRef::Null => format!(in alloc; "null\n{end}"),
         ValueRef::Truth(b) => format!(in alloc; "{b}\n{end}"),
         ValueRef::Whole(n) => format!(in alloc; "{n}\n{end}"),

@@ -29,7 +29,12 @@ fn tiles_told(alloc: Global, tiles: &[Tile]) -> Result<String, AllocError> {
 
 /// The tiles of an expiry list's text in lines, or its first line that is none.
 pub(crate) fn list_told(alloc: Global, text: &[u8]) -> Result<String, AllocError> {
-    match read_list(alloc, unfolded(alloc, text)?.as_slice()) {
+    let text = unfolded(alloc, text)?;
+    list_of_told(alloc, text.as_slice())
+}
+
+fn list_of_told(alloc: Global, text: &[u8]) -> Result<String, AllocError> {
+    match read_list(alloc, text) {
         Ok(tiles) => tiles_told(alloc, tiles.as_slice()),
         Err(ListFault::Line(number)) => format!(in alloc; "list 1 at line {number}"),
         Err(ListFault::NoMemory) => String::from_str(alloc, "no memory"),
@@ -38,9 +43,14 @@ pub(crate) fn list_told(alloc: Global, text: &[u8]) -> Result<String, AllocError
 
 /// The first line of a script's text that is none, or that it is read.
 pub(crate) fn script_told(alloc: Global, text: &[u8]) -> Result<String, AllocError> {
-    match read_script(alloc, unfolded(alloc, text)?.as_slice()) {
-        Ok(_) => String::from_str(alloc, "read"),
-        Err(ScriptFault::Line(number)) => format!(in alloc; "script 1 at line {number}"),
-        Err(ScriptFault::NoMemory) => String::from_str(alloc, "no memory"),
+    let text = unfolded(alloc, text)?;
+    script_of_told(alloc, text.as_slice())
+}
+
+fn script_of_told(alloc: Global, text: &[u8]) -> Result<String, AllocError> {
+    match read_script(alloc, text).err() {
+        None => String::from_str(alloc, "read"),
+        Some(ScriptFault::Line(number)) => format!(in alloc; "script 1 at line {number}"),
+        Some(ScriptFault::NoMemory) => String::from_str(alloc, "no memory"),
     }
 }

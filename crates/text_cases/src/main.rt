@@ -45,11 +45,30 @@ fn run(rt: HostRuntime) -> Option<()> {
     let alloc = rt.alloc();
     let mut files = DiskFiles::new(rt);
     let mut out = OutSink::new(rt.stdout());
-    let old = files.read(alloc, "old.data").ok()?;
-    let old = Snapshot::first(alloc, read_data(alloc, old.as_slice()).ok()?).ok()?;
     let cases = files.read(alloc, "cases").ok()?;
-    for line in str::from_utf8(cases.as_slice()).ok()?.lines() {
-        case(alloc, line, &old, &mut files, &mut out)?;
+    let old = old_data(alloc, &mut files)?;
+    let ran = each_case(alloc, cases.as_slice(), &old, &mut files, &mut out);
+    drop(old);
+    ran
+}
+
+// The data that filters and updates are told over.
+fn old_data<F: Files>(alloc: Global, files: &mut F) -> Option<Snapshot> {
+    let bytes = files.read(alloc, "old.data").ok()?;
+    let dataset = read_data(alloc, bytes.as_slice()).ok()?;
+    Snapshot::first(alloc, dataset).ok()
+}
+
+fn each_case<F: Files, O: Sink>(
+    alloc: Global,
+    cases: &[u8],
+    old: &Snapshot,
+    files: &mut F,
+    out: &mut O,
+) -> Option<()> {
+    for line in str::from_utf8(cases).ok()?.lines() {
+        put_line(&format!(in alloc; "case {line}").ok()?, out)?;
+        case(alloc, line, old, files, out)?;
     }
     Some(())
 }
@@ -65,15 +84,25 @@ fn case<F: Files, O: Sink>(
     let (kind, rest) = line.split_once(' ')?;
     let (form, name) = rest.split_once(' ')?;
     let bytes = files.read(alloc, name).ok()?;
-    put_line(&format!(in alloc; "case {line}").ok()?, out)?;
     let bytes = bytes.as_slice();
     match form {
         "rows" => table(alloc, Rows { kind, name, bytes }, old, out),
         "beginnings" => beginnings(alloc, kind, bytes, old, out),
         "changes" => changes(alloc, kind, bytes, old, out),
-        "whole" => put(alloc, &told(alloc, kind, bytes, old)?, out),
+        "whole" => whole(alloc, kind, bytes, old, out),
         _ => None,
     }
+}
+
+fn whole<O: Sink>(
+    alloc: Global,
+    kind: &str,
+    bytes: &[u8],
+    old: &Snapshot,
+    out: &mut O,
+) -> Option<()> {
+    let told = told(alloc, kind, bytes, old)?;
+    put(alloc, &told, out)
 }
 
 // The file of a table, and of which kind its texts are.

@@ -53,8 +53,8 @@ fn fault_told(alloc: Global, fault: StyleFault) -> Result<String, AllocError> {
 
 /// The first fault of a style's text, or that it is read.
 pub(crate) fn style_told(alloc: Global, text: &[u8]) -> Result<String, AllocError> {
-    match read_style(alloc, text) {
-        Ok(_) => String::from_str(alloc, "read"),
-        Err(fault) => fault_told(alloc, fault),
+    match read_style(alloc, text).err() {
+        None => String::from_str(alloc, "read"),
+        Some(fault) => fault_told(alloc, fault),
     }
 }

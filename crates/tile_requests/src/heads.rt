@@ -9,7 +9,7 @@ use httparse::spans::{EMPTY_HEADER_SPAN, parse_request};
 use httparse::{Error, Status};
 
 /// A head as far as it came.
-#[derive(Clone, Copy, Debug)]
+#[derive(Clone, Copy)]
 pub enum Head<'a> {
     /// More bytes are waited for.
     Open,

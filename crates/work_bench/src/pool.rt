@@ -73,6 +73,7 @@ fn actors_of(
     let mut actors = Vec::new(alloc);
     for place in 0..count {
         let Ok(parker) = parker_for(alloc, sleepers) else {
+            drop(actors);
             return None;
         };
         let seat = farm.split(first).unwrap();
@@ -83,6 +84,7 @@ fn actors_of(
             drawn: None,
         };
         if actors.push(actor).is_err() {
+            drop(actors);
             return None;
         }
     }
@@ -160,9 +162,21 @@ fn run_shared<R: Threads + Wait + Clock + Sync>(
     requires first { first.old ≡ first_of farm.now }
 {
     let mut sleepers = Vec::new(alloc);
-    let mut actors = actors_of(alloc, farm, first, &mut sleepers, count)?;
+    let Some(actors) = actors_of(alloc, farm, first, &mut sleepers, count) else {
+        drop(sleepers);
+        return None;
+    };
+    let mut actors = actors;
     let barrier = StartBarrier::new(u64::from(count), sleepers);
     act_all(rt, alloc, farm, &barrier, rounds, actors.as_mut_slice());
+    drop(barrier);
+    let drawn = drawn_of(actors.as_slice());
+    drop(actors);
+    drawn
+}
+
+/// What was drawn for the feeder.
+fn drawn_of<S>(actors: &[Actor<S>]) -> Option<Drawn> {
     actors.first()?.drawn
 }
 

@@ -1,6 +1,7 @@
-//! Whole calls over files. What is wanted of each case was computed by another program, which was written from the
-//! formats alone. After the cases comes the program itself over the words that it was called with, which are refused:
-//! nothing on out, the line on err, which is put on standard output too, and status 2.
+//! Whole calls over files: scripts and generated work, and then drawings and containers. What is wanted of each case was
+//! computed by two other programs, which were written from the formats and the farm's rules alone. After the cases comes
+//! the program itself over the words that it was called with, which are refused: nothing on out, the line on err, which
+//! is put on standard output too, and status 2.
 #![tactic(auto)]
 
 use call_cases::run_cases;
@@ -14,8 +15,10 @@ fn main(rt: HostRuntime) -> ExitCode {
     let alloc = rt.alloc();
     let mut files = DiskFiles::new(rt);
     let mut out = OutSink::new(rt.stdout());
-    if run_cases(&rt, alloc, &mut files, &mut out).is_none() {
-        return ExitCode::FAILURE;
+    for list in ["scripts", "drawings"] {
+        if run_cases(&rt, alloc, list, &mut files, &mut out).is_none() {
+            return ExitCode::FAILURE;
+        }
     }
     let mut err = OutSink::new(rt.stdout());
     let (one, two, three) = (Vec::new(alloc), Vec::new(alloc), Vec::new(alloc));
