@@ -62,20 +62,16 @@ before_end starts count pieces i k is inside small next (inr last) =
     omega (arith, is.counted, laid_last pieces k inside last)
 
 -- the last chunk that starts at the slot or before it
-pub slot_of_last : (starts : List ℕ) (count : ℕ) (pieces : Pieces) (i k start : ℕ) → IsLaid starts count pieces → i < count → k < length starts
-    → start ≡ get_or starts k start → get_or starts k 0 ≤ i → (k + 1 < length starts → i < get_or starts (k + 1) 0) → IsSlotOf pieces i k (i - start)
-slot_of_last starts count pieces i k start is small bound at begun next =
+pub slot_of_last : (starts : List ℕ) (count : ℕ) (pieces : Pieces) (i k : ℕ) → IsLaid starts count pieces → i < count → k < length starts
+    → get_or starts k 0 ≤ i → (k + 1 < length starts → i < get_or starts (k + 1) 0) → IsSlotOf pieces i k (i - get_or starts k 0)
+slot_of_last starts count pieces i k is small bound begun next =
     let inside : k < length pieces = omega (arith, is.long) in
-    let begins : start ≡ length (laid (take k pieces)) = get_or_read starts k start bound at 0 ∙ is.each k inside in
-    let ends : i < length (laid (take k pieces)) + length (get_or pieces k []) = before_end starts count pieces i k is inside small next (cases_lt (k + 1) (length pieces)) in
-    let begun_there : length (laid (take k pieces)) ≤ i = omega (arith, is.each k inside) in record {
+    let begins : get_or starts k 0 ≡ length (laid (take k pieces)) = is.each k inside in
+    let ends : i < length (laid (take k pieces)) + length (get_or pieces k []) = before_end starts count pieces i k is inside small next (cases_lt (k + 1) (length pieces)) in record {
       inside = inside;
       within = omega arith;
       number = omega arith;
     }
-
-pub start_below : (starts : List ℕ) (k start i : ℕ) → k < length starts → start ≡ get_or starts k start → get_or starts k 0 ≤ i → start ≤ i
-start_below starts k start i bound at begun = omega (arith, get_or_read starts k start bound at 0)
 
 -- ---- what stands in a slot
 

@@ -1,5 +1,5 @@
 -- Slots in which the features from the start stand, and copies of what stands in slots.
-use Rattle.std.proofs.Common.{◌≡◌, ℕ, zero, suc, ◌+◌, ◌<◌, List, [], ◌∷◌, ◌++◌, length, get_or, take, refl, sym, ◌∙◌, ap, subst, inr, append_assoc, arith}
+use Rattle.std.proofs.Common.{◌≡◌, ℕ, zero, suc, ◌+◌, ◌<◌, ◌≤◌, List, [], ◌∷◌, ◌++◌, length, get_or, take, refl, sym, ◌∙◌, ap, subst, inr, append_assoc, arith}
 use Rattle.std.specs.Prelude.{Bool, true, false, nat_eq, map, slice_get, Option, Some, None}
 use Rattle.std.specs.Ordering.{nat_cmp}
 use Rattle.std.specs.BTreeMap.{BTreeMap, is_at, IsEmpty}
@@ -56,18 +56,15 @@ knows_first places features empty distinct =
 
 -- ---- what stands in the slots that a list is read as
 
-pub read_some : {A : Type 0} (read : A → Option Feature) (slots : List A) (i : ℕ) (s : A) → slice_get slots i ≡ Some s → read s ≡ get_or (map read slots) i None
-read_some read [] i s at = cc
-read_some read (x ∷ slots) zero s at = ap read (sym (same x s at))
-  where
-    same : {A : Type 0} (x s : A) → Some x ≡ Some s → x ≡ s
-    same x s e = cc
-read_some read (x ∷ slots) (suc i) s at = read_some read slots i s at
+pub read_some : {A : Type 0} (read : A → Option Feature) (slots : List A) (i : ℕ) (s : A) → i < length slots → s ≡ get_or slots i s → read s ≡ get_or (map read slots) i None
+read_some read [] i s small at = absurd (omega arith)
+read_some read (x ∷ slots) zero s small at = ap read at
+read_some read (x ∷ slots) (suc i) s small at = read_some read slots i s (omega arith) at
 
-pub read_none : {A : Type 0} (read : A → Option Feature) (slots : List A) (i : ℕ) → slice_get slots i ≡ None → None ≡ get_or (map read slots) i None
-read_none read [] i at = refl
-read_none read (x ∷ slots) zero at = cc
-read_none read (x ∷ slots) (suc i) at = read_none read slots i at
+pub read_none : {A : Type 0} (read : A → Option Feature) (slots : List A) (i : ℕ) → length slots ≤ i → None ≡ get_or (map read slots) i None
+read_none read [] i past = refl
+read_none read (x ∷ slots) zero past = absurd (omega arith)
+read_none read (x ∷ slots) (suc i) past = read_none read slots i (omega arith)
 
 alone : (s : Option Feature) → standing (s ∷ []) ≡ option_to_list s
 alone None = refl

@@ -2,8 +2,8 @@ use Rattle.std.proofs.Common.{◌≡◌, ◌++◌, ◌∷◌, [], length, arith,
 use Rattle.data_versions.proofs.Slots.{knows_same, knows_undone, knows_added, added_is, added_count, unheld}
 use Rattle.data_versions.proofs.edit.LayerEdit.add.Goals as goal
 
-pub invariant_of-self-in_err-insert : goal.invariant_of-self-in_err-insert
-invariant_of-self-in_err-insert c = (
+pub invariant_of-self : goal.invariant_of-self
+invariant_of-self c = (
   knows_same c.self.inside.places c.insert.new.self c.self.inside.finder.features c.self.inside.slots c.self.invariant.0 c.in_err-insert.ensures.err,
   c.self.invariant.1,
   c.self.invariant.2,

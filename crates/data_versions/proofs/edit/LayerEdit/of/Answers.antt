@@ -1,14 +1,18 @@
-use Rattle.std.proofs.Common.{arith}
+use Rattle.std.proofs.Common.{List, length, sym, ap, subst, ◌∙◌, arith}
+use Rattle.std.specs.Prelude.{Option}
+use Rattle.plain_data.specs.Features.{Feature}
+use Rattle.data_versions.specs.inner.Slots.{standing, KnowsPlaces}
 use Rattle.data_versions.proofs.Old.{whole_stands, knows_first}
 use Rattle.data_versions.proofs.edit.LayerEdit.of.Goals as goal
 
 pub invariant_of-result : goal.invariant_of-result
 invariant_of-result c =
-    rw (c.of-2.ensures, c.of.ensures) (
-      knows_first c.new.result c.args.layer.now.features c.new.ensures.empty c.requires.distinct,
-      rw whole_stands (omega (arith, c.len.ensures)),
+    let features = c.args.layer.now.features in
+    rw c.of.ensures (
+      subst (λ (ss : List (Option Feature)). KnowsPlaces c.new.result features ss) (sym c.in_ok-of.ensures) (knows_first c.new.result features c.new.ensures.empty c.requires.distinct),
+      c.len.ensures ∙ sym (ap (λ (ss : List (Option Feature)). length (standing ss)) c.in_ok-of.ensures ∙ ap length (whole_stands features)),
       omega (arith, c.len.ensures, c.requires.few),
     )
 
 pub returns : goal.returns
-returns c = rw c.of-2.ensures (whole_stands c.args.layer.now.features)
+returns c = ap standing c.in_ok-of.ensures ∙ whole_stands c.args.layer.now.features

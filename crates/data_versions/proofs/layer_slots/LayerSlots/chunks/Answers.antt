@@ -4,8 +4,10 @@ use Rattle.data_versions.proofs.layer_slots.LayerSlots.chunks.Goals as goal
 
 pub loop-place-preserved : goal.loop-place-preserved
 loop-place-preserved c = laid_more c.loop-place.builder c.put_into.new.builder c.self.inside.pieces.items c.loop-place.place c.piece-item.result
-    c.loop-place-test.true c.piece-item.is c.loop-place.invariant c.in_ok-put_into.ensures
+    (rw c.deref-piece-items.ensures.value at c.loop-place-test.true) (rw c.deref-piece-items.ensures.value at c.piece-item.is) c.loop-place.invariant c.in_ok-put_into.ensures
 
 pub returns : goal.returns
-returns c = rw (← c.self.view_is) (c.into_chunks.ensures ∙ laid_all c.loop-place.builder c.copy_into.new.builder c.self.inside.pieces.items c.loop-place.place c.self.inside.added
-    c.loop-place-test.false c.loop-place.invariant c.in_ok-copy_into.ensures)
+returns c =
+    let all = laid_all c.loop-place.builder c.copy_into.new.builder c.self.inside.pieces.items c.loop-place.place c.self.inside.added
+    (rw c.deref-piece-items.ensures.value at c.loop-place-test.false) c.loop-place.invariant c.in_ok-copy_into.ensures in
+    rw (← c.self.view_is, ← all) c.into_chunks.ensures
