@@ -1,6 +1,6 @@
 -- Where the first one that passes stands in a list that is cut into parts.
-use Rattle.std.proofs.Common.{◌≡◌, ℕ, suc, ◌+◌, ◌<◌, List, [], ◌∷◌, ◌++◌, length, drop, get_or, add-one, refl, sym, ap, ◌∙◌, inl, inr, arith}
-use Rattle.std.specs.Prelude.{Bool, true, false, not, cond, filter, nat_eq, nat_lt, position, All, Option, Some, None, option_map, Result, Ok, Err, is_err}
+use Rattle.std.proofs.Common.{◌≡◌, ℕ, suc, ◌+◌, ◌-◌, ◌<◌, ◌≤◌, List, [], ◌∷◌, ◌++◌, length, drop, get_or, add-one, refl, sym, ap, ◌∙◌, inl, inr, arith}
+use Rattle.std.specs.Prelude.{◌⊎◌, Bool, true, false, not, cond, filter, nat_eq, nat_lt, position, All, Option, Some, None, option_map, Result, Ok, Err, is_err}
 use Rattle.std.specs.Ordering.{nat_cmp}
 use Rattle.std.specs.List.Sorted.{IsBinarySearchResult, IsNonDecreasingBy}
 use Rattle.std.specs.List.{AllByRecursion, position_or_len}
@@ -140,3 +140,23 @@ missed ids features id (Err i) index result e =
 
     above : (a b : ℕ) → a < b → nat_eq a b ≡ false
     above a b h = grind (arith, nat_tests)
+
+-- an id below the least one or above the greatest has no place
+pub outside : (ids : List ℕ) (features : List Feature) (id low high : ℕ) → IsIndex ids features
+    → (0 < length ids → (low ≡ get_or ids 0 0) × (high ≡ get_or ids (length ids - 1) 0)) → (id < low) ⊎ (high < id) → place_of features id ≡ None
+outside ids features id low high index ends out =
+    let up : IsNonDecreasingBy (λ q. q) ids = IsNonDecreasingBy-from_sort (λ q. q) ids index.sorted in
+    let other : All (λ q. nat_eq id q ≡ false) ids = λ k d small.
+    let here = ends (omega arith) in
+    let least : get_or ids 0 0 ≤ get_or ids k 0 = up 0 k 0 (omega arith) small in
+    let greatest : get_or ids k 0 ≤ get_or ids (length ids - 1) 0 = up k (length ids - 1) 0 (omega arith) (omega arith) in
+    rw (get_or_default ids k d 0 small) (differ id (get_or ids k 0) (elim out [
+      | inl below ↦ inl (omega (arith, least, here.0))
+      | inr above ↦ inr (omega (arith, greatest, here.1))
+    ])) in
+    no_place features id (recursion_from_All (λ q. nat_eq id q ≡ false) (ids_of features)
+    (All-permutation (λ q. nat_eq id q ≡ false) ids (ids_of features) (IsPermutation-sym (ids_of features) ids index.all) other))
+  where
+    differ : (a b : ℕ) → (a < b) ⊎ (b < a) → nat_eq a b ≡ false
+    differ a b (inl h) = grind (arith, nat_tests)
+    differ a b (inr h) = grind (arith, nat_tests)

@@ -5,4 +5,6 @@ pub mod Bits
 pub mod Finds
 pub mod Places
 pub mod Old
+pub mod Laid
 pub mod Ids
+pub mod Spans

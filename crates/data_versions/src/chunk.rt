@@ -1,9 +1,10 @@
 //! A chunk of a layer: up to 256 features that snapshots share, with the box and the cells in which they lie.
-ghost use Rattle.std.specs.Prelude.{◌≡◌, ◌≤◌, ◌<◌, ◌+◌, false, length, drop, position, slice_get, All, IfSome, IfOk};
+ghost use Rattle.std.specs.Prelude.{◌≡◌, ◌≤◌, ◌<◌, ◌+◌, ℕ, None, false, length, drop, position, slice_get, All, IfSome, IfOk};
 ghost use Rattle.std.specs.Option.{option_copied};
 ghost use Rattle.data_versions.specs.Near.{place_of, is_near, all_near};
 ghost use Rattle.data_versions.specs.inner.Cells.{IsWide, IsBoxed, IsMarked, box_of};
 ghost use Rattle.data_versions.specs.inner.Chunks.{IsIndex};
+ghost use Rattle.data_versions.specs.inner.Ids.{IsOutside};
 ghost use Rattle.geo_model.specs.Bounds.{Within};
 
 use crate::cells::{add_block, cells_met, has_one, no_cells};
@@ -179,6 +180,17 @@ impl Chunk {
             return None;
         }
         find_id(self.features.as_slice(), id)
+    }
+
+    /// The least and the greatest id of the features; no feature has an id outside of these.
+    pub(crate) fn id_span(&self) -> (u64, u64)
+        ensures { (id : ℕ) → IsOutside result id → place_of self.now id ≡ None }
+    {
+        let count = self.ids.len();
+        if count == 0 {
+            return (1, 0);
+        }
+        (self.ids[0], self.ids[count - 1])
     }
 }
 

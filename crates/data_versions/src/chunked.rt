@@ -50,7 +50,7 @@ fn starts_of(alloc: Global, chunks: &[Arc<Chunk>]) -> Result<(Vec<u32>, u32), No
 }
 
 /// The last chunk that starts at the place or before it.
-fn last_start(starts: &[u32], place: u32) -> usize
+pub(crate) fn last_start(starts: &[u32], place: u32) -> usize
     requires some { 0 < length starts.now }
     requires first { slice_index starts.now 0 ≤ place }
     ensures bound { result < length starts.now }
@@ -101,6 +101,14 @@ impl ChunkedLayer {
         ensures { joined result.now ≡ self.now.features }
     {
         self.chunks.as_slice()
+    }
+
+    /// The chunks in order, and the place of each one's first feature.
+    pub(crate) fn begun(&self) -> (&[Arc<Chunk>], &[u32])
+        ensures features { joined result.0.now ≡ self.now.features }
+        ensures starts { IsStarts result.1.now result.0.now }
+    {
+        (self.chunks.as_slice(), self.starts.as_slice())
     }
 
     /// How many features there are.

@@ -6,11 +6,11 @@ ghost use Rattle.plain_data.specs.Data.{has_id, ids_of, IsLayer};
 ghost use Rattle.data_versions.specs.inner.Slots.{without, replaced_by, with_put};
 ghost use Rattle.data_versions.specs.inner.Chunks.{joined};
 
-use crate::builder::ChunkBuilder;
-use crate::chunk::{Chunk, MOST_TOGETHER};
+use crate::chunk::Chunk;
 use crate::chunked::ChunkedLayer;
 use crate::finder::LayerFinder;
-use crate::slot::{Slot, copy_slots, keep_chunk, old_slots, slot_of};
+use crate::layer_slots::LayerSlots;
+use crate::slot::slot_of;
 use farm_base::NoMemory;
 use geo_model::Feature;
 use plain_data::MOST_FEATURES;
@@ -25,7 +25,7 @@ use std::sync::Arc;
 #[derive(Drop)]
 pub(crate) struct LayerEdit<'a> {
     finder: LayerFinder<'a>,
-    slots: Vec<Option<Slot<'a>>>,
+    slots: LayerSlots<'a>,
     places: BTreeMap<u64, usize>,
     count: usize,
 }
@@ -34,13 +34,13 @@ impl<'a> Model for LayerEdit<'a> {
     ghost use Rattle.std.specs.Prelude.{◌≡◌, ◌≤◌, List, length};
     ghost use Rattle.plain_data.specs.Features.{Feature};
     ghost use Rattle.plain_data.specs.Limits.{most_features};
-    ghost use Rattle.data_versions.specs.inner.Slots.{standing, HasOld, KnowsPlaces};
+    ghost use Rattle.data_versions.specs.inner.Slots.{standing, KnowsPlaces};
 
     ghost Value = { List Feature };
 
-    ghost view = { λ b. standing b.slots.items };
+    ghost view = { λ b. standing b.slots };
 
-    ghost invariant = { λ b. KnowsPlaces b.places b.finder.features b.slots.items × (b.count ≡ length (standing b.slots.items)) × (b.count ≤ most_features) × HasOld b.slots.items b.finder.features };
+    ghost invariant = { λ b. KnowsPlaces b.places b.finder.features b.slots × (b.count ≡ length (standing b.slots)) × (b.count ≤ most_features) };
 }
 
 impl<'a> LayerEdit<'a> {
@@ -49,13 +49,11 @@ impl<'a> LayerEdit<'a> {
         requires { IsLayer layer.now }
         ensures { IfOk result (λ b. b ≡ layer.now.features) }
     {
-        let slots = old_slots(alloc, layer.chunks())?;
-        let count = slots.len();
         Ok(LayerEdit {
             finder: LayerFinder::of(alloc, layer),
-            slots,
+            slots: LayerSlots::of(alloc, layer)?,
             places: BTreeMap::new(alloc),
-            count,
+            count: layer.len() as usize,
         })
     }
 
@@ -77,19 +75,19 @@ impl<'a> LayerEdit<'a> {
     }
 
     /// Takes the feature of the id out, or answers false where there is none.
-    pub(crate) fn remove(&mut self, id: u64) -> bool
-        ensures found { result ≡ has_id (ids_of self.old) id }
-        ensures gone { result ≡ true → self.new ≡ without id self.old }
-        ensures absent { result ≡ false → self.new ≡ self.old }
+    pub(crate) fn remove(&mut self, alloc: Global, id: u64) -> Result<bool, NoMemory>
+        ensures found { IfOk result (λ found. found ≡ has_id (ids_of self.old) id) }
+        ensures gone { IfOk result (λ found. found ≡ true → self.new ≡ without id self.old) }
+        ensures absent { IfOk result (λ found. found ≡ false → self.new ≡ self.old) }
     {
-        match slot_of(&self.places, &self.finder, self.slots.as_slice(), id) {
+        match slot_of(&self.places, &self.finder, &self.slots, id) {
             Some(place) => {
-                self.slots[place] = None;
+                self.slots.set(alloc, place, None)?;
                 self.places.remove(&id);
                 self.count -= 1;
-                true
+                Ok(true)
             }
-            None => false,
+            None => Ok(false),
         }
     }
 
@@ -99,47 +97,43 @@ impl<'a> LayerEdit<'a> {
         requires room { length self.old < most_features }
         ensures { OnOk result (self.new ≡ self.old ++ feature.now ∷ []) }
     {
-        let place = self.slots.len();
-        self.slots.push(None)?;
-        self.places.insert(feature.id(), place)?;
-        self.slots[place] = Some(Slot {
-            feature,
-            is_old: false,
-        });
-        self.count += 1;
-        Ok(())
+        let id = feature.id();
+        let place = self.slots.next_number()?;
+        self.places.insert(id, place)?;
+        match self.slots.push(Some(feature)) {
+            Ok(()) => {
+                self.count += 1;
+                Ok(())
+            }
+            Err(refused) => {
+                self.places.remove(&id);
+                Err(refused)
+            }
+        }
     }
 
     /// Puts a feature in place of the one of its id, if there is one.
-    fn replace(&mut self, feature: &'a Feature) -> bool
-        ensures found { result ≡ has_id (ids_of self.old) feature.now.id }
-        ensures done { result ≡ true → self.new ≡ replaced_by feature.now self.old }
-        ensures absent { result ≡ false → self.new ≡ self.old }
+    fn replace(&mut self, alloc: Global, feature: &'a Feature) -> Result<bool, NoMemory>
+        ensures found { IfOk result (λ found. found ≡ has_id (ids_of self.old) feature.now.id) }
+        ensures done { IfOk result (λ found. found ≡ true → self.new ≡ replaced_by feature.now self.old) }
+        ensures absent { IfOk result (λ found. found ≡ false → self.new ≡ self.old) }
     {
-        match slot_of(
-            &self.places,
-            &self.finder,
-            self.slots.as_slice(),
-            feature.id(),
-        ) {
+        match slot_of(&self.places, &self.finder, &self.slots, feature.id()) {
             Some(place) => {
-                self.slots[place] = Some(Slot {
-                    feature,
-                    is_old: false,
-                });
-                true
+                self.slots.set(alloc, place, Some(feature))?;
+                Ok(true)
             }
-            None => false,
+            None => Ok(false),
         }
     }
 
     #[tactic(auto, using(crate::proofs::Slots::put_known, crate::proofs::Slots::put_new))]
     /// Puts a feature, in place of the one of its id or last. False where it is new and the layer is full.
-    pub(crate) fn put(&mut self, feature: &'a Feature) -> Result<bool, NoMemory>
+    pub(crate) fn put(&mut self, alloc: Global, feature: &'a Feature) -> Result<bool, NoMemory>
         ensures done { IfOk result (λ fits. fits ≡ true → self.new ≡ with_put feature.now self.old) }
         ensures full { IfOk result (λ fits. fits ≡ false → (has_id (ids_of self.old) feature.now.id ≡ false) × (most_features ≤ length self.old)) }
     {
-        if self.replace(feature) {
+        if self.replace(alloc, feature)? {
             return Ok(true);
         }
         if self.len() >= MOST_FEATURES {
@@ -154,18 +148,6 @@ impl<'a> LayerEdit<'a> {
     pub(crate) fn chunks(&self, alloc: Global) -> Result<Vec<Arc<Chunk>>, NoMemory>
         ensures { IfOk result (λ chunks. joined chunks.items ≡ self.now) }
     {
-        let chunks = self.finder.layer().chunks();
-        let mut builder = ChunkBuilder::new(alloc);
-        let mut at = 0;
-        for (place, shared) in chunks.iter().enumerate() {
-            let chunk: &Chunk = shared;
-            let end = at + chunk.features().len();
-            let is_last = place + 1 == chunks.len();
-            let may_share = !is_last || end - at == MOST_TOGETHER || end == self.slots.len();
-            keep_chunk(alloc, shared, may_share, &self.slots[at..end], &mut builder)?;
-            at = end;
-        }
-        copy_slots(alloc, &self.slots[at..], &mut builder)?;
-        builder.into_chunks(alloc)
+        self.slots.chunks(alloc)
     }
 }

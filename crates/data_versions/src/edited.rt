@@ -21,13 +21,18 @@ pub(crate) fn no_memory(_refused: NoMemory) -> ApplyFault
 
 /// Takes the features of the ids out, in order.
 #[tactic(auto, using(crate::proofs::Changes::kept_more, crate::proofs::Changes::missing_more, crate::proofs::Changes::missing_now, crate::proofs::Changes::kept_end, crate::proofs::Changes::missing_end))]
-fn remove_all(edit: &mut LayerEdit<'_>, place: u32, ids: &[u64]) -> Result<(), ApplyFault>
+fn remove_all(
+    alloc: Global,
+    edit: &mut LayerEdit<'_>,
+    place: u32,
+    ids: &[u64],
+) -> Result<(), ApplyFault>
     ensures found { OnOk result (first_missing (ids_of edit.old) ids.now ≡ None) }
     ensures gone { OnOk result (edit.new ≡ without_ids ids.now edit.old) }
-    ensures missing { IfErr result (λ e. option_map (λ id. ApplyFault.NoFeature place id) (first_missing (ids_of edit.old) ids.now) ≡ Some e) }
+    ensures missing { IfErr result (λ e. e ≢ ApplyFault.NoMemory → option_map (λ id. ApplyFault.NoFeature place id) (first_missing (ids_of edit.old) ids.now) ≡ Some e) }
 {
     for id in ids {
-        if !edit.remove(*id) {
+        if !edit.remove(alloc, *id).map_err(no_memory)? {
             return Err(ApplyFault::NoFeature(place, *id));
         }
     }
@@ -36,14 +41,19 @@ fn remove_all(edit: &mut LayerEdit<'_>, place: u32, ids: &[u64]) -> Result<(), A
 
 /// Puts the features, in order.
 #[tactic(auto, using(crate::proofs::Changes::puts_more, crate::proofs::Changes::puts_end, crate::proofs::Changes::puts_full))]
-fn put_all<'a>(edit: &mut LayerEdit<'a>, place: u32, puts: &'a [Feature]) -> Result<(), ApplyFault>
+fn put_all<'a>(
+    alloc: Global,
+    edit: &mut LayerEdit<'a>,
+    place: u32,
+    puts: &'a [Feature],
+) -> Result<(), ApplyFault>
     ensures done { OnOk result (edit.new ≡ with_puts puts.now edit.old) }
     ensures fits { OnOk result (is_too_many (with_puts puts.now edit.old) ≡ false) }
     ensures cause { IfErr result (λ e. e ≢ ApplyFault.NoMemory → e ≡ ApplyFault.TooMany place) }
     ensures full { IfErr result (λ e. e ≢ ApplyFault.NoMemory → is_too_many (with_puts puts.now edit.old) ≡ true) }
 {
     for feature in puts {
-        if !edit.put(feature).map_err(no_memory)? {
+        if !edit.put(alloc, feature).map_err(no_memory)? {
             return Err(ApplyFault::TooMany(place));
         }
     }
@@ -54,6 +64,7 @@ fn put_all<'a>(edit: &mut LayerEdit<'a>, place: u32, puts: &'a [Feature]) -> Res
 
 /// Does the change: the removals in order, and then the puts in order.
 fn make_change<'a>(
+    alloc: Global,
     edit: &mut LayerEdit<'a>,
     place: u32,
     change: &'a Change,
@@ -62,8 +73,8 @@ fn make_change<'a>(
     ensures right { OnOk result (features_fault place change.now edit.old ≡ None) }
     ensures refused { IfErr result (λ e. e ≢ ApplyFault.NoMemory → features_fault place change.now edit.old ≡ Some e) }
 {
-    remove_all(edit, place, change.remove.as_slice())?;
-    put_all(edit, place, change.put.as_slice())
+    remove_all(alloc, edit, place, change.remove.as_slice())?;
+    put_all(alloc, edit, place, change.put.as_slice())
 }
 
 /// A layer of a snapshot, and its features under edit from its first change on. Contracts see it as the
@@ -122,7 +133,7 @@ impl<'a> EditedLayer<'a> {
         };
         let ids = change.remove.len().saturating_add(change.put.len());
         edit.expect(alloc, ids).map_err(no_memory)?;
-        make_change(&mut edit, place, change)?;
+        make_change(alloc, &mut edit, place, change)?;
         self.edit = Some(edit);
         Ok(())
     }

@@ -11,20 +11,27 @@ ghost use Rattle.data_versions.specs.inner.Ids.{numbered, IsIdTable};
 
 use crate::chunk::Chunk;
 use crate::chunked::ChunkedLayer;
+use crate::id_spans::IdSpans;
 use farm_base::NoMemory;
 use geo_model::Feature;
 use std::alloc::Global;
 use std::marker::Model;
 
-/// The most ids of a layer that are found by walks over its chunks. To make the table of all ids takes about
-/// as long as so many walks.
-const MOST_WALKS: usize = 400;
+/// The most ids of a layer that are found by walks that look into each chunk. To read between which ids those
+/// of each chunk lie takes about as long as so many walks.
+const MOST_WALKS: usize = 4;
 
-/// Finds the features of a layer by their ids: by walks over its chunks, or by a table of all ids, once so many
-/// are to be found that the walks would take longer. Contracts see it as the layer.
+/// A table of all ids takes for each feature of the layer about as long as so many looks at a span.
+const LOOKS_OF_TABLE: usize = 64;
+
+/// Finds the features of a layer by their ids: by walks over its chunks, which pass over those that cannot have
+/// the id once several are to be found, or by a table of all ids, once so many are to be found that the walks
+/// would take longer. Contracts see it as the layer.
 #[derive(Drop)]
 pub struct LayerFinder<'a> {
     layer: &'a ChunkedLayer,
+    /// Known once several ids are to be found.
+    spans: Option<IdSpans<'a>>,
     /// The ids in order, each with its place; only where there is a table.
     table: Vec<(u64, u32)>,
     has_table: bool,
@@ -32,7 +39,7 @@ pub struct LayerFinder<'a> {
 }
 
 impl<'a> Model for LayerFinder<'a> {
-    ghost use Rattle.std.specs.Prelude.{◌≡◌, true};
+    ghost use Rattle.std.specs.Prelude.{◌≡◌, true, IfSome};
     ghost use Rattle.plain_data.specs.Features.{Layer};
     ghost use Rattle.plain_data.specs.Data.{IsLayer};
     ghost use Rattle.data_versions.specs.inner.Ids.{IsIdTable};
@@ -41,7 +48,7 @@ impl<'a> Model for LayerFinder<'a> {
 
     ghost view = { λ f. f.layer.now };
 
-    ghost invariant = { λ f. IsLayer f.layer.now × (f.has_table ≡ true → IsIdTable f.table.items f.layer.now.features) };
+    ghost invariant = { λ f. IsLayer f.layer.now × (f.has_table ≡ true → IsIdTable f.table.items f.layer.now.features) × IfSome f.spans (λ s. s ≡ f.layer.now.features) };
 }
 
 /// Adds the ids of the features, each with its place.
@@ -105,6 +112,7 @@ impl<'a> LayerFinder<'a> {
     {
         LayerFinder {
             layer,
+            spans: None,
             table: Vec::new(alloc),
             has_table: false,
             expected: 0,
@@ -126,6 +134,20 @@ impl<'a> LayerFinder<'a> {
         self.layer.name() == name
     }
 
+    /// Reads between which ids those of each chunk lie, once. Told is about how many looks at a span one id
+    /// takes.
+    fn looks(&mut self, alloc: Global) -> Result<usize, NoMemory>
+        ensures { self.new ≡ self.old }
+    {
+        if let Some(spans) = &self.spans {
+            return Ok(spans.looks());
+        }
+        let spans = IdSpans::of(alloc, self.layer)?;
+        let looks = spans.looks();
+        self.spans = Some(spans);
+        Ok(looks)
+    }
+
     /// Makes ready for so many more ids to be found: where many are expected, of all calls together, the table
     /// is made, which takes some 16 bytes for each feature of the layer.
     pub fn expect(&mut self, alloc: Global, ids: usize) -> Result<(), NoMemory>
@@ -133,6 +155,10 @@ impl<'a> LayerFinder<'a> {
     {
         self.expected = self.expected.saturating_add(ids);
         if self.has_table || self.expected <= MOST_WALKS {
+            return Ok(());
+        }
+        let walks = self.looks(alloc)?.saturating_mul(self.expected);
+        if walks <= LOOKS_OF_TABLE.saturating_mul(self.layer.len() as usize) {
             return Ok(());
         }
         self.table = id_table(alloc, self.layer)?;
@@ -145,9 +171,11 @@ impl<'a> LayerFinder<'a> {
         ensures { result ≡ place_of self.now.features id }
     {
         if self.has_table {
-            place_in(self.table.as_slice(), id)
-        } else {
-            self.layer.place_of(id)
+            return place_in(self.table.as_slice(), id);
+        }
+        match &self.spans {
+            Some(spans) => spans.place_of(id),
+            None => self.layer.place_of(id),
         }
     }
 

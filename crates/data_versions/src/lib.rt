@@ -4,12 +4,16 @@
 mod builder;
 mod cells;
 mod chunk;
+mod chunk_slots;
 mod chunked;
 mod dataset;
 mod edit;
 mod edited;
 mod finder;
+mod id_spans;
+mod layer_slots;
 mod slot;
+mod slot_list;
 mod snapshot;
 mod updates;
 mod walk;

@@ -1,53 +1,51 @@
 -- A layer while it is changed: slots in which features stand, or stood.
-use Rattle.std.specs.Prelude.{◌≡◌, ◌⊎◌, ℕ, Bool, true, false, not, cond, nat_eq, if◌then◌else◌, List, [], ◌∷◌, ◌++◌, map, filter, get_or, Option, Some, None, option_map}
+use Rattle.std.specs.Prelude.{◌≡◌, ◌⊎◌, ◌+◌, ◌<◌, ◌≤◌, ℕ, not, nat_eq, if◌then◌else◌, List, [], ◌∷◌, ◌++◌, length, take, map, filter, get_or, Option, Some, None, option_map}
 use Rattle.std.specs.Ordering.{nat_cmp}
-use Rattle.std.specs.List.{filter_map}
+use Rattle.std.specs.List.{filter_map, flat_map}
 use Rattle.std.specs.BTreeMap.{BTreeMap, get}
+use Rattle.std.specs.declared.alloc.Global.{Global}
+use Rattle.std.specs.declared.sync.Arc.{Arc}
+use Rattle.std.specs.Arc.{arc_value}
 use Rattle.plain_data.specs.Features.{Feature}
 use Rattle.plain_data.specs.Data.{has_id, ids_of}
+use Rattle.plain_data.specs.Limits.{most_features}
 use Rattle.data_versions.specs.Near.{place_of}
-use Rattle.data_versions.specs.declared.slot.Slot.{Slot}
-
--- the feature that stands in a slot
-abbrev pub standing_in : Option Slot → Option Feature
-standing_in None = None
-standing_in (Some s) = Some s.feature.now
 
 -- the features that stand in the slots, in order
-abbrev pub standing : List (Option Slot) → List Feature
-standing slots = filter_map standing_in slots
+abbrev pub standing : List (Option Feature) → List Feature
+standing slots = filter_map (λ s. s) slots
 
 -- the id of the feature in a slot
-abbrev pub slot_id : Option Slot → Option ℕ
-slot_id s = option_map (λ f. f.feature.now.id) s
+abbrev pub slot_id : Option Feature → Option ℕ
+slot_id s = option_map (λ f. f.id) s
 
--- the slot has the feature that it had from the start
-abbrev pub is_old : Option Slot → Bool
-is_old None = false
-is_old (Some s) = s.is_old
+-- the slots of a chunk in which nothing has changed
+abbrev pub whole : Arc (List Feature) Global → List (Option Feature)
+whole chunk = map Some (arc_value chunk)
 
--- the feature that a slot has had from the start, if it still has it
-abbrev pub old_in : Option Slot → Option Feature
-old_in None = None
-old_in (Some s) = cond s.is_old (Some s.feature.now) None
+-- the slots of the chunks, one chunk after another
+abbrev pub laid : List (List (Option Feature)) → List (Option Feature)
+laid pieces = flat_map (λ p. p) pieces
 
--- if a slot still has the feature that it had from the start, it is this one
-abbrev pub IsOldAs : Option Slot → Feature → Type 0
-IsOldAs None f = Unit {0}
-IsOldAs (Some s) f = s.is_old ≡ true → s.feature.now ≡ f
+-- the number of each chunk's first slot, and how many slots there are, at most 1,000,000
+pub record IsLaid (starts : List ℕ) (count : ℕ) (pieces : List (List (Option Feature))) : Type 0 where
+  pub long : length starts ≡ length pieces
+  pub each : (k : ℕ) → k < length pieces → get_or starts k 0 ≡ length (laid (take k pieces))
+  pub counted : count ≡ length (laid pieces)
+  pub few : count ≤ most_features
 
--- each of the features from the start has its slot, in order, and a slot that still has its first feature has that one
-abbrev pub HasOld : List (Option Slot) → List Feature → Type 0
-HasOld slots [] = Unit {0}
-HasOld [] (f ∷ features) = ⊥
-HasOld (s ∷ slots) (f ∷ features) = IsOldAs s f × HasOld slots features
+-- the slot of the number i is that of the number j among those of the chunk at the place k
+pub record IsSlotOf (pieces : List (List (Option Feature))) (i k j : ℕ) : Type 0 where
+  pub inside : k < length pieces
+  pub within : j < length (get_or pieces k [])
+  pub number : i ≡ length (laid (take k pieces)) + j
 
 -- the id stands in no slot
-abbrev pub StandsNowhere : List (Option Slot) → ℕ → Type 0
+abbrev pub StandsNowhere : List (Option Feature) → ℕ → Type 0
 StandsNowhere slots id = (k : ℕ) → slot_id (get_or slots k None) ≡ Some id → ⊥
 
 -- each id stands in one slot: in the one that the places tell, or else in that of its place among the features from the start
-pub record KnowsPlaces (places : BTreeMap ℕ ℕ) (features : List Feature) (slots : List (Option Slot)) : Type 0 where
+pub record KnowsPlaces (places : BTreeMap ℕ ℕ) (features : List Feature) (slots : List (Option Feature)) : Type 0 where
   pub found : (id k : ℕ) → get nat_cmp places id ≡ Some k → slot_id (get_or slots k None) ≡ Some id
   pub held : (id k : ℕ) → slot_id (get_or slots k None) ≡ Some id → (get nat_cmp places id ≡ Some k) ⊎ (place_of features id ≡ Some k)
   pub one : (id i j : ℕ) → slot_id (get_or slots i None) ≡ Some id → slot_id (get_or slots j None) ≡ Some id → i ≡ j
