@@ -10,13 +10,12 @@ use Rattle.std.proofs.lemmas.Slice.Eq.{bytes_eq-Decides}
 use Rattle.plain_world.specs.World.{IsTileSize}
 use Rattle.farm_base.specs.Earlier.{each_after}
 use Rattle.tile_paths.specs.Paths.{IsName, is_map_name}
-use Rattle.farm_history.specs.declared.queues.Limits.{Limits}
 use Rattle.farm_history.proofs.Lists.{any-append}
 use Rattle.geo_json.specs.DataTexts.{dataset_in}
 use Rattle.fault_texts.specs.DataFaults.{data_text}
-use Rattle.farm_config.specs.Configs.{MapEntry, Config, is_tile_size, is_limit_to, are_limits, map_has, map_fits, restyle_known, IsConfig}
+use Rattle.farm_config.specs.Configs.{MapEntry, Config, is_tile_size, map_has, map_fits, restyle_known, IsConfig}
 use Rattle.farm_config.specs.declared.config.RestyleEntry.{RestyleEntry}
-use Rattle.farm_plan.specs.Plans.{MapPlan, Restyle, IsMapPlan, HasNamesApart, IsFrom1, AreLimits, NamesMap, IsPlan}
+use Rattle.farm_plan.specs.Plans.{MapPlan, Restyle, IsMapPlan, HasNamesApart, NamesMap, IsPlan}
 use Rattle.input_files.specs.Course.{Course, made, ◌>>=◌, file, each}
 use Rattle.input_files.proofs.Courses.{Could, could_parts}
 use Rattle.farm_files.specs.MapCourses.{style_course}
@@ -147,31 +146,7 @@ names_apart before (m ∷ ms) (p ∷ ps) h are (suc i) zero a b at to same =
 names_apart before (m ∷ ms) (p ∷ ps) h are (suc i) (suc j) a b at to same =
     ap (λ (n : ℕ). suc n) (names_apart (before ++ m ∷ []) ms ps (and_parts (map_fits before m) (each_after map_fits (before ++ m ∷ []) ms) h).1 are.1 i j a b at to same)
 
--- ---- limits and restyles
-
-from_1 : (n most : ℕ) → is_limit_to most n ≡ true → IsFrom1 n most
-from_1 n most h =
-    let low = (and_parts (nat_le 1 n) (nat_le n most) h).0 in
-    let high = (and_parts (nat_le 1 n) (nat_le n most) h).1 in
-    record { some = grind (arith, nat_tests); few = grind (arith, nat_tests) }
-
-limits_of : (l : Limits) → are_limits l ≡ true → AreLimits l
-limits_of l h =
-    let a = is_limit_to 32 l.prio in
-    let b = is_limit_to 32 l.request in
-    let c = is_limit_to 32 l.low in
-    let d = is_limit_to 1000 l.dirty in
-    let e = is_limit_to 32 l.bulk in
-    let h4 = (and_parts (a && b && c && d) e h).0 in
-    let h3 = (and_parts (a && b && c) d h4).0 in
-    let h2 = (and_parts (a && b) c h3).0 in
-    record {
-      prio = from_1 l.prio 32 (and_parts a b h2).0;
-      request = from_1 l.request 32 (and_parts a b h2).1;
-      low = from_1 l.low 32 (and_parts (a && b) c h3).1;
-      dirty = from_1 l.dirty 1000 (and_parts (a && b && c) d h4).1;
-      bulk = from_1 l.bulk 32 (and_parts (a && b && c && d) e h).1;
-    }
+-- ---- restyles
 
 restyle_of : (r : RestyleEntry) (p : Restyle) → Could (restyle_course r) p → p.map ≡ r.map
 unfolding restyle_course_by
@@ -208,7 +183,7 @@ plan_valid config inputs valid h =
       each_map = each_map [] config.maps maps.0 valid.maps_fit are;
       apart = names_apart [] config.maps maps.0 valid.maps_fit are;
       count_workers = record { some = valid.some_workers; few = valid.few_workers };
-      limited = limits_of config.limits valid.limits_fit;
+      limited = valid.limits_fit;
       few_updates = omega (arith, each_length update_course config.updates updates.0 updates.1, valid.few_updates);
       few_restyles = omega (arith, each_length restyle_course config.restyles restyles.0 restyles.1, valid.few_restyles);
       each_restyle = restyles_of maps.0 config.restyles restyles.0 (subst (λ (n : ℕ). list_all (restyle_known n) config.restyles ≡ true) (sym many) valid.restyles_known) restyles.1;

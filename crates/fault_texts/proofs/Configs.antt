@@ -8,7 +8,8 @@ use Rattle.reading.specs.Values.{text}
 use Rattle.farm_config.specs.Addresses.{is_address}
 use Rattle.farm_config.specs.Configs.{MapEntry, map_has, map_place, greatest_limits, is_tile_size}
 use Rattle.tile_paths.specs.Paths.{is_map_name}
-use Rattle.farm_config.specs.Limits.{most_maps, most_zoom, most_files, most_workers, most_waiting, most_dirty}
+use Rattle.farm_history.specs.Limits.{most_waiting, most_dirty}
+use Rattle.farm_config.specs.Limits.{most_maps, most_zoom, most_files, most_workers}
 use Rattle.farm_config.specs.Kinds.{a_file, a_map_name, number_within, a_tile_size, an_address, a_truth}
 use Rattle.farm_config.specs.Tables.{map_keys, map_entry, map_after, maps_of, file_after, files_of, limit_keys, limits_of, restyle_keys, restyle_after, restyles_of, config_keys, config_of, config_in}
 use Rattle.farm_config.specs.declared.config.RestyleEntry.{RestyleEntry}
