@@ -12,6 +12,7 @@ use Rattle.std.proofs.lemmas.List.Edits.{swapped_from_swap}
 use Rattle.std.proofs.lemmas.List.Sorted.{list_any-IsPermutation, IsPermutation-trans, IsPermutation-append_left}
 use Rattle.plain_world.specs.declared.world.Square.{Square}
 use Rattle.plain_world.specs.World.{IsMeta, IsTileSize, meta_square, side_at}
+use Rattle.plain_world.proofs.Windows.{size_bounds}
 use Rattle.plain_data.specs.Reach.{margin_of}
 use Rattle.geo_model.specs.declared.bounds.Bounds.{Bounds}
 use Rattle.farm_history.specs.declared.keys.Key.{Key}
@@ -32,15 +33,12 @@ use Rattle.expiry_lists.proofs.Tiles.{agree_metas, none_metas, map_agrees}
 
 -- ---- margins
 
-some_pixels : (size : ℕ) → IsTileSize size → 0 < size
-some_pixels size tile = grind (arith, tile)
-
 -- a later zoom's margin is no wider
 pub margin_less : (size y z : ℕ) → IsTileSize size → y ≤ z → margin_of size z ≤ margin_of size y
 margin_less size y z tile later =
     let less : side_at z ≤ side_at y = pow-le-pow_right (omega arith) (omega (arith, later)) in
     let rest = div-add-mod' (64 * side_at z) size in
-    le-div (margin_of size z) (64 * side_at y) size (some_pixels size tile) (omega (arith, less, rest))
+    le-div (margin_of size z) (64 * side_at y) size (omega (arith, (size_bounds size tile).0)) (omega (arith, less, rest))
 
 -- ---- boxes in parts
 

@@ -19,6 +19,7 @@ fn side_at(z: u32) -> u64
 }
 
 /// 64 pixels of tiles of that size at that zoom, in units.
+#[tactic(auto, using(plain_world::proofs::Windows::size_bounds))]
 pub fn margin_of(size: u32, z: u32) -> u64
     requires size { IsTileSize size }
     requires zoom { z ≤ 18 }

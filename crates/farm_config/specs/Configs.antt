@@ -1,8 +1,9 @@
 -- Configurations as plain records, and what their values keep.
-use Rattle.std.specs.Prelude.{ℕ, ◌≤◌, ◌==◌, ◌&&◌, ◌||◌, Bool, not, nat_le, nat_lt, IsTrue, List, [], length, Option, position}
+use Rattle.std.specs.Prelude.{ℕ, ◌≤◌, ◌&&◌, Bool, not, nat_le, nat_lt, IsTrue, List, [], length, Option, position}
 use Rattle.std.specs.List.{list_all, list_any}
 use Rattle.std.specs.Str.{bytes_eq}
 use Rattle.farm_base.specs.Earlier.{each_after}
+use Rattle.plain_world.specs.World.{is_tile_size, IsTileSize}
 use Rattle.tile_paths.specs.Paths.{is_map_name}
 use Rattle.farm_history.specs.declared.queues.Limits.{Limits}
 use Rattle.farm_history.specs.Limits.{most_waiting, most_dirty, AreLimits}
@@ -30,10 +31,6 @@ pub record Config : Type 0 where
   pub restyles : List RestyleEntry
   pub resume : Bool
 
--- a tile is 16, 32, 64, 128, 256 or 512 pixels wide and high
-abbrev pub is_tile_size : ℕ → Bool
-is_tile_size n = n == 16 || n == 32 || n == 64 || n == 128 || n == 256 || n == 512
-
 -- the greatest limits of the queues, which are also the defaults
 abbrev pub greatest_limits : Limits
 greatest_limits = record { prio = most_waiting; request = most_waiting; low = most_waiting; dirty = most_dirty; bulk = most_waiting }
@@ -57,7 +54,7 @@ restyle_known maps r = nat_lt r.map maps
 -- what every map of a configuration keeps
 pub record IsMapEntry (name : List ℕ) (tile max_zoom : ℕ) : Type 0 where
   pub name_fits : IsTrue (is_map_name name)
-  pub tile_fits : IsTrue (is_tile_size tile)
+  pub tile_fits : IsTileSize tile
   pub zoom_fits : max_zoom ≤ most_zoom
 
 -- what every configuration keeps: 1 to 16 maps that keep their ranges and have distinct names, 1 to 16 workers, limits within theirs, at most 256 updates, expiry lists and

@@ -1,5 +1,5 @@
 -- What a configuration's files say is a plan that a farm may be started with.
-use Rattle.std.proofs.Common.{◌≡◌, ℕ, zero, suc, ◌<◌, ◌≤◌, inl, inr, Bool, true, false, not, ◌&&◌, ◌||◌, ◌==◌, List, [], ◌∷◌, ◌++◌, length, All, refl, sym, ap, subst, ◌∙◌, arith}
+use Rattle.std.proofs.Common.{◌≡◌, ℕ, zero, suc, ◌<◌, ◌≤◌, true, false, not, ◌&&◌, List, [], ◌∷◌, ◌++◌, length, All, refl, sym, ap, subst, ◌∙◌, arith}
 use Rattle.std.specs.Prelude.{Some, slice_get, nat_le}
 use Rattle.std.specs.List.{list_all}
 use Rattle.std.specs.Str.{bytes_eq}
@@ -7,13 +7,13 @@ use Rattle.std.proofs.lemmas.Bool.{not-true, and_parts, or_parts}
 use Rattle.std.proofs.lemmas.Bool.Decides.{nat_tests}
 use Rattle.std.proofs.lemmas.List.Elements.{All-cons, All-nil}
 use Rattle.std.proofs.lemmas.Slice.Eq.{bytes_eq-Decides}
-use Rattle.plain_world.specs.World.{IsTileSize}
+use Rattle.plain_world.specs.World.{is_tile_size, IsTileSize}
 use Rattle.farm_base.specs.Earlier.{each_after}
 use Rattle.tile_paths.specs.Paths.{IsName, is_map_name}
 use Rattle.farm_history.proofs.Lists.{any-append}
 use Rattle.geo_json.specs.DataTexts.{dataset_in}
 use Rattle.fault_texts.specs.DataFaults.{data_text}
-use Rattle.farm_config.specs.Configs.{MapEntry, Config, is_tile_size, map_has, map_fits, restyle_known, IsConfig}
+use Rattle.farm_config.specs.Configs.{MapEntry, Config, map_has, map_fits, restyle_known, IsConfig}
 use Rattle.farm_config.specs.declared.config.RestyleEntry.{RestyleEntry}
 use Rattle.farm_plan.specs.Plans.{MapPlan, Restyle, IsMapPlan, HasNamesApart, NamesMap, IsPlan}
 use Rattle.input_files.specs.Course.{Course, made, ◌>>=◌, file, each}
@@ -58,22 +58,10 @@ maps_of (m ∷ ms) ps h =
 
 -- ---- maps that fit
 
-size_of : (n : ℕ) → is_tile_size n ≡ true → IsTileSize n
-size_of n h = go (n == 16) (n == 32) (n == 64) (n == 128) (n == 256) (n == 512) refl refl refl refl refl refl h
-  where
-    go : (a b c d e f : Bool) → (n == 16) ≡ a → (n == 32) ≡ b → (n == 64) ≡ c → (n == 128) ≡ d → (n == 256) ≡ e → (n == 512) ≡ f → (a || b || c || d || e || f) ≡ true → IsTileSize n
-    go true b c d e f ha hb hc hd he hf t = inl (let is : n ≡ 16 = grind (arith, nat_tests) in is)
-    go false true c d e f ha hb hc hd he hf t = inr (inl (let is : n ≡ 32 = grind (arith, nat_tests) in is))
-    go false false true d e f ha hb hc hd he hf t = inr (inr (inl (let is : n ≡ 64 = grind (arith, nat_tests) in is)))
-    go false false false true e f ha hb hc hd he hf t = inr (inr (inr (inl (let is : n ≡ 128 = grind (arith, nat_tests) in is))))
-    go false false false false true f ha hb hc hd he hf t = inr (inr (inr (inr (inl (let is : n ≡ 256 = grind (arith, nat_tests) in is)))))
-    go false false false false false true ha hb hc hd he hf t = inr (inr (inr (inr (inr (let is : n ≡ 512 = grind (arith, nat_tests) in is)))))
-    go false false false false false false ha hb hc hd he hf t = absurd (cc)
-
 -- the four tests of a map behind others
 record Fits (before : List MapEntry) (m : MapEntry) : Type 0 where
   named : is_map_name m.name ≡ true
-  sized : is_tile_size m.tile ≡ true
+  sized : IsTileSize m.tile
   zooms : nat_le m.max_zoom 18 ≡ true
   apart : map_has m.name before ≡ false
 
@@ -95,7 +83,7 @@ one_map before m p h is =
     let at : m.max_zoom ≤ 18 = grind (arith, nat_tests) in
     record {
       named = subst IsName (sym is.0) fits.named;
-      sized = subst IsTileSize (sym is.1) (size_of m.tile fits.sized);
+      sized = subst IsTileSize (sym is.1) fits.sized;
       zooms = subst (λ (n : ℕ). n ≤ 18) (sym is.2) at;
     }
 

@@ -6,7 +6,8 @@ use Rattle.reading.specs.Json.{json_of}
 use Rattle.reading.specs.Steps.{◌>>=◌}
 use Rattle.reading.specs.Values.{text}
 use Rattle.farm_config.specs.Addresses.{is_address}
-use Rattle.farm_config.specs.Configs.{MapEntry, map_has, map_place, greatest_limits, is_tile_size}
+use Rattle.farm_config.specs.Configs.{MapEntry, map_has, map_place, greatest_limits}
+use Rattle.plain_world.specs.World.{is_tile_size}
 use Rattle.tile_paths.specs.Paths.{is_map_name}
 use Rattle.farm_history.specs.Limits.{most_waiting, most_dirty}
 use Rattle.farm_config.specs.Limits.{most_maps, most_zoom, most_files, most_workers}
