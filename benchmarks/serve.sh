@@ -1,21 +1,36 @@
 #!/usr/bin/env bash
 # How fast a running farm answers, over loopback, with a client on the same machine.
 #
-#   benchmarks/serve.sh [quick]        (with `quick` a tenth of everything)
+#   benchmarks/serve.sh [quick]             (with `quick` a tenth of everything)
+#   benchmarks/serve.sh waits [FOLDER..]    (what drawings cost others, below each folder: /dev/shm and /var/tmp; some 4 minutes)
 #
 # starts `tilefarm serve` in a folder of its own, with sixteen maps over 10,000 features that all lie in one metatile of
 # zoom 14, and measures: clean metatiles answered Done on one connection of renderd's protocol; clean tiles of 256
 # pixels over HTTP, one connection each; how long one ask takes; what 1,000 idle connections cost; the farm's memory
 # before and after all these asks; and metatiles over 200 of these features and over all, drawn with 1, 2 and 4 workers, with
 # tiles of 256 pixels, of which the writing takes much of the time, and of 32, of which it takes none, and what one
-# who looks at a stored tile waits beside workers that draw all the time.
+# who looks at a clean tile waits beside workers that draw all the time.
 # The tiles lie in memory where the system has /dev/shm, so that no disk is measured; TMPDIR names another folder.
+#
+# With `waits` it measures only what 1, 2 and 4 workers store in ten rounds over all features, and what 1 and 4 who look
+# at a clean tile wait beside them. PEER, as "tcp:127.0.0.1:80 /default/14/8192/8192.png", is a page of another server
+# that is looked at in the same way, as mod_tile's while its renderd draws.
 # The client is benchmarks/serve_client.c, compiled by cc. With TILEFARM another program is measured.
 set -eu
 top="$(cd "$(dirname "${BASH_SOURCE[0]}")/.." && pwd)"
 program="${TILEFARM:-$top/tilefarm}"
 part=1
-[ "${1:-}" = quick ] && part=10
+only=
+case "${1:-}" in
+    quick) part=10 ;;
+    waits)
+        shift
+        [ $# -gt 0 ] || set -- /dev/shm /var/tmp
+        for place in "$@"; do TMPDIR="$place" "$0" below "$place"; done
+        exit
+        ;;
+    below) only="$2" ;;
+esac
 if [ -z "${TMPDIR:-}" ] && [ -w /dev/shm ]; then export TMPDIR=/dev/shm; fi
 folder="$(mktemp -d)"
 farm=
@@ -111,8 +126,57 @@ tiles="tcp:127.0.0.1:$port"
 machine="$(sed -n 's/^model name[^:]*: //p' /proc/cpuinfo | head -n 1)"
 echo "$(date +%F), $(nproc) processors, $machine, load $(cut -d' ' -f1 /proc/loadavg)"
 
-start 4 10000 256
 tile='14 8192 8192'
+# Metatiles of these maps and zooms that are drawn in a second: at first, and as the middle of five times of all again.
+drawn() { client draw "$renderd" 15 $tile "$1" | awk '{ printf "%.1f\n", $1 / $2 }'; }
+again() {
+    for _ in 1 2 3 4 5; do
+        control 'expire 0' >/dev/null
+        drawn "$1"
+    done | sort -n | sed -n 3p
+}
+# What so many who look wait, at a clean tile that lies elsewhere, while all of them are drawn again and again.
+beside() {
+    client done "$renderd" 1 1 14 0 0 >/dev/null
+    "$folder/client" view "$tiles" $((20 / part)) "$1" 14 0 0 >"$folder/viewed" &
+    viewer=$!
+    while kill -0 "$viewer" 2>/dev/null; do
+        control 'expire 0' >/dev/null
+        drawn 3 >/dev/null
+    done
+    wait "$viewer"
+    cat "$folder/viewed"
+}
+# Metatiles that are drawn in a second in ten rounds together, and in the slowest and the quickest of them.
+rounds() {
+    for _ in 1 2 3 4 5 6 7 8 9 10; do
+        control 'expire 0' >/dev/null
+        client draw "$renderd" 15 $tile 3
+    done | awk '{ n += $1; s += $2; r = $1 / $2; if (NR == 1 || r < low) low = r; if (r > high) high = r }
+        END { printf "%.0f (%.0f to %.0f)", n / s, low, high }'
+}
+if [ -n "$only" ]; then
+    part=2
+    echo "tiles below $only, $(df --output=fstype "$only" | tail -n 1)"
+    for workers in 1 2 4; do
+        rm -rf "$folder/tiles"
+        start "$workers" 10000 256
+        drawn 3 >/dev/null
+        row "metatiles over 10000 features drawn again, ten rounds, $workers workers" "$(rounds)" "a second"
+        for viewers in 1 4; do
+            row "a clean tile beside that, every 2 ms, $viewers viewers: middle, 99 of 100, longest" "$(beside $viewers)" "ms"
+        done
+        stop
+    done
+    if [ -n "${PEER:-}" ]; then
+        for viewers in 1 4; do
+            row "a page of $PEER, $viewers viewers" "$(client view "${PEER% *}" 10 $viewers $tile "${PEER#* }")" "ms"
+        done
+    fi
+    exit
+fi
+
+start 4 10000 256
 client done "$renderd" 1 1 $tile >/dev/null
 before="$(memory)"
 told() { client done "$renderd" "$1" "$2" $tile | rate; }
@@ -140,25 +204,6 @@ row "memory after $((1000000 / part)) asks more" "$(memory)" "KiB"
 row "asks in all" "$(control stats | cut -d' ' -f2)" ""
 stop
 
-# Metatiles of these maps and zooms that are drawn in a second: at first, and as the middle of five times of all again.
-drawn() { client draw "$renderd" 15 $tile "$1" | awk '{ printf "%.1f\n", $1 / $2 }'; }
-again() {
-    for _ in 1 2 3 4 5; do
-        control 'expire 0' >/dev/null
-        drawn "$1"
-    done | sort -n | sed -n 3p
-}
-# What one who looks waits while all of them are drawn again and again.
-beside() {
-    "$folder/client" view "$tiles" $((20 / part)) $tile >"$folder/viewed" &
-    viewer=$!
-    while kill -0 "$viewer" 2>/dev/null; do
-        control 'expire 0' >/dev/null
-        drawn 3 >/dev/null
-    done
-    wait "$viewer"
-    cat "$folder/viewed"
-}
 for pixels in 256 32; do
     for features in 200 10000; do
         for workers in 1 2 4; do
@@ -167,8 +212,7 @@ for pixels in 256 32; do
             row "metatiles over $features features, zooms 11 to 14, tiles of $pixels pixels, $workers workers" "$(drawn 3)" "a second"
             row "the same drawn again" "$(again 3)" "a second"
             row "of zoom 14 alone, drawn again" "$(again 0)" "a second"
-            client done "$renderd" 1 1 $tile >/dev/null
-            row "a stored tile over HTTP beside that, every 2 ms: middle, 99 of 100, longest" "$(beside)" "ms"
+            row "a clean tile over HTTP beside that, every 2 ms: middle, 99 of 100, longest" "$(beside 1)" "ms"
             row "memory at the end" "$(memory)" "KiB"
             stop
         done

@@ -7,8 +7,10 @@
  *                                                       the maps m0, m1 and so on; at most 24 asked for at once
  *   serve_client wait ADDRESS COUNT Z X Y               how long single asks take: the least, the middle, of a hundred
  *                                                       the 99th, and the longest
- *   serve_client view ADDRESS SECONDS Z X Y             one tile over HTTP every 2 ms for so long, each on a connection of
- *                                                       its own: the middle, of a hundred the 99th, and the longest, in ms
+ *   serve_client view ADDRESS SECONDS VIEWERS Z X Y [PATH]
+ *                                                       so many that each get one tile over HTTP every 2 ms for so long, on
+ *                                                       a connection of its own: the middle, of a hundred the 99th, and the
+ *                                                       longest wait, in ms; with PATH another page, of whatever server
  *   serve_client idle ADDRESS COUNT                     COUNT connections that say nothing, until it is killed (or 600 s)
  *
  * An address is tcp:a.b.c.d:port or unix:path. Each prints one line: a number of answers and the seconds they took,
@@ -187,17 +189,42 @@ static int by_size(const void *one, const void *other)
     return (a > b) - (a < b);
 }
 
-static int measure_view(const char *address, long seconds, uint32_t z, uint32_t x, uint32_t y)
+struct viewer {
+    struct pages page;
+    double until, *waits;
+    long most, count;
+};
+
+static void *view(void *given)
 {
-    long most = seconds * 500 + 1, count = 0;
-    double *waits = malloc(most * sizeof *waits), begin = now();
-    struct pages one = {.address = address, .count = 1};
-    snprintf(one.request, sizeof one.request, "GET /default/%u/%u/%u.ppm HTTP/1.1\r\nHost: farm\r\n\r\n", z, x, y);
-    while (count < most && now() - begin < seconds) {
+    struct viewer *of = given;
+    while (of->count < of->most && now() < of->until) {
         double asked = now();
-        read_pages(&one);
-        waits[count++] = (now() - asked) * 1e3;
+        read_pages(&of->page);
+        of->waits[of->count++] = (now() - asked) * 1e3;
         usleep(2000);
+    }
+    return NULL;
+}
+
+static int measure_view(const char *address, long seconds, long viewers, uint32_t z, uint32_t x, uint32_t y, const char *path)
+{
+    pthread_t made[64];
+    struct viewer parts[64];
+    long most = seconds * 500 + 1, count = 0;
+    if (viewers < 1 || viewers > 64) errno = 0, fail("the viewers");
+    double *waits = malloc(viewers * most * sizeof *waits), until = now() + seconds;
+    for (long place = 0; place < viewers; place++) {
+        parts[place] = (struct viewer){.page = {.address = address, .count = 1}, .until = until, .most = most, .waits = waits + place * most};
+        char tile[64];
+        snprintf(tile, sizeof tile, "/default/%u/%u/%u.ppm", z, x, y);
+        snprintf(parts[place].page.request, sizeof parts[place].page.request, "GET %s HTTP/1.1\r\nHost: farm\r\nConnection: close\r\n\r\n", path ? path : tile);
+        if (pthread_create(&made[place], NULL, view, &parts[place])) fail("a thread");
+    }
+    for (long place = 0; place < viewers; place++) {
+        pthread_join(made[place], NULL);
+        memmove(waits + count, parts[place].waits, parts[place].count * sizeof *waits);
+        count += parts[place].count;
     }
     qsort(waits, count, sizeof *waits, by_size);
     printf("%.1f %.1f %.1f\n", waits[count / 2], waits[count * 99 / 100], waits[count - 1]);
@@ -264,7 +291,7 @@ int main(int count, char **words)
     if (!strcmp(words[1], "tiles") && count == 8) return measure_tiles(words[2], n[0], n[1], n[2], n[3], n[4]);
     if (!strcmp(words[1], "draw") && count == 8) return measure_draw(words[2], n[0], n[1], n[2], n[3], n[4]);
     if (!strcmp(words[1], "wait") && count == 7) return measure_wait(words[2], n[0], n[1], n[2], n[3]);
-    if (!strcmp(words[1], "view") && count == 7) return measure_view(words[2], n[0], n[1], n[2], n[3]);
+    if (!strcmp(words[1], "view") && count >= 8) return measure_view(words[2], n[0], n[1], n[2], n[3], n[4], count > 8 ? words[8] : NULL);
     if (!strcmp(words[1], "idle") && count == 4) return hold_idle(words[2], n[0]);
     errno = 0;
     fail("the words: see the head of serve_client.c");

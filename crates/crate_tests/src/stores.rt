@@ -34,6 +34,39 @@ fn gets_part<S: TileStore>(
     assert!(rt; slice(&found) == Ok(Some(wanted)), "{len} from {offset}");
 }
 
+/// Stages the bytes, puts them at the path and clears what is left.
+fn puts_staged<S: TileStore>(
+    store: &mut S,
+    alloc: Global,
+    path: &str,
+    bytes: &[u8],
+) -> Result<(), StoreFault> {
+    let stager = store.stager();
+    let Ok(staged) = S::stage(&stager, alloc, 7, Vec::from_slice(alloc, bytes)?) else {
+        return Err(StoreFault::NoMemory);
+    };
+    let answer = store.put_staged(alloc, path, staged);
+    S::clear(&stager, alloc, 7);
+    answer
+}
+
+/// Of two that are staged at once each is put at its own path, the later one first.
+fn puts_two<S: TileStore>(rt: &impl Abort, store: &mut S, alloc: Global) -> Result<(), StoreFault> {
+    let stager = store.stager();
+    let first = S::stage(&stager, alloc, 7, Vec::from_slice(alloc, b"seven")?);
+    let other = S::stage(&stager, alloc, 8, Vec::from_slice(alloc, b"eight")?);
+    let (Ok(first), Ok(other)) = (first, other) else {
+        return Err(StoreFault::NoMemory);
+    };
+    store.put_staged(alloc, "map/8", other)?;
+    store.put_staged(alloc, "map/7", first)?;
+    S::clear(&stager, alloc, 7);
+    S::clear(&stager, alloc, 8);
+    gets(rt, store, alloc, "map/7", b"seven");
+    gets(rt, store, alloc, "map/8", b"eight");
+    Ok(())
+}
+
 /// What every store does with paths, whole contents and parts.
 fn holds<S: TileStore>(rt: &impl Abort, store: &mut S, alloc: Global) {
     let path = "map/0/0/0/0/0/0.meta";
@@ -49,6 +82,14 @@ fn holds<S: TileStore>(rt: &impl Abort, store: &mut S, alloc: Global) {
     gets_part(rt, store, alloc, 6, 1, b"");
     gets_part(rt, store, alloc, 18_446_744_073_709_551_615, 1, b"");
     gets_part(rt, store, alloc, 1, 0, b"");
+    assert_eq!(rt; puts_staged(store, alloc, path, b"staged"), Ok(()));
+    assert_eq!(rt;
+        puts_staged(store, alloc, "map/1/0/0/0/0/0.meta", b"first"),
+        Ok(())
+    );
+    gets(rt, store, alloc, path, b"staged");
+    gets(rt, store, alloc, "map/1/0/0/0/0/0.meta", b"first");
+    assert_eq!(rt; puts_two(rt, store, alloc), Ok(()));
     assert_eq!(rt; store.put(alloc, path, b"xy"), Ok(()));
     gets(rt, store, alloc, path, b"xy");
     gets(rt, store, alloc, "farm.saved", b"");
@@ -64,6 +105,10 @@ fn memory_and_files_hold(rt: HostRuntime) -> Result<(), Fail> {
     let mut files = FileStore::new(rt.clone()?);
     holds(&rt, &mut files, alloc);
     gets(&rt, &mut files, alloc, "map/0/0/0/0/0/0.meta", b"xy");
+    assert!(rt;
+        is_missing(&rt, "tiles/7.new") && is_missing(&rt, "tiles/7.old.new"),
+        "nothing is left of a staging"
+    );
     fs::remove_dir_all(&rt, "tiles")?;
     Ok(())
 }
@@ -109,5 +154,58 @@ fn the_system_refuses(rt: HostRuntime) -> Result<(), Fail> {
     );
     gets(&rt, &mut files, alloc, "one", b"one");
     fs::remove_dir_all(&rt, "tiles")?;
+    Ok(())
+}
+
+#[test]
+fn the_system_refuses_what_was_staged(rt: HostRuntime) -> Result<(), Fail> {
+    let alloc = rt.alloc();
+    let _left_by_an_earlier_run = fs::remove_dir_all(&rt, "tiles");
+    let mut files = FileStore::new(rt.clone()?);
+    assert_eq!(rt;
+        puts_staged(&mut files, alloc, "folder/one", b"one"),
+        Ok(())
+    );
+    for path in ["folder", "folder/one/below_a_file", "folder/../one"] {
+        assert_eq!(rt;
+            puts_staged(&mut files, alloc, path, b"x"),
+            Err(StoreFault::Failed)
+        );
+    }
+    assert_eq!(rt; files.faults(), 3);
+    gets(&rt, &mut files, alloc, "folder/one", b"one");
+    assert!(rt;
+        is_missing(&rt, "tiles/7.new") && is_missing(&rt, "tiles/7.old.new"),
+        "nothing is left of a put that failed"
+    );
+    fs::remove_dir_all(&rt, "tiles")?;
+    Ok(())
+}
+
+#[test]
+fn a_staged_file_that_is_gone_is_not_put(rt: HostRuntime) -> Result<(), Fail> {
+    let alloc = rt.alloc();
+    let _left_by_an_earlier_run = fs::remove_dir_all(&rt, "tiles");
+    let mut files = FileStore::new(rt.clone()?);
+    assert_eq!(rt; files.put(alloc, "one", b"one"), Ok(()));
+    let stager = files.stager();
+    let staged = FileStore::stage(&stager, alloc, 8, Vec::from_slice(alloc, b"two")?);
+    assert!(rt; staged.is_ok());
+    fs::remove_file(&rt, "tiles/8.new")?;
+    if let Ok(staged) = staged {
+        assert_eq!(rt;
+            files.put_staged(alloc, "one", staged),
+            Err(StoreFault::Failed)
+        );
+    }
+    gets(&rt, &mut files, alloc, "one", b"one");
+    fs::remove_dir_all(&rt, "tiles")?;
+    // No folder can be made where a file stands.
+    fs::write(&rt, "tiles", b"a file")?;
+    match FileStore::stage(&stager, alloc, 9, Vec::from_slice(alloc, b"back")?) {
+        Ok(_) => assert!(rt; false, "staged below a file"),
+        Err(bytes) => assert!(rt; bytes.as_slice() == b"back".as_slice()),
+    }
+    fs::remove_file(&rt, "tiles")?;
     Ok(())
 }

@@ -23,7 +23,7 @@ leaf_again _ h = absurd (wrong h)
 
 -- ---- signs
 
-or_again : (j : JoinSign) → joins or_chain (sign_token j) ≡ true → or_sign ≡ j
+pub or_again : (j : JoinSign) → joins or_chain (sign_token j) ≡ true → or_sign ≡ j
 or_again or_sign h = refl
 or_again and_sign h = absurd (wrong h)
 or_again (sum_sign sum.Plus) h = absurd (wrong h)
@@ -32,7 +32,7 @@ or_again (product_sign product.Times) h = absurd (wrong h)
 or_again (product_sign product.Divide) h = absurd (wrong h)
 or_again (product_sign product.Rest) h = absurd (wrong h)
 
-and_again : (j : JoinSign) → joins and_chain (sign_token j) ≡ true → and_sign ≡ j
+pub and_again : (j : JoinSign) → joins and_chain (sign_token j) ≡ true → and_sign ≡ j
 and_again or_sign h = absurd (wrong h)
 and_again and_sign h = refl
 and_again (sum_sign sum.Plus) h = absurd (wrong h)
@@ -41,7 +41,7 @@ and_again (product_sign product.Times) h = absurd (wrong h)
 and_again (product_sign product.Divide) h = absurd (wrong h)
 and_again (product_sign product.Rest) h = absurd (wrong h)
 
-sum_again : (j : JoinSign) → joins sum_chain (sign_token j) ≡ true → sum_sign (sum_sign_of j) ≡ j
+pub sum_again : (j : JoinSign) → joins sum_chain (sign_token j) ≡ true → sum_sign (sum_sign_of j) ≡ j
 sum_again or_sign h = absurd (wrong h)
 sum_again and_sign h = absurd (wrong h)
 sum_again (sum_sign s) h = refl
@@ -49,7 +49,7 @@ sum_again (product_sign product.Times) h = absurd (wrong h)
 sum_again (product_sign product.Divide) h = absurd (wrong h)
 sum_again (product_sign product.Rest) h = absurd (wrong h)
 
-product_again : (j : JoinSign) → joins product_chain (sign_token j) ≡ true → product_sign (product_sign_of j) ≡ j
+pub product_again : (j : JoinSign) → joins product_chain (sign_token j) ≡ true → product_sign (product_sign_of j) ≡ j
 product_again or_sign h = absurd (wrong h)
 product_again and_sign h = absurd (wrong h)
 product_again (sum_sign sum.Plus) h = absurd (wrong h)

@@ -2,7 +2,9 @@ pub mod Back
 pub mod Chains
 pub mod Complete
 pub mod Connectives
+pub mod Cuts
 pub mod Final
+pub mod FromTrees
 pub mod Levels
 pub mod Lexemes
 pub mod Lexes
@@ -17,5 +19,7 @@ pub mod SeenLemmas
 pub mod Signs
 pub mod Sound
 pub mod Spelled
+pub mod Texts
+pub mod ToTrees
 pub mod Tokenised
 pub mod Turns

@@ -1,23 +1,19 @@
 -- Each text has one answer at most, and the reading is it.
-use Rattle.std.proofs.Common.{◌≡◌, ℕ, ◌+◌, ◌≤◌, true, List, [], ◌∷◌, ◌++◌, ◌⊎◌, inl, inr, Result, Ok, Err, refl, sym, ap, ◌∙◌, subst, arith, append_assoc}
-use Rattle.plain_filters.specs.declared.Expr.{Expr}
+use Rattle.std.proofs.Common.{◌≡◌, ℕ, ◌+◌, ◌≤◌, true, List, [], ◌∷◌, ◌++◌, ◌⊎◌, inl, inr, refl, sym, ap, ◌∙◌, subst, arith, append_assoc}
 use Rattle.filter_expr.specs.declared.tokens.Token.{Token}
 use Rattle.filter_expr.specs.declared.tokens.Token.TheVariants as token
 use Rattle.filter_expr.specs.declared.tokens.PlacedToken.{PlacedToken}
 use Rattle.filter_expr.specs.declared.faults.FilterFault.{FilterFault}
 use Rattle.filter_expr.specs.declared.faults.FilterFault.TheVariants.{Bad, NumberRange, TooDeep, NoMemory}
 use Rattle.filter_expr.specs.Trees.{Tree, bare, nesting, InRange, is_out_of_range}
-use Rattle.filter_expr.specs.Seen.{seen, shape}
-use Rattle.plain_filters.specs.Filters.{FilterTree, tree_of}
-use Rattle.filter_expr.proofs.SeenLemmas.{shape_known}
 use Rattle.filter_expr.specs.Lexing.{tokens_from}
 use Rattle.filter_expr.specs.Grammar.{IsSpelled, Stands}
-use Rattle.filter_expr.specs.Filters.{IsText, IsFilter, IsFault, Begins, GoesOn, StandsAt, Passes, HasCause, may_open, FilterOf, FaultOf, MayAnswer, AnswersTree, AnswersFault, OneTree, OneFilter, NotBoth, OneFault, OneTokenList}
-use Rattle.filter_expr.specs.inner.Gives.{Answers}
+use Rattle.filter_expr.specs.Filters.{OneTokenList}
+use Rattle.filter_expr.specs.inner.ByTrees.{IsText, IsFilter, IsFault, Begins, GoesOn, StandsAt, Passes, HasCause, may_open}
 use Rattle.filter_expr.specs.Reading.{Step, got, failed, or_in, within_depth, whole_filter}
 use Rattle.filter_expr.proofs.Complete.{Fine, complete}
 use Rattle.filter_expr.proofs.Rows.{Stops, wrong}
-use Rattle.filter_expr.proofs.Final.{IsAnswer, right, Reads, reads_whole, kept, not_both}
+use Rattle.filter_expr.proofs.Final.{IsAnswer, right, Reads, reads_whole, kept}
 use Rattle.filter_expr.proofs.Tokenised.{lexed_tokens, tokens_unique, tokens_stopped}
 
 -- ---- trees
@@ -39,8 +35,9 @@ reads_bare n e us s p g d (failed NoMemory ts) h = absurd h
 got_same : (d e : Tree) → ◌≡◌ {A = Step Tree} (got d []) (got e []) → d ≡ e
 got_same d e q = cc
 
-pub one_tree : OneTree
-one_tree d e us sd se pd pe rd re =
+-- tokens spell one tree at most that may stand by itself, parentheses aside
+pub trees_same : (d e : Tree) (us : List PlacedToken) → Stands 0 d → Stands 0 e → IsSpelled d us → IsSpelled e us → InRange d → InRange e → bare d ≡ bare e
+trees_same d e us sd se pd pe rd re =
     let n : ℕ = nesting d + nesting e in
     let read : (x : Tree) → Stands 0 x → IsSpelled x us → InRange x → nesting x ≤ n → or_in (within_depth n) (us ++ []) ≡ got (bare x) [] =
     λ x s p r h. reads_bare n x us s p r h (or_in (within_depth n) (us ++ [])) (complete x n 0 us [] (omega arith) s p nothing_stops) in
@@ -63,7 +60,7 @@ filter_unique ts d e a b = tree_same d e (a.text.1 ∷ []) (b.text.1 ∷ []) (sy
 -- ---- faults
 
 -- where two splits of one list meet
-abbrev Meet : List PlacedToken → List PlacedToken → PlacedToken → PlacedToken → Type 0
+abbrev pub Meet : List PlacedToken → List PlacedToken → PlacedToken → PlacedToken → Type 0
 Meet xs ys x y = ((xs ≡ ys) × (x ≡ y)) ⊎ (((m : List PlacedToken) × (ys ≡ xs ++ x ∷ m)) ⊎ ((m : List PlacedToken) × (xs ≡ ys ++ y ∷ m)))
 
 meet_more : (s : PlacedToken) (xs ys : List PlacedToken) (x y : PlacedToken) → Meet xs ys x y → Meet (s ∷ xs) (s ∷ ys) x y
@@ -77,7 +74,7 @@ head_same s t xs ys e = cc
 tail_same : (s t : PlacedToken) (xs ys : List PlacedToken) → s ∷ xs ≡ t ∷ ys → xs ≡ ys
 tail_same s t xs ys e = cc
 
-meet : (xs ys cs bs : List PlacedToken) (x y : PlacedToken) → xs ++ x ∷ cs ≡ ys ++ y ∷ bs → Meet xs ys x y
+pub meet : (xs ys cs bs : List PlacedToken) (x y : PlacedToken) → xs ++ x ∷ cs ≡ ys ++ y ∷ bs → Meet xs ys x y
 meet [] [] cs bs x y e = inl (refl, head_same x y cs bs e)
 meet [] (t ∷ ys) cs bs x y e = inr (inl (ys, ap (λ s. s ∷ ys) (sym (head_same x t cs (ys ++ y ∷ bs) e))))
 meet (s ∷ xs) [] cs bs x y e = inr (inr (xs, ap (λ t. t ∷ xs) (head_same s y (xs ++ x ∷ cs) bs e)))
@@ -110,7 +107,7 @@ out_of_range_opens : (t : Token) → is_out_of_range t ≡ true → may_open t �
 out_of_range_opens token.OutOfRange h g = wrong g
 out_of_range_opens _ h g = wrong h
 
-abbrev Refuses : FilterFault → List PlacedToken → PlacedToken → Type 0
+abbrev pub Refuses : FilterFault → List PlacedToken → PlacedToken → Type 0
 Refuses f before here = (e : Tree) (b : List PlacedToken) → Stands 0 e → IsText e (before ++ here ∷ b) → Passes e f
 
 -- of two faults at one place each names the same kind
@@ -145,38 +142,5 @@ fault_unique ts f g a b = by (meet a.before b.before a.after b.after a.here b.he
 pub one_token_list : OneTokenList
 one_token_list text ts us a b = tokens_unique text ts a ∙ sym (tokens_unique text us b)
 
-pub one_filter : OneFilter
-one_filter text s t a b =
-    let same : IsFilter b.0 (shape s) = subst (λ ts. IsFilter ts (shape s)) (one_token_list text a.0 b.0 a.1 b.1) a.2 in
-    shape_known b.0 s t same b.2 (filter_unique b.0 (shape s) (shape t) same b.2)
-
-pub not_both_of : NotBoth
-not_both_of text t f a b = not_both b.0 (shape t) f (subst (λ ts. IsFilter ts (shape t)) (one_token_list text a.0 b.0 a.1 b.1) a.2) b.2
-
-pub one_fault : OneFault
-one_fault text f g a b = fault_unique b.0 f g (subst (λ ts. IsFault ts f) (one_token_list text a.0 b.0 a.1 b.1) a.2) b.2
-
 pub lexed_answer : (text : List ℕ) → IsAnswer (tokens_from 0 0 text) (whole_filter (tokens_from 0 0 text))
 lexed_answer text = right (tokens_from 0 0 text) (tokens_stopped (tokens_from 0 0 text) 0 text (lexed_tokens text))
-
--- the reading of the tokens is the answer
-pub may_answer : (text : List ℕ) (r : Result Expr FilterFault) → Answers seen r (whole_filter (tokens_from 0 0 text)) → MayAnswer text r
-may_answer text (Ok e) a = (tokens_from 0 0 text, lexed_tokens text, subst (IsAnswer (tokens_from 0 0 text)) a.1 (right (tokens_from 0 0 text) (tokens_stopped (tokens_from 0 0 text) 0 text (lexed_tokens text))))
-may_answer text (Err (Bad o)) a = (tokens_from 0 0 text, lexed_tokens text, subst (IsAnswer (tokens_from 0 0 text)) a.1 (right (tokens_from 0 0 text) (tokens_stopped (tokens_from 0 0 text) 0 text (lexed_tokens text))))
-may_answer text (Err (NumberRange o)) a = (tokens_from 0 0 text, lexed_tokens text, subst (IsAnswer (tokens_from 0 0 text)) a.1 (right (tokens_from 0 0 text) (tokens_stopped (tokens_from 0 0 text) 0 text (lexed_tokens text))))
-may_answer text (Err (TooDeep o)) a = (tokens_from 0 0 text, lexed_tokens text, subst (IsAnswer (tokens_from 0 0 text)) a.1 (right (tokens_from 0 0 text) (tokens_stopped (tokens_from 0 0 text) 0 text (lexed_tokens text))))
-may_answer text (Err NoMemory) a = tt
-
-pub answers_tree : (text : List ℕ) (r : Result Expr FilterFault) → MayAnswer text r → (t : FilterTree) → FilterOf text t → AnswersTree t r
-answers_tree text (Ok d) a t b = one_filter text (tree_of d) t a b
-answers_tree text (Err (Bad o)) a t b = not_both_of text t (Bad o) b a
-answers_tree text (Err (NumberRange o)) a t b = not_both_of text t (NumberRange o) b a
-answers_tree text (Err (TooDeep o)) a t b = not_both_of text t (TooDeep o) b a
-answers_tree text (Err NoMemory) a t b = tt
-
-pub answers_fault : (text : List ℕ) (r : Result Expr FilterFault) → MayAnswer text r → (f : FilterFault) → FaultOf text f → AnswersFault f r
-answers_fault text (Ok d) a f b = not_both_of text (tree_of d) f a b
-answers_fault text (Err (Bad o)) a f b = one_fault text (Bad o) f a b
-answers_fault text (Err (NumberRange o)) a f b = one_fault text (NumberRange o) f a b
-answers_fault text (Err (TooDeep o)) a f b = one_fault text (TooDeep o) f a b
-answers_fault text (Err NoMemory) a f b = tt

@@ -1,6 +1,6 @@
 -- What a text says as a filter, as a function: the filter that its tokens are read as, or the first fault.
 -- It is what the grammar gives the text: the filter where there is one, and else the first fault.
-use Rattle.std.specs.Prelude.{◌≡◌, ℕ, true, false, List, Result, Ok, Err}
+use Rattle.std.specs.Prelude.{◌≡◌, ℕ, true, false, pos, List, Result, Ok, Err}
 use Rattle.plain_filters.specs.declared.Expr.{Expr}
 use Rattle.plain_filters.specs.declared.SumSign.{SumSign}
 use Rattle.plain_filters.specs.declared.SumSign.TheVariants as sum
@@ -26,11 +26,12 @@ abbrev pub product_sign_of : JoinSign → ProductSign
 product_sign_of (product_sign s) = s
 product_sign_of _ = product.Times
 
--- the filter that one token is: a name, a text, a number or a truth value, and null for every other token
+-- the filter that one token is: a name, a text, a number, which is 0 where it is too great, or a truth value, and null for every other token
 abbrev pub leaf_back : Token → FilterTree
 leaf_back (token.Name n) = name_tree n
 leaf_back (token.Quoted t) = text_tree t
 leaf_back (token.Number z) = number_tree z
+leaf_back token.OutOfRange = number_tree (pos 0)
 leaf_back token.True = truth_tree true
 leaf_back token.False = truth_tree false
 leaf_back _ = null_tree

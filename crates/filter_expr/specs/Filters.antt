@@ -1,5 +1,5 @@
 -- What a text is as a filter: its tree, or its first fault.
-use Rattle.std.specs.Prelude.{◌≡◌, ℕ, ◌≤◌, ◌<◌, Bool, ◌||◌, IsTrue, List, [], ◌∷◌, ◌++◌, ◌⊎◌, Result, Ok, Err}
+use Rattle.std.specs.Prelude.{◌≡◌, ℕ, Bool, true, false, List, [], ◌∷◌, ◌++◌, map, ◌⊎◌, Result, Ok, Err}
 use Rattle.plain_filters.specs.declared.Expr.{Expr}
 use Rattle.plain_filters.specs.Filters.{FilterTree, tree_of}
 use Rattle.filter_expr.specs.declared.tokens.Token.{Token}
@@ -7,89 +7,41 @@ use Rattle.filter_expr.specs.declared.tokens.Token.TheVariants as token
 use Rattle.filter_expr.specs.declared.tokens.PlacedToken.{PlacedToken}
 use Rattle.filter_expr.specs.declared.faults.FilterFault.{FilterFault}
 use Rattle.filter_expr.specs.declared.faults.FilterFault.TheVariants.{Bad, NumberRange, TooDeep, NoMemory}
-use Rattle.filter_expr.specs.Trees.{Tree, bare, nesting, InRange, is_out_of_range, is_not, is_minus, is_open_paren}
-use Rattle.filter_expr.specs.Seen.{shape}
 use Rattle.filter_expr.specs.Spelling.{TokensOf}
-use Rattle.filter_expr.specs.Grammar.{IsSpelled, Stands}
+use Rattle.filter_expr.specs.Spelled.{Spelled}
 
--- all these tokens, the end of the text among them, spell the tree
-abbrev pub IsText : Tree → List PlacedToken → Type 0
-IsText e ts = (us : List PlacedToken) × (z : PlacedToken) × (ts ≡ us ++ z ∷ []) × (z.token ≡ token.End) × IsSpelled e us
+-- the tokens without their places
+abbrev pub tokens : List PlacedToken → List Token
+tokens ts = map (λ s. s.token) ts
 
--- ---- trees
+-- up to the end of the text the tokens spell this filter, with so many things open at once at most
+abbrev pub AreFilter : Bool → ℕ → FilterTree → List Token → Type 0
+AreFilter wide d t ts = (us : List Token) × (ts ≡ us ++ token.End ∷ []) × Spelled wide 0 d t us
 
--- the tokens are a filter within the limits, and without its parentheses it is this tree
-pub record IsFilter (ts : List PlacedToken) (d : Tree) : Type 0 where
-  pub tree : Tree
-  pub stands : Stands 0 tree
-  pub text : IsText tree ts
-  pub range : InRange tree
-  pub deep : nesting tree ≤ 64
-  pub is : bare tree ≡ d
+-- some filter begins with these tokens: its numbers are in range, unless `wide`, and so many things are open at once at most
+abbrev pub CanGoOn : Bool → ℕ → List Token → Type 0
+CanGoOn wide d us = (t : FilterTree) × (more : List Token) × AreFilter wide d t (us ++ more)
 
--- ---- faults
-
--- a filter within the limits begins with these tokens
-pub record Begins (us : List PlacedToken) : Type 0 where
-  pub more : List PlacedToken
-  pub tree : Tree
-  pub stands : Stands 0 tree
-  pub spelled : IsSpelled tree (us ++ more)
-  pub range : InRange tree
-  pub deep : nesting tree ≤ 64
-
--- a filter begins with these tokens, whatever its numbers and its depth
-pub record GoesOn (us : List PlacedToken) : Type 0 where
-  pub more : List PlacedToken
-  pub tree : Tree
-  pub stands : Stands 0 tree
-  pub spelled : IsSpelled tree (us ++ more)
-
--- a token that may open something: `not`, a minus sign or an opening parenthesis
-abbrev pub may_open : Token → Bool
-may_open t = is_not t || is_minus t || is_open_paren t
-
--- the place of the fault is that of this token; want of memory is no fault of a text
-abbrev pub StandsAt : FilterFault → PlacedToken → Type 0
-StandsAt (Bad o) s = o ≡ s.offset
-StandsAt (NumberRange o) s = o ≡ s.offset
-StandsAt (TooDeep o) s = o ≡ s.offset
-StandsAt NoMemory s = ⊥
-
--- a tree passes the limit that the fault speaks of: a number is out of range, or it nests too deeply; for a bad token there is no such tree
-abbrev pub Passes : Tree → FilterFault → Type 0
-Passes e (Bad o) = ⊥
-Passes e (NumberRange o) = InRange e → ⊥
-Passes e (TooDeep o) = 64 < nesting e
-Passes e NoMemory = ⊥
-
--- the token here can pass the limit: it is a number out of range or may open something, and a filter begins with the tokens up to it
-abbrev pub HasCause : FilterFault → List PlacedToken → PlacedToken → Type 0
-HasCause (Bad o) before here = Unit {0}
-HasCause (NumberRange o) before here = IsTrue (is_out_of_range here.token) × GoesOn (before ++ here ∷ [])
-HasCause (TooDeep o) before here = IsTrue (may_open here.token) × GoesOn (before ++ here ∷ [])
-HasCause NoMemory before here = ⊥
-
--- the fault stands at the first token with which no filter within the limits goes on after what stands before
-pub record IsFault (ts : List PlacedToken) (f : FilterFault) : Type 0 where
-  pub before : List PlacedToken
-  pub here : PlacedToken
-  pub after : List PlacedToken
-  pub split : ts ≡ before ++ here ∷ after
-  pub place : StandsAt f here
-  pub begins : Begins before
-  pub cause : HasCause f before here
-  pub none : (e : Tree) (b : List PlacedToken) → Stands 0 e → IsText e (before ++ here ∷ b) → Passes e f
+-- The fault that the last of these tokens is, which stands at this place. Bad: no filter begins so, whatever its numbers
+-- and its depth. NumberRange: one does, but none whose numbers are in range. TooDeep: one whose numbers are in range does,
+-- but none in which no more than 64 things are open at once.
+abbrev pub FaultsAt : FilterFault → List Token → ℕ → Type 0
+FaultsAt (Bad o) us at = (o ≡ at) × ((d : ℕ) → ¬ (CanGoOn true d us))
+FaultsAt (NumberRange o) us at = (o ≡ at) × ((d : ℕ) × CanGoOn true d us) × ((d : ℕ) → ¬ (CanGoOn false d us))
+FaultsAt (TooDeep o) us at = (o ≡ at) × ((d : ℕ) × CanGoOn false d us) × (¬ (CanGoOn false 64 us))
+FaultsAt NoMemory us at = ⊥
 
 -- ---- texts
 
--- the text is a filter, and this is its tree
+-- the text is a filter within the limits, and this is its tree
 abbrev pub FilterOf : List ℕ → FilterTree → Type 0
-FilterOf text t = (ts : List PlacedToken) × TokensOf text ts × IsFilter ts (shape t)
+FilterOf text t = (ts : List PlacedToken) × TokensOf text ts × AreFilter false 64 t (tokens ts)
 
--- the text is no filter within the limits, and this is its first fault
+-- the text begins as a filter within the limits does, and the token behind that beginning is this fault
 abbrev pub FaultOf : List ℕ → FilterFault → Type 0
-FaultOf text f = (ts : List PlacedToken) × TokensOf text ts × IsFault ts f
+FaultOf text f =
+    (before : List PlacedToken) × (here : PlacedToken) × (after : List PlacedToken) × TokensOf text (before ++ here ∷ after)
+    × CanGoOn false 64 (tokens before) × FaultsAt f (tokens before ++ here.token ∷ []) here.offset
 
 -- ---- answers
 
@@ -119,9 +71,9 @@ AnswersFault f (Err NoMemory) = Unit {0}
 
 -- ---- laws
 
--- tokens spell one tree at most that may stand by itself, parentheses aside
+-- tokens spell one filter at most, where no number is too great
 abbrev pub OneTree : Type 0
-OneTree = (d e : Tree) (us : List PlacedToken) → Stands 0 d → Stands 0 e → IsSpelled d us → IsSpelled e us → InRange d → InRange e → bare d ≡ bare e
+OneTree = (s t : FilterTree) (us : List Token) (c d : ℕ) → Spelled false 0 c s us → Spelled false 0 d t us → s ≡ t
 
 -- a text has a tree, or a fault
 abbrev pub SomeAnswer : Type 0

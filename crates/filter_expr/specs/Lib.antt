@@ -4,6 +4,7 @@ pub mod Grammar
 pub mod Lexing
 pub mod Reading
 pub mod Seen
+pub mod Spelled
 pub mod Spelling
 pub mod Trees
 pub mod inner

@@ -2,11 +2,10 @@
 use Rattle.std.specs.Prelude.{ℕ, ◌+◌, max, Bool, true, false, IsTrue}
 use Rattle.plain_filters.specs.declared.CompareSign.{CompareSign}
 use Rattle.plain_filters.specs.declared.SumSign.{SumSign}
-use Rattle.plain_filters.specs.declared.SumSign.TheVariants as sum
 use Rattle.plain_filters.specs.declared.ProductSign.{ProductSign}
-use Rattle.plain_filters.specs.declared.ProductSign.TheVariants as product
 use Rattle.filter_expr.specs.declared.tokens.Token.{Token}
 use Rattle.filter_expr.specs.declared.tokens.Token.TheVariants as token
+pub use Rattle.filter_expr.specs.Spelled.{sum_token, product_token}
 
 -- the four kinds of chain
 pub data Kind : Type 0 where
@@ -121,17 +120,6 @@ joins product_chain = is_product_sign
 -- the token of a sign that compares
 abbrev pub compare_token : CompareSign → Token
 compare_token = token.Compare
-
--- the token of a sum's sign
-abbrev pub sum_token : SumSign → Token
-sum_token sum.Plus = token.Plus
-sum_token sum.Minus = token.Minus
-
--- the token of a product's sign
-abbrev pub product_token : ProductSign → Token
-product_token product.Times = token.Times
-product_token product.Divide = token.Divide
-product_token product.Rest = token.Rest
 
 -- the token of a sign that joins
 abbrev pub sign_token : JoinSign → Token

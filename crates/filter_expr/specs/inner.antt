@@ -1,3 +1,4 @@
+pub mod ByTrees
 pub mod Connectives
 pub mod Gives
 pub mod Kinds

@@ -50,8 +50,8 @@ fn read(alloc: Global, text: &str) -> Result<Expr, FilterFault>
     Ok(filter)
 }
 
-/// Each text has one list of tokens, and no two. Tokens spell one tree at most, parentheses aside, where
-/// no number is too great.
+/// Each text has one list of tokens, and no two. Tokens spell one filter at most, where no number is too
+/// great.
 pub fn law_one_tree()
     ensures some { SomeTokenList }
     ensures tokens { OneTokenList }

@@ -16,13 +16,14 @@ use Rattle.filter_expr.specs.Seen.{shape}
 use Rattle.farm_base.specs.Digits.{is_digit, number_after}
 use Rattle.filter_expr.specs.Spelling.{IsDigits, digits_number, IsQuoting, SpellsToken, begins_with, EndsBefore, AreTokens, TokensOf}
 use Rattle.filter_expr.specs.Grammar.{IsSpelled, AreSpelled, kind_strength, strength, IsMany, Stands, StandTerms}
-use Rattle.filter_expr.specs.Filters.{IsFilter, FilterOf}
+use Rattle.filter_expr.specs.Filters.{FilterOf}
+use Rattle.filter_expr.specs.inner.ByTrees.{IsFilter}
 use Rattle.filter_texts.specs.Written.{escaped_text, spelling, parens_below, shown, shown_terms, tokens_in, tokens_of_terms, put_tokens, filter_text, ReadsAgain, AnswersAgain, IsKnownByText}
 use Rattle.filter_expr.proofs.Complete.{stands_down}
 use Rattle.filter_expr.proofs.Spelled.{wrong, split_bool, end_digits, both_true}
 use Rattle.filter_expr.proofs.Lexemes.{bracket_ends, quote_ends}
 use Rattle.filter_expr.proofs.Tokenised.{first_solid, Rest}
-use Rattle.filter_expr.proofs.Only.{answers_tree, one_filter}
+use Rattle.filter_expr.proofs.Texts.{to_filter, from_filter, answers_tree, one_filter}
 use Rattle.filter_expr.proofs.Rows.{strength_below, or_signs, and_signs, sum_signs, product_signs}
 
 -- ---- the tree with its parentheses
@@ -492,22 +493,20 @@ tokens_heard (s ∷ us) z at bs h = by h.6 (λ k l. tokens_heard us z k l)
 
 pub written_again : ReadsAgain
 written_again text t f =
-    let a : IsFilter f.0 (shape t) = f.2 in
+    let a : IsFilter f.0 (shape t) = to_filter f.0 t f.2 in
     let heard : Heard a.text.0 = tokens_heard a.text.0 a.text.1 0 text (subst (TokensOf text) a.text.2 f.1) in
     let same : shown (shape t) ≡ shown a.tree = ap shown (sym a.is) ∙ shown_bare a.tree in
     let saids : AllSaid (tokens_in (shown (shape t))) = subst (λ x. AllSaid (tokens_in x)) (sym same) (shown_said a.tree 0 a.text.0 a.stands a.range a.text.4 heard) in
-    let l : Lexed (tokens_in (shown (shape t))) = lexed_written (tokens_in (shown (shape t))) saids in (
-      l.stream ++ l.last ∷ [],
-      l.tokens,
-      record {
-        tree = shown (shape t);
-        stands = subst (Stands 0) (sym same) (stands_down (shown a.tree) (strength (shown a.tree)) 0 (omega arith) (shown_stands a.tree 0 a.stands));
-        text = (l.stream, l.last, refl, l.end, spells_tree (shown (shape t)) l.stream l.are);
-        range = subst InRange (sym same) (shown_range a.tree a.range);
-        deep = subst (λ x. nesting x ≤ 64) (sym same) (omega (arith, shown_nests a.tree 0 a.stands, a.deep));
-        is = ap bare same ∙ bare_shown a.tree ∙ a.is;
-      },
-    )
+    let l : Lexed (tokens_in (shown (shape t))) = lexed_written (tokens_in (shown (shape t))) saids in
+    let again : IsFilter (l.stream ++ l.last ∷ []) (shape t) = record {
+      tree = shown (shape t);
+      stands = subst (Stands 0) (sym same) (stands_down (shown a.tree) (strength (shown a.tree)) 0 (omega arith) (shown_stands a.tree 0 a.stands));
+      text = (l.stream, l.last, refl, l.end, spells_tree (shown (shape t)) l.stream l.are);
+      range = subst InRange (sym same) (shown_range a.tree a.range);
+      deep = subst (λ x. nesting x ≤ 64) (sym same) (omega (arith, shown_nests a.tree 0 a.stands, a.deep));
+      is = ap bare same ∙ bare_shown a.tree ∙ a.is;
+    } in
+    (l.stream ++ l.last ∷ [], l.tokens, from_filter (l.stream ++ l.last ∷ []) t again)
 
 -- ---- what follows
 

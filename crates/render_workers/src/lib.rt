@@ -2,6 +2,7 @@
 #![tactic(auto)]
 
 mod drawing;
+mod handing;
 mod worker;
 
 pub use drawing::draw;

@@ -14,6 +14,7 @@ ghost use Rattle.serve_command.specs.declared.left.Left.TheVariants.{Store};
 
 use crate::begun::begin;
 use crate::ending::end_run;
+use crate::fronts::{ControlFront, RenderdFront, TileFront};
 use crate::left::{Done, stop_with};
 use crate::listens::listen_all;
 use exit_status::Stop;
@@ -22,7 +23,6 @@ use farm_base::{Bell, Files, Gate, Sink, Text};
 use farm_config::Config;
 use farm_core::Farm;
 use farm_files::{FarmInputs, Served, serve_files};
-use farm_fronts::{ControlFront, RenderdFront, TileFront};
 use farm_runs::{Fronts, run_farm};
 use port_events::{FrontDone, Ports, ThreePorts};
 use std::alloc::Global;

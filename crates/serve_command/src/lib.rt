@@ -7,6 +7,7 @@ mod begun;
 mod command;
 mod counts;
 mod ending;
+mod fronts;
 mod left;
 mod listens;
 mod reasons;

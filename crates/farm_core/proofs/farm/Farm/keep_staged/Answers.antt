@@ -1,0 +1,10 @@
+use Rattle.std.proofs.Common.{sym, subst}
+use Rattle.farm_history.specs.declared.answers.Finished.{Finished}
+use Rattle.farm_core.specs.inner.Effects.{Keeps}
+use Rattle.farm_core.proofs.Putting.{put_kept}
+use Rattle.farm_core.proofs.farm.Farm.keep_staged.Goals as goal
+
+pub returns : goal.returns
+returns g c =
+    subst (λ (r : Finished). Keeps g.D.TileStore.state c.args.self.now c.end_put.new.self c.args.key c.args.version c.args.touched (g.D.TileStore.written c.args.staged) r) (sym c.end_put.ensures.answer)
+    (put_kept g.D.TileStore.state c.args.self.now c.reserve.new.self c.put_staged-put.new.self c.end_put.new.self c.args.key c.args.version c.args.touched (g.D.TileStore.written c.args.staged) c.put_staged-put.result c.reserve.ensures.farm c.reserve.ensures.shown c.put_staged-put.ensures.store c.put_staged-put.ensures.farm c.end_put.ensures.ends)
