@@ -1,5 +1,5 @@
 -- Expiries of what is shown: one after another, by tests that agree, and of nothing.
-use Rattle.std.proofs.Common.{◌≡◌, ℕ, ◌+◌, ◌≤◌, Bool, true, false, not, ◌&&◌, ◌||◌, cond, List, [], ◌∷◌, length, refl, sym, ap, ap₂, ◌∙◌, arith}
+use Rattle.std.proofs.Common.{◌≡◌, ℕ, ◌+◌, ◌≤◌, Bool, true, false, not, ◌&&◌, ◌||◌, cond, List, [], ◌∷◌, length, refl, sym, ap, ap₂, ◌∙◌, subst, arith}
 use Rattle.farm_history.specs.declared.keys.Key.{Key}
 use Rattle.farm_history.specs.Lists.{Each}
 use Rattle.farm_history.proofs.Counts.{count-cons}
@@ -132,18 +132,6 @@ dirties_other p s {xs} {ys} {n} other rest = record {
   counted = omega (arith, clean-cons p s xs, rest.counted, no_weight (p s.key) s.mark.clean (λ _. other));
 }
 
--- one more that is shown, which the expiry touches, where it touches nothing else
-pub dirties_here : (p : Key → Bool) (s : Shown) {xs ys : List Shown} → p s.key ≡ true → Dirties p xs ys 0 → Dirties p (s ∷ xs) (record { key = s.key; mark = touched_by true s.mark } ∷ ys) (cond s.mark.clean 1 0)
-unfolding with_clean weight
-dirties_here p s {xs} {ys} here rest = record {
-  marks = ap₂ (λ (t : Shown) ts. t ∷ ts) (ap (λ c. with_clean s (not c && s.mark.clean)) (sym here)) rest.marks;
-  counted = omega (arith, clean-cons p s xs, rest.counted, whole s.mark.clean (p s.key) here);
-}
-  where
-    whole : (x y : Bool) → y ≡ true → weight (x && y) ≡ cond x 1 0
-    whole true y is = rw is refl
-    whole false y is = refl
-
 -- one more that is shown, which the expiry touches
 pub dirties_more : (p : Key → Bool) (s : Shown) {xs ys : List Shown} {n : ℕ} → p s.key ≡ true → Dirties p xs ys n → Dirties p (s ∷ xs) (record { key = s.key; mark = touched_by true s.mark } ∷ ys) (cond s.mark.clean 1 0 + n)
 unfolding with_clean weight
@@ -155,3 +143,9 @@ dirties_more p s {xs} {ys} {n} here rest = record {
     whole : (x y : Bool) → y ≡ true → weight (x && y) ≡ cond x 1 0
     whole true y is = rw is refl
     whole false y is = refl
+
+-- where it touches nothing else
+pub dirties_here : (p : Key → Bool) (s : Shown) {xs ys : List Shown} → p s.key ≡ true → Dirties p xs ys 0 → Dirties p (s ∷ xs) (record { key = s.key; mark = touched_by true s.mark } ∷ ys) (cond s.mark.clean 1 0)
+dirties_here p s {xs} {ys} here rest =
+    let alone : cond s.mark.clean 1 0 + 0 ≡ cond s.mark.clean 1 0 = omega arith in
+    subst (λ n. Dirties p (s ∷ xs) (record { key = s.key; mark = touched_by true s.mark } ∷ ys) n) alone (dirties_more p s here rest)

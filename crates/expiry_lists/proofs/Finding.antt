@@ -1,5 +1,5 @@
 -- What is shown, against what each key's node has.
-use Rattle.std.proofs.Common.{◌≡◌, ℕ, ◌≤◌, Bool, true, false, ◌&&◌, cond, List, [], ◌∷◌, length, find, Option, Some, None, option_map, is_some, refl, sym, ap, ◌∙◌, subst, arith}
+use Rattle.std.proofs.Common.{◌≡◌, ◌≤◌, Bool, true, false, ◌&&◌, cond, List, [], ◌∷◌, length, find, Option, Some, None, option_map, is_some, refl, sym, ap, ◌∙◌, subst, arith}
 use Rattle.std.specs.List.{AllByRecursion, IsDistinct, list_any}
 use Rattle.std.specs.Map.{set_value, keys_of}
 use Rattle.indexmap.specs.IndexMap.{insert_entry}
@@ -132,9 +132,6 @@ insert-unmarked (e ∷ es) key w new none = go (λ is. insert-unmarked es key w 
     go ih false is = ap (shown_before e.0 e.1.mark) (ih is)
 
 -- and a write of the mark made dirty is the expiry of that key alone
-weight_of : Option Mark → ℕ
-weight_of o = cond (is_clean o) 1 0
-
 pub set-dirties : (es : List (Key × Node)) → Distinct es → (key : Key) (n w : Node) → node_of es key ≡ Some n → w.mark ≡ option_map (touched_by true) n.mark →
     Dirties (same_key key) (shown_of es) (shown_of (set_value (same_key key) es w)) (cond (is_clean n.mark) 1 0)
 unfolding IsDistinct

@@ -1,9 +1,9 @@
 -- Marks that are given to keys with a node, and nodes that are made for keys.
-use Rattle.std.proofs.Common.{◌≡◌, ◌<◌, ◌≤◌, Bool, true, false, not, ◌&&◌, ◌||◌, cond, List, Option, Some, None, is_some, IsSome, refl, sym, ap, ◌∙◌, subst, inl, inr, ◌⊎◌}
+use Rattle.std.proofs.Common.{◌≡◌, ◌<◌, ◌≤◌, Bool, true, false, ◌||◌, cond, List, Option, Some, None, is_some, IsSome, refl, sym, ap, ◌∙◌, subst, inl, inr, ◌⊎◌}
 use Rattle.std.specs.List.{IsDistinct}
 use Rattle.std.specs.Map.{set_value}
 use Rattle.std.proofs.lemmas.Map.{keys-set_value}
-use Rattle.std.proofs.lemmas.Bool.{or_cases, or_left, or_right, and_parts}
+use Rattle.std.proofs.lemmas.Bool.{or_cases, or_left, or_right}
 use Rattle.farm_history.specs.declared.keys.Key.{Key}
 use Rattle.farm_history.specs.declared.keys.Mark.{Mark}
 use Rattle.farm_history.specs.Plans.{same_key}
@@ -98,27 +98,3 @@ module _ (es : List (Key × Node)) (key : Key) (live : Bool) (tree : IsTree es) 
         live_below = λ k deep on up. let never : false ≡ true = sym (ap node_live gone) ∙ subst (λ (x : Key). is_live es x ≡ true) up (tree.rises k deep on) in cc;
       })
       (insert-unmarked es key w gone marks) (λ on. lives ∙ on) tree
-
--- a key that is awake
-pub wakes_already : (es : List (Key × Node)) (key : Key) (live : Bool) → (has_node es key && (is_live es key || not live)) ≡ true → IsTree es → Wakes key live es es
-wakes_already es key live awake tree =
-    let parts = and_parts (has_node es key) (is_live es key || not live) awake in
-    record { tree = tree; shown = refl; woken = parts.0; lives = λ on. go live on parts.1; still_there = λ k there. there; of_map = λ k there. inl there }
-  where
-    go : (b : Bool) → b ≡ true → (is_live es key || not b) ≡ true → is_live es key ≡ true
-    go true on is = elim (or_cases (is_live es key) false is) [ inl h ↦ h | inr never ↦ cc ]
-    go false on is = cc
-
--- the key above, and then the key
-pub wakes_then : {a b c : List (Key × Node)} (key up : Key) (live : Bool) → up ≡ parent key → Wakes up live a b → Wakes key live b c → Wakes key live a c
-wakes_then {a} {b} {c} key up live is first second = record {
-  tree = second.tree;
-  shown = second.shown ∙ first.shown;
-  woken = second.woken;
-  lives = second.lives;
-  still_there = λ k there. second.still_there k (first.still_there k there);
-  of_map = λ k there. elim (second.of_map k there) [
-    | inl before ↦ elim (first.of_map k before) [ inl old ↦ inl old | inr m ↦ inr (m ∙ ap (λ (x : Key). x.map) is) ]
-    | inr m ↦ inr m
-  ];
-}

@@ -1,24 +1,25 @@
 -- Which keys boxes come near, in a walk down with those boxes alone that come near the key over them.
-use Rattle.std.proofs.Common.{◌≡◌, ℕ, suc, ◌+◌, ◌-◌, ◌*◌, ◌^◌, ◌<◌, ◌≤◌, min, Bool, true, false, ◌&&◌, ◌||◌, nat_lt, List, [], ◌∷◌, ◌++◌, length, take, drop, get_or, refl, sym, ap, ap₂, ◌∙◌, subst, inl, inr, arith}
+use Rattle.std.proofs.Common.{◌≡◌, ℕ, suc, ◌+◌, ◌-◌, ◌*◌, ◌<◌, ◌≤◌, Bool, true, false, ◌&&◌, ◌||◌, nat_lt, List, [], ◌∷◌, ◌++◌, length, take, drop, get_or, refl, sym, ap, ap₂, ◌∙◌, subst, inl, inr, arith}
 use Rattle.std.specs.Prelude.{All, IsPermutation}
 use Rattle.std.specs.List.{list_any, swap}
-use Rattle.std.proofs.lemmas.Bool.{cases_eq, and_from, and_parts, false_from_ne_true}
+use Rattle.std.proofs.lemmas.Bool.{cases_eq, false_from_ne_true}
 use Rattle.std.proofs.lemmas.Bool.Decides.{nat_tests}
 use Rattle.std.proofs.lemmas.Nat.{le-div, div-add-mod'}
 use Rattle.std.proofs.Math.Nat.{pow-le-pow_right}
-use Rattle.std.proofs.lemmas.List.{get_or-take, get_or-drop, get_or_default, take-append-drop, length-take-le, length-drop}
+use Rattle.std.proofs.lemmas.List.{get_or_default, take-append-drop, length-take-le}
 use Rattle.std.proofs.lemmas.List.Folds.{list_any-append, list_any_none, list_any_at}
 use Rattle.std.proofs.lemmas.List.Edits.{swapped_from_swap}
 use Rattle.std.proofs.lemmas.List.Sorted.{list_any-IsPermutation, IsPermutation-trans, IsPermutation-append_left}
 use Rattle.plain_world.specs.declared.world.Square.{Square}
 use Rattle.plain_world.specs.World.{IsMeta, IsTileSize, meta_square, side_at}
+use Rattle.plain_world.proofs.Windows.{size_bounds}
 use Rattle.plain_data.specs.Reach.{margin_of}
 use Rattle.geo_model.specs.declared.bounds.Bounds.{Bounds}
 use Rattle.farm_history.specs.declared.keys.Key.{Key}
 use Rattle.farm_history.specs.Plans.{same_key}
 use Rattle.farm_history.proofs.Lists.{each-map, each-all, same_key-true}
 use Rattle.expiry_lists.specs.declared.nodes.Node.{Node}
-use Rattle.expiry_lists.specs.Boxes.{spans, holds_some, widened}
+use Rattle.expiry_lists.specs.Boxes.{comes_near}
 use Rattle.expiry_lists.specs.Marks.{is_met, some_meets, is_near_boxes}
 use Rattle.expiry_lists.specs.inner.Nodes.{is_live, shown_of, IsTree}
 use Rattle.expiry_lists.specs.inner.Tiles.{world_key}
@@ -26,29 +27,18 @@ use Rattle.expiry_lists.specs.inner.Walks.{child, is_under, IsNode, Walks}
 use Rattle.expiry_lists.proofs.Finding.{Distinct}
 use Rattle.expiry_lists.proofs.Live.{node_on_grid, none_under}
 use Rattle.expiry_lists.proofs.Walked.{walks_agree, walks_none}
-use Rattle.expiry_lists.proofs.BoxLaws.{over_holds}
+use Rattle.expiry_lists.proofs.BoxLaws.{over_near}
 use Rattle.expiry_lists.proofs.Over.{node_square, meta_square-node, under_below, below_over}
 use Rattle.expiry_lists.proofs.Tiles.{agree_metas, none_metas, map_agrees}
 
--- ---- a wider margin reaches no less
-
-wider_spans : (low high from units m n : ℕ) → n ≤ m → spans (low - n) (min (high + n) (2 ^ 30)) from units ≡ true → spans (low - m) (min (high + m) (2 ^ 30)) from units ≡ true
-wider_spans low high from units m n few h = grind (arith, nat_tests)
-
-wider_near : (b : Bounds) (s : Square) (m n : ℕ) → n ≤ m → holds_some (widened b n) s ≡ true → holds_some (widened b m) s ≡ true
-wider_near b s m n few h =
-    let parts = and_parts (spans (b.west - n) (min (b.east + n) (2 ^ 30)) (s.x * side_at s.z) (side_at s.z)) (spans (b.north - n) (min (b.south + n) (2 ^ 30)) (s.y * side_at s.z) (side_at s.z)) h in
-    and_from _ _ (wider_spans b.west b.east (s.x * side_at s.z) (side_at s.z) m n few parts.0) (wider_spans b.north b.south (s.y * side_at s.z) (side_at s.z) m n few parts.1)
-
-some_pixels : (size : ℕ) → IsTileSize size → 0 < size
-some_pixels size tile = grind (arith, tile)
+-- ---- margins
 
 -- a later zoom's margin is no wider
 pub margin_less : (size y z : ℕ) → IsTileSize size → y ≤ z → margin_of size z ≤ margin_of size y
 margin_less size y z tile later =
     let less : side_at z ≤ side_at y = pow-le-pow_right (omega arith) (omega (arith, later)) in
     let rest = div-add-mod' (64 * side_at z) size in
-    le-div (margin_of size z) (64 * side_at y) size (some_pixels size tile) (omega (arith, less, rest))
+    le-div (margin_of size z) (64 * side_at y) size (omega (arith, (size_bounds size tile).0)) (omega (arith, less, rest))
 
 -- ---- boxes in parts
 
@@ -56,9 +46,6 @@ margin_less size y z tile later =
 pub record Parted (near : Bounds → Bool) (n i : ℕ) (boxes : List Bounds) : Type 0 where
   pub before : (k : ℕ) (d : Bounds) → k < n → near (get_or boxes k d) ≡ true
   pub behind : (k : ℕ) (d : Bounds) → n ≤ k → k < i → near (get_or boxes k d) ≡ false
-
-pub parted_none : (near : Bounds → Bool) (boxes : List Bounds) → Parted near 0 0 boxes
-parted_none near boxes = record { before = λ k d small. absurd (omega (arith, small)); behind = λ k d low small. absurd (omega (arith, small)) }
 
 pub parted_other : (near : Bounds → Bool) (n i : ℕ) (boxes : List Bounds) (b : Bounds) → i < length boxes → near (get_or boxes i b) ≡ false → Parted near n i boxes → Parted near n (i + 1) boxes
 parted_other near n i boxes b small other parts = record {
@@ -90,15 +77,6 @@ parted_more near n i boxes after b low small passes is parts = record {
     rest : (d : Bounds) (m : ℕ) → (m ≡ n → ⊥) → (m ≡ i → ⊥) → get_or after m d ≡ get_or boxes m d
     rest d = (moved d).2
 
-pub all_before : (near : Bounds → Bool) (n i : ℕ) (boxes : List Bounds) → n ≤ length boxes → Parted near n i boxes → All (λ b. near b ≡ true) (take n boxes)
-all_before near n i boxes few parts k d small =
-    let less : k < n = omega (arith, small, length-take-le n boxes few) in
-    ap near (get_or-take n boxes k d less) ∙ parts.before k d less
-
-pub all_behind : (near : Bounds → Bool) (n i : ℕ) (boxes : List Bounds) → n ≤ length boxes → length boxes ≤ i → Parted near n i boxes → All (λ b. near b ≡ false) (drop n boxes)
-all_behind near n i boxes few all parts k d small =
-    ap near (get_or-drop n boxes k d) ∙ parts.behind (n + k) d (omega arith) (omega (arith, small, length-drop n boxes, all, few))
-
 -- boxes at the front that are put in another order
 pub front_moved : (boxes after front : List Bounds) (m : ℕ) → IsPermutation boxes after → IsPermutation (take m after) front → IsPermutation boxes (front ++ drop m after)
 front_moved boxes after front m moved turned =
@@ -106,10 +84,10 @@ front_moved boxes after front m moved turned =
     (subst (λ (bs : List Bounds). IsPermutation bs (front ++ drop m after)) (take-append-drop m after) (IsPermutation-append_left (drop m after) (take m after) front turned))
 
 -- a test by margin and square that are told by equations
-pub test_near : (boxes : List Bounds) (size : ℕ) (top : Key) (margin : ℕ) (s : Square) (answer : Bool) → margin ≡ margin_of size top.meta.z → s ≡ meta_square top.meta → All (λ b. holds_some (widened b margin) s ≡ answer) boxes
+pub test_near : (boxes : List Bounds) (size : ℕ) (top : Key) (margin : ℕ) (s : Square) (answer : Bool) → margin ≡ margin_of size top.meta.z → s ≡ meta_square top.meta → All (λ b. comes_near b margin s ≡ answer) boxes
     → All (λ b. is_met b size top ≡ answer) boxes
 test_near boxes size top margin s answer wide square all k d small =
-    ap₂ (λ (x : ℕ) (y : Square). holds_some (widened (get_or boxes k d) x) y) (sym wide) (sym square) ∙ all k d small
+    ap₂ (λ (x : ℕ) (y : Square). comes_near (get_or boxes k d) x y) (sym wide) (sym square) ∙ all k d small
 
 -- ---- what the boxes come near under a key
 
@@ -118,11 +96,9 @@ near_above : (b : Bounds) (size n : ℕ) (top k : Key) → IsTileSize size → I
 near_above b size n top k tile node meta under near =
     let found = under_below n top k (node_on_grid top node) under in
     let deep : 3 ≤ k.meta.z = omega (arith, node.deep, found.2.zoom) in
-    let wide : holds_some (widened b (margin_of size top.meta.z)) (node_square k) ≡ true =
-    wider_near b (node_square k) (margin_of size top.meta.z) (margin_of size k.meta.z) (margin_less size top.meta.z k.meta.z tile (omega (arith, found.2.zoom)))
-    (sym (ap (holds_some (widened b (margin_of size k.meta.z))) (meta_square-node k deep)) ∙ near) in
-    ap (holds_some (widened b (margin_of size top.meta.z))) (meta_square-node top node.deep)
-    ∙ over_holds (widened b (margin_of size top.meta.z)) (node_square top) (node_square k) (omega (arith, meta.z_fits)) (below_over found.0 top k node.deep found.2) wide
+    ap (comes_near b (margin_of size top.meta.z)) (meta_square-node top node.deep)
+    ∙ over_near b (margin_of size top.meta.z) (margin_of size k.meta.z) (node_square top) (node_square k) (margin_less size top.meta.z k.meta.z tile (omega (arith, found.2.zoom))) (omega (arith, meta.z_fits))
+    (below_over found.0 top k node.deep found.2) (sym (ap (comes_near b (margin_of size k.meta.z)) (meta_square-node k deep)) ∙ near)
 
 -- what a walk from a key is to make dirty
 abbrev pub near_under : ℕ → ℕ → List Bounds → Key → Key → Bool
@@ -259,10 +235,10 @@ map_near map size boxes k meta =
     ∙ ap₂ (λ x y. x && (y && some_meets size boxes k)) (map_agrees map k meta) (sym (zooms k meta))
 
 -- a test at a key of one of the first zooms, by margin and square that are told by equations
-pub some_told : (boxes : List Bounds) (size map z margin : ℕ) (key : Key) (s : Square) (answer : Bool) → margin ≡ margin_of size z → key ≡ world_key map z → s ≡ meta_square key.meta → answer ≡ list_any (λ b. holds_some (widened b margin) s) boxes
+pub some_told : (boxes : List Bounds) (size map z margin : ℕ) (key : Key) (s : Square) (answer : Bool) → margin ≡ margin_of size z → key ≡ world_key map z → s ≡ meta_square key.meta → answer ≡ list_any (λ b. comes_near b margin s) boxes
     → some_meets size boxes (world_key map z) ≡ answer
 some_told boxes size map z margin key s answer wide is square told =
-    ap₂ (λ (x : ℕ) (y : Square). list_any (λ b. holds_some (widened b x) y) boxes) (sym wide) (sym (square ∙ ap (λ (k : Key). meta_square k.meta) is)) ∙ sym told
+    ap₂ (λ (x : ℕ) (y : Square). list_any (λ b. comes_near b x y) boxes) (sym wide) (sym (square ∙ ap (λ (k : Key). meta_square k.meta) is)) ∙ sym told
 
 -- a key of one of the first zooms, which some box is near or none
 pub world_near : {es new : List (Key × Node)} {count : ℕ} (map z size : ℕ) (boxes : List Bounds) → some_meets size boxes (world_key map z) ≡ true → Walks (same_key (world_key map z)) es new count

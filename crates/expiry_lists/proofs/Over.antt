@@ -122,9 +122,6 @@ below_under (suc n) top k (suc e) grid also few b =
     under_quarter n top k j quarter (below_under n (child j top) k e (child_on_grid top j grid) also (omega (arith, few)) below)
 
 -- What a walk up meets lies above,
-parent_on_grid : (k : Key) → 3 < k.meta.z → OnGrid (parent k)
-parent_on_grid k deep = record { deep = omega (arith, deep); x_eights = omega arith; y_eights = omega arith }
-
 pub above_below : (n : ℕ) (low k : Key) → n + 3 ≤ low.meta.z → is_above n low k ≡ true → (d : ℕ) × (0 < d) × (d ≤ n) × Below d k low
 unfolding is_above
 above_below zero low k deep above = let never : false ≡ true = above in cc

@@ -18,13 +18,6 @@ child_fits x z h deep fits eights half =
     let p : 2 ^ (z + 1) ≡ 2 ^ z * 2 ^ 1 = pow-add 2 z 1 in
     omega (arith, p, room_of_eight x z deep fits eights)
 
--- and a key's above it at the zoom before
-parent_fits : (x z : ℕ) → 3 < z → x < 2 ^ z → x / 16 * 8 < 2 ^ (z - 1)
-parent_fits x z deep fits =
-    let d : (z - 1) + 1 ≡ z = omega arith in
-    let p : 2 ^ (z - 1) * 2 ^ 1 ≡ 2 ^ z = sym (pow-add 2 (z - 1) 1) ∙ ap (λ n. 2 ^ n) d in
-    omega (arith, p)
-
 pub child_node : (k : Key) (j : ℕ) → IsNode k → j < 4 → k.meta.z < 18 → IsNode (child j k)
 child_node k j node quarter above = record {
   deep = omega (arith, node.deep);
@@ -34,18 +27,6 @@ child_node k j node quarter above = record {
     y_fits = child_fits k.meta.y k.meta.z (j / 2) node.deep node.meta.y_fits node.meta.y_eights (omega (arith, quarter));
     x_eights = omega (arith, node.meta.x_eights);
     y_eights = omega (arith, node.meta.y_eights);
-  };
-}
-
-pub parent_node : (k : Key) → IsNode k → 3 < k.meta.z → IsNode (parent k)
-parent_node k node below = record {
-  deep = omega (arith, below);
-  meta = record {
-    z_fits = omega (arith, node.meta.z_fits);
-    x_fits = parent_fits k.meta.x k.meta.z below node.meta.x_fits;
-    y_fits = parent_fits k.meta.y k.meta.z below node.meta.y_fits;
-    x_eights = omega arith;
-    y_eights = omega arith;
   };
 }
 

@@ -1,6 +1,6 @@
 -- What an expiry list says, line by line: its tiles, or the first line that is none. Each reader is given the
 -- fault of its line.
-use Rattle.std.specs.Prelude.{ℕ, ◌^◌, ◌&&◌, nat_le, nat_lt, if◌then◌else◌, List, [], ◌∷◌, Option, Some, None, Result, Ok}
+use Rattle.std.specs.Prelude.{ℕ, ◌^◌, List, [], ◌∷◌, Option, Some, None, Result, Ok}
 use Rattle.std.specs.Option.{ok_or}
 use Rattle.std.specs.Str.Lines.{lines}
 use Rattle.line_reading.specs.Cuts.{cut_at}
@@ -8,6 +8,7 @@ use Rattle.line_reading.specs.Numbers.{decimal_below}
 use Rattle.reading.specs.Lines.{line_text, items_after}
 use Rattle.reading.specs.Steps.{◌>>=◌}
 use Rattle.plain_world.specs.declared.world.Tile.{Tile}
+use Rattle.merc_fixed.specs.Tiles.{tile_if_any}
 use Rattle.expiry_lists.specs.declared.faults.ListFault.{ListFault}
 use Rattle.expiry_lists.specs.declared.faults.ListFault.TheVariants.{Line}
 
@@ -18,10 +19,6 @@ list_word fault text = ok_or (cut_at 47 text) fault
 -- a number of 32 bits, in decimal without leading zeros
 abbrev pub list_number : ListFault → List ℕ → Result ℕ ListFault
 list_number fault word = ok_or (decimal_below (2 ^ 32) word) fault
-
--- the tile of these numbers, if there is one
-abbrev pub tile_if_any : ℕ → ℕ → ℕ → Option Tile
-tile_if_any z x y = if nat_le z 18 && nat_lt x (2 ^ z) && nat_lt y (2 ^ z) then Some (record { z = z; x = x; y = y }) else None
 
 -- the tile of a line: z/x/y
 unfoldable pub list_tile : ListFault → List ℕ → Result Tile ListFault

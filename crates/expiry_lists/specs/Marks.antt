@@ -7,7 +7,7 @@ use Rattle.farm_history.specs.Plans.{same_key}
 use Rattle.plain_world.specs.World.{meta_square}
 use Rattle.geo_model.specs.declared.bounds.Bounds.{Bounds}
 use Rattle.plain_data.specs.Reach.{margin_of}
-use Rattle.expiry_lists.specs.Boxes.{holds_some, widened}
+use Rattle.expiry_lists.specs.Boxes.{comes_near}
 
 -- a shown metatile with its mark
 pub record Shown : Type 0 where
@@ -49,7 +49,7 @@ is_of_map map k = map == k.map
 
 -- whether the box, widened by 64 pixels of tiles of that size at the key's zoom, holds a point of the key's square
 abbrev pub is_met : Bounds → ℕ → Key → Bool
-is_met b size k = holds_some (widened b (margin_of size k.meta.z)) (meta_square k.meta)
+is_met b size k = comes_near b (margin_of size k.meta.z) (meta_square k.meta)
 
 -- whether some of the boxes is that near
 abbrev pub some_meets : ℕ → List Bounds → Key → Bool

@@ -10,7 +10,7 @@ mod nodes;
 mod waking;
 mod walks;
 
-pub use boxes::{Rectangle, holds_some, margin_of};
+pub use boxes::{comes_near, margin_of, some_comes_near};
 pub use farm_history::{Kept, Key, Mark};
 pub use faults::ListFault;
 pub use lists::{TileList, read_list};

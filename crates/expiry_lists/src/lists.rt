@@ -9,6 +9,7 @@ ghost use Rattle.expiry_lists.specs.declared.faults.ListFault.TheVariants as fau
 use crate::faults::ListFault;
 use farm_base::MOST_LINES;
 use line_reading::{cut, first_line, small_number};
+use merc_fixed::tile;
 use plain_world::Tile;
 use reading::line_text;
 use std::alloc::Global;
@@ -45,21 +46,9 @@ fn number(word: &str, fault: ListFault) -> Result<u32, ListFault>
     small_number(word).ok_or(fault)
 }
 
-/// The tile of these numbers, if there is one.
-fn tile_at(z: u32, x: u32, y: u32) -> Option<Tile>
-    ensures value { result ≡ spec.tile_if_any z x y }
-    ensures valid { IfSome result IsTile }
-{
-    if z <= 18 && x < 1 << z && y < 1 << z {
-        Some(Tile { z, x, y })
-    } else {
-        None
-    }
-}
-
 /// The tile of a line `z/x/y`.
 #[tactic(auto, unfolding(crate::specs::Lists::list_tile))]
-fn tile(text: &str, fault: ListFault) -> Result<Tile, ListFault>
+fn tile_in(text: &str, fault: ListFault) -> Result<Tile, ListFault>
     ensures value { result ≡ spec.list_tile fault text.now }
     ensures valid { IfOk result IsTile }
 {
@@ -68,7 +57,7 @@ fn tile(text: &str, fault: ListFault) -> Result<Tile, ListFault>
     let z = number(z, fault)?;
     let x = number(x, fault)?;
     let y = number(y, fault)?;
-    tile_at(z, x, y).ok_or(fault)
+    tile(z, x, y).ok_or(fault)
 }
 
 /// The tile of a line; nothing where the line is empty.
@@ -81,7 +70,7 @@ fn read_line(line: &[u8], fault: ListFault) -> Result<Option<Tile>, ListFault>
         return Ok(None);
     }
     let text = line_text(line, fault)?;
-    Ok(Some(tile(text, fault)?))
+    Ok(Some(tile_in(text, fault)?))
 }
 
 /// Reads an expiry list: its tiles in order, or the first line that is none. Each line is `z/x/y`, three

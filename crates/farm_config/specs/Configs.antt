@@ -1,11 +1,13 @@
 -- Configurations as plain records, and what their values keep.
-use Rattle.std.specs.Prelude.{ℕ, ◌≤◌, ◌==◌, ◌&&◌, ◌||◌, Bool, not, nat_le, nat_lt, IsTrue, List, [], length, Option, position}
+use Rattle.std.specs.Prelude.{ℕ, ◌≤◌, ◌&&◌, Bool, not, nat_le, nat_lt, IsTrue, List, [], length, Option, position}
 use Rattle.std.specs.List.{list_all, list_any}
 use Rattle.std.specs.Str.{bytes_eq}
 use Rattle.farm_base.specs.Earlier.{each_after}
+use Rattle.plain_world.specs.World.{is_tile_size, IsTileSize}
 use Rattle.tile_paths.specs.Paths.{is_map_name}
 use Rattle.farm_history.specs.declared.queues.Limits.{Limits}
-use Rattle.farm_config.specs.Limits.{most_maps, most_zoom, most_files, most_workers, most_waiting, most_dirty}
+use Rattle.farm_history.specs.Limits.{most_waiting, most_dirty, AreLimits}
+use Rattle.farm_config.specs.Limits.{most_maps, most_zoom, most_files, most_workers}
 use Rattle.farm_config.specs.declared.config.RestyleEntry.{RestyleEntry}
 
 -- a map: its name, the name of its style's file, the size of its tiles in pixels and its greatest zoom
@@ -29,23 +31,9 @@ pub record Config : Type 0 where
   pub restyles : List RestyleEntry
   pub resume : Bool
 
--- a tile is 16, 32, 64, 128, 256 or 512 pixels wide and high
-abbrev pub is_tile_size : ℕ → Bool
-is_tile_size n = n == 16 || n == 32 || n == 64 || n == 128 || n == 256 || n == 512
-
 -- the greatest limits of the queues, which are also the defaults
 abbrev pub greatest_limits : Limits
 greatest_limits = record { prio = most_waiting; request = most_waiting; low = most_waiting; dirty = most_dirty; bulk = most_waiting }
-
--- from 1 to the greatest
-abbrev pub is_limit_to : ℕ → ℕ → Bool
-is_limit_to most n = nat_le 1 n && nat_le n most
-
--- limits of which each is from 1 to its greatest
-abbrev pub are_limits : Limits → Bool
-are_limits l =
-    is_limit_to most_waiting l.prio && is_limit_to most_waiting l.request && is_limit_to most_waiting l.low && is_limit_to most_dirty l.dirty
-    && is_limit_to most_waiting l.bulk
 
 -- a map of this name is among them
 abbrev pub map_has : List ℕ → List MapEntry → Bool
@@ -66,7 +54,7 @@ restyle_known maps r = nat_lt r.map maps
 -- what every map of a configuration keeps
 pub record IsMapEntry (name : List ℕ) (tile max_zoom : ℕ) : Type 0 where
   pub name_fits : IsTrue (is_map_name name)
-  pub tile_fits : IsTrue (is_tile_size tile)
+  pub tile_fits : IsTileSize tile
   pub zoom_fits : max_zoom ≤ most_zoom
 
 -- what every configuration keeps: 1 to 16 maps that keep their ranges and have distinct names, 1 to 16 workers, limits within theirs, at most 256 updates, expiry lists and
@@ -79,6 +67,6 @@ pub record IsConfig (maps : List MapEntry) (updates expiries : List (List ℕ)) 
   pub few_expiries : length expiries ≤ most_files
   pub some_workers : 1 ≤ workers
   pub few_workers : workers ≤ most_workers
-  pub limits_fit : IsTrue (are_limits limits)
+  pub limits_fit : AreLimits limits
   pub few_restyles : length restyles ≤ most_files
   pub restyles_known : IsTrue (list_all (restyle_known (length maps)) restyles)

@@ -8,7 +8,7 @@ use Rattle.reading.specs.Steps.{◌>>=◌}
 use Rattle.reading.specs.Values.{text, whole_number}
 use Rattle.farm_config.specs.Addresses.{is_address}
 use Rattle.tile_paths.specs.Paths.{is_map_name}
-use Rattle.farm_config.specs.Configs.{is_tile_size}
+use Rattle.plain_world.specs.World.{is_tile_size}
 use Rattle.farm_config.specs.declared.fault.ConfigFault.{ConfigFault}
 use Rattle.farm_config.specs.declared.fault.ConfigFault.TheVariants.{Shape, Range}
 

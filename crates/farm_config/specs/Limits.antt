@@ -17,14 +17,6 @@ most_files = 256
 abbrev pub most_workers : ℕ
 most_workers = 16
 
--- the most metatiles that wait in each queue but that of the dirty ones, as in renderd
-abbrev pub most_waiting : ℕ
-most_waiting = 32
-
--- the most metatiles that wait as dirty ones, as in renderd
-abbrev pub most_dirty : ℕ
-most_dirty = 1000
-
 -- the most bytes of the path of a socket: the system takes 107
 abbrev pub most_path_bytes : ℕ
 most_path_bytes = 100

@@ -9,8 +9,9 @@ use Rattle.reading.specs.Lists.{list_of}
 use Rattle.reading.specs.Steps.{◌>>=◌, check}
 use Rattle.reading.specs.Values.{needed, or_value, list, text, opened}
 use Rattle.farm_history.specs.declared.queues.Limits.{Limits}
+use Rattle.farm_history.specs.Limits.{most_waiting, most_dirty}
 use Rattle.farm_config.specs.Configs.{MapEntry, Config, map_has, map_place, greatest_limits}
-use Rattle.farm_config.specs.Limits.{most_maps, most_zoom, most_files, most_workers, most_waiting, most_dirty}
+use Rattle.farm_config.specs.Limits.{most_maps, most_zoom, most_files, most_workers}
 use Rattle.farm_config.specs.Kinds.{a_map_name, number_within, a_tile_size, an_address}
 use Rattle.farm_config.specs.declared.config.RestyleEntry.{RestyleEntry}
 use Rattle.farm_config.specs.declared.fault.ConfigFault.{ConfigFault}

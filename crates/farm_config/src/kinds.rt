@@ -4,8 +4,8 @@ ghost use Rattle.serde_json.specs.Find.{get};
 ghost use Rattle.serde_json.specs.View.{view};
 ghost use Rattle.reading.specs.Steps.{seen, Gives};
 ghost use Rattle.reading.specs.Values.{needed, or_value};
+ghost use Rattle.plain_world.specs.World.{IsTileSize};
 ghost use Rattle.tile_paths.specs.Paths.{is_map_name};
-ghost use Rattle.farm_config.specs.Configs as plain;
 ghost use Rattle.farm_config.specs.Kinds as spec;
 ghost use Rattle.farm_config.specs.inner.Kinds as inner;
 ghost use Rattle.farm_config.specs.declared.fault.ConfigFault.TheVariants as fault;
@@ -13,6 +13,7 @@ ghost use Rattle.farm_config.specs.declared.fault.ConfigFault.TheVariants as fau
 use crate::addresses::is_address;
 use crate::fault::ConfigFault;
 use farm_base::Text;
+use merc_fixed::is_tile_size;
 use reading::{text, whole_number};
 use serde_json::Value;
 use std::alloc::Global;
@@ -96,16 +97,10 @@ pub fn number_or(
         .map_or(Ok(absent), |v| a_number(v, key, low, high))
 }
 
-fn is_tile_size(n: u32) -> bool
-    ensures { result ≡ plain.is_tile_size n }
-{
-    matches!(n, 16 | 32 | 64 | 128 | 256 | 512)
-}
-
 #[tactic(auto, unfolding(crate::specs::Kinds::a_tile_size, crate::specs::Kinds::number_within))]
 fn a_tile_size(value: &Value, key: u32) -> Result<u32, ConfigFault>
     ensures value { result ≡ spec.a_tile_size key (view value.now) }
-    ensures fits { IfOk result (λ n. IsTrue (plain.is_tile_size n)) }
+    ensures fits { IfOk result IsTileSize }
 {
     let size = a_number(value, key, 16, 512)?;
     if is_tile_size(size) {
@@ -118,7 +113,7 @@ fn a_tile_size(value: &Value, key: u32) -> Result<u32, ConfigFault>
 /// The size of a tile, which has to be there.
 pub fn tile_size_at(object: &Value, name: &str, key: u32) -> Result<u32, ConfigFault>
     ensures value { result ≡ needed (fault.Shape key) (spec.a_tile_size key) (get name.now (view object.now)) }
-    ensures fits { IfOk result (λ n. IsTrue (plain.is_tile_size n)) }
+    ensures fits { IfOk result IsTileSize }
 {
     object
         .get(name)

@@ -12,11 +12,5 @@ pub const MOST_FILES: usize = 256;
 /// The most workers.
 pub const MOST_WORKERS: u32 = 16;
 
-/// The most metatiles that wait in each queue but that of the dirty ones.
-pub const MOST_WAITING: u32 = 32;
-
-/// The most metatiles that wait as dirty ones.
-pub const MOST_DIRTY: u32 = 1_000;
-
 /// The most bytes of the path of a socket.
 pub const MOST_PATH_BYTES: usize = 100;

@@ -1,15 +1,15 @@
 //! The limits of the queues.
-ghost use Rattle.std.specs.Prelude.{◌≡◌, IfOk, IsTrue, option_map};
+ghost use Rattle.std.specs.Prelude.{◌≡◌, IfOk, option_map};
 ghost use Rattle.serde_json.specs.View.{view};
 ghost use Rattle.reading.specs.Values.{or_value};
+ghost use Rattle.farm_history.specs.Limits.{AreLimits};
 ghost use Rattle.farm_config.specs.Configs as plain;
 ghost use Rattle.farm_config.specs.Tables as spec;
 
 use crate::fault::ConfigFault;
 use crate::kinds::number_or;
-use crate::limits::{MOST_DIRTY, MOST_WAITING};
 use crate::opening::open_limits;
-use farm_history::Limits;
+use farm_history::{Limits, MOST_DIRTY, MOST_WAITING};
 use serde_json::Value;
 
 const GREATEST: Limits = Limits {
@@ -23,7 +23,7 @@ const GREATEST: Limits = Limits {
 #[tactic(auto, unfolding(crate::specs::Tables::limits_of))]
 fn limits(object: &Value) -> Result<Limits, ConfigFault>
     ensures value { result ≡ spec.limits_of (view object.now) }
-    ensures fits { IfOk result (λ l. IsTrue (plain.are_limits l)) }
+    ensures fits { IfOk result AreLimits }
 {
     open_limits(object)?;
     Ok(Limits {
@@ -38,7 +38,7 @@ fn limits(object: &Value) -> Result<Limits, ConfigFault>
 /// The limits at the key `limits`, the greatest where it is absent.
 pub fn limits_or_greatest(found: Option<&Value>) -> Result<Limits, ConfigFault>
     ensures value { result ≡ or_value plain.greatest_limits spec.limits_of (option_map (λ v. view v.now) found.entry) }
-    ensures fits { IfOk result (λ l. IsTrue (plain.are_limits l)) }
+    ensures fits { IfOk result AreLimits }
 {
     match found {
         Some(value) => limits(value),

@@ -3,7 +3,8 @@ ghost use Rattle.std.specs.Prelude.{◌≡◌, ◌≤◌, length, IfOk, IsTrue};
 ghost use Rattle.std.specs.List.{list_all};
 ghost use Rattle.serde_json.specs.View.{view};
 ghost use Rattle.reading.specs.Steps.{Gives};
-ghost use Rattle.farm_config.specs.Configs.{are_limits, restyle_known};
+ghost use Rattle.farm_history.specs.Limits.{AreLimits};
+ghost use Rattle.farm_config.specs.Configs.{restyle_known};
 ghost use Rattle.farm_config.specs.Limits.{most_maps, most_files, most_workers};
 ghost use Rattle.farm_config.specs.Tables as spec;
 ghost use Rattle.farm_config.specs.declared.fault.ConfigFault.TheVariants as fault;
@@ -39,7 +40,7 @@ fn read_service(alloc: Global, object: &Value) -> Result<Service, ConfigFault>
     ensures value { Gives fault.NoMemory (λ x. x) (service_of (view object.now)) result }
     ensures some_workers { IfOk result (λ s. 1 ≤ s.workers) }
     ensures few_workers { IfOk result (λ s. s.workers ≤ most_workers) }
-    ensures limits_fit { IfOk result (λ s. IsTrue (are_limits s.limits)) }
+    ensures limits_fit { IfOk result (λ s. AreLimits s.limits) }
 {
     let workers = number_or(object, "workers", 5, 1, MOST_WORKERS, 2)?;
     let limits = limits_or_greatest(object.get("limits"))?;

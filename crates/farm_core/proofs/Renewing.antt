@@ -24,7 +24,7 @@ use Rattle.farm_plan.proofs.Spots.{served_key}
 use Rattle.expiry_lists.specs.Marks.{MarksSeen, Shown, shown_key, mark_of, clean_marks}
 use Rattle.expiry_lists.proofs.Dirtying.{dirties_none}
 use Rattle.reach_box.specs.NamedBoxes.{boxes_reach_map}
-use Rattle.reach_box.specs.Marks.{is_met_by, is_reached, Expires}
+use Rattle.reach_box.specs.Marks.{is_reached, Expires}
 use Rattle.reach_box.proofs.Reached.{reached_is, boxes_are}
 use Rattle.reach_box.proofs.Valid.{data_valid}
 use Rattle.farm_refinement.specs.Seen.{FarmSeen}
@@ -127,7 +127,7 @@ claimed_few (e ∷ g) = let few = claimed_few g in omega (arith, few)
 pub unreached : (maps : List MapPlan) (boxes : List Bounds) (k : Key) → boxes ≡ [] → is_reached maps boxes k ≡ false
 unreached maps boxes k none = ap (λ (bs : List Bounds). is_reached maps bs k) none ∙ go (slice_get maps k.map) (nat_lt k.meta.z 19)
   where
-    go : (o : Option MapPlan) (z : Bool) → (z && is_met_by [] o k) ≡ false
+    go : (o : Option MapPlan) (z : Bool) → (z && boxes_reach_map [] o k.meta) ≡ false
     go None true = refl
     go None false = refl
     go (Some mp) true = refl

@@ -1,5 +1,5 @@
 -- What a configuration's files say is a plan that a farm may be started with.
-use Rattle.std.proofs.Common.{◌≡◌, ℕ, zero, suc, ◌<◌, ◌≤◌, inl, inr, Bool, true, false, not, ◌&&◌, ◌||◌, ◌==◌, List, [], ◌∷◌, ◌++◌, length, All, refl, sym, ap, subst, ◌∙◌, arith}
+use Rattle.std.proofs.Common.{◌≡◌, ℕ, zero, suc, ◌<◌, ◌≤◌, true, false, not, ◌&&◌, List, [], ◌∷◌, ◌++◌, length, All, refl, sym, ap, subst, ◌∙◌, arith}
 use Rattle.std.specs.Prelude.{Some, slice_get, nat_le}
 use Rattle.std.specs.List.{list_all}
 use Rattle.std.specs.Str.{bytes_eq}
@@ -7,16 +7,15 @@ use Rattle.std.proofs.lemmas.Bool.{not-true, and_parts, or_parts}
 use Rattle.std.proofs.lemmas.Bool.Decides.{nat_tests}
 use Rattle.std.proofs.lemmas.List.Elements.{All-cons, All-nil}
 use Rattle.std.proofs.lemmas.Slice.Eq.{bytes_eq-Decides}
-use Rattle.plain_world.specs.World.{IsTileSize}
+use Rattle.plain_world.specs.World.{is_tile_size, IsTileSize}
 use Rattle.farm_base.specs.Earlier.{each_after}
 use Rattle.tile_paths.specs.Paths.{IsName, is_map_name}
-use Rattle.farm_history.specs.declared.queues.Limits.{Limits}
 use Rattle.farm_history.proofs.Lists.{any-append}
 use Rattle.geo_json.specs.DataTexts.{dataset_in}
 use Rattle.fault_texts.specs.DataFaults.{data_text}
-use Rattle.farm_config.specs.Configs.{MapEntry, Config, is_tile_size, is_limit_to, are_limits, map_has, map_fits, restyle_known, IsConfig}
+use Rattle.farm_config.specs.Configs.{MapEntry, Config, map_has, map_fits, restyle_known, IsConfig}
 use Rattle.farm_config.specs.declared.config.RestyleEntry.{RestyleEntry}
-use Rattle.farm_plan.specs.Plans.{MapPlan, Restyle, IsMapPlan, HasNamesApart, IsFrom1, AreLimits, NamesMap, IsPlan}
+use Rattle.farm_plan.specs.Plans.{MapPlan, Restyle, IsMapPlan, HasNamesApart, NamesMap, IsPlan}
 use Rattle.input_files.specs.Course.{Course, made, ◌>>=◌, file, each}
 use Rattle.input_files.proofs.Courses.{Could, could_parts}
 use Rattle.farm_files.specs.MapCourses.{style_course}
@@ -59,22 +58,10 @@ maps_of (m ∷ ms) ps h =
 
 -- ---- maps that fit
 
-size_of : (n : ℕ) → is_tile_size n ≡ true → IsTileSize n
-size_of n h = go (n == 16) (n == 32) (n == 64) (n == 128) (n == 256) (n == 512) refl refl refl refl refl refl h
-  where
-    go : (a b c d e f : Bool) → (n == 16) ≡ a → (n == 32) ≡ b → (n == 64) ≡ c → (n == 128) ≡ d → (n == 256) ≡ e → (n == 512) ≡ f → (a || b || c || d || e || f) ≡ true → IsTileSize n
-    go true b c d e f ha hb hc hd he hf t = inl (let is : n ≡ 16 = grind (arith, nat_tests) in is)
-    go false true c d e f ha hb hc hd he hf t = inr (inl (let is : n ≡ 32 = grind (arith, nat_tests) in is))
-    go false false true d e f ha hb hc hd he hf t = inr (inr (inl (let is : n ≡ 64 = grind (arith, nat_tests) in is)))
-    go false false false true e f ha hb hc hd he hf t = inr (inr (inr (inl (let is : n ≡ 128 = grind (arith, nat_tests) in is))))
-    go false false false false true f ha hb hc hd he hf t = inr (inr (inr (inr (inl (let is : n ≡ 256 = grind (arith, nat_tests) in is)))))
-    go false false false false false true ha hb hc hd he hf t = inr (inr (inr (inr (inr (let is : n ≡ 512 = grind (arith, nat_tests) in is)))))
-    go false false false false false false ha hb hc hd he hf t = absurd (cc)
-
 -- the four tests of a map behind others
 record Fits (before : List MapEntry) (m : MapEntry) : Type 0 where
   named : is_map_name m.name ≡ true
-  sized : is_tile_size m.tile ≡ true
+  sized : IsTileSize m.tile
   zooms : nat_le m.max_zoom 18 ≡ true
   apart : map_has m.name before ≡ false
 
@@ -96,7 +83,7 @@ one_map before m p h is =
     let at : m.max_zoom ≤ 18 = grind (arith, nat_tests) in
     record {
       named = subst IsName (sym is.0) fits.named;
-      sized = subst IsTileSize (sym is.1) (size_of m.tile fits.sized);
+      sized = subst IsTileSize (sym is.1) fits.sized;
       zooms = subst (λ (n : ℕ). n ≤ 18) (sym is.2) at;
     }
 
@@ -147,31 +134,7 @@ names_apart before (m ∷ ms) (p ∷ ps) h are (suc i) zero a b at to same =
 names_apart before (m ∷ ms) (p ∷ ps) h are (suc i) (suc j) a b at to same =
     ap (λ (n : ℕ). suc n) (names_apart (before ++ m ∷ []) ms ps (and_parts (map_fits before m) (each_after map_fits (before ++ m ∷ []) ms) h).1 are.1 i j a b at to same)
 
--- ---- limits and restyles
-
-from_1 : (n most : ℕ) → is_limit_to most n ≡ true → IsFrom1 n most
-from_1 n most h =
-    let low = (and_parts (nat_le 1 n) (nat_le n most) h).0 in
-    let high = (and_parts (nat_le 1 n) (nat_le n most) h).1 in
-    record { some = grind (arith, nat_tests); few = grind (arith, nat_tests) }
-
-limits_of : (l : Limits) → are_limits l ≡ true → AreLimits l
-limits_of l h =
-    let a = is_limit_to 32 l.prio in
-    let b = is_limit_to 32 l.request in
-    let c = is_limit_to 32 l.low in
-    let d = is_limit_to 1000 l.dirty in
-    let e = is_limit_to 32 l.bulk in
-    let h4 = (and_parts (a && b && c && d) e h).0 in
-    let h3 = (and_parts (a && b && c) d h4).0 in
-    let h2 = (and_parts (a && b) c h3).0 in
-    record {
-      prio = from_1 l.prio 32 (and_parts a b h2).0;
-      request = from_1 l.request 32 (and_parts a b h2).1;
-      low = from_1 l.low 32 (and_parts (a && b) c h3).1;
-      dirty = from_1 l.dirty 1000 (and_parts (a && b && c) d h4).1;
-      bulk = from_1 l.bulk 32 (and_parts (a && b && c && d) e h).1;
-    }
+-- ---- restyles
 
 restyle_of : (r : RestyleEntry) (p : Restyle) → Could (restyle_course r) p → p.map ≡ r.map
 unfolding restyle_course_by
@@ -208,7 +171,7 @@ plan_valid config inputs valid h =
       each_map = each_map [] config.maps maps.0 valid.maps_fit are;
       apart = names_apart [] config.maps maps.0 valid.maps_fit are;
       count_workers = record { some = valid.some_workers; few = valid.few_workers };
-      limited = limits_of config.limits valid.limits_fit;
+      limited = valid.limits_fit;
       few_updates = omega (arith, each_length update_course config.updates updates.0 updates.1, valid.few_updates);
       few_restyles = omega (arith, each_length restyle_course config.restyles restyles.0 restyles.1, valid.few_restyles);
       each_restyle = restyles_of maps.0 config.restyles restyles.0 (subst (λ (n : ℕ). list_all (restyle_known n) config.restyles ≡ true) (sym many) valid.restyles_known) restyles.1;

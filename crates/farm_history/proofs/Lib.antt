@@ -2,7 +2,6 @@ pub mod Apart
 pub mod Counts
 pub mod Ends
 pub mod Flying
-pub mod Homes
 pub mod Keyed
 pub mod Lists
 pub mod Marked
@@ -20,4 +19,3 @@ pub mod Since
 pub mod Sounds
 pub mod Unended
 pub mod Unflown
-pub mod Few

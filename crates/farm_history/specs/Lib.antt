@@ -1,5 +1,6 @@
 pub mod Entries
 pub mod Laws
+pub mod Limits
 pub mod Lists
 pub mod Past
 pub mod Plans

@@ -15,5 +15,5 @@ pub use answers::{
 pub use asks::{AskAnswer, Cmd, Spot, Why};
 pub use events::Event;
 pub use keys::{Kept, Key, Mark};
-pub use queues::{Conn, Limits, Outcome, Queue, Reply, Waiter};
+pub use queues::{Conn, Limits, MOST_DIRTY, MOST_WAITING, Outcome, Queue, Reply, Waiter};
 pub use saved::{Past, Saved};

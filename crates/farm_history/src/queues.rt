@@ -43,6 +43,12 @@ pub struct Reply {
     pub outcome: Outcome,
 }
 
+/// The most metatiles that wait in each queue but that of the dirty ones.
+pub const MOST_WAITING: u32 = 32;
+
+/// The most metatiles that wait as dirty ones.
+pub const MOST_DIRTY: u32 = 1_000;
+
 /// How many metatiles may wait in each queue.
 #[derive(Clone, Copy, Debug, PartialEq, Eq)]
 pub struct Limits {

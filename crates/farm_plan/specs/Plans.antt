@@ -7,6 +7,7 @@ use Rattle.plain_data.specs.Data.{Change}
 use Rattle.plain_drawing.specs.Styles.{MapStyle, KeepsRanges}
 use Rattle.tile_paths.specs.Paths.{IsName}
 use Rattle.farm_history.specs.declared.queues.Limits.{Limits}
+use Rattle.farm_history.specs.Limits.{IsFrom1, AreLimits}
 
 -- a map: its name, its style, how many pixels its tiles have side by side, and its greatest zoom
 pub record MapPlan : Type 0 where
@@ -42,19 +43,6 @@ pub record IsMapPlan (m : MapPlan) : Type 0 where
 -- no two maps have one name
 abbrev pub HasNamesApart : List MapPlan → Type 0
 HasNamesApart maps = (i j : ℕ) (a b : MapPlan) → slice_get maps i ≡ Some a → slice_get maps j ≡ Some b → a.name ≡ b.name → i ≡ j
-
--- from 1 to so many
-pub record IsFrom1 (n most : ℕ) : Type 0 where
-  pub some : 1 ≤ n
-  pub few : n ≤ most
-
--- limits: 1 to 32 for each queue, 1 to 1,000 for the dirty one
-pub record AreLimits (l : Limits) : Type 0 where
-  pub prio : IsFrom1 l.prio 32
-  pub request : IsFrom1 l.request 32
-  pub low : IsFrom1 l.low 32
-  pub dirty : IsFrom1 l.dirty 1000
-  pub bulk : IsFrom1 l.bulk 32
 
 -- a restyle names a map of the plan
 abbrev pub NamesMap : List MapPlan → Restyle → Type 0

@@ -1,5 +1,5 @@
 -- A farm that is resumed: it stands for the replay of what was saved, piece by piece.
-use Rattle.std.proofs.Common.{◌≡◌, ℕ, ◌+◌, ◌-◌, ◌^◌, ◌<◌, ◌≤◌, min, Bool, true, false, not, cond, if◌then◌else◌, ◌==◌, List, [], ◌∷◌, ◌++◌, length, map, filter, slice_get, Option, Some, None, is_some, option_map, Ok, refl, sym, ap, ap₂, ◌∙◌, subst, arith}
+use Rattle.std.proofs.Common.{◌≡◌, ℕ, ◌+◌, ◌-◌, ◌^◌, ◌<◌, ◌≤◌, min, Bool, true, false, not, cond, if◌then◌else◌, List, [], ◌∷◌, ◌++◌, length, map, filter, Option, Some, None, is_some, option_map, Ok, refl, sym, ap, ap₂, ◌∙◌, subst, arith}
 use Rattle.std.specs.Prelude.{IfSome}
 use Rattle.farm_base.specs.Outside.{Outside}
 use Rattle.tile_store.specs.Stores.{StoreTold}
@@ -9,8 +9,7 @@ use Rattle.farm_history.specs.declared.keys.Key.{Key}
 use Rattle.farm_history.specs.declared.saved.Past.{Past}
 use Rattle.farm_history.specs.declared.answers.Updated.{Updated}
 use Rattle.farm_history.specs.declared.answers.Renewed.{Renewed}
-use Rattle.farm_history.specs.declared.answers.Restyled.TheVariants.{Styled}
-use Rattle.farm_history.specs.Entries.{Entry, Update, Renew, Restyle}
+use Rattle.farm_history.specs.Entries.{Entry, Update, Renew}
 use Rattle.farm_history.specs.Plans.{Plan, AreApart, same_key}
 use Rattle.farm_history.specs.Past.{is_stopped, data_after, version, jobs, numbers, asks_made, done_asks, stored_drawings, shown, clean_count, Numbered, replies_to}
 use Rattle.farm_history.specs.Rules.{Fits}
@@ -22,14 +21,14 @@ use Rattle.farm_history.proofs.Keyed.{IsServed}
 use Rattle.farm_history.proofs.Since.{ChangeFits}
 use Rattle.farm_history.proofs.Redrawn.{IsQuiet, redrawn_quiet, redrawn_shown, redrawn_other, redrawn_touched, redrawn_untouched, redrawn_data, redrawn_style, replies_none}
 use Rattle.farm_history.proofs.Resumed.{change_legal}
-use Rattle.farm_plan.specs.Plans.{FarmPlan, IsPlan, Restyle as PlanStyle}
+use Rattle.farm_plan.specs.Plans.{FarmPlan, IsPlan}
 use Rattle.farm_plan.specs.Drawings.{update_of, data_of, reaches_of, plan_of}
 use Rattle.render_queues.specs.Tables.{Tables}
 use Rattle.expiry_lists.specs.Marks.{MarksSeen, shown_key, mark_of, clean_marks}
 use Rattle.farm_refinement.specs.Seen.{Counts, FarmSeen}
 use Rattle.farm_refinement.specs.Stands.{waits_key, asked_of, failures, Accounts, HoldsShown, CountsStand, QueuesStand, StoreStands, StandsFor}
-use Rattle.farm_refinement.specs.inner.Events.{one_turn_more, updated_counts, replayed_counts, dirtied_taken}
-use Rattle.farm_refinement.proofs.Changing.{no_fault, update_step, renew_step, restyle_step}
+use Rattle.farm_refinement.specs.inner.Events.{updated_counts, replayed_counts, dirtied_taken}
+use Rattle.farm_refinement.proofs.Changing.{no_fault, update_step, renew_step}
 
 -- a farm in the midst of its replay: nothing waits, flies or is open, the history is legal whatever is told of the store, and the farm stands for it but for what the store holds
 pub record Replays {D : Type 0} (state : D → Outside StoreTold) (farm : FarmSeen D) (g : List Entry) : Type 0 where
@@ -125,10 +124,6 @@ renew_unfailed : (plan : FarmPlan) (n v count : ℕ) (g : List Entry) → failur
 unfolding failures
 renew_unfailed plan n v count g = refl
 
-style_unfailed : (plan : FarmPlan) (n count : ℕ) (g : List Entry) → failures plan (Restyle n (Styled count) ∷ g) ≡ failures plan g
-unfolding failures
-style_unfailed plan n count g = refl
-
 fits_again : {D : Type 0} (state : D → Outside StoreTold) (farm : FarmSeen D) (g : List Entry) (c : Past) (new : List Layer) → past_number c < length farm.plan.updates → update_result (update_of farm.plan (past_number c)) farm.data_now ≡ Ok new → StandsFor state false farm g → ChangeFits (plan_of farm.plan) (data_after g) c
 unfolding plan_of
 fits_again state farm g c new lt fits s = record { in_table = lt; no_fault = no_fault state false farm g (past_number c) new fits s }
@@ -182,20 +177,6 @@ replay_renew_step state farm g n new test ms lt fits apart agree marks r = recor
   stands = as_fits state _ g n (farm.counts.version + 1) (clean_marks test farm.marks.shown) (renew_step state false farm g n new test ms lt fits apart agree marks r.stands);
   unfailed = renew_unfailed farm.plan n (version g + 1) (clean_count (plan_of farm.plan) g ((plan_of farm.plan).reaches (data_after g) n)) g ∙ r.unfailed;
 }
-
--- A style that its map is given again, before anything is shown.
-pub replay_style_step : {D : Type 0} (state : D → Outside StoreTold) (farm : FarmSeen D) (g : List Entry) (n : ℕ) (s : PlanStyle) (st : List (Option ℕ)) → slice_get farm.plan.restyles n ≡ Some s → farm.marks.shown ≡ [] →
-    ((m : ℕ) → m < length farm.plan.maps → slice_get st m ≡ cond (s.map == m) (Some (Some n)) (slice_get farm.styled m)) → ((told : Bool) → IsQuiet (plan_of farm.plan) told (Restyle n (Styled 0) ∷ g)) → Replays state farm g →
-    Replays state (record farm { counts = one_turn_more farm.counts; styled = st; taken = dirtied_taken (λ k. s.map == k.map) farm.taken }) (Restyle n (Styled 0) ∷ g)
-replay_style_step state farm g n s st is none styles now r = record {
-  quiet = now;
-  stands = subst (λ count. StandsFor state false (record farm { counts = one_turn_more farm.counts; styled = st; taken = dirtied_taken (λ k. s.map == k.map) farm.taken }) (Restyle n (Styled count) ∷ g)) (ap (clean_marks own) none)
-      (restyle_step state false farm g n s own st farm.marks is (subst (AreApart shown_key) (sym none) tt) (λ k there. refl) styles (λ k. ap (λ rows. mark_of rows k) none ∙ sym (ap (λ rows. option_map (dirtied (own k)) (mark_of rows k)) none)) r.stands);
-  unfailed = style_unfailed farm.plan n 0 g ∙ r.unfailed;
-}
-  where
-    own : Key → Bool
-    own k = s.map == k.map
 
 -- When the replay is done: where the store holds what is shown, that may be told.
 pub resumed_stands : {D : Type 0} (state : D → Outside StoreTold) (told : Bool) (farm : FarmSeen D) (r : List Entry) (saved : Option Saving) → Replays state farm r → (told ≡ true → is_some (state farm.store).told ≡ true) → (told ≡ true → IfSome (state farm.store).told (λ t. HoldsShown farm.plan r t.content)) →

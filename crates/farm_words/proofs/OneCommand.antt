@@ -6,11 +6,12 @@ use Rattle.std.proofs.Math.Nat.{pow-le-pow_right}
 use Rattle.std.proofs.lemmas.Fmt.{decimal_injective}
 use Rattle.plain_world.specs.declared.world.Tile.{Tile}
 use Rattle.plain_world.specs.World.{IsTile, IsTileSize}
+use Rattle.plain_world.proofs.Windows.{size_bounds}
 use Rattle.farm_words.specs.declared.command.Command.TheVariants.{Render, Script, Serve, Load, Meta}
 use Rattle.farm_words.specs.Forms.{SpellOne}
 
 size_small : (n : ℕ) → IsTileSize n → n < 2 ^ 64
-size_small n h = grind arith
+size_small n h = omega (arith, (size_bounds n h).1)
 
 below : (t : Tile) (n : ℕ) → IsTile t → n < 2 ^ t.z → n < 2 ^ 64
 below t n is h = let p : 2 ^ t.z ≤ 2 ^ 18 = pow-le-pow_right {n = 2} (omega arith) is.z_fits in omega arith

@@ -7,7 +7,7 @@ ghost use Rattle.farm_words.specs.Forms.{Answers};
 
 use crate::command::{Command, WordsFault};
 use farm_base::Text;
-use merc_fixed::tile;
+use merc_fixed::{is_tile_size, tile};
 use plain_world::Tile;
 use std::alloc::Global;
 
@@ -28,19 +28,13 @@ fn small_number(text: &str) -> Option<u32>
 }
 
 /// The named tile size that the text spells.
+#[tactic(auto, using(plain_world::proofs::Windows::size_bounds))]
 fn tile_size(text: &str) -> Option<u32>
     ensures some { IfSome result (λ n. (text.now ≡ decimal n) × IsTileSize n) }
     ensures every { (n : ℕ) → IsTileSize n → text.now ≡ decimal n → result ≡ Some n }
 {
-    match small_number(text) {
-        Some(16) => Some(16),
-        Some(32) => Some(32),
-        Some(64) => Some(64),
-        Some(128) => Some(128),
-        Some(256) => Some(256),
-        Some(512) => Some(512),
-        _ => None,
-    }
+    let size = small_number(text)?;
+    if is_tile_size(size) { Some(size) } else { None }
 }
 
 /// The tile that three texts spell.

@@ -6,9 +6,11 @@ use Rattle.reading.specs.Json.{json_of}
 use Rattle.reading.specs.Steps.{◌>>=◌}
 use Rattle.reading.specs.Values.{text}
 use Rattle.farm_config.specs.Addresses.{is_address}
-use Rattle.farm_config.specs.Configs.{MapEntry, map_has, map_place, greatest_limits, is_tile_size}
+use Rattle.farm_config.specs.Configs.{MapEntry, map_has, map_place, greatest_limits}
+use Rattle.plain_world.specs.World.{is_tile_size}
 use Rattle.tile_paths.specs.Paths.{is_map_name}
-use Rattle.farm_config.specs.Limits.{most_maps, most_zoom, most_files, most_workers, most_waiting, most_dirty}
+use Rattle.farm_history.specs.Limits.{most_waiting, most_dirty}
+use Rattle.farm_config.specs.Limits.{most_maps, most_zoom, most_files, most_workers}
 use Rattle.farm_config.specs.Kinds.{a_map_name, number_within, a_tile_size, an_address}
 use Rattle.farm_config.specs.Tables.{map_entry, maps_of, file_after, files_of, limits_of, restyle_after, restyles_of, config_of, config_in}
 use Rattle.farm_config.specs.declared.config.RestyleEntry.{RestyleEntry}

@@ -7,6 +7,7 @@ use Rattle.line_reading.specs.Cuts.{cut_at}
 use Rattle.line_reading.specs.Numbers.{decimal_below}
 use Rattle.reading.specs.Lines.{line_text, items_after}
 use Rattle.reading.specs.Steps.{◌>>=◌}
+use Rattle.merc_fixed.specs.Tiles.{tile_if_any}
 use Rattle.expiry_lists.specs.Lists as list
 use Rattle.expiry_lists.specs.declared.faults.ListFault.{ListFault}
 use Rattle.expiry_lists.specs.declared.faults.ListFault.TheVariants.{Line}
@@ -51,7 +52,7 @@ tile_told fault h text =
     step ListText _ _ (has ListText (decimal_below (2 ^ 32) first.0) fault h) (λ z.
     step ListText _ _ (has ListText (decimal_below (2 ^ 32) second.0) fault h) (λ x.
     step ListText _ _ (has ListText (decimal_below (2 ^ 32) second.1) fault h) (λ y.
-    has ListText (list.tile_if_any z x y) fault h)))))
+    has ListText (tile_if_any z x y) fault h)))))
 
 list_line_told : (fault : ListFault) → ListText fault → (line : List ℕ) → ListTold (list.list_line fault line)
 unfolding list.list_line

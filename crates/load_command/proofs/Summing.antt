@@ -5,7 +5,6 @@ use Rattle.std.specs.List.{sum_by}
 use Rattle.std.specs.Fmt.{decimal}
 use Rattle.std.proofs.lemmas.List.{length-append}
 use Rattle.std.proofs.lemmas.List.Sums.{sum_by-append}
-use Rattle.farm_history.specs.declared.answers.Fetched.{Fetched}
 use Rattle.farm_history.specs.declared.answers.Fetched.TheVariants as fetched
 use Rattle.farm_history.specs.Entries.{Entry}
 use Rattle.work_gen.specs.declared.stepping.Step.{Step}
@@ -17,17 +16,6 @@ use Rattle.load_command.specs.inner.Progress.{byte_sum, clean_of, Steps, Adds, T
 pub tells_none : Tells (record { clean = 0; bytes = 0; sum = 0; failed = false }) 0 []
 unfolding clean_tiles
 tells_none = record { clean_is = refl; bytes_is = refl; sum_is = refl; failed_is = refl; few = omega arith; few_bytes = omega arith; small_sum = omega arith }
-
--- a tile that is not clean counts for nothing
-pub unclean : (answer : Fetched) → ((v : ℕ) (bytes : List ℕ) → answer ≡ fetched.Clean v bytes → ⊥) → clean_of answer ≡ []
-unclean (fetched.Clean v bytes) none = absurd (none v bytes refl)
-unclean (fetched.Dirty v bytes) none = refl
-unclean fetched.Missing none = refl
-unclean fetched.Unservable none = refl
-unclean fetched.Gone none = refl
-unclean (fetched.Spoilt fault) none = refl
-unclean fetched.GetFailed none = refl
-unclean fetched.NoMemory none = refl
 
 -- a step more
 pub tells_more : (totals totals' : Totals) (seen : StepSeen) (s : Step) (count : ℕ) (g h : List Entry) → Adds totals totals' seen → Tells totals count g → Steps s g (Ok seen) h → Tells totals' (count + 1) h

@@ -115,7 +115,3 @@ open_kept state told farm h stands =
     let some = count-all (waiting_asks h) in
     let rest = count-all (outbox h) in
     omega (arith, waiting, over, split, all, some, rest)
-
--- a farm was called as often as there are events
-pub few_turns : {D : Type 0} (state : D → Outside StoreTold) (told : Bool) (farm : FarmSeen D) (h : List Entry) → StandsFor state told farm h → farm.counts.turns ≤ weight h
-few_turns state told farm h stands = let is = stands.counts_are.turns_are in omega (arith, is)

@@ -10,4 +10,4 @@ pub use coordinates::{x_from_cm, y_from_cm};
 pub use plain_world::{Meta, Point, Square, Tile, Window};
 pub use squares::{meta_square, overlaps, tile_square};
 pub use tiles::{index_place, meta_of, tile, tiles_across};
-pub use windows::{centre, meta_window, window};
+pub use windows::{centre, is_tile_size, meta_window, window};

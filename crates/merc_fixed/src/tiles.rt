@@ -1,12 +1,15 @@
 //! Tiles and the metatiles that they lie in.
 ghost use Rattle.std.specs.Prelude.{◌≡◌, ◌<◌, ◌≤◌, ◌^◌, ℕ, IfSome, IfNone};
 ghost use Rattle.plain_world.specs.World.{IsTile, IsMeta, meta_of, tiles_across, index_place};
+ghost use Rattle.merc_fixed.specs.Tiles.{tile_if_any};
 
 use plain_world::{Meta, Tile};
 
 /// The tile of this zoom, column and row; `None` exactly where the zoom is over 18 or the column or row
 /// is not below `2^z`.
+#[tactic(auto, unfolding(crate::specs::Tiles::tile_if_any))]
 pub fn tile(z: u32, x: u32, y: u32) -> Option<Tile>
+    ensures value { result ≡ tile_if_any z x y }
     ensures made { IfSome result (λ t. t ≡ record { z = z; x = x; y = y }) }
     ensures valid { IfSome result IsTile }
     ensures none { IfNone result (¬ (IsTile (record { z = z; x = x; y = y }))) }

@@ -1,11 +1,19 @@
 //! The pixel windows of tiles and metatiles.
 ghost use Rattle.std.specs.Prelude.{◌≡◌, ◌<◌, ◌≤◌, ◌*◌, ◌^◌};
-ghost use Rattle.plain_world.specs.World.{side_at, IsTile, IsMeta, IsTileSize, IsWindow, InWorld, window_of, meta_window_of, centre};
+ghost use Rattle.plain_world.specs.World.{side_at, IsTile, IsMeta, IsTileSize, is_tile_size, IsWindow, InWorld, window_of, meta_window_of, centre};
 
 use crate::tiles::tiles_across;
 use plain_world::{Meta, Point, Tile, Window};
 
+/// Whether tiles may be so many pixels wide and high: 16, 32, 64, 128, 256 or 512.
+pub fn is_tile_size(n: u32) -> bool
+    ensures { result ≡ is_tile_size n }
+{
+    matches!(n, 16 | 32 | 64 | 128 | 256 | 512)
+}
+
 /// The window of a tile of `size` by `size` pixels.
+#[tactic(auto, using(plain_world::proofs::Windows::size_bounds))]
 pub fn window(t: Tile, size: u32) -> Window
     requires tile { IsTile t }
     requires size { IsTileSize size }
@@ -24,6 +32,7 @@ pub fn window(t: Tile, size: u32) -> Window
 }
 
 /// The window of a metatile whose tiles have `size` by `size` pixels.
+#[tactic(auto, using(plain_world::proofs::Windows::size_bounds))]
 pub fn meta_window(m: Meta, size: u32) -> Window
     requires meta { IsMeta m }
     requires size { IsTileSize size }

@@ -1,5 +1,5 @@
 -- The texts of a metatile's tiles, one behind another.
-use Rattle.std.proofs.Common.{◌≡◌, ℕ, zero, suc, ◌+◌, ◌%◌, ◌^◌, ◌<◌, ◌≤◌, min, arith, List, [], ◌∷◌, ◌++◌, length, map, flat_map, refl, sym, ap, subst, ◌∙◌, append_assoc, inl, inr}
+use Rattle.std.proofs.Common.{◌≡◌, ℕ, zero, suc, ◌+◌, ◌%◌, ◌^◌, ◌<◌, ◌≤◌, min, arith, List, [], ◌∷◌, ◌++◌, length, map, flat_map, refl, sym, ap, ◌∙◌, append_assoc}
 use Rattle.std.specs.List.{range_with_len}
 use Rattle.std.specs.Fmt.{decimal, digits}
 use Rattle.std.specs.Prelude.{nat_lt, if◌then◌else◌}
@@ -9,23 +9,14 @@ use Rattle.std.proofs.lemmas.List.{append-nil, map-append}
 use Rattle.std.proofs.lemmas.Grind.{flat_map-append}
 use Rattle.plain_world.specs.declared.world.Tile.{Tile}
 use Rattle.plain_world.specs.World.{IsTileSize}
+use Rattle.plain_world.proofs.Windows.{by_sizes}
 use Rattle.meta_container.specs.Container.{tile_bytes}
 use Rattle.tile_render.proofs.Metas.{one_more_text, one_more_column}
 
 -- the digits of a tile's side
 digits_of_side : (size : ℕ) → IsTileSize size → length (decimal size) ≡ (if nat_lt size 100 then 2 else 3)
 unfolding digits
-digits_of_side size sized = elim sized [
-  | inl e ↦ at 16 e refl
-  | inr (inl e) ↦ at 32 e refl
-  | inr (inr (inl e)) ↦ at 64 e refl
-  | inr (inr (inr (inl e))) ↦ at 128 e refl
-  | inr (inr (inr (inr (inl e)))) ↦ at 256 e refl
-  | inr (inr (inr (inr (inr e)))) ↦ at 512 e refl
-]
-  where
-    at : (n : ℕ) → size ≡ n → length (decimal n) ≡ (if nat_lt n 100 then 2 else 3) → length (decimal size) ≡ (if nat_lt size 100 then 2 else 3)
-    at n e known = subst (λ k. length (decimal k) ≡ (if nat_lt k 100 then 2 else 3)) (sym e) known
+digits_of_side = by_sizes (λ n. length (decimal n) ≡ (if nat_lt n 100 then 2 else 3)) refl refl refl refl refl refl
 
 pub two_digits : (size : ℕ) → IsTileSize size → size < 100 → 2 ≡ length (decimal size)
 two_digits size sized h = sym (digits_of_side size sized ∙ ap (λ t. if t then 2 else 3) (lt-ltb size 100 h))

@@ -32,6 +32,7 @@ fn digits_of(size: u32) -> u32
 }
 
 /// How many bytes the text of a tile has.
+#[tactic(auto, using(plain_world::proofs::Windows::size_bounds))]
 fn text_len(size: u32) -> u32
     requires { IsTileSize size }
     ensures value { result ≡ 9 + 2 * length (decimal size) + 3 * (size * size) }
@@ -90,6 +91,7 @@ fn begin_container(alloc: Global, size: u32, m: Meta) -> Result<Vec<u8>, NoMemor
 }
 
 /// The container of a metatile that is drawn in one picture.
+#[tactic(auto, using(plain_world::proofs::Windows::size_bounds))]
 fn draw_at_once(
     picture_buffer: &mut PictureBuffer,
     style: &MapStyle,

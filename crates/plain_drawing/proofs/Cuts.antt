@@ -1,5 +1,5 @@
 -- A tile is a part of its metatile's picture.
-use Rattle.std.proofs.Common.{◌≡◌, ℕ, zero, suc, ◌+◌, ◌-◌, ◌*◌, ◌/◌, ◌^◌, ◌<◌, ◌≤◌, refl, ap, sym, ◌∙◌, arith, inl, inr, List, [], ◌∷◌, ◌++◌, length, map, take, drop, get_or, flat_map}
+use Rattle.std.proofs.Common.{◌≡◌, ℕ, zero, suc, ◌+◌, ◌-◌, ◌*◌, ◌/◌, ◌^◌, ◌<◌, ◌≤◌, refl, ap, sym, ◌∙◌, arith, List, [], ◌∷◌, ◌++◌, length, map, take, drop, get_or, flat_map}
 use Rattle.std.specs.List.{range_with_len}
 use Rattle.std.proofs.lemmas.List.{same_lists, get_or-take, get_or-drop, length-take, length-drop, take-map, drop-map, map-append}
 use Rattle.std.proofs.lemmas.List.FromFn.{get_or-map-range_with_len, length-map-range_with_len}
@@ -9,6 +9,7 @@ use Rattle.plain_world.specs.declared.world.Tile.{Tile}
 use Rattle.plain_world.specs.declared.world.Meta.{Meta}
 use Rattle.plain_world.specs.declared.world.Window.{Window}
 use Rattle.plain_world.specs.World.{side_at, centre, row_centres, centres, tiles_across, window_of, meta_window_of, IsTileSize}
+use Rattle.plain_world.proofs.Windows.{by_sizes}
 use Rattle.plain_data.specs.Features.{Layer}
 use Rattle.plain_drawing.specs.Styles.{MapStyle}
 use Rattle.plain_shapes.specs.Images.{Pixels}
@@ -85,25 +86,19 @@ cut_map f across col row cols (suc n) xs =
     ∙ sym (map-append f (take cols (drop (row * across + col) xs)) (cut_rows across col (row + 1) cols n xs))
 
 -- a side is a whole number of pixels where there are 2^k of them
-sized_power : (size z k : ℕ) → z ≤ 18 → k ≤ 12 → size ≡ 2 ^ k → size * (side_at z / size) ≡ side_at z
-sized_power size z k h few is =
+power_pixel : (z k : ℕ) → z ≤ 18 → k ≤ 12 → 2 ^ k * (side_at z / 2 ^ k) ≡ side_at z
+power_pixel z k h few =
     let e : 30 - z ≡ k + (30 - z - k) = omega arith in
     let side : side_at z ≡ 2 ^ k * 2 ^ (30 - z - k) = ap (λ n. 2 ^ n) e ∙ pow-add 2 k (30 - z - k) in
-    ap (λ n. n * (side_at z / n)) is
-    ∙ ap (λ n. 2 ^ k * (n / 2 ^ k)) side
+    ap (λ n. 2 ^ k * (n / 2 ^ k)) side
     ∙ ap (λ n. 2 ^ k * n) (mul-div_cancel_left (2 ^ (30 - z - k)) (pow_pos k))
     ∙ sym side
 
 -- a tile's side is a whole number of pixels
 whole_pixel : (size z : ℕ) → IsTileSize size → z ≤ 18 → size * (side_at z / size) ≡ side_at z
-whole_pixel size z sized h = elim sized [
-  | inl e ↦ sized_power size z 4 h (omega arith) e
-  | inr (inl e) ↦ sized_power size z 5 h (omega arith) e
-  | inr (inr (inl e)) ↦ sized_power size z 6 h (omega arith) e
-  | inr (inr (inr (inl e))) ↦ sized_power size z 7 h (omega arith) e
-  | inr (inr (inr (inr (inl e)))) ↦ sized_power size z 8 h (omega arith) e
-  | inr (inr (inr (inr (inr e)))) ↦ sized_power size z 9 h (omega arith) e
-]
+whole_pixel size z sized h =
+    by_sizes (λ n. n * (side_at z / n) ≡ side_at z) (power_pixel z 4 h (omega arith)) (power_pixel z 5 h (omega arith)) (power_pixel z 6 h (omega arith))
+    (power_pixel z 7 h (omega arith)) (power_pixel z 8 h (omega arith)) (power_pixel z 9 h (omega arith)) size sized
 
 -- a tile's window is a part of its metatile's
 tile_part : (m : Meta) (size col row : ℕ) → size * (side_at m.z / size) ≡ side_at m.z → col < tiles_across m → row < tiles_across m

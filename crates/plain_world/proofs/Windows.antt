@@ -1,7 +1,7 @@
 -- What the window of a tile and of a metatile keep.
-use Rattle.std.proofs.Common.{◌≡◌, ℕ, ◌+◌, ◌-◌, ◌*◌, ◌/◌, ◌%◌, ◌^◌, ◌<◌, ◌≤◌, min, ap, sym, ◌∙◌, arith, inl, inr}
+use Rattle.std.proofs.Common.{◌≡◌, ℕ, ◌+◌, ◌-◌, ◌*◌, ◌/◌, ◌%◌, ◌^◌, ◌<◌, ◌≤◌, ◌==◌, min, Bool, true, false, ◌||◌, refl, ap, sym, subst, ◌∙◌, arith, inl, inr}
 use Rattle.std.proofs.lemmas.Nat.{pow_pos, pow-add, le-div}
-use Rattle.std.proofs.lemmas.Bool.{cases_lt}
+use Rattle.std.proofs.lemmas.Bool.{cases_lt, eqb-true}
 use Rattle.std.proofs.Math.Nat.{mul-le-mul_right, mul-le-mul_left, mul-div-le, div-le_of_le-mul, pow-le-pow_right}
 use Rattle.plain_world.specs.declared.world.Tile.{Tile}
 use Rattle.plain_world.specs.declared.world.Meta.{Meta}
@@ -33,8 +33,19 @@ side_least z h = let a : 0 < 2 = omega arith in let b : 12 ≤ 30 - z = omega ar
 side_most : (z : ℕ) → side_at z ≤ 2 ^ 30
 side_most z = let a : 0 < 2 = omega arith in let b : 30 - z ≤ 30 = omega arith in pow-le-pow_right a b
 
+-- what holds of the six sizes of tiles holds of each
+pub by_sizes : (P : ℕ → Type 0) → P 16 → P 32 → P 64 → P 128 → P 256 → P 512 → (n : ℕ) → IsTileSize n → P n
+by_sizes P a b c d e f n h = pick _ _ h (λ i. pick _ _ i (λ j. pick _ _ j (λ k. pick _ _ k (λ l. pick _ _ l (at 16 a) (at 32 b)) (at 64 c)) (at 128 d)) (at 256 e)) (at 512 f)
+  where
+    at : (m : ℕ) → P m → (n == m) ≡ true → P n
+    at m p same = subst P (sym (eqb-true n m same)) p
+
+    pick : (x y : Bool) → (x || y) ≡ true → (x ≡ true → P n) → (y ≡ true → P n) → P n
+    pick true y h left right = left refl
+    pick false y h left right = right h
+
 pub size_bounds : (n : ℕ) → IsTileSize n → (16 ≤ n) × (n ≤ 512)
-size_bounds n h = grind arith
+size_bounds = by_sizes (λ n. (16 ≤ n) × (n ≤ 512)) (omega arith, omega arith) (omega arith, omega arith) (omega arith, omega arith) (omega arith, omega arith) (omega arith, omega arith) (omega arith, omega arith)
 
 pub pixel_least : (z size : ℕ) → z ≤ 18 → IsTileSize size → 1 ≤ side_at z / size
 pixel_least z size h k =

@@ -1,6 +1,6 @@
 -- The world, its squares, the windows of tiles and metatiles, and the centres of their pixels.
 -- The world is 2^30 by 2^30 units, y to the south.
-use Rattle.std.specs.Prelude.{ℕ, ◌+◌, ◌-◌, ◌*◌, ◌/◌, ◌%◌, ◌^◌, ◌≡◌, ◌<◌, ◌≤◌, ◌⊎◌, min, Bool, ◌&&◌, nat_le, nat_lt, if◌then◌else◌, List, map, flat_map, ℤ, pos, negsuc, ◌+ℤ◌, ◌-ℤ◌, Option, Some, None}
+use Rattle.std.specs.Prelude.{ℕ, ◌+◌, ◌-◌, ◌*◌, ◌/◌, ◌%◌, ◌^◌, ◌≡◌, ◌<◌, ◌≤◌, ◌==◌, min, Bool, IsTrue, ◌&&◌, ◌||◌, nat_le, nat_lt, if◌then◌else◌, List, map, flat_map, ℤ, pos, negsuc, ◌+ℤ◌, ◌-ℤ◌, Option, Some, None}
 use Rattle.std.specs.List.{range_with_len}
 use Rattle.plain_world.specs.declared.world.Point.{Point}
 use Rattle.plain_world.specs.declared.world.Tile.{Tile}
@@ -78,9 +78,13 @@ tiles_across m = min 8 (2 ^ m.z)
 abbrev pub index_place : Tile → ℕ
 index_place t = (t.x % 8) * 8 + t.y % 8
 
--- a tile is 16, 32, 64, 128, 256 or 512 pixels wide and high
+-- whether tiles may be so many pixels wide and high: 16, 32, 64, 128, 256 or 512
+abbrev pub is_tile_size : ℕ → Bool
+is_tile_size n = n == 16 || n == 32 || n == 64 || n == 128 || n == 256 || n == 512
+
+-- tiles may be so many pixels wide and high
 abbrev pub IsTileSize : ℕ → Type 0
-IsTileSize n = (n ≡ 16) ⊎ (n ≡ 32) ⊎ (n ≡ 64) ⊎ (n ≡ 128) ⊎ (n ≡ 256) ⊎ (n ≡ 512)
+IsTileSize n = IsTrue (is_tile_size n)
 
 -- the window of a tile of so many pixels
 abbrev pub window_of : Tile → ℕ → Window

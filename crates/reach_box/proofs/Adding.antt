@@ -1,14 +1,13 @@
 -- Boxes are added one after another.
 use Rattle.std.proofs.Common.{◌≡◌, ℕ, ◌+◌, ◌<◌, ◌≤◌, Bool, true, false, cond, nat_lt, ◌||◌, List, [], ◌∷◌, ◌++◌, length, take, drop, get_or, flat_map, position, Option, Some, None, refl, sym, ap, ap₂, ◌∙◌, subst, append-nil, append_assoc, arith}
 use Rattle.std.specs.Prelude.{slice_get, nat_eq}
-use Rattle.std.specs.List.{list_any, position_or_len}
+use Rattle.std.specs.List.{position_or_len}
 use Rattle.std.proofs.lemmas.Bool.{ltb-false}
 use Rattle.std.proofs.lemmas.List.Folds.{find_at}
 use Rattle.std.proofs.lemmas.Option.{slice_get_past}
 use Rattle.std.proofs.lemmas.Grind.{flat_map-append}
 use Rattle.std.proofs.lemmas.List.{take_more, take_all, drop_all}
 use Rattle.farm_history.proofs.Lists.{any-append, each-join}
-use Rattle.plain_world.specs.declared.world.Square.{Square}
 use Rattle.plain_data.specs.Features.{Feature}
 use Rattle.plain_data.specs.Reach.{feature_reaches}
 use Rattle.geo_model.specs.declared.bounds.Bounds.{Bounds}
@@ -27,14 +26,6 @@ both fs gs a b x y = record {
 -- nothing is added of no features
 pub adds_none : (xs : List Bounds) → Adds [] xs xs
 adds_none xs = record { more = []; is = sym (append-nil xs); boxes = record { sound = tt; reach = λ size z s. refl } }
-
--- one box is added
-pub adds_one : (f : Feature) (b : Bounds) (xs ys : List Bounds) → IsBox b → ((size z : ℕ) (s : Square) → box_reaches b size z s ≡ feature_reaches f size z s) → ys ≡ xs ++ b ∷ [] → Adds (f ∷ []) xs ys
-adds_one f b xs ys sound same is = record {
-  more = b ∷ [];
-  is = is;
-  boxes = record { sound = (sound, tt); reach = λ size z s. ap (λ t. list_any (λ (c : Bool). c) (t ∷ [])) (same size z s) };
-}
 
 -- boxes are added after others
 pub adds_then : (fs gs : List Feature) (a b c : List Bounds) → Adds fs a b → Adds gs b c → Adds (fs ++ gs) a c

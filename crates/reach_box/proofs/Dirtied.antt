@@ -13,7 +13,8 @@ use Rattle.geo_model.specs.declared.bounds.Bounds.{Bounds}
 use Rattle.expiry_lists.specs.Marks.{Shown, shown_key, dirtied_mark, dirtied_marks, clean_marks, is_of_map, is_met, is_near_boxes}
 use Rattle.expiry_lists.proofs.Dirtying.{dirties_none, dirtied_marks-dirtied_marks, clean_marks-dirtied_marks}
 use Rattle.farm_plan.specs.Plans.{MapPlan}
-use Rattle.reach_box.specs.Marks.{is_met_by, is_reached, most_told, Expires}
+use Rattle.reach_box.specs.NamedBoxes.{boxes_reach_map}
+use Rattle.reach_box.specs.Marks.{is_reached, most_told, Expires}
 use Rattle.reach_box.proofs.Naming.{any_map}
 
 -- nothing is expired by a test that no key passes
@@ -86,14 +87,14 @@ map_more maps boxes i mp old before after m n total at y sum x =
     expires_then (below_map maps boxes i) (is_near_boxes i mp.tile boxes) (below_map maps boxes (i + 1)) old before after m n total same x y sum
   where
     same : (k : Key) → (below_map maps boxes i k || is_near_boxes i mp.tile boxes k) ≡ below_map maps boxes (i + 1) k
-    same k = map_test (is_reached maps boxes k) (nat_lt k.meta.z 19 && list_any (λ b. is_met b mp.tile k) boxes) k.map i (λ e. ap (λ o. nat_lt k.meta.z 19 && is_met_by boxes o k) (sym at ∙ ap (slice_get maps) e))
+    same k = map_test (is_reached maps boxes k) (nat_lt k.meta.z 19 && list_any (λ b. is_met b mp.tile k) boxes) k.map i (λ e. ap (λ o. nat_lt k.meta.z 19 && boxes_reach_map boxes o k.meta) (sym at ∙ ap (slice_get maps) e))
 
 pub map_all : (maps : List MapPlan) (boxes : List Bounds) (i : ℕ) (old new : List Shown) (n : ℕ) → length maps ≤ i → Expires (below_map maps boxes i) old new n → Expires (is_reached maps boxes) old new n
 map_all maps boxes i old new n all x = subst (λ t. Expires t old new n) (λ j k. same k j) x
   where
-    past : (b : Bool) (o : Option MapPlan) (z : Bool) (k : Key) → (b ≡ false → o ≡ None) → (b && (z && is_met_by boxes o k)) ≡ (z && is_met_by boxes o k)
+    past : (b : Bool) (o : Option MapPlan) (z : Bool) (k : Key) → (b ≡ false → o ≡ None) → (b && (z && boxes_reach_map boxes o k.meta)) ≡ (z && boxes_reach_map boxes o k.meta)
     past true o z k none = refl
-    past false o z k none = sym (ap (λ (p : Option MapPlan). z && is_met_by boxes p k) (none refl) ∙ nothing z)
+    past false o z k none = sym (ap (λ (p : Option MapPlan). z && boxes_reach_map boxes p k.meta) (none refl) ∙ nothing z)
       where
         nothing : (z : Bool) → (z && false) ≡ false
         nothing true = refl

@@ -1,23 +1,19 @@
 -- A bounding box against the points that it is of: each of its edges passes a test where some point does.
-use Rattle.std.proofs.Common.{◌≡◌, ℕ, ◌+◌, ◌-◌, ◌*◌, ◌^◌, ◌<◌, ◌≤◌, min, max, Bool, true, false, ◌&&◌, ◌||◌, nat_lt, nat_le, List, [], ◌∷◌, ◌++◌, flat_map, fold, length, All, refl, sym, ap, ap₂, ◌∙◌, append-nil, arith}
+use Rattle.std.proofs.Common.{◌≡◌, ℕ, ◌+◌, ◌-◌, ◌*◌, ◌^◌, ◌≤◌, min, max, Bool, true, false, ◌&&◌, ◌||◌, nat_lt, nat_le, List, [], ◌∷◌, ◌++◌, flat_map, fold, length, All, refl, sym, ap, ◌∙◌, append-nil, arith}
 use Rattle.std.specs.List.{list_any}
 use Rattle.std.proofs.lemmas.Bool.{or_left}
 use Rattle.std.proofs.lemmas.Bool.Decides.{nat_tests}
-use Rattle.std.proofs.lemmas.Nat.{pow_pos}
-use Rattle.std.proofs.Math.Nat.{pow-le-pow_right}
 use Rattle.std.proofs.lemmas.List.Elements.{All-head}
 use Rattle.farm_history.proofs.Lists.{any-append}
 use Rattle.plain_world.specs.declared.world.Point.{Point}
 use Rattle.plain_world.specs.declared.world.Square.{Square}
-use Rattle.plain_world.specs.World.{InWorld, IsSquare, side_at}
-use Rattle.plain_world.proofs.Windows.{columns_fit}
+use Rattle.plain_world.specs.World.{InWorld, side_at}
 use Rattle.plain_shapes.specs.declared.shapes.Geometry.{Geometry}
 use Rattle.plain_shapes.specs.declared.shapes.Geometry.TheVariants.{Points, Lines, Polygon}
 use Rattle.plain_data.specs.Reach.{all_points, margin_of, points_reach}
 use Rattle.geo_model.specs.declared.bounds.Bounds.{Bounds}
 use Rattle.geo_model.specs.Bounds.{box_with, no_bounds, bounds_of}
 use Rattle.geo_model.specs.Shapes.{is_none, parts_of, IsShape}
-use Rattle.expiry_lists.specs.Boxes.{spans, holds_some, widened}
 use Rattle.reach_box.specs.Boxes.{IsBox, box_reaches}
 
 or_false : (a : Bool) → (a || false) ≡ a
@@ -92,38 +88,14 @@ shape_point (Points points) shape = some_point 1 (points ∷ []) (omega arith) s
 shape_point (Lines lines) shape = some_point 2 lines (omega arith) shape.enough shape.in_world
 shape_point (Polygon rings) shape = some_point 3 rings (omega arith) shape.enough shape.in_world
 
--- a side is at most the world's, and a place is below that of the last zoom
-pub side_most : (z : ℕ) → side_at z ≤ 2 ^ 30
-side_most z = let a : 0 < 2 = omega arith in let b : 30 - z ≤ 30 = omega arith in pow-le-pow_right a b
-
-pub place_most : (z x : ℕ) → z ≤ 18 → x < 2 ^ z → x < 2 ^ 18
-place_most z x fits below = let a : 0 < 2 = omega arith in let b : 2 ^ z ≤ 2 ^ 18 = pow-le-pow_right a fits in omega (arith, b)
-
 -- what the box of no point passes, some point passes
 covered : (test : Point → Bool) (points : List Point) (edge : Bool) → (p : HasPoint points) → (edge ≡ true → test p.first ≡ true) → (edge || list_any test points) ≡ list_any test points
 covered test points false p by = refl
 covered test points true p by = sym (ap (list_any test) p.is ∙ or_left (test p.first) (list_any test p.rest) (by refl))
 
--- the rectangle cut to the world meets what the widened one does
-pub cut_spans : (low high place units margin : ℕ) → 0 < units → place * units ≤ 2 ^ 30 → spans (low - margin) (min (high + margin) (2 ^ 30)) (place * units) units ≡ (nat_lt low ((place + 1) * units + margin) && nat_le (place * units) (high + margin))
-cut_spans low high place units margin some fits =
-    let e : (place + 1) * units ≡ place * units + units = omega arith in
-    rw e (go (place * units) fits)
-  where
-    go : (from : ℕ) → from ≤ 2 ^ 30 → spans (low - margin) (min (high + margin) (2 ^ 30)) from units ≡ (nat_lt low (from + units + margin) && nat_le from (high + margin))
-    go from fits = grind (arith, nat_tests)
-
 -- a box that holds a point of the world is one
 sound : (b : Bounds) (x y : ℕ) → nat_lt b.west (x + 1) ≡ true → nat_lt b.north (y + 1) ≡ true → nat_le x (b.east + 0) ≡ true → nat_le y (b.south + 0) ≡ true → x ≤ 2 ^ 30 → y ≤ 2 ^ 30 → IsBox b
 sound b x y w n e s fx fy = record { across = grind (arith, nat_tests); down = grind (arith, nat_tests); from_west = grind (arith, nat_tests); from_north = grind (arith, nat_tests) }
-
--- the widened box, cut to the world, holds a point of the same squares
-pub cut_reaches : (b : Bounds) (size z : ℕ) (s : Square) → IsSquare s → holds_some (widened b (margin_of size z)) s ≡ box_reaches b size z s
-cut_reaches b size z s square =
-    let some : 0 < side_at s.z = pow_pos (30 - s.z) in
-    let x = columns_fit s.z s.x 1 square.z_fits (let h = square.x_fits in omega (arith, h)) in
-    let y = columns_fit s.z s.y 1 square.z_fits (let h = square.y_fits in omega (arith, h)) in
-    ap₂ (λ a b. a && b) (cut_spans b.west b.east s.x (side_at s.z) (margin_of size z) some (omega (arith, x))) (cut_spans b.north b.south s.y (side_at s.z) (margin_of size z) some (omega (arith, y)))
 
 module _ (g : Geometry) (shape : IsShape g) where
   pub west_edge : (e : ℕ) → nat_lt (bounds_of (parts_of g)).west e ≡ list_any (λ q. nat_lt q.x e) (all_points g)

@@ -1,19 +1,14 @@
 -- What boxes reach among the marks.
-use Rattle.std.specs.Prelude.{ℕ, ◌-◌, ◌^◌, ◌≡◌, min, Bool, false, ◌&&◌, nat_lt, List, Option, Some, None, slice_get}
-use Rattle.std.specs.List.{list_any}
+use Rattle.std.specs.Prelude.{ℕ, ◌-◌, ◌^◌, ◌≡◌, min, Bool, ◌&&◌, nat_lt, List, slice_get}
 use Rattle.geo_model.specs.declared.bounds.Bounds.{Bounds}
-use Rattle.expiry_lists.specs.Marks.{Shown, dirtied_marks, clean_marks, is_met}
+use Rattle.expiry_lists.specs.Marks.{Shown, dirtied_marks, clean_marks}
 use Rattle.farm_history.specs.declared.keys.Key.{Key}
 use Rattle.farm_plan.specs.Plans.{MapPlan}
+use Rattle.reach_box.specs.NamedBoxes.{boxes_reach_map}
 
--- some box meets the key, for tiles of the map of its place
-abbrev pub is_met_by : List Bounds → Option MapPlan → Key → Bool
-is_met_by boxes None k = false
-is_met_by boxes (Some mp) k = list_any (λ b. is_met b mp.tile k) boxes
-
--- the key is of one of the maps, at one of the zooms 0 to 18, and some box meets it there
+-- the key is of one of the maps, at one of the zooms 0 to 18, and some box reaches its metatile there
 abbrev pub is_reached : List MapPlan → List Bounds → Key → Bool
-is_reached maps boxes k = nat_lt k.meta.z 19 && is_met_by boxes (slice_get maps k.map) k
+is_reached maps boxes k = nat_lt k.meta.z 19 && boxes_reach_map boxes (slice_get maps k.map) k.meta
 
 -- the greatest count that is told
 abbrev pub most_told : ℕ

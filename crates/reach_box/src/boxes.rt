@@ -8,8 +8,9 @@ ghost use Rattle.reach_box.specs.Boxes.{IsBox};
 ghost use Rattle.farm_plan.specs.Drawings.{features_in, named};
 ghost use Rattle.reach_box.specs.NamedBoxes.{Adds, AreBoxesOf, at_id, at_put, boxes_reach, features_met, met_by};
 
-use crate::{box_of, box_reaches};
+use crate::box_of;
 use data_versions::{Change, Feature, LayerFinder, Snapshot, Update};
+use expiry_lists::{margin_of, some_comes_near};
 use farm_base::NoMemory;
 use geo_model::Bounds;
 use merc_fixed::meta_square;
@@ -136,6 +137,5 @@ pub fn boxes_reach(boxes: &[Bounds], size: u32, m: Meta) -> bool
     requires meta { IsMeta m }
     ensures { result ≡ boxes_reach boxes.now size m.z (meta_square m) }
 {
-    let square = meta_square(m);
-    boxes.iter().any(|b| box_reaches(*b, size, m.z, square))
+    some_comes_near(boxes, margin_of(size, m.z), meta_square(m))
 }

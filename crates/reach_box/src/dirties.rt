@@ -1,10 +1,8 @@
 //! Marks of the metatiles that boxes reach.
 ghost use Rattle.std.specs.Prelude.{◌≡◌, ◌<◌, ◌≤◌, All, length, IsPermutation};
-ghost use Rattle.farm_history.specs.Lists.{Each};
 ghost use Rattle.farm_history.specs.Plans.{AreApart};
 ghost use Rattle.farm_plan.specs.Plans.{IsMapPlan};
 ghost use Rattle.expiry_lists.specs.Marks.{shown_key};
-ghost use Rattle.reach_box.specs.Boxes.{IsBox};
 ghost use Rattle.reach_box.specs.Marks.{Expires, is_reached};
 
 use expiry_lists::Marks;
@@ -16,7 +14,6 @@ use geo_model::Bounds;
 pub fn mark_maps_dirty(marks: &mut Marks, maps: &[MapPlan], boxes: &mut [Bounds]) -> u64
     requires few { length maps.now ≤ 16 }
     requires maps { All IsMapPlan maps.now }
-    requires sound { Each IsBox boxes.old }
     ensures dirties { Expires (is_reached maps.now boxes.old) marks.old.shown marks.new.shown result }
     ensures apart { 0 < length maps.now → 0 < length boxes.old → AreApart shown_key marks.old.shown }
     ensures moved { IsPermutation boxes.old boxes.new }

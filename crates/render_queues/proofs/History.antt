@@ -2,19 +2,14 @@
 use Rattle.std.proofs.Common.{◌≡◌, true, List, [], ◌∷◌, map, slice_get, Some, refl, sym, ap, ap₂, ◌∙◌}
 use Rattle.std.specs.Prelude.{option_map}
 use Rattle.std.specs.Option.{option_or}
-use Rattle.farm_history.specs.declared.keys.Key.{Key}
 use Rattle.farm_history.specs.declared.queues.Queue.{Queue}
-use Rattle.farm_history.specs.Entries.{Entry}
 use Rattle.farm_history.specs.Lists.{Each}
 use Rattle.farm_history.specs.Plans.{Waits, same_queue, first_in, next}
-use Rattle.farm_history.specs.Past.{Numbered}
-use Rattle.farm_history.specs.Seen.{in_queue, waiting_asks, waiter_of, chain_after}
+use Rattle.farm_history.specs.Seen.{in_queue}
 use Rattle.farm_history.proofs.Lists.{each-passes}
 use Rattle.farm_history.proofs.Queued.{find_first}
-use Rattle.farm_history.proofs.Unended.{chain_joined}
-use Rattle.render_queues.specs.declared.asks.Asked.{Asked}
 use Rattle.render_queues.specs.declared.lines.Lines.{Lines}
-use Rattle.render_queues.specs.Tables.{Tables, line_of, first_of, chain_of}
+use Rattle.render_queues.specs.Tables.{line_of, first_of}
 use Rattle.render_queues.specs.Laws.{LawNext}
 
 -- queues that are the same are equal
@@ -63,11 +58,3 @@ unfolding next
 next_joined ls ws are =
     ap₂ option_or (first_joined ls ws Queue.Prio (are Queue.Prio)) (ap₂ option_or (first_joined ls ws Queue.Request (are Queue.Request)) (ap₂ option_or (first_joined ls ws Queue.Low (are Queue.Low))
     (ap₂ option_or (first_joined ls ws Queue.Dirty (are Queue.Dirty)) (first_joined ls ws Queue.Bulk (are Queue.Bulk)))))
-
--- an ask that waits, as the tables keep it
-abbrev pub asked_of : Numbered → Asked
-asked_of a = record { key = a.key; waiter = waiter_of a }
-
--- the chain of a key
-pub chain_is : (t : Tables) (h : List Entry) (k : Key) → t.asks ≡ map asked_of (waiting_asks h) → chain_of t k ≡ chain_after h k
-chain_is t h k are = chain_joined asked_of (λ a. a.key) (λ a. a.waiter) t.asks h k (λ a. refl) (λ a. refl) are

@@ -4,4 +4,3 @@ pub mod Boxes
 pub mod Spans
 pub mod Rowwise
 pub mod Sides
-pub mod Pairs

@@ -10,7 +10,7 @@ use Rattle.plain_world.specs.declared.world.Point.{Point}
 use Rattle.plain_shapes.specs.declared.shapes.LineCap.{LineCap}
 use Rattle.plain_shapes.specs.declared.shapes.LineCap.TheVariants as with
 use Rattle.plain_world.specs.World.{InWorld}
-use Rattle.plain_shapes.specs.Strokes.{is_same, in_body, in_disk, before_start, past_end, line_points, kept_after, on_bodies, on_joins, in_last_disk, past_last, on_caps, on_dot, on_kept, on_line, on_sides, on_disks, on_ring}
+use Rattle.plain_shapes.specs.Strokes.{is_same, in_body, in_disk, before_start, past_end, line_points, kept_after, on_bodies, on_joins, in_last_disk, past_last, on_caps, on_kept, on_line, on_sides, on_disks, on_ring}
 use Rattle.stroke_core.specs.inner.Parts.{point_at, on_ends, on_long, on_parts}
 
 -- one side more
@@ -46,16 +46,6 @@ long_is half cap ps some c =
 pub parts_none : (half : ℕ) (cap : LineCap) (ps : List Point) → length ps ≡ 0 → (c : Point) → on_parts half cap ps c ≡ false
 parts_none half cap [] e c = refl
 parts_none half cap (p ∷ ps) e c = absurd (omega arith)
-
-pub parts_one : (half : ℕ) (cap : LineCap) (ps : List Point) → length ps ≡ 1 → (c : Point) → on_dot half cap (point_at ps 0) c ≡ on_parts half cap ps c
-parts_one half cap [] e c = absurd (omega arith)
-parts_one half cap (p ∷ []) e c = refl
-parts_one half cap (p ∷ q ∷ ps) e c = absurd (omega arith)
-
-pub parts_more : (half : ℕ) (cap : LineCap) (ps : List Point) → 2 ≤ length ps → (c : Point) → on_long half cap ps c ≡ on_parts half cap ps c
-parts_more half cap [] some c = absurd (omega arith)
-parts_more half cap (p ∷ []) some c = absurd (omega arith)
-parts_more half cap (p ∷ q ∷ ps) some c = refl
 
 pub ring_none : (half : ℕ) (ps : List Point) → length ps ≡ 0 → (c : Point) → on_ring half c ps ≡ false
 ring_none half [] e c = refl

@@ -102,6 +102,7 @@ pub fn draw_picture(
 }
 
 /// The tiles of a metatile, each exactly its `draw_tile`, in order of index place.
+#[tactic(auto, using(plain_world::proofs::Windows::size_bounds))]
 pub fn draw_meta(
     alloc: Global,
     style: &MapStyle,
