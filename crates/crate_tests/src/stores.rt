@@ -29,7 +29,10 @@ fn puts<S: TileStore>(rt: &impl Abort, store: &mut S, alloc: Global, path: &str,
 fn lacks<S: TileStore>(rt: &impl Abort, store: &mut S, alloc: Global, path: &str) {
     let found = store.get(alloc, path);
     let part = store.get_part(alloc, path, 0, 9);
-    assert!(rt; slice(&found) == Ok(None) && slice(&part) == Ok(None), "{path}");
+    assert!(rt;
+        slice(&found) == Ok(None) && slice(&part) == Ok(None),
+        "{path}"
+    );
 }
 
 fn gets_part<S: TileStore>(
@@ -166,7 +169,10 @@ fn refuses<S: TileStore>(rt: &impl Abort, store: &mut S, alloc: Global, path: &s
     let is_unread = is_refused(&store.get(alloc, path));
     let is_part_unread = is_refused(&store.get_part(alloc, path, 0, 1));
     let counted = before.checked_add(3) == Some(store.faults());
-    assert!(rt; is_unput && is_unread && is_part_unread && counted, "{path}");
+    assert!(rt;
+        is_unput && is_unread && is_part_unread && counted,
+        "{path}"
+    );
 }
 
 /// The same of what was staged.
