@@ -229,6 +229,27 @@ fn the_system_refuses_what_was_staged(rt: HostRuntime) -> Result<(), Fail> {
     Ok(())
 }
 
+/// Puts what was staged at the path, if it was.
+fn puts<S: TileStore>(
+    store: &mut S,
+    alloc: Global,
+    path: &str,
+    staged: Result<S::Staged, Vec<u8>>,
+) -> Result<(), StoreFault> {
+    match staged {
+        Ok(staged) => store.put_staged(alloc, path, staged),
+        Err(_bytes) => Err(StoreFault::NoMemory),
+    }
+}
+
+/// Whether a staging failed and gave these bytes back.
+fn gave_back<T>(answer: &Result<T, Vec<u8>>, wanted: &[u8]) -> bool {
+    match answer {
+        Ok(_staged) => false,
+        Err(bytes) => bytes.as_slice() == wanted,
+    }
+}
+
 #[test]
 fn a_staged_file_that_is_gone_is_not_put(rt: HostRuntime) -> Result<(), Fail> {
     let alloc = rt.alloc();
@@ -236,23 +257,27 @@ fn a_staged_file_that_is_gone_is_not_put(rt: HostRuntime) -> Result<(), Fail> {
     let mut files = FileStore::new(rt.clone()?);
     puts(&rt, &mut files, alloc, "one", b"one");
     let stager = files.stager();
-    let staged = FileStore::stage(&stager, alloc, 8, Vec::from_slice(alloc, b"two")?);
-    assert!(rt; staged.is_ok());
+    let two = Vec::from_slice(alloc, b"two")?;
+    let staged = FileStore::stage(&stager, alloc, 8, two);
     fs::remove_file(&rt, "tiles/8.new")?;
-    if let Ok(staged) = staged {
-        assert_eq!(rt;
-            files.put_staged(alloc, "one", staged),
-            Err(StoreFault::Failed)
-        );
-    }
+    let answer = puts(&mut files, alloc, "one", staged);
+    assert_eq!(rt; answer, Err(StoreFault::Failed));
     gets(&rt, &mut files, alloc, "one", b"one");
     fs::remove_dir_all(&rt, "tiles")?;
+    Ok(())
+}
+
+#[test]
+fn a_staging_that_fails_gives_the_bytes_back(rt: HostRuntime) -> Result<(), Fail> {
+    let alloc = rt.alloc();
+    let _left_by_an_earlier_run = fs::remove_dir_all(&rt, "tiles");
+    let files = FileStore::new(rt.clone()?);
+    let stager = files.stager();
     // No folder can be made where a file stands.
     fs::write(&rt, "tiles", b"a file")?;
-    match FileStore::stage(&stager, alloc, 9, Vec::from_slice(alloc, b"back")?) {
-        Ok(_) => assert!(rt; false, "staged below a file"),
-        Err(bytes) => assert!(rt; bytes.as_slice() == b"back".as_slice()),
-    }
+    let back = Vec::from_slice(alloc, b"back")?;
+    let answer = FileStore::stage(&stager, alloc, 9, back);
+    assert!(rt; gave_back(&answer, b"back"));
     fs::remove_file(&rt, "tiles")?;
     Ok(())
 }
