@@ -35,6 +35,11 @@ fn lacks<S: TileStore>(rt: &impl Abort, store: &mut S, alloc: Global, path: &str
     );
 }
 
+fn lacks_next_part<S: TileStore>(rt: &impl Abort, store: &mut S, alloc: Global, path: &str) {
+    let part = store.get_next_part(alloc, path, 0, 9, &mut None);
+    assert!(rt; slice(&part) == Ok(None), "next part of {path}");
+}
+
 fn gets_part<S: TileStore>(
     rt: &impl Abort,
     store: &mut S,
@@ -43,8 +48,24 @@ fn gets_part<S: TileStore>(
     len: u32,
     wanted: &[u8],
 ) {
-    let found = store.get_part(alloc, "map/0/0/0/0/0/0.meta", offset, len);
+    let found = store.get_part(alloc, PATH, offset, len);
     assert!(rt; slice(&found) == Ok(Some(wanted)), "{len} from {offset}");
+}
+
+/// The part, and the same once more of what was opened for it.
+fn gets_next_part<S: TileStore>(
+    rt: &impl Abort,
+    store: &mut S,
+    alloc: Global,
+    offset: u64,
+    len: u32,
+    wanted: &[u8],
+) {
+    let mut opened = None;
+    for time in 1..3 {
+        let found = store.get_next_part(alloc, PATH, offset, len, &mut opened);
+        assert!(rt; slice(&found) == Ok(Some(wanted)), "{len} from {offset}, time {time}");
+    }
 }
 
 /// The bytes, staged under the number.
@@ -107,12 +128,14 @@ const PARTS: [(u64, u32, &[u8]); 6] = [
 /// What every store does with whole contents and parts.
 fn holds<S: TileStore>(rt: &impl Abort, store: &mut S, alloc: Global) {
     lacks(rt, store, alloc, PATH);
+    lacks_next_part(rt, store, alloc, PATH);
     puts(rt, store, alloc, PATH, b"abcdef");
     puts(rt, store, alloc, "farm.saved", b"");
     gets(rt, store, alloc, PATH, b"abcdef");
     gets(rt, store, alloc, "farm.saved", b"");
     for (offset, len, wanted) in PARTS {
         gets_part(rt, store, alloc, offset, len, wanted);
+        gets_next_part(rt, store, alloc, offset, len, wanted);
     }
 }
 
@@ -154,6 +177,24 @@ fn memory_and_files_hold(rt: HostRuntime) -> Result<(), Fail> {
         is_missing(&rt, "tiles/7.new") && is_missing(&rt, "tiles/7.old.new"),
         "nothing is left of a staging"
     );
+    fs::remove_dir_all(&rt, "tiles")?;
+    Ok(())
+}
+
+/// What is opened for the first part is read on for the next, also where the file is away by then.
+#[test]
+fn an_opened_file_is_read_on(rt: HostRuntime) -> Result<(), Fail> {
+    let alloc = rt.alloc();
+    let _left_by_an_earlier_run = fs::remove_dir_all(&rt, "tiles");
+    let mut files = FileStore::new(rt.clone()?);
+    assert_eq!(rt; files.put(alloc, "one", b"xy"), Ok(()));
+    let mut opened = None;
+    let first = files.get_next_part(alloc, "one", 0, 1, &mut opened);
+    assert!(rt; slice(&first) == Ok(Some(b"x")));
+    fs::remove_file(&rt, "tiles/one")?;
+    let next = files.get_next_part(alloc, "one", 1, 4, &mut opened);
+    assert!(rt; slice(&next) == Ok(Some(b"y")));
+    assert!(rt; slice(&files.get_part(alloc, "one", 1, 4)) == Ok(None));
     fs::remove_dir_all(&rt, "tiles")?;
     Ok(())
 }
