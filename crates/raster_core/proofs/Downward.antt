@@ -1,30 +1,14 @@
--- The rows of an edge, the edges of a ring and the rings of a polygon, one after another.
+-- The columns of an edge, the edges of a ring and the rings of a polygon, one after another.
 use Rattle.std.proofs.Common.{◌≡◌, ℕ, suc, ◌+◌, ◌-◌, ◌*◌, ◌/◌, ◌<◌, ◌≤◌, min, max, Bool, false, inl, inr, List, length, get_or, drop, flat_map, ap, sym, ◌∙◌, arith, add-one, drop-cons}
 use Rattle.std.specs.Prelude.{nat_le}
 use Rattle.std.proofs.Math.Nat.{mul-le-mul_right}
 use Rattle.std.proofs.lemmas.List.{drop_all}
-use Rattle.std.proofs.lemmas.Bool.{cases_lt, le-leb, lt-leb, leb-true, leb-false}
+use Rattle.std.proofs.lemmas.Bool.{cases_lt, le-leb, lt-leb, leb-true}
 use Rattle.plain_world.specs.declared.world.Point.{Point}
-use Rattle.plain_world.specs.declared.world.Window.{Window}
-use Rattle.plain_world.specs.World.{centre}
 use Rattle.plain_shapes.specs.Rings.{counts_down, counts, edges_from, ring_edges, in_rings}
-use Rattle.plain_shapes.proofs.Signs.{off_above, off_below, downward_is}
-use Rattle.raster_core.specs.inner.Toggles.{flip, Toggled, RowsToggled, odd_edges}
-use Rattle.raster_core.proofs.Toggling.{rows_start, rows_end, odd_cons, odd_append}
-
--- the rows above an edge's upper end
-pub downward_start : (w : Window) (a b : Point) (top : ℕ) (old : List ℕ)
-    → ((j : ℕ) → j < w.rows → nat_le top j ≡ nat_le a.y (w.north + j * w.pixel + w.pixel / 2))
-    → RowsToggled w (counts_down a b) top old old
-downward_start w a b top old splits = rows_start w (counts_down a b) top old
-    (λ j i above row col. off_above a b (centre w i j) (leb-false a.y (centre w i j).y (sym (splits j row) ∙ lt-leb top j above)))
-
--- the rows from an edge's lower end on
-pub downward_end : (w : Window) (a b : Point) (j bottom : ℕ) (old now : List ℕ) → bottom ≤ j
-    → ((j : ℕ) → j < w.rows → nat_le bottom j ≡ nat_le b.y (w.north + j * w.pixel + w.pixel / 2))
-    → RowsToggled w (counts_down a b) j old now → Toggled w (counts_down a b) old now
-downward_end w a b n bottom old now past splits r = rows_end w (counts_down a b) n old now r
-    (λ j i below row col. off_below a b (centre w i j) (leb-true b.y (centre w i j).y (sym (splits j row) ∙ le-leb bottom j (omega arith))))
+use Rattle.plain_shapes.proofs.Signs.{downward_is}
+use Rattle.raster_core.specs.inner.Toggles.{flip, odd_edges}
+use Rattle.raster_core.proofs.Toggling.{odd_cons, odd_append}
 
 pub edges_step : (before : Point) (points : List Point) (i : ℕ) (d : Point) → i < length points → (c : Point)
     → odd_edges (edges_from before (drop i points)) c
@@ -72,3 +56,52 @@ straight a b c t upper lower west east =
     straight_le r s a.x b.x c.x t (omega arith) west east
     ∙ ap (λ k. nat_le (r * b.x + s * a.x) (k * c.x)) h
     ∙ downward_is a b c upper lower
+
+-- an edge whose column is the same in two rows: each of its points between the two lies between theirs
+between_sums : (p q r s ax bx x : ℕ) (t : Bool) → t ≡ nat_le (p * bx + (q + r + s) * ax) ((p + q + r + s) * x) → t ≡ nat_le ((p + q + r) * bx + s * ax) ((p + q + r + s) * x)
+    → t ≡ nat_le ((p + q) * bx + (r + s) * ax) ((p + q + r + s) * x)
+between_sums p q r s ax bx x t first last =
+    let m : ℕ = (p + q + r + s) * x in
+    let low : ℕ = p * bx + (q + r + s) * ax in
+    let here : ℕ = (p + q) * bx + (r + s) * ax in
+    let high : ℕ = (p + q + r) * bx + s * ax in
+    elim (cases_lt bx ax) [
+      | inl less ↦ (
+          let le : bx ≤ ax = omega arith in
+          let falls : here ≤ low = omega (arith, mul-le-mul_right q le) in
+          let on : high ≤ here = omega (arith, mul-le-mul_right r le) in
+          elim (cases_lt m here) [
+            | inl lt ↦ first ∙ lt-leb low m (omega (arith, falls, lt)) ∙ sym (lt-leb here m lt)
+            | inr is ↦ last ∙ le-leb high m (omega (arith, on, is)) ∙ sym (le-leb here m is)
+          ])
+      | inr le ↦ (
+          let rises : low ≤ here = omega (arith, mul-le-mul_right q le) in
+          let on : here ≤ high = omega (arith, mul-le-mul_right r le) in
+          elim (cases_lt m here) [
+            | inl lt ↦ last ∙ lt-leb high m (omega (arith, on, lt)) ∙ sym (lt-leb here m lt)
+            | inr is ↦ first ∙ le-leb low m (omega (arith, rises, is)) ∙ sym (le-leb here m is)
+          ])
+    ]
+
+pub between : (a b c0 c c1 : Point) (t : Bool) → c0.x ≡ c.x → c1.x ≡ c.x → a.y ≤ c0.y → c0.y ≤ c.y → c.y ≤ c1.y → c1.y < b.y
+    → t ≡ counts_down a b c0 → t ≡ counts_down a b c1 → t ≡ counts_down a b c
+between a b c0 c c1 t x0 x1 upper low high lower first last =
+    let p : ℕ = c0.y - a.y in
+    let q : ℕ = c.y - c0.y in
+    let r : ℕ = c1.y - c.y in
+    let s : ℕ = b.y - c1.y in
+    let rest0 : q + r + s ≡ b.y - c0.y = omega arith in
+    let rise : p + q ≡ c.y - a.y = omega arith in
+    let rest : r + s ≡ b.y - c.y = omega arith in
+    let rise1 : p + q + r ≡ c1.y - a.y = omega arith in
+    let all : p + q + r + s ≡ b.y - a.y = omega arith in
+    let sum : ℕ → ℕ → ℕ → ℕ → Bool = λ up down whole x. nat_le (up * b.x + down * a.x) (whole * x) in
+    let at0 : t ≡ sum p (q + r + s) (p + q + r + s) c.x =
+    first ∙ sym (downward_is a b c0 upper (omega arith)) ∙ ap (λ x. sum (c0.y - a.y) (b.y - c0.y) (b.y - a.y) x) x0
+    ∙ ap (λ n. sum p n (b.y - a.y) c.x) (sym rest0) ∙ ap (λ n. sum p (q + r + s) n c.x) (sym all) in
+    let at1 : t ≡ sum (p + q + r) s (p + q + r + s) c.x =
+    last ∙ sym (downward_is a b c1 (omega arith) lower) ∙ ap (λ x. sum (c1.y - a.y) (b.y - c1.y) (b.y - a.y) x) x1
+    ∙ ap (λ n. sum n s (b.y - a.y) c.x) (sym rise1) ∙ ap (λ n. sum (p + q + r) s n c.x) (sym all) in
+    between_sums p q r s a.x b.x c.x t at0 at1
+    ∙ ap (λ n. sum n (r + s) (p + q + r + s) c.x) rise ∙ ap (λ n. sum (c.y - a.y) n (p + q + r + s) c.x) rest ∙ ap (λ n. sum (c.y - a.y) (b.y - c.y) n c.x) all
+    ∙ downward_is a b c (omega arith) (omega arith)

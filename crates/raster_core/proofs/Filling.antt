@@ -12,10 +12,13 @@ use Rattle.plain_world.specs.World.{IsWindow, centre, centres}
 use Rattle.plain_shapes.specs.Images.{Bits}
 use Rattle.plain_shapes.specs.inner.Canvas.{marked, Reached}
 use Rattle.plain_shapes.proofs.Places.{reached_start, reached_skip, reached_end}
+use Rattle.raster_core.specs.declared.columns.Crossed.{Crossed}
 use Rattle.raster_core.specs.declared.runs.Run.{Run}
-use Rattle.raster_core.specs.inner.Toggles.{flip, is_up_to, parity_at, AllInside, Toggled, SameParities}
+use Rattle.raster_core.specs.inner.Toggles.{flip, is_up_to, parity_at, AllInside, SameParities}
+use Rattle.raster_core.specs.inner.Columns.{Turned, Lists}
 use Rattle.raster_core.specs.inner.Crossings.{Crossings, Done, IsNext}
 use Rattle.raster_core.proofs.Toggling.{odd_more}
+use Rattle.raster_core.proofs.Corners.{none_of}
 
 -- where a place counts
 counted : (cols j i p : ℕ) → j * cols ≤ p → p ≤ j * cols + i → is_up_to cols j i p ≡ true
@@ -207,23 +210,26 @@ run_next w m places k n row first end next r is done b r_is =
       | inr h ↦ absurd (omega (arith, b.low, b.at 0, is.inside k 0 b.lt, mul-le-mul_right w.cols h))
     ]
 
--- the crossings of all rings, put in order
-pub crossings_in_order : (w : Window) (m : Point → Bool) (found places : List ℕ) → Toggled w m [] found → AllInside w places → IsNonDecreasing places → SameParities found places
-    → Crossings w m places
-crossings_in_order w m found places t inside order same = record {
+-- the crossings of all rings, listed and put in order
+pub crossings_in_order : (w : Window) (m : Point → Bool) (none crossed : Crossed) (found places : List ℕ) → none.places.items ≡ [] → none.corners.items ≡ []
+    → Turned w m none crossed → Lists w crossed found → AllInside w places → IsNonDecreasing places → SameParities found places → Crossings w m places
+crossings_in_order w m none crossed found places no_places no_corners t l inside order same = record {
   inside = inside;
   order = order;
-  tells = λ j i row col. sym (same.parity (is_up_to w.cols j i) ∙ t.at j i row col ∙ flip_none (m (centre w i j)));
+  tells = λ j i row col.
+      sym (same.parity (is_up_to w.cols j i) ∙ l.at j i row col ∙ t.at j i row col ∙ ap (flip (m (centre w i j))) (none_of w none j i no_places no_corners) ∙ flip_none (m (centre w i j)));
 }
   where
     flip_none : (b : Bool) → flip b false ≡ b
     flip_none true = refl
     flip_none false = refl
 
-pub crossings_found : {V E : Type 0} (items : V → List ℕ) (w : Window) (m : Point → Bool) (found : List ℕ) (r : Result V E) → Toggled w m [] found
+pub crossings_found : {V E : Type 0} (items : V → List ℕ) (w : Window) (m : Point → Bool) (none crossed : Crossed) (found : List ℕ) (r : Result V E) → none.places.items ≡ []
+    → none.corners.items ≡ [] → Turned w m none crossed → Lists w crossed found
     → IfOk r (λ v. AllInside w (items v)) → IfOk r (λ v. IsNonDecreasing (items v)) → IfOk r (λ v. SameParities found (items v)) → IfOk r (λ v. Crossings w m (items v))
-crossings_found items w m found (Ok v) t inside order same = crossings_in_order w m found (items v) t inside order same
-crossings_found items w m found (Err e) t inside order same = tt
+crossings_found items w m none crossed found (Ok v) no_places no_corners t l inside order same =
+    crossings_in_order w m none crossed found (items v) no_places no_corners t l inside order same
+crossings_found items w m none crossed found (Err e) no_places no_corners t l inside order same = tt
 
 -- the bits of the places before n are set, and the first k crossings are done with
 pub record Filled (w : Window) (m : Point → Bool) (places : List ℕ) (k : ℕ) (old now : Bits) : Type 0 where

@@ -1,3 +1,4 @@
 pub mod Toggling
 pub mod Downward
+pub mod Corners
 pub mod Filling

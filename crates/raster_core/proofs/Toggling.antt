@@ -10,11 +10,9 @@ use Rattle.std.proofs.lemmas.Nat.{row_fits}
 use Rattle.std.proofs.lemmas.List.Elements.{All-push, All-cons, All-weaker}
 use Rattle.std.proofs.lemmas.List.Sorted.{sum_by-IsPermutation}
 use Rattle.std.proofs.lemmas.List.Sums.{sum_by-cons, count_by_more_yes, count_by_more_no}
-use Rattle.plain_world.specs.declared.world.Point.{Point}
 use Rattle.plain_world.specs.declared.world.Window.{Window}
-use Rattle.plain_world.specs.World.{centre}
 use Rattle.plain_shapes.specs.Rings.{is_odd}
-use Rattle.raster_core.specs.inner.Toggles.{flip, is_up_to, parity_at, AllInside, Toggled, RowToggled, RowsToggled, Remains, SameParities, set_places}
+use Rattle.raster_core.specs.inner.Toggles.{flip, is_up_to, parity_at, AllInside, Toggled, RowToggled, RowsToggled, SameParities, set_places}
 
 -- one more that counts, or not
 pub is_odd_suc : (n : ℕ) → is_odd (1 + n) ≡ not (is_odd n)
@@ -33,7 +31,7 @@ odd_cons p x xs = ap is_odd (sum_by-cons (λ e. cond (p e) 1 0) x xs) ∙ by_tes
     by_test true n = is_odd_suc n
     by_test false n = ap is_odd (let e : 0 + n ≡ n = omega arith in e)
 
-flip_flip : (a b c : Bool) → flip (flip a b) c ≡ flip a (flip b c)
+pub flip_flip : (a b c : Bool) → flip (flip a b) c ≡ flip a (flip b c)
 flip_flip true true true = refl
 flip_flip true true false = refl
 flip_flip true false c = refl
@@ -88,8 +86,8 @@ in_other cols j' j k i col inside ne = elim (cases_lt j j') [
     next j' j h ne = omega arith
 
 -- a crossing at the first column where the member begins
-pub row_toggled : (w : Window) (m : Point → Bool) (k j : ℕ) (old new : List ℕ) → k < w.cols → j < w.rows
-    → ((i : ℕ) → i < w.cols → nat_le k i ≡ m (centre w i j)) → new ≡ old ++ (j * w.cols + k) ∷ [] → RowToggled w m j old new
+pub row_toggled : (w : Window) (m : ℕ → ℕ → Bool) (k j : ℕ) (old new : List ℕ) → k < w.cols → j < w.rows
+    → ((i : ℕ) → i < w.cols → nat_le k i ≡ m j i) → new ≡ old ++ (j * w.cols + k) ∷ [] → RowToggled w m j old new
 row_toggled w m k j old new inside row splits is =
     let place : ℕ = j * w.cols + k in
     let within : place < w.rows * w.cols = omega (arith, row_fits j w.cols w.rows w.cols row (omega arith)) in
@@ -103,38 +101,38 @@ row_toggled w m k j old new inside row splits is =
     }
 
 -- the member begins past the last column: no crossing
-pub row_same : (w : Window) (m : Point → Bool) (k j : ℕ) (places : List ℕ) → w.cols ≤ k
-    → ((i : ℕ) → i < w.cols → nat_le k i ≡ m (centre w i j)) → RowToggled w m j places places
+pub row_same : (w : Window) (m : ℕ → ℕ → Bool) (k j : ℕ) (places : List ℕ) → w.cols ≤ k
+    → ((i : ℕ) → i < w.cols → nat_le k i ≡ m j i) → RowToggled w m j places places
 row_same w m k j places past splits = record {
   inside = λ all. all;
   at = λ i p. sym (ap (λ t. flip t (parity_at w.cols places j i)) (sym (splits i p) ∙ lt-leb k i (omega arith)));
   others = λ j' i ne p. refl;
 }
 
-flip_swap : (r e p : Bool) → flip r (flip e p) ≡ flip (flip e r) p
+pub flip_swap : (r e p : Bool) → flip r (flip e p) ≡ flip (flip e r) p
 flip_swap true true true = refl
 flip_swap true true false = refl
 flip_swap true false p = refl
 flip_swap false true p = refl
 flip_swap false false p = refl
 
-pub rows_start : (w : Window) (m : Point → Bool) (top : ℕ) (old : List ℕ)
-    → ((j i : ℕ) → j < top → j < w.rows → i < w.cols → m (centre w i j) ≡ false) → RowsToggled w m top old old
+pub rows_start : (w : Window) (m : ℕ → ℕ → Bool) (top : ℕ) (old : List ℕ)
+    → ((j i : ℕ) → j < top → j < w.rows → i < w.cols → m j i ≡ false) → RowsToggled w m top old old
 rows_start w m top old off = record {
   inside = λ all. all;
   done = λ j i p q r. sym (ap (λ t. flip t (parity_at w.cols old j i)) (off j i p q r));
   rest = λ j i p q. refl;
 }
 
-pub rows_more : (w : Window) (m : Point → Bool) (j : ℕ) (old now next : List ℕ)
+pub rows_more : (w : Window) (m : ℕ → ℕ → Bool) (j : ℕ) (old now next : List ℕ)
     → RowsToggled w m j old now → RowToggled w m j now next → RowsToggled w m (j + 1) old next
 rows_more w m j old now next r s = record {
   inside = λ all. s.inside (r.inside all);
   done = λ j' i p q i-in. elim (cases_eq j' j) [
     | inl e ↦ (
         ap (λ k. parity_at w.cols next k i) e ∙ s.at i i-in
-        ∙ ap (flip (m (centre w i j))) (r.rest j i (omega arith) i-in)
-        ∙ ap (λ k. flip (m (centre w i k)) (parity_at w.cols old k i)) (sym e))
+        ∙ ap (flip (m j i)) (r.rest j i (omega arith) i-in)
+        ∙ ap (λ k. flip (m k i) (parity_at w.cols old k i)) (sym e))
     | inr ne ↦ s.others j' i ne i-in ∙ r.done j' i (before j' j p ne) q i-in
   ];
   rest = λ j' i p i-in. s.others j' i (λ e. omega arith) i-in ∙ r.rest j' i (omega arith) i-in;
@@ -143,8 +141,8 @@ rows_more w m j old now next r s = record {
     before : (j' j : ℕ) → j' < j + 1 → j' ≢ j → j' < j
     before j' j p ne = omega arith
 
-pub rows_end : (w : Window) (m : Point → Bool) (n : ℕ) (old now : List ℕ) → RowsToggled w m n old now
-    → ((j i : ℕ) → n ≤ j → j < w.rows → i < w.cols → m (centre w i j) ≡ false) → Toggled w m old now
+pub rows_end : (w : Window) (m : ℕ → ℕ → Bool) (n : ℕ) (old now : List ℕ) → RowsToggled w m n old now
+    → ((j i : ℕ) → n ≤ j → j < w.rows → i < w.cols → m j i ≡ false) → Toggled w m old now
 rows_end w m n old now r off = record {
   inside = r.inside;
   at = λ j i p q. elim (cases_lt j n) [
@@ -153,32 +151,8 @@ rows_end w m n old now r off = record {
   ];
 }
 
--- marks of one member are marks of another that agrees with it
-pub toggled_same : (w : Window) (m n : Point → Bool) (old now : List ℕ) → ((c : Point) → m c ≡ n c) → Toggled w m old now → Toggled w n old now
-toggled_same w m n old now same t = record { inside = t.inside; at = λ j i p q. t.at j i p q ∙ ap (λ b. flip b (parity_at w.cols old j i)) (same (centre w i j)) }
-
-pub remains_start : (w : Window) (whole : Point → Bool) (old : List ℕ) → Remains w whole whole old old
-remains_start w whole old = record { inside = λ all. all; at = λ j i p q. refl }
-
-pub remains_more : (w : Window) (left edge rest whole : Point → Bool) (old now next : List ℕ)
-    → ((c : Point) → left c ≡ flip (edge c) (rest c)) → Remains w left whole old now → Toggled w edge now next → Remains w rest whole old next
-remains_more w left edge rest whole old now next split r t = record {
-  inside = λ all. t.inside (r.inside all);
-  at = λ j i p q. (let c : Point = centre w i j in
-      ap (flip (rest c)) (t.at j i p q)
-      ∙ flip_swap (rest c) (edge c) (parity_at w.cols now j i)
-      ∙ ap (λ b. flip b (parity_at w.cols now j i)) (sym (split c))
-      ∙ r.at j i p q);
-}
-
-pub remains_end : (w : Window) (left whole : Point → Bool) (old now : List ℕ) → ((c : Point) → left c ≡ false) → Remains w left whole old now → Toggled w whole old now
-remains_end w left whole old now none r = record {
-  inside = r.inside;
-  at = λ j i p q. sym (ap (λ b. flip b (parity_at w.cols now j i)) (none (centre w i j))) ∙ r.at j i p q;
-}
-
 -- one place more, of which the bit is turned round
-swapped : (a b c : Bool) → flip a (flip b c) ≡ flip b (flip a c)
+pub swapped : (a b c : Bool) → flip a (flip b c) ≡ flip b (flip a c)
 swapped true true c = refl
 swapped true false c = refl
 swapped false b c = refl
@@ -266,12 +240,6 @@ set_order n (false ∷ bits) = set_order (n + 1) bits
 -- places put in order
 pub same_sorted : (old sorted : List ℕ) → IsPermutation old sorted → SameParities old sorted
 same_sorted old sorted moved = record { parity = λ p. ap is_odd (sum_by-IsPermutation (λ x. cond (p x) 1 0) old sorted moved) }
-
-pub toggled_kept : (w : Window) (m : Point → Bool) (old now next : List ℕ) → Toggled w m old now → AllInside w next → SameParities now next → Toggled w m old next
-toggled_kept w m old now next t all s = record {
-  inside = λ before. all;
-  at = λ j i row col. s.parity (is_up_to w.cols j i) ∙ t.at j i row col;
-}
 
 -- what holds of an Ok
 pub if_ok : {T E : Type 0} (P Q : T → Type 0) (r : Result T E) → ((x : T) → P x → Q x) → IfOk r P → IfOk r Q

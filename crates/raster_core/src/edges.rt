@@ -1,15 +1,28 @@
-//! Edges: where each of them is crossed, row by row.
-ghost use Rattle.std.specs.Prelude.{◌≡◌, ℕ, ◌+◌, ◌-◌, ◌*◌, ◌/◌, ◌<◌, ◌≤◌, nat_le, All, OnOk};
+//! Edges: where each of them is crossed, row by row, or in many rows of a column at once.
+ghost use Rattle.std.specs.Prelude.{◌≡◌, ℕ, ◌+◌, ◌-◌, ◌*◌, ◌/◌, ◌<◌, ◌≤◌, nat_le, All, IfSome, OnOk};
 ghost use Rattle.plain_world.specs.World.{InWorld, IsWindow, centre};
 ghost use Rattle.plain_shapes.specs.Rings.{counts_down, counts, ring_edges, in_rings};
-ghost use Rattle.raster_core.specs.inner.Toggles.{AllInside, IsFirst, IsEdge, Toggled, RowToggled, odd_edges};
+ghost use Rattle.raster_core.specs.inner.Toggles.{AllInside, IsFirst, IsEdge, Toggled, RowToggled, at_centres, odd_edges};
+ghost use Rattle.raster_core.specs.inner.Columns.{CornersTurned, PartTurned, Turned, in_part, in_run};
 
-use crate::parities::thin;
+use crate::columns::{ColumnRun, Corner, Crossed, make_room};
 use centre_spans::first_at;
 use farm_base::NoMemory;
 use plain_shapes::Path;
 use plain_world::{Point, Window};
 use std::alloc::Global;
+
+// So few rows are crossed one by one.
+const FEW_ROWS: u32 = 16;
+
+// So many rows of a steep edge are looked at together.
+const SOME_ROWS: u32 = 64;
+
+// No window has more rows.
+const ALL_ROWS: u32 = 4_096;
+
+// An edge is steep that has so many rows for a column, or more.
+const STEEP: u32 = 32;
 
 // The least x that does not lie before the edge from `a` down to `b` at the height `y`.
 #[tactic(auto, using(centre_spans::proofs::Quotients::up_le))]
@@ -41,14 +54,16 @@ fn crossing(a: Point, b: Point, w: Window, j: u32) -> u32
     first_at(w.west, w.pixel, w.cols, place_at(a, b, y))
 }
 
-/// An edge that runs from `a` down to `b`, and the first columns whose centres lie at its west end or past it, and
-/// at its east end or past it.
+/// An edge that runs from `a` down to `b`, and the first columns and rows whose centres lie at its west end or past
+/// it, at its east end, at its upper end and at its lower end.
 #[derive(Clone, Copy, Debug, PartialEq, Eq)]
 pub struct Edge {
     pub a: Point,
     pub b: Point,
     pub west: u32,
     pub east: u32,
+    pub top: u32,
+    pub bottom: u32,
 }
 
 // The first column whose centres lie at `x` or past it, or the number of columns.
@@ -85,7 +100,7 @@ fn cross_row(e: Edge, w: Window, j: u32, places: &mut Vec<u32>) -> Result<(), No
     requires row { j < w.rows }
     requires upper { e.a.y ≤ w.north + j * w.pixel + w.pixel / 2 }
     requires lower { w.north + j * w.pixel + w.pixel / 2 < e.b.y }
-    ensures { OnOk result (RowToggled w (counts_down e.a e.b) j places.old.items places.new.items) }
+    ensures { OnOk result (RowToggled w (at_centres w (counts_down e.a e.b)) j places.old.items places.new.items) }
 {
     let k = column(e, w, j);
     if k < w.cols {
@@ -94,36 +109,143 @@ fn cross_row(e: Edge, w: Window, j: u32, places: &mut Vec<u32>) -> Result<(), No
     Ok(())
 }
 
-// Adds the crossings of an edge that runs from `a` down to `b`.
-fn cross_down(a: Point, b: Point, w: Window, places: &mut Vec<u32>) -> Result<(), NoMemory>
+// The edge that runs from `a` down to `b`.
+fn edge_down(a: Point, b: Point, w: Window) -> Edge
     requires a_in { InWorld a }
     requires b_in { InWorld b }
     requires down { a.y ≤ b.y }
     requires window { IsWindow w }
-    ensures { OnOk result (Toggled w (counts_down a b) places.old.items places.new.items) }
+    ensures edge { IsEdge w result }
+    ensures a { result.a ≡ a }
+    ensures b { result.b ≡ b }
 {
-    let top = first_at(w.north, w.pixel, w.rows, u64::from(a.y));
-    let bottom = first_at(w.north, w.pixel, w.rows, u64::from(b.y));
-    let west = first_past(w, a.x.min(b.x));
-    let east = first_past(w, a.x.max(b.x));
-    let edge = Edge { a, b, west, east };
-    for j in top..bottom {
-        cross_row(edge, w, j, places)?;
+    Edge {
+        a,
+        b,
+        west: first_past(w, a.x.min(b.x)),
+        east: first_past(w, a.x.max(b.x)),
+        top: first_at(w.north, w.pixel, w.rows, u64::from(a.y)),
+        bottom: first_at(w.north, w.pixel, w.rows, u64::from(b.y)),
+    }
+}
+
+// Adds the crossings of an edge row by row, from the row `from` on and before `to`.
+fn cross_rows(e: Edge, w: Window, from: u32, to: u32, places: &mut Vec<u32>) -> Result<(), NoMemory>
+    requires edge { IsEdge w e }
+    requires window { IsWindow w }
+    requires top { e.top ≤ from }
+    requires bottom { to ≤ e.bottom }
+    ensures { OnOk result (Toggled w (in_part w (counts_down e.a e.b) from to) places.old.items places.new.items) }
+{
+    for j in from..to {
+        cross_row(e, w, j, places)?;
+    }
+    Ok(())
+}
+
+// Adds the rows of a column by their two ends, unless it lies east of the window.
+fn add_ends(run: ColumnRun, w: Window, corners: &mut Vec<Corner>) -> Result<(), NoMemory>
+    requires { run.top ≤ run.bottom }
+    ensures { OnOk result (CornersTurned w (in_run run) corners.old.items corners.new.items) }
+{
+    if run.column >= w.cols {
+        return Ok(());
+    }
+    corners.push(Corner {
+        column: run.column,
+        row: run.top,
+    })?;
+    corners.push(Corner {
+        column: run.column,
+        row: run.bottom,
+    })?;
+    Ok(())
+}
+
+// The column of the rows of an edge from `from` on and before `to`, if they are more than a few and have the same
+// one: where the first and the last of them have it, so have all between.
+fn same_column(e: Edge, w: Window, from: u32, to: u32) -> Option<u32>
+    requires edge { IsEdge w e }
+    requires window { IsWindow w }
+    requires top { e.top ≤ from }
+    requires order { from ≤ to }
+    requires bottom { to ≤ e.bottom }
+    ensures { IfSome result (λ k. (j i : ℕ) → from ≤ j → j < to → i < w.cols → nat_le k i ≡ counts_down e.a e.b (centre w i j)) }
+{
+    if to <= from + FEW_ROWS {
+        return None;
+    }
+    let first = column(e, w, from);
+    let last = column(e, w, to - 1);
+    if first == last { Some(first) } else { None }
+}
+
+// Adds the crossings of an edge in the rows from `from` on and before `to`.
+fn cross_part(e: Edge, w: Window, from: u32, to: u32, crossed: &mut Crossed) -> Result<(), NoMemory>
+    requires edge { IsEdge w e }
+    requires window { IsWindow w }
+    requires top { e.top ≤ from }
+    requires order { from ≤ to }
+    requires bottom { to ≤ e.bottom }
+    ensures { OnOk result (PartTurned w (in_part w (counts_down e.a e.b) from to) crossed.old crossed.new) }
+{
+    if let Some(column) = same_column(e, w, from, to) {
+        let run = ColumnRun {
+            column,
+            top: from,
+            bottom: to,
+        };
+        add_ends(run, w, &mut crossed.corners)?;
+        return Ok(());
+    }
+    cross_rows(e, w, from, to, &mut crossed.places)?;
+    Ok(())
+}
+
+// How many rows of an edge are looked at together: all where it has one column, and some where it is steep.
+fn rows_together(e: Edge) -> u32
+    ensures some { 1 ≤ result }
+    ensures few { result ≤ 4096 }
+{
+    if e.west == e.east {
+        ALL_ROWS
+    } else if e.east.saturating_sub(e.west) < e.bottom.saturating_sub(e.top) / STEEP {
+        SOME_ROWS
+    } else {
+        FEW_ROWS
+    }
+}
+
+// Adds the crossings of an edge that runs from `a` down to `b`.
+fn cross_down(a: Point, b: Point, w: Window, crossed: &mut Crossed) -> Result<(), NoMemory>
+    requires a_in { InWorld a }
+    requires b_in { InWorld b }
+    requires down { a.y ≤ b.y }
+    requires window { IsWindow w }
+    ensures { OnOk result (Turned w (counts_down a b) crossed.old crossed.new) }
+{
+    let edge = edge_down(a, b, w);
+    let rows = rows_together(edge);
+    let mut from = edge.top;
+    while from < edge.bottom {
+        let to = edge.bottom.min(from + rows);
+        cross_part(edge, w, from, to, crossed)?;
+        from = to;
     }
     Ok(())
 }
 
 // Adds the crossings of an edge.
-fn cross_edge(a: Point, b: Point, w: Window, places: &mut Vec<u32>) -> Result<(), NoMemory>
+fn cross_edge(a: Point, b: Point, w: Window, crossed: &mut Crossed) -> Result<(), NoMemory>
     requires a_in { InWorld a }
     requires b_in { InWorld b }
     requires window { IsWindow w }
-    ensures { OnOk result (Toggled w (counts (a, b)) places.old.items places.new.items) }
+    ensures { OnOk result (Turned w (counts (a, b)) crossed.old crossed.new) }
 {
     if a.y <= b.y {
-        cross_down(a, b, w, places)
+        cross_down(a, b, w, crossed)
     } else {
-        cross_down(b, a, w, places)
+        cross_down(b, a, w, crossed)
     }
 }
 
@@ -132,50 +254,50 @@ fn cross_ring(
     alloc: Global,
     points: &[Point],
     w: Window,
-    places: &mut Vec<u32>,
+    crossed: &mut Crossed,
 ) -> Result<(), NoMemory>
     requires points { All InWorld points.now }
     requires window { IsWindow w }
-    requires inside { AllInside w places.old.items }
-    ensures { OnOk result (Toggled w (odd_edges (ring_edges points.now)) places.old.items places.new.items) }
+    requires inside { AllInside w crossed.old.places.items }
+    ensures { OnOk result (Turned w (odd_edges (ring_edges points.now)) crossed.old crossed.new) }
 {
     let Some(last) = points.last() else {
         return Ok(());
     };
     let mut before = *last;
     for p in points {
-        cross_edge(before, *p, w, places)?;
-        thin(alloc, w, places)?;
+        cross_edge(before, *p, w, crossed)?;
+        make_room(alloc, w, crossed)?;
         before = *p;
     }
     Ok(())
 }
 
 // The same of a ring as a path.
-fn cross_path(alloc: Global, ring: &Path, w: Window, places: &mut Vec<u32>) -> Result<(), NoMemory>
+fn cross_path(alloc: Global, ring: &Path, w: Window, crossed: &mut Crossed) -> Result<(), NoMemory>
     requires points { All InWorld ring.now }
     requires window { IsWindow w }
-    requires inside { AllInside w places.old.items }
-    ensures { OnOk result (Toggled w (odd_edges (ring_edges ring.now)) places.old.items places.new.items) }
+    requires inside { AllInside w crossed.old.places.items }
+    ensures { OnOk result (Turned w (odd_edges (ring_edges ring.now)) crossed.old crossed.new) }
 {
-    cross_ring(alloc, &ring.points, w, places)
+    cross_ring(alloc, &ring.points, w, crossed)
 }
 
-/// Adds the places at which the edges of all rings are crossed: how many of them a row has up to a pixel
-/// is turned round, by parity, exactly where the pixel's centre lies in the rings.
+/// Adds the crossings of the edges of all rings: how many of them a row has up to a pixel is turned round, by
+/// parity, exactly where the pixel's centre lies in the rings.
 pub fn cross_rings(
     alloc: Global,
     rings: &[Path],
     w: Window,
-    places: &mut Vec<u32>,
+    crossed: &mut Crossed,
 ) -> Result<(), NoMemory>
     requires rings { All (All InWorld) rings.now }
     requires window { IsWindow w }
-    requires inside { AllInside w places.old.items }
-    ensures { OnOk result (Toggled w (in_rings rings.now) places.old.items places.new.items) }
+    requires inside { AllInside w crossed.old.places.items }
+    ensures { OnOk result (Turned w (in_rings rings.now) crossed.old crossed.new) }
 {
     for ring in rings {
-        cross_path(alloc, ring, w, places)?;
+        cross_path(alloc, ring, w, crossed)?;
     }
     Ok(())
 }

@@ -8,6 +8,7 @@ ghost use Rattle.plain_shapes.specs.inner.Canvas.{marked};
 ghost use Rattle.raster_core.specs.inner.Toggles.{AllInside};
 ghost use Rattle.raster_core.specs.inner.Crossings.{Crossings};
 
+use crate::columns::{listed, no_crossings};
 use crate::edges::cross_rings;
 use crate::parities::in_order;
 use crate::runs::run_at;
@@ -25,8 +26,9 @@ pub fn crossings(alloc: Global, rings: &[Path], w: Window) -> Result<Vec<u32>, N
     requires window { IsWindow w }
     ensures { IfOk result (λ v. Crossings w (in_rings rings.now) v.items) }
 {
-    let mut places = Vec::new(alloc);
-    cross_rings(alloc, rings, w, &mut places)?;
+    let mut crossed = no_crossings(alloc);
+    cross_rings(alloc, rings, w, &mut crossed)?;
+    let places = listed(w, crossed)?;
     in_order(alloc, w, places)
 }
 
@@ -53,7 +55,8 @@ fn set_runs(places: &[u32], w: Window, mask: &mut Mask)
 /// (Mapnik's and AGG's default rule): left and top edges belong to it, right and bottom ones do not. No
 /// other bit changes, and after `NoMemory` none has. The points lie in the world, the window is a
 /// tile's or a metatile's, and the mask has its sides. It takes some bytes for each row that an edge
-/// crosses, at most some for each pixel of the window, and works along each edge's own rows.
+/// crosses, at most some for each pixel of the window and 2 MB, and works along each edge's own rows, of which those
+/// that have one column are taken together.
 pub fn fill_mask(alloc: Global, rings: &[Path], w: Window, mask: &mut Mask) -> Result<(), NoMemory>
     requires rings { All (All InWorld) rings.now }
     requires window { IsWindow w }

@@ -2,6 +2,7 @@
 //! them run the pixels of the polygon.
 #![tactic(auto)]
 
+mod columns;
 mod edges;
 mod fill;
 mod parities;

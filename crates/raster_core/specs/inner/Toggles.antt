@@ -23,27 +23,26 @@ parity_at cols places j i = is_odd (count_by (is_up_to cols j i) places)
 abbrev pub AllInside : Window → List ℕ → Type 0
 AllInside w places = All (λ place. place < w.rows * w.cols) places
 
--- each parity is turned round exactly where the pixel's centre is a member
-pub record Toggled (w : Window) (member : Point → Bool) (old new : List ℕ) : Type 0 where
-  pub inside : AllInside w old → AllInside w new
-  pub at : (j i : ℕ) → j < w.rows → i < w.cols → parity_at w.cols new j i ≡ flip (member (centre w i j)) (parity_at w.cols old j i)
+-- which pixels, by row and column, have a member as their centre
+abbrev pub at_centres : Window → (Point → Bool) → ℕ → ℕ → Bool
+at_centres w member j i = member (centre w i j)
 
--- in one row each parity is turned round exactly where the pixel's centre is a member, and the other rows stay
-pub record RowToggled (w : Window) (member : Point → Bool) (row : ℕ) (old new : List ℕ) : Type 0 where
+-- each parity is turned round exactly at the members, pixels by row and column
+pub record Toggled (w : Window) (member : ℕ → ℕ → Bool) (old new : List ℕ) : Type 0 where
   pub inside : AllInside w old → AllInside w new
-  pub at : (i : ℕ) → i < w.cols → parity_at w.cols new row i ≡ flip (member (centre w i row)) (parity_at w.cols old row i)
+  pub at : (j i : ℕ) → j < w.rows → i < w.cols → parity_at w.cols new j i ≡ flip (member j i) (parity_at w.cols old j i)
+
+-- in one row each parity is turned round exactly at the members, and the other rows stay
+pub record RowToggled (w : Window) (member : ℕ → ℕ → Bool) (row : ℕ) (old new : List ℕ) : Type 0 where
+  pub inside : AllInside w old → AllInside w new
+  pub at : (i : ℕ) → i < w.cols → parity_at w.cols new row i ≡ flip (member row i) (parity_at w.cols old row i)
   pub others : (j i : ℕ) → j ≢ row → i < w.cols → parity_at w.cols new j i ≡ parity_at w.cols old j i
 
--- in the rows before one each parity is turned round exactly where the pixel's centre is a member, and the other rows stay
-pub record RowsToggled (w : Window) (member : Point → Bool) (rows : ℕ) (old new : List ℕ) : Type 0 where
+-- in the rows before one each parity is turned round exactly at the members, and the other rows stay
+pub record RowsToggled (w : Window) (member : ℕ → ℕ → Bool) (rows : ℕ) (old new : List ℕ) : Type 0 where
   pub inside : AllInside w old → AllInside w new
-  pub done : (j i : ℕ) → j < rows → j < w.rows → i < w.cols → parity_at w.cols new j i ≡ flip (member (centre w i j)) (parity_at w.cols old j i)
+  pub done : (j i : ℕ) → j < rows → j < w.rows → i < w.cols → parity_at w.cols new j i ≡ flip (member j i) (parity_at w.cols old j i)
   pub rest : (j i : ℕ) → rows ≤ j → i < w.cols → parity_at w.cols new j i ≡ parity_at w.cols old j i
-
--- the new parities, turned round at the members that are left, are the old ones turned round at all members
-pub record Remains (w : Window) (left whole : Point → Bool) (old new : List ℕ) : Type 0 where
-  pub inside : AllInside w old → AllInside w new
-  pub at : (j i : ℕ) → j < w.rows → i < w.cols → flip (left (centre w i j)) (parity_at w.cols new j i) ≡ flip (whole (centre w i j)) (parity_at w.cols old j i)
 
 -- as many places of each kind, by parity
 pub record SameParities (old new : List ℕ) : Type 0 where
@@ -59,13 +58,21 @@ set_places n (false ∷ bits) = set_places (n + 1) bits
 abbrev pub IsFirst : Window → ℕ → ℕ → Type 0
 IsFirst w x col = (i : ℕ) → i < w.cols → nat_le col i ≡ nat_le x (w.west + i * w.pixel + w.pixel / 2)
 
--- the edge's ends lie in the world, and the columns are the first at its west end, and at its east end
+-- the first row whose centre lies at y or past it, or the number of rows
+abbrev pub IsFirstRow : Window → ℕ → ℕ → Type 0
+IsFirstRow w y row = (j : ℕ) → j < w.rows → nat_le row j ≡ nat_le y (w.north + j * w.pixel + w.pixel / 2)
+
+-- the edge's ends lie in the world, the upper one first, and the columns and rows are the first at its west, east, upper and lower end
 pub record IsEdge (w : Window) (e : Edge) : Type 0 where
   pub a_in : InWorld e.a
   pub b_in : InWorld e.b
+  pub down : e.a.y ≤ e.b.y
   pub west : IsFirst w (min e.a.x e.b.x) e.west
   pub east : IsFirst w (max e.a.x e.b.x) e.east
   pub few : e.west ≤ w.cols
+  pub top : IsFirstRow w e.a.y e.top
+  pub bottom : IsFirstRow w e.b.y e.bottom
+  pub few_rows : e.bottom ≤ w.rows
 
 -- an odd number of the edges counts for the point
 abbrev pub odd_edges : List (Point × Point) → Point → Bool

@@ -1,12 +1,21 @@
-use Rattle.raster_core.proofs.Toggling.{rows_more}
-use Rattle.raster_core.proofs.Downward.{downward_start, downward_end}
+use Rattle.std.proofs.Common.{arith}
+use Rattle.plain_shapes.specs.Rings.{counts_down}
+use Rattle.raster_core.specs.declared.edges.Edge.{Edge}
+use Rattle.raster_core.proofs.Corners.{parts_start, parts_more, parts_end}
 use Rattle.raster_core.proofs.edges.cross_down.Goals as goal
 
-pub loop-j-init : goal.loop-j-init
-loop-j-init c = downward_start c.args.w c.args.a c.args.b _ _ (λ j p. rw c.from.ensures at (c.first_at-top.ensures.splits j p))
+pub loop-from-init : goal.loop-from-init
+loop-from-init c =
+    let e : Edge = c.edge_down-edge.result in record { low = omega arith; turned = parts_start c.args.w (counts_down e.a e.b) e.top c.args.crossed.now }
 
-pub loop-j-preserved : goal.loop-j-preserved
-loop-j-preserved c = rows_more _ _ _ _ _ _ c.loop-j.invariant c.in_ok-cross_row.ensures
+pub loop-from-preserved : goal.loop-from-preserved
+loop-from-preserved c =
+    let e : Edge = c.edge_down-edge.result in record {
+      low = omega (arith, c.loop-from.invariant.low, c.min-to.ensures, c.loop-from-test.true);
+      turned = parts_more c.args.w (counts_down e.a e.b) e.top c.loop-from.from c.min-to.result _ _ _ c.loop-from.invariant.low (omega (arith, c.min-to.ensures, c.loop-from-test.true))
+          c.loop-from.invariant.turned c.in_ok-cross_part.ensures;
+    }
 
 pub returns : goal.returns
-returns c = downward_end c.args.w c.args.a c.args.b _ _ _ _ c.loop-j-test.false (λ j p. rw c.from-2.ensures at (c.first_at-bottom.ensures.splits j p)) c.loop-j.invariant
+returns c = rw (c.edge_down-edge.ensures.a, c.edge_down-edge.ensures.b) at
+    (parts_end c.args.w c.edge_down-edge.result c.loop-from.from _ _ c.edge_down-edge.ensures.edge c.loop-from-test.false c.loop-from.invariant.turned)

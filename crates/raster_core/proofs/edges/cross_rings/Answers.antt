@@ -1,4 +1,4 @@
-use Rattle.raster_core.proofs.Toggling.{remains_more, remains_end}
+use Rattle.raster_core.proofs.Corners.{remains_more, remains_end}
 use Rattle.raster_core.proofs.Downward.{rings_step, rings_none}
 use Rattle.raster_core.proofs.edges.cross_rings.Goals as goal
 
