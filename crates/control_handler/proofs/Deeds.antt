@@ -16,9 +16,12 @@ use Rattle.control_handler.specs.declared.acts.Line.{Line}
 use Rattle.control_handler.specs.declared.acts.Line.TheVariants as line
 use Rattle.control_handler.specs.declared.acts.Act.{Act}
 use Rattle.control_handler.specs.declared.hearing.ConnState.{ConnState}
-use Rattle.control_handler.specs.Lines.{Reading, read_on, read_all, part_alone, wants, line_in}
+use Rattle.control_handler.specs.Lines.{is_long, requests_in, line_in}
+use Rattle.control_handler.specs.inner.Readings.{Reading, read_on, read_all, part_alone, wants, line_parts}
 use Rattle.control_handler.specs.Control.{control_rules, line_done}
 use Rattle.control_handler.specs.inner.Doing.{control_entries, act_text, act_fits, act_whole, act_starves, Says, Said, Lacks, Answers, Gives, Wants, Starves, DoneWhy, Did, LongWhy, as_done, Heeds, Knows}
+use Rattle.std.specs.List.{list_any}
+use Rattle.control_handler.proofs.Parts.{asked_same, long_same}
 use Rattle.control_handler.proofs.Streams.{read_both, read_more, read_shut, wants_more, wants_begin}
 
 clash : {X : Type 0} → true ≡ false → X
@@ -333,7 +336,7 @@ module _ (number : ℕ) (lists : List (List Tile)) (c : ℕ) where
   heeds_kept part part' b mine response disposition n l (Said q e) =
       subst (Heeds number lists c part (b ∷ []) mine mine part' response response) (sym q)
       (subst (λ p. Heeds number lists c part (b ∷ []) mine mine p response response Stays) (sym e) (heeds_byte part b mine response n l))
-  heeds_kept part part' b mine response disposition n l (Lacks q) =
+  heeds_kept part part' b mine response disposition n l (Lacks q same) =
       subst (Heeds number lists c part (b ∷ []) mine mine part' response response) (sym q) (heeds_lost part part' (b ∷ []) mine response response)
 
   -- one byte more of a piece
@@ -370,7 +373,7 @@ module _ (number : ℕ) (lists : List (List Tile)) (c : ℕ) where
   whole_front [] ms f g = g
   whole_front (a ∷ acts) ms f g = and_from (act_whole lists a) (each_whole R (does acts ++ ms)) (and_parts (act_whole lists a) _ f).0 (whole_front acts ms (and_parts (act_whole lists a) _ f).1 g)
 
-  why_front : (long : Bool) (given : List ℕ) (acts : List Act) (disposition : Disposition) → (read_all given).long ≡ long → DoneWhy number lists c acts (as_done disposition) → LongWhy long disposition → HeardWhy R given (does acts) disposition
+  why_front : (long : Bool) (given : List ℕ) (acts : List Act) (disposition : Disposition) → list_any is_long (line_parts given) ≡ long → DoneWhy number lists c acts (as_done disposition) → LongWhy long disposition → HeardWhy R given (does acts) disposition
   why_front long given acts Stays e d l = (e ∙ l, d)
   why_front long given acts (Leaves reason.Unread) e d l = (e ∙ l, d)
   why_front long given acts (Leaves reason.NoMemory) e d l = d
@@ -383,9 +386,12 @@ module _ (number : ℕ) (lists : List (List Tile)) (c : ℕ) where
   why_front long given acts (Leaves reason.SendFailed) e d l = absurd d
 
   pub heard_by : (piece : List ℕ) (mine mine' : List Entry) (conn_state conn_state' : ConnState) (response : List ℕ) (disposition : Disposition) (given : List ℕ) (ms : List (Move Act))
-      → Heeds number lists c conn_state.part.items piece mine mine' conn_state'.part.items [] response disposition → Knows given ms conn_state → wants (read_all given) ≡ wants_of R ms → each_whole R ms ≡ true
-      → (read_all given).long ≡ false → Heard R Knows c piece mine mine' conn_state' response disposition given ms
-  heard_by piece mine mine' conn_state conn_state' response disposition given ms h k w v l =
+      → Heeds number lists c conn_state.part.items piece mine mine' conn_state'.part.items [] response disposition → Knows given ms conn_state → requests_in (line_parts given) ≡ wants_of R ms → each_whole R ms ≡ true
+      → list_any is_long (line_parts given) ≡ false → Heard R Knows c piece mine mine' conn_state' response disposition given ms
+  heard_by piece mine mine' conn_state conn_state' response disposition given ms h k asked v short =
+      let w : wants (read_all given) ≡ wants_of R ms = asked_same given ∙ asked in
+      let l : (read_all given).long ≡ false = long_same given ∙ short in
+      let now : requests_in (line_parts (given ++ piece)) ≡ wants (read_all (given ++ piece)) = sym (asked_same (given ++ piece)) in
       let r = read_all given in
       let s = read_on (part_alone conn_state.part.items) piece in
       let is : read_all (given ++ piece) ≡ read_on r piece = read_both (part_alone []) given piece in
@@ -399,13 +405,13 @@ module _ (number : ℕ) (lists : List (List Tile)) (c : ℕ) where
         mine_is = h.did.mine_is;
         begins = inr (
           h.did.begins.0,
-          lines ∙ ap (λ ls. wants_of R ms ++ ls) h.did.begins.1 ∙ sym (append_assoc (wants_of R ms) (wants_of R (does h.did.acts)) h.did.begins.0)
+          now ∙ lines ∙ ap (λ ls. wants_of R ms ++ ls) h.did.begins.1 ∙ sym (append_assoc (wants_of R ms) (wants_of R (does h.did.acts)) h.did.begins.0)
               ∙ ap (λ ls. ls ++ h.did.begins.0) (sym (asked_front h.did.acts ms)),
         );
         fits = fits_front h.did.acts ms h.did.fits;
-        why = why_front s.long (given ++ piece) h.did.acts disposition long h.did.why h.why;
+        why = why_front s.long (given ++ piece) h.did.acts disposition (sym (long_same (given ++ piece)) ∙ long) h.did.why h.why;
         response_is = λ e. text_front h.did.acts ms ∙ ap (λ xs. answer_bytes R ms ++ xs) (sym (h.did.response_is (done_keeps disposition e)));
-        asked_is = λ e. lines ∙ ap (λ ls. wants_of R ms ++ ls) (h.did.asked_is (done_keeps disposition e)) ∙ sym (asked_front h.did.acts ms);
+        asked_is = λ e. now ∙ lines ∙ ap (λ ls. wants_of R ms ++ ls) (h.did.asked_is (done_keeps disposition e)) ∙ sym (asked_front h.did.acts ms);
         whole = λ e. whole_front h.did.acts ms (h.did.whole (done_keeps disposition e)) v;
         knows = λ e. h.part_is e ∙ sym part;
       }

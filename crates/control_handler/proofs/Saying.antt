@@ -11,27 +11,31 @@ use Rattle.front_loop.specs.declared.dispositions.Disposition.{Disposition}
 use Rattle.front_loop.specs.declared.dispositions.Disposition.TheVariants.{Leaves}
 use Rattle.front_loop.specs.declared.dispositions.Reason.TheVariants as reason
 use Rattle.std.specs.Option.{is_none}
-use Rattle.std.specs.Prelude.{Option}
-use Rattle.front_loop.specs.Moves.{or_empty}
+use Rattle.std.specs.Prelude.{Option, unwrap_or}
 use Rattle.script_answers.specs.Answers.{expire_line}
 use Rattle.control_handler.specs.declared.acts.Line.TheVariants as line
 use Rattle.control_handler.specs.declared.acts.Act.{Act}
 use Rattle.control_handler.specs.declared.acts.Act.TheVariants.{Updates, Renews, Expires}
-use Rattle.control_handler.specs.Control.{update_text, renew_text, expire_text, tiles_at, total_of, expiries}
-use Rattle.control_handler.specs.inner.Doing.{act_text, act_starves, Says, Said, Lacks, Answers, Gives, Wants, Expired, Did}
+use Rattle.control_handler.specs.Control.{update_text, renew_text, expire_text, tiles_at, total_of}
+use Rattle.control_handler.specs.inner.Doing.{act_text, act_starves, Says, Said, Lacks, Answers, Gives, Wants, Expired, Did, expiries}
 use Rattle.control_handler.proofs.Deeds.{did_one, did_part}
 
 pub says_answer : (lists : List (List Tile)) (a : Act) (text old new : List ℕ) (disposition : Disposition) → act_text lists a ≡ text → act_starves lists a ≡ false → Says text old new disposition → Answers lists a old new disposition
 says_answer lists a text old new disposition t s (Said q e) = Gives q s (e ∙ ap (λ xs. old ++ xs) (sym t))
-says_answer lists a text old new disposition t s (Lacks q) = Wants q s
+says_answer lists a text old new disposition t s (Lacks q n) = Wants q s
+
+-- where there was no memory for a text, nothing was said
+pub lacks_same : (text old new : List ℕ) (disposition : Disposition) → Says text old new disposition → disposition ≡ Leaves reason.Starved → new ≡ old
+lacks_same text old new disposition (Said q n) e = let never = sym q ∙ e in cc
+lacks_same text old new disposition (Lacks q n) e = n
 
 pub says_update : (lists : List (List Tile)) (n : ℕ) (answer : Updated) (t old new : List ℕ) (disposition : Disposition) → update_text answer ≡ Some t → Says t old new disposition
     → Answers lists (Updates n answer) old new disposition
-says_update lists n answer t old new disposition u s = says_answer lists (Updates n answer) t old new disposition (ap (λ (o : Option (List ℕ)). or_empty o) u) (ap is_none u) s
+says_update lists n answer t old new disposition u s = says_answer lists (Updates n answer) t old new disposition (ap (λ (o : Option (List ℕ)). unwrap_or o []) u) (ap is_none u) s
 
 pub says_renew : (lists : List (List Tile)) (n : ℕ) (answer : Renewed) (t old new : List ℕ) (disposition : Disposition) → renew_text answer ≡ Some t → Says t old new disposition
     → Answers lists (Renews n answer) old new disposition
-says_renew lists n answer t old new disposition u s = says_answer lists (Renews n answer) t old new disposition (ap (λ (o : Option (List ℕ)). or_empty o) u) (ap is_none u) s
+says_renew lists n answer t old new disposition u s = says_answer lists (Renews n answer) t old new disposition (ap (λ (o : Option (List ℕ)). unwrap_or o []) u) (ap is_none u) s
 
 -- ---- expiries
 
@@ -80,14 +84,14 @@ module _ (front : ℕ) (lists : List (List Tile)) (c : ℕ) where
       → Did front lists c (line.Expire n ∷ []) mine mine old new disposition
   expire_none n mine old new disposition g s =
       did_one front lists c (Expires n []) mine mine old new disposition (le-leb 0 (length (tiles_at lists n)) (omega arith))
-      (eq-eqb 0 (length (tiles_at lists n)) (sym (ap (λ o. length (or_empty {A = Tile} o)) g)))
+      (eq-eqb 0 (length (tiles_at lists n)) (sym (ap (λ o. length (unwrap_or {T = List Tile} o [])) g)))
       (sym (append-nil mine) ∙ ap (λ es. mine ++ es) (sym (expiries_none (tiles_at lists n))))
       (says_answer lists (Expires n []) (codes "no list\n") old new disposition (ap (λ o. expire_text o []) g) refl s)
 
   pub expire_some : (n total : ℕ) (tiles : List Tile) (mine mine' : List Entry) (old new : List ℕ) (disposition : Disposition) → slice_get lists n ≡ Some tiles → Expired tiles mine mine' (Ok total)
       → Says (expire_line total) old new disposition → Did front lists c (line.Expire n ∷ []) mine mine' old new disposition
   expire_some n total tiles mine mine' old new disposition g (counts, l, m, t) s =
-      let is : tiles_at lists n ≡ tiles = ap (λ (o : Option (List Tile)). or_empty o) g in
+      let is : tiles_at lists n ≡ tiles = ap (λ (o : Option (List Tile)). unwrap_or o []) g in
       did_one front lists c (Expires n counts) mine mine' old new disposition
       (le-leb (length counts) (length (tiles_at lists n)) (subst (λ ts. length counts ≤ length ts) (sym is) (omega (arith, l))))
       (eq-eqb (length counts) (length (tiles_at lists n)) (l ∙ ap length (sym is)))
@@ -97,7 +101,7 @@ module _ (front : ℕ) (lists : List (List Tile)) (c : ℕ) where
   pub expire_worn : (n : ℕ) (w : Worn) (tiles : List Tile) (mine mine' : List Entry) (old new : List ℕ) → slice_get lists n ≡ Some tiles → Expired tiles mine mine' (Err w)
       → Did front lists c (line.Expire n ∷ []) mine mine' old new (Leaves reason.Starved)
   expire_worn n w tiles mine mine' old new g (counts, l, m) =
-      let is : tiles_at lists n ≡ tiles = ap (λ (o : Option (List Tile)). or_empty o) g in
+      let is : tiles_at lists n ≡ tiles = ap (λ (o : Option (List Tile)). unwrap_or o []) g in
       did_part front lists c (Expires n counts) mine mine' old new
       (le-leb (length counts) (length (tiles_at lists n)) (subst (λ ts. length counts ≤ length ts) (sym is) l))
       (m ∙ ap (λ ts. mine ++ expiries ts counts) (sym is)) refl

@@ -11,7 +11,8 @@ use Rattle.farm_history.specs.Entries.{Entry, Update, Restyle, Renew, Expire, St
 use Rattle.front_loop.specs.Rules.{Move, Gets}
 use Rattle.control_handler.specs.declared.acts.Act.{Act}
 use Rattle.control_handler.specs.declared.acts.Act.TheVariants.{Updates, Restyles, Renews, Expires, Counts, Stops, Refuses}
-use Rattle.control_handler.specs.Control.{control_rules, tiles_at, expiries}
+use Rattle.control_handler.specs.Control.{control_rules, tiles_at}
+use Rattle.control_handler.specs.inner.Doing.{expiries}
 
 -- a test that no entry of a control line passes
 pub record PassesNone (q : Entry → Bool) : Type 0 where

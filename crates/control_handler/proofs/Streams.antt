@@ -4,7 +4,8 @@ use Rattle.std.proofs.lemmas.List.{append-nil}
 use Rattle.farm_base.specs.Limits.{most_control_bytes}
 use Rattle.control_handler.specs.declared.acts.Line.{Line}
 use Rattle.control_handler.specs.declared.acts.Line.TheVariants as line
-use Rattle.control_handler.specs.Lines.{Reading, with_byte, read_on, part_alone, line_in, wants}
+use Rattle.control_handler.specs.Lines.{line_in}
+use Rattle.control_handler.specs.inner.Readings.{Reading, with_byte, read_on, part_alone, wants}
 
 -- what was read, behind these lines
 abbrev pub behind : List (List ℕ) → Reading → Reading

@@ -5,6 +5,8 @@ ghost use Rattle.plain_world.specs.declared.world.Tile.{Tile};
 ghost use Rattle.farm_history.specs.Entries.{Entry};
 ghost use Rattle.front_loop.specs.Calls.{SameSeat};
 ghost use Rattle.front_loop.specs.Front.{disposition_of};
+ghost use Rattle.front_loop.specs.declared.dispositions.Disposition.TheVariants as disposition;
+ghost use Rattle.front_loop.specs.declared.dispositions.Reason.TheVariants as reason;
 ghost use Rattle.control_handler.specs.inner.Doing.{Did};
 ghost use Rattle.control_handler.specs.declared.acts.Line.TheVariants as line_is;
 
@@ -57,8 +59,9 @@ fn do_expire<R: Wait, M: Farm>(
 
 /// A line that is none.
 pub fn do_bad(response: &mut Vec<u8>) -> Disposition
-    ensures { (front : ℕ) (lists : List (List Tile)) (c : ℕ) (mine : List Entry)
+    ensures did { (front : ℕ) (lists : List (List Tile)) (c : ℕ) (mine : List Entry)
         → Did front lists c (line_is.Bad ∷ []) mine mine response.old.items response.new.items result }
+    ensures lacks { result ≡ disposition.Leaves reason.Starved → response.new.items ≡ response.old.items }
 {
     say(response, "bad line\n")
 }

@@ -3,6 +3,8 @@ ghost use Rattle.std.specs.Prelude.{◌≡◌, ◌∷◌, [], ℕ, List, true, O
 ghost use Rattle.farm_base.specs.Limits.{most_control_bytes};
 ghost use Rattle.front_loop.specs.Calls.{SameSeat};
 ghost use Rattle.front_loop.specs.Front.{disposition_of};
+ghost use Rattle.front_loop.specs.declared.dispositions.Disposition.TheVariants as disposition;
+ghost use Rattle.front_loop.specs.declared.dispositions.Reason.TheVariants as reason;
 ghost use Rattle.plain_world.specs.declared.world.Tile.{Tile};
 ghost use Rattle.farm_history.specs.Entries.{Entry};
 ghost use Rattle.control_handler.specs.declared.acts.Line.TheVariants as line_is;
@@ -27,6 +29,7 @@ fn too_long(response: &mut Vec<u8>) -> Disposition
     ensures did { (front : ℕ) (lists : List (List Tile)) (c : ℕ) (mine : List Entry)
         → Did front lists c (line_is.Bad ∷ []) mine mine response.old.items response.new.items (as_done result) }
     ensures long { LongWhy true result }
+    ensures lacks { result ≡ disposition.Leaves reason.Starved → response.new.items ≡ response.old.items }
 {
     match do_bad(response) {
         Disposition::Stays => Disposition::Leaves(Reason::Unread),

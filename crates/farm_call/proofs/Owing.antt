@@ -1,5 +1,5 @@
 -- That nothing is owed where a farm ended in order.
-use Rattle.std.proofs.Common.{◌≡◌, ℕ, ◌⊎◌, inl, inr, Bool, List, [], ◌∷◌, ◌++◌, map, reverse, refl, ap, subst, ◌∙◌, append_assoc}
+use Rattle.std.proofs.Common.{◌≡◌, ℕ, ◌⊎◌, inl, inr, Bool, List, [], ◌∷◌, ◌++◌, reverse, refl, ap, subst, ◌∙◌, append_assoc}
 use Rattle.std.specs.Prelude.{Option}
 use Rattle.std.proofs.lemmas.List.{reverse-append, map-append}
 use Rattle.port_events.specs.declared.ends.FrontEnd.{FrontEnd}
@@ -11,9 +11,9 @@ use Rattle.farm_history.specs.Entries.{Entry, Collect, EachMoment}
 use Rattle.farm_history.specs.Past.{due_replies, is_stopped}
 use Rattle.farm_history.specs.Plans.{Plan}
 use Rattle.farm_history.specs.Rules.{Fits, Legal, collect_from, collect_rule}
-use Rattle.front_loop.specs.Rules.{Rules}
+use Rattle.front_loop.specs.Rules.{EachSoFar, Rules}
 use Rattle.front_loop.specs.Rounds.{FrontRound}
-use Rattle.front_loop.specs.RoundRules.{RoundFits, Sound}
+use Rattle.front_loop.specs.RoundRules.{RoundFits}
 use Rattle.front_loop.specs.Serving.{EndHasCause, FrontRun, rests_of}
 use Rattle.farm_shared.specs.Seats.{plain}
 use Rattle.farm_call.specs.Owing.{LastIsWhole, OwesNothing, GivesNone}
@@ -58,14 +58,14 @@ none_left p told H before after first n front answer legal is none =
 -- ---- the last round
 
 module _ {A W : Type 0} (R : Rules A W) where
-  sound_at : (later : List (FrontRound A)) (r : FrontRound A) (before : List (FrontRound A)) → Sound R (later ++ r ∷ before) → RoundFits R before r
+  sound_at : (later : List (FrontRound A)) (r : FrontRound A) (before : List (FrontRound A)) → EachSoFar (RoundFits R) (later ++ r ∷ before) → RoundFits R before r
   sound_at [] r before sound = sound.0
   sound_at (x ∷ later) r before sound = sound_at later r before sound.1
 
-  nothing_owed : (rounds : List (FrontRound A)) (rests : List Rest) → Sound R rounds → LastIsWhole R rounds → rests ≡ rests_of R rounds → OwesNothing R rounds rests
+  nothing_owed : (rounds : List (FrontRound A)) (rests : List Rest) → EachSoFar (RoundFits R) rounds → LastIsWhole R rounds → rests ≡ rests_of R rounds → OwesNothing R rounds rests
   nothing_owed rounds rests sound whole are = record {
     whole = whole;
-    gone = λ later before r is. (sound_at later r before (subst (Sound R) is sound)).left;
+    gone = λ later before r is. (sound_at later r before (subst (EachSoFar (RoundFits R)) is sound)).left;
     answers = are;
   }
 
@@ -80,8 +80,8 @@ module _ {A W : Type 0} (R : Rules A W) where
   -- a front that ended in order owes nothing
   pub paid_up : (start told : Option PortsTold) (mine : List Entry) (end : FrontEnd) (rests : List Rest) (starved : ℕ) (worn : Bool) (run : FrontRun R start told mine end rests starved worn)
       → (end ≡ FrontEnd.Finished) ⊎ (end ≡ FrontEnd.Stopped) → OwesNothing R run.rounds rests
-  paid_up start told mine FrontEnd.Finished rests starved worn run ended = nothing_owed run.rounds rests run.sound (finished_whole run.rounds run.stop worn run.end_fits) run.rests_fit
-  paid_up start told mine FrontEnd.Stopped rests starved worn run ended = nothing_owed run.rounds rests run.sound (stopped_whole run.rounds run.stop worn run.end_fits) run.rests_fit
+  paid_up start told mine FrontEnd.Finished rests starved worn run ended = nothing_owed run.rounds rests run.sound (finished_whole run.rounds run.stop worn run.end_fits) (run.rests_fit (λ never. cc))
+  paid_up start told mine FrontEnd.Stopped rests starved worn run ended = nothing_owed run.rounds rests run.sound (stopped_whole run.rounds run.stop worn run.end_fits) (run.rests_fit (λ never. cc))
   paid_up start told mine FrontEnd.Broken rests starved worn run ended = absurd (elim ended [ inl e ↦ cc | inr e ↦ cc ])
   paid_up start told mine FrontEnd.NoMemory rests starved worn run ended = absurd (elim ended [ inl e ↦ cc | inr e ↦ cc ])
   paid_up start told mine FrontEnd.Worn rests starved worn run ended = absurd (elim ended [ inl e ↦ cc | inr e ↦ cc ])

@@ -5,9 +5,9 @@ use Rattle.port_events.specs.declared.ends.Rest.{Rest}
 use Rattle.port_events.specs.Told.{PortsTold}
 use Rattle.farm_history.specs.declared.answers.Collected.{Collected}
 use Rattle.farm_history.specs.Entries.{Entry}
-use Rattle.front_loop.specs.Rules.{Rules}
+use Rattle.front_loop.specs.Rules.{EachSoFar, Rules}
 use Rattle.front_loop.specs.Rounds.{FrontRound}
-use Rattle.front_loop.specs.RoundRules.{EachSoFar, LeaveFits, EndsWhole}
+use Rattle.front_loop.specs.RoundRules.{LeaveFits, EndsWhole}
 use Rattle.front_loop.specs.Serving.{FrontRun, rests_of}
 
 -- the last round, which is the first of the list, is whole

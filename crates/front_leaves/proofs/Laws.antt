@@ -1,5 +1,5 @@
 -- What is so of all that a front leaves: of which kinds its entries are, and where it ends worn; and that a front that was not begun leaves what it may.
-use Rattle.std.proofs.Common.{◌≡◌, ◌≢◌, ◌⊎◌, inl, inr, ℕ, Bool, true, false, not, ◌&&◌, ◌||◌, ◌==◌, cond, List, [], ◌∷◌, ◌++◌, Option, Some, None, IfSome, option_map, refl, sym, ◌∙◌, subst, arith, append-nil}
+use Rattle.std.proofs.Common.{◌≡◌, ◌≢◌, ◌⊎◌, inl, inr, ℕ, Bool, true, false, not, ◌||◌, ◌==◌, cond, List, [], ◌∷◌, ◌++◌, Option, Some, None, IfSome, option_map, refl, sym, ◌∙◌, subst, arith, append-nil}
 use Rattle.std.proofs.lemmas.Bool.{eq-eqb}
 use Rattle.std.proofs.lemmas.Bool.Decides.{nat_tests}
 use Rattle.std.specs.List.{list_any}
@@ -12,12 +12,12 @@ use Rattle.farm_history.specs.Lists.{Each}
 use Rattle.port_events.specs.declared.ends.FrontDone.{FrontDone}
 use Rattle.port_events.specs.declared.ends.FrontEnd.{FrontEnd}
 use Rattle.port_events.specs.declared.ends.Rest.{Rest}
-use Rattle.port_events.specs.Told.{PortsTold}
-use Rattle.front_loop.specs.Rules.{Rules, Move, Gets, each_fits}
+use Rattle.port_events.specs.Told.{PortsTold, heard}
+use Rattle.front_loop.specs.Rules.{EachSoFar, Rules, Move, Does, Gets}
 use Rattle.front_loop.specs.Rounds.{Gathered, Departure, FrontRound, in_turn, asked_by, with_last, own}
-use Rattle.front_loop.specs.Conns.{asks_on, gets_on, before, told_after}
-use Rattle.front_loop.specs.RoundRules.{Sound}
-use Rattle.front_loop.specs.Serving.{EndHasCause, BreakFits, RestsFit, TellsOf, with_break}
+use Rattle.front_loop.specs.Conns.{brings, before, told_after}
+use Rattle.front_loop.specs.RoundRules.{RoundFits}
+use Rattle.front_loop.specs.Serving.{EndHasCause, TellsOf}
 use Rattle.port_events.specs.declared.events.PortEvent.{PortEvent}
 use Rattle.port_events.specs.declared.events.PortEvent.TheVariants as event
 use Rattle.renderd_handler.specs.Renderd.{renderd_rules}
@@ -67,28 +67,31 @@ may_stop R rs stop worn FrontEnd.Broken fits = inr (fits.1, λ never. cc)
 may_stop R rs stop worn FrontEnd.NoMemory fits = inr (fits.1, λ never. cc)
 may_stop R rs stop worn FrontEnd.Worn fits = inl fits.1
 
-and_first : (a b : Bool) → (a && b) ≡ true → a ≡ true
-and_first true b h = refl
-and_first false b h = h
-
-and_second : (a b : Bool) → (a && b) ≡ true → b ≡ true
-and_second true b h = h
-and_second false b h = cc
-
 module _ {A W : Type 0} (R : Rules A W) where
   pub marked : (shown after : Outside PortsTold) (es : List Entry) (done : FrontDone) (worn : Bool) → FrontLeaves R shown after es done worn → done.end ≡ FrontEnd.Worn → worn ≡ true
   marked shown after es done worn left is = (subst (λ end. EndHasCause R end left.served.rounds left.served.stop worn) is left.served.end_fits).0
 
+  -- the moves of the requests, if they are of this connection; and with the replies to it
+  abbrev asks_on : PortEvent → List A → ℕ → List (Move A)
+  asks_on e acts c = in_turn (λ a ms. cond (brings e c) (Does a ∷ ms) ms) acts []
+
+  abbrev gets_on : List Gathered → ℕ → List (Move A) → List (Move A)
+  gets_on gs c ms = in_turn (λ (g : Gathered) ms. cond (g.reply.conn.number == c) (Gets g.reply g.behind ∷ ms) ms) gs ms
+
+  -- every move fits those before it
+  abbrev AllFit : List (Move A) → Type 0
+  AllFit ms = EachSoFar (λ ns m. R.fits ns m ≡ true) ms
+
   -- the replies of a round fit what came before them on their connection
   abbrev RepliesFit : PortEvent → List A → (ℕ → List (Move A)) → List Gathered → Type 0
-  RepliesFit e acts old gs = (c : ℕ) → each_fits R (gets_on gs c (asks_on e acts c) ++ old c) ≡ true
+  RepliesFit e acts old gs = (c : ℕ) → AllFit (gets_on gs c (asks_on e acts c) ++ old c)
 
-  fewer : (b : Bool) (g : Gathered) (ms old : List (Move A)) → each_fits R (cond b (Gets g.reply g.behind ∷ ms) ms ++ old) ≡ true → each_fits R (ms ++ old) ≡ true
-  fewer true g ms old h = and_second (R.fits (ms ++ old) (Gets g.reply g.behind)) (each_fits R (ms ++ old)) h
+  fewer : (b : Bool) (g : Gathered) (ms old : List (Move A)) → AllFit (cond b (Gets g.reply g.behind ∷ ms) ms ++ old) → AllFit (ms ++ old)
+  fewer true g ms old h = h.1
   fewer false g ms old h = h
 
-  first_fits : (b : Bool) (g : Gathered) (ms old : List (Move A)) → b ≡ true → each_fits R (cond b (Gets g.reply g.behind ∷ ms) ms ++ old) ≡ true → R.fits (ms ++ old) (Gets g.reply g.behind) ≡ true
-  first_fits true g ms old is h = and_first (R.fits (ms ++ old) (Gets g.reply g.behind)) (each_fits R (ms ++ old)) h
+  first_fits : (b : Bool) (g : Gathered) (ms old : List (Move A)) → b ≡ true → AllFit (cond b (Gets g.reply g.behind ∷ ms) ms ++ old) → R.fits (ms ++ old) (Gets g.reply g.behind) ≡ true
+  first_fits true g ms old is h = h.0
   first_fits false g ms old is h = cc
 
   -- the entries of each round are a front's
@@ -125,7 +128,7 @@ module _ {A W : Type 0} (R : Rules A W) where
     each_leave [] es h = h
     each_leave (d ∷ ds) es h = each-join (IsOfFront n) (with_leaves ds es) _ (each_leave ds es h) (tt, tt)
 
-    each_own : (rs : List (FrontRound A)) → Sound R rs → Each (IsOfFront n) (own R rs)
+    each_own : (rs : List (FrontRound A)) → EachSoFar (RoundFits R) rs → Each (IsOfFront n) (own R rs)
     each_own [] sound = tt
     each_own (r ∷ rs) sound =
         each_leave r.left _ (each_last r.last _ (each_reply r.event r.acts (λ c. (before rs r c).moves) r.replies _ sound.0.fits (each_asked r.event r.acts (own R rs) (each_own rs sound.1))))
@@ -141,7 +144,7 @@ module _ {A W : Type 0} (R : Rules A W) where
 
   -- A front that was not begun.
 
-  telling : (start : Option PortsTold) → start ≡ option_map (λ t. with_break false (told_after R [] t)) start
+  telling : (start : Option PortsTold) → start ≡ option_map (λ t. cond false (heard event.Broken [] t) t) (option_map (told_after R []) start)
   telling None = refl
   telling (Some t) = refl
 
@@ -150,7 +153,7 @@ module _ {A W : Type 0} (R : Rules A W) where
   tells (Some t) = λ c. (sym (append-nil (t.taken c)), λ closed. closed)
 
   -- it has made no round
-  no_rounds : (shown : Outside PortsTold) (es stop : List Entry) (done : FrontDone) (worn : Bool) → es ≡ stop → EndHasCause R done.end [] stop worn → RestsFit R done.end [] done.rests.items → done.end ≢ FrontEnd.Broken → done.starved ≡ 0 → FrontLeaves R shown shown es done worn
+  no_rounds : (shown : Outside PortsTold) (es stop : List Entry) (done : FrontDone) (worn : Bool) → es ≡ stop → EndHasCause R done.end [] stop worn → done.rests.items ≡ [] → done.end ≢ FrontEnd.Broken → done.starved ≡ 0 → FrontLeaves R shown shown es done worn
   no_rounds shown es stop done worn are fits rests whole none = record {
     served = record {
       rounds = [];
@@ -161,30 +164,24 @@ module _ {A W : Type 0} (R : Rules A W) where
       sound = tt;
       tells = tells shown.told;
       end_fits = fits;
-      break_fits = unbroken done.end whole;
-      break_time = λ never. cc;
-      rests_fit = rests;
+      broken = λ is. absurd (whole is);
+      breaks = λ never. cc;
+      handed = subst (Each (λ (r : Rest). r.front ≡ R.number)) (sym rests) tt;
+      rests_fit = λ turned. rests;
       counted = none;
     };
     broken = λ is. absurd (whole is);
   }
-    where
-      unbroken : (end : FrontEnd) → end ≢ FrontEnd.Broken → BreakFits end false
-      unbroken FrontEnd.Broken not_so = absurd (not_so refl)
-      unbroken FrontEnd.Finished not_so = refl
-      unbroken FrontEnd.Stopped not_so = refl
-      unbroken FrontEnd.NoMemory not_so = refl
-      unbroken FrontEnd.Worn not_so = tt
 
   pub unbegun : (shown : Outside PortsTold) (es : List Entry) (done : FrontDone) (worn : Bool) → IsUnbegun es done worn → FrontLeaves R shown shown es done worn
   unbegun shown es done worn is = go is.ended
     where
       go : ((es ≡ Stop ∷ []) × (done.end ≡ FrontEnd.NoMemory)) ⊎ ((es ≡ []) × (done.end ≡ FrontEnd.Worn) × (worn ≡ true)) → FrontLeaves R shown shown es done worn
       go (inl a) =
-          no_rounds shown es (Stop ∷ []) done worn a.0 (subst (λ end. EndHasCause R end [] (Stop ∷ []) worn) (sym a.1) (tt, refl)) (subst (λ end. RestsFit R end [] done.rests.items) (sym a.1) is.no_rests)
+          no_rounds shown es (Stop ∷ []) done worn a.0 (subst (λ end. EndHasCause R end [] (Stop ∷ []) worn) (sym a.1) (tt, refl)) is.no_rests
           (λ broken. let never = sym a.1 ∙ broken in cc) is.none_starved
       go (inr a) =
-          no_rounds shown es [] done worn a.0 (subst (λ end. EndHasCause R end [] [] worn) (sym a.1) (a.2, refl)) (subst (λ end. RestsFit R end [] done.rests.items) (sym a.1) (subst (Each (λ (r : Rest). r.front ≡ R.number)) (sym is.no_rests) tt))
+          no_rounds shown es [] done worn a.0 (subst (λ end. EndHasCause R end [] [] worn) (sym a.1) (a.2, refl)) is.no_rests
           (λ broken. let never = sym a.1 ∙ broken in cc) is.none_starved
 
 -- The three fronts.

@@ -15,10 +15,9 @@ use Rattle.front_loop.specs.Rules.{Rules, Move}
 use Rattle.front_loop.specs.inner.Steps.{Step, Phase, Fresh, Hearing, Collecting, Offering, Leaving, phase, goes_on, MayBegin, there, own}
 use Rattle.front_loop.specs.Rounds.{has}
 use Rattle.front_loop.specs.inner.Parts.{part, due, told_after, EachMayCome}
-use Rattle.front_loop.specs.RoundRules.{BeginsRound}
 use Rattle.port_events.specs.declared.ends.Rest.{Rest}
-use Rattle.front_loop.specs.inner.StepRuns.{EndsAt, StopsAt, StepRun, EndHasCause, RestsFit, rests_of}
-use Rattle.front_loop.specs.Serving.{BreakFits, with_break}
+use Rattle.front_loop.specs.inner.Sound.{BeginsRound}
+use Rattle.front_loop.specs.inner.StepRuns.{EndsAt, StopsAt, StepRun, EndHasCause, RestsFit, rests_of, BreakFits, with_break}
 use Rattle.front_loop.specs.inner.Sessions.{conns, keys, Apart}
 use Rattle.front_loop.specs.inner.Stands.{World, IsAtRest, Sits, Stands}
 use Rattle.front_loop.specs.inner.Stages.{HasBegun, Collects, CanGo, IsOver, Goes, CutShort, EndsEarly, end_of, StopsAfter}

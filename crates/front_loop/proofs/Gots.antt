@@ -1,5 +1,5 @@
 -- Replies: one session as a reply comes for it, and all else.
-use Rattle.std.proofs.Common.{◌≡◌, ◌==◌, ◌<◌, ◌≤◌, ◌+◌, ℕ, Bool, true, false, ◌&&◌, ◌||◌, cond, List, [], ◌∷◌, ◌++◌, length, map, set, drop, Option, refl, sym, ap, subst, ◌∙◌, arith, nat_lt, append_assoc, length-append}
+use Rattle.std.proofs.Common.{◌≡◌, ◌==◌, ◌<◌, ◌≤◌, ◌+◌, ℕ, Bool, true, false, not, ◌&&◌, ◌||◌, cond, List, [], ◌∷◌, ◌++◌, length, map, set, drop, Option, refl, sym, ap, subst, ◌∙◌, arith, nat_lt, append_assoc, length-append}
 use Rattle.std.proofs.Math.Bool.{or-false}
 use Rattle.std.proofs.lemmas.Bool.{lt-ltb, le-ltb, ltb-true, or_parts}
 use Rattle.std.proofs.lemmas.List.{append-nil}
@@ -20,16 +20,16 @@ use Rattle.front_loop.specs.declared.sessions.Session.{Session}
 use Rattle.front_loop.specs.Rules.{Rules, Move, Does, Gets, answer_bytes, each_whole}
 use Rattle.front_loop.specs.inner.Steps.{Step, Came, Did, Got, Through, Tried, Left, Phase, Fresh, Hearing, Collecting, Offering, Leaving, phase, collecting, offering, leaving, Gathers, Offers, IsThrough}
 use Rattle.front_loop.specs.Rounds.{has}
-use Rattle.front_loop.specs.inner.Parts.{Part, part, after_move, must, is_full, is_excused, is_open, Running}
+use Rattle.front_loop.specs.inner.Parts.{Part, part, after_move, must, is_full, runs, meets, is_excused, is_open, Running, Lacks, WhenHeard, WhenReplied, WhenOffered}
 use Rattle.front_loop.specs.Rules.{is_cut}
 use Rattle.front_loop.specs.inner.Sound.{Sound}
 use Rattle.front_loop.specs.Front.{keeps, RepliedWhy, MayStandAlone}
 use Rattle.front_loop.specs.inner.Sessions.{conns, keys, Apart, StandsAt, is_up, asks_all, worse, owing, woken}
 use Rattle.front_loop.specs.inner.Stands.{World, DispositionFits, Keeping, Counts, Sits}
 use Rattle.front_loop.specs.inner.Stages.{IsAt, IsOffering, Settles, Passes, Holds, Overflows, Starves, AnswersOne, AnswersWorn, RepliesOne, Passed, Cuts, Answers, Collects, CanOffer, CutShort}
-use Rattle.front_loop.proofs.Tables.{other, same, conns_set, conns_woken, each_set, each_none, each_woken, each_at}
+use Rattle.front_loop.proofs.Tables.{other, same, conns_set, conns_woken, each_set, each_none, each_woken, each_weaker, each_at}
 use Rattle.front_loop.proofs.Rests.{at_put}
-use Rattle.front_loop.proofs.Sitting.{clash, and_both, or_none, or_more, or_less, or_left, or_right, no_response, within, beyond, due_grows, sits_as, others}
+use Rattle.front_loop.proofs.Sitting.{clash, and_both, or_none, or_more, or_less, or_left, or_right, no_response, within, beyond, due_grows, sits_as, runs_of, others}
 use Rattle.front_loop.proofs.Heards.{holds_rest}
 use Rattle.front_loop.proofs.Worlds.{settles_keys, settles_other}
 
@@ -108,9 +108,9 @@ keeps_up (Leaves reason.NoMemory) k = refl
 keeps_up (Leaves reason.Starved) k = refl
 
 module _ {A W : Type 0} (R : Rules A W) where
-  -- nothing was offered to it in the newest round
+  -- nothing was offered to it in the newest round, whose last Collect is still to come
   abbrev pub Untried : Part A → Type 0
-  Untried p = (p.tried ≡ false) × (p.failed ≡ false) × (p.sent_whole ≡ false)
+  Untried p = (p.tried ≡ false) × (p.failed ≡ false) × (p.sent_whole ≡ false) × (p.through ≡ false)
 
   same_tried : (b : Bool) (m : Move A) (p : Part A) → Untried p → Untried (cond b (after_move R m p) p)
   same_tried true m p h = h
@@ -119,7 +119,7 @@ module _ {A W : Type 0} (R : Rules A W) where
   -- before the last Collect nothing was offered
   pub untried : (ss : List (Step A)) (c : ℕ) → Sound R ss → Gathers (phase ss) → Untried (part R ss c)
   untried [] c s g = absurd g
-  untried (Came e piece kept ∷ ss) c s g = (refl, refl, refl)
+  untried (Came e piece kept ∷ ss) c s g = (refl, refl, refl, refl)
   untried (Did d a ∷ ss) c s g = same_tried (d == c) (Does a) (part R ss c) (untried ss c s.1 g)
   untried (Got r behind ∷ ss) c s g = same_tried (r.conn.number == c) (Gets r behind) (part R ss c) (untried ss c s.1 (gathered (phase ss) g))
   untried (Through stopped ∷ ss) c s g = absurd (not_through stopped (phase ss) g)
@@ -149,18 +149,28 @@ module _ {A W T : Type 0} (R : Rules A W) (K : List ℕ → List (Move A) → T 
   running_got : (r : Reply) (behind : List Entry) (p : Part A) → Running p → Running (got r behind p)
   running_got r behind p h = record { ended = h.ended; lost = h.lost; sends = h.sends; sent = h.sent }
 
+  -- memory may have been wanting before a reply
+  lacks_more : (r : Reply) (behind : List Entry) (p : Part A) → p.through ≡ false → Lacks R p → Lacks R (got r behind p)
+  lacks_more r behind p u (WhenHeard h) = WhenHeard h
+  lacks_more r behind p u (WhenReplied h) = WhenReplied (or_right (meets R (Gets r behind) p) p.met h)
+  lacks_more r behind p u (WhenOffered t m d n) = clash (sym t ∙ u)
+
+  -- or at it
+  lacks_at : (r : Reply) (behind : List Entry) (p : Part A) (s : Session T) (rest : List ℕ) → Keeping R K p s rest → is_cut {A = A} (Gets r behind) ≡ false → Lacks R (got r behind p)
+  lacks_at r behind p s rest k n = WhenReplied (or_left (meets R (Gets r behind) p) p.met (ap (λ b. not b && runs R p) n ∙ runs_of R K p s rest k))
+
   -- a cause stays
-  caused_more : (r : Reply) (behind : List Entry) (p : Part A) (f : Disposition) → R.starves (Gets r behind) ≡ false → keeps f ≡ false → DispositionFits R p f → DispositionFits R (got r behind p) f
-  caused_more r behind p Stays n k h = clash k
-  caused_more r behind p (Leaves reason.Unread) n k h = clash k
-  caused_more r behind p (Leaves reason.Ended) n k h = h
-  caused_more r behind p (Leaves reason.Lost) n k h = h
-  caused_more r behind p (Leaves reason.Cut) n k h = or_right (is_cut {A = A} (Gets r behind)) p.cut h
-  caused_more r behind p (Leaves reason.Full) n k h = full_more r behind p h
-  caused_more r behind p (Leaves reason.SentWhole) n k h = h
-  caused_more r behind p (Leaves reason.SendFailed) n k h = h
-  caused_more r behind p (Leaves reason.NoMemory) n k h = or_right (R.starves (Gets r behind)) p.starved h
-  caused_more r behind p (Leaves reason.Starved) n k h = (running_got r behind p h.0, or_none (R.starves (Gets r behind)) p.starved n h.1)
+  caused_more : (r : Reply) (behind : List Entry) (p : Part A) (f : Disposition) → Untried R p → R.starves (Gets r behind) ≡ false → keeps f ≡ false → DispositionFits R p f → DispositionFits R (got r behind p) f
+  caused_more r behind p Stays u n k h = clash k
+  caused_more r behind p (Leaves reason.Unread) u n k h = clash k
+  caused_more r behind p (Leaves reason.Ended) u n k h = h
+  caused_more r behind p (Leaves reason.Lost) u n k h = h
+  caused_more r behind p (Leaves reason.Cut) u n k h = or_right (is_cut {A = A} (Gets r behind)) p.cut h
+  caused_more r behind p (Leaves reason.Full) u n k h = full_more r behind p h
+  caused_more r behind p (Leaves reason.SentWhole) u n k h = h
+  caused_more r behind p (Leaves reason.SendFailed) u n k h = h
+  caused_more r behind p (Leaves reason.NoMemory) u n k h = or_right (R.starves (Gets r behind)) p.starved h
+  caused_more r behind p (Leaves reason.Starved) u n k h = (running_got r behind p h.0, or_none (R.starves (Gets r behind)) p.starved n h.1, h.2, lacks_more r behind p u.3 h.3)
 
   -- a reply that is passed over may lack entries
   excused_by : (r : Reply) (p : Part A) (f : Disposition) → keeps f ≡ false → asks_all f ≡ true → DispositionFits R p f → Untried R p → is_excused (Gets r []) p ≡ true
@@ -188,7 +198,7 @@ module _ {A W T : Type 0} (R : Rules A W) (K : List ℕ → List (Move A) → T 
       → Untried R p → Sits R K told box (got r [] p) s
   passed_sits told box p s r n h k u =
       sits_as R K told box (got r [] p) s s.disposition refl h.rest_there h.opening h.up (counts_got r [] p h.counts) (λ e. clash (sym e ∙ k))
-      (caused_more r [] p s.disposition n k h.disposition_fits)
+      (caused_more r [] p s.disposition u n k h.disposition_fits)
       (λ a. let all = h.asked_all a in
       (all.0, complete_got r [] p (or_left (is_excused (Gets r []) p) (R.whole p.moves (Gets r [])) (excused_by r p s.disposition k a h.disposition_fits u)) all.1))
 
@@ -259,9 +269,11 @@ module _ {A W T : Type 0} (R : Rules A W) (K : List ℕ → List (Move A) → T 
   owes_by r behind p response false e n f h = must_respond r behind p response e n (sym (or-false (nat_lt 0 (length response))) ∙ h)
 
   keeping_got : (told : Option PortsTold) (box box' : List (ℕ × List ℕ)) (p : Part A) (r : Reply) (behind : List Entry) (s s' : Session T) (response : List ℕ)
-      → Say told box p r behind s s' response Stays → rest_in box' s'.conn ≡ rest_in box s'.conn ++ response → Keeping R K (got r behind p) s' (rest_in box' s'.conn)
-  keeping_got told box box' p r behind s s' response h e =
+      → Say told box p r behind s s' response Stays → rest_in box' s'.conn ≡ rest_in box s'.conn ++ response
+      → length (answer_bytes R (Gets r behind ∷ p.moves)) ≤ p.took + most_rest_bytes → Keeping R K (got r behind p) s' (rest_in box' s'.conn)
+  keeping_got told box box' p r behind s s' response h e l =
       let k = h.keep in
+      let same : p.took ≡ p.had = h.counts.untaken h.untried in
       let is = text_is r behind p response (h.response_is refl) in
       record {
         rest_is = e ∙ ap (λ xs. xs ++ response) k.rest_is ∙ sym (due_grows R p.took (answer_bytes R p.moves) response (answer_bytes R (Gets r behind ∷ p.moves)) h.counts.low is);
@@ -270,6 +282,8 @@ module _ {A W T : Type 0} (R : Rules A W) (K : List ℕ → List (Move A) → T 
         knows = h.knows refl;
         running = running_got r behind p k.running;
         memory = or_none (R.starves (Gets r behind)) p.starved h.why k.memory;
+        uncut = or_none (is_cut {A = A} (Gets r behind)) p.cut h.uncut k.uncut;
+        small = le-ltb (p.had + most_rest_bytes) (length (answer_bytes R (Gets r behind ∷ p.moves))) (omega (arith, same, l));
         owed = λ o. (h.untried, owes_by r behind p response s.owes (h.response_is refl) h.counts (λ q. (k.owed q).1) (sym h.owes ∙ o));
         offered = λ o m t.
             let parts = or_parts s.owes (nat_lt 0 (length response) || false) (sym h.owes ∙ o) in
@@ -287,7 +301,7 @@ module _ {A W T : Type 0} (R : Rules A W) (K : List ℕ → List (Move A) → T 
       (λ q. clash (sym q)) (or_left (R.starves (Gets r behind)) p.starved h.why) (λ q. clash (sym q))
   response_passes told box p r behind s s' response (Leaves reason.Starved) h k n e =
       sits_as R K told box (got r behind p) s' (Leaves reason.Starved) e h.has (λ _. h.op) h.opened (counts_got r behind p h.counts)
-      (λ q. clash (sym q)) (running_got r behind p h.keep.running, or_none (R.starves (Gets r behind)) p.starved h.why h.keep.memory) (λ q. clash (sym q))
+      (λ q. clash (sym q)) (running_got r behind p h.keep.running, or_none (R.starves (Gets r behind)) p.starved h.why h.keep.memory, h.untried, lacks_at r behind p s (rest_in box s'.conn) h.keep h.uncut) (λ q. clash (sym q))
   response_passes told box p r behind s s' response (Leaves reason.Unread) h k n e = absurd h.why
   response_passes told box p r behind s s' response (Leaves reason.Ended) h k n e = absurd h.why
   response_passes told box p r behind s s' response (Leaves reason.Lost) h k n e = absurd h.why
@@ -343,7 +357,7 @@ module _ {A W T : Type 0} (R : Rules A W) (K : List ℕ → List (Move A) → T 
       (subst (λ (xs : List ℕ). length (xs ++ response) ≤ most_rest_bytes) h.keep.rest_is l) in
       sits_as R K told box' (got r behind p) s' s.disposition e (rest_in box s'.conn ++ response, at_put box s'.conn (rest_in box s'.conn ++ response) h.has) (λ _. h.op)
       (h.opened ∙ sym (keeps_up s.disposition k)) (counts_got r behind p h.counts)
-      (λ _. keeping_got told box box' p r behind s s' response h (holds_rest R K box s'.conn (rest_in box s'.conn ++ response) h.has))
+      (λ _. keeping_got told box box' p r behind s s' response h (holds_rest R K box s'.conn (rest_in box s'.conn ++ response) h.has) short)
       (fits_got told box p r behind s s' response s.disposition h k h.fits short)
       (λ _. (h.keep.asked_all, complete_got r behind p (or_right (is_excused (Gets r behind) p) (R.whole p.moves (Gets r behind)) (h.whole refl)) h.complete))
 
@@ -360,7 +374,7 @@ module _ {A W T : Type 0} (R : Rules A W) (K : List ℕ → List (Move A) → T 
       → Say told box p r behind s s' response Stays → s'.disposition ≡ Leaves reason.Starved → Sits R K told box (got r behind p) s'
   said_starves told box p r behind s s' response h e =
       sits_as R K told box (got r behind p) s' (Leaves reason.Starved) e h.has (λ _. h.op) h.opened (counts_got r behind p h.counts)
-      (λ q. clash (sym q)) (running_got r behind p h.keep.running, or_none (R.starves (Gets r behind)) p.starved h.why h.keep.memory) (λ q. clash (sym q))
+      (λ q. clash (sym q)) (running_got r behind p h.keep.running, or_none (R.starves (Gets r behind)) p.starved h.why h.keep.memory, h.untried, lacks_at r behind p s (rest_in box s'.conn) h.keep h.uncut) (λ q. clash (sym q))
 
   response_by : (told : Option PortsTold) (box box' : List (ℕ × List ℕ)) (p : Part A) (r : Reply) (behind : List Entry) (s s' : Session T) (response : List ℕ) (f f' : Disposition)
       → Say told box p r behind s s' response f → keeps s.disposition ≡ true → s'.disposition ≡ f' → Settles s'.conn response (worse s.disposition f) f' box box' → Sits R K told box' (got r behind p) s'
@@ -509,6 +523,45 @@ module _ {A W T : Type 0} (R : Rules A W) (K : List ℕ → List (Move A) → T 
         sound = ((gathers_at e (phase ss) h.time, subst (λ c. R.fits (part R ss c).moves (Gets r rp.behind) ≡ true) sc rp.fits), h.stands.sound);
       }
 
+  -- the last Collect is over, and has it offered its bytes or not
+  abbrev over : Bool → Part A → Part A
+  over stopped p = record p { called = stopped || p.called; through = true }
+
+  lacks_over : (stopped : Bool) (p : Part A) → p.through ≡ false → Lacks R p → Lacks R (over stopped p)
+  lacks_over stopped p u (WhenHeard h) = WhenHeard h
+  lacks_over stopped p u (WhenReplied h) = WhenReplied h
+  lacks_over stopped p u (WhenOffered t m d n) = clash (sym t ∙ u)
+
+  over_fits : (stopped : Bool) (p : Part A) (f : Disposition) → p.through ≡ false → DispositionFits R p f → DispositionFits R (over stopped p) f
+  over_fits stopped p Stays u h = record { ended = h.ended; lost = h.lost; cut = h.cut; full = h.full; read = h.read; sent = h.sent; sends = h.sends; memory = h.memory }
+  over_fits stopped p (Leaves reason.Unread) u h = h
+  over_fits stopped p (Leaves reason.Ended) u h = h
+  over_fits stopped p (Leaves reason.Lost) u h = h
+  over_fits stopped p (Leaves reason.Cut) u h = h
+  over_fits stopped p (Leaves reason.Full) u h = h
+  over_fits stopped p (Leaves reason.SentWhole) u h = h
+  over_fits stopped p (Leaves reason.SendFailed) u h = h
+  over_fits stopped p (Leaves reason.NoMemory) u h = h
+  over_fits stopped p (Leaves reason.Starved) u h = (record { ended = h.0.ended; lost = h.0.lost; sends = h.0.sends; sent = h.0.sent }, h.1, h.2, lacks_over stopped p u h.3)
+
+  called_sits : (told : Option PortsTold) (box : List (ℕ × List ℕ)) (p : Part A) (s : Session T) → Sits R K told box p s → Untried R p
+      → Sits R K told box (over true p) (woken s)
+  called_sits told box p s h u =
+      sits_as R K told box (over true p) (woken s) s.disposition refl h.rest_there h.opening h.up
+      (record { low = h.counts.low; before = h.counts.before; more = h.counts.more; untaken = h.counts.untaken })
+      (λ e. let k = h.keeping e in
+      record { rest_is = k.rest_is; asked_all = k.asked_all; whole = k.whole; knows = k.knows; running = record { ended = k.running.ended; lost = k.running.lost; sends = k.running.sends; sent = k.running.sent }; memory = k.memory; uncut = k.uncut; small = k.small; owed = λ _. (u.0, refl); offered = λ q. clash q })
+      (over_fits true p s.disposition u.3 h.disposition_fits) h.asked_all
+
+  over_sits : (told : Option PortsTold) (box : List (ℕ × List ℕ)) (p : Part A) (s : Session T) → Sits R K told box p s → Untried R p
+      → Sits R K told box (over false p) s
+  over_sits told box p s h u =
+      sits_as R K told box (over false p) s s.disposition refl h.rest_there h.opening h.up
+      (record { low = h.counts.low; before = h.counts.before; more = h.counts.more; untaken = h.counts.untaken })
+      (λ e. let k = h.keeping e in
+      record { rest_is = k.rest_is; asked_all = k.asked_all; whole = k.whole; knows = k.knows; running = record { ended = k.running.ended; lost = k.running.lost; sends = k.running.sends; sent = k.running.sent }; memory = k.memory; uncut = k.uncut; small = k.small; owed = k.owed; offered = k.offered })
+      (over_fits false p s.disposition u.3 h.disposition_fits) h.asked_all
+
   -- the last Collect
   pub through_empty : (e : PortEvent) (start : Option PortsTold) (ss : List (Step A)) (w : World T) (mine' : List Entry) → Collects R K e start ss w
       → mine' ≡ w.mine ++ Collect R.number collected.Empty ∷ [] → CanOffer R K e false start (record w { mine = mine' })
@@ -523,31 +576,11 @@ module _ {A W T : Type 0} (R : Rules A W) (K : List ℕ → List (Move A) → T 
       sound = (gathers_at e (phase ss) h.time, h.stands.sound);
       counted = h.stands.counted;
       apart = h.stands.apart;
-      each = h.stands.each;
+      each = each_weaker (λ (s : Session T). Sits R K w.told w.box (part R ss s.conn) s) (λ (s : Session T). Sits R K w.told w.box (part R (Through false ∷ ss) s.conn) s) w.sessions
+          (λ x q. over_sits w.told w.box (part R ss x.conn) x q (untried R ss x.conn h.stands.sound (gathers_at e (phase ss) h.time))) h.stands.each;
     };
     time = offering_at e false (phase ss) h.time;
   }
-
-  called_fits : (p : Part A) (f : Disposition) → DispositionFits R p f → DispositionFits R (record p { called = true }) f
-  called_fits p Stays h = record { ended = h.ended; lost = h.lost; cut = h.cut; full = h.full; read = h.read; sent = h.sent; sends = h.sends; memory = h.memory }
-  called_fits p (Leaves reason.Unread) h = h
-  called_fits p (Leaves reason.Ended) h = h
-  called_fits p (Leaves reason.Lost) h = h
-  called_fits p (Leaves reason.Cut) h = h
-  called_fits p (Leaves reason.Full) h = h
-  called_fits p (Leaves reason.SentWhole) h = h
-  called_fits p (Leaves reason.SendFailed) h = h
-  called_fits p (Leaves reason.NoMemory) h = h
-  called_fits p (Leaves reason.Starved) h = (record { ended = h.0.ended; lost = h.0.lost; sends = h.0.sends; sent = h.0.sent }, h.1)
-
-  called_sits : (told : Option PortsTold) (box : List (ℕ × List ℕ)) (p : Part A) (s : Session T) → Sits R K told box p s → p.tried ≡ false
-      → Sits R K told box (record p { called = true }) (woken s)
-  called_sits told box p s h u =
-      sits_as R K told box (record p { called = true }) (woken s) s.disposition refl h.rest_there h.opening h.up
-      (record { low = h.counts.low; before = h.counts.before; more = h.counts.more; untaken = h.counts.untaken })
-      (λ e. let k = h.keeping e in
-      record { rest_is = k.rest_is; asked_all = k.asked_all; whole = k.whole; knows = k.knows; running = record { ended = k.running.ended; lost = k.running.lost; sends = k.running.sends; sent = k.running.sent }; memory = k.memory; owed = λ _. (u, refl); offered = λ q. clash q })
-      (called_fits p s.disposition h.disposition_fits) h.asked_all
 
   pub through_stopped : (e : PortEvent) (start : Option PortsTold) (ss : List (Step A)) (w : World T) (mine' : List Entry) → Collects R K e start ss w
       → mine' ≡ w.mine ++ Collect R.number collected.Stopped ∷ [] → CanOffer R K e true start (record w { mine = mine'; sessions = map woken w.sessions })
@@ -563,7 +596,7 @@ module _ {A W T : Type 0} (R : Rules A W) (K : List ℕ → List (Move A) → T 
       counted = h.stands.counted;
       apart = subst Apart (sym (conns_woken w.sessions)) h.stands.apart;
       each = each_woken (λ (s : Session T). Sits R K w.told w.box (part R ss s.conn) s) (λ (s : Session T). Sits R K w.told w.box (part R (Through true ∷ ss) s.conn) s) w.sessions
-          (λ x q. called_sits w.told w.box (part R ss x.conn) x q (untried R ss x.conn h.stands.sound (gathers_at e (phase ss) h.time)).0) h.stands.each;
+          (λ x q. called_sits w.told w.box (part R ss x.conn) x q (untried R ss x.conn h.stands.sound (gathers_at e (phase ss) h.time))) h.stands.each;
     };
     time = offering_at e true (phase ss) h.time;
   }

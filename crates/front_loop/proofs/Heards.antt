@@ -10,13 +10,13 @@ use Rattle.front_loop.specs.declared.dispositions.Disposition.TheVariants.{Stays
 use Rattle.front_loop.specs.declared.dispositions.Reason.TheVariants as reason
 use Rattle.front_loop.specs.declared.sessions.Session.{Session}
 use Rattle.front_loop.specs.Rules.{Rules, Move, wants_of, answer_bytes, each_whole, any_starves}
-use Rattle.front_loop.specs.inner.Parts.{Part, due, must}
+use Rattle.front_loop.specs.inner.Parts.{Part, due, must, WhenHeard}
 use Rattle.front_loop.specs.Front.{keeps, does, HeardWhy, Heard}
 use Rattle.front_loop.specs.inner.Sessions.{is_up, is_unread, owing}
 use Rattle.front_loop.specs.inner.Stands.{IsAtRest, Keeping, Counts, Sits}
 use Rattle.front_loop.specs.inner.Stages.{Settles, Passes, Holds, Overflows, Starves, HearsOne}
 use Rattle.front_loop.proofs.Rests.{at_put}
-use Rattle.front_loop.proofs.Sitting.{clash, or_none, or_left, grew_by, rolled, moved_by, whole_acts, text_grows, due_grows, within, beyond, sits_as, calm_of, kept_of}
+use Rattle.front_loop.proofs.Sitting.{clash, or_none, or_left, grew_by, fed, moved_by, whole_acts, text_grows, due_grows, within, beyond, sits_as, calm_of, kept_of}
 
 module _ {A W T : Type 0} (R : Rules A W) (K : List ℕ → List (Move A) → T → Type 0) where
   -- all that is known as a piece was heard
@@ -33,7 +33,7 @@ module _ {A W T : Type 0} (R : Rules A W) (K : List ℕ → List (Move A) → T 
     owes : s'.owes ≡ owing false response f
 
   abbrev pub after_it : Part A → List A → List ℕ → Part A
-  after_it p acts given = moved_by R acts (rolled R given false false false p)
+  after_it p acts given = moved_by R acts (fed R given p)
 
   counts_then : (p : Part A) (acts : List A) (given : List ℕ) → Counts R p → Counts R (after_it p acts given)
   counts_then p acts given n =
@@ -64,8 +64,8 @@ module _ {A W T : Type 0} (R : Rules A W) (K : List ℕ → List (Move A) → T 
 
   keeping_then : (told : Option PortsTold) (box box' : List (ℕ × List ℕ)) (p : Part A) (acts : List A) (given : List ℕ) (s' : Session T) (response : List ℕ) (f : Disposition)
       → Hear told box box' p acts given s' response f → keeps f ≡ true → R.refuses given ≡ is_unread f → rest_in box' s'.conn ≡ rest_in box s'.conn ++ response
-      → Keeping R K (after_it p acts given) s' (rest_in box' s'.conn)
-  keeping_then told box box' p acts given s' response f h k r e =
+      → length (answer_bytes R (does acts ++ p.moves)) ≤ p.took + most_rest_bytes → Keeping R K (after_it p acts given) s' (rest_in box' s'.conn)
+  keeping_then told box box' p acts given s' response f h k r e short =
       let must_is = must_owes p acts given response f (h.response_is k) r in
       record {
         rest_is = e ∙ ap (λ xs. xs ++ response) h.rest_is ∙ sym (due_grows R p.took (answer_bytes R p.moves) response (answer_bytes R (does acts ++ p.moves)) h.counts.low (h.response_is k));
@@ -74,6 +74,8 @@ module _ {A W T : Type 0} (R : Rules A W) (K : List ℕ → List (Move A) → T 
         knows = h.knows k;
         running = record { ended = refl; lost = refl; sends = refl; sent = refl };
         memory = unstarved given acts f k h.why;
+        uncut = refl;
+        small = le-ltb (p.took + most_rest_bytes) (length (answer_bytes R (does acts ++ p.moves))) short;
         owed = λ o. (refl, must_is ∙ sym h.owes ∙ o);
         offered = λ o m t. clash (sym m ∙ must_is ∙ sym h.owes ∙ o);
       }
@@ -87,7 +89,7 @@ module _ {A W T : Type 0} (R : Rules A W) (K : List ℕ → List (Move A) → T 
       (λ q. clash (sym q)) (or_left (any_starves R (does acts)) false h.why) (λ q. clash (sym q))
   heard_passes told box p acts given s' response (Leaves reason.Starved) h k e =
       sits_as R K told box (after_it p acts given) s' (Leaves reason.Starved) e h.has (λ _. h.op) refl (counts_then p acts given h.counts)
-      (λ q. clash (sym q)) (record { ended = refl; lost = refl; sends = refl; sent = refl }, or_none (any_starves R (does acts)) false h.why refl) (λ q. clash (sym q))
+      (λ q. clash (sym q)) (record { ended = refl; lost = refl; sends = refl; sent = refl }, or_none (any_starves R (does acts)) false h.why refl, refl, WhenHeard refl) (λ q. clash (sym q))
   heard_passes told box p acts given s' response (Leaves reason.Ended) h k e = absurd h.why
   heard_passes told box p acts given s' response (Leaves reason.Lost) h k e = absurd h.why
   heard_passes told box p acts given s' response (Leaves reason.Cut) h k e = absurd h.why
@@ -108,7 +110,7 @@ module _ {A W T : Type 0} (R : Rules A W) (K : List ℕ → List (Move A) → T 
       (subst (λ (xs : List ℕ). length (xs ++ response) ≤ most_rest_bytes) h.rest_is l) in
       sits_as R K told box' (after_it p acts given) s' Stays e (rest_in box s'.conn ++ response, at_put box s'.conn (rest_in box s'.conn ++ response) h.has) (λ _. h.op) refl
       (counts_then p acts given h.counts)
-      (λ _. keeping_then told box box' p acts given s' response Stays h refl h.why.0 (holds_rest box s'.conn (rest_in box s'.conn ++ response) h.has))
+      (λ _. keeping_then told box box' p acts given s' response Stays h refl h.why.0 (holds_rest box s'.conn (rest_in box s'.conn ++ response) h.has) short)
       (record {
         ended = refl;
         lost = refl;
@@ -122,9 +124,11 @@ module _ {A W T : Type 0} (R : Rules A W) (K : List ℕ → List (Move A) → T 
       (λ _. (h.asked_is refl, sym (whole_acts R acts p.moves) ∙ h.whole refl))
   heard_holds told box p acts given s' response (Leaves reason.Unread) h k e l =
       let box' = put_rest box s'.conn (rest_in box s'.conn ++ response) in
+      let short = within R p.took (answer_bytes R p.moves) response (answer_bytes R (does acts ++ p.moves)) h.counts.low (h.response_is refl)
+      (subst (λ (xs : List ℕ). length (xs ++ response) ≤ most_rest_bytes) h.rest_is l) in
       sits_as R K told box' (after_it p acts given) s' (Leaves reason.Unread) e (rest_in box s'.conn ++ response, at_put box s'.conn (rest_in box s'.conn ++ response) h.has) (λ _. h.op) refl
       (counts_then p acts given h.counts)
-      (λ _. keeping_then told box box' p acts given s' response (Leaves reason.Unread) h refl h.why.0 (holds_rest box s'.conn (rest_in box s'.conn ++ response) h.has))
+      (λ _. keeping_then told box box' p acts given s' response (Leaves reason.Unread) h refl h.why.0 (holds_rest box s'.conn (rest_in box s'.conn ++ response) h.has) short)
       h.why.0 (λ _. (h.asked_is refl, sym (whole_acts R acts p.moves) ∙ h.whole refl))
   heard_holds told box p acts given s' response (Leaves reason.NoMemory) h k e l = clash (sym k)
   heard_holds told box p acts given s' response (Leaves reason.Starved) h k e l = clash (sym k)
@@ -148,7 +152,7 @@ module _ {A W T : Type 0} (R : Rules A W) (K : List ℕ → List (Move A) → T 
       → Hear told box box p acts given s' response f → keeps f ≡ true → s'.disposition ≡ Leaves reason.Starved → Sits R K told box (after_it p acts given) s'
   heard_starves told box p acts given s' response f h k e =
       sits_as R K told box (after_it p acts given) s' (Leaves reason.Starved) e h.has (λ _. h.op) refl (counts_then p acts given h.counts)
-      (λ q. clash (sym q)) (record { ended = refl; lost = refl; sends = refl; sent = refl }, unstarved given acts f k h.why) (λ q. clash (sym q))
+      (λ q. clash (sym q)) (record { ended = refl; lost = refl; sends = refl; sent = refl }, unstarved given acts f k h.why, refl, WhenHeard refl) (λ q. clash (sym q))
 
   heard_by : (told : Option PortsTold) (box box' : List (ℕ × List ℕ)) (p : Part A) (acts : List A) (given : List ℕ) (s' : Session T) (response : List ℕ) (f f' : Disposition)
       → ((b : List (ℕ × List ℕ)) → Hear told box b p acts given s' response f) → s'.disposition ≡ f' → Settles s'.conn response f f' box box'

@@ -10,8 +10,8 @@ use Rattle.front_loop.specs.declared.dispositions.Reason.{Reason}
 use Rattle.front_loop.specs.declared.dispositions.Reason.TheVariants as reason
 use Rattle.front_loop.specs.declared.sessions.Session.{Session}
 use Rattle.front_loop.specs.Rules.{Rules, Move}
-use Rattle.front_loop.specs.inner.Steps.{Left, Phase, Fresh, Hearing, Collecting, Offering, Leaving, phase, leaving, IsThrough, there, starved_in}
-use Rattle.front_loop.specs.Rounds.{has, remove, with_starved}
+use Rattle.front_loop.specs.inner.Steps.{Left, Phase, Fresh, Hearing, Collecting, Offering, Leaving, phase, leaving, IsThrough, there, starved_in, remove}
+use Rattle.front_loop.specs.Rounds.{has, with_starved}
 use Rattle.front_loop.specs.inner.Parts.{Part, part, is_open, told_after}
 use Rattle.front_loop.specs.inner.Sound.{LastTry, AskedAll}
 use Rattle.front_loop.specs.inner.StepRuns.{EndsAt}

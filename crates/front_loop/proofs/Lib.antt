@@ -11,4 +11,6 @@ pub mod Opens
 pub mod Telling
 pub mod Goings
 pub mod Seating
+pub mod StandingMade
 pub mod RoundsMade
+pub mod RunMade

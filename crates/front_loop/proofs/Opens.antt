@@ -94,6 +94,8 @@ module _ {A W T : Type 0} (R : Rules A W) (K : List ℕ → List (Move A) → T 
         knows = b.knows;
         running = record { ended = refl; lost = refl; sends = refl; sent = refl };
         memory = refl;
+        uncut = refl;
+        small = le-ltb (0 + most_rest_bytes) 0 (omega arith);
         owed = λ e. clash (sym e);
         offered = λ _ m t. clash (sym m ∙ or_none (nat_lt 0 0) (R.refuses []) refl b.read);
       })

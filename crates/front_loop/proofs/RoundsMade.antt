@@ -1,383 +1,109 @@
 -- Steps make rounds: what a front did step by step, told as rounds.
-use Rattle.std.proofs.Common.{◌≡◌, ◌==◌, ◌≤◌, ◌<◌, ◌+◌, ℕ, Bool, true, false, not, ◌&&◌, ◌||◌, cond, List, [], ◌∷◌, ◌++◌, length, take, drop, map, Option, Some, None, option_map, IfSome, refl, sym, ap, subst, ◌∙◌, inl, inr, ◌⊎◌, nat_lt}
-use Rattle.std.specs.Prelude.{◌≢◌, nat_le, min, ◌-◌, ◌^◌}
-use Rattle.std.specs.List.{list_any}
-use Rattle.std.proofs.Math.Bool.{or-true, or-false}
+use Rattle.std.proofs.Common.{◌≡◌, ◌==◌, ◌≤◌, ◌<◌, ◌+◌, ℕ, Bool, true, false, ◌&&◌, cond, List, [], ◌∷◌, ◌++◌, length, Option, Some, None, IfSome, refl, sym, ap, subst, ◌∙◌, inl, inr}
+use Rattle.std.specs.Prelude.{◌-◌}
 use Rattle.std.proofs.lemmas.Bool.{eqb-true, eq-eqb}
-use Rattle.farm_base.specs.Limits.{most_rest_bytes, most_sessions}
+use Rattle.farm_base.specs.Limits.{most_sessions}
 use Rattle.farm_history.specs.declared.queues.Reply.{Reply}
 use Rattle.farm_history.specs.declared.answers.Collected.TheVariants as collected
-use Rattle.farm_history.specs.Entries.{Entry, Collect, Leave, Stop}
+use Rattle.farm_history.specs.Entries.{Entry, Collect, Leave}
 use Rattle.port_events.specs.declared.events.PortEvent.{PortEvent}
 use Rattle.port_events.specs.declared.events.PortEvent.TheVariants as event
-use Rattle.port_events.specs.declared.ends.FrontEnd.{FrontEnd}
-use Rattle.port_events.specs.declared.ends.FrontEnd.TheVariants as ended
-use Rattle.port_events.specs.declared.ends.Rest.{Rest}
 use Rattle.port_events.specs.Told.{PortsTold, heard, after_send, after_close}
 use Rattle.front_loop.specs.declared.dispositions.Reason.{Reason}
 use Rattle.front_loop.specs.declared.dispositions.Reason.TheVariants as reason
-use Rattle.front_loop.specs.Rules.{Rules, Move, Does, Gets, is_cut, wants_of, answer_bytes, each_whole, each_fits, any_starves, BeginsWanted}
-use Rattle.front_loop.specs.Rounds.{Gathered, Send, Departure, FrontRound, has, remove, connections_after, there, with_refused, with_starved, starved_in, no_reply, own}
-use Rattle.front_loop.specs.Conns.{Conn, ends_at, loses, calls, stops, opens, with_bytes, send_answer, taken_by, send_failed, shut_out, took_after, is_tried, send_fails, asks_on, gets_on, made, blank, conn, before, is_open, is_excused, complete, due, must, Offered, closes, Kept, told_after}
-use Rattle.front_loop.specs.RoundRules.{EachSoFar, OpensNew, SendFits, Caused, AskedAll, LeaveFits, EndsWhole, MayFollow, RoundFits, Sound}
-use Rattle.front_loop.specs.Serving.{with_break, is_open_after, rests_of, EndHasCause, RestsFit, TellsOf, FrontRun}
-use Rattle.front_loop.specs.inner.Steps.{Step, Came, Did, Got, Through, Tried, Left, Phase, Fresh, Hearing, Collecting, Offering, Leaving, phase, collecting, offering, leaving, Gathers, IsThrough, MayBegin, Offers, goes_on, there as steps_there, own as steps_own, starved_in as steps_starved}
-use Rattle.front_loop.specs.inner.Parts.{Part, part, came, after_move, with_try, blank as part_blank, is_open as part_open, is_excused as part_excused, told_after as steps_told, due as part_due, must as part_must, Offered as PartOffered, Caused as PartCaused, Calm}
-use Rattle.front_loop.specs.inner.Sound.{Kept as PartKept, AllKept, HasAll as PartHasAll, AskedAll as PartAskedAll, LastTry, TryFits, LeftFits, CameFits, Sound as StepsSound}
-use Rattle.front_loop.specs.inner.StepRuns.{StepRun, EndsAt, StopsAt, rests_of as steps_rests, EndHasCause as StepsEnd, RestsFit as StepsRest, TellsOf as StepsTell}
-
-clash : {T : Type 0} → true ≡ false → T
-clash h = cc
-
--- ---- sends
-
-or_split : (b x : Bool) → (b || x) ≡ false → (b ≡ false) × (x ≡ false)
-or_split true x h = clash h
-or_split false x h = (refl, h)
-
-or_assoc : (a b x : Bool) → (a || (b || x)) ≡ ((a || b) || x)
-or_assoc true b x = refl
-or_assoc false b x = refl
-
-untried_took : (sends : List Send) (c n : ℕ) → is_tried sends c ≡ false → took_after sends c n ≡ n
-untried_took [] c n h = refl
-untried_took (s ∷ ss) c n h =
-    let o = or_split (s.conn == c) (is_tried ss c) h in
-    ap (λ b. cond b (took_after ss c n + taken_by s.taken) (took_after ss c n)) o.0 ∙ untried_took ss c n o.1
-
-untried_failed : (sends : List Send) (c : ℕ) → is_tried sends c ≡ false → send_fails sends c ≡ false
-untried_failed [] c h = refl
-untried_failed (s ∷ ss) c h =
-    let o = or_split (s.conn == c) (is_tried ss c) h in
-    ap (λ b. (b && send_failed s.taken) || send_fails ss c) o.0 ∙ untried_failed ss c o.1
-
--- ---- events
-
-bytes_same : (c d : ℕ) → event.Bytes c ≡ event.Bytes d → c ≡ d
-bytes_same c d h = cc
-
-hearing_same : (e f : PortEvent) → Hearing e ≡ Hearing f → e ≡ f
-hearing_same e f h = cc
-
-goes_last : (e : PortEvent) (b : Bool) → goes_on e b ≡ true → (b ≡ false) × (e ≢ event.Finished)
-goes_last e true h = clash (sym h)
-goes_last e false h = (refl, λ q. clash (sym (sym (ap (λ x. goes_on x false) q) ∙ h)))
-
--- ---- lists
-
-map_same : {X Y : Type 0} (f g : X → Y) (xs : List X) → ((x : X) → f x ≡ g x) → map f xs ≡ map g xs
-map_same f g [] h = refl
-map_same f g (x ∷ xs) h = ap (λ y. y ∷ map f xs) (h x) ∙ ap (λ l. g x ∷ l) (map_same f g xs h)
-
-abbrev a_round : {A : Type 0} → PortEvent → List ℕ → Bool → List A → List Gathered → Option Bool → List Send → List Departure → FrontRound A
-a_round e piece kept acts gs last sends left = record { event = e; piece = piece; kept = kept; acts = acts; replies = gs; last = last; sends = sends; left = left }
+use Rattle.front_loop.specs.Rules.{Rules, Move, Does, Gets, wants_of, BeginsWanted, EachSoFar}
+use Rattle.front_loop.specs.Rounds.{Gathered, Send, Departure, FrontRound, has, connections_after, there, with_refused, with_starved, starved_in, own}
+use Rattle.front_loop.specs.Conns.{Standing, opens, shut_out, is_tried, made, blank, conn, before, is_open, due, closes, MayLack, InHearing, AtReply, AtOffer, told_after}
+use Rattle.front_loop.specs.RoundRules.{SendFits, LeaveFits, EndsWhole, MayFollow, RoundFits}
+use Rattle.front_loop.specs.inner.Steps.{Step, Came, Did, Got, Through, Tried, Left, Phase, Fresh, Hearing, Collecting, Offering, Leaving, phase, no_reply, collecting, offering, leaving, Gathers, IsThrough, MayBegin, Offers, goes_on, remove, there as steps_there, own as steps_own, starved_in as steps_starved}
+use Rattle.front_loop.specs.inner.Parts.{with_bytes, send_answer, part, told_after as steps_told, due as part_due}
+use Rattle.front_loop.specs.inner.Sound.{BeginsRound, OpensNew, AllKept, TryFits, LeftFits, CameFits, Sound as StepsSound}
+use Rattle.front_loop.proofs.StandingMade.{asks_on, gets_on, bytes_same, hearing_same, goes_last, opens_is, remove_is, a_round, AsksFirst, asks_some, asked_too, PartIs, came_by, moved_by, through_is, tried_is, due_is, must_is, open_is, kept_is, closes_is, starved_is, asked_is, last_try_is}
 
 module _ {A W : Type 0} (R : Rules A W) where
-  -- ---- one connection
-
-  -- what stands of it after the steps is what stood of it before the newest round, and what the round made of it
-  record PartIs (p : Part A) (q : Conn A) (e : PortEvent) (piece : List ℕ) (ms : List (Move A)) (last : Option Bool) (sends : List Send) (c : ℕ) : Type 0 where
-    given : p.given ≡ with_bytes e piece c q.given
-    moves : p.moves ≡ ms ++ q.moves
-    took : p.took ≡ took_after sends c q.took
-    had : p.had ≡ q.took
-    was : p.was ≡ length (answer_bytes R q.moves)
-    ended : p.ended ≡ ends_at e c
-    lost : p.lost ≡ loses e c
-    called : p.called ≡ (calls e c || stops last)
-    cut : p.cut ≡ list_any is_cut ms
-    starved : p.starved ≡ any_starves R ms
-    tried : p.tried ≡ is_tried sends c
-    failed : p.failed ≡ send_fails sends c
-    sent : p.sent_whole ≡ (is_tried sends c && (R.ends (ms ++ q.moves) && nat_le (length (answer_bytes R (ms ++ q.moves))) (took_after sends c q.took)))
-    whole : p.complete ≡ complete R (ends_at e c || loses e c) ms q.moves
-
-  came_is : (e : PortEvent) (piece : List ℕ) (p : Part A) (q : Conn A) (c : ℕ) → p.given ≡ q.given → p.moves ≡ q.moves → p.took ≡ q.took → PartIs (came R e piece c p) q e piece [] None [] c
-  came_is e piece p q c g m t = record {
-    given = ap (with_bytes e piece c) g;
-    moves = m;
-    took = t;
-    had = t;
-    was = ap (λ (l : List (Move A)). length (answer_bytes R l)) m;
-    ended = refl;
-    lost = refl;
-    called = sym (or-false (calls e c));
-    cut = refl;
-    starved = refl;
-    tried = refl;
-    failed = refl;
-    sent = refl;
-    whole = ap (each_whole R) m;
-  }
-
-  came_by : (b : Bool) (e : PortEvent) (piece : List ℕ) (p : Part A) (q : Conn A) (c : ℕ) → p.given ≡ q.given → p.moves ≡ q.moves → p.took ≡ q.took
-      → PartIs (came R e piece c (cond b part_blank p)) (cond b blank q) e piece [] None [] c
-  came_by true e piece p q c g m t = came_is e piece part_blank blank c refl refl refl
-  came_by false e piece p q c g m t = came_is e piece p q c g m t
-
-  excuse : (m : Move A) (p : Part A) (q : Conn A) (e : PortEvent) (piece : List ℕ) (ms : List (Move A)) (c : ℕ) → PartIs p q e piece ms None [] c
-      → part_excused m p ≡ is_excused (ends_at e c || loses e c) ms m
-  excuse (Does a) p q e piece ms c h = refl
-  excuse (Gets r behind) p q e piece ms c h =
-      let cut : Bool = is_cut {A = A} (Gets r behind) in
-      ap (λ b. b || (p.lost || (p.cut || cut))) h.ended ∙ ap (λ b. ends_at e c || (b || (p.cut || cut))) h.lost ∙ ap (λ b. ends_at e c || (loses e c || (b || cut))) h.cut
-      ∙ or_assoc (ends_at e c) (loses e c) (list_any is_cut ms || cut)
-
-  moved : (m : Move A) (p : Part A) (q : Conn A) (e : PortEvent) (piece : List ℕ) (ms : List (Move A)) (c : ℕ) → PartIs p q e piece ms None [] c
-      → PartIs (after_move R m p) q e piece (m ∷ ms) None [] c
-  moved m p q e piece ms c h = record {
-    given = h.given;
-    moves = ap (λ (l : List (Move A)). m ∷ l) h.moves;
-    took = h.took;
-    had = h.had;
-    was = h.was;
-    ended = h.ended;
-    lost = h.lost;
-    called = h.called;
-    cut = ap (λ b. is_cut m || b) h.cut;
-    starved = ap (λ b. R.starves m || b) h.starved;
-    tried = h.tried;
-    failed = h.failed;
-    sent = h.sent;
-    whole =
-        ap (λ b. (b || R.whole p.moves m) && p.complete) (excuse m p q e piece ms c h)
-        ∙ ap (λ l. (is_excused (ends_at e c || loses e c) ms m || R.whole l m) && p.complete) h.moves
-        ∙ ap (λ b. (is_excused (ends_at e c || loses e c) ms m || R.whole (ms ++ q.moves) m) && b) h.whole;
-  }
-
-  moved_by : (b : Bool) (m : Move A) (p : Part A) (q : Conn A) (e : PortEvent) (piece : List ℕ) (ms : List (Move A)) (c : ℕ) → PartIs p q e piece ms None [] c
-      → PartIs (cond b (after_move R m p) p) q e piece (cond b (m ∷ ms) ms) None [] c
-  moved_by true m p q e piece ms c h = moved m p q e piece ms c h
-  moved_by false m p q e piece ms c h = h
-
-  recalled : (x : Bool) (last last' : Option Bool) (p : Part A) (q : Conn A) (e : PortEvent) (piece : List ℕ) (ms : List (Move A)) (c : ℕ) → PartIs p q e piece ms last [] c → x ≡ (calls e c || stops last')
-      → PartIs (record p { called = x }) q e piece ms last' [] c
-  recalled x last last' p q e piece ms c h k = record {
-    given = h.given;
-    moves = h.moves;
-    took = h.took;
-    had = h.had;
-    was = h.was;
-    ended = h.ended;
-    lost = h.lost;
-    called = k;
-    cut = h.cut;
-    starved = h.starved;
-    tried = h.tried;
-    failed = h.failed;
-    sent = h.sent;
-    whole = h.whole;
-  }
-
-  through_is : (b : Bool) (p : Part A) (q : Conn A) (e : PortEvent) (piece : List ℕ) (ms : List (Move A)) (c : ℕ) → PartIs p q e piece ms None [] c
-      → PartIs (cond b (record p { called = true }) p) q e piece ms (Some b) [] c
-  through_is true p q e piece ms c h = recalled true None (Some true) p q e piece ms c h (sym (or-true (calls e c)))
-  through_is false p q e piece ms c h = recalled p.called None (Some false) p q e piece ms c h h.called
-
-  tried_is : (b : Bool) (c d : ℕ) (taken : Option ℕ) (p : Part A) (q : Conn A) (e : PortEvent) (piece : List ℕ) (ms : List (Move A)) (last : Option Bool) (sends : List Send) → PartIs p q e piece ms last sends d
-      → (c == d) ≡ b → (b ≡ true → is_tried sends d ≡ false) → PartIs (cond b (with_try R taken p) p) q e piece ms last (record { conn = c; taken = taken } ∷ sends) d
-  tried_is true c d taken p q e piece ms last sends h k once =
-      let had_none : send_fails sends d ≡ false = untried_failed sends d (once refl) in
-      let tk : p.took + taken_by taken ≡ cond (c == d) (took_after sends d q.took + taken_by taken) (took_after sends d q.took) =
-      ap (λ n. n + taken_by taken) h.took ∙ sym (ap (λ x. cond x (took_after sends d q.took + taken_by taken) (took_after sends d q.took)) k)
-      in
-      let tr : ((c == d) || is_tried sends d) ≡ true = ap (λ x. x || is_tried sends d) k in
-      record {
-        given = h.given;
-        moves = h.moves;
-        took = tk;
-        had = h.had;
-        was = h.was;
-        ended = h.ended;
-        lost = h.lost;
-        called = h.called;
-        cut = h.cut;
-        starved = h.starved;
-        tried = sym tr;
-        failed = sym (ap (λ x. (x && send_failed taken) || send_fails sends d) k ∙ ap (λ y. send_failed taken || y) had_none ∙ or-false (send_failed taken));
-        sent =
-            ap (λ l. R.ends l && nat_le (length (answer_bytes R l)) (p.took + taken_by taken)) h.moves
-            ∙ ap (λ n. R.ends (ms ++ q.moves) && nat_le (length (answer_bytes R (ms ++ q.moves))) n) tk
-            ∙ sym (ap (λ x. x && (R.ends (ms ++ q.moves) && nat_le (length (answer_bytes R (ms ++ q.moves))) (cond (c == d) (took_after sends d q.took + taken_by taken) (took_after sends d q.took)))) tr);
-        whole = h.whole;
-      }
-  tried_is false c d taken p q e piece ms last sends h k once =
-      let tk : took_after sends d q.took ≡ cond (c == d) (took_after sends d q.took + taken_by taken) (took_after sends d q.took) =
-      sym (ap (λ x. cond x (took_after sends d q.took + taken_by taken) (took_after sends d q.took)) k)
-      in
-      let tr : is_tried sends d ≡ ((c == d) || is_tried sends d) = sym (ap (λ x. x || is_tried sends d) k) in
-      record {
-        given = h.given;
-        moves = h.moves;
-        took = h.took ∙ tk;
-        had = h.had;
-        was = h.was;
-        ended = h.ended;
-        lost = h.lost;
-        called = h.called;
-        cut = h.cut;
-        starved = h.starved;
-        tried = h.tried ∙ tr;
-        failed = h.failed ∙ sym (ap (λ x. (x && send_failed taken) || send_fails sends d) k);
-        sent =
-            h.sent ∙ ap (λ x. x && (R.ends (ms ++ q.moves) && nat_le (length (answer_bytes R (ms ++ q.moves))) (took_after sends d q.took))) tr
-            ∙ ap (λ n. ((c == d) || is_tried sends d) && (R.ends (ms ++ q.moves) && nat_le (length (answer_bytes R (ms ++ q.moves))) n)) tk;
-        whole = h.whole;
-      }
-
-  -- ---- what is said of one connection
-
-  module _ (p : Part A) (q : Conn A) (e : PortEvent) (piece : List ℕ) (kept : Bool) (acts : List A) (gs : List Gathered) (last : Option Bool) (sends : List Send) (left : List Departure) (c : ℕ)
-      (h : PartIs p q e piece (gets_on gs c (asks_on e acts c)) last sends c) where
-    abbrev the_round : FrontRound A
-    the_round = a_round e piece kept acts gs last sends left
-
-    due_is : is_tried sends c ≡ false → part_due R p ≡ due R q the_round c
-    due_is once =
-        ap (λ n. drop n (answer_bytes R p.moves)) (h.took ∙ untried_took sends c q.took once)
-        ∙ ap (λ l. drop q.took (answer_bytes R l)) h.moves
-
-    must_is : part_must R p ≡ must R q the_round c
-    must_is =
-        ap (λ b. b || (nat_lt p.was (length (answer_bytes R p.moves)) || R.refuses p.given)) h.called
-        ∙ ap (λ n. (calls e c || stops last) || (nat_lt n (length (answer_bytes R p.moves)) || R.refuses p.given)) h.was
-        ∙ ap (λ l. (calls e c || stops last) || (nat_lt (length (answer_bytes R q.moves)) (length (answer_bytes R l)) || R.refuses p.given)) h.moves
-        ∙ ap (λ g. (calls e c || stops last) || (nat_lt (length (answer_bytes R q.moves)) (length (answer_bytes R (made the_round c ++ q.moves))) || R.refuses g)) h.given
-
-    full_is : nat_lt (p.had + most_rest_bytes) (length (answer_bytes R p.moves)) ≡ closes R q the_round c reason.Full
-    full_is =
-        ap (λ n. nat_lt (n + most_rest_bytes) (length (answer_bytes R p.moves))) h.had
-        ∙ ap (λ l. nat_lt (q.took + most_rest_bytes) (length (answer_bytes R l))) h.moves
-
-    open_is : part_open p ≡ is_open the_round c
-    open_is = ap (λ b. not (b || p.failed)) h.lost ∙ ap (λ b. not (loses e c || b)) h.failed
-
-    wanted_is : R.wanted p.given (wants_of R p.moves) → R.wanted (with_bytes e piece c q.given) (wants_of R (made the_round c ++ q.moves))
-    wanted_is w = subst (λ l. R.wanted (with_bytes e piece c q.given) (wants_of R l)) h.moves (subst (λ g. R.wanted g (wants_of R p.moves)) h.given w)
-
-    offered_is : PartOffered R p → Offered R q the_round c
-    offered_is o = λ m once. sym (due_is once) ∙ o (must_is ∙ m) (h.tried ∙ once)
-
-    calm_is : Calm R p → (why : Reason) → closes R q the_round c why ≡ false
-    calm_is k reason.Ended = sym h.ended ∙ k.ended
-    calm_is k reason.Lost = sym h.lost ∙ k.lost
-    calm_is k reason.Cut = sym h.cut ∙ k.cut
-    calm_is k reason.Full = sym full_is ∙ k.full
-    calm_is k reason.Unread = sym (ap R.refuses h.given) ∙ k.read
-    calm_is k reason.SentWhole = sym h.sent ∙ k.sent
-    calm_is k reason.SendFailed = sym h.failed ∙ k.sends
-    calm_is k reason.NoMemory = sym h.starved ∙ k.memory
-    calm_is k reason.Starved = refl
-
-    kept_is : PartKept R p → Kept R q the_round c
-    kept_is k = record {
-      asked_all = wanted_is k.asked_all;
-      whole = ap (each_whole R) (sym h.moves) ∙ k.whole;
-      calm = calm_is k.calm;
-      offered = offered_is k.offered;
-    }
-
-    all_is : PartHasAll R p → R.wanted (with_bytes e piece c q.given) (wants_of R (made the_round c ++ q.moves)) × (complete R (ends_at e c || loses e c) (made the_round c) q.moves ≡ true)
-    all_is a = (wanted_is a.0, sym h.whole ∙ a.1)
-
-    starving_is : PartCaused R p reason.Starved → (why : Reason) → closes R q the_round c why ≡ true → (why ≡ reason.Cut) ⊎ ((why ≡ reason.Full) ⊎ (why ≡ reason.Unread))
-    starving_is k reason.Ended x = clash (sym x ∙ sym h.ended ∙ k.0.ended)
-    starving_is k reason.Lost x = clash (sym x ∙ sym h.lost ∙ k.0.lost)
-    starving_is k reason.Cut x = inl refl
-    starving_is k reason.Full x = inr (inl refl)
-    starving_is k reason.Unread x = inr (inr refl)
-    starving_is k reason.SentWhole x = clash (sym x ∙ sym h.sent ∙ k.0.sent)
-    starving_is k reason.SendFailed x = clash (sym x ∙ sym h.failed ∙ k.0.sends)
-    starving_is k reason.NoMemory x = clash (sym x ∙ sym h.starved ∙ k.1)
-    starving_is k reason.Starved x = clash (sym x)
-
-  -- the same of a connection in the newest round
-  module _ (rs : List (FrontRound A)) (p : Part A) (e : PortEvent) (piece : List ℕ) (kept : Bool) (acts : List A) (gs : List Gathered) (last : Option Bool) (sends : List Send) (left : List Departure) (c : ℕ)
-      (h : PartIs p (cond (opens e c && kept) blank (conn rs c)) e piece (gets_on gs c (asks_on e acts c)) last sends c) where
-    abbrev began : Conn A
-    began = cond (opens e c && kept) blank (conn rs c)
-
-    caused_is : (why : Reason) → PartCaused R p why → Caused R rs (a_round e piece kept acts gs last sends left) c why
-    caused_is reason.Ended k = sym h.ended ∙ k
-    caused_is reason.Lost k = sym h.lost ∙ k
-    caused_is reason.Cut k = sym h.cut ∙ k
-    caused_is reason.Full k = sym (full_is p began e piece kept acts gs last sends left c h) ∙ k
-    caused_is reason.Unread k = sym (ap R.refuses h.given) ∙ k
-    caused_is reason.SentWhole k = sym h.sent ∙ k
-    caused_is reason.SendFailed k = sym h.failed ∙ k
-    caused_is reason.NoMemory k = sym h.starved ∙ k
-    caused_is reason.Starved k = starving_is p began e piece kept acts gs last sends left c h k
-
-    asked_is : (why : Reason) → PartAskedAll R p why → AskedAll R rs (a_round e piece kept acts gs last sends left) c why
-    asked_is reason.Full k = tt
-    asked_is reason.NoMemory k = tt
-    asked_is reason.Starved k = tt
-    asked_is reason.Ended k = all_is p began e piece kept acts gs last sends left c h k
-    asked_is reason.Lost k = all_is p began e piece kept acts gs last sends left c h k
-    asked_is reason.Cut k = all_is p began e piece kept acts gs last sends left c h k
-    asked_is reason.Unread k = all_is p began e piece kept acts gs last sends left c h k
-    asked_is reason.SentWhole k = all_is p began e piece kept acts gs last sends left c h k
-    asked_is reason.SendFailed k = all_is p began e piece kept acts gs last sends left c h k
-
-    last_try_is : (why : Reason) → LastTry R p why → why ≡ reason.Unread → Offered R began (a_round e piece kept acts gs last sends left) c
-    last_try_is why k u = offered_is p began e piece kept acts gs last sends left c h (subst (LastTry R p) u k)
-
   -- ---- a round, as it is made
 
   -- the steps are these rounds, of which the newest may still be made
-  record Same (ss : List (Step A)) (rs : List (FrontRound A)) (r : FrontRound A) : Type 0 where
-    own_is : steps_own R ss ≡ own R (r ∷ rs)
-    there_is : steps_there ss ≡ there (r ∷ rs)
-    starved_is : steps_starved ss ≡ starved_in (r ∷ rs)
-    told_is : (t : PortsTold) → steps_told R ss t ≡ told_after R (r ∷ rs) t
-    parts : (c : ℕ) → PartIs (part R ss c) (before rs r c) r.event r.piece (made r c) r.last r.sends c
-    fits : RoundFits R rs r
-    sound : Sound R rs
+  pub record Same (ss : List (Step A)) (rs : List (FrontRound A)) (r : FrontRound A) : Type 0 where
+    pub own_is : steps_own R ss ≡ own R (r ∷ rs)
+    pub there_is : steps_there ss ≡ there (r ∷ rs)
+    pub starved_is : steps_starved ss ≡ starved_in (r ∷ rs)
+    pub told_is : (t : PortsTold) → steps_told R ss t ≡ told_after R (r ∷ rs) t
+    pub parts : (c : ℕ) → PartIs R (part R ss c) (before rs r c) r.event r.piece (made r c) r.last r.sends c
+    pub fits : RoundFits R rs r
+    pub sound : EachSoFar (RoundFits R) rs
+
+  -- what is told of the steps is told of these rounds
+  pub record Shows (ss : List (Step A)) (rs : List (FrontRound A)) : Type 0 where
+    pub own_is : steps_own R ss ≡ own R rs
+    pub there_is : steps_there ss ≡ there rs
+    pub starved_is : steps_starved ss ≡ starved_in rs
+    pub told_is : (t : PortsTold) → steps_told R ss t ≡ told_after R rs t
+    pub moves : (c : ℕ) → (part R ss c).moves ≡ (conn rs c).moves
+    pub took : (c : ℕ) → (part R ss c).took ≡ (conn rs c).took
+    pub sound : EachSoFar (RoundFits R) rs
 
   -- the steps are these rounds, and another may begin
-  record Rested (ss : List (Step A)) (rs : List (FrontRound A)) : Type 0 where
-    own_is : steps_own R ss ≡ own R rs
-    there_is : steps_there ss ≡ there rs
-    starved_is : steps_starved ss ≡ starved_in rs
-    told_is : (t : PortsTold) → steps_told R ss t ≡ told_after R rs t
-    given : (c : ℕ) → (part R ss c).given ≡ (conn rs c).given
-    moves : (c : ℕ) → (part R ss c).moves ≡ (conn rs c).moves
-    took : (c : ℕ) → (part R ss c).took ≡ (conn rs c).took
-    sound : Sound R rs
-    goes_on : MayFollow R rs
+  pub record Rested (ss : List (Step A)) (rs : List (FrontRound A)) : Type 0 where
+    pub shows : Shows ss rs
+    pub given : (c : ℕ) → (part R ss c).given ≡ (conn rs c).given
+    pub goes_on : MayFollow R rs
 
-  fits_of : (rs : List (FrontRound A)) → Sound R rs → (c : ℕ) → each_fits R (conn rs c).moves ≡ true
-  fits_of [] s c = refl
+  pub shows_none : Shows [] []
+  shows_none = record {
+    own_is = refl;
+    there_is = refl;
+    starved_is = refl;
+    told_is = λ t. refl;
+    moves = λ c. refl;
+    took = λ c. refl;
+    sound = tt;
+  }
+
+  pub shows_more : (ss : List (Step A)) (rs : List (FrontRound A)) (e : PortEvent) (piece : List ℕ) (kept : Bool) (acts : List A) (gs : List Gathered) (last : Option Bool) (sends : List Send) (left : List Departure)
+      → Same ss rs (a_round e piece kept acts gs last sends left) → Shows ss (a_round e piece kept acts gs last sends left ∷ rs)
+  shows_more ss rs e piece kept acts gs last sends left h = record {
+    own_is = h.own_is;
+    there_is = h.there_is;
+    starved_is = h.starved_is;
+    told_is = h.told_is;
+    moves = λ c. (h.parts c).moves;
+    took = λ c. (h.parts c).took;
+    sound = (h.fits, h.sound);
+  }
+
+  fits_of : (rs : List (FrontRound A)) → EachSoFar (RoundFits R) rs → (c : ℕ) → EachSoFar (λ ms m. R.fits ms m ≡ true) (conn rs c).moves
+  fits_of [] s c = tt
   fits_of (r ∷ rs) s c = s.0.fits c
 
-  fits_before : (b : Bool) (q : Conn A) → each_fits R q.moves ≡ true → each_fits R (cond b blank q).moves ≡ true
-  fits_before true q h = refl
+  fits_before : (b : Bool) (q : Standing A) → EachSoFar (λ ms m. R.fits ms m ≡ true) q.moves → EachSoFar (λ ms m. R.fits ms m ≡ true) (cond b blank q).moves
+  fits_before true q h = tt
   fits_before false q h = h
 
   came_same : (ss : List (Step A)) (rs : List (FrontRound A)) (e : PortEvent) (piece : List ℕ) (kept : Bool) → Rested ss rs → CameFits R ss e kept → Same (Came e piece kept ∷ ss) rs (a_round e piece kept [] [] None [] [])
   came_same ss rs e piece kept h f = record {
-    own_is = h.own_is;
-    there_is = ap (λ cs. connections_after cs e kept) h.there_is;
+    own_is = h.shows.own_is;
+    there_is = ap (λ cs. connections_after cs e kept) h.shows.there_is;
     starved_is =
-        ap (λ n. with_refused n e kept (length (steps_there ss))) h.starved_is
-        ∙ ap (λ cs. with_refused (starved_in rs) e kept (length cs)) h.there_is;
-    told_is = λ t. ap (λ u. shut_out e kept (heard e piece u)) (h.told_is t);
-    parts = λ c. came_by (opens e c && kept) e piece (part R ss c) (conn rs c) c (h.given c) (h.moves c) (h.took c);
+        ap (λ n. with_refused n e kept (length (steps_there ss))) h.shows.starved_is
+        ∙ ap (λ cs. with_refused (starved_in rs) e kept (length cs)) h.shows.there_is;
+    told_is = λ t. ap (λ u. shut_out e kept (heard e piece u)) (h.shows.told_is t);
+    parts = λ c. came_by R (opens e c && kept) e piece (part R ss c) (conn rs c) c (h.given c) (h.shows.moves c) (h.shows.took c);
     fits = record {
       follows = h.goes_on;
-      begins = f.begins;
-      room = λ k. (subst (λ (cs : List ℕ). length cs < most_sessions) h.there_is (f.room k).0, subst (OpensNew e) h.there_is (f.room k).1);
+      begins = (λ (q : e ≡ event.Broken). subst BeginsRound q f.begins, λ (q : e ≡ event.NoMemory). subst BeginsRound q f.begins);
+      room = λ k. opens_is e (there rs) (subst (λ (cs : List ℕ). length cs < most_sessions) h.shows.there_is (f.room k).0) (subst (OpensNew e) h.shows.there_is (f.room k).1);
       asks = λ c b. inl refl;
-      fits = λ c. fits_before (opens e c && kept) (conn rs c) (fits_of rs h.sound c);
+      fits = λ c. fits_before (opens e c && kept) (conn rs c) (fits_of rs h.shows.sound c);
       order = λ n. (refl, refl);
       sends = tt;
       left = tt;
     };
-    sound = h.sound;
+    sound = h.shows.sound;
   }
 
-  fits_moved : (b : Bool) (m : Move A) (ms old : List (Move A)) → (b ≡ true → R.fits (ms ++ old) m ≡ true) → each_fits R (ms ++ old) ≡ true → each_fits R (cond b (m ∷ ms) ms ++ old) ≡ true
-  fits_moved true m ms old f h = ap (λ x. x && each_fits R (ms ++ old)) (f refl) ∙ h
+  fits_moved : (b : Bool) (m : Move A) (ms old : List (Move A)) → (b ≡ true → R.fits (ms ++ old) m ≡ true) → EachSoFar (λ ns n. R.fits ns n ≡ true) (ms ++ old) → EachSoFar (λ ns n. R.fits ns n ≡ true) (cond b (m ∷ ms) ms ++ old)
+  fits_moved true m ms old f h = (f refl, h)
   fits_moved false m ms old f h = h
 
   -- the move of one connection fits what stands of it
@@ -389,23 +115,23 @@ module _ {A W : Type 0} (R : Rules A W) where
       → Same (Did c a ∷ ss) rs (a_round (event.Bytes c) piece kept (a ∷ acts) [] None [] [])
   did_same ss rs c piece kept acts a h f b =
       let e : PortEvent = event.Bytes c in
-      let q : ℕ → Conn A = λ d. cond (opens (event.Bytes c) d && kept) blank (conn rs d) in
-      let here : BeginsWanted R (with_bytes (event.Bytes c) piece c (q c).given) (wants_of R (cond (c == c) (Does a ∷ asks_on (event.Bytes c) acts c) (asks_on (event.Bytes c) acts c) ++ (q c).moves)) =
-      subst (λ y. BeginsWanted R (with_bytes (event.Bytes c) piece c (q c).given) (wants_of R (cond y (Does a ∷ asks_on (event.Bytes c) acts c) (asks_on (event.Bytes c) acts c) ++ (q c).moves))) (sym (eq-eqb c c refl))
-      (subst (λ l. BeginsWanted R (with_bytes (event.Bytes c) piece c (q c).given) (wants_of R l ++ R.want a ∷ [])) (h.parts c).moves
-      (subst (λ g. BeginsWanted R g (wants_of R (part R ss c).moves ++ R.want a ∷ [])) (h.parts c).given b))
+      let q : ℕ → Standing A = λ d. cond (opens (event.Bytes c) d && kept) blank (conn rs d) in
+      let here : AsksFirst R (with_bytes (event.Bytes c) piece c (q c).given) (wants_of R (cond (c == c) (Does a ∷ asks_on (event.Bytes c) acts c) (asks_on (event.Bytes c) acts c) ++ (q c).moves)) =
+      subst (λ y. AsksFirst R (with_bytes (event.Bytes c) piece c (q c).given) (wants_of R (cond y (Does a ∷ asks_on (event.Bytes c) acts c) (asks_on (event.Bytes c) acts c) ++ (q c).moves))) (sym (eq-eqb c c refl))
+      (subst (λ l. AsksFirst R (with_bytes (event.Bytes c) piece c (q c).given) (wants_of R l ++ R.want a ∷ [])) (h.parts c).moves
+      (subst (λ g. AsksFirst R g (wants_of R (part R ss c).moves ++ R.want a ∷ [])) (h.parts c).given (asks_some R (part R ss c).given (wants_of R (part R ss c).moves) (R.want a) b)))
       in
       record {
         own_is = ap (λ es. es ++ R.entries c a) h.own_is;
         there_is = h.there_is;
         starved_is = h.starved_is;
         told_is = h.told_is;
-        parts = λ d. moved_by (c == d) (Does a) (part R ss d) (q d) (event.Bytes c) piece (asks_on (event.Bytes c) acts d) d (h.parts d);
+        parts = λ d. moved_by R (c == d) (Does a) (part R ss d) (q d) (event.Bytes c) piece (asks_on (event.Bytes c) acts d) d (h.parts d);
         fits = record {
           follows = h.fits.follows;
           begins = h.fits.begins;
           room = h.fits.room;
-          asks = λ d i. inr (subst (λ x. BeginsWanted R (with_bytes (event.Bytes c) piece x (q x).given) (wants_of R (asks_on (event.Bytes c) (a ∷ acts) x ++ (q x).moves))) (bytes_same c d i) here);
+          asks = λ d i. inr (subst (λ x. AsksFirst R (with_bytes (event.Bytes c) piece x (q x).given) (wants_of R (asks_on (event.Bytes c) (a ∷ acts) x ++ (q x).moves))) (bytes_same c d i) here);
           fits = λ d. fits_moved (c == d) (Does a) (asks_on (event.Bytes c) acts d) (q d).moves (fits_at ss (Does a) c d _ f (h.parts d).moves) (h.fits.fits d);
           order = λ n. (refl, refl);
           sends = tt;
@@ -418,18 +144,18 @@ module _ {A W : Type 0} (R : Rules A W) where
       → Same ss rs (a_round e piece kept acts gs None [] []) → R.fits (part R ss r.conn.number).moves (Gets r behind) ≡ true
       → Same (Got r behind ∷ ss) rs (a_round e piece kept acts (record { reply = r; behind = behind } ∷ gs) None [] [])
   got_same ss rs e piece kept acts gs r behind h f =
-      let q : ℕ → Conn A = λ d. cond (opens e d && kept) blank (conn rs d) in
+      let q : ℕ → Standing A = λ d. cond (opens e d && kept) blank (conn rs d) in
       record {
         own_is = ap (λ es. es ++ Collect R.number (collected.Reply r) ∷ behind) h.own_is;
         there_is = h.there_is;
         starved_is = h.starved_is;
         told_is = h.told_is;
-        parts = λ d. moved_by (r.conn.number == d) (Gets r behind) (part R ss d) (q d) e piece (gets_on gs d (asks_on e acts d)) d (h.parts d);
+        parts = λ d. moved_by R (r.conn.number == d) (Gets r behind) (part R ss d) (q d) e piece (gets_on gs d (asks_on e acts d)) d (h.parts d);
         fits = record {
           follows = h.fits.follows;
           begins = h.fits.begins;
           room = h.fits.room;
-          asks = h.fits.asks;
+          asks = λ d x. asked_too R (r.conn.number == d) acts (with_bytes e piece d (q d).given) r behind (gets_on gs d (asks_on e acts d)) (q d).moves (h.fits.asks d x);
           fits = λ d. fits_moved (r.conn.number == d) (Gets r behind) (gets_on gs d (asks_on e acts d)) (q d).moves (fits_at ss (Gets r behind) r.conn.number d _ f (h.parts d).moves) (h.fits.fits d);
           order = λ n. (refl, refl);
           sends = tt;
@@ -441,13 +167,13 @@ module _ {A W : Type 0} (R : Rules A W) where
   through_same : (ss : List (Step A)) (rs : List (FrontRound A)) (e : PortEvent) (piece : List ℕ) (kept : Bool) (acts : List A) (gs : List Gathered) (b : Bool)
       → Same ss rs (a_round e piece kept acts gs None [] []) → Same (Through b ∷ ss) rs (a_round e piece kept acts gs (Some b) [] [])
   through_same ss rs e piece kept acts gs b h =
-      let q : ℕ → Conn A = λ d. cond (opens e d && kept) blank (conn rs d) in
+      let q : ℕ → Standing A = λ d. cond (opens e d && kept) blank (conn rs d) in
       record {
         own_is = ap (λ es. es ++ Collect R.number (no_reply b) ∷ []) h.own_is;
         there_is = h.there_is;
         starved_is = h.starved_is;
         told_is = h.told_is;
-        parts = λ d. through_is b (part R ss d) (q d) e piece (gets_on gs d (asks_on e acts d)) d (h.parts d);
+        parts = λ d. through_is R b (part R ss d) (q d) e piece (gets_on gs d (asks_on e acts d)) d (h.parts d);
         fits = record {
           follows = h.fits.follows;
           begins = h.fits.begins;
@@ -470,56 +196,49 @@ module _ {A W : Type 0} (R : Rules A W) where
   releave : (rs : List (FrontRound A)) (e : PortEvent) (piece : List ℕ) (kept : Bool) (acts : List A) (gs : List Gathered) (last : Option Bool) (sends : List Send) (left left' : List Departure) (ds : List Departure)
       → EachSoFar (LeaveFits R rs (a_round e piece kept acts gs last sends left)) ds → EachSoFar (LeaveFits R rs (a_round e piece kept acts gs last sends left')) ds
   releave rs e piece kept acts gs last sends left left' [] h = tt
-  releave rs e piece kept acts gs last sends left left' (d ∷ ds) h =
-      (record { is_there = h.0.is_there; caused = recause d.why h.0.caused; last_try = h.0.last_try; asked_all = reask d.why h.0.asked_all }, releave rs e piece kept acts gs last sends left left' ds h.1)
+  releave rs e piece kept acts gs last sends left left' (d ∷ ds) h = (
+    record {
+      is_there = h.0.is_there;
+      caused = λ n. sym (same_closes (made (a_round e piece kept acts gs last sends left) d.conn) d.why) ∙ h.0.caused n;
+      starved = λ q. let k = h.0.starved q in
+          record { lacks = relack k.lacks; untried = k.untried; alone = λ why x. k.alone why (same_closes (made (a_round e piece kept acts gs last sends left) d.conn) why ∙ x) };
+      last_try = h.0.last_try;
+      asked_all = h.0.asked_all;
+    },
+    releave rs e piece kept acts gs last sends left left' ds h.1,
+  )
     where
-      recause : (why : Reason) → Caused R rs (a_round e piece kept acts gs last sends left) d.conn why → Caused R rs (a_round e piece kept acts gs last sends left') d.conn why
-      recause reason.Ended k = k
-      recause reason.Lost k = k
-      recause reason.Cut k = k
-      recause reason.Full k = k
-      recause reason.Unread k = k
-      recause reason.SentWhole k = k
-      recause reason.SendFailed k = k
-      recause reason.NoMemory k = k
-      recause reason.Starved k = λ why x. k why (reclose why x)
-        where
-          reclose : (why : Reason) → closes R (before rs (a_round e piece kept acts gs last sends left) d.conn) (a_round e piece kept acts gs last sends left') d.conn why ≡ true → closes R (before rs (a_round e piece kept acts gs last sends left) d.conn) (a_round e piece kept acts gs last sends left) d.conn why ≡ true
-          reclose reason.Ended k = k
-          reclose reason.Lost k = k
-          reclose reason.Cut k = k
-          reclose reason.Full k = k
-          reclose reason.Unread k = k
-          reclose reason.SentWhole k = k
-          reclose reason.SendFailed k = k
-          reclose reason.NoMemory k = k
-          reclose reason.Starved k = k
+      same_closes : (ms : List (Move A)) (why : Reason) → closes R (cond (opens e d.conn && kept) blank (conn rs d.conn)) (a_round e piece kept acts gs last sends left) d.conn ms why
+          ≡ closes R (cond (opens e d.conn && kept) blank (conn rs d.conn)) (a_round e piece kept acts gs last sends left') d.conn ms why
+      same_closes ms reason.Ended = refl
+      same_closes ms reason.Lost = refl
+      same_closes ms reason.Cut = refl
+      same_closes ms reason.Full = refl
+      same_closes ms reason.Unread = refl
+      same_closes ms reason.SentWhole = refl
+      same_closes ms reason.SendFailed = refl
+      same_closes ms reason.NoMemory = refl
+      same_closes ms reason.Starved = refl
 
-      reask : (why : Reason) → AskedAll R rs (a_round e piece kept acts gs last sends left) d.conn why → AskedAll R rs (a_round e piece kept acts gs last sends left') d.conn why
-      reask reason.Full k = k
-      reask reason.NoMemory k = k
-      reask reason.Starved k = k
-      reask reason.Ended k = k
-      reask reason.Lost k = k
-      reask reason.Cut k = k
-      reask reason.Unread k = k
-      reask reason.SentWhole k = k
-      reask reason.SendFailed k = k
+      relack : MayLack R (cond (opens e d.conn && kept) blank (conn rs d.conn)) (a_round e piece kept acts gs last sends left) d.conn → MayLack R (cond (opens e d.conn && kept) blank (conn rs d.conn)) (a_round e piece kept acts gs last sends left') d.conn
+      relack (InHearing x) = InHearing x
+      relack (AtReply later earlier reply behind m u k) = AtReply later earlier reply behind m u (λ why x. k why (same_closes earlier why ∙ x))
+      relack (AtOffer m b k) = AtOffer m b (λ why x. k why (same_closes (made (a_round e piece kept acts gs last sends left) d.conn) why ∙ x))
 
   tried_same : (ss : List (Step A)) (rs : List (FrontRound A)) (e : PortEvent) (piece : List ℕ) (kept : Bool) (acts : List A) (gs : List Gathered) (b : Bool) (sends : List Send) (c : ℕ) (taken : Option ℕ)
       → Same ss rs (a_round e piece kept acts gs (Some b) sends []) → TryFits R ss c taken
       → Same (Tried c taken ∷ ss) rs (a_round e piece kept acts gs (Some b) (record { conn = c; taken = taken } ∷ sends) [])
   tried_same ss rs e piece kept acts gs b sends c taken h f =
-      let q : ℕ → Conn A = λ d. cond (opens e d && kept) blank (conn rs d) in
+      let q : ℕ → Standing A = λ d. cond (opens e d && kept) blank (conn rs d) in
       let once : is_tried sends c ≡ false = sym (h.parts c).tried ∙ f.once in
       let sent : List Send = record { conn = c; taken = taken } ∷ sends in
-      let all : part_due R (part R ss c) ≡ due R (q c) (a_round e piece kept acts gs (Some b) sends []) c = due_is (part R ss c) (q c) e piece kept acts gs (Some b) sends [] c (h.parts c) once in
+      let all : part_due R (part R ss c) ≡ due R (q c) (a_round e piece kept acts gs (Some b) sends []) c = due_is R (part R ss c) (q c) e piece kept acts gs (Some b) sends [] c (h.parts c) once in
       record {
         own_is = h.own_is;
         there_is = h.there_is;
         starved_is = h.starved_is;
         told_is = λ t. ap (λ bytes. after_send c bytes (send_answer taken) (steps_told R ss t)) all ∙ ap (after_send c (due R (q c) (a_round e piece kept acts gs (Some b) sends []) c) (send_answer taken)) (h.told_is t);
-        parts = λ d. tried_is (c == d) c d taken (part R ss d) (q d) e piece (gets_on gs d (asks_on e acts d)) (Some b) sends (h.parts d) refl (λ k. subst (λ x. is_tried sends x ≡ false) (eqb-true c d k) once);
+        parts = λ d. tried_is R (c == d) c d taken (part R ss d) (q d) e piece (gets_on gs d (asks_on e acts d)) (Some b) sends (h.parts d) refl (λ k. subst (λ x. is_tried sends x ≡ false) (eqb-true c d k) once);
         fits = record {
           follows = h.fits.follows;
           begins = h.fits.begins;
@@ -530,7 +249,7 @@ module _ {A W : Type 0} (R : Rules A W) where
           sends = (
             record {
               is_there = ap (λ cs. has cs c) (sym h.there_is) ∙ f.is_there;
-              reason = sym (must_is (part R ss c) (q c) e piece kept acts gs (Some b) sends [] c (h.parts c)) ∙ f.reason;
+              reason = sym (must_is R (part R ss c) (q c) e piece kept acts gs (Some b) sends [] c (h.parts c)) ∙ f.reason;
               once = once;
               some = subst (λ (bytes : List ℕ). 0 < length bytes) all f.some;
               most = subst (λ (bytes : List ℕ). IfSome taken (λ n. n ≤ length bytes)) all f.most;
@@ -546,13 +265,13 @@ module _ {A W : Type 0} (R : Rules A W) where
       → Same ss rs (a_round e piece kept acts gs (Some b) sends left) → LeftFits R ss c why
       → Same (Left c asks why ∷ ss) rs (a_round e piece kept acts gs (Some b) sends (record { conn = c; asks = asks; why = why } ∷ left))
   left_same ss rs e piece kept acts gs b sends left c asks why h f =
-      let q : ℕ → Conn A = λ d. cond (opens e d && kept) blank (conn rs d) in
+      let q : ℕ → Standing A = λ d. cond (opens e d && kept) blank (conn rs d) in
       let more : List Departure = record { conn = c; asks = asks; why = why } ∷ left in
       record {
         own_is = ap (λ es. es ++ Leave (record { front = R.number; number = c }) asks ∷ []) h.own_is;
-        there_is = ap (λ cs. remove cs c) h.there_is;
+        there_is = ap (λ cs. remove cs c) h.there_is ∙ remove_is _ c;
         starved_is = ap (λ n. with_starved n why) h.starved_is;
-        told_is = λ t. ap (λ x. cond x (after_close c (steps_told R ss t)) (steps_told R ss t)) (open_is (part R ss c) (q c) e piece kept acts gs (Some b) sends left c (h.parts c))
+        told_is = λ t. ap (λ x. cond x (after_close c (steps_told R ss t)) (steps_told R ss t)) (open_is R (part R ss c) (q c) e piece kept acts gs (Some b) sends left c (h.parts c))
             ∙ ap (λ u. cond (is_open (a_round e piece kept acts gs (Some b) sends left) c) (after_close c u) u) (h.told_is t);
         parts = h.parts;
         fits = record {
@@ -566,9 +285,10 @@ module _ {A W : Type 0} (R : Rules A W) where
           left = (
             record {
               is_there = ap (λ cs. has cs c) (sym h.there_is) ∙ f.is_there;
-              caused = caused_is rs (part R ss c) e piece kept acts gs (Some b) sends (record { conn = c; asks = asks; why = why } ∷ left) c (h.parts c) why f.caused;
-              last_try = last_try_is rs (part R ss c) e piece kept acts gs (Some b) sends (record { conn = c; asks = asks; why = why } ∷ left) c (h.parts c) why f.last_try;
-              asked_all = asked_is rs (part R ss c) e piece kept acts gs (Some b) sends (record { conn = c; asks = asks; why = why } ∷ left) c (h.parts c) why f.asked_all;
+              caused = closes_is R rs (part R ss c) e piece kept acts gs (Some b) sends (record { conn = c; asks = asks; why = why } ∷ left) c (h.parts c) why f.caused;
+              starved = starved_is R rs (part R ss c) e piece kept acts gs (Some b) sends (record { conn = c; asks = asks; why = why } ∷ left) c (h.parts c) why f.caused;
+              last_try = last_try_is R rs (part R ss c) e piece kept acts gs (Some b) sends (record { conn = c; asks = asks; why = why } ∷ left) c (h.parts c) why f.last_try;
+              asked_all = asked_is R rs (part R ss c) e piece kept acts gs (Some b) sends (record { conn = c; asks = asks; why = why } ∷ left) c (h.parts c) why f.asked_all;
             },
             releave rs e piece kept acts gs (Some b) sends left (record { conn = c; asks = asks; why = why } ∷ left) left h.fits.left,
           );
@@ -578,50 +298,34 @@ module _ {A W : Type 0} (R : Rules A W) where
 
   -- ---- all steps
 
-  abbrev AtPhase : Phase → List (Step A) → Type 0
+  abbrev pub AtPhase : Phase → List (Step A) → Type 0
   AtPhase Fresh ss = ss ≡ []
   AtPhase (Hearing e) ss = (piece : List ℕ) × (kept : Bool) × (acts : List A) × (rs : List (FrontRound A)) × Same ss rs (a_round e piece kept acts [] None [] [])
   AtPhase (Collecting e) ss = (piece : List ℕ) × (kept : Bool) × (acts : List A) × (gs : List Gathered) × (rs : List (FrontRound A)) × Same ss rs (a_round e piece kept acts gs None [] [])
   AtPhase (Offering e b) ss = (piece : List ℕ) × (kept : Bool) × (acts : List A) × (gs : List Gathered) × (sends : List Send) × (rs : List (FrontRound A)) × Same ss rs (a_round e piece kept acts gs (Some b) sends [])
   AtPhase (Leaving e b) ss = (piece : List ℕ) × (kept : Bool) × (acts : List A) × (gs : List Gathered) × (sends : List Send) × (left : List Departure) × (rs : List (FrontRound A)) × Same ss rs (a_round e piece kept acts gs (Some b) sends left)
 
-  whole_is : (ss : List (Step A)) (rs : List (FrontRound A)) (e : PortEvent) (piece : List ℕ) (kept : Bool) (acts : List A) (gs : List Gathered) (b : Bool) (sends : List Send) (left : List Departure)
+  pub whole_is : (ss : List (Step A)) (rs : List (FrontRound A)) (e : PortEvent) (piece : List ℕ) (kept : Bool) (acts : List A) (gs : List Gathered) (b : Bool) (sends : List Send) (left : List Departure)
       → Same ss rs (a_round e piece kept acts gs (Some b) sends left) → AllKept R ss → EndsWhole R rs (a_round e piece kept acts gs (Some b) sends left)
   whole_is ss rs e piece kept acts gs b sends left h k = record {
     through = λ n. cc;
-    kept = λ c here. kept_is (part R ss c) (cond (opens e c && kept) blank (conn rs c)) e piece kept acts gs (Some b) sends left c (h.parts c) (k c (ap (λ cs. has cs c) h.there_is ∙ here));
+    kept = λ c here. kept_is R (part R ss c) (cond (opens e c && kept) blank (conn rs c)) e piece kept acts gs (Some b) sends left c (h.parts c) (k c (ap (λ cs. has cs c) h.there_is ∙ here));
   }
 
-  goes_is : (ss : List (Step A)) (rs : List (FrontRound A)) (e : PortEvent) (piece : List ℕ) (kept : Bool) (acts : List A) (gs : List Gathered) (b : Bool) (sends : List Send) (left : List Departure)
+  pub goes_is : (ss : List (Step A)) (rs : List (FrontRound A)) (e : PortEvent) (piece : List ℕ) (kept : Bool) (acts : List A) (gs : List Gathered) (b : Bool) (sends : List Send) (left : List Departure)
       → Same ss rs (a_round e piece kept acts gs (Some b) sends left) → goes_on e b ≡ true → AllKept R ss → MayFollow R (a_round e piece kept acts gs (Some b) sends left ∷ rs)
   goes_is ss rs e piece kept acts gs b sends left h g k = (whole_is ss rs e piece kept acts gs b sends left h k, ap Some (goes_last e b g).0, (goes_last e b g).1)
 
   rested_is : (ss : List (Step A)) (rs : List (FrontRound A)) (e : PortEvent) (piece : List ℕ) (kept : Bool) (acts : List A) (gs : List Gathered) (b : Bool) (sends : List Send) (left : List Departure)
       → Same ss rs (a_round e piece kept acts gs (Some b) sends left) → goes_on e b ≡ true → AllKept R ss → Rested ss (a_round e piece kept acts gs (Some b) sends left ∷ rs)
   rested_is ss rs e piece kept acts gs b sends left h g k = record {
-    own_is = h.own_is;
-    there_is = h.there_is;
-    starved_is = h.starved_is;
-    told_is = h.told_is;
+    shows = shows_more ss rs e piece kept acts gs (Some b) sends left h;
     given = λ c. (h.parts c).given;
-    moves = λ c. (h.parts c).moves;
-    took = λ c. (h.parts c).took;
-    sound = (h.fits, h.sound);
     goes_on = goes_is ss rs e piece kept acts gs b sends left h g k;
   }
 
   at_first : Rested [] []
-  at_first = record {
-    own_is = refl;
-    there_is = refl;
-    starved_is = refl;
-    told_is = λ t. refl;
-    given = λ c. refl;
-    moves = λ c. refl;
-    took = λ c. refl;
-    sound = tt;
-    goes_on = tt;
-  }
+  at_first = record { shows = shows_none; given = λ c. refl; goes_on = tt }
 
   rested_at : (ph : Phase) (ss : List (Step A)) → AtPhase ph ss → MayBegin ph → AllKept R ss → (rs : List (FrontRound A)) × Rested ss rs
   rested_at Fresh ss h m k = ([], subst (λ l. Rested l []) (sym h) at_first)
@@ -671,7 +375,7 @@ module _ {A W : Type 0} (R : Rules A W) where
   left_at (Hearing e) ss c asks why h o f = absurd o
   left_at (Collecting e) ss c asks why h o f = absurd o
 
-  all_at : (ss : List (Step A)) → StepsSound R ss → AtPhase (phase ss) ss
+  pub all_at : (ss : List (Step A)) → StepsSound R ss → AtPhase (phase ss) ss
   all_at [] s = refl
   all_at (Came e piece kept ∷ ss) s =
       let w = rested_at (phase ss) ss (all_at ss s.1) s.0.time s.0.before in
@@ -681,129 +385,3 @@ module _ {A W : Type 0} (R : Rules A W) where
   all_at (Through b ∷ ss) s = through_at (phase ss) ss b (all_at ss s.1) s.0
   all_at (Tried c taken ∷ ss) s = tried_at (phase ss) ss c taken (all_at ss s.1) s.0.time s.0
   all_at (Left c asks why ∷ ss) s = left_at (phase ss) ss c asks why (all_at ss s.1) s.0.time s.0
-
-  -- ---- the run
-
-  abbrev rounds_at : (ph : Phase) (ss : List (Step A)) → AtPhase ph ss → List (FrontRound A)
-  rounds_at Fresh ss h = []
-  rounds_at (Hearing e) ss h = a_round e h.0 h.1 h.2 [] None [] [] ∷ h.3
-  rounds_at (Collecting e) ss h = a_round e h.0 h.1 h.2 h.3 None [] [] ∷ h.4
-  rounds_at (Offering e b) ss h = a_round e h.0 h.1 h.2 h.3 (Some b) h.4 [] ∷ h.5
-  rounds_at (Leaving e b) ss h = a_round e h.0 h.1 h.2 h.3 (Some b) h.4 h.5 ∷ h.6
-
-  -- all that is told of the rounds
-  record Tells (ss : List (Step A)) (rs : List (FrontRound A)) : Type 0 where
-    own_is : steps_own R ss ≡ own R rs
-    there_is : steps_there ss ≡ there rs
-    starved_is : steps_starved ss ≡ starved_in rs
-    told_is : (t : PortsTold) → steps_told R ss t ≡ told_after R rs t
-    moves : (c : ℕ) → (part R ss c).moves ≡ (conn rs c).moves
-    took : (c : ℕ) → (part R ss c).took ≡ (conn rs c).took
-    open_at : (c : ℕ) → part_open (part R ss c) ≡ is_open_after rs c
-    sound : Sound R rs
-
-  tells_first : Tells [] []
-  tells_first = record {
-    own_is = refl;
-    there_is = refl;
-    starved_is = refl;
-    told_is = λ t. refl;
-    moves = λ c. refl;
-    took = λ c. refl;
-    open_at = λ c. refl;
-    sound = tt;
-  }
-
-  tells_is : (ss : List (Step A)) (rs : List (FrontRound A)) (e : PortEvent) (piece : List ℕ) (kept : Bool) (acts : List A) (gs : List Gathered) (last : Option Bool) (sends : List Send) (left : List Departure)
-      → Same ss rs (a_round e piece kept acts gs last sends left) → Tells ss (a_round e piece kept acts gs last sends left ∷ rs)
-  tells_is ss rs e piece kept acts gs last sends left h = record {
-    own_is = h.own_is;
-    there_is = h.there_is;
-    starved_is = h.starved_is;
-    told_is = h.told_is;
-    moves = λ c. (h.parts c).moves;
-    took = λ c. (h.parts c).took;
-    open_at = λ c. open_is (part R ss c) (cond (opens e c && kept) blank (conn rs c)) e piece kept acts gs last sends left c (h.parts c);
-    sound = (h.fits, h.sound);
-  }
-
-  tells_at : (ph : Phase) (ss : List (Step A)) (h : AtPhase ph ss) → Tells ss (rounds_at ph ss h)
-  tells_at Fresh ss h = subst (λ l. Tells l []) (sym h) tells_first
-  tells_at (Hearing e) ss h = tells_is ss h.3 e h.0 h.1 h.2 [] None [] [] h.4
-  tells_at (Collecting e) ss h = tells_is ss h.4 e h.0 h.1 h.2 h.3 None [] [] h.5
-  tells_at (Offering e b) ss h = tells_is ss h.5 e h.0 h.1 h.2 h.3 (Some b) h.4 [] h.6
-  tells_at (Leaving e b) ss h = tells_is ss h.6 e h.0 h.1 h.2 h.3 (Some b) h.4 h.5 h.7
-
-  goes_at : (ph : Phase) (ss : List (Step A)) (h : AtPhase ph ss) → MayBegin ph → AllKept R ss → MayFollow R (rounds_at ph ss h)
-  goes_at Fresh ss h m k = tt
-  goes_at (Hearing e) ss h m k = absurd m
-  goes_at (Collecting e) ss h m k = absurd m
-  goes_at (Offering e b) ss h m k = goes_is ss h.5 e h.0 h.1 h.2 h.3 b h.4 [] h.6 m k
-  goes_at (Leaving e b) ss h m k = goes_is ss h.6 e h.0 h.1 h.2 h.3 b h.4 h.5 h.7 m k
-
-  finished_at : (ph : Phase) (ss : List (Step A)) (h : AtPhase ph ss) (stop : List Entry) (worn : Bool) → EndsAt event.Finished false ph → AllKept R ss → stop ≡ [] → EndHasCause R ended.Finished (rounds_at ph ss h) stop worn
-  finished_at (Offering e b) ss h stop worn m k s = (whole_is ss h.5 e h.0 h.1 h.2 h.3 b h.4 [] h.6 k, m.0, ap Some m.1, s)
-  finished_at (Leaving e b) ss h stop worn m k s = (whole_is ss h.6 e h.0 h.1 h.2 h.3 b h.4 h.5 h.7 k, m.0, ap Some m.1, s)
-  finished_at Fresh ss h stop worn m k s = absurd m
-  finished_at (Hearing e) ss h stop worn m k s = absurd m
-  finished_at (Collecting e) ss h stop worn m k s = absurd m
-
-  stopped_at : (ph : Phase) (ss : List (Step A)) (h : AtPhase ph ss) (stop : List Entry) (worn : Bool) → StopsAt ph → AllKept R ss → stop ≡ Stop ∷ [] → EndHasCause R ended.Stopped (rounds_at ph ss h) stop worn
-  stopped_at (Offering e b) ss h stop worn m k s = (whole_is ss h.5 e h.0 h.1 h.2 h.3 b h.4 [] h.6 k, ap Some m, s)
-  stopped_at (Leaving e b) ss h stop worn m k s = (whole_is ss h.6 e h.0 h.1 h.2 h.3 b h.4 h.5 h.7 k, ap Some m, s)
-  stopped_at Fresh ss h stop worn m k s = absurd m
-  stopped_at (Hearing e) ss h stop worn m k s = absurd m
-  stopped_at (Collecting e) ss h stop worn m k s = absurd m
-
-  end_at : (end : FrontEnd) (ss : List (Step A)) (h : AtPhase (phase ss) ss) (stop : List Entry) (worn : Bool) → StepsEnd R end ss stop worn → EndHasCause R end (rounds_at (phase ss) ss h) stop worn
-  end_at ended.Finished ss h stop worn k = finished_at (phase ss) ss h stop worn k.1 k.0 k.2
-  end_at ended.Stopped ss h stop worn k = stopped_at (phase ss) ss h stop worn k.1 k.0 k.2
-  end_at ended.Broken ss h stop worn k = (goes_at (phase ss) ss h k.1 k.0, k.2)
-  end_at ended.NoMemory ss h stop worn k = (goes_at (phase ss) ss h k.1 k.0, k.2)
-  end_at ended.Worn ss h stop worn k = k
-
-  rests_are : (ss : List (Step A)) (rs : List (FrontRound A)) → Tells ss rs → steps_rests R ss ≡ rests_of R rs
-  rests_are ss rs t =
-      ap (map (λ c. record { front = R.number; conn = c; bytes = part_due R (part R ss c) })) t.there_is
-      ∙ map_same (λ c. record { front = R.number; conn = c; bytes = part_due R (part R ss c) }) (λ c. record { front = R.number; conn = c; bytes = drop (conn rs c).took (answer_bytes R (conn rs c).moves) }) (there rs)
-      (λ c. ap (λ n. record { front = R.number; conn = c; bytes = drop n (answer_bytes R (part R ss c).moves) }) (t.took c)
-      ∙ ap (λ l. record { front = R.number; conn = c; bytes = drop (conn rs c).took (answer_bytes R l) }) (t.moves c))
-
-  rest_at : (end : FrontEnd) (ss : List (Step A)) (rs : List (FrontRound A)) (rests : List Rest) → Tells ss rs → StepsRest R end ss rests → RestsFit R end rs rests
-  rest_at ended.Worn ss rs rests t k = k
-  rest_at ended.Finished ss rs rests t k = k ∙ rests_are ss rs t
-  rest_at ended.Stopped ss rs rests t k = k ∙ rests_are ss rs t
-  rest_at ended.Broken ss rs rests t k = k ∙ rests_are ss rs t
-  rest_at ended.NoMemory ss rs rests t k = k ∙ rests_are ss rs t
-
-  telling_is : (ss : List (Step A)) (rs : List (FrontRound A)) (broke : Bool) (start : Option PortsTold) → Tells ss rs → option_map (λ t. with_break broke (steps_told R ss t)) start ≡ option_map (λ t. with_break broke (told_after R rs t)) start
-  telling_is ss rs broke None h = refl
-  telling_is ss rs broke (Some t) h = ap (λ u. Some (with_break broke u)) (h.told_is t)
-
-  tells_of : (ss : List (Step A)) (rs : List (FrontRound A)) (start : Option PortsTold) → Tells ss rs → IfSome start (λ t. (c : ℕ) → StepsTell R ss t c) → IfSome start (λ t. (c : ℕ) → TellsOf R rs t c)
-  tells_of ss rs None h k = tt
-  tells_of ss rs (Some t) h k = λ c. (
-    sym (ap (λ u. u.taken c) (h.told_is t)) ∙ (k c).0 ∙ ap (λ n. t.taken c ++ take n (answer_bytes R (part R ss c).moves)) (h.took c) ∙ ap (λ l. t.taken c ++ take (conn rs c).took (answer_bytes R l)) (h.moves c),
-    λ n. sym (ap (λ u. u.is_open c) (h.told_is t)) ∙ (k c).1 n ∙ ap (λ cs. has cs c && part_open (part R ss c)) h.there_is ∙ ap (λ b. has (there rs) c && b) (h.open_at c),
-  )
-
-  -- what a front did step by step is what it did in rounds
-  pub in_rounds : (start told : Option PortsTold) (mine : List Entry) (end : FrontEnd) (rests : List Rest) (starved : ℕ) (worn : Bool) → StepRun R start told mine end rests starved worn → FrontRun R start told mine end rests starved worn
-  in_rounds start told mine end rests starved worn s =
-      let h : AtPhase (phase s.steps) s.steps = all_at s.steps s.sound in
-      let rs : List (FrontRound A) = rounds_at (phase s.steps) s.steps h in
-      let t : Tells s.steps rs = tells_at (phase s.steps) s.steps h in
-      record {
-        rounds = rs;
-        broke = s.broke;
-        stop = s.stop;
-        entries = s.entries ∙ ap (λ es. es ++ s.stop) t.own_is;
-        telling = s.telling ∙ telling_is s.steps rs s.broke start t;
-        sound = t.sound;
-        tells = tells_of s.steps rs start t s.tells;
-        end_fits = end_at end s.steps h s.stop worn s.end_fits;
-        break_fits = s.break_fits;
-        break_time = λ b. goes_at (phase s.steps) s.steps h (s.break_time b).1 (s.break_time b).0;
-        rests_fit = rest_at end s.steps rs rests t s.rests_fit;
-        counted = s.counted ∙ ap (λ n. min n (2 ^ 64 - 1)) t.starved_is;
-      }

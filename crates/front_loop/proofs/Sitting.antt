@@ -12,7 +12,7 @@ use Rattle.front_loop.specs.declared.dispositions.Disposition.TheVariants.{Stays
 use Rattle.front_loop.specs.declared.dispositions.Reason.TheVariants as reason
 use Rattle.front_loop.specs.declared.sessions.Session.{Session}
 use Rattle.front_loop.specs.Rules.{Rules, Move, Does, answer_bytes, each_whole, any_starves}
-use Rattle.front_loop.specs.inner.Parts.{Part, must, is_open, Calm}
+use Rattle.front_loop.specs.inner.Parts.{Part, must, is_full, runs, is_open, Calm}
 use Rattle.front_loop.specs.inner.Sound.{HasAll}
 use Rattle.front_loop.specs.Front.{keeps, does}
 use Rattle.front_loop.specs.inner.Sessions.{is_up, asks_all, woken}
@@ -92,7 +92,14 @@ module _ {A W : Type 0} (R : Rules A W) where
     failed = false;
     sent_whole = false;
     complete = each_whole R p.moves;
+    heard = false;
+    met = false;
+    through = false;
   }
+
+  -- and with bytes of its own
+  abbrev pub fed : List ℕ → Part A → Part A
+  fed given p = record (rolled given false false false p) { heard = true }
 
   -- these requests have all their entries
   abbrev pub wholes : List A → List (Move A) → Bool
@@ -165,6 +172,12 @@ module _ {A W T : Type 0} (R : Rules A W) (K : List ℕ → List (Move A) → T 
     asked_all = h.asked_all;
   }
 
+  -- nothing has closed a session whose bytes are kept but what may stand in them
+  pub runs_of : (p : Part A) (s : Session T) (rest : List ℕ) → Keeping R K p s rest → runs R p ≡ true
+  runs_of p s rest k =
+      ap (λ b. not (b || (p.lost || (p.cut || (is_full R p || p.starved))))) k.running.ended ∙ ap (λ b. not (b || (p.cut || (is_full R p || p.starved)))) k.running.lost
+      ∙ ap (λ b. not (b || (is_full R p || p.starved))) k.uncut ∙ ap (λ b. not (b || p.starved)) k.small ∙ ap not k.memory
+
   pub calm_of : (told : Option PortsTold) (box : List (ℕ × List ℕ)) (p : Part A) (s : Session T) → Sits R K told box p s → IsAtRest s → Calm R p
   calm_of told box p s h r = subst (DispositionFits R p) r.0 h.disposition_fits
 
@@ -212,6 +225,8 @@ module _ {A W T : Type 0} (R : Rules A W) (K : List ℕ → List (Move A) → T 
         knows = k.knows;
         running = record { ended = refl; lost = refl; sends = refl; sent = refl };
         memory = refl;
+        uncut = refl;
+        small = (rolled_calm told box p s false h r).full;
         owed = λ e. clash (sym e ∙ r.1);
         offered = λ _ m t. clash (sym m ∙ quiet);
       })
@@ -231,6 +246,8 @@ module _ {A W T : Type 0} (R : Rules A W) (K : List ℕ → List (Move A) → T 
         knows = k.knows;
         running = record { ended = refl; lost = refl; sends = refl; sent = refl };
         memory = refl;
+        uncut = refl;
+        small = (rolled_calm told box p s true h r).full;
         owed = λ e. (refl, refl);
         offered = λ e. clash e;
       })

@@ -9,7 +9,8 @@ use Rattle.front_loop.specs.declared.dispositions.Disposition.{Disposition}
 use Rattle.front_loop.specs.declared.dispositions.Disposition.TheVariants.{Stays, Leaves}
 use Rattle.front_loop.specs.declared.dispositions.Reason.{Reason}
 use Rattle.front_loop.specs.declared.sessions.Session.{Session}
-use Rattle.front_loop.specs.Rounds.{has, remove}
+use Rattle.front_loop.specs.Rounds.{has}
+use Rattle.front_loop.specs.inner.Steps.{remove}
 use Rattle.front_loop.specs.inner.Sessions.{conns, Apart, StandsAt, HasConn, IsLeaving, StaysOn, leaves, woken}
 
 -- a number by its test

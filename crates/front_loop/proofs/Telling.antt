@@ -8,12 +8,11 @@ use Rattle.port_events.specs.declared.events.PortEvent.{PortEvent}
 use Rattle.port_events.specs.declared.events.PortEvent.TheVariants as event
 use Rattle.port_events.specs.Told.{PortsTold, MayCome, heard, after_send, after_close}
 use Rattle.front_loop.specs.Rules.{Rules, Move, Does, Gets, answer_bytes}
-use Rattle.front_loop.specs.inner.Steps.{Step, Came, Did, Got, Through, Tried, Left, there}
-use Rattle.front_loop.specs.Rounds.{has, remove, connections_after}
-use Rattle.front_loop.specs.inner.Parts.{Part, part, due, came, after_move, with_try, blank, is_open, told_after, EachMayCome}
-use Rattle.front_loop.specs.Conns.{opens, send_answer, shut_out}
-use Rattle.front_loop.specs.inner.Sound.{Sound, AllKept}
-use Rattle.front_loop.specs.RoundRules.{OpensNew}
+use Rattle.front_loop.specs.inner.Steps.{Step, Came, Did, Got, Through, Tried, Left, there, remove}
+use Rattle.front_loop.specs.Rounds.{has, connections_after}
+use Rattle.front_loop.specs.inner.Parts.{Part, part, due, came, after_move, with_try, blank, is_open, told_after, EachMayCome, send_answer}
+use Rattle.front_loop.specs.Conns.{opens, shut_out}
+use Rattle.front_loop.specs.inner.Sound.{Sound, AllKept, OpensNew}
 use Rattle.front_loop.specs.inner.StepRuns.{TellsOf}
 use Rattle.front_loop.specs.inner.Sessions.{Apart}
 use Rattle.front_loop.proofs.Tables.{same, flipped, has_more, apart_snoc, apart_remove}
@@ -113,10 +112,6 @@ module _ {A W : Type 0} (R : Rules A W) where
   unfailed_moved true m p f h = f h
   unfailed_moved false m p f h = f h
 
-  unfailed_called : (b : Bool) (p : Part A) → Unfailed p → Unfailed (cond b (record p { called = true }) p)
-  unfailed_called true p f h = f h
-  unfailed_called false p f h = f h
-
   unfailed_try : (b : Bool) (taken : Option ℕ) (p : Part A) → Unfailed p → Unfailed (cond b (with_try R taken p) p)
   unfailed_try true taken p f h = clash h
   unfailed_try false taken p f h = f h
@@ -126,7 +121,7 @@ module _ {A W : Type 0} (R : Rules A W) where
   unfailed (Came e piece kept ∷ ss) c h = refl
   unfailed (Did d a ∷ ss) c h = unfailed_moved (d == c) (Does a) (part R ss c) (unfailed ss c) h
   unfailed (Got r behind ∷ ss) c h = unfailed_moved (r.conn.number == c) (Gets r behind) (part R ss c) (unfailed ss c) h
-  unfailed (Through stopped ∷ ss) c h = unfailed_called stopped (part R ss c) (unfailed ss c) h
+  unfailed (Through stopped ∷ ss) c h = unfailed ss c h
   unfailed (Tried d taken ∷ ss) c h = unfailed_try (d == c) taken (part R ss c) (unfailed ss c) h
   unfailed (Left d asks why ∷ ss) c h = unfailed ss c h
 
@@ -142,10 +137,6 @@ module _ {A W : Type 0} (R : Rules A W) where
       let l = h.1 in
       (h.0 ∙ ap (λ xs. before ++ xs) (sym (take-append-le p.took (answer_bytes R p.moves) (R.says p.moves m) h.1)), omega (arith, e, l))
   takes_moved false m p before now h = h
-
-  takes_called : (b : Bool) (p : Part A) (before now : List ℕ) → Takes before p now → Takes before (cond b (record p { called = true }) p) now
-  takes_called true p before now h = h
-  takes_called false p before now h = h
 
   takes_some : (n : ℕ) (p : Part A) (before now : List ℕ) → n ≤ length (due R p) → Takes before p now → Takes before (with_try R (Some n) p) (now ++ take n (due R p))
   takes_some n p before now k h =
@@ -199,7 +190,7 @@ module _ {A W : Type 0} (R : Rules A W) where
   takes (Came e piece kept ∷ ss) t c s m = takes_came e piece kept (told_after R ss t) c (part R ss c) (t.taken c) m.0 (takes ss t c s.1 m.1)
   takes (Did d a ∷ ss) t c s m = takes_moved (d == c) (Does a) (part R ss c) (t.taken c) ((told_after R ss t).taken c) (takes ss t c s.1 m)
   takes (Got r behind ∷ ss) t c s m = takes_moved (r.conn.number == c) (Gets r behind) (part R ss c) (t.taken c) ((told_after R ss t).taken c) (takes ss t c s.1 m)
-  takes (Through stopped ∷ ss) t c s m = takes_called stopped (part R ss c) (t.taken c) ((told_after R ss t).taken c) (takes ss t c s.1 m)
+  takes (Through stopped ∷ ss) t c s m = takes ss t c s.1 m
   takes (Tried d taken ∷ ss) t c s m = takes_try ss (told_after R ss t) c d taken (t.taken c) s.0.most (takes ss t c s.1 m)
   takes (Left d asks why ∷ ss) t c s m = takes_left (is_open (part R ss d)) (told_after R ss t) c d (part R ss c) (t.taken c) (takes ss t c s.1 m)
 
@@ -253,10 +244,6 @@ module _ {A W : Type 0} (R : Rules A W) where
   open_moved true m p = refl
   open_moved false m p = refl
 
-  open_called : (b : Bool) (p : Part A) → is_open (cond b (record p { called = true }) p) ≡ is_open p
-  open_called true p = refl
-  open_called false p = refl
-
   open_try : (t : PortsTold) (c d : ℕ) (taken : Option ℕ) (bytes : List ℕ) (p : Part A) (x : Bool) → (d ≡ c → p.failed ≡ false) → t.is_open c ≡ (x && is_open p)
       → (after_send d bytes (send_answer taken) t).is_open c ≡ (x && is_open (cond (d == c) (with_try R taken p) p))
   open_try t c d (Some n) bytes p x f h = by_test (d == c) refl
@@ -297,7 +284,7 @@ module _ {A W : Type 0} (R : Rules A W) where
       (λ d q. subst (λ x. (told_after R ss t).is_open x ≡ has (there ss) x) (sym q) (open_kept ss c ((told_after R ss t).is_open c) s.0.before (open_is ss t c s.1 m.1 h)))
   open_is (Did d a ∷ ss) t c s m h = open_is ss t c s.1 m h ∙ ap (λ v. has (there ss) c && v) (sym (open_moved (d == c) (Does a) (part R ss c)))
   open_is (Got r behind ∷ ss) t c s m h = open_is ss t c s.1 m h ∙ ap (λ v. has (there ss) c && v) (sym (open_moved (r.conn.number == c) (Gets r behind) (part R ss c)))
-  open_is (Through stopped ∷ ss) t c s m h = open_is ss t c s.1 m h ∙ ap (λ v. has (there ss) c && v) (sym (open_called stopped (part R ss c)))
+  open_is (Through stopped ∷ ss) t c s m h = open_is ss t c s.1 m h
   open_is (Tried d taken ∷ ss) t c s m h =
       open_try (told_after R ss t) c d taken (due R (part R ss d)) (part R ss c) (has (there ss) c)
       (λ q. unfailed ss c (subst (λ x. (part R ss x).tried ≡ false) q s.0.once)) (open_is ss t c s.1 m h)

@@ -14,10 +14,10 @@ use Rattle.front_loop.specs.declared.sessions.Session.{Session}
 use Rattle.front_loop.specs.declared.offering.Gave.{Gave}
 use Rattle.front_loop.specs.declared.offering.Gave.TheVariants as gave
 use Rattle.front_loop.specs.Rules.{Rules, Move, answer_bytes}
-use Rattle.front_loop.specs.inner.Steps.{Tried, Phase, Fresh, Hearing, Collecting, Offering, Leaving, phase, Offers}
+use Rattle.front_loop.specs.inner.Steps.{Step, Came, Did, Got, Through, Tried, Left, Phase, Fresh, Hearing, Collecting, Offering, Leaving, phase, collecting, leaving, Gathers, Offers}
 use Rattle.front_loop.specs.Rounds.{has}
-use Rattle.front_loop.specs.inner.Parts.{Part, part, due, must, with_try, told_after}
-use Rattle.front_loop.specs.Conns.{send_answer}
+use Rattle.front_loop.specs.inner.Parts.{Part, part, due, must, with_try, told_after, WhenOffered, send_answer}
+use Rattle.front_loop.specs.inner.Sound.{Sound}
 use Rattle.front_loop.specs.inner.StepRuns.{EndsAt}
 use Rattle.front_loop.specs.Front.{keeps}
 use Rattle.front_loop.specs.inner.Sessions.{keys, Apart, StandsAt, is_up}
@@ -25,7 +25,7 @@ use Rattle.front_loop.specs.inner.Stands.{World, DispositionFits, Counts, Sits}
 use Rattle.front_loop.specs.inner.Stages.{IsOffering, OwesNone, OffersOne, Idle, Gives_it, Gives, disposition_after, part_or_all, CanOffer, CanLeave}
 use Rattle.front_loop.proofs.Tables.{other, same, has_at, conns_set, each_set, each_at, each_snoc}
 use Rattle.front_loop.proofs.Rests.{at_put, other_put, keys_put}
-use Rattle.front_loop.proofs.Sitting.{clash, and_both, lost_up, no_bytes, sits_as, others}
+use Rattle.front_loop.proofs.Sitting.{clash, and_both, lost_up, no_bytes, sits_as, runs_of, others}
 use Rattle.front_loop.proofs.Heards.{holds_rest}
 use Rattle.front_loop.proofs.Worlds.{told_more, open_by}
 use Rattle.front_loop.proofs.Gots.{keeps_up, keeps_asks}
@@ -55,6 +55,35 @@ unlost false b h = refl
 starved_told : (o : Option PortsTold) (c : ℕ) (rest : List ℕ) → option_map (after_send c rest (Err send_fault.NoMemory)) o ≡ o
 starved_told None c rest = refl
 starved_told (Some t) c rest = refl
+
+not_gathering : (ph : Phase) → Offers (collecting ph) → Gathers ph → ⊥
+not_gathering (Hearing e) h g = h
+not_gathering (Collecting e) h g = h
+not_gathering Fresh h g = h
+not_gathering (Offering e b) h g = g
+not_gathering (Leaving e b) h g = g
+
+not_leaving : (ph : Phase) → Offers (leaving ph) → ⊥
+not_leaving (Hearing e) h = h
+not_leaving (Collecting e) h = h
+not_leaving Fresh h = h
+not_leaving (Offering e b) h = h
+not_leaving (Leaving e b) h = h
+
+module _ {A W : Type 0} (R : Rules A W) where
+  tried_over : (b : Bool) (taken : Option ℕ) (p : Part A) → p.through ≡ true → (cond b (with_try R taken p) p).through ≡ true
+  tried_over true taken p h = h
+  tried_over false taken p h = h
+
+  -- where bytes are offered the last Collect is over
+  over_by : (ss : List (Step A)) (c : ℕ) → Sound R ss → Offers (phase ss) → (part R ss c).through ≡ true
+  over_by [] c s o = absurd o
+  over_by (Came e piece kept ∷ ss) c s o = absurd o
+  over_by (Did d a ∷ ss) c s o = absurd (subst Offers s.0.heard o)
+  over_by (Got r behind ∷ ss) c s o = absurd (not_gathering (phase ss) o s.0.0)
+  over_by (Through stopped ∷ ss) c s o = refl
+  over_by (Tried d taken ∷ ss) c s o = tried_over (d == c) taken (part R ss c) (over_by ss c s.1 o)
+  over_by (Left d asks why ∷ ss) c s o = absurd (not_leaving (phase ss) o)
 
 module _ {A W T : Type 0} (R : Rules A W) (K : List ℕ → List (Move A) → T → Type 0) where
   -- the session after its offer
@@ -87,6 +116,8 @@ module _ {A W T : Type 0} (R : Rules A W) (K : List ℕ → List (Move A) → T 
         knows = kept.knows;
         running = kept.running;
         memory = kept.memory;
+        uncut = kept.uncut;
+        small = kept.small;
         owed = λ e. clash (sym e);
         offered = λ _ m t. sym kept.rest_is ∙ no_bytes (rest_in box s.conn) z;
       })
@@ -124,6 +155,8 @@ module _ {A W T : Type 0} (R : Rules A W) (K : List ℕ → List (Move A) → T 
         knows = kept.knows;
         running = record { ended = kept.running.ended; lost = kept.running.lost; sends = refl; sent = e };
         memory = kept.memory;
+        uncut = kept.uncut;
+        small = kept.small;
         owed = λ q. clash (sym q);
         offered = λ _ m t. clash t;
       })
@@ -148,11 +181,13 @@ module _ {A W T : Type 0} (R : Rules A W) (K : List ℕ → List (Move A) → T 
       sits_as R K told' box (with_try R None p) (given s (Leaves reason.SendFailed)) (Leaves reason.SendFailed) refl h.rest_there
       (λ q. clash (sym q)) (lost_up p.lost) (counts_fail p h.counts) (λ q. clash (sym q)) refl (λ _. ((h.keeping k).asked_all, (h.asked_all (keeps_asks s.disposition k)).1))
 
-  lacked_sits : (told : Option PortsTold) (box : List (ℕ × List ℕ)) (p : Part A) (s : Session T) → Sits R K told box p s → keeps s.disposition ≡ true
-      → Sits R K told box p (given s (Leaves reason.Starved))
-  lacked_sits told box p s h k =
+  lacked_sits : (told : Option PortsTold) (box : List (ℕ × List ℕ)) (p : Part A) (s : Session T) → Sits R K told box p s → keeps s.disposition ≡ true → s.owes ≡ true
+      → p.through ≡ true → 0 < length (rest_in box s.conn) → Sits R K told box p (given s (Leaves reason.Starved))
+  lacked_sits told box p s h k o t z =
+      let kept = h.keeping k in
+      let owed = kept.owed o in
       sits_as R K told box p (given s (Leaves reason.Starved)) (Leaves reason.Starved) refl h.rest_there
-      (λ _. h.opening (keeps_up s.disposition k)) (h.up ∙ keeps_up s.disposition k) h.counts (λ q. clash (sym q)) ((h.keeping k).running, (h.keeping k).memory) (λ q. clash (sym q))
+      (λ _. h.opening (keeps_up s.disposition k)) (h.up ∙ keeps_up s.disposition k) h.counts (λ q. clash (sym q)) (kept.running, kept.memory, owed.0, WhenOffered t owed.1 (subst (λ (xs : List ℕ). 0 < length xs) kept.rest_is z) (runs_of R K p s (rest_in box s.conn) kept)) (λ q. clash (sym q))
 
   -- one session changed, and no step was made
   unstepped : (e : PortEvent) (stopped : Bool) (start : Option PortsTold) (w : World T) (i : ℕ) (s s' : Session T) → (h : CanOffer R K e stopped start w) → StandsAt w.sessions i s
@@ -250,7 +285,7 @@ module _ {A W T : Type 0} (R : Rules A W) (K : List ℕ → List (Move A) → T 
       let same_told = t ∙ starved_told w.told s.conn (rest_in w.box s.conn) in
       subst (λ (v : World T). CanOffer R K e stopped start v) (ap (λ (v : Option PortsTold × (List (ℕ × List ℕ) × Session T)). record { told = v.0; mine = w.mine; sessions = set w.sessions i v.1.1; box = v.1.0; starved = w.starved })
       (let q : ◌≡◌ {A = Option PortsTold × (List (ℕ × List ℕ) × Session T)} (w.told, (w.box, given s (Leaves reason.Starved))) (told', (box', s')) = cc in q))
-      (unstepped e stopped start w i s (given s (Leaves reason.Starved)) h at refl (lacked_sits w.told w.box (part R h.steps s.conn) s sits k))
+      (unstepped e stopped start w i s (given s (Leaves reason.Starved)) h at refl (lacked_sits w.told w.box (part R h.steps s.conn) s sits k o (over_by R h.steps s.conn h.stands.sound (offers_at e stopped (phase h.steps) h.time)) z))
   gave_by e stopped start told' w i s s' box' gave.Failed done h at o k (z, b, t) d is =
       let sits = each_at (λ (x : Session T). Sits R K w.told w.box (part R h.steps x.conn) x) w.sessions i s at h.stands.each in
       let kept = sits.keeping k in

@@ -15,15 +15,14 @@ use Rattle.front_loop.specs.inner.Steps.{Step, Came, Did, phase, Phase, Hearing,
 use Rattle.front_loop.specs.Rounds.{has, connections_after, with_refused}
 use Rattle.front_loop.specs.inner.Parts.{Part, part, came, after_move, told_after, EachMayCome}
 use Rattle.front_loop.specs.Conns.{shut_out}
-use Rattle.front_loop.specs.inner.Sound.{Sound, AllKept, Kept}
-use Rattle.front_loop.specs.RoundRules.{BeginsRound}
+use Rattle.front_loop.specs.inner.Sound.{Sound, AllKept, Kept, BeginsRound}
 use Rattle.front_loop.specs.Front.{does, with_acts, EachFits}
 use Rattle.front_loop.specs.inner.Sessions.{conns, keys, Apart, StandsAt, woken}
 use Rattle.front_loop.specs.inner.Stands.{World, world, IsAtRest, Sits, Stands}
 use Rattle.front_loop.specs.inner.Stages.{IsAt, Settles, Passes, Holds, Overflows, Starves, HearsOne, HearsWorn, Comes, HasBegun, CutShort, marked, MarksAt, Absent, Marks}
 use Rattle.front_loop.proofs.Tables.{same, other, conns_set, conns_woken, each_set, each_none, each_weaker, each_both, each_woken, each_conn, each_at}
 use Rattle.front_loop.proofs.Rests.{other_put, keys_put}
-use Rattle.front_loop.proofs.Sitting.{clash, open_map, rolled, wholes, moved_by, others, calm_of, kept_of, roll_quiet, roll_called, roll_ended, roll_lost}
+use Rattle.front_loop.proofs.Sitting.{clash, open_map, rolled, fed, wholes, moved_by, others, calm_of, kept_of, roll_quiet, roll_called, roll_ended, roll_lost}
 use Rattle.front_loop.proofs.Heards.{heard_of, heard_sits}
 
 map_map : (o : Option PortsTold) (f g : PortsTold → PortsTold) → option_map f (option_map g o) ≡ option_map (λ t. f (g t)) o
@@ -105,10 +104,10 @@ settles_other c response f f' box box' d (Starves k q b l) n = ap (λ (x : List 
 module _ {A W : Type 0} (R : Rules A W) where
   -- parts as a round begins
   quiet_bytes : (p : Part A) (piece : List ℕ) (c d : ℕ) → (c ≡ d → ⊥) → came R (event.Bytes c) piece d p ≡ rolled R p.given false false false p
-  quiet_bytes p piece c d n = ap (λ b. rolled R (cond b (p.given ++ piece) p.given) false false false p) (other c d n)
+  quiet_bytes p piece c d n = ap (λ b. record (rolled R (cond b (p.given ++ piece) p.given) false false false p) { heard = b }) (other c d n)
 
-  at_bytes : (p : Part A) (piece : List ℕ) (c d : ℕ) → c ≡ d → came R (event.Bytes c) piece d p ≡ rolled R (p.given ++ piece) false false false p
-  at_bytes p piece c d e = ap (λ b. rolled R (cond b (p.given ++ piece) p.given) false false false p) (ap (λ x. c == x) (sym e) ∙ same c)
+  at_bytes : (p : Part A) (piece : List ℕ) (c d : ℕ) → c ≡ d → came R (event.Bytes c) piece d p ≡ fed R (p.given ++ piece) p
+  at_bytes p piece c d e = ap (λ b. record (rolled R (cond b (p.given ++ piece) p.given) false false false p) { heard = b }) (ap (λ x. c == x) (sym e) ∙ same c)
 
   quiet_writable : (p : Part A) (piece : List ℕ) (c d : ℕ) → (c ≡ d → ⊥) → came R (event.Writable c) piece d p ≡ rolled R p.given false false false p
   quiet_writable p piece c d n = ap (λ b. rolled R p.given false false b p) (other c d n)
@@ -278,7 +277,7 @@ module _ {A W T : Type 0} (R : Rules A W) (K : List ℕ → List (Move A) → T 
       let hd = heard_of R K w.told w.box box' p s s' piece w.mine mine' r.0 r.1 h in
       let ss = Came (event.Bytes c) piece false ∷ m.steps in
       let opens : (d : ℕ) → IsOpen d w.told → IsOpen d told = λ d. open_by w.told told (heard (event.Bytes c) piece) d m.heard.1 (λ t. refl) in
-      let part_is : part R ss s.conn ≡ rolled R (p.given ++ piece) false false false p = at_bytes R p piece c s.conn (sym sc) in
+      let part_is : part R ss s.conn ≡ fed R (p.given ++ piece) p = at_bytes R p piece c s.conn (sym sc) in
       record {
         steps = dids R s.conn hd.acts ++ ss;
         stands = record {
@@ -319,7 +318,7 @@ module _ {A W T : Type 0} (R : Rules A W) (K : List ℕ → List (Move A) → T 
       let k = kept_of R K w.told w.box p s r.0 r.1 in
       let hd = h.heard p.given p.moves k.knows k.asked_all k.whole (calm_of R K w.told w.box p s r.0 r.1).read in
       let ss = Came (event.Bytes c) piece false ∷ m.steps in
-      let part_is : part R ss s.conn ≡ rolled R (p.given ++ piece) false false false p = at_bytes R p piece c s.conn (sym sc) in
+      let part_is : part R ss s.conn ≡ fed R (p.given ++ piece) p = at_bytes R p piece c s.conn (sym sc) in
       record {
         steps = dids R s.conn hd.acts ++ ss;
         entries = hd.mine_is ∙ ap (with_acts R s.conn hd.acts) st.entries ∙ sym (own_dids R s.conn hd.acts ss);

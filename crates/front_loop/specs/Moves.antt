@@ -1,5 +1,5 @@
--- What is said of a move by its kind, and of a list that may be absent.
-use Rattle.std.specs.Prelude.{List, [], Option, Some, None}
+-- What is said of a move by its kind.
+use Rattle.std.specs.Prelude.{List}
 use Rattle.farm_history.specs.declared.queues.Reply.{Reply}
 use Rattle.farm_history.specs.Entries.{Entry}
 use Rattle.front_loop.specs.Rules.{Move, Does, Gets}
@@ -8,8 +8,3 @@ use Rattle.front_loop.specs.Rules.{Move, Does, Gets}
 abbrev pub by_move : {A B : Type 0} → (A → B) → (Reply → List Entry → B) → Move A → B
 by_move does gets (Does a) = does a
 by_move does gets (Gets r behind) = gets r behind
-
--- the list, if there is one
-abbrev pub or_empty : {A : Type 0} → Option (List A) → List A
-or_empty None = []
-or_empty (Some xs) = xs

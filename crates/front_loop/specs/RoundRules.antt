@@ -1,29 +1,12 @@
 -- Which round a front may make after those before it.
 use Rattle.std.specs.Prelude.{◌≡◌, ◌≢◌, ℕ, ◌<◌, ◌≤◌, true, false, ◌⊎◌, List, [], ◌∷◌, ◌++◌, length, Some, None, IfSome}
 use Rattle.farm_base.specs.Limits.{most_sessions}
-use Rattle.port_events.specs.declared.events.PortEvent.{PortEvent}
 use Rattle.port_events.specs.declared.events.PortEvent.TheVariants as event
 use Rattle.front_loop.specs.declared.dispositions.Reason.{Reason}
 use Rattle.front_loop.specs.declared.dispositions.Reason.TheVariants as reason
-use Rattle.front_loop.specs.Rules.{Rules, each_fits, wants_of, BeginsWanted}
+use Rattle.front_loop.specs.Rules.{EachSoFar, Rules, wants_of}
 use Rattle.front_loop.specs.Rounds.{Send, Departure, FrontRound, has, gone, connections_after, there}
-use Rattle.front_loop.specs.Conns.{before, after, asks_on, made, is_tried, due, must, Offered, closes, HasAll, Kept}
-
--- each of a list, whose newest comes first, is right after those before it
-abbrev pub EachSoFar : {A : Type 0} → (List A → A → Type 0) → List A → Type 0
-EachSoFar P [] = Unit {0}
-EachSoFar P (x ∷ xs) = P xs x × EachSoFar P xs
-
--- Want of memory of the ports, and their end as a whole, begin no round.
-abbrev pub BeginsRound : PortEvent → Type 0
-BeginsRound event.Broken = ⊥
-BeginsRound event.NoMemory = ⊥
-BeginsRound _ = Unit {0}
-
--- the event opens a connection that is not among these
-abbrev pub OpensNew : PortEvent → List ℕ → Type 0
-OpensNew (event.Opened c) cs = has cs c ≡ false
-OpensNew _ cs = ⊥
+use Rattle.front_loop.specs.Conns.{Standing, before, after, made, is_tried, due, must, Offered, closes, MayLack, HasAll, Kept}
 
 module _ {A W : Type 0} (R : Rules A W) where
   -- A send: to a connection that is there, for a reason, once in a round, and of more than 0 bytes, of which no more
@@ -35,25 +18,22 @@ module _ {A W : Type 0} (R : Rules A W) where
     pub some : 0 < length (due R (before rs r s.conn) r s.conn)
     pub most : IfSome s.taken (λ n. n ≤ length (due R (before rs r s.conn) r s.conn))
 
-  -- The cause for which a connection is left is there. It is left as starved where nothing else of the round closes it
-  -- but what may have come behind the want of memory: a reply that was Cut, a rest that was full, or what stands in its bytes.
-  abbrev pub Caused : List (FrontRound A) → FrontRound A → ℕ → Reason → Type 0
-  Caused rs r c reason.Starved = (why : Reason) → closes R (before rs r c) r c why ≡ true → (why ≡ reason.Cut) ⊎ ((why ≡ reason.Full) ⊎ (why ≡ reason.Unread))
-  Caused rs r c why = closes R (before rs r c) r c why ≡ true
+  -- A connection is left as starved where memory may have been wanting to it before anything of the round closed it: nothing
+  -- was offered to it, and nothing else closes it but what may stand beside that want, a reply that was Cut, a rest that was
+  -- full, or what stands in its bytes.
+  pub record IsStarved (p : Standing A) (r : FrontRound A) (c : ℕ) : Type 0 where
+    pub lacks : MayLack R p r c
+    pub untried : is_tried r.sends c ≡ false
+    pub alone : (why : Reason) → closes R p r c (made r c) why ≡ true → (why ≡ reason.Cut) ⊎ ((why ≡ reason.Full) ⊎ (why ≡ reason.Unread))
 
-  -- requests may be missing where the rest was full or memory was wanting
-  abbrev pub AskedAll : List (FrontRound A) → FrontRound A → ℕ → Reason → Type 0
-  AskedAll rs r c reason.Full = Unit {0}
-  AskedAll rs r c reason.NoMemory = Unit {0}
-  AskedAll rs r c reason.Starved = Unit {0}
-  AskedAll rs r c _ = HasAll R (before rs r c) r c
-
-  -- A connection that is left: it is still there, with its cause; if it is for what stood in its bytes alone, it was offered its bytes once; and all was asked.
+  -- A connection that is left: it is still there, with its cause; if it is for what stood in its bytes alone, it was
+  -- offered its bytes once; and all was asked, but where its rest was full or memory was wanting.
   pub record LeaveFits (rs : List (FrontRound A)) (r : FrontRound A) (earlier : List Departure) (d : Departure) : Type 0 where
     pub is_there : has (gone earlier (connections_after (there rs) r.event r.kept)) d.conn ≡ true
-    pub caused : Caused rs r d.conn d.why
+    pub caused : d.why ≢ reason.Starved → closes R (before rs r d.conn) r d.conn (made r d.conn) d.why ≡ true
+    pub starved : d.why ≡ reason.Starved → IsStarved (before rs r d.conn) r d.conn
     pub last_try : d.why ≡ reason.Unread → Offered R (before rs r d.conn) r d.conn
-    pub asked_all : AskedAll rs r d.conn d.why
+    pub asked_all : d.why ≢ reason.Full → d.why ≢ reason.NoMemory → d.why ≢ reason.Starved → HasAll R (before rs r d.conn) r d.conn
 
   -- the round is whole: its last Collect is over, and each connection that is there is in order
   pub record EndsWhole (rs : List (FrontRound A)) (r : FrontRound A) : Type 0 where
@@ -69,20 +49,17 @@ module _ {A W : Type 0} (R : Rules A W) where
   pub record RoundFits (rs : List (FrontRound A)) (r : FrontRound A) : Type 0 where
     -- only the newest round is cut short
     pub follows : MayFollow rs
-    pub begins : BeginsRound r.event
+    -- want of memory of the ports, and their end as a whole, begin no round
+    pub begins : (r.event ≢ event.Broken) × (r.event ≢ event.NoMemory)
     -- an Opened makes a session only where fewer than 1,024 are there and its connection is not
-    pub room : r.kept ≡ true → (length (there rs) < most_sessions) × OpensNew r.event (there rs)
+    pub room : r.kept ≡ true → (c : ℕ) × (r.event ≡ event.Opened c) × (has (there rs) c ≡ false) × (length (there rs) < most_sessions)
     -- What was asked before and by the requests of the round are the first of those that stand in the bytes. Nothing may be
     -- asked where memory was wanting.
     pub asks : (c : ℕ) → r.event ≡ event.Bytes c
-        → (r.acts ≡ []) ⊎ BeginsWanted R (after r c (before rs r c)).given (wants_of R (asks_on r.event r.acts c ++ (before rs r c).moves))
+        → (r.acts ≡ []) ⊎ ((more : List W) × R.wanted (after r c (before rs r c)).given (wants_of R (made r c ++ (before rs r c).moves) ++ more))
     -- each move has entries that fit
-    pub fits : (c : ℕ) → each_fits R (made r c ++ (before rs r c).moves) ≡ true
+    pub fits : (c : ℕ) → EachSoFar (λ ms m. R.fits ms m ≡ true) (made r c ++ (before rs r c).moves)
     -- sends and Leaves stand behind the last Collect
     pub order : r.last ≡ None → (r.sends ≡ []) × (r.left ≡ [])
     pub sends : EachSoFar (SendFits rs r) r.sends
     pub left : EachSoFar (LeaveFits rs r) r.left
-
-  -- each round may be made after those before it
-  abbrev pub Sound : List (FrontRound A) → Type 0
-  Sound rs = EachSoFar RoundFits rs

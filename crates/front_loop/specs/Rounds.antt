@@ -5,9 +5,9 @@ use Rattle.farm_base.specs.Limits.{most_sessions}
 use Rattle.port_events.specs.declared.events.PortEvent.{PortEvent}
 use Rattle.port_events.specs.declared.events.PortEvent.TheVariants as event
 use Rattle.farm_history.specs.declared.queues.Reply.{Reply}
-use Rattle.farm_history.specs.declared.answers.Collected.{Collected}
 use Rattle.farm_history.specs.declared.answers.Collected.TheVariants as collected
 use Rattle.farm_history.specs.Entries.{Entry, Collect, Leave}
+use Rattle.farm_history.specs.Lists.{without_first}
 use Rattle.front_loop.specs.declared.dispositions.Reason.{Reason}
 use Rattle.front_loop.specs.declared.dispositions.Reason.TheVariants as reason
 use Rattle.front_loop.specs.Rules.{Rules}
@@ -51,11 +51,6 @@ in_turn f (x ∷ xs) t = f x (in_turn f xs t)
 
 -- ---- connections
 
--- a list of connections without the first of that number
-abbrev pub remove : List ℕ → ℕ → List ℕ
-remove [] c = []
-remove (d ∷ ds) c = cond (d == c) ds (d ∷ remove ds c)
-
 -- whether a connection is in the list
 abbrev pub has : List ℕ → ℕ → Bool
 has [] c = false
@@ -68,7 +63,7 @@ connections_after cs _ _ = cs
 
 -- those that are there when these were left
 abbrev pub gone : List Departure → List ℕ → List ℕ
-gone ds cs = in_turn (λ (d : Departure) ds. remove ds d.conn) ds cs
+gone ds cs = in_turn (λ (d : Departure) cs. without_first (λ c. c == d.conn) cs) ds cs
 
 -- the connections that are there after the rounds, in the order in which they were opened
 abbrev pub there : {A : Type 0} → List (FrontRound A) → List ℕ
@@ -93,11 +88,6 @@ starved_in (r ∷ rs) = in_turn (λ (d : Departure) n. with_starved n d.why) r.l
 
 -- ---- entries
 
--- the answer of the Collect that gives no reply
-abbrev pub no_reply : Bool → Collected
-no_reply true = collected.Stopped
-no_reply false = collected.Empty
-
 module _ {A W : Type 0} (R : Rules A W) where
   -- the entries of a request of the connection whose bytes came
   abbrev pub asked_by : PortEvent → A → List Entry
@@ -107,7 +97,7 @@ module _ {A W : Type 0} (R : Rules A W) where
   -- the entry of the Collect that gave no reply, behind others
   abbrev pub with_last : Option Bool → List Entry → List Entry
   with_last None es = es
-  with_last (Some stopped) es = es ++ Collect R.number (no_reply stopped) ∷ []
+  with_last (Some stopped) es = es ++ Collect R.number (cond stopped collected.Stopped collected.Empty) ∷ []
 
   -- the front's own entries, in order: in each round those of the requests, then the Collects with what stands behind them, then the Leaves
   abbrev pub own : List (FrontRound A) → List Entry

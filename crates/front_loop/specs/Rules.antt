@@ -1,10 +1,16 @@
 -- What a front makes of a connection: what the bytes that came ask for, the entries that this has, and the
 -- bytes that are answered. Lists of things that happened have the newest first; lists of bytes, of requests
 -- and of entries have the oldest first.
-use Rattle.std.specs.Prelude.{◌≡◌, ℕ, Bool, true, false, ◌&&◌, ◌||◌, ◌⊎◌, List, [], ◌∷◌, ◌++◌}
+use Rattle.std.specs.Prelude.{◌≡◌, ℕ, Bool, true, false, ◌&&◌, ◌⊎◌, List, [], ◌∷◌, ◌++◌}
+use Rattle.std.specs.List.{list_any}
 use Rattle.farm_history.specs.declared.queues.Reply.{Reply}
 use Rattle.farm_history.specs.declared.queues.Outcome.TheVariants as outcome
 use Rattle.farm_history.specs.Entries.{Entry}
+
+-- each of a list, whose newest comes first, is right after those before it
+abbrev pub EachSoFar : {A : Type 0} → (List A → A → Type 0) → List A → Type 0
+EachSoFar P [] = Unit {0}
+EachSoFar P (x ∷ xs) = P xs x × EachSoFar P xs
 
 -- the list is empty
 abbrev pub is_empty : {A : Type 0} → List A → Bool
@@ -61,15 +67,9 @@ module _ {A W : Type 0} (R : Rules A W) where
   each_whole [] = true
   each_whole (m ∷ ms) = R.whole ms m && each_whole ms
 
-  -- every move fits those before it
-  abbrev pub each_fits : List (Move A) → Bool
-  each_fits [] = true
-  each_fits (m ∷ ms) = R.fits ms m && each_fits ms
-
   -- some move found no memory
   abbrev pub any_starves : List (Move A) → Bool
-  any_starves [] = false
-  any_starves (m ∷ ms) = R.starves m || any_starves ms
+  any_starves ms = list_any R.starves ms
 
   -- these are the first of the requests that stand in the bytes
   abbrev pub BeginsWanted : List ℕ → List W → Type 0

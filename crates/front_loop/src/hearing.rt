@@ -3,7 +3,7 @@ ghost use Rattle.std.specs.Prelude.{◌≡◌, ◌+◌, ◌-◌, ◌^◌, ◌++�
 ghost use Rattle.farm_base.specs.Limits.{most_sessions};
 ghost use Rattle.farm_history.specs.Entries.{Entry};
 ghost use Rattle.front_loop.specs.Calls.{SameSeat};
-ghost use Rattle.front_loop.specs.RoundRules.{BeginsRound};
+ghost use Rattle.front_loop.specs.inner.Sound.{BeginsRound};
 ghost use Rattle.front_loop.specs.Front.{keeps};
 ghost use Rattle.front_loop.specs.inner.Sessions.{owing, woken, keys, conns, newcomer};
 ghost use Rattle.front_loop.specs.inner.Stands.{world};

@@ -9,7 +9,7 @@ ghost use Rattle.port_events.specs.Boxes.{as_rest};
 ghost use Rattle.port_events.specs.declared.ends.FrontEnd.TheVariants as ended;
 ghost use Rattle.front_loop.specs.inner.Stands.{world};
 ghost use Rattle.front_loop.specs.inner.Stages.{Comes, CanGo, Goes, CutShort, EndsEarly, StopsAfter, end_of};
-ghost use Rattle.front_loop.specs.RoundRules.{BeginsRound};
+ghost use Rattle.front_loop.specs.inner.Sound.{BeginsRound};
 ghost use Rattle.port_events.specs.Told.{PortsTold};
 
 use crate::closing::close_all;

@@ -2,6 +2,7 @@
 use Rattle.std.proofs.Common.{◌≡◌, ℕ, ◌<◌, ◌≤◌, List, [], ◌∷◌, ◌++◌, length, Bool, true, false, ◌||◌, Option, inl, inr, refl, sym, ap, subst, ◌∙◌, arith, append-nil}
 use Rattle.std.proofs.lemmas.Bool.{and_from, false≢true}
 use Rattle.std.proofs.Math.Bool.{or-false}
+use Rattle.std.specs.List.{list_any}
 use Rattle.farm_base.specs.Limits.{most_head_bytes}
 use Rattle.farm_history.specs.Entries.{Entry}
 use Rattle.farm_history.specs.declared.queues.Conn.{Conn}
@@ -15,7 +16,7 @@ use Rattle.http_handler.specs.declared.acts.HttpAsk.{HttpAsk}
 use Rattle.http_handler.specs.declared.acts.Act.{Act}
 use Rattle.http_handler.specs.declared.conn_states.ConnState.{ConnState}
 use Rattle.http_handler.specs.ConnStates.{is_reading, is_answered, waits_in}
-use Rattle.http_handler.specs.Tiles.{BytesAsk, Wants, ends, http_asks, tile_rules, Knows}
+use Rattle.http_handler.specs.Tiles.{BytesAsk, Wants, answers, http_asks, tile_rules, Knows}
 use Rattle.http_handler.specs.Steps.{want, tile_entries, whole_act, is_answer, starves_act, WhyOf, IsIdle, DidHttpAsk, DoesHttpAsk}
 use Rattle.http_handler.proofs.Wishes.{asked_is, asks_stay, no_both, open_all, shown_twice, reading_unanswered}
 
@@ -126,7 +127,7 @@ module _ (front : ℕ) (maps : List ℕ → Option ℕ) where
       let asks_now : BytesAsk maps (bytes_read (given ++ piece)) w = subst (λ (b : List ℕ). BytesAsk maps b w) (ap bytes_read kept_is ∙ shown_twice (given ++ piece)) asks in
       let once : http_asks (Does a ∷ ms) ≡ w ∷ [] = ap (λ (ws : List HttpAsk). ws ++ want a ∷ []) head.2 ∙ ap (λ (v : HttpAsk). v ∷ []) did.want_is in
       let wanted : Wants maps (given ++ piece) (wants_of (tile_rules front maps) (Does a ∷ ms)) = wants_one (given ++ piece) (Does a ∷ ms) w once asks_now in
-      let unanswered : ends ms ≡ false = knows.ends ∙ reading_unanswered conn_state.stage reads in
+      let unanswered : list_any answers ms ≡ false = knows.ends ∙ reading_unanswered conn_state.stage reads in
       record {
         acts = a ∷ [];
         mine_is = did.mine_is ∙ ap (λ (n : ℕ). mine ++ tile_entries (record { front = n; number = c.number }) a) own;

@@ -10,7 +10,7 @@ use Rattle.farm_history.specs.Entries.{Entry, Ask, Fetch, Look}
 use Rattle.farm_history.specs.Lists.{Each}
 use Rattle.http_handler.specs.declared.acts.Act.{Act}
 use Rattle.http_handler.specs.declared.acts.Act.TheVariants as act
-use Rattle.http_handler.specs.Tiles.{is_fetch, fits_behind}
+use Rattle.http_handler.specs.Tiles.{fits_behind}
 use Rattle.http_handler.specs.Steps.{tile_entries}
 
 module _ (P : Entry → Type 0) (fetches : (s : Spot) (f : Fetched) → P (Fetch s f)) where
@@ -22,7 +22,7 @@ module _ (P : Entry → Type 0) (fetches : (s : Spot) (f : Fetched) → P (Fetch
   each_entry asks looks c (act.Seen s l) = (looks s l, tt)
   each_entry asks looks c (act.Marked s a) = (asks _ _ _ _, tt)
 
-  one : (s : Spot) (e : Entry) → is_fetch s e ≡ true → P e
+  one : (s : Spot) (e : Entry) → fits_behind (Some s) (e ∷ []) ≡ true → P e
   one s (Fetch t f) is = fetches t f
   one s e is = cc
 
@@ -30,4 +30,5 @@ module _ (P : Entry → Type 0) (fetches : (s : Spot) (f : Fetched) → P (Fetch
   each_behind o [] is = tt
   each_behind None (e ∷ es) is = cc
   each_behind (Some s) (e ∷ []) is = (one s e is, tt)
+  each_behind (Some s) (Fetch t f ∷ d ∷ es) is = cc
   each_behind (Some s) (e ∷ d ∷ es) is = cc

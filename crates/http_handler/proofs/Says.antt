@@ -1,7 +1,7 @@
 -- What is said, and what a ask leaves, by cases.
 use Rattle.std.proofs.Common.{◌≡◌, ◌||◌, ℕ, List, [], ◌∷◌, ◌++◌, true, false, Option, Some, None, Result, Ok, Err, inl, inr, refl, sym, ap, subst, ◌∙◌, append_assoc, append-nil}
 use Rattle.std.proofs.lemmas.Bool.{false≢true}
-use Rattle.std.specs.Prelude.{OnOk, MatchResult, option_map}
+use Rattle.std.specs.Prelude.{OnOk, MatchResult, option_map, unwrap_or}
 use Rattle.std.specs.Option.{is_some, is_none}
 use Rattle.farm_history.specs.Entries.{Entry, Ask, Fetch, Look}
 use Rattle.farm_history.specs.declared.queues.Conn.{Conn}
@@ -12,7 +12,6 @@ use Rattle.farm_history.specs.declared.answers.Looked.{Looked}
 use Rattle.front_loop.specs.declared.dispositions.Disposition.{Disposition}
 use Rattle.front_loop.specs.declared.dispositions.Disposition.TheVariants.{Stays, Leaves}
 use Rattle.front_loop.specs.declared.dispositions.Reason.TheVariants as reason
-use Rattle.front_loop.specs.Moves.{or_empty}
 use Rattle.front_loop.specs.Front.{keeps}
 use Rattle.tile_answers.specs.Answers.{status_answer, dirty_answer}
 use Rattle.http_handler.specs.declared.acts.HttpAsk.{HttpAsk}
@@ -68,7 +67,7 @@ pub did_refuse : (c : Conn) (w : HttpAsk) (mine : List Entry) (stage : Stage) (r
     → Says text response disposition → DoesHttpAsk c w mine mine stage response disposition
 did_refuse c w mine stage response text disposition is e says =
     did c (act.Refused w) mine mine stage response disposition (sym (append-nil mine)) (ap is_some is) (ap (λ o. is_some o || false) is, refl, ap is_some is) e says.why
-    (λ k. says.response_is k ∙ sym (ap (λ (o : Option (List ℕ)). or_empty o) is))
+    (λ k. says.response_is k ∙ sym (ap (λ (o : Option (List ℕ)). unwrap_or o []) is))
 
 pub did_look : (c : Conn) (s : Spot) (l : Looked) (mine mine' : List Entry) (stage : Stage) (response : List ℕ) (disposition : Disposition) → mine' ≡ mine ++ Look s l ∷ [] → stage ≡ Answered
     → Says (status_answer l) response disposition → DoesHttpAsk c (http_ask.Status s) mine mine' stage response disposition

@@ -15,8 +15,10 @@ use Rattle.http_handler.specs.declared.acts.Act.{Act}
 use Rattle.http_handler.specs.declared.conn_states.Stage.{Stage}
 use Rattle.http_handler.specs.declared.conn_states.Stage.TheVariants.{Reading, Waiting, Answered}
 use Rattle.http_handler.specs.ConnStates.{is_reading, is_answered, waits_in, spot_at}
-use Rattle.http_handler.specs.Tiles.{GetsSpot, http_ask_of, BytesAsk, http_asks, still_waits, same_map, same_spot, tile_rules}
-use Rattle.http_handler.specs.Steps.{want}
+use Rattle.std.specs.Prelude.{◌==◌}
+use Rattle.std.specs.Option.{is_some, option_eq}
+use Rattle.http_handler.specs.Tiles.{GetsSpot, http_ask_of, BytesAsk, http_asks, tile_rules}
+use Rattle.http_handler.specs.Steps.{same_spot, want}
 
 -- no test is passed and failed
 pub no_both : (b : Bool) → b ≡ true → b ≡ false → ⊥
@@ -67,7 +69,7 @@ shown_twice given = let e = length-take most_head_bytes given in take_all most_h
 same_number : (n : ℕ) → eqb n n ≡ true
 same_number n = eq-eqb n n refl
 
-same_place : (m : Option ℕ) → same_map m m ≡ true
+same_place : (m : Option ℕ) → option_eq (λ a b. a == b) m m ≡ true
 same_place None = refl
 same_place (Some n) = same_number n
 
@@ -84,21 +86,11 @@ reading_unanswered (Waiting n s) e = refl
 reading_unanswered Answered e = cc
 
 -- an ask that waits, and a reply to another one or to that one
-pub unless_other : (n : ℕ) (o : Option (ℕ × Spot)) → spot_at n o ≡ None → still_waits n o ≡ o
-unless_other n None e = refl
-unless_other n (Some p) e = other (eqb p.0 n) p e
-  where
-    other : (b : Bool) (p : ℕ × Spot) → cond b (Some p.1) None ≡ None → cond b None (Some p) ≡ Some p
-    other true p e = cc
-    other false p e = refl
+pub unless_other : (n : ℕ) (o : Option (ℕ × Spot)) → spot_at n o ≡ None → cond (is_some (spot_at n o)) None o ≡ o
+unless_other n o e = ap (λ (s : Option Spot). cond (is_some s) None o) e
 
-pub unless_that : (n : ℕ) (s : Spot) (o : Option (ℕ × Spot)) → spot_at n o ≡ Some s → still_waits n o ≡ None
-unless_that n s None e = refl
-unless_that n s (Some p) e = that (eqb p.0 n) p s e
-  where
-    that : (b : Bool) (p : ℕ × Spot) (s : Spot) → cond b (Some p.1) None ≡ Some s → cond b None (Some p) ≡ None
-    that true p s e = refl
-    that false p s e = cc
+pub unless_that : (n : ℕ) (s : Spot) (o : Option (ℕ × Spot)) → spot_at n o ≡ Some s → cond (is_some (spot_at n o)) None o ≡ None
+unless_that n s o e = ap (λ (s : Option Spot). cond (is_some s) None o) e
 
 -- a stage in which an ask waits reads no more
 pub waiting_read : (n : ℕ) (s : Spot) (stage : Stage) → spot_at n (waits_in stage) ≡ Some s → is_reading stage ≡ false

@@ -1,5 +1,5 @@
 -- How far a session is.
-use Rattle.std.specs.Prelude.{ℕ, ◌==◌, Bool, true, false, cond, Option, Some, None}
+use Rattle.std.specs.Prelude.{ℕ, ◌==◌, Bool, true, false, cond, Option, Some, None, option_and_then}
 use Rattle.farm_history.specs.declared.asks.Spot.{Spot}
 use Rattle.http_handler.specs.declared.conn_states.Stage.{Stage}
 use Rattle.http_handler.specs.declared.conn_states.Stage.TheVariants.{Reading, Waiting, Answered}
@@ -21,5 +21,4 @@ waits_in _ = None
 
 -- the spot, where that ask waits
 abbrev pub spot_at : ℕ → Option (ℕ × Spot) → Option Spot
-spot_at n None = None
-spot_at n (Some p) = cond (p.0 == n) (Some p.1) None
+spot_at n waits = option_and_then (λ (p : ℕ × Spot). cond (p.0 == n) (Some p.1) None) waits

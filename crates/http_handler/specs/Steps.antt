@@ -1,6 +1,6 @@
 -- The steps of the tile front's calls: what is found in a head, what a fetch and an ask leave.
-use Rattle.std.specs.Option.{is_some}
-use Rattle.std.specs.Prelude.{◌≡◌, ℕ, Bool, true, false, ◌||◌, ◌⊎◌, List, [], ◌∷◌, ◌++◌, Option, Some, None}
+use Rattle.std.specs.Option.{is_some, option_eq}
+use Rattle.std.specs.Prelude.{◌≡◌, ℕ, ◌==◌, Bool, true, false, ◌&&◌, ◌||◌, ◌⊎◌, List, [], ◌∷◌, ◌++◌, Option, Some, None, unwrap_or}
 use Rattle.farm_history.specs.declared.asks.Spot.{Spot}
 use Rattle.farm_history.specs.declared.queues.Conn.{Conn}
 use Rattle.farm_history.specs.declared.answers.Fetched.{Fetched}
@@ -10,12 +10,12 @@ use Rattle.front_loop.specs.declared.dispositions.Disposition.TheVariants.{Stays
 use Rattle.front_loop.specs.declared.dispositions.Reason.TheVariants as reason
 use Rattle.front_loop.specs.Front.{keeps}
 use Rattle.tile_requests.specs.Heads.{IsOpen}
+use Rattle.tile_requests.specs.Targets.{Place}
 use Rattle.tile_answers.specs.Answers.{tile_answer}
 use Rattle.http_handler.specs.declared.acts.HttpAsk.{HttpAsk}
 use Rattle.http_handler.specs.declared.acts.Act.{Act}
 use Rattle.http_handler.specs.declared.conn_states.Stage.{Stage}
 use Rattle.http_handler.specs.ConnStates.{is_reading, is_answered, waits_in}
-use Rattle.front_loop.specs.Moves.{or_empty}
 use Rattle.http_handler.specs.Tiles.{BytesAsk, found_no_memory, ask_done}
 
 -- ---- an act, by what is made of it
@@ -42,7 +42,7 @@ whole_act a = is_some (ask_done a).answer || is_some (ask_done a).waits
 
 -- the bytes that are answered to it
 abbrev pub answer_of : Act → List ℕ
-answer_of a = or_empty (ask_done a).answer
+answer_of a = unwrap_or (ask_done a).answer []
 
 -- it is answered
 abbrev pub is_answer : Act → Bool
@@ -51,6 +51,16 @@ is_answer a = is_some (ask_done a).answer
 -- an entry of it was answered with want of memory
 abbrev pub starves_act : Act → Bool
 starves_act a = (ask_done a).starves
+
+-- ---- spots
+
+-- the spot of a place, where these are the farm's maps by their names
+abbrev pub place_spot : (List ℕ → Option ℕ) → Place → Spot
+place_spot maps p = record { map = maps p.name; z = p.z; x = p.x; y = p.y }
+
+-- both are the same spot
+abbrev pub same_spot : Spot → Spot → Bool
+same_spot s t = option_eq (λ m n. m == n) s.map t.map && (s.z == t.z && (s.x == t.x && s.y == t.y))
 
 -- ---- the steps
 

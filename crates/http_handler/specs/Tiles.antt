@@ -1,7 +1,8 @@
 -- What the tile front makes of a connection: which request stands in its bytes, which entries this has, and what is
 -- answered to it.
-use Rattle.std.specs.Prelude.{◌≡◌, ℕ, ◌<◌, ◌==◌, Bool, true, false, cond, not, ◌&&◌, ◌||◌, List, [], ◌∷◌, ◌++◌, length, Option, Some, None, option_map}
-use Rattle.std.specs.Option.{is_some, is_none}
+use Rattle.std.specs.Prelude.{◌≡◌, ℕ, ◌<◌, ◌==◌, Bool, true, false, cond, not, ◌&&◌, ◌||◌, List, [], ◌∷◌, ◌++◌, length, Option, Some, None, option_map, unwrap_or}
+use Rattle.std.specs.Option.{is_some, is_none, option_eq}
+use Rattle.std.specs.List.{list_any}
 use Rattle.farm_base.specs.Limits.{most_head_bytes}
 use Rattle.farm_history.specs.declared.queues.Conn.{Conn}
 use Rattle.farm_history.specs.declared.asks.Spot.{Spot}
@@ -11,7 +12,7 @@ use Rattle.farm_history.specs.declared.answers.Fetched.TheVariants as fetched
 use Rattle.farm_history.specs.Entries.{Entry, Ask, Fetch, Look}
 use Rattle.farm_history.specs.Past.{number_in}
 use Rattle.front_loop.specs.Rules.{Rules, Move, Does, Gets, is_empty, is_cut}
-use Rattle.front_loop.specs.Moves.{by_move, or_empty}
+use Rattle.front_loop.specs.Moves.{by_move}
 use Rattle.tile_requests.specs.declared.targets.Kind.{Kind}
 use Rattle.tile_requests.specs.declared.targets.Kind.TheVariants as kind
 use Rattle.tile_requests.specs.Targets.{Place}
@@ -28,13 +29,9 @@ use Rattle.http_handler.specs.ConnStates.{is_reading, is_answered, waits_in, spo
 
 -- ---- what the bytes ask
 
--- the spot of a place, where these are the farm's maps by their names
-abbrev pub place_spot : (List ℕ → Option ℕ) → Place → Spot
-place_spot maps p = record { map = maps p.name; z = p.z; x = p.x; y = p.y }
-
--- a head that gets this of a spot
+-- a head that gets this of a spot, where these are the farm's maps by their names
 abbrev pub GetsSpot : (List ℕ → Option ℕ) → List ℕ → Kind → Spot → Type 0
-GetsSpot maps bytes k s = (p : Place) × GetsPlace bytes k p × (s ≡ place_spot maps p)
+GetsSpot maps bytes k s = (p : Place) × GetsPlace bytes k p × (s ≡ record { map = maps p.name; z = p.z; x = p.x; y = p.y })
 
 -- what a target asks of a spot
 abbrev pub http_ask_of : Kind → Spot → HttpAsk
@@ -99,57 +96,30 @@ ask_done (act.Served s a f) = record (at_once (http_ask.Tile s) (λ c. Ask c cmd
 ask_done (act.Seen s l) = at_once (http_ask.Status s) (λ c. Look s l ∷ []) (status_answer l)
 ask_done (act.Marked s a) = at_once (http_ask.Dirty s) (λ c. Ask c cmd.Dirty s a ∷ []) dirty_answer
 
--- the ask that waits, unless it is that one
-abbrev pub still_waits : ℕ → Option (ℕ × Spot) → Option (ℕ × Spot)
-still_waits n None = None
-still_waits n (Some p) = cond (p.0 == n) None (Some p)
-
--- the ask that waits after the moves
+-- the ask that waits after the moves, until the reply to it comes
 abbrev pub waiting_ask : List (Move Act) → Option (ℕ × Spot)
 waiting_ask [] = None
 waiting_ask (Does a ∷ ms) = (ask_done a).waits
-waiting_ask (Gets r behind ∷ ms) = still_waits r.ask (waiting_ask ms)
+waiting_ask (Gets r behind ∷ ms) = cond (is_some (spot_at r.ask (waiting_ask ms))) None (waiting_ask ms)
 
 -- ---- which entries stand behind a Collect
-
--- both are the same map, or none
-abbrev pub same_map : Option ℕ → Option ℕ → Bool
-same_map None None = true
-same_map (Some m) (Some n) = m == n
-same_map _ _ = false
-
--- both are the same spot
-abbrev pub same_spot : Spot → Spot → Bool
-same_spot s t = same_map s.map t.map && (s.z == t.z && (s.x == t.x && s.y == t.y))
-
--- the entry is the Fetch of that spot
-abbrev pub is_fetch : Spot → Entry → Bool
-is_fetch s (Fetch t f) = same_spot s t
-is_fetch s e = false
 
 -- none, or the Fetch of the spot that waited
 abbrev pub fits_behind : Option Spot → List Entry → Bool
 fits_behind o [] = true
-fits_behind (Some s) (e ∷ []) = is_fetch s e
+fits_behind (Some s) (Fetch t f ∷ []) = option_eq (λ m n. m == n) s.map t.map && (s.z == t.z && (s.x == t.x && s.y == t.y))
 fits_behind _ _ = false
 
 -- ---- the rules
 
--- the answer by the Fetch behind a Collect
-abbrev pub answer_behind : List Entry → List ℕ
-answer_behind (Fetch s f ∷ es) = tile_answer f
-answer_behind es = []
+-- what the Fetch behind a Collect gave
+abbrev pub fetched_behind : List Entry → Option Fetched
+fetched_behind (Fetch s f ∷ es) = Some f
+fetched_behind es = None
 
--- the Fetch behind a Collect found no memory
-abbrev pub starves_behind : List Entry → Bool
-starves_behind (Fetch s f ∷ es) = found_no_memory f
-starves_behind es = false
-
--- with these moves the request was answered
-abbrev pub ends : List (Move Act) → Bool
-ends [] = false
-ends (Does a ∷ ms) = is_some (ask_done a).answer || ends ms
-ends (Gets r behind ∷ ms) = not (is_empty behind) || ends ms
+-- the move answers the request
+abbrev pub answers : Move Act → Bool
+answers m = by_move (λ a. is_some (ask_done a).answer) (λ r behind. not (is_empty behind)) m
 
 -- **What the tile front of that number makes of a connection**, where these are the farm's maps by their names. An ask
 -- is whole where it is answered or waits. A reply for which a tile waits has its Fetch, but where it is Cut.
@@ -162,9 +132,9 @@ tile_rules front maps = record {
   entries = λ c a. (ask_done a).entries (record { front = front; number = c });
   fits = λ ms m. by_move (λ a. (ask_done a).fits) (λ r behind. fits_behind (spot_at r.ask (waiting_ask ms)) behind) m;
   whole = λ ms m. by_move (λ a. is_some (ask_done a).answer || is_some (ask_done a).waits) (λ r behind. is_none (spot_at r.ask (waiting_ask ms)) || (not (is_empty behind) || is_cut m)) m;
-  says = λ ms m. by_move (λ a. or_empty (ask_done a).answer) (λ r behind. answer_behind behind) m;
-  starves = λ m. by_move (λ a. (ask_done a).starves) (λ r behind. starves_behind behind) m;
-  ends = ends;
+  says = λ ms m. by_move (λ a. unwrap_or (ask_done a).answer []) (λ r behind. unwrap_or (option_map tile_answer (fetched_behind behind)) []) m;
+  starves = λ m. by_move (λ a. (ask_done a).starves) (λ r behind. unwrap_or (option_map found_no_memory (fetched_behind behind)) false) m;
+  ends = λ ms. list_any answers ms;
 }
 
 -- ---- what is kept of a session
@@ -181,4 +151,4 @@ pub record Knows (given : List ℕ) (ms : List (Move Act)) (conn_state : ConnSta
   pub head : is_reading conn_state.stage ≡ true → (conn_state.head.items ≡ given) × (length given < most_head_bytes) × (http_asks ms ≡ [])
   pub once : is_reading conn_state.stage ≡ false → (w : HttpAsk) × (http_asks ms ≡ w ∷ [])
   pub waits : waiting_ask ms ≡ waits_in conn_state.stage
-  pub ends : ends ms ≡ is_answered conn_state.stage
+  pub ends : list_any answers ms ≡ is_answered conn_state.stage

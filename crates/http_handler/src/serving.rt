@@ -6,7 +6,7 @@ ghost use Rattle.front_loop.specs.Calls.{SameSeat};
 ghost use Rattle.front_loop.specs.Front.{disposition_of};
 ghost use Rattle.http_handler.specs.Tiles as spec;
 ghost use Rattle.tile_answers.specs.Answers.{fault_answer};
-ghost use Rattle.http_handler.specs.Steps.{Finds, Fetches, DoesHttpAsk, Says, SaysTile};
+ghost use Rattle.http_handler.specs.Steps.{Finds, Fetches, DoesHttpAsk, Says, SaysTile, place_spot};
 ghost use Rattle.http_handler.specs.declared.acts.HttpAsk.TheVariants as http_ask;
 
 use crate::acts::HttpAsk;
@@ -49,7 +49,7 @@ fn http_ask_of(kind: Kind, spot: Spot) -> HttpAsk
 
 /// The spot of a place.
 fn spot_of<M: Farm>(farm: &M, name: &str, z: u32, x: u32, y: u32) -> Spot
-    ensures { result ≡ spec.place_spot (M.map_at farm.now)
+    ensures { result ≡ place_spot (M.map_at farm.now)
         (record { name = name.now; z = z; x = x; y = y }) }
 {
     let map = farm.map_of(name.as_bytes());

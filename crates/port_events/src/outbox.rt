@@ -83,8 +83,7 @@ impl Pending {
         &self.bytes[self.start..]
     }
 
-    /// Puts bytes behind the rest. So many gone bytes as are left are taken out first: each byte is moved
-    /// at most once for each byte taken, and at most twice the rest is kept.
+    /// Puts bytes behind the rest. Where no fewer bytes are gone than are left, they are taken out first.
     fn add(&mut self, bytes: &[u8]) -> Result<(), AllocError>
         ensures done { OnOk result (self.new ≡ (self.old.0, self.old.1 ++ bytes.now)) }
         ensures refused { OnErr result (self.new ≡ self.old) }

@@ -16,9 +16,9 @@ use Rattle.front_loop.specs.Rules.{Move, wants_of, answer_bytes, each_whole, any
 use Rattle.front_loop.specs.Front.{Begins, Heard, HeardWhy, Replied, EachFits, does}
 use Rattle.renderd_handler.specs.declared.asked.Asked.{Asked}
 use Rattle.renderd_handler.specs.declared.waits.ConnState.{ConnState}
-use Rattle.renderd_handler.specs.Renderd.{answer_command, asks_in, is_bad, is_wait, outcome_command, renderd_rules, response_for, response_to, with_wait, waiting_requests}
+use Rattle.renderd_handler.specs.Renderd.{answer_command, is_bad, outcome_command, renderd_rules, response_to, with_wait, waiting_requests}
 use Rattle.farm_history.specs.Past.{number_in}
-use Rattle.renderd_handler.specs.inner.Reads.{asks_of, disposition_at, Halts, HasNoneNext, Knows, pairs, Reads, requests_of, response_by, waits_after}
+use Rattle.renderd_handler.specs.inner.Reads.{asks_in, is_wait, asks_of, disposition_at, Halts, HasNoneNext, Knows, pairs, Reads, requests_of, response_by, waits_after, response_for}
 use Rattle.renderd_handler.proofs.Streaming.{asks_in-append, none_next}
 
 -- a vector that was extended

@@ -6,9 +6,9 @@ use Rattle.farm_history.specs.declared.asks.AskAnswer.{AskAnswer}
 use Rattle.farm_history.specs.Entries.{Entry, Ask}
 use Rattle.front_loop.specs.Front.{with_acts}
 use Rattle.renderd_handler.specs.declared.asked.Asked.{Asked}
-use Rattle.renderd_handler.specs.Renderd.{answer_command, asks_by, command_of, response_to, request_spot, with_wait, renderd_rules}
+use Rattle.renderd_handler.specs.Renderd.{answer_command, command_of, response_to, request_spot, with_wait, renderd_rules}
 use Rattle.farm_history.specs.Past.{number_in}
-use Rattle.renderd_handler.specs.inner.Reads.{requests_of, response_by, waits_after, Made, Halts}
+use Rattle.renderd_handler.specs.inner.Reads.{requests_of, response_by, waits_after, Made, Halts, asks_by}
 
 requests_of-append : (qs ps : List Asked) → requests_of (qs ++ ps) ≡ requests_of ps ++ requests_of qs
 requests_of-append [] ps = sym (append-nil (requests_of ps))

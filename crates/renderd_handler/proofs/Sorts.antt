@@ -9,7 +9,8 @@ use Rattle.farm_history.specs.declared.asks.AskAnswer.{AskAnswer}
 use Rattle.farm_history.specs.Entries.{Entry, Ask}
 use Rattle.front_loop.specs.Rules.{Move, Gets}
 use Rattle.renderd_handler.specs.declared.asked.Asked.{Asked}
-use Rattle.renderd_handler.specs.Renderd.{asks_by, command_of, renderd_rules, request_spot}
+use Rattle.renderd_handler.specs.Renderd.{command_of, renderd_rules, request_spot}
+use Rattle.renderd_handler.specs.inner.Reads.{asks_by}
 
 -- a test that no Ask passes
 abbrev pub PassesNoAsk : (Entry → Bool) → Type 0

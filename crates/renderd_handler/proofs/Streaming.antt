@@ -11,8 +11,8 @@ use Rattle.renderd_protocol.specs.Stream.{stream_read}
 use Rattle.renderd_protocol.proofs.Heads.{at_least_20, head_of}
 use Rattle.renderd_protocol.proofs.Streams.{taken_message, taken_none}
 use Rattle.farm_history.specs.Entries.{Entry}
-use Rattle.renderd_handler.specs.Renderd.{asks_in, command_of}
-use Rattle.renderd_handler.specs.inner.Reads.{asks_of, HasNoneNext, Made, Halts, Reads}
+use Rattle.renderd_handler.specs.Renderd.{command_of}
+use Rattle.renderd_handler.specs.inner.Reads.{asks_in, asks_of, HasNoneNext, Made, Halts, Reads}
 use Rattle.renderd_handler.proofs.Making.{none_made, made_more, halts_more, halts_before}
 
 -- the first request, and then the others

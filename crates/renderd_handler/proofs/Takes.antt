@@ -3,8 +3,7 @@ use Rattle.std.proofs.Common.{◌≡◌, ℕ, Bool, true, false, ◌==◌, cond,
 use Rattle.std.specs.Prelude.{option_map}
 use Rattle.farm_history.specs.Lists.{without_first}
 use Rattle.renderd_handler.specs.declared.waits.Waiting.{Waiting}
-use Rattle.renderd_handler.specs.Renderd.{is_wait}
-use Rattle.renderd_handler.specs.inner.Reads.{pair_of, pairs}
+use Rattle.renderd_handler.specs.inner.Reads.{is_wait, pair_of, pairs}
 
 abbrev pub of_ask : ℕ → Waiting → Bool
 of_ask n w = w.number == n

@@ -1,12 +1,11 @@
 -- What the renderd front makes of a connection: which asks stand in its bytes, and what is answered to them.
-use Rattle.std.specs.Prelude.{◌≡◌, ℕ, Bool, true, false, ◌==◌, cond, List, [], ◌∷◌, ◌++◌, codes, find, Option, Some, None}
+use Rattle.std.specs.Prelude.{◌≡◌, ℕ, Bool, true, false, ◌==◌, cond, List, [], ◌∷◌, ◌++◌, codes, filter, find, Option, Some, None, option_map, option_to_list, unwrap_or}
 use Rattle.std.specs.Option.{is_some}
 use Rattle.renderd_protocol.specs.declared.messages.Request.{Request}
 use Rattle.renderd_protocol.specs.declared.messages.Found.{Found}
 use Rattle.renderd_protocol.specs.declared.messages.Found.TheVariants.{BadVersion}
 use Rattle.renderd_protocol.specs.Messages.{found_in, wire_of}
 use Rattle.renderd_protocol.specs.Stream.{stream_read}
-use Rattle.farm_history.specs.declared.queues.Conn.{Conn}
 use Rattle.farm_history.specs.declared.queues.Outcome.{Outcome}
 use Rattle.farm_history.specs.declared.queues.Outcome.TheVariants as outcome
 use Rattle.farm_history.specs.declared.asks.Spot.{Spot}
@@ -14,10 +13,11 @@ use Rattle.farm_history.specs.declared.asks.Cmd.{Cmd}
 use Rattle.farm_history.specs.declared.asks.Cmd.TheVariants as cmd
 use Rattle.farm_history.specs.declared.asks.AskAnswer.{AskAnswer}
 use Rattle.farm_history.specs.declared.asks.AskAnswer.TheVariants as answer
-use Rattle.farm_history.specs.Entries.{Entry, Ask}
+use Rattle.farm_history.specs.Entries.{Ask}
 use Rattle.farm_history.specs.Past.{number_in}
 use Rattle.farm_history.specs.Lists.{without_first}
 use Rattle.front_loop.specs.Rules.{Rules, Move, Does, Gets, is_empty}
+use Rattle.front_loop.specs.Moves.{by_move}
 use Rattle.renderd_handler.specs.declared.asked.Asked.{Asked}
 
 -- Which asks stand in the bytes.
@@ -25,11 +25,6 @@ use Rattle.renderd_handler.specs.declared.asked.Asked.{Asked}
 -- the commands that are asked: renderd's numbers 1, 5, 7, 6 and 2
 abbrev pub command_of : ℕ → Option Cmd
 command_of n = cond (n == 1) (Some cmd.Render) (cond (n == 5) (Some cmd.Prio) (cond (n == 7) (Some cmd.Low) (cond (n == 6) (Some cmd.Bulk) (cond (n == 2) (Some cmd.Dirty) None))))
-
--- the requests that are asked: those with another command are skipped
-abbrev pub asks_in : List Request → List Request
-asks_in [] = []
-asks_in (r ∷ rs) = cond (is_some (command_of r.cmd)) (r ∷ asks_in rs) (asks_in rs)
 
 -- an unknown version stands next
 abbrev pub is_bad : Found → Bool
@@ -44,11 +39,6 @@ asked_map r = cond (r.ver == 1) (codes "default") r.name.items
 abbrev pub request_spot : (List ℕ → Option ℕ) → Request → Spot
 request_spot maps r = record { map = maps (asked_map r); z = r.z; x = r.x; y = r.y }
 
--- the entry of an ask
-abbrev pub asks_by : Conn → Option Cmd → Spot → AskAnswer → List Entry
-asks_by conn (Some command) spot a = Ask conn command spot a ∷ []
-asks_by conn None spot a = []
-
 -- What is answered at once.
 
 -- the command of the answer: 3 for Done, 4 for every NotDone, none for Dirty and for an ask that waits
@@ -59,8 +49,7 @@ answer_command _ = None
 
 -- an answer repeats its request, with a command of its own
 abbrev pub response_to : Option ℕ → Request → List ℕ
-response_to (Some command) r = wire_of r command
-response_to None r = []
+response_to command r = unwrap_or (option_map (wire_of r) command) []
 
 -- What is answered to a reply.
 
@@ -69,51 +58,33 @@ abbrev pub with_wait : Option ℕ → Request → List (ℕ × Request) → List
 with_wait (Some n) r ws = ws ++ (n, r) ∷ []
 with_wait None r ws = ws
 
--- the ask of this number
-abbrev pub is_wait : ℕ → ℕ × Request → Bool
-is_wait n w = w.0 == n
-
 -- the requests that wait after these moves
 abbrev pub waiting_requests : List (Move Asked) → List (ℕ × Request)
 waiting_requests [] = []
 waiting_requests (Does a ∷ ms) = with_wait (number_in a.answer) a.request (waiting_requests ms)
-waiting_requests (Gets r behind ∷ ms) = without_first (is_wait r.ask) (waiting_requests ms)
+waiting_requests (Gets r behind ∷ ms) = without_first (λ (w : ℕ × Request). w.0 == r.ask) (waiting_requests ms)
 
 -- the command of the answer to a reply: 3 for Done, 4 for NotDone, none for Cut
 abbrev pub outcome_command : Outcome → Option ℕ
-outcome_command outcome.Done = Some 3
-outcome_command outcome.NotDone = Some 4
-outcome_command outcome.Cut = None
-
--- nothing is answered where no request waits for the reply
-abbrev pub response_for : Option ℕ → Option (ℕ × Request) → List ℕ
-response_for command (Some w) = response_to command w.1
-response_for command None = []
+outcome_command o = elim o [ outcome.Done ↦ Some 3 | outcome.NotDone ↦ Some 4 | outcome.Cut ↦ None ]
 
 -- The front.
 
--- the bytes that are answered to a move
-abbrev pub renderd_says : List (Move Asked) → Move Asked → List ℕ
-renderd_says ms (Does a) = response_to (answer_command a.answer) a.request
-renderd_says ms (Gets r behind) = response_for (outcome_command r.outcome) (find (is_wait r.ask) (waiting_requests ms))
-
--- an ask is one entry; nothing stands behind the Collect of a reply
-abbrev pub renderd_fits : List (Move Asked) → Move Asked → Bool
-renderd_fits ms (Does a) = true
-renderd_fits ms (Gets r behind) = is_empty behind
-
--- What the renderd front makes of a connection, where it has this number and the farm has these maps. An unknown version ends the
--- connection; nothing else does, and no entry of it says that memory is wanting.
+-- What the renderd front makes of a connection, where it has this number and the farm has these maps. A request with a
+-- command that is none of the five is skipped. An ask is one entry, and
+-- nothing stands behind the Collect of a reply. Nothing is answered to a reply for which no request waits. An unknown
+-- version ends the connection; nothing else does, and no entry of it says that memory is wanting.
 abbrev pub renderd_rules : ℕ → (List ℕ → Option ℕ) → Rules Asked Request
 renderd_rules front maps = record {
   number = front;
-  wanted = λ given ws. asks_in (stream_read given).requests ≡ ws;
+  wanted = λ given ws. filter (λ (r : Request). is_some (command_of r.cmd)) (stream_read given).requests ≡ ws;
   refuses = λ given. is_bad (found_in (stream_read given).rest);
   want = λ a. a.request;
-  entries = λ c a. asks_by (record { front = front; number = c }) (command_of a.request.cmd) (request_spot maps a.request) a.answer;
-  fits = renderd_fits;
+  entries = λ c a. option_to_list (option_map (λ command. Ask (record { front = front; number = c }) command (request_spot maps a.request) a.answer) (command_of a.request.cmd));
+  fits = λ ms m. by_move (λ a. true) (λ r behind. is_empty behind) m;
   whole = λ ms m. true;
-  says = renderd_says;
+  says = λ ms m. by_move (λ (a : Asked). response_to (answer_command a.answer) a.request)
+      (λ r behind. unwrap_or (option_map (λ (w : ℕ × Request). response_to (outcome_command r.outcome) w.1) (find (λ (w : ℕ × Request). w.0 == r.ask) (waiting_requests ms))) []) m;
   starves = λ m. false;
   ends = λ ms. false;
 }

@@ -3,9 +3,9 @@ ghost use Rattle.std.specs.Prelude.{◌≡◌, ◌+◌, ◌++◌, ◌∷◌, [],
 ghost use Rattle.front_loop.specs.Calls.{SameSeat};
 ghost use Rattle.renderd_protocol.specs.Messages.{is_version, wire_of};
 ghost use Rattle.renderd_handler.specs.declared.asking.Halt.{Halt};
-ghost use Rattle.renderd_handler.specs.Renderd.{answer_command, asks_in, command_of, response_to, with_wait};
+ghost use Rattle.renderd_handler.specs.Renderd.{answer_command, command_of, response_to, with_wait};
 ghost use Rattle.farm_history.specs.Past.{number_in};
-ghost use Rattle.renderd_handler.specs.inner.Reads.{Halts, Made, pairs};
+ghost use Rattle.renderd_handler.specs.inner.Reads.{asks_in, Halts, Made, pairs};
 
 use crate::waits::Waiting;
 use crate::words::{DONE, NOT_DONE, command_of, spot_of};

@@ -1,8 +1,8 @@
 //! The answers to asks that waited.
 ghost use Rattle.std.specs.Prelude.{◌≡◌, ◌==◌, ◌++◌, Option, find, position, option_map, OnOk};
 ghost use Rattle.farm_history.specs.Lists.{without_first};
-ghost use Rattle.renderd_handler.specs.Renderd.{is_wait, outcome_command, response_for};
-ghost use Rattle.renderd_handler.specs.inner.Reads.{pair_of, pairs};
+ghost use Rattle.renderd_handler.specs.Renderd.{outcome_command};
+ghost use Rattle.renderd_handler.specs.inner.Reads.{is_wait, pair_of, pairs, response_for};
 
 use crate::asking::say;
 use crate::waits::Waiting;

@@ -6,8 +6,12 @@ use Rattle.renderd_protocol.specs.declared.messages.Request.{Request}
 use Rattle.renderd_protocol.specs.declared.messages.Found.{Found}
 use Rattle.renderd_protocol.specs.declared.messages.Found.TheVariants.{Message, NeedMore, BadVersion}
 use Rattle.renderd_protocol.specs.Messages.{message_len, number_at, request_in, found_in}
-use Rattle.renderd_protocol.specs.Stream.{IsMessage, joined, Splits, StreamRead, after_request, taken_at, taken_in, stream_read, with_piece, AnyPieces, TakesMessages, SplitsOneWay, FindsMessages}
+use Rattle.renderd_protocol.specs.Stream.{IsMessage, joined, Splits, StreamRead, taken_at, taken_in, stream_read, with_piece, AnyPieces, TakesMessages, SplitsOneWay, FindsMessages}
 use Rattle.renderd_protocol.proofs.Heads.{at_least_20, number_at-append, found_message, head_of, none_found}
+
+-- what is taken, with one more request in front
+abbrev pub after_request : Request → StreamRead → StreamRead
+after_request request read = record { requests = request ∷ read.requests; rest = read.rest }
 
 -- nothing is found in no bytes
 nothing : found_in [] ≡ NeedMore

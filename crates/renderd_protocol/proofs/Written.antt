@@ -1,5 +1,5 @@
 -- What was written is read back.
-use Rattle.std.proofs.Common.{◌≡◌, ◌⊎◌, ℕ, zero, suc, ◌+◌, ◌-◌, ◌<◌, ◌≤◌, ◌^◌, ◌&&◌, List, [], ◌∷◌, ◌++◌, length, take, drop, replicate, Bool, true, false, cond, nat_le, refl, sym, ap, ◌∙◌, inl, inr, arith, append_assoc, length-append}
+use Rattle.std.proofs.Common.{◌≡◌, ◌⊎◌, ℕ, zero, suc, ◌+◌, ◌-◌, ◌<◌, ◌≤◌, ◌^◌, List, [], ◌∷◌, ◌++◌, length, take, drop, replicate, true, false, cond, nat_le, refl, sym, ap, ◌∙◌, inl, inr, arith, append_assoc, length-append}
 use Rattle.std.proofs.Math.Seq.{drop-append_seam}
 use Rattle.std.proofs.lemmas.List.{length-replicate, drop-drop}
 use Rattle.std.proofs.lemmas.Bool.Decides.{nat_tests}
@@ -9,7 +9,7 @@ use Rattle.byteorder.specs.Endian.{little_bytes}
 use Rattle.byteorder.specs.Numbers.{little_number-reads_back}
 use Rattle.renderd_protocol.specs.declared.messages.Request.{Request}
 use Rattle.renderd_protocol.specs.declared.messages.Found.TheVariants.{Message}
-use Rattle.renderd_protocol.specs.Messages.{is_version, message_len, number_at, is_text_byte, text_field, text_at, text_from, fixed_vector, field_of, request_in, texts_of, wire_of, IsFieldText, IsCarried}
+use Rattle.renderd_protocol.specs.Messages.{is_version, message_len, number_at, is_text_byte, text_field, text_at, text_from, field_of, request_in, texts_of, wire_of, IsFieldText, IsCarried}
 use Rattle.renderd_protocol.specs.Stream.{IsMessage, ReadsBack}
 use Rattle.renderd_protocol.proofs.Heads.{found_message, version_cases}
 
@@ -181,7 +181,7 @@ options_written r cmd is =
 
 -- a request is its fields
 abbrev made : ℕ → ℕ → ℕ → ℕ → ℕ → List ℕ → List ℕ → List ℕ → Request
-made v c x y z n m o = record { ver = v; cmd = c; x = x; y = y; z = z; name = fixed_vector n; mime = fixed_vector m; options = fixed_vector o }
+made v c x y z n m o = record { ver = v; cmd = c; x = x; y = y; z = z; name = record { items = n }; mime = record { items = m }; options = record { items = o } }
 
 by_fields : (r : Request) (v cmd c x y z : ℕ) (n m o : List ℕ) → v ≡ r.ver → c ≡ cmd → x ≡ r.x → y ≡ r.y → z ≡ r.z
     → n ≡ r.name.items → m ≡ r.mime.items → o ≡ r.options.items → made v c x y z n m o ≡ record r { cmd = cmd }

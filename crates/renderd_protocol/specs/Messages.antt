@@ -2,7 +2,6 @@
 -- mod_tile's protocol.h). A message is a list of bytes; numbers stand little-endian.
 use Rattle.std.specs.Prelude.{◌≡◌, ℕ, ◌-◌, ◌<◌, ◌≤◌, ◌^◌, ◌==◌, ◌||◌, ◌++◌, ◌∷◌, [], Bool, not, List, length, take, drop, replicate, nat_lt, nat_le, if◌then◌else◌, IsTrue}
 use Rattle.std.specs.List.{list_all}
-use Rattle.arrayvec.specs.ArrayVec.{ArrayVec}
 use Rattle.byteorder.specs.Endian.{little_number, little_bytes}
 use Rattle.renderd_protocol.specs.declared.messages.Request.{Request}
 use Rattle.renderd_protocol.specs.declared.messages.Found.{Found}
@@ -21,14 +20,10 @@ message_len version = if version == 1 then 20 else if version == 2 then 64 else 
 abbrev pub number_at : ℕ → List ℕ → ℕ
 number_at place bytes = little_number 4 (drop place bytes)
 
--- a byte that is not the NUL
-abbrev pub is_text_byte : ℕ → Bool
-is_text_byte b = not (b == 0)
-
 -- the text that a field's bytes begin with: those before the first NUL, or all
 abbrev pub text_field : List ℕ → List ℕ
 text_field [] = []
-text_field (b ∷ bs) = if is_text_byte b then b ∷ text_field bs else []
+text_field (b ∷ bs) = if not (b == 0) then b ∷ text_field bs else []
 
 -- the text in the field at a place, at most 40 bytes
 abbrev pub text_at : ℕ → List ℕ → List ℕ
@@ -37,10 +32,6 @@ text_at place bytes = text_field (take 40 (drop place bytes))
 -- the text of a field that stands in the versions from a least one on; empty in the others
 abbrev pub text_from : ℕ → ℕ → List ℕ → List ℕ
 text_from least place bytes = if nat_le least (number_at 0 bytes) then text_at place bytes else []
-
--- a list as the fixed vector that holds it
-abbrev pub fixed_vector : List ℕ → ArrayVec ℕ
-fixed_vector text = record { items = text }
 
 -- the request of a message, field by field. The padding counts for nothing: mod_tile writes `ima`
 -- into that of version 2.
@@ -51,9 +42,9 @@ request_in bytes = record {
   x = number_at 8 bytes;
   y = number_at 12 bytes;
   z = number_at 16 bytes;
-  name = fixed_vector (text_from 2 20 bytes);
-  mime = fixed_vector (text_from 3 61 bytes);
-  options = fixed_vector (text_from 3 102 bytes);
+  name = record { items = text_from 2 20 bytes };
+  mime = record { items = text_from 3 61 bytes };
+  options = record { items = text_from 3 102 bytes };
 }
 
 -- what stands at the head of the bytes: a whole message with its length, less than one, or a first
@@ -82,6 +73,10 @@ wire_of request cmd =
     little_bytes 4 request.ver ++ little_bytes 4 cmd
     ++ little_bytes 4 request.x ++ little_bytes 4 request.y ++ little_bytes 4 request.z
     ++ texts_of request
+
+-- a byte that is not the NUL
+abbrev pub is_text_byte : ℕ → Bool
+is_text_byte b = not (b == 0)
 
 -- a text that a field can carry: at most 40 bytes, none of them the NUL
 pub record IsFieldText (text : List ℕ) : Type 0 where

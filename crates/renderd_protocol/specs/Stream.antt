@@ -3,7 +3,7 @@ use Rattle.std.specs.Prelude.{◌≡◌, ℕ, zero, suc, ◌^◌, ◌<◌, ◌++
 use Rattle.std.specs.List.{flat_map}
 use Rattle.renderd_protocol.specs.declared.messages.Request.{Request}
 use Rattle.renderd_protocol.specs.declared.messages.Found.{Found}
-use Rattle.renderd_protocol.specs.declared.messages.Found.TheVariants.{Message, NeedMore, BadVersion}
+use Rattle.renderd_protocol.specs.declared.messages.Found.TheVariants.{Message}
 use Rattle.renderd_protocol.specs.Messages.{is_version, message_len, number_at, request_in, found_in, wire_of, IsCarried}
 
 -- a whole message: its first number is a version, and it has the length of that version
@@ -35,15 +35,10 @@ pub record StreamRead : Type 0 where
   pub requests : List Request
   pub rest : List ℕ
 
--- what is taken, with one more request in front
-abbrev pub after_request : Request → StreamRead → StreamRead
-after_request request stream_read = record { requests = request ∷ stream_read.requests; rest = stream_read.rest }
-
 -- what is taken, by what stands at the head of the bytes; `later` takes of the bytes after a length
 abbrev pub taken_at : (ℕ → StreamRead) → List ℕ → Found → StreamRead
-taken_at later bytes (Message request len) = after_request request (later len)
-taken_at later bytes NeedMore = record { requests = []; rest = bytes }
-taken_at later bytes (BadVersion version) = record { requests = []; rest = bytes }
+taken_at later bytes (Message request len) = record { requests = request ∷ (later len).requests; rest = (later len).rest }
+taken_at later bytes _ = record { requests = []; rest = bytes }
 
 -- what is taken of the bytes, message by message, in at most so many turns
 abbrev pub taken_in : ℕ → List ℕ → StreamRead

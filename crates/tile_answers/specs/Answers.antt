@@ -43,10 +43,8 @@ tile_answer (fetched.Clean version picture) = picture_answer (codes "clean") ver
 tile_answer (fetched.Dirty version picture) = picture_answer (codes "dirty") version picture
 tile_answer fetched.Missing = fault_answer fault.NotFound
 tile_answer fetched.Unservable = fault_answer fault.NotFound
-tile_answer fetched.Gone = fault_answer fault.Failed
-tile_answer (fetched.Spoilt why) = fault_answer fault.Failed
-tile_answer fetched.GetFailed = fault_answer fault.Failed
 tile_answer fetched.NoMemory = []
+tile_answer _ = fault_answer fault.Failed
 
 -- a word and a data version, as a line
 abbrev pub version_line : List ℕ → ℕ → List ℕ

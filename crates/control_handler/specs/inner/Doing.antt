@@ -1,19 +1,18 @@
 -- How requests are done one after another, and what becomes of a session by them.
-use Rattle.std.specs.Prelude.{◌≡◌, ℕ, ◌-◌, ◌^◌, ◌≤◌, Bool, true, false, List, [], ◌++◌, length, min, Result, Ok, Err}
+use Rattle.std.specs.Prelude.{◌≡◌, ℕ, ◌-◌, ◌^◌, ◌≤◌, Bool, true, false, List, [], ◌++◌, length, map, min, zip, Result, Ok, Err, unwrap_or}
 use Rattle.plain_world.specs.declared.world.Tile.{Tile}
-use Rattle.farm_history.specs.Entries.{Entry}
+use Rattle.farm_history.specs.Entries.{Entry, Expire}
 use Rattle.farm_base.specs.declared.turns.Worn.{Worn}
 use Rattle.front_loop.specs.declared.dispositions.Disposition.{Disposition}
 use Rattle.front_loop.specs.declared.dispositions.Disposition.TheVariants.{Stays, Leaves}
 use Rattle.front_loop.specs.declared.dispositions.Reason.TheVariants as reason
-use Rattle.front_loop.specs.Moves.{or_empty}
 use Rattle.front_loop.specs.Rules.{Move, wants_of, answer_bytes, each_whole, any_starves}
 use Rattle.front_loop.specs.Front.{keeps, does, EachFits, with_acts}
 use Rattle.control_handler.specs.declared.acts.Line.{Line}
 use Rattle.control_handler.specs.declared.acts.Act.{Act}
 use Rattle.control_handler.specs.declared.hearing.ConnState.{ConnState}
-use Rattle.control_handler.specs.Lines.{read_on, read_all, part_alone, wants}
-use Rattle.control_handler.specs.Control.{control_rules, line_done, total_of, expiries}
+use Rattle.control_handler.specs.inner.Readings.{read_on, read_all, part_alone, wants}
+use Rattle.control_handler.specs.Control.{control_rules, line_done, total_of}
 use Rattle.std.specs.Option.{is_none}
 
 module _ (lists : List (List Tile)) where
@@ -23,7 +22,7 @@ module _ (lists : List (List Tile)) where
 
   -- the bytes that are answered to it
   abbrev pub act_text : Act → List ℕ
-  act_text a = or_empty (line_done lists a).answer
+  act_text a = unwrap_or (line_done lists a).answer []
 
   -- no more tiles were expired than the list has
   abbrev pub act_fits : Act → Bool
@@ -37,16 +36,20 @@ module _ (lists : List (List Tile)) where
   abbrev pub act_starves : Act → Bool
   act_starves a = is_none (line_done lists a).answer
 
--- a text is said, or there is no memory for it
+-- a text is said, or there is no memory for it and nothing is
 pub data Says (answer_bytes old new : List ℕ) (disposition : Disposition) : Type 0 where
   Said : disposition ≡ Stays → new ≡ old ++ answer_bytes → Says answer_bytes old new disposition
-  Lacks : disposition ≡ Leaves reason.Starved → Says answer_bytes old new disposition
+  Lacks : disposition ≡ Leaves reason.Starved → new ≡ old → Says answer_bytes old new disposition
 
 -- the answer to a line that was done is said; or there is no memory for it; or there was none for what was done
 pub data Answers (lists : List (List Tile)) (a : Act) (old new : List ℕ) (disposition : Disposition) : Type 0 where
   Gives : disposition ≡ Stays → act_starves lists a ≡ false → new ≡ old ++ act_text lists a → Answers lists a old new disposition
   Wants : disposition ≡ Leaves reason.Starved → act_starves lists a ≡ false → Answers lists a old new disposition
   Starves : disposition ≡ Leaves reason.NoMemory → act_starves lists a ≡ true → Answers lists a old new disposition
+
+-- an Expire for each count, of the first tiles in order
+abbrev pub expiries : List Tile → List ℕ → List Entry
+expiries tiles counts = map (λ (p : Tile × ℕ). Expire p.0 p.1) (zip tiles counts)
 
 -- so many of the tiles were expired, all of them where no turn was worn; the answer is the sum of the counts
 abbrev pub Expired : List Tile → List Entry → List Entry → Result ℕ Worn → Type 0

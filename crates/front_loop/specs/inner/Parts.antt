@@ -1,13 +1,32 @@
 -- What stands of one connection after a front's steps.
-use Rattle.std.specs.Prelude.{◌≡◌, ℕ, ◌+◌, ◌==◌, Bool, true, false, not, ◌&&◌, ◌||◌, cond, List, [], ◌∷◌, length, drop, Option, nat_lt, nat_le}
+use Rattle.std.specs.Prelude.{◌≡◌, ℕ, ◌+◌, ◌<◌, ◌==◌, Bool, true, false, not, ◌&&◌, ◌||◌, cond, List, [], ◌∷◌, ◌++◌, length, drop, Option, Result, unwrap_or, ok_or, nat_lt, nat_le}
+use Rattle.std.specs.Option.{is_none}
 use Rattle.farm_base.specs.Limits.{most_rest_bytes}
 use Rattle.port_events.specs.declared.events.PortEvent.{PortEvent}
+use Rattle.port_events.specs.declared.events.SendFault.{SendFault}
+use Rattle.port_events.specs.declared.events.SendFault.TheVariants as send_fault
 use Rattle.port_events.specs.Told.{PortsTold, MayCome, heard, after_send, after_close}
 use Rattle.front_loop.specs.declared.dispositions.Reason.{Reason}
 use Rattle.front_loop.specs.declared.dispositions.Reason.TheVariants as reason
 use Rattle.front_loop.specs.Rules.{Rules, Move, Does, Gets, is_cut, answer_bytes, each_whole}
-use Rattle.front_loop.specs.Conns.{opens, ends_at, loses, calls, with_bytes, send_answer, taken_by, send_failed, shut_out}
+use Rattle.front_loop.specs.Conns.{opens, ends_at, loses, calls, brings, shut_out}
 use Rattle.front_loop.specs.inner.Steps.{Step, Came, Did, Got, Through, Tried, Left}
+
+-- the bytes that came on it, with the piece that the event brings
+abbrev pub with_bytes : PortEvent → List ℕ → ℕ → List ℕ → List ℕ
+with_bytes e piece c given = cond (brings e c) (given ++ piece) given
+
+-- a send that took so many bytes, or failed
+abbrev pub send_answer : Option ℕ → Result ℕ SendFault
+send_answer taken = ok_or taken send_fault.Failed
+
+-- how many bytes a send took
+abbrev pub taken_by : Option ℕ → ℕ
+taken_by taken = unwrap_or taken 0
+
+-- the send failed
+abbrev pub send_failed : Option ℕ → Bool
+send_failed taken = is_none taken
 
 pub record Part (A : Type 0) : Type 0 where
   -- the bytes that came, the moves that were made, and how many bytes of the answers were taken
@@ -31,10 +50,15 @@ pub record Part (A : Type 0) : Type 0 where
   pub sent_whole : Bool
   -- each move has all its entries, but for the replies that may lack them
   pub complete : Bool
+  -- in the newest round: its event brought bytes of it; a reply that was not Cut came while nothing had closed it but
+  -- what may stand in its bytes; and the last Collect is over
+  pub heard : Bool
+  pub met : Bool
+  pub through : Bool
 
 -- nothing has happened on it
 abbrev pub blank : {A : Type 0} → Part A
-blank = record { given = []; moves = []; took = 0; had = 0; was = 0; ended = false; lost = false; called = false; cut = false; starved = false; tried = false; failed = false; sent_whole = false; complete = true }
+blank = record { given = []; moves = []; took = 0; had = 0; was = 0; ended = false; lost = false; called = false; cut = false; starved = false; tried = false; failed = false; sent_whole = false; complete = true; heard = false; met = false; through = false }
 
 module _ {A : Type 0} where
   -- A reply may lack entries in the round of its connection's Ended or Lost, where it is Cut, and after one that was Cut.
@@ -58,6 +82,19 @@ module _ {A W : Type 0} (R : Rules A W) where
   abbrev pub due : Part A → List ℕ
   due p = drop p.took (answer_bytes R p.moves)
 
+  -- with what was answered in the newest round its rest passed 1,048,576 bytes
+  abbrev pub is_full : Part A → Bool
+  is_full p = nat_lt (p.had + most_rest_bytes) (length (answer_bytes R p.moves))
+
+  -- nothing has closed it in the newest round but what may stand in its bytes, as long as no bytes were offered
+  abbrev pub runs : Part A → Bool
+  runs p = not (p.ended || (p.lost || (p.cut || (is_full p || p.starved))))
+
+  -- a reply that is not Cut comes while nothing has closed it
+  abbrev pub meets : Move A → Part A → Bool
+  meets (Does a) p = false
+  meets (Gets r behind) p = not (is_cut {A = A} (Gets r behind)) && runs p
+
   -- a round begins with this event
   abbrev pub came : PortEvent → List ℕ → ℕ → Part A → Part A
   came e piece c p = record {
@@ -75,6 +112,9 @@ module _ {A W : Type 0} (R : Rules A W) where
     failed = false;
     sent_whole = false;
     complete = each_whole R p.moves;
+    heard = brings e c;
+    met = false;
+    through = false;
   }
 
   -- a move is made
@@ -84,6 +124,7 @@ module _ {A W : Type 0} (R : Rules A W) where
     cut = is_cut m || p.cut;
     starved = R.starves m || p.starved;
     complete = (is_excused m p || R.whole p.moves m) && p.complete;
+    met = meets m p || p.met;
   }
 
   -- its bytes are offered
@@ -95,7 +136,7 @@ module _ {A W : Type 0} (R : Rules A W) where
   after (Came e piece kept) c p = came e piece c (cond (opens e c && kept) blank p)
   after (Did d a) c p = cond (d == c) (after_move (Does a) p) p
   after (Got r behind) c p = cond (r.conn.number == c) (after_move (Gets r behind) p) p
-  after (Through stopped) c p = cond stopped (record p { called = true }) p
+  after (Through stopped) c p = record p { called = stopped || p.called; through = true }
   after (Tried d taken) c p = cond (d == c) (with_try taken p) p
   after (Left d asks why) c p = p
 
@@ -127,13 +168,15 @@ module _ {A W : Type 0} (R : Rules A W) where
   abbrev pub must : Part A → Bool
   must p = p.called || (grew p || R.refuses p.given)
 
-  -- with what was answered in the newest round its rest passed 1,048,576 bytes
-  abbrev pub is_full : Part A → Bool
-  is_full p = nat_lt (p.had + most_rest_bytes) (length (answer_bytes R p.moves))
-
   -- where there is a reason and nothing was offered, nothing was due
   abbrev pub Offered : Part A → Type 0
   Offered p = must p ≡ true → p.tried ≡ false → due p ≡ []
+
+  -- memory may have been wanting to it
+  pub data Lacks (p : Part A) : Type 0 where
+    WhenHeard : p.heard ≡ true → Lacks p
+    WhenReplied : p.met ≡ true → Lacks p
+    WhenOffered : p.through ≡ true → must p ≡ true → 0 < length (due p) → runs p ≡ true → Lacks p
 
   -- the cause for which a connection is left is there
   abbrev pub Caused : Part A → Reason → Type 0
@@ -145,7 +188,7 @@ module _ {A W : Type 0} (R : Rules A W) where
   Caused p reason.SentWhole = p.sent_whole ≡ true
   Caused p reason.SendFailed = p.failed ≡ true
   Caused p reason.NoMemory = p.starved ≡ true
-  Caused p reason.Starved = Running p × (p.starved ≡ false)
+  Caused p reason.Starved = Running p × (p.starved ≡ false) × (p.tried ≡ false) × Lacks p
 
   -- nothing in the newest round closes it
   pub record Calm (p : Part A) : Type 0 where

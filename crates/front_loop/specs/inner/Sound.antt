@@ -8,8 +8,18 @@ use Rattle.front_loop.specs.declared.dispositions.Reason.TheVariants as reason
 use Rattle.front_loop.specs.Rules.{Rules, Does, Gets, wants_of, each_whole, BeginsWanted}
 use Rattle.front_loop.specs.inner.Steps.{Step, Came, Did, Got, Through, Tried, Left, Hearing, phase, Gathers, IsThrough, MayBegin, Offers, there}
 use Rattle.front_loop.specs.Rounds.{has}
-use Rattle.front_loop.specs.RoundRules.{BeginsRound, OpensNew}
 use Rattle.front_loop.specs.inner.Parts.{Part, part, due, must, Offered, Caused, Calm}
+
+-- Want of memory of the ports, and their end as a whole, begin no round.
+abbrev pub BeginsRound : PortEvent → Type 0
+BeginsRound event.Broken = ⊥
+BeginsRound event.NoMemory = ⊥
+BeginsRound _ = Unit {0}
+
+-- the event opens a connection that is not among these
+abbrev pub OpensNew : PortEvent → List ℕ → Type 0
+OpensNew (event.Opened c) cs = has cs c ≡ false
+OpensNew _ cs = ⊥
 
 module _ {A W : Type 0} (R : Rules A W) where
   -- What holds of a connection that is there as a round ends: all that its bytes ask was asked and has all its

@@ -10,7 +10,7 @@ use Rattle.front_loop.specs.declared.sessions.Session.{Session}
 use Rattle.front_loop.specs.declared.sessions.SessionTable.{SessionTable}
 use Rattle.front_loop.specs.Rules.{Rules, Move, wants_of, answer_bytes, each_whole}
 use Rattle.front_loop.specs.inner.Steps.{Step, there, own, starved_in}
-use Rattle.front_loop.specs.inner.Parts.{Part, part, due, must, Offered, Caused, Calm, Running, is_open, told_after, EachMayCome}
+use Rattle.front_loop.specs.inner.Parts.{Part, part, due, must, is_full, Offered, Caused, Calm, Running, is_open, told_after, EachMayCome}
 use Rattle.front_loop.specs.inner.Sound.{Sound, HasAll}
 use Rattle.front_loop.specs.Front.{keeps}
 use Rattle.front_loop.specs.inner.Sessions.{conns, keys, Apart, is_up, asks_all}
@@ -53,6 +53,8 @@ module _ {A W T : Type 0} (R : Rules A W) (K : List ℕ → List (Move A) → T 
     pub knows : K p.given p.moves s.conn_state
     pub running : Running p
     pub memory : p.starved ≡ false
+    pub uncut : p.cut ≡ false
+    pub small : is_full R p ≡ false
     pub owed : s.owes ≡ true → (p.tried ≡ false) × (must R p ≡ true)
     pub offered : s.owes ≡ false → Offered R p
 

@@ -1,19 +1,28 @@
 -- What a front leaves: its own entries, what its ports tell, and what it hands back.
-use Rattle.std.specs.Prelude.{◌≡◌, ℕ, ◌-◌, ◌^◌, Bool, true, false, ◌&&◌, List, [], ◌∷◌, ◌++◌, map, min, take, Option, option_map, IfSome}
+use Rattle.std.specs.Prelude.{◌≡◌, ℕ, ◌-◌, ◌^◌, Bool, true, false, ◌&&◌, cond, List, [], ◌∷◌, ◌++◌, map, min, take, Option, option_map, IfSome}
 use Rattle.port_events.specs.declared.events.PortEvent.{PortEvent}
 use Rattle.port_events.specs.declared.events.PortEvent.TheVariants as event
 use Rattle.port_events.specs.declared.ends.FrontEnd.{FrontEnd}
 use Rattle.port_events.specs.declared.ends.FrontEnd.TheVariants as ended
 use Rattle.port_events.specs.declared.ends.Rest.{Rest}
-use Rattle.port_events.specs.Told.{PortsTold}
+use Rattle.port_events.specs.Told.{PortsTold, heard}
 use Rattle.farm_history.specs.Entries.{Entry, Stop}
 use Rattle.farm_history.specs.Lists.{Each}
 use Rattle.front_loop.specs.Rules.{Rules, answer_bytes}
 use Rattle.front_loop.specs.inner.Steps.{Step, Phase, Offering, Leaving, phase, MayBegin, there, own, starved_in}
 use Rattle.front_loop.specs.Rounds.{has}
-use Rattle.front_loop.specs.Serving.{with_break, BreakFits}
 use Rattle.front_loop.specs.inner.Parts.{part, due, is_open, told_after}
 use Rattle.front_loop.specs.inner.Sound.{Sound, AllKept}
+
+-- the ports broke as a whole, or not: it is the last line of their record, and no round
+abbrev pub with_break : Bool → PortsTold → PortsTold
+with_break broke t = cond broke (heard event.Broken [] t) t
+
+-- a front whose ports broke ends Broken, but where its Stop was worn
+abbrev pub BreakFits : FrontEnd → Bool → Type 0
+BreakFits ended.Broken broke = broke ≡ true
+BreakFits ended.Worn broke = Unit {0}
+BreakFits _ broke = broke ≡ false
 
 -- the newest round has this event, and its last Collect was answered so
 abbrev pub EndsAt : PortEvent → Bool → Phase → Type 0

@@ -1,13 +1,14 @@
 -- What a front does, step by step, and what its steps put into the history. The newest step comes first.
-use Rattle.std.specs.Prelude.{◌≡◌, ℕ, ◌+◌, Bool, true, false, List, [], ◌∷◌, ◌++◌, length, Option}
+use Rattle.std.specs.Prelude.{◌≡◌, ℕ, ◌==◌, Bool, true, false, cond, List, [], ◌∷◌, ◌++◌, length, Option}
 use Rattle.port_events.specs.declared.events.PortEvent.{PortEvent}
 use Rattle.port_events.specs.declared.events.PortEvent.TheVariants as event
 use Rattle.farm_history.specs.declared.queues.Reply.{Reply}
+use Rattle.farm_history.specs.declared.answers.Collected.{Collected}
 use Rattle.farm_history.specs.declared.answers.Collected.TheVariants as collected
 use Rattle.farm_history.specs.Entries.{Entry, Collect, Leave}
 use Rattle.front_loop.specs.declared.dispositions.Reason.{Reason}
 use Rattle.front_loop.specs.Rules.{Rules}
-use Rattle.front_loop.specs.Rounds.{remove, connections_after, no_reply, with_refused, with_starved}
+use Rattle.front_loop.specs.Rounds.{connections_after, with_refused, with_starved}
 
 pub data Step (A : Type 0) : Type 0 where
   -- an event of the ports came, with the bytes of its piece; true where an Opened made a session
@@ -23,6 +24,10 @@ pub data Step (A : Type 0) : Type 0 where
   Tried : ℕ → Option ℕ → Step A
   -- the connection is left: how many of its asks were open, and why it is left
   Left : ℕ → ℕ → Reason → Step A
+
+-- the answer of the Collect that gives no reply
+abbrev pub no_reply : Bool → Collected
+no_reply stopped = cond stopped collected.Stopped collected.Empty
 
 -- Where a round is: its event came and requests are done; replies are collected; the last Collect is over and
 -- bytes are offered; connections are left. A round begins with its event.
@@ -89,6 +94,11 @@ MayBegin _ = ⊥
 abbrev pub Offers : Phase → Type 0
 Offers (Offering e stopped) = Unit {0}
 Offers _ = ⊥
+
+-- a list of connections without the first of that number
+abbrev pub remove : List ℕ → ℕ → List ℕ
+remove [] c = []
+remove (d ∷ ds) c = cond (d == c) ds (d ∷ remove ds c)
 
 module _ {A : Type 0} where
   -- the connections that are there, in the order in which they were opened

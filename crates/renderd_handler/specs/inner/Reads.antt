@@ -1,10 +1,15 @@
 -- What is read of a connection's bytes, and what is kept of it.
-use Rattle.std.specs.Prelude.{◌≡◌, ℕ, cond, List, [], ◌∷◌, ◌++◌, map, Option}
+use Rattle.std.specs.Prelude.{◌≡◌, ◌==◌, ℕ, Bool, cond, List, [], ◌∷◌, ◌++◌, filter, map, Option, option_map, option_to_list, unwrap_or}
+use Rattle.std.specs.Option.{is_some}
 use Rattle.renderd_protocol.specs.declared.messages.Request.{Request}
 use Rattle.renderd_protocol.specs.declared.messages.Found.TheVariants.{Message}
 use Rattle.renderd_protocol.specs.Messages.{found_in}
 use Rattle.renderd_protocol.specs.Stream.{stream_read}
-use Rattle.farm_history.specs.Entries.{Entry}
+use Rattle.farm_history.specs.declared.queues.Conn.{Conn}
+use Rattle.farm_history.specs.declared.asks.Spot.{Spot}
+use Rattle.farm_history.specs.declared.asks.Cmd.{Cmd}
+use Rattle.farm_history.specs.declared.asks.AskAnswer.{AskAnswer}
+use Rattle.farm_history.specs.Entries.{Entry, Ask}
 use Rattle.front_loop.specs.declared.dispositions.Disposition.{Disposition}
 use Rattle.front_loop.specs.declared.dispositions.Disposition.TheVariants.{Stays, Leaves}
 use Rattle.front_loop.specs.declared.dispositions.Reason.TheVariants as reason
@@ -13,8 +18,24 @@ use Rattle.front_loop.specs.Front.{with_acts}
 use Rattle.renderd_handler.specs.declared.asked.Asked.{Asked}
 use Rattle.renderd_handler.specs.declared.waits.Waiting.{Waiting}
 use Rattle.renderd_handler.specs.declared.waits.ConnState.{ConnState}
-use Rattle.renderd_handler.specs.Renderd.{asks_in, answer_command, is_bad, response_to, waiting_requests, with_wait, renderd_rules}
+use Rattle.renderd_handler.specs.Renderd.{command_of, answer_command, is_bad, response_to, waiting_requests, with_wait, renderd_rules}
 use Rattle.farm_history.specs.Past.{number_in}
+
+-- the entry of an ask
+abbrev pub asks_by : Conn → Option Cmd → Spot → AskAnswer → List Entry
+asks_by conn command spot a = option_to_list (option_map (λ c. Ask conn c spot a) command)
+
+-- nothing is answered where no request waits for the reply
+abbrev pub response_for : Option ℕ → Option (ℕ × Request) → List ℕ
+response_for command waits = unwrap_or (option_map (λ (w : ℕ × Request). response_to command w.1) waits) []
+
+-- the requests that are asked: those with another command are skipped
+abbrev pub asks_in : List Request → List Request
+asks_in rs = filter (λ (r : Request). is_some (command_of r.cmd)) rs
+
+-- the ask of this number
+abbrev pub is_wait : ℕ → ℕ × Request → Bool
+is_wait n w = w.0 == n
 
 -- an ask that waits: its number, and its request
 abbrev pub pair_of : Waiting → ℕ × Request

@@ -4,7 +4,7 @@ use Rattle.port_events.specs.Boxes.{as_rest}
 use Rattle.front_loop.specs.inner.StepRuns.{StepRun}
 use Rattle.front_loop.specs.inner.Stands.{world}
 use Rattle.front_loop.proofs.Goings.{begins}
-use Rattle.front_loop.proofs.RoundsMade.{in_rounds}
+use Rattle.front_loop.proofs.RunMade.{in_rounds}
 use Rattle.front_loop.proofs.rounds.serve.Goals as goal
 
 pub serve_at-end-requires-clause-ready : goal.serve_at-end-requires-clause-ready

@@ -1,6 +1,6 @@
 use Rattle.std.proofs.Common.{◌++◌, find, refl, ap, ◌∙◌}
-use Rattle.renderd_handler.specs.Renderd.{is_wait, outcome_command, response_for}
-use Rattle.renderd_handler.specs.inner.Reads.{pairs}
+use Rattle.renderd_handler.specs.Renderd.{outcome_command}
+use Rattle.renderd_handler.specs.inner.Reads.{is_wait, pairs, response_for}
 use Rattle.renderd_handler.proofs.Hearings.{replied, replied_halts}
 use Rattle.renderd_handler.proofs.renderd.RenderdFront.reply.Goals as goal
 
