@@ -18,6 +18,12 @@ impl<'a, B: Bell> Alarms<'a, B> {
         for worker in self.workers {
             worker.unpark();
         }
+        self.ring_fronts();
+    }
+
+    /// Wakes the fronts, where a drawing has ended: in one of them somebody may wait for it. Its end puts at most
+    /// its own metatile in a queue, and who ended it claims next. It promises as little, and takes no memory.
+    pub fn ring_fronts(&self) {
         self.bells.renderd.ring();
         self.bells.tiles.ring();
         self.bells.control.ring();

@@ -36,8 +36,8 @@ enum Next {
     End(WorkEnd),
 }
 
-/// Claims. A job is drawn after the gate let it pass, while no turn is taken, and handed back; then all are woken,
-/// and what its staging has left is removed.
+/// Claims. A job is drawn after the gate let it pass, while no turn is taken, and handed back; then the fronts are
+/// woken, and what its staging has left is removed.
 fn round<R: Wait, D: TileStore, G: Gate, B: Bell>(
     rt: &R,
     picture_buffer: &mut PictureBuffer,
@@ -63,7 +63,7 @@ fn round<R: Wait, D: TileStore, G: Gate, B: Bell>(
             let drawn = draw(picture_buffer, &job);
             let (alloc, ticket) = (picture_buffer.alloc(), job.ticket);
             let handed = hand_back(rt, farm, seat, &stager, alloc, job, drawn);
-            alarms.ring_all();
+            alarms.ring_fronts();
             D::clear(&stager, alloc, ticket);
             let Ok(_answer) = handed else {
                 return Next::End(WorkEnd::Worn);
@@ -76,8 +76,8 @@ fn round<R: Wait, D: TileStore, G: Gate, B: Bell>(
 }
 
 /// Works until the farm is stopped, as the worker of that number, through a seat of its own. It claims; on a job
-/// it passes the gate, draws outside the lock, hands back and wakes all; with nothing to claim it sleeps until it
-/// is woken. Want of memory in a drawing is handed back as such, and does not end the worker. Stopped comes only
+/// it passes the gate, draws outside the lock, hands back and wakes the fronts; with nothing to claim it sleeps until
+/// it is woken. Want of memory in a drawing is handed back as such, and does not end the worker. Stopped comes only
 /// where a claim of this call was answered so, Worn only where all turns of the farm were drawn. It may wait.
 pub fn work<R: Wait, D: TileStore, G: Gate, B: Bell>(
     rt: &R,
