@@ -30,8 +30,14 @@ fn gets_part<S: TileStore>(
     len: u32,
     wanted: &[u8],
 ) {
-    let found = store.get_part(alloc, "map/0/0/0/0/0/0.meta", offset, len);
+    let path = "map/0/0/0/0/0/0.meta";
+    let found = store.get_part(alloc, path, offset, len);
     assert!(rt; slice(&found) == Ok(Some(wanted)), "{len} from {offset}");
+    let mut opened = None;
+    for time in 1..3 {
+        let found = store.get_next_part(alloc, path, offset, len, &mut opened);
+        assert!(rt; slice(&found) == Ok(Some(wanted)), "{len} from {offset}, time {time}");
+    }
 }
 
 /// Stages the bytes, puts them at the path and clears what is left.
@@ -72,6 +78,7 @@ fn holds<S: TileStore>(rt: &impl Abort, store: &mut S, alloc: Global) {
     let path = "map/0/0/0/0/0/0.meta";
     assert!(rt; slice(&store.get(alloc, path)) == Ok(None));
     assert!(rt; slice(&store.get_part(alloc, path, 0, 9)) == Ok(None));
+    assert!(rt; slice(&store.get_next_part(alloc, path, 0, 9, &mut None)) == Ok(None));
     assert_eq!(rt; store.put(alloc, path, b"abcdef"), Ok(()));
     assert_eq!(rt; store.put(alloc, "farm.saved", b""), Ok(()));
     gets(rt, store, alloc, path, b"abcdef");
@@ -109,6 +116,24 @@ fn memory_and_files_hold(rt: HostRuntime) -> Result<(), Fail> {
         is_missing(&rt, "tiles/7.new") && is_missing(&rt, "tiles/7.old.new"),
         "nothing is left of a staging"
     );
+    fs::remove_dir_all(&rt, "tiles")?;
+    Ok(())
+}
+
+/// What is opened for the first part is read on for the next, also where the file is away by then.
+#[test]
+fn an_opened_file_is_read_on(rt: HostRuntime) -> Result<(), Fail> {
+    let alloc = rt.alloc();
+    let _left_by_an_earlier_run = fs::remove_dir_all(&rt, "tiles");
+    let mut files = FileStore::new(rt.clone()?);
+    assert_eq!(rt; files.put(alloc, "one", b"xy"), Ok(()));
+    let mut opened = None;
+    let first = files.get_next_part(alloc, "one", 0, 1, &mut opened);
+    assert!(rt; slice(&first) == Ok(Some(b"x")));
+    fs::remove_file(&rt, "tiles/one")?;
+    let next = files.get_next_part(alloc, "one", 1, 4, &mut opened);
+    assert!(rt; slice(&next) == Ok(Some(b"y")));
+    assert!(rt; slice(&files.get_part(alloc, "one", 1, 4)) == Ok(None));
     fs::remove_dir_all(&rt, "tiles")?;
     Ok(())
 }

@@ -1,6 +1,6 @@
 //! The store in files of the system, under the folder `tiles`. It does not tell what it holds; what is
 //! proved of it is that it counts its failures and which paths it refuses.
-ghost use Rattle.std.specs.Prelude.{◌≡◌, ◌≤◌, ℕ, false, length, Err, IfOk, IfSome};
+ghost use Rattle.std.specs.Prelude.{◌≡◌, ◌≤◌, ℕ, false, length, None, Err, IfOk, IfSome};
 ghost use Rattle.farm_base.specs.Limits.{most_file_bytes};
 ghost use Rattle.farm_base.specs.Outside.{untold};
 ghost use Rattle.tile_store.specs.declared.stores.StoreFault.TheVariants.{Failed};
@@ -68,12 +68,21 @@ pub struct StagedFile {
     bytes: Snapshot<Vec<u8>>,
 }
 
+/// A file that was opened, and how many bytes it had then.
+#[derive(Drop)]
+pub struct OpenedFile<F> {
+    file: F,
+    length: u64,
+}
+
 impl<R: rt::Files + Copy + Drop> TileStore for FileStore<R> {
     ghost use Rattle.farm_base.specs.Outside.{untold};
 
     type Stager = FileStager<R>;
 
     type Staged = StagedFile;
+
+    type Opened = OpenedFile<R::File>;
 
     ghost state = { λ s. untold s.faults };
 
@@ -150,7 +159,25 @@ impl<R: rt::Files + Copy + Drop> TileStore for FileStore<R> {
         ensures short { IfOk result (λ found. IfSome found (λ v. length v.items ≤ len)) }
         ensures taken { is_own_path path.now ≡ false → result ≡ Err Failed }
     {
-        let answer = read_part(alloc, &self.rt, path, offset, len);
+        let answer = read_part(alloc, &self.rt, path, offset, len, &mut None);
+        self.counted(answer)
+    }
+
+    /// A part of the path's file, however long the file is, which is opened once; Failed also for a path that is
+    /// not taken.
+    fn get_next_part(
+        &mut self,
+        alloc: Global,
+        path: &str,
+        offset: u64,
+        len: u32,
+        opened: &mut Option<OpenedFile<R::File>>,
+    ) -> Result<Option<Vec<u8>>, StoreFault>
+        ensures state { Gets (part offset len) (untold self.old.faults) (untold self.new.faults) path.now result }
+        ensures short { IfOk result (λ found. IfSome found (λ v. length v.items ≤ len)) }
+        ensures taken { opened.old ≡ None → is_own_path path.now ≡ false → result ≡ Err Failed }
+    {
+        let answer = read_part(alloc, &self.rt, path, offset, len, opened);
         self.counted(answer)
     }
 
@@ -292,12 +319,12 @@ fn clear_staged<R: rt::Files>(alloc: Global, files: &R, number: u64) -> Result<(
     Ok(())
 }
 
-/// The file of the path and its length; `None` where there is nothing, and Failed where there is a folder.
+/// The file of the path; `None` where there is nothing, and Failed where there is a folder.
 fn open<R: rt::Files>(
     alloc: Global,
     files: &R,
     path: &str,
-) -> Result<Option<(R::File, u64)>, StoreFault>
+) -> Result<Option<OpenedFile<R::File>>, StoreFault>
     ensures { is_own_path path.now ≡ false → result ≡ Err Failed }
 {
     let name = name_of(alloc, path)?;
@@ -310,7 +337,10 @@ fn open<R: rt::Files>(
     if about.is_dir() {
         return Err(StoreFault::Failed);
     }
-    Ok(Some((file, about.len())))
+    Ok(Some(OpenedFile {
+        file,
+        length: about.len(),
+    }))
 }
 
 /// The bytes of the path's file.
@@ -322,27 +352,44 @@ fn read_whole<R: rt::Files>(
     ensures short { IfOk result (λ found. IfSome found (λ v. length v.items ≤ most_file_bytes)) }
     ensures taken { is_own_path path.now ≡ false → result ≡ Err Failed }
 {
-    let Some((file, _length)) = open(alloc, files, path)? else {
+    let Some(opened) = open(alloc, files, path)? else {
         return Ok(None);
     };
-    Ok(Some(read_to_end(alloc, file, MOST_FILE_BYTES)?))
+    Ok(Some(read_to_end(alloc, opened.file, MOST_FILE_BYTES)?))
 }
 
-/// The bytes of the path's file from the offset on, at most `len` of them. How many there are is known when
-/// it is opened, so that they are read at once, into a vector that does not grow.
+/// The bytes of the path's file from the offset on, at most `len` of them. It is opened where nothing is opened yet.
 fn read_part<R: rt::Files>(
     alloc: Global,
     files: &R,
     path: &str,
     offset: u64,
     len: u32,
+    opened: &mut Option<OpenedFile<R::File>>,
 ) -> Result<Option<Vec<u8>>, StoreFault>
     ensures short { IfOk result (λ found. IfSome found (λ v. length v.items ≤ len)) }
-    ensures taken { is_own_path path.now ≡ false → result ≡ Err Failed }
+    ensures taken { opened.old ≡ None → is_own_path path.now ≡ false → result ≡ Err Failed }
 {
-    let Some((mut file, length)) = open(alloc, files, path)? else {
-        return Ok(None);
-    };
+    if opened.is_none() {
+        *opened = open(alloc, files, path)?;
+    }
+    match opened.as_mut() {
+        Some(of) => Ok(Some(read_on(alloc, &mut of.file, of.length, offset, len)?)),
+        None => Ok(None),
+    }
+}
+
+/// The bytes of a file from the offset on, at most `len` of them. How many there are is known when it is opened,
+/// so that they are read at once, into a vector that does not grow.
+fn read_on<F: Read + Seek>(
+    alloc: Global,
+    file: &mut F,
+    length: u64,
+    offset: u64,
+    len: u32,
+) -> Result<Vec<u8>, StoreFault>
+    ensures { IfOk result (λ v. length v.items ≤ len) }
+{
     let room = length.saturating_sub(offset).min(u64::from(len));
     let mut bytes = vec![in alloc; 0; room as usize]?;
     if room > 0 {
@@ -350,5 +397,5 @@ fn read_part<R: rt::Files>(
         file.read_exact(bytes.as_mut_slice())
             .map_err(|e| fault(&e))?;
     }
-    Ok(Some(bytes))
+    Ok(bytes)
 }

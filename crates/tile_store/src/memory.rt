@@ -184,6 +184,8 @@ impl TileStore for MemStore {
 
     type Staged = Vec<u8>;
 
+    type Opened = ();
+
     ghost state = { store_state };
 
     ghost written = { λ staged. staged.items };
@@ -269,6 +271,22 @@ impl TileStore for MemStore {
         };
         self.get_calls = self.get_calls.saturating_add(1);
         Ok(found)
+    }
+
+    /// As the trait says, and exactly as `get_part`: nothing has to be opened.
+    fn get_next_part(
+        &mut self,
+        alloc: Global,
+        path: &str,
+        offset: u64,
+        len: u32,
+        _opened: &mut Option<()>,
+    ) -> Result<Option<Vec<u8>>, StoreFault>
+        ensures state { Gets (part offset len) (store_state self.old) (store_state self.new) path.now result }
+        ensures short { IfOk result (λ found. IfSome found (λ v. length v.items ≤ len)) }
+        ensures exact { GetsHeld (part offset len) self.old self.new path.now result }
+    {
+        self.get_part(alloc, path, offset, len)
     }
 
     fn faults(&self) -> u64

@@ -66,6 +66,9 @@ pub trait TileStore {
     /// Bytes that were staged and not put yet.
     type Staged: Drop;
 
+    /// A content that was opened to be read part by part.
+    type Opened: Drop;
+
     /// What each path holds and which calls failed, where the store tells, and how many calls failed: a
     /// count that never falls, and stands still at its last value, `2^64 - 1`.
     ghost state: { Self → Outside StoreTold };
@@ -118,6 +121,20 @@ pub trait TileStore {
         path: &str,
         offset: u64,
         len: u32,
+    ) -> Result<Option<Vec<u8>>, StoreFault>
+        ensures state { Gets (part offset len) (state self.old) (state self.new) path.now result }
+        ensures short { IfOk result (λ found. IfSome found (λ v. length v.items ≤ len)) };
+
+    /// As `get_part`, and a get like it, of a content that is read in more parts than one: what was opened for the
+    /// first stands in `opened` from then on, and is used for the next. `opened` has nothing, or what a call with
+    /// the same path has left there, and nothing was put at the path since.
+    fn get_next_part(
+        &mut self,
+        alloc: Global,
+        path: &str,
+        offset: u64,
+        len: u32,
+        opened: &mut Option<Self::Opened>,
     ) -> Result<Option<Vec<u8>>, StoreFault>
         ensures state { Gets (part offset len) (state self.old) (state self.new) path.now result }
         ensures short { IfOk result (λ found. IfSome found (λ v. length v.items ≤ len)) };

@@ -13,6 +13,8 @@ impl TileStore for NoStore {
 
     type Staged = Vec<u8>;
 
+    type Opened = ();
+
     ghost state = { λ _. untold 0 };
 
     ghost written = { λ staged. staged.items };
@@ -55,6 +57,17 @@ impl TileStore for NoStore {
         _path: &str,
         _offset: u64,
         _len: u32,
+    ) -> Result<Option<Vec<u8>>, StoreFault> {
+        Ok(None)
+    }
+
+    fn get_next_part(
+        &mut self,
+        _alloc: Global,
+        _path: &str,
+        _offset: u64,
+        _len: u32,
+        _opened: &mut Option<()>,
     ) -> Result<Option<Vec<u8>>, StoreFault> {
         Ok(None)
     }
