@@ -72,7 +72,7 @@ fn reply_one<R: Wait, M: Farm, F: Front<M>>(
     };
     session.owes = owes_after(session.owes, response.as_slice(), Disposition::Stays);
     let disposition = worse_of(session.disposition, disposition);
-    session.disposition = settle(outbox, session.conn, response.as_slice(), disposition);
+    session.disposition = settle(outbox, session.conn, response, disposition);
     Ok(())
 }
 

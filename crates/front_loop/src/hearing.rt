@@ -42,16 +42,16 @@ pub fn owes_after(owes: bool, response: &[u8], disposition: Disposition) -> bool
 pub fn settle(
     outbox: &mut Outbox,
     conn: u32,
-    response: &[u8],
+    response: &mut Vec<u8>,
     disposition: Disposition,
 ) -> Disposition
     requires { HasRest outbox.old conn }
-    ensures { Settles conn response.now disposition result outbox.old outbox.new }
+    ensures { Settles conn response.old.items disposition result outbox.old outbox.new }
 {
     if !is_kept(disposition) {
         return disposition;
     }
-    match outbox.answer(conn, response) {
+    match outbox.answer_with(conn, response) {
         Ok(()) => disposition,
         Err(BoxFault::Full) => Disposition::Leaves(Reason::Full),
         Err(BoxFault::NoMemory) => Disposition::Leaves(Reason::Starved),
@@ -93,7 +93,7 @@ fn hear_one<R: Wait, M: Farm, F: Front<M>>(
         return Err(Worn);
     };
     session.owes = owes_after(session.owes, response.as_slice(), disposition);
-    session.disposition = settle(outbox, session.conn, response.as_slice(), disposition);
+    session.disposition = settle(outbox, session.conn, response, disposition);
     Ok(())
 }
 

@@ -11,6 +11,7 @@ use crate::ports::Ports;
 use farm_base::{Bytes, MOST_REST_BYTES, NoMemory};
 use std::alloc::{AllocError, Global};
 use std::marker::Model;
+use std::mem::swap;
 
 /// Why an answer was not put into an outbox; after either nothing has changed.
 #[derive(Clone, Copy, Debug, PartialEq, Eq)]
@@ -94,6 +95,14 @@ impl Pending {
             self.start = 0;
         }
         self.bytes.extend_from_slice(bytes)
+    }
+
+    /// Makes the bytes its rest, where it has none, in exchange for the vector that it had.
+    fn exchange(&mut self, bytes: &mut Vec<u8>)
+        ensures { self.new ≡ (self.old.0, bytes.old.items) }
+    {
+        swap(&mut self.bytes, bytes);
+        self.start = 0;
     }
 
     /// Takes bytes off the rest's front.
@@ -197,6 +206,20 @@ impl Outbox {
             return Err(BoxFault::Full);
         }
         self.items[place].add(bytes)?;
+        Ok(())
+    }
+
+    /// As `answer`, of bytes that are given up: where the connection has no rest it gets the vector itself, which is
+    /// not copied, and `bytes` has what is left of another one.
+    pub fn answer_with(&mut self, conn: u32, bytes: &mut Vec<u8>) -> Result<(), BoxFault>
+        requires { HasRest self.old conn }
+        ensures { Answered self.old conn bytes.old.items result self.new }
+    {
+        let place = there(self.items.as_slice(), conn);
+        if bytes.len() > MOST_REST_BYTES || !self.items[place].rest().is_empty() {
+            return self.answer(conn, bytes.as_slice());
+        }
+        self.items[place].exchange(bytes);
         Ok(())
     }
 
