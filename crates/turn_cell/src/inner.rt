@@ -13,11 +13,11 @@ use crate::view::{Terms, View};
 use atomic_table::{Refused, Table};
 use farm_base::Worn;
 use std::alloc::Global;
+use std::hint::spin_loop;
 use std::marker::Brand;
 use std::snapshot::Snapshot;
 use std::sync::Wait;
 use std::sync::atomic::{AtomicU64, Ordering};
-use std::thread;
 
 /// The word of the next ticket.
 const TICKET: usize = 0;
@@ -27,8 +27,9 @@ const SERVING: usize = 1;
 const COUNT: usize = 2;
 /// The slot of the value.
 const VALUE: usize = 0;
-/// How often a turn looks before it sleeps.
-const LOOKS: u32 = 8;
+/// How often a turn looks before it sleeps. It does not give its processor up between the looks: the system would
+/// then count it as one that needs none, and have it wait for milliseconds behind those that draw.
+const LOOKS: u32 = 64;
 
 /// A seat as the table knows it.
 pub(crate) type Place<T, E> = atomic_table::Seat<Option<T>, View<T, E>>;
@@ -136,7 +137,7 @@ impl<T: StandsFor> Core<T> {
             }
             if looks < LOOKS {
                 looks += 1;
-                thread::yield_now();
+                spin_loop();
             } else {
                 self.sleep(rt, served);
             }
