@@ -20,7 +20,7 @@ use Rattle.input_files.specs.Course.{Course, made, ◌>>=◌}
 use Rattle.input_files.specs.inner.Follows.{Follows}
 use Rattle.input_files.specs.inner.Runs as calls
 use Rattle.input_files.proofs.Courses.{follows_then, follows_stop}
-use Rattle.farm_files.specs.Inputs.{Scripted, Served}
+use Rattle.farm_files.specs.Inputs.{ScriptInputs, ServeInputs}
 use Rattle.style_objects.specs.TextReadings.{TextReading, text_reading}
 use Rattle.style_objects.proofs.ByGrammar.{one_reading, reads_grammar}
 use Rattle.farm_files.specs.Courses.{script_course, script_course_by, serve_course, serve_course_by}
@@ -135,7 +135,7 @@ module _ {D : Type 0} (state : D → Outside StoreTold) (words : List (List ℕ)
   }
 
   -- a script's files were read, and it ran
-  script_ran : (read : Result Scripted Stop) (course : Course Scripted) → Follows course files files' read → (store' : D) → script.RunsMade state store store' out new.out end read → new.left ≡ Store store' → new.fronts ≡ [] → new.ports ≡ ports
+  script_ran : (read : Result ScriptInputs Stop) (course : Course ScriptInputs) → Follows course files files' read → (store' : D) → script.RunsMade state store store' out new.out end read → new.left ≡ Store store' → new.fronts ≡ [] → new.ports ≡ ports
       → calls.Works (Does state) (course >>= λ s. made (scripts s)) files files' (over out store ports) new end
   script_ran (Ok s) course h store' ran left_is none ports_are = record {
     made = Ok (scripts s);
@@ -144,19 +144,19 @@ module _ {D : Type 0} (state : D → Outside StoreTold) (words : List (List ℕ)
   }
   script_ran (Err q) course h store' ran left_is none ports_are = record {
     made = Err q;
-    followed = follows_stop Scripted Work course (λ x. made (scripts x)) files files' q h;
+    followed = follows_stop ScriptInputs Work course (λ x. made (scripts x)) files files' q h;
     goes = (ran.0, same_world new store out ports ran.2 (left_is ∙ ap (λ (d : D). Store d) ran.1) none ports_are);
   }
 
   -- a farm's files were read, and it was served
-  served_ran : (read : Result Served Stop) (course : Course Served) → Follows course files files' read → serve.ServesMade state store (over out store ports) new end read
+  served_ran : (read : Result ServeInputs Stop) (course : Course ServeInputs) → Follows course files files' read → serve.ServesMade state store (over out store ports) new end read
       → calls.Works (Does state) (course >>= λ s. made (serves s)) files files' (over out store ports) new end
   served_ran (Ok s) course h ran = record {
     made = Ok (serves s);
     followed = follows_then course (λ x. made (serves x)) files files' files' s (Ok (serves s)) h (inl refl, refl);
     goes = (store, refl, ran);
   }
-  served_ran (Err q) course h ran = record { made = Err q; followed = follows_stop Served Work course (λ x. made (serves x)) files files' q h; goes = ran }
+  served_ran (Err q) course h ran = record { made = Err q; followed = follows_stop ServeInputs Work course (λ x. made (serves x)) files files' q h; goes = ran }
 
   runs_asked : (c : Command) → AsksFor words c → Runs state c files files' store (over out store ports) new end → Call
   runs_asked (Render style data_name size tile) asks ran =
