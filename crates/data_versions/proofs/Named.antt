@@ -23,15 +23,6 @@ first_valid : (b : Bool) (l m : Layer) (rest : List Layer) (name : List ℕ) →
 first_valid true l m rest name here later found = let e : l ≡ m = cc in subst (λ x. IsLayer x) e here
 first_valid false l m rest name here later found = later found
 
-named_valid : (layers : List Layer) (name : List ℕ) (m : Layer) → AllByRecursion IsLayer layers → layer_named layers name ≡ Some m → IsLayer m
-named_valid [] name m each found = cc
-named_valid (l ∷ layers) name m each found =
-    first_valid (bytes_eq l.name name) l m layers name each.0 (named_valid layers name m each.1) found
-
--- a layer that was looked up is valid, so it has at most 1,000,000 features
-pub named_few : (layers : List Layer) (name : List ℕ) (m : Layer) → layer_named layers name ≡ Some m → IsDataset layers → length m.features ≤ 1000000
-named_few layers name m found valid = (named_valid layers name m (recursion_from_All IsLayer layers valid.each) found).few
-
 -- ---- the layer of a name by its place
 
 named_at : (layers : List Layer) (i : ℕ) (d : Layer) (name : List ℕ) → i < length layers → bytes_eq (get_or layers i d).name name ≡ true

@@ -47,9 +47,6 @@ length_more chunks i c small at = ap length (joined_more chunks i c small at) �
 
 -- ---- the starts
 
-pub no_starts : (chunks : Chunks) → IsStarts [] (take 0 chunks)
-no_starts chunks = record { long = refl; each = λ k small. absurd (omega arith) }
-
 pub starts_more : (starts : List ℕ) (chunks : Chunks) (i count : ℕ) → i < length chunks → IsStarts starts (take i chunks)
     → count ≡ length (joined (take i chunks)) → IsStarts (starts ++ count ∷ []) (take (i + 1) chunks)
 starts_more starts chunks i count small before e =
@@ -97,10 +94,6 @@ last_ends chunks k c small at last =
     ap length (joined_split chunks k) ∙ length-append (joined (take k chunks)) (joined (drop k chunks))
     ∙ ap (λ (n : ℕ). length (joined (take k chunks)) + n) (ap length (joined_rest chunks k c small at ∙ ap (λ (cs : Chunks). arc_value c ++ joined cs) (drop_all (k + 1) chunks last) ∙ append-nil (arc_value c)))
 
-pub some_chunk : (chunks : Chunks) (i : ℕ) → i < length (joined chunks) → 0 < length chunks
-some_chunk [] i small = absurd (omega arith)
-some_chunk (c ∷ chunks) i small = omega arith
-
 -- ---- the first one that passes
 
 shifted : (o : Option ℕ) (a b c : ℕ) → c ≡ a + b → option_map (λ k. a + k) (option_map (λ k. b + k) o) ≡ option_map (λ k. c + k) o
@@ -147,9 +140,6 @@ sought_from p from start xs ys e small =
     let rest : drop from (xs ++ ys) ≡ drop (from - start) ys = drop_apart xs ys from ∙ rw (drop_all from xs (omega arith), e) refl in
     ap (λ (fs : List Feature). option_map (λ k. from + k) (position p fs)) rest
     ∙ ap (λ (n : ℕ). option_map (λ k. n + k) (position p (drop (from - start) ys))) place
-
-pub sought_none : (p : Feature → Bool) (start from : ℕ) → sought p start from [] ≡ None
-sought_none p start from = ap (λ (fs : List Feature). option_map (λ k. start + (from - start) + k) (position p fs)) (drop_all (from - start) [] (omega arith))
 
 -- ---- the same at a chunk of a layer
 
@@ -201,10 +191,6 @@ place_here p chunks i k c o small at e found =
     ap (position p) (joined_rest chunks i c small at) ∙ position-append p (arc_value c) (joined (drop (i + 1) chunks)) ∙ rw found refl in
     e ∙ ap (option_map (λ j. length (joined (take i chunks)) + j)) here
 
-pub place_end : (p : Feature → Bool) (chunks : Chunks) (i : ℕ) (o : Option ℕ) → length chunks ≤ i
-    → o ≡ option_map (λ k. length (joined (take i chunks)) + k) (position p (joined (drop i chunks))) → o ≡ None
-place_end p chunks i o past e = e ∙ ap (λ (cs : Chunks). option_map (λ k. length (joined (take i chunks)) + k) (position p (joined cs))) (drop_all i chunks past)
-
 -- the same from a place on
 pub near_begins : (p : Feature → Bool) (starts : List ℕ) (count : ℕ) (chunks : Chunks) (k from : ℕ) → IsChunked starts count chunks → k < length starts
     → get_or starts k 0 ≤ from → option_map (λ j. from + j) (position p (drop from (joined chunks)))
@@ -226,6 +212,3 @@ pub near_here : (p : Feature → Bool) (chunks : Chunks) (i from start k : ℕ) 
     → position p (drop (from - start) (arc_value c)) ≡ Some k → o ≡ Some (start + (from - start) + k)
 near_here p chunks i from start k c o small at begun e found =
     e ∙ rw (← begun) (ap (sought p start from) (joined_rest chunks i c small at) ∙ sought_here p start from k (arc_value c) (joined (drop (i + 1) chunks)) found)
-
-pub near_end : (p : Feature → Bool) (chunks : Chunks) (i from start : ℕ) (o : Option ℕ) → length chunks ≤ i → o ≡ sought p start from (joined (drop i chunks)) → o ≡ None
-near_end p chunks i from start o past e = e ∙ ap (λ (cs : Chunks). sought p start from (joined cs)) (drop_all i chunks past) ∙ sought_none p start from

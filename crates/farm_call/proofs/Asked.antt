@@ -38,7 +38,7 @@ use Rattle.serve_command.specs.inner.Steps as serve
 use Rattle.serve_command.specs.declared.left.Left.{Left}
 use Rattle.serve_command.specs.declared.left.Left.TheVariants.{Store}
 use Rattle.serve_command.specs.declared.left.Done.{Done}
-use Rattle.farm_call.specs.inner.Runs.{IsSound, LeavesStore, Runs}
+use Rattle.farm_call.specs.inner.Runs.{LeavesStore, Runs}
 
 -- the values of words that ask for a command are those that clap reads
 clap_reads : (words : List (List ℕ)) (c : Command) (a : AsksFor words c) → values_of words ≡ Some a.values
@@ -99,15 +99,6 @@ asks_values words c (Some values) h reads =
 
 asks_read : (words : List (List ℕ)) (c : Command) → ReadsWords words (Ok c) → AsksFor words c
 asks_read words c reads = asks_values words c (values_of words) refl reads
-
-sound_of : (values : List (List ℕ)) (c : Command) → Spells c values → IsSound c
-sound_of values (Render style data_name size tile) h = (h.1, h.2)
-sound_of values (Load seed n) h = h.3
-sound_of values other h = tt
-
--- a tile that is asked for is one, of a named size
-pub sound_read : (words : List (List ℕ)) (c : Command) → ReadsWords words (Ok c) → IsSound c
-sound_read words c reads = let asks = asks_read words c reads in sound_of asks.values c asks.spelled
 
 -- a world is that of its parts
 same_world : {D : Type 0} (new : World D) (store : D) (out : SinkAt) (ports : EachFront (Outside PortsTold)) → new.out ≡ out → new.left ≡ Store store → new.fronts ≡ [] → new.ports ≡ ports → new ≡ over out store ports
@@ -193,20 +184,6 @@ module _ {D : Type 0} (state : D → Outside StoreTold) (words : List (List ℕ)
   -- the command that was read is done
   pub runs_read : (c : Command) → ReadsWords words (Ok c) → Runs state c files files' store (over out store ports) new end → Call
   runs_read c reads ran = runs_asked c (asks_read words c reads) ran
-
-  -- the world is as it was, and this is the end
-  idle : (s : Stop) → files' ≡ files → end ≡ Err s → new.out ≡ out → new.left ≡ Store store → new.fronts ≡ [] → new.ports ≡ ports → calls.Idles s files files' (over out store ports) new end
-  idle s same end_is out_is left_is none ports_are = record { ends = end_is; files_same = same; world_same = same_world new store out ports out_is left_is none ports_are }
-
-  -- words that were refused ask for no course
-  pub runs_refused : ReadsWords words (Err words_fault.Refused) → files' ≡ files → end ≡ Err stop.Words → new.out ≡ out → new.left ≡ Store store → new.fronts ≡ [] → new.ports ≡ ports → Call
-  runs_refused reads same end_is out_is left_is none ports_are = inr (inl (no_course, idle stop.Words same end_is out_is left_is none ports_are))
-    where
-      no_course : (c : Course Work) → ¬ (Asks words c)
-      no_course c asks = reads.given asks.1.values (clap_reads words asks.0 asks.1) asks.0 asks.1.spelled
-
-  pub runs_wanting : files' ≡ files → end ≡ Err stop.NoMemory → new.out ≡ out → new.left ≡ Store store → new.fronts ≡ [] → new.ports ≡ ports → Call
-  runs_wanting same end_is out_is left_is none ports_are = inr (inr (idle stop.NoMemory same end_is out_is left_is none ports_are))
 
 -- a command that leaves the store, as it ended
 pub leaves : {D : Type 0} (old : World D) (out : SinkAt) (runs : Result (Unit {0}) Stop → D → Type 0) (store' : D) (end : Result (Unit {0}) Stop) (done : Done D) → done.end ≡ end → done.left ≡ Store store' → done.fronts.items ≡ [] → runs end store'

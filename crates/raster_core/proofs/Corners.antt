@@ -1,5 +1,5 @@
 -- Columns between corners, and how all crossings add up.
-use Rattle.std.proofs.Common.{◌≡◌, ℕ, ◌+◌, ◌*◌, ◌/◌, ◌<◌, ◌≤◌, min, max, Bool, true, false, not, ◌&&◌, List, [], ◌∷◌, ◌++◌, length, take, get_or, cond, count_by, refl, ap, sym, subst, ◌∙◌, inl, inr, arith}
+use Rattle.std.proofs.Common.{◌≡◌, ℕ, ◌+◌, ◌*◌, ◌/◌, ◌<◌, ◌≤◌, min, max, Bool, true, false, not, ◌&&◌, List, [], ◌∷◌, ◌++◌, length, take, get_or, cond, refl, ap, sym, subst, ◌∙◌, inl, inr, arith}
 use Rattle.std.specs.Prelude.{nat_le, ◌||◌}
 use Rattle.std.specs.List.Sorted.{IsPermutation}
 use Rattle.std.proofs.Math.Bool.{and-false}
@@ -336,9 +336,6 @@ none_of w none j i places corners =
     ap (λ cs. flip (odd_corners cs j i) (parity_at w.cols none.places.items j i)) corners ∙ ap (λ ps. parity_at w.cols ps j i) places
 
 -- ---- edges and rings that are left
-
-pub remains_start : (w : Window) (whole : Point → Bool) (old : Crossed) → Remains w whole whole old old
-remains_start w whole old = record { inside = λ all. all; at = λ j i p q. refl }
 
 pub remains_more : (w : Window) (left edge rest whole : Point → Bool) (old now next : Crossed)
     → ((c : Point) → left c ≡ flip (edge c) (rest c)) → Remains w left whole old now → Turned w edge now next → Remains w rest whole old next
