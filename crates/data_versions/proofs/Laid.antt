@@ -1,15 +1,15 @@
 -- The slots of a layer, laid chunk after chunk.
-use Rattle.std.proofs.Common.{◌≡◌, ℕ, zero, suc, ◌+◌, ◌-◌, ◌<◌, ◌≤◌, List, [], ◌∷◌, ◌++◌, length, get_or, set, take, drop, refl, sym, ◌∙◌, ap, inl, inr, append-nil, length-append, arith}
+use Rattle.std.proofs.Common.{◌≡◌, ℕ, zero, suc, ◌+◌, ◌-◌, ◌<◌, ◌≤◌, List, [], ◌∷◌, ◌++◌, length, get_or, set, take, refl, sym, ◌∙◌, ap, inl, inr, append-nil, length-append, arith}
 use Rattle.std.specs.Prelude.{◌⊎◌, map, Option, Some, None}
 use Rattle.std.proofs.lemmas.Bool.{cases_lt}
-use Rattle.std.proofs.lemmas.List.{length-map, length-set, take-map, take_more, take_all, map-append, set-append_left, set-append_right, set-get_or, get_or_append_left, get_or-append_right, get_or_read}
+use Rattle.std.proofs.lemmas.List.{length-map, length-set, take-map, take_more, take_all, map-append, set-append_left, set-append_right, get_or_append_left, get_or-append_right, get_or_read}
 use Rattle.std.proofs.lemmas.List.Concat.{flat_map-append, get_or-flat_map}
 use Rattle.std.proofs.lemmas.List.Elements.{filter_map-append}
 use Rattle.std.specs.Arc.{arc_value}
 use Rattle.plain_data.specs.Features.{Feature}
 use Rattle.data_versions.specs.inner.Chunks.{joined, IsStarts}
 use Rattle.data_versions.specs.inner.Slots.{standing, whole, laid, IsLaid, IsSlotOf}
-use Rattle.data_versions.proofs.Places.{Chunks, joined_within}
+use Rattle.data_versions.proofs.Places.{Chunks}
 
 abbrev pub Pieces : Type 0
 Pieces = List (List (Option Feature))
@@ -117,10 +117,6 @@ put_in pieces added i k j p s is small at =
 pub put_added : (pieces : Pieces) (added : List (Option Feature)) (count i : ℕ) (s : Option Feature) → count ≡ length (laid pieces) → count ≤ i
     → laid pieces ++ set added (i - count) s ≡ set (laid pieces ++ added) i s
 put_added pieces added count i s e past = sym (set-append_right (laid pieces) added count i s (sym e) past)
-
-pub added_within : (pieces : Pieces) (added : List (Option Feature)) (count i : ℕ) → count ≡ length (laid pieces) → count ≤ i
-    → i < length (laid pieces ++ added) → i - count < length added
-added_within pieces added count i e past small = omega (arith, length-append (laid pieces) added)
 
 -- the chunks keep their lengths
 long_set : (pieces : Pieces) (k n : ℕ) (p : List (Option Feature)) → length p ≡ length (get_or pieces k [])

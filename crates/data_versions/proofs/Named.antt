@@ -1,6 +1,6 @@
 -- Layers that are looked up by name.
 use Rattle.std.proofs.Common.{◌≡◌, ℕ, zero, suc, ◌+◌, ◌≤◌, ◌<◌, List, [], ◌∷◌, length, get_or, set, take, drop, drop-cons, add-one, refl, sym, ap, subst, arith}
-use Rattle.std.specs.Prelude.{Bool, true, false, if◌then◌else◌, cond, nat_lt, position, All, Some, None, option_map, Ok, Err}
+use Rattle.std.specs.Prelude.{Bool, true, false, cond, nat_lt, position, All, Some, None, option_map, Ok, Err}
 use Rattle.std.specs.Str.{bytes_eq}
 use Rattle.std.specs.List.{AllByRecursion, IsDistinct, position_or_len}
 use Rattle.std.proofs.lemmas.Bool.Decides.{nat_tests}
@@ -17,11 +17,6 @@ use Rattle.std.proofs.lemmas.List.Quantifiers.{position-Some}
 use Rattle.std.proofs.lemmas.List.Folds.{find_at}
 use Rattle.std.proofs.lemmas.Option.{slice_get_past}
 use Rattle.std.proofs.lemmas.Bool.{ltb-false}
-
-first_valid : (b : Bool) (l m : Layer) (rest : List Layer) (name : List ℕ) → IsLayer l
-    → (layer_named rest name ≡ Some m → IsLayer m) → (if b then Some l else layer_named rest name) ≡ Some m → IsLayer m
-first_valid true l m rest name here later found = let e : l ≡ m = cc in subst (λ x. IsLayer x) e here
-first_valid false l m rest name here later found = later found
 
 -- ---- the layer of a name by its place
 

@@ -1,5 +1,5 @@
 -- The chunks of a layer, each with two numbers between which its ids lie.
-use Rattle.std.proofs.Common.{◌≡◌, ℕ, ◌+◌, ◌<◌, List, [], ◌∷◌, ◌++◌, length, take, get_or, refl, sym, ap, ◌∙◌, subst, inl, inr, length-append, arith}
+use Rattle.std.proofs.Common.{◌≡◌, ℕ, ◌+◌, ◌<◌, List, [], ◌∷◌, ◌++◌, length, take, get_or, sym, ap, ◌∙◌, subst, inl, inr, length-append, arith}
 use Rattle.std.specs.Prelude.{None}
 use Rattle.std.proofs.lemmas.Bool.{cases_eq}
 use Rattle.std.proofs.lemmas.List.{length-take-le, get_or-take, get_or_push, get_or_append_left, get_or_default}
@@ -7,9 +7,6 @@ use Rattle.std.specs.Arc.{arc_value}
 use Rattle.data_versions.specs.Near.{place_of}
 use Rattle.data_versions.specs.inner.Ids.{IsOutside, AreSpans}
 use Rattle.data_versions.proofs.Places.{Chunks, ChunkShare}
-
-pub no_spans : (chunks : Chunks) → AreSpans [] (take 0 chunks)
-no_spans chunks = record { long = refl; apart = λ k id c small. absurd (omega arith) }
 
 -- one more chunk
 pub spans_more : (spans : List (ℕ × ℕ)) (chunks : Chunks) (i : ℕ) (c : ChunkShare) (span : ℕ × ℕ) → i < length chunks → c ≡ get_or chunks i c → AreSpans spans (take i chunks)
