@@ -12,9 +12,9 @@
 # who looks at a clean tile waits beside workers that draw all the time.
 # The tiles lie in memory where the system has /dev/shm, so that no disk is measured; TMPDIR names another folder.
 #
-# With `waits` it measures only what 1, 2 and 4 workers store in ten rounds over all features, and what 1 and 4 who look
-# at a clean tile wait beside them. PEER, as "tcp:127.0.0.1:80 /default/14/8192/8192.png", is a page of another server
-# that is looked at in the same way, as mod_tile's while its renderd draws.
+# With `waits` it measures only what 1, 2 and 4 workers (or as many as WORKERS names) store in ten rounds over all
+# features, and what 1 and 4 who look at a clean tile wait beside them. PEER, as "tcp:127.0.0.1:80 /a/page", is a page
+# of another server that is looked at in the same way, as a tile of mod_tile's while its renderd draws.
 # The client is benchmarks/serve_client.c, compiled by cc. With TILEFARM another program is measured.
 set -eu
 top="$(cd "$(dirname "${BASH_SOURCE[0]}")/.." && pwd)"
@@ -158,7 +158,7 @@ rounds() {
 if [ -n "$only" ]; then
     part=2
     echo "tiles below $only, $(df --output=fstype "$only" | tail -n 1)"
-    for workers in 1 2 4; do
+    for workers in ${WORKERS:-1 2 4}; do
         rm -rf "$folder/tiles"
         start "$workers" 10000 256
         drawn 3 >/dev/null
