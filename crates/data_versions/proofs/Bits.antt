@@ -1,6 +1,6 @@
 -- Bits that stand for cells, and why cells that share no bit hold no common point.
 use Rattle.std.proofs.Common.{◌≡◌, ℕ, get_or, ◌+◌, ◌-◌, ◌*◌, ◌/◌, ◌%◌, ◌^◌, ◌<◌, ◌≤◌, refl, sym, ap, ◌∙◌, subst, inl, inr, arith}
-use Rattle.std.specs.Prelude.{Bool, true, false, not, ◌||◌, nat_eq, nat_lt, min, max, List, [], ◌∷◌, length, take, set, All}
+use Rattle.std.specs.Prelude.{Bool, true, false, ◌||◌, nat_lt, min, max, List, [], ◌∷◌, length, take, set, All}
 use Rattle.std.specs.List.{AllByRecursion, list_any}
 use Rattle.std.proofs.lemmas.Bool.Decides.{nat_tests}
 use Rattle.std.proofs.lemmas.List.{get_or-set_same, get_or-set_other}
@@ -129,9 +129,6 @@ none_near box around cells block features chunk wide marks none = λ k d small.
     let boxed : IsBoxed box (get_or features k d) = chunk.boxed k d small in
     let facts = tested (box_of (get_or features k d)) around near in
     common_point box (box_of (get_or features k d)) around cells block boxed.wide wide boxed.within (chunk.marked k d small) marks none facts.0 facts.1 facts.2 facts.3)
-
-pub no_bits : (n : ℕ) → not (nat_eq n 0) ≡ false → n ≡ 0
-no_bits n h = grind (arith, nat_tests)
 
 -- ---- one more feature
 

@@ -1,4 +1,4 @@
-use Rattle.std.proofs.Common.{◌≡◌, ◌-◌, nat_le, ap, ◌∙◌, arith}
+use Rattle.std.proofs.Common.{◌-◌, nat_le, ap, ◌∙◌, arith}
 use Rattle.raster_core.proofs.Corners.{upper_at, lower_at, column_between}
 use Rattle.raster_core.proofs.edges.same_column.Goals as goal
 
