@@ -8,18 +8,15 @@ fn a_cell_of_three_turns_wears_out(rt: HostRuntime) {
     let Ok((cell, mut seat)) = TurnCell::new(rt.alloc(), Counter { count: 0 }, 3) else {
         panic!(rt; "no memory")
     };
-    let first = cell.turn(&rt, &mut seat, Add);
-    let second = cell.turn(&rt, &mut seat, Add);
-    let third = cell.turn(&rt, &mut seat, Add);
-    let fourth = cell.turn(&rt, &mut seat, Add);
-    let fifth = cell.turn(&rt, &mut seat, Add);
+    let turns = [
+        cell.turn(&rt, &mut seat, Add),
+        cell.turn(&rt, &mut seat, Add),
+        cell.turn(&rt, &mut seat, Add),
+        cell.turn(&rt, &mut seat, Add),
+        cell.turn(&rt, &mut seat, Add),
+    ];
     let entries = closing_count(cell, seat);
-    assert_eq!(rt; first, Ok(0));
-    assert_eq!(rt; second, Ok(1));
-    assert_eq!(rt; third, Ok(2));
-    assert_eq!(rt; fourth, Err(Worn));
-    assert_eq!(rt; fifth, Err(Worn));
-    assert_eq!(rt; entries, 3);
+    assert!(rt; turns == [Ok(0), Ok(1), Ok(2), Err(Worn), Err(Worn)] && entries == 3);
 }
 
 #[test]

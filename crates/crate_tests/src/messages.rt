@@ -1,5 +1,6 @@
 //! The messages of mod_tile's `protocol.h`, byte by byte.
-ghost use Rattle.std.specs.Prelude.{◌≡◌};
+ghost use Rattle.std.specs.Prelude.{◌≡◌, IsTrue};
+ghost use Rattle.renderd_protocol.specs.Messages.{is_version};
 
 use arrayvec::ArrayVec;
 use renderd_protocol::{Found, Request, next, write};
@@ -80,20 +81,28 @@ fn a_version_that_there_is_not(rt: HostRuntime) {
     assert_eq!(rt; next(&[9, 0, 0, 0]), Found::BadVersion(9));
 }
 
+/// The answer to the request with that command is these bytes.
+fn writes(rt: &impl Abort, asked: &Request, command: u32, wanted: &[u8])
+    requires { IsTrue (is_version asked.now.ver) }
+{
+    let answer = write(asked, command);
+    assert!(rt; answer.as_slice() == wanted, "version {}", asked.ver);
+}
+
 /// An answer is the request with another command, and zeros for the padding.
 #[test]
 fn answers_of_each_version(rt: HostRuntime) -> Result<(), Fail> {
     let mut done = RENDER;
     done[4] = 3;
     let asked = request(2, 1, 0, 0, 0, [b"default", b"", b""]);
-    assert_eq!(rt; write(&asked, 3).as_slice(), done.as_slice());
+    writes(&rt, &asked, 3, &done);
     let asked = request(3, 5, 535, 340, 10, [b"osm", b"image/png", b"x"]);
-    assert_eq!(rt; write(&asked, 5).as_slice(), PRIO.as_slice());
+    writes(&rt, &asked, 5, &PRIO);
 
     // Version 1 has no place for a name.
     let asked = request(1, 2, 4_294_967_295, 256, 18, [b"osm", b"", b""]);
     let mut done = DIRTY;
     done[4] = 3;
-    assert_eq!(rt; write(&asked, 3).as_slice(), done.as_slice());
+    writes(&rt, &asked, 3, &done);
     Ok(())
 }

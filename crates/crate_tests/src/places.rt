@@ -38,15 +38,19 @@ fn the_path_and_the_place_of_a_tile(rt: HostRuntime) -> Result<(), Fail> {
 }
 
 #[test]
-fn the_ends_of_the_coordinates(rt: HostRuntime) -> Result<(), Fail> {
-    assert_eq!(rt; x_from_cm(0), Some(536870912));
-    assert_eq!(rt; x_from_cm(2003750837), Some(1073741824));
-    assert_eq!(rt; x_from_cm(-2003750834), Some(0));
-    assert_eq!(rt; x_from_cm(2003750838), None);
-    assert_eq!(rt; x_from_cm(-2003750835), None);
-    assert_eq!(rt; y_from_cm(0), Some(536870912));
-    assert_eq!(rt; y_from_cm(2003750834), Some(0));
-    Ok(())
+fn the_ends_of_the_coordinates(rt: HostRuntime) {
+    for (cm, wanted) in [
+        (0, Some(536870912)),
+        (2003750837, Some(1073741824)),
+        (-2003750834, Some(0)),
+        (2003750838, None),
+        (-2003750835, None),
+    ] {
+        assert!(rt; x_from_cm(cm) == wanted, "{cm} cm east");
+    }
+    for (cm, wanted) in [(0, Some(536870912)), (2003750834, Some(0))] {
+        assert!(rt; y_from_cm(cm) == wanted, "{cm} cm north");
+    }
 }
 
 // The head of a container of the tile 0/0/0 alone, which has 781 bytes.

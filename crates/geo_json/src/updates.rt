@@ -125,11 +125,7 @@ fn change(
         return Err(DataFault::TooMany(part));
     }
     let put = features(alloc, units, part, items)?;
-    Ok(Change {
-        layer,
-        remove,
-        put,
-    })
+    Ok(Change { layer, remove, put })
 }
 
 // The ids of a list.
