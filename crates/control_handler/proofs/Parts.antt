@@ -20,9 +20,6 @@ record Same (r : Reading) (parts : List (List ℕ)) : Type 0 where
   asked : wants r ≡ requests_in parts
   long : r.long ≡ list_any is_long parts
 
-onto_nil : (xs : List (List ℕ)) (x : List ℕ) → onto [] (x ∷ xs) ≡ x ∷ xs
-onto_nil xs x = refl
-
 -- bytes have a first part
 record HasFirst (parts : List (List ℕ)) : Type 0 where
   first : List ℕ

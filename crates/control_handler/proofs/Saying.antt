@@ -3,20 +3,17 @@ use Rattle.std.proofs.Common.{◌≡◌, ◌≤◌, ◌<◌, ◌+◌, ◌-◌, �
 use Rattle.std.proofs.lemmas.Bool.{le-leb, eq-eqb}
 use Rattle.std.proofs.lemmas.List.{append-nil}
 use Rattle.plain_world.specs.declared.world.Tile.{Tile}
-use Rattle.farm_history.specs.declared.answers.Updated.{Updated}
-use Rattle.farm_history.specs.declared.answers.Renewed.{Renewed}
 use Rattle.farm_history.specs.Entries.{Entry, Expire}
 use Rattle.farm_base.specs.declared.turns.Worn.{Worn}
 use Rattle.front_loop.specs.declared.dispositions.Disposition.{Disposition}
 use Rattle.front_loop.specs.declared.dispositions.Disposition.TheVariants.{Leaves}
 use Rattle.front_loop.specs.declared.dispositions.Reason.TheVariants as reason
-use Rattle.std.specs.Option.{is_none}
 use Rattle.std.specs.Prelude.{Option, unwrap_or}
 use Rattle.script_answers.specs.Answers.{expire_line}
 use Rattle.control_handler.specs.declared.acts.Line.TheVariants as line
 use Rattle.control_handler.specs.declared.acts.Act.{Act}
-use Rattle.control_handler.specs.declared.acts.Act.TheVariants.{Updates, Renews, Expires}
-use Rattle.control_handler.specs.Control.{update_text, renew_text, expire_text, tiles_at, total_of}
+use Rattle.control_handler.specs.declared.acts.Act.TheVariants.{Expires}
+use Rattle.control_handler.specs.Control.{expire_text, tiles_at, total_of}
 use Rattle.control_handler.specs.inner.Doing.{act_text, act_starves, Says, Said, Lacks, Answers, Gives, Wants, Expired, Did, expiries}
 use Rattle.control_handler.proofs.Deeds.{did_one, did_part}
 
@@ -28,14 +25,6 @@ says_answer lists a text old new disposition t s (Lacks q n) = Wants q s
 pub lacks_same : (text old new : List ℕ) (disposition : Disposition) → Says text old new disposition → disposition ≡ Leaves reason.Starved → new ≡ old
 lacks_same text old new disposition (Said q n) e = let never = sym q ∙ e in cc
 lacks_same text old new disposition (Lacks q n) e = n
-
-pub says_update : (lists : List (List Tile)) (n : ℕ) (answer : Updated) (t old new : List ℕ) (disposition : Disposition) → update_text answer ≡ Some t → Says t old new disposition
-    → Answers lists (Updates n answer) old new disposition
-says_update lists n answer t old new disposition u s = says_answer lists (Updates n answer) t old new disposition (ap (λ (o : Option (List ℕ)). unwrap_or o []) u) (ap is_none u) s
-
-pub says_renew : (lists : List (List Tile)) (n : ℕ) (answer : Renewed) (t old new : List ℕ) (disposition : Disposition) → renew_text answer ≡ Some t → Says t old new disposition
-    → Answers lists (Renews n answer) old new disposition
-says_renew lists n answer t old new disposition u s = says_answer lists (Renews n answer) t old new disposition (ap (λ (o : Option (List ℕ)). unwrap_or o []) u) (ap is_none u) s
 
 -- ---- expiries
 

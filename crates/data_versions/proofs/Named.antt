@@ -1,6 +1,6 @@
 -- Layers that are looked up by name.
 use Rattle.std.proofs.Common.{◌≡◌, ℕ, zero, suc, ◌+◌, ◌≤◌, ◌<◌, List, [], ◌∷◌, length, get_or, set, take, drop, drop-cons, add-one, refl, sym, ap, subst, arith}
-use Rattle.std.specs.Prelude.{Bool, true, false, if◌then◌else◌, cond, nat_lt, position, All, Some, None, option_map, Ok, Err}
+use Rattle.std.specs.Prelude.{Bool, true, false, cond, nat_lt, position, All, Some, None, option_map, Ok, Err}
 use Rattle.std.specs.Str.{bytes_eq}
 use Rattle.std.specs.List.{AllByRecursion, IsDistinct, position_or_len}
 use Rattle.std.proofs.lemmas.Bool.Decides.{nat_tests}

@@ -20,7 +20,7 @@ use Rattle.input_files.specs.Course.{Course, made, ◌>>=◌}
 use Rattle.input_files.specs.inner.Follows.{Follows}
 use Rattle.input_files.specs.inner.Runs as calls
 use Rattle.input_files.proofs.Courses.{follows_then, follows_stop}
-use Rattle.farm_files.specs.Inputs.{Scripted, Served}
+use Rattle.farm_files.specs.Inputs.{ScriptInputs, ServeInputs}
 use Rattle.style_objects.specs.TextReadings.{TextReading, text_reading}
 use Rattle.style_objects.proofs.ByGrammar.{one_reading, reads_grammar}
 use Rattle.farm_files.specs.Courses.{script_course, script_course_by, serve_course, serve_course_by}
@@ -38,7 +38,7 @@ use Rattle.serve_command.specs.inner.Steps as serve
 use Rattle.serve_command.specs.declared.left.Left.{Left}
 use Rattle.serve_command.specs.declared.left.Left.TheVariants.{Store}
 use Rattle.serve_command.specs.declared.left.Done.{Done}
-use Rattle.farm_call.specs.inner.Runs.{IsSound, LeavesStore, Runs}
+use Rattle.farm_call.specs.inner.Runs.{LeavesStore, Runs}
 
 -- the values of words that ask for a command are those that clap reads
 clap_reads : (words : List (List ℕ)) (c : Command) (a : AsksFor words c) → values_of words ≡ Some a.values
@@ -100,15 +100,6 @@ asks_values words c (Some values) h reads =
 asks_read : (words : List (List ℕ)) (c : Command) → ReadsWords words (Ok c) → AsksFor words c
 asks_read words c reads = asks_values words c (values_of words) refl reads
 
-sound_of : (values : List (List ℕ)) (c : Command) → Spells c values → IsSound c
-sound_of values (Render style data_name size tile) h = (h.1, h.2)
-sound_of values (Load seed n) h = h.3
-sound_of values other h = tt
-
--- a tile that is asked for is one, of a named size
-pub sound_read : (words : List (List ℕ)) (c : Command) → ReadsWords words (Ok c) → IsSound c
-sound_read words c reads = let asks = asks_read words c reads in sound_of asks.values c asks.spelled
-
 -- a world is that of its parts
 same_world : {D : Type 0} (new : World D) (store : D) (out : SinkAt) (ports : EachFront (Outside PortsTold)) → new.out ≡ out → new.left ≡ Store store → new.fronts ≡ [] → new.ports ≡ ports → new ≡ over out store ports
 same_world {D} new store out ports out_is left_is none ports_are =
@@ -135,7 +126,7 @@ module _ {D : Type 0} (state : D → Outside StoreTold) (words : List (List ℕ)
   }
 
   -- a script's files were read, and it ran
-  script_ran : (read : Result Scripted Stop) (course : Course Scripted) → Follows course files files' read → (store' : D) → script.RunsMade state store store' out new.out end read → new.left ≡ Store store' → new.fronts ≡ [] → new.ports ≡ ports
+  script_ran : (read : Result ScriptInputs Stop) (course : Course ScriptInputs) → Follows course files files' read → (store' : D) → script.RunsMade state store store' out new.out end read → new.left ≡ Store store' → new.fronts ≡ [] → new.ports ≡ ports
       → calls.Works (Does state) (course >>= λ s. made (scripts s)) files files' (over out store ports) new end
   script_ran (Ok s) course h store' ran left_is none ports_are = record {
     made = Ok (scripts s);
@@ -144,19 +135,19 @@ module _ {D : Type 0} (state : D → Outside StoreTold) (words : List (List ℕ)
   }
   script_ran (Err q) course h store' ran left_is none ports_are = record {
     made = Err q;
-    followed = follows_stop Scripted Work course (λ x. made (scripts x)) files files' q h;
+    followed = follows_stop ScriptInputs Work course (λ x. made (scripts x)) files files' q h;
     goes = (ran.0, same_world new store out ports ran.2 (left_is ∙ ap (λ (d : D). Store d) ran.1) none ports_are);
   }
 
   -- a farm's files were read, and it was served
-  served_ran : (read : Result Served Stop) (course : Course Served) → Follows course files files' read → serve.ServesMade state store (over out store ports) new end read
+  served_ran : (read : Result ServeInputs Stop) (course : Course ServeInputs) → Follows course files files' read → serve.ServesMade state store (over out store ports) new end read
       → calls.Works (Does state) (course >>= λ s. made (serves s)) files files' (over out store ports) new end
   served_ran (Ok s) course h ran = record {
     made = Ok (serves s);
     followed = follows_then course (λ x. made (serves x)) files files' files' s (Ok (serves s)) h (inl refl, refl);
     goes = (store, refl, ran);
   }
-  served_ran (Err q) course h ran = record { made = Err q; followed = follows_stop Served Work course (λ x. made (serves x)) files files' q h; goes = ran }
+  served_ran (Err q) course h ran = record { made = Err q; followed = follows_stop ServeInputs Work course (λ x. made (serves x)) files files' q h; goes = ran }
 
   runs_asked : (c : Command) → AsksFor words c → Runs state c files files' store (over out store ports) new end → Call
   runs_asked (Render style data_name size tile) asks ran =
@@ -193,20 +184,6 @@ module _ {D : Type 0} (state : D → Outside StoreTold) (words : List (List ℕ)
   -- the command that was read is done
   pub runs_read : (c : Command) → ReadsWords words (Ok c) → Runs state c files files' store (over out store ports) new end → Call
   runs_read c reads ran = runs_asked c (asks_read words c reads) ran
-
-  -- the world is as it was, and this is the end
-  idle : (s : Stop) → files' ≡ files → end ≡ Err s → new.out ≡ out → new.left ≡ Store store → new.fronts ≡ [] → new.ports ≡ ports → calls.Idles s files files' (over out store ports) new end
-  idle s same end_is out_is left_is none ports_are = record { ends = end_is; files_same = same; world_same = same_world new store out ports out_is left_is none ports_are }
-
-  -- words that were refused ask for no course
-  pub runs_refused : ReadsWords words (Err words_fault.Refused) → files' ≡ files → end ≡ Err stop.Words → new.out ≡ out → new.left ≡ Store store → new.fronts ≡ [] → new.ports ≡ ports → Call
-  runs_refused reads same end_is out_is left_is none ports_are = inr (inl (no_course, idle stop.Words same end_is out_is left_is none ports_are))
-    where
-      no_course : (c : Course Work) → ¬ (Asks words c)
-      no_course c asks = reads.given asks.1.values (clap_reads words asks.0 asks.1) asks.0 asks.1.spelled
-
-  pub runs_wanting : files' ≡ files → end ≡ Err stop.NoMemory → new.out ≡ out → new.left ≡ Store store → new.fronts ≡ [] → new.ports ≡ ports → Call
-  runs_wanting same end_is out_is left_is none ports_are = inr (inr (idle stop.NoMemory same end_is out_is left_is none ports_are))
 
 -- a command that leaves the store, as it ended
 pub leaves : {D : Type 0} (old : World D) (out : SinkAt) (runs : Result (Unit {0}) Stop → D → Type 0) (store' : D) (end : Result (Unit {0}) Stop) (done : Done D) → done.end ≡ end → done.left ≡ Store store' → done.fronts.items ≡ [] → runs end store'

@@ -18,7 +18,7 @@ use Rattle.farm_history.specs.Replays.{Saving, IsSaved}
 use Rattle.farm_history.specs.Rules.{Legal}
 use Rattle.farm_plan.specs.Plans.{FarmPlan, maps_in}
 use Rattle.farm_plan.specs.Drawings.{plan_of}
-use Rattle.farm_files.specs.Inputs.{Served}
+use Rattle.farm_files.specs.Inputs.{ServeInputs}
 use Rattle.farm_saved.specs.Writing.{saved_bytes}
 use Rattle.farm_refinement.specs.Seen.{FarmSeen}
 use Rattle.farm_core.specs.Begins.{Tells, origin}
@@ -133,7 +133,7 @@ all_in_order worn a b c e =
       in_order c (no_or (is_front_worn c) _ w'.1).0 (no_or (is_broken c) _ b''.1).0 (no_or (is_wanting c) _ n'.1).0,
     )
 
-module _ {D : Type 0} (state : D → Outside StoreTold) (was : CallBefore D) (is : CallAfter D) (s : Served) (closed : ClosedFarm D) (left_is : is.left ≡ Farm closed) (end : Result (Unit {0}) Stop)
+module _ {D : Type 0} (state : D → Outside StoreTold) (was : CallBefore D) (is : CallAfter D) (s : ServeInputs) (closed : ClosedFarm D) (left_is : is.left ≡ Farm closed) (end : Result (Unit {0}) Stop)
     (served : HasServed state s was.store closed (world_before was) (world_after is) end) where
   abbrev H : List (ℕ × Entry)
   H = closed.1

@@ -17,7 +17,7 @@ use Rattle.input_files.specs.Course.{Course, made, refused, reads, Leads}
 use Rattle.input_files.specs.inner.Follows.{Follows}
 use Rattle.input_files.specs.inner.Runs as calls
 use Rattle.input_files.proofs.Courses.{IsEnd, one_end, ended}
-use Rattle.farm_files.specs.Inputs.{Served}
+use Rattle.farm_files.specs.Inputs.{ServeInputs}
 use Rattle.farm_runs.specs.declared.each_front.EachFront.{EachFront}
 use Rattle.script_command.specs.Scripts.{Scripts}
 use Rattle.load_command.specs.Runs.{Loads}
@@ -102,7 +102,7 @@ module _ {D : Type 0} (state : D → Outside StoreTold) (was : CallBefore D) (is
   noticed (loads seed n) end did other = loads_noticed state seed n did.0 did.1 was.out is.out end did.5 other
   noticed (serves x) end did other = serves_noticed state was is x end (subst (λ (d : D). Serves state x d w w' end) (same_store did.0 did.1) did.2) other
 
-  serves_to : (x : Served) (end : Result (Unit {0}) Stop) (l : Left D) → is.left ≡ l → inner.ServesTo state x was.store w w' end l → ServesTo state was is x end l
+  serves_to : (x : ServeInputs) (end : Result (Unit {0}) Stop) (l : Left D) → is.left ≡ l → inner.ServesTo state x was.store w w' end l → ServesTo state was is x end l
   serves_to x end (Store store) left_is h = (h.why, h.end_is, h.silent, h.why_not)
   serves_to x end (Farm closed) left_is h = served_well state was is x closed left_is end h
 
@@ -217,14 +217,14 @@ module _ {D : Type 0} (state : D → Outside StoreTold) (was : CallBefore D) (is
   is_farm : (closed : ClosedFarm D) → is.left ≡ Farm closed → (store : D) → ¬ (is.left ≡ Store store)
   is_farm closed left store e = let both = sym left ∙ e in cc
 
-  serving : (v : Work) (end : Result (Unit {0}) Stop) → Does state v w w' end → (closed : ClosedFarm D) → is.left ≡ Farm closed → (x : Served) × HasServed state x was.store closed w w' end
+  serving : (v : Work) (end : Result (Unit {0}) Stop) → Does state v w w' end → (closed : ClosedFarm D) → is.left ≡ Farm closed → (x : ServeInputs) × HasServed state x was.store closed w w' end
   serving (puts text) end did closed left = absurd (is_farm closed left was.store did.1)
   serving (scripts x) end did closed left = absurd (is_farm closed left did.1 did.3)
   serving (loads seed n) end did closed left = absurd (is_farm closed left did.1 did.3)
   serving (serves x) end did closed left =
       (x, subst (λ (l : Left D). inner.ServesTo state x was.store w w' end l) left (subst (λ (d : D). Serves state x d w w' end) (same_store did.0 did.1) did.2))
 
-  served : (end : Result (Unit {0}) Stop) → Ran end → (closed : ClosedFarm D) → is.left ≡ Farm closed → (x : Served) × HasServed state x was.store closed w w' end
+  served : (end : Result (Unit {0}) Stop) → Ran end → (closed : ClosedFarm D) → is.left ≡ Farm closed → (x : ServeInputs) × HasServed state x was.store closed w w' end
   served end (worked v asked files did) closed left = serving v end did closed left
   served end (refuses line file files idle e) closed left = absurd (is_farm closed left idle.0.1.store idle.0.1.left)
   served end (misses line read idle e) closed left = absurd (is_farm closed left idle.0.1.store idle.0.1.left)

@@ -11,7 +11,7 @@ use Rattle.script_text.specs.ScriptTexts.{has_failed}
 use Rattle.exit_status.specs.Ends.{SinkAt}
 use Rattle.exit_status.specs.declared.stops.Stop.{Stop}
 use Rattle.exit_status.specs.declared.stops.Stop.TheVariants as stop
-use Rattle.farm_files.specs.Inputs.{Scripted}
+use Rattle.farm_files.specs.Inputs.{ScriptInputs}
 use Rattle.script_command.specs.Scripts.{ScriptsOn, Scripts}
 use Rattle.farm_call.proofs.Whys.{StoreWhys, by_end, store_rose}
 
@@ -38,7 +38,7 @@ module _ (plan : FarmPlan) (lines : List ScriptLine) (stands : List Entry → Ty
   on_noticed (Err stop.PortsFailed) did other = absurd did.ran
   on_noticed (Err stop.TurnsUsedUp) did other = absurd did.ran
 
-module _ {D : Type 0} (state : D → Outside StoreTold) (s : Scripted) (store store' : D) (out out' : SinkAt) where
+module _ {D : Type 0} (state : D → Outside StoreTold) (s : ScriptInputs) (store store' : D) (out out' : SinkAt) where
   -- why it ended early
   pub scripts_stops : (q : Stop) → Scripts state s store store' out out' (Err q) → StoreWhys (Rose out.faults out'.faults) (Rose (state store).faults (state store').faults) q
   scripts_stops q (inl leaves) =

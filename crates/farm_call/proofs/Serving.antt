@@ -21,7 +21,7 @@ use Rattle.farm_history.specs.Replays.{Saving}
 use Rattle.farm_plan.specs.Plans.{FarmPlan}
 use Rattle.farm_refinement.specs.Seen.{FarmSeen}
 use Rattle.farm_config.specs.Configs.{Config}
-use Rattle.farm_files.specs.Inputs.{Served}
+use Rattle.farm_files.specs.Inputs.{ServeInputs}
 use Rattle.farm_refinement.specs.Stands.{StandsFor, failures}
 use Rattle.script_answers.specs.Answers.{tally_line}
 use Rattle.farm_shared.specs.Shared.{lasting_of, past}
@@ -122,7 +122,7 @@ one_line why line other a b =
     let same : a.0 ≡ b.0 = cc in
     a.2 ∙ ap (refused_line saved_path) same ∙ sym b.2
 
-module _ {D : Type 0} (state : D → Outside StoreTold) (was : CallBefore D) (is : CallAfter D) (s : Served) where
+module _ {D : Type 0} (state : D → Outside StoreTold) (was : CallBefore D) (is : CallAfter D) (s : ServeInputs) where
   abbrev old : World D
   old = world_before was
 

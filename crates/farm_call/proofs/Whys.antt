@@ -12,7 +12,7 @@ use Rattle.exit_status.specs.declared.stops.Stop.{Stop}
 use Rattle.exit_status.specs.declared.stops.Stop.TheVariants as stop
 use Rattle.input_files.proofs.Courses.{ended}
 use Rattle.script_text.proofs.Lost.{lost}
-use Rattle.farm_files.specs.Inputs.{Served}
+use Rattle.farm_files.specs.Inputs.{ServeInputs}
 use Rattle.serve_command.specs.Beginnings.{RefusesFor, IsSavedIn}
 use Rattle.serve_command.specs.inner.Serving.{World}
 use Rattle.serve_command.specs.declared.left.Left.{Left}
@@ -49,7 +49,7 @@ module _ {D : Type 0} (state : D → Outside StoreTold) where
 
   -- what is saved is refused by this line, in the work of serving a farm: the store shows what it showed, and all else is as it was
   pub record FaultSaved (work : Work) (line : List ℕ) (old new : World D) : Type 0 where
-    pub served : Served
+    pub served : ServeInputs
     pub is_work : work ≡ serves served
     pub resume : served.config.resume ≡ true
     pub why : Option (List ℕ)

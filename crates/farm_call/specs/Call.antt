@@ -5,7 +5,7 @@ use Rattle.port_events.specs.declared.ends.FrontDone.{FrontDone}
 use Rattle.port_events.specs.Told.{PortsTold}
 use Rattle.exit_status.specs.Ends.{FilesAt, SinkAt}
 use Rattle.farm_runs.specs.declared.each_front.EachFront.{EachFront}
-use Rattle.farm_files.specs.Inputs.{Scripted, Served}
+use Rattle.farm_files.specs.Inputs.{ScriptInputs, ServeInputs}
 use Rattle.serve_command.specs.declared.left.Left.{Left}
 use Rattle.serve_command.specs.declared.left.Left.TheVariants.{Store, Farm}
 
@@ -44,6 +44,6 @@ PortsRose old new =
 -- work on one, or serves one
 pub data Work : Type 0 where
   puts : List ℕ → Work
-  scripts : Scripted → Work
+  scripts : ScriptInputs → Work
   loads : ℕ → ℕ → Work
-  serves : Served → Work
+  serves : ServeInputs → Work

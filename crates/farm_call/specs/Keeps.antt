@@ -37,7 +37,7 @@ use Rattle.renderd_handler.specs.Renderd.{renderd_rules}
 use Rattle.http_handler.specs.Tiles.{tile_rules}
 use Rattle.control_handler.specs.Control.{control_rules}
 use Rattle.front_leaves.specs.Fronts.{FrontLeaves}
-use Rattle.farm_files.specs.Inputs.{Served}
+use Rattle.farm_files.specs.Inputs.{ServeInputs}
 use Rattle.serve_command.specs.Beginnings.{IsSavedIn, RefusesFor, ResumesFrom}
 use Rattle.tile_paths.specs.Paths.{saved_path}
 use Rattle.serve_command.specs.Listens.{Listening}
@@ -66,7 +66,7 @@ module _ {D : Type 0} (state : D → Outside StoreTold) (was : CallBefore D) (is
 
   -- it is the line of what is saved in the store, which the configuration says is to be resumed
   pub record SavedRefused (line : List ℕ) : Type 0 where
-    pub served : Served
+    pub served : ServeInputs
     pub asked : AreLed (made (serves served))
     pub resume : served.config.resume ≡ true
     pub why : Option (List ℕ)
@@ -99,7 +99,7 @@ module _ {D : Type 0} (state : D → Outside StoreTold) (was : CallBefore D) (is
   -- it may be said that the store tells what it holds: where it does; and for a farm that was
   -- resumed, where it also holds what was shown when the other farm stopped
   abbrev pub MaySay : ClosedFarm D → Bool → Type 0
-  MaySay closed told = told ≡ true → Tells (state was.store) closed.0.plan closed.0.saved
+  MaySay closed store_tells = store_tells ≡ true → Tells (state was.store) closed.0.plan closed.0.saved
 
   -- where the store that is left tells, these bytes stand in the place of a saved farm
   abbrev pub HoldsSaved : List ℕ → Type 0
@@ -128,7 +128,7 @@ module _ {D : Type 0} (state : D → Outside StoreTold) (was : CallBefore D) (is
 
   -- **A farm was served.** `s` is what its files say, `closed` what is left: the farm, and the
   -- history of its turns
-  pub record ServedWell (s : Served) (closed : ClosedFarm D)
+  pub record ServedWell (s : ServeInputs) (closed : ClosedFarm D)
       (end : Result (Unit {0}) Stop) : Type 0 where
     -- 1. The farm has the plan that the files spell; it began over the store that was handed in,
     -- with what is saved there, if the configuration says so; it stands for all that happened,
@@ -136,8 +136,8 @@ module _ {D : Type 0} (state : D → Outside StoreTold) (was : CallBefore D) (is
     pub plan_is : closed.0.plan ≡ s.inputs.plan
     pub first_is : state closed.0.first ≡ state was.store
     pub resumes : ResumesFrom (state was.store) closed.0.plan s.config.resume closed.0.saved
-    pub stands : (told : Bool) → MaySay closed told
-        → StandsFor state told closed.0 (whole_history state closed)
+    pub stands : (store_tells : Bool) → MaySay closed store_tells
+        → StandsFor state store_tells closed.0 (whole_history state closed)
     pub seated : Seated (reverse closed.1)
     -- 2. Each entry is of the call's own seat, which has a Stop and then a Tally, of a front's or a
     -- worker's
@@ -181,7 +181,7 @@ module _ {D : Type 0} (state : D → Outside StoreTold) (was : CallBefore D) (is
 
   -- a farm was served to this end; or no actor was started, for a cause, and nothing was put on
   -- out; by what is left
-  abbrev pub ServesTo : Served → Result (Unit {0}) Stop → Left D → Type 0
+  abbrev pub ServesTo : ServeInputs → Result (Unit {0}) Stop → Left D → Type 0
   ServesTo s end (Store store) = (why : Stop) × (end ≡ Err why) × (is.out ≡ was.out)
       × WhyNot state s was.store store was.ports is.ports why
   ServesTo s end (Farm closed) = ServedWell s closed end
@@ -251,8 +251,8 @@ module _ {D : Type 0} (state : D → Outside StoreTold) (was : CallBefore D) (is
     -- during a drawing leaves the tile dirty; and every Done names a tile that was stored after the
     -- request or is clean at it
     pub headline : (closed : ClosedFarm D) → is.left ≡ Farm closed
-        → (told : Bool) → MaySay closed told
-        → Headline closed.0.plan told (whole_history state closed)
+        → (store_tells : Bool) → MaySay closed store_tells
+        → Headline closed.0.plan store_tells (whole_history state closed)
     -- And where every update that succeeded was made as a renew, over a store that tells what it
     -- holds: each tile sent as clean is the plain drawing of its style over the data of that very
     -- moment

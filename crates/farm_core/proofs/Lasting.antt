@@ -4,13 +4,10 @@ use Rattle.std.specs.Prelude.{Result, Ok, Err, option_map, codes, MatchOption}
 use Rattle.std.specs.List.{ends_with}
 use Rattle.std.proofs.Math.Seq.{drop-append_seam}
 use Rattle.farm_base.specs.Outside.{Outside}
-use Rattle.plain_world.specs.declared.world.Meta.{Meta}
 use Rattle.tile_store.specs.declared.stores.StoreFault.{StoreFault}
 use Rattle.tile_store.specs.declared.stores.StoreFault.TheVariants.{Failed, NoMemory}
-use Rattle.tile_store.specs.Stores.{StoreTold, StorePuts, Stored, PutFailed, with_failed_get}
+use Rattle.tile_store.specs.Stores.{StoreTold, StorePuts, Stored, PutFailed}
 use Rattle.farm_history.specs.declared.keys.Key.{Key}
-use Rattle.farm_history.specs.declared.keys.Mark.{Mark}
-use Rattle.farm_history.specs.declared.answers.Fetched.{Fetched}
 use Rattle.farm_history.specs.declared.answers.Finished.{Finished}
 use Rattle.tile_paths.specs.Paths.{saved_path}
 use Rattle.farm_plan.specs.Plans.{FarmPlan}
@@ -18,9 +15,8 @@ use Rattle.farm_plan.specs.Drawings.{key_path}
 use Rattle.farm_plan.specs.Spots.{IsKeyOf}
 use Rattle.farm_plan.proofs.Keys.{path_ends}
 use Rattle.farm_refinement.specs.Seen.{FarmSeen}
-use Rattle.farm_refinement.specs.Reads.{ReadsTile}
 use Rattle.farm_core.specs.Answers.{Lasts, at_saved}
-use Rattle.farm_core.specs.inner.Effects.{Fetches, Keeps}
+use Rattle.farm_core.specs.inner.Effects.{Keeps}
 
 -- what is told of the path of a saved farm
 abbrev saved_in : Option StoreTold → Option (Option (List ℕ))
@@ -54,21 +50,6 @@ puts_saved old new path bytes (Err Failed) apart p = go old.told new.told p.0
     go (Some t) b h = ap saved_in h.1 ∙ ap Some (h.2.others saved_path apart)
 puts_saved old new path bytes (Err NoMemory) apart p = ap at_saved p
 
-reads_saved : (old new : Outside StoreTold) (path : List ℕ) (m : Meta) (place : ℕ) (r : Result (List ℕ) Fetched) → ReadsTile old new path m place r → at_saved new ≡ at_saved old
-reads_saved old new path m place (Ok bytes) h = ap at_saved h.0
-reads_saved old new path m place (Err Fetched.Gone) h = ap at_saved h.0
-reads_saved old new path m place (Err (Fetched.Spoilt fault)) h = ap at_saved h.0
-reads_saved old new path m place (Err Fetched.GetFailed) h = ap saved_in h.0 ∙ go old.told
-  where
-    go : (o : Option StoreTold) → saved_in (option_map (with_failed_get path) o) ≡ saved_in o
-    go None = refl
-    go (Some t) = refl
-reads_saved old new path m place (Err Fetched.NoMemory) h = ap at_saved h
-reads_saved old new path m place (Err (Fetched.Clean v bytes)) h = absurd h
-reads_saved old new path m place (Err (Fetched.Dirty v bytes)) h = absurd h
-reads_saved old new path m place (Err Fetched.Missing) h = absurd h
-reads_saved old new path m place (Err Fetched.Unservable) h = absurd h
-
 module _ {D : Type 0} (state : D → Outside StoreTold) where
   -- the farm is one that has all of it
   pub lasts_as : (old mid new : FarmSeen D) → new ≡ mid → mid.plan ≡ old.plan → mid.saved ≡ old.saved → mid.first ≡ old.first → at_saved (state mid.store) ≡ at_saved (state old.store) → Lasts state old new
@@ -86,10 +67,6 @@ module _ {D : Type 0} (state : D → Outside StoreTold) where
   lasts_kept old new key version touched bytes Finished.PutFailed at k =
       lasts_as old _ new k.2 refl refl refl (puts_saved (state old.store) (state new.store) (key_path old.plan key) bytes (Err Failed) (saved_apart old.plan key at) k.0)
   lasts_kept old new key version touched bytes Finished.NoMemory at k = lasts_as old _ new k.2 refl refl refl (ap at_saved k.0)
-
-  -- at a read
-  pub lasts_read : (old new : FarmSeen D) (key : Key) (place : ℕ) (mark : Mark) (answer : Fetched) → Fetches state old new key place mark answer → Lasts state old new
-  lasts_read old new key place mark answer f = lasts_as old _ new f.rest refl refl refl (reads_saved (state old.store) (state new.store) (key_path old.plan key) key.meta place f.read f.reads)
 
   -- over several parts of an event
   pub lasts_on : (old mid new : FarmSeen D) → Lasts state old mid → Lasts state mid new → Lasts state old new

@@ -58,9 +58,6 @@ pub record VersionsTo {D : Type 0} (state : D → Outside StoreTold) (p : Plan) 
   pub to : replay_from p clean 0 updates h ≡ replay_from p clean v (drop v updates) g
   pub replaying : IsReplaying state farm g
 
-pub versions_none : {D : Type 0} (state : D → Outside StoreTold) (p : Plan) (farm : FarmSeen D) (clean : List Kept) (updates : List Past) (h : List Entry) → IsReplaying state farm h → VersionsTo state p farm clean 0 updates h
-versions_none state p farm clean updates h r = record { g = h; to = refl; replaying = r }
-
 pub versions_more : {D : Type 0} (state : D → Outside StoreTold) (p : Plan) (old new : FarmSeen D) (clean : List Kept) (v : ℕ) (updates : List Past) (c : Past) (h : List Entry) → plan_of old.plan ≡ p → v < length updates → c ≡ get_or updates v c → ReplaysVersion state old new v c clean → VersionsTo state p old clean v updates h → VersionsTo state p new clean (v + 1) updates h
 unfolding replay_from
 versions_more state p old new clean v updates c h is lt at d k = record {

@@ -96,9 +96,6 @@ many_more v clean i x lt at =
     at_drop_more (λ xs. how_many_of v xs) clean i x lt
     ∙ (count-cons (λ (y : Kept). y.version == v) (get_or clean i x) (drop (i + 1) clean) ∙ ap (λ (y : Kept). cond (y.version == v) 1 0 + how_many_of v (drop (i + 1) clean)) (sym at))
 
-pub many_none : (v : ℕ) (clean : List Kept) (i : ℕ) → length clean ≤ i → how_many_of v (drop i clean) ≡ 0
-many_none v clean i all = at_drop_all (λ xs. how_many_of v xs) clean i all
-
 weights : (a v : ℕ) → cond (nat_le v a) 1 0 ≡ cond (a == v) 1 0 + cond (nat_le (v + 1) a) 1 0
 weights a v = grind (arith, nat_tests)
 
@@ -184,9 +181,6 @@ module _ {D : Type 0} (state : D → Outside StoreTold) where
     pub g : List Entry
     pub to : replay_keys v clean h ≡ replay_keys v (drop i clean) g
     pub replaying : IsReplaying state farm g
-
-  pub keys_none : (farm : FarmSeen D) (v : ℕ) (clean : List Kept) (h : List Entry) → IsReplaying state farm h → KeysTo farm v clean 0 h
-  keys_none farm v clean h r = record { g = h; to = refl; replaying = r }
 
   left_here : (v i n : ℕ) → n ≡ v → (nat_lt v n || ((n == v) && nat_le i i)) ≡ true
   left_here v i n is = grind (arith, nat_tests)

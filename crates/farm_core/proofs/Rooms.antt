@@ -12,7 +12,6 @@ use Rattle.farm_history.specs.declared.asks.Why.{Why}
 use Rattle.farm_history.specs.Plans.{Waits, is_in}
 use Rattle.farm_history.specs.Lists.{Each, Differ}
 use Rattle.farm_history.specs.Seen.{Taken, overtaken_by}
-use Rattle.plain_world.specs.World.{IsMeta}
 use Rattle.plain_data.specs.Features.{Layer}
 use Rattle.std.proofs.lemmas.List.{length-map, length-replicate}
 use Rattle.farm_history.proofs.Lists.{each-append, each-map, each-over, each-filter, any-append, not_any}
@@ -36,10 +35,6 @@ count_few q (x ∷ xs) = go (q x) (count-cons q x xs) (count_few q xs)
     go : (b : Bool) → count_by q (x ∷ xs) ≡ cond b 1 0 + count_by q xs → count_by q xs ≤ length xs → count_by q (x ∷ xs) ≤ length (x ∷ xs)
     go true is few = omega (arith, is, few)
     go false is few = omega (arith, is, few)
-
--- where a worker is free, there is a spare share
-pub has_spare : (own : ShareSeen) (version : ℕ) (spares : List ShareSeen) (taken : List Taken) → AreSpares own version spares taken → length taken < own.plan.workers → 0 < length spares
-has_spare own version spares taken s free = omega (arith, count_few (λ (t : Taken). t.version == version) taken, s.enough)
 
 -- the first of a queue is of its keys
 first_each : (P : Key → Type 0) (ls : Lines) (queue : Queue) (w : Waits) → Each P (line_of ls queue).keys → first_of ls queue ≡ Some w → P w.key
@@ -400,9 +395,6 @@ room_dirtied own test spares taken queues styled counts spares_room taken_room r
         let a = count-cons (λ (y : Taken). y.version == counts.version) (overtaken_by test x) (dirtied_taken test xs) in
         let b = count-cons (λ (y : Taken). y.version == counts.version) x xs in
         omega (arith, a, b, as_many xs)
-
-pub metas : (plan : FarmPlan) (taken : List Taken) → Each (λ (t : Taken). IsKeyOf plan t.key) taken → Each (λ (t : Taken). IsMeta t.key.meta) taken
-metas plan taken keys = each-map (λ (t : Taken). IsKeyOf plan t.key) (λ (t : Taken). IsMeta t.key.meta) taken (λ t k. k.meta) keys
 
 -- the key that was taken, where there is one, is of the plan
 pub key_valid : (plan : FarmPlan) (queues : Tables) (o : Option Key) → AreKeysOf plan queues → o ≡ option_map (λ (w : Waits). w.key) (next_of queues.lines) → IfSome o (IsKeyOf plan)

@@ -105,10 +105,6 @@ taken_place t k s e = subst (λ o. StandsBy o (is_in k t.taken) (waits_at t k) (
 pub line_place : (t : Tables) (k : Key) (q : Queue) → AreSound t → standing t k ≡ Some (InLine q) → (is_in k t.taken ≡ false) × (waits_at t k ≡ true) × (is_in k t.lines.dirty.keys ≡ same_queue q Queue.Dirty) × (is_in k t.lines.bulk.keys ≡ same_queue q Queue.Bulk)
 line_place t k q s e = subst (λ o. StandsBy o (is_in k t.taken) (waits_at t k) (is_in k t.lines.dirty.keys) (is_in k t.lines.bulk.keys)) e (stands_by t k s)
 
--- and one that is not found stands nowhere
-pub no_place : (t : Tables) (k : Key) → AreSound t → standing t k ≡ None → (is_in k t.taken ≡ false) × (waits_at t k ≡ false) × (is_in k t.lines.dirty.keys ≡ false) × (is_in k t.lines.bulk.keys ≡ false)
-no_place t k s e = subst (λ o. StandsBy o (is_in k t.taken) (waits_at t k) (is_in k t.lines.dirty.keys) (is_in k t.lines.bulk.keys)) e (stands_by t k s)
-
 -- where nothing is found, nothing is taken out
 pub none_out : (q : Reply → Bool) (rs : List Reply) → find q rs ≡ None → without_first q rs ≡ rs
 unfolding without_first

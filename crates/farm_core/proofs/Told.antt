@@ -36,11 +36,11 @@ use Rattle.farm_plan.specs.Drawings.{plan_of, update_of, key_path}
 use Rattle.render_queues.specs.Tables.{next_of, after_end, after_leave, open_of, AreSound}
 use Rattle.expiry_lists.specs.Marks.{mark_of, clean_marks, is_of_map}
 use Rattle.farm_refinement.specs.Seen.{FarmSeen}
-use Rattle.farm_plan.specs.Jobs.{JobSeen, job_key, job_text, Carries, IsFlight}
+use Rattle.farm_plan.specs.Jobs.{JobSeen, job_key, job_text, IsFlight}
 use Rattle.farm_refinement.specs.Reads.{fetched_by}
 use Rattle.farm_refinement.specs.Stands.{StandsFor}
 use Rattle.farm_refinement.specs.inner.Events.{claim_at, collected_by, look_at, stale_tables, stopped_counts, stored_counts, taken_at, tally_of, untaken}
-use Rattle.farm_refinement.proofs.Claiming.{claim_none_step, claim_job_step, job_carries}
+use Rattle.farm_refinement.proofs.Claiming.{claim_none_step, claim_job_step}
 use Rattle.farm_refinement.proofs.Changing.{update_step, update_refused_step, update_unknown_step, restyle_step, restyle_unknown_step, expire_step}
 use Rattle.farm_refinement.proofs.Finishing.{finish_stored_step, finish_lost_step, finish_cut_step}
 use Rattle.farm_refinement.proofs.Marking.{dirtied_at}
@@ -129,11 +129,6 @@ module _ {D : Type 0} (state : D → Outside StoreTold) where
       (subst (λ (v : ℕ). StandsFor state told (after_claim (turn old) (job_key job)) (Claim worker (ClaimAnswer.Job old.counts.jobs (job_key job) v) ∷ h)) (sym c.1.version_is)
       (subst (λ (k : Key). StandsFor state told (after_claim (turn old) k) (Claim worker (ClaimAnswer.Job old.counts.jobs k old.counts.version) ∷ h)) f.key_is
       (claim_job_step state told old h worker f.waits f.is_next is s))))
-
-  pub claim_carries : (told : Bool) (old new : FarmSeen D) (h : List Entry) (worker : ℕ) (job : JobSeen) → Claims (turn old) new worker (Some job) → StandsFor state told old h → Carries old.plan h job
-  claim_carries told old new h worker job c s =
-      let f = first_of old (job_key job) c.0 in
-      job_carries state told old h job f.waits f.is_next f.key_is c.1.plan_is c.1.version_is c.1.data_is c.1.style_is s
 
   -- ---- ends
 

@@ -28,7 +28,7 @@ pub record Begins {D : Type 0} (state : D → Outside StoreTold) (plan : FarmPla
   pub saved_is : farm.saved ≡ saved
   pub first_is : farm.first ≡ store
   pub store_is : farm.store ≡ store
-  pub stands : (told : Bool) → (told ≡ true → Tells (state store) plan saved) → StandsFor state told farm (origin plan saved)
+  pub stands : (store_tells : Bool) → (store_tells ≡ true → Tells (state store) plan saved) → StandsFor state store_tells farm (origin plan saved)
 
 -- a history with which a farm may begin: it leaves room for all turns, no drawing is under way, and no ask in it is of a running farm's front
 pub record BeginsWell (h : List Entry) : Type 0 where

@@ -337,7 +337,7 @@ impl<D: TileStore> Farm<D> {
     /// dirty queue where it neither waits nor is being drawn. Takes no memory.
     pub fn ask(&mut self, conn: Conn, cmd: Cmd, spot: Spot) -> AskAnswer
         requires { self.old.counts.turns < 2 ^ 63 }
-        ensures step { (told : Bool) (h : List Entry) → StandsFor D.state told self.old h → StandsFor D.state told self.new (Ask conn cmd spot result ∷ h) }
+        ensures step { (store_tells : Bool) (h : List Entry) → StandsFor D.state store_tells self.old h → StandsFor D.state store_tells self.new (Ask conn cmd spot result ∷ h) }
         ensures kept { Lasts D.state self.old self.new }
         ensures store { self.new.store ≡ self.old.store }
     {

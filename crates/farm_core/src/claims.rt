@@ -99,8 +99,8 @@ impl<D: TileStore> Farm<D> {
     /// where as many drawings are under way as there are workers, Stopped after a stop. Takes no memory.
     pub fn claim(&mut self, worker: u32) -> Claimed
         requires { self.old.counts.turns < 2 ^ 63 }
-        ensures step { (told : Bool) (h : List Entry) → StandsFor D.state told self.old h → StandsFor D.state told self.new (Claim worker (claim_answer result) ∷ h) }
-        ensures carries { (told : Bool) (h : List Entry) → StandsFor D.state told self.old h → IfJob result (Carries self.old.plan h) }
+        ensures step { (store_tells : Bool) (h : List Entry) → StandsFor D.state store_tells self.old h → StandsFor D.state store_tells self.new (Claim worker (claim_answer result) ∷ h) }
+        ensures carries { (store_tells : Bool) (h : List Entry) → StandsFor D.state store_tells self.old h → IfJob result (Carries self.old.plan h) }
         ensures job { IfJob result (λ job. IsValidJob job × (job.worker ≡ worker)) }
         ensures kept { Lasts D.state self.old self.new }
         ensures store { self.new.store ≡ self.old.store }

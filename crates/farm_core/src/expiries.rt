@@ -58,7 +58,7 @@ impl<D: TileStore> Farm<D> {
     pub fn expire(&mut self, t: Tile) -> u64
         requires turns { self.old.counts.turns < 2 ^ 63 }
         requires tile { IsTile t }
-        ensures step { (told : Bool) (h : List Entry) → StandsFor D.state told self.old h → StandsFor D.state told self.new (Expire t result ∷ h) }
+        ensures step { (store_tells : Bool) (h : List Entry) → StandsFor D.state store_tells self.old h → StandsFor D.state store_tells self.new (Expire t result ∷ h) }
         ensures kept { Lasts D.state self.old self.new }
         ensures store { self.new.store ≡ self.old.store }
     {
@@ -71,7 +71,7 @@ impl<D: TileStore> Farm<D> {
     /// The map's name, tile size and greatest zoom stay. Takes no memory.
     pub fn restyle(&mut self, number: u32) -> Restyled
         requires { self.old.counts.turns < 2 ^ 63 }
-        ensures step { (told : Bool) (h : List Entry) → StandsFor D.state told self.old h → StandsFor D.state told self.new (Restyle number result ∷ h) }
+        ensures step { (store_tells : Bool) (h : List Entry) → StandsFor D.state store_tells self.old h → StandsFor D.state store_tells self.new (Restyle number result ∷ h) }
         ensures kept { Lasts D.state self.old self.new }
         ensures store { self.new.store ≡ self.old.store }
     {

@@ -134,7 +134,7 @@ impl<D: TileStore> Farm<D> {
         requires { ends_with (λ a b. a == b) path.now (codes ".meta") ≡ false }
         ensures store { StorePuts (D.state self.old.store) (D.state self.new.store) path.now bytes.now result }
         ensures farm { self.new ≡ record self.old { store = self.new.store } }
-        ensures stands { (told : Bool) (h : List Entry) → StandsFor D.state told self.old h → StandsFor D.state told self.new h }
+        ensures stands { (store_tells : Bool) (h : List Entry) → StandsFor D.state store_tells self.old h → StandsFor D.state store_tells self.new h }
     {
         self.store.put(alloc, path, bytes)
     }

@@ -131,7 +131,7 @@ impl<D: TileStore> Farm<D> {
     /// Dirty with the data version of what is shown. Takes no memory.
     pub fn look(&mut self, spot: Spot) -> Looked
         requires { self.old.counts.turns < 2 ^ 63 }
-        ensures step { (told : Bool) (h : List Entry) → StandsFor D.state told self.old h → StandsFor D.state told self.new (Look spot result ∷ h) }
+        ensures step { (store_tells : Bool) (h : List Entry) → StandsFor D.state store_tells self.old h → StandsFor D.state store_tells self.new (Look spot result ∷ h) }
         ensures kept { Lasts D.state self.old self.new }
         ensures store { self.new.store ≡ self.old.store }
     {
@@ -147,7 +147,7 @@ impl<D: TileStore> Farm<D> {
     /// the plain drawing in the style and over the data of the claim of what is shown.
     pub fn fetch(&mut self, alloc: Global, spot: Spot) -> Fetched
         requires { self.old.counts.turns < 2 ^ 63 }
-        ensures step { (told : Bool) (h : List Entry) → StandsFor D.state told self.old h → StandsFor D.state told self.new (Fetch spot result ∷ h) }
+        ensures step { (store_tells : Bool) (h : List Entry) → StandsFor D.state store_tells self.old h → StandsFor D.state store_tells self.new (Fetch spot result ∷ h) }
         ensures kept { Lasts D.state self.old self.new }
         ensures reads { Reads D.state self.old self.new spot result (is_servable (plan_of self.old.plan) spot) (mark_of self.old.marks.shown (key_of spot)) }
     {

@@ -218,10 +218,10 @@ impl<D: TileStore> Farm<D> {
     /// of the plain drawings of its metatile's tiles, in its style and over its data.
     pub fn finish(&mut self, alloc: Global, job: Job, drawn: Drawn) -> Finished
         requires turns { self.old.counts.turns < 2 ^ 63 }
-        requires flight { (told : Bool) × (h : List Entry) × StandsFor D.state told self.old h × IsFlight self.old.plan h job }
+        requires flight { (store_tells : Bool) × (h : List Entry) × StandsFor D.state store_tells self.old h × IsFlight self.old.plan h job }
         requires drawing { IsDrawingOf job drawn }
-        ensures step { (told : Bool) (h : List Entry) → StandsFor D.state told self.old h → IsFlight self.old.plan h job
-            → StandsFor D.state told self.new (Finish job.ticket (is_drawn drawn) result ∷ h) }
+        ensures step { (store_tells : Bool) (h : List Entry) → StandsFor D.state store_tells self.old h → IsFlight self.old.plan h job
+            → StandsFor D.state store_tells self.new (Finish job.ticket (is_drawn drawn) result ∷ h) }
         ensures kept { Lasts D.state self.old self.new }
         ensures puts { PutsDrawing D.state self.old self.new job drawn result }
     {
@@ -242,10 +242,10 @@ impl<D: TileStore> Farm<D> {
     /// bytes, with the same answers by the same rules.
     pub fn finish_staged(&mut self, alloc: Global, job: Job, staged: D::Staged) -> Finished
         requires turns { self.old.counts.turns < 2 ^ 63 }
-        requires flight { (told : Bool) × (h : List Entry) × StandsFor D.state told self.old h × IsFlight self.old.plan h job }
+        requires flight { (store_tells : Bool) × (h : List Entry) × StandsFor D.state store_tells self.old h × IsFlight self.old.plan h job }
         requires drawing { D.written staged ≡ job_text job }
-        ensures step { (told : Bool) (h : List Entry) → StandsFor D.state told self.old h → IsFlight self.old.plan h job
-            → StandsFor D.state told self.new (Finish job.ticket true result ∷ h) }
+        ensures step { (store_tells : Bool) (h : List Entry) → StandsFor D.state store_tells self.old h → IsFlight self.old.plan h job
+            → StandsFor D.state store_tells self.new (Finish job.ticket true result ∷ h) }
         ensures kept { Lasts D.state self.old self.new }
         ensures puts { PutsBytes D.state self.old self.new job (D.written staged) result }
     {

@@ -88,7 +88,7 @@ impl<D: TileStore> Farm<D> {
     /// `update`, and then nothing has changed.
     pub fn renew(&mut self, alloc: Global, number: u32) -> Renewed
         requires { self.old.counts.turns < 2 ^ 63 }
-        ensures step { (told : Bool) (h : List Entry) → StandsFor D.state told self.old h → StandsFor D.state told self.new (Renew number result ∷ h) }
+        ensures step { (store_tells : Bool) (h : List Entry) → StandsFor D.state store_tells self.old h → StandsFor D.state store_tells self.new (Renew number result ∷ h) }
         ensures kept { Lasts D.state self.old self.new }
         ensures store { self.new.store ≡ self.old.store }
     {

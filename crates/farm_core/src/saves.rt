@@ -31,8 +31,8 @@ impl<D: TileStore> Farm<D> {
     /// succeeded, in order, and exactly the clean metatiles, with their versions, by map, zoom, column and row.
     /// What is dirty is not kept.
     pub fn saved(&self, alloc: Global) -> Result<Saved, NoMemory>
-        ensures saved { IfOk result (λ s. (told : Bool) (h : List Entry) → StandsFor D.state told self.now h → IsSaved (plan_of self.now.plan) h s) }
-        ensures sound { IfOk result (λ s. (told : Bool) (h : List Entry) → StandsFor D.state told self.now h → IsSaving s) }
+        ensures saved { IfOk result (λ s. (store_tells : Bool) (h : List Entry) → StandsFor D.state store_tells self.now h → IsSaved (plan_of self.now.plan) h s) }
+        ensures sound { IfOk result (λ s. (store_tells : Bool) (h : List Entry) → StandsFor D.state store_tells self.now h → IsSaving s) }
     {
         self.kept(alloc)
     }

@@ -114,7 +114,7 @@ impl<D: TileStore> Farm<D> {
     /// After NoUpdate and Refused nothing has changed. What is shown stays as it is.
     pub fn update(&mut self, alloc: Global, number: u32) -> Updated
         requires { self.old.counts.turns < 2 ^ 63 }
-        ensures step { (told : Bool) (h : List Entry) → StandsFor D.state told self.old h → StandsFor D.state told self.new (Changed number result ∷ h) }
+        ensures step { (store_tells : Bool) (h : List Entry) → StandsFor D.state store_tells self.old h → StandsFor D.state store_tells self.new (Changed number result ∷ h) }
         ensures kept { Lasts D.state self.old self.new }
         ensures store { self.new.store ≡ self.old.store }
     {

@@ -17,7 +17,7 @@ use Rattle.farm_plan.specs.Plans.{MapPlan, Restyle}
 use Rattle.input_files.specs.Course.{Course, made, ◌>>=◌, file, each}
 use Rattle.farm_files.specs.MapCourses.{style_course_by}
 use Rattle.farm_files.specs.Addresses.{addressed_in}
-use Rattle.farm_files.specs.Inputs.{FarmInputs, Scripted, Served}
+use Rattle.farm_files.specs.Inputs.{FarmInputs, ScriptInputs, ServeInputs}
 
 -- ---- the files that a configuration names, where texts are read so
 
@@ -45,7 +45,7 @@ inputs_course_by says config = do
 -- ---- the files of commands, where texts are read so
 
 -- a configuration, the files that it names, and a script
-unfoldable pub script_course_by : TextReading → List ℕ → List ℕ → Course Scripted
+unfoldable pub script_course_by : TextReading → List ℕ → List ℕ → Course ScriptInputs
 script_course_by says config_name script_name = do
   config ← file config_in config_text config_name
   inputs ← inputs_course_by says config
@@ -53,7 +53,7 @@ script_course_by says config_name script_name = do
   made (record { inputs = inputs; script = script })
 
 -- a configuration with its addresses, and the files that it names
-unfoldable pub serve_course_by : TextReading → List ℕ → Course Served
+unfoldable pub serve_course_by : TextReading → List ℕ → Course ServeInputs
 serve_course_by says config_name = do
   config ← file addressed_in config_text config_name
   inputs ← inputs_course_by says config
@@ -76,8 +76,8 @@ list_course name = file list_in list_text name
 abbrev pub inputs_course : Config → Course FarmInputs
 inputs_course config = inputs_course_by text_reading config
 
-abbrev pub script_course : List ℕ → List ℕ → Course Scripted
+abbrev pub script_course : List ℕ → List ℕ → Course ScriptInputs
 script_course config_name script_name = script_course_by text_reading config_name script_name
 
-abbrev pub serve_course : List ℕ → Course Served
+abbrev pub serve_course : List ℕ → Course ServeInputs
 serve_course config_name = serve_course_by text_reading config_name

@@ -11,11 +11,11 @@ pub record FarmInputs : Type 0 where
   pub lists : List (List Tile)
 
 -- a farm, and the lines of a script
-pub record Scripted : Type 0 where
+pub record ScriptInputs : Type 0 where
   pub inputs : FarmInputs
   pub script : List ScriptLine
 
 -- a farm with its configuration
-pub record Served : Type 0 where
+pub record ServeInputs : Type 0 where
   pub config : Config
   pub inputs : FarmInputs

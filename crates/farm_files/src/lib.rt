@@ -15,5 +15,5 @@ pub use configs::addressed_config;
 pub use inputs::{FarmInputs, farm_inputs};
 pub use layers::data_layers;
 pub use rasters::RasterFault;
-pub use scripts::{Scripted, Served, script_files, serve_files};
+pub use scripts::{ScriptInputs, ServeInputs, script_files, serve_files};
 pub use styles::bound_style;

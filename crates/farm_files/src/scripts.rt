@@ -19,17 +19,17 @@ use std::marker::Model;
 
 /// What the files of a script say: the farm that it runs on, and its lines.
 #[derive(Drop)]
-pub struct Scripted {
+pub struct ScriptInputs {
     pub inputs: FarmInputs,
     pub script: Script,
 }
 
-impl Model for Scripted {
-    ghost use Rattle.farm_files.specs.Inputs.{Scripted};
+impl Model for ScriptInputs {
+    ghost use Rattle.farm_files.specs.Inputs.{ScriptInputs};
     ghost use Rattle.plain_filters.specs.inner.FilterCodes.{filter_code};
     ghost use Rattle.std.specs.Coded.{codes};
 
-    ghost Value = { Scripted };
+    ghost Value = { ScriptInputs };
 
     ghost coded = { Prim.hlevel (codes, filter_code) };
 
@@ -38,17 +38,17 @@ impl Model for Scripted {
 
 /// What the files of a farm that listens say: its configuration, and what the files of this say.
 #[derive(Drop)]
-pub struct Served {
+pub struct ServeInputs {
     pub config: Config,
     pub inputs: FarmInputs,
 }
 
-impl Model for Served {
-    ghost use Rattle.farm_files.specs.Inputs.{Served};
+impl Model for ServeInputs {
+    ghost use Rattle.farm_files.specs.Inputs.{ServeInputs};
     ghost use Rattle.plain_filters.specs.inner.FilterCodes.{filter_code};
     ghost use Rattle.std.specs.Coded.{codes};
 
-    ghost Value = { Served };
+    ghost Value = { ServeInputs };
 
     ghost coded = { Prim.hlevel (codes, filter_code) };
 
@@ -79,14 +79,14 @@ pub fn script_files<F: Files>(
     files: &mut F,
     config_name: &str,
     script_name: &str,
-) -> Result<Scripted, Stop>
+) -> Result<ScriptInputs, Stop>
     ensures follows { Follows (script_course config_name.now script_name.now) (F.state files.old) (F.state files.new) result }
     ensures valid { IfOk result (λ s. IsPlan s.inputs.plan) }
 {
     let config = config_file(alloc, files, config_name)?;
     let inputs = named_inputs(alloc, files, config)?;
     match script_file(alloc, files, script_name) {
-        Ok(script) => Ok(Scripted { inputs, script }),
+        Ok(script) => Ok(ScriptInputs { inputs, script }),
         Err(stop) => {
             drop(inputs);
             Err(stop)
@@ -100,13 +100,13 @@ pub fn serve_files<F: Files>(
     alloc: Global,
     files: &mut F,
     config_name: &str,
-) -> Result<Served, Stop>
+) -> Result<ServeInputs, Stop>
     ensures follows { Follows (serve_course config_name.now) (F.state files.old) (F.state files.new) result }
     ensures valid { IfOk result (λ s. IsPlan s.inputs.plan) }
 {
     let config = addressed_file(alloc, files, config_name)?;
     match farm_inputs(alloc, files, &config) {
-        Ok(inputs) => Ok(Served { config, inputs }),
+        Ok(inputs) => Ok(ServeInputs { config, inputs }),
         Err(stop) => {
             drop(config);
             Err(stop)

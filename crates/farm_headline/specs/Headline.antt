@@ -1,5 +1,5 @@
 -- What a farm promises, in four sentences. Each is said of a whole history h, whose newest entry stands first: in `h ≡ later ++ e ∷ g` the entry e is one of h, g is what came before it, and `later` what came after it.
--- `told` says that the store tells what it holds; what is said of bytes needs it, and nothing else does.
+-- `store_tells` says that the store tells what it holds; what is said of bytes needs it, and nothing else does.
 use Rattle.std.specs.Prelude.{ℕ, Bool, true, false, ◌≡◌, ◌==◌, List, ◌∷◌, ◌++◌, length, slice_get, Some}
 use Rattle.std.specs.List.{list_any}
 use Rattle.plain_drawing.specs.Drawing.{drawn_tile}
@@ -40,7 +40,7 @@ pub record IsPlainTile (plan : FarmPlan) (g before : List Entry) (spot : Spot) (
   pub bytes_are : bytes ≡ drawn_tile (styled_as plan map (style_after (plan_of plan) g (map_of spot))) map.tile (spot_tile spot) (data_of plan (data_after before))
 
 -- a Claim gave the drawing of the tile's metatile, and it was stored; since that Claim nothing has touched the metatile; the version that is sent is that of the data before the Claim; and the bytes are the plain drawing over those data
-pub record IsCleanTile (plan : FarmPlan) (told : Bool) (g : List Entry) (spot : Spot) (sent : ℕ) (bytes : List ℕ) : Type 0 where
+pub record IsCleanTile (plan : FarmPlan) (store_tells : Bool) (g : List Entry) (spot : Spot) (sent : ℕ) (bytes : List ℕ) : Type 0 where
   pub since : List Entry
   pub worker : ℕ
   pub ticket : ℕ
@@ -49,14 +49,14 @@ pub record IsCleanTile (plan : FarmPlan) (told : Bool) (g : List Entry) (spot : 
   pub is_stored : is_stored_in since ticket ≡ true
   pub is_untouched : is_touched_after (plan_of plan) g (length before) (key_of spot) ≡ false
   pub version_is : sent ≡ version before
-  pub is_plain : told ≡ true → IsPlainTile plan g before spot bytes
+  pub is_plain : store_tells ≡ true → IsPlainTile plan g before spot bytes
 
 -- The four sentences.
 
 -- 1. Every tile sent as clean is byte for byte the plain drawing of its style over the data of one version, taken after the last expiry that touches it
 abbrev pub CleanTiles : FarmPlan → Bool → List Entry → Type 0
-CleanTiles plan told h =
-    (later g : List Entry) (spot : Spot) (v : ℕ) (bytes : List ℕ) → h ≡ later ++ Fetch spot (Fetched.Clean v bytes) ∷ g → IsCleanTile plan told g spot v bytes
+CleanTiles plan store_tells h =
+    (later g : List Entry) (spot : Spot) (v : ℕ) (bytes : List ℕ) → h ≡ later ++ Fetch spot (Fetched.Clean v bytes) ∷ g → IsCleanTile plan store_tells g spot v bytes
 
 -- 2. No metatile is drawn twice at once: between two Claims that give the drawing of one metatile stands the Finish of the first
 abbrev pub DrawnOnce : List Entry → Type 0
@@ -78,12 +78,12 @@ pub record NamesStored (plan : FarmPlan) (h : List Entry) : Type 0 where
   pub by_reply : (later g : List Entry) (front : ℕ) (r : Reply) → h ≡ later ++ Collect front (Collected.Reply r) ∷ g → r.outcome ≡ Outcome.Done → IsStoredFor g r
 
 -- The headline: whatever clients, workers, updates and expiries do, in any order, these four hold of the history that comes of it.
-pub record Headline (plan : FarmPlan) (told : Bool) (h : List Entry) : Type 0 where
-  pub clean_tiles : CleanTiles plan told h
+pub record Headline (plan : FarmPlan) (store_tells : Bool) (h : List Entry) : Type 0 where
+  pub clean_tiles : CleanTiles plan store_tells h
   pub drawn_once : DrawnOnce h
   pub left_dirty : LeftDirty plan h
   pub done : NamesStored plan h
 
 -- Each legal history of a valid plan keeps it
 abbrev pub LawHeadline : Type 0
-LawHeadline = (plan : FarmPlan) (told : Bool) (h : List Entry) → IsPlan plan → Legal (plan_of plan) told h → Headline plan told h
+LawHeadline = (plan : FarmPlan) (store_tells : Bool) (h : List Entry) → IsPlan plan → Legal (plan_of plan) store_tells h → Headline plan store_tells h

@@ -1,4 +1,4 @@
--- What is promised of histories, and the laws: every legal history keeps it. `told` says that the store tells its content, as in the rules.
+-- What is promised of histories, and the laws: every legal history keeps it. `store_tells` says that the store tells its content, as in the rules.
 use Rattle.std.specs.Prelude.{ℕ, Bool, true, false, ◌&&◌, ◌||◌, ◌==◌, nat_lt, if◌then◌else◌, ◌≡◌, List, [], ◌∷◌, ◌++◌, length, Option, Some, None}
 use Rattle.farm_history.specs.declared.keys.Key.{Key}
 use Rattle.farm_history.specs.declared.queues.Conn.{Conn}
@@ -27,7 +27,7 @@ is_stored_in (_ ∷ g) ticket = is_stored_in g ticket
 
 -- A Fetch of the spot answered Clean with a version and bytes, after h: the history h has a Claim on the spot's key whose ticket was stored after it;
 -- no entry after that Claim touches the key; the version is the one before the Claim; and where the store tells its content, the bytes are those that the plan draws of the tile in the style and over the data before the Claim
-pub record IsDrawnFresh (p : Plan) (told : Bool) (h : List Entry) (spot : Spot) (sent : ℕ) (bytes : List ℕ) : Type 0 where
+pub record IsDrawnFresh (p : Plan) (store_tells : Bool) (h : List Entry) (spot : Spot) (sent : ℕ) (bytes : List ℕ) : Type 0 where
   pub since : List Entry
   pub worker : ℕ
   pub ticket : ℕ
@@ -36,16 +36,16 @@ pub record IsDrawnFresh (p : Plan) (told : Bool) (h : List Entry) (spot : Spot) 
   pub is_stored : is_stored_in since ticket ≡ true
   pub is_untouched : is_touched_after p h (length before) (key_of spot) ≡ false
   pub version_is : sent ≡ version before
-  pub bytes_are : told ≡ true → bytes ≡ drawn_after p before spot
+  pub bytes_are : store_tells ≡ true → bytes ≡ drawn_after p before spot
 
 -- where the entry sends a tile as clean, the tile is drawn fresh, g being what came before the entry
 abbrev pub FreshAt : Plan → Bool → List Entry → Entry → Type 0
-FreshAt p told g (Fetch spot (Fetched.Clean v bytes)) = IsDrawnFresh p told g spot v bytes
-FreshAt p told g _ = Unit {0}
+FreshAt p store_tells g (Fetch spot (Fetched.Clean v bytes)) = IsDrawnFresh p store_tells g spot v bytes
+FreshAt p store_tells g _ = Unit {0}
 
 -- each tile sent as clean is drawn fresh
 abbrev pub Fresh : Plan → Bool → List Entry → Type 0
-Fresh p told h = EachMoment (FreshAt p told) h
+Fresh p store_tells h = EachMoment (FreshAt p store_tells) h
 
 -- Single: no metatile is drawn twice at once.
 
@@ -120,15 +120,15 @@ abbrev pub EachDone : Plan → List Entry → Type 0
 EachDone p h = EachMoment (DoneAt p) h
 
 -- the four promises; only the bytes of what is sent as clean rest on a store that tells its content
-pub record Sound (p : Plan) (told : Bool) (h : List Entry) : Type 0 where
-  pub fresh : Fresh p told h
+pub record Sound (p : Plan) (store_tells : Bool) (h : List Entry) : Type 0 where
+  pub fresh : Fresh p store_tells h
   pub single : Single h
   pub gap : Gap p h
   pub done : EachDone p h
 
 -- Each legal history is sound
 abbrev pub LawSound : Type 0
-LawSound = (p : Plan) (told : Bool) (h : List Entry) → Legal p told h → Sound p told h
+LawSound = (p : Plan) (store_tells : Bool) (h : List Entry) → Legal p store_tells h → Sound p store_tells h
 
 -- Apart: of waiting, flying and being clean a key does at most one.
 
@@ -140,7 +140,7 @@ pub record AtMostOne (waits flies clean : Bool) : Type 0 where
 
 -- In each legal history a key never waits and flies at once, and a clean key does neither
 abbrev pub LawApart : Type 0
-LawApart = (p : Plan) (told : Bool) (h : List Entry) → Legal p told h → (k : Key) → AtMostOne (waits p h k) (flies h k) (is_clean p h k)
+LawApart = (p : Plan) (store_tells : Bool) (h : List Entry) → Legal p store_tells h → (k : Key) → AtMostOne (waits p h k) (flies h k) (is_clean p h k)
 
 -- One reply: an ask has at most one reply, and none after a Leave of its connection that stands after the ask.
 
@@ -188,7 +188,7 @@ OneReplyAt g _ = Unit {0}
 
 -- In each legal history the numbers of asks differ, and each ask has at most one reply, which goes to its connection, and none after a Leave of its connection that stands after the ask
 abbrev pub LawOneReply : Type 0
-LawOneReply = (p : Plan) (told : Bool) (h : List Entry) → Legal p told h → EachMoment OneReplyAt h
+LawOneReply = (p : Plan) (store_tells : Bool) (h : List Entry) → Legal p store_tells h → EachMoment OneReplyAt h
 
 -- Now: where every update is made as a renew, what is sent as clean is drawn over the newest data.
 

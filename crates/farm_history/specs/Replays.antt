@@ -134,7 +134,7 @@ pub record IsCleanAgain (p : Plan) (r : List Entry) (k : Key) (before : List Ent
 
 -- r is legal, over any store; its data are those of h; what is clean after h is clean after r as it was; and nothing else is shown
 pub record IsResumed (p : Plan) (h r : List Entry) : Type 0 where
-  pub legal : (told : Bool) → Legal p told r
+  pub legal : (store_tells : Bool) → Legal p store_tells r
   pub same_data : data_after r ≡ data_after h
   pub clean_again : (k : Key) (before : List Entry) → is_clean p h k ≡ true → shown h k ≡ Some before → IsCleanAgain p r k before
   pub nothing_else : (k : Key) → is_clean p h k ≡ false → shown r k ≡ None
@@ -142,4 +142,4 @@ pub record IsResumed (p : Plan) (h r : List Entry) : Type 0 where
 -- For each plan with a worker and room in its bulk queue: where a legal history is saved, the replay of what is saved resumes it
 abbrev pub LawResumed : Type 0
 LawResumed =
-    (p : Plan) (told : Bool) (h : List Entry) (s : Saving) → 0 < p.workers → 0 < p.limits.bulk → Legal p told h → IsSaved p h s → IsResumed p h (replay p s)
+    (p : Plan) (store_tells : Bool) (h : List Entry) (s : Saving) → 0 < p.workers → 0 < p.limits.bulk → Legal p store_tells h → IsSaved p h s → IsResumed p h (replay p s)

@@ -104,23 +104,23 @@ RestyleFits p g n (Styled count) = (n < length p.restyles) × (count ≡ clean_c
 -- What a read of a shown key is answered, where before came before the Claim of what is shown. Clean and Dirty are as the key stands, with the version before that Claim.
 -- Where the store tells its content, the bytes are those that the plan draws of the tile in the style and over the data before that Claim, and Gone and Spoilt do not come
 abbrev pub ReadFits : Plan → Bool → List Entry → Spot → List Entry → Fetched → Type 0
-ReadFits p told g spot before (Fetched.Clean v bytes) = (is_touched_after p g (length before) (key_of spot) ≡ false) × (v ≡ version before) × OnTrue told (bytes ≡ drawn_after p before spot)
-ReadFits p told g spot before (Fetched.Dirty v bytes) = (is_touched_after p g (length before) (key_of spot) ≡ true) × (v ≡ version before) × OnTrue told (bytes ≡ drawn_after p before spot)
-ReadFits p told g spot before Fetched.Missing = ⊥
-ReadFits p told g spot before Fetched.Unservable = ⊥
-ReadFits p told g spot before Fetched.Gone = told ≡ false
-ReadFits p told g spot before (Fetched.Spoilt fault) = told ≡ false
-ReadFits p told g spot before Fetched.GetFailed = Unit {0}
-ReadFits p told g spot before Fetched.NoMemory = Unit {0}
+ReadFits p store_tells g spot before (Fetched.Clean v bytes) = (is_touched_after p g (length before) (key_of spot) ≡ false) × (v ≡ version before) × OnTrue store_tells (bytes ≡ drawn_after p before spot)
+ReadFits p store_tells g spot before (Fetched.Dirty v bytes) = (is_touched_after p g (length before) (key_of spot) ≡ true) × (v ≡ version before) × OnTrue store_tells (bytes ≡ drawn_after p before spot)
+ReadFits p store_tells g spot before Fetched.Missing = ⊥
+ReadFits p store_tells g spot before Fetched.Unservable = ⊥
+ReadFits p store_tells g spot before Fetched.Gone = store_tells ≡ false
+ReadFits p store_tells g spot before (Fetched.Spoilt fault) = store_tells ≡ false
+ReadFits p store_tells g spot before Fetched.GetFailed = Unit {0}
+ReadFits p store_tells g spot before Fetched.NoMemory = Unit {0}
 
 -- what a read of a servable spot is answered: Missing exactly where its key is not shown
 abbrev pub ShownFits : Plan → Bool → List Entry → Spot → Option (List Entry) → Fetched → Type 0
-ShownFits p told g spot None answer = answer ≡ Fetched.Missing
-ShownFits p told g spot (Some before) answer = ReadFits p told g spot before answer
+ShownFits p store_tells g spot None answer = answer ≡ Fetched.Missing
+ShownFits p store_tells g spot (Some before) answer = ReadFits p store_tells g spot before answer
 
 -- what a Fetch is answered: Unservable exactly where the spot cannot be served
 abbrev pub FetchFits : Plan → Bool → List Entry → Spot → Fetched → Type 0
-FetchFits p told g spot answer = MatchBool (is_servable p spot) (ShownFits p told g spot (shown g (key_of spot)) answer) (answer ≡ Fetched.Unservable)
+FetchFits p store_tells g spot answer = MatchBool (is_servable p spot) (ShownFits p store_tells g spot (shown g (key_of spot)) answer) (answer ≡ Fetched.Unservable)
 
 -- how a key stands, by what came before the Claim of what is shown
 abbrev pub look_at : Plan → List Entry → Key → Option (List Entry) → Looked
@@ -143,22 +143,22 @@ collect_from (r ∷ rs) stopped = Collected.Reply r
 abbrev pub collect_rule : List Entry → ℕ → Collected
 collect_rule g front = collect_from (due_replies g front) (is_stopped g)
 
--- the entry has the answer that the entries before it give it. `told` says that the store tells its content
+-- the entry has the answer that the entries before it give it. `store_tells` says that the store tells its content
 unfoldable pub Fits : Plan → Bool → List Entry → Entry → Type 0
-Fits p told g (Ask conn command spot answer) = answer ≡ ask_rule p g conn command spot
-Fits p told g (Claim worker answer) = answer ≡ claim_rule p g
-Fits p told g (Finish t drawn answer) = FlightFits p g (flight_in (flights g) t) drawn answer
-Fits p told g (Update n answer) = UpdateFits p g n answer
-Fits p told g (Renew n answer) = RenewFits p g n answer
-Fits p told g (Restyle n answer) = RestyleFits p g n answer
-Fits p told g (Expire tile count) = count ≡ clean_count p g (overlaps tile)
-Fits p told g (Fetch spot answer) = FetchFits p told g spot answer
-Fits p told g (Look spot answer) = answer ≡ look_rule p g spot
-Fits p told g (Collect front answer) = answer ≡ collect_rule g front
-Fits p told g (Leave conn count) = count ≡ how_many_of conn (open_asks g)
-Fits p told g Stop = Unit {0}
-Fits p told g (Tally counts) = counts ≡ record { asks = asks_made g; done = done_asks g; stored = stored_drawings g; version = version g }
+Fits p store_tells g (Ask conn command spot answer) = answer ≡ ask_rule p g conn command spot
+Fits p store_tells g (Claim worker answer) = answer ≡ claim_rule p g
+Fits p store_tells g (Finish t drawn answer) = FlightFits p g (flight_in (flights g) t) drawn answer
+Fits p store_tells g (Update n answer) = UpdateFits p g n answer
+Fits p store_tells g (Renew n answer) = RenewFits p g n answer
+Fits p store_tells g (Restyle n answer) = RestyleFits p g n answer
+Fits p store_tells g (Expire tile count) = count ≡ clean_count p g (overlaps tile)
+Fits p store_tells g (Fetch spot answer) = FetchFits p store_tells g spot answer
+Fits p store_tells g (Look spot answer) = answer ≡ look_rule p g spot
+Fits p store_tells g (Collect front answer) = answer ≡ collect_rule g front
+Fits p store_tells g (Leave conn count) = count ≡ how_many_of conn (open_asks g)
+Fits p store_tells g Stop = Unit {0}
+Fits p store_tells g (Tally counts) = counts ≡ record { asks = asks_made g; done = done_asks g; stored = stored_drawings g; version = version g }
 
 -- a history is legal where each entry has the answer that those before it give it
 abbrev pub Legal : Plan → Bool → List Entry → Type 0
-Legal p told h = EachMoment (Fits p told) h
+Legal p store_tells h = EachMoment (Fits p store_tells) h

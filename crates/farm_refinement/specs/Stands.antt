@@ -82,19 +82,19 @@ abbrev pub HoldsShown : FarmPlan → List Entry → (List ℕ → Option (List �
 HoldsShown plan h content = (k : Key) (before : List Entry) → shown h k ≡ Some before → content (key_path plan k) ≡ Some (text_before plan before k)
 
 -- The store's count rose, since the farm began, by at least one for each answer that a call failed, or it stands at its last value. Where the store tells, those calls are on its list.
--- And where it is told what the store holds, it holds what is shown. `told` may be true only over a store that tells
-pub record StoreStands (plan : FarmPlan) (since : ℕ) (told : Bool) (h : List Entry) (now : Outside StoreTold) : Type 0 where
+-- And where it is told what the store holds, it holds what is shown. `store_tells` may be true only over a store that tells
+pub record StoreStands (plan : FarmPlan) (since : ℕ) (store_tells : Bool) (h : List Entry) (now : Outside StoreTold) : Type 0 where
   pub counted : min (since + length (failures plan h)) (2 ^ 64 - 1) ≤ now.faults
   pub accounts : IfSome now.told (Accounts plan since h)
-  pub is_told : told ≡ true → is_some now.told ≡ true
-  pub holds : told ≡ true → IfSome now.told (λ t. HoldsShown plan h t.content)
+  pub is_told : store_tells ≡ true → is_some now.told ≡ true
+  pub holds : store_tells ≡ true → IfSome now.told (λ t. HoldsShown plan h t.content)
 
 -- The farm.
 
 -- The farm stands for the history: each entry has its right answer, and the farm's state is that of the history. `state` shows the store at a moment
-pub record StandsFor {D : Type 0} (state : D → Outside StoreTold) (told : Bool) (farm : FarmSeen D) (h : List Entry) : Type 0 where
+pub record StandsFor {D : Type 0} (state : D → Outside StoreTold) (store_tells : Bool) (farm : FarmSeen D) (h : List Entry) : Type 0 where
   pub valid : IsPlan farm.plan
-  pub legal : Legal (plan_of farm.plan) told h
+  pub legal : Legal (plan_of farm.plan) store_tells h
   pub counts_are : CountsStand farm.counts h
   pub data_is : farm.data_now ≡ data_of farm.plan (data_after h)
   pub changes_are : farm.changes ≡ changes_after h
@@ -104,7 +104,7 @@ pub record StandsFor {D : Type 0} (state : D → Outside StoreTold) (told : Bool
   -- of each shown key the version before the Claim of what is shown, and whether it is clean; no other key has a mark
   pub marks_are : (k : Key) → mark_of farm.marks.shown k ≡ mark_after (plan_of farm.plan) h k
   pub queues_are : QueuesStand farm.plan farm.queues h
-  pub store_is : StoreStands farm.plan (state farm.first).faults told h (state farm.store)
+  pub store_is : StoreStands farm.plan (state farm.first).faults store_tells h (state farm.store)
 
 -- Words of proofs, which say parts of the above.
 

@@ -1,5 +1,5 @@
 -- The first seat after all others were joined into it, and what it knows of each of them.
-use Rattle.std.proofs.Common.{◌≡◌, ℕ, zero, suc, ◌+◌, ◌<◌, Bool, true, false, ◌||◌, List, [], ◌∷◌, ◌++◌, length, slice_get, Option, Some, None, refl, sym, ap, ◌∙◌, subst, arith, append_assoc, append-nil, length-append}
+use Rattle.std.proofs.Common.{◌≡◌, ℕ, zero, suc, ◌+◌, Bool, true, false, ◌||◌, List, [], ◌∷◌, ◌++◌, length, slice_get, Option, Some, None, refl, sym, ap, ◌∙◌, subst, arith, append_assoc, append-nil, length-append}
 use Rattle.std.specs.List.{list_any}
 use Rattle.farm_history.specs.Entries.{Entry}
 use Rattle.farm_history.specs.Lists.{Each}
@@ -94,11 +94,3 @@ module _ {T : Type 0} where
     holds = each.0;
   }
   at_place Q k (suc w) end (a ∷ rest) numbered each is = subst (λ n. IsAt Q n end) (let e : (k + 1) + w ≡ k + suc w = omega arith in e) (at_place Q (k + 1) w end rest numbered.2 each.1 is)
-
-  -- of a worker's number, that of one of the pool
-  pub at_number : (Q : Actor (SeatState T Entry) → Type 0) (k w : ℕ) (pool : List (Actor (SeatState T Entry))) → Numbered k pool → Each Q pool → w < length pool → (end : Option WorkEnd) × IsAt Q (k + w) end
-  at_number Q k w [] numbered each lt = absurd (omega arith)
-  at_number Q k zero (a ∷ rest) numbered each lt = (a.end, at_place Q k zero a.end (a ∷ rest) numbered each refl)
-  at_number Q k (suc w) (a ∷ rest) numbered each lt =
-      let found = at_number Q (k + 1) w rest numbered.2 each.1 (omega arith) in
-      (found.0, subst (λ n. IsAt Q n found.0) (let e : (k + 1) + w ≡ k + suc w = omega arith in e) found.1)

@@ -141,8 +141,8 @@ pub fn run_farm<
     ports: &mut ThreePorts<P, B>,
     gate: &T,
 ) -> Result<Run<D>, Farm<D>>
-    requires stands { (told : Bool) → MayTell D.state (lasting_of D.state farm) told
-        → StandsFor D.state told farm (origin farm.plan farm.saved) }
+    requires stands { (store_tells : Bool) → MayTell D.state (lasting_of D.state farm) store_tells
+        → StandsFor D.state store_tells farm (origin farm.plan farm.saved) }
     requires short { length (origin farm.plan farm.saved) < most_turns }
     requires workers { workers ≡ farm.plan.workers }
     requires few { workers ≤ 16 }

@@ -32,5 +32,5 @@ ReadsBack = (s : Saving) → IsSaving s → HasNumbers s → saved_in (saved_byt
 -- In every valid plan, the replay of what is saved after a legal history resumes it.
 abbrev pub Resumes : Type 0
 Resumes =
-    (plan : FarmPlan) (told : Bool) (h : List Entry) (s : Saving)
-    → IsPlan plan → Legal (plan_of plan) told h → IsSaved (plan_of plan) h s → IsResumed (plan_of plan) h (replay (plan_of plan) s)
+    (plan : FarmPlan) (store_tells : Bool) (h : List Entry) (s : Saving)
+    → IsPlan plan → Legal (plan_of plan) store_tells h → IsSaved (plan_of plan) h s → IsResumed (plan_of plan) h (replay (plan_of plan) s)

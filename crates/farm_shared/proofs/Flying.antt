@@ -56,10 +56,6 @@ pub record IsAway (o : List Entry) (n t : ℕ) (flight : Flight) (g : List (ℕ 
   pub claimed : claimer g t ≡ Some n
   pub below : t < jobs (plain g ++ o)
 
--- a drawing as it is claimed
-flight_of : ℕ → Key → List Entry → Flight
-flight_of t k h = record { ticket = t; key = k; before = h }
-
 found_last : (o : Option Flight) (f : Flight) → o ≡ None → option_or o (Some f) ≡ Some f
 found_last o f none = rw none refl
 

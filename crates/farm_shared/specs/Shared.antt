@@ -42,13 +42,13 @@ maps_of made = maps_in made.about.first.value.farm.plan
 
 -- whether it may be said of the farm's history that the store tells what it holds; that it does not may always be said
 abbrev pub MayTell : {D : Type 0} → (D → Outside StoreTold) → LastingPart D → Bool → Type 0
-MayTell state part told = told ≡ true → Tells (state part.first) part.plan part.saved
+MayTell state part store_tells = store_tells ≡ true → Tells (state part.first) part.plan part.saved
 
 -- What it stands for.
 
 -- The farm stands for what it began with and then the cell's history, and each entry of that is of a seat that it may be of
 pub record IsAfter {D : Type 0} (state : D → Outside StoreTold) (farm : FarmSeen D) (log : List (ℕ × Entry)) : Type 0 where
-  pub each : (told : Bool) → MayTell state (lasting_of state farm) told → StandsFor state told farm (past (lasting_of state farm) log)
+  pub each : (store_tells : Bool) → MayTell state (lasting_of state farm) store_tells → StandsFor state store_tells farm (past (lasting_of state farm) log)
   pub seated : Seated (reverse log)
   pub begun : BeginsWell (origin farm.plan farm.saved)
 
@@ -64,7 +64,7 @@ pub record Adds {T : Type 0} (e : Entry) (v w : SeatState T Entry) : Type 0 wher
 
 -- All that happened so far is legal, what the farm began with and then these turns
 abbrev pub IsLegalSo : {D : Type 0} → (D → Outside StoreTold) → LastingPart D → List (ℕ × Entry) → Type 0
-IsLegalSo state part log = (told : Bool) → MayTell state part told → Legal (plan_of part.plan) told (past part log)
+IsLegalSo state part log = (store_tells : Bool) → MayTell state part store_tells → Legal (plan_of part.plan) store_tells (past part log)
 
 -- The job is the seat's to finish: in what it has seen stands its Claim that gave the job, which carries what it should of the history before that Claim, and no Finish of the ticket by the seat
 pub record HasJob {D : Type 0} (part : LastingPart D) (n : ℕ) (seen : List (ℕ × Entry)) (job : JobSeen) : Type 0 where

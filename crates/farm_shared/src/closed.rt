@@ -42,8 +42,8 @@ impl<D: TileStore> Model for Closed<D> {
 impl<D: TileStore> Closed<D> {
     /// What is kept over an orderly stop, as `Farm::saved`.
     pub fn saved(&self, alloc: Global) -> Result<Saved, NoMemory>
-        ensures saved { IfOk result (λ s. (told : Bool) (h : List Entry) → StandsFor D.state told self.now.0 h → IsSaved (plan_of self.now.0.plan) h s) }
-        ensures sound { IfOk result (λ s. (told : Bool) (h : List Entry) → StandsFor D.state told self.now.0 h → IsSaving s) }
+        ensures saved { IfOk result (λ s. (store_tells : Bool) (h : List Entry) → StandsFor D.state store_tells self.now.0 h → IsSaved (plan_of self.now.0.plan) h s) }
+        ensures sound { IfOk result (λ s. (store_tells : Bool) (h : List Entry) → StandsFor D.state store_tells self.now.0 h → IsSaving s) }
     {
         self.farm.saved(alloc)
     }

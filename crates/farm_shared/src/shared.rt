@@ -95,8 +95,8 @@ impl<D: TileStore> SharedFarm<D> {
     /// The farm is as it was started or resumed, but for what was put beside the metatiles: it stands for
     /// nothing, or for the replay of what it was resumed from.
     pub fn new(alloc: Global, farm: Farm<D>) -> Result<(SharedFarm<D>, Seat<D>), Farm<D>>
-        requires stands { (told : Bool) → MayTell D.state (lasting_of D.state farm) told
-            → StandsFor D.state told farm (origin farm.plan farm.saved) }
+        requires stands { (store_tells : Bool) → MayTell D.state (lasting_of D.state farm) store_tells
+            → StandsFor D.state store_tells farm (origin farm.plan farm.saved) }
         requires short { length (origin farm.plan farm.saved) < most_turns }
         ensures farm { IfOk result (λ made. (made.0.about.limit ≡ most_turns) × (made.0.about.first.value.farm ≡ farm)) }
         ensures seat { IfOk result (λ made. IsSeatOf made.0 made.1 × (made.1 ≡ first_of made.0)) }

@@ -1,5 +1,5 @@
 -- From stage to stage, and from round to round.
-use Rattle.std.proofs.Common.{◌≡◌, ℕ, Bool, true, false, cond, List, [], ◌∷◌, ◌++◌, map, ◌≤◌, Option, Some, None, option_map, IfSome, arith, refl, sym, ap, subst, ◌∙◌, inl, inr}
+use Rattle.std.proofs.Common.{◌≡◌, ℕ, Bool, true, false, cond, List, [], ◌∷◌, ◌++◌, map, Option, Some, None, option_map, IfSome, refl, sym, ap, subst, ◌∙◌, inl, inr}
 use Rattle.std.proofs.lemmas.List.{append-nil}
 use Rattle.farm_history.specs.Lists.{Each}
 use Rattle.farm_history.specs.Entries.{Entry, Stop}
@@ -7,8 +7,7 @@ use Rattle.port_events.specs.declared.events.PortEvent.{PortEvent}
 use Rattle.port_events.specs.declared.events.PortEvent.TheVariants as event
 use Rattle.port_events.specs.declared.ends.FrontEnd.{FrontEnd}
 use Rattle.port_events.specs.declared.ends.FrontEnd.TheVariants as ended
-use Rattle.port_events.specs.Told.{PortsTold, Hears, heard, EventCounts}
-use Rattle.farm_base.specs.Outside.{Counted}
+use Rattle.port_events.specs.Told.{PortsTold, heard}
 use Rattle.port_events.specs.Boxes.{rest_at, rest_of, as_rest}
 use Rattle.front_loop.specs.declared.sessions.Session.{Session}
 use Rattle.front_loop.specs.Rules.{Rules, Move}
@@ -16,11 +15,10 @@ use Rattle.front_loop.specs.inner.Steps.{Step, Phase, Fresh, Hearing, Collecting
 use Rattle.front_loop.specs.Rounds.{has}
 use Rattle.front_loop.specs.inner.Parts.{part, due, told_after, EachMayCome}
 use Rattle.port_events.specs.declared.ends.Rest.{Rest}
-use Rattle.front_loop.specs.inner.Sound.{BeginsRound}
 use Rattle.front_loop.specs.inner.StepRuns.{EndsAt, StopsAt, StepRun, EndHasCause, RestsFit, rests_of, BreakFits, with_break}
 use Rattle.front_loop.specs.inner.Sessions.{conns, keys, Apart}
 use Rattle.front_loop.specs.inner.Stands.{World, IsAtRest, Sits, Stands}
-use Rattle.front_loop.specs.inner.Stages.{HasBegun, Collects, CanGo, IsOver, Goes, CutShort, EndsEarly, end_of, StopsAfter}
+use Rattle.front_loop.specs.inner.Stages.{HasBegun, Collects, CanGo, IsOver, Goes, CutShort, end_of, StopsAfter}
 use Rattle.front_loop.specs.Front.{keeps}
 use Rattle.front_loop.proofs.Tables.{other, same, each_weaker, each_both, not_first}
 use Rattle.front_loop.proofs.Sitting.{clash}
@@ -44,17 +42,6 @@ stops_at e Fresh h = absurd h
 stops_at e (Hearing f) h = absurd h
 stops_at e (Collecting f) h = absurd h
 
-pub begins_at : (e : PortEvent) → EndsEarly e None → BeginsRound e
-begins_at event.Broken h = cc
-begins_at event.NoMemory h = cc
-begins_at (event.Opened c) h = tt
-begins_at (event.Bytes c) h = tt
-begins_at (event.Writable c) h = tt
-begins_at (event.Ended c) h = tt
-begins_at (event.Lost c) h = tt
-begins_at event.Woken h = tt
-begins_at event.Finished h = tt
-
 told_same : (o : Option PortsTold) → option_map (λ t. t) o ≡ o
 told_same None = refl
 told_same (Some t) = refl
@@ -77,25 +64,6 @@ module _ {A W T : Type 0} (R : Rules A W) (K : List ℕ → List (Move A) → T 
   goes_by (event.Ended c) false start w h = rolls_on (event.Ended c) false start w refl h
   goes_by (event.Lost c) false start w h = rolls_on (event.Lost c) false start w refl h
   goes_by event.Woken false start w h = rolls_on event.Woken false start w refl h
-
-  -- an event that begins no round
-  early_by : (e : PortEvent) (piece : List ℕ) (start told' : Option PortsTold) (w : World T) (o : Option FrontEnd) (end : FrontEnd) → o ≡ Some end → EndsEarly e o
-      → CanGo R K start w → Hears e piece w.told told' → Goes R K start (record w { told = told' }) o
-  early_by event.Broken piece start told' w o end q h g k = subst (λ (x : Option FrontEnd). Goes R K start (record w { told = told' }) x) (sym h) (w.told, g, k.1)
-  early_by event.NoMemory piece start told' w o end q h g k =
-      subst (λ (x : Option FrontEnd). Goes R K start (record w { told = told' }) x) (sym h)
-      (subst (λ (x : Option PortsTold). CanGo R K start (record w { told = x })) (sym (k.1 ∙ told_same w.told)) g)
-  early_by (event.Opened c) piece start told' w o end q h g k = let r : ◌≡◌ {A = Option FrontEnd} (Some end) None = sym q ∙ h in cc
-  early_by (event.Bytes c) piece start told' w o end q h g k = let r : ◌≡◌ {A = Option FrontEnd} (Some end) None = sym q ∙ h in cc
-  early_by (event.Writable c) piece start told' w o end q h g k = let r : ◌≡◌ {A = Option FrontEnd} (Some end) None = sym q ∙ h in cc
-  early_by (event.Ended c) piece start told' w o end q h g k = let r : ◌≡◌ {A = Option FrontEnd} (Some end) None = sym q ∙ h in cc
-  early_by (event.Lost c) piece start told' w o end q h g k = let r : ◌≡◌ {A = Option FrontEnd} (Some end) None = sym q ∙ h in cc
-  early_by event.Woken piece start told' w o end q h g k = let r : ◌≡◌ {A = Option FrontEnd} (Some end) None = sym q ∙ h in cc
-  early_by event.Finished piece start told' w o end q h g k = let r : ◌≡◌ {A = Option FrontEnd} (Some end) None = sym q ∙ h in cc
-
-  pub early_goes : (e : PortEvent) (piece : List ℕ) (start told' : Option PortsTold) (w : World T) (o : Option FrontEnd) (end : FrontEnd) → o ≡ Some end → EndsEarly e o
-      → CanGo R K start w → Hears e piece w.told told' → Goes R K start (record w { told = told' }) (Some end)
-  early_goes e piece start told' w o end q h g k = subst (λ (x : Option FrontEnd). Goes R K start (record w { told = told' }) x) q (early_by e piece start told' w o end q h g k)
 
   none_came : (told : Option PortsTold) → IfSome told (EachMayCome R [])
   none_came None = tt
@@ -268,33 +236,3 @@ module _ {A W T : Type 0} (R : Rules A W) (K : List ℕ → List (Move A) → T 
       subst (λ x. Ended start w mine' x worn) (sym q) (subst (λ es. Ended start w es ended.Worn worn) (sym m)
       (broken_worn start w told worn h t n))
   serves_end start w mine' ended.Worn end' worn h s = absurd h
-
--- the ports' count of faults
-pub counts_grow : (e : PortEvent) (n m : ℕ) → EventCounts n m e → n ≤ m
-counts_grow (event.Lost c) n m h = h.0
-counts_grow event.Broken n m h = h.0
-counts_grow (event.Opened c) n m h = omega (arith, h)
-counts_grow (event.Bytes c) n m h = omega (arith, h)
-counts_grow (event.Writable c) n m h = omega (arith, h)
-counts_grow (event.Ended c) n m h = omega (arith, h)
-counts_grow event.Woken n m h = omega (arith, h)
-counts_grow event.Finished n m h = omega (arith, h)
-counts_grow event.NoMemory n m h = omega (arith, h)
-
--- an event that ends a front as broken is Broken, and counts
-pub counts_broken : (e : PortEvent) (n m : ℕ) (end : FrontEnd) → EventCounts n m e → EndsEarly e (Some end) → end ≡ ended.Broken → Counted n m
-counts_broken event.Broken n m end h s b = h
-counts_broken event.NoMemory n m end h s b = let r : ◌≡◌ {A = Option FrontEnd} (Some ended.Broken) (Some ended.NoMemory) = sym (ap Some b) ∙ s in cc
-counts_broken (event.Lost c) n m end h s b = h
-counts_broken (event.Opened c) n m end h s b = cc
-counts_broken (event.Bytes c) n m end h s b = cc
-counts_broken (event.Writable c) n m end h s b = cc
-counts_broken (event.Ended c) n m end h s b = cc
-counts_broken event.Woken n m end h s b = cc
-counts_broken event.Finished n m end h s b = cc
-
--- a count that rose goes on to have risen since before
-pub counts_before : (n m k : ℕ) → n ≤ m → Counted m k → Counted n k
-counts_before n m k l h = let a = h.0 in
-    let b = h.1 in
-    (omega (arith, l, a), omega (arith, l, b))

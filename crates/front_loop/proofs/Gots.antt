@@ -500,12 +500,6 @@ module _ {A W T : Type 0} (R : Rules A W) (K : List ℕ → List (Move A) → T 
       (λ d ne. settles_other s.conn a.response (worse s.disposition a.disposition) s'.disposition w.box box' d a.settles ne)
       (answered_sits w.told w.box box' p s s' r mine1 mine' sits (untried R ss s.conn h.stands.sound (gathers_at e (phase ss) h.time)).0 k n a)
 
-  -- a turn was worn at the Collect, or while its reply was answered
-  pub collect_worn : (e : PortEvent) (start : Option PortsTold) (ss : List (Step A)) (w : World T) (mine' : List Entry) → Collects R K e start ss w → mine' ≡ w.mine
-      → CutShort R K start w.told mine' w.starved
-  collect_worn e start ss w mine' h m =
-      record { steps = ss; entries = m ∙ h.stands.entries; telling = h.stands.telling; coming = h.stands.coming; sound = h.stands.sound; counted = h.stands.counted }
-
   pub got_worn : (e : PortEvent) (start : Option PortsTold) (ss : List (Step A)) (w : World T) (r : Reply) (mine1 mine' : List Entry) (i : ℕ) (s : Session T)
       → Collects R K e start ss w → mine1 ≡ w.mine ++ Collect R.number (collected.Reply r) ∷ [] → StandsAt w.sessions i s → s.conn ≡ r.conn.number
       → AnswersWorn R K r mine1 mine' s → CutShort R K start w.told mine' w.starved

@@ -4,7 +4,7 @@ use Rattle.farm_history.specs.Lists.{Each}
 use Rattle.farm_history.specs.Entries.{Entry, Leave}
 use Rattle.port_events.specs.declared.events.PortEvent.{PortEvent}
 use Rattle.port_events.specs.Told.{PortsTold, IsOpen, after_close}
-use Rattle.port_events.specs.Boxes.{without, HasRest}
+use Rattle.port_events.specs.Boxes.{without}
 use Rattle.front_loop.specs.declared.dispositions.Disposition.TheVariants.{Stays, Leaves}
 use Rattle.front_loop.specs.declared.dispositions.Reason.{Reason}
 use Rattle.front_loop.specs.declared.dispositions.Reason.TheVariants as reason
@@ -18,7 +18,7 @@ use Rattle.front_loop.specs.inner.StepRuns.{EndsAt}
 use Rattle.front_loop.specs.Front.{keeps}
 use Rattle.front_loop.specs.inner.Sessions.{conns, Apart, StandsAt, IsLeaving, is_up, asks_all}
 use Rattle.front_loop.specs.inner.Stands.{World, IsAtRest, DispositionFits, Sits}
-use Rattle.front_loop.specs.inner.Stages.{OwesNone, CanLeave, IsOver, CutShort, Shuts}
+use Rattle.front_loop.specs.inner.Stages.{OwesNone, CanLeave, IsOver, Shuts}
 use Rattle.front_loop.proofs.Tables.{other, has_at, conns_less, each_less, each_at, each_both, each_weaker, apart_remove}
 use Rattle.front_loop.proofs.Rests.{other_without, keys_without}
 use Rattle.front_loop.proofs.Sitting.{others}
@@ -131,18 +131,6 @@ module _ {A W T : Type 0} (R : Rules A W) (K : List ℕ → List (Move A) → T 
         offered = each_less OwesNone OwesNone w.sessions i s at st.apart h.offered (λ x ne q. q);
       }
 
-  pub leave_worn : (e : PortEvent) (stopped : Bool) (start : Option PortsTold) (w : World T) (mine' : List Entry) → CanLeave R K e stopped start w → mine' ≡ w.mine → CutShort R K start w.told mine' w.starved
-  leave_worn e stopped start w mine' h m =
-      record { steps = h.steps; entries = m ∙ h.stands.entries; telling = h.stands.telling; coming = h.stands.coming; sound = h.stands.sound; counted = h.stands.counted }
-
-  pub rest_of_leave : (e : PortEvent) (stopped : Bool) (start : Option PortsTold) (w : World T) (i : ℕ) (s : Session T) → CanLeave R K e stopped start w → StandsAt w.sessions i s → HasRest w.box s.conn
-  rest_of_leave e stopped start w i s h at = (each_at (λ (x : Session T). Sits R K w.told w.box (part R h.steps x.conn) x) w.sessions i s at h.stands.each).rest_there
-
-  pub open_of_leave : (e : PortEvent) (stopped : Bool) (start : Option PortsTold) (w : World T) (i : ℕ) (s : Session T) (why : Reason) → CanLeave R K e stopped start w → StandsAt w.sessions i s
-      → s.disposition ≡ Leaves why → is_up (Leaves why) ≡ true → IsOpen s.conn w.told
-  open_of_leave e stopped start w i s why h at f u =
-      (each_at (λ (x : Session T). Sits R K w.told w.box (part R h.steps x.conn) x) w.sessions i s at h.stands.each).opening (ap is_up f ∙ u)
-
   -- none leaves any more
   pub over : (e : PortEvent) (stopped : Bool) (start : Option PortsTold) (w : World T) → CanLeave R K e stopped start w → Each (λ (s : Session T). s.disposition ≡ Stays) w.sessions → IsOver R K e stopped start w
   over e stopped start w h n = record {
@@ -165,10 +153,3 @@ module _ {A W T : Type 0} (R : Rules A W) (K : List ℕ → List (Move A) → T 
       (ap (without w.box) sc ∙ sym b)
       (left_one e stopped start told' w i s asks why mine' starved' h at f
       (m ∙ ap (λ d. w.mine ++ Leave (record { front = R.number; number = d }) asks ∷ []) (sym sc)) (subst (λ d. Shuts d why w.told told') (sym sc) sh) n))
-
-  pub leaving_rest : (e : PortEvent) (stopped : Bool) (start : Option PortsTold) (w : World T) (i c : ℕ) (why : Reason) → CanLeave R K e stopped start w → IsLeaving w.sessions i c why → HasRest w.box c
-  leaving_rest e stopped start w i c why h (s, at, sc, f) = subst (HasRest w.box) sc (rest_of_leave e stopped start w i s h at)
-
-  pub leaving_open : (e : PortEvent) (stopped : Bool) (start : Option PortsTold) (w : World T) (i c : ℕ) (why : Reason) → CanLeave R K e stopped start w → IsLeaving w.sessions i c why
-      → is_up (Leaves why) ≡ true → IsOpen c w.told
-  leaving_open e stopped start w i c why h (s, at, sc, f) u = subst (λ d. IsOpen d w.told) sc (open_of_leave e stopped start w i s why h at f u)

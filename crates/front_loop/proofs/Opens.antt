@@ -159,10 +159,3 @@ module _ {A W T : Type 0} (R : Rules A W) (K : List ℕ → List (Move A) → T 
       (refused c piece start told told' (world was mine old) new.starved m t
       (tn ∙ ap (λ (xs : List (Session T)). cond (nat_lt (length xs) most_sessions) (min (mid.starved + 1) (2 ^ 64 - 1)) mid.starved) se
       ∙ ap (λ (n : ℕ). cond (nat_lt (length old.sessions.items) most_sessions) (min (n + 1) (2 ^ 64 - 1)) n) te)))
-
-  -- the outbox has the connections of the sessions
-  pub opened_keys : (c : ℕ) (piece : List ℕ) (start told : Option PortsTold) (w : World T) → Comes R K (event.Opened c) piece start told w → keys w.box ≡ conns w.sessions
-  opened_keys c piece start told w m = m.can.stands.keys_are ∙ sym m.can.stands.conns_are
-
-  pub just_told : (c : ℕ) (piece : List ℕ) (start told : Option PortsTold) (w : World T) → Comes R K (event.Opened c) piece start told w → IsOpen c told
-  just_told c piece start told w m = subst (IsOpen c) (sym m.heard.1) (just_open w.told c piece)

@@ -47,10 +47,6 @@ pub and_both : (a b : Bool) → a ≡ true → b ≡ true → (a && b) ≡ true
 and_both true b h k = k
 and_both false b h k = clash (sym h)
 
-pub or_cases : (a b : Bool) → (a || b) ≡ true → (a ≡ false → b ≡ true)
-or_cases true b h e = clash e
-or_cases false b h e = h
-
 pub lost_up : (b : Bool) → not (b || true) ≡ false
 lost_up true = refl
 lost_up false = refl

@@ -286,10 +286,6 @@ module _ {T : Type 0} where
       none_spot p ss (unplaced_by (spot_by p ss) (length ss) (nat_lt (spot_by p ss) (length ss)) (spot_by_le p ss) refl
       (ap (λ n. cond (nat_lt n (length ss)) (Some n) None) (sym e) ∙ h))
 
-  -- the session that was read at a place is the one that stands there
-  pub read_at : (ss : List (Session T)) (i : ℕ) (s r : Session T) → StandsAt ss i s → r ≡ get_or ss i r → r ≡ s
-  read_at ss i s r h e = one_at ss i s r h (h.0, sym e)
-
   get_any : (ss : List (Session T)) (i : ℕ) (x d : Session T) → StandsAt ss i x → get_or ss i d ≡ x
   get_any [] i x d h = absurd (omega (arith, h.0))
   get_any (y ∷ ys) zero x d h = h.1

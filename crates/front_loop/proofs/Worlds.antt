@@ -405,9 +405,6 @@ module _ {A W T : Type 0} (R : Rules A W) (K : List ℕ → List (Move A) → T 
   marked_conn event.Broken s = refl
   marked_conn event.NoMemory s = refl
 
-  at_event : (e : PortEvent) → BeginsRound e → IsAt e (Hearing e)
-  at_event e b = refl
-
   -- the session of a connection, if it is there, is marked
   pub mark_begins : (e : PortEvent) (c : ℕ) (piece : List ℕ) (start told : Option PortsTold) (w : World T) (sessions : List (Session T)) → Markable e c → BeginsRound e
       → (m : Comes R K e piece start told w)

@@ -27,10 +27,10 @@ fn run_steps<D: TileStore>(
     farm: &mut Farm<D>,
     steps: &[Step],
 ) -> Result<Totals, NoMemory>
-    requires stands { (told : Bool) × StandsFor D.state told farm.old [] }
+    requires stands { (store_tells : Bool) × StandsFor D.state store_tells farm.old [] }
     requires tiles { Each (λ s. IsTile (spot_tile s.spot)) steps.now }
     requires few { length steps.now ≤ 32 }
-    ensures run { (told : Bool) → StandsFor D.state told farm.old [] → Runs D.state told farm.new steps.now result }
+    ensures run { (store_tells : Bool) → StandsFor D.state store_tells farm.old [] → Runs D.state store_tells farm.new steps.now result }
     ensures kept { Lasts D.state farm.old farm.new }
 {
     let mut picture_buffer = PictureBuffer::new(alloc);
@@ -65,8 +65,8 @@ fn work_on<D: TileStore, O: Sink>(
     out: &mut O,
 ) -> Result<(), Stop>
     requires few { features ≤ 100000 }
-    requires stands { (told : Bool) × StandsFor D.state told farm.old [] }
-    ensures run { (told : Bool) → StandsFor D.state told farm.old [] → LoadsOn seed features (λ h. StandsFor D.state told farm.new h) (O.state out.old) (O.state out.new) result }
+    requires stands { (store_tells : Bool) × StandsFor D.state store_tells farm.old [] }
+    ensures run { (store_tells : Bool) → StandsFor D.state store_tells farm.old [] → LoadsOn seed features (λ h. StandsFor D.state store_tells farm.new h) (O.state out.old) (O.state out.new) result }
     ensures kept { Lasts D.state farm.old farm.new }
 {
     let all = steps(seed, features);

@@ -36,9 +36,9 @@ pub(crate) struct StepSeen {
 
 /// Expires the step's tile, if it is so marked.
 fn expire_marked<D: TileStore>(farm: &mut Farm<D>, step: Step)
-    requires stands { (told : Bool) × (g : List Entry) × StandsFor D.state told farm.old g × (weight g < most_turns) }
+    requires stands { (store_tells : Bool) × (g : List Entry) × StandsFor D.state store_tells farm.old g × (weight g < most_turns) }
     requires tile { IsTile (spot_tile step.spot) }
-    ensures grows { (told : Bool) (g : List Entry) → StandsFor D.state told farm.old g → Grows D.state told farm.new (weight g + 1) (Expires step g) }
+    ensures grows { (store_tells : Bool) (g : List Entry) → StandsFor D.state store_tells farm.old g → Grows D.state store_tells farm.new (weight g + 1) (Expires step g) }
     ensures kept { Lasts D.state farm.old farm.new }
 {
     if step.expire {
@@ -63,8 +63,8 @@ fn draw_next<D: TileStore>(
     picture_buffer: &mut PictureBuffer,
     farm: &mut Farm<D>,
 ) -> Result<bool, NoMemory>
-    requires stands { (told : Bool) × (g : List Entry) × StandsFor D.state told farm.old g × (weight g < most_turns) }
-    ensures grows { (told : Bool) (g : List Entry) (step : Step) → StandsFor D.state told farm.old g → Grows D.state told farm.new (weight g + 2) (Draws step g result) }
+    requires stands { (store_tells : Bool) × (g : List Entry) × StandsFor D.state store_tells farm.old g × (weight g < most_turns) }
+    ensures grows { (store_tells : Bool) (g : List Entry) (step : Step) → StandsFor D.state store_tells farm.old g → Grows D.state store_tells farm.new (weight g + 2) (Draws step g result) }
     ensures kept { Lasts D.state farm.old farm.new }
 {
     let job = match farm.claim(0) {
@@ -84,8 +84,8 @@ fn draw_next<D: TileStore>(
 
 /// Collects the replies of front 0 until there is none.
 fn collect_all<D: TileStore>(farm: &mut Farm<D>)
-    requires stands { (told : Bool) × (g : List Entry) × StandsFor D.state told farm.old g × (weight g < most_turns) }
-    ensures grows { (told : Bool) (g : List Entry) → StandsFor D.state told farm.old g → Grows D.state told farm.new (weight g + 1) (CollectsAll g) }
+    requires stands { (store_tells : Bool) × (g : List Entry) × StandsFor D.state store_tells farm.old g × (weight g < most_turns) }
+    ensures grows { (store_tells : Bool) (g : List Entry) → StandsFor D.state store_tells farm.old g → Grows D.state store_tells farm.new (weight g + 1) (CollectsAll g) }
     ensures kept { Lasts D.state farm.old farm.new }
 {
     while let Collected::Reply(_) = farm.collect(0) {}
@@ -115,8 +115,8 @@ fn fetch_one<D: TileStore>(
     spot: Spot,
     lost: bool,
 ) -> Result<StepSeen, NoMemory>
-    requires stands { (told : Bool) × (g : List Entry) × StandsFor D.state told farm.old g × (weight g < most_turns) }
-    ensures grows { (told : Bool) (g : List Entry) → StandsFor D.state told farm.old g → Grows D.state told farm.new (weight g + 1) (FetchesOne spot lost g result) }
+    requires stands { (store_tells : Bool) × (g : List Entry) × StandsFor D.state store_tells farm.old g × (weight g < most_turns) }
+    ensures grows { (store_tells : Bool) (g : List Entry) → StandsFor D.state store_tells farm.old g → Grows D.state store_tells farm.new (weight g + 1) (FetchesOne spot lost g result) }
     ensures kept { Lasts D.state farm.old farm.new }
 {
     let fetched = farm.fetch(alloc, spot);
@@ -134,9 +134,9 @@ pub(crate) fn run_step<D: TileStore>(
     farm: &mut Farm<D>,
     step: &Step,
 ) -> Result<StepSeen, NoMemory>
-    requires stands { (told : Bool) × (g : List Entry) × StandsFor D.state told farm.old g × (weight g < 2 ^ 61) }
+    requires stands { (store_tells : Bool) × (g : List Entry) × StandsFor D.state store_tells farm.old g × (weight g < 2 ^ 61) }
     requires tile { IsTile (spot_tile step.now.spot) }
-    ensures grows { (told : Bool) (g : List Entry) → StandsFor D.state told farm.old g → Grows D.state told farm.new (weight g + 7) (Steps step.now g result) }
+    ensures grows { (store_tells : Bool) (g : List Entry) → StandsFor D.state store_tells farm.old g → Grows D.state store_tells farm.new (weight g + 7) (Steps step.now g result) }
     ensures kept { Lasts D.state farm.old farm.new }
 {
     expire_marked(farm, *step);

@@ -337,9 +337,6 @@ none_of w none j i places corners =
 
 -- ---- edges and rings that are left
 
-pub remains_start : (w : Window) (whole : Point → Bool) (old : Crossed) → Remains w whole whole old old
-remains_start w whole old = record { inside = λ all. all; at = λ j i p q. refl }
-
 pub remains_more : (w : Window) (left edge rest whole : Point → Bool) (old now next : Crossed)
     → ((c : Point) → left c ≡ flip (edge c) (rest c)) → Remains w left whole old now → Turned w edge now next → Remains w rest whole old next
 remains_more w left edge rest whole old now next split r t = record {

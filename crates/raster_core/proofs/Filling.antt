@@ -11,7 +11,7 @@ use Rattle.plain_world.specs.declared.world.Window.{Window}
 use Rattle.plain_world.specs.World.{IsWindow, centre, centres}
 use Rattle.plain_shapes.specs.Images.{Bits}
 use Rattle.plain_shapes.specs.inner.Canvas.{marked, Reached}
-use Rattle.plain_shapes.proofs.Places.{reached_start, reached_skip, reached_end}
+use Rattle.plain_shapes.proofs.Places.{reached_skip, reached_end}
 use Rattle.raster_core.specs.declared.columns.Crossed.{Crossed}
 use Rattle.raster_core.specs.declared.runs.Run.{Run}
 use Rattle.raster_core.specs.inner.Toggles.{flip, is_up_to, parity_at, AllInside, SameParities}
@@ -237,9 +237,6 @@ pub record Filled (w : Window) (m : Point → Bool) (places : List ℕ) (k : ℕ
   pub fits : n ≤ w.rows * w.cols
   pub done : Done w places k n
   pub reached : Reached m w n old now
-
-pub filled_none : (w : Window) (m : Point → Bool) (places : List ℕ) (old : Bits) → Filled w m places 0 old old
-filled_none w m places old = record { n = 0; fits = omega arith; done = done_none w places; reached = reached_start m w old }
 
 pub filled_more : (w : Window) (m : Point → Bool) (places : List ℕ) (k : ℕ) (r : Run) (old now next : Bits) → IsWindow w → r.row < w.rows → r.start ≤ r.end → r.end ≤ w.cols
     → (f : Filled w m places k old now) → IsNext w m places f.n r

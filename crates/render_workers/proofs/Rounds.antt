@@ -1,5 +1,5 @@
 -- Rounds put together.
-use Rattle.std.proofs.Common.{◌≡◌, ℕ, Bool, true, List, [], ◌∷◌, ◌++◌, inl, inr, ◌⊎◌, refl, sym, ap, ◌∙◌, subst, append_assoc, append-nil}
+use Rattle.std.proofs.Common.{◌≡◌, ℕ, Bool, List, [], ◌∷◌, ◌++◌, inl, inr, ◌⊎◌, refl, sym, ap, ◌∙◌, subst, append_assoc, append-nil}
 use Rattle.farm_history.specs.declared.answers.ClaimAnswer.{ClaimAnswer}
 use Rattle.farm_history.specs.declared.answers.ClaimAnswer.TheVariants.{Job}
 use Rattle.farm_history.specs.declared.answers.Finished.{Finished}
@@ -14,8 +14,7 @@ use Rattle.farm_shared.specs.Seats.{plain}
 use Rattle.farm_shared.specs.Shared.{Adds}
 use Rattle.render_workers.specs.declared.worker.WorkEnd.{WorkEnd}
 use Rattle.render_workers.specs.Rounds.{Round, Drew, FoundNone, FoundMany, round_entries, LastEntries, Gains, Worked}
-use Rattle.render_workers.specs.declared.worker.Next.{Next}
-use Rattle.render_workers.specs.inner.Nexts.{IsWorking, IsWornOut}
+use Rattle.render_workers.specs.inner.Nexts.{IsWorking}
 
 module _ {T : Type 0} where
   -- a turn gains its entry
@@ -89,10 +88,3 @@ module _ {T : Type 0} where
 
   pub ends : (made : Made T) (w : ℕ) (end : WorkEnd) (u v x : SeatState T Entry) → IsWorking made w u v → (last : List Entry) × Gains last v x × LastEntries w end last → Worked w end u x
   ends made w end u v x k added = worked w end k.rounds added.0 u v x k.gains added.1 added.2
-
-  pub ends_same : (made : Made T) (w : ℕ) (u v x : SeatState T Entry) → IsWorking made w u v → SameSeat v x → SameSeat u x
-  ends_same made w u v x k same = same_both u v x k.same same
-
-  pub worn_where : (end : WorkEnd) (x : SeatState T Entry) → IsWornOut (Next.End end) x → end ≡ WorkEnd.Worn → x.worn ≡ true
-  worn_where WorkEnd.Stopped x worn is = cc
-  worn_where WorkEnd.Worn x worn is = worn

@@ -15,7 +15,7 @@ use Rattle.script_text.specs.declared.ends.ScriptEnd.{ScriptEnd}
 use Rattle.script_text.specs.declared.ends.ScriptEnd.TheVariants.{Done, SinkFailed, NoMemory}
 use Rattle.exit_status.specs.Ends.{SinkAt}
 use Rattle.exit_status.specs.declared.stops.Stop.{Stop}
-use Rattle.farm_files.specs.Inputs.{Scripted}
+use Rattle.farm_files.specs.Inputs.{ScriptInputs}
 use Rattle.script_text.specs.Left.{Leaves}
 use Rattle.script_command.specs.Scripts.{ScriptsOn, Scripts}
 use Rattle.script_command.specs.inner.Runs.{command_end}
@@ -65,7 +65,7 @@ module _ (plan : FarmPlan) (lines : List ScriptLine) (stands : List Entry → Ty
   ran_on failed how end is run = subst (λ (e : Result (Unit {0}) Stop). ScriptsOn plan lines stands out out' e) (sym is) (so failed how run)
 
 -- a script on a farm of its plan
-pub ran_over : {D : Type 0} (state : D → Outside StoreTold) (s : Scripted) (store store' : D) (farm : FarmSeen D) (lines : List ScriptLine) (out out' : SinkAt) (end : Result (Unit {0}) Stop)
+pub ran_over : {D : Type 0} (state : D → Outside StoreTold) (s : ScriptInputs) (store store' : D) (farm : FarmSeen D) (lines : List ScriptLine) (out out' : SinkAt) (end : Result (Unit {0}) Stop)
     → lines ≡ s.script → farm.plan ≡ s.inputs.plan → Begins state farm.plan None store farm
     → ((d : D) → Begins state farm.plan None d farm → Leaves state farm.plan d store' (λ stands. ScriptsOn farm.plan lines stands out out' end)) → Scripts state s store store' out out' end
 ran_over state s store store' farm lines out out' end lines_is plan_is begins run =

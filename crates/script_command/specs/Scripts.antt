@@ -13,7 +13,7 @@ use Rattle.script_text.specs.Left.{Leaves}
 use Rattle.exit_status.specs.Ends.{SinkAt}
 use Rattle.exit_status.specs.declared.stops.Stop.{Stop}
 use Rattle.exit_status.specs.declared.stops.Stop.TheVariants as stop
-use Rattle.farm_files.specs.Inputs.{Scripted}
+use Rattle.farm_files.specs.Inputs.{ScriptInputs}
 
 -- how a put on out was answered where the run ended so
 abbrev pub put_of : Result (Unit {0}) Stop → Result (Unit {0}) SinkFault
@@ -43,7 +43,7 @@ pub record ScriptsOn (plan : FarmPlan) (lines : List ScriptLine) (stands : List 
 
 -- A script over a store, on a farm of its plan. In want of memory the farm may not be started; then nothing is put, and
 -- the store is as it was.
-abbrev pub Scripts : {D : Type 0} → (D → Outside StoreTold) → Scripted → D → D → SinkAt → SinkAt → Result (Unit {0}) Stop → Type 0
+abbrev pub Scripts : {D : Type 0} → (D → Outside StoreTold) → ScriptInputs → D → D → SinkAt → SinkAt → Result (Unit {0}) Stop → Type 0
 Scripts state s store store' out out' end =
     Leaves state s.inputs.plan store store' (λ stands. ScriptsOn s.inputs.plan s.script stands out out' end)
     ⊎ ((end ≡ Err stop.NoMemory) × (store' ≡ store) × (out' ≡ out))

@@ -10,7 +10,7 @@ ghost use Rattle.script_command.specs.inner.Runs.{Runs, command_end};
 use exit_status::Stop;
 use farm_base::{Files, Sink};
 use farm_core::Farm;
-use farm_files::{Scripted, script_files};
+use farm_files::{ScriptInputs, script_files};
 use script_text::{Script, ScriptEnd, ScriptRun, run_noting};
 use std::alloc::Global;
 use tile_store::TileStore;
@@ -51,14 +51,14 @@ fn run_on<D: TileStore, O: Sink>(
 /// Runs a script on a farm of the plan over the store.
 fn run_over<D: TileStore, O: Sink>(
     alloc: Global,
-    scripted: Scripted,
+    scripted: ScriptInputs,
     out: &mut O,
     store: D,
 ) -> (Result<(), Stop>, D)
     requires { IsPlan scripted.inputs.plan }
     ensures { Scripts D.state scripted store result.1 (O.state out.old) (O.state out.new) result.0 }
 {
-    let Scripted { inputs, script } = scripted;
+    let ScriptInputs { inputs, script } = scripted;
     match Farm::start(alloc, inputs.plan, store) {
         Ok(farm) => run_on(alloc, farm, &script, out),
         Err(store) => (Err(Stop::NoMemory), store),

@@ -70,9 +70,9 @@ pub(crate) fn claim<D: TileStore>(
     worker: u32,
 ) -> Result<LineAnswer, NoMemory>
     requires turns { farm.old.counts.turns < 2 ^ 63 }
-    requires stands { (told : Bool) × (g : List Entry) × StandsFor D.state told farm.old g }
-    ensures step { (told : Bool) (g : List Entry) → StandsFor D.state told farm.old g → HandStands farm.old.plan g hand.old.items
-        → Answers D.state told farm.new farm.old.plan (line.Claim worker) g hand.old.items hand.new.items result }
+    requires stands { (store_tells : Bool) × (g : List Entry) × StandsFor D.state store_tells farm.old g }
+    ensures step { (store_tells : Bool) (g : List Entry) → StandsFor D.state store_tells farm.old g → HandStands farm.old.plan g hand.old.items
+        → Answers D.state store_tells farm.new farm.old.plan (line.Claim worker) g hand.old.items hand.new.items result }
     ensures kept { Lasts D.state farm.old farm.new }
 {
     match farm.claim(worker) {
@@ -101,9 +101,9 @@ pub(crate) fn finish<D: TileStore>(
     ticket: u64,
 ) -> Result<LineAnswer, NoMemory>
     requires turns { farm.old.counts.turns < 2 ^ 63 }
-    requires stands { (told : Bool) × (g : List Entry) × StandsFor D.state told farm.old g × HandStands farm.old.plan g hand.old.items }
-    ensures step { (told : Bool) (g : List Entry) → StandsFor D.state told farm.old g → HandStands farm.old.plan g hand.old.items
-        → Answers D.state told farm.new farm.old.plan (line.Finish ticket) g hand.old.items hand.new.items result }
+    requires stands { (store_tells : Bool) × (g : List Entry) × StandsFor D.state store_tells farm.old g × HandStands farm.old.plan g hand.old.items }
+    ensures step { (store_tells : Bool) (g : List Entry) → StandsFor D.state store_tells farm.old g → HandStands farm.old.plan g hand.old.items
+        → Answers D.state store_tells farm.new farm.old.plan (line.Finish ticket) g hand.old.items hand.new.items result }
     ensures kept { Lasts D.state farm.old farm.new }
 {
     let alloc = picture_buffer.alloc();
@@ -124,9 +124,9 @@ pub(crate) fn cut<D: TileStore>(
     ticket: u64,
 ) -> Result<LineAnswer, NoMemory>
     requires turns { farm.old.counts.turns < 2 ^ 63 }
-    requires stands { (told : Bool) × (g : List Entry) × StandsFor D.state told farm.old g × HandStands farm.old.plan g hand.old.items }
-    ensures step { (told : Bool) (g : List Entry) → StandsFor D.state told farm.old g → HandStands farm.old.plan g hand.old.items
-        → Answers D.state told farm.new farm.old.plan (line.Cut ticket) g hand.old.items hand.new.items result }
+    requires stands { (store_tells : Bool) × (g : List Entry) × StandsFor D.state store_tells farm.old g × HandStands farm.old.plan g hand.old.items }
+    ensures step { (store_tells : Bool) (g : List Entry) → StandsFor D.state store_tells farm.old g → HandStands farm.old.plan g hand.old.items
+        → Answers D.state store_tells farm.new farm.old.plan (line.Cut ticket) g hand.old.items hand.new.items result }
     ensures kept { Lasts D.state farm.old farm.new }
 {
     let job = match take_job(hand, ticket) {

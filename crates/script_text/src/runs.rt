@@ -34,9 +34,9 @@ pub fn run_noting<D: TileStore, O: Sink>(
     out: &mut O,
 ) -> ScriptRun
     requires few { farm.old.counts.turns < most_turns }
-    requires stands { (told : Bool) × (g : List Entry) × StandsFor D.state told farm.old g }
-    ensures run { (told : Bool) (g : List Entry) → StandsFor D.state told farm.old g
-        → Runs farm.old.plan script.now g (λ h. StandsFor D.state told farm.new h) (O.state out.old) (O.state out.new) result.failed result.end }
+    requires stands { (store_tells : Bool) × (g : List Entry) × StandsFor D.state store_tells farm.old g }
+    ensures run { (store_tells : Bool) (g : List Entry) → StandsFor D.state store_tells farm.old g
+        → Runs farm.old.plan script.now g (λ h. StandsFor D.state store_tells farm.new h) (O.state out.old) (O.state out.new) result.failed result.end }
     ensures kept { Lasts D.state farm.old farm.new }
 {
     let mut picture_buffer = PictureBuffer::new(alloc);
@@ -77,9 +77,9 @@ pub fn run<D: TileStore, O: Sink>(
     out: &mut O,
 ) -> ScriptEnd
     requires few { farm.old.counts.turns < most_turns }
-    requires stands { (told : Bool) × (g : List Entry) × StandsFor D.state told farm.old g }
-    ensures run { (told : Bool) (g : List Entry) → StandsFor D.state told farm.old g
-        → (failed : Bool) × Runs farm.old.plan script.now g (λ h. StandsFor D.state told farm.new h) (O.state out.old) (O.state out.new) failed result }
+    requires stands { (store_tells : Bool) × (g : List Entry) × StandsFor D.state store_tells farm.old g }
+    ensures run { (store_tells : Bool) (g : List Entry) → StandsFor D.state store_tells farm.old g
+        → (failed : Bool) × Runs farm.old.plan script.now g (λ h. StandsFor D.state store_tells farm.new h) (O.state out.old) (O.state out.new) failed result }
     ensures kept { Lasts D.state farm.old farm.new }
 {
     run_noting(alloc, farm, script, out).end

@@ -13,7 +13,7 @@ use Rattle.plain_world.specs.declared.world.Tile.{Tile}
 use Rattle.farm_history.specs.Entries.{Entry}
 use Rattle.farm_plan.specs.Plans.{FarmPlan, maps_in}
 use Rattle.farm_config.specs.Configs.{Config}
-use Rattle.farm_files.specs.Inputs.{Served}
+use Rattle.farm_files.specs.Inputs.{ServeInputs}
 use Rattle.farm_refinement.specs.Seen.{FarmSeen}
 use Rattle.farm_runs.specs.declared.each_front.EachFront.{EachFront}
 use Rattle.farm_runs.specs.Promise.{RunsWell}
@@ -56,7 +56,7 @@ module _ {D : Type 0} (state : D → Outside StoreTold) where
         subst (λ (l : Left D). RanTo state ready before (record { out = out'; left = l; fronts = done.fronts.items; ports = ports' }) done.end l) (sym ended.left_is)
         (record { last = run.closed.0; done = run.fronts; ends = ends_of run; runs = runs; fronts_are = ended.fronts_are; winds = ended.winds })
 
-  module _ (s : Served) (store : D) where
+  module _ (s : ServeInputs) (store : D) where
     module _ (config : Config) (config_is : config ≡ s.config) (plan : FarmPlan) (plan_is : plan ≡ s.inputs.plan) (resume : Bool) (resume_is : resume ≡ s.config.resume) where
       -- the same of the parts of what the files say
       pub cannot : (at : Outside StoreTold) (why : Stop) → CannotBegin (state store) plan resume at why → CannotBegin (state store) s.inputs.plan s.config.resume at why
@@ -68,7 +68,7 @@ module _ {D : Type 0} (state : D → Outside StoreTold) where
       pub listened : (old new : EachFront (Outside PortsTold)) (end : Result (Unit {0}) Stop) → Listening (places config old new) end → Listening (places s.config old new) end
       listened old new end h = subst (λ (c : Config). Listening (places c old new) end) config_is h
 
-  module _ (s : Served) (store : D) (out out' : SinkAt) (ports ports' : EachFront (Outside PortsTold)) where
+  module _ (s : ServeInputs) (store : D) (out out' : SinkAt) (ports ports' : EachFront (Outside PortsTold)) where
     abbrev start : World D
     start = record { out = out; left = Store store; fronts = []; ports = ports }
 

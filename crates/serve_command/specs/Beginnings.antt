@@ -69,7 +69,7 @@ pub record HasBegun {D : Type 0} (state : D → Outside StoreTold) (plan : FarmP
   pub first_shows : state farm.first ≡ state store
   pub emptied : HasEmptied resume (state store) (state farm.store)
   -- it stands for what it was resumed from
-  pub stands : (told : Bool) → (told ≡ true → Tells (state farm.first) farm.plan farm.saved) → StandsFor state told farm (past (lasting_of state farm) [])
+  pub stands : (store_tells : Bool) → (store_tells ≡ true → Tells (state farm.first) farm.plan farm.saved) → StandsFor state store_tells farm (past (lasting_of state farm) [])
 
 -- Why none was begun, and what the store shows then. Refused, by the line of the first fault of what is saved; StoreFailed, where what is saved could not be had, or could not be emptied; or NoMemory. But for the call that failed the store shows what it showed
 abbrev pub CannotBegin : Outside StoreTold → FarmPlan → Bool → Outside StoreTold → Stop → Type 0

@@ -9,7 +9,7 @@ use Rattle.exit_status.specs.declared.stops.Stop.{Stop}
 use Rattle.exit_status.specs.declared.stops.Stop.TheVariants as stop
 use Rattle.farm_history.specs.Entries.{Entry}
 use Rattle.farm_config.specs.Configs.{Config}
-use Rattle.farm_files.specs.Inputs.{Served}
+use Rattle.farm_files.specs.Inputs.{ServeInputs}
 use Rattle.farm_refinement.specs.Seen.{FarmSeen}
 use Rattle.farm_shared.specs.Shared.{lasting_of, past}
 use Rattle.farm_runs.specs.declared.each_front.EachFront.{EachFront}
@@ -56,7 +56,7 @@ ClosedFarm D = FarmSeen D × List (ℕ × Entry)
 abbrev pub whole_history : {D : Type 0} → (D → Outside StoreTold) → ClosedFarm D → List Entry
 whole_history state closed = past (lasting_of state closed.0) closed.1
 
-module _ {D : Type 0} (state : D → Outside StoreTold) (s : Served) (store : D) where
+module _ {D : Type 0} (state : D → Outside StoreTold) (s : ServeInputs) (store : D) where
   -- Why no actor was started: no farm was begun, and then no port was listened on; or a farm was, whose store is left, and
   -- a port could not be listened on, or memory was wanting after that
   abbrev pub WhyNot : D → EachFront (Outside PortsTold) → EachFront (Outside PortsTold) → Stop → Type 0

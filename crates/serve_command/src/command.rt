@@ -22,7 +22,7 @@ use expiry_lists::TileList;
 use farm_base::{Bell, Files, Gate, Sink, Text};
 use farm_config::Config;
 use farm_core::Farm;
-use farm_files::{FarmInputs, Served, serve_files};
+use farm_files::{FarmInputs, ServeInputs, serve_files};
 use farm_runs::{Fronts, run_farm};
 use port_events::{FrontDone, Ports, ThreePorts};
 use std::alloc::Global;
@@ -121,7 +121,7 @@ fn serve_inputs<
 >(
     rt: &R,
     alloc: Global,
-    served: Served,
+    served: ServeInputs,
     out: &mut O,
     store: D,
     ports: &mut ThreePorts<P, B>,
@@ -133,7 +133,7 @@ fn serve_inputs<
         (record { out = O.state out.new; left = result.left; fronts = result.fronts.items; ports = three (P.state ports.new.renderd) (P.state ports.new.tiles) (P.state ports.new.control) })
         result.end }
 {
-    let Served { config, inputs } = served;
+    let ServeInputs { config, inputs } = served;
     let FarmInputs { plan, lists } = inputs;
     let workers = plan.workers;
     let Ok(room) = Vec::with_capacity(alloc, 3) else {

@@ -1,15 +1,13 @@
 -- What a symbolizer covers on a feature, as a mask of the region near it.
-use Rattle.std.proofs.Common.{List, [], ◌∷◌, subst, arith, refl, ◌≡◌, ◌+◌, ◌*◌, ◌/◌, ◌<◌, ℕ, Bool, true, false, ◌||◌, ap, sym, ◌∙◌, length, get_or, replicate}
+use Rattle.std.proofs.Common.{List, [], ◌∷◌, subst, arith, refl, ◌≡◌, ◌+◌, ◌*◌, ◌/◌, ◌<◌, ℕ, Bool, false, ◌||◌, ap, sym, ◌∙◌, length, get_or, replicate}
 use Rattle.std.specs.Prelude.{All, Some}
-use Rattle.std.proofs.lemmas.Bool.{false_from_ne_true, true≢false}
+use Rattle.std.proofs.lemmas.Bool.{false_from_ne_true}
 use Rattle.std.proofs.lemmas.Nat.{row_fits}
 use Rattle.std.proofs.lemmas.List.{get_or-map}
 use Rattle.plain_world.specs.declared.world.Point.{Point}
 use Rattle.plain_world.specs.declared.world.Window.{Window}
 use Rattle.plain_drawing.specs.declared.style.Symbolizer.{Symbolizer}
 use Rattle.plain_drawing.specs.declared.style.Symbolizer.TheVariants as paint
-use Rattle.plain_shapes.specs.declared.colour.Colour.{Colour}
-use Rattle.plain_shapes.specs.declared.shapes.LineCap.{LineCap}
 use Rattle.plain_shapes.specs.declared.shapes.Geometry.{Geometry}
 use Rattle.plain_shapes.specs.declared.shapes.Geometry.TheVariants as shape
 use Rattle.plain_world.specs.World.{InWorld, centre, centres}
@@ -28,7 +26,7 @@ use Rattle.tile_render.specs.declared.regions.Region.{Region}
 use Rattle.tile_render.specs.inner.Regions.{IsRegion, InRegion, region_window, Holds, HoldsCovered, Tells}
 use Rattle.tile_render.specs.declared.covers.CoveredPixels.{CoveredPixels}
 use Rattle.tile_render.specs.declared.covers.CoveredPixels.TheVariants.{Pieces, Runs}
-use Rattle.tile_render.specs.inner.Covers.{is_points, Shows, IsCover}
+use Rattle.tile_render.specs.inner.Covers.{Shows, IsCover}
 
 -- of bits with the members marked, those that are set are the members
 pub bit_told : (w : Window) (member : Point → Bool) (bits : List Bool) (j i : ℕ) → bits ≡ marked member (centres w) (replicate (w.rows * w.cols) false)
@@ -110,16 +108,3 @@ pub points_inside : (g : Geometry) (points : List Point) → g ≡ shape.Points 
 points_inside g points is inside =
     let here : All (All InWorld) (points ∷ []) = subst (λ s. All (All InWorld) (parts_of s)) is inside in
     here 0 [] (omega arith)
-
--- points have no strokes, and no other shape has marks
-pub points_unstroked : (pixel width opacity : ℕ) (colour : Colour) (cap : LineCap) (g : Geometry) (c : Point) → is_points g ≡ true
-    → covers pixel g c (paint.Line colour width opacity cap) ≡ false
-points_unstroked pixel width opacity colour cap (shape.Points points) c is = refl
-points_unstroked pixel width opacity colour cap (shape.Lines lines) c is = absurd (true≢false (sym is))
-points_unstroked pixel width opacity colour cap (shape.Polygon rings) c is = absurd (true≢false (sym is))
-
-pub others_unmarked : (pixel width height opacity : ℕ) (colour : Colour) (g : Geometry) (c : Point) → is_points g ≡ false
-    → covers pixel g c (paint.Markers colour width height opacity) ≡ false
-others_unmarked pixel width height opacity colour (shape.Points points) c is = absurd (true≢false is)
-others_unmarked pixel width height opacity colour (shape.Lines lines) c is = refl
-others_unmarked pixel width height opacity colour (shape.Polygon rings) c is = refl

@@ -73,21 +73,6 @@ pub record JoinedTo (pieces kept : List Piece) (last : Piece) (k : ℕ) : Type 0
   pub next : (y : ℕ) (d : Piece) → k ≤ y → y < length pieces → place last ≤ place (get_or pieces y d)
   pub inside : (cols rows : ℕ) → All (IsPiece cols rows) pieces → All (IsPiece cols rows) kept × IsPiece cols rows last
 
-pub no_piece_apart : Apart []
-no_piece_apart = record { at = λ x y d lt within. absurd (omega arith) }
-
-pub joined_first : (pieces kept : List Piece) (first : Piece) → kept ≡ [] → 0 < length pieces → IsNonDecreasingBy place pieces → first ≡ get_or pieces 0 first → JoinedTo pieces kept first 1
-joined_first pieces kept first none some order is = subst (λ ps. JoinedTo pieces ps first 1) (sym none) (record {
-  same = λ j i. ap (has j i) is ∙ sym (list_any_more (has j i) pieces 0 first some);
-  apart = no_piece_apart;
-  before = λ k d within. absurd (omega arith);
-  next = λ y d low within. omega (arith, ap place is, order 0 y first (omega arith) within, ap place (default y d within));
-  inside = λ cols rows all. (λ k d within. absurd (omega arith), subst (IsPiece cols rows) (sym is) (all 0 first some));
-})
-  where
-    default : (y : ℕ) (d : Piece) → y < length pieces → get_or pieces y first ≡ get_or pieces y d
-    default y d within = get_or_default pieces y first d within
-
 -- a piece that begins in the last one, or at its end
 merged_has : (j i : ℕ) (last piece : Piece) (end : ℕ) → piece.row ≡ last.row → last.start ≤ piece.start → piece.start ≤ last.end → last.end ≤ end → piece.end ≤ end
     → (end ≡ last.end) ⊎ (end ≡ piece.end) → has j i (record last { end = end }) ≡ (has j i last || has j i piece)

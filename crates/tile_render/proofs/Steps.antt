@@ -1,6 +1,6 @@
 -- One step of a loop more, and what holds of an Ok.
-use Rattle.std.proofs.Common.{◌≡◌, ℕ, zero, suc, ◌+◌, ◌<◌, ◌∙◌, ap, sym, refl, arith, List, [], ◌∷◌, ◌++◌, length, get_or, take, fold, map, flat_map}
-use Rattle.std.specs.Prelude.{Result, Ok, Err, OnOk, OnErr, IfOk, Option, None, Some, MatchOption, slice_get, option_to_list}
+use Rattle.std.proofs.Common.{◌≡◌, ℕ, ◌+◌, ◌<◌, ◌∙◌, ap, sym, List, [], ◌∷◌, ◌++◌, length, get_or, take, fold, flat_map}
+use Rattle.std.specs.Prelude.{Result, Ok, Err, OnOk, OnErr, IfOk, Option, None, Some, MatchOption}
 use Rattle.std.proofs.lemmas.List.{append-nil, take_more}
 use Rattle.std.proofs.lemmas.Grind.{fold-append, flat_map-append}
 
@@ -11,28 +11,6 @@ on_ok (Err e) f h = tt
 pub if_ok : {T E : Type 0} (P Q : T → Type 0) (r : Result T E) → ((x : T) → P x → Q x) → IfOk r P → IfOk r Q
 if_ok P Q (Ok x) f h = f x h
 if_ok P Q (Err e) f h = tt
-
--- one more of a list is the item at the next place
-take_get : {X : Type 0} (xs : List X) (i : ℕ) → take (suc i) xs ≡ take i xs ++ option_to_list (slice_get xs i)
-take_get [] zero = refl
-take_get [] (suc i) = refl
-take_get (x ∷ xs) zero = refl
-take_get (x ∷ xs) (suc i) = ap (λ ys. x ∷ ys) (take_get xs i)
-
-map_append : {X Y : Type 0} (f : X → Y) (xs ys : List X) → map f (xs ++ ys) ≡ map f xs ++ map f ys
-map_append f [] ys = refl
-map_append f (x ∷ xs) ys = ap (λ zs. f x ∷ zs) (map_append f xs ys)
-
--- a fold over one more item of a list
-pub fold_next : {X Y A : Type 0} (h : A → Y → A) (f : X → Y) (xs : List X) (a now next : A) (i : ℕ) → now ≡ fold h a (map f (take i xs))
-    → next ≡ fold h now (map f (option_to_list (slice_get xs i))) → next ≡ fold h a (map f (take (i + 1) xs))
-fold_next h f xs a now next i so_far step =
-    let e : i + 1 ≡ suc i = omega arith in
-    step ∙ ap (λ b. fold h b (map f (option_to_list (slice_get xs i)))) so_far
-    ∙ sym (fold-append h a (map f (take i xs)) (map f (option_to_list (slice_get xs i))))
-    ∙ ap (fold h a) (sym (map_append f (take i xs) (option_to_list (slice_get xs i))))
-    ∙ ap (λ ys. fold h a (map f ys)) (sym (take_get xs i))
-    ∙ ap (λ n. fold h a (map f (take n xs))) (sym e)
 
 -- the same for the lists that a list's items give
 pub named_next : {X Y A : Type 0} (h : A → Y → A) (g : X → List Y) (xs : List X) (a now next : A) (i : ℕ) (x : X) → i < length xs → x ≡ get_or xs i x

@@ -25,7 +25,7 @@ use Rattle.farm_core.specs.inner.Renews.{Renews}
 
 -- A farm in the midst of its replay: it stands for the history, which is legal whatever is told of the store; nothing waits, is drawn or is open in it, and no call on the store failed
 pub record IsReplaying {D : Type 0} (state : D → Outside StoreTold) (farm : FarmSeen D) (g : List Entry) : Type 0 where
-  pub legal : (told : Bool) → Legal (plan_of farm.plan) told g
+  pub legal : (store_tells : Bool) → Legal (plan_of farm.plan) store_tells g
   pub running : is_stopped g ≡ false
   pub grounded : flights g ≡ []
   pub idle : waiting (plan_of farm.plan) g ≡ []

@@ -45,9 +45,9 @@ abbrev pub weight : List Entry → ℕ
 weight h = length h + length (open_asks h)
 
 -- a farm that stands for a history of which this holds, and which weighs so much at most
-pub record Grows {D : Type 0} (state : D → Outside StoreTold) (told : Bool) (farm : FarmSeen D) (most : ℕ) (holds : List Entry → Type 0) : Type 0 where
+pub record Grows {D : Type 0} (state : D → Outside StoreTold) (store_tells : Bool) (farm : FarmSeen D) (most : ℕ) (holds : List Entry → Type 0) : Type 0 where
   pub after : List Entry
-  pub stands : StandsFor state told farm after
+  pub stands : StandsFor state store_tells farm after
   pub small : weight after ≤ most
   pub held : holds after
 
@@ -115,8 +115,8 @@ pub record LoadsShort (steps : List Step) (stands : List Entry → Type 0) : Typ
 
 -- the steps were run; or memory was wanting in one
 abbrev pub Runs : {D : Type 0} → (D → Outside StoreTold) → Bool → FarmSeen D → List Step → Result Totals NoMemory → Type 0
-Runs state told farm steps (Ok totals) = (h : List Entry) × StandsFor state told farm h × IsLoad steps [] h × Tells totals (length steps) h
-Runs state told farm steps (Err wanting) = LoadsShort steps (λ h. StandsFor state told farm h)
+Runs state store_tells farm steps (Ok totals) = (h : List Entry) × StandsFor state store_tells farm h × IsLoad steps [] h × Tells totals (length steps) h
+Runs state store_tells farm steps (Err wanting) = LoadsShort steps (λ h. StandsFor state store_tells farm h)
 
 -- the line was put, all of it or a front; where all was, it is told whether a call of the store failed
 abbrev pub TellsLine : SinkAt → SinkAt → List ℕ → Bool → Result (Unit {0}) Stop → Type 0

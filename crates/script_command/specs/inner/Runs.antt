@@ -9,7 +9,7 @@ use Rattle.exit_status.specs.declared.stops.Stop.{Stop}
 use Rattle.exit_status.specs.declared.stops.Stop.TheVariants as stop
 use Rattle.input_files.specs.Course.{Course}
 use Rattle.input_files.specs.inner.Follows.{Follows}
-use Rattle.farm_files.specs.Inputs.{Scripted}
+use Rattle.farm_files.specs.Inputs.{ScriptInputs}
 use Rattle.script_command.specs.Scripts.{Scripts}
 
 -- how the command ends whose script ended so; where all its lines were run, it is told whether a call of the store failed
@@ -20,12 +20,12 @@ command_end failed SinkFailed = Err stop.SinkFailed
 command_end failed NoMemory = Err stop.NoMemory
 
 -- what the files say is run; where they say nothing, nothing is
-abbrev pub RunsMade : {D : Type 0} → (D → Outside StoreTold) → D → D → SinkAt → SinkAt → Result (Unit {0}) Stop → Result Scripted Stop → Type 0
+abbrev pub RunsMade : {D : Type 0} → (D → Outside StoreTold) → D → D → SinkAt → SinkAt → Result (Unit {0}) Stop → Result ScriptInputs Stop → Type 0
 RunsMade state store store' out out' end (Ok s) = Scripts state s store store' out out' end
 RunsMade state store store' out out' end (Err s) = (end ≡ Err s) × (store' ≡ store) × (out' ≡ out)
 
 -- the course of the command's files is followed, and what it makes is run
-pub record Runs {D : Type 0} (state : D → Outside StoreTold) (course : Course Scripted) (files files' : FilesAt) (store store' : D) (out out' : SinkAt) (end : Result (Unit {0}) Stop) : Type 0 where
-  pub made : Result Scripted Stop
+pub record Runs {D : Type 0} (state : D → Outside StoreTold) (course : Course ScriptInputs) (files files' : FilesAt) (store store' : D) (out out' : SinkAt) (end : Result (Unit {0}) Stop) : Type 0 where
+  pub made : Result ScriptInputs Stop
   pub followed : Follows course files files' made
   pub ran : RunsMade state store store' out out' end made

@@ -7,7 +7,7 @@ use Rattle.port_events.specs.Told.{PortsTold}
 use Rattle.exit_status.specs.Ends.{SinkAt}
 use Rattle.exit_status.specs.declared.stops.Stop.{Stop}
 use Rattle.farm_history.specs.Entries.{Entry}
-use Rattle.farm_files.specs.Inputs.{Served}
+use Rattle.farm_files.specs.Inputs.{ServeInputs}
 use Rattle.farm_refinement.specs.Seen.{FarmSeen}
 use Rattle.farm_runs.specs.declared.each_front.EachFront.{EachFront}
 use Rattle.farm_plan.specs.Plans.{maps_in}
@@ -27,7 +27,7 @@ pub record World (D : Type 0) : Type 0 where
   pub fronts : List FrontDone
   pub ports : EachFront (Outside PortsTold)
 
-module _ {D : Type 0} (state : D → Outside StoreTold) (s : Served) (store : D) where
+module _ {D : Type 0} (state : D → Outside StoreTold) (s : ServeInputs) (store : D) where
   -- **No actor was started.** Nothing was put on out and there are no fronts; the ports were listened on at most
   pub record NotServed (store' : D) (old new : World D) (end : Result (Unit {0}) Stop) : Type 0 where
     pub why : Stop

@@ -50,5 +50,5 @@ BeganBy state plan store found (Err back) = (back.0 ≡ store) × Refuses plan f
 abbrev pub Empties : {D : Type 0} → (D → Outside StoreTold) → FarmSeen D → Result (FarmSeen D) (D × Stop) → Type 0
 Empties state old (Ok new) =
     StorePuts (state old.store) (state new.store) saved_path [] (Ok tt) × (new ≡ record old { store = new.store })
-    × ((told : Bool) (h : List Entry) → StandsFor state told old h → StandsFor state told new h)
+    × ((store_tells : Bool) (h : List Entry) → StandsFor state store_tells old h → StandsFor state store_tells new h)
 Empties state old (Err back) = (why : StoreFault) × StorePuts (state old.store) (state back.0) saved_path [] (Err why) × (back.1 ≡ stop_of why)

@@ -9,7 +9,7 @@ use Rattle.exit_status.specs.declared.stops.Stop.TheVariants as stop
 use Rattle.input_files.specs.Course.{Course}
 use Rattle.input_files.specs.inner.Follows.{Follows}
 use Rattle.farm_history.specs.Entries.{Entry}
-use Rattle.farm_files.specs.Inputs.{Served}
+use Rattle.farm_files.specs.Inputs.{ServeInputs}
 use Rattle.farm_refinement.specs.Seen.{FarmSeen}
 use Rattle.farm_runs.specs.declared.each_front.EachFront.{EachFront}
 use Rattle.farm_plan.specs.Plans.{maps_in}
@@ -36,13 +36,13 @@ pub record EndsRun {D : Type 0} (state : D → Outside StoreTold) (resume : Bool
   pub winds : WindsUp state resume (why_ended (is_worn_out (ends_of run)) (map end_of (fronts_of run.fronts))) run.tally run.closed.0 farm run.closed.1 out out' done.end
 
 -- what was made of the files is served; where nothing was, nothing is done
-abbrev pub ServesMade : {D : Type 0} → (D → Outside StoreTold) → D → World D → World D → Result (Unit {0}) Stop → Result Served Stop → Type 0
+abbrev pub ServesMade : {D : Type 0} → (D → Outside StoreTold) → D → World D → World D → Result (Unit {0}) Stop → Result ServeInputs Stop → Type 0
 ServesMade state store old new end (Ok s) = Serves state s store old new end
 ServesMade state store old new end (Err why) = (end ≡ Err why) × (new ≡ old)
 
 -- the course of the command's files is followed, and what it makes is served
-pub record Runs {D : Type 0} (state : D → Outside StoreTold) (course : Course Served) (files files' : FilesAt) (store : D) (old new : World D) (end : Result (Unit {0}) Stop) : Type 0 where
-  pub made : Result Served Stop
+pub record Runs {D : Type 0} (state : D → Outside StoreTold) (course : Course ServeInputs) (files files' : FilesAt) (store : D) (old new : World D) (end : Result (Unit {0}) Stop) : Type 0 where
+  pub made : Result ServeInputs Stop
   pub followed : Follows course files files' made
   pub serves : ServesMade state store old new end made
 
