@@ -32,7 +32,7 @@ fn digits_of(size: u32) -> u32
 }
 
 /// How many bytes the text of a tile has.
-#[tactic(auto, using(plain_world::proofs::Windows::size_bounds))]
+#[tactic(auto, using(crate::proofs::Texts::few_pixels))]
 fn text_len(size: u32) -> u32
     requires { IsTileSize size }
     ensures value { result ≡ 9 + 2 * length (decimal size) + 3 * (size * size) }
