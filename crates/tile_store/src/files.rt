@@ -384,13 +384,13 @@ fn read_part<R: rt::Files>(
 fn read_on<F: Read + Seek>(
     alloc: Global,
     file: &mut F,
-    length: u64,
+    size: u64,
     offset: u64,
     len: u32,
 ) -> Result<Vec<u8>, StoreFault>
     ensures { IfOk result (λ v. length v.items ≤ len) }
 {
-    let room = length.saturating_sub(offset).min(u64::from(len));
+    let room = size.saturating_sub(offset).min(u64::from(len));
     let mut bytes = vec![in alloc; 0; room as usize]?;
     if room > 0 {
         file.seek(SeekFrom::Start(offset)).map_err(|e| fault(&e))?;
