@@ -64,7 +64,10 @@ fn gets_next_part<S: TileStore>(
     let mut opened = None;
     for time in 1..3 {
         let found = store.get_next_part(alloc, PATH, offset, len, &mut opened);
-        assert!(rt; slice(&found) == Ok(Some(wanted)), "{len} from {offset}, time {time}");
+        assert!(rt;
+            slice(&found) == Ok(Some(wanted)),
+            "{len} from {offset}, time {time}"
+        );
     }
 }
 

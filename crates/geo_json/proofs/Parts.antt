@@ -31,5 +31,5 @@ by_checks part place f false false false false = refl
 pub made_checked : (part place id : ℕ) (g : Geometry) (attrs : List Attr) (made : Result Feature DataFault) → made ≡ made_of part place id g attrs → made ≡ made_by_checks part place id g attrs
 made_checked part place id g attrs made is =
     is
-        ∙ by_checks part place (record { id = id; geometry = g; attrs = attrs }) (has_too_few g) (list_any (list_any is_outside) (parts_of g)) (nat_lt most_points (point_count g))
-        (nat_lt most_attrs (length attrs))
+    ∙ by_checks part place (record { id = id; geometry = g; attrs = attrs }) (has_too_few g) (list_any (list_any is_outside) (parts_of g)) (nat_lt most_points (point_count g))
+    (nat_lt most_attrs (length attrs))

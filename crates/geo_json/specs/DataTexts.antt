@@ -21,10 +21,6 @@ use Rattle.geo_json.specs.declared.faults.DataFault.TheVariants.{NotJson, Shape,
 use Rattle.geo_json.specs.declared.coordinates.Units.{Units}
 use Rattle.plain_data.specs.Limits.{most_data_layers, most_features}
 
--- an earlier layer has the name
-abbrev pub has_layer : List Layer → List ℕ → Bool
-has_layer before name = list_any (λ l. bytes_eq l.name name) before
-
 -- a layer at its place after those before it: its own keys, its name among the earlier ones, how many features it has,
 -- and then each feature; there is no layer after 64
 unfoldable pub layer_said : Units → ℕ → List Layer → Data → Result Layer DataFault
@@ -33,10 +29,14 @@ layer_said units part before d = do
   u ← object_of (Shape part 0) (codes "name" ∷ codes "features" ∷ []) d
   name ← name_at (Shape part 0) (codes "name") d
   items ← needed (Shape part 0) (list (Shape part 0)) (get (codes "features") d)
-  u ← check (not (has_layer before name)) (DoubleLayer part)
+  u ← check (not (list_any (λ l. bytes_eq l.name name) before)) (DoubleLayer part)
   u ← check (nat_le (items_len items) most_features) (TooMany part)
   features ← list_of (new_feature_after units part) items
   Ok (record { name = name; features = features })
+
+-- an earlier layer has the name, as the code asks it
+abbrev pub has_layer : List Layer → List ℕ → Bool
+has_layer before name = list_any (λ l. bytes_eq l.name name) before
 
 -- what holds of a layer that was read after those before it
 abbrev pub is_read : List Layer → Layer → Bool
