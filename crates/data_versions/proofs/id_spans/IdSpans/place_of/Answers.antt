@@ -12,7 +12,7 @@ overflow_cast-result c =
     let begun : c.loop-at.at < length starts = omega (arith, inside, c.self.invariant.chunked.starts.long) in
     let ends = ends_within starts _ chunks c.loop-at.at (get_or starts c.loop-at.at 0) c.index-self-at.result c.self.invariant.chunked inside
     (get_or_default starts c.loop-at.at 0 _ begun) c.index-self-at.is in
-    omega (arith, c.in-Some.ensures.bound, ends)
+    omega (arith, rw (← c.index-self-at.is) at c.in-Some.ensures.bound, ends)
 
 pub overflow_add-result : goal.overflow_add-result
 overflow_add-result c =
@@ -22,7 +22,7 @@ overflow_add-result c =
     let begun : c.loop-at.at < length starts = omega (arith, inside, c.self.invariant.chunked.starts.long) in
     let ends = ends_within starts _ chunks c.loop-at.at (get_or starts c.loop-at.at 0) c.index-self-at.result c.self.invariant.chunked inside
     (get_or_default starts c.loop-at.at 0 _ begun) c.index-self-at.is in
-    omega (arith, c.in-Some.ensures.bound, ends)
+    omega (arith, rw (← c.index-self-at.is) at c.in-Some.ensures.bound, ends)
 
 pub returns-in-Some : goal.returns-in-Some
 returns-in-Some c =
@@ -31,7 +31,7 @@ returns-in-Some c =
     let inside : c.loop-at.at < length chunks = omega (arith, rw c.deref-span-items.ensures.value at c.loop-at-test.true, c.self.invariant.ids.long) in
     let begun : c.loop-at.at < length starts = omega (arith, inside, c.self.invariant.chunked.starts.long) in
     let start = start_is starts _ chunks c.loop-at.at (get_or starts c.loop-at.at 0) c.self.invariant.chunked inside (get_or_default starts c.loop-at.at 0 _ begun) in
-    let found = sym c.place_within.ensures.place ∙ c.in-Some.is in
+    let found = rw (← c.index-self-at.is) at (sym c.place_within.ensures.place ∙ c.in-Some.is) in
     rw (start, ← c.self.view_is) (sym (place_here (λ f. nat_eq f.id c.args.id) chunks c.loop-at.at c.in-Some.place c.index-self-at.result _
     inside c.index-self-at.is c.loop-at.invariant found))
 
@@ -39,5 +39,5 @@ pub loop-at-preserved : goal.loop-at-preserved
 loop-at-preserved c =
     let chunks = c.self.inside.chunks.now in
     let inside : c.loop-at.at < length chunks = omega (arith, rw c.deref-span-items.ensures.value at c.loop-at-test.true, c.self.invariant.ids.long) in
-    let none = sym c.place_within.ensures.place ∙ c.in_default.is in
+    let none = rw (← c.index-self-at.is) at (sym c.place_within.ensures.place ∙ c.in_default.is) in
     place_later (λ f. nat_eq f.id c.args.id) chunks c.loop-at.at c.index-self-at.result _ inside c.index-self-at.is c.loop-at.invariant none
