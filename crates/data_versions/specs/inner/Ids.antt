@@ -1,5 +1,5 @@
 -- A table of the ids of a layer, and the ids between which those of a chunk lie.
-use Rattle.std.specs.Prelude.{◌≡◌, ◌⊎◌, ◌<◌, ◌≤◌, ℕ, suc, nat_eq, List, [], ◌∷◌, length, get_or, None}
+use Rattle.std.specs.Prelude.{◌≡◌, ◌⊎◌, ◌<◌, ℕ, suc, nat_eq, List, [], ◌∷◌, length, get_or, None}
 use Rattle.std.specs.List.{IsDistinct}
 use Rattle.std.specs.List.Sorted.{IsNonDecreasingBy, IsPermutation}
 use Rattle.std.specs.declared.alloc.Global.{Global}

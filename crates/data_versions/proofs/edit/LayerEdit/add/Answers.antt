@@ -1,4 +1,4 @@
-use Rattle.std.proofs.Common.{◌≡◌, ◌++◌, ◌∷◌, [], length, arith, sym, ap, ◌∙◌}
+use Rattle.std.proofs.Common.{arith}
 use Rattle.data_versions.proofs.Slots.{knows_same, knows_undone, knows_added, added_is, added_count, unheld}
 use Rattle.data_versions.proofs.edit.LayerEdit.add.Goals as goal
 

@@ -1,4 +1,4 @@
-use Rattle.std.proofs.Common.{arith, sym, ◌∙◌}
+use Rattle.std.proofs.Common.{sym, ◌∙◌}
 use Rattle.data_versions.proofs.Slots.{in_slots, knows_replaced, replaced_is, same_standing, one_has, none_has}
 use Rattle.data_versions.proofs.edit.LayerEdit.replace.Goals as goal
 

@@ -1,4 +1,3 @@
-use Rattle.std.proofs.Common.{◌∙◌, sym}
 use Rattle.data_versions.proofs.Laid.{laid_more, laid_all}
 use Rattle.data_versions.proofs.layer_slots.LayerSlots.chunks.Goals as goal
 

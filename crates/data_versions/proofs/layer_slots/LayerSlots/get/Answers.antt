@@ -1,4 +1,4 @@
-use Rattle.std.proofs.Common.{◌≡◌, ◌-◌, ◌<◌, length, get_or, arith, ◌∙◌}
+use Rattle.std.proofs.Common.{◌-◌, get_or, arith, ◌∙◌}
 use Rattle.data_versions.proofs.Laid.{some_start, first_start, slot_of_last, found_in, found_added}
 use Rattle.data_versions.proofs.layer_slots.LayerSlots.get.Goals as goal
 

@@ -1,4 +1,4 @@
-use Rattle.std.proofs.Common.{◌≡◌, ◌-◌, ◌<◌, length, get_or, set, arith, ◌∙◌, ap}
+use Rattle.std.proofs.Common.{◌-◌, get_or, set, arith}
 use Rattle.std.specs.Option.{option_copied}
 use Rattle.std.proofs.lemmas.List.{length-set}
 use Rattle.data_versions.proofs.Laid.{some_start, first_start, slot_of_last, within_piece, put_in, put_added, still_laid}
