@@ -1,7 +1,7 @@
 -- The answers of lines.
 use Rattle.std.proofs.Common.{◌≡◌, ℕ, Bool, true, false, List, [], ◌++◌, append-nil, refl, ap, sym, subst, ◌∙◌}
 use Rattle.std.proofs.lemmas.Option.{none-some}
-use Rattle.std.specs.Prelude.{Some, Result, Ok, Err, IfOk}
+use Rattle.std.specs.Prelude.{codes, Some, Result, Ok, Err, IfOk}
 use Rattle.reading.specs.Steps.{seen}
 use Rattle.farm_base.specs.declared.memory.NoMemory.{NoMemory}
 use Rattle.farm_history.specs.declared.answers.Fetched.{Fetched}
@@ -12,8 +12,8 @@ use Rattle.farm_history.specs.declared.asks.Spot.{Spot}
 use Rattle.farm_history.specs.Entries as entry
 use Rattle.farm_history.specs.Entries.{Entry}
 use Rattle.farm_plan.specs.Plans.{FarmPlan}
-use Rattle.script_answers.specs.Answers.{entry_text, fetch_text}
-use Rattle.script_answers.specs.inner.Parts.{fetch_head, fetch_rest}
+use Rattle.script_answers.specs.Answers.{entry_text, fetch_text, number_line, meta_number}
+use Rattle.script_answers.specs.inner.Parts.{tile_head, fetch_head, fetch_rest}
 use Rattle.script_text.specs.ScriptTexts.{names_of, is_failed}
 use Rattle.script_text.specs.inner.Steps.{SaidSeen, SaysEntry, is_failed_fetch, is_failed_finish}
 
@@ -45,13 +45,13 @@ alone line head rest h r = let e : line ≡ head = cc in rw (e, r) (ap Some (sym
 
 -- the text of a fetch, by its two parts
 pub fetch_parts : (answer : Fetched) (head rest : List ℕ) → fetch_head answer ≡ Some head → rest ≡ fetch_rest answer → fetch_text answer ≡ Some (head ++ rest)
-fetch_parts (fetched.Clean v bytes) head rest h r = joined _ _ head rest h r
-fetch_parts (fetched.Dirty v bytes) head rest h r = joined _ _ head rest h r
-fetch_parts fetched.Missing head rest h r = alone _ head rest h r
-fetch_parts fetched.Unservable head rest h r = alone _ head rest h r
-fetch_parts fetched.Gone head rest h r = alone _ head rest h r
-fetch_parts (fetched.Spoilt fault) head rest h r = alone _ head rest h r
-fetch_parts fetched.GetFailed head rest h r = alone _ head rest h r
+fetch_parts (fetched.Clean v bytes) head rest h r = joined (tile_head (codes "clean ") v bytes) (bytes ++ codes "\n") head rest h r
+fetch_parts (fetched.Dirty v bytes) head rest h r = joined (tile_head (codes "dirty ") v bytes) (bytes ++ codes "\n") head rest h r
+fetch_parts fetched.Missing head rest h r = alone (codes "missing\n") head rest h r
+fetch_parts fetched.Unservable head rest h r = alone (codes "unservable\n") head rest h r
+fetch_parts fetched.Gone head rest h r = alone (codes "gone\n") head rest h r
+fetch_parts (fetched.Spoilt fault) head rest h r = alone (number_line (codes "spoilt ") (meta_number fault)) head rest h r
+fetch_parts fetched.GetFailed head rest h r = alone (codes "getfailed\n") head rest h r
 fetch_parts fetched.NoMemory head rest h r = absurd (none-some head h)
 
 -- whether a call failed is told by the answer
