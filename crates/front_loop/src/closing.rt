@@ -13,6 +13,7 @@ ghost use Rattle.front_loop.specs.inner.Stages.{CanLeave, IsOver, CutShort, Shut
 ghost use Rattle.port_events.specs.Told.{PortsTold, IsOpen};
 ghost use Rattle.port_events.specs.declared.events.PortEvent.{PortEvent};
 
+use crate::context::Context;
 use crate::dispositions::{Disposition, Reason};
 use crate::farm::Farm;
 use crate::front::Front;
@@ -85,39 +86,37 @@ fn starved_after(starved: u64, why: Reason) -> u64
 
 /// Leaves the connection of the session at this place.
 fn close_one<R: Wait, M: Farm, F: Front<M>, P: Ports>(
-    rt: &R,
-    front: &F,
-    farm: &M,
+    context: Context<'_, R, M, F>,
     seat: &mut M::Seat,
     table: &mut SessionTable<F::ConnState>,
     ports: &mut P,
-    place: usize,
-    conn: u32,
-    why: Reason,
+    left: (usize, u32, Reason),
 ) -> Result<(), Worn>
-    requires seat { (M.seats farm.now).is_seat seat.old }
-    requires number { (M.seats farm.now).number seat.old ≡ (F.rules front.now farm.now).number + 1 }
-    requires leaving { IsLeaving table.old.sessions.items place conn why }
-    requires ready { (e : PortEvent) × ((stopped : Bool) × ((start : Option PortsTold) × CanLeave (F.rules front.now farm.now) F.knows e stopped start (world (P.state ports.old).told ((M.seats farm.now).mine seat.old) table.old))) }
-    ensures seat { SameSeat (M.seats farm.now) seat.old seat.new }
-    ensures worn { OnErr result ((M.seats farm.now).worn seat.new ≡ true) }
+    requires seat { (M.seats context.farm.now).is_seat seat.old }
+    requires number { (M.seats context.farm.now).number seat.old ≡ (F.rules context.front.now context.farm.now).number + 1 }
+    requires leaving { IsLeaving table.old.sessions.items left.0 left.1 left.2 }
+    requires ready { (e : PortEvent) × ((stopped : Bool) × ((start : Option PortsTold) × CanLeave (F.rules context.front.now context.farm.now) F.knows e stopped start (world (P.state ports.old).told ((M.seats context.farm.now).mine seat.old) table.old))) }
+    ensures seat { SameSeat (M.seats context.farm.now) seat.old seat.new }
+    ensures worn { OnErr result ((M.seats context.farm.now).worn seat.new ≡ true) }
     ensures count { (P.state ports.new).faults ≡ (P.state ports.old).faults }
     ensures fewer { OnOk result (length table.new.sessions.items + 1 ≡ length table.old.sessions.items) }
     ensures goes { (e : PortEvent) (stopped : Bool) (start : Option PortsTold)
-        → CanLeave (F.rules front.now farm.now) F.knows e stopped start (world (P.state ports.old).told ((M.seats farm.now).mine seat.old) table.old)
+        → CanLeave (F.rules context.front.now context.farm.now) F.knows e stopped start (world (P.state ports.old).told ((M.seats context.farm.now).mine seat.old) table.old)
         → MatchResult result
-        (λ _. CanLeave (F.rules front.now farm.now) F.knows e stopped start (world (P.state ports.new).told ((M.seats farm.now).mine seat.new) table.new))
-        (λ _. CutShort (F.rules front.now farm.now) F.knows start (P.state ports.new).told ((M.seats farm.now).mine seat.new) table.new.starved) }
+        (λ _. CanLeave (F.rules context.front.now context.farm.now) F.knows e stopped start (world (P.state ports.new).told ((M.seats context.farm.now).mine seat.new) table.new))
+        (λ _. CutShort (F.rules context.front.now context.farm.now) F.knows start (P.state ports.new).told ((M.seats context.farm.now).mine seat.new) table.new.starved) }
 {
-    let number = front.number(farm);
-    let Ok(_asks) = farm.leave(
-        rt,
+    let (place, conn, why) = left;
+    let number = context.front.number(context.farm);
+    let Ok(_asks) = context.farm.leave(
+        context.rt,
         seat,
         Conn {
             front: number,
             number: conn,
         },
-    ) else {
+    )
+    else {
         return Err(Worn);
     };
     shut(ports, conn, why);
@@ -129,27 +128,25 @@ fn close_one<R: Wait, M: Farm, F: Front<M>, P: Ports>(
 
 /// Leaves every connection that leaves.
 pub fn close_all<R: Wait, M: Farm, F: Front<M>, P: Ports>(
-    rt: &R,
-    front: &F,
-    farm: &M,
+    context: Context<'_, R, M, F>,
     seat: &mut M::Seat,
     table: &mut SessionTable<F::ConnState>,
     ports: &mut P,
 ) -> Result<(), Worn>
-    requires seat { (M.seats farm.now).is_seat seat.old }
-    requires number { (M.seats farm.now).number seat.old ≡ (F.rules front.now farm.now).number + 1 }
-    requires ready { (e : PortEvent) × ((stopped : Bool) × ((start : Option PortsTold) × CanLeave (F.rules front.now farm.now) F.knows e stopped start (world (P.state ports.old).told ((M.seats farm.now).mine seat.old) table.old))) }
-    ensures seat { SameSeat (M.seats farm.now) seat.old seat.new }
-    ensures worn { OnErr result ((M.seats farm.now).worn seat.new ≡ true) }
+    requires seat { (M.seats context.farm.now).is_seat seat.old }
+    requires number { (M.seats context.farm.now).number seat.old ≡ (F.rules context.front.now context.farm.now).number + 1 }
+    requires ready { (e : PortEvent) × ((stopped : Bool) × ((start : Option PortsTold) × CanLeave (F.rules context.front.now context.farm.now) F.knows e stopped start (world (P.state ports.old).told ((M.seats context.farm.now).mine seat.old) table.old))) }
+    ensures seat { SameSeat (M.seats context.farm.now) seat.old seat.new }
+    ensures worn { OnErr result ((M.seats context.farm.now).worn seat.new ≡ true) }
     ensures count { (P.state ports.new).faults ≡ (P.state ports.old).faults }
     ensures goes { (e : PortEvent) (stopped : Bool) (start : Option PortsTold)
-        → CanLeave (F.rules front.now farm.now) F.knows e stopped start (world (P.state ports.old).told ((M.seats farm.now).mine seat.old) table.old)
+        → CanLeave (F.rules context.front.now context.farm.now) F.knows e stopped start (world (P.state ports.old).told ((M.seats context.farm.now).mine seat.old) table.old)
         → MatchResult result
-        (λ _. IsOver (F.rules front.now farm.now) F.knows e stopped start (world (P.state ports.new).told ((M.seats farm.now).mine seat.new) table.new))
-        (λ _. CutShort (F.rules front.now farm.now) F.knows start (P.state ports.new).told ((M.seats farm.now).mine seat.new) table.new.starved) }
+        (λ _. IsOver (F.rules context.front.now context.farm.now) F.knows e stopped start (world (P.state ports.new).told ((M.seats context.farm.now).mine seat.new) table.new))
+        (λ _. CutShort (F.rules context.front.now context.farm.now) F.knows start (P.state ports.new).told ((M.seats context.farm.now).mine seat.new) table.new.starved) }
 {
     while let Some((place, conn, why)) = leaving(table.sessions.as_slice()) {
-        let Ok(()) = close_one(rt, front, farm, seat, table, ports, place, conn, why) else {
+        let Ok(()) = close_one(context, seat, table, ports, (place, conn, why)) else {
             return Err(Worn);
         };
     }

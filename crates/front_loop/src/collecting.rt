@@ -9,6 +9,7 @@ ghost use Rattle.port_events.specs.Boxes.{HasRest};
 ghost use Rattle.port_events.specs.Told.{PortsTold};
 ghost use Rattle.port_events.specs.declared.events.PortEvent.{PortEvent};
 
+use crate::context::Context;
 use crate::dispositions::{Disposition, Reason};
 use crate::farm::Farm;
 use crate::front::Front;
@@ -17,7 +18,6 @@ use crate::sessions::{Session, SessionTable, place_of};
 use farm_base::Worn;
 use farm_history::{Collected, Outcome, Reply};
 use port_events::Outbox;
-use std::alloc::Global;
 use std::sync::Wait;
 
 /// Of an earlier disposition and a later one: the later, if it is an end.
@@ -32,24 +32,21 @@ fn worse_of(old: Disposition, new: Disposition) -> Disposition
 
 /// A reply comes for one session.
 fn reply_one<R: Wait, M: Farm, F: Front<M>>(
-    rt: &R,
-    alloc: Global,
-    front: &F,
-    farm: &M,
+    context: Context<'_, R, M, F>,
     seat: &mut M::Seat,
     session: &mut Session<F::ConnState>,
     outbox: &mut Outbox,
     response: &mut Vec<u8>,
     reply: Reply,
 ) -> Result<(), Worn>
-    requires seat { (M.seats farm.now).is_seat seat.old }
-    requires number { (M.seats farm.now).number seat.old ≡ (F.rules front.now farm.now).number + 1 }
+    requires seat { (M.seats context.farm.now).is_seat seat.old }
+    requires number { (M.seats context.farm.now).number seat.old ≡ (F.rules context.front.now context.farm.now).number + 1 }
     requires rest { HasRest outbox.old session.old.conn }
-    ensures seat { SameSeat (M.seats farm.now) seat.old seat.new }
-    ensures worn { OnErr result ((M.seats farm.now).worn seat.new ≡ true) }
+    ensures seat { SameSeat (M.seats context.farm.now) seat.old seat.new }
+    ensures worn { OnErr result ((M.seats context.farm.now).worn seat.new ≡ true) }
     ensures replied { MatchResult result
-        (λ _. RepliesOne (F.rules front.now farm.now) F.knows reply ((M.seats farm.now).mine seat.old) ((M.seats farm.now).mine seat.new) session.old session.new outbox.old outbox.new)
-        (λ _. AnswersWorn (F.rules front.now farm.now) F.knows reply ((M.seats farm.now).mine seat.old) ((M.seats farm.now).mine seat.new) session.old) }
+        (λ _. RepliesOne (F.rules context.front.now context.farm.now) F.knows reply ((M.seats context.farm.now).mine seat.old) ((M.seats context.farm.now).mine seat.new) session.old session.new outbox.old outbox.new)
+        (λ _. AnswersWorn (F.rules context.front.now context.farm.now) F.knows reply ((M.seats context.farm.now).mine seat.old) ((M.seats context.farm.now).mine seat.new) session.old) }
 {
     if !is_kept(session.disposition) {
         return Ok(());
@@ -59,15 +56,16 @@ fn reply_one<R: Wait, M: Farm, F: Front<M>>(
         return Ok(());
     }
     response.clear();
-    let Ok(disposition) = front.reply(
-        rt,
-        alloc,
-        farm,
+    let Ok(disposition) = context.front.reply(
+        context.rt,
+        context.alloc,
+        context.farm,
         seat,
         &mut session.conn_state,
         reply,
         response,
-    ) else {
+    )
+    else {
         return Err(Worn);
     };
     session.owes = owes_after(session.owes, response.as_slice(), Disposition::Stays);
@@ -78,25 +76,25 @@ fn reply_one<R: Wait, M: Farm, F: Front<M>>(
 
 /// One Collect, with all that its reply makes.
 fn collect_one<R: Wait, M: Farm, F: Front<M>>(
-    rt: &R,
-    alloc: Global,
-    front: &F,
-    farm: &M,
+    context: Context<'_, R, M, F>,
     seat: &mut M::Seat,
     table: &mut SessionTable<F::ConnState>,
 ) -> Result<Collected, Worn>
-    requires seat { (M.seats farm.now).is_seat seat.old }
-    requires number { (M.seats farm.now).number seat.old ≡ (F.rules front.now farm.now).number + 1 }
-    requires ready { (e : PortEvent) × ((start told : Option PortsTold) × ((ss : List (Step F.Act)) × Collects (F.rules front.now farm.now) F.knows e start ss (world told ((M.seats farm.now).mine seat.old) table.old))) }
-    ensures seat { SameSeat (M.seats farm.now) seat.old seat.new }
-    ensures worn { OnErr result ((M.seats farm.now).worn seat.new ≡ true) }
+    requires seat { (M.seats context.farm.now).is_seat seat.old }
+    requires number { (M.seats context.farm.now).number seat.old ≡ (F.rules context.front.now context.farm.now).number + 1 }
+    requires ready { (e : PortEvent) × ((start told : Option PortsTold) × ((ss : List (Step F.Act)) × Collects (F.rules context.front.now context.farm.now) F.knows e start ss (world told ((M.seats context.farm.now).mine seat.old) table.old))) }
+    ensures seat { SameSeat (M.seats context.farm.now) seat.old seat.new }
+    ensures worn { OnErr result ((M.seats context.farm.now).worn seat.new ≡ true) }
     ensures goes { (e : PortEvent) (start told : Option PortsTold) (ss : List (Step F.Act))
-        → Collects (F.rules front.now farm.now) F.knows e start ss (world told ((M.seats farm.now).mine seat.old) table.old)
+        → Collects (F.rules context.front.now context.farm.now) F.knows e start ss (world told ((M.seats context.farm.now).mine seat.old) table.old)
         → MatchResult result
-        (λ x. CollectsOne (F.rules front.now farm.now) F.knows e start (world told ((M.seats farm.now).mine seat.new) table.new) x)
-        (λ _. CutShort (F.rules front.now farm.now) F.knows start told ((M.seats farm.now).mine seat.new) table.new.starved) }
+        (λ x. CollectsOne (F.rules context.front.now context.farm.now) F.knows e start (world told ((M.seats context.farm.now).mine seat.new) table.new) x)
+        (λ _. CutShort (F.rules context.front.now context.farm.now) F.knows start told ((M.seats context.farm.now).mine seat.new) table.new.starved) }
 {
-    let Ok(collected) = farm.collect(rt, seat, front.number(farm)) else {
+    let Ok(collected) = context
+        .farm
+        .collect(context.rt, seat, context.front.number(context.farm))
+    else {
         return Err(Worn);
     };
     match collected {
@@ -105,10 +103,7 @@ fn collect_one<R: Wait, M: Farm, F: Front<M>>(
                 return Ok(collected);
             };
             let Ok(()) = reply_one(
-                rt,
-                alloc,
-                front,
-                farm,
+                context,
                 seat,
                 &mut table.sessions[place],
                 &mut table.outbox,
@@ -129,26 +124,23 @@ fn collect_one<R: Wait, M: Farm, F: Front<M>>(
 
 /// Collects until no reply comes, and answers whether the farm was stopped.
 pub fn collect_all<R: Wait, M: Farm, F: Front<M>>(
-    rt: &R,
-    alloc: Global,
-    front: &F,
-    farm: &M,
+    context: Context<'_, R, M, F>,
     seat: &mut M::Seat,
     table: &mut SessionTable<F::ConnState>,
 ) -> Result<bool, Worn>
-    requires seat { (M.seats farm.now).is_seat seat.old }
-    requires number { (M.seats farm.now).number seat.old ≡ (F.rules front.now farm.now).number + 1 }
-    requires ready { (e : PortEvent) × ((start told : Option PortsTold) × ((ss : List (Step F.Act)) × Collects (F.rules front.now farm.now) F.knows e start ss (world told ((M.seats farm.now).mine seat.old) table.old))) }
-    ensures seat { SameSeat (M.seats farm.now) seat.old seat.new }
-    ensures worn { OnErr result ((M.seats farm.now).worn seat.new ≡ true) }
+    requires seat { (M.seats context.farm.now).is_seat seat.old }
+    requires number { (M.seats context.farm.now).number seat.old ≡ (F.rules context.front.now context.farm.now).number + 1 }
+    requires ready { (e : PortEvent) × ((start told : Option PortsTold) × ((ss : List (Step F.Act)) × Collects (F.rules context.front.now context.farm.now) F.knows e start ss (world told ((M.seats context.farm.now).mine seat.old) table.old))) }
+    ensures seat { SameSeat (M.seats context.farm.now) seat.old seat.new }
+    ensures worn { OnErr result ((M.seats context.farm.now).worn seat.new ≡ true) }
     ensures goes { (e : PortEvent) (start told : Option PortsTold) (ss : List (Step F.Act))
-        → Collects (F.rules front.now farm.now) F.knows e start ss (world told ((M.seats farm.now).mine seat.old) table.old)
+        → Collects (F.rules context.front.now context.farm.now) F.knows e start ss (world told ((M.seats context.farm.now).mine seat.old) table.old)
         → MatchResult result
-        (λ stopped. CanOffer (F.rules front.now farm.now) F.knows e stopped start (world told ((M.seats farm.now).mine seat.new) table.new))
-        (λ _. CutShort (F.rules front.now farm.now) F.knows start told ((M.seats farm.now).mine seat.new) table.new.starved) }
+        (λ stopped. CanOffer (F.rules context.front.now context.farm.now) F.knows e stopped start (world told ((M.seats context.farm.now).mine seat.new) table.new))
+        (λ _. CutShort (F.rules context.front.now context.farm.now) F.knows start told ((M.seats context.farm.now).mine seat.new) table.new.starved) }
 {
-    for _ in rt.forever() {
-        let Ok(collected) = collect_one(rt, alloc, front, farm, seat, table) else {
+    for _ in context.rt.forever() {
+        let Ok(collected) = collect_one(context, seat, table) else {
             return Err(Worn);
         };
         match collected {

@@ -5,6 +5,7 @@
 
 mod closing;
 mod collecting;
+mod context;
 mod dispositions;
 mod farm;
 mod front;

@@ -14,6 +14,7 @@ ghost use Rattle.port_events.specs.Told.{PortsTold};
 
 use crate::closing::close_all;
 use crate::collecting::collect_all;
+use crate::context::Context;
 use crate::farm::Farm;
 use crate::front::Front;
 use crate::hearing::take_event;
@@ -51,38 +52,35 @@ fn early_end(event: PortEvent) -> Option<FrontEnd>
 
 /// A round, from its event on.
 fn play<R: Wait, M: Farm, F: Front<M>, P: Ports>(
-    rt: &R,
-    alloc: Global,
-    front: &F,
-    farm: &M,
+    context: Context<'_, R, M, F>,
     seat: &mut M::Seat,
     table: &mut SessionTable<F::ConnState>,
     ports: &mut P,
     piece: &[u8],
     event: PortEvent,
 ) -> Result<Option<FrontEnd>, Worn>
-    requires seat { (M.seats farm.now).is_seat seat.old }
-    requires number { (M.seats farm.now).number seat.old ≡ (F.rules front.now farm.now).number + 1 }
+    requires seat { (M.seats context.farm.now).is_seat seat.old }
+    requires number { (M.seats context.farm.now).number seat.old ≡ (F.rules context.front.now context.farm.now).number + 1 }
     requires begins { BeginsRound event }
-    requires ready { (start was : Option PortsTold) × Comes (F.rules front.now farm.now) F.knows event piece.now start (P.state ports.old).told (world was ((M.seats farm.now).mine seat.old) table.old) }
-    ensures seat { SameSeat (M.seats farm.now) seat.old seat.new }
-    ensures worn { OnErr result ((M.seats farm.now).worn seat.new ≡ true) }
+    requires ready { (start was : Option PortsTold) × Comes (F.rules context.front.now context.farm.now) F.knows event piece.now start (P.state ports.old).told (world was ((M.seats context.farm.now).mine seat.old) table.old) }
+    ensures seat { SameSeat (M.seats context.farm.now) seat.old seat.new }
+    ensures worn { OnErr result ((M.seats context.farm.now).worn seat.new ≡ true) }
     ensures count { (P.state ports.old).faults ≤ (P.state ports.new).faults }
     ensures unbroken { IfOk result (λ end. end ≢ Some ended.Broken) }
     ensures goes { (start was : Option PortsTold)
-        → Comes (F.rules front.now farm.now) F.knows event piece.now start (P.state ports.old).told (world was ((M.seats farm.now).mine seat.old) table.old)
+        → Comes (F.rules context.front.now context.farm.now) F.knows event piece.now start (P.state ports.old).told (world was ((M.seats context.farm.now).mine seat.old) table.old)
         → MatchResult result
-        (λ end. Goes (F.rules front.now farm.now) F.knows start (world (P.state ports.new).told ((M.seats farm.now).mine seat.new) table.new) end)
-        (λ _. CutShort (F.rules front.now farm.now) F.knows start (P.state ports.new).told ((M.seats farm.now).mine seat.new) table.new.starved) }
+        (λ end. Goes (F.rules context.front.now context.farm.now) F.knows start (world (P.state ports.new).told ((M.seats context.farm.now).mine seat.new) table.new) end)
+        (λ _. CutShort (F.rules context.front.now context.farm.now) F.knows start (P.state ports.new).told ((M.seats context.farm.now).mine seat.new) table.new.starved) }
 {
-    let Ok(()) = take_event(rt, alloc, front, farm, seat, table, ports, piece, event) else {
+    let Ok(()) = take_event(context, seat, table, ports, piece, event) else {
         return Err(Worn);
     };
-    let Ok(stopped) = collect_all(rt, alloc, front, farm, seat, table) else {
+    let Ok(stopped) = collect_all(context, seat, table) else {
         return Err(Worn);
     };
-    offer_all(front, farm, table, ports);
-    let Ok(()) = close_all(rt, front, farm, seat, table, ports) else {
+    offer_all(context.front, context.farm, table, ports);
+    let Ok(()) = close_all(context, seat, table, ports) else {
         return Err(Worn);
     };
     Ok(end_after(event, stopped))
@@ -90,70 +88,54 @@ fn play<R: Wait, M: Farm, F: Front<M>, P: Ports>(
 
 /// One event, and the round that begins with it.
 fn round<R: Wait, M: Farm, F: Front<M>, P: Ports>(
-    rt: &R,
-    alloc: Global,
-    front: &F,
-    farm: &M,
+    context: Context<'_, R, M, F>,
     seat: &mut M::Seat,
     table: &mut SessionTable<F::ConnState>,
     ports: &mut P,
     room: &mut Vec<u8>,
 ) -> Result<Option<FrontEnd>, Worn>
-    requires seat { (M.seats farm.now).is_seat seat.old }
-    requires number { (M.seats farm.now).number seat.old ≡ (F.rules front.now farm.now).number + 1 }
-    requires ready { (start : Option PortsTold) × CanGo (F.rules front.now farm.now) F.knows start (world (P.state ports.old).told ((M.seats farm.now).mine seat.old) table.old) }
-    ensures seat { SameSeat (M.seats farm.now) seat.old seat.new }
-    ensures worn { OnErr result ((M.seats farm.now).worn seat.new ≡ true) }
+    requires seat { (M.seats context.farm.now).is_seat seat.old }
+    requires number { (M.seats context.farm.now).number seat.old ≡ (F.rules context.front.now context.farm.now).number + 1 }
+    requires ready { (start : Option PortsTold) × CanGo (F.rules context.front.now context.farm.now) F.knows start (world (P.state ports.old).told ((M.seats context.farm.now).mine seat.old) table.old) }
+    ensures seat { SameSeat (M.seats context.farm.now) seat.old seat.new }
+    ensures worn { OnErr result ((M.seats context.farm.now).worn seat.new ≡ true) }
     ensures count { (P.state ports.old).faults ≤ (P.state ports.new).faults }
     ensures broken { IfOk result (λ end. end ≡ Some ended.Broken → Counted (P.state ports.old).faults (P.state ports.new).faults) }
     ensures goes { (start : Option PortsTold)
-        → CanGo (F.rules front.now farm.now) F.knows start (world (P.state ports.old).told ((M.seats farm.now).mine seat.old) table.old)
+        → CanGo (F.rules context.front.now context.farm.now) F.knows start (world (P.state ports.old).told ((M.seats context.farm.now).mine seat.old) table.old)
         → MatchResult result
-        (λ end. Goes (F.rules front.now farm.now) F.knows start (world (P.state ports.new).told ((M.seats farm.now).mine seat.new) table.new) end)
-        (λ _. CutShort (F.rules front.now farm.now) F.knows start (P.state ports.new).told ((M.seats farm.now).mine seat.new) table.new.starved) }
+        (λ end. Goes (F.rules context.front.now context.farm.now) F.knows start (world (P.state ports.new).told ((M.seats context.farm.now).mine seat.new) table.new) end)
+        (λ _. CutShort (F.rules context.front.now context.farm.now) F.knows start (P.state ports.new).told ((M.seats context.farm.now).mine seat.new) table.new.starved) }
 {
     let event = ports.next(room);
     match early_end(event) {
         Some(end) => Ok(Some(end)),
-        None => play(
-            rt,
-            alloc,
-            front,
-            farm,
-            seat,
-            table,
-            ports,
-            room.as_slice(),
-            event,
-        ),
+        None => play(context, seat, table, ports, room.as_slice(), event),
     }
 }
 
 /// Rounds until the front ends.
 fn run<R: Wait, M: Farm, F: Front<M>, P: Ports>(
-    rt: &R,
-    alloc: Global,
-    front: &F,
-    farm: &M,
+    context: Context<'_, R, M, F>,
     seat: &mut M::Seat,
     table: &mut SessionTable<F::ConnState>,
     ports: &mut P,
 ) -> Result<FrontEnd, Worn>
-    requires seat { (M.seats farm.now).is_seat seat.old }
-    requires number { (M.seats farm.now).number seat.old ≡ (F.rules front.now farm.now).number + 1 }
-    requires ready { (start : Option PortsTold) × CanGo (F.rules front.now farm.now) F.knows start (world (P.state ports.old).told ((M.seats farm.now).mine seat.old) table.old) }
-    ensures seat { SameSeat (M.seats farm.now) seat.old seat.new }
-    ensures worn { OnErr result ((M.seats farm.now).worn seat.new ≡ true) }
+    requires seat { (M.seats context.farm.now).is_seat seat.old }
+    requires number { (M.seats context.farm.now).number seat.old ≡ (F.rules context.front.now context.farm.now).number + 1 }
+    requires ready { (start : Option PortsTold) × CanGo (F.rules context.front.now context.farm.now) F.knows start (world (P.state ports.old).told ((M.seats context.farm.now).mine seat.old) table.old) }
+    ensures seat { SameSeat (M.seats context.farm.now) seat.old seat.new }
+    ensures worn { OnErr result ((M.seats context.farm.now).worn seat.new ≡ true) }
     ensures broken { IfOk result (λ end. end ≡ ended.Broken → Counted (P.state ports.old).faults (P.state ports.new).faults) }
     ensures goes { (start : Option PortsTold)
-        → CanGo (F.rules front.now farm.now) F.knows start (world (P.state ports.old).told ((M.seats farm.now).mine seat.old) table.old)
+        → CanGo (F.rules context.front.now context.farm.now) F.knows start (world (P.state ports.old).told ((M.seats context.farm.now).mine seat.old) table.old)
         → MatchResult result
-        (λ end. Goes (F.rules front.now farm.now) F.knows start (world (P.state ports.new).told ((M.seats farm.now).mine seat.new) table.new) (Some end))
-        (λ _. CutShort (F.rules front.now farm.now) F.knows start (P.state ports.new).told ((M.seats farm.now).mine seat.new) table.new.starved) }
+        (λ end. Goes (F.rules context.front.now context.farm.now) F.knows start (world (P.state ports.new).told ((M.seats context.farm.now).mine seat.new) table.new) (Some end))
+        (λ _. CutShort (F.rules context.front.now context.farm.now) F.knows start (P.state ports.new).told ((M.seats context.farm.now).mine seat.new) table.new.starved) }
 {
-    let mut room = Vec::new(alloc);
-    for _ in rt.forever() {
-        let Ok(end) = round(rt, alloc, front, farm, seat, table, ports, &mut room) else {
+    let mut room = Vec::new(context.alloc);
+    for _ in context.rt.forever() {
+        let Ok(end) = round(context, seat, table, ports, &mut room) else {
             return Err(Worn);
         };
         if let Some(end) = end {
@@ -181,23 +163,20 @@ fn stop_after<R: Wait, M: Farm>(rt: &R, farm: &M, seat: &mut M::Seat, end: Front
 
 /// All rounds, and the front's end.
 fn serve_at<R: Wait, M: Farm, F: Front<M>, P: Ports>(
-    rt: &R,
-    alloc: Global,
-    front: &F,
-    farm: &M,
+    context: Context<'_, R, M, F>,
     seat: &mut M::Seat,
     table: &mut SessionTable<F::ConnState>,
     ports: &mut P,
 ) -> FrontEnd
-    requires seat { (M.seats farm.now).is_seat seat.old }
-    requires number { (M.seats farm.now).number seat.old ≡ (F.rules front.now farm.now).number + 1 }
-    requires ready { CanGo (F.rules front.now farm.now) F.knows (P.state ports.old).told (world (P.state ports.old).told ((M.seats farm.now).mine seat.old) table.old) }
-    ensures seat { SameSeat (M.seats farm.now) seat.old seat.new }
-    ensures served { StepRun (F.rules front.now farm.now) (P.state ports.old).told (P.state ports.new).told ((M.seats farm.now).mine seat.new) result (map (as_rest (F.rules front.now farm.now).number) table.new.outbox) table.new.starved ((M.seats farm.now).worn seat.new) }
+    requires seat { (M.seats context.farm.now).is_seat seat.old }
+    requires number { (M.seats context.farm.now).number seat.old ≡ (F.rules context.front.now context.farm.now).number + 1 }
+    requires ready { CanGo (F.rules context.front.now context.farm.now) F.knows (P.state ports.old).told (world (P.state ports.old).told ((M.seats context.farm.now).mine seat.old) table.old) }
+    ensures seat { SameSeat (M.seats context.farm.now) seat.old seat.new }
+    ensures served { StepRun (F.rules context.front.now context.farm.now) (P.state ports.old).told (P.state ports.new).told ((M.seats context.farm.now).mine seat.new) result (map (as_rest (F.rules context.front.now context.farm.now).number) table.new.outbox) table.new.starved ((M.seats context.farm.now).worn seat.new) }
     ensures broken { result ≡ ended.Broken → Counted (P.state ports.old).faults (P.state ports.new).faults }
 {
-    match run(rt, alloc, front, farm, seat, table, ports) {
-        Ok(end) => stop_after(rt, farm, seat, end),
+    match run(context, seat, table, ports) {
+        Ok(end) => stop_after(context.rt, context.farm, seat, end),
         Err(Worn) => FrontEnd::Worn,
     }
 }
@@ -223,7 +202,13 @@ pub fn serve<R: Wait, M: Farm, F: Front<M>, P: Ports>(
 {
     let number = front.number(farm);
     let mut table = SessionTable::new(alloc);
-    let end = serve_at(rt, alloc, front, farm, seat, &mut table, ports);
+    let context = Context {
+        rt,
+        alloc,
+        front,
+        farm,
+    };
+    let end = serve_at(context, seat, &mut table, ports);
     let rests = table.outbox.into_rests(number);
     FrontDone {
         end,

@@ -9,8 +9,8 @@ use Rattle.front_loop.proofs.collecting.collect_all.Given as goal
 
 abbrev pub invariant-loop : goal.invariant-loop
 invariant-loop g l = record {
-  seat : SameSeat (g.M.Farm.seats l.farm) l.fn.seat l.seat;
+  seat : SameSeat (g.M.Farm.seats l.context.farm.now) l.fn.seat l.seat;
   goes : (e : PortEvent) (start told : Option PortsTold) (ss : List (Step g.row.F-Act.Denot))
-      → Collects (g.F.Front.rules l.front l.farm) g.F.Front.knows e start ss (world told ((g.M.Farm.seats l.farm).mine l.fn.seat) l.fn.table)
-      → (more : List (Step g.row.F-Act.Denot)) × Collects (g.F.Front.rules l.front l.farm) g.F.Front.knows e start more (world told ((g.M.Farm.seats l.farm).mine l.seat) l.table);
+      → Collects (g.F.Front.rules l.context.front.now l.context.farm.now) g.F.Front.knows e start ss (world told ((g.M.Farm.seats l.context.farm.now).mine l.fn.seat) l.fn.table)
+      → (more : List (Step g.row.F-Act.Denot)) × Collects (g.F.Front.rules l.context.front.now l.context.farm.now) g.F.Front.knows e start more (world told ((g.M.Farm.seats l.context.farm.now).mine l.seat) l.table);
 }
