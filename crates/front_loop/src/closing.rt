@@ -86,25 +86,25 @@ fn starved_after(starved: u64, why: Reason) -> u64
 
 /// Leaves the connection of the session at this place.
 fn close_one<R: Wait, M: Farm, F: Front<M>, P: Ports>(
-    context: Context<'_, R, M, F>,
+    context: &Context<'_, R, M, F>,
     seat: &mut M::Seat,
     table: &mut SessionTable<F::ConnState>,
     ports: &mut P,
     left: (usize, u32, Reason),
 ) -> Result<(), Worn>
-    requires seat { (M.seats context.farm.now).is_seat seat.old }
-    requires number { (M.seats context.farm.now).number seat.old ≡ (F.rules context.front.now context.farm.now).number + 1 }
+    requires seat { (M.seats context.now.farm.now).is_seat seat.old }
+    requires number { (M.seats context.now.farm.now).number seat.old ≡ (F.rules context.now.front.now context.now.farm.now).number + 1 }
     requires leaving { IsLeaving table.old.sessions.items left.0 left.1 left.2 }
-    requires ready { (e : PortEvent) × ((stopped : Bool) × ((start : Option PortsTold) × CanLeave (F.rules context.front.now context.farm.now) F.knows e stopped start (world (P.state ports.old).told ((M.seats context.farm.now).mine seat.old) table.old))) }
-    ensures seat { SameSeat (M.seats context.farm.now) seat.old seat.new }
-    ensures worn { OnErr result ((M.seats context.farm.now).worn seat.new ≡ true) }
+    requires ready { (e : PortEvent) × ((stopped : Bool) × ((start : Option PortsTold) × CanLeave (F.rules context.now.front.now context.now.farm.now) F.knows e stopped start (world (P.state ports.old).told ((M.seats context.now.farm.now).mine seat.old) table.old))) }
+    ensures seat { SameSeat (M.seats context.now.farm.now) seat.old seat.new }
+    ensures worn { OnErr result ((M.seats context.now.farm.now).worn seat.new ≡ true) }
     ensures count { (P.state ports.new).faults ≡ (P.state ports.old).faults }
     ensures fewer { OnOk result (length table.new.sessions.items + 1 ≡ length table.old.sessions.items) }
     ensures goes { (e : PortEvent) (stopped : Bool) (start : Option PortsTold)
-        → CanLeave (F.rules context.front.now context.farm.now) F.knows e stopped start (world (P.state ports.old).told ((M.seats context.farm.now).mine seat.old) table.old)
+        → CanLeave (F.rules context.now.front.now context.now.farm.now) F.knows e stopped start (world (P.state ports.old).told ((M.seats context.now.farm.now).mine seat.old) table.old)
         → MatchResult result
-        (λ _. CanLeave (F.rules context.front.now context.farm.now) F.knows e stopped start (world (P.state ports.new).told ((M.seats context.farm.now).mine seat.new) table.new))
-        (λ _. CutShort (F.rules context.front.now context.farm.now) F.knows start (P.state ports.new).told ((M.seats context.farm.now).mine seat.new) table.new.starved) }
+        (λ _. CanLeave (F.rules context.now.front.now context.now.farm.now) F.knows e stopped start (world (P.state ports.new).told ((M.seats context.now.farm.now).mine seat.new) table.new))
+        (λ _. CutShort (F.rules context.now.front.now context.now.farm.now) F.knows start (P.state ports.new).told ((M.seats context.now.farm.now).mine seat.new) table.new.starved) }
 {
     let (place, conn, why) = left;
     let number = context.front.number(context.farm);
@@ -128,22 +128,22 @@ fn close_one<R: Wait, M: Farm, F: Front<M>, P: Ports>(
 
 /// Leaves every connection that leaves.
 pub fn close_all<R: Wait, M: Farm, F: Front<M>, P: Ports>(
-    context: Context<'_, R, M, F>,
+    context: &Context<'_, R, M, F>,
     seat: &mut M::Seat,
     table: &mut SessionTable<F::ConnState>,
     ports: &mut P,
 ) -> Result<(), Worn>
-    requires seat { (M.seats context.farm.now).is_seat seat.old }
-    requires number { (M.seats context.farm.now).number seat.old ≡ (F.rules context.front.now context.farm.now).number + 1 }
-    requires ready { (e : PortEvent) × ((stopped : Bool) × ((start : Option PortsTold) × CanLeave (F.rules context.front.now context.farm.now) F.knows e stopped start (world (P.state ports.old).told ((M.seats context.farm.now).mine seat.old) table.old))) }
-    ensures seat { SameSeat (M.seats context.farm.now) seat.old seat.new }
-    ensures worn { OnErr result ((M.seats context.farm.now).worn seat.new ≡ true) }
+    requires seat { (M.seats context.now.farm.now).is_seat seat.old }
+    requires number { (M.seats context.now.farm.now).number seat.old ≡ (F.rules context.now.front.now context.now.farm.now).number + 1 }
+    requires ready { (e : PortEvent) × ((stopped : Bool) × ((start : Option PortsTold) × CanLeave (F.rules context.now.front.now context.now.farm.now) F.knows e stopped start (world (P.state ports.old).told ((M.seats context.now.farm.now).mine seat.old) table.old))) }
+    ensures seat { SameSeat (M.seats context.now.farm.now) seat.old seat.new }
+    ensures worn { OnErr result ((M.seats context.now.farm.now).worn seat.new ≡ true) }
     ensures count { (P.state ports.new).faults ≡ (P.state ports.old).faults }
     ensures goes { (e : PortEvent) (stopped : Bool) (start : Option PortsTold)
-        → CanLeave (F.rules context.front.now context.farm.now) F.knows e stopped start (world (P.state ports.old).told ((M.seats context.farm.now).mine seat.old) table.old)
+        → CanLeave (F.rules context.now.front.now context.now.farm.now) F.knows e stopped start (world (P.state ports.old).told ((M.seats context.now.farm.now).mine seat.old) table.old)
         → MatchResult result
-        (λ _. IsOver (F.rules context.front.now context.farm.now) F.knows e stopped start (world (P.state ports.new).told ((M.seats context.farm.now).mine seat.new) table.new))
-        (λ _. CutShort (F.rules context.front.now context.farm.now) F.knows start (P.state ports.new).told ((M.seats context.farm.now).mine seat.new) table.new.starved) }
+        (λ _. IsOver (F.rules context.now.front.now context.now.farm.now) F.knows e stopped start (world (P.state ports.new).told ((M.seats context.now.farm.now).mine seat.new) table.new))
+        (λ _. CutShort (F.rules context.now.front.now context.now.farm.now) F.knows start (P.state ports.new).told ((M.seats context.now.farm.now).mine seat.new) table.new.starved) }
 {
     while let Some((place, conn, why)) = leaving(table.sessions.as_slice()) {
         let Ok(()) = close_one(context, seat, table, ports, (place, conn, why)) else {

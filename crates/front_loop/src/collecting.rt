@@ -32,21 +32,21 @@ fn worse_of(old: Disposition, new: Disposition) -> Disposition
 
 /// A reply comes for one session.
 fn reply_one<R: Wait, M: Farm, F: Front<M>>(
-    context: Context<'_, R, M, F>,
+    context: &Context<'_, R, M, F>,
     seat: &mut M::Seat,
     session: &mut Session<F::ConnState>,
     outbox: &mut Outbox,
     response: &mut Vec<u8>,
     reply: Reply,
 ) -> Result<(), Worn>
-    requires seat { (M.seats context.farm.now).is_seat seat.old }
-    requires number { (M.seats context.farm.now).number seat.old ≡ (F.rules context.front.now context.farm.now).number + 1 }
+    requires seat { (M.seats context.now.farm.now).is_seat seat.old }
+    requires number { (M.seats context.now.farm.now).number seat.old ≡ (F.rules context.now.front.now context.now.farm.now).number + 1 }
     requires rest { HasRest outbox.old session.old.conn }
-    ensures seat { SameSeat (M.seats context.farm.now) seat.old seat.new }
-    ensures worn { OnErr result ((M.seats context.farm.now).worn seat.new ≡ true) }
+    ensures seat { SameSeat (M.seats context.now.farm.now) seat.old seat.new }
+    ensures worn { OnErr result ((M.seats context.now.farm.now).worn seat.new ≡ true) }
     ensures replied { MatchResult result
-        (λ _. RepliesOne (F.rules context.front.now context.farm.now) F.knows reply ((M.seats context.farm.now).mine seat.old) ((M.seats context.farm.now).mine seat.new) session.old session.new outbox.old outbox.new)
-        (λ _. AnswersWorn (F.rules context.front.now context.farm.now) F.knows reply ((M.seats context.farm.now).mine seat.old) ((M.seats context.farm.now).mine seat.new) session.old) }
+        (λ _. RepliesOne (F.rules context.now.front.now context.now.farm.now) F.knows reply ((M.seats context.now.farm.now).mine seat.old) ((M.seats context.now.farm.now).mine seat.new) session.old session.new outbox.old outbox.new)
+        (λ _. AnswersWorn (F.rules context.now.front.now context.now.farm.now) F.knows reply ((M.seats context.now.farm.now).mine seat.old) ((M.seats context.now.farm.now).mine seat.new) session.old) }
 {
     if !is_kept(session.disposition) {
         return Ok(());
@@ -76,20 +76,20 @@ fn reply_one<R: Wait, M: Farm, F: Front<M>>(
 
 /// One Collect, with all that its reply makes.
 fn collect_one<R: Wait, M: Farm, F: Front<M>>(
-    context: Context<'_, R, M, F>,
+    context: &Context<'_, R, M, F>,
     seat: &mut M::Seat,
     table: &mut SessionTable<F::ConnState>,
 ) -> Result<Collected, Worn>
-    requires seat { (M.seats context.farm.now).is_seat seat.old }
-    requires number { (M.seats context.farm.now).number seat.old ≡ (F.rules context.front.now context.farm.now).number + 1 }
-    requires ready { (e : PortEvent) × ((start told : Option PortsTold) × ((ss : List (Step F.Act)) × Collects (F.rules context.front.now context.farm.now) F.knows e start ss (world told ((M.seats context.farm.now).mine seat.old) table.old))) }
-    ensures seat { SameSeat (M.seats context.farm.now) seat.old seat.new }
-    ensures worn { OnErr result ((M.seats context.farm.now).worn seat.new ≡ true) }
+    requires seat { (M.seats context.now.farm.now).is_seat seat.old }
+    requires number { (M.seats context.now.farm.now).number seat.old ≡ (F.rules context.now.front.now context.now.farm.now).number + 1 }
+    requires ready { (e : PortEvent) × ((start told : Option PortsTold) × ((ss : List (Step F.Act)) × Collects (F.rules context.now.front.now context.now.farm.now) F.knows e start ss (world told ((M.seats context.now.farm.now).mine seat.old) table.old))) }
+    ensures seat { SameSeat (M.seats context.now.farm.now) seat.old seat.new }
+    ensures worn { OnErr result ((M.seats context.now.farm.now).worn seat.new ≡ true) }
     ensures goes { (e : PortEvent) (start told : Option PortsTold) (ss : List (Step F.Act))
-        → Collects (F.rules context.front.now context.farm.now) F.knows e start ss (world told ((M.seats context.farm.now).mine seat.old) table.old)
+        → Collects (F.rules context.now.front.now context.now.farm.now) F.knows e start ss (world told ((M.seats context.now.farm.now).mine seat.old) table.old)
         → MatchResult result
-        (λ x. CollectsOne (F.rules context.front.now context.farm.now) F.knows e start (world told ((M.seats context.farm.now).mine seat.new) table.new) x)
-        (λ _. CutShort (F.rules context.front.now context.farm.now) F.knows start told ((M.seats context.farm.now).mine seat.new) table.new.starved) }
+        (λ x. CollectsOne (F.rules context.now.front.now context.now.farm.now) F.knows e start (world told ((M.seats context.now.farm.now).mine seat.new) table.new) x)
+        (λ _. CutShort (F.rules context.now.front.now context.now.farm.now) F.knows start told ((M.seats context.now.farm.now).mine seat.new) table.new.starved) }
 {
     let Ok(collected) = context
         .farm
@@ -124,20 +124,20 @@ fn collect_one<R: Wait, M: Farm, F: Front<M>>(
 
 /// Collects until no reply comes, and answers whether the farm was stopped.
 pub fn collect_all<R: Wait, M: Farm, F: Front<M>>(
-    context: Context<'_, R, M, F>,
+    context: &Context<'_, R, M, F>,
     seat: &mut M::Seat,
     table: &mut SessionTable<F::ConnState>,
 ) -> Result<bool, Worn>
-    requires seat { (M.seats context.farm.now).is_seat seat.old }
-    requires number { (M.seats context.farm.now).number seat.old ≡ (F.rules context.front.now context.farm.now).number + 1 }
-    requires ready { (e : PortEvent) × ((start told : Option PortsTold) × ((ss : List (Step F.Act)) × Collects (F.rules context.front.now context.farm.now) F.knows e start ss (world told ((M.seats context.farm.now).mine seat.old) table.old))) }
-    ensures seat { SameSeat (M.seats context.farm.now) seat.old seat.new }
-    ensures worn { OnErr result ((M.seats context.farm.now).worn seat.new ≡ true) }
+    requires seat { (M.seats context.now.farm.now).is_seat seat.old }
+    requires number { (M.seats context.now.farm.now).number seat.old ≡ (F.rules context.now.front.now context.now.farm.now).number + 1 }
+    requires ready { (e : PortEvent) × ((start told : Option PortsTold) × ((ss : List (Step F.Act)) × Collects (F.rules context.now.front.now context.now.farm.now) F.knows e start ss (world told ((M.seats context.now.farm.now).mine seat.old) table.old))) }
+    ensures seat { SameSeat (M.seats context.now.farm.now) seat.old seat.new }
+    ensures worn { OnErr result ((M.seats context.now.farm.now).worn seat.new ≡ true) }
     ensures goes { (e : PortEvent) (start told : Option PortsTold) (ss : List (Step F.Act))
-        → Collects (F.rules context.front.now context.farm.now) F.knows e start ss (world told ((M.seats context.farm.now).mine seat.old) table.old)
+        → Collects (F.rules context.now.front.now context.now.farm.now) F.knows e start ss (world told ((M.seats context.now.farm.now).mine seat.old) table.old)
         → MatchResult result
-        (λ stopped. CanOffer (F.rules context.front.now context.farm.now) F.knows e stopped start (world told ((M.seats context.farm.now).mine seat.new) table.new))
-        (λ _. CutShort (F.rules context.front.now context.farm.now) F.knows start told ((M.seats context.farm.now).mine seat.new) table.new.starved) }
+        (λ stopped. CanOffer (F.rules context.now.front.now context.now.farm.now) F.knows e stopped start (world told ((M.seats context.now.farm.now).mine seat.new) table.new))
+        (λ _. CutShort (F.rules context.now.front.now context.now.farm.now) F.knows start told ((M.seats context.now.farm.now).mine seat.new) table.new.starved) }
 {
     for _ in context.rt.forever() {
         let Ok(collected) = collect_one(context, seat, table) else {

@@ -61,21 +61,21 @@ pub fn settle(
 
 /// A piece is heard on one session.
 fn hear_one<R: Wait, M: Farm, F: Front<M>>(
-    context: Context<'_, R, M, F>,
+    context: &Context<'_, R, M, F>,
     seat: &mut M::Seat,
     session: &mut Session<F::ConnState>,
     outbox: &mut Outbox,
     response: &mut Vec<u8>,
     piece: &[u8],
 ) -> Result<(), Worn>
-    requires seat { (M.seats context.farm.now).is_seat seat.old }
-    requires number { (M.seats context.farm.now).number seat.old ≡ (F.rules context.front.now context.farm.now).number + 1 }
+    requires seat { (M.seats context.now.farm.now).is_seat seat.old }
+    requires number { (M.seats context.now.farm.now).number seat.old ≡ (F.rules context.now.front.now context.now.farm.now).number + 1 }
     requires rest { HasRest outbox.old session.old.conn }
-    ensures seat { SameSeat (M.seats context.farm.now) seat.old seat.new }
-    ensures worn { OnErr result ((M.seats context.farm.now).worn seat.new ≡ true) }
+    ensures seat { SameSeat (M.seats context.now.farm.now) seat.old seat.new }
+    ensures worn { OnErr result ((M.seats context.now.farm.now).worn seat.new ≡ true) }
     ensures heard { MatchResult result
-        (λ _. HearsOne (F.rules context.front.now context.farm.now) F.knows piece.now ((M.seats context.farm.now).mine seat.old) ((M.seats context.farm.now).mine seat.new) session.old session.new outbox.old outbox.new)
-        (λ _. HearsWorn (F.rules context.front.now context.farm.now) F.knows session.old.conn piece.now ((M.seats context.farm.now).mine seat.old) ((M.seats context.farm.now).mine seat.new) session.old.conn_state) }
+        (λ _. HearsOne (F.rules context.now.front.now context.now.farm.now) F.knows piece.now ((M.seats context.now.farm.now).mine seat.old) ((M.seats context.now.farm.now).mine seat.new) session.old session.new outbox.old outbox.new)
+        (λ _. HearsWorn (F.rules context.now.front.now context.now.farm.now) F.knows session.old.conn piece.now ((M.seats context.now.farm.now).mine seat.old) ((M.seats context.now.farm.now).mine seat.new) session.old.conn_state) }
 {
     response.clear();
     let Ok(disposition) = context.front.hear(
@@ -98,22 +98,22 @@ fn hear_one<R: Wait, M: Farm, F: Front<M>>(
 
 /// A piece came on a connection.
 fn hear<R: Wait, M: Farm, F: Front<M>>(
-    context: Context<'_, R, M, F>,
+    context: &Context<'_, R, M, F>,
     seat: &mut M::Seat,
     table: &mut SessionTable<F::ConnState>,
     conn: u32,
     piece: &[u8],
 ) -> Result<(), Worn>
-    requires seat { (M.seats context.farm.now).is_seat seat.old }
-    requires number { (M.seats context.farm.now).number seat.old ≡ (F.rules context.front.now context.farm.now).number + 1 }
-    requires ready { (start told was : Option PortsTold) × Comes (F.rules context.front.now context.farm.now) F.knows (event.Bytes conn) piece.now start told (world was ((M.seats context.farm.now).mine seat.old) table.old) }
-    ensures seat { SameSeat (M.seats context.farm.now) seat.old seat.new }
-    ensures worn { OnErr result ((M.seats context.farm.now).worn seat.new ≡ true) }
+    requires seat { (M.seats context.now.farm.now).is_seat seat.old }
+    requires number { (M.seats context.now.farm.now).number seat.old ≡ (F.rules context.now.front.now context.now.farm.now).number + 1 }
+    requires ready { (start told was : Option PortsTold) × Comes (F.rules context.now.front.now context.now.farm.now) F.knows (event.Bytes conn) piece.now start told (world was ((M.seats context.now.farm.now).mine seat.old) table.old) }
+    ensures seat { SameSeat (M.seats context.now.farm.now) seat.old seat.new }
+    ensures worn { OnErr result ((M.seats context.now.farm.now).worn seat.new ≡ true) }
     ensures goes { (start told was : Option PortsTold)
-        → Comes (F.rules context.front.now context.farm.now) F.knows (event.Bytes conn) piece.now start told (world was ((M.seats context.farm.now).mine seat.old) table.old)
+        → Comes (F.rules context.now.front.now context.now.farm.now) F.knows (event.Bytes conn) piece.now start told (world was ((M.seats context.now.farm.now).mine seat.old) table.old)
         → MatchResult result
-        (λ _. HasBegun (F.rules context.front.now context.farm.now) F.knows (event.Bytes conn) start (world told ((M.seats context.farm.now).mine seat.new) table.new))
-        (λ _. CutShort (F.rules context.front.now context.farm.now) F.knows start told ((M.seats context.farm.now).mine seat.new) table.new.starved) }
+        (λ _. HasBegun (F.rules context.now.front.now context.now.farm.now) F.knows (event.Bytes conn) start (world told ((M.seats context.now.farm.now).mine seat.new) table.new))
+        (λ _. CutShort (F.rules context.now.front.now context.now.farm.now) F.knows start told ((M.seats context.now.farm.now).mine seat.new) table.new.starved) }
 {
     let Some(place) = place_of(table.sessions.as_slice(), conn) else {
         return Ok(());
@@ -156,12 +156,12 @@ fn add<T: Drop>(
 /// Makes a session of a connection, unless it is there, or 1,024 are, or memory is wanting; answers
 /// whether it did.
 fn admit<R, M: Farm, F: Front<M>>(
-    context: Context<'_, R, M, F>,
+    context: &Context<'_, R, M, F>,
     table: &mut SessionTable<F::ConnState>,
     conn: u32,
 ) -> bool
     requires { keys table.old.outbox ≡ conns table.old.sessions.items }
-    ensures { Admits (F.rules context.front.now context.farm.now) F.knows conn table.old table.new result }
+    ensures { Admits (F.rules context.now.front.now context.now.farm.now) F.knows conn table.old table.new result }
 {
     if table.sessions.len() >= MOST_SESSIONS {
         return false;
@@ -206,16 +206,16 @@ fn refuse<T, P: Ports>(table: &mut SessionTable<T>, ports: &mut P, conn: u32)
 
 /// A connection was opened: it gets a session, or is closed.
 fn open<R, M: Farm, F: Front<M>, P: Ports>(
-    context: Context<'_, R, M, F>,
+    context: &Context<'_, R, M, F>,
     table: &mut SessionTable<F::ConnState>,
     ports: &mut P,
     piece: &[u8],
     conn: u32,
 )
-    requires ready { (start was : Option PortsTold) × ((mine : List Entry) × Comes (F.rules context.front.now context.farm.now) F.knows (event.Opened conn) piece.now start (P.state ports.old).told (world was mine table.old)) }
+    requires ready { (start was : Option PortsTold) × ((mine : List Entry) × Comes (F.rules context.now.front.now context.now.farm.now) F.knows (event.Opened conn) piece.now start (P.state ports.old).told (world was mine table.old)) }
     ensures goes { (start was : Option PortsTold) (mine : List Entry)
-        → Comes (F.rules context.front.now context.farm.now) F.knows (event.Opened conn) piece.now start (P.state ports.old).told (world was mine table.old)
-        → HasBegun (F.rules context.front.now context.farm.now) F.knows (event.Opened conn) start (world (P.state ports.new).told mine table.new) }
+        → Comes (F.rules context.now.front.now context.now.farm.now) F.knows (event.Opened conn) piece.now start (P.state ports.old).told (world was mine table.old)
+        → HasBegun (F.rules context.now.front.now context.now.farm.now) F.knows (event.Opened conn) start (world (P.state ports.new).told mine table.new) }
     ensures count { (P.state ports.new).faults ≡ (P.state ports.old).faults }
 {
     match admit(context, table, conn) {
@@ -248,25 +248,25 @@ fn mark_at<T>(table: &mut SessionTable<T>, event: PortEvent, conn: u32)
 
 /// An event came that begins a round.
 pub fn take_event<R: Wait, M: Farm, F: Front<M>, P: Ports>(
-    context: Context<'_, R, M, F>,
+    context: &Context<'_, R, M, F>,
     seat: &mut M::Seat,
     table: &mut SessionTable<F::ConnState>,
     ports: &mut P,
     piece: &[u8],
     event: PortEvent,
 ) -> Result<(), Worn>
-    requires seat { (M.seats context.farm.now).is_seat seat.old }
-    requires number { (M.seats context.farm.now).number seat.old ≡ (F.rules context.front.now context.farm.now).number + 1 }
+    requires seat { (M.seats context.now.farm.now).is_seat seat.old }
+    requires number { (M.seats context.now.farm.now).number seat.old ≡ (F.rules context.now.front.now context.now.farm.now).number + 1 }
     requires begins { BeginsRound event }
-    requires ready { (start was : Option PortsTold) × Comes (F.rules context.front.now context.farm.now) F.knows event piece.now start (P.state ports.old).told (world was ((M.seats context.farm.now).mine seat.old) table.old) }
-    ensures seat { SameSeat (M.seats context.farm.now) seat.old seat.new }
-    ensures worn { OnErr result ((M.seats context.farm.now).worn seat.new ≡ true) }
+    requires ready { (start was : Option PortsTold) × Comes (F.rules context.now.front.now context.now.farm.now) F.knows event piece.now start (P.state ports.old).told (world was ((M.seats context.now.farm.now).mine seat.old) table.old) }
+    ensures seat { SameSeat (M.seats context.now.farm.now) seat.old seat.new }
+    ensures worn { OnErr result ((M.seats context.now.farm.now).worn seat.new ≡ true) }
     ensures count { (P.state ports.new).faults ≡ (P.state ports.old).faults }
     ensures goes { (start was : Option PortsTold)
-        → Comes (F.rules context.front.now context.farm.now) F.knows event piece.now start (P.state ports.old).told (world was ((M.seats context.farm.now).mine seat.old) table.old)
+        → Comes (F.rules context.now.front.now context.now.farm.now) F.knows event piece.now start (P.state ports.old).told (world was ((M.seats context.now.farm.now).mine seat.old) table.old)
         → MatchResult result
-        (λ _. HasBegun (F.rules context.front.now context.farm.now) F.knows event start (world (P.state ports.new).told ((M.seats context.farm.now).mine seat.new) table.new))
-        (λ _. CutShort (F.rules context.front.now context.farm.now) F.knows start (P.state ports.new).told ((M.seats context.farm.now).mine seat.new) table.new.starved) }
+        (λ _. HasBegun (F.rules context.now.front.now context.now.farm.now) F.knows event start (world (P.state ports.new).told ((M.seats context.now.farm.now).mine seat.new) table.new))
+        (λ _. CutShort (F.rules context.now.front.now context.now.farm.now) F.knows start (P.state ports.new).told ((M.seats context.now.farm.now).mine seat.new) table.new.starved) }
 {
     match event {
         PortEvent::Opened(conn) => {

@@ -52,26 +52,26 @@ fn early_end(event: PortEvent) -> Option<FrontEnd>
 
 /// A round, from its event on.
 fn play<R: Wait, M: Farm, F: Front<M>, P: Ports>(
-    context: Context<'_, R, M, F>,
+    context: &Context<'_, R, M, F>,
     seat: &mut M::Seat,
     table: &mut SessionTable<F::ConnState>,
     ports: &mut P,
     piece: &[u8],
     event: PortEvent,
 ) -> Result<Option<FrontEnd>, Worn>
-    requires seat { (M.seats context.farm.now).is_seat seat.old }
-    requires number { (M.seats context.farm.now).number seat.old ≡ (F.rules context.front.now context.farm.now).number + 1 }
+    requires seat { (M.seats context.now.farm.now).is_seat seat.old }
+    requires number { (M.seats context.now.farm.now).number seat.old ≡ (F.rules context.now.front.now context.now.farm.now).number + 1 }
     requires begins { BeginsRound event }
-    requires ready { (start was : Option PortsTold) × Comes (F.rules context.front.now context.farm.now) F.knows event piece.now start (P.state ports.old).told (world was ((M.seats context.farm.now).mine seat.old) table.old) }
-    ensures seat { SameSeat (M.seats context.farm.now) seat.old seat.new }
-    ensures worn { OnErr result ((M.seats context.farm.now).worn seat.new ≡ true) }
+    requires ready { (start was : Option PortsTold) × Comes (F.rules context.now.front.now context.now.farm.now) F.knows event piece.now start (P.state ports.old).told (world was ((M.seats context.now.farm.now).mine seat.old) table.old) }
+    ensures seat { SameSeat (M.seats context.now.farm.now) seat.old seat.new }
+    ensures worn { OnErr result ((M.seats context.now.farm.now).worn seat.new ≡ true) }
     ensures count { (P.state ports.old).faults ≤ (P.state ports.new).faults }
     ensures unbroken { IfOk result (λ end. end ≢ Some ended.Broken) }
     ensures goes { (start was : Option PortsTold)
-        → Comes (F.rules context.front.now context.farm.now) F.knows event piece.now start (P.state ports.old).told (world was ((M.seats context.farm.now).mine seat.old) table.old)
+        → Comes (F.rules context.now.front.now context.now.farm.now) F.knows event piece.now start (P.state ports.old).told (world was ((M.seats context.now.farm.now).mine seat.old) table.old)
         → MatchResult result
-        (λ end. Goes (F.rules context.front.now context.farm.now) F.knows start (world (P.state ports.new).told ((M.seats context.farm.now).mine seat.new) table.new) end)
-        (λ _. CutShort (F.rules context.front.now context.farm.now) F.knows start (P.state ports.new).told ((M.seats context.farm.now).mine seat.new) table.new.starved) }
+        (λ end. Goes (F.rules context.now.front.now context.now.farm.now) F.knows start (world (P.state ports.new).told ((M.seats context.now.farm.now).mine seat.new) table.new) end)
+        (λ _. CutShort (F.rules context.now.front.now context.now.farm.now) F.knows start (P.state ports.new).told ((M.seats context.now.farm.now).mine seat.new) table.new.starved) }
 {
     let Ok(()) = take_event(context, seat, table, ports, piece, event) else {
         return Err(Worn);
@@ -88,24 +88,24 @@ fn play<R: Wait, M: Farm, F: Front<M>, P: Ports>(
 
 /// One event, and the round that begins with it.
 fn round<R: Wait, M: Farm, F: Front<M>, P: Ports>(
-    context: Context<'_, R, M, F>,
+    context: &Context<'_, R, M, F>,
     seat: &mut M::Seat,
     table: &mut SessionTable<F::ConnState>,
     ports: &mut P,
     room: &mut Vec<u8>,
 ) -> Result<Option<FrontEnd>, Worn>
-    requires seat { (M.seats context.farm.now).is_seat seat.old }
-    requires number { (M.seats context.farm.now).number seat.old ≡ (F.rules context.front.now context.farm.now).number + 1 }
-    requires ready { (start : Option PortsTold) × CanGo (F.rules context.front.now context.farm.now) F.knows start (world (P.state ports.old).told ((M.seats context.farm.now).mine seat.old) table.old) }
-    ensures seat { SameSeat (M.seats context.farm.now) seat.old seat.new }
-    ensures worn { OnErr result ((M.seats context.farm.now).worn seat.new ≡ true) }
+    requires seat { (M.seats context.now.farm.now).is_seat seat.old }
+    requires number { (M.seats context.now.farm.now).number seat.old ≡ (F.rules context.now.front.now context.now.farm.now).number + 1 }
+    requires ready { (start : Option PortsTold) × CanGo (F.rules context.now.front.now context.now.farm.now) F.knows start (world (P.state ports.old).told ((M.seats context.now.farm.now).mine seat.old) table.old) }
+    ensures seat { SameSeat (M.seats context.now.farm.now) seat.old seat.new }
+    ensures worn { OnErr result ((M.seats context.now.farm.now).worn seat.new ≡ true) }
     ensures count { (P.state ports.old).faults ≤ (P.state ports.new).faults }
     ensures broken { IfOk result (λ end. end ≡ Some ended.Broken → Counted (P.state ports.old).faults (P.state ports.new).faults) }
     ensures goes { (start : Option PortsTold)
-        → CanGo (F.rules context.front.now context.farm.now) F.knows start (world (P.state ports.old).told ((M.seats context.farm.now).mine seat.old) table.old)
+        → CanGo (F.rules context.now.front.now context.now.farm.now) F.knows start (world (P.state ports.old).told ((M.seats context.now.farm.now).mine seat.old) table.old)
         → MatchResult result
-        (λ end. Goes (F.rules context.front.now context.farm.now) F.knows start (world (P.state ports.new).told ((M.seats context.farm.now).mine seat.new) table.new) end)
-        (λ _. CutShort (F.rules context.front.now context.farm.now) F.knows start (P.state ports.new).told ((M.seats context.farm.now).mine seat.new) table.new.starved) }
+        (λ end. Goes (F.rules context.now.front.now context.now.farm.now) F.knows start (world (P.state ports.new).told ((M.seats context.now.farm.now).mine seat.new) table.new) end)
+        (λ _. CutShort (F.rules context.now.front.now context.now.farm.now) F.knows start (P.state ports.new).told ((M.seats context.now.farm.now).mine seat.new) table.new.starved) }
 {
     let event = ports.next(room);
     match early_end(event) {
@@ -116,22 +116,22 @@ fn round<R: Wait, M: Farm, F: Front<M>, P: Ports>(
 
 /// Rounds until the front ends.
 fn run<R: Wait, M: Farm, F: Front<M>, P: Ports>(
-    context: Context<'_, R, M, F>,
+    context: &Context<'_, R, M, F>,
     seat: &mut M::Seat,
     table: &mut SessionTable<F::ConnState>,
     ports: &mut P,
 ) -> Result<FrontEnd, Worn>
-    requires seat { (M.seats context.farm.now).is_seat seat.old }
-    requires number { (M.seats context.farm.now).number seat.old ≡ (F.rules context.front.now context.farm.now).number + 1 }
-    requires ready { (start : Option PortsTold) × CanGo (F.rules context.front.now context.farm.now) F.knows start (world (P.state ports.old).told ((M.seats context.farm.now).mine seat.old) table.old) }
-    ensures seat { SameSeat (M.seats context.farm.now) seat.old seat.new }
-    ensures worn { OnErr result ((M.seats context.farm.now).worn seat.new ≡ true) }
+    requires seat { (M.seats context.now.farm.now).is_seat seat.old }
+    requires number { (M.seats context.now.farm.now).number seat.old ≡ (F.rules context.now.front.now context.now.farm.now).number + 1 }
+    requires ready { (start : Option PortsTold) × CanGo (F.rules context.now.front.now context.now.farm.now) F.knows start (world (P.state ports.old).told ((M.seats context.now.farm.now).mine seat.old) table.old) }
+    ensures seat { SameSeat (M.seats context.now.farm.now) seat.old seat.new }
+    ensures worn { OnErr result ((M.seats context.now.farm.now).worn seat.new ≡ true) }
     ensures broken { IfOk result (λ end. end ≡ ended.Broken → Counted (P.state ports.old).faults (P.state ports.new).faults) }
     ensures goes { (start : Option PortsTold)
-        → CanGo (F.rules context.front.now context.farm.now) F.knows start (world (P.state ports.old).told ((M.seats context.farm.now).mine seat.old) table.old)
+        → CanGo (F.rules context.now.front.now context.now.farm.now) F.knows start (world (P.state ports.old).told ((M.seats context.now.farm.now).mine seat.old) table.old)
         → MatchResult result
-        (λ end. Goes (F.rules context.front.now context.farm.now) F.knows start (world (P.state ports.new).told ((M.seats context.farm.now).mine seat.new) table.new) (Some end))
-        (λ _. CutShort (F.rules context.front.now context.farm.now) F.knows start (P.state ports.new).told ((M.seats context.farm.now).mine seat.new) table.new.starved) }
+        (λ end. Goes (F.rules context.now.front.now context.now.farm.now) F.knows start (world (P.state ports.new).told ((M.seats context.now.farm.now).mine seat.new) table.new) (Some end))
+        (λ _. CutShort (F.rules context.now.front.now context.now.farm.now) F.knows start (P.state ports.new).told ((M.seats context.now.farm.now).mine seat.new) table.new.starved) }
 {
     let mut room = Vec::new(context.alloc);
     for _ in context.rt.forever() {
@@ -163,16 +163,16 @@ fn stop_after<R: Wait, M: Farm>(rt: &R, farm: &M, seat: &mut M::Seat, end: Front
 
 /// All rounds, and the front's end.
 fn serve_at<R: Wait, M: Farm, F: Front<M>, P: Ports>(
-    context: Context<'_, R, M, F>,
+    context: &Context<'_, R, M, F>,
     seat: &mut M::Seat,
     table: &mut SessionTable<F::ConnState>,
     ports: &mut P,
 ) -> FrontEnd
-    requires seat { (M.seats context.farm.now).is_seat seat.old }
-    requires number { (M.seats context.farm.now).number seat.old ≡ (F.rules context.front.now context.farm.now).number + 1 }
-    requires ready { CanGo (F.rules context.front.now context.farm.now) F.knows (P.state ports.old).told (world (P.state ports.old).told ((M.seats context.farm.now).mine seat.old) table.old) }
-    ensures seat { SameSeat (M.seats context.farm.now) seat.old seat.new }
-    ensures served { StepRun (F.rules context.front.now context.farm.now) (P.state ports.old).told (P.state ports.new).told ((M.seats context.farm.now).mine seat.new) result (map (as_rest (F.rules context.front.now context.farm.now).number) table.new.outbox) table.new.starved ((M.seats context.farm.now).worn seat.new) }
+    requires seat { (M.seats context.now.farm.now).is_seat seat.old }
+    requires number { (M.seats context.now.farm.now).number seat.old ≡ (F.rules context.now.front.now context.now.farm.now).number + 1 }
+    requires ready { CanGo (F.rules context.now.front.now context.now.farm.now) F.knows (P.state ports.old).told (world (P.state ports.old).told ((M.seats context.now.farm.now).mine seat.old) table.old) }
+    ensures seat { SameSeat (M.seats context.now.farm.now) seat.old seat.new }
+    ensures served { StepRun (F.rules context.now.front.now context.now.farm.now) (P.state ports.old).told (P.state ports.new).told ((M.seats context.now.farm.now).mine seat.new) result (map (as_rest (F.rules context.now.front.now context.now.farm.now).number) table.new.outbox) table.new.starved ((M.seats context.now.farm.now).worn seat.new) }
     ensures broken { result ≡ ended.Broken → Counted (P.state ports.old).faults (P.state ports.new).faults }
 {
     match run(context, seat, table, ports) {
@@ -208,7 +208,7 @@ pub fn serve<R: Wait, M: Farm, F: Front<M>, P: Ports>(
         front,
         farm,
     };
-    let end = serve_at(context, seat, &mut table, ports);
+    let end = serve_at(&context, seat, &mut table, ports);
     let rests = table.outbox.into_rests(number);
     FrontDone {
         end,

@@ -20,6 +20,6 @@ returns-in_default-close_one-clause-goes g c = λ e stopped start h. c.in_defaul
 
 pub returns-clause-goes : goal.returns-clause-goes
 returns-clause-goes g c = λ e stopped start h.
-    over (g.F.Front.rules c.args.context.front.now c.args.context.farm.now) g.F.Front.knows e stopped start
-    (world (g.P.Ports.state c.loop-place.ports).told ((g.M.Farm.seats c.args.context.farm.now).mine c.loop-place.seat) c.loop-place.table) (c.loop-place.invariant.goes e stopped start h)
+    over (g.F.Front.rules c.args.context.now.front.now c.args.context.now.farm.now) g.F.Front.knows e stopped start
+    (world (g.P.Ports.state c.loop-place.ports).told ((g.M.Farm.seats c.args.context.now.farm.now).mine c.loop-place.seat) c.loop-place.table) (c.loop-place.invariant.goes e stopped start h)
     (subst (λ (ss : List (Session g.row.F-ConnState.Denot)). Each StaysOn ss) c.as_slice.ensures.value c.in_default.ensures.none)

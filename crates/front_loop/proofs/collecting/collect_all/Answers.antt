@@ -23,21 +23,21 @@ returns-in_default-clause-goes g c = λ e start told ss h.
 
 pub loop-preserved : goal.loop-preserved
 loop-preserved g c = record {
-  seat = same_trans (g.M.Farm.seats c.args.context.farm.now) c.args.seat.now c.loop.seat c.collect_one.new.seat c.loop.invariant.seat c.collect_one.ensures.seat;
+  seat = same_trans (g.M.Farm.seats c.args.context.now.farm.now) c.args.seat.now c.loop.seat c.collect_one.new.seat c.loop.invariant.seat c.collect_one.ensures.seat;
   goes = λ e start told ss h.
       let m = c.loop.invariant.goes e start told ss h in
-      subst (CollectsOne (g.F.Front.rules c.args.context.front.now c.args.context.farm.now) g.F.Front.knows e start (world told ((g.M.Farm.seats c.args.context.farm.now).mine c.collect_one.new.seat) c.collect_one.new.table)) c.in-Reply.is
+      subst (CollectsOne (g.F.Front.rules c.args.context.now.front.now c.args.context.now.farm.now) g.F.Front.knows e start (world told ((g.M.Farm.seats c.args.context.now.farm.now).mine c.collect_one.new.seat) c.collect_one.new.table)) c.in-Reply.is
       (c.in-Ok.ensures.goes e start told m.0 m.1);
 }
 
 pub returns-in-Stopped-clause-goes : goal.returns-in-Stopped-clause-goes
 returns-in-Stopped-clause-goes g c = λ e start told ss h.
     let m = c.loop.invariant.goes e start told ss h in
-    subst (CollectsOne (g.F.Front.rules c.args.context.front.now c.args.context.farm.now) g.F.Front.knows e start (world told ((g.M.Farm.seats c.args.context.farm.now).mine c.collect_one.new.seat) c.collect_one.new.table)) c.in-Stopped.is
+    subst (CollectsOne (g.F.Front.rules c.args.context.now.front.now c.args.context.now.farm.now) g.F.Front.knows e start (world told ((g.M.Farm.seats c.args.context.now.farm.now).mine c.collect_one.new.seat) c.collect_one.new.table)) c.in-Stopped.is
     (c.in-Ok.ensures.goes e start told m.0 m.1)
 
 pub returns-in-Empty-clause-goes : goal.returns-in-Empty-clause-goes
 returns-in-Empty-clause-goes g c = λ e start told ss h.
     let m = c.loop.invariant.goes e start told ss h in
-    subst (CollectsOne (g.F.Front.rules c.args.context.front.now c.args.context.farm.now) g.F.Front.knows e start (world told ((g.M.Farm.seats c.args.context.farm.now).mine c.collect_one.new.seat) c.collect_one.new.table)) c.in-Empty.is
+    subst (CollectsOne (g.F.Front.rules c.args.context.now.front.now c.args.context.now.farm.now) g.F.Front.knows e start (world told ((g.M.Farm.seats c.args.context.now.farm.now).mine c.collect_one.new.seat) c.collect_one.new.table)) c.in-Empty.is
     (c.in-Ok.ensures.goes e start told m.0 m.1)

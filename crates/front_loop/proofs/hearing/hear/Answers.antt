@@ -10,13 +10,13 @@ use Rattle.front_loop.proofs.hearing.hear.Goals as goal
 
 pub returns-in_default-clause-goes : goal.returns-in_default-clause-goes
 returns-in_default-clause-goes g c = λ start told was m.
-    bytes_none (g.F.Front.rules c.args.context.front.now c.args.context.farm.now) g.F.Front.knows c.args.conn c.args.piece.now start told
-    (world was ((g.M.Farm.seats c.args.context.farm.now).mine c.args.seat.now) c.args.table.now) m
+    bytes_none (g.F.Front.rules c.args.context.now.front.now c.args.context.now.farm.now) g.F.Front.knows c.args.conn c.args.piece.now start told
+    (world was ((g.M.Farm.seats c.args.context.now.farm.now).mine c.args.seat.now) c.args.table.now) m
     (subst (λ (ss : List (Session g.row.F-ConnState.Denot)). has (conns ss) c.args.conn ≡ false) c.as_slice.ensures.value c.in_default.ensures.none)
 
 pub hear_one-requires-clause-rest : goal.hear_one-requires-clause-rest
 hear_one-requires-clause-rest g c =
-    rest_of_place (g.F.Front.rules c.args.context.front.now c.args.context.farm.now) g.F.Front.knows _ _ _ _ _ c.in-Some.place c.index_mut.result.now c.requires.ready.3
+    rest_of_place (g.F.Front.rules c.args.context.now.front.now c.args.context.now.farm.now) g.F.Front.knows _ _ _ _ _ c.in-Some.place c.index_mut.result.now c.requires.ready.3
     (stands_at c.args.table.now.sessions.items c.as_slice.result.now c.in-Some.place c.index_mut.result.now c.as_slice.ensures.value c.in-Some.ensures.some.0 c.index_mut.ensures.value)
 
 pub returns-clause-goes : goal.returns-clause-goes
@@ -24,9 +24,9 @@ returns-clause-goes g c = λ start told was m.
     let at = stands_at c.args.table.now.sessions.items c.as_slice.result.now c.in-Some.place c.index_mut.result.now c.as_slice.ensures.value c.in-Some.ensures.some.0 c.index_mut.ensures.value in
     let is = conn_at c.args.table.now.sessions.items c.as_slice.result.now c.in-Some.place c.index_mut.result.now c.args.conn c.as_slice.ensures.value c.in-Some.ensures.some.1 at in
     MatchResult-weaker c.hear_one.result c.hear_one.ensures.heard
-    (λ _ h. bytes_heard (g.F.Front.rules c.args.context.front.now c.args.context.farm.now) g.F.Front.knows c.args.conn c.args.piece.now start told
-    (world was ((g.M.Farm.seats c.args.context.farm.now).mine c.args.seat.now) c.args.table.now) c.in-Some.place c.index_mut.result.now c.hear_one.new.session
-    ((g.M.Farm.seats c.args.context.farm.now).mine c.hear_one.new.seat) c.hear_one.new.outbox m at is h)
-    (λ _ h. bytes_worn (g.F.Front.rules c.args.context.front.now c.args.context.farm.now) g.F.Front.knows c.args.conn c.args.piece.now start told
-    (world was ((g.M.Farm.seats c.args.context.farm.now).mine c.args.seat.now) c.args.table.now) c.in-Some.place c.index_mut.result.now
-    ((g.M.Farm.seats c.args.context.farm.now).mine c.hear_one.new.seat) m at is h)
+    (λ _ h. bytes_heard (g.F.Front.rules c.args.context.now.front.now c.args.context.now.farm.now) g.F.Front.knows c.args.conn c.args.piece.now start told
+    (world was ((g.M.Farm.seats c.args.context.now.farm.now).mine c.args.seat.now) c.args.table.now) c.in-Some.place c.index_mut.result.now c.hear_one.new.session
+    ((g.M.Farm.seats c.args.context.now.farm.now).mine c.hear_one.new.seat) c.hear_one.new.outbox m at is h)
+    (λ _ h. bytes_worn (g.F.Front.rules c.args.context.now.front.now c.args.context.now.farm.now) g.F.Front.knows c.args.conn c.args.piece.now start told
+    (world was ((g.M.Farm.seats c.args.context.now.farm.now).mine c.args.seat.now) c.args.table.now) c.in-Some.place c.index_mut.result.now
+    ((g.M.Farm.seats c.args.context.now.farm.now).mine c.hear_one.new.seat) m at is h)

@@ -15,6 +15,6 @@ round-requires-clause-ready g c = (c.requires.ready.0, c.loop.invariant.goes c.r
 
 pub returns-in-Some-end-clause-goes : goal.returns-in-Some-end-clause-goes
 returns-in-Some-end-clause-goes g c = λ start h.
-    subst (λ (x : Option FrontEnd). Goes (g.F.Front.rules c.args.context.front.now c.args.context.farm.now) g.F.Front.knows start
-    (world (g.P.Ports.state c.round.new.ports).told ((g.M.Farm.seats c.args.context.farm.now).mine c.round.new.seat) c.round.new.table) x) c.in-Some-end.is
+    subst (λ (x : Option FrontEnd). Goes (g.F.Front.rules c.args.context.now.front.now c.args.context.now.farm.now) g.F.Front.knows start
+    (world (g.P.Ports.state c.round.new.ports).told ((g.M.Farm.seats c.args.context.now.farm.now).mine c.round.new.seat) c.round.new.table) x) c.in-Some-end.is
     (c.in-Ok.ensures.goes start (c.loop.invariant.goes start h))
