@@ -3,4 +3,5 @@
 
 mod serving;
 
+pub use expiry_lists::TileList;
 pub use serving::serve;
