@@ -1,6 +1,6 @@
 -- What stands of one connection after steps is what stands of it after rounds.
 use Rattle.std.proofs.Common.{◌≡◌, ◌==◌, ◌<◌, ◌+◌, ℕ, Bool, true, false, not, ◌&&◌, ◌||◌, cond, List, [], ◌∷◌, ◌++◌, length, drop, map, Option, Some, None, refl, sym, ap, subst, ◌∙◌, inl, inr, ◌⊎◌, nat_lt}
-use Rattle.std.specs.Prelude.{◌≢◌, nat_le, unwrap_or, ◌-◌}
+use Rattle.std.specs.Prelude.{◌≢◌, nat_le, unwrap_or}
 use Rattle.std.specs.List.{list_any}
 use Rattle.std.proofs.Math.Bool.{or-true, or-false}
 use Rattle.farm_base.specs.Limits.{most_rest_bytes, most_sessions}
@@ -9,7 +9,6 @@ use Rattle.farm_history.specs.Lists.{without_first}
 use Rattle.farm_history.specs.Entries.{Entry}
 use Rattle.port_events.specs.declared.events.PortEvent.{PortEvent}
 use Rattle.port_events.specs.declared.events.PortEvent.TheVariants as event
-use Rattle.port_events.specs.Told.{heard}
 use Rattle.front_loop.specs.declared.dispositions.Reason.{Reason}
 use Rattle.front_loop.specs.declared.dispositions.Reason.TheVariants as reason
 use Rattle.front_loop.specs.Rules.{Rules, Move, Does, Gets, is_cut, wants_of, answer_bytes, each_whole, any_starves, BeginsWanted, EachSoFar}
