@@ -117,7 +117,7 @@ meta_number (container.Index place) = 6
 
 -- a tile: a line with its version and the number of its bytes, then these and a newline
 abbrev pub tile_text : List ℕ → ℕ → List ℕ → List ℕ
-tile_text word version bytes = (word ++ decimal version ++ codes " " ++ decimal (length bytes) ++ codes "\n") ++ bytes ++ codes "\n"
+tile_text word version bytes = (word ++ decimal version ++ codes " " ++ decimal (length bytes) ++ codes "\n") ++ (bytes ++ codes "\n")
 
 -- the text of a fetch
 abbrev pub fetch_text : Fetched → Option (List ℕ)
