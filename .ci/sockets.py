@@ -5,12 +5,14 @@
 
 It is for the programs that `rt ci` built, as both compilers build them, or for those named as words. Each listens at
 Unix sockets and on loopback; what it answers by renderd's protocol, over HTTP and to control lines, its tally and what
-it saves are compared with what oracle/serve_cases.py says. It needs Python 3 alone, ends within a minute, and leaves
-nothing behind. The status is 1 only where something came that is not as wanted, or where twice something did not come
-in time though the machine is not busy.
+it saves are compared with what oracle/serve_cases.py says. So is what no contract speaks of: who is woken, what stands
+on the disk, a full disk, too few threads. It needs Python 3 alone, takes half a minute for each, most of it asleep, and
+leaves nothing behind. The status is 1 only where something came that is not as wanted, or where twice something did not
+come in time though the machine is not busy.
 """
 
 import os
+import resource
 import shutil
 import signal
 import socket
@@ -22,11 +24,19 @@ import time
 TOP = os.path.dirname(os.path.dirname(os.path.abspath(__file__)))
 BUILT = [os.path.join(TOP, "crates", "tilefarm", "out", name) for name in ("tilefarm", "tilefarm.by-rattle")]
 EACH = 8  # seconds for one wait
-WHOLE = 55  # seconds for all
-LARGE = 256  # pixels of a large tile
+WHOLE = 110  # seconds for all
+LARGE = 512  # pixels of a large tile
+NARROW = 40 << 20  # bytes of addresses: less than the stacks of MANY workers
+MANY = 16
+MOST = 3000  # metatiles of a saved text of more than 65,536 bytes
+CONNECTIONS = 66000
+PATIENCE = 30  # seconds, more than the actors of a run wait for one that has no thread
+SAVED = "tiles/farm.saved"
 sys.dont_write_bytecode = True
 sys.path.insert(0, os.path.join(TOP, "oracle"))
 import serve_cases as wanted  # noqa: E402
+
+NO_MEMORY = "tilefarm: out of memory\n"
 
 
 class Unlike(Exception):
@@ -81,7 +91,7 @@ class Farm:
 
     renderd, control = "renderd.sock", "control.sock"
 
-    def __init__(self, program, **more):
+    def __init__(self, program, limit=None, user=None, **more):
         self.tiles = ("127.0.0.1", free_port())
         name = wanted.config("sockets", updates=["west.update"], renderd="unix:" + self.renderd,
                              tiles="tcp:%s:%d" % self.tiles, control="unix:" + self.control, **more)  # fmt: skip
@@ -89,8 +99,9 @@ class Farm:
         for name, content in [(name, content)] + [(it, wanted.FILES[it]) for it in ("red.style", "square.data", "west.update")]:
             with open(name, "wb") as out:
                 out.write(content)
-        self.process = subprocess.Popen([program, "serve", "sockets.config"], stdin=subprocess.DEVNULL,
-                                        stdout=subprocess.PIPE, stderr=subprocess.PIPE)  # fmt: skip
+        narrow = (lambda: resource.setrlimit(resource.RLIMIT_AS, (limit, limit))) if limit else None
+        self.process = subprocess.Popen([program, "serve", "sockets.config"], stdin=subprocess.DEVNULL, stdout=subprocess.PIPE,
+                                        stderr=subprocess.PIPE, preexec_fn=narrow, user=user)  # fmt: skip
 
     def listens(self):
         """Waits until all three ports listen."""
@@ -110,10 +121,16 @@ class Farm:
                         raise Late("the start")
                     time.sleep(0.02)
 
-    def ended(self):
+    def busy(self):
+        """For how many seconds processors have worked for it."""
+        with open("/proc/%d/stat" % self.process.pid) as file:
+            fields = file.read().rpartition(")")[2].split()
+        return (int(fields[11]) + int(fields[12])) / os.sysconf("SC_CLK_TCK")
+
+    def ended(self, seconds=EACH):
         """The status, and what was written on both streams."""
         try:
-            out, err = self.process.communicate(timeout=EACH)
+            out, err = self.process.communicate(timeout=seconds)
         except subprocess.TimeoutExpired:
             raise Late("the end")
         return self.process.returncode, out.decode(), err.decode()
@@ -126,22 +143,39 @@ class Farm:
         self.process.stderr.close()
 
 
-def told(what, address, sent, wants, closes=False):
-    """Sends on a connection of its own; what comes, to its end or as long as what is wanted, is that."""
+def received(what, made, length=None):
+    """What comes on a connection, to its end or so many bytes."""
     got = b""
     try:
-        with connected(address) as made:
-            made.sendall(sent)
-            while closes or len(got) < len(wants):
-                piece = made.recv(65536)
-                if not piece:
-                    break
-                got += piece
+        while length is None or len(got) < length:
+            piece = made.recv(65536)
+            if not piece:
+                break
+            got += piece
     except socket.timeout:
         raise Late(what)
     except OSError as error:
         raise Unlike("%s: %s" % (what, error))
-    same(what, got, wants)
+    return got
+
+
+def told(what, address, sent, wants, closes=False):
+    """Sends on a connection of its own; what comes, to its end or as long as what is wanted, is that."""
+    with connected(address) as made:
+        made.sendall(sent)
+        same(what, received(what, made, None if closes else len(wants)), wants)
+
+
+def comes(what, address, sent, wants):
+    """Sends on connections of their own, until what comes to the end of one is as wanted."""
+    end = time.monotonic() + EACH
+    while time.monotonic() < end:
+        with connected(address) as made:
+            made.sendall(sent)
+            if received(what, made) == wants:
+                return
+        time.sleep(0.05)
+    raise Late(what)
 
 
 def first_run(farm):
@@ -169,13 +203,40 @@ def second_run(farm):
 
 
 def run_of_large_tiles(farm):
-    """Drawings that last longer than the fronts are awake: who asked is told only by the bell that a worker rings."""
+    """Drawings that last longer than the fronts are awake: who asked is told only by the bell that a worker rings. The
+    last tile of a container stands far behind its first 2^24 bytes."""
     large = b"P6\n%d %d\n255\n" % (LARGE, LARGE) + wanted.RED * LARGE**2
     told("a Done that is waited for", farm.renderd, wanted.message(wanted.RENDER, 5, 8, 8), wanted.message(wanted.DONE, 5, 8, 8))
-    told("another tile of that drawing", farm.tiles, wanted.get("/default/5/9/8.ppm"), wanted.tile(large), True)
+    told("the last tile of that drawing", farm.tiles, wanted.get("/default/5/15/15.ppm"), wanted.tile(large), True)
     told("a tile that is waited for", farm.tiles, wanted.get("/default/5/16/8.ppm"), wanted.tile(large), True)
+    with connected(farm.renderd) as waits:
+        waits.sendall(wanted.message(wanted.RENDER, 5, 24, 8))
+        told("an update meanwhile", farm.control, b"update 0\n", b"version 1\n")
+        done = wanted.message(wanted.DONE, 5, 24, 8)
+        same("a Done over an update", received("a Done over an update", waits, len(done)), done)
+    os.makedirs("tiles/default/5/0/0/0/0/8.meta")  # a folder where the metatile of 5/0/8 would stand
+    told("a Not Done that is waited for", farm.renderd, wanted.message(wanted.RENDER, 5, 0, 8), wanted.message(wanted.NOT_DONE, 5, 0, 8))
+    told("dirty", farm.tiles, wanted.get("/default/5/8/8.ppm/dirty"), wanted.MARKED, True)
+    clean = wanted.plain(200, "OK", "clean 1\n")
+    comes("a drawing that nobody waits for", farm.tiles, wanted.get("/default/5/8/8.ppm/status"), clean)
+    before = farm.busy()
+    time.sleep(0.4)
+    if farm.busy() - before > 0.1:
+        raise Unlike("an idle farm is busy for %.2f of 0.4 seconds" % (farm.busy() - before))
     told("stop", farm.control, b"stop\n", b"stopping\n")
-    same("the third end", farm.ended(), (0, wanted.tally(3, 3, 2, 0), ""))
+    same("the third end", farm.ended(), (0, wanted.tally(5, 4, 4, 1), ""))
+
+
+def run_of_many(farm):
+    """A saved text of more than 65,536 bytes, and more connections than that. At the end the disk is full."""
+    told("one of many", farm.tiles, wanted.get("/default/18/0/8.ppm/status"), wanted.plain(200, "OK", "clean 0\n"), True)
+    for _ in range(CONNECTIONS):
+        with socket.socket(socket.AF_UNIX) as made:
+            made.connect(farm.control)
+    told("a connection after many", farm.control, b"update 0\n", b"version 1\n")
+    os.symlink("/dev/full", SAVED + ".new")
+    told("stop", farm.control, b"stop\n", b"stopping\n")
+    same("the end on a full disk", farm.ended(), (6, wanted.tally(MOST, MOST, MOST, 1), wanted.STORE_FAILED))
 
 
 def serves(program, run, **more):
@@ -196,15 +257,49 @@ def serves(program, run, **more):
 
 def has_saved():
     """What the farms before it left."""
-    if not os.path.exists("tiles/farm.saved"):
+    if not os.path.exists(SAVED):
         raise Unlike("nothing is saved")
-    with open("tiles/farm.saved", "rb") as file:
+    with open(SAVED, "rb") as file:
         same("what is saved", file.read(), wanted.SAVED)
+
+
+def leaves_nothing():
+    """Of what is written beside a file nothing is left."""
+    for folder, _, names in os.walk("tiles"):
+        for name in names:
+            if name.endswith(".new"):
+                raise Unlike("%s/%s is left" % (folder, name))
+
+
+def is_refused_a_file(program):
+    """A saved farm that may not be read is not taken for none, and stays."""
+    os.chmod(SAVED, 0)
+    try:
+        farm = Farm(program, user=65534 if os.geteuid() == 0 else None, resume=True)
+        try:
+            same("the end at a closed file", farm.ended(), (6, "", wanted.STORE_FAILED))
+        finally:
+            farm.kill()
+    except PermissionError:  # a folder above that nobody may enter
+        pass
+    os.chmod(SAVED, 0o644)
+    has_saved()
+
+
+def begun_narrow(program):
+    """A farm with too few threads, in a folder of its own."""
+    os.mkdir("narrow")
+    os.chdir("narrow")
+    farm = Farm(program, limit=NARROW, workers=MANY)
+    os.chdir("..")
+    return farm
 
 
 def tried(built):
     """All runs of a program, in a folder of its own, that goes in the end."""
-    folder = tempfile.mkdtemp(prefix="tilefarm-")
+    folder, narrow = tempfile.mkdtemp(prefix="tilefarm-"), None
+    os.chmod(folder, 0o755)
+    os.umask(0o022)
     os.chdir(folder)
     try:
         if not has_sockets():
@@ -212,12 +307,22 @@ def tried(built):
         program = os.path.join(folder, "tilefarm")
         shutil.copyfile(built, program)
         os.chmod(program, 0o755)
+        narrow = begun_narrow(program)
         for run in (first_run, second_run):
             serves(program, run, resume=True)
             has_saved()
+            leaves_nothing()
+        is_refused_a_file(program)
         serves(program, run_of_large_tiles, maps=[{"name": "default", "style": "red.style", "tile": LARGE}])
+        leaves_nothing()
+        with open(SAVED, "wb") as out:
+            out.write(wanted.saved_text([0], [], [(18, 8 * number, 8, 0) for number in range(MOST)]))
+        serves(program, run_of_many, resume=True)
+        same("the end of a farm with too few threads", narrow.ended(PATIENCE), (5, wanted.tally(0, 0, 0, 0), NO_MEMORY))
     finally:
         os.chdir(TOP)
+        if narrow:
+            narrow.kill()
         shutil.rmtree(folder, ignore_errors=True)
 
 
