@@ -17,7 +17,9 @@ pub(crate) fn filter_lines<R: Clock + Print>(
     let Some(filter) = report_reading(rt, alloc, work, text.as_str())? else {
         return Ok(false);
     };
-    report_writing(rt, alloc, work, &filter)
+    let told = report_writing(rt, alloc, work, &filter);
+    drop(filter);
+    told
 }
 
 /// Comparisons joined by `or`.
@@ -37,16 +39,30 @@ fn report_reading<R: Clock + Print>(
     text: &str,
 ) -> io::Result<Option<Expr>> {
     let start = Instant::now(rt)?;
-    let read = parse(alloc, text);
-    let took = start.elapsed(rt)?;
-    let Ok(filter) = read else {
+    let Ok(filter) = parse(alloc, text) else {
         return Ok(None);
     };
-    let bytes = text.len();
-    let parts = or_parts(&filter);
+    match tell_reading(rt, work, text.len(), &filter, start) {
+        Ok(()) => Ok(Some(filter)),
+        Err(error) => {
+            drop(filter);
+            Err(error)
+        }
+    }
+}
+
+/// Prints what was read since that moment.
+fn tell_reading<R: Clock + Print>(
+    rt: &R,
+    work: Work,
+    bytes: usize,
+    filter: &Expr,
+    start: Instant,
+) -> io::Result<()> {
+    let took = start.elapsed(rt)?;
+    let parts = or_parts(filter);
     println!(rt; "read: {bytes} bytes, {parts} parts")?;
-    report_rate(rt, work, bytes, took)?;
-    Ok(Some(filter))
+    report_rate(rt, work, bytes, took)
 }
 
 /// Writes the filter and prints a line: false where memory was wanting.

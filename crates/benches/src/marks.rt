@@ -49,26 +49,44 @@ fn expire_tiles(marks: &mut Marks, tiles: u32) -> u64 {
     clean
 }
 
-/// Shows, expires tile by tile, and expires the world twice, each with its line: false where memory was wanting.
-fn lines<R: Clock + Print>(rt: &R, work: Calls, marks: &mut Marks) -> io::Result<bool> {
+/// Shows: false where memory was wanting.
+fn show_lines<R: Clock + Print>(rt: &R, work: Calls, marks: &mut Marks) -> io::Result<bool> {
     let start = Instant::now(rt)?;
     if show_all(marks, work.shown).is_err() {
         return Ok(false);
     }
+    let took = start.elapsed(rt)?;
     println!(rt; "{} metatiles shown", work.shown)?;
-    tell_time(rt, work, start.elapsed(rt)?, work.shown)?;
+    tell_time(rt, work, took, work.shown)?;
+    Ok(true)
+}
+
+/// Expires tile by tile.
+fn expire_lines<R: Clock + Print>(rt: &R, work: Calls, marks: &mut Marks) -> io::Result<()> {
     let start = Instant::now(rt)?;
     let clean = expire_tiles(marks, work.tiles);
     let took = start.elapsed(rt)?;
     println!(rt; "{} tiles of zoom 18 expired: {clean} clean", work.tiles)?;
-    tell_time(rt, work, took, work.tiles)?;
-    for _ in 0..2 {
-        let start = Instant::now(rt)?;
-        let clean = marks.expire(Tile { z: 0, x: 0, y: 0 });
-        let took = start.elapsed(rt)?;
-        println!(rt; "the world expired: {clean} clean")?;
-        tell_time(rt, work, took, 1)?;
+    tell_time(rt, work, took, work.tiles)
+}
+
+/// Expires the world.
+fn world_lines<R: Clock + Print>(rt: &R, work: Calls, marks: &mut Marks) -> io::Result<()> {
+    let start = Instant::now(rt)?;
+    let clean = marks.expire(Tile { z: 0, x: 0, y: 0 });
+    let took = start.elapsed(rt)?;
+    println!(rt; "the world expired: {clean} clean")?;
+    tell_time(rt, work, took, 1)
+}
+
+/// Shows, expires tile by tile, and expires the world twice, each with its line: false where memory was wanting.
+fn lines<R: Clock + Print>(rt: &R, work: Calls, marks: &mut Marks) -> io::Result<bool> {
+    if !show_lines(rt, work, marks)? {
+        return Ok(false);
     }
+    expire_lines(rt, work, marks)?;
+    world_lines(rt, work, marks)?;
+    world_lines(rt, work, marks)?;
     Ok(true)
 }
 

@@ -133,9 +133,8 @@ fn fill_dirty(queues: &mut Queues) -> u32 {
     placed
 }
 
-/// Rounds over queues in which all but two asks are open, connections that leave, and a full dirty queue, each with
-/// its line.
-fn lines<R: Clock + Print>(rt: &R, work: Calls, queues: &mut Queues) -> io::Result<()> {
+/// Rounds over queues in which all but two asks are open.
+fn round_lines<R: Clock + Print>(rt: &R, work: Calls, queues: &mut Queues) -> io::Result<()> {
     fill(queues, MOST_ASKS - 2);
     let open = queues.asks().saturating_add(2);
     let start = Instant::now(rt)?;
@@ -145,14 +144,24 @@ fn lines<R: Clock + Print>(rt: &R, work: Calls, queues: &mut Queues) -> io::Resu
         "{open} asks open: {} rounds, {replies} replies",
         work.rounds
     )?;
-    tell_time(rt, work, took, work.rounds)?;
-    leave_lines(rt, work, queues)?;
+    tell_time(rt, work, took, work.rounds)
+}
+
+/// A full dirty queue.
+fn dirty_lines<R: Clock + Print>(rt: &R, work: Calls, queues: &mut Queues) -> io::Result<()> {
     let placed = fill_dirty(queues);
     let start = Instant::now(rt)?;
     let taken = empty_dirty(queues);
     let took = start.elapsed(rt)?;
     println!(rt; "{placed} metatiles in the dirty queue: {taken} taken")?;
     tell_time(rt, work, took, taken)
+}
+
+/// Rounds, connections that leave, and a full dirty queue, each with its line.
+fn lines<R: Clock + Print>(rt: &R, work: Calls, queues: &mut Queues) -> io::Result<()> {
+    round_lines(rt, work, queues)?;
+    leave_lines(rt, work, queues)?;
+    dirty_lines(rt, work, queues)
 }
 
 /// The lines of the queues: false where memory was wanting.

@@ -23,7 +23,7 @@ pub(crate) struct Calls {
 }
 
 const COUNTS: Calls = Calls {
-    shown: 10_000,
+    shown: 70_000,
     tiles: 10,
     rounds: 2_000,
     leaves: 1,

@@ -58,7 +58,11 @@ pub(crate) fn count<R: Threads + Wait + Sync>(
     let Ok((cell, mut first)) = TurnCell::new(alloc, Counter { count: 0 }, 1 << 62) else {
         return None;
     };
-    let mut seats = split_all(alloc, &cell, &mut first, threads)?;
+    let Some(mut seats) = split_all(alloc, &cell, &mut first, threads) else {
+        drop(first);
+        drop(cell);
+        return None;
+    };
     take_beside(rt, &cell, seats.as_mut_slice(), threads, each);
     join_all(&cell, &mut first, seats);
     Some(cell.close(first).into_value().count)

@@ -39,32 +39,60 @@ fn update_of(alloc: Global, change: Change) -> Result<Update, NoMemory>
 #[tactic(auto, using(data_versions::proofs::Named::short_name))]
 fn puts(alloc: Global, name: &str, put: Vec<Feature>) -> Result<Option<Update>, NoMemory> {
     if name.len() < 1 || name.len() > 64 || put.len() > 1_000_000 {
+        drop(put);
         return Ok(None);
     }
+    let Ok(layer) = Text::of(alloc, name) else {
+        drop(put);
+        return Err(NoMemory);
+    };
     let change = Change {
-        layer: Text::of(alloc, name)?,
+        layer,
         remove: Vec::new(alloc),
         put,
     };
     Ok(Some(update_of(alloc, change)?))
 }
 
-/// So many features.
-fn features(alloc: Global, count: u32) -> Result<Vec<Feature>, NoMemory> {
+/// Adds so many features.
+fn add_features(alloc: Global, features: &mut Vec<Feature>, count: u32) -> Result<(), NoMemory> {
     let mut random = Random::new(2026);
-    let mut features = Vec::new(alloc);
     for id in 0..count {
         if let Some(feature) = feature(alloc, &mut random, u64::from(id))? {
             features.push(feature)?;
         }
     }
-    Ok(features)
+    Ok(())
+}
+
+/// So many features.
+fn features(alloc: Global, count: u32) -> Option<Vec<Feature>> {
+    let mut features = Vec::new(alloc);
+    if add_features(alloc, &mut features, count).is_err() {
+        drop(features);
+        return None;
+    }
+    Some(features)
+}
+
+/// Data of one layer without features, as they are first.
+fn empty(alloc: Global, name: &str) -> Option<Snapshot> {
+    Snapshot::first(alloc, bare(alloc, name).ok()??).ok()
+}
+
+/// The data with so many features more.
+fn with_features(alloc: Global, empty: &Snapshot, name: &str, count: u32) -> Option<Snapshot> {
+    let put = features(alloc, count)?;
+    let update = puts(alloc, name, put).ok()??;
+    let made = apply(alloc, empty, &update);
+    drop(update);
+    made.ok()
 }
 
 /// Data of one layer with so many features: nothing where memory was wanting.
 pub(crate) fn snapshot(alloc: Global, name: &str, count: u32) -> Option<Snapshot> {
-    let empty = Snapshot::first(alloc, bare(alloc, name).ok()??).ok()?;
-    let put = features(alloc, count).ok()?;
-    let update = puts(alloc, name, put).ok()??;
-    apply(alloc, &empty, &update).ok()
+    let empty = empty(alloc, name)?;
+    let made = with_features(alloc, &empty, name, count);
+    drop(empty);
+    made
 }

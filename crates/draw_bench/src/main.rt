@@ -194,7 +194,9 @@ fn timed_drawing<R: Clock>(
 /// How many tiles are drawn, and how many bytes they have together.
 fn draw(alloc: Global, style: &MapStyle, snapshot: &Snapshot) -> Option<(usize, u64)> {
     let drawn = draw_meta(alloc, style, 256, metatile()?, snapshot).ok()?;
-    Some((drawn.tiles.len(), bytes_of(drawn.tiles.as_slice())))
+    let told = (drawn.tiles.len(), bytes_of(drawn.tiles.as_slice()));
+    drop(drawn);
+    Some(told)
 }
 
 /// The metatile at the middle of the world, at zoom 12.

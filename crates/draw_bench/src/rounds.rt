@@ -1,8 +1,10 @@
 //! A metatile over the files of a style and of data, drawn and packed again and again.
+ghost use Rattle.plain_world.specs.World.{IsMeta};
+
 use data_versions::Snapshot;
 use farm_base::Files;
 use geo_json::read_data;
-use merc_fixed::{meta_of, tile};
+use merc_fixed::{Meta, meta_of, tile};
 use meta_drawing::{PictureBuffer, draw_container};
 use plain_drawing::MapStyle;
 use std::alloc::Global;
@@ -43,13 +45,28 @@ impl Rounds {
     fn draw(&self, alloc: Global, style: &MapStyle, snapshot: &Snapshot) -> Option<Drawn> {
         let meta = meta_of(tile(self.z, self.x, self.y)?);
         let mut picture_buffer = PictureBuffer::new(alloc);
-        let mut drawn = Drawn { bytes: 0, sum: 0 };
-        for _round in 0..self.count {
-            let container = draw_container(&mut picture_buffer, style, 256, meta, snapshot).ok()?;
-            drawn = drawn.and(container.as_slice());
-        }
-        Some(drawn)
+        let drawn = draw_each(&mut picture_buffer, style, meta, snapshot, self.count);
+        drop(picture_buffer);
+        drawn
     }
+}
+
+/// Draws the metatile so often.
+fn draw_each(
+    picture_buffer: &mut PictureBuffer,
+    style: &MapStyle,
+    meta: Meta,
+    snapshot: &Snapshot,
+    count: u32,
+) -> Option<Drawn>
+    requires { IsMeta meta }
+{
+    let mut drawn = Drawn { bytes: 0, sum: 0 };
+    for _round in 0..count {
+        let container = draw_container(picture_buffer, style, 256, meta, snapshot).ok()?;
+        drawn = drawn.and(container.as_slice());
+    }
+    Some(drawn)
 }
 
 /// The style that the file of this name says.

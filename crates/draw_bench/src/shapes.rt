@@ -104,10 +104,18 @@ pub(crate) fn feature(
     id: u64,
 ) -> Result<Option<Feature>, NoMemory> {
     let geometry = geometry(alloc, random, id % 3)?;
+    let Ok(attrs) = attrs(alloc, random.below(12)) else {
+        drop(geometry);
+        return Err(NoMemory);
+    };
+    Ok(make_feature(id, geometry, attrs).ok())
+}
+
+/// The kind as the only attribute.
+fn attrs(alloc: Global, kind: u32) -> Result<Vec<Attr>, NoMemory> {
     let kind = Attr {
         name: Text::of(alloc, "kind")?,
-        value: Value::Whole(i64::from(random.below(12))),
+        value: Value::Whole(i64::from(kind)),
     };
-    let attrs = vec![in alloc; kind]?;
-    Ok(make_feature(id, geometry, attrs).ok())
+    Ok(vec![in alloc; kind]?)
 }
