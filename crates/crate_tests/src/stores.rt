@@ -104,15 +104,18 @@ fn stages<S: TileStore>(rt: &impl Abort, store: &mut S, alloc: Global, path: &st
     assert!(rt; put == Ok(()), "staged put of {path}");
 }
 
+/// A number that is 7 in its last 32 bits.
+const FAR: u64 = 4_294_967_303;
+
 /// Of two that are staged at once each is put at its own path, the later one first.
 fn puts_two<S: TileStore>(store: &mut S, alloc: Global) -> Result<(), StoreFault> {
     let stager = store.stager();
     let first = staged::<S>(&stager, alloc, 7, b"seven")?;
-    let other = staged::<S>(&stager, alloc, 8, b"eight")?;
-    let later = store.put_staged(alloc, "map/8", other);
+    let other = staged::<S>(&stager, alloc, FAR, b"far")?;
+    let later = store.put_staged(alloc, "map/far", other);
     let earlier = store.put_staged(alloc, "map/7", first);
     S::clear(&stager, alloc, 7);
-    S::clear(&stager, alloc, 8);
+    S::clear(&stager, alloc, FAR);
     later?;
     earlier
 }
@@ -151,7 +154,7 @@ fn holds_staged<S: TileStore>(rt: &impl Abort, store: &mut S, alloc: Global) {
     gets(rt, store, alloc, "map/1/0/0/0/0/0.meta", b"first");
     assert!(rt; puts_two(store, alloc) == Ok(()), "two staged at once");
     gets(rt, store, alloc, "map/7", b"seven");
-    gets(rt, store, alloc, "map/8", b"eight");
+    gets(rt, store, alloc, "map/far", b"far");
 }
 
 /// What every store does with a path that is put again.
@@ -185,20 +188,38 @@ fn memory_and_files_hold(rt: HostRuntime) -> Result<(), Fail> {
     Ok(())
 }
 
-/// What is opened for the first part is read on for the next, also where the file is away by then.
+/// Reads a byte of what was opened, or else of the path.
+fn reads_on<S: TileStore>(
+    rt: &impl Abort,
+    store: &mut S,
+    alloc: Global,
+    opened: &mut Option<S::Opened>,
+    offset: u64,
+    wanted: &[u8],
+) {
+    let found = store.get_next_part(alloc, "one", offset, 1, opened);
+    assert!(rt;
+        slice(&found) == Ok(Some(wanted)),
+        "{offset} of what was opened"
+    );
+}
+
+/// What is opened for the first part is read on for the next, also where the path has another file by then, since no
+/// put writes into a file that is there, or none.
 #[test]
 fn an_opened_file_is_read_on(rt: HostRuntime) -> Result<(), Fail> {
     let alloc = rt.alloc();
     let _left_by_an_earlier_run = fs::remove_dir_all(&rt, "tiles");
     let mut files = FileStore::new(rt.clone()?);
-    assert_eq!(rt; files.put(alloc, "one", b"xy"), Ok(()));
     let mut opened = None;
-    let first = files.get_next_part(alloc, "one", 0, 1, &mut opened);
-    assert!(rt; slice(&first) == Ok(Some(b"x")));
+    puts(&rt, &mut files, alloc, "one", b"xyz");
+    reads_on(&rt, &mut files, alloc, &mut opened, 0, b"x");
+    puts(&rt, &mut files, alloc, "one", b"abc");
+    reads_on(&rt, &mut files, alloc, &mut opened, 1, b"y");
+    gets(&rt, &mut files, alloc, "one", b"abc");
     fs::remove_file(&rt, "tiles/one")?;
-    let next = files.get_next_part(alloc, "one", 1, 4, &mut opened);
-    assert!(rt; slice(&next) == Ok(Some(b"y")));
-    assert!(rt; slice(&files.get_part(alloc, "one", 1, 4)) == Ok(None));
+    reads_on(&rt, &mut files, alloc, &mut opened, 2, b"z");
+    lacks(&rt, &mut files, alloc, "one");
     fs::remove_dir_all(&rt, "tiles")?;
     Ok(())
 }

@@ -2,6 +2,8 @@
 #![tactic(auto)]
 
 #[cfg(test)]
+mod alarms;
+#[cfg(test)]
 mod barrier;
 #[cfg(test)]
 mod call;
