@@ -219,12 +219,17 @@ def run_of_large_tiles(farm):
     told("dirty", farm.tiles, wanted.get("/default/5/8/8.ppm/dirty"), wanted.MARKED, True)
     clean = wanted.plain(200, "OK", "clean 1\n")
     comes("a drawing that nobody waits for", farm.tiles, wanted.get("/default/5/8/8.ppm/status"), clean)
+    spoilt = wanted.plain(500, "Internal Server Error")
+    os.truncate("tiles/default/5/0/0/0/16/8.meta", 600)
+    told("a tile whose file was cut", farm.tiles, wanted.get("/default/5/16/8.ppm"), spoilt, True)
+    os.remove("tiles/default/5/0/0/0/16/8.meta")
+    told("a tile whose file is gone", farm.tiles, wanted.get("/default/5/16/8.ppm"), spoilt, True)
     before = farm.busy()
     time.sleep(0.4)
     if farm.busy() - before > 0.1:
         raise Unlike("an idle farm is busy for %.2f of 0.4 seconds" % (farm.busy() - before))
     told("stop", farm.control, b"stop\n", b"stopping\n")
-    same("the third end", farm.ended(), (0, wanted.tally(5, 4, 4, 1), ""))
+    same("the third end", farm.ended(), (0, wanted.tally(7, 6, 4, 1), ""))
 
 
 def run_of_many(farm):
