@@ -23,7 +23,7 @@ use Rattle.style_objects.specs.declared.fault.Part.TheVariants as part
 use Rattle.style_objects.specs.Kinds.{in_grammar, a_bound}
 use Rattle.style_objects.specs.Places.{at_place}
 use Rattle.style_objects.specs.Tables.{filters_of, rule_of, symbolizer_of, raster_of, style_of, layer_of, map_object}
-use Rattle.style_objects.specs.inner.Parts.{painting_of, rule_by_parts, list_or_none, map_by_parts}
+use Rattle.style_objects.specs.inner.Parts.{painting_of, rule_by_parts, list_or_none, map_lists, map_by_parts}
 
 abbrev painting : ℕ → Option ℕ → List Symbolizer → ℕ × Option ℕ × List Symbolizer
 painting x y z = (x, y, z)
@@ -65,7 +65,7 @@ found_list at limit range (Some d) on = by (as_array d)
         fits false = refl
 
 pub map_in_parts : (says : TextReading) (at : At) (d : Data) → map_object says at d ≡ map_by_parts says at d
-unfolding map_object map_by_parts
+unfolding map_object map_by_parts map_lists
 map_in_parts says at d = λ i.
     opened_as (keys_of object.Map) at d >>= λ u. within most_styles (fault.Range at) (get (codes "styles") d) >>= λ found_styles.
     within most_map_layers (fault.Range at) (get (codes "layers") d) >>= λ found_layers.

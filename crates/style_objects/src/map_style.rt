@@ -1,10 +1,11 @@
 //! The map, and the whole text.
-ghost use Rattle.std.specs.Prelude.{◌≡◌};
-ghost use Rattle.serde_json.specs.View.{view};
+ghost use Rattle.std.specs.Prelude.{◌≡◌, ◌≤◌, length};
+ghost use Rattle.serde_json.specs.View.{view, items_view};
 ghost use Rattle.reading.specs.Steps.{Gives};
 ghost use Rattle.style_objects.specs.TextReadings.{TextReading, SaysGrammar, text_reading};
 ghost use Rattle.style_objects.specs.Tables as spec;
 ghost use Rattle.style_objects.specs.inner.Parts as parts;
+ghost use Rattle.plain_drawing.specs.Limits.{most_styles, most_map_layers, most_rasters};
 ghost use Rattle.style_objects.specs.Places.{at_place};
 ghost use Rattle.style_objects.specs.declared.fault.Part.TheVariants as part;
 ghost use Rattle.style_objects.specs.declared.fault.StyleFault.TheVariants as fault;
@@ -27,19 +28,20 @@ const WHITE: Colour = Colour {
     b: 255,
 };
 
-#[tactic(auto, unfolding(crate::specs::inner::Parts::map_by_parts))]
-fn map_by_parts(alloc: Global, object: &Value) -> Result<MapStyle, StyleFault>
-    ensures { Gives fault.NoMemory (λ x. x) (parts.map_by_parts text_reading (at_place part.Map 0 0 0) (view object.now)) result }
+/// The map of these lists: its rasters, then its styles, then its layers.
+#[tactic(auto, unfolding(crate::specs::inner::Parts::map_lists))]
+fn map_lists(
+    alloc: Global,
+    background_color: Colour,
+    style_items: &[Value],
+    layer_items: &[Value],
+    raster_items: &[Value],
+) -> Result<MapStyle, StyleFault>
+    requires styles { length style_items.now ≤ most_styles }
+    requires layers { length layer_items.now ≤ most_map_layers }
+    requires rasters { length raster_items.now ≤ most_rasters }
+    ensures { Gives fault.NoMemory (λ x. x) (parts.map_lists text_reading background_color (items_view style_items.now) (items_view layer_items.now) (items_view raster_items.now)) result }
 {
-    let at = At::map();
-    open(object, Object::Map, at)?;
-    let found_styles = within(object.get("styles"), MOST_STYLES, StyleFault::Range(at))?;
-    let found_layers = within(object.get("layers"), MOST_MAP_LAYERS, StyleFault::Range(at))?;
-    let found_rasters = within(object.get("rasters"), MOST_RASTERS, StyleFault::Range(at))?;
-    let background_color = colour_or(object, "background-color", WHITE, at)?;
-    let style_items = found_styles.ok_or(StyleFault::Shape(at))?;
-    let layer_items = found_layers.ok_or(StyleFault::Shape(at))?;
-    let raster_items = list_or_none(found_rasters, object.get("rasters"), at)?;
     let rasters = rasters(alloc, raster_items)?;
     let styles = match styles(alloc, style_items) {
         Ok(styles) => styles,
@@ -63,6 +65,28 @@ fn map_by_parts(alloc: Global, object: &Value) -> Result<MapStyle, StyleFault>
         rasters,
         grids: Vec::new(alloc),
     })
+}
+
+#[tactic(auto, unfolding(crate::specs::inner::Parts::map_by_parts))]
+fn map_by_parts(alloc: Global, object: &Value) -> Result<MapStyle, StyleFault>
+    ensures { Gives fault.NoMemory (λ x. x) (parts.map_by_parts text_reading (at_place part.Map 0 0 0) (view object.now)) result }
+{
+    let at = At::map();
+    open(object, Object::Map, at)?;
+    let found_styles = within(object.get("styles"), MOST_STYLES, StyleFault::Range(at))?;
+    let found_layers = within(object.get("layers"), MOST_MAP_LAYERS, StyleFault::Range(at))?;
+    let found_rasters = within(object.get("rasters"), MOST_RASTERS, StyleFault::Range(at))?;
+    let background_color = colour_or(object, "background-color", WHITE, at)?;
+    let style_items = found_styles.ok_or(StyleFault::Shape(at))?;
+    let layer_items = found_layers.ok_or(StyleFault::Shape(at))?;
+    let raster_items = list_or_none(found_rasters, object.get("rasters"), at)?;
+    map_lists(
+        alloc,
+        background_color,
+        style_items,
+        layer_items,
+        raster_items,
+    )
 }
 
 fn map_style(alloc: Global, object: &Value) -> Result<MapStyle, StyleFault>

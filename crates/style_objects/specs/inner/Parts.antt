@@ -1,8 +1,9 @@
--- A rule in the parts in which the code reads it, and a map as the code finds its rasters. Words of inner contracts.
+-- A rule and a map in the parts in which the code reads them. Words of inner contracts.
 use Rattle.std.specs.Prelude.{ℕ, codes, List, [], length, Option, Some, None, Result, Ok, Err}
 use Rattle.std.specs.Option.{ok_or}
 use Rattle.serde_json.specs.Data.{Data, Items, no_items}
 use Rattle.serde_json.specs.Find.{get}
+use Rattle.plain_shapes.specs.declared.colour.Colour.{Colour}
 use Rattle.plain_drawing.specs.declared.style.Symbolizer.{Symbolizer}
 use Rattle.plain_drawing.specs.Styles.{Rule, MapStyle}
 use Rattle.plain_drawing.specs.Limits.{most_symbolizers, most_styles, most_map_layers, most_rasters}
@@ -46,7 +47,15 @@ list_or_none at (Some items) found = Ok items
 list_or_none at None None = Ok no_items
 list_or_none at None (Some d) = Err (fault.Shape at)
 
--- a map whose rasters are those that were found within their limit
+-- the map with this background and these lists: its rasters, then its styles, then its layers
+unfoldable pub map_lists : TextReading → Colour → Items → Items → Items → Result MapStyle StyleFault
+map_lists says background style_items layer_items raster_items = do
+  rasters ← list_of (λ before e. raster_of (at_place part.Raster (length before) 0 0) before e) raster_items
+  styles ← list_of (λ before e. style_of says (at_place part.Style (length before) 0 0) before e) style_items
+  layers ← list_of (λ before e. layer_of says styles (at_place part.Layer (length before) 0 0) before e) layer_items
+  Ok (record { background_color = background; styles = styles; layers = layers; rasters = rasters; grids = [] })
+
+-- a map by its own keys and then its lists, whose rasters are those that were found within their limit
 unfoldable pub map_by_parts : TextReading → At → Data → Result MapStyle StyleFault
 map_by_parts says at d = do
   u ← opened_as (keys_of object.Map) at d
@@ -57,7 +66,4 @@ map_by_parts says at d = do
   style_items ← ok_or found_styles (fault.Shape at)
   layer_items ← ok_or found_layers (fault.Shape at)
   raster_items ← list_or_none at found_rasters (get (codes "rasters") d)
-  rasters ← list_of (λ before e. raster_of (at_place part.Raster (length before) 0 0) before e) raster_items
-  styles ← list_of (λ before e. style_of says (at_place part.Style (length before) 0 0) before e) style_items
-  layers ← list_of (λ before e. layer_of says styles (at_place part.Layer (length before) 0 0) before e) layer_items
-  Ok (record { background_color = background; styles = styles; layers = layers; rasters = rasters; grids = [] })
+  map_lists says background style_items layer_items raster_items
