@@ -29,52 +29,85 @@ fn render<R: Threads + Wait + Clock + Sync>(
     call(rt, alloc, words.as_slice(), files.as_slice(), faults)
 }
 
+// The status, and whether a proper front of this was put on out, and nothing on err.
+fn put_front(ended: &Ended, whole: &[u8]) -> (u8, bool) {
+    let was_put = ended.out.bytes();
+    let is_front = was_put.len() < whole.len() && whole.starts_with(was_put);
+    (ended.status, is_front && ended.err.bytes().is_empty())
+}
+
+// What is put on out where nothing fails.
+fn tile<R: Threads + Wait + Clock + Sync>(rt: &R, alloc: Global) -> Result<Vec<u8>, Fail> {
+    let ended = render(rt, alloc, NONE)?;
+    let bytes = Vec::from_slice(alloc, ended.out.bytes());
+    drop(ended);
+    Ok(bytes?)
+}
+
+// The status, and whether so many bytes were put on out, and none on err.
+fn put_all(ended: &Ended, count: usize) -> (u8, bool) {
+    let is_all = ended.out.bytes().len() == count;
+    (ended.status, is_all && ended.err.bytes().is_empty())
+}
+
+// A put on err that is to fail asks nothing of a success.
 #[test]
-fn puts_that_fail(rt: HostRuntime) -> Result<(), Fail> {
-    let alloc = rt.alloc();
-    // A put on err that is to fail asks nothing of a success.
-    let whole = render(&rt, alloc, Faults { err: &[0], ..NONE })?;
-    assert_eq!(rt; whole.status, 0);
-    assert_eq!(rt; whole.out.bytes().len(), 781);
-    assert!(rt; whole.err.bytes().is_empty());
-
-    // A put on out that fails leaves a front of the tile, and err stays empty.
-    let ended = render(&rt, alloc, Faults { out: &[0], ..NONE })?;
-    assert_eq!(rt; ended.status, 4);
-    assert!(rt; whole.out.bytes().starts_with(ended.out.bytes()));
-    assert!(rt; ended.out.bytes().len() < 781);
-    assert!(rt; ended.err.bytes().is_empty());
-
-    // A put on err that fails turns a refusal into 4, with a front of its line.
-    let ended = call(&rt, alloc, &[], &[], Faults { err: &[0], ..NONE })?;
-    assert_eq!(rt; ended.status, 4);
-    assert!(rt; USAGE.as_bytes().starts_with(ended.err.bytes()));
-    assert!(rt; ended.out.bytes().is_empty());
+fn a_success_puts_nothing_on_err(rt: HostRuntime) -> Result<(), Fail> {
+    let ended = render(&rt, rt.alloc(), Faults { err: &[0], ..NONE })?;
+    assert_eq!(rt; put_all(&ended, 781), (0, true));
     Ok(())
 }
 
+// A put on out that fails leaves a front of the tile, and err stays empty.
 #[test]
-fn a_container_whose_read_or_put_fails(rt: HostRuntime) -> Result<(), Fail> {
-    let alloc = rt.alloc();
+fn a_tile_whose_put_fails(rt: HostRuntime) -> Result<(), Fail> {
+    let whole = tile(&rt, rt.alloc())?;
+    let ended = render(&rt, rt.alloc(), Faults { out: &[0], ..NONE })?;
+    assert_eq!(rt; put_front(&ended, whole.as_slice()), (4, true));
+    Ok(())
+}
+
+// A put on err that fails turns a refusal into 4, with a front of its line.
+#[test]
+fn a_refusal_whose_put_fails(rt: HostRuntime) -> Result<(), Fail> {
+    let ended = call(&rt, rt.alloc(), &[], &[], Faults { err: &[0], ..NONE })?;
+    let is_front = USAGE.as_bytes().starts_with(ended.err.bytes());
+    let is_told = is_front && ended.out.bytes().is_empty();
+    assert_eq!(rt; (ended.status, is_told), (4, true));
+    Ok(())
+}
+
+// `meta` of a container of one tile of one byte.
+fn meta<R: Threads + Wait + Clock + Sync>(
+    rt: &R,
+    alloc: Global,
+    faults: Faults,
+) -> Result<Ended, Fail> {
     let mut bytes = Vec::from_slice(alloc, NUMBERS)?;
     for _ in 0..505 {
         bytes.push(0)?;
     }
     let files = [("M", bytes.as_slice())];
-    let words = ["meta", "M"];
-    call(&rt, alloc, words.as_slice(), files.as_slice(), NONE)?.put(&rt, b"0 0 0\n0 532 1\n");
+    call(rt, alloc, &["meta", "M"], files.as_slice(), faults)
+}
 
+#[test]
+fn a_container_whose_read_fails(rt: HostRuntime) -> Result<(), Fail> {
+    let alloc = rt.alloc();
+    meta(&rt, alloc, NONE)?.put(&rt, b"0 0 0\n0 532 1\n");
     let unread = Faults {
         reads: &[0],
         ..NONE
     };
-    let ended = call(&rt, alloc, words.as_slice(), files.as_slice(), unread)?;
-    ended.says(&rt, 3, "tilefarm: M: cannot be read\n");
-    let unput = Faults { out: &[0], ..NONE };
-    let ended = call(&rt, alloc, words.as_slice(), files.as_slice(), unput)?;
-    assert_eq!(rt; ended.status, 4);
-    assert!(rt; ended.out.bytes() == b"0 0 0\n0".as_slice());
-    assert!(rt; ended.err.bytes().is_empty());
+    meta(&rt, alloc, unread)?.says(&rt, 3, "tilefarm: M: cannot be read\n");
+    Ok(())
+}
+
+#[test]
+fn a_container_whose_put_fails(rt: HostRuntime) -> Result<(), Fail> {
+    let ended = meta(&rt, rt.alloc(), Faults { out: &[0], ..NONE })?;
+    let is_half = ended.out.bytes() == b"0 0 0\n0".as_slice() && ended.err.bytes().is_empty();
+    assert_eq!(rt; (ended.status, is_half), (4, true));
     Ok(())
 }
 
@@ -126,13 +159,11 @@ fn unput<R: Threads + Wait + Clock + Sync>(
         ..NONE
     };
     let ended = script(rt, alloc, faults)?;
-    let was_put = ended.out.bytes();
-    let is_front = was_put.len() < whole.len() && whole.starts_with(was_put);
-    Ok((ended.status, is_front && ended.err.bytes().is_empty()))
+    Ok(put_front(&ended, whole))
 }
 
 #[test]
-fn a_script_whose_reads_or_puts_fail(rt: HostRuntime) -> Result<(), Fail> {
+fn a_script_whose_reads_fail(rt: HostRuntime) -> Result<(), Fail> {
     let alloc = rt.alloc();
     for (read, line) in [
         (0, "tilefarm: C: cannot be read\n"),
@@ -146,16 +177,32 @@ fn a_script_whose_reads_or_puts_fail(rt: HostRuntime) -> Result<(), Fail> {
         };
         script(&rt, alloc, faults)?.says(&rt, 3, line);
     }
+    Ok(())
+}
 
-    let whole = script(&rt, alloc, NONE)?;
-    assert_eq!(rt; whole.status, 0);
-    assert!(rt; whole.out.bytes().starts_with(ANSWERS));
-    assert_eq!(rt; whole.out.bytes().len(), ANSWERS.len() + 769);
+// Whether the script ends as it is to, and all that it puts.
+fn whole_script<R: Threads + Wait + Clock + Sync>(
+    rt: &R,
+    alloc: Global,
+) -> Result<(bool, Vec<u8>), Fail> {
+    let ended = script(rt, alloc, NONE)?;
+    let bytes = Vec::from_slice(alloc, ended.out.bytes());
+    let is_told = ended.out.bytes().starts_with(ANSWERS);
+    let is_whole = put_all(&ended, ANSWERS.len() + 769) == (0, true);
+    drop(ended);
+    Ok((is_told && is_whole, bytes?))
+}
+
+#[test]
+fn a_script_whose_puts_fail(rt: HostRuntime) -> Result<(), Fail> {
+    let alloc = rt.alloc();
+    let (is_whole, whole) = whole_script(&rt, alloc)?;
+    assert!(rt; is_whole, "the script where nothing fails");
     for put in 0..PUTS {
-        let seen = unput(&rt, alloc, put, whole.out.bytes())?;
+        let seen = unput(&rt, alloc, put, whole.as_slice())?;
         assert_eq!(rt; seen, (4, true), "at put {put}");
     }
     // There is no further put that could fail.
-    assert_eq!(rt; unput(&rt, alloc, PUTS, whole.out.bytes())?, (0, false));
+    assert_eq!(rt; unput(&rt, alloc, PUTS, whole.as_slice())?, (0, false));
     Ok(())
 }
