@@ -37,7 +37,7 @@ plan_sound style dataset update = record {
   each_map = All-from_recursion IsMapPlan (map_of style ∷ []) (
     record {
       named = refl;
-      sized = inl refl;
+      sized = refl;
       zooms = omega arith;
     },
     tt,

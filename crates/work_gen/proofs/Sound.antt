@@ -57,7 +57,7 @@ plan_sound seed n = record {
   each_map = All-from_recursion IsMapPlan (work_plan seed n).maps (
     record {
       named = refl;
-      sized = inr (inr (inr (inr (inl refl))));
+      sized = refl;
       zooms = omega arith;
     },
     tt,
