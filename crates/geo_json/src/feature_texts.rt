@@ -157,20 +157,21 @@ pub(crate) fn features(
     read_list(alloc, &FeatureItems { units, part }, items)
 }
 
-/// The features of a layer, of distinct ids.
+/// The features of a layer, of distinct ids, which the set then has.
 pub(crate) fn new_features(
     alloc: Global,
     units: Units,
     part: u32,
+    known: &mut BTreeSet<u64>,
     items: &[Value],
 ) -> Result<Vec<Feature>, DataFault>
-    requires { length items.now ≤ most_features }
+    requires few { length items.now ≤ most_features }
+    requires empty { KnowsIds known.old [] }
     ensures value { Gives fault.NoMemory (λ v. v.items) (list_of (spec.new_feature_after units part) (items_view items.now)) result }
     ensures few { IfOk result (λ v. length v.items ≤ most_features) }
     ensures apart { IfOk result (λ v. IsTrue (each_after spec.is_new [] v.items)) }
 {
-    let mut known = BTreeSet::new(alloc);
-    read_list_with(alloc, &NewFeatureItems { units, part }, &mut known, items)
+    read_list_with(alloc, &NewFeatureItems { units, part }, known, items)
 }
 
 // The features of a list.

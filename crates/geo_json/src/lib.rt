@@ -8,6 +8,7 @@ mod faults;
 mod feature_texts;
 mod geometries;
 mod openings;
+mod settled;
 mod updates;
 
 pub use coordinates::Units;
