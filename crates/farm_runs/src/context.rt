@@ -5,14 +5,14 @@ use tile_store::TileStore;
 
 /// What an actor of a run works with beside what is its own: the farm, those who are woken when something
 /// happened there, and what memory is taken from.
-pub struct Context<'farm, 'bells, D: TileStore, B> {
+pub struct Context<'a, D: TileStore, B> {
     pub alloc: Global,
-    pub farm: &'farm SharedFarm<D>,
-    pub alarms: Alarms<'bells, B>,
+    pub farm: &'a SharedFarm<D>,
+    pub alarms: Alarms<'a, B>,
 }
 
 // A derive would ask that `D` and `B` be `Drop`.
-impl<'farm, 'bells, D: TileStore, B> Drop for Context<'farm, 'bells, D, B> {
+impl<'a, D: TileStore, B> Drop for Context<'a, D, B> {
     fn drop(self) {
         let Self {
             alloc: _,

@@ -47,7 +47,7 @@ fn turn_away<R: Wait, D: TileStore>(
 /// A front in its thread: it serves where all actors have begun. When it has ended all are woken.
 fn serve_front<R: Wait + Clock, D: TileStore, F: Serving, P: Ports, B: Bell>(
     rt: &R,
-    context: &Context<'_, '_, D, B>,
+    context: &Context<'_, D, B>,
     barrier: &StartBarrier,
     front: &F,
     seat: &mut Seat<D>,
@@ -77,7 +77,7 @@ pub fn serve_fronts<
     B: Bell + Sync,
 >(
     rt: &R,
-    context: &Context<'_, '_, D, B>,
+    context: &Context<'_, D, B>,
     actors: &RunActors<F, G, H>,
     seats: &mut EachFront<Seat<D>>,
     p: &mut P,

@@ -31,7 +31,7 @@ pub struct Actor<S> {
 #[tactic(auto, using(crate::proofs::Acting::began, crate::proofs::Acting::not_begun))]
 fn work_post<R: Wait + Clock, D: TileStore, G: Gate, B: Bell>(
     rt: &R,
-    context: &Context<'_, '_, D, B>,
+    context: &Context<'_, D, B>,
     barrier: &StartBarrier,
     gate: &G,
     actor: &mut Actor<Seat<D>>,
@@ -63,7 +63,7 @@ pub fn work_all<
     B: Bell + Sync,
 >(
     rt: &R,
-    context: &Context<'_, '_, D, B>,
+    context: &Context<'_, D, B>,
     barrier: &StartBarrier,
     gate: &G,
     pool: &mut [Actor<Seat<D>>],

@@ -27,7 +27,7 @@ pub trait Serving {
     fn serve<R: Wait, D: TileStore, P: Ports, B: Bell>(
         &self,
         rt: &R,
-        context: &Context<'_, '_, D, B>,
+        context: &Context<'_, D, B>,
         seat: &mut Seat<D>,
         ports: &mut P,
     ) -> FrontDone

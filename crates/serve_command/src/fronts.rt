@@ -22,7 +22,7 @@ impl Serving for RenderdFront {
     fn serve<R: Wait, D: TileStore, P: Ports, B: Bell>(
         &self,
         rt: &R,
-        context: &Context<'_, '_, D, B>,
+        context: &Context<'_, D, B>,
         seat: &mut Seat<D>,
         ports: &mut P,
     ) -> FrontDone {
@@ -52,7 +52,7 @@ impl Serving for TileFront {
     fn serve<R: Wait, D: TileStore, P: Ports, B: Bell>(
         &self,
         rt: &R,
-        context: &Context<'_, '_, D, B>,
+        context: &Context<'_, D, B>,
         seat: &mut Seat<D>,
         ports: &mut P,
     ) -> FrontDone {
@@ -84,7 +84,7 @@ impl Serving for ControlFront {
     fn serve<R: Wait, D: TileStore, P: Ports, B: Bell>(
         &self,
         rt: &R,
-        context: &Context<'_, '_, D, B>,
+        context: &Context<'_, D, B>,
         seat: &mut Seat<D>,
         ports: &mut P,
     ) -> FrontDone {
