@@ -77,7 +77,6 @@ fn serve_slot<
 /// ended, their seats are joined into the first, which then stops the farm; so the workers end too. Answers what
 /// the fronts answered, and whether that Stop was entered: it is not only where all turns were drawn. It may wait.
 pub fn run<
-    'x,
     R: Threads + Wait + Clock + Sync,
     D: TileStore + Send,
     F: Serving + Sync,
@@ -88,10 +87,10 @@ pub fn run<
     T: Gate + Sync,
 >(
     rt: &R,
-    actors: &'x RunActors<F, G, H>,
-    farm: &'x SharedFarm<D>,
+    actors: &RunActors<F, G, H>,
+    farm: &SharedFarm<D>,
     run_seats: &mut RunSeats<Seat<D>>,
-    ports: &'x mut ThreePorts<P, B>,
+    ports: &mut ThreePorts<P, B>,
     gate: &T,
 ) -> (EachFront<FrontDone>, bool)
     requires pool { All (λ a. IsReady farm.now a) run_seats.old.pool.items }
