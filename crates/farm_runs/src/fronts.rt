@@ -7,11 +7,10 @@ ghost use Rattle.farm_shared.specs.Seats.{plain};
 ghost use Rattle.turn_cell.specs.SeatStates.{IsSeatOf, Knows, SameSeat};
 
 use crate::barrier::StartBarrier;
-use crate::context::Context;
 use crate::each_front::{EachFront, RunActors};
 use crate::serving::Serving;
-use farm_base::Bell;
-use farm_shared::{Seat, SharedFarm, cross};
+use farm_base::{Bell, Bells};
+use farm_shared::{Alarms, Seat, SharedFarm, cross};
 use port_events::{FrontDone, FrontEnd, Ports};
 use std::alloc::Global;
 use std::rt::Clock;
@@ -47,23 +46,128 @@ fn turn_away<R: Wait, D: TileStore>(
 /// A front in its thread: it serves where all actors have begun. When it has ended all are woken.
 fn serve_front<R: Wait + Clock, D: TileStore, F: Serving, P: Ports, B: Bell>(
     rt: &R,
-    context: &Context<'_, D, B>,
-    barrier: &StartBarrier,
+    alloc: Global,
     front: &F,
+    farm: &SharedFarm<D>,
     seat: &mut Seat<D>,
     ports: &mut P,
+    barrier: &StartBarrier,
+    bells: &Bells<B>,
 ) -> FrontDone
-    requires { IsFrontSeat context.now.farm.now (F.number front.now) seat.old }
-    ensures { HasServed context.now.farm.now (F.leaves front.now (maps_of context.now.farm.now))
-        seat.old seat.new (P.state ports.old) (P.state ports.new) result }
+    requires { IsFrontSeat farm.now (F.number front.now) seat.old }
+    ensures { HasServed farm.now (F.leaves front.now (maps_of farm.now)) seat.old seat.new
+        (P.state ports.old) (P.state ports.new) result }
 {
-    let done = if barrier.begin(rt) {
-        front.serve(rt, context, seat, ports)
-    } else {
-        turn_away(rt, context.alloc, context.farm, seat)
+    let alarms = Alarms {
+        workers: barrier.sleepers.as_slice(),
+        bells,
     };
-    context.alarms.ring_all();
+    let done = if barrier.begin(rt) {
+        front.serve(rt, alloc, farm, seat, ports, &alarms)
+    } else {
+        turn_away(rt, alloc, farm, seat)
+    };
+    alarms.ring_all();
     done
+}
+
+/// The renderd front of a run.
+fn serve_renderd<
+    R: Wait + Clock,
+    D: TileStore,
+    F: Serving,
+    G: Serving,
+    H: Serving,
+    P: Ports,
+    B: Bell,
+>(
+    rt: &R,
+    actors: &RunActors<F, G, H>,
+    farm: &SharedFarm<D>,
+    seat: &mut Seat<D>,
+    ports: &mut P,
+    bells: &Bells<B>,
+) -> FrontDone
+    requires { IsFrontSeat farm.now (F.number actors.now.fronts.renderd) seat.old }
+    ensures { HasServed farm.now (F.leaves actors.now.fronts.renderd (maps_of farm.now)) seat.old
+        seat.new (P.state ports.old) (P.state ports.new) result }
+{
+    serve_front(
+        rt,
+        actors.alloc,
+        &actors.fronts.renderd,
+        farm,
+        seat,
+        ports,
+        &actors.barrier,
+        bells,
+    )
+}
+
+/// The tile front of a run.
+fn serve_tiles<
+    R: Wait + Clock,
+    D: TileStore,
+    F: Serving,
+    G: Serving,
+    H: Serving,
+    P: Ports,
+    B: Bell,
+>(
+    rt: &R,
+    actors: &RunActors<F, G, H>,
+    farm: &SharedFarm<D>,
+    seat: &mut Seat<D>,
+    ports: &mut P,
+    bells: &Bells<B>,
+) -> FrontDone
+    requires { IsFrontSeat farm.now (G.number actors.now.fronts.tiles) seat.old }
+    ensures { HasServed farm.now (G.leaves actors.now.fronts.tiles (maps_of farm.now)) seat.old
+        seat.new (P.state ports.old) (P.state ports.new) result }
+{
+    serve_front(
+        rt,
+        actors.alloc,
+        &actors.fronts.tiles,
+        farm,
+        seat,
+        ports,
+        &actors.barrier,
+        bells,
+    )
+}
+
+/// The control front of a run.
+fn serve_control<
+    R: Wait + Clock,
+    D: TileStore,
+    F: Serving,
+    G: Serving,
+    H: Serving,
+    P: Ports,
+    B: Bell,
+>(
+    rt: &R,
+    actors: &RunActors<F, G, H>,
+    farm: &SharedFarm<D>,
+    seat: &mut Seat<D>,
+    ports: &mut P,
+    bells: &Bells<B>,
+) -> FrontDone
+    requires { IsFrontSeat farm.now (H.number actors.now.fronts.control) seat.old }
+    ensures { HasServed farm.now (H.leaves actors.now.fronts.control (maps_of farm.now)) seat.old
+        seat.new (P.state ports.old) (P.state ports.new) result }
+{
+    serve_front(
+        rt,
+        actors.alloc,
+        &actors.fronts.control,
+        farm,
+        seat,
+        ports,
+        &actors.barrier,
+        bells,
+    )
 }
 
 /// The three fronts, each in a thread of its own, through its own seat and on its own ports.
@@ -77,72 +181,65 @@ pub fn serve_fronts<
     B: Bell + Sync,
 >(
     rt: &R,
-    context: &Context<'_, D, B>,
     actors: &RunActors<F, G, H>,
+    farm: &SharedFarm<D>,
     seats: &mut EachFront<Seat<D>>,
     p: &mut P,
     q: &mut P,
     r: &mut P,
+    bells: &Bells<B>,
 ) -> EachFront<FrontDone>
-    requires renderd { IsFrontSeat context.now.farm.now (F.number actors.now.fronts.renderd)
-        seats.old.renderd }
-    requires tiles { IsFrontSeat context.now.farm.now (G.number actors.now.fronts.tiles)
-        seats.old.tiles }
-    requires control { IsFrontSeat context.now.farm.now (H.number actors.now.fronts.control)
-        seats.old.control }
-    ensures renderd { HasServed context.now.farm.now
-        (F.leaves actors.now.fronts.renderd (maps_of context.now.farm.now)) seats.old.renderd
-        seats.new.renderd (P.state p.old) (P.state p.new) result.renderd }
-    ensures tiles { HasServed context.now.farm.now
-        (G.leaves actors.now.fronts.tiles (maps_of context.now.farm.now)) seats.old.tiles
-        seats.new.tiles (P.state q.old) (P.state q.new) result.tiles }
-    ensures control { HasServed context.now.farm.now
-        (H.leaves actors.now.fronts.control (maps_of context.now.farm.now)) seats.old.control
-        seats.new.control (P.state r.old) (P.state r.new) result.control }
+    requires renderd { IsFrontSeat farm.now (F.number actors.now.fronts.renderd) seats.old.renderd }
+    requires tiles { IsFrontSeat farm.now (G.number actors.now.fronts.tiles) seats.old.tiles }
+    requires control { IsFrontSeat farm.now (H.number actors.now.fronts.control) seats.old.control }
+    ensures renderd { HasServed farm.now (F.leaves actors.now.fronts.renderd (maps_of farm.now))
+        seats.old.renderd seats.new.renderd (P.state p.old) (P.state p.new) result.renderd }
+    ensures tiles { HasServed farm.now (G.leaves actors.now.fronts.tiles (maps_of farm.now))
+        seats.old.tiles seats.new.tiles (P.state q.old) (P.state q.new) result.tiles }
+    ensures control { HasServed farm.now (H.leaves actors.now.fronts.control (maps_of farm.now))
+        seats.old.control seats.new.control (P.state r.old) (P.state r.new) result.control }
 {
     cross::<D>();
-    let barrier = &actors.barrier;
-    let fronts = &actors.fronts;
     let one = &mut seats.renderd;
     let two = &mut seats.tiles;
     let three = &mut seats.control;
     let (renderd, (tiles, control)) = join_mut(
         rt,
         &mut || -> FrontDone
-            requires { IsFrontSeat context.now.farm.now (F.number fronts.now.renderd) one.now }
-            ensures { HasServed context.entry.now.farm.now
-                (F.leaves fronts.entry.now.renderd (maps_of context.entry.now.farm.now))
-                one.entry.now one.exit.now (P.state p.entry.now) (P.state p.exit.now) result }
-        { serve_front(rt, context, barrier, &fronts.renderd, one, p) },
+            requires { IsFrontSeat farm.now (F.number actors.now.fronts.renderd) one.now }
+            ensures { HasServed farm.entry.now
+                (F.leaves actors.entry.now.fronts.renderd (maps_of farm.entry.now)) one.entry.now
+                one.exit.now (P.state p.entry.now) (P.state p.exit.now) result }
+        { serve_renderd(rt, actors, farm, one, p, bells) },
         &mut || -> (FrontDone, FrontDone)
             requires { IsSync R.row × IsSync B.row × IsSend P.row × IsSend D.row × IsSync F.row
                 × IsSync G.row × IsSync H.row
-                × IsFrontSeat context.now.farm.now (G.number fronts.now.tiles) two.now
-                × IsFrontSeat context.now.farm.now (H.number fronts.now.control) three.now }
-            ensures { HasServed context.entry.now.farm.now
-                (G.leaves fronts.entry.now.tiles (maps_of context.entry.now.farm.now))
-                two.entry.now two.exit.now (P.state q.entry.now) (P.state q.exit.now) result.0
-                × HasServed context.entry.now.farm.now
-                (H.leaves fronts.entry.now.control (maps_of context.entry.now.farm.now))
-                three.entry.now three.exit.now (P.state r.entry.now) (P.state r.exit.now) result.1 }
+                × IsFrontSeat farm.now (G.number actors.now.fronts.tiles) two.now
+                × IsFrontSeat farm.now (H.number actors.now.fronts.control) three.now }
+            ensures { HasServed farm.entry.now
+                (G.leaves actors.entry.now.fronts.tiles (maps_of farm.entry.now)) two.entry.now
+                two.exit.now (P.state q.entry.now) (P.state q.exit.now) result.0
+                × HasServed farm.entry.now
+                (H.leaves actors.entry.now.fronts.control (maps_of farm.entry.now)) three.entry.now
+                three.exit.now (P.state r.entry.now) (P.state r.exit.now) result.1 }
         {
             cross::<D>();
             join_mut(
                 rt,
                 &mut || -> FrontDone
-                    requires { IsFrontSeat context.now.farm.now (G.number fronts.now.tiles) two.now }
-                    ensures { HasServed context.entry.now.farm.now
-                        (G.leaves fronts.entry.now.tiles (maps_of context.entry.now.farm.now))
+                    requires { IsFrontSeat farm.now (G.number actors.now.fronts.tiles) two.now }
+                    ensures { HasServed farm.entry.now
+                        (G.leaves actors.entry.now.fronts.tiles (maps_of farm.entry.now))
                         two.entry.now two.exit.now (P.state q.entry.now)
                         (P.state q.exit.now) result }
-                { serve_front(rt, context, barrier, &fronts.tiles, two, q) },
+                { serve_tiles(rt, actors, farm, two, q, bells) },
                 &mut || -> FrontDone
-                    requires { IsFrontSeat context.now.farm.now (H.number fronts.now.control) three.now }
-                    ensures { HasServed context.entry.now.farm.now
-                        (H.leaves fronts.entry.now.control (maps_of context.entry.now.farm.now))
+                    requires { IsFrontSeat farm.now (H.number actors.now.fronts.control) three.now }
+                    ensures { HasServed farm.entry.now
+                        (H.leaves actors.entry.now.fronts.control (maps_of farm.entry.now))
                         three.entry.now three.exit.now (P.state r.entry.now)
                         (P.state r.exit.now) result }
-                { serve_front(rt, context, barrier, &fronts.control, three, r) },
+                { serve_control(rt, actors, farm, three, r, bells) },
             )
         },
     );

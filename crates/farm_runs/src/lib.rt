@@ -4,7 +4,6 @@
 #![tactic(auto)]
 
 mod barrier;
-mod context;
 mod each_front;
 mod ending;
 mod fronts;
@@ -15,7 +14,6 @@ mod serving;
 mod together;
 
 pub use barrier::StartBarrier;
-pub use context::Context;
 pub use each_front::{EachFront, Fronts, RunActors};
 pub use pool::Actor;
 pub use running::{Run, run_farm};

@@ -8,11 +8,11 @@ ghost use Rattle.farm_runs.specs.declared.pool.Actor.{Actor};
 ghost use Rattle.farm_runs.specs.Actors.{HasWorked, IsReady};
 
 use crate::barrier::StartBarrier;
-use crate::context::Context;
 use crossbeam_utils::sync::Parker;
-use farm_base::{Bell, Gate};
-use farm_shared::{Seat, cross};
+use farm_base::{Bell, Bells, Gate};
+use farm_shared::{Alarms, Seat, SharedFarm, cross};
 use render_workers::{WorkEnd, work};
+use std::alloc::Global;
 use std::rt::Clock;
 use std::sync::Wait;
 use std::thread::{Threads, for_each_mut};
@@ -31,27 +31,33 @@ pub struct Actor<S> {
 #[tactic(auto, using(crate::proofs::Acting::began, crate::proofs::Acting::not_begun))]
 fn work_post<R: Wait + Clock, D: TileStore, G: Gate, B: Bell>(
     rt: &R,
-    context: &Context<'_, D, B>,
-    barrier: &StartBarrier,
-    gate: &G,
+    alloc: Global,
+    farm: &SharedFarm<D>,
     actor: &mut Actor<Seat<D>>,
+    gate: &G,
+    barrier: &StartBarrier,
+    bells: &Bells<B>,
 )
-    requires { IsReady context.now.farm.now actor.old }
-    ensures { HasWorked context.now.farm.now actor.old actor.new }
+    requires { IsReady farm.now actor.old }
+    ensures { HasWorked farm.now actor.old actor.new }
 {
     if barrier.begin(rt) {
+        let alarms = Alarms {
+            workers: barrier.sleepers.as_slice(),
+            bells,
+        };
         let end = work(
             rt,
-            context.alloc,
-            context.farm,
+            alloc,
+            farm,
             &mut actor.seat,
             actor.worker,
             &actor.parker,
             gate,
-            &context.alarms,
+            &alarms,
         );
         actor.end = Some(end);
-        context.alarms.ring_all();
+        alarms.ring_all();
     }
 }
 
@@ -63,21 +69,23 @@ pub fn work_all<
     B: Bell + Sync,
 >(
     rt: &R,
-    context: &Context<'_, D, B>,
-    barrier: &StartBarrier,
-    gate: &G,
+    alloc: Global,
+    farm: &SharedFarm<D>,
     pool: &mut [Actor<Seat<D>>],
+    gate: &G,
+    barrier: &StartBarrier,
+    bells: &Bells<B>,
 )
-    requires { All (λ a. IsReady context.now.farm.now a) pool.old }
+    requires { All (λ a. IsReady farm.now a) pool.old }
     ensures long { length pool.new ≡ length pool.old }
     ensures each { (i : ℕ) (d : Actor (SeatState (Turned D) Entry)) → i < length pool.old
-        → HasWorked context.now.farm.now (slice_index_or pool.old i d) (slice_index_or pool.new i d) }
+        → HasWorked farm.now (slice_index_or pool.old i d) (slice_index_or pool.new i d) }
 {
     cross::<D>();
     for_each_mut(
         rt,
         pool,
         16,
-        &|_, actor| { work_post(rt, context, barrier, gate, actor) },
+        &|_, actor| { work_post(rt, alloc, farm, actor, gate, barrier, bells) },
     );
 }

@@ -8,10 +8,10 @@ ghost use Rattle.port_events.specs.Told.{PortsTold};
 ghost use Rattle.farm_runs.specs.Actors.{AreOfFront, HasServed, IsFrontSeat, IsUnbegun};
 ghost use Rattle.farm_shared.specs.Shared.{maps_of};
 
-use crate::context::Context;
 use farm_base::Bell;
-use farm_shared::Seat;
+use farm_shared::{Alarms, Seat, SharedFarm};
 use port_events::{FrontDone, Ports};
+use std::alloc::Global;
 use std::sync::Wait;
 use tile_store::TileStore;
 
@@ -27,12 +27,14 @@ pub trait Serving {
     fn serve<R: Wait, D: TileStore, P: Ports, B: Bell>(
         &self,
         rt: &R,
-        context: &Context<'_, D, B>,
+        alloc: Global,
+        farm: &SharedFarm<D>,
         seat: &mut Seat<D>,
         ports: &mut P,
+        alarms: &Alarms<'_, B>,
     ) -> FrontDone
-        requires { IsFrontSeat context.now.farm.now (number self.now) seat.old }
-        ensures { HasServed context.now.farm.now (leaves self.now (maps_of context.now.farm.now)) seat.old seat.new (P.state ports.old) (P.state ports.new) result };
+        requires { IsFrontSeat farm.now (number self.now) seat.old }
+        ensures { HasServed farm.now (leaves self.now (maps_of farm.now)) seat.old seat.new (P.state ports.old) (P.state ports.new) result };
 
     /// Its entries are a front's.
     ghost kinds: { (x : Self) (maps : List ℕ → Option ℕ) (shown after : Outside PortsTold) (es : List Entry) (done : FrontDone) (worn : Bool)

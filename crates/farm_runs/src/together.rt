@@ -8,12 +8,11 @@ ghost use Rattle.farm_runs.specs.declared.pool.Actor.{Actor};
 ghost use Rattle.farm_runs.specs.Actors.{AreStanding, HasWorked, HaveServed, IsReady, three};
 ghost use Rattle.farm_shared.specs.Shared.{maps_of};
 
-use crate::context::Context;
 use crate::each_front::{EachFront, RunActors};
 use crate::fronts::{end_fronts, serve_fronts};
 use crate::pool::{Actor, work_all};
 use crate::serving::Serving;
-use farm_base::{Bell, Gate};
+use farm_base::{Bell, Bells, Gate};
 use farm_shared::{Alarms, Seat, SharedFarm, cross};
 use port_events::{FrontDone, Ports, ThreePorts};
 use std::rt::Clock;
@@ -46,20 +45,19 @@ fn serve_slot<
     B: Bell + Sync,
 >(
     rt: &R,
-    context: &Context<'_, D, B>,
     actors: &RunActors<F, G, H>,
+    farm: &SharedFarm<D>,
     front_seats: &mut FrontSeats<Seat<D>>,
     p: &mut P,
     q: &mut P,
     r: &mut P,
+    bells: &Bells<B>,
 ) -> (EachFront<FrontDone>, bool)
-    requires { AreStanding context.now.farm.now (F.number actors.now.fronts.renderd)
+    requires { AreStanding farm.now (F.number actors.now.fronts.renderd)
         (G.number actors.now.fronts.tiles) (H.number actors.now.fronts.control) front_seats.old }
-    ensures { HaveServed context.now.farm.now
-        (F.leaves actors.now.fronts.renderd (maps_of context.now.farm.now))
-        (G.leaves actors.now.fronts.tiles (maps_of context.now.farm.now))
-        (H.leaves actors.now.fronts.control (maps_of context.now.farm.now)) front_seats.old
-        front_seats.new
+    ensures { HaveServed farm.now (F.leaves actors.now.fronts.renderd (maps_of farm.now))
+        (G.leaves actors.now.fronts.tiles (maps_of farm.now))
+        (H.leaves actors.now.fronts.control (maps_of farm.now)) front_seats.old front_seats.new
         (three (P.state p.old) (P.state q.old) (P.state r.old))
         (three (P.state p.new) (P.state q.new) (P.state r.new)) result.0 result.1 }
 {
@@ -67,9 +65,13 @@ fn serve_slot<
         unreachable!()
     };
     let mut seats = seats;
-    let done = serve_fronts(rt, context, actors, &mut seats, p, q, r);
-    let entered = end_fronts(rt, context.farm, &mut front_seats.own, seats);
-    context.alarms.ring_all();
+    let done = serve_fronts(rt, actors, farm, &mut seats, p, q, r, bells);
+    let entered = end_fronts(rt, farm, &mut front_seats.own, seats);
+    let alarms = Alarms {
+        workers: actors.barrier.sleepers.as_slice(),
+        bells,
+    };
+    alarms.ring_all();
     (done, entered)
 }
 
@@ -111,47 +113,40 @@ pub fn run<
         result.0 result.1 }
 {
     cross::<D>();
-    let barrier = &actors.barrier;
-    let shared = Context {
-        alloc: actors.alloc,
-        farm,
-        alarms: Alarms {
-            workers: barrier.sleepers.as_slice(),
-            bells: &ports.bells,
-        },
-    };
-    let context = &shared;
+    let bells = &ports.bells;
     let p = &mut ports.renderd;
     let q = &mut ports.tiles;
     let r = &mut ports.control;
     let pool = &mut run_seats.pool;
     let front_seats = &mut run_seats.front_seats;
+    let barrier = &actors.barrier;
+    let alloc = actors.alloc;
     let (_, done) = join_mut(
         rt,
         &mut || -> ()
             requires { IsSync R.row × IsSync B.row × IsSync T.row × IsSend D.row
-                × All (λ a. IsReady context.now.farm.now a) pool.now.items }
+                × All (λ a. IsReady farm.now a) pool.now.items }
             ensures long { length pool.exit.now.items ≡ length pool.entry.now.items }
             ensures each { (i : ℕ) (d : Actor (SeatState (Turned D) Entry))
                 → i < length pool.entry.now.items
-                → HasWorked context.entry.now.farm.now (slice_index_or pool.entry.now.items i d)
+                → HasWorked farm.entry.now (slice_index_or pool.entry.now.items i d)
                 (slice_index_or pool.exit.now.items i d) }
-        { work_all(rt, context, barrier, gate, pool.as_mut_slice()) },
+        { work_all(rt, alloc, farm, pool.as_mut_slice(), gate, barrier, bells) },
         &mut || -> (EachFront<FrontDone>, bool)
             requires { IsSync R.row × IsSync B.row × IsSend P.row × IsSend D.row × IsSync F.row
                 × IsSync G.row × IsSync H.row
-                × AreStanding context.now.farm.now (F.number actors.now.fronts.renderd)
+                × AreStanding farm.now (F.number actors.now.fronts.renderd)
                 (G.number actors.now.fronts.tiles)
                 (H.number actors.now.fronts.control) front_seats.now }
-            ensures { HaveServed context.entry.now.farm.now
-                (F.leaves actors.entry.now.fronts.renderd (maps_of context.entry.now.farm.now))
-                (G.leaves actors.entry.now.fronts.tiles (maps_of context.entry.now.farm.now))
-                (H.leaves actors.entry.now.fronts.control (maps_of context.entry.now.farm.now))
+            ensures { HaveServed farm.entry.now
+                (F.leaves actors.entry.now.fronts.renderd (maps_of farm.entry.now))
+                (G.leaves actors.entry.now.fronts.tiles (maps_of farm.entry.now))
+                (H.leaves actors.entry.now.fronts.control (maps_of farm.entry.now))
                 front_seats.entry.now front_seats.exit.now
                 (three (P.state p.entry.now) (P.state q.entry.now) (P.state r.entry.now))
                 (three (P.state p.exit.now) (P.state q.exit.now) (P.state r.exit.now)) result.0
                 result.1 }
-        { serve_slot(rt, context, actors, front_seats, p, q, r) },
+        { serve_slot(rt, actors, farm, front_seats, p, q, r, bells) },
     );
     done
 }

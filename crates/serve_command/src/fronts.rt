@@ -1,9 +1,10 @@
 //! The three fronts as a run begins them.
 use expiry_lists::TileList;
 use farm_base::Bell;
-use farm_runs::{Context, Serving};
-use farm_shared::Seat;
+use farm_runs::Serving;
+use farm_shared::{Alarms, Seat, SharedFarm};
 use port_events::{FrontDone, Ports};
+use std::alloc::Global;
 use std::sync::Wait;
 use tile_store::TileStore;
 
@@ -22,12 +23,13 @@ impl Serving for RenderdFront {
     fn serve<R: Wait, D: TileStore, P: Ports, B: Bell>(
         &self,
         rt: &R,
-        context: &Context<'_, D, B>,
+        alloc: Global,
+        farm: &SharedFarm<D>,
         seat: &mut Seat<D>,
         ports: &mut P,
+        alarms: &Alarms<'_, B>,
     ) -> FrontDone {
-        let alarms = &context.alarms;
-        session_front::serve(rt, context.alloc, 0, context.farm, seat, ports, alarms)
+        session_front::serve(rt, alloc, 0, farm, seat, ports, alarms)
     }
 
     ghost kinds = { λ _ maps shown after es done worn left. renderd_kinds maps shown after es done worn left };
@@ -52,12 +54,13 @@ impl Serving for TileFront {
     fn serve<R: Wait, D: TileStore, P: Ports, B: Bell>(
         &self,
         rt: &R,
-        context: &Context<'_, D, B>,
+        alloc: Global,
+        farm: &SharedFarm<D>,
         seat: &mut Seat<D>,
         ports: &mut P,
+        alarms: &Alarms<'_, B>,
     ) -> FrontDone {
-        let alarms = &context.alarms;
-        tile_front::serve(rt, context.alloc, 1, context.farm, seat, ports, alarms)
+        tile_front::serve(rt, alloc, 1, farm, seat, ports, alarms)
     }
 
     ghost kinds = { λ _ maps shown after es done worn left. tiles_kinds maps shown after es done worn left };
@@ -84,22 +87,14 @@ impl Serving for ControlFront {
     fn serve<R: Wait, D: TileStore, P: Ports, B: Bell>(
         &self,
         rt: &R,
-        context: &Context<'_, D, B>,
+        alloc: Global,
+        farm: &SharedFarm<D>,
         seat: &mut Seat<D>,
         ports: &mut P,
+        alarms: &Alarms<'_, B>,
     ) -> FrontDone {
-        let alarms = &context.alarms;
         let lists = self.lists.as_slice();
-        control_front::serve(
-            rt,
-            context.alloc,
-            2,
-            context.farm,
-            seat,
-            ports,
-            alarms,
-            lists,
-        )
+        control_front::serve(rt, alloc, 2, farm, seat, ports, alarms, lists)
     }
 
     ghost kinds = { λ front maps shown after es done worn left. control_kinds front.lists.items shown after es done worn left };
