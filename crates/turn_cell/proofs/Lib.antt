@@ -5,3 +5,4 @@ pub mod Keeps
 pub mod Seating
 pub mod Turning
 pub mod Counting
+pub mod Sharing
