@@ -6,3 +6,4 @@ pub mod Steps
 pub mod Given
 pub mod Beginning
 pub mod Shares
+pub mod Sharing

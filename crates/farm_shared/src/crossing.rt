@@ -7,10 +7,8 @@ ghost use Rattle.farm_shared.specs.contracts.shared.SharedFarm as shared_type;
 ghost use Rattle.farm_shared.specs.contracts.turned.Turned as turned_type;
 
 use crate::shared::{Names, Seat, SharedFarm};
-use crate::turned::Turned;
 use farm_core::cross_farm;
 use tile_store::TileStore;
-use turn_cell::cross_cell;
 
 fn sends<T: Send>()
     ensures { IsSend T.row }
@@ -43,7 +41,6 @@ fn cross_shared<D: TileStore + Send>()
     ensures { IsSync (shared_type.the_row D.row D.Stager.row D.Staged.row D.Opened.row D.TileStore) }
 {
     cross_turned::<D>();
-    cross_cell::<Turned<D>>();
     cross_names();
     syncs::<SharedFarm<D>>();
 }
