@@ -5,10 +5,11 @@ ghost use Rattle.plain_world.specs.World.{IsMeta, IsTile, IsTileSize};
 
 use crate::drawings::{data, is_boxed, map};
 use data_versions::{Dataset, Layer, Snapshot};
-use farm_base::{Bytes, Listed, Text};
+use farm_base::{Bytes, Listed, NoMemory, Text};
 use geo_model::{Feature, make_feature};
 use meta_container::{encode, law_drawn_container};
 use meta_drawing::{PictureBuffer, draw_container};
+use plain_drawing::MapStyle;
 use plain_shapes::{Geometry, Path};
 use plain_world::{Meta, Point, Tile};
 use std::alloc::Global;
@@ -67,15 +68,29 @@ pub(crate) fn container(
     Ok(draw_container(buffer, &style, size, meta, &snapshot)?)
 }
 
-// The same in red by way of its tiles.
-fn encoded(alloc: Global, size: u32) -> Result<Vec<u8>, Fail>
-    requires { IsTileSize size }
+// The container of a metatile by way of its tiles.
+fn encoded(
+    alloc: Global,
+    style: &MapStyle,
+    size: u32,
+    meta: Meta,
+    snapshot: &Snapshot,
+) -> Result<Vec<u8>, NoMemory>
+    requires size { IsTileSize size }
+    requires meta { IsMeta meta }
 {
     law_drawn_container();
+    let drawn = draw_meta(alloc, style, size, meta, snapshot)?;
+    encode(alloc, drawn.meta, drawn.tiles.as_slice())
+}
+
+// The square in red so.
+fn red_encoded(alloc: Global, size: u32) -> Result<Vec<u8>, Fail>
+    requires { IsTileSize size }
+{
     let style = map(alloc, RED)?;
     let snapshot = data(alloc, SQUARE)?;
-    let drawn = draw_meta(alloc, &style, size, QUARTERS, &snapshot)?;
-    Ok(encode(alloc, drawn.meta, drawn.tiles.as_slice())?)
+    Ok(encoded(alloc, &style, size, QUARTERS, &snapshot)?)
 }
 
 // The buffer holds a larger picture, which is blue all over.
@@ -84,7 +99,7 @@ fn a_container_from_a_used_buffer(rt: HostRuntime) -> Result<(), Fail> {
     let mut buffer = PictureBuffer::new(rt.alloc());
     let larger = container(&mut buffer, BLUE, 32, QUARTERS)?;
     let drawn = container(&mut buffer, RED, 16, QUARTERS)?;
-    let wanted = encoded(rt.alloc(), 16)?;
+    let wanted = red_encoded(rt.alloc(), 16)?;
     assert!(rt; larger.len() > drawn.len() && drawn == wanted);
     Ok(())
 }
@@ -94,7 +109,7 @@ fn a_container_from_a_used_buffer(rt: HostRuntime) -> Result<(), Fail> {
 fn large_tiles_of_few_data(rt: HostRuntime) -> Result<(), Fail> {
     let mut buffer = PictureBuffer::new(rt.alloc());
     let drawn = container(&mut buffer, RED, 256, QUARTERS)?;
-    let wanted = encoded(rt.alloc(), 256)?;
+    let wanted = red_encoded(rt.alloc(), 256)?;
     assert!(rt; drawn == wanted);
     Ok(())
 }
