@@ -50,7 +50,8 @@ const HEADS: [(&[u8], &str); 20] = [
 #[test]
 fn heads_and_targets(rt: HostRuntime) {
     for (bytes, wanted) in HEADS {
-        assert!(rt; asked(bytes) == wanted, "{wanted}");
+        let length = bytes.len();
+        assert!(rt; asked(bytes) == wanted, "the head of {length} bytes");
     }
 }
 
