@@ -1,6 +1,7 @@
 pub mod Serves
 pub mod inner
 pub mod Beginnings
+pub mod Lefts
 pub mod Listens
 pub mod Endings
 pub mod Savings
