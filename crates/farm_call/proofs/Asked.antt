@@ -35,7 +35,8 @@ use Rattle.port_events.specs.Told.{PortsTold}
 use Rattle.farm_runs.specs.declared.each_front.EachFront.{EachFront}
 use Rattle.serve_command.specs.inner.Serving.{World}
 use Rattle.serve_command.specs.inner.Steps as serve
-use Rattle.serve_command.specs.Lefts.{Left, Store, left_of}
+use Rattle.serve_command.specs.declared.left.Left.{Left}
+use Rattle.serve_command.specs.declared.left.Left.TheVariants.{Store}
 use Rattle.serve_command.specs.declared.left.Done.{Done}
 use Rattle.farm_call.specs.inner.Runs.{LeavesStore, Runs}
 
@@ -185,8 +186,8 @@ module _ {D : Type 0} (state : D → Outside StoreTold) (words : List (List ℕ)
   runs_read c reads ran = runs_asked c (asks_read words c reads) ran
 
 -- a command that leaves the store, as it ended
-pub leaves : {D G S O : Type 0} (old : World D) (out : SinkAt) (runs : Result (Unit {0}) Stop → D → Type 0) (store' : D) (end : Result (Unit {0}) Stop) (done : Done D G S O) → done.end ≡ end → left_of done.left ≡ Store store' → done.fronts.items ≡ [] → runs end store'
-    → LeavesStore old (record { out = out; left = left_of done.left; fronts = done.fronts.items; ports = old.ports }) (runs done.end)
+pub leaves : {D : Type 0} (old : World D) (out : SinkAt) (runs : Result (Unit {0}) Stop → D → Type 0) (store' : D) (end : Result (Unit {0}) Stop) (done : Done D) → done.end ≡ end → done.left ≡ Store store' → done.fronts.items ≡ [] → runs end store'
+    → LeavesStore old (record { out = out; left = done.left; fronts = done.fronts.items; ports = old.ports }) (runs done.end)
 leaves old out runs store' end done end_is left_is none ran = record {
   store' = store';
   left_is = left_is;

@@ -38,7 +38,8 @@ use Rattle.serve_command.specs.Savings.{MaySave}
 use Rattle.serve_command.proofs.Kept.{Keeps as KeepsFarm, keeps}
 use Rattle.serve_command.specs.Serves.{fronts_of, end_of, is_worn_out, ClosedFarm, whole_history}
 use Rattle.serve_command.specs.inner.Serving.{HasServed}
-use Rattle.serve_command.specs.Lefts.{Left, Farm}
+use Rattle.serve_command.specs.declared.left.Left.{Left}
+use Rattle.serve_command.specs.declared.left.Left.TheVariants.{Farm}
 use Rattle.farm_call.specs.Call.{CallBefore, CallAfter, store_of}
 use Rattle.farm_call.specs.Keeps.{MaySay, SavesSo, ServedWell}
 use Rattle.farm_call.specs.inner.Works.{world_before, world_after}

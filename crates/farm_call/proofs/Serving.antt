@@ -34,7 +34,8 @@ use Rattle.serve_command.specs.Endings.{is_front_worn, is_broken, is_wanting, en
 use Rattle.serve_command.specs.Savings.{MaySave}
 use Rattle.serve_command.specs.Serves.{ClosedFarm, WhyNot, places, fronts_of, end_of, is_worn_out}
 use Rattle.serve_command.specs.inner.Serving.{World, HasServed, NotServed, Serves, ServesTo}
-use Rattle.serve_command.specs.Lefts.{Left, Store, Farm}
+use Rattle.serve_command.specs.declared.left.Left.{Left}
+use Rattle.serve_command.specs.declared.left.Left.TheVariants.{Store, Farm}
 use Rattle.farm_call.specs.Call.{CallBefore, CallAfter, serves, store_of, PortsRose}
 use Rattle.farm_call.proofs.Whys as whys
 use Rattle.farm_call.specs.inner.Works.{world_before, world_after}

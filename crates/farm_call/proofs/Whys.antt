@@ -15,7 +15,8 @@ use Rattle.script_text.proofs.Lost.{lost}
 use Rattle.farm_files.specs.Inputs.{ServeInputs}
 use Rattle.serve_command.specs.Beginnings.{RefusesFor, IsSavedIn}
 use Rattle.serve_command.specs.inner.Serving.{World}
-use Rattle.serve_command.specs.Lefts.{Left, Store, Farm}
+use Rattle.serve_command.specs.declared.left.Left.{Left}
+use Rattle.serve_command.specs.declared.left.Left.TheVariants.{Store, Farm}
 use Rattle.serve_command.specs.Serves.{ClosedFarm}
 use Rattle.farm_call.specs.Call.{Work, serves, store_of, PortsRose}
 

@@ -47,7 +47,8 @@ use Rattle.load_command.specs.Loads.{GivesNone}
 use Rattle.load_command.specs.Runs.{Loads}
 use Rattle.serve_command.specs.Serves.{ClosedFarm, whole_history, WhyNot}
 use Rattle.serve_command.specs.Serves.{places}
-use Rattle.serve_command.specs.Lefts.{Left, Store, Farm}
+use Rattle.serve_command.specs.declared.left.Left.{Left}
+use Rattle.serve_command.specs.declared.left.Left.TheVariants.{Store, Farm}
 use Rattle.farm_call.specs.Call.{CallBefore, CallAfter, store_of, PortsRose}
 use Rattle.farm_call.specs.Call.{Work, puts, scripts, loads, serves}
 use Rattle.farm_call.specs.Owing.{IsPaidUp}

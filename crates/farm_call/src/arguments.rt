@@ -3,7 +3,7 @@ ghost use Rattle.std.specs.Prelude.{◌≡◌, [], Err};
 ghost use Rattle.exit_status.specs.Stops.{told_of};
 ghost use Rattle.exit_status.specs.Ends.{Reports};
 ghost use Rattle.farm_runs.specs.Actors.{three};
-ghost use Rattle.serve_command.specs.Lefts.{Store, left_of};
+ghost use Rattle.serve_command.specs.declared.left.Left.TheVariants.{Store};
 ghost use Rattle.farm_call.specs.Keeps.{ProgramKeeps};
 
 use crate::call::farm_main;
@@ -58,7 +58,7 @@ pub fn program<
           files = F.state files.new;
           out = O.state out.new;
           err = E.state err.new;
-          left = left_of result.left;
+          left = result.left;
           fronts = result.fronts.items;
           ports = three (P.state ports.new.renderd) (P.state ports.new.tiles)
               (P.state ports.new.control);
@@ -96,7 +96,7 @@ fn words<R: Env + Alloc<A = Global>>(rt: &R) -> io::Result<Vec<String>> {
 fn wordless<E: Sink, D: TileStore>(alloc: Global, err: &mut E, stop: Stop, store: D) -> FarmEnd<D>
     ensures report { Reports (told_of (Err stop)) (E.state err.old)
         (E.state err.new) result.status }
-    ensures left { left_of result.left ≡ Store store }
+    ensures left { result.left ≡ Store store }
     ensures no_fronts { result.fronts.items ≡ [] }
 {
     let status = report(err, &Err(stop));

@@ -3,7 +3,7 @@ ghost use Rattle.std.specs.Prelude.{◌≡◌, [], map, string_bytes};
 ghost use Rattle.exit_status.specs.Ends.{EndsWith};
 ghost use Rattle.input_files.specs.inner.Runs as works;
 ghost use Rattle.farm_runs.specs.Actors.{three};
-ghost use Rattle.serve_command.specs.Lefts.{Store, left_of};
+ghost use Rattle.serve_command.specs.declared.left.Left.TheVariants.{Store};
 ghost use Rattle.farm_call.specs.Words.{Asks};
 ghost use Rattle.farm_call.specs.Keeps.{Keeps};
 ghost use Rattle.farm_call.specs.inner.Works.{Does, over};
@@ -74,7 +74,7 @@ pub fn farm_main<
           files = F.state files.new;
           out = O.state out.new;
           err = E.state err.new;
-          left = left_of result.left;
+          left = result.left;
           fronts = result.fronts.items;
           ports = three (P.state ports.new.renderd) (P.state ports.new.tiles)
               (P.state ports.new.control);
@@ -111,7 +111,7 @@ fn done_and_told<
         (P.state ports.old.control)))
         (record {
           out = O.state out.new;
-          left = left_of result.left;
+          left = result.left;
           fronts = result.fronts.items;
           ports = three (P.state ports.new.renderd) (P.state ports.new.tiles)
               (P.state ports.new.control);
@@ -130,7 +130,7 @@ fn done_and_told<
 // An end with the store left.
 fn stored<D: TileStore>(alloc: Global, end: Result<(), Stop>, store: D) -> Done<D>
     ensures end { result.end ≡ end }
-    ensures left { left_of result.left ≡ Store store }
+    ensures left { result.left ≡ Store store }
     ensures no_fronts { result.fronts.items ≡ [] }
 {
     Done {
@@ -165,7 +165,7 @@ fn command<
         (P.state ports.old.control)))
         (record {
           out = O.state out.new;
-          left = left_of result.left;
+          left = result.left;
           fronts = result.fronts.items;
           ports = three (P.state ports.new.renderd) (P.state ports.new.tiles)
               (P.state ports.new.control);
@@ -203,7 +203,7 @@ fn run<
         (P.state ports.old.control)))
         (record {
           out = O.state out.new;
-          left = left_of result.left;
+          left = result.left;
           fronts = result.fronts.items;
           ports = three (P.state ports.new.renderd) (P.state ports.new.tiles)
               (P.state ports.new.control);

@@ -23,8 +23,8 @@ use Rattle.serve_command.specs.Beginnings.{HasBegun, CannotBegin}
 use Rattle.serve_command.specs.Listens.{Listening}
 use Rattle.serve_command.specs.Endings.{why_ended, WindsUp}
 use Rattle.serve_command.specs.declared.command.Ready.{Ready}
-use Rattle.serve_command.specs.Lefts.{Left, Store, Farm, left_of}
-use Rattle.serve_command.specs.declared.left.Left.TheVariants as kind
+use Rattle.serve_command.specs.declared.left.Left.{Left}
+use Rattle.serve_command.specs.declared.left.Left.TheVariants.{Store, Farm}
 use Rattle.serve_command.specs.declared.left.Done.{Done}
 use Rattle.serve_command.specs.Serves.{WhyNot, places, fronts_of, end_of, is_worn_out}
 use Rattle.serve_command.specs.inner.Serving.{World, Serves, ServesTo}
@@ -32,9 +32,9 @@ use Rattle.serve_command.specs.inner.Steps.{EndsRun, HasRun, RanTo, ends_of}
 
 module _ {D : Type 0} (state : D → Outside StoreTold) where
   -- a run was ended
-  pub ends_run : {G S O : Type 0} (resume : Bool) (run : Run D G S O) (out out' : SinkAt) (closed : FarmSeen D × List (ℕ × Entry)) (fronts : Vec FrontDone Global) (worn : Bool) (why end : Result (Unit {0}) Stop) → worn ≡ is_worn_out (ends_of run)
+  pub ends_run : (resume : Bool) (run : Run D) (out out' : SinkAt) (closed : FarmSeen D × List (ℕ × Entry)) (fronts : Vec FrontDone Global) (worn : Bool) (why end : Result (Unit {0}) Stop) → worn ≡ is_worn_out (ends_of run)
       → why ≡ why_ended worn (map end_of (fronts_of run.fronts)) → closed.1 ≡ run.closed.1 → fronts.items ≡ fronts_of run.fronts → WindsUp state resume why run.tally run.closed.0 closed.0 run.closed.1 out out' end
-      → EndsRun state resume run out out' (record { end = end; left = kind.Farm closed; fronts = fronts })
+      → EndsRun state resume run out out' (record { end = end; left = Farm closed; fronts = fronts })
   ends_run resume run out out' closed fronts worn why end worn_is why_is same fronts_are winds = record {
     farm = closed.0;
     left_is = ap (λ (h : List (ℕ × Entry)). Farm (closed.0, h)) same;
@@ -49,9 +49,9 @@ module _ {D : Type 0} (state : D → Outside StoreTold) where
     before = record { out = out; left = Store ready.farm.store; fronts = []; ports = ports }
 
     -- a farm has run and was ended
-    pub has_run : {G S O : Type 0} (run : Run D G S O) (done : Done D G S O)
+    pub has_run : (run : Run D) (done : Done D)
         → RunsWell state ready.farm run.closed.0 run.closed.1 (renderd_leaves (maps_in ready.farm.plan)) (tiles_leave (maps_in ready.farm.plan)) (control_leaves ready.lists.items) ports ports' run.fronts (ends_of run)
-        → EndsRun state ready.resume run out out' done → HasRun state ready before (record { out = out'; left = left_of done.left; fronts = done.fronts.items; ports = ports' }) done.end
+        → EndsRun state ready.resume run out out' done → HasRun state ready before (record { out = out'; left = done.left; fronts = done.fronts.items; ports = ports' }) done.end
     has_run run done runs ended =
         subst (λ (l : Left D). RanTo state ready before (record { out = out'; left = l; fronts = done.fronts.items; ports = ports' }) done.end l) (sym ended.left_is)
         (record { last = run.closed.0; done = run.fronts; ends = ends_of run; runs = runs; fronts_are = ended.fronts_are; winds = ended.winds })
@@ -73,8 +73,8 @@ module _ {D : Type 0} (state : D → Outside StoreTold) where
     start = record { out = out; left = Store store; fronts = []; ports = ports }
 
     -- no actor was started
-    pub not_served : {G S O : Type 0} (back : D) (why : Stop) (done : Done D G S O) → done.end ≡ Err why → left_of done.left ≡ Store back → done.fronts.items ≡ [] → out' ≡ out → WhyNot state s store back ports ports' why
-        → Serves state s store start (record { out = out'; left = left_of done.left; fronts = done.fronts.items; ports = ports' }) done.end
+    pub not_served : (back : D) (why : Stop) (done : Done D) → done.end ≡ Err why → done.left ≡ Store back → done.fronts.items ≡ [] → out' ≡ out → WhyNot state s store back ports ports' why
+        → Serves state s store start (record { out = out'; left = done.left; fronts = done.fronts.items; ports = ports' }) done.end
     not_served back why done end_is left_is none silent why_not =
         subst (λ (l : Left D). ServesTo state s store start (record { out = out'; left = l; fronts = done.fronts.items; ports = ports' }) done.end l) (sym left_is)
         (record { why = why; end_is = end_is; why_not = why_not; silent = silent; no_fronts = none })
@@ -82,9 +82,9 @@ module _ {D : Type 0} (state : D → Outside StoreTold) where
     module _ (ready : Ready D) (resume_is : ready.resume ≡ s.config.resume) (lists_are : ready.lists.items ≡ s.inputs.lists) (listening : EachFront (Outside PortsTold)) (begun : HasBegun state s.inputs.plan s.config.resume store ready.farm)
         (listens : Listening (places s.config ports listening) (Ok tt)) where
       -- a farm that was ready has run
-      pub served : {G S O : Type 0} (done : Done D G S O) → HasRun state ready (record { out = out; left = Store ready.farm.store; fronts = []; ports = listening }) (record { out = out'; left = left_of done.left; fronts = done.fronts.items; ports = ports' }) done.end
-          → Serves state s store start (record { out = out'; left = left_of done.left; fronts = done.fronts.items; ports = ports' }) done.end
-      served done ran = by_left (left_of done.left) ran
+      pub served : (done : Done D) → HasRun state ready (record { out = out; left = Store ready.farm.store; fronts = []; ports = listening }) (record { out = out'; left = done.left; fronts = done.fronts.items; ports = ports' }) done.end
+          → Serves state s store start (record { out = out'; left = done.left; fronts = done.fronts.items; ports = ports' }) done.end
+      served done ran = by_left done.left ran
         where
           by_left : (l : Left D) → RanTo state ready (record { out = out; left = Store ready.farm.store; fronts = []; ports = listening }) (record { out = out'; left = l; fronts = done.fronts.items; ports = ports' }) done.end l → ServesTo state s store start (record { out = out'; left = l; fronts = done.fronts.items; ports = ports' }) done.end l
           by_left (Store back) ran = record {

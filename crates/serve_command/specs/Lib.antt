@@ -1,7 +1,6 @@
 pub mod Serves
 pub mod inner
 pub mod Beginnings
-pub mod Lefts
 pub mod Listens
 pub mod Endings
 pub mod Savings

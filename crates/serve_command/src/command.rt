@@ -10,7 +10,7 @@ ghost use Rattle.serve_command.specs.Serves.{places};
 ghost use Rattle.serve_command.specs.inner.Serving.{Serves};
 ghost use Rattle.serve_command.specs.inner.Steps.{HasRun, Runs};
 ghost use Rattle.farm_shared.specs.Shared.{IsAfter};
-ghost use Rattle.serve_command.specs.Lefts.{Store, left_of};
+ghost use Rattle.serve_command.specs.declared.left.Left.TheVariants.{Store};
 
 use crate::begun::begin;
 use crate::ending::end_run;
@@ -33,7 +33,7 @@ use tile_store::TileStore;
 
 /// A farm that has begun, and what is needed beside it to serve it.
 #[derive(Drop)]
-struct Ready<D> {
+struct Ready<D: TileStore> {
     farm: Farm<D>,
     workers: u32,
     resume: bool,
@@ -89,7 +89,7 @@ fn run<
     requires room { 3 ≤ vec_capacity ready.room }
     ensures { HasRun D.state ready
         (record { out = O.state out.old; left = Store ready.farm.store; fronts = []; ports = three (P.state ports.old.renderd) (P.state ports.old.tiles) (P.state ports.old.control) })
-        (record { out = O.state out.new; left = left_of result.left; fronts = result.fronts.items; ports = three (P.state ports.new.renderd) (P.state ports.new.tiles) (P.state ports.new.control) })
+        (record { out = O.state out.new; left = result.left; fronts = result.fronts.items; ports = three (P.state ports.new.renderd) (P.state ports.new.tiles) (P.state ports.new.control) })
         result.end }
 {
     let Ready {
@@ -130,7 +130,7 @@ fn serve_inputs<
     requires { IsPlan served.inputs.plan }
     ensures { Serves D.state served store
         (record { out = O.state out.old; left = Store store; fronts = []; ports = three (P.state ports.old.renderd) (P.state ports.old.tiles) (P.state ports.old.control) })
-        (record { out = O.state out.new; left = left_of result.left; fronts = result.fronts.items; ports = three (P.state ports.new.renderd) (P.state ports.new.tiles) (P.state ports.new.control) })
+        (record { out = O.state out.new; left = result.left; fronts = result.fronts.items; ports = three (P.state ports.new.renderd) (P.state ports.new.tiles) (P.state ports.new.control) })
         result.end }
 {
     let ServeInputs { config, inputs } = served;
@@ -186,7 +186,7 @@ pub fn serve<
 ) -> Done<D>
     ensures { Runs D.state (serve_course config.now) (F.state files.old) (F.state files.new) store
         (record { out = O.state out.old; left = Store store; fronts = []; ports = three (P.state ports.old.renderd) (P.state ports.old.tiles) (P.state ports.old.control) })
-        (record { out = O.state out.new; left = left_of result.left; fronts = result.fronts.items; ports = three (P.state ports.new.renderd) (P.state ports.new.tiles) (P.state ports.new.control) })
+        (record { out = O.state out.new; left = result.left; fronts = result.fronts.items; ports = three (P.state ports.new.renderd) (P.state ports.new.tiles) (P.state ports.new.control) })
         result.end }
 {
     match serve_files(alloc, files, config) {

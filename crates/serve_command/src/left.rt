@@ -1,6 +1,6 @@
 //! What a command leaves.
 ghost use Rattle.std.specs.Prelude.{◌≡◌, [], Err};
-ghost use Rattle.serve_command.specs.Lefts.{Store, left_of};
+ghost use Rattle.serve_command.specs.declared.left.Left.TheVariants.{Store};
 
 use exit_status::Stop;
 use farm_shared::Closed;
@@ -30,7 +30,7 @@ pub struct Done<D: TileStore> {
 /// The end of a command that started no front.
 pub(crate) fn stop_with<D: TileStore>(alloc: Global, stop: Stop, store: D) -> Done<D>
     ensures end { result.end ≡ Err stop }
-    ensures left { left_of result.left ≡ Store store }
+    ensures left { result.left ≡ Store store }
     ensures fronts { result.fronts.items ≡ [] }
 {
     Done {

@@ -15,7 +15,7 @@ use Rattle.render_command.specs.Courses.{render_course}
 use Rattle.render_command.specs.MetaCourses.{meta_course}
 use Rattle.serve_command.specs.inner.Serving.{World}
 use Rattle.serve_command.specs.inner.Steps as serve
-use Rattle.serve_command.specs.Lefts.{Store}
+use Rattle.serve_command.specs.declared.left.Left.TheVariants.{Store}
 
 -- what the words make sure of a command: its tile is one of the world, and its size is one that
 -- tiles may have; its work is not too large

@@ -17,7 +17,8 @@ use Rattle.serve_command.specs.Beginnings.{HasBegun}
 use Rattle.serve_command.specs.Listens.{Listening}
 use Rattle.serve_command.specs.Endings.{why_ended, WindsUp}
 use Rattle.serve_command.specs.Serves.{places, fronts_of, end_of, is_worn_out, WhyNot}
-use Rattle.serve_command.specs.Lefts.{Left, Store, Farm}
+use Rattle.serve_command.specs.declared.left.Left.{Left}
+use Rattle.serve_command.specs.declared.left.Left.TheVariants.{Store, Farm}
 
 -- what a command works on: out, the store or what is left of it, what the fronts answered, and what the ports show
 pub record World (D : Type 0) : Type 0 where

@@ -17,20 +17,21 @@ use Rattle.farm_runs.specs.Promise.{Ends, RunsWell}
 use Rattle.front_leaves.specs.Fronts.{renderd_leaves, tiles_leave, control_leaves}
 use Rattle.farm_runs.specs.declared.running.Run.{Run}
 use Rattle.serve_command.specs.Endings.{why_ended, WindsUp}
-use Rattle.serve_command.specs.Lefts.{Left, Store, Farm, left_of}
+use Rattle.serve_command.specs.declared.left.Left.{Left}
+use Rattle.serve_command.specs.declared.left.Left.TheVariants.{Store, Farm}
 use Rattle.serve_command.specs.declared.left.Done.{Done}
 use Rattle.serve_command.specs.declared.command.Ready.{Ready}
 use Rattle.serve_command.specs.Serves.{fronts_of, end_of, is_worn_out}
 use Rattle.serve_command.specs.inner.Serving.{World, Serves}
 
 -- what the run told beside its fronts
-abbrev pub ends_of : {D G S O : Type 0} → Run D G S O → Ends
+abbrev pub ends_of : {D : Type 0} → Run D → Ends
 ends_of run = record { worn = run.worn; stopped = run.stopped; tally = run.tally }
 
 -- a run was ended
-pub record EndsRun {D G S O : Type 0} (state : D → Outside StoreTold) (resume : Bool) (run : Run D G S O) (out out' : SinkAt) (done : Done D G S O) : Type 0 where
+pub record EndsRun {D : Type 0} (state : D → Outside StoreTold) (resume : Bool) (run : Run D) (out out' : SinkAt) (done : Done D) : Type 0 where
   pub farm : FarmSeen D
-  pub left_is : left_of done.left ≡ Farm (farm, run.closed.1)
+  pub left_is : done.left ≡ Farm (farm, run.closed.1)
   pub fronts_are : done.fronts.items ≡ fronts_of run.fronts
   pub winds : WindsUp state resume (why_ended (is_worn_out (ends_of run)) (map end_of (fronts_of run.fronts))) run.tally run.closed.0 farm run.closed.1 out out' done.end
 
