@@ -5,4 +5,3 @@ pub mod Keeps
 pub mod Seating
 pub mod Turning
 pub mod Counting
-pub mod Sharing
