@@ -32,7 +32,7 @@ fn refused(fault: StoreFault) -> Fetched
     }
 }
 
-/// Reads the head of the container at the path, and by it the tile's part, which is opened once.
+/// Reads the head of the container at the path, and by it the tile's part.
 fn read_tile<D: TileStore>(
     alloc: Global,
     store: &mut D,
@@ -44,8 +44,7 @@ fn read_tile<D: TileStore>(
     requires place { meta_of tile ≡ meta }
     ensures { ReadsTile (D.state store.old) (D.state store.new) path.now meta (index_place tile) result }
 {
-    let mut opened = None;
-    let head = match store.get_next_part(alloc, path, 0, HEAD_BYTES as u32, &mut opened) {
+    let head = match store.get_part(alloc, path, 0, HEAD_BYTES as u32) {
         Ok(Some(head)) => head,
         Ok(None) => return Err(Fetched::Gone),
         Err(fault) => return Err(refused(fault)),
@@ -54,7 +53,7 @@ fn read_tile<D: TileStore>(
         Ok(entry) => entry,
         Err(fault) => return Err(Fetched::Spoilt(fault)),
     };
-    match store.get_next_part(alloc, path, entry.offset as u64, entry.size, &mut opened) {
+    match store.get_part(alloc, path, entry.offset as u64, entry.size) {
         Ok(Some(part)) => {
             if part.len() < entry.size as usize {
                 Err(Fetched::Spoilt(MetaFault::Index(index_place(tile))))

@@ -7,11 +7,11 @@ ghost use Rattle.farm_plan.specs.Drawings.{key_path};
 ghost use Rattle.tile_store.specs.Stores.{StorePuts};
 ghost use Rattle.render_queues.specs.Tables.{after_end};
 ghost use Rattle.render_jobs.specs.Shared.{ShareSeen};
-ghost use Rattle.farm_core.specs.inner.Effects.{EndsPut, IsTaken, Keeps, MarksBut, finished_by, one_stored};
+ghost use Rattle.farm_core.specs.inner.Effects.{IsTaken, Keeps, MarksBut, one_stored};
 ghost use Rattle.farm_refinement.specs.inner.Events.{stale_tables, taken_at, untaken};
 ghost use Rattle.farm_history.specs.Entries.{Entry, Finish};
-ghost use Rattle.farm_core.specs.Answers.{IsDrawingOf, Lasts, PutsBytes, PutsDrawing, is_drawn};
-ghost use Rattle.farm_plan.specs.Jobs.{IsFlight, job_text};
+ghost use Rattle.farm_core.specs.Answers.{IsDrawingOf, Lasts, PutsDrawing, is_drawn};
+ghost use Rattle.farm_plan.specs.Jobs.{IsFlight};
 ghost use Rattle.farm_refinement.specs.Stands.{StandsFor};
 
 use crate::farm::Farm;
@@ -108,39 +108,6 @@ impl<D> Farm<D> {
     }
 }
 
-impl<D> Farm<D> {
-    /// Ends a drawing by what its put answered.
-    fn end_put(
-        &mut self,
-        key: Key,
-        version: u64,
-        touched: bool,
-        put: Result<(), StoreFault>,
-    ) -> Finished
-        requires key { IsKeyOf self.old.plan key }
-        requires room { 1 ≤ self.old.marks.room }
-        requires taken { is_in key self.old.queues.taken ≡ true }
-        requires more { self.old.counts.stored < self.old.counts.turns }
-        ensures answer { result ≡ finished_by touched put }
-        ensures ends { EndsPut self.old self.new key version touched put }
-    {
-        match put {
-            Ok(()) => {
-                self.show(key, version, touched);
-                Finished::Stored(!touched)
-            }
-            Err(StoreFault::Failed) => {
-                self.lose(key);
-                Finished::PutFailed
-            }
-            Err(StoreFault::NoMemory) => {
-                self.cut(key);
-                Finished::NoMemory
-            }
-        }
-    }
-}
-
 impl<D: TileStore> Farm<D> {
     /// Puts a metatile's container at its path.
     fn put(&mut self, alloc: Global, key: Key, bytes: &[u8]) -> Result<(), StoreFault>
@@ -150,16 +117,6 @@ impl<D: TileStore> Farm<D> {
     {
         let path = self.own.setup().path(key);
         self.store.put(alloc, path.as_str(), bytes)
-    }
-
-    /// Puts a metatile's container, which was staged, at its path.
-    fn put_staged(&mut self, alloc: Global, key: Key, staged: D::Staged) -> Result<(), StoreFault>
-        requires { IsKeyOf self.old.plan key }
-        ensures store { StorePuts (D.state self.old.store) (D.state self.new.store) (key_path self.old.plan key) (D.written staged) result }
-        ensures farm { self.new ≡ record self.old { store = self.new.store } }
-    {
-        let path = self.own.setup().path(key);
-        self.store.put_staged(alloc, path.as_str(), staged)
     }
 
     /// Puts a drawing and shows it; memory is taken before the put.
@@ -180,30 +137,20 @@ impl<D: TileStore> Farm<D> {
             self.cut(key);
             return Finished::NoMemory;
         }
-        let put = self.put(alloc, key, bytes);
-        self.end_put(key, version, touched, put)
-    }
-
-    /// Puts a drawing that was staged and shows it; memory is taken before the put.
-    fn keep_staged(
-        &mut self,
-        alloc: Global,
-        key: Key,
-        version: u64,
-        touched: bool,
-        staged: D::Staged,
-    ) -> Finished
-        requires key { IsKeyOf self.old.plan key }
-        requires taken { is_in key self.old.queues.taken ≡ true }
-        requires more { self.old.counts.stored < self.old.counts.turns }
-        ensures { Keeps D.state self.old self.new key version touched (D.written staged) result }
-    {
-        if self.reserve().is_err() {
-            self.cut(key);
-            return Finished::NoMemory;
+        match self.put(alloc, key, bytes) {
+            Ok(()) => {
+                self.show(key, version, touched);
+                Finished::Stored(!touched)
+            }
+            Err(StoreFault::Failed) => {
+                self.lose(key);
+                Finished::PutFailed
+            }
+            Err(StoreFault::NoMemory) => {
+                self.cut(key);
+                Finished::NoMemory
+            }
         }
-        let put = self.put_staged(alloc, key, staged);
-        self.end_put(key, version, touched, put)
     }
 }
 
@@ -236,28 +183,5 @@ impl<D: TileStore> Farm<D> {
                 Finished::NoMemory
             }
         }
-    }
-
-    /// A worker hands back its drawing, which was staged for this farm's store. The same event as `finish` of its
-    /// bytes, with the same answers by the same rules.
-    pub fn finish_staged(&mut self, alloc: Global, job: Job, staged: D::Staged) -> Finished
-        requires turns { self.old.counts.turns < 2 ^ 63 }
-        requires flight { (store_tells : Bool) × (h : List Entry) × StandsFor D.state store_tells self.old h × IsFlight self.old.plan h job }
-        requires drawing { D.written staged ≡ job_text job }
-        ensures step { (store_tells : Bool) (h : List Entry) → StandsFor D.state store_tells self.old h → IsFlight self.old.plan h job
-            → StandsFor D.state store_tells self.new (Finish job.ticket true result ∷ h) }
-        ensures kept { Lasts D.state self.old self.new }
-        ensures puts { PutsBytes D.state self.old self.new job (D.written staged) result }
-    {
-        self.count_turn();
-        let key = job.key();
-        let version = job.version;
-        let touched = self.release(job);
-        self.keep_staged(alloc, key, version, touched, staged)
-    }
-
-    /// The handle by which drawings are staged for the farm's store; takes no memory.
-    pub fn stager(&self) -> D::Stager {
-        self.store.stager()
     }
 }

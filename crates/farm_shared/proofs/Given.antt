@@ -91,12 +91,6 @@ module _ {D : Type 0} (state : D → Outside StoreTold) where
   claims_given made worker v w (Ok answer) same t = claim_given made worker answer v w same t
   claims_given made worker v w (Err worn) same t = tt
 
-  pub stagings_given : {S : Type 0} (made : Made (Turned D)) (worker : ℕ) (v w : SeatState (Turned D) Entry) (r : Result (Claimed × S) Worn) → w.number ≡ v.number →
-      MatchResult r (λ answer. Took (λ t log. IsAfter state t.farm log) (λ t. lasting_of state t.farm) made.about (Claim worker (claim_answer answer.0)) (GivesJob worker answer.0) v w) (λ _. w ≡ worn_out v) →
-      IfOk r (λ answer. IfJob answer.0 (λ job. IsValidJob job × (job.worker ≡ worker) × HasJob (lasts state made) w.number w.seen job))
-  stagings_given made worker v w (Ok answer) same t = claim_given made worker answer.0 v w same t
-  stagings_given made worker v w (Err worn) same t = tt
-
   pub replies_given : (made : Made (Turned D)) (front : ℕ) (v w : SeatState (Turned D) Entry) (r : Result Collected Worn) → v.number ≡ front + 1 → w.number ≡ v.number → by w.number w.seen ≡ w.mine →
       MatchResult r (λ answer. Took (λ t log. IsAfter state t.farm log) (λ t. lasting_of state t.farm) made.about (Collect front answer) (λ log _. GivesReply front answer log) v w) (λ _. w ≡ worn_out v) →
       IfOk r (λ answer. OwnReply front v.mine answer)

@@ -6,4 +6,3 @@ pub mod Steps
 pub mod Given
 pub mod Beginning
 pub mod Shares
-pub mod Sharing

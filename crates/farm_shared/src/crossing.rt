@@ -25,7 +25,7 @@ fn cross_turned<D: TileStore + Send>()
 }
 
 fn cross_seat<D: TileStore + Send>()
-    ensures { IsSend (seat_type.the_row D.row D.Stager.row D.Staged.row D.Opened.row D.TileStore) }
+    ensures { IsSend (seat_type.the_row D.row D.TileStore) }
 {
     cross_turned::<D>();
     sends::<Seat<D>>();
@@ -38,7 +38,7 @@ fn cross_names()
 }
 
 fn cross_shared<D: TileStore + Send>()
-    ensures { IsSync (shared_type.the_row D.row D.Stager.row D.Staged.row D.Opened.row D.TileStore) }
+    ensures { IsSync (shared_type.the_row D.row D.TileStore) }
 {
     cross_turned::<D>();
     cross_names();
@@ -48,8 +48,8 @@ fn cross_shared<D: TileStore + Send>()
 /// Seats and the shared farm cross threads, wherever the store does. A function that starts threads calls it
 /// first, and so does a closure that starts threads again: what it does not see, it cannot rest on.
 pub fn cross<D: TileStore + Send>()
-    ensures seat { IsSend (seat_type.the_row D.row D.Stager.row D.Staged.row D.Opened.row D.TileStore) }
-    ensures farm { IsSync (shared_type.the_row D.row D.Stager.row D.Staged.row D.Opened.row D.TileStore) }
+    ensures seat { IsSend (seat_type.the_row D.row D.TileStore) }
+    ensures farm { IsSync (shared_type.the_row D.row D.TileStore) }
 {
     cross_seat::<D>();
     cross_shared::<D>();

@@ -1,10 +1,10 @@
 //! What workers do: claims and ends of drawings.
-ghost use Rattle.std.specs.Prelude.{◌≡◌, true, IfOk, MatchResult};
+ghost use Rattle.std.specs.Prelude.{◌≡◌, IfOk, MatchResult};
 ghost use Rattle.farm_history.specs.Entries.{Claim, Finish};
 ghost use Rattle.farm_shared.specs.Shared.{Adds, HasJob, IsLegalSo, lasts};
 ghost use Rattle.turn_cell.specs.SeatStates.{IsSeatOf, Knows, SameSeat, worn_out};
 ghost use Rattle.farm_core.specs.Answers.{IfJob, IsDrawingOf, claim_answer, is_drawn};
-ghost use Rattle.farm_plan.specs.Jobs.{IsValidJob, job_text};
+ghost use Rattle.farm_plan.specs.Jobs.{IsValidJob};
 
 use crate::shared::{Seat, SharedFarm};
 use crate::turned::Turned;
@@ -40,33 +40,6 @@ impl<D: TileStore> Call<Turned<D>> for ClaimTurn {
     }
 }
 
-/// A Claim, as a turn that also gives what stages for the farm's store.
-#[derive(Drop)]
-struct StagingTurn {
-    worker: u32,
-}
-
-impl<D: TileStore> Call<Turned<D>> for StagingTurn {
-    ghost use Rattle.std.specs.Prelude.{⊤};
-    ghost use Rattle.farm_history.specs.Entries.{Claim};
-    ghost use Rattle.farm_core.specs.Answers.{claim_answer};
-    ghost use Rattle.farm_shared.specs.inner.Turns.{GivesJob};
-
-    type Answer = (Claimed, D::Stager);
-
-    ghost entry = { λ c answer. Claim c.worker (claim_answer answer.0) };
-
-    ghost need = { λ _ _ _ _. ⊤ };
-
-    ghost promise = { λ c answer log part. GivesJob c.worker answer.0 log part };
-
-    fn run(self, value: &mut Turned<D>) -> (Claimed, D::Stager) {
-        let StagingTurn { worker } = self;
-        let stager = value.farm.stager();
-        (value.farm.claim(worker), stager)
-    }
-}
-
 /// The end of a drawing, as a turn.
 #[derive(Drop)]
 struct FinishTurn {
@@ -94,33 +67,6 @@ impl<D: TileStore> Call<Turned<D>> for FinishTurn {
     }
 }
 
-/// The end of a drawing that was staged, as a turn.
-#[derive(Drop)]
-struct StagedTurn<D: TileStore> {
-    alloc: Global,
-    job: Job,
-    staged: D::Staged,
-}
-
-impl<D: TileStore> Call<Turned<D>> for StagedTurn<D> {
-    ghost use Rattle.std.specs.Prelude.{◌≡◌, true, ⊤};
-    ghost use Rattle.farm_history.specs.Entries.{Finish};
-    ghost use Rattle.farm_plan.specs.Jobs.{job_text};
-    ghost use Rattle.farm_shared.specs.Shared.{HasJob};
-
-    type Answer = Finished;
-
-    ghost entry = { λ c answer. Finish c.job.ticket true answer };
-
-    ghost need = { λ c n seen part. HasJob part n seen c.job × (D.written c.staged ≡ job_text c.job) };
-
-    ghost promise = { λ _ _ _ _. ⊤ };
-
-    fn run(self, value: &mut Turned<D>) -> Finished {
-        value.farm.finish_staged(self.alloc, self.job, self.staged)
-    }
-}
-
 impl<D: TileStore> SharedFarm<D> {
     /// A worker, by its number, asks for a drawing to make, as `Farm::claim`. A job is the seat's to finish. Takes
     /// no memory.
@@ -135,25 +81,6 @@ impl<D: TileStore> SharedFarm<D> {
             IsValidJob job × (job.worker ≡ worker) × HasJob (lasts D.state self.now) seat.new.number seat.new.seen job)) }
     {
         self.cell.turn(rt, &mut seat.seat, ClaimTurn { worker })
-    }
-
-    /// As `claim`, and gives what stages drawings for the farm's store, so that a worker has it outside of the lock.
-    pub fn claim_staging<R: Wait>(
-        &self,
-        rt: &R,
-        seat: &mut Seat<D>,
-        worker: u32,
-    ) -> Result<(Claimed, D::Stager), Worn>
-        requires seat { IsSeatOf self.now seat.old }
-        ensures seat { IsSeatOf self.now seat.new }
-        ensures same { SameSeat seat.old seat.new }
-        ensures known { Knows seat.new }
-        ensures turn { MatchResult result (λ answer. Adds (Claim worker (claim_answer answer.0)) seat.old seat.new) (λ _. seat.new ≡ worn_out seat.old) }
-        ensures legal { IfOk result (λ _. IsLegalSo D.state (lasts D.state self.now) seat.new.seen) }
-        ensures job { IfOk result (λ answer. IfJob answer.0 (λ job.
-            IsValidJob job × (job.worker ≡ worker) × HasJob (lasts D.state self.now) seat.new.number seat.new.seen job)) }
-    {
-        self.cell.turn(rt, &mut seat.seat, StagingTurn { worker })
     }
 
     /// A worker hands back its drawing, as `Farm::finish`. A Claim among the seat's own entries gave the job, and no
@@ -178,28 +105,5 @@ impl<D: TileStore> SharedFarm<D> {
     {
         self.cell
             .turn(rt, &mut seat.seat, FinishTurn { alloc, job, drawn })
-    }
-
-    /// A worker hands back its drawing, which was staged for the farm's store, as `Farm::finish_staged`. As
-    /// `finish` of its bytes, with the same conditions and the same entry.
-    pub fn finish_staged<R: Wait>(
-        &self,
-        rt: &R,
-        seat: &mut Seat<D>,
-        alloc: Global,
-        job: Job,
-        staged: D::Staged,
-    ) -> Result<Finished, Worn>
-        requires seat { IsSeatOf self.now seat.old }
-        requires job { HasJob (lasts D.state self.now) seat.old.number seat.old.seen job }
-        requires staged { D.written staged ≡ job_text job }
-        ensures seat { IsSeatOf self.now seat.new }
-        ensures same { SameSeat seat.old seat.new }
-        ensures known { Knows seat.new }
-        ensures turn { MatchResult result (λ answer. Adds (Finish job.ticket true answer) seat.old seat.new) (λ _. seat.new ≡ worn_out seat.old) }
-        ensures legal { IfOk result (λ _. IsLegalSo D.state (lasts D.state self.now) seat.new.seen) }
-    {
-        self.cell
-            .turn(rt, &mut seat.seat, StagedTurn { alloc, job, staged })
     }
 }

@@ -2,7 +2,6 @@
 #![tactic(auto)]
 
 mod drawing;
-mod handing;
 mod worker;
 
 pub use drawing::draw;

@@ -6,7 +6,6 @@ ghost use Rattle.render_workers.specs.inner.Nexts.{AddsRound, IsWornOut};
 ghost use Rattle.render_workers.specs.declared.worker.WorkEnd.{WorkEnd};
 
 use crate::drawing::draw;
-use crate::handing::hand_back;
 use crossbeam_utils::sync::Parker;
 use farm_base::{Bell, Gate};
 use farm_core::Claimed;
@@ -36,8 +35,7 @@ enum Next {
     End(WorkEnd),
 }
 
-/// Claims. A job is drawn after the gate let it pass, while no turn is taken, and handed back; then the fronts are
-/// woken, and what its staging has left is removed.
+/// Claims. A job is drawn after the gate let it pass, while no turn is taken, and handed back; then the fronts are woken.
 fn round<R: Wait, D: TileStore, G: Gate, B: Bell>(
     rt: &R,
     picture_buffer: &mut PictureBuffer,
@@ -54,20 +52,17 @@ fn round<R: Wait, D: TileStore, G: Gate, B: Bell>(
     ensures entries { AddsRound worker result seat.old seat.new }
     ensures worn { IsWornOut result seat.new }
 {
-    let Ok((claimed, stager)) = farm.claim_staging(rt, seat, worker) else {
+    let Ok(claimed) = farm.claim(rt, seat, worker) else {
         return Next::End(WorkEnd::Worn);
     };
     match claimed {
         Claimed::Job(job) => {
             gate.before_draw(job.ticket);
             let drawn = draw(picture_buffer, &job);
-            let (alloc, ticket) = (picture_buffer.alloc(), job.ticket);
-            let handed = hand_back(rt, farm, seat, &stager, alloc, job, drawn);
-            alarms.ring_fronts();
-            D::clear(&stager, alloc, ticket);
-            let Ok(_answer) = handed else {
+            let Ok(_answer) = farm.finish(rt, seat, picture_buffer.alloc(), job, drawn) else {
                 return Next::End(WorkEnd::Worn);
             };
+            alarms.ring_fronts();
             Next::Again
         }
         Claimed::Idle | Claimed::Crowded => Next::Rest,

@@ -1,6 +1,6 @@
 //! The store in files of the system, under the folder `tiles`. It does not tell what it holds; what is
 //! proved of it is that it counts its failures and which paths it refuses.
-ghost use Rattle.std.specs.Prelude.{◌≡◌, ◌≤◌, ℕ, false, length, None, Err, IfOk, IfSome};
+ghost use Rattle.std.specs.Prelude.{◌≡◌, ◌≤◌, ℕ, false, length, Err, IfOk, IfSome};
 ghost use Rattle.farm_base.specs.Limits.{most_file_bytes};
 ghost use Rattle.farm_base.specs.Outside.{untold};
 ghost use Rattle.tile_store.specs.declared.stores.StoreFault.TheVariants.{Failed};
@@ -16,7 +16,6 @@ use std::fs::{self, OpenFile};
 use std::io::{self, Read, Seek, SeekFrom};
 use std::path::Path;
 use std::rt;
-use std::snapshot::Snapshot;
 
 /// Files under the folder `tiles` of the folder that the program runs in. A put writes a file beside
 /// the one of its path, which has its name and `.new`, and renames it, so that a reader is not meant to
@@ -24,11 +23,6 @@ use std::snapshot::Snapshot;
 /// made as needed. So that no put meets the file of another path, paths with a part between slashes that
 /// is empty, `.` or `..` or ends in `.new` are not taken: every call with one is Failed. So is what the
 /// system refuses, as a path that is a folder or lies below a file.
-///
-/// What is staged under the number N is written to `tiles/N.new`. A put of it renames the path's file to
-/// `tiles/N.old.new`, if there is one, and then the written file to the path: between the two the path has no
-/// file. A rename over a file would make some file systems (ext4) write the whole file out at once. A clear
-/// removes both.
 #[derive(Drop)]
 pub struct FileStore<R> {
     rt: R,
@@ -55,38 +49,10 @@ impl<R> FileStore<R> {
     }
 }
 
-/// What stages for a store in files: the runtime that reaches them.
-#[derive(Drop)]
-pub struct FileStager<R> {
-    rt: R,
-}
-
-/// Bytes that were written to the file of a number.
-#[derive(Drop)]
-pub struct StagedFile {
-    number: u64,
-    bytes: Snapshot<Vec<u8>>,
-}
-
-/// A file that was opened, and how many bytes it had then.
-#[derive(Drop)]
-pub struct OpenedFile<F> {
-    file: F,
-    length: u64,
-}
-
-impl<R: rt::Files + Copy + Drop> TileStore for FileStore<R> {
+impl<R: rt::Files> TileStore for FileStore<R> {
     ghost use Rattle.farm_base.specs.Outside.{untold};
 
-    type Stager = FileStager<R>;
-
-    type Staged = StagedFile;
-
-    type Opened = OpenedFile<R::File>;
-
     ghost state = { λ s. untold s.faults };
-
-    ghost written = { λ staged. staged.bytes.value.items };
 
     ghost counted = { λ _. tt };
 
@@ -97,43 +63,6 @@ impl<R: rt::Files + Copy + Drop> TileStore for FileStore<R> {
     {
         let answer = write_beside(alloc, &self.rt, path, bytes);
         self.counted(answer)
-    }
-
-    /// Makes the staged file the path's; Failed also for a path that is not taken.
-    fn put_staged(
-        &mut self,
-        alloc: Global,
-        path: &str,
-        staged: StagedFile,
-    ) -> Result<(), StoreFault>
-        ensures state { StorePuts (untold self.old.faults) (untold self.new.faults) path.now staged.bytes.value.items result }
-        ensures taken { is_own_path path.now ≡ false → result ≡ Err Failed }
-    {
-        let answer = move_staged(alloc, &self.rt, path, staged.number);
-        self.counted(answer)
-    }
-
-    fn stager(&self) -> FileStager<R> {
-        FileStager { rt: self.rt }
-    }
-
-    fn stage(
-        stager: &FileStager<R>,
-        alloc: Global,
-        number: u64,
-        bytes: Vec<u8>,
-    ) -> Result<StagedFile, Vec<u8>> {
-        match write_staged(alloc, &stager.rt, number, bytes.as_slice()) {
-            Ok(()) => Ok(StagedFile {
-                number,
-                bytes: Snapshot::of(&bytes),
-            }),
-            Err(_fault) => Err(bytes),
-        }
-    }
-
-    fn clear(stager: &FileStager<R>, alloc: Global, number: u64) {
-        let _nothing_left = clear_staged(alloc, &stager.rt, number);
     }
 
     /// The bytes of the path's file; Failed also where it has more than `2^31` bytes, and for a path that
@@ -159,25 +88,7 @@ impl<R: rt::Files + Copy + Drop> TileStore for FileStore<R> {
         ensures short { IfOk result (λ found. IfSome found (λ v. length v.items ≤ len)) }
         ensures taken { is_own_path path.now ≡ false → result ≡ Err Failed }
     {
-        let answer = read_part(alloc, &self.rt, path, offset, len, &mut None);
-        self.counted(answer)
-    }
-
-    /// A part of the path's file, however long the file is, which is opened once; Failed also for a path that is
-    /// not taken.
-    fn get_next_part(
-        &mut self,
-        alloc: Global,
-        path: &str,
-        offset: u64,
-        len: u32,
-        opened: &mut Option<OpenedFile<R::File>>,
-    ) -> Result<Option<Vec<u8>>, StoreFault>
-        ensures state { Gets (part offset len) (untold self.old.faults) (untold self.new.faults) path.now result }
-        ensures short { IfOk result (λ found. IfSome found (λ v. length v.items ≤ len)) }
-        ensures taken { opened.old ≡ None → is_own_path path.now ≡ false → result ≡ Err Failed }
-    {
-        let answer = read_part(alloc, &self.rt, path, offset, len, opened);
+        let answer = read_part(alloc, &self.rt, path, offset, len);
         self.counted(answer)
     }
 
@@ -246,85 +157,12 @@ fn replace<R: rt::Files>(files: &R, name: &str, beside: &str, bytes: &[u8]) -> i
     fs::rename(files, beside, name)
 }
 
-/// The name of the file in which the bytes of the number are staged.
-fn staged_name(alloc: Global, number: u64) -> Result<String, StoreFault> {
-    Ok(format!(in alloc; "tiles/{number}.new")?)
-}
-
-/// The name of the file that the staged one of the number replaced.
-fn replaced_name(alloc: Global, number: u64) -> Result<String, StoreFault> {
-    Ok(format!(in alloc; "tiles/{number}.old.new")?)
-}
-
-/// Writes the bytes to the file of the number, which is removed where that fails.
-fn write_staged<R: rt::Files>(
-    alloc: Global,
-    files: &R,
-    number: u64,
-    bytes: &[u8],
-) -> Result<(), StoreFault> {
-    let name = staged_name(alloc, number)?;
-    fs::create_dir_all(files, "tiles").map_err(|e| fault(&e))?;
-    let written = fs::write(files, name.as_str(), bytes);
-    if written.is_err() {
-        let _was_there = fs::remove_file(files, name.as_str());
-    }
-    written.map_err(|e| fault(&e))
-}
-
-/// Renames the file of this name, and answers whether there was one; where there is none, makes the folder that
-/// it would stand in. Failed where there is a folder.
-fn set_aside<R: rt::Files>(files: &R, name: &str, aside: &str) -> Result<bool, StoreFault> {
-    match fs::metadata(files, name) {
-        Ok(about) if about.is_dir() => Err(StoreFault::Failed),
-        Ok(_) => {
-            fs::rename(files, name, aside).map_err(|e| fault(&e))?;
-            Ok(true)
-        }
-        Err(_) => {
-            if let Some(folder) = Path::new(name).parent() {
-                fs::create_dir_all(files, folder).map_err(|e| fault(&e))?;
-            }
-            Ok(false)
-        }
-    }
-}
-
-/// Makes the file of the number the path's. Where that fails the path has the file that it had.
-fn move_staged<R: rt::Files>(
-    alloc: Global,
-    files: &R,
-    path: &str,
-    number: u64,
-) -> Result<(), StoreFault>
-    ensures { is_own_path path.now ≡ false → result ≡ Err Failed }
-{
-    let name = name_of(alloc, path)?;
-    let staged = staged_name(alloc, number)?;
-    let replaced = replaced_name(alloc, number)?;
-    let was_there = set_aside(files, name.as_str(), replaced.as_str())?;
-    let moved = fs::rename(files, staged.as_str(), name.as_str());
-    if moved.is_err() && was_there {
-        let _is_back = fs::rename(files, replaced.as_str(), name.as_str());
-    }
-    moved.map_err(|e| fault(&e))
-}
-
-/// Removes the files of the number, where they are.
-fn clear_staged<R: rt::Files>(alloc: Global, files: &R, number: u64) -> Result<(), StoreFault> {
-    let staged = staged_name(alloc, number)?;
-    let replaced = replaced_name(alloc, number)?;
-    let _was_there = fs::remove_file(files, staged.as_str());
-    let _was_there = fs::remove_file(files, replaced.as_str());
-    Ok(())
-}
-
-/// The file of the path; `None` where there is nothing, and Failed where there is a folder.
+/// The file of the path and its length; `None` where there is nothing, and Failed where there is a folder.
 fn open<R: rt::Files>(
     alloc: Global,
     files: &R,
     path: &str,
-) -> Result<Option<OpenedFile<R::File>>, StoreFault>
+) -> Result<Option<(R::File, u64)>, StoreFault>
     ensures { is_own_path path.now ≡ false → result ≡ Err Failed }
 {
     let name = name_of(alloc, path)?;
@@ -337,10 +175,7 @@ fn open<R: rt::Files>(
     if about.is_dir() {
         return Err(StoreFault::Failed);
     }
-    Ok(Some(OpenedFile {
-        file,
-        length: about.len(),
-    }))
+    Ok(Some((file, about.len())))
 }
 
 /// The bytes of the path's file.
@@ -352,50 +187,33 @@ fn read_whole<R: rt::Files>(
     ensures short { IfOk result (λ found. IfSome found (λ v. length v.items ≤ most_file_bytes)) }
     ensures taken { is_own_path path.now ≡ false → result ≡ Err Failed }
 {
-    let Some(opened) = open(alloc, files, path)? else {
+    let Some((file, _length)) = open(alloc, files, path)? else {
         return Ok(None);
     };
-    Ok(Some(read_to_end(alloc, opened.file, MOST_FILE_BYTES)?))
+    Ok(Some(read_to_end(alloc, file, MOST_FILE_BYTES)?))
 }
 
-/// The bytes of the path's file from the offset on, at most `len` of them. It is opened where nothing is opened yet.
+/// The bytes of the path's file from the offset on, at most `len` of them. How many there are is known when
+/// it is opened, so that they are read at once, into a vector that does not grow.
 fn read_part<R: rt::Files>(
     alloc: Global,
     files: &R,
     path: &str,
     offset: u64,
     len: u32,
-    opened: &mut Option<OpenedFile<R::File>>,
 ) -> Result<Option<Vec<u8>>, StoreFault>
     ensures short { IfOk result (λ found. IfSome found (λ v. length v.items ≤ len)) }
-    ensures taken { opened.old ≡ None → is_own_path path.now ≡ false → result ≡ Err Failed }
+    ensures taken { is_own_path path.now ≡ false → result ≡ Err Failed }
 {
-    if opened.is_none() {
-        *opened = open(alloc, files, path)?;
-    }
-    match opened.as_mut() {
-        Some(of) => Ok(Some(read_on(alloc, &mut of.file, of.length, offset, len)?)),
-        None => Ok(None),
-    }
-}
-
-/// The bytes of a file from the offset on, at most `len` of them. How many there are is known when it is opened,
-/// so that they are read at once, into a vector that does not grow.
-fn read_on<F: Read + Seek>(
-    alloc: Global,
-    file: &mut F,
-    size: u64,
-    offset: u64,
-    len: u32,
-) -> Result<Vec<u8>, StoreFault>
-    ensures { IfOk result (λ v. length v.items ≤ len) }
-{
-    let room = size.saturating_sub(offset).min(u64::from(len));
+    let Some((mut file, length)) = open(alloc, files, path)? else {
+        return Ok(None);
+    };
+    let room = length.saturating_sub(offset).min(u64::from(len));
     let mut bytes = vec![in alloc; 0; room as usize]?;
     if room > 0 {
         file.seek(SeekFrom::Start(offset)).map_err(|e| fault(&e))?;
         file.read_exact(bytes.as_mut_slice())
             .map_err(|e| fault(&e))?;
     }
-    Ok(bytes)
+    Ok(Some(bytes))
 }

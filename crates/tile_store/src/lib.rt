@@ -6,6 +6,6 @@ mod files;
 mod memory;
 mod stores;
 
-pub use files::{FileStager, FileStore, OpenedFile, StagedFile};
-pub use memory::{MemStager, MemStore};
+pub use files::FileStore;
+pub use memory::MemStore;
 pub use stores::{StoreFault, TileStore};

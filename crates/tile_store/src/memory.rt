@@ -1,5 +1,5 @@
 //! The store in memory, with calls that fail at the numbers of a list.
-ghost use Rattle.std.specs.Prelude.{◌≡◌, ◌≤◌, ◌<◌, ℕ, false, [], ◌∷◌, ◌++◌, length, Option, Some, None, Ok, IfOk, IfSome, IfErr, OnOk, OnErr, option_map, position, vec_len, vec_capacity, take, drop};
+ghost use Rattle.std.specs.Prelude.{◌≡◌, ◌≤◌, ◌<◌, ℕ, false, [], ◌∷◌, ◌++◌, length, Option, Some, None, IfOk, IfSome, IfErr, OnOk, OnErr, option_map, position, vec_len, vec_capacity, take, drop};
 ghost use Rattle.std.specs.Str.{bytes_eq};
 ghost use Rattle.farm_base.specs.InMemory.{content_of, next_count};
 ghost use Rattle.farm_base.specs.InMemory as base;
@@ -172,23 +172,11 @@ impl MemStore {
     }
 }
 
-/// What stages for a store in memory: staged bytes stay where they are.
-#[derive(Clone, Copy, Debug, Drop)]
-pub struct MemStager;
-
 impl TileStore for MemStore {
     ghost use Rattle.std.specs.Prelude.{refl};
     ghost use Rattle.tile_store.specs.Held.{store_state};
 
-    type Stager = MemStager;
-
-    type Staged = Vec<u8>;
-
-    type Opened = ();
-
     ghost state = { store_state };
-
-    ghost written = { λ staged. staged.items };
 
     ghost counted = { λ s. refl };
 
@@ -205,32 +193,6 @@ impl TileStore for MemStore {
         self.keep(alloc, path, bytes)?;
         Ok(())
     }
-
-    /// As the trait says, and exactly as `put` of these bytes.
-    fn put_staged(&mut self, alloc: Global, path: &str, staged: Vec<u8>) -> Result<(), StoreFault>
-        ensures state { StorePuts (store_state self.old) (store_state self.new) path.now staged.items result }
-        ensures exact { PutsHeld self.old self.new path.now staged.items result }
-    {
-        self.put(alloc, path, staged.as_slice())
-    }
-
-    fn stager(&self) -> MemStager {
-        MemStager
-    }
-
-    /// As the trait says; it takes no memory, so the bytes never come back.
-    fn stage(
-        _stager: &MemStager,
-        _alloc: Global,
-        _number: u64,
-        bytes: Vec<u8>,
-    ) -> Result<Vec<u8>, Vec<u8>>
-        ensures { result ≡ Ok bytes }
-    {
-        Ok(bytes)
-    }
-
-    fn clear(_stager: &MemStager, _alloc: Global, _number: u64) {}
 
     /// As the trait says, and exactly: it fails where its number is in the list.
     fn get(&mut self, alloc: Global, path: &str) -> Result<Option<Vec<u8>>, StoreFault>
@@ -271,22 +233,6 @@ impl TileStore for MemStore {
         };
         self.get_calls = self.get_calls.saturating_add(1);
         Ok(found)
-    }
-
-    /// As the trait says, and exactly as `get_part`: nothing has to be opened.
-    fn get_next_part(
-        &mut self,
-        alloc: Global,
-        path: &str,
-        offset: u64,
-        len: u32,
-        _opened: &mut Option<()>,
-    ) -> Result<Option<Vec<u8>>, StoreFault>
-        ensures state { Gets (part offset len) (store_state self.old) (store_state self.new) path.now result }
-        ensures short { IfOk result (λ found. IfSome found (λ v. length v.items ≤ len)) }
-        ensures exact { GetsHeld (part offset len) self.old self.new path.now result }
-    {
-        self.get_part(alloc, path, offset, len)
     }
 
     fn faults(&self) -> u64

@@ -4,13 +4,11 @@
 
 mod call;
 mod cell;
-mod crossing;
 mod inner;
 mod rule;
 mod view;
 
 pub use call::{Call, StandsFor};
 pub use cell::{ClosedCell, Seat, TurnCell};
-pub use crossing::cross_cell;
 pub use farm_base::Worn;
 pub use view::Terms;

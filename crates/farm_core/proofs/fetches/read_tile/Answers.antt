@@ -13,34 +13,34 @@ use Rattle.farm_core.proofs.fetches.read_tile.Goals as goal
 
 pub returns-in-Err : goal.returns-in-Err
 returns-in-Err g c =
-    subst (λ (a : Fetched). ReadsTile (g.D.TileStore.state c.args.store.now) (g.D.TileStore.state c.get_next_part.new.self) c.args.path.now c.args.meta (index_place c.args.tile) (Err a)) (sym c.refused.ensures)
+    subst (λ (a : Fetched). ReadsTile (g.D.TileStore.state c.args.store.now) (g.D.TileStore.state c.get_part.new.self) c.args.path.now c.args.meta (index_place c.args.tile) (Err a)) (sym c.refused.ensures)
     (reads_refused (part 0 532) _ _ _ _ _ c.in-Err.fault c.in-Err.ensures.state)
 
 pub returns-then-len-entry : goal.returns-then-len-entry
 returns-then-len-entry g c =
-    let same : g.D.TileStore.state c.get_next_part.new.self ≡ g.D.TileStore.state c.args.store.now = c.in-Ok-Some.ensures.state.0 in
+    let same : g.D.TileStore.state c.get_part.new.self ≡ g.D.TileStore.state c.args.store.now = c.in-Ok-Some.ensures.state.0 in
     let found : entry_found c.in-Ok-Some.head.items c.args.meta (index_place c.args.tile) ≡ Ok c.in-Ok.entry = cc (c.as_slice.ensures.value, c.entry_in.ensures, c.in-Ok.is) in (
-      c.in-Ok-Some-get_next_part.ensures.state.0 ∙ same,
+      c.in-Ok-Some-get_part.ensures.state.0 ∙ same,
       subst (λ (n : ℕ). IfSome (g.D.TileStore.state c.args.store.now).told (λ (t : StoreTold). IsSpoilt (t.content c.args.path.now) c.args.meta (index_place c.args.tile) (Index n))) (sym c.index_place.ensures.value)
-          (read_short (g.D.TileStore.state c.args.store.now).told c.args.path.now c.args.meta (index_place c.args.tile) c.in-Ok-Some.head.items c.in-Ok-Some-get_next_part.part.items c.in-Ok.entry (read_as _ (part 0 532) _ _ _ c.in-Ok-Some.field-0-is c.in-Ok-Some.ensures.state.1)
-          (subst (λ (o : Outside StoreTold). IfSome o.told (λ (t : StoreTold). Some c.in-Ok-Some-get_next_part.part.items ≡ option_map (part c.in-Ok.entry.offset c.in-Ok.entry.size) (t.content c.args.path.now))) same (read_as _ (part c.in-Ok.entry.offset c.in-Ok.entry.size) _ _ _ c.in-Ok-Some-get_next_part.field-0-is c.in-Ok-Some-get_next_part.ensures.state.1))
+          (read_short (g.D.TileStore.state c.args.store.now).told c.args.path.now c.args.meta (index_place c.args.tile) c.in-Ok-Some.head.items c.in-Ok-Some-get_part.part.items c.in-Ok.entry (read_as _ (part 0 532) _ _ _ c.in-Ok-Some.field-0-is c.in-Ok-Some.ensures.state.1)
+          (subst (λ (o : Outside StoreTold). IfSome o.told (λ (t : StoreTold). Some c.in-Ok-Some-get_part.part.items ≡ option_map (part c.in-Ok.entry.offset c.in-Ok.entry.size) (t.content c.args.path.now))) same (read_as _ (part c.in-Ok.entry.offset c.in-Ok.entry.size) _ _ _ c.in-Ok-Some-get_part.field-0-is c.in-Ok-Some-get_part.ensures.state.1))
           found (omega arith)),
     )
 
-pub returns-in-Ok-Some-get_next_part : goal.returns-in-Ok-Some-get_next_part
-returns-in-Ok-Some-get_next_part g c =
-    let same : g.D.TileStore.state c.get_next_part.new.self ≡ g.D.TileStore.state c.args.store.now = c.in-Ok-Some.ensures.state.0 in
+pub returns-in-Ok-Some-get_part : goal.returns-in-Ok-Some-get_part
+returns-in-Ok-Some-get_part g c =
+    let same : g.D.TileStore.state c.get_part.new.self ≡ g.D.TileStore.state c.args.store.now = c.in-Ok-Some.ensures.state.0 in
     let found : entry_found c.in-Ok-Some.head.items c.args.meta (index_place c.args.tile) ≡ Ok c.in-Ok.entry = cc (c.as_slice.ensures.value, c.entry_in.ensures, c.in-Ok.is) in (
-      c.in-Ok-Some-get_next_part.ensures.state.0 ∙ same,
+      c.in-Ok-Some-get_part.ensures.state.0 ∙ same,
       rw c.from_vec.ensures
-          (read_whole (g.D.TileStore.state c.args.store.now).told c.args.path.now c.args.meta (index_place c.args.tile) c.in-Ok-Some.head.items c.in-Ok-Some-get_next_part.part.items c.in-Ok.entry (read_as _ (part 0 532) _ _ _ c.in-Ok-Some.field-0-is c.in-Ok-Some.ensures.state.1)
-          (subst (λ (o : Outside StoreTold). IfSome o.told (λ (t : StoreTold). Some c.in-Ok-Some-get_next_part.part.items ≡ option_map (part c.in-Ok.entry.offset c.in-Ok.entry.size) (t.content c.args.path.now))) same (read_as _ (part c.in-Ok.entry.offset c.in-Ok.entry.size) _ _ _ c.in-Ok-Some-get_next_part.field-0-is c.in-Ok-Some-get_next_part.ensures.state.1))
-          found (omega (arith, short_as _ _ _ c.in-Ok-Some-get_next_part.field-0-is c.in-Ok-Some-get_next_part.ensures.short))),
+          (read_whole (g.D.TileStore.state c.args.store.now).told c.args.path.now c.args.meta (index_place c.args.tile) c.in-Ok-Some.head.items c.in-Ok-Some-get_part.part.items c.in-Ok.entry (read_as _ (part 0 532) _ _ _ c.in-Ok-Some.field-0-is c.in-Ok-Some.ensures.state.1)
+          (subst (λ (o : Outside StoreTold). IfSome o.told (λ (t : StoreTold). Some c.in-Ok-Some-get_part.part.items ≡ option_map (part c.in-Ok.entry.offset c.in-Ok.entry.size) (t.content c.args.path.now))) same (read_as _ (part c.in-Ok.entry.offset c.in-Ok.entry.size) _ _ _ c.in-Ok-Some-get_part.field-0-is c.in-Ok-Some-get_part.ensures.state.1))
+          found (omega (arith, short_as _ _ _ c.in-Ok-Some-get_part.field-0-is c.in-Ok-Some-get_part.ensures.short))),
     )
 
 pub returns : goal.returns
 returns g c =
-    let same : g.D.TileStore.state c.get_next_part.new.self ≡ g.D.TileStore.state c.args.store.now = c.in-Ok-Some.ensures.state.0 in
-    subst (λ (a : Fetched). ReadsTile (g.D.TileStore.state c.args.store.now) (g.D.TileStore.state c.get_next_part-2.new.self) c.args.path.now c.args.meta (index_place c.args.tile) (Err a)) (sym c.refused-in-Err-get_next_part.ensures)
-    (subst (λ (o : Outside StoreTold). ReadsTile o (g.D.TileStore.state c.get_next_part-2.new.self) c.args.path.now c.args.meta (index_place c.args.tile) (Err (refused_by c.in-Err-get_next_part.fault))) same
-    (reads_refused (part c.in-Ok.entry.offset c.in-Ok.entry.size) _ _ _ _ _ c.in-Err-get_next_part.fault c.in-Err-get_next_part.ensures.state))
+    let same : g.D.TileStore.state c.get_part.new.self ≡ g.D.TileStore.state c.args.store.now = c.in-Ok-Some.ensures.state.0 in
+    subst (λ (a : Fetched). ReadsTile (g.D.TileStore.state c.args.store.now) (g.D.TileStore.state c.get_part-2.new.self) c.args.path.now c.args.meta (index_place c.args.tile) (Err a)) (sym c.refused-in-Err-get_part.ensures)
+    (subst (λ (o : Outside StoreTold). ReadsTile o (g.D.TileStore.state c.get_part-2.new.self) c.args.path.now c.args.meta (index_place c.args.tile) (Err (refused_by c.in-Err-get_part.fault))) same
+    (reads_refused (part c.in-Ok.entry.offset c.in-Ok.entry.size) _ _ _ _ _ c.in-Err-get_part.fault c.in-Err-get_part.ensures.state))

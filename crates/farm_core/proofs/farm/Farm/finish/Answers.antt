@@ -1,4 +1,4 @@
-use Rattle.std.proofs.Common.{ℕ, List, ◌∷◌, refl, sym, ap, ◌∙◌, subst}
+use Rattle.std.proofs.Common.{ℕ, ◌∷◌, refl, sym, ap, ◌∙◌, subst}
 use Rattle.std.specs.Prelude.{option_map}
 use Rattle.farm_history.specs.declared.keys.Key.{Key}
 use Rattle.farm_history.specs.declared.queues.Outcome.{Outcome}
@@ -13,11 +13,11 @@ use Rattle.farm_plan.specs.Jobs.{JobSeen, job_key}
 use Rattle.farm_refinement.specs.Stands.{StandsFor}
 use Rattle.farm_refinement.specs.inner.Events.{taken_at, untaken}
 use Rattle.farm_core.specs.declared.finishes.Drawn.{Drawn}
-use Rattle.farm_core.specs.Answers.{IsDrawingOf, PutsBytes, PutsDrawing, is_drawn}
+use Rattle.farm_core.specs.Answers.{IsDrawingOf, PutsDrawing, is_drawn}
 use Rattle.farm_core.specs.inner.Effects.{IsTaken, Keeps, turn}
 use Rattle.farm_core.proofs.Flown.{flight_taken, flight_of_plan, flight_stands, taken_turned}
 use Rattle.farm_core.proofs.Lasting.{lasts_as, lasts_kept, lasts_on}
-use Rattle.farm_core.proofs.Putting.{puts_bytes}
+use Rattle.farm_core.proofs.Putting.{puts_drawing}
 use Rattle.farm_core.proofs.Told.{finish_kept, finish_cut}
 use Rattle.farm_core.proofs.farm.Farm.finish.Goals as goal
 
@@ -63,10 +63,8 @@ returns-in-Bytes-clause-kept g c =
 pub returns-in-Bytes-clause-puts : goal.returns-in-Bytes-clause-puts
 returns-in-Bytes-clause-puts g c =
     let released = c.release-touched.ensures.farm ∙ ap {A = FarmSeen g.row.D.Denot} (λ f. record f { taken = untaken c.args.job.ticket f.taken }) c.count_turn.ensures.turned in
-    let puts = puts_bytes g.D.TileStore.state c.args.self.now c.keep.new.self c.args.job c.job.inside.version c.release-touched.result c.as_slice.result.now
-    c.release-touched.new.self c.key-key.result c.keep.result released c.key-key.ensures c.keep.ensures in
-    subst (λ (d : Drawn). PutsDrawing g.D.TileStore.state c.args.self.now c.keep.new.self c.args.job d c.keep.result) (sym c.in-Bytes.is)
-    (subst (λ (t : List ℕ). PutsBytes g.D.TileStore.state c.args.self.now c.keep.new.self c.args.job t c.keep.result) c.as_slice.ensures.value puts)
+    puts_drawing g.D.TileStore.state c.args.self.now c.keep.new.self c.args.job c.args.job.ticket c.job.inside.version c.release-touched.result c.in-Bytes.bytes
+    c.release-touched.new.self c.key-key.result c.as_slice.result.now c.args.drawn c.keep.result released c.key-key.ensures c.as_slice.ensures.value c.in-Bytes.is c.keep.ensures
 
 pub returns-in-NoMemory-clause-step : goal.returns-in-NoMemory-clause-step
 returns-in-NoMemory-clause-step g c = λ told h s flight.
