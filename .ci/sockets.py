@@ -198,8 +198,11 @@ def second_run(farm):
     told("and the same", farm.tiles, wanted.get("/default/0/0/0.ppm"), wanted.WEST, True)
     behind = wanted.get("/default/0/0/0.ppm/status") + b"behind the head\n" * 2000
     told("an answer, whatever stands behind the head", farm.tiles, behind, wanted.plain(200, "OK", "clean 1\n"), True)
+    before = os.stat(SAVED).st_ino
     told("stop", farm.control, b"stop\n", b"stopping\n")
     same("the second end", farm.ended(), (0, wanted.tally(2, 2, 1, 1), ""))
+    if os.stat(SAVED).st_ino == before:
+        raise Unlike("what is saved is written into the file that is there")
 
 
 def run_of_large_tiles(farm):
