@@ -222,7 +222,7 @@ impl<D: TileStore> Farm<D> {
     {
         self.count_turn();
         let key = job.key();
-        let _touched = self.release(job);
+        self.release(job);
         self.cut(key);
         Finished::NoMemory
     }
