@@ -4,7 +4,7 @@ use std::process::Abort;
 use std::rt::Files;
 use std::test::Fail;
 use std::{fs, io};
-use tile_store::{FileStore, MemStore, StoreFault, TileStore};
+use tile_store::{FileStaging, FileStore, MemStore, Stage, StoreFault, TileStore};
 
 /// What a get gave, as a slice.
 fn slice(found: &Result<Option<Vec<u8>>, StoreFault>) -> Result<Option<&[u8]>, StoreFault> {
@@ -109,5 +109,83 @@ fn the_system_refuses(rt: HostRuntime) -> Result<(), Fail> {
     );
     gets(&rt, &mut files, alloc, "one", b"one");
     fs::remove_dir_all(&rt, "tiles")?;
+    Ok(())
+}
+
+/// Stages the bytes under the number, puts them at the path and clears what is left.
+fn puts_staged<R: Files>(
+    rt: &impl Abort,
+    staging: &FileStaging<R>,
+    files: &mut FileStore<R>,
+    alloc: Global,
+    path: &str,
+    bytes: &[u8],
+) {
+    assert!(rt; staging.stage(alloc, 7, bytes), "staged for {path}");
+    let put = files.put_staged(alloc, path, 7, bytes);
+    staging.clear(alloc, 7);
+    assert!(rt; put == Ok(()), "staged put of {path}");
+}
+
+#[test]
+fn what_was_staged_is_put(rt: HostRuntime) -> Result<(), Fail> {
+    let alloc = rt.alloc();
+    let _left_by_an_earlier_run = fs::remove_dir_all(&rt, "tiles");
+    let (staging, mut files) = (FileStaging::new(rt.clone()?), FileStore::new(rt.clone()?));
+    puts_staged(&rt, &staging, &mut files, alloc, "map/one", b"first");
+    puts_staged(&rt, &staging, &mut files, alloc, "map/one", b"second");
+    gets(&rt, &mut files, alloc, "map/one", b"second");
+    assert!(rt;
+        is_missing(&rt, "tiles/7.new") && is_missing(&rt, "tiles/7.old.new"),
+        "nothing is left of a staging"
+    );
+    fs::remove_dir_all(&rt, "tiles")?;
+    Ok(())
+}
+
+/// A number that is 7 in its last 32 bits.
+const FAR: u64 = 4_294_967_303;
+
+/// Of two that are staged at once each is put at its own path, the later one first.
+#[test]
+fn two_are_staged_at_once(rt: HostRuntime) -> Result<(), Fail> {
+    let alloc = rt.alloc();
+    let _left_by_an_earlier_run = fs::remove_dir_all(&rt, "tiles");
+    let (staging, mut files) = (FileStaging::new(rt.clone()?), FileStore::new(rt.clone()?));
+    let staged = staging.stage(alloc, 7, b"seven") && staging.stage(alloc, FAR, b"far");
+    assert!(rt; staged);
+    let later = files.put_staged(alloc, "map/far", FAR, b"far");
+    let earlier = files.put_staged(alloc, "map/7", 7, b"seven");
+    assert!(rt; later == Ok(()) && earlier == Ok(()));
+    gets(&rt, &mut files, alloc, "map/7", b"seven");
+    gets(&rt, &mut files, alloc, "map/far", b"far");
+    fs::remove_dir_all(&rt, "tiles")?;
+    Ok(())
+}
+
+#[test]
+fn a_staged_file_that_is_gone_is_not_put(rt: HostRuntime) -> Result<(), Fail> {
+    let alloc = rt.alloc();
+    let _left_by_an_earlier_run = fs::remove_dir_all(&rt, "tiles");
+    let (staging, mut files) = (FileStaging::new(rt.clone()?), FileStore::new(rt.clone()?));
+    assert_eq!(rt; files.put(alloc, "one", b"one"), Ok(()));
+    assert!(rt; staging.stage(alloc, 8, b"two"));
+    fs::remove_file(&rt, "tiles/8.new")?;
+    let answer = files.put_staged(alloc, "one", 8, b"two");
+    assert!(rt; answer == Err(StoreFault::Failed));
+    gets(&rt, &mut files, alloc, "one", b"one");
+    fs::remove_dir_all(&rt, "tiles")?;
+    Ok(())
+}
+
+/// No folder can be made where a file stands.
+#[test]
+fn a_staging_that_fails_is_told(rt: HostRuntime) -> Result<(), Fail> {
+    let alloc = rt.alloc();
+    let _left_by_an_earlier_run = fs::remove_dir_all(&rt, "tiles");
+    fs::write(&rt, "tiles", b"a file")?;
+    let staging = FileStaging::new(rt.clone()?);
+    assert!(rt; !staging.stage(alloc, 9, b"bytes"));
+    fs::remove_file(&rt, "tiles")?;
     Ok(())
 }

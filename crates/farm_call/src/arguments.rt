@@ -9,7 +9,7 @@ ghost use Rattle.farm_call.specs.Keeps.{ProgramKeeps};
 use crate::call::farm_main;
 use crate::ends::FarmEnd;
 use exit_status::{Stop, report};
-use farm_base::{Bell, Files, Gate, Sink};
+use farm_base::{Bell, Files, Sink};
 use port_events::{Ports, ThreePorts};
 use serve_command::Left;
 use std::alloc::Global;
@@ -18,7 +18,7 @@ use std::io::{self, ErrorKind};
 use std::rt::{Clock, Env};
 use std::sync::Wait;
 use std::thread::Threads;
-use tile_store::TileStore;
+use tile_store::{Stage, TileStore};
 
 /// `farm_main` with the words behind the program's name, over these files and sinks and this store.
 /// Words that cannot be had, since one is not UTF-8, are refused like wrong ones, unless memory ran
@@ -32,7 +32,7 @@ pub fn program<
     D: TileStore + Send,
     P: Ports + Send,
     B: Bell + Send + Sync,
-    G: Gate + Sync,
+    G: Stage + Sync,
 >(
     rt: &R,
     files: &mut F,

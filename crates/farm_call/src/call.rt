@@ -11,7 +11,7 @@ ghost use Rattle.farm_call.specs.inner.Runs.{IsSound, Runs};
 
 use crate::ends::FarmEnd;
 use exit_status::{Stop, report};
-use farm_base::{Bell, Files, Gate, Sink};
+use farm_base::{Bell, Files, Sink};
 use farm_words::{Command, WordsFault, read_words};
 use load_command::load;
 use port_events::{Ports, ThreePorts};
@@ -22,7 +22,7 @@ use std::alloc::Global;
 use std::rt::Clock;
 use std::sync::Wait;
 use std::thread::Threads;
-use tile_store::TileStore;
+use tile_store::{Stage, TileStore};
 
 /// Does what the words ask for, over the files, the sinks, the store and the ports that are handed
 /// in, and answers the exit status: 0 where the command's work was done to its end, 1 where the
@@ -45,7 +45,7 @@ pub fn farm_main<
     D: TileStore + Send,
     P: Ports + Send,
     B: Bell + Send + Sync,
-    G: Gate + Sync,
+    G: Stage + Sync,
 >(
     rt: &R,
     alloc: Global,
@@ -93,7 +93,7 @@ fn done_and_told<
     D: TileStore + Send,
     P: Ports + Send,
     B: Bell + Send + Sync,
-    G: Gate + Sync,
+    G: Stage + Sync,
 >(
     rt: &R,
     alloc: Global,
@@ -148,7 +148,7 @@ fn command<
     D: TileStore + Send,
     P: Ports + Send,
     B: Bell + Send + Sync,
-    G: Gate + Sync,
+    G: Stage + Sync,
 >(
     rt: &R,
     alloc: Global,
@@ -186,7 +186,7 @@ fn run<
     D: TileStore + Send,
     P: Ports + Send,
     B: Bell + Send + Sync,
-    G: Gate + Sync,
+    G: Stage + Sync,
 >(
     rt: &R,
     alloc: Global,

@@ -1,5 +1,5 @@
 -- How a history names the farm's answers, and what no event changes of a farm.
-use Rattle.std.specs.Prelude.{ℕ, ◌≡◌, Bool, true, false, List, Option, Some, None, Result, Ok, Err, option_map, codes}
+use Rattle.std.specs.Prelude.{ℕ, ◌≡◌, Bool, true, false, List, Option, Some, None, Result, Ok, Err, option_map}
 use Rattle.farm_base.specs.Outside.{Outside}
 use Rattle.tile_store.specs.declared.stores.StoreFault.TheVariants.{Failed}
 use Rattle.tile_store.specs.Stores.{StoreTold, StorePuts}
@@ -33,11 +33,13 @@ IfJob _ holds = Unit {0}
 -- whether something was drawn
 abbrev pub is_drawn : Drawn → Bool
 is_drawn (Drawn.Bytes bytes) = true
+is_drawn (Drawn.Staged bytes) = true
 is_drawn Drawn.NoMemory = false
 
 -- what was drawn is the job's container
 abbrev pub IsDrawingOf : JobSeen → Drawn → Type 0
 IsDrawingOf job (Drawn.Bytes bytes) = bytes.items ≡ job_text job
+IsDrawingOf job (Drawn.Staged bytes) = bytes.items ≡ job_text job
 IsDrawingOf job Drawn.NoMemory = Unit {0}
 
 -- what the store tells that it holds at the path of a saved farm
@@ -51,11 +53,16 @@ pub record Lasts {D : Type 0} (state : D → Outside StoreTold) (old new : FarmS
   pub first : new.first ≡ old.first
   pub beside : at_saved (state new.store) ≡ at_saved (state old.store)
 
--- What the end of a drawing does to the store: one put of what was drawn, at the path of its metatile, as it was answered; without a drawing, or for want of memory, the store is as it was
+-- What the end of a drawing of these bytes does to the store: one put of them, at the path of its metatile, as it was answered; for want of memory the store is as it was
+abbrev pub PutsBytes : {D : Type 0} → (D → Outside StoreTold) → FarmSeen D → FarmSeen D → JobSeen → List ℕ → Finished → Type 0
+PutsBytes state old new job bytes (Finished.Stored clean) = StorePuts (state old.store) (state new.store) (key_path old.plan (job_key job)) bytes (Ok tt)
+PutsBytes state old new job bytes Finished.PutFailed = StorePuts (state old.store) (state new.store) (key_path old.plan (job_key job)) bytes (Err Failed)
+PutsBytes state old new job bytes Finished.NoMemory = state new.store ≡ state old.store
+
+-- What the end of a drawing does to the store, by what was drawn; without a drawing the store is as it was
 abbrev pub PutsDrawing : {D : Type 0} → (D → Outside StoreTold) → FarmSeen D → FarmSeen D → JobSeen → Drawn → Finished → Type 0
-PutsDrawing state old new job (Drawn.Bytes bytes) (Finished.Stored clean) = StorePuts (state old.store) (state new.store) (key_path old.plan (job_key job)) bytes.items (Ok tt)
-PutsDrawing state old new job (Drawn.Bytes bytes) Finished.PutFailed = StorePuts (state old.store) (state new.store) (key_path old.plan (job_key job)) bytes.items (Err Failed)
-PutsDrawing state old new job (Drawn.Bytes bytes) Finished.NoMemory = state new.store ≡ state old.store
+PutsDrawing state old new job (Drawn.Bytes bytes) answer = PutsBytes state old new job bytes.items answer
+PutsDrawing state old new job (Drawn.Staged bytes) answer = PutsBytes state old new job bytes.items answer
 PutsDrawing state old new job Drawn.NoMemory answer = state new.store ≡ state old.store
 
 -- What a fetch of the spot read and is answered, by whether the spot can be served and by the mark of its metatile. With a mark the tile at the spot's place was read, of the container at the metatile's path, from the store as it was; without, nothing was read, and the store is as it was

@@ -7,11 +7,11 @@ ghost use Rattle.farm_plan.specs.Drawings.{key_path};
 ghost use Rattle.tile_store.specs.Stores.{StorePuts};
 ghost use Rattle.render_queues.specs.Tables.{after_end};
 ghost use Rattle.render_jobs.specs.Shared.{ShareSeen};
-ghost use Rattle.farm_core.specs.inner.Effects.{IsTaken, Keeps, MarksBut, one_stored};
+ghost use Rattle.farm_core.specs.inner.Effects.{EndsPut, IsTaken, Keeps, MarksBut, finished_by, one_stored};
 ghost use Rattle.farm_refinement.specs.inner.Events.{stale_tables, taken_at, untaken};
 ghost use Rattle.farm_history.specs.Entries.{Entry, Finish};
-ghost use Rattle.farm_core.specs.Answers.{IsDrawingOf, Lasts, PutsDrawing, is_drawn};
-ghost use Rattle.farm_plan.specs.Jobs.{IsFlight};
+ghost use Rattle.farm_core.specs.Answers.{IsDrawingOf, Lasts, PutsBytes, PutsDrawing, is_drawn};
+ghost use Rattle.farm_plan.specs.Jobs.{IsFlight, job_text};
 ghost use Rattle.farm_refinement.specs.Stands.{StandsFor};
 
 use crate::farm::Farm;
@@ -27,6 +27,8 @@ use tile_store::{StoreFault, TileStore};
 pub enum Drawn {
     /// The metatile's container.
     Bytes(Vec<u8>),
+    /// The metatile's container, which was staged for the store under the drawing's ticket.
+    Staged(Vec<u8>),
     /// There was no memory for it.
     NoMemory,
 }
@@ -108,36 +110,23 @@ impl<D> Farm<D> {
     }
 }
 
-impl<D: TileStore> Farm<D> {
-    /// Puts a metatile's container at its path.
-    fn put(&mut self, alloc: Global, key: Key, bytes: &[u8]) -> Result<(), StoreFault>
-        requires { IsKeyOf self.old.plan key }
-        ensures store { StorePuts (D.state self.old.store) (D.state self.new.store) (key_path self.old.plan key) bytes.now result }
-        ensures farm { self.new ≡ record self.old { store = self.new.store } }
-    {
-        let path = self.own.setup().path(key);
-        self.store.put(alloc, path.as_str(), bytes)
-    }
-
-    /// Puts a drawing and shows it; memory is taken before the put.
-    fn keep(
+impl<D> Farm<D> {
+    /// Ends a drawing by what its put answered.
+    fn end_put(
         &mut self,
-        alloc: Global,
         key: Key,
         version: u64,
         touched: bool,
-        bytes: &[u8],
+        put: Result<(), StoreFault>,
     ) -> Finished
         requires key { IsKeyOf self.old.plan key }
+        requires room { 1 ≤ self.old.marks.room }
         requires taken { is_in key self.old.queues.taken ≡ true }
         requires more { self.old.counts.stored < self.old.counts.turns }
-        ensures { Keeps D.state self.old self.new key version touched bytes.now result }
+        ensures answer { result ≡ finished_by touched put }
+        ensures ends { EndsPut self.old self.new key version touched put }
     {
-        if self.reserve().is_err() {
-            self.cut(key);
-            return Finished::NoMemory;
-        }
-        match self.put(alloc, key, bytes) {
+        match put {
             Ok(()) => {
                 self.show(key, version, touched);
                 Finished::Stored(!touched)
@@ -151,6 +140,91 @@ impl<D: TileStore> Farm<D> {
                 Finished::NoMemory
             }
         }
+    }
+}
+
+impl<D: TileStore> Farm<D> {
+    /// Puts a metatile's container at its path, by what was staged under the number, if one is given.
+    fn put(
+        &mut self,
+        alloc: Global,
+        key: Key,
+        staged: Option<u64>,
+        bytes: &[u8],
+    ) -> Result<(), StoreFault>
+        requires { IsKeyOf self.old.plan key }
+        ensures store { StorePuts (D.state self.old.store) (D.state self.new.store) (key_path self.old.plan key) bytes.now result }
+        ensures farm { self.new ≡ record self.old { store = self.new.store } }
+    {
+        let path = self.own.setup().path(key);
+        match staged {
+            Some(number) => self.store.put_staged(alloc, path.as_str(), number, bytes),
+            None => self.store.put(alloc, path.as_str(), bytes),
+        }
+    }
+
+    /// Puts a drawing and shows it; memory is taken before the put.
+    fn keep(
+        &mut self,
+        alloc: Global,
+        key: Key,
+        version: u64,
+        touched: bool,
+        staged: Option<u64>,
+        bytes: &[u8],
+    ) -> Finished
+        requires key { IsKeyOf self.old.plan key }
+        requires taken { is_in key self.old.queues.taken ≡ true }
+        requires more { self.old.counts.stored < self.old.counts.turns }
+        ensures { Keeps D.state self.old self.new key version touched bytes.now result }
+    {
+        if self.reserve().is_err() {
+            self.cut(key);
+            return Finished::NoMemory;
+        }
+        let put = self.put(alloc, key, staged, bytes);
+        self.end_put(key, version, touched, put)
+    }
+}
+
+impl<D: TileStore> Farm<D> {
+    /// The end of a drawing of these bytes.
+    fn finish_bytes(
+        &mut self,
+        alloc: Global,
+        job: Job,
+        staged: Option<u64>,
+        bytes: &[u8],
+    ) -> Finished
+        requires turns { self.old.counts.turns < 2 ^ 63 }
+        requires flight { (store_tells : Bool) × (h : List Entry) × StandsFor D.state store_tells self.old h × IsFlight self.old.plan h job }
+        requires drawing { bytes.now ≡ job_text job }
+        ensures step { (store_tells : Bool) (h : List Entry) → StandsFor D.state store_tells self.old h → IsFlight self.old.plan h job
+            → StandsFor D.state store_tells self.new (Finish job.ticket true result ∷ h) }
+        ensures kept { Lasts D.state self.old self.new }
+        ensures puts { PutsBytes D.state self.old self.new job bytes.now result }
+    {
+        self.count_turn();
+        let key = job.key();
+        let version = job.version;
+        let touched = self.release(job);
+        self.keep(alloc, key, version, touched, staged, bytes)
+    }
+
+    /// The end of a drawing for which a worker had no memory.
+    fn finish_none(&mut self, job: Job) -> Finished
+        requires turns { self.old.counts.turns < 2 ^ 63 }
+        requires flight { (store_tells : Bool) × (h : List Entry) × StandsFor D.state store_tells self.old h × IsFlight self.old.plan h job }
+        ensures step { (store_tells : Bool) (h : List Entry) → StandsFor D.state store_tells self.old h → IsFlight self.old.plan h job
+            → StandsFor D.state store_tells self.new (Finish job.ticket false result ∷ h) }
+        ensures kept { Lasts D.state self.old self.new }
+        ensures puts { D.state self.new.store ≡ D.state self.old.store }
+    {
+        self.count_turn();
+        let key = job.key();
+        self.release(job);
+        self.cut(key);
+        Finished::NoMemory
     }
 }
 
@@ -172,16 +246,13 @@ impl<D: TileStore> Farm<D> {
         ensures kept { Lasts D.state self.old self.new }
         ensures puts { PutsDrawing D.state self.old self.new job drawn result }
     {
-        self.count_turn();
-        let key = job.key();
-        let version = job.version;
-        let touched = self.release(job);
         match drawn {
-            Drawn::Bytes(bytes) => self.keep(alloc, key, version, touched, bytes.as_slice()),
-            Drawn::NoMemory => {
-                self.cut(key);
-                Finished::NoMemory
+            Drawn::Bytes(bytes) => self.finish_bytes(alloc, job, None, bytes.as_slice()),
+            Drawn::Staged(bytes) => {
+                let ticket = job.ticket;
+                self.finish_bytes(alloc, job, Some(ticket), bytes.as_slice())
             }
+            Drawn::NoMemory => self.finish_none(job),
         }
     }
 }

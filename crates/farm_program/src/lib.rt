@@ -2,7 +2,7 @@
 #![tactic(auto)]
 
 use exit_status::{Stop, report};
-use farm_base::{Bell, Bells, Files, OpenGate, OutSink};
+use farm_base::{Bell, Bells, Files, OutSink};
 use farm_call::program;
 use port_events::{Ports, ThreePorts};
 use socket_ports::{SocketBell, SocketPorts};
@@ -12,9 +12,9 @@ use std::process::ExitCode;
 use std::rt::{self, Clock, Env, Stderr, Stdout};
 use std::sync::Wait;
 use std::thread::Threads;
-use tile_store::TileStore;
+use tile_store::{Stage, TileStore};
 
-/// The program: what its words ask for, over files, a store and ports, its standard output and standard error. The
+/// The program: what its words ask for, over files, a store, ports and what stages drawings for the store, its standard output and standard error. The
 /// exit status is the call's; its line goes to standard error. Where there was no memory for the ports, the status is
 /// that of memory wanting.
 pub fn run_program<
@@ -23,6 +23,7 @@ pub fn run_program<
     D: TileStore + Send + Drop,
     P: Ports + Send + Drop,
     B: Bell + Send + Sync + Drop,
+    G: Stage + Sync,
 >(
     rt: &R,
     files: F,
@@ -30,6 +31,7 @@ pub fn run_program<
     err: Stderr,
     store: D,
     ports: Result<ThreePorts<P, B>, AllocError>,
+    staging: &G,
 ) -> ExitCode {
     let mut files = files;
     let mut out = OutSink::new(out);
@@ -38,7 +40,7 @@ pub fn run_program<
         return ExitCode::from(report(&mut err, &Err(Stop::NoMemory)));
     };
     let end = program(
-        rt, &mut files, &mut out, &mut err, store, &mut ports, &OpenGate,
+        rt, &mut files, &mut out, &mut err, store, &mut ports, staging,
     );
     ExitCode::from(end.into_status())
 }

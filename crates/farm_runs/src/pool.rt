@@ -9,14 +9,14 @@ ghost use Rattle.farm_runs.specs.Actors.{HasWorked, IsReady};
 
 use crate::barrier::StartBarrier;
 use crossbeam_utils::sync::Parker;
-use farm_base::{Bell, Bells, Gate};
+use farm_base::{Bell, Bells};
 use farm_shared::{Alarms, Seat, SharedFarm, cross};
 use render_workers::{WorkEnd, work};
 use std::alloc::Global;
 use std::rt::Clock;
 use std::sync::Wait;
 use std::thread::{Threads, for_each_mut};
-use tile_store::TileStore;
+use tile_store::{Stage, TileStore};
 
 /// A worker: its number, its seat, what it sleeps on, and how it ended. It has not ended where it was not begun.
 #[derive(Drop)]
@@ -29,7 +29,7 @@ pub struct Actor<S> {
 
 /// A worker in its thread: it works where all actors have begun.
 #[tactic(auto, using(crate::proofs::Acting::began, crate::proofs::Acting::not_begun))]
-fn work_post<R: Wait + Clock, D: TileStore, G: Gate, B: Bell>(
+fn work_post<R: Wait + Clock, D: TileStore, G: Stage, B: Bell>(
     rt: &R,
     alloc: Global,
     farm: &SharedFarm<D>,
@@ -65,7 +65,7 @@ fn work_post<R: Wait + Clock, D: TileStore, G: Gate, B: Bell>(
 pub fn work_all<
     R: Threads + Wait + Clock + Sync,
     D: TileStore + Send,
-    G: Gate + Sync,
+    G: Stage + Sync,
     B: Bell + Sync,
 >(
     rt: &R,

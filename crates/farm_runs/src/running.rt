@@ -19,7 +19,7 @@ use crate::seating::{Parking, parking_for, seat_fronts, seat_pool};
 use crate::serving::Serving;
 use crate::together::{FrontSeats, RunSeats, run};
 use crossbeam_utils::sync::Parker;
-use farm_base::{Bell, Gate};
+use farm_base::Bell;
 use farm_core::Farm;
 use farm_plan::Tally;
 use farm_shared::{Closed, Seat, SharedFarm};
@@ -28,7 +28,7 @@ use std::alloc::Global;
 use std::rt::Clock;
 use std::sync::Wait;
 use std::thread::Threads;
-use tile_store::TileStore;
+use tile_store::{Stage, TileStore};
 
 /// What is left of a run.
 #[derive(Drop)]
@@ -81,7 +81,7 @@ fn act<
     H: Serving + Sync,
     P: Ports + Send,
     B: Bell + Send + Sync,
-    T: Gate + Sync,
+    T: Stage + Sync,
 >(
     rt: &R,
     farm: SharedFarm<D>,
@@ -131,7 +131,7 @@ pub fn run_farm<
     H: Serving + Sync + Drop,
     P: Ports + Send,
     B: Bell + Send + Sync,
-    T: Gate + Sync,
+    T: Stage + Sync,
 >(
     rt: &R,
     alloc: Global,

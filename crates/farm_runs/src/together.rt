@@ -12,13 +12,13 @@ use crate::each_front::{EachFront, RunActors};
 use crate::fronts::{end_fronts, serve_fronts};
 use crate::pool::{Actor, work_all};
 use crate::serving::Serving;
-use farm_base::{Bell, Bells, Gate};
+use farm_base::{Bell, Bells};
 use farm_shared::{Alarms, Seat, SharedFarm, cross};
 use port_events::{FrontDone, Ports, ThreePorts};
 use std::rt::Clock;
 use std::sync::Wait;
 use std::thread::{Threads, join_mut};
-use tile_store::TileStore;
+use tile_store::{Stage, TileStore};
 
 /// The first seat of a farm, and those of its fronts until they are joined into it.
 #[derive(Drop)]
@@ -86,7 +86,7 @@ pub fn run<
     H: Serving + Sync,
     P: Ports + Send,
     B: Bell + Send + Sync,
-    T: Gate + Sync,
+    T: Stage + Sync,
 >(
     rt: &R,
     actors: &RunActors<F, G, H>,

@@ -6,6 +6,8 @@ ghost use Rattle.farm_core.specs.Answers.{IsDrawingOf};
 use farm_base::NoMemory;
 use farm_core::{Drawn, Job};
 use meta_drawing::{PictureBuffer, draw_job_on};
+use std::alloc::Global;
+use tile_store::Stage;
 
 /// What is handed back of a job: the container of its metatile, or that there was no memory for it.
 pub fn draw(picture_buffer: &mut PictureBuffer, job: &Job) -> Drawn
@@ -15,5 +17,22 @@ pub fn draw(picture_buffer: &mut PictureBuffer, job: &Job) -> Drawn
     match draw_job_on(picture_buffer, job) {
         Ok(bytes) => Drawn::Bytes(bytes),
         Err(NoMemory) => Drawn::NoMemory,
+    }
+}
+
+/// The same drawing, staged under its ticket where that can be done.
+pub(crate) fn stage<G: Stage>(gate: &G, alloc: Global, job: &Job, drawn: Drawn) -> Drawn
+    requires { IsDrawingOf job.now drawn }
+    ensures { IsDrawingOf job.now result }
+{
+    match drawn {
+        Drawn::Bytes(bytes) => {
+            if gate.stage(alloc, job.ticket, bytes.as_slice()) {
+                Drawn::Staged(bytes)
+            } else {
+                Drawn::Bytes(bytes)
+            }
+        }
+        other => other,
     }
 }

@@ -5,7 +5,7 @@ ghost use Rattle.render_workers.specs.Rounds.{Worked};
 ghost use Rattle.render_workers.specs.inner.Nexts.{AddsRound, IsWornOut};
 ghost use Rattle.render_workers.specs.declared.worker.WorkEnd.{WorkEnd};
 
-use crate::drawing::draw;
+use crate::drawing::{draw, stage};
 use crossbeam_utils::sync::Parker;
 use farm_base::{Bell, Gate};
 use farm_core::Claimed;
@@ -13,7 +13,7 @@ use farm_shared::{Alarms, Seat, SharedFarm};
 use meta_drawing::PictureBuffer;
 use std::alloc::Global;
 use std::sync::Wait;
-use tile_store::TileStore;
+use tile_store::{Stage, TileStore};
 
 /// How a worker ends.
 #[derive(Clone, Copy, Debug, PartialEq, Eq)]
@@ -35,8 +35,9 @@ enum Next {
     End(WorkEnd),
 }
 
-/// Claims. A job is drawn after the gate let it pass, while no turn is taken, and handed back; then the fronts are woken.
-fn round<R: Wait, D: TileStore, G: Gate, B: Bell>(
+/// Claims. A job is drawn after the gate let it pass, staged while no turn is taken, and handed back; then the
+/// fronts are woken, and what its staging has left is removed.
+fn round<R: Wait, D: TileStore, G: Stage, B: Bell>(
     rt: &R,
     picture_buffer: &mut PictureBuffer,
     farm: &SharedFarm<D>,
@@ -58,11 +59,15 @@ fn round<R: Wait, D: TileStore, G: Gate, B: Bell>(
     match claimed {
         Claimed::Job(job) => {
             gate.before_draw(job.ticket);
+            let (alloc, ticket) = (picture_buffer.alloc(), job.ticket);
             let drawn = draw(picture_buffer, &job);
-            let Ok(_answer) = farm.finish(rt, seat, picture_buffer.alloc(), job, drawn) else {
+            let drawn = stage(gate, alloc, &job, drawn);
+            let finished = farm.finish(rt, seat, alloc, job, drawn);
+            alarms.ring_fronts();
+            gate.clear(alloc, ticket);
+            let Ok(_answer) = finished else {
                 return Next::End(WorkEnd::Worn);
             };
-            alarms.ring_fronts();
             Next::Again
         }
         Claimed::Idle | Claimed::Crowded => Next::Rest,
@@ -74,7 +79,7 @@ fn round<R: Wait, D: TileStore, G: Gate, B: Bell>(
 /// it passes the gate, draws outside the lock, hands back and wakes the fronts; with nothing to claim it sleeps until
 /// it is woken. Want of memory in a drawing is handed back as such, and does not end the worker. Stopped comes only
 /// where a claim of this call was answered so, Worn only where all turns of the farm were drawn. It may wait.
-pub fn work<R: Wait, D: TileStore, G: Gate, B: Bell>(
+pub fn work<R: Wait, D: TileStore, G: Stage, B: Bell>(
     rt: &R,
     alloc: Global,
     farm: &SharedFarm<D>,

@@ -1,9 +1,11 @@
 //! A gate that holds drawings.
 use farm_base::Gate;
+use std::alloc::Global;
 use std::rt::Clock;
 use std::sync::atomic::{AtomicBool, AtomicU64, Ordering};
 use std::thread::sleep;
 use std::time::Duration;
+use tile_store::Stage;
 
 /// How many milliseconds a drawing is held at least before it is let go all the same.
 const PATIENCE: u64 = 20_000;
@@ -70,4 +72,12 @@ impl<'a, R: Clock> Gate for HoldGate<'a, R> {
             }
         }
     }
+}
+
+impl<'a, R: Clock> Stage for HoldGate<'a, R> {
+    fn stage(&self, _alloc: Global, _number: u64, _bytes: &[u8]) -> bool {
+        false
+    }
+
+    fn clear(&self, _alloc: Global, _number: u64) {}
 }

@@ -19,7 +19,7 @@ use crate::left::{Done, stop_with};
 use crate::listens::listen_all;
 use exit_status::Stop;
 use expiry_lists::TileList;
-use farm_base::{Bell, Files, Gate, Sink, Text};
+use farm_base::{Bell, Files, Sink, Text};
 use farm_config::Config;
 use farm_core::Farm;
 use farm_files::{FarmInputs, ServeInputs, serve_files};
@@ -29,7 +29,7 @@ use std::alloc::Global;
 use std::rt::Clock;
 use std::sync::Wait;
 use std::thread::Threads;
-use tile_store::TileStore;
+use tile_store::{Stage, TileStore};
 
 /// A farm that has begun, and what is needed beside it to serve it.
 #[derive(Drop)]
@@ -73,7 +73,7 @@ fn run<
     O: Sink,
     P: Ports + Send,
     B: Bell + Send + Sync,
-    G: Gate + Sync,
+    G: Stage + Sync,
 >(
     rt: &R,
     alloc: Global,
@@ -117,7 +117,7 @@ fn serve_inputs<
     O: Sink,
     P: Ports + Send,
     B: Bell + Send + Sync,
-    G: Gate + Sync,
+    G: Stage + Sync,
 >(
     rt: &R,
     alloc: Global,
@@ -173,7 +173,7 @@ pub fn serve<
     O: Sink,
     P: Ports + Send,
     B: Bell + Send + Sync,
-    G: Gate + Sync,
+    G: Stage + Sync,
 >(
     rt: &R,
     alloc: Global,

@@ -9,8 +9,8 @@ ghost use Rattle.tile_store.specs.inner.Counts.{Counts};
 ghost use Rattle.tile_store.specs.Files as spec;
 ghost use Rattle.tile_store.specs.Files.{is_own_path};
 
-use crate::stores::{StoreFault, TileStore};
-use farm_base::{MOST_FILE_BYTES, read_to_end};
+use crate::stores::{Stage, StoreFault, TileStore};
+use farm_base::{Gate, MOST_FILE_BYTES, read_to_end};
 use std::alloc::Global;
 use std::fs::{self, OpenFile};
 use std::io::{self, Read, Seek, SeekFrom};
@@ -23,6 +23,10 @@ use std::rt;
 /// made as needed. So that no put meets the file of another path, paths with a part between slashes that
 /// is empty, `.` or `..` or ends in `.new` are not taken: every call with one is Failed. So is what the
 /// system refuses, as a path that is a folder or lies below a file.
+///
+/// What is staged under the number N is in `tiles/N.new`. A put of it renames the path's file to `tiles/N.old.new`,
+/// if there is one, and then the written file to the path: between the two the path has no file. A rename over a
+/// file would make some file systems (ext4) write the whole file out at once. A clear removes both.
 #[derive(Drop)]
 pub struct FileStore<R> {
     rt: R,
@@ -49,6 +53,33 @@ impl<R> FileStore<R> {
     }
 }
 
+/// What stages for a store in files: the runtime that reaches them. It holds no drawing.
+#[derive(Clone, Copy, Drop)]
+pub struct FileStaging<R> {
+    rt: R,
+}
+
+impl<R> FileStaging<R> {
+    /// What stages for the store in the files that this runtime reaches; takes no memory.
+    pub fn new(rt: R) -> FileStaging<R> {
+        FileStaging { rt }
+    }
+}
+
+impl<R> Gate for FileStaging<R> {
+    fn before_draw(&self, _ticket: u64) {}
+}
+
+impl<R: rt::Files> Stage for FileStaging<R> {
+    fn stage(&self, alloc: Global, number: u64, bytes: &[u8]) -> bool {
+        write_staged(alloc, &self.rt, number, bytes).is_ok()
+    }
+
+    fn clear(&self, alloc: Global, number: u64) {
+        let _nothing_left = clear_staged(alloc, &self.rt, number);
+    }
+}
+
 impl<R: rt::Files> TileStore for FileStore<R> {
     ghost use Rattle.farm_base.specs.Outside.{untold};
 
@@ -62,6 +93,22 @@ impl<R: rt::Files> TileStore for FileStore<R> {
         ensures taken { is_own_path path.now ≡ false → result ≡ Err Failed }
     {
         let answer = write_beside(alloc, &self.rt, path, bytes);
+        self.counted(answer)
+    }
+
+    /// Makes the staged file the path's; Failed also for a path that is not taken.
+    fn put_staged(
+        &mut self,
+        alloc: Global,
+        path: &str,
+        number: u64,
+        bytes: &[u8],
+    ) -> Result<(), StoreFault>
+        ensures state { StorePuts (untold self.old.faults) (untold self.new.faults) path.now bytes.now result }
+        ensures taken { is_own_path path.now ≡ false → result ≡ Err Failed }
+    {
+        let _written = bytes;
+        let answer = move_staged(alloc, &self.rt, path, number);
         self.counted(answer)
     }
 
@@ -155,6 +202,79 @@ fn write_beside<R: rt::Files>(
 fn replace<R: rt::Files>(files: &R, name: &str, beside: &str, bytes: &[u8]) -> io::Result<()> {
     fs::write(files, beside, bytes)?;
     fs::rename(files, beside, name)
+}
+
+/// The name of the file in which the bytes of the number are staged.
+fn staged_name(alloc: Global, number: u64) -> Result<String, StoreFault> {
+    Ok(format!(in alloc; "tiles/{number}.new")?)
+}
+
+/// The name of the file that the staged one of the number replaced.
+fn replaced_name(alloc: Global, number: u64) -> Result<String, StoreFault> {
+    Ok(format!(in alloc; "tiles/{number}.old.new")?)
+}
+
+/// Writes the bytes to the file of the number, which is removed where that fails.
+fn write_staged<R: rt::Files>(
+    alloc: Global,
+    files: &R,
+    number: u64,
+    bytes: &[u8],
+) -> Result<(), StoreFault> {
+    let name = staged_name(alloc, number)?;
+    fs::create_dir_all(files, "tiles").map_err(|e| fault(&e))?;
+    let written = fs::write(files, name.as_str(), bytes);
+    if written.is_err() {
+        let _was_there = fs::remove_file(files, name.as_str());
+    }
+    written.map_err(|e| fault(&e))
+}
+
+/// Renames the file of this name, and answers whether there was one; where there is none, makes the folder that
+/// it would stand in. Failed where there is a folder.
+fn set_aside<R: rt::Files>(files: &R, name: &str, aside: &str) -> Result<bool, StoreFault> {
+    match fs::metadata(files, name) {
+        Ok(about) if about.is_dir() => Err(StoreFault::Failed),
+        Ok(_) => {
+            fs::rename(files, name, aside).map_err(|e| fault(&e))?;
+            Ok(true)
+        }
+        Err(_) => {
+            if let Some(folder) = Path::new(name).parent() {
+                fs::create_dir_all(files, folder).map_err(|e| fault(&e))?;
+            }
+            Ok(false)
+        }
+    }
+}
+
+/// Makes the file of the number the path's. Where that fails the path has the file that it had.
+fn move_staged<R: rt::Files>(
+    alloc: Global,
+    files: &R,
+    path: &str,
+    number: u64,
+) -> Result<(), StoreFault>
+    ensures { is_own_path path.now ≡ false → result ≡ Err Failed }
+{
+    let name = name_of(alloc, path)?;
+    let staged = staged_name(alloc, number)?;
+    let replaced = replaced_name(alloc, number)?;
+    let was_there = set_aside(files, name.as_str(), replaced.as_str())?;
+    let moved = fs::rename(files, staged.as_str(), name.as_str());
+    if moved.is_err() && was_there {
+        let _is_back = fs::rename(files, replaced.as_str(), name.as_str());
+    }
+    moved.map_err(|e| fault(&e))
+}
+
+/// Removes the files of the number, where they are.
+fn clear_staged<R: rt::Files>(alloc: Global, files: &R, number: u64) -> Result<(), StoreFault> {
+    let staged = staged_name(alloc, number)?;
+    let replaced = replaced_name(alloc, number)?;
+    let _was_there = fs::remove_file(files, staged.as_str());
+    let _was_there = fs::remove_file(files, replaced.as_str());
+    Ok(())
 }
 
 /// The file of the path and its length; `None` where there is nothing, and Failed where there is a folder.

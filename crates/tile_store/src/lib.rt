@@ -6,6 +6,6 @@ mod files;
 mod memory;
 mod stores;
 
-pub use files::FileStore;
+pub use files::{FileStaging, FileStore};
 pub use memory::MemStore;
-pub use stores::{StoreFault, TileStore};
+pub use stores::{Stage, StoreFault, TileStore};

@@ -194,6 +194,20 @@ impl TileStore for MemStore {
         Ok(())
     }
 
+    /// As the trait says, and exactly as `put`.
+    fn put_staged(
+        &mut self,
+        alloc: Global,
+        path: &str,
+        _number: u64,
+        bytes: &[u8],
+    ) -> Result<(), StoreFault>
+        ensures state { StorePuts (store_state self.old) (store_state self.new) path.now bytes.now result }
+        ensures exact { PutsHeld self.old self.new path.now bytes.now result }
+    {
+        self.put(alloc, path, bytes)
+    }
+
     /// As the trait says, and exactly: it fails where its number is in the list.
     fn get(&mut self, alloc: Global, path: &str) -> Result<Option<Vec<u8>>, StoreFault>
         ensures state { Gets whole (store_state self.old) (store_state self.new) path.now result }

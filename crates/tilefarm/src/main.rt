@@ -4,7 +4,7 @@
 use farm_base::DiskFiles;
 use farm_program::{run_program, sockets};
 use std::process::ExitCode;
-use tile_store::FileStore;
+use tile_store::{FileStaging, FileStore};
 
 fn main(rt: HostRuntime) -> ExitCode {
     let (files, store) = (DiskFiles::new(rt), FileStore::new(rt));
@@ -15,5 +15,6 @@ fn main(rt: HostRuntime) -> ExitCode {
         rt.stderr(),
         store,
         sockets(rt.alloc(), rt),
+        &FileStaging::new(rt),
     )
 }

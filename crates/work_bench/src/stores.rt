@@ -17,6 +17,16 @@ impl TileStore for NoStore {
         Ok(())
     }
 
+    fn put_staged(
+        &mut self,
+        _alloc: Global,
+        _path: &str,
+        _number: u64,
+        _bytes: &[u8],
+    ) -> Result<(), StoreFault> {
+        Ok(())
+    }
+
     fn get(&mut self, _alloc: Global, _path: &str) -> Result<Option<Vec<u8>>, StoreFault> {
         Ok(None)
     }

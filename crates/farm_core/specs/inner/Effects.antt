@@ -92,6 +92,22 @@ Keeps state old new key version touched bytes Finished.NoMemory =
     (state new.store ≡ state old.store) × (new.marks.shown ≡ old.marks.shown)
     × (new ≡ record old { store = new.store; marks = new.marks; queues = after_end old.queues key Outcome.Cut })
 
+-- what the end of a drawing is answered, by what its put answered
+abbrev pub finished_by : Bool → Result (Unit {0}) StoreFault → Finished
+finished_by touched (Ok done) = Finished.Stored (not touched)
+finished_by touched (Err Failed) = Finished.PutFailed
+finished_by touched (Err NoMemory) = Finished.NoMemory
+
+-- the end of a drawing of the key at that version, after a put that answered so: shown, clean where nothing touched it; or hidden; or cut
+abbrev pub EndsPut : {D : Type 0} → FarmSeen D → FarmSeen D → Key → ℕ → Bool → Result (Unit {0}) StoreFault → Type 0
+EndsPut old new key version touched (Ok done) =
+    MarksBut old.marks new.marks key (Some (record { version = version; clean = not touched }))
+    × (new ≡ record old { marks = new.marks; queues = stale_tables (not touched) (after_end old.queues key Outcome.Done) key; counts = one_stored old.counts })
+EndsPut old new key version touched (Err Failed) =
+    MarksBut old.marks new.marks key None
+    × (new ≡ record old { marks = new.marks; queues = after_end old.queues key Outcome.NotDone })
+EndsPut old new key version touched (Err NoMemory) = new ≡ record old { queues = after_end old.queues key Outcome.Cut }
+
 -- ---- reads
 
 -- a read of the tile at a place of a key's container, where the key has that mark; the store's list of failed calls alone may have changed
