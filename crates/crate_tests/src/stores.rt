@@ -4,7 +4,9 @@ use std::process::Abort;
 use std::rt::Files;
 use std::test::Fail;
 use std::{fs, io};
-use tile_store::{FileStaging, FileStore, MemStore, Stage, StoreFault, TileStore};
+use tile_store::{
+    FileStaging, FileStore, MemStore, Stage, Staged, StoreFault, TileStore, stage_bytes,
+};
 
 /// What a get gave, as a slice.
 fn slice(found: &Result<Option<Vec<u8>>, StoreFault>) -> Result<Option<&[u8]>, StoreFault> {
@@ -112,7 +114,20 @@ fn the_system_refuses(rt: HostRuntime) -> Result<(), Fail> {
     Ok(())
 }
 
-/// Stages the bytes under the number, puts them at the path and clears what is left.
+/// The bytes, staged under the number.
+fn staged_as<R: Files>(
+    rt: &impl Abort,
+    staging: &FileStaging<R>,
+    alloc: Global,
+    number: u64,
+    bytes: &[u8],
+) -> Result<Staged, Fail> {
+    let staged = stage_bytes(staging, alloc, number, Vec::from_slice(alloc, bytes)?);
+    assert!(rt; staged.is_ok(), "staged as {number}");
+    Ok(staged.unwrap())
+}
+
+/// Stages the bytes, puts them at the path and clears what is left.
 fn puts_staged<R: Files>(
     rt: &impl Abort,
     staging: &FileStaging<R>,
@@ -120,23 +135,26 @@ fn puts_staged<R: Files>(
     alloc: Global,
     path: &str,
     bytes: &[u8],
-) {
-    assert!(rt; staging.stage(alloc, 7, bytes), "staged for {path}");
-    let put = files.put_staged(alloc, path, 7, bytes);
+) -> Result<(), Fail> {
+    let staged = staged_as(rt, staging, alloc, 7, bytes)?;
+    let put = files.put_staged(alloc, path, &staged);
     staging.clear(alloc, 7);
     assert!(rt; put == Ok(()), "staged put of {path}");
+    gets(rt, files, alloc, path, bytes);
+    Ok(())
 }
 
+/// Each staged file takes the place of what its path had, and nothing is left of it.
 #[test]
 fn what_was_staged_is_put(rt: HostRuntime) -> Result<(), Fail> {
     let alloc = rt.alloc();
     let _left_by_an_earlier_run = fs::remove_dir_all(&rt, "tiles");
     let (staging, mut files) = (FileStaging::new(rt.clone()?), FileStore::new(rt.clone()?));
-    puts_staged(&rt, &staging, &mut files, alloc, "map/one", b"first");
-    puts_staged(&rt, &staging, &mut files, alloc, "map/one", b"second");
-    gets(&rt, &mut files, alloc, "map/one", b"second");
+    puts_staged(&rt, &staging, &mut files, alloc, "map/one", b"first")?;
+    puts_staged(&rt, &staging, &mut files, alloc, "map/one", b"second")?;
+    assert!(rt; files.faults() == 0);
     assert!(rt;
-        is_missing(&rt, "tiles/7.new") && is_missing(&rt, "tiles/7.old.new"),
+        is_missing(&rt, "tiles/.new/7") && is_missing(&rt, "tiles/.new/7.old"),
         "nothing is left of a staging"
     );
     fs::remove_dir_all(&rt, "tiles")?;
@@ -152,10 +170,10 @@ fn two_are_staged_at_once(rt: HostRuntime) -> Result<(), Fail> {
     let alloc = rt.alloc();
     let _left_by_an_earlier_run = fs::remove_dir_all(&rt, "tiles");
     let (staging, mut files) = (FileStaging::new(rt.clone()?), FileStore::new(rt.clone()?));
-    let staged = staging.stage(alloc, 7, b"seven") && staging.stage(alloc, FAR, b"far");
-    assert!(rt; staged);
-    let later = files.put_staged(alloc, "map/far", FAR, b"far");
-    let earlier = files.put_staged(alloc, "map/7", 7, b"seven");
+    let seven = staged_as(&rt, &staging, alloc, 7, b"seven")?;
+    let far = staged_as(&rt, &staging, alloc, FAR, b"far")?;
+    let later = files.put_staged(alloc, "map/far", &far);
+    let earlier = files.put_staged(alloc, "map/7", &seven);
     assert!(rt; later == Ok(()) && earlier == Ok(()));
     gets(&rt, &mut files, alloc, "map/7", b"seven");
     gets(&rt, &mut files, alloc, "map/far", b"far");
@@ -163,17 +181,46 @@ fn two_are_staged_at_once(rt: HostRuntime) -> Result<(), Fail> {
     Ok(())
 }
 
+/// The file of an earlier drawing, which was not put, is none of this one's.
 #[test]
-fn a_staged_file_that_is_gone_is_not_put(rt: HostRuntime) -> Result<(), Fail> {
+fn a_number_is_staged_anew(rt: HostRuntime) -> Result<(), Fail> {
+    let alloc = rt.alloc();
+    let _left_by_an_earlier_run = fs::remove_dir_all(&rt, "tiles");
+    let (staging, mut files) = (FileStaging::new(rt.clone()?), FileStore::new(rt.clone()?));
+    let _never_put = staged_as(&rt, &staging, alloc, 7, b"the longer one of an earlier run")?;
+    puts_staged(&rt, &staging, &mut files, alloc, "map/one", b"short")?;
+    fs::remove_dir_all(&rt, "tiles")?;
+    Ok(())
+}
+
+/// Where its staged file is gone the bytes are put all the same, in place of those before.
+#[test]
+fn bytes_whose_file_is_gone_are_put(rt: HostRuntime) -> Result<(), Fail> {
     let alloc = rt.alloc();
     let _left_by_an_earlier_run = fs::remove_dir_all(&rt, "tiles");
     let (staging, mut files) = (FileStaging::new(rt.clone()?), FileStore::new(rt.clone()?));
     assert_eq!(rt; files.put(alloc, "one", b"one"), Ok(()));
-    assert!(rt; staging.stage(alloc, 8, b"two"));
-    fs::remove_file(&rt, "tiles/8.new")?;
-    let answer = files.put_staged(alloc, "one", 8, b"two");
-    assert!(rt; answer == Err(StoreFault::Failed));
-    gets(&rt, &mut files, alloc, "one", b"one");
+    let staged = staged_as(&rt, &staging, alloc, 8, b"two")?;
+    fs::remove_file(&rt, "tiles/.new/8")?;
+    assert_eq!(rt; files.put_staged(alloc, "one", &staged), Ok(()));
+    gets(&rt, &mut files, alloc, "one", b"two");
+    fs::remove_dir_all(&rt, "tiles")?;
+    Ok(())
+}
+
+/// At a path that is a folder nothing is put, and the folder stays.
+#[test]
+fn a_staged_put_that_fails_is_told(rt: HostRuntime) -> Result<(), Fail> {
+    let alloc = rt.alloc();
+    let _left_by_an_earlier_run = fs::remove_dir_all(&rt, "tiles");
+    let (staging, mut files) = (FileStaging::new(rt.clone()?), FileStore::new(rt.clone()?));
+    assert_eq!(rt; files.put(alloc, "map/one", b"one"), Ok(()));
+    let staged = staged_as(&rt, &staging, alloc, 9, b"two")?;
+    let answer = files.put_staged(alloc, "map", &staged);
+    assert!(rt; answer == Err(StoreFault::Failed) && files.faults() == 1);
+    staging.clear(alloc, 9);
+    gets(&rt, &mut files, alloc, "map/one", b"one");
+    assert!(rt; is_missing(&rt, "tiles/.new/9") && is_missing(&rt, "tiles/map.new"));
     fs::remove_dir_all(&rt, "tiles")?;
     Ok(())
 }
@@ -185,7 +232,10 @@ fn a_staging_that_fails_is_told(rt: HostRuntime) -> Result<(), Fail> {
     let _left_by_an_earlier_run = fs::remove_dir_all(&rt, "tiles");
     fs::write(&rt, "tiles", b"a file")?;
     let staging = FileStaging::new(rt.clone()?);
-    assert!(rt; !staging.stage(alloc, 9, b"bytes"));
+    match stage_bytes(&staging, alloc, 9, Vec::from_slice(alloc, b"bytes")?) {
+        Ok(_) => assert!(rt; false, "nothing is staged"),
+        Err(back) => assert!(rt; back.as_slice() == b"bytes"),
+    }
     fs::remove_file(&rt, "tiles")?;
     Ok(())
 }

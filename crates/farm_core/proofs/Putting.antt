@@ -1,5 +1,5 @@
 -- The end of a drawing, from the memory that it took, its put, and what was done by the put's answer.
-use Rattle.std.proofs.Common.{◌≡◌, ℕ, Bool, not, List, Some, None, refl, sym, ap, ◌∙◌, subst}
+use Rattle.std.proofs.Common.{◌≡◌, ℕ, Bool, true, false, not, List, Some, None, refl, sym, ap, ◌∙◌, subst}
 use Rattle.std.specs.Prelude.{Result, Ok, Err, if◌then◌else◌}
 use Rattle.farm_base.specs.Outside.{Outside}
 use Rattle.tile_store.specs.declared.stores.StoreFault.{StoreFault}
@@ -12,10 +12,11 @@ use Rattle.farm_history.specs.Plans.{same_key}
 use Rattle.render_queues.specs.Tables.{after_end}
 use Rattle.expiry_lists.specs.Marks.{mark_of}
 use Rattle.farm_plan.specs.Drawings.{key_path}
-use Rattle.farm_plan.specs.Jobs.{JobSeen, job_key}
+use Rattle.farm_plan.specs.Jobs.{JobSeen, job_key, job_text}
 use Rattle.farm_refinement.specs.Seen.{FarmSeen}
 use Rattle.farm_refinement.specs.inner.Events.{stale_tables, untaken}
-use Rattle.farm_core.specs.Answers.{PutsBytes}
+use Rattle.farm_core.specs.declared.finishes.Drawn.{Drawn}
+use Rattle.farm_core.specs.Answers.{IsDrawingOf, PutsBytes, PutsDrawing, drawn_bytes, is_drawn}
 use Rattle.farm_core.specs.inner.Effects.{EndsPut, Keeps, finished_by, one_stored, turn}
 
 module _ {D : Type 0} (state : D → Outside StoreTold) where
@@ -72,3 +73,22 @@ module _ {D : Type 0} (state : D → Outside StoreTold) (old new : FarmSeen D) (
       puts_released answer
       (subst (λ (x : Key). Keeps state released new x version touched bytes answer) key_is
       (subst (λ (f : FarmSeen D). Keeps state f new key version touched bytes answer) mid_is k))
+
+-- a drawing whose bytes are at hand is its job's container
+pub drawn_text : (job : JobSeen) (drawn : Drawn) → is_drawn drawn ≡ true → IsDrawingOf job drawn → drawn_bytes drawn ≡ job_text job
+drawn_text job (Drawn.Bytes bytes) is d = d
+drawn_text job (Drawn.Staged staged) is d = d.0
+drawn_text job Drawn.NoMemory is d = let wrong : false ≡ true = is in cc
+
+module _ {D : Type 0} (state : D → Outside StoreTold) (old new : FarmSeen D) (job : JobSeen) where
+  -- what the end of a drawing puts is its bytes
+  pub puts_drawn : (drawn : Drawn) (answer : Finished) → is_drawn drawn ≡ true → PutsBytes state old new job (drawn_bytes drawn) answer → PutsDrawing state old new job drawn answer
+  puts_drawn (Drawn.Bytes bytes) answer is p = p
+  puts_drawn (Drawn.Staged staged) answer is p = p
+  puts_drawn Drawn.NoMemory answer is p = let wrong : false ≡ true = is in cc
+
+  -- and without a drawing nothing is put
+  pub puts_none : (drawn : Drawn) (answer : Finished) → is_drawn drawn ≡ false → state new.store ≡ state old.store → PutsDrawing state old new job drawn answer
+  puts_none (Drawn.Bytes bytes) answer is p = let wrong : true ≡ false = is in cc
+  puts_none (Drawn.Staged staged) answer is p = let wrong : true ≡ false = is in cc
+  puts_none Drawn.NoMemory answer is p = p

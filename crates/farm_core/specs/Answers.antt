@@ -1,5 +1,5 @@
 -- How a history names the farm's answers, and what no event changes of a farm.
-use Rattle.std.specs.Prelude.{ℕ, ◌≡◌, Bool, true, false, List, Option, Some, None, Result, Ok, Err, option_map}
+use Rattle.std.specs.Prelude.{ℕ, ◌≡◌, Bool, true, false, List, [], Option, Some, None, Result, Ok, Err, option_map}
 use Rattle.farm_base.specs.Outside.{Outside}
 use Rattle.tile_store.specs.declared.stores.StoreFault.TheVariants.{Failed}
 use Rattle.tile_store.specs.Stores.{StoreTold, StorePuts}
@@ -33,13 +33,19 @@ IfJob _ holds = Unit {0}
 -- whether something was drawn
 abbrev pub is_drawn : Drawn → Bool
 is_drawn (Drawn.Bytes bytes) = true
-is_drawn (Drawn.Staged bytes) = true
+is_drawn (Drawn.Staged staged) = true
 is_drawn Drawn.NoMemory = false
 
--- what was drawn is the job's container
+-- the bytes that were drawn, if any were
+abbrev pub drawn_bytes : Drawn → List ℕ
+drawn_bytes (Drawn.Bytes bytes) = bytes.items
+drawn_bytes (Drawn.Staged staged) = staged.bytes
+drawn_bytes Drawn.NoMemory = []
+
+-- what was drawn is the job's container; where it was staged, under the job's ticket, which no other job has
 abbrev pub IsDrawingOf : JobSeen → Drawn → Type 0
 IsDrawingOf job (Drawn.Bytes bytes) = bytes.items ≡ job_text job
-IsDrawingOf job (Drawn.Staged bytes) = bytes.items ≡ job_text job
+IsDrawingOf job (Drawn.Staged staged) = (staged.bytes ≡ job_text job) × (staged.number ≡ job.ticket)
 IsDrawingOf job Drawn.NoMemory = Unit {0}
 
 -- what the store tells that it holds at the path of a saved farm
@@ -62,7 +68,7 @@ PutsBytes state old new job bytes Finished.NoMemory = state new.store ≡ state 
 -- What the end of a drawing does to the store, by what was drawn; without a drawing the store is as it was
 abbrev pub PutsDrawing : {D : Type 0} → (D → Outside StoreTold) → FarmSeen D → FarmSeen D → JobSeen → Drawn → Finished → Type 0
 PutsDrawing state old new job (Drawn.Bytes bytes) answer = PutsBytes state old new job bytes.items answer
-PutsDrawing state old new job (Drawn.Staged bytes) answer = PutsBytes state old new job bytes.items answer
+PutsDrawing state old new job (Drawn.Staged staged) answer = PutsBytes state old new job staged.bytes answer
 PutsDrawing state old new job Drawn.NoMemory answer = state new.store ≡ state old.store
 
 -- What a fetch of the spot read and is answered, by whether the spot can be served and by the mark of its metatile. With a mark the tile at the spot's place was read, of the container at the metatile's path, from the store as it was; without, nothing was read, and the store is as it was

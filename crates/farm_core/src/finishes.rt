@@ -10,7 +10,7 @@ ghost use Rattle.render_jobs.specs.Shared.{ShareSeen};
 ghost use Rattle.farm_core.specs.inner.Effects.{EndsPut, IsTaken, Keeps, MarksBut, finished_by, one_stored};
 ghost use Rattle.farm_refinement.specs.inner.Events.{stale_tables, taken_at, untaken};
 ghost use Rattle.farm_history.specs.Entries.{Entry, Finish};
-ghost use Rattle.farm_core.specs.Answers.{IsDrawingOf, Lasts, PutsBytes, PutsDrawing, is_drawn};
+ghost use Rattle.farm_core.specs.Answers.{IsDrawingOf, Lasts, PutsBytes, PutsDrawing, drawn_bytes, is_drawn};
 ghost use Rattle.farm_plan.specs.Jobs.{IsFlight, job_text};
 ghost use Rattle.farm_refinement.specs.Stands.{StandsFor};
 
@@ -20,7 +20,7 @@ use farm_plan::{Finished, Key, Outcome, Queue};
 use render_jobs::{Job, Share, drop_taken, taken_of};
 use render_queues::Queues;
 use std::alloc::Global;
-use tile_store::{StoreFault, TileStore};
+use tile_store::{Staged, StoreFault, TileStore};
 
 /// What a worker hands back of a job.
 #[derive(Drop)]
@@ -28,9 +28,20 @@ pub enum Drawn {
     /// The metatile's container.
     Bytes(Vec<u8>),
     /// The metatile's container, which was staged for the store under the drawing's ticket.
-    Staged(Vec<u8>),
+    Staged(Staged),
     /// There was no memory for it.
     NoMemory,
+}
+
+/// Whether something was drawn.
+fn is_drawn(drawn: &Drawn) -> bool
+    ensures { result ≡ is_drawn drawn.now }
+{
+    match drawn {
+        Drawn::Bytes(_) => true,
+        Drawn::Staged(_) => true,
+        Drawn::NoMemory => false,
+    }
 }
 
 /// Puts a share back, where it is of the newest data, and lets it go otherwise.
@@ -144,22 +155,17 @@ impl<D> Farm<D> {
 }
 
 impl<D: TileStore> Farm<D> {
-    /// Puts a metatile's container at its path, by what was staged under the number, if one is given.
-    fn put(
-        &mut self,
-        alloc: Global,
-        key: Key,
-        staged: Option<u64>,
-        bytes: &[u8],
-    ) -> Result<(), StoreFault>
+    /// Puts what was drawn at its metatile's path; without a drawing there was no memory.
+    fn put(&mut self, alloc: Global, key: Key, drawn: &Drawn) -> Result<(), StoreFault>
         requires { IsKeyOf self.old.plan key }
-        ensures store { StorePuts (D.state self.old.store) (D.state self.new.store) (key_path self.old.plan key) bytes.now result }
+        ensures store { StorePuts (D.state self.old.store) (D.state self.new.store) (key_path self.old.plan key) (drawn_bytes drawn.now) result }
         ensures farm { self.new ≡ record self.old { store = self.new.store } }
     {
         let path = self.own.setup().path(key);
-        match staged {
-            Some(number) => self.store.put_staged(alloc, path.as_str(), number, bytes),
-            None => self.store.put(alloc, path.as_str(), bytes),
+        match drawn {
+            Drawn::Bytes(bytes) => self.store.put(alloc, path.as_str(), bytes.as_slice()),
+            Drawn::Staged(staged) => self.store.put_staged(alloc, path.as_str(), staged),
+            Drawn::NoMemory => Err(StoreFault::NoMemory),
         }
     }
 
@@ -170,45 +176,38 @@ impl<D: TileStore> Farm<D> {
         key: Key,
         version: u64,
         touched: bool,
-        staged: Option<u64>,
-        bytes: &[u8],
+        drawn: &Drawn,
     ) -> Finished
         requires key { IsKeyOf self.old.plan key }
         requires taken { is_in key self.old.queues.taken ≡ true }
         requires more { self.old.counts.stored < self.old.counts.turns }
-        ensures { Keeps D.state self.old self.new key version touched bytes.now result }
+        ensures { Keeps D.state self.old self.new key version touched (drawn_bytes drawn.now) result }
     {
         if self.reserve().is_err() {
             self.cut(key);
             return Finished::NoMemory;
         }
-        let put = self.put(alloc, key, staged, bytes);
+        let put = self.put(alloc, key, drawn);
         self.end_put(key, version, touched, put)
     }
 }
 
 impl<D: TileStore> Farm<D> {
-    /// The end of a drawing of these bytes.
-    fn finish_bytes(
-        &mut self,
-        alloc: Global,
-        job: Job,
-        staged: Option<u64>,
-        bytes: &[u8],
-    ) -> Finished
+    /// The end of a drawing whose bytes are at hand.
+    fn finish_drawn(&mut self, alloc: Global, job: Job, drawn: &Drawn) -> Finished
         requires turns { self.old.counts.turns < 2 ^ 63 }
         requires flight { (store_tells : Bool) × (h : List Entry) × StandsFor D.state store_tells self.old h × IsFlight self.old.plan h job }
-        requires drawing { bytes.now ≡ job_text job }
+        requires drawing { drawn_bytes drawn.now ≡ job_text job }
         ensures step { (store_tells : Bool) (h : List Entry) → StandsFor D.state store_tells self.old h → IsFlight self.old.plan h job
             → StandsFor D.state store_tells self.new (Finish job.ticket true result ∷ h) }
         ensures kept { Lasts D.state self.old self.new }
-        ensures puts { PutsBytes D.state self.old self.new job bytes.now result }
+        ensures puts { PutsBytes D.state self.old self.new job (drawn_bytes drawn.now) result }
     {
         self.count_turn();
         let key = job.key();
         let version = job.version;
         let touched = self.release(job);
-        self.keep(alloc, key, version, touched, staged, bytes)
+        self.keep(alloc, key, version, touched, drawn)
     }
 
     /// The end of a drawing for which a worker had no memory.
@@ -246,13 +245,10 @@ impl<D: TileStore> Farm<D> {
         ensures kept { Lasts D.state self.old self.new }
         ensures puts { PutsDrawing D.state self.old self.new job drawn result }
     {
-        match drawn {
-            Drawn::Bytes(bytes) => self.finish_bytes(alloc, job, None, bytes.as_slice()),
-            Drawn::Staged(bytes) => {
-                let ticket = job.ticket;
-                self.finish_bytes(alloc, job, Some(ticket), bytes.as_slice())
-            }
-            Drawn::NoMemory => self.finish_none(job),
+        if is_drawn(&drawn) {
+            self.finish_drawn(alloc, job, &drawn)
+        } else {
+            self.finish_none(job)
         }
     }
 }

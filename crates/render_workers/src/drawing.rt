@@ -7,7 +7,7 @@ use farm_base::NoMemory;
 use farm_core::{Drawn, Job};
 use meta_drawing::{PictureBuffer, draw_job_on};
 use std::alloc::Global;
-use tile_store::Stage;
+use tile_store::{Stage, stage_bytes};
 
 /// What is handed back of a job: the container of its metatile, or that there was no memory for it.
 pub fn draw(picture_buffer: &mut PictureBuffer, job: &Job) -> Drawn
@@ -26,13 +26,10 @@ pub(crate) fn stage<G: Stage>(gate: &G, alloc: Global, job: &Job, drawn: Drawn) 
     ensures { IsDrawingOf job.now result }
 {
     match drawn {
-        Drawn::Bytes(bytes) => {
-            if gate.stage(alloc, job.ticket, bytes.as_slice()) {
-                Drawn::Staged(bytes)
-            } else {
-                Drawn::Bytes(bytes)
-            }
-        }
+        Drawn::Bytes(bytes) => match stage_bytes(gate, alloc, job.ticket, bytes) {
+            Ok(staged) => Drawn::Staged(staged),
+            Err(bytes) => Drawn::Bytes(bytes),
+        },
         other => other,
     }
 }

@@ -75,7 +75,7 @@ impl<'a, R: Clock> Gate for HoldGate<'a, R> {
 }
 
 impl<'a, R: Clock> Stage for HoldGate<'a, R> {
-    fn stage(&self, _alloc: Global, _number: u64, _bytes: &[u8]) -> bool {
+    fn write(&self, _alloc: Global, _number: u64, _bytes: &[u8]) -> bool {
         false
     }
 

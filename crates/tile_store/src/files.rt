@@ -9,7 +9,8 @@ ghost use Rattle.tile_store.specs.inner.Counts.{Counts};
 ghost use Rattle.tile_store.specs.Files as spec;
 ghost use Rattle.tile_store.specs.Files.{is_own_path};
 
-use crate::stores::{Stage, StoreFault, TileStore};
+use crate::staging::{Stage, Staged};
+use crate::stores::{StoreFault, TileStore};
 use farm_base::{Gate, MOST_FILE_BYTES, read_to_end};
 use std::alloc::Global;
 use std::fs::{self, OpenFile};
@@ -24,21 +25,75 @@ use std::rt;
 /// is empty, `.` or `..` or ends in `.new` are not taken: every call with one is Failed. So is what the
 /// system refuses, as a path that is a folder or lies below a file.
 ///
-/// What is staged under the number N is in `tiles/N.new`. A put of it renames the path's file to `tiles/N.old.new`,
+/// What is staged under the number N is in `tiles/.new/N`. A put of it renames the path's file to `tiles/.new/N.old`,
 /// if there is one, and then the written file to the path: between the two the path has no file. A rename over a
-/// file would make some file systems (ext4) write the whole file out at once. A clear removes both.
+/// file would make some file systems (ext4) write the whole file out at once. Where they cannot be renamed, as where
+/// the path lies on another disk, the bytes are put as by `put`. A clear removes both.
+///
+/// The file whose beginning was read last stays open until the next part is read or something is put, so that a further part
+/// of it is of the same file, and is read without opening it anew.
 #[derive(Drop)]
-pub struct FileStore<R> {
+pub struct FileStore<R: rt::Files> {
     rt: R,
     faults: u64,
+    begun: Option<Opened<R::File>>,
 }
 
-impl<R> FileStore<R> {
+/// A file that was opened, its name and its length.
+#[derive(Drop)]
+struct Opened<F> {
+    name: String,
+    file: F,
+    length: u64,
+}
+
+impl<R: rt::Files> FileStore<R> {
     /// The store in the files that this runtime reaches; takes no memory.
     pub fn new(rt: R) -> FileStore<R>
         ensures { result.faults ≡ 0 }
     {
-        FileStore { rt, faults: 0 }
+        FileStore {
+            rt,
+            faults: 0,
+            begun: None,
+        }
+    }
+
+    /// The file of this name: the one whose beginning was read last, where a further part is to be read of it.
+    fn opened(
+        &mut self,
+        name: String,
+        is_further: bool,
+    ) -> Result<Option<Opened<R::File>>, StoreFault>
+        ensures { self.new.faults ≡ self.old.faults }
+    {
+        match self.begun.take() {
+            Some(begun) if is_further && begun.name == name => Ok(Some(begun)),
+            _ => open(&self.rt, name),
+        }
+    }
+
+    /// The bytes of the path's file from the offset on, at most `len` of them.
+    fn read_part(
+        &mut self,
+        alloc: Global,
+        path: &str,
+        offset: u64,
+        len: u32,
+    ) -> Result<Option<Vec<u8>>, StoreFault>
+        ensures short { IfOk result (λ found. IfSome found (λ v. length v.items ≤ len)) }
+        ensures taken { is_own_path path.now ≡ false → result ≡ Err Failed }
+        ensures faults { self.new.faults ≡ self.old.faults }
+    {
+        let name = name_of(alloc, path)?;
+        let Some(mut opened) = self.opened(name, offset > 0)? else {
+            return Ok(None);
+        };
+        let bytes = part_of(alloc, &mut opened, offset, len)?;
+        if offset == 0 {
+            self.begun = Some(opened);
+        }
+        Ok(Some(bytes))
     }
 
     /// Counts the fault of a call that failed.
@@ -71,7 +126,7 @@ impl<R> Gate for FileStaging<R> {
 }
 
 impl<R: rt::Files> Stage for FileStaging<R> {
-    fn stage(&self, alloc: Global, number: u64, bytes: &[u8]) -> bool {
+    fn write(&self, alloc: Global, number: u64, bytes: &[u8]) -> bool {
         write_staged(alloc, &self.rt, number, bytes).is_ok()
     }
 
@@ -92,23 +147,18 @@ impl<R: rt::Files> TileStore for FileStore<R> {
         ensures state { StorePuts (untold self.old.faults) (untold self.new.faults) path.now bytes.now result }
         ensures taken { is_own_path path.now ≡ false → result ≡ Err Failed }
     {
+        self.begun = None;
         let answer = write_beside(alloc, &self.rt, path, bytes);
         self.counted(answer)
     }
 
     /// Makes the staged file the path's; Failed also for a path that is not taken.
-    fn put_staged(
-        &mut self,
-        alloc: Global,
-        path: &str,
-        number: u64,
-        bytes: &[u8],
-    ) -> Result<(), StoreFault>
-        ensures state { StorePuts (untold self.old.faults) (untold self.new.faults) path.now bytes.now result }
+    fn put_staged(&mut self, alloc: Global, path: &str, staged: &Staged) -> Result<(), StoreFault>
+        ensures state { StorePuts (untold self.old.faults) (untold self.new.faults) path.now staged.now.bytes result }
         ensures taken { is_own_path path.now ≡ false → result ≡ Err Failed }
     {
-        let _written = bytes;
-        let answer = move_staged(alloc, &self.rt, path, number);
+        self.begun = None;
+        let answer = take_staged(alloc, &self.rt, path, staged);
         self.counted(answer)
     }
 
@@ -135,7 +185,7 @@ impl<R: rt::Files> TileStore for FileStore<R> {
         ensures short { IfOk result (λ found. IfSome found (λ v. length v.items ≤ len)) }
         ensures taken { is_own_path path.now ≡ false → result ≡ Err Failed }
     {
-        let answer = read_part(alloc, &self.rt, path, offset, len);
+        let answer = self.read_part(alloc, path, offset, len);
         self.counted(answer)
     }
 
@@ -204,14 +254,17 @@ fn replace<R: rt::Files>(files: &R, name: &str, beside: &str, bytes: &[u8]) -> i
     fs::rename(files, beside, name)
 }
 
+/// The folder of what is staged, which no path leads to, nor a file beside one.
+const STAGED: &str = "tiles/.new";
+
 /// The name of the file in which the bytes of the number are staged.
 fn staged_name(alloc: Global, number: u64) -> Result<String, StoreFault> {
-    Ok(format!(in alloc; "tiles/{number}.new")?)
+    Ok(format!(in alloc; "{STAGED}/{number}")?)
 }
 
 /// The name of the file that the staged one of the number replaced.
 fn replaced_name(alloc: Global, number: u64) -> Result<String, StoreFault> {
-    Ok(format!(in alloc; "tiles/{number}.old.new")?)
+    Ok(format!(in alloc; "{STAGED}/{number}.old")?)
 }
 
 /// Writes the bytes to the file of the number, which is removed where that fails.
@@ -222,7 +275,7 @@ fn write_staged<R: rt::Files>(
     bytes: &[u8],
 ) -> Result<(), StoreFault> {
     let name = staged_name(alloc, number)?;
-    fs::create_dir_all(files, "tiles").map_err(|e| fault(&e))?;
+    fs::create_dir_all(files, STAGED).map_err(|e| fault(&e))?;
     let written = fs::write(files, name.as_str(), bytes);
     if written.is_err() {
         let _was_there = fs::remove_file(files, name.as_str());
@@ -248,24 +301,42 @@ fn set_aside<R: rt::Files>(files: &R, name: &str, aside: &str) -> Result<bool, S
     }
 }
 
-/// Makes the file of the number the path's. Where that fails the path has the file that it had.
-fn move_staged<R: rt::Files>(
+/// Makes the written file that of the name, and answers whether it did; where not, all is as before. Failed where
+/// the file of the name was set aside and could not be put back.
+fn exchange<R: rt::Files>(
+    files: &R,
+    name: &str,
+    written: &str,
+    aside: &str,
+) -> Result<bool, StoreFault> {
+    let Ok(was_there) = set_aside(files, name, aside) else {
+        return Ok(false);
+    };
+    if fs::rename(files, written, name).is_ok() {
+        return Ok(true);
+    }
+    if was_there && fs::rename(files, aside, name).is_err() {
+        return Err(StoreFault::Failed);
+    }
+    Ok(false)
+}
+
+/// Makes the staged file the path's, or else writes its bytes as a put does.
+fn take_staged<R: rt::Files>(
     alloc: Global,
     files: &R,
     path: &str,
-    number: u64,
+    staged: &Staged,
 ) -> Result<(), StoreFault>
     ensures { is_own_path path.now ≡ false → result ≡ Err Failed }
 {
     let name = name_of(alloc, path)?;
-    let staged = staged_name(alloc, number)?;
-    let replaced = replaced_name(alloc, number)?;
-    let was_there = set_aside(files, name.as_str(), replaced.as_str())?;
-    let moved = fs::rename(files, staged.as_str(), name.as_str());
-    if moved.is_err() && was_there {
-        let _is_back = fs::rename(files, replaced.as_str(), name.as_str());
+    let written = staged_name(alloc, staged.number())?;
+    let aside = replaced_name(alloc, staged.number())?;
+    if exchange(files, name.as_str(), written.as_str(), aside.as_str())? {
+        return Ok(());
     }
-    moved.map_err(|e| fault(&e))
+    write_beside(alloc, files, path, staged.bytes())
 }
 
 /// Removes the files of the number, where they are.
@@ -277,15 +348,8 @@ fn clear_staged<R: rt::Files>(alloc: Global, files: &R, number: u64) -> Result<(
     Ok(())
 }
 
-/// The file of the path and its length; `None` where there is nothing, and Failed where there is a folder.
-fn open<R: rt::Files>(
-    alloc: Global,
-    files: &R,
-    path: &str,
-) -> Result<Option<(R::File, u64)>, StoreFault>
-    ensures { is_own_path path.now ≡ false → result ≡ Err Failed }
-{
-    let name = name_of(alloc, path)?;
+/// The file of the name; `None` where there is nothing, and Failed where there is a folder.
+fn open<R: rt::Files>(files: &R, name: String) -> Result<Option<Opened<R::File>>, StoreFault> {
     let file = match fs::open(files, name.as_str()) {
         Ok(file) => file,
         Err(error) if error.kind() == io::ErrorKind::NotFound => return Ok(None),
@@ -295,7 +359,8 @@ fn open<R: rt::Files>(
     if about.is_dir() {
         return Err(StoreFault::Failed);
     }
-    Ok(Some((file, about.len())))
+    let length = about.len();
+    Ok(Some(Opened { name, file, length }))
 }
 
 /// The bytes of the path's file.
@@ -307,33 +372,30 @@ fn read_whole<R: rt::Files>(
     ensures short { IfOk result (λ found. IfSome found (λ v. length v.items ≤ most_file_bytes)) }
     ensures taken { is_own_path path.now ≡ false → result ≡ Err Failed }
 {
-    let Some((file, _length)) = open(alloc, files, path)? else {
+    let name = name_of(alloc, path)?;
+    let Some(opened) = open(files, name)? else {
         return Ok(None);
     };
-    Ok(Some(read_to_end(alloc, file, MOST_FILE_BYTES)?))
+    Ok(Some(read_to_end(alloc, opened.file, MOST_FILE_BYTES)?))
 }
 
-/// The bytes of the path's file from the offset on, at most `len` of them. How many there are is known when
-/// it is opened, so that they are read at once, into a vector that does not grow.
-fn read_part<R: rt::Files>(
+/// The bytes of the file from the offset on, at most `len` of them. How many there are is known since it was
+/// opened, so that they are read at once, into a vector that does not grow.
+fn part_of<F: Read + Seek>(
     alloc: Global,
-    files: &R,
-    path: &str,
+    opened: &mut Opened<F>,
     offset: u64,
     len: u32,
-) -> Result<Option<Vec<u8>>, StoreFault>
-    ensures short { IfOk result (λ found. IfSome found (λ v. length v.items ≤ len)) }
-    ensures taken { is_own_path path.now ≡ false → result ≡ Err Failed }
+) -> Result<Vec<u8>, StoreFault>
+    ensures { IfOk result (λ v. length v.items ≤ len) }
 {
-    let Some((mut file, length)) = open(alloc, files, path)? else {
-        return Ok(None);
-    };
-    let room = length.saturating_sub(offset).min(u64::from(len));
+    let room = opened.length.saturating_sub(offset).min(u64::from(len));
     let mut bytes = vec![in alloc; 0; room as usize]?;
     if room > 0 {
+        let file = &mut opened.file;
         file.seek(SeekFrom::Start(offset)).map_err(|e| fault(&e))?;
         file.read_exact(bytes.as_mut_slice())
             .map_err(|e| fault(&e))?;
     }
-    Ok(Some(bytes))
+    Ok(bytes)
 }

@@ -4,8 +4,10 @@
 
 mod files;
 mod memory;
+mod staging;
 mod stores;
 
 pub use files::{FileStaging, FileStore};
 pub use memory::MemStore;
-pub use stores::{Stage, StoreFault, TileStore};
+pub use staging::{Stage, Staged, stage_bytes};
+pub use stores::{StoreFault, TileStore};

@@ -7,6 +7,7 @@ ghost use Rattle.tile_store.specs.declared.stores.StoreFault.TheVariants.{Failed
 ghost use Rattle.tile_store.specs.Stores.{StorePuts, Gets, whole, part, failed_put, failed_get};
 ghost use Rattle.tile_store.specs.Held.{store_state, with_content, put_fails, get_fails, half, PutsHeld, GetsHeld};
 
+use crate::staging::Staged;
 use crate::stores::{StoreFault, TileStore};
 use farm_base::{Bytes, FailedCall, NoMemory, Text};
 use std::alloc::Global;
@@ -195,17 +196,11 @@ impl TileStore for MemStore {
     }
 
     /// As the trait says, and exactly as `put`.
-    fn put_staged(
-        &mut self,
-        alloc: Global,
-        path: &str,
-        _number: u64,
-        bytes: &[u8],
-    ) -> Result<(), StoreFault>
-        ensures state { StorePuts (store_state self.old) (store_state self.new) path.now bytes.now result }
-        ensures exact { PutsHeld self.old self.new path.now bytes.now result }
+    fn put_staged(&mut self, alloc: Global, path: &str, staged: &Staged) -> Result<(), StoreFault>
+        ensures state { StorePuts (store_state self.old) (store_state self.new) path.now staged.now.bytes result }
+        ensures exact { PutsHeld self.old self.new path.now staged.now.bytes result }
     {
-        self.put(alloc, path, bytes)
+        self.put(alloc, path, staged.bytes())
     }
 
     /// As the trait says, and exactly: it fails where its number is in the list.

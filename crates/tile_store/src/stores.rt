@@ -3,7 +3,8 @@ ghost use Rattle.std.specs.Prelude.{◌≡◌, ◌≤◌, ℕ, length, Option, I
 ghost use Rattle.farm_base.specs.Outside.{Outside};
 ghost use Rattle.tile_store.specs.Stores.{StoreTold, StorePuts, Gets, whole, part};
 
-use farm_base::{FileFault, Gate, NoMemory, OpenGate};
+use crate::staging::Staged;
+use farm_base::{FileFault, NoMemory};
 use std::alloc::{AllocError, AllocFailed, Global};
 
 /// Why a call on a store gave no answer.
@@ -54,28 +55,6 @@ impl<T: Drop> From<AllocFailed<T>> for StoreFault {
     }
 }
 
-/// Who writes long bytes beside what a store holds before they are put, while somebody else has the store: the gate
-/// that workers pass. It changes nothing that the store holds.
-///
-/// It is no type of the store's own: the checker covers no threads over a generic store that has one.
-pub trait Stage: Gate {
-    /// Writes bytes that are to be put, under a number that nothing else has that was staged and not cleared;
-    /// answers whether it did.
-    fn stage(&self, alloc: Global, number: u64, bytes: &[u8]) -> bool;
-
-    /// Removes what a staging under the number has left, whether it was put or not.
-    fn clear(&self, alloc: Global, number: u64);
-}
-
-impl Stage for OpenGate {
-    /// Nothing is staged.
-    fn stage(&self, _alloc: Global, _number: u64, _bytes: &[u8]) -> bool {
-        false
-    }
-
-    fn clear(&self, _alloc: Global, _number: u64) {}
-}
-
 /// A store of bytes under paths. Where a store tells, contracts know what each path holds and which
 /// calls failed so far; a real store does not tell. No call changes whether it tells.
 pub trait TileStore {
@@ -88,15 +67,9 @@ pub trait TileStore {
     fn put(&mut self, alloc: Global, path: &str, bytes: &[u8]) -> Result<(), StoreFault>
         ensures { StorePuts (state self.old) (state self.new) path.now bytes.now result };
 
-    /// As `put`, of bytes that were staged for the store under the number and not put yet.
-    fn put_staged(
-        &mut self,
-        alloc: Global,
-        path: &str,
-        number: u64,
-        bytes: &[u8],
-    ) -> Result<(), StoreFault>
-        ensures { StorePuts (state self.old) (state self.new) path.now bytes.now result };
+    /// As `put`, of bytes that were staged for the store and not put yet.
+    fn put_staged(&mut self, alloc: Global, path: &str, staged: &Staged) -> Result<(), StoreFault>
+        ensures { StorePuts (state self.old) (state self.new) path.now staged.now.bytes result };
 
     /// The bytes that the path holds; `None` exactly where it holds nothing. Changes no content. Failed
     /// comes only where the count of faults rose in this call.

@@ -1,6 +1,6 @@
 //! A store that keeps nothing.
 use std::alloc::Global;
-use tile_store::{StoreFault, TileStore};
+use tile_store::{Staged, StoreFault, TileStore};
 
 /// A store that takes each put and holds nothing of it, so that no time of a store is measured.
 #[derive(Drop)]
@@ -21,8 +21,7 @@ impl TileStore for NoStore {
         &mut self,
         _alloc: Global,
         _path: &str,
-        _number: u64,
-        _bytes: &[u8],
+        _staged: &Staged,
     ) -> Result<(), StoreFault> {
         Ok(())
     }

@@ -12,12 +12,9 @@ use Rattle.farm_refinement.specs.Seen.{FarmSeen}
 use Rattle.farm_plan.specs.Jobs.{JobSeen, job_key}
 use Rattle.farm_refinement.specs.Stands.{StandsFor}
 use Rattle.farm_refinement.specs.inner.Events.{taken_at, untaken}
-use Rattle.farm_core.specs.declared.finishes.Drawn.{Drawn}
-use Rattle.farm_core.specs.Answers.{IsDrawingOf, PutsDrawing, is_drawn}
 use Rattle.farm_core.specs.inner.Effects.{IsTaken, Keeps, turn}
 use Rattle.farm_core.proofs.Flown.{flight_taken, flight_of_plan, flight_stands, taken_turned}
 use Rattle.farm_core.proofs.Lasting.{lasts_as, lasts_kept, lasts_on}
-use Rattle.farm_core.proofs.Putting.{puts_drawing}
 use Rattle.farm_core.proofs.Told.{finish_kept, finish_cut}
 use Rattle.farm_core.proofs.farm.Farm.finish_none.Goals as goal
 
