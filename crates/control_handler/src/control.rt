@@ -4,7 +4,7 @@ use crate::hearing::{ConnState, hear_piece};
 use expiry_lists::TileList;
 use farm_base::Worn;
 use farm_history::Reply;
-use front_loop::{Disposition, Farm, Front};
+use front_loop::{Context, Disposition, Farm, Front};
 use std::alloc::Global;
 use std::sync::Wait;
 
@@ -43,34 +43,19 @@ impl<'a, M: Farm> Front<M> for Control<'a> {
     }
 
     fn hear<R: Wait>(
-        &self,
-        rt: &R,
-        alloc: Global,
-        farm: &M,
+        context: &Context<'_, R, M, Control<'a>>,
         seat: &mut M::Seat,
         _conn: u32,
         conn_state: &mut ConnState,
         piece: &[u8],
         response: &mut Vec<u8>,
     ) -> Result<Disposition, Worn> {
-        hear_piece(
-            rt,
-            alloc,
-            farm,
-            seat,
-            self.lists,
-            &mut conn_state.part,
-            piece,
-            response,
-        )
+        hear_piece(context, seat, &mut conn_state.part, piece, response)
     }
 
     /// No ask is made, so no reply is for this front.
     fn reply<R: Wait>(
-        &self,
-        _rt: &R,
-        _alloc: Global,
-        _farm: &M,
+        _context: &Context<'_, R, M, Control<'a>>,
         _seat: &mut M::Seat,
         _conn_state: &mut ConnState,
         _reply: Reply,

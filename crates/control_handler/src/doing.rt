@@ -12,12 +12,12 @@ ghost use Rattle.control_handler.specs.declared.acts.Line.TheVariants as line_is
 
 use crate::acts::Line;
 use crate::answers::{say, say_expired, say_renew, say_restyle, say_tally, say_update};
+use crate::control::Control;
 use crate::expiring::expire_all;
 use expiry_lists::TileList;
 use farm_base::Worn;
-use front_loop::{Disposition, Farm};
+use front_loop::{Context, Disposition, Farm};
 use plain_world::Tile;
-use std::alloc::Global;
 use std::sync::Wait;
 
 /// The tiles of the list of this number.
@@ -33,28 +33,25 @@ fn list_at(lists: &[TileList], number: u32) -> Option<&[Tile]>
 
 /// One Expire for each tile of the list, if there is one of that number.
 fn do_expire<R: Wait, M: Farm>(
-    rt: &R,
-    alloc: Global,
-    farm: &M,
+    context: &Context<'_, R, M, Control<'_>>,
     seat: &mut M::Seat,
-    lists: &[TileList],
     number: u32,
     response: &mut Vec<u8>,
 ) -> Result<Disposition, Worn>
-    requires { (M.seats farm.now).is_seat seat.old }
-    ensures seat { SameSeat (M.seats farm.now) seat.old seat.new }
-    ensures worn { OnErr result ((M.seats farm.now).worn seat.new ≡ true) }
+    requires { (M.seats context.now.farm.now).is_seat seat.old }
+    ensures seat { SameSeat (M.seats context.now.farm.now) seat.old seat.new }
+    ensures worn { OnErr result ((M.seats context.now.farm.now).worn seat.new ≡ true) }
     ensures did { (front : ℕ) (c : ℕ)
-        → Did front lists.now c (line_is.Expire number ∷ []) ((M.seats farm.now).mine seat.old)
-        ((M.seats farm.now).mine seat.new) response.old.items response.new.items (disposition_of result) }
+        → Did front context.now.front.now.lists.now c (line_is.Expire number ∷ []) ((M.seats context.now.farm.now).mine seat.old)
+        ((M.seats context.now.farm.now).mine seat.new) response.old.items response.new.items (disposition_of result) }
 {
-    let Some(tiles) = list_at(lists, number) else {
+    let Some(tiles) = list_at(context.front.lists, number) else {
         return Ok(say(response, "no list\n"));
     };
-    let Ok(total) = expire_all(rt, farm, seat, tiles) else {
+    let Ok(total) = expire_all(context.rt, context.farm, seat, tiles) else {
         return Err(Worn);
     };
-    Ok(say_expired(alloc, total, response))
+    Ok(say_expired(context.alloc, total, response))
 }
 
 /// A line that is none.
@@ -68,49 +65,46 @@ pub fn do_bad(response: &mut Vec<u8>) -> Disposition
 
 /// Does what a line asks for, and says the answer.
 pub fn do_line<R: Wait, M: Farm>(
-    rt: &R,
-    alloc: Global,
-    farm: &M,
+    context: &Context<'_, R, M, Control<'_>>,
     seat: &mut M::Seat,
-    lists: &[TileList],
     line: Line,
     response: &mut Vec<u8>,
 ) -> Result<Disposition, Worn>
-    requires { (M.seats farm.now).is_seat seat.old }
-    ensures seat { SameSeat (M.seats farm.now) seat.old seat.new }
-    ensures worn { OnErr result ((M.seats farm.now).worn seat.new ≡ true) }
+    requires { (M.seats context.now.farm.now).is_seat seat.old }
+    ensures seat { SameSeat (M.seats context.now.farm.now) seat.old seat.new }
+    ensures worn { OnErr result ((M.seats context.now.farm.now).worn seat.new ≡ true) }
     ensures did { (front : ℕ) (c : ℕ)
-        → Did front lists.now c (line ∷ []) ((M.seats farm.now).mine seat.old)
-        ((M.seats farm.now).mine seat.new) response.old.items response.new.items (disposition_of result) }
+        → Did front context.now.front.now.lists.now c (line ∷ []) ((M.seats context.now.farm.now).mine seat.old)
+        ((M.seats context.now.farm.now).mine seat.new) response.old.items response.new.items (disposition_of result) }
 {
     match line {
         Line::Update(number) => {
-            let Ok(answer) = farm.update(rt, alloc, seat, number) else {
+            let Ok(answer) = context.farm.update(context.rt, context.alloc, seat, number) else {
                 return Err(Worn);
             };
-            Ok(say_update(alloc, answer, response))
+            Ok(say_update(context.alloc, answer, response))
         }
         Line::Restyle(number) => {
-            let Ok(answer) = farm.restyle(rt, seat, number) else {
+            let Ok(answer) = context.farm.restyle(context.rt, seat, number) else {
                 return Err(Worn);
             };
-            Ok(say_restyle(alloc, answer, response))
+            Ok(say_restyle(context.alloc, answer, response))
         }
         Line::Renew(number) => {
-            let Ok(answer) = farm.renew(rt, alloc, seat, number) else {
+            let Ok(answer) = context.farm.renew(context.rt, context.alloc, seat, number) else {
                 return Err(Worn);
             };
-            Ok(say_renew(alloc, answer, response))
+            Ok(say_renew(context.alloc, answer, response))
         }
-        Line::Expire(number) => do_expire(rt, alloc, farm, seat, lists, number, response),
+        Line::Expire(number) => do_expire(context, seat, number, response),
         Line::Stats => {
-            let Ok(totals) = farm.tally(rt, seat) else {
+            let Ok(totals) = context.farm.tally(context.rt, seat) else {
                 return Err(Worn);
             };
-            Ok(say_tally(alloc, totals, response))
+            Ok(say_tally(context.alloc, totals, response))
         }
         Line::Stop => {
-            let Ok(()) = farm.stop(rt, seat) else {
+            let Ok(()) = context.farm.stop(context.rt, seat) else {
                 return Err(Worn);
             };
             Ok(say(response, "stopping\n"))

@@ -10,12 +10,11 @@ ghost use Rattle.farm_history.specs.Entries.{Entry};
 ghost use Rattle.control_handler.specs.declared.acts.Line.TheVariants as line_is;
 ghost use Rattle.control_handler.specs.inner.Doing.{Did, LongWhy, Says, as_done, Heeds};
 
+use crate::control::Control;
 use crate::doing::{do_bad, do_line};
 use crate::lines::line_in;
-use expiry_lists::TileList;
 use farm_base::{MOST_CONTROL_BYTES, Worn};
-use front_loop::{Disposition, Farm, Reason};
-use std::alloc::Global;
+use front_loop::{Context, Disposition, Farm, Reason};
 use std::sync::Wait;
 
 /// What is kept of a session: the part of the line that has not ended.
@@ -56,25 +55,22 @@ fn keep(part: &mut Vec<u8>, byte: u8) -> Disposition
 
 /// One byte behind a part of a line.
 fn take_byte<R: Wait, M: Farm>(
-    rt: &R,
-    alloc: Global,
-    farm: &M,
+    context: &Context<'_, R, M, Control<'_>>,
     seat: &mut M::Seat,
-    lists: &[TileList],
     part: &mut Vec<u8>,
     byte: u8,
     response: &mut Vec<u8>,
 ) -> Result<Disposition, Worn>
-    requires { (M.seats farm.now).is_seat seat.old }
-    ensures seat { SameSeat (M.seats farm.now) seat.old seat.new }
-    ensures worn { OnErr result ((M.seats farm.now).worn seat.new ≡ true) }
+    requires { (M.seats context.now.farm.now).is_seat seat.old }
+    ensures seat { SameSeat (M.seats context.now.farm.now) seat.old seat.new }
+    ensures worn { OnErr result ((M.seats context.now.farm.now).worn seat.new ≡ true) }
     ensures heeds { (front : ℕ) (c : ℕ)
-        → Heeds front lists.now c part.old.items (byte ∷ []) ((M.seats farm.now).mine seat.old) ((M.seats farm.now).mine seat.new) part.new.items response.old.items response.new.items (disposition_of result) }
+        → Heeds front context.now.front.now.lists.now c part.old.items (byte ∷ []) ((M.seats context.now.farm.now).mine seat.old) ((M.seats context.now.farm.now).mine seat.new) part.new.items response.old.items response.new.items (disposition_of result) }
 {
     if byte == b'\n' {
         let line = line_in(part.as_slice());
         part.clear();
-        return do_line(rt, alloc, farm, seat, lists, line, response);
+        return do_line(context, seat, line, response);
     }
     if is_short(part) {
         return Ok(keep(part, byte));
@@ -84,23 +80,20 @@ fn take_byte<R: Wait, M: Farm>(
 
 /// A piece of bytes behind a part of a line.
 pub fn hear_piece<R: Wait, M: Farm>(
-    rt: &R,
-    alloc: Global,
-    farm: &M,
+    context: &Context<'_, R, M, Control<'_>>,
     seat: &mut M::Seat,
-    lists: &[TileList],
     part: &mut Vec<u8>,
     piece: &[u8],
     response: &mut Vec<u8>,
 ) -> Result<Disposition, Worn>
-    requires { (M.seats farm.now).is_seat seat.old }
-    ensures seat { SameSeat (M.seats farm.now) seat.old seat.new }
-    ensures worn { OnErr result ((M.seats farm.now).worn seat.new ≡ true) }
+    requires { (M.seats context.now.farm.now).is_seat seat.old }
+    ensures seat { SameSeat (M.seats context.now.farm.now) seat.old seat.new }
+    ensures worn { OnErr result ((M.seats context.now.farm.now).worn seat.new ≡ true) }
     ensures heeds { (front : ℕ) (c : ℕ)
-        → Heeds front lists.now c part.old.items piece.now ((M.seats farm.now).mine seat.old) ((M.seats farm.now).mine seat.new) part.new.items response.old.items response.new.items (disposition_of result) }
+        → Heeds front context.now.front.now.lists.now c part.old.items piece.now ((M.seats context.now.farm.now).mine seat.old) ((M.seats context.now.farm.now).mine seat.new) part.new.items response.old.items response.new.items (disposition_of result) }
 {
     for byte in piece {
-        let Ok(disposition) = take_byte(rt, alloc, farm, seat, lists, part, *byte, response) else {
+        let Ok(disposition) = take_byte(context, seat, part, *byte, response) else {
             return Err(Worn);
         };
         match disposition {

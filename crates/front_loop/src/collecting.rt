@@ -56,16 +56,7 @@ fn reply_one<R: Wait, M: Farm, F: Front<M>>(
         return Ok(());
     }
     response.clear();
-    let Ok(disposition) = context.front.reply(
-        context.rt,
-        context.alloc,
-        context.farm,
-        seat,
-        &mut session.conn_state,
-        reply,
-        response,
-    )
-    else {
+    let Ok(disposition) = F::reply(context, seat, &mut session.conn_state, reply, response) else {
         return Err(Worn);
     };
     session.owes = owes_after(session.owes, response.as_slice(), Disposition::Stays);

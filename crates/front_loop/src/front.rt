@@ -6,6 +6,7 @@ ghost use Rattle.front_loop.specs.Front.{Begins, Hears, Replies, Ends, MayStandA
 ghost use Rattle.farm_history.specs.declared.queues.Outcome.TheVariants as outcome;
 ghost use Rattle.std.specs.Prelude.{◌≢◌};
 
+use crate::context::Context;
 use crate::dispositions::Disposition;
 use crate::farm::Farm;
 use farm_base::Worn;
@@ -40,42 +41,36 @@ pub trait Front<M: Farm> {
     /// A piece of bytes came: does the requests that became whole, and puts the bytes that are answered
     /// to them into `response`.
     fn hear<R: Wait>(
-        &self,
-        rt: &R,
-        alloc: Global,
-        farm: &M,
+        context: &Context<'_, R, M, Self>,
         seat: &mut M::Seat,
         conn: u32,
         conn_state: &mut Self::ConnState,
         piece: &[u8],
         response: &mut Vec<u8>,
     ) -> Result<Disposition, Worn>
-        requires seat { (M.seats farm.now).is_seat seat.old }
-        requires number { (M.seats farm.now).number seat.old ≡ (rules self.now farm.now).number + 1 }
+        requires seat { (M.seats context.now.farm.now).is_seat seat.old }
+        requires number { (M.seats context.now.farm.now).number seat.old ≡ (rules context.now.front.now context.now.farm.now).number + 1 }
         requires empty { response.old.items ≡ [] }
-        ensures seat { SameSeat (M.seats farm.now) seat.old seat.new }
-        ensures worn { OnErr result ((M.seats farm.now).worn seat.new ≡ true) }
-        ensures heard { Hears (rules self.now farm.now) knows conn piece.now ((M.seats farm.now).mine seat.old) ((M.seats farm.now).mine seat.new) conn_state.old conn_state.new response.new.items (disposition_of result) };
+        ensures seat { SameSeat (M.seats context.now.farm.now) seat.old seat.new }
+        ensures worn { OnErr result ((M.seats context.now.farm.now).worn seat.new ≡ true) }
+        ensures heard { Hears (rules context.now.front.now context.now.farm.now) knows conn piece.now ((M.seats context.now.farm.now).mine seat.old) ((M.seats context.now.farm.now).mine seat.new) conn_state.old conn_state.new response.new.items (disposition_of result) };
 
     /// A reply to an ask of the connection was collected, which is not Cut: puts the bytes that are
     /// answered to it into `response`.
     fn reply<R: Wait>(
-        &self,
-        rt: &R,
-        alloc: Global,
-        farm: &M,
+        context: &Context<'_, R, M, Self>,
         seat: &mut M::Seat,
         conn_state: &mut Self::ConnState,
         reply: Reply,
         response: &mut Vec<u8>,
     ) -> Result<Disposition, Worn>
-        requires seat { (M.seats farm.now).is_seat seat.old }
-        requires number { (M.seats farm.now).number seat.old ≡ (rules self.now farm.now).number + 1 }
+        requires seat { (M.seats context.now.farm.now).is_seat seat.old }
+        requires number { (M.seats context.now.farm.now).number seat.old ≡ (rules context.now.front.now context.now.farm.now).number + 1 }
         requires empty { response.old.items ≡ [] }
         requires uncut { reply.outcome ≢ outcome.Cut }
-        ensures seat { SameSeat (M.seats farm.now) seat.old seat.new }
-        ensures worn { OnErr result ((M.seats farm.now).worn seat.new ≡ true) }
-        ensures replied { Replies (rules self.now farm.now) knows reply ((M.seats farm.now).mine seat.old) ((M.seats farm.now).mine seat.new) conn_state.old conn_state.new response.new.items (disposition_of result) };
+        ensures seat { SameSeat (M.seats context.now.farm.now) seat.old seat.new }
+        ensures worn { OnErr result ((M.seats context.now.farm.now).worn seat.new ≡ true) }
+        ensures replied { Replies (rules context.now.front.now context.now.farm.now) knows reply ((M.seats context.now.farm.now).mine seat.old) ((M.seats context.now.farm.now).mine seat.new) conn_state.old conn_state.new response.new.items (disposition_of result) };
 
     /// Whether all is answered on the session that will be.
     fn is_done(&self, farm: &M, conn_state: &Self::ConnState) -> bool

@@ -78,17 +78,14 @@ fn hear_one<R: Wait, M: Farm, F: Front<M>>(
         (λ _. HearsWorn (F.rules context.now.front.now context.now.farm.now) F.knows session.old.conn piece.now ((M.seats context.now.farm.now).mine seat.old) ((M.seats context.now.farm.now).mine seat.new) session.old.conn_state) }
 {
     response.clear();
-    let Ok(disposition) = context.front.hear(
-        context.rt,
-        context.alloc,
-        context.farm,
+    let Ok(disposition) = F::hear(
+        context,
         seat,
         session.conn,
         &mut session.conn_state,
         piece,
         response,
-    )
-    else {
+    ) else {
         return Err(Worn);
     };
     session.owes = owes_after(session.owes, response.as_slice(), disposition);

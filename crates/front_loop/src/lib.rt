@@ -14,6 +14,7 @@ mod offering;
 mod rounds;
 mod sessions;
 
+pub use context::Context;
 pub use dispositions::{Disposition, Reason};
 pub use farm::Farm;
 pub use front::Front;

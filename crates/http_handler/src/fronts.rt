@@ -6,8 +6,8 @@ use crate::acts::{Act, HttpAsk};
 use crate::conn_states::{ConnState, Stage, is_answered};
 use crate::hearing::{hear_piece, take_reply};
 use farm_base::Worn;
-use farm_history::{Conn, Reply};
-use front_loop::{Disposition, Farm, Front};
+use farm_history::Reply;
+use front_loop::{Context, Disposition, Farm, Front};
 use std::alloc::Global;
 use std::sync::Wait;
 
@@ -40,36 +40,24 @@ impl<M: Farm> Front<M> for Tiles {
     }
 
     fn hear<R: Wait>(
-        &self,
-        rt: &R,
-        alloc: Global,
-        farm: &M,
+        context: &Context<'_, R, M, Tiles>,
         seat: &mut M::Seat,
         conn: u32,
         conn_state: &mut ConnState,
         piece: &[u8],
         response: &mut Vec<u8>,
     ) -> Result<Disposition, Worn> {
-        let conn = Conn {
-            front: self.front,
-            number: conn,
-        };
-        hear_piece(rt, alloc, farm, seat, conn, conn_state, piece, response)
+        hear_piece(context, seat, conn, conn_state, piece, response)
     }
 
     fn reply<R: Wait>(
-        &self,
-        rt: &R,
-        alloc: Global,
-        farm: &M,
+        context: &Context<'_, R, M, Tiles>,
         seat: &mut M::Seat,
         conn_state: &mut ConnState,
         reply: Reply,
         response: &mut Vec<u8>,
     ) -> Result<Disposition, Worn> {
-        take_reply(
-            rt, alloc, farm, seat, self.front, conn_state, reply, response,
-        )
+        take_reply(context, seat, conn_state, reply, response)
     }
 
     fn is_done(&self, _farm: &M, conn_state: &ConnState) -> bool {

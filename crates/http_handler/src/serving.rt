@@ -11,9 +11,10 @@ ghost use Rattle.http_handler.specs.declared.acts.HttpAsk.TheVariants as http_as
 
 use crate::acts::HttpAsk;
 use crate::conn_states::Stage;
+use crate::fronts::Tiles;
 use farm_base::{NoMemory, Worn};
 use farm_history::{AskAnswer, Cmd, Conn, Fetched, Spot};
-use front_loop::{Disposition, Farm, Reason};
+use front_loop::{Context, Disposition, Farm, Reason};
 use std::alloc::Global;
 use std::sync::Wait;
 use tile_answers::{Fault, put_dirty, put_fault, put_status, put_tile};
@@ -58,41 +59,39 @@ fn spot_of<M: Farm>(farm: &M, name: &str, z: u32, x: u32, y: u32) -> Spot
 
 /// Does a ask, and puts the bytes that are answered to it into `response`.
 pub(crate) fn serve_http_ask<R: Wait, M: Farm>(
-    rt: &R,
-    alloc: Global,
-    farm: &M,
+    context: &Context<'_, R, M, Tiles>,
     seat: &mut M::Seat,
     conn: Conn,
     http_ask: HttpAsk,
     stage: &mut Stage,
     response: &mut Vec<u8>,
 ) -> Result<Disposition, Worn>
-    requires seat { (M.seats farm.now).is_seat seat.old }
-    requires number { (M.seats farm.now).number seat.old ≡ conn.front + 1 }
+    requires seat { (M.seats context.now.farm.now).is_seat seat.old }
+    requires number { (M.seats context.now.farm.now).number seat.old ≡ conn.front + 1 }
     requires empty { response.old.items ≡ [] }
-    ensures seat { SameSeat (M.seats farm.now) seat.old seat.new }
-    ensures worn { OnErr result ((M.seats farm.now).worn seat.new ≡ true) }
-    ensures does { DoesHttpAsk conn http_ask ((M.seats farm.now).mine seat.old)
-        ((M.seats farm.now).mine seat.new) stage.new response.new.items (disposition_of result) }
+    ensures seat { SameSeat (M.seats context.now.farm.now) seat.old seat.new }
+    ensures worn { OnErr result ((M.seats context.now.farm.now).worn seat.new ≡ true) }
+    ensures does { DoesHttpAsk conn http_ask ((M.seats context.now.farm.now).mine seat.old)
+        ((M.seats context.now.farm.now).mine seat.new) stage.new response.new.items (disposition_of result) }
 {
     match http_ask {
-        HttpAsk::Bad => Ok(refuse(alloc, Fault::BadRequest, stage, response)),
-        HttpAsk::NotGet => Ok(refuse(alloc, Fault::NotAllowed, stage, response)),
-        HttpAsk::NoTarget => Ok(refuse(alloc, Fault::NotFound, stage, response)),
-        HttpAsk::Tile(spot) => serve_tile(rt, alloc, farm, seat, conn, spot, stage, response),
+        HttpAsk::Bad => Ok(refuse(context.alloc, Fault::BadRequest, stage, response)),
+        HttpAsk::NotGet => Ok(refuse(context.alloc, Fault::NotAllowed, stage, response)),
+        HttpAsk::NoTarget => Ok(refuse(context.alloc, Fault::NotFound, stage, response)),
+        HttpAsk::Tile(spot) => serve_tile(context, seat, conn, spot, stage, response),
         HttpAsk::Status(spot) => {
-            let Ok(looked) = farm.look(rt, seat, spot) else {
+            let Ok(looked) = context.farm.look(context.rt, seat, spot) else {
                 return Err(Worn);
             };
             *stage = Stage::Answered;
-            Ok(disposition_of_put(put_status(alloc, looked, response)))
+            Ok(disposition_of_put(put_status(context.alloc, looked, response)))
         }
         HttpAsk::Dirty(spot) => {
-            let Ok(_) = farm.ask(rt, seat, conn, Cmd::Dirty, spot) else {
+            let Ok(_) = context.farm.ask(context.rt, seat, conn, Cmd::Dirty, spot) else {
                 return Err(Worn);
             };
             *stage = Stage::Answered;
-            Ok(disposition_of_put(put_dirty(alloc, response)))
+            Ok(disposition_of_put(put_dirty(context.alloc, response)))
         }
     }
 }
@@ -109,24 +108,22 @@ fn refuse(alloc: Global, fault: Fault, stage: &mut Stage, response: &mut Vec<u8>
 
 /// Asks for a tile, and fetches it where it need not be waited for.
 fn serve_tile<R: Wait, M: Farm>(
-    rt: &R,
-    alloc: Global,
-    farm: &M,
+    context: &Context<'_, R, M, Tiles>,
     seat: &mut M::Seat,
     conn: Conn,
     spot: Spot,
     stage: &mut Stage,
     response: &mut Vec<u8>,
 ) -> Result<Disposition, Worn>
-    requires seat { (M.seats farm.now).is_seat seat.old }
-    requires number { (M.seats farm.now).number seat.old ≡ conn.front + 1 }
+    requires seat { (M.seats context.now.farm.now).is_seat seat.old }
+    requires number { (M.seats context.now.farm.now).number seat.old ≡ conn.front + 1 }
     requires empty { response.old.items ≡ [] }
-    ensures seat { SameSeat (M.seats farm.now) seat.old seat.new }
-    ensures worn { OnErr result ((M.seats farm.now).worn seat.new ≡ true) }
-    ensures does { DoesHttpAsk conn (http_ask.Tile spot) ((M.seats farm.now).mine seat.old)
-        ((M.seats farm.now).mine seat.new) stage.new response.new.items (disposition_of result) }
+    ensures seat { SameSeat (M.seats context.now.farm.now) seat.old seat.new }
+    ensures worn { OnErr result ((M.seats context.now.farm.now).worn seat.new ≡ true) }
+    ensures does { DoesHttpAsk conn (http_ask.Tile spot) ((M.seats context.now.farm.now).mine seat.old)
+        ((M.seats context.now.farm.now).mine seat.new) stage.new response.new.items (disposition_of result) }
 {
-    let Ok(answer) = farm.ask(rt, seat, conn, Cmd::Render, spot) else {
+    let Ok(answer) = context.farm.ask(context.rt, seat, conn, Cmd::Render, spot) else {
         return Err(Worn);
     };
     match number_in(answer) {
@@ -136,7 +133,7 @@ fn serve_tile<R: Wait, M: Farm>(
         }
         None => {
             *stage = Stage::Answered;
-            fetch_and_say(rt, alloc, farm, seat, spot, response)
+            fetch_and_say(context, seat, spot, response)
         }
     }
 }
@@ -157,24 +154,22 @@ fn number_in(answer: AskAnswer) -> Option<u64>
 
 /// Fetches a tile, and puts its answer into `response`.
 pub(crate) fn fetch_and_say<R: Wait, M: Farm>(
-    rt: &R,
-    alloc: Global,
-    farm: &M,
+    context: &Context<'_, R, M, Tiles>,
     seat: &mut M::Seat,
     spot: Spot,
     response: &mut Vec<u8>,
 ) -> Result<Disposition, Worn>
-    requires seat { (M.seats farm.now).is_seat seat.old }
+    requires seat { (M.seats context.now.farm.now).is_seat seat.old }
     requires empty { response.old.items ≡ [] }
-    ensures seat { SameSeat (M.seats farm.now) seat.old seat.new }
-    ensures worn { OnErr result ((M.seats farm.now).worn seat.new ≡ true) }
-    ensures fetches { Fetches spot ((M.seats farm.now).mine seat.old)
-        ((M.seats farm.now).mine seat.new) response.new.items (disposition_of result) }
+    ensures seat { SameSeat (M.seats context.now.farm.now) seat.old seat.new }
+    ensures worn { OnErr result ((M.seats context.now.farm.now).worn seat.new ≡ true) }
+    ensures fetches { Fetches spot ((M.seats context.now.farm.now).mine seat.old)
+        ((M.seats context.now.farm.now).mine seat.new) response.new.items (disposition_of result) }
 {
-    let Ok(fetched) = farm.fetch(rt, alloc, seat, spot) else {
+    let Ok(fetched) = context.farm.fetch(context.rt, context.alloc, seat, spot) else {
         return Err(Worn);
     };
-    Ok(say_tile(alloc, &fetched, response))
+    Ok(say_tile(context.alloc, &fetched, response))
 }
 
 /// Puts the answer to a tile that was fetched; want of memory has none.

@@ -7,11 +7,12 @@ ghost use Rattle.renderd_handler.specs.Renderd.{answer_command, command_of, resp
 ghost use Rattle.farm_history.specs.Past.{number_in};
 ghost use Rattle.renderd_handler.specs.inner.Reads.{asks_in, Halts, Made, pairs};
 
+use crate::renderd::Renderd;
 use crate::waits::Waiting;
 use crate::words::{DONE, NOT_DONE, command_of, spot_of};
 use farm_base::NoMemory;
 use farm_history::{AskAnswer, Cmd, Conn};
-use front_loop::Farm;
+use front_loop::{Context, Farm};
 use renderd_protocol::{Request, write};
 use std::sync::Wait;
 
@@ -68,30 +69,33 @@ fn settle(
 
 /// Asks the farm for a request, with the command that its number is.
 fn ask<R: Wait, M: Farm>(
-    rt: &R,
-    farm: &M,
+    context: &Context<'_, R, M, Renderd>,
     seat: &mut M::Seat,
-    conn: Conn,
+    conn: u32,
     cmd: Cmd,
     request: Request,
     waits: &mut Vec<Waiting>,
     response: &mut Vec<u8>,
 ) -> Result<(), Halt>
-    requires seat { (M.seats farm.now).is_seat seat.old }
-    requires number { (M.seats farm.now).number seat.old ≡ conn.front + 1 }
+    requires seat { (M.seats context.now.farm.now).is_seat seat.old }
+    requires number { (M.seats context.now.farm.now).number seat.old ≡ context.now.front.now.front + 1 }
     requires version { IsTrue (is_version request.ver) }
     requires command { command_of request.cmd ≡ Some cmd }
-    ensures seat { SameSeat (M.seats farm.now) seat.old seat.new }
-    ensures worn { result ≡ Err Halt.Worn → (M.seats farm.now).worn seat.new ≡ true }
+    ensures seat { SameSeat (M.seats context.now.farm.now) seat.old seat.new }
+    ensures worn { result ≡ Err Halt.Worn → (M.seats context.now.farm.now).worn seat.new ≡ true }
     ensures made { MatchResult result
-        (λ _. Made conn.front (M.map_at farm.now) conn.number (request ∷ [])
-        ((M.seats farm.now).mine seat.old) ((M.seats farm.now).mine seat.new)
+        (λ _. Made context.now.front.now.front (M.map_at context.now.farm.now) conn (request ∷ [])
+        ((M.seats context.now.farm.now).mine seat.old) ((M.seats context.now.farm.now).mine seat.new)
         (pairs waits.old.items) (pairs waits.new.items) response.old.items response.new.items)
-        (λ _. Halts conn.front (M.map_at farm.now) conn.number (request ∷ [])
-        ((M.seats farm.now).mine seat.old) ((M.seats farm.now).mine seat.new)) }
+        (λ _. Halts context.now.front.now.front (M.map_at context.now.farm.now) conn (request ∷ [])
+        ((M.seats context.now.farm.now).mine seat.old) ((M.seats context.now.farm.now).mine seat.new)) }
 {
-    let spot = spot_of(farm, &request);
-    let Ok(answer) = farm.ask(rt, seat, conn, cmd, spot) else {
+    let spot = spot_of(context.farm, &request);
+    let conn = Conn {
+        front: context.front.front,
+        number: conn,
+    };
+    let Ok(answer) = context.farm.ask(context.rt, seat, conn, cmd, spot) else {
         return Err(Halt::Worn);
     };
     let Ok(()) = settle(waits, response, request, answer) else {
@@ -102,28 +106,27 @@ fn ask<R: Wait, M: Farm>(
 
 /// Asks for a request, or skips one of another command.
 pub fn ask_if_known<R: Wait, M: Farm>(
-    rt: &R,
-    farm: &M,
+    context: &Context<'_, R, M, Renderd>,
     seat: &mut M::Seat,
-    conn: Conn,
+    conn: u32,
     request: Request,
     waits: &mut Vec<Waiting>,
     response: &mut Vec<u8>,
 ) -> Result<(), Halt>
-    requires seat { (M.seats farm.now).is_seat seat.old }
-    requires number { (M.seats farm.now).number seat.old ≡ conn.front + 1 }
+    requires seat { (M.seats context.now.farm.now).is_seat seat.old }
+    requires number { (M.seats context.now.farm.now).number seat.old ≡ context.now.front.now.front + 1 }
     requires version { IsTrue (is_version request.ver) }
-    ensures seat { SameSeat (M.seats farm.now) seat.old seat.new }
-    ensures worn { result ≡ Err Halt.Worn → (M.seats farm.now).worn seat.new ≡ true }
+    ensures seat { SameSeat (M.seats context.now.farm.now) seat.old seat.new }
+    ensures worn { result ≡ Err Halt.Worn → (M.seats context.now.farm.now).worn seat.new ≡ true }
     ensures made { MatchResult result
-        (λ _. Made conn.front (M.map_at farm.now) conn.number (asks_in (request ∷ []))
-        ((M.seats farm.now).mine seat.old) ((M.seats farm.now).mine seat.new)
+        (λ _. Made context.now.front.now.front (M.map_at context.now.farm.now) conn (asks_in (request ∷ []))
+        ((M.seats context.now.farm.now).mine seat.old) ((M.seats context.now.farm.now).mine seat.new)
         (pairs waits.old.items) (pairs waits.new.items) response.old.items response.new.items)
-        (λ _. Halts conn.front (M.map_at farm.now) conn.number (asks_in (request ∷ []))
-        ((M.seats farm.now).mine seat.old) ((M.seats farm.now).mine seat.new)) }
+        (λ _. Halts context.now.front.now.front (M.map_at context.now.farm.now) conn (asks_in (request ∷ []))
+        ((M.seats context.now.farm.now).mine seat.old) ((M.seats context.now.farm.now).mine seat.new)) }
 {
     match command_of(request.cmd) {
-        Some(cmd) => ask(rt, farm, seat, conn, cmd, request, waits, response),
+        Some(cmd) => ask(context, seat, conn, cmd, request, waits, response),
         None => Ok(()),
     }
 }

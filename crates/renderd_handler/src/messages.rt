@@ -5,36 +5,35 @@ ghost use Rattle.renderd_handler.specs.declared.asking.Halt.{Halt};
 ghost use Rattle.renderd_handler.specs.inner.Reads.{asks_of, disposition_at, Halts, HasNoneNext, pairs, Reads};
 
 use crate::asking::{Halt, ask_if_known};
+use crate::renderd::Renderd;
 use crate::waits::Waiting;
-use farm_history::Conn;
-use front_loop::{Disposition, Farm, Reason};
+use front_loop::{Context, Disposition, Farm, Reason};
 use renderd_protocol::{Found, next};
 use std::sync::Wait;
 
 /// Asks for the whole messages that the bytes begin with, and answers how many bytes they take.
 pub fn read_all<R: Wait, M: Farm>(
-    rt: &R,
-    farm: &M,
+    context: &Context<'_, R, M, Renderd>,
     seat: &mut M::Seat,
-    conn: Conn,
+    conn: u32,
     bytes: &[u8],
     waits: &mut Vec<Waiting>,
     response: &mut Vec<u8>,
 ) -> Result<usize, Halt>
-    requires seat { (M.seats farm.now).is_seat seat.old }
-    requires number { (M.seats farm.now).number seat.old ≡ conn.front + 1 }
-    ensures seat { SameSeat (M.seats farm.now) seat.old seat.new }
-    ensures worn { result ≡ Err Halt.Worn → (M.seats farm.now).worn seat.new ≡ true }
+    requires seat { (M.seats context.now.farm.now).is_seat seat.old }
+    requires number { (M.seats context.now.farm.now).number seat.old ≡ context.now.front.now.front + 1 }
+    ensures seat { SameSeat (M.seats context.now.farm.now) seat.old seat.new }
+    ensures worn { result ≡ Err Halt.Worn → (M.seats context.now.farm.now).worn seat.new ≡ true }
     ensures read { MatchResult result
-        (λ used. (used ≤ length bytes.now) × HasNoneNext (drop used bytes.now) × Reads conn.front (M.map_at farm.now) conn.number bytes.now (drop used bytes.now) ((M.seats farm.now).mine seat.old) ((M.seats farm.now).mine seat.new) (pairs waits.old.items) (pairs waits.new.items) response.old.items response.new.items)
-        (λ _. Halts conn.front (M.map_at farm.now) conn.number (asks_of bytes.now) ((M.seats farm.now).mine seat.old) ((M.seats farm.now).mine seat.new)) }
+        (λ used. (used ≤ length bytes.now) × HasNoneNext (drop used bytes.now) × Reads context.now.front.now.front (M.map_at context.now.farm.now) conn bytes.now (drop used bytes.now) ((M.seats context.now.farm.now).mine seat.old) ((M.seats context.now.farm.now).mine seat.new) (pairs waits.old.items) (pairs waits.new.items) response.old.items response.new.items)
+        (λ _. Halts context.now.front.now.front (M.map_at context.now.farm.now) conn (asks_of bytes.now) ((M.seats context.now.farm.now).mine seat.old) ((M.seats context.now.farm.now).mine seat.new)) }
 {
     let mut used = 0;
     'messages: loop {
         let Found::Message(request, len) = next(&bytes[used..]) else {
             return Ok(used);
         };
-        ask_if_known(rt, farm, seat, conn, request, waits, response)?;
+        ask_if_known(context, seat, conn, request, waits, response)?;
         used += len;
     }
 }

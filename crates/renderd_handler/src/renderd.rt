@@ -5,8 +5,8 @@ use crate::messages::{disposition_at, read_all};
 use crate::replies::answer_reply;
 use crate::waits::ConnState;
 use farm_base::Worn;
-use farm_history::{Conn, Reply};
-use front_loop::{Disposition, Farm, Front, Reason};
+use farm_history::Reply;
+use front_loop::{Context, Disposition, Farm, Front, Reason};
 use port_events::drop_front;
 use renderd_protocol::Request;
 use std::alloc::Global;
@@ -47,10 +47,7 @@ impl<M: Farm> Front<M> for Renderd {
     }
 
     fn hear<R: Wait>(
-        &self,
-        rt: &R,
-        _alloc: Global,
-        farm: &M,
+        context: &Context<'_, R, M, Renderd>,
         seat: &mut M::Seat,
         conn: u32,
         conn_state: &mut ConnState,
@@ -60,13 +57,8 @@ impl<M: Farm> Front<M> for Renderd {
         if conn_state.unread.extend_from_slice(piece).is_err() {
             return Ok(Disposition::Leaves(Reason::Starved));
         }
-        let conn = Conn {
-            front: self.front,
-            number: conn,
-        };
         match read_all(
-            rt,
-            farm,
+            context,
             seat,
             conn,
             conn_state.unread.as_slice(),
@@ -83,10 +75,7 @@ impl<M: Farm> Front<M> for Renderd {
     }
 
     fn reply<R: Wait>(
-        &self,
-        _rt: &R,
-        _alloc: Global,
-        _farm: &M,
+        _context: &Context<'_, R, M, Renderd>,
         _seat: &mut M::Seat,
         conn_state: &mut ConnState,
         reply: Reply,

@@ -6,7 +6,7 @@ use Rattle.control_handler.proofs.hearing.hear_piece.Given as goal
 
 abbrev pub invariant-loop-byte : goal.invariant-loop-byte
 invariant-loop-byte g l = record {
-  seat : SameSeat (g.M.Farm.seats l.farm) l.fn.seat l.seat;
-  heeds : (front c : ℕ) → Heeds front l.lists c l.fn.part.items (take l.byte-index l.piece) ((g.M.Farm.seats l.farm).mine l.fn.seat) ((g.M.Farm.seats l.farm).mine l.seat)
+  seat : SameSeat (g.M.Farm.seats l.context.farm.now) l.fn.seat l.seat;
+  heeds : (front c : ℕ) → Heeds front l.context.front.now.lists.now c l.fn.part.items (take l.byte-index l.piece) ((g.M.Farm.seats l.context.farm.now).mine l.fn.seat) ((g.M.Farm.seats l.context.farm.now).mine l.seat)
       l.part.items l.fn.response.items l.response.items Stays;
 }

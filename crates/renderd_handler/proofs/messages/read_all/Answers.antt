@@ -8,7 +8,7 @@ pub messages-init : goal.messages-init
 messages-init g c = record {
   seat = record { seat = c.requires.seat; number = refl; place = refl };
   within = omega arith;
-  read = read_none c.args.conn.front (g.M.Farm.map_at c.args.farm.now) c.args.conn.number c.args.bytes.now _ _ _;
+  read = read_none c.args.context.now.front.now.front (g.M.Farm.map_at c.args.context.now.farm.now) c.args.conn c.args.bytes.now _ _ _;
 }
 
 pub ask_if_known-requires-clause-version : goal.ask_if_known-requires-clause-version
@@ -20,7 +20,7 @@ pub returns-in_err-ask_if_known-clause-read : goal.returns-in_err-ask_if_known-c
 returns-in_err-ask_if_known-clause-read g c =
     let found = found_at c.args.bytes.now c.messages.used c.in-Message.request c.in-Message.len c.next.result c.next.ensures c.in-Message.is in
     passes_on c.from_residual.result _ _ c.from_residual.ensures.0
-    (read_halts c.args.conn.front (g.M.Farm.map_at c.args.farm.now) c.args.conn.number c.args.bytes.now (drop c.messages.used c.args.bytes.now) c.in-Message.request c.in-Message.len found _ _ _ _ _ [] _ _ []
+    (read_halts c.args.context.now.front.now.front (g.M.Farm.map_at c.args.context.now.farm.now) c.args.conn c.args.bytes.now (drop c.messages.used c.args.bytes.now) c.in-Message.request c.in-Message.len found _ _ _ _ _ [] _ _ []
     c.messages.invariant.read c.in_err-ask_if_known.ensures.made)
 
 pub overflow_add-used : goal.overflow_add-used
@@ -40,8 +40,8 @@ pub messages-preserved : goal.messages-preserved
 messages-preserved g c =
     let found = found_at c.args.bytes.now c.messages.used c.in-Message.request c.in-Message.len c.next.result c.next.ensures c.in-Message.is in
     record {
-      seat = same_trans (g.M.Farm.seats c.args.farm.now) c.args.seat.now c.messages.seat c.ask_if_known.new.seat c.messages.invariant.seat c.ask_if_known.ensures.seat;
+      seat = same_trans (g.M.Farm.seats c.args.context.now.farm.now) c.args.seat.now c.messages.seat c.ask_if_known.new.seat c.messages.invariant.seat c.ask_if_known.ensures.seat;
       within = (ends_within c.args.bytes.now c.messages.used c.in-Message.request c.in-Message.len found c.messages.invariant.within).1;
-      read = read_more c.args.conn.front (g.M.Farm.map_at c.args.farm.now) c.args.conn.number c.args.bytes.now (drop c.messages.used c.args.bytes.now) c.in-Message.request c.in-Message.len found _ _ _ _ _ _ _ _ _ _
+      read = read_more c.args.context.now.front.now.front (g.M.Farm.map_at c.args.context.now.farm.now) c.args.conn c.args.bytes.now (drop c.messages.used c.args.bytes.now) c.in-Message.request c.in-Message.len found _ _ _ _ _ _ _ _ _ _
           (drop-drop c.in-Message.len c.messages.used c.args.bytes.now) c.messages.invariant.read c.in_ok-ask_if_known.ensures.made;
     }

@@ -5,9 +5,9 @@ use Rattle.renderd_handler.proofs.messages.read_all.Given as goal
 
 abbrev pub invariant-messages : goal.invariant-messages
 invariant-messages g l = record {
-  seat : SameSeat (g.M.Farm.seats l.farm) l.fn.seat l.seat;
+  seat : SameSeat (g.M.Farm.seats l.context.farm.now) l.fn.seat l.seat;
   within : l.used ≤ length l.bytes;
-  read : Reads l.conn.front (g.M.Farm.map_at l.farm) l.conn.number l.bytes (drop l.used l.bytes) ((g.M.Farm.seats l.farm).mine l.fn.seat) ((g.M.Farm.seats l.farm).mine l.seat)
+  read : Reads l.context.front.now.front (g.M.Farm.map_at l.context.farm.now) l.conn l.bytes (drop l.used l.bytes) ((g.M.Farm.seats l.context.farm.now).mine l.fn.seat) ((g.M.Farm.seats l.context.farm.now).mine l.seat)
       (pairs l.fn.waits.items) (pairs l.waits.items) l.fn.response.items l.response.items;
 }
 
