@@ -272,10 +272,10 @@ def has_saved():
 
 
 def leaves_nothing():
-    """Of what is written beside a file nothing is left."""
+    """Of what is written before it is put nothing is left, beside a file or in the folder of what is staged."""
     for folder, _, names in os.walk("tiles"):
         for name in names:
-            if name.endswith(".new"):
+            if name.endswith(".new") or os.path.basename(folder) == ".new":
                 raise Unlike("%s/%s is left" % (folder, name))
 
 
