@@ -1,5 +1,5 @@
 //! The ends of drawings.
-ghost use Rattle.std.specs.Prelude.{◌≡◌, ◌≤◌, ◌<◌, ◌++◌, ◌∷◌, [], Bool, List, ◌+◌, ◌^◌, true, not, length, vec_capacity, if◌then◌else◌, None, Some, OnOk, option_map};
+ghost use Rattle.std.specs.Prelude.{◌≡◌, ◌≤◌, ◌<◌, ◌++◌, ◌∷◌, [], Bool, List, ◌+◌, ◌^◌, true, false, not, length, vec_capacity, if◌then◌else◌, None, Some, OnOk, option_map};
 ghost use Rattle.farm_history.specs.declared.queues.Outcome.{Outcome};
 ghost use Rattle.farm_history.specs.Plans.{is_in};
 ghost use Rattle.farm_plan.specs.Spots.{IsKeyOf};

@@ -1,21 +1,12 @@
-use Rattle.std.proofs.Common.{ℕ, ◌∷◌, refl, sym, ap, ◌∙◌, subst}
-use Rattle.std.specs.Prelude.{option_map}
+use Rattle.std.proofs.Common.{sym, ap, ◌∙◌, subst}
 use Rattle.farm_history.specs.declared.keys.Key.{Key}
 use Rattle.farm_history.specs.declared.queues.Outcome.{Outcome}
-use Rattle.farm_history.specs.declared.answers.Finished.{Finished}
-use Rattle.farm_history.specs.Entries.{Finish}
-use Rattle.farm_history.specs.Plans.{is_in}
-use Rattle.farm_history.specs.Seen.{Taken}
 use Rattle.render_queues.specs.Tables.{after_end}
-use Rattle.farm_plan.specs.Spots.{IsKeyOf}
 use Rattle.farm_refinement.specs.Seen.{FarmSeen}
-use Rattle.farm_plan.specs.Jobs.{JobSeen, job_key}
-use Rattle.farm_refinement.specs.Stands.{StandsFor}
-use Rattle.farm_refinement.specs.inner.Events.{taken_at, untaken}
-use Rattle.farm_core.specs.inner.Effects.{IsTaken, Keeps, turn}
-use Rattle.farm_core.proofs.Flown.{flight_taken, flight_of_plan, flight_stands, taken_turned}
-use Rattle.farm_core.proofs.Lasting.{lasts_as, lasts_kept, lasts_on}
-use Rattle.farm_core.proofs.Told.{finish_kept, finish_cut}
+use Rattle.farm_refinement.specs.inner.Events.{untaken}
+use Rattle.farm_core.specs.inner.Effects.{IsTaken, turn}
+use Rattle.farm_core.proofs.Flown.{flight_taken, taken_turned}
+use Rattle.farm_core.proofs.Told.{finish_cut}
 use Rattle.farm_core.proofs.farm.Farm.finish_none.Goals as goal
 
 pub release-requires : goal.release-requires
