@@ -51,6 +51,19 @@ pub const NONE: Faults<'static> = Faults {
     err: &[],
 };
 
+/// Files of these names and contents, of which the reads of these numbers fail.
+pub(crate) fn files_of(
+    alloc: Global,
+    held: &[(&str, &[u8])],
+    reads: &[u64],
+) -> Result<MemFiles, Fail> {
+    let mut files = Vec::new(alloc);
+    for (name, bytes) in held {
+        files.push((Text::of(alloc, name)?, Bytes::of(alloc, bytes)?))?;
+    }
+    Ok(MemFiles::new(alloc, files, Vec::from_slice(alloc, reads)?)?)
+}
+
 /// Calls with these words over these files.
 pub(crate) fn call<R: Threads + Wait + Clock + Sync>(
     rt: &R,
@@ -63,11 +76,7 @@ pub(crate) fn call<R: Threads + Wait + Clock + Sync>(
     for word in words {
         all.push(String::from_str(alloc, *word)?)?;
     }
-    let mut files = Vec::new(alloc);
-    for (name, bytes) in held {
-        files.push((Text::of(alloc, name)?, Bytes::of(alloc, bytes)?))?;
-    }
-    let mut files = MemFiles::new(alloc, files, Vec::from_slice(alloc, faults.reads)?)?;
+    let mut files = files_of(alloc, held, faults.reads)?;
     let mut out = MemSink::new(alloc, 1000, Vec::from_slice(alloc, faults.out)?)?;
     let mut err = MemSink::new(alloc, 1000, Vec::from_slice(alloc, faults.err)?)?;
     let store = MemStore::new(alloc, Vec::new(alloc), Vec::new(alloc), Vec::new(alloc))?;

@@ -1,4 +1,4 @@
-//! The top call over files and sinks in memory that fail.
+//! The top call over files and sinks in memory that fail, and calls that no command makes.
 #![tactic(auto)]
 
 #[cfg(test)]
@@ -10,4 +10,10 @@ mod call;
 #[cfg(test)]
 mod failing;
 #[cfg(test)]
+mod one_seat;
+#[cfg(test)]
+mod plans;
+#[cfg(test)]
 mod rare;
+#[cfg(test)]
+mod scripted;

@@ -1,2 +1,0 @@
-mod SoundPlan
-mod Turning

@@ -1,5 +1,0 @@
-use Rattle.shared_farm_test.specs.Pool.{IsFront}
-use Rattle.shared_farm_test.proofs.feeding.settle.Given as goal
-
-abbrev pub invariant-loop : goal.invariant-loop
-invariant-loop g l = IsFront l.farm l.seat
