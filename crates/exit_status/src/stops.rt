@@ -7,7 +7,7 @@ use farm_base::{NoMemory, Text};
 use std::alloc::{AllocError, Global};
 
 /// Why a command ended before it was done. A refusal carries its whole line.
-#[derive(Debug, Drop)]
+#[derive(Drop)]
 pub enum Stop {
     /// A file's content was refused.
     Refused(Text),

@@ -17,7 +17,7 @@ use raster_layers::{GridFault, make_grid};
 use std::alloc::Global;
 
 /// Why a raster file is refused; want of memory is that of its PPM text.
-#[derive(Clone, Copy, Debug, PartialEq, Eq)]
+#[derive(Clone, Copy)]
 pub enum RasterFault {
     /// It is no PPM text.
     Ppm(PpmFault),

@@ -3,7 +3,7 @@ use farm_base::NoMemory;
 use std::alloc::{AllocError, AllocFailed};
 
 /// The first fault of a saved text, in reading order.
-#[derive(Clone, Copy, Debug, PartialEq, Eq)]
+#[derive(Clone, Copy)]
 pub enum SavedFault {
     /// The bytes end before the next field: their number.
     Short(u64),

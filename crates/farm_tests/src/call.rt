@@ -1,5 +1,5 @@
 //! One call of the program over named contents.
-use farm_base::{Bytes, MemFiles, MemSink, OpenGate, Text};
+use farm_base::{Bytes, MemFiles, MemSink, NoMemory, OpenGate, Text};
 use farm_call::farm_main;
 use memory_ports::MemPorts;
 use std::alloc::Global;
@@ -56,12 +56,12 @@ pub(crate) fn files_of(
     alloc: Global,
     held: &[(&str, &[u8])],
     reads: &[u64],
-) -> Result<MemFiles, Fail> {
+) -> Result<MemFiles, NoMemory> {
     let mut files = Vec::new(alloc);
     for (name, bytes) in held {
         files.push((Text::of(alloc, name)?, Bytes::of(alloc, bytes)?))?;
     }
-    Ok(MemFiles::new(alloc, files, Vec::from_slice(alloc, reads)?)?)
+    MemFiles::new(alloc, files, Vec::from_slice(alloc, reads)?)
 }
 
 /// Calls with these words over these files.

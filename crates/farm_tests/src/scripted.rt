@@ -60,6 +60,6 @@ fn end_of<O: Sink>(alloc: Global, out: &mut O) -> Option<ScriptEnd> {
 fn a_script_on_a_farm_of_one_thread(rt: HostRuntime) -> Result<(), Fail> {
     let mut out = MemSink::new(rt.alloc(), 1000, Vec::new(rt.alloc()))?;
     let end = end_of(rt.alloc(), &mut out);
-    assert!(rt; end == Some(ScriptEnd::Done) && out.bytes() == ANSWERS);
+    assert!(rt; matches!(end, Some(ScriptEnd::Done)) && out.bytes() == ANSWERS);
     Ok(())
 }

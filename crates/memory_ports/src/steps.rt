@@ -2,7 +2,7 @@
 use farm_base::Bytes;
 
 /// A step of a script. Connections have the numbers 0, 1, 2 and so on, in the order of their Open.
-#[derive(Debug, Drop)]
+#[derive(Drop)]
 pub enum PortStep {
     /// A peer connects.
     Open,

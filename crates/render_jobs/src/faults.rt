@@ -11,7 +11,7 @@ use farm_plan::{Kept, Key, Past};
 use std::alloc::AllocError;
 
 /// Why a farm is not resumed, in the order in which this is told.
-#[derive(Clone, Copy, Debug, PartialEq, Eq)]
+#[derive(Clone, Copy)]
 pub enum ResumeFault {
     /// Of so many maps a style was saved, and the plan has not as many.
     Maps(u64),

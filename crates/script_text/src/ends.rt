@@ -1,7 +1,7 @@
 //! How a script ends.
 
 /// How a script ends.
-#[derive(Clone, Copy, Debug, PartialEq, Eq)]
+#[derive(Clone, Copy)]
 pub enum ScriptEnd {
     /// All lines were run.
     Done,

@@ -17,7 +17,7 @@ use std::alloc::Global;
 use tile_store::TileStore;
 
 /// How a script ended, and whether a call of the store failed.
-#[derive(Clone, Copy, Debug, PartialEq, Eq)]
+#[derive(Clone, Copy)]
 pub struct ScriptRun {
     pub end: ScriptEnd,
     pub failed: bool,

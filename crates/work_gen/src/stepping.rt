@@ -9,7 +9,7 @@ use arrayvec::ArrayVec;
 use farm_plan::Spot;
 
 /// A step: the tile that is asked for, and whether it is expired first.
-#[derive(Clone, Copy, Debug, PartialEq, Eq)]
+#[derive(Clone, Copy)]
 pub struct Step {
     pub spot: Spot,
     pub expire: bool,
