@@ -10,8 +10,8 @@ returns-in-Idle-clause-entries g c = found_nothing c.args.worker c.args.seat.now
 pub returns-in-Stopped-clause-entries : goal.returns-in-Stopped-clause-entries
 returns-in-Stopped-clause-entries g c = found_stopped c.args.worker c.args.seat.now c.claim.new.seat _ c.in-Stopped.is c.in-Ok.ensures.turn
 
-pub returns-in_default-finish-clause-entries : goal.returns-in_default-finish-clause-entries
-returns-in_default-finish-clause-entries g c = drew_worn c.args.worker c.args.seat.now c.claim.new.seat c.finish.new.seat _ c.in-Job.job c.in-Job.is c.in-Ok.ensures.turn c.in_default-finish.ensures.turn
+pub returns-in_default-finished-clause-entries : goal.returns-in_default-finished-clause-entries
+returns-in_default-finished-clause-entries g c = drew_worn c.args.worker c.args.seat.now c.claim.new.seat c.finish-finished.new.seat _ c.in-Job.job c.in-Job.is c.in-Ok.ensures.turn c.in_default-finished.ensures.turn
 
-pub returns-in-Ok-finish-clause-entries : goal.returns-in-Ok-finish-clause-entries
-returns-in-Ok-finish-clause-entries g c = drew c.args.worker c.args.seat.now c.claim.new.seat c.finish.new.seat _ c.in-Job.job _ _ c.in-Job.is c.in-Ok.ensures.turn c.in-Ok-finish.ensures.turn
+pub returns-in-Ok-finished-clause-entries : goal.returns-in-Ok-finished-clause-entries
+returns-in-Ok-finished-clause-entries g c = drew c.args.worker c.args.seat.now c.claim.new.seat c.finish-finished.new.seat _ c.in-Job.job _ _ c.in-Job.is c.in-Ok.ensures.turn c.in-Ok-finished.ensures.turn
