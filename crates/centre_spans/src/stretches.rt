@@ -35,7 +35,7 @@ pub fn narrowed(p: Stretch, q: Stretch) -> Stretch
 }
 
 /// A number that grows evenly along the places v: `v * slope + rest`.
-#[derive(Clone, Copy, Debug, PartialEq, Eq)]
+#[derive(Clone, Copy, PartialEq, Eq)]
 pub struct Growing {
     pub slope: u32,
     pub rest: u64,

@@ -12,7 +12,7 @@ use std::alloc::Global;
 const CELL_ROWS: usize = 64;
 
 /// Cells that lie together: in each row from `top` to `bottom` those of the columns whose bits are set.
-#[derive(Clone, Copy, Debug, PartialEq, Eq)]
+#[derive(Clone, Copy, PartialEq, Eq)]
 pub(crate) struct CellBlock {
     pub top: u32,
     pub bottom: u32,

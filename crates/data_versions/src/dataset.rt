@@ -7,7 +7,7 @@ use geo_model::Feature;
 use std::marker::Model;
 
 /// A layer of data: a name and its features in order.
-#[derive(Debug, Drop)]
+#[derive(Drop)]
 pub struct Layer {
     pub name: Text,
     pub features: Vec<Feature>,
@@ -22,7 +22,7 @@ impl Model for Layer {
 }
 
 /// A change of one layer: the ids to be removed, and then the features to be put.
-#[derive(Debug, Drop)]
+#[derive(Drop)]
 pub struct Change {
     pub layer: Text,
     pub remove: Vec<u64>,
@@ -39,7 +39,7 @@ impl Model for Change {
 
 /// Data to begin with: at most 64 layers of distinct names of 1 to 64 bytes, each with at most 1,000,000
 /// features of distinct ids. Contracts see them as the list of their layers.
-#[derive(Debug, Drop)]
+#[derive(Drop)]
 pub struct Dataset {
     layers: Vec<Layer>,
 }
@@ -86,7 +86,7 @@ impl Dataset {
 
 /// An update: at most 1,000,000 changes, each of a layer whose name has 1 to 64 bytes and with at most
 /// 1,000,000 puts. Contracts see it as the list of its changes.
-#[derive(Debug, Drop)]
+#[derive(Drop)]
 pub struct Update {
     changes: Vec<Change>,
 }

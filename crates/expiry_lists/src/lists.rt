@@ -16,7 +16,7 @@ use std::alloc::Global;
 use std::marker::Model;
 
 /// The tiles of an expiry list, in order, at most 1,000,000. Contracts see it as the list of them.
-#[derive(Debug, Drop)]
+#[derive(Drop)]
 pub struct TileList {
     pub tiles: Vec<Tile>,
 }

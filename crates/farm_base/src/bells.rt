@@ -9,7 +9,7 @@ pub trait Bell {
 }
 
 /// A bell that wakes nobody.
-#[derive(Clone, Copy, Debug, PartialEq, Eq)]
+#[derive(Clone, Copy, PartialEq, Eq)]
 pub struct NoBell;
 
 impl Bell for NoBell {
@@ -17,7 +17,7 @@ impl Bell for NoBell {
 }
 
 /// The bells of the three fronts.
-#[derive(Debug, Drop)]
+#[derive(Drop)]
 pub struct Bells<B> {
     /// The bell of the front of renderd's messages.
     pub renderd: B,
@@ -34,7 +34,7 @@ pub trait Gate {
 }
 
 /// A gate that holds no drawing.
-#[derive(Clone, Copy, Debug, PartialEq, Eq)]
+#[derive(Clone, Copy, PartialEq, Eq)]
 pub struct OpenGate;
 
 impl Gate for OpenGate {

@@ -49,7 +49,7 @@ impl From<NoMemory> for FileFault {
 }
 
 /// A call on files or on a store that failed: the name or path it was given, and whether it was a put.
-#[derive(Debug, Drop)]
+#[derive(Drop)]
 pub struct FailedCall {
     pub name: Text,
     pub put: bool,
@@ -72,7 +72,7 @@ pub trait Files {
 }
 
 /// Named contents in memory, and the reads that are to fail.
-#[derive(Debug, Drop)]
+#[derive(Drop)]
 pub struct MemFiles {
     files: Vec<(Text, Bytes)>,
     reads: Vec<u64>,

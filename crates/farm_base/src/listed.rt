@@ -5,7 +5,7 @@ use std::marker::Model;
 
 /// A vector that contracts see as the list of its items, so that the types around it can be compared
 /// and named in definitions. It is made from a vector without taking memory.
-#[derive(Debug, Drop)]
+#[derive(Drop)]
 pub struct Listed<T> {
     items: Vec<T>,
 }

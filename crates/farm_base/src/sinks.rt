@@ -29,7 +29,7 @@ pub trait Sink {
 }
 
 /// A sink in memory with a fixed room, and the puts that are to fail.
-#[derive(Debug, Drop)]
+#[derive(Drop)]
 pub struct MemSink {
     bytes: Vec<u8>,
     room: u32,

@@ -2,7 +2,7 @@
 use crate::texts::Text;
 
 /// The value of an attribute: null, a truth value, a whole number or a text.
-#[derive(Debug, Drop)]
+#[derive(Drop)]
 pub enum Value {
     Null,
     Truth(bool),
@@ -11,7 +11,7 @@ pub enum Value {
 }
 
 /// An attribute of a feature: its name and its value.
-#[derive(Debug, Drop)]
+#[derive(Drop)]
 pub struct Attr {
     pub name: Text,
     pub value: Value,

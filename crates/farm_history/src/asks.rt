@@ -2,7 +2,7 @@
 
 /// A tile as it is asked for: its map by place, none where no map has the name, and its three numbers,
 /// which need not be those of a tile.
-#[derive(Clone, Copy, Debug, PartialEq, Eq)]
+#[derive(Clone, Copy, PartialEq, Eq)]
 pub struct Spot {
     pub map: Option<u32>,
     pub z: u32,
@@ -11,7 +11,7 @@ pub struct Spot {
 }
 
 /// The commands of renderd's protocol that ask for a metatile.
-#[derive(Clone, Copy, Debug, PartialEq, Eq)]
+#[derive(Clone, Copy, PartialEq, Eq)]
 pub enum Cmd {
     Render,
     Prio,
@@ -22,7 +22,7 @@ pub enum Cmd {
 }
 
 /// What an ask is answered at once. A number is the ask's own, and its reply comes by `collect`.
-#[derive(Clone, Copy, Debug, PartialEq, Eq)]
+#[derive(Clone, Copy, PartialEq, Eq)]
 pub enum AskAnswer {
     /// The metatile is clean.
     Done,
@@ -39,7 +39,7 @@ pub enum AskAnswer {
 }
 
 /// Why an ask will have no reply.
-#[derive(Clone, Copy, Debug, PartialEq, Eq)]
+#[derive(Clone, Copy, PartialEq, Eq)]
 pub enum Why {
     /// The farm was stopped.
     Stopping,

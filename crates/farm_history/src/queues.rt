@@ -1,21 +1,21 @@
 //! Connections, the five queues of renderd, and the replies to asks that wait.
 
 /// A connection: the front that it came to, and its number there.
-#[derive(Clone, Copy, Debug, PartialEq, Eq, Hash)]
+#[derive(Clone, Copy, PartialEq, Eq, Hash)]
 pub struct Conn {
     pub front: u32,
     pub number: u32,
 }
 
 /// An ask that waits for a metatile: its connection and its number.
-#[derive(Clone, Copy, Debug, PartialEq, Eq)]
+#[derive(Clone, Copy, PartialEq, Eq)]
 pub struct Waiter {
     pub conn: Conn,
     pub ask: u64,
 }
 
 /// The queues, in the order in which they are taken, as in renderd.
-#[derive(Clone, Copy, Debug, PartialEq, Eq)]
+#[derive(Clone, Copy, PartialEq, Eq)]
 pub enum Queue {
     Prio,
     Request,
@@ -25,7 +25,7 @@ pub enum Queue {
 }
 
 /// How a drawing ended for those who waited for it.
-#[derive(Clone, Copy, Debug, PartialEq, Eq)]
+#[derive(Clone, Copy, PartialEq, Eq)]
 pub enum Outcome {
     /// It was stored.
     Done,
@@ -36,7 +36,7 @@ pub enum Outcome {
 }
 
 /// The reply to an ask that waited: its connection, its number and the outcome.
-#[derive(Clone, Copy, Debug, PartialEq, Eq)]
+#[derive(Clone, Copy, PartialEq, Eq)]
 pub struct Reply {
     pub conn: Conn,
     pub ask: u64,
@@ -50,7 +50,7 @@ pub const MOST_WAITING: u32 = 32;
 pub const MOST_DIRTY: u32 = 1_000;
 
 /// How many metatiles may wait in each queue.
-#[derive(Clone, Copy, Debug, PartialEq, Eq)]
+#[derive(Clone, Copy, PartialEq, Eq)]
 pub struct Limits {
     pub prio: u32,
     pub request: u32,

@@ -3,7 +3,7 @@ use crate::keys::Kept;
 use std::marker::Model;
 
 /// An update that succeeded, by its number: as an update, or as one that expired what it reaches.
-#[derive(Clone, Copy, Debug, PartialEq, Eq)]
+#[derive(Clone, Copy, PartialEq, Eq)]
 pub enum Past {
     Update(u32),
     Renew(u32),
@@ -12,7 +12,7 @@ pub enum Past {
 /// What is saved of a farm: for each map, in order, the number of its last style, or none where it still has
 /// the plan's; the updates that succeeded, in order; and the clean metatiles with their versions, by map, zoom,
 /// column and row.
-#[derive(Debug, Drop)]
+#[derive(Drop)]
 pub struct Saved {
     pub styles: Vec<Option<u32>>,
     pub updates: Vec<Past>,

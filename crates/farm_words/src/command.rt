@@ -6,7 +6,7 @@ use plain_world::Tile;
 use std::alloc::{AllocError, AllocFailed};
 
 /// A command of the program.
-#[derive(Debug, Drop)]
+#[derive(Drop)]
 pub enum Command {
     /// `render STYLE DATA T Z X Y`: the names of the style and of the data, the tile's size and the tile.
     Render(Text, Text, u32, Tile),

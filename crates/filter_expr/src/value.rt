@@ -7,7 +7,7 @@ use farm_base::{Attr, Value};
 use plain_filters::{CompareSign, ProductSign, SumSign};
 
 /// A value that borrows its text: from the filter or from an attribute.
-#[derive(Clone, Copy, Debug)]
+#[derive(Clone, Copy)]
 pub enum ValueRef<'a> {
     Null,
     Truth(bool),

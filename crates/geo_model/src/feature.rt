@@ -14,7 +14,7 @@ use std::marker::Model;
 
 /// A feature, which contracts see as its id, its shape and its attributes. Its parts have no fault: see
 /// [`make_feature`].
-#[derive(Debug, Drop)]
+#[derive(Drop)]
 pub struct Feature {
     id: u64,
     geometry: Geometry,

@@ -30,7 +30,7 @@ pub struct Span {
 }
 
 /// What a container holds.
-#[derive(Debug, Drop)]
+#[derive(Drop)]
 pub struct Listing {
     /// The metatile that its head names.
     pub meta: Meta,

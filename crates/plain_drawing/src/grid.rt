@@ -9,7 +9,7 @@ use std::marker::Model;
 
 /// A raster on the world: its west and north edge and the side of its pixels in world units, how many columns
 /// and rows of pixels it has, each from 1 to 1,024, and three bytes for each pixel, by rows.
-#[derive(Debug, Drop)]
+#[derive(Drop)]
 pub struct Grid {
     pub name: Text,
     pub west: u32,

@@ -10,7 +10,7 @@ use plain_shapes::{Colour, LineCap};
 use std::marker::Model;
 
 /// How the Filter rules of a style are taken (Mapnik's `filter-mode`): all that match, or the first one.
-#[derive(Clone, Copy, Debug, PartialEq, Eq)]
+#[derive(Clone, Copy, PartialEq, Eq)]
 pub enum FilterMode {
     All,
     First,
@@ -18,7 +18,7 @@ pub enum FilterMode {
 
 /// What a rule paints. Opacities are in thousandths, from 0 to 1,000; widths and heights in hundredths of a
 /// pixel, from 1 to 6,400.
-#[derive(Clone, Copy, Debug, PartialEq, Eq)]
+#[derive(Clone, Copy, PartialEq, Eq)]
 pub enum Symbolizer {
     /// Fills polygons.
     Polygon {
@@ -49,7 +49,7 @@ pub enum Symbolizer {
 /// denominator are in hundredths; the least one belongs to the scales, the greatest one does not.
 ///
 /// A rule has no filter beside `else_filter`, and at most 16 symbolizers.
-#[derive(Debug, Drop)]
+#[derive(Drop)]
 pub struct Rule {
     pub filter: Option<Expr>,
     pub else_filter: bool,
@@ -97,7 +97,7 @@ fn know_rules(rules: &[Rule])
 }
 
 /// A style: its name of 1 to 64 bytes and at most 256 rules.
-#[derive(Debug, Drop)]
+#[derive(Drop)]
 pub struct Style {
     pub name: Text,
     pub filter_mode: FilterMode,
@@ -143,7 +143,7 @@ fn know_styles(styles: &[Style])
 
 /// A layer of a map: its name, the data layer or raster that it draws, both of 1 to 64 bytes, its scales as
 /// those of a rule, and the names of the styles that draw it, in order.
-#[derive(Debug, Drop)]
+#[derive(Drop)]
 pub struct LayerRef {
     pub name: Text,
     pub source: Text,
@@ -170,7 +170,7 @@ impl Model for LayerRef {
 
 /// A raster of a map: its name of 1 to 64 bytes, its file of 1 to 100 bytes, the west and north edge of its
 /// grid, each at most `2^30`, and the side of its pixels, from 1 to `2^30`, in world units.
-#[derive(Debug, Drop)]
+#[derive(Drop)]
 pub struct RasterRef {
     pub name: Text,
     pub file: Text,
@@ -197,7 +197,7 @@ impl Model for RasterRef {
 
 /// A whole map style: at most 256 styles, 64 layers and 2 rasters, each with names that differ, every style
 /// that a layer names among the styles, and as grids none, or one for each raster in order.
-#[derive(Debug, Drop)]
+#[derive(Drop)]
 pub struct MapStyle {
     pub background_color: Colour,
     pub styles: Vec<Style>,

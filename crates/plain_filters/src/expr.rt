@@ -3,7 +3,7 @@ use farm_base::Text;
 
 /// A filter. A chain is one list of its parts, and parentheses leave no node of their own. What a
 /// text is read as has chains of two parts or more only; other lists have a value too.
-#[derive(Debug, Drop)]
+#[derive(Drop)]
 #[cycle(expr)]
 pub enum Expr {
     /// True where one of the parts is.
@@ -33,7 +33,7 @@ pub enum Expr {
 }
 
 /// How two values are compared.
-#[derive(Clone, Copy, Debug, PartialEq, Eq)]
+#[derive(Clone, Copy, PartialEq, Eq)]
 pub enum CompareSign {
     Equal,
     Unequal,
@@ -44,7 +44,7 @@ pub enum CompareSign {
 }
 
 /// A later part of a sum with the sign before it.
-#[derive(Debug, Drop)]
+#[derive(Drop)]
 #[cycle(expr)]
 pub struct SumPart {
     pub sign: SumSign,
@@ -52,14 +52,14 @@ pub struct SumPart {
 }
 
 /// Added, or taken away.
-#[derive(Clone, Copy, Debug, PartialEq, Eq)]
+#[derive(Clone, Copy, PartialEq, Eq)]
 pub enum SumSign {
     Plus,
     Minus,
 }
 
 /// A later part of a product with the sign before it.
-#[derive(Debug, Drop)]
+#[derive(Drop)]
 #[cycle(expr)]
 pub struct ProductPart {
     pub sign: ProductSign,
@@ -67,7 +67,7 @@ pub struct ProductPart {
 }
 
 /// Multiplied, divided with the quotient rounded towards zero, or the rest of that division.
-#[derive(Clone, Copy, Debug, PartialEq, Eq)]
+#[derive(Clone, Copy, PartialEq, Eq)]
 pub enum ProductSign {
     Times,
     Divide,

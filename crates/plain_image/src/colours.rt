@@ -16,7 +16,7 @@ use std::alloc::Global;
 use std::marker::Model;
 
 /// A list of colours. Contracts see the colours.
-#[derive(Debug, Drop)]
+#[derive(Drop)]
 pub struct Colours {
     bytes: Vec<u8>,
 }

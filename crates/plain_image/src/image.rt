@@ -11,7 +11,7 @@ use std::marker::Model;
 const COPIED: usize = 8;
 
 /// An image, by rows. Contracts see its sides and its pixels, row by row. Its sides are 1 to 4,096.
-#[derive(Debug, Drop)]
+#[derive(Drop)]
 pub struct Image {
     cols: u32,
     rows: u32,

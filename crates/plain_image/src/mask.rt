@@ -5,7 +5,7 @@ use std::marker::Model;
 
 /// A mask over the pixels of a window, by rows: which of them are covered. Contracts see its sides
 /// and its bits, row by row. Its sides are 1 to 4,096.
-#[derive(Debug, Drop)]
+#[derive(Drop)]
 pub struct Mask {
     cols: u32,
     rows: u32,

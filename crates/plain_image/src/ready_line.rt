@@ -10,7 +10,7 @@ use std::marker::Model;
 
 /// The bytes of some pixels of one colour. To copy them takes a fraction of the time in which they are
 /// stored byte by byte. Contracts see the colour and how many pixels there are.
-#[derive(Debug, Drop)]
+#[derive(Drop)]
 pub struct ReadyLine {
     colour: Colour,
     count: usize,

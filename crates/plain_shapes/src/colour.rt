@@ -1,7 +1,7 @@
 //! Colours.
 
 /// A colour by its red, green and blue channels.
-#[derive(Clone, Copy, Debug, PartialEq, Eq)]
+#[derive(Clone, Copy, PartialEq, Eq)]
 pub struct Colour {
     pub r: u8,
     pub g: u8,

@@ -4,7 +4,7 @@ use plain_world::Point;
 use std::marker::Model;
 
 /// A list of points in order: the points of a line, of a ring, or single ones.
-#[derive(Debug, Drop)]
+#[derive(Drop)]
 pub struct Path {
     pub points: Vec<Point>,
 }
@@ -19,7 +19,7 @@ impl Model for Path {
 }
 
 /// The shape of a feature: points, lines, or a polygon by its rings.
-#[derive(Debug, Drop)]
+#[derive(Drop)]
 pub enum Geometry {
     Points(Path),
     Lines(Listed<Path>),
@@ -27,7 +27,7 @@ pub enum Geometry {
 }
 
 /// How a line ends: at its last point, in a half disk, or in half a square.
-#[derive(Clone, Copy, Debug, PartialEq, Eq)]
+#[derive(Clone, Copy, PartialEq, Eq)]
 pub enum LineCap {
     Butt,
     Round,

@@ -2,7 +2,7 @@
 use farm_base::Bytes;
 
 /// How a front ended.
-#[derive(Clone, Copy, Debug, PartialEq, Eq)]
+#[derive(Clone, Copy, PartialEq, Eq)]
 pub enum FrontEnd {
     /// Its ports finished.
     Finished,
@@ -17,7 +17,7 @@ pub enum FrontEnd {
 }
 
 /// The bytes of a connection that were answered and not taken.
-#[derive(Debug, Drop)]
+#[derive(Drop)]
 pub struct Rest {
     /// The front's number: 0 renderd, 1 tiles, 2 control.
     pub front: u32,
@@ -27,7 +27,7 @@ pub struct Rest {
 }
 
 /// What a front hands back.
-#[derive(Debug, Drop)]
+#[derive(Drop)]
 pub struct FrontDone {
     pub end: FrontEnd,
     /// One for each connection that was there at the end, in the order in which they were opened.

@@ -6,7 +6,7 @@ use std::alloc::AllocError;
 
 /// What happened on ports. Connections have the numbers 0, 1, 2 and so on, in the order in which they
 /// were opened; a number is never used twice.
-#[derive(Clone, Copy, Debug, PartialEq, Eq)]
+#[derive(Clone, Copy, PartialEq, Eq)]
 pub enum PortEvent {
     /// A peer connected.
     Opened(u32),
@@ -87,7 +87,7 @@ impl From<AllocError> for SendFault {
 }
 
 /// A line of the record that ports tell.
-#[derive(Debug, Drop)]
+#[derive(Drop)]
 pub enum PortItem {
     /// A listen: its address, and whether it failed.
     Listened(Text, bool),

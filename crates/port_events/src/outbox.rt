@@ -34,7 +34,7 @@ impl From<AllocError> for BoxFault {
 
 /// A connection and its rest. The first `start` bytes are gone: a rest that is taken in many small sends
 /// is not moved at each.
-#[derive(Debug, Drop)]
+#[derive(Drop)]
 struct Pending {
     conn: u32,
     bytes: Vec<u8>,
@@ -127,7 +127,7 @@ impl Pending {
 /// The bytes of a front that were answered and not yet taken, which contracts see as a list of pairs: a
 /// connection and its rest, of at most 1,048,576 bytes. A connection is added only where it is not
 /// there, so it stands in the list once.
-#[derive(Debug, Drop)]
+#[derive(Drop)]
 pub struct Outbox {
     items: Vec<Pending>,
     // room for all rests, so that they are handed back without memory

@@ -16,7 +16,7 @@ use std::sync::Wait;
 use tile_store::{Stage, TileStore};
 
 /// How a worker ends.
-#[derive(Clone, Copy, Debug, PartialEq, Eq)]
+#[derive(Clone, Copy, PartialEq, Eq)]
 pub enum WorkEnd {
     /// Its claim was answered Stopped.
     Stopped,

@@ -16,7 +16,7 @@ use scale_rules::denominator;
 use std::alloc::Global;
 
 /// The tiles of a metatile as binary PPM texts, in order of index place.
-#[derive(Debug, Drop)]
+#[derive(Drop)]
 pub struct DrawnMeta {
     pub meta: Meta,
     pub tiles: Vec<Bytes>,

@@ -8,7 +8,7 @@ use crate::targets::{Target, read_target};
 use std::str::from_utf8;
 
 /// What the bytes of a connection ask for.
-#[derive(Clone, Copy, Debug)]
+#[derive(Clone, Copy)]
 pub enum Request<'a> {
     /// More bytes are waited for.
     Open,

@@ -8,7 +8,7 @@ use line_reading::small_number;
 use tile_paths::is_name;
 
 /// What a target asks for.
-#[derive(Clone, Copy, Debug, PartialEq, Eq)]
+#[derive(Clone, Copy, PartialEq, Eq)]
 pub enum Kind {
     /// The tile itself.
     Tile,
@@ -20,7 +20,7 @@ pub enum Kind {
 
 /// What a target asks for, of which tile: the name of a map, which need not be there, and three numbers
 /// of 32 bits, which need not be those of a tile.
-#[derive(Clone, Copy, Debug)]
+#[derive(Clone, Copy)]
 pub struct Target<'a> {
     pub kind: Kind,
     pub name: &'a str,

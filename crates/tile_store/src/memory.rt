@@ -14,7 +14,7 @@ use std::alloc::Global;
 use std::marker::Model;
 
 /// Contents in memory by their paths, with puts and gets that fail at the numbers of two lists.
-#[derive(Debug, Drop)]
+#[derive(Drop)]
 pub struct MemStore {
     held: Vec<(Text, Bytes)>,
     puts: Vec<u64>,
