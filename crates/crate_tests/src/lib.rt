@@ -7,12 +7,8 @@ mod cells;
 #[cfg(test)]
 mod counter;
 #[cfg(test)]
-mod messages;
-#[cfg(test)]
 mod outside;
 #[cfg(test)]
 mod places;
 #[cfg(test)]
 mod stores;
-#[cfg(test)]
-mod tiles;
