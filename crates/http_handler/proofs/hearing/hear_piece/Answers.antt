@@ -28,7 +28,7 @@ returns-in_default-http_ask_in-clause-heard g c =
 pub returns-clause-heard : goal.returns-clause-heard
 returns-clause-heard g c =
     let reads : is_reading c.args.conn_state.now.stage ≡ true = search rules in
-    hears_http_ask c.args.context.now.front.now.front (g.M.Farm.map_at c.args.context.now.farm.now) c.conn c.args.piece.now c.in-Some.http_ask _ _ c.args.conn_state.now _ _ _ refl reads c.in-Ok.ensures
+    hears_http_ask c.args.context.now.front.now.front (g.M.Farm.map_at c.args.context.now.farm.now) (record { front = c.args.context.now.front.now.front; number = c.args.conn }) c.args.piece.now c.in-Some.http_ask _ _ c.args.conn_state.now _ _ _ refl reads c.in-Ok.ensures
     (subst (λ (b : List ℕ). BytesAsk (g.M.Farm.map_at c.args.context.now.farm.now) b c.in-Some.http_ask) (c.read_part.ensures ∙ ap bytes_read c.as_slice.ensures.value) c.in-Some.ensures)
     c.serve_http_ask.ensures.does
 
