@@ -1,5 +1,5 @@
 -- Bits that stand for cells, and why cells that share no bit hold no common point.
-use Rattle.std.proofs.Common.{◌≡◌, ℕ, get_or, ◌+◌, ◌-◌, ◌*◌, ◌/◌, ◌%◌, ◌^◌, ◌<◌, ◌≤◌, refl, sym, ap, ◌∙◌, subst, inl, inr, arith}
+use Rattle.std.proofs.Common.{◌≡◌, ℕ, zero, suc, suc-mul, get_or, ◌+◌, ◌-◌, ◌*◌, ◌/◌, ◌%◌, ◌^◌, ◌<◌, ◌≤◌, refl, sym, ap, ◌∙◌, subst, inl, inr, arith}
 use Rattle.std.specs.Prelude.{Bool, true, false, ◌||◌, nat_lt, min, max, List, [], ◌∷◌, length, take, set, All}
 use Rattle.std.specs.List.{AllByRecursion, list_any}
 use Rattle.std.proofs.lemmas.Bool.Decides.{nat_tests}
@@ -18,8 +18,8 @@ use Rattle.geo_model.specs.Bounds.{InBounds, Within, IsLeastBounds, meets}
 use Rattle.geo_model.specs.Shapes.{parts_of, least_points, is_none, IsShape}
 use Rattle.data_versions.specs.Near.{is_near}
 use Rattle.data_versions.specs.declared.cells.CellBlock.{CellBlock}
-use Rattle.data_versions.specs.inner.Cells.{part_of, row_of, column_of, Marks, HasCells, IsWide, box_of, IsBoxed, IsMarked, IsChunk}
-use Rattle.std.proofs.Math.Nat.{div-mul-le_self}
+use Rattle.data_versions.specs.inner.Cells.{scale_of, part_of, row_of, column_of, Marks, HasCells, IsWide, box_of, IsBoxed, IsMarked, IsChunk}
+use Rattle.std.proofs.Math.Nat.{div-mul-le_self, mul-div-le, mul-le-mul_right}
 use Rattle.std.proofs.lemmas.Nat.{le-div}
 use Rattle.std.proofs.lemmas.Nat.Bits.{bit_at_or, bit_at_and, bit_at-lt, bit_at-zero, bit_at_set_same}
 
@@ -73,7 +73,18 @@ quotient_grows m n k some h = le-div (m / k) n k some (omega (arith, div-mul-le_
 
 -- a coordinate further on lies in no earlier part
 part_grows : (low high x y : ℕ) → x ≤ y → part_of low high x ≤ part_of low high y
-part_grows low high x y h = quotient_grows ((x - low) * 64) ((y - low) * 64) (high - low + 1) (omega arith) (omega arith)
+part_grows low high x y h = quotient_grows ((x - low) * scale_of low high) ((y - low) * scale_of low high) 68719476736 (omega arith) (mul-le-mul_right (scale_of low high) (omega arith))
+
+-- the steps within a way take fewer shares than the whole of it
+pub shares_within : (low high x scale : ℕ) → x ≤ high → scale ≡ scale_of low high → (x - low) * scale < 4398046511104
+shares_within low high x scale within is =
+    let whole : (high - low + 1) * scale_of low high ≤ 4398046511104 = mul-div-le 4398046511104 (high - low + 1) in
+    let more : suc (x - low) * scale_of low high ≤ (high - low + 1) * scale_of low high = mul-le-mul_right (scale_of low high) (omega arith) in
+    rw is (below (x - low) (scale_of low high) (omega (arith, suc-mul (x - low) (scale_of low high), whole, more)))
+  where
+    below : (steps scale : ℕ) → steps * scale + scale ≤ 4398046511104 → steps * scale < 4398046511104
+    below steps zero h = let none : steps * 0 ≡ 0 = omega arith in omega (arith, none)
+    below steps (suc scale) h = omega (arith, h)
 
 -- the cells of all columns and rows between those of the part's corners mark it
 pub marks_from : (box part : Bounds) (block : CellBlock) (west east north south first last : ℕ) → west ≡ max box.west part.west → east ≡ min box.east part.east

@@ -1,15 +1,43 @@
 //! Which of the 64 by 64 cells of a box a rectangle meets, and the cells that many rectangles meet: of each row a
 //! number, in which the bit of a column stands for a cell. Rows are counted from the north, columns from the west.
-ghost use Rattle.std.specs.Prelude.{◌≡◌, ◌≤◌, ◌<◌, ◌+◌, ℕ, false, length, slice_set, slice_index_or, bit_and, bit_or, IfOk};
+ghost use Rattle.std.specs.Prelude.{◌≡◌, ◌≤◌, ◌<◌, ◌+◌, ◌*◌, ◌/◌, ℕ, false, length, slice_set, slice_index_or, bit_and, bit_or, IfOk};
 ghost use Rattle.std.specs.Int.{bit_at};
-ghost use Rattle.data_versions.specs.inner.Cells.{part_of, Marks};
+ghost use Rattle.data_versions.specs.inner.Cells.{scale_of, Marks};
 
 use farm_base::NoMemory;
 use geo_model::Bounds;
 use std::alloc::Global;
+use std::marker::Model;
 
 // How many rows of cells a box has.
 const CELL_ROWS: usize = 64;
+
+// Into so many shares a cell is cut on its way across or down.
+const SHARES_OF_CELL: u64 = 68_719_476_736;
+
+// The shares of 64 cells.
+const SHARES_OF_WAY: u64 = 4_398_046_511_104;
+
+/// A box, and how many shares of a cell a step across and a step down is. They are divided once for all the
+/// rectangles whose cells are looked for. Contracts see the box.
+#[derive(Drop)]
+pub(crate) struct Grid {
+    bounds: Bounds,
+    across: u64,
+    down: u64,
+}
+
+impl Model for Grid {
+    ghost use Rattle.std.specs.Prelude.{◌≡◌};
+    ghost use Rattle.geo_model.specs.declared.bounds.Bounds.{Bounds};
+    ghost use Rattle.data_versions.specs.inner.Cells.{scale_of};
+
+    ghost Value = { Bounds };
+
+    ghost view = { λ g. g.bounds };
+
+    ghost invariant = { λ g. (g.across ≡ scale_of g.bounds.west g.bounds.east) × (g.down ≡ scale_of g.bounds.north g.bounds.south) };
+}
 
 /// Cells that lie together: in each row from `top` to `bottom` those of the columns whose bits are set.
 #[derive(Clone, Copy, PartialEq, Eq)]
@@ -19,14 +47,20 @@ pub(crate) struct CellBlock {
     pub columns: u64,
 }
 
-/// In which of 64 equal parts of the way from `low` to `high` x lies, counted from 0.
-fn part_of(low: u32, high: u32, x: u32) -> u32
-    requires above { low ≤ x }
-    requires below { x ≤ high }
-    ensures value { result ≡ part_of low high x }
+/// How many shares of a cell one step from `low` towards `high` is.
+fn scale_of(low: u32, high: u32) -> u64
+    ensures { result ≡ scale_of low high }
+{
+    SHARES_OF_WAY / (u64::from(high.saturating_sub(low)) + 1)
+}
+
+/// In which of 64 equal parts of a way its point after so many steps lies, counted from 0.
+fn part_at(steps: u32, scale: u64) -> u32
+    requires { steps * scale < 4398046511104 }
+    ensures value { result ≡ steps * scale / 68719476736 }
     ensures small { result < 64 }
 {
-    (u64::from(x - low) * 64 / (u64::from(high - low) + 1)) as u32
+    (u64::from(steps) * scale / SHARES_OF_CELL) as u32
 }
 
 /// The columns from the first to the last.
@@ -41,30 +75,43 @@ fn columns_between(first: u32, last: u32) -> u64
     columns
 }
 
-/// The cells of the box that the part meets.
-pub(crate) fn cells_met(bounds: Bounds, part: Bounds) -> CellBlock
-    ensures marks { Marks bounds part result }
-    ensures few { result.bottom < 64 }
-{
-    let west = bounds.west.max(part.west);
-    let east = bounds.east.min(part.east);
-    let north = bounds.north.max(part.north);
-    let south = bounds.south.min(part.south);
-    if west > east || north > south {
-        return CellBlock {
-            top: 1,
-            bottom: 0,
-            columns: 0,
-        };
+impl Grid {
+    /// The cells of the box.
+    pub(crate) fn of(bounds: Bounds) -> Grid
+        ensures { result ≡ bounds }
+    {
+        Grid {
+            bounds,
+            across: scale_of(bounds.west, bounds.east),
+            down: scale_of(bounds.north, bounds.south),
+        }
     }
-    let first = part_of(bounds.west, bounds.east, west);
-    let last = part_of(bounds.west, bounds.east, east);
-    let top = part_of(bounds.north, bounds.south, north);
-    let bottom = part_of(bounds.north, bounds.south, south);
-    CellBlock {
-        top,
-        bottom,
-        columns: columns_between(first, last),
+
+    /// The cells that the part meets.
+    pub(crate) fn cells_met(&self, part: Bounds) -> CellBlock
+        ensures marks { Marks self.now part result }
+        ensures few { result.bottom < 64 }
+    {
+        let west = self.bounds.west.max(part.west);
+        let east = self.bounds.east.min(part.east);
+        let north = self.bounds.north.max(part.north);
+        let south = self.bounds.south.min(part.south);
+        if west > east || north > south {
+            return CellBlock {
+                top: 1,
+                bottom: 0,
+                columns: 0,
+            };
+        }
+        let first = part_at(west - self.bounds.west, self.across);
+        let last = part_at(east - self.bounds.west, self.across);
+        let top = part_at(north - self.bounds.north, self.down);
+        let bottom = part_at(south - self.bounds.north, self.down);
+        CellBlock {
+            top,
+            bottom,
+            columns: columns_between(first, last),
+        }
     }
 }
 

@@ -1,29 +1,32 @@
-//! A chunk of a layer: up to 256 features that snapshots share, with the box and the cells in which they lie.
-ghost use Rattle.std.specs.Prelude.{◌≡◌, ◌≤◌, ◌<◌, ◌+◌, ℕ, None, false, length, drop, position, slice_get, All, IfSome, IfOk};
+//! A chunk of a layer: features that snapshots share, with the box and the cells in which they lie.
+ghost use Rattle.std.specs.Prelude.{◌≡◌, ◌≤◌, ◌<◌, ◌+◌, ℕ, List, None, false, length, drop, position, slice_get, All, IfSome, IfOk};
 ghost use Rattle.std.specs.Option.{option_copied};
 ghost use Rattle.data_versions.specs.Near.{place_of, is_near, all_near};
 ghost use Rattle.data_versions.specs.inner.Cells.{IsWide, IsBoxed, IsMarked, box_of};
 ghost use Rattle.data_versions.specs.inner.Chunks.{IsIndex};
-ghost use Rattle.data_versions.specs.inner.Ids.{IsOutside};
+ghost use Rattle.data_versions.specs.inner.Ids.{IsOutside, IsSpan};
+ghost use Rattle.plain_data.specs.Features.{Feature};
 ghost use Rattle.geo_model.specs.Bounds.{Within};
 
-use crate::cells::{add_block, cells_met, has_one, no_cells};
+use crate::cells::{Grid, add_block, has_one, no_cells};
 use farm_base::NoMemory;
 use geo_model::{Bounds, Feature};
 use std::alloc::Global;
 use std::marker::Model;
 
-/// The most features of a chunk.
-pub(crate) const MOST_TOGETHER: usize = 256;
+/// The most features of a full chunk. An update that changes one of them copies them all, and each update counts
+/// all chunks.
+pub(crate) const MOST_TOGETHER: usize = 128;
 
-/// Up to 256 features, their ids from least to greatest, the box that holds them, and those of its 64 by 64 cells
-/// that they meet: 2 bytes a feature, by which a chunk of features that lie far apart is passed over too. Contracts
-/// see it as the list of its features.
+/// Features, their ids from least to greatest, the first and the last of these, the box that holds the features,
+/// and those of its 64 by 64 cells that they meet: 4 bytes a feature, by which a chunk of features that lie far
+/// apart is passed over too. Contracts see it as the list of its features.
 #[derive(Drop)]
 pub(crate) struct Chunk {
     features: Vec<Feature>,
     ids: Vec<u64>,
-    bounds: Bounds,
+    span: (u64, u64),
+    grid: Grid,
     cells: Vec<u64>,
 }
 
@@ -32,12 +35,13 @@ impl Model for Chunk {
     ghost use Rattle.plain_data.specs.Features.{Feature};
     ghost use Rattle.data_versions.specs.inner.Cells.{IsChunk};
     ghost use Rattle.data_versions.specs.inner.Chunks.{IsIndex};
+    ghost use Rattle.data_versions.specs.inner.Ids.{IsSpan};
 
     ghost Value = { List Feature };
 
     ghost view = { λ c. c.features.items };
 
-    ghost invariant = { λ c. IsChunk c.bounds c.cells.items c.features.items × IsIndex c.ids.items c.features.items };
+    ghost invariant = { λ c. IsChunk c.grid c.cells.items c.features.items × IsIndex c.ids.items c.features.items × IsSpan c.span c.features.items };
 }
 
 /// The least rectangle that holds both.
@@ -80,13 +84,13 @@ fn box_around(features: &[Feature]) -> Bounds
 }
 
 /// The cells of the box that the features meet.
-fn cells_under(alloc: Global, bounds: Bounds, features: &[Feature]) -> Result<Vec<u64>, NoMemory>
+fn cells_under(alloc: Global, grid: &Grid, features: &[Feature]) -> Result<Vec<u64>, NoMemory>
     ensures rows { IfOk result (λ v. length v.items ≡ 64) }
-    ensures marked { IfOk result (λ v. All (IsMarked bounds v.items) features.now) }
+    ensures marked { IfOk result (λ v. All (IsMarked grid.now v.items) features.now) }
 {
     let mut cells = no_cells(alloc)?;
     for feature in features {
-        add_block(&mut cells, cells_met(bounds, feature.bbox()));
+        add_block(&mut cells, grid.cells_met(feature.bbox()));
     }
     Ok(cells)
 }
@@ -103,6 +107,17 @@ fn sorted_ids(alloc: Global, features: &[Feature]) -> Result<Vec<u64>, NoMemory>
     Ok(ids)
 }
 
+/// The least and the greatest of the ids; no feature has an id outside of these.
+fn span_of(ids: &Vec<u64>) -> (u64, u64)
+    ensures { (features : List Feature) → IsIndex ids.now.items features → IsSpan result features }
+{
+    let count = ids.len();
+    if count == 0 {
+        return (1, 0);
+    }
+    (ids[0], ids[count - 1])
+}
+
 impl Chunk {
     /// The chunk of the features.
     pub(crate) fn of(alloc: Global, features: Vec<Feature>) -> Result<Chunk, NoMemory>
@@ -110,12 +125,14 @@ impl Chunk {
         ensures { IfOk result (λ chunk. chunk ≡ features.items) }
     {
         let ids = sorted_ids(alloc, features.as_slice())?;
-        let bounds = box_around(features.as_slice());
-        let cells = cells_under(alloc, bounds, features.as_slice())?;
+        let span = span_of(&ids);
+        let grid = Grid::of(box_around(features.as_slice()));
+        let cells = cells_under(alloc, &grid, features.as_slice())?;
         Ok(Chunk {
             features,
             ids,
-            bounds,
+            span,
+            grid,
             cells,
         })
     }
@@ -140,7 +157,7 @@ impl Chunk {
         requires { IsWide around }
         ensures { result ≡ false → All (λ f. is_near around f ≡ false) self.now }
     {
-        has_one(self.cells.as_slice(), cells_met(self.bounds, around))
+        has_one(self.cells.as_slice(), self.grid.cells_met(around))
     }
 
     /// How many steps past the place `from` the first feature near the rectangle stands.
@@ -171,8 +188,15 @@ impl Chunk {
         }
     }
 
-    /// The place of the feature with the id.
-    pub(crate) fn place_of(&self, id: u64) -> Option<usize>
+    /// The least and the greatest id of the features; no feature has an id outside of these.
+    pub(crate) fn id_span(&self) -> (u64, u64)
+        ensures { (id : ℕ) → IsOutside result id → place_of self.now id ≡ None }
+    {
+        self.span
+    }
+
+    /// The place of the feature with the id, for which the ids are searched.
+    fn search(&self, id: u64) -> Option<usize>
         ensures place { result ≡ place_of self.now id }
         ensures bound { IfSome result (λ place. place < length self.now) }
     {
@@ -182,15 +206,16 @@ impl Chunk {
         find_id(self.features.as_slice(), id)
     }
 
-    /// The least and the greatest id of the features; no feature has an id outside of these.
-    pub(crate) fn id_span(&self) -> (u64, u64)
-        ensures { (id : ℕ) → IsOutside result id → place_of self.now id ≡ None }
+    /// The place of the feature with the id.
+    pub(crate) fn place_of(&self, id: u64) -> Option<usize>
+        ensures place { result ≡ place_of self.now id }
+        ensures bound { IfSome result (λ place. place < length self.now) }
     {
-        let count = self.ids.len();
-        if count == 0 {
-            return (1, 0);
+        let span = self.id_span();
+        if id < span.0 || span.1 < id {
+            return None;
         }
-        (self.ids[0], self.ids[count - 1])
+        self.search(id)
     }
 }
 

@@ -8,9 +8,13 @@ use Rattle.geo_model.specs.Bounds.{bounds_of, InBounds, Within}
 use Rattle.geo_model.specs.Shapes.{parts_of}
 use Rattle.data_versions.specs.declared.cells.CellBlock.{CellBlock}
 
+-- how many shares one step from low towards high is, of which the whole way has 64 times 2^36
+abbrev pub scale_of : ℕ → ℕ → ℕ
+scale_of low high = 4398046511104 / (high - low + 1)
+
 -- in which of 64 equal parts of the way from low to high x lies, counted from 0
 abbrev pub part_of : ℕ → ℕ → ℕ → ℕ
-part_of low high x = (x - low) * 64 / (high - low + 1)
+part_of low high x = (x - low) * scale_of low high / 68719476736
 
 -- the row of the point's cell, and its column
 abbrev pub row_of : Bounds → Point → ℕ

@@ -25,6 +25,10 @@ pub record IsIdTable (pairs : List (ℕ × ℕ)) (features : List Feature) : Typ
 abbrev pub IsOutside : ℕ × ℕ → ℕ → Type 0
 IsOutside span id = (id < span.0) ⊎ (span.1 < id)
 
+-- no feature has its id outside of the two numbers
+abbrev pub IsSpan : ℕ × ℕ → List Feature → Type 0
+IsSpan span features = (id : ℕ) → IsOutside span id → place_of features id ≡ None
+
 -- for each chunk two numbers outside of which no feature of it has its id
 pub record AreSpans (spans : List (ℕ × ℕ)) (chunks : List (Arc (List Feature) Global)) : Type 0 where
   pub long : length spans ≡ length chunks

@@ -7,5 +7,5 @@ use Rattle.data_versions.proofs.chunk.cells_under.Given as goal
 abbrev pub invariant-loop-feature : goal.invariant-loop-feature
 invariant-loop-feature l = record {
   rows : length l.cells.items ≡ 64;
-  marked : All (IsMarked l.bounds l.cells.items) (take l.feature-index l.features);
+  marked : All (IsMarked l.grid l.cells.items) (take l.feature-index l.features);
 }

@@ -1,6 +1,6 @@
 use Rattle.std.proofs.Common.{sym, ◌∙◌}
 use Rattle.data_versions.proofs.Finds.{missed}
-use Rattle.data_versions.proofs.chunk.Chunk.place_of.Goals as goal
+use Rattle.data_versions.proofs.chunk.Chunk.search.Goals as goal
 
 pub returns-then-is_err-clause-place : goal.returns-then-is_err-clause-place
 returns-then-is_err-clause-place c =
