@@ -79,7 +79,8 @@ fn ask<R: Wait, D: TileStore>(
         number: conn,
     };
     if let Ok(answer) = farm.ask(rt, seat, conn, Cmd::Render, WORLD) {
-        said.add(ask_line(said.alloc, answer));
+        let line = ask_line(said.alloc, answer);
+        said.add(line);
     }
 }
 
@@ -88,7 +89,8 @@ fn collect<R: Wait, D: TileStore>(rt: &R, farm: &SharedFarm<D>, seat: &mut Seat<
     ensures { IsFront farm.now seat.new }
 {
     if let Ok(answer) = farm.collect(rt, seat, 0) {
-        said.add(collect_line(said.alloc, answer));
+        let line = collect_line(said.alloc, answer);
+        said.add(line);
     }
 }
 
@@ -97,7 +99,8 @@ fn expire<R: Wait, D: TileStore>(rt: &R, farm: &SharedFarm<D>, seat: &mut Seat<D
     ensures { IsFront farm.now seat.new }
 {
     if let Ok(count) = farm.expire(rt, seat, WITHIN) {
-        said.add(expire_line(said.alloc, count));
+        let line = expire_line(said.alloc, count);
+        said.add(line);
     }
 }
 
@@ -106,7 +109,8 @@ fn look<R: Wait, D: TileStore>(rt: &R, farm: &SharedFarm<D>, seat: &mut Seat<D>,
     ensures { IsFront farm.now seat.new }
 {
     if let Ok(answer) = farm.look(rt, seat, WORLD) {
-        said.add(look_line(said.alloc, answer));
+        let line = look_line(said.alloc, answer);
+        said.add(line);
     }
 }
 
@@ -116,8 +120,9 @@ fn fetch<R: Wait, D: TileStore>(rt: &R, farm: &SharedFarm<D>, seat: &mut Seat<D>
     ensures { IsFront farm.now seat.new }
 {
     if let Ok(answer) = farm.fetch(rt, seat, said.alloc, WORLD) {
-        said.add(fetch_head(said.alloc, &answer));
+        let line = fetch_head(said.alloc, &answer);
         drop(answer);
+        said.add(line);
     }
 }
 
@@ -128,7 +133,8 @@ fn claim<R: Wait, D: TileStore>(rt: &R, farm: &SharedFarm<D>, seat: &mut Seat<D>
     ensures job { IfSome result (λ claimed. IfJob claimed (λ job.
         IsValidJob job × HasJob (lasts D.state farm.now) seat.new.number seat.new.seen job)) }
 {
-    farm.claim(rt, seat, 0).ok()
+    let claimed = farm.claim(rt, seat, 0).ok()?;
+    Some(claimed)
 }
 
 /// Draws the job and hands the drawing back.
@@ -145,12 +151,14 @@ fn finish<R: Wait, D: TileStore>(
     ensures { IsFront farm.now seat.new }
 {
     let answer = ClaimAnswer::Job(job.ticket, job.key(), job.version);
-    said.add(claim_line(said.alloc, "default", answer));
+    let line = claim_line(said.alloc, "default", answer);
+    said.add(line);
     let mut picture_buffer = PictureBuffer::new(said.alloc);
     let drawn = draw(&mut picture_buffer, &job);
     drop(picture_buffer);
     if let Ok(answer) = farm.finish(rt, seat, said.alloc, job, drawn) {
-        said.add(finish_line(said.alloc, answer));
+        let line = finish_line(said.alloc, answer);
+        said.add(line);
     }
 }
 
