@@ -234,7 +234,7 @@ fn a_staging_that_fails_is_told(rt: HostRuntime) -> Result<(), Fail> {
     let staging = FileStaging::new(rt.clone()?);
     match stage_bytes(&staging, alloc, 9, Vec::from_slice(alloc, b"bytes")?) {
         Ok(_) => assert!(rt; false, "nothing is staged"),
-        Err(back) => assert!(rt; back.as_slice() == b"bytes"),
+        Err(back) => assert!(rt; back.as_slice() == b"bytes".as_slice()),
     }
     fs::remove_file(&rt, "tiles")?;
     Ok(())
