@@ -1,9 +1,9 @@
 //! The chunks of a layer by the ids between which those of their features lie.
-ghost use Rattle.std.specs.Prelude.{◌≡◌, ◌≤◌, ◌<◌, ℕ, None, length, IfOk, IfSome};
+ghost use Rattle.std.specs.Prelude.{◌≡◌, ◌≤◌, ◌<◌, ◌-◌, ℕ, None, length, slice_index, IfOk, IfSome};
 ghost use Rattle.std.specs.Arc.{arc_value};
 ghost use Rattle.plain_data.specs.Limits.{most_features};
 ghost use Rattle.data_versions.specs.Near.{place_of};
-ghost use Rattle.data_versions.specs.inner.Ids.{IsOutside, AreSpans};
+ghost use Rattle.data_versions.specs.inner.Ids.{IsOutside, AreSpans, IsReach};
 
 use crate::chunk::Chunk;
 use crate::chunked::ChunkedLayer;
@@ -13,13 +13,15 @@ use std::marker::Model;
 use std::sync::Arc;
 
 /// The chunks of a layer, each with the least and the greatest of its ids, so that one that cannot have an id
-/// is passed over without a look at it. Contracts see the features of the layer.
+/// is passed over without a look at it, and with the greatest id up to it, so that a walk begins at the first
+/// chunk that may have an id. Contracts see the features of the layer.
 #[derive(Drop)]
 pub(crate) struct IdSpans<'a> {
     chunks: &'a [Arc<Chunk>],
     /// The place of each chunk's first feature.
     starts: &'a [u32],
     spans: Vec<(u64, u64)>,
+    reach: Vec<u64>,
     looks: usize,
 }
 
@@ -27,13 +29,13 @@ impl<'a> Model for IdSpans<'a> {
     ghost use Rattle.std.specs.Prelude.{List};
     ghost use Rattle.plain_data.specs.Features.{Feature};
     ghost use Rattle.data_versions.specs.inner.Chunks.{joined};
-    ghost use Rattle.data_versions.specs.inner.Ids.{IsSpanned};
+    ghost use Rattle.data_versions.specs.inner.Ids.{IsSpanned, IsReach};
 
     ghost Value = { List Feature };
 
     ghost view = { λ s. joined s.chunks.now };
 
-    ghost invariant = { λ s. IsSpanned s.starts.now s.spans.items s.chunks.now };
+    ghost invariant = { λ s. IsSpanned s.starts.now s.spans.items s.chunks.now × IsReach s.reach.items s.chunks.now };
 }
 
 /// The least and the greatest id of each chunk.
@@ -48,6 +50,41 @@ fn spans_of(alloc: Global, chunks: &[Arc<Chunk>]) -> Result<Vec<(u64, u64)>, NoM
     Ok(spans)
 }
 
+/// The greatest id up to each chunk.
+fn reach_of(alloc: Global, chunks: &[Arc<Chunk>]) -> Result<Vec<u64>, NoMemory>
+    ensures { IfOk result (λ reach. IsReach reach.items chunks.now) }
+{
+    let mut reach = Vec::with_capacity(alloc, chunks.len())?;
+    let mut greatest = 0;
+    for shared in chunks {
+        let chunk: &Chunk = shared;
+        greatest = chunk.id_span().1.max(greatest);
+        reach.push(greatest)?;
+    }
+    Ok(reach)
+}
+
+/// A chunk up to which no id reaches as far as this one; where the numbers rise it is the last such.
+fn first_reach(reach: &[u64], id: u64) -> usize
+    ensures bound { result ≤ length reach.now }
+    ensures before { 0 < result → slice_index reach.now (result - 1) < id }
+{
+    let mut low = 0;
+    let mut high = reach.len();
+    while low < high {
+        let middle = low + (high - low) / 2;
+        if reach[middle] < id {
+            low = middle + 1;
+        } else {
+            high = middle;
+        }
+    }
+    low
+}
+
+/// A search for the chunk at which a walk begins takes about as long as so many looks at a span.
+const LOOKS_OF_SEARCH: usize = 16;
+
 /// A search among the ids of a chunk, which mostly lie in no cache, takes about as long as so many looks at a
 /// span.
 const LOOKS_INTO_CHUNK: usize = 64;
@@ -56,7 +93,7 @@ const LOOKS_INTO_CHUNK: usize = 64;
 /// those of the chunks before it has to be searched.
 fn looks_for_one(spans: &[(u64, u64)]) -> usize {
     let mut greatest = 0;
-    let mut looks = spans.len();
+    let mut looks = LOOKS_OF_SEARCH;
     for span in spans {
         if span.0 <= greatest {
             looks = looks.saturating_add(LOOKS_INTO_CHUNK);
@@ -87,11 +124,13 @@ impl<'a> IdSpans<'a> {
     {
         let (chunks, starts) = layer.begun();
         let spans = spans_of(alloc, chunks)?;
+        let reach = reach_of(alloc, chunks)?;
         let looks = looks_for_one(spans.as_slice());
         Ok(IdSpans {
             chunks,
             starts,
             spans,
+            reach,
             looks,
         })
     }
@@ -105,8 +144,9 @@ impl<'a> IdSpans<'a> {
     pub(crate) fn place_of(&self, id: u64) -> Option<u32>
         ensures { result ≡ place_of self.now id }
     {
-        for (at, span) in self.spans.iter().enumerate() {
-            if let Some(place) = place_within(&self.chunks[at], *span, id) {
+        for at in first_reach(self.reach.as_slice(), id)..self.spans.len() {
+            let span = self.spans[at];
+            if let Some(place) = place_within(&self.chunks[at], span, id) {
                 return Some(self.starts[at] + place as u32);
             }
         }

@@ -3,3 +3,4 @@ pub mod Earlier
 pub mod InMemory
 pub mod Limits
 pub mod Outside
+pub mod Texts

@@ -2,21 +2,30 @@
 ghost use Rattle.std.specs.Prelude.{◌≡◌, IfOk, string_bytes};
 
 use crate::memory::NoMemory;
+use arrayvec::ArrayString;
 use std::alloc::Global;
 use std::marker::Model;
+
+/// Where a text is kept: one of at most 16 bytes in itself, so that it takes no block of memory.
+#[derive(Drop)]
+pub enum Kept {
+    Here(ArrayString<16>),
+    Apart(String),
+}
 
 /// A text, which contracts see as its UTF-8 bytes.
 #[derive(Drop)]
 pub struct Text {
-    inner: String,
+    kept: Kept,
 }
 
 impl Model for Text {
-    ghost use Rattle.std.specs.Prelude.{List, ℕ, string_bytes};
+    ghost use Rattle.std.specs.Prelude.{List, ℕ};
+    ghost use Rattle.farm_base.specs.Texts.{bytes_kept};
 
     ghost Value = { List ℕ };
 
-    ghost view = { λ t. string_bytes t.inner };
+    ghost view = { λ t. bytes_kept t.kept };
 }
 
 impl Text {
@@ -24,23 +33,30 @@ impl Text {
     pub fn of(alloc: Global, text: &str) -> Result<Text, NoMemory>
         ensures { IfOk result (λ t. t ≡ text.now) }
     {
-        Ok(Text {
-            inner: String::from_str(alloc, text)?,
-        })
+        let kept = match ArrayString::from(text) {
+            Ok(short) => Kept::Here(short),
+            Err(_) => Kept::Apart(String::from_str(alloc, text)?),
+        };
+        Ok(Text { kept })
     }
 
     /// The text of a string, which is moved in; takes no memory.
     pub fn from_string(text: String) -> Text
         ensures { result ≡ string_bytes text }
     {
-        Text { inner: text }
+        Text {
+            kept: Kept::Apart(text),
+        }
     }
 
     /// The text itself; takes no memory.
     pub fn as_str(&self) -> &str
         ensures { result.now ≡ self.now }
     {
-        self.inner.as_str()
+        match &self.kept {
+            Kept::Here(text) => text.as_str(),
+            Kept::Apart(text) => text.as_str(),
+        }
     }
 }
 

@@ -1,5 +1,5 @@
 -- A table of the ids of a layer, and the ids between which those of a chunk lie.
-use Rattle.std.specs.Prelude.{◌≡◌, ◌⊎◌, ◌<◌, ℕ, suc, nat_eq, List, [], ◌∷◌, length, get_or, None}
+use Rattle.std.specs.Prelude.{◌≡◌, ◌⊎◌, ◌<◌, ℕ, suc, nat_eq, List, [], ◌∷◌, length, take, get_or, None}
 use Rattle.std.specs.List.{IsDistinct}
 use Rattle.std.specs.List.Sorted.{IsNonDecreasingBy, IsPermutation}
 use Rattle.std.specs.declared.alloc.Global.{Global}
@@ -38,3 +38,8 @@ pub record AreSpans (spans : List (ℕ × ℕ)) (chunks : List (Arc (List Featur
 pub record IsSpanned (starts : List ℕ) (spans : List (ℕ × ℕ)) (chunks : List (Arc (List Feature) Global)) : Type 0 where
   pub chunked : IsChunked starts (length (joined chunks)) chunks
   pub ids : AreSpans spans chunks
+
+-- for each chunk a number above which no feature up to it has its id
+pub record IsReach (reach : List ℕ) (chunks : List (Arc (List Feature) Global)) : Type 0 where
+  pub long : length reach ≡ length chunks
+  pub apart : (k id : ℕ) → k < length chunks → get_or reach k 0 < id → place_of (joined (take (suc k) chunks)) id ≡ None
