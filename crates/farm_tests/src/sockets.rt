@@ -1,0 +1,243 @@
+//! The farm on real sockets, with its client in a thread of the same process. Each drawing waits at the gate until the
+//! front that asked for it sleeps, so its answer comes in time only where the worker wakes that front. What is wanted
+//! is told by `message`, `tile` and `tally` of `oracle/serve_cases.py`, over the same style and data.
+use crate::call::files_of;
+use farm_base::{Gate, MemFiles, MemSink, NoMemory};
+use farm_call::farm_main;
+use farm_program::sockets;
+use port_events::ThreePorts;
+use socket_ports::{SocketBell, SocketPorts};
+use std::alloc::Global;
+use std::io::{self, Read, Write};
+use std::net::{Net, TcpListener, TcpStream};
+use std::rt::{Clock, Files};
+use std::sync::Wait;
+use std::test::Fail;
+use std::thread::{Threads, join, sleep};
+use std::time::Duration;
+use tile_store::{MemStore, Stage};
+
+/// Version 2, command 1, x 0, y 1, z 1, of the map `default`.
+const RENDER: [u8; 64] = [
+    2, 0, 0, 0, 1, 0, 0, 0, 0, 0, 0, 0, 1, 0, 0, 0, 1, 0, 0, 0, 100, 101, 102, 97, 117, 108, 116,
+    0, 0, 0, 0, 0, 0, 0, 0, 0, 0, 0, 0, 0, 0, 0, 0, 0, 0, 0, 0, 0, 0, 0, 0, 0, 0, 0, 0, 0, 0, 0, 0,
+    0, 0, 0, 0, 0,
+];
+
+/// The same with command 3, which says that it is drawn.
+const DONE: [u8; 64] = [
+    2, 0, 0, 0, 3, 0, 0, 0, 0, 0, 0, 0, 1, 0, 0, 0, 1, 0, 0, 0, 100, 101, 102, 97, 117, 108, 116,
+    0, 0, 0, 0, 0, 0, 0, 0, 0, 0, 0, 0, 0, 0, 0, 0, 0, 0, 0, 0, 0, 0, 0, 0, 0, 0, 0, 0, 0, 0, 0, 0,
+    0, 0, 0, 0, 0,
+];
+
+/// Another tile of the same metatile.
+const GET: &[u8] = b"GET /default/1/1/0.ppm HTTP/1.1\r\n\r\n";
+
+const STYLE: &[u8] =
+    br##"{"background-color":"#ffffff","styles":[{"name":"s","rules":[{"symbolizers":[{"symbolizer":"PolygonSymbolizer","fill":"red"}]}]}],"layers":[{"name":"l","source":"land","styles":["s"]}]}"##;
+
+const DATA: &[u8] =
+    br#"{"units":"world","layers":[{"name":"land","features":[{"id":1,"geometry":{"polygon":[[[268435456,268435456],[805306368,268435456],[805306368,805306368],[268435456,805306368]]]}}]}]}"#;
+
+/// What is put at the end.
+const TALLY: &[u8] = b"asks 2 done 2 stored 1 version 0\n";
+
+/// How many milliseconds a drawing waits: longer than a front that has nothing to do is awake.
+const WAIT: u64 = 300;
+
+/// How many seconds the client waits for an answer.
+const PATIENCE: u64 = 20;
+
+/// A gate at which each drawing waits.
+#[derive(Drop)]
+struct SlowGate<'a, R> {
+    rt: &'a R,
+}
+
+impl<'a, R: Clock> Gate for SlowGate<'a, R> {
+    fn before_draw(&self, _ticket: u64) {
+        sleep(self.rt, Duration::from_millis(WAIT));
+    }
+}
+
+impl<'a, R: Clock> Stage for SlowGate<'a, R> {
+    fn write(&self, _alloc: Global, _number: u64, _bytes: &[u8]) -> bool {
+        false
+    }
+
+    fn clear(&self, _alloc: Global, _number: u64) {}
+}
+
+/// The ports of loopback at which the three fronts listen.
+#[derive(Clone, Copy)]
+struct Places {
+    renderd: u16,
+    tiles: u16,
+    control: u16,
+}
+
+/// A port of loopback at which nobody listens.
+fn free_port<R: Net<Listener = TcpListener, Stream = TcpStream>>(rt: &R) -> io::Result<u16> {
+    Ok(TcpListener::bind(rt, "127.0.0.1:0")?.local_addr()?.port())
+}
+
+/// A connection, once somebody listens.
+fn connected<R: Net<Stream = TcpStream> + Clock>(
+    rt: &R,
+    alloc: Global,
+    port: u16,
+) -> io::Result<TcpStream> {
+    let place = format!(in alloc; "127.0.0.1:{port}")?;
+    for _ in 0..500u32 {
+        if let Ok(stream) = TcpStream::connect(rt, place.as_str()) {
+            stream.set_read_timeout(Some(Duration::from_secs(PATIENCE)))?;
+            return Ok(stream);
+        }
+        sleep(rt, Duration::from_millis(20));
+    }
+    TcpStream::connect(rt, place.as_str())
+}
+
+/// Whether the port is taken at the address that was named alone, and not at the whole of loopback.
+fn is_alone<R: Net<Stream = TcpStream>>(rt: &R, alloc: Global, port: u16) -> io::Result<bool> {
+    let place = format!(in alloc; "127.0.0.2:{port}")?;
+    Ok(TcpStream::connect(rt, place.as_str()).is_err())
+}
+
+/// Whether the answer to a Render is its Done.
+fn is_drawn<R: Net<Stream = TcpStream> + Clock>(
+    rt: &R,
+    alloc: Global,
+    port: u16,
+) -> io::Result<bool> {
+    let mut stream = connected(rt, alloc, port)?;
+    stream.write_all(&RENDER)?;
+    let mut answer = [0u8; 64];
+    stream.read_exact(&mut answer)?;
+    Ok(answer == DONE)
+}
+
+/// How many bytes are answered to a GET, and the sum of each of them times its place, which counts from 1.
+fn length_and_sum<R: Net<Stream = TcpStream> + Clock>(
+    rt: &R,
+    alloc: Global,
+    port: u16,
+) -> io::Result<(u64, u64)> {
+    let mut stream = connected(rt, alloc, port)?;
+    stream.write_all(GET)?;
+    let mut answer = Vec::new(alloc);
+    stream.read_to_end(&mut answer)?;
+    let (mut length, mut sum) = (0u64, 0u64);
+    for byte in answer.as_slice() {
+        length = length.saturating_add(1);
+        sum = sum.saturating_add(length.saturating_mul(u64::from(*byte)));
+    }
+    Ok((length, sum))
+}
+
+/// Whether the line `stop` is answered.
+fn is_stopping<R: Net<Stream = TcpStream> + Clock>(
+    rt: &R,
+    alloc: Global,
+    port: u16,
+) -> io::Result<bool> {
+    let mut stream = connected(rt, alloc, port)?;
+    stream.write_all(b"stop\n")?;
+    let mut answer = [0u8; 9];
+    stream.read_exact(&mut answer)?;
+    Ok(answer == *b"stopping\n")
+}
+
+/// What came of a visit.
+#[derive(Drop)]
+struct Seen {
+    alone: io::Result<bool>,
+    drawn: io::Result<bool>,
+    tile: io::Result<(u64, u64)>,
+    stopping: io::Result<bool>,
+}
+
+/// Asks for a drawing, gets a tile of it and stops the farm, whatever came before.
+fn visit<R: Net<Stream = TcpStream> + Clock>(rt: &R, alloc: Global, places: Places) -> Seen {
+    let drawn = is_drawn(rt, alloc, places.renderd);
+    let alone = is_alone(rt, alloc, places.renderd);
+    let tile = length_and_sum(rt, alloc, places.tiles);
+    let stopping = is_stopping(rt, alloc, places.control);
+    Seen {
+        alone,
+        drawn,
+        tile,
+        stopping,
+    }
+}
+
+/// The files of a farm that listens at these ports.
+fn files(alloc: Global, places: Places) -> Result<MemFiles, NoMemory> {
+    let Places {
+        renderd,
+        tiles,
+        control,
+    } = places;
+    let config = format!(in alloc;
+        "{{\"maps\":[{{\"name\":\"default\",\"style\":\"red.style\",\"tile\":16}}],\"data\":\"square.data\",\"renderd\":\"tcp:127.0.0.1:{renderd}\",\"tiles\":\"tcp:127.0.0.1:{tiles}\",\"control\":\"tcp:127.0.0.1:{control}\"}}"
+    )?;
+    let held = [
+        ("farm.config", config.as_bytes()),
+        ("red.style", STYLE),
+        ("square.data", DATA),
+    ];
+    files_of(alloc, held.as_slice(), &[])
+}
+
+/// Serves until the farm is stopped: the status, and whether it put this line on out and nothing on err.
+fn serve<R: Threads + Wait + Clock + Net + Files + Send + Sync>(
+    rt: &R,
+    alloc: Global,
+    places: Places,
+    ports: &mut ThreePorts<SocketPorts<R>, SocketBell>,
+) -> Result<(u8, bool), NoMemory> {
+    let mut words = Vec::new(alloc);
+    words.push(String::from_str(alloc, "serve")?)?;
+    words.push(String::from_str(alloc, "farm.config")?)?;
+    let mut files = files(alloc, places)?;
+    let mut out = MemSink::new(alloc, 100, Vec::new(alloc))?;
+    let mut err = MemSink::new(alloc, 100, Vec::new(alloc))?;
+    let store = MemStore::new(alloc, Vec::new(alloc), Vec::new(alloc), Vec::new(alloc))?;
+    let end = farm_main(
+        rt,
+        alloc,
+        words.as_slice(),
+        &mut files,
+        &mut out,
+        &mut err,
+        store,
+        ports,
+        &SlowGate { rt },
+    );
+    let is_told = out.bytes() == TALLY && err.bytes().is_empty();
+    Ok((end.into_status(), is_told))
+}
+
+#[test]
+fn a_client_over_loopback(rt: HostRuntime) -> Result<(), Fail> {
+    let alloc = rt.alloc();
+    let places = Places {
+        renderd: free_port(&rt)?,
+        tiles: free_port(&rt)?,
+        control: free_port(&rt)?,
+    };
+    let mut ports = sockets(alloc, rt)?;
+    let (seen, served) = join(
+        &rt,
+        || visit(&rt, alloc, places),
+        || serve(&rt, alloc, places, &mut ports),
+    );
+    drop(ports);
+    assert!(rt; seen.alone?, "another address is listened at");
+    assert!(rt; seen.drawn?, "not the Done of the Render");
+    assert_eq!(rt; seen.tile?, (908, 80424079));
+    assert!(rt; seen.stopping?, "not told that it stops");
+    assert_eq!(rt; served?, (0, true));
+    Ok(())
+}
