@@ -51,7 +51,10 @@ fn holds<S: TileStore>(rt: &impl Abort, store: &mut S, alloc: Global) {
     gets_part(rt, store, alloc, 6, 1, b"");
     gets_part(rt, store, alloc, 18_446_744_073_709_551_615, 1, b"");
     gets_part(rt, store, alloc, 1, 0, b"");
+    // A beginning that was read does not keep what a put replaces.
+    gets_part(rt, store, alloc, 0, 1, b"a");
     assert_eq!(rt; store.put(alloc, path, b"xy"), Ok(()));
+    gets_part(rt, store, alloc, 1, 1, b"y");
     gets(rt, store, alloc, path, b"xy");
     gets(rt, store, alloc, "farm.saved", b"");
     assert_eq!(rt; store.faults(), 0);
