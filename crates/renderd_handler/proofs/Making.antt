@@ -8,7 +8,7 @@ use Rattle.front_loop.specs.Front.{with_acts}
 use Rattle.renderd_handler.specs.declared.asked.Asked.{Asked}
 use Rattle.renderd_handler.specs.Renderd.{answer_command, command_of, response_to, request_spot, with_wait, renderd_rules}
 use Rattle.farm_history.specs.Past.{number_in}
-use Rattle.renderd_handler.specs.inner.Reads.{requests_of, response_by, waits_after, Made, Halts, asks_by}
+use Rattle.renderd_handler.specs.inner.Reads.{asks_in, requests_of, response_by, waits_after, Made, Halts, asks_by}
 
 requests_of-append : (qs ps : List Asked) → requests_of (qs ++ ps) ≡ requests_of ps ++ requests_of qs
 requests_of-append [] ps = sym (append-nil (requests_of ps))
@@ -23,6 +23,10 @@ response_by-append (b ∷ qs) ps =
 waits_after-append : (qs ps : List Asked) (ws : List (ℕ × Request)) → waits_after (qs ++ ps) ws ≡ waits_after qs (waits_after ps ws)
 waits_after-append [] ps ws = refl
 waits_after-append (b ∷ qs) ps ws = ap (with_wait (number_in b.answer) b.request) (waits_after-append qs ps ws)
+
+-- a request that is asked is not skipped
+one_asked : (r : Request) (command : Cmd) → command_of r.cmd ≡ Some command → asks_in (r ∷ []) ≡ r ∷ []
+one_asked r command known = rw known
 
 module _ (front : ℕ) (maps : List ℕ → Option ℕ) (c : ℕ) where
   with_acts-append : (qs ps : List Asked) (mine : List Entry) → with_acts (renderd_rules front maps) c (qs ++ ps) mine ≡ with_acts (renderd_rules front maps) c qs (with_acts (renderd_rules front maps) c ps mine)
@@ -39,19 +43,19 @@ module _ (front : ℕ) (maps : List ℕ → Option ℕ) (c : ℕ) where
 
   pub one_made : (r : Request) (a : AskAnswer) (command : Cmd) (mine mine' : List Entry) (ws ws' : List (ℕ × Request)) (response response' : List ℕ) → command_of r.cmd ≡ Some command
       → mine' ≡ mine ++ Ask (record { front = front; number = c }) command (request_spot maps r) a ∷ [] → ws' ≡ with_wait (number_in a) r ws → response' ≡ response ++ response_to (answer_command a) r
-      → Made front maps c (r ∷ []) mine mine' ws ws' response response'
+      → Made front maps c (asks_in (r ∷ [])) mine mine' ws ws' response response'
   one_made r a command mine mine' ws ws' response response' known is waits_are response_is = record {
     acts = record { request = r; answer = a } ∷ [];
     mine_is = enters r a command mine mine' known is;
-    asks_are = refl;
+    asks_are = one_asked r command known;
     waits_are = waits_are;
     response_is = response_is;
   }
 
   -- it was asked, and no more is known of it
   pub one_halts : (r : Request) (a : AskAnswer) (command : Cmd) (mine mine' : List Entry) → command_of r.cmd ≡ Some command → mine' ≡ mine ++ Ask (record { front = front; number = c }) command (request_spot maps r) a ∷ []
-      → Halts front maps c (r ∷ []) mine mine'
-  one_halts r a command mine mine' known is = record { acts = record { request = r; answer = a } ∷ []; more = []; mine_is = enters r a command mine mine' known is; asks_are = refl }
+      → Halts front maps c (asks_in (r ∷ [])) mine mine'
+  one_halts r a command mine mine' known is = record { acts = record { request = r; answer = a } ∷ []; more = []; mine_is = enters r a command mine mine' known is; asks_are = one_asked r command known }
 
   -- nothing was asked
   pub halts_now : (asks : List Request) (mine mine' : List Entry) → mine' ≡ mine → Halts front maps c asks mine mine'

@@ -11,7 +11,7 @@ use crate::renderd::Renderd;
 use crate::waits::Waiting;
 use crate::words::{DONE, NOT_DONE, command_of, spot_of};
 use farm_base::NoMemory;
-use farm_history::{AskAnswer, Cmd, Conn};
+use farm_history::{AskAnswer, Conn};
 use front_loop::{Context, Farm};
 use renderd_protocol::{Request, write};
 use std::sync::Wait;
@@ -67,45 +67,8 @@ fn settle(
     }
 }
 
-/// Asks the farm for a request, with the command that its number is.
-fn ask<R: Wait, M: Farm>(
-    context: &Context<'_, R, M, Renderd>,
-    seat: &mut M::Seat,
-    conn: u32,
-    cmd: Cmd,
-    request: Request,
-    waits: &mut Vec<Waiting>,
-    response: &mut Vec<u8>,
-) -> Result<(), Halt>
-    requires seat { (M.seats context.now.farm.now).is_seat seat.old }
-    requires number { (M.seats context.now.farm.now).number seat.old ≡ context.now.front.now.front + 1 }
-    requires version { IsTrue (is_version request.ver) }
-    requires command { command_of request.cmd ≡ Some cmd }
-    ensures seat { SameSeat (M.seats context.now.farm.now) seat.old seat.new }
-    ensures worn { result ≡ Err Halt.Worn → (M.seats context.now.farm.now).worn seat.new ≡ true }
-    ensures made { MatchResult result
-        (λ _. Made context.now.front.now.front (M.map_at context.now.farm.now) conn (request ∷ [])
-        ((M.seats context.now.farm.now).mine seat.old) ((M.seats context.now.farm.now).mine seat.new)
-        (pairs waits.old.items) (pairs waits.new.items) response.old.items response.new.items)
-        (λ _. Halts context.now.front.now.front (M.map_at context.now.farm.now) conn (request ∷ [])
-        ((M.seats context.now.farm.now).mine seat.old) ((M.seats context.now.farm.now).mine seat.new)) }
-{
-    let spot = spot_of(context.farm, &request);
-    let conn = Conn {
-        front: context.front.front,
-        number: conn,
-    };
-    let Ok(answer) = context.farm.ask(context.rt, seat, conn, cmd, spot) else {
-        return Err(Halt::Worn);
-    };
-    let Ok(()) = settle(waits, response, request, answer) else {
-        return Err(Halt::NoMemory);
-    };
-    Ok(())
-}
-
-/// Asks for a request, or skips one of another command.
-pub fn ask_if_known<R: Wait, M: Farm>(
+/// Asks the farm for a request, or skips one of another command.
+pub fn ask<R: Wait, M: Farm>(
     context: &Context<'_, R, M, Renderd>,
     seat: &mut M::Seat,
     conn: u32,
@@ -125,8 +88,19 @@ pub fn ask_if_known<R: Wait, M: Farm>(
         (λ _. Halts context.now.front.now.front (M.map_at context.now.farm.now) conn (asks_in (request ∷ []))
         ((M.seats context.now.farm.now).mine seat.old) ((M.seats context.now.farm.now).mine seat.new)) }
 {
-    match command_of(request.cmd) {
-        Some(cmd) => ask(context, seat, conn, cmd, request, waits, response),
-        None => Ok(()),
-    }
+    let Some(cmd) = command_of(request.cmd) else {
+        return Ok(());
+    };
+    let spot = spot_of(context.farm, &request);
+    let conn = Conn {
+        front: context.front.front,
+        number: conn,
+    };
+    let Ok(answer) = context.farm.ask(context.rt, seat, conn, cmd, spot) else {
+        return Err(Halt::Worn);
+    };
+    let Ok(()) = settle(waits, response, request, answer) else {
+        return Err(Halt::NoMemory);
+    };
+    Ok(())
 }

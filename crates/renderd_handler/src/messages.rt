@@ -4,7 +4,7 @@ ghost use Rattle.front_loop.specs.Calls.{SameSeat};
 ghost use Rattle.renderd_handler.specs.declared.asking.Halt.{Halt};
 ghost use Rattle.renderd_handler.specs.inner.Reads.{asks_of, disposition_at, Halts, HasNoneNext, pairs, Reads};
 
-use crate::asking::{Halt, ask_if_known};
+use crate::asking::{Halt, ask};
 use crate::renderd::Renderd;
 use crate::waits::Waiting;
 use front_loop::{Context, Disposition, Farm, Reason};
@@ -33,7 +33,7 @@ pub fn read_all<R: Wait, M: Farm>(
         let Found::Message(request, len) = next(&bytes[used..]) else {
             return Ok(used);
         };
-        ask_if_known(context, seat, conn, request, waits, response)?;
+        ask(context, seat, conn, request, waits, response)?;
         used += len;
     }
 }
