@@ -5,7 +5,7 @@ ghost use Rattle.plain_world.specs.World.{InWorld};
 ghost use Rattle.centre_spans.specs.Stretches.{InStretch, in_stretch};
 
 /// Places along one direction: from `start` on and before `end`, in world units.
-#[derive(Clone, Copy, PartialEq, Eq)]
+#[derive(Clone, Copy)]
 pub struct Stretch {
     pub start: u64,
     pub end: u64,

@@ -35,7 +35,7 @@ pub fn narrowed(p: Stretch, q: Stretch) -> Stretch
 }
 
 /// A number that grows evenly along the places v: `v * slope + rest`.
-#[derive(Clone, Copy, PartialEq, Eq)]
+#[derive(Clone, Copy)]
 pub struct Growing {
     pub slope: u32,
     pub rest: u64,

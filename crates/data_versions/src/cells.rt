@@ -40,7 +40,7 @@ impl Model for Grid {
 }
 
 /// Cells that lie together: in each row from `top` to `bottom` those of the columns whose bits are set.
-#[derive(Clone, Copy, PartialEq, Eq)]
+#[derive(Clone, Copy)]
 pub(crate) struct CellBlock {
     pub top: u32,
     pub bottom: u32,

@@ -14,15 +14,20 @@ use style_objects::read_style;
 pub(crate) fn map(alloc: Global, text: &str) -> Result<MapStyle, Fail>
     ensures { IfOk result (λ m. style.style_in text.now ≡ Ok m) }
 {
-    Ok(read_style(alloc, text.as_bytes())?)
+    match read_style(alloc, text.as_bytes()) {
+        Ok(style) => Ok(style),
+        Err(_) => Err(Fail::new("no style")),
+    }
 }
 
 /// The first version of the data of a text.
 pub(crate) fn data(alloc: Global, text: &str) -> Result<Snapshot, Fail>
     ensures { IfOk result (λ d. texts.dataset_in text.now ≡ Ok d) }
 {
-    let dataset = read_data(alloc, text.as_bytes())?;
-    Ok(Snapshot::first(alloc, dataset)?)
+    match read_data(alloc, text.as_bytes()) {
+        Ok(dataset) => Ok(Snapshot::first(alloc, dataset)?),
+        Err(_) => Err(Fail::new("no data")),
+    }
 }
 
 /// Whether the pixels behind the head are `size` by `size`, and red from column `west` and row `north` on, before

@@ -144,7 +144,10 @@ fn ring(alloc: Global) -> Result<Feature, Fail> {
     }
     let mut rings = Vec::new(alloc);
     rings.push(Path { points })?;
-    Ok(make_feature(1, Geometry::Polygon(Listed::of(rings)), Vec::new(alloc))?)
+    match make_feature(1, Geometry::Polygon(Listed::of(rings)), Vec::new(alloc)) {
+        Ok(feature) => Ok(feature),
+        Err(_) => Err(Fail::new("no feature")),
+    }
 }
 
 // Data of one layer.

@@ -28,10 +28,20 @@ fn text_in(alloc: Global, frame: &Frame<'_>, line: &str) -> Result<String, Fail>
     }
 }
 
+/// The next version of the data, by the text of an update.
+pub(crate) fn updated(alloc: Global, old: &Snapshot, text: &str) -> Result<Snapshot, Fail> {
+    let Ok(update) = read_update(alloc, text.as_bytes()) else {
+        return Err(Fail::new("no update"));
+    };
+    match apply(alloc, old, &update) {
+        Ok(new) => Ok(new),
+        Err(_) => Err(Fail::new("refused")),
+    }
+}
+
 fn removed(alloc: Global, old: &Snapshot) -> Result<Snapshot, Fail> {
     let text = text_in(alloc, &REMOVE, IDS)?;
-    let update = read_update(alloc, text.as_bytes())?;
-    Ok(apply(alloc, old, &update)?)
+    updated(alloc, old, text.as_str())
 }
 
 fn has_one(snapshot: &Snapshot, id: u64) -> bool {

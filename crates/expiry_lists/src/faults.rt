@@ -3,7 +3,7 @@ use farm_base::NoMemory;
 use std::alloc::{AllocError, AllocFailed};
 
 /// Why a text is no expiry list.
-#[derive(Clone, Copy, Debug, PartialEq, Eq)]
+#[derive(Clone, Copy)]
 pub enum ListFault {
     /// The first line that is no tile and not empty, by its number, counted from 1 over all lines. Line
     /// 1,000,001 is such a line.

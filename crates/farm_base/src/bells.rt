@@ -9,7 +9,7 @@ pub trait Bell {
 }
 
 /// A bell that wakes nobody.
-#[derive(Clone, Copy, PartialEq, Eq)]
+#[derive(Clone, Copy)]
 pub struct NoBell;
 
 impl Bell for NoBell {
@@ -34,7 +34,7 @@ pub trait Gate {
 }
 
 /// A gate that holds no drawing.
-#[derive(Clone, Copy, PartialEq, Eq)]
+#[derive(Clone, Copy)]
 pub struct OpenGate;
 
 impl Gate for OpenGate {

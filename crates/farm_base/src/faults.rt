@@ -2,7 +2,7 @@
 //! refused for.
 
 /// Why an update was refused. `change` is the place of the change in the update, from 0.
-#[derive(Clone, Copy, Debug, PartialEq, Eq)]
+#[derive(Clone, Copy)]
 pub enum ApplyFault {
     /// The change names a layer that the data do not have.
     NoLayer(u32),
@@ -15,7 +15,7 @@ pub enum ApplyFault {
 }
 
 /// Why bytes are no META container, or not the container that was asked for.
-#[derive(Clone, Copy, Debug, PartialEq, Eq)]
+#[derive(Clone, Copy)]
 pub enum MetaFault {
     /// The bytes end before the container's head does: how many there are.
     Short(u64),

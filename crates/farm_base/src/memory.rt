@@ -3,7 +3,7 @@ use std::alloc::{AllocError, AllocFailed};
 
 /// Memory was asked for and not given. It is the one refusal that may come at any call that takes
 /// memory; after it all is as before the call, unless the call says otherwise.
-#[derive(Clone, Copy, Debug, PartialEq, Eq)]
+#[derive(Clone, Copy, Debug)]
 pub struct NoMemory;
 
 impl From<AllocError> for NoMemory {

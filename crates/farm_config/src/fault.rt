@@ -6,7 +6,7 @@ use std::alloc::{AllocError, AllocFailed};
 /// The first fault of a configuration, in reading order. A key is told by its number: 0 the object
 /// itself, 1 `maps`, 2 `data`, 3 `updates`, 4 `expiries`, 5 `workers`, 6 `limits`, 7 `renderd`,
 /// 8 `tiles`, 9 `control`, 10 `restyles`, 11 `resume`.
-#[derive(Clone, Copy, Debug, PartialEq, Eq)]
+#[derive(Clone, Copy)]
 pub enum ConfigFault {
     /// The bytes are no JSON text.
     NotJson,

@@ -4,7 +4,7 @@ use crate::queues::Reply;
 use farm_base::{ApplyFault, Bytes, MetaFault};
 
 /// What a claim is answered, as far as a history tells it.
-#[derive(Clone, Copy, PartialEq, Eq)]
+#[derive(Clone, Copy)]
 pub enum ClaimAnswer {
     /// A drawing to make: its ticket, its metatile and the data version.
     Job(u64, Key, u64),
@@ -17,7 +17,7 @@ pub enum ClaimAnswer {
 }
 
 /// What the end of a drawing is answered.
-#[derive(Clone, Copy, PartialEq, Eq)]
+#[derive(Clone, Copy)]
 pub enum Finished {
     /// It was stored; true where nothing touched the metatile since the claim.
     Stored(bool),
@@ -28,7 +28,7 @@ pub enum Finished {
 }
 
 /// What an update is answered.
-#[derive(Clone, Copy, PartialEq, Eq)]
+#[derive(Clone, Copy)]
 pub enum Updated {
     /// The new data version.
     Version(u64),
@@ -39,7 +39,7 @@ pub enum Updated {
 }
 
 /// What a change of style is answered.
-#[derive(Clone, Copy, PartialEq, Eq)]
+#[derive(Clone, Copy)]
 pub enum Restyled {
     /// How many clean metatiles it made dirty.
     Styled(u64),
@@ -48,7 +48,7 @@ pub enum Restyled {
 }
 
 /// What an update that expires what it reaches is answered.
-#[derive(Clone, Copy, PartialEq, Eq)]
+#[derive(Clone, Copy)]
 pub enum Renewed {
     /// The new data version, and how many clean metatiles it made dirty.
     Version(u64, u64),
@@ -80,7 +80,7 @@ pub enum Fetched {
 }
 
 /// How a tile's metatile stands, without its bytes.
-#[derive(Clone, Copy, PartialEq, Eq)]
+#[derive(Clone, Copy)]
 pub enum Looked {
     Clean(u64),
     Dirty(u64),
@@ -89,7 +89,7 @@ pub enum Looked {
 }
 
 /// What a front that collects its replies is answered.
-#[derive(Clone, Copy, PartialEq, Eq)]
+#[derive(Clone, Copy)]
 pub enum Collected {
     /// Its first reply.
     Reply(Reply),
@@ -101,7 +101,7 @@ pub enum Collected {
 
 /// What a farm counts: the asks with a render command; the asks that were answered Done or whose reply
 /// Done was collected; the drawings stored; the data version.
-#[derive(Clone, Copy, PartialEq, Eq)]
+#[derive(Clone, Copy)]
 pub struct Tally {
     pub asks: u64,
     pub done: u64,

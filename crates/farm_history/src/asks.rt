@@ -2,7 +2,7 @@
 
 /// A tile as it is asked for: its map by place, none where no map has the name, and its three numbers,
 /// which need not be those of a tile.
-#[derive(Clone, Copy, PartialEq, Eq)]
+#[derive(Clone, Copy)]
 pub struct Spot {
     pub map: Option<u32>,
     pub z: u32,
@@ -11,7 +11,7 @@ pub struct Spot {
 }
 
 /// The commands of renderd's protocol that ask for a metatile.
-#[derive(Clone, Copy, PartialEq, Eq)]
+#[derive(Clone, Copy)]
 pub enum Cmd {
     Render,
     Prio,

@@ -10,14 +10,14 @@ pub struct Key {
 
 /// What is shown of a metatile: the data version at the claim of the drawing stored last, and whether
 /// nothing has touched the metatile since that claim.
-#[derive(Clone, Copy, PartialEq, Eq)]
+#[derive(Clone, Copy)]
 pub struct Mark {
     pub version: u64,
     pub clean: bool,
 }
 
 /// A clean metatile with its data version, as a saved farm keeps it.
-#[derive(Clone, Copy, PartialEq, Eq)]
+#[derive(Clone, Copy)]
 pub struct Kept {
     pub key: Key,
     pub version: u64,

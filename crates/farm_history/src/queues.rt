@@ -8,14 +8,14 @@ pub struct Conn {
 }
 
 /// An ask that waits for a metatile: its connection and its number.
-#[derive(Clone, Copy, PartialEq, Eq)]
+#[derive(Clone, Copy)]
 pub struct Waiter {
     pub conn: Conn,
     pub ask: u64,
 }
 
 /// The queues, in the order in which they are taken, as in renderd.
-#[derive(Clone, Copy, PartialEq, Eq)]
+#[derive(Clone, Copy)]
 pub enum Queue {
     Prio,
     Request,
@@ -36,7 +36,7 @@ pub enum Outcome {
 }
 
 /// The reply to an ask that waited: its connection, its number and the outcome.
-#[derive(Clone, Copy, PartialEq, Eq)]
+#[derive(Clone, Copy)]
 pub struct Reply {
     pub conn: Conn,
     pub ask: u64,
@@ -50,7 +50,7 @@ pub const MOST_WAITING: u32 = 32;
 pub const MOST_DIRTY: u32 = 1_000;
 
 /// How many metatiles may wait in each queue.
-#[derive(Clone, Copy, PartialEq, Eq)]
+#[derive(Clone, Copy)]
 pub struct Limits {
     pub prio: u32,
     pub request: u32,

@@ -3,7 +3,7 @@ use crate::keys::Kept;
 use std::marker::Model;
 
 /// An update that succeeded, by its number: as an update, or as one that expired what it reaches.
-#[derive(Clone, Copy, PartialEq, Eq)]
+#[derive(Clone, Copy)]
 pub enum Past {
     Update(u32),
     Renew(u32),

@@ -21,7 +21,7 @@ pub enum Command {
 }
 
 /// Why the words ask for nothing.
-#[derive(Clone, Copy, Debug, PartialEq, Eq)]
+#[derive(Clone, Copy)]
 pub enum WordsFault {
     /// The words are none of the five forms, or clap refuses them.
     Refused,

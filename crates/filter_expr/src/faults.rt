@@ -7,7 +7,7 @@ use std::alloc::{AllocError, AllocFailed};
 
 /// Why a text is no filter, with the place of a byte in it, from 0. The fault with the smallest place
 /// is answered; of several at one place the one that stands first here.
-#[derive(Clone, Copy, Debug, PartialEq, Eq)]
+#[derive(Clone, Copy)]
 pub enum FilterFault {
     /// The first token or byte that no filter has after what stands before it: the text's length where
     /// the text ends early, the opening byte of a string or name that is not closed, of a string with

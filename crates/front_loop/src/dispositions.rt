@@ -1,7 +1,7 @@
 //! What becomes of a session, and why it is left.
 
 /// Why a connection is left.
-#[derive(Clone, Copy, PartialEq, Eq)]
+#[derive(Clone, Copy)]
 pub enum Reason {
     /// The peer sends no more.
     Ended,
@@ -24,7 +24,7 @@ pub enum Reason {
 }
 
 /// What becomes of a session as its round ends.
-#[derive(Clone, Copy, PartialEq, Eq)]
+#[derive(Clone, Copy)]
 pub enum Disposition {
     Stays,
     Leaves(Reason),

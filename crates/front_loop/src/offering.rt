@@ -18,7 +18,7 @@ use crate::sessions::{Session, SessionTable};
 use port_events::{Outbox, Ports, SendFault};
 
 /// What an offer of a connection's rest did.
-#[derive(Clone, Copy, PartialEq, Eq)]
+#[derive(Clone, Copy)]
 pub enum Gave {
     /// Nothing was due.
     Nothing,

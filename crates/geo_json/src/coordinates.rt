@@ -11,7 +11,7 @@ use reading::{list, signed, text};
 use serde_json::Value;
 
 /// What the coordinates of a text count.
-#[derive(Clone, Copy, PartialEq, Eq)]
+#[derive(Clone, Copy)]
 pub enum Units {
     /// EPSG:3857 coordinates in centimetres, x to the east and y to the north.
     Centimetres,

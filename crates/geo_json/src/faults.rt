@@ -6,7 +6,7 @@ use std::alloc::{AllocError, AllocFailed};
 
 /// The first fault of a text of data or of an update, in reading order. `part` is the place of the layer or
 /// change, `item` that of the feature in its list, both from 0, and 0 where they do not apply.
-#[derive(Clone, Copy, Debug, PartialEq, Eq)]
+#[derive(Clone, Copy)]
 pub enum DataFault {
     /// The bytes are no JSON text.
     NotJson,

@@ -6,7 +6,7 @@ use plain_shapes::Path;
 use plain_world::Point;
 
 /// A rectangle of the world by its least and greatest coordinates, which belong to it.
-#[derive(Clone, Copy, PartialEq, Eq)]
+#[derive(Clone, Copy)]
 pub struct Bounds {
     pub west: u32,
     pub north: u32,

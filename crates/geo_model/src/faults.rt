@@ -2,7 +2,7 @@
 
 /// The first fault of a feature's parts, in the order in which they are looked for. The numbers are those
 /// of printed texts.
-#[derive(Clone, Copy, Debug, PartialEq, Eq)]
+#[derive(Clone, Copy)]
 pub enum GeoFault {
     /// No part, no point, a line of fewer than 2 or a ring of fewer than 3 points.
     TooFewPoints = 1,

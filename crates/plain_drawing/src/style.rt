@@ -10,7 +10,7 @@ use plain_shapes::{Colour, LineCap};
 use std::marker::Model;
 
 /// How the Filter rules of a style are taken (Mapnik's `filter-mode`): all that match, or the first one.
-#[derive(Clone, Copy, PartialEq, Eq)]
+#[derive(Clone, Copy)]
 pub enum FilterMode {
     All,
     First,
@@ -18,7 +18,7 @@ pub enum FilterMode {
 
 /// What a rule paints. Opacities are in thousandths, from 0 to 1,000; widths and heights in hundredths of a
 /// pixel, from 1 to 6,400.
-#[derive(Clone, Copy, PartialEq, Eq)]
+#[derive(Clone, Copy)]
 pub enum Symbolizer {
     /// Fills polygons.
     Polygon {

@@ -33,7 +33,7 @@ pub enum Expr {
 }
 
 /// How two values are compared.
-#[derive(Clone, Copy, PartialEq, Eq)]
+#[derive(Clone, Copy)]
 pub enum CompareSign {
     Equal,
     Unequal,
@@ -52,7 +52,7 @@ pub struct SumPart {
 }
 
 /// Added, or taken away.
-#[derive(Clone, Copy, PartialEq, Eq)]
+#[derive(Clone, Copy)]
 pub enum SumSign {
     Plus,
     Minus,
@@ -67,7 +67,7 @@ pub struct ProductPart {
 }
 
 /// Multiplied, divided with the quotient rounded towards zero, or the rest of that division.
-#[derive(Clone, Copy, PartialEq, Eq)]
+#[derive(Clone, Copy)]
 pub enum ProductSign {
     Times,
     Divide,

@@ -3,7 +3,7 @@
 use farm_base::NoMemory;
 
 /// Why a text is no PPM image.
-#[derive(Clone, Copy, Debug, PartialEq, Eq)]
+#[derive(Clone, Copy)]
 pub enum PpmFault {
     /// The offset of the first byte that may not stand where it stands, or the text's length where
     /// bytes are missing.

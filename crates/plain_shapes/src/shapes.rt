@@ -27,7 +27,7 @@ pub enum Geometry {
 }
 
 /// How a line ends: at its last point, in a half disk, or in half a square.
-#[derive(Clone, Copy, PartialEq, Eq)]
+#[derive(Clone, Copy)]
 pub enum LineCap {
     Butt,
     Round,

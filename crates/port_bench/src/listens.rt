@@ -90,7 +90,7 @@ pub(crate) fn show_bell<R: Threads + Sync + Clock + Print, P: Ports>(
     let mut longest = Duration::ZERO;
     for _ in 0..10 {
         let (rung, (event, heard)) = thread::join(rt, || ring(rt, bell), || hear(rt, alloc, ports));
-        if event == PortEvent::Woken {
+        if matches!(event, PortEvent::Woken) {
             woken = woken.saturating_add(1);
         }
         longest = longest.max(heard?.duration_since(rung?));

@@ -6,7 +6,7 @@ use std::alloc::AllocError;
 
 /// What happened on ports. Connections have the numbers 0, 1, 2 and so on, in the order in which they
 /// were opened; a number is never used twice.
-#[derive(Clone, Copy, PartialEq, Eq)]
+#[derive(Clone, Copy)]
 pub enum PortEvent {
     /// A peer connected.
     Opened(u32),
@@ -29,7 +29,7 @@ pub enum PortEvent {
 }
 
 /// Why ports do not listen at an address.
-#[derive(Clone, Copy, Debug, PartialEq, Eq)]
+#[derive(Clone, Copy)]
 pub enum PortFault {
     /// The address is none, or cannot be listened at.
     Failed,
@@ -58,7 +58,7 @@ impl From<AllocError> for PortFault {
 }
 
 /// Why a send took nothing.
-#[derive(Clone, Copy, Debug, PartialEq, Eq)]
+#[derive(Clone, Copy)]
 pub enum SendFault {
     /// The connection failed, and is open no longer.
     Failed,

@@ -14,7 +14,7 @@ use std::marker::Model;
 use std::mem::swap;
 
 /// Why an answer was not put into an outbox; after either nothing has changed.
-#[derive(Clone, Copy, Debug, PartialEq, Eq)]
+#[derive(Clone, Copy)]
 pub enum BoxFault {
     /// The rest would pass 1,048,576 bytes.
     Full,

@@ -15,7 +15,7 @@ use std::mem;
 const MOST_CORNERS: usize = 1 << 18;
 
 /// Where crossings of a column begin or end: its rows from `row` on are turned round.
-#[derive(Clone, Copy, PartialEq, Eq)]
+#[derive(Clone, Copy)]
 pub struct Corner {
     pub column: u32,
     pub row: u32,
@@ -40,7 +40,7 @@ pub fn no_crossings(alloc: Global) -> Crossed
 }
 
 /// Rows of a column: from `top` on and before `bottom`.
-#[derive(Clone, Copy, PartialEq, Eq)]
+#[derive(Clone, Copy)]
 pub struct ColumnRun {
     pub column: u32,
     pub top: u32,

@@ -56,7 +56,7 @@ fn crossing(a: Point, b: Point, w: Window, j: u32) -> u32
 
 /// An edge that runs from `a` down to `b`, and the first columns and rows whose centres lie at its west end or past
 /// it, at its east end, at its upper end and at its lower end.
-#[derive(Clone, Copy, PartialEq, Eq)]
+#[derive(Clone, Copy)]
 pub struct Edge {
     pub a: Point,
     pub b: Point,

@@ -10,7 +10,7 @@ use plain_world::Window;
 
 /// Pixels side by side: those of the row `row` from the column `start` on and before the column `end`.
 /// What follows them begins at the crossing `next`.
-#[derive(Clone, Copy, PartialEq, Eq)]
+#[derive(Clone, Copy)]
 pub struct Run {
     pub row: u32,
     pub start: u32,

@@ -6,7 +6,7 @@ use farm_base::Text;
 use plain_drawing::{Grid, MOST_GRID_SIDE};
 
 /// Why a picture is no grid.
-#[derive(Clone, Copy, Debug, PartialEq, Eq)]
+#[derive(Clone, Copy)]
 pub enum GridFault {
     /// A side is over 1,024 pixels.
     Size,

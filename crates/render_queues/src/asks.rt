@@ -6,7 +6,7 @@ ghost use Rattle.render_queues.specs.Tables.{waits_on, asked_by, reply_with, wit
 use farm_history::{Conn, Key, Outcome, Reply, Waiter};
 
 /// An ask that waits for a metatile.
-#[derive(Clone, Copy, PartialEq, Eq)]
+#[derive(Clone, Copy)]
 pub struct Asked {
     pub key: Key,
     pub waiter: Waiter,

@@ -2,7 +2,7 @@
 use farm_history::Queue;
 
 /// Where a metatile stands.
-#[derive(Clone, Copy, PartialEq, Eq)]
+#[derive(Clone, Copy)]
 pub enum Standing {
     /// It waits in that queue.
     Waits(Queue),

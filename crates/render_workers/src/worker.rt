@@ -16,7 +16,7 @@ use std::sync::Wait;
 use tile_store::{Stage, TileStore};
 
 /// How a worker ends.
-#[derive(Clone, Copy, PartialEq, Eq)]
+#[derive(Clone, Copy)]
 pub enum WorkEnd {
     /// Its claim was answered Stopped.
     Stopped,

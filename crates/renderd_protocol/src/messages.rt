@@ -9,7 +9,7 @@ pub const MESSAGE_BYTES: usize = 144;
 
 /// A message of renderd's protocol: `struct protocol` of mod_tile's `protocol.h`. Negative numbers of
 /// the original are read as large ones.
-#[derive(Debug, PartialEq, Eq, Drop)]
+#[derive(Drop)]
 pub struct Request {
     /// The version of the protocol: 1, 2 or 3.
     pub ver: u32,
@@ -31,7 +31,7 @@ pub struct Request {
 }
 
 /// What stands at the head of the bytes that a connection sent.
-#[derive(Debug, PartialEq, Eq, Drop)]
+#[derive(Drop)]
 pub enum Found {
     /// A whole message, and how many bytes it takes.
     Message(Request, usize),

@@ -57,7 +57,7 @@ impl Model for Script {
 }
 
 /// Why a text is no script.
-#[derive(Clone, Copy, Debug, PartialEq, Eq)]
+#[derive(Clone, Copy)]
 pub enum ScriptFault {
     /// The first line that is none, by its number, counted from 1 over all lines. Line 1,000,001 is such
     /// a line.

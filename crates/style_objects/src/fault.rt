@@ -8,7 +8,7 @@ use reading::ReadFault;
 use std::alloc::{AllocError, AllocFailed};
 
 /// The kind of object of a style text that a fault stands in.
-#[derive(Clone, Copy, Debug, PartialEq, Eq)]
+#[derive(Clone, Copy)]
 pub enum Part {
     Map,
     Style,
@@ -21,7 +21,7 @@ pub enum Part {
 /// An object of a style text by its places, counted from 0: a style by its own, a rule by style and
 /// rule, a symbolizer by style, rule and symbolizer, a layer and a raster by their own. Numbers that
 /// do not apply are 0.
-#[derive(Clone, Copy, Debug, PartialEq, Eq)]
+#[derive(Clone, Copy)]
 pub struct At {
     pub part: Part,
     pub first: u32,
@@ -30,7 +30,7 @@ pub struct At {
 }
 
 /// Why a style text was refused: the first fault in reading order, with the object it stands in.
-#[derive(Clone, Copy, Debug, PartialEq, Eq)]
+#[derive(Clone, Copy)]
 pub enum StyleFault {
     /// The text is no JSON.
     NotJson,

@@ -7,7 +7,7 @@ use farm_base::NoMemory;
 use std::alloc::Global;
 
 /// Why a request has no other answer.
-#[derive(Clone, Copy, Debug, PartialEq, Eq)]
+#[derive(Clone, Copy)]
 pub enum Fault {
     /// No head of a request came.
     BadRequest,

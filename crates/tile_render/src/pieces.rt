@@ -11,7 +11,7 @@ use std::alloc::Global;
 const FEW: usize = 65_536;
 
 /// Pixels side by side in a row: from the column `start` on and before the column `end`.
-#[derive(Clone, Copy, PartialEq, Eq)]
+#[derive(Clone, Copy)]
 pub(crate) struct Piece {
     pub row: u32,
     pub start: u32,

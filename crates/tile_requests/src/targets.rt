@@ -8,7 +8,7 @@ use line_reading::small_number;
 use tile_paths::is_name;
 
 /// What a target asks for.
-#[derive(Clone, Copy, PartialEq, Eq)]
+#[derive(Clone, Copy)]
 pub enum Kind {
     /// The tile itself.
     Tile,
