@@ -13,7 +13,7 @@ use Rattle.plain_world.specs.declared.world.Point.{Point}
 use Rattle.geo_model.specs.declared.bounds.Bounds.{Bounds}
 use Rattle.plain_shapes.specs.declared.shapes.Geometry.{Geometry}
 use Rattle.plain_shapes.specs.declared.shapes.Geometry.TheVariants.{Points, Lines, Polygon}
-use Rattle.plain_data.specs.Features.{Feature}
+use Rattle.plain_shapes.specs.Features.{Feature}
 use Rattle.geo_model.specs.Bounds.{InBounds, Within, IsLeastBounds, meets}
 use Rattle.geo_model.specs.Shapes.{parts_of, least_points, is_none, IsShape}
 use Rattle.data_versions.specs.Near.{is_near}

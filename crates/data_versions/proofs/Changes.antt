@@ -5,8 +5,8 @@ use Rattle.std.proofs.lemmas.Bool.{eqb-true, lt-ltb}
 use Rattle.std.proofs.lemmas.Bool.Decides.{nat_tests}
 use Rattle.std.proofs.lemmas.List.{length-map, map-append, drop_all}
 use Rattle.std.proofs.lemmas.List.Folds.{list_any-append}
-use Rattle.plain_data.specs.Features.{Feature}
-use Rattle.plain_data.specs.Data.{has_id, ids_of, without_ids, last_put, puts_in_place, put_features, with_puts, first_missing, is_too_many}
+use Rattle.plain_shapes.specs.Features.{Feature}
+use Rattle.plain_shapes.specs.Data.{has_id, ids_of, without_ids, last_put, puts_in_place, put_features, with_puts, first_missing, is_too_many}
 use Rattle.geo_model.proofs.Boxes.{no_left, no_right}
 use Rattle.data_versions.specs.inner.Slots.{without, replaced_by, with_put}
 

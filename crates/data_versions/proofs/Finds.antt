@@ -9,8 +9,8 @@ use Rattle.std.proofs.lemmas.List.Elements.{All-drop, filter-append, recursion_f
 use Rattle.std.proofs.lemmas.Bool.{cases_lt}
 use Rattle.std.proofs.lemmas.List.{get_or_default}
 use Rattle.std.proofs.lemmas.List.Sorted.{searched, All-permutation, IsPermutation-sym, IsNonDecreasingBy-from_sort}
-use Rattle.plain_data.specs.Features.{Feature}
-use Rattle.plain_data.specs.Data.{ids_of}
+use Rattle.plain_shapes.specs.Features.{Feature}
+use Rattle.plain_shapes.specs.Data.{ids_of}
 use Rattle.data_versions.specs.Near.{place_of}
 use Rattle.data_versions.specs.inner.Chunks.{IsIndex}
 

@@ -12,8 +12,8 @@ use Rattle.std.proofs.lemmas.List.Elements.{All-from_recursion, recursion_from_A
 use Rattle.std.proofs.lemmas.List.Sorted.{All-permutation, IsPermutation-sym, IsNonDecreasingBy-from_default}
 use Rattle.std.proofs.lemmas.Map.Keys.{IsDistinct-head, IsDistinct-tail}
 use Rattle.std.specs.Arc.{arc_value}
-use Rattle.plain_data.specs.Features.{Feature}
-use Rattle.plain_data.specs.Data.{ids_of}
+use Rattle.plain_shapes.specs.Features.{Feature}
+use Rattle.plain_shapes.specs.Data.{ids_of}
 use Rattle.data_versions.specs.Near.{place_of}
 use Rattle.data_versions.specs.inner.Chunks.{joined}
 use Rattle.data_versions.specs.inner.Ids.{numbered, IsIdTable}

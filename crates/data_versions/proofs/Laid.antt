@@ -6,7 +6,7 @@ use Rattle.std.proofs.lemmas.List.{length-map, length-set, take-map, take_more, 
 use Rattle.std.proofs.lemmas.List.Concat.{flat_map-append, get_or-flat_map}
 use Rattle.std.proofs.lemmas.List.Elements.{filter_map-append}
 use Rattle.std.specs.Arc.{arc_value}
-use Rattle.plain_data.specs.Features.{Feature}
+use Rattle.plain_shapes.specs.Features.{Feature}
 use Rattle.data_versions.specs.inner.Chunks.{joined, IsStarts}
 use Rattle.data_versions.specs.inner.Slots.{standing, whole, laid, IsLaid, IsSlotOf}
 use Rattle.data_versions.proofs.Places.{Chunks}

@@ -9,8 +9,8 @@ use Rattle.std.specs.declared.alloc.Global.{Global}
 use Rattle.std.specs.declared.sync.Arc.{Arc}
 use Rattle.std.specs.Arc.{arc_value}
 use Rattle.data_versions.specs.Shared.{shared_layers}
-use Rattle.plain_data.specs.Features.{Layer}
-use Rattle.plain_data.specs.Data.{Change, is_name, IsLayer, IsDataset, IsChange, IsUpdate, names_of, layer_named, features_named, changed_layer, layers_after, change_fault, changed_from}
+use Rattle.plain_shapes.specs.Features.{Layer}
+use Rattle.plain_shapes.specs.Data.{Change, is_name, IsLayer, IsDataset, IsChange, IsUpdate, names_of, layer_named, features_named, changed_layer, layers_after, change_fault, changed_from}
 use Rattle.farm_base.specs.declared.faults.ApplyFault.{ApplyFault}
 use Rattle.std.proofs.lemmas.List.{length-map, drop_all}
 use Rattle.std.proofs.lemmas.List.Quantifiers.{position-Some}

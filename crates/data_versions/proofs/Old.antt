@@ -10,8 +10,8 @@ use Rattle.std.proofs.lemmas.Bool.{eq-eqb, eqb-true}
 use Rattle.std.proofs.lemmas.Map.Keys.{IsDistinct-head, IsDistinct-tail}
 use Rattle.std.proofs.lemmas.List.{map-append, take_more}
 use Rattle.std.proofs.lemmas.List.Elements.{filter_map-append}
-use Rattle.plain_data.specs.Features.{Feature}
-use Rattle.plain_data.specs.Data.{ids_of}
+use Rattle.plain_shapes.specs.Features.{Feature}
+use Rattle.plain_shapes.specs.Data.{ids_of}
 use Rattle.data_versions.specs.Near.{place_of}
 use Rattle.data_versions.specs.inner.Slots.{standing, slot_id, KnowsPlaces}
 use Rattle.data_versions.proofs.Finds.{position-cons, no_place}

@@ -8,7 +8,7 @@ use Rattle.std.specs.Prelude.{◌⊎◌}
 use Rattle.std.proofs.lemmas.Bool.{cases_eq, cases_lt}
 use Rattle.std.proofs.lemmas.List.{take_more, drop_more, drop_all, take-take, length-take-le, take-append-drop, get_or_push, get_or_append_left, get_or_read}
 use Rattle.std.proofs.lemmas.List.Concat.{flat_map-append}
-use Rattle.plain_data.specs.Features.{Feature}
+use Rattle.plain_shapes.specs.Features.{Feature}
 use Rattle.data_versions.specs.inner.Chunks.{joined, IsStarts, IsChunked}
 use Rattle.data_versions.proofs.Finds.{position-append, or_later}
 

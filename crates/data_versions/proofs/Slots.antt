@@ -9,8 +9,8 @@ use Rattle.std.proofs.lemmas.Bool.{cases_eq, eq-eqb}
 use Rattle.std.proofs.lemmas.Bool.Decides.{nat_tests}
 use Rattle.std.proofs.lemmas.List.{length-map, get_or-set_same, get_or-set_other}
 use Rattle.std.proofs.lemmas.List.Elements.{filter_map-append}
-use Rattle.plain_data.specs.Features.{Feature}
-use Rattle.plain_data.specs.Data.{has_id, ids_of}
+use Rattle.plain_shapes.specs.Features.{Feature}
+use Rattle.plain_shapes.specs.Data.{has_id, ids_of}
 use Rattle.geo_model.proofs.Boxes.{no_left, no_right}
 use Rattle.data_versions.specs.inner.Slots.{standing, slot_id, KnowsPlaces, StandsNowhere, without, replaced_by, with_put}
 

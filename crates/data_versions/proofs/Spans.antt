@@ -1,7 +1,7 @@
 -- The chunks of a layer, each with two numbers between which its ids lie.
 use Rattle.std.proofs.Common.{◌≡◌, ℕ, zero, suc, ◌+◌, ◌-◌, ◌<◌, ◌≤◌, refl, drop, List, [], ◌∷◌, ◌++◌, length, take, get_or, sym, ap, ◌∙◌, subst, inl, inr, length-append, arith}
 use Rattle.std.specs.Prelude.{None, max, nat_eq, option_map}
-use Rattle.plain_data.specs.Features.{Feature}
+use Rattle.plain_shapes.specs.Features.{Feature}
 use Rattle.data_versions.specs.inner.Chunks.{joined}
 use Rattle.std.proofs.lemmas.Bool.{cases_eq}
 use Rattle.std.proofs.lemmas.List.{take-take, length-take-le, get_or-take, get_or_push, get_or_append_left, get_or_default}

@@ -1,6 +1,6 @@
 -- Where in a layer a feature stands, and which features are near a rectangle.
 use Rattle.std.specs.Prelude.{ℕ, ◌+◌, Bool, nat_eq, List, drop, filter, position, Option, option_map}
-use Rattle.plain_data.specs.Features.{Feature}
+use Rattle.plain_shapes.specs.Features.{Feature}
 use Rattle.geo_model.specs.declared.bounds.Bounds.{Bounds}
 use Rattle.geo_model.specs.Bounds.{bounds_of, meets}
 use Rattle.geo_model.specs.Shapes.{parts_of}

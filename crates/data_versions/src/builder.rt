@@ -20,7 +20,7 @@ pub(crate) struct ChunkBuilder {
 
 impl Model for ChunkBuilder {
     ghost use Rattle.std.specs.Prelude.{◌≤◌, ◌++◌, List, length};
-    ghost use Rattle.plain_data.specs.Features.{Feature};
+    ghost use Rattle.plain_shapes.specs.Features.{Feature};
     ghost use Rattle.data_versions.specs.inner.Chunks.{joined};
 
     ghost Value = { List Feature };

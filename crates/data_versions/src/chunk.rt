@@ -5,7 +5,7 @@ ghost use Rattle.data_versions.specs.Near.{place_of, is_near, all_near};
 ghost use Rattle.data_versions.specs.inner.Cells.{IsWide, IsBoxed, IsMarked, box_of};
 ghost use Rattle.data_versions.specs.inner.Chunks.{IsIndex};
 ghost use Rattle.data_versions.specs.inner.Ids.{IsOutside, IsSpan};
-ghost use Rattle.plain_data.specs.Features.{Feature};
+ghost use Rattle.plain_shapes.specs.Features.{Feature};
 ghost use Rattle.geo_model.specs.Bounds.{Within};
 
 use crate::cells::{Grid, add_block, has_one, no_cells};
@@ -32,7 +32,7 @@ pub(crate) struct Chunk {
 
 impl Model for Chunk {
     ghost use Rattle.std.specs.Prelude.{List};
-    ghost use Rattle.plain_data.specs.Features.{Feature};
+    ghost use Rattle.plain_shapes.specs.Features.{Feature};
     ghost use Rattle.data_versions.specs.inner.Cells.{IsChunk};
     ghost use Rattle.data_versions.specs.inner.Chunks.{IsIndex};
     ghost use Rattle.data_versions.specs.inner.Ids.{IsSpan};

@@ -22,7 +22,7 @@ pub(crate) struct ChunkSlots<'a> {
 
 impl<'a> Model for ChunkSlots<'a> {
     ghost use Rattle.std.specs.Prelude.{List, Option, unwrap_or};
-    ghost use Rattle.plain_data.specs.Features.{Feature};
+    ghost use Rattle.plain_shapes.specs.Features.{Feature};
     ghost use Rattle.data_versions.specs.inner.Slots.{whole};
 
     ghost Value = { List (Option Feature) };

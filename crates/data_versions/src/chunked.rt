@@ -4,7 +4,7 @@ ghost use Rattle.std.specs.Option.{option_copied};
 ghost use Rattle.data_versions.specs.Near.{place_of, next_near};
 ghost use Rattle.data_versions.specs.inner.Cells.{IsWide};
 ghost use Rattle.data_versions.specs.inner.Chunks.{joined, IsStarts};
-ghost use Rattle.plain_data.specs.Limits.{most_features};
+ghost use Rattle.plain_shapes.specs.Limits.{most_features};
 
 use crate::chunk::Chunk;
 use farm_base::{NoMemory, Text};
@@ -23,7 +23,7 @@ pub(crate) struct ChunkedLayer {
 }
 
 impl Model for ChunkedLayer {
-    ghost use Rattle.plain_data.specs.Features.{Layer};
+    ghost use Rattle.plain_shapes.specs.Features.{Layer};
     ghost use Rattle.data_versions.specs.inner.Chunks.{joined, IsChunked};
 
     ghost Value = { Layer };

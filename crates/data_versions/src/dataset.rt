@@ -1,6 +1,6 @@
 //! The data to begin with, and the updates that change them.
 ghost use Rattle.std.specs.Prelude.{◌≡◌};
-ghost use Rattle.plain_data.specs.Data.{IsDataset, IsUpdate};
+ghost use Rattle.plain_shapes.specs.Data.{IsDataset, IsUpdate};
 
 use farm_base::Text;
 use geo_model::Feature;
@@ -14,7 +14,7 @@ pub struct Layer {
 }
 
 impl Model for Layer {
-    ghost use Rattle.plain_data.specs.Features.{Layer};
+    ghost use Rattle.plain_shapes.specs.Features.{Layer};
 
     ghost Value = { Layer };
 
@@ -30,7 +30,7 @@ pub struct Change {
 }
 
 impl Model for Change {
-    ghost use Rattle.plain_data.specs.Data.{Change};
+    ghost use Rattle.plain_shapes.specs.Data.{Change};
 
     ghost Value = { Change };
 
@@ -46,8 +46,8 @@ pub struct Dataset {
 
 impl Model for Dataset {
     ghost use Rattle.std.specs.Prelude.{List};
-    ghost use Rattle.plain_data.specs.Features.{Layer};
-    ghost use Rattle.plain_data.specs.Data.{IsDataset};
+    ghost use Rattle.plain_shapes.specs.Features.{Layer};
+    ghost use Rattle.plain_shapes.specs.Data.{IsDataset};
 
     ghost Value = { List Layer };
 
@@ -93,7 +93,7 @@ pub struct Update {
 
 impl Model for Update {
     ghost use Rattle.std.specs.Prelude.{List};
-    ghost use Rattle.plain_data.specs.Data.{Change, IsUpdate};
+    ghost use Rattle.plain_shapes.specs.Data.{Change, IsUpdate};
 
     ghost Value = { List Change };
 

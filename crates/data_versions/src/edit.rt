@@ -1,8 +1,8 @@
 //! A layer while an update changes it.
 ghost use Rattle.std.specs.Prelude.{◌≡◌, ◌≤◌, ◌<◌, ◌∷◌, ◌++◌, [], true, false, nat_eq, length, IfOk, OnOk};
 ghost use Rattle.std.specs.List.{IsDistinct};
-ghost use Rattle.plain_data.specs.Limits.{most_features};
-ghost use Rattle.plain_data.specs.Data.{has_id, ids_of, IsLayer};
+ghost use Rattle.plain_shapes.specs.Limits.{most_features};
+ghost use Rattle.plain_shapes.specs.Data.{has_id, ids_of, IsLayer};
 ghost use Rattle.data_versions.specs.inner.Slots.{without, replaced_by, with_put};
 ghost use Rattle.data_versions.specs.inner.Chunks.{joined};
 
@@ -13,7 +13,7 @@ use crate::layer_slots::LayerSlots;
 use crate::slot::slot_of;
 use farm_base::NoMemory;
 use geo_model::Feature;
-use plain_data::MOST_FEATURES;
+use plain_shapes::MOST_FEATURES;
 use std::alloc::Global;
 use std::collections::BTreeMap;
 use std::marker::Model;
@@ -32,8 +32,8 @@ pub(crate) struct LayerEdit<'a> {
 
 impl<'a> Model for LayerEdit<'a> {
     ghost use Rattle.std.specs.Prelude.{◌≡◌, ◌≤◌, List, length};
-    ghost use Rattle.plain_data.specs.Features.{Feature};
-    ghost use Rattle.plain_data.specs.Limits.{most_features};
+    ghost use Rattle.plain_shapes.specs.Features.{Feature};
+    ghost use Rattle.plain_shapes.specs.Limits.{most_features};
     ghost use Rattle.data_versions.specs.inner.Slots.{standing, KnowsPlaces};
 
     ghost Value = { List Feature };

@@ -2,7 +2,7 @@
 ghost use Rattle.std.specs.Prelude.{◌≡◌, ◌≢◌, true, false, IfOk, OnOk, IfErr, Some, None, option_map};
 ghost use Rattle.std.specs.Arc.{arc_value};
 ghost use Rattle.std.specs.Str.{bytes_eq};
-ghost use Rattle.plain_data.specs.Data.{ids_of, without_ids, first_missing, is_too_many, with_puts, with_change, features_fault, changed_layer, IsLayer};
+ghost use Rattle.plain_shapes.specs.Data.{ids_of, without_ids, first_missing, is_too_many, with_puts, with_change, features_fault, changed_layer, IsLayer};
 
 use crate::chunked::ChunkedLayer;
 use crate::dataset::Change;
@@ -87,8 +87,8 @@ pub(crate) struct EditedLayer<'a> {
 
 impl<'a> Model for EditedLayer<'a> {
     ghost use Rattle.std.specs.Prelude.{unwrap_or};
-    ghost use Rattle.plain_data.specs.Features.{Layer};
-    ghost use Rattle.plain_data.specs.Data.{IsLayer};
+    ghost use Rattle.plain_shapes.specs.Features.{Layer};
+    ghost use Rattle.plain_shapes.specs.Data.{IsLayer};
 
     ghost Value = { Layer };
 

@@ -3,9 +3,9 @@ ghost use Rattle.std.specs.Prelude.{◌≡◌, ◌≤◌, ◌+◌, ◌++◌, Lis
 ghost use Rattle.std.specs.Option.{option_copied};
 ghost use Rattle.std.specs.List.Sorted.{IsNonDecreasingBy, IsPermutation};
 ghost use Rattle.std.specs.Str.{bytes_eq};
-ghost use Rattle.plain_data.specs.Data.{ids_of, IsLayer};
-ghost use Rattle.plain_data.specs.Features.{Feature};
-ghost use Rattle.plain_data.specs.Limits.{most_features};
+ghost use Rattle.plain_shapes.specs.Data.{ids_of, IsLayer};
+ghost use Rattle.plain_shapes.specs.Features.{Feature};
+ghost use Rattle.plain_shapes.specs.Limits.{most_features};
 ghost use Rattle.data_versions.specs.Near.{place_of};
 ghost use Rattle.data_versions.specs.inner.Ids.{numbered, IsIdTable};
 
@@ -40,8 +40,8 @@ pub struct LayerFinder<'a> {
 
 impl<'a> Model for LayerFinder<'a> {
     ghost use Rattle.std.specs.Prelude.{◌≡◌, true, IfSome};
-    ghost use Rattle.plain_data.specs.Features.{Layer};
-    ghost use Rattle.plain_data.specs.Data.{IsLayer};
+    ghost use Rattle.plain_shapes.specs.Features.{Layer};
+    ghost use Rattle.plain_shapes.specs.Data.{IsLayer};
     ghost use Rattle.data_versions.specs.inner.Ids.{IsIdTable};
 
     ghost Value = { Layer };

@@ -1,7 +1,7 @@
 //! The chunks of a layer by the ids between which those of their features lie.
 ghost use Rattle.std.specs.Prelude.{◌≡◌, ◌≤◌, ◌<◌, ◌-◌, ℕ, None, length, slice_index, IfOk, IfSome};
 ghost use Rattle.std.specs.Arc.{arc_value};
-ghost use Rattle.plain_data.specs.Limits.{most_features};
+ghost use Rattle.plain_shapes.specs.Limits.{most_features};
 ghost use Rattle.data_versions.specs.Near.{place_of};
 ghost use Rattle.data_versions.specs.inner.Ids.{IsOutside, AreSpans, IsReach};
 
@@ -27,7 +27,7 @@ pub(crate) struct IdSpans<'a> {
 
 impl<'a> Model for IdSpans<'a> {
     ghost use Rattle.std.specs.Prelude.{List};
-    ghost use Rattle.plain_data.specs.Features.{Feature};
+    ghost use Rattle.plain_shapes.specs.Features.{Feature};
     ghost use Rattle.data_versions.specs.inner.Chunks.{joined};
     ghost use Rattle.data_versions.specs.inner.Ids.{IsSpanned, IsReach};
 

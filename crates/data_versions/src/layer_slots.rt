@@ -1,7 +1,7 @@
 //! The slots of a layer while an update changes it.
 ghost use Rattle.std.specs.Prelude.{◌≡◌, ◌≤◌, ◌<◌, ◌∷◌, ◌++◌, [], length, map, set, get_or, Some, None, IfOk, OnOk, OnErr};
 ghost use Rattle.std.specs.Option.{option_copied};
-ghost use Rattle.plain_data.specs.Limits.{most_features};
+ghost use Rattle.plain_shapes.specs.Limits.{most_features};
 ghost use Rattle.data_versions.specs.inner.Slots.{standing, whole};
 ghost use Rattle.data_versions.specs.inner.Chunks.{joined};
 
@@ -30,7 +30,7 @@ pub(crate) struct LayerSlots<'a> {
 
 impl<'a> Model for LayerSlots<'a> {
     ghost use Rattle.std.specs.Prelude.{◌++◌, List, Option};
-    ghost use Rattle.plain_data.specs.Features.{Feature};
+    ghost use Rattle.plain_shapes.specs.Features.{Feature};
     ghost use Rattle.data_versions.specs.inner.Slots.{laid, IsLaid};
 
     ghost Value = { List (Option Feature) };

@@ -18,7 +18,7 @@ pub(crate) struct SlotList<'a> {
 impl<'a> Model for SlotList<'a> {
     ghost use Rattle.std.specs.Prelude.{List, Option, map};
     ghost use Rattle.std.specs.Option.{option_copied};
-    ghost use Rattle.plain_data.specs.Features.{Feature};
+    ghost use Rattle.plain_shapes.specs.Features.{Feature};
 
     ghost Value = { List (Option Feature) };
 

@@ -1,10 +1,10 @@
 //! Data that never change and are shared: snapshots, and views of their layers.
 ghost use Rattle.std.specs.Prelude.{◌≡◌, ◌≤◌, IfOk, All, length, slice_get};
 ghost use Rattle.std.specs.Option.{option_copied};
-ghost use Rattle.plain_data.specs.Data.{IsLayer, IsDataset, layer_named, features_named};
+ghost use Rattle.plain_shapes.specs.Data.{IsLayer, IsDataset, layer_named, features_named};
 ghost use Rattle.data_versions.specs.Near.{place_of, next_near, all_near};
 ghost use Rattle.data_versions.specs.Shared.{shared_layers};
-ghost use Rattle.plain_data.specs.Limits.{most_features};
+ghost use Rattle.plain_shapes.specs.Limits.{most_features};
 
 use crate::builder::ChunkBuilder;
 use crate::chunked::ChunkedLayer;
@@ -26,8 +26,8 @@ pub struct Snapshot {
 
 impl Model for Snapshot {
     ghost use Rattle.std.specs.Prelude.{List};
-    ghost use Rattle.plain_data.specs.Features.{Layer};
-    ghost use Rattle.plain_data.specs.Data.{IsDataset};
+    ghost use Rattle.plain_shapes.specs.Features.{Layer};
+    ghost use Rattle.plain_shapes.specs.Data.{IsDataset};
     ghost use Rattle.data_versions.specs.Shared.{shared_layers};
 
     ghost Value = { List Layer };
@@ -153,7 +153,7 @@ pub struct LayerView<'a> {
 
 impl<'a> Model for LayerView<'a> {
     ghost use Rattle.std.specs.Prelude.{List};
-    ghost use Rattle.plain_data.specs.Features.{Feature};
+    ghost use Rattle.plain_shapes.specs.Features.{Feature};
 
     ghost Value = { List Feature };
 

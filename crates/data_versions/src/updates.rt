@@ -1,9 +1,9 @@
 //! An update gives the next snapshot.
 ghost use Rattle.std.specs.Prelude.{◌≡◌, ◌≢◌, ◌≤◌, length, position, All, IfOk, OnOk, IfErr, Some, None, Ok, Err};
 ghost use Rattle.std.specs.Str.{bytes_eq};
-ghost use Rattle.plain_data.specs.Data.{IsLayer, names_of, layers_after, change_fault, update_result};
+ghost use Rattle.plain_shapes.specs.Data.{IsLayer, names_of, layers_after, change_fault, update_result};
 ghost use Rattle.data_versions.specs.Shared.{shared_layers};
-ghost use Rattle.plain_data.specs.Limits.{most_features};
+ghost use Rattle.plain_shapes.specs.Limits.{most_features};
 
 use crate::chunked::ChunkedLayer;
 use crate::dataset::{Change, Update};

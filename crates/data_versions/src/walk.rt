@@ -21,7 +21,7 @@ pub struct NearFeatures<'a> {
 
 impl<'a> Model for NearFeatures<'a> {
     ghost use Rattle.std.specs.Prelude.{◌≤◌, ◌++◌, List, length};
-    ghost use Rattle.plain_data.specs.Features.{Feature};
+    ghost use Rattle.plain_shapes.specs.Features.{Feature};
     ghost use Rattle.data_versions.specs.Near.{all_near};
     ghost use Rattle.data_versions.specs.inner.Cells.{IsWide};
     ghost use Rattle.data_versions.specs.inner.Chunks.{joined};

@@ -1,6 +1,6 @@
 //! Made-up data of one layer.
 ghost use Rattle.std.specs.Prelude.{◌≤◌};
-ghost use Rattle.plain_data.specs.Data.{IsLayer, IsChange};
+ghost use Rattle.plain_shapes.specs.Data.{IsLayer, IsChange};
 
 use crate::shapes::{Random, feature};
 use data_versions::{Change, Dataset, Layer, Snapshot, Update, apply};

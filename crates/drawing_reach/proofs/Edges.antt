@@ -7,8 +7,8 @@ use Rattle.std.proofs.lemmas.Bool.{cases_lt, and_parts, le-leb, leb-true, lt-ltb
 use Rattle.plain_world.specs.declared.world.Point.{Point}
 use Rattle.plain_world.specs.declared.world.Square.{Square}
 use Rattle.plain_world.specs.World.{side_at, InSquare}
-use Rattle.plain_data.specs.Features.{Feature}
-use Rattle.plain_data.specs.Reach.{all_points, margin_of, InReach, Reaches, points_reach, feature_reaches}
+use Rattle.plain_shapes.specs.Features.{Feature}
+use Rattle.plain_shapes.specs.Reach.{all_points, margin_of, InReach, Reaches, points_reach, feature_reaches}
 use Rattle.drawing_reach.proofs.Members.{picked}
 
 any_more : (t u : Point → Bool) → ((q : Point) → t q ≡ true → u q ≡ true) → (ps : List Point) → list_any t ps ≡ true → list_any u ps ≡ true

@@ -15,7 +15,7 @@ use Rattle.plain_world.specs.World.{side_at}
 use Rattle.plain_drawing.specs.Styles.{is_paint, is_width, is_opacity}
 use Rattle.plain_shapes.specs.Strokes.{half_of}
 use Rattle.plain_drawing.specs.Drawing.{covers, pixel_of}
-use Rattle.plain_data.specs.Reach.{all_points, margin_of, InReach}
+use Rattle.plain_shapes.specs.Reach.{all_points, margin_of, InReach}
 use Rattle.geo_model.specs.declared.bounds.Bounds.{Bounds}
 use Rattle.geo_model.specs.Bounds.{InBounds}
 use Rattle.geo_model.specs.Shapes.{parts_of}

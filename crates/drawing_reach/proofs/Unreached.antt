@@ -14,14 +14,14 @@ use Rattle.plain_drawing.specs.declared.style.FilterMode.{FilterMode}
 use Rattle.plain_drawing.specs.declared.style.FilterMode.TheVariants.{All as AllRules, First}
 use Rattle.plain_drawing.specs.declared.style.Symbolizer.{Symbolizer}
 use Rattle.plain_world.specs.World.{side_at, centre, row_centres, centres, window_of, tile_square, InSquare, IsTile, IsTileSize, IsWindow}
-use Rattle.plain_data.specs.Features.{Feature}
+use Rattle.plain_shapes.specs.Features.{Feature}
 use Rattle.plain_drawing.specs.Styles.{Rule, Style, is_paint}
 use Rattle.plain_drawing.specs.Rules.{matches, is_fallback, first_or_all, drawing_rules, item_symbolizers}
 use Rattle.plain_shapes.specs.Images.{Pixels}
 use Rattle.plain_shapes.specs.inner.Canvas.{at_centres}
 use Rattle.plain_drawing.specs.Drawing.{covers, painted_over, feature, pixel_of}
 use Rattle.plain_drawing.specs.inner.Pictures.{with_symbolizer, with_item}
-use Rattle.plain_data.specs.Reach.{Reaches, feature_reaches}
+use Rattle.plain_shapes.specs.Reach.{Reaches, feature_reaches}
 use Rattle.plain_world.proofs.Windows.{window_is}
 use Rattle.plain_drawing.specs.Styles.{KeepsRanges}
 use Rattle.drawing_reach.proofs.Members.{all_map}

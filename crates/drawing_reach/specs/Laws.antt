@@ -6,12 +6,12 @@ use Rattle.plain_world.specs.declared.world.Tile.{Tile}
 use Rattle.plain_drawing.specs.declared.style.Symbolizer.{Symbolizer}
 use Rattle.plain_shapes.specs.declared.shapes.Geometry.{Geometry}
 use Rattle.plain_world.specs.World.{window_of, tile_square, IsTile, IsTileSize}
-use Rattle.plain_data.specs.Features.{Feature}
+use Rattle.plain_shapes.specs.Features.{Feature}
 use Rattle.plain_drawing.specs.Styles.{Style, is_paint, KeepsRanges}
 use Rattle.plain_shapes.specs.Images.{Pixels}
 use Rattle.plain_drawing.specs.Drawing.{covers, feature, pixel_of}
 use Rattle.plain_drawing.specs.inner.Pictures.{with_item}
-use Rattle.plain_data.specs.Reach.{all_points, margin_of, InReach, Reaches, feature_reaches}
+use Rattle.plain_shapes.specs.Reach.{all_points, margin_of, InReach, Reaches, feature_reaches}
 
 -- the test on a square's edges says whether some point of the square lies in the feature's reach
 abbrev pub LawByEdges : Type 0

@@ -1,6 +1,6 @@
 //! The tiles of a metatile in their places, also of a ring of very many points, and a map without its grids.
 ghost use Rattle.std.specs.Prelude.{◌<◌, ◌^◌};
-ghost use Rattle.plain_data.specs.Data.{IsLayer};
+ghost use Rattle.plain_shapes.specs.Data.{IsLayer};
 ghost use Rattle.plain_world.specs.World.{IsMeta, IsTile, IsTileSize};
 
 use crate::drawings::{data, is_boxed, map};

@@ -15,7 +15,7 @@ use Rattle.plain_drawing.specs.declared.style.Symbolizer.TheVariants as paint
 use Rattle.plain_filters.specs.declared.expr.CompareSign.{CompareSign}
 use Rattle.plain_filters.specs.declared.expr.CompareSign.TheVariants as sign
 use Rattle.plain_world.specs.World.{window_of, centres}
-use Rattle.plain_data.specs.Features.{Feature, Layer}
+use Rattle.plain_shapes.specs.Features.{Feature, Layer}
 use Rattle.plain_filters.specs.Filters.{FilterTree, compare_tree, name_tree, number_tree}
 use Rattle.plain_drawing.specs.Styles.{Rule, Style, LayerRef, RasterRef, MapStyle}
 use Rattle.plain_drawing.specs.Grids.{Grid}

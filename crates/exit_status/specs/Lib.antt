@@ -1,3 +1,11 @@
 pub mod Ends
 pub mod Stops
 pub mod inner
+pub mod ConfigFaults
+pub mod DataFaults
+pub mod LineFaults
+pub mod MetaFaults
+pub mod RasterFaults
+pub mod SavedFaults
+pub mod StyleFaults
+pub mod Told

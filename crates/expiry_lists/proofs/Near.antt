@@ -13,7 +13,7 @@ use Rattle.std.proofs.lemmas.List.Sorted.{list_any-IsPermutation, IsPermutation-
 use Rattle.plain_world.specs.declared.world.Square.{Square}
 use Rattle.plain_world.specs.World.{IsMeta, IsTileSize, meta_square, side_at}
 use Rattle.plain_world.proofs.Windows.{size_bounds}
-use Rattle.plain_data.specs.Reach.{margin_of}
+use Rattle.plain_shapes.specs.Reach.{margin_of}
 use Rattle.geo_model.specs.declared.bounds.Bounds.{Bounds}
 use Rattle.farm_history.specs.declared.keys.Key.{Key}
 use Rattle.farm_history.specs.Plans.{same_key}

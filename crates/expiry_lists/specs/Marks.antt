@@ -6,7 +6,7 @@ use Rattle.farm_history.specs.declared.keys.Mark.{Mark}
 use Rattle.farm_history.specs.Plans.{same_key}
 use Rattle.plain_world.specs.World.{meta_square}
 use Rattle.geo_model.specs.declared.bounds.Bounds.{Bounds}
-use Rattle.plain_data.specs.Reach.{margin_of}
+use Rattle.plain_shapes.specs.Reach.{margin_of}
 use Rattle.expiry_lists.specs.Boxes.{comes_near}
 
 -- a shown metatile with its mark

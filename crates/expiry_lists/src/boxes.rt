@@ -2,7 +2,7 @@
 ghost use Rattle.std.specs.Prelude.{◌≡◌, ◌^◌, ◌<◌, ◌≤◌, ◌↔◌, IsTrue, All, length, take, drop, true, false, IsPermutation};
 ghost use Rattle.std.specs.List.{list_any};
 ghost use Rattle.plain_world.specs.World.{IsSquare, IsTileSize, side_at};
-ghost use Rattle.plain_data.specs.Reach.{margin_of};
+ghost use Rattle.plain_shapes.specs.Reach.{margin_of};
 ghost use Rattle.expiry_lists.specs.Boxes.{Holds, is_near, comes_near};
 
 use geo_model::Bounds;

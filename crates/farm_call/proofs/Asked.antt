@@ -16,10 +16,10 @@ use Rattle.farm_words.proofs.PlainWords.{plain_values}
 use Rattle.exit_status.specs.Ends.{FilesAt, SinkAt, PutsMade}
 use Rattle.exit_status.specs.declared.stops.Stop.{Stop}
 use Rattle.exit_status.specs.declared.stops.Stop.TheVariants as stop
-use Rattle.input_files.specs.Course.{Course, made, ◌>>=◌}
-use Rattle.input_files.specs.inner.Follows.{Follows}
-use Rattle.input_files.specs.inner.Runs as calls
-use Rattle.input_files.proofs.Courses.{follows_then, follows_stop}
+use Rattle.farm_files.specs.Course.{Course, made, ◌>>=◌}
+use Rattle.farm_files.specs.inner.Follows.{Follows}
+use Rattle.farm_files.specs.inner.Runs as calls
+use Rattle.farm_files.proofs.Courses.{follows_then, follows_stop}
 use Rattle.farm_files.specs.Inputs.{ScriptInputs, ServeInputs}
 use Rattle.style_objects.specs.TextReadings.{TextReading, text_reading}
 use Rattle.style_objects.proofs.ByGrammar.{one_reading, reads_grammar}

@@ -9,8 +9,8 @@ use Rattle.exit_status.specs.Stops.{unreadable_line}
 use Rattle.exit_status.specs.Ends.{FilesAt}
 use Rattle.exit_status.specs.declared.stops.Stop.{Stop}
 use Rattle.exit_status.specs.declared.stops.Stop.TheVariants as stop
-use Rattle.input_files.specs.Course.{Course, made, refused, reads, Leads}
-use Rattle.input_files.specs.inner.Follows.{After, Follows}
+use Rattle.farm_files.specs.Course.{Course, made, refused, reads, Leads}
+use Rattle.farm_files.specs.inner.Follows.{After, Follows}
 
 -- ---- what is so where it is told
 

@@ -13,10 +13,10 @@ use Rattle.exit_status.specs.declared.stops.Stop.{Stop}
 use Rattle.exit_status.specs.declared.stops.Stop.TheVariants as stop
 use Rattle.exit_status.proofs.Outsides.{PutCounts, put_counts}
 use Rattle.exit_status.proofs.Statuses.{puts_failed}
-use Rattle.input_files.specs.Course.{Course, made, refused, reads, Leads}
-use Rattle.input_files.specs.inner.Follows.{Follows}
-use Rattle.input_files.specs.inner.Runs as calls
-use Rattle.input_files.proofs.Courses.{IsEnd, one_end, ended}
+use Rattle.farm_files.specs.Course.{Course, made, refused, reads, Leads}
+use Rattle.farm_files.specs.inner.Follows.{Follows}
+use Rattle.farm_files.specs.inner.Runs as calls
+use Rattle.farm_files.proofs.Courses.{IsEnd, one_end, ended}
 use Rattle.farm_files.specs.Inputs.{ServeInputs}
 use Rattle.farm_runs.specs.declared.each_front.EachFront.{EachFront}
 use Rattle.script_command.specs.Scripts.{Scripts}

@@ -10,7 +10,7 @@ use Rattle.farm_refinement.specs.Stands.{StandsFor}
 use Rattle.script_text.specs.ScriptTexts.{has_failed}
 use Rattle.exit_status.specs.declared.stops.Stop.{Stop}
 use Rattle.exit_status.specs.declared.stops.Stop.TheVariants as stop
-use Rattle.input_files.proofs.Courses.{ended}
+use Rattle.farm_files.proofs.Courses.{ended}
 use Rattle.script_text.proofs.Lost.{lost}
 use Rattle.farm_files.specs.Inputs.{ServeInputs}
 use Rattle.serve_command.specs.Beginnings.{RefusesFor, IsSavedIn}

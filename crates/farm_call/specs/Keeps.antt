@@ -15,7 +15,7 @@ use Rattle.exit_status.specs.Stops.{told_of, unreadable_line}
 use Rattle.exit_status.specs.Ends.{PutsAll, Reports}
 use Rattle.exit_status.specs.declared.stops.Stop.{Stop}
 use Rattle.exit_status.specs.declared.stops.Stop.TheVariants as stop
-use Rattle.input_files.specs.Course.{Course, made, refused, reads, Leads}
+use Rattle.farm_files.specs.Course.{Course, made, refused, reads, Leads}
 use Rattle.farm_history.specs.declared.answers.Collected.{Collected}
 use Rattle.farm_history.specs.Entries.{Entry, EachMoment, Collect, Stop as StopEntry}
 use Rattle.farm_history.specs.Laws.{has_plain_update}
@@ -30,13 +30,13 @@ use Rattle.farm_shared.specs.Seats.{plain, Seated}
 use Rattle.farm_shared.specs.Shared.{lasting_of, past}
 use Rattle.turn_cell.specs.Turns.{by}
 use Rattle.farm_laws.specs.Locality.{IsSentNow}
-use Rattle.farm_headline.specs.Headline.{Headline}
+use Rattle.farm_laws.specs.Headline.{Headline}
 use Rattle.farm_runs.specs.declared.each_front.EachFront.{EachFront}
 use Rattle.farm_runs.specs.Promise.{Ends, AreSeated, IsServed, AreWorked, IsStop}
 use Rattle.renderd_handler.specs.Renderd.{renderd_rules}
 use Rattle.http_handler.specs.Tiles.{tile_rules}
 use Rattle.control_handler.specs.Control.{control_rules}
-use Rattle.front_leaves.specs.Fronts.{FrontLeaves}
+use Rattle.serve_command.specs.Fronts.{FrontLeaves}
 use Rattle.farm_files.specs.Inputs.{ServeInputs}
 use Rattle.serve_command.specs.Beginnings.{IsSavedIn, RefusesFor, ResumesFrom}
 use Rattle.tile_paths.specs.Paths.{saved_path}

@@ -4,7 +4,7 @@ use Rattle.farm_words.specs.Forms.{Spells}
 use Rattle.farm_words.specs.Values.{values_of, ArePlain}
 use Rattle.farm_words.specs.declared.command.Command.{Command}
 use Rattle.farm_words.specs.declared.command.Command.TheVariants.{Render, Script, Serve, Load, Meta}
-use Rattle.input_files.specs.Course.{Course, made, ◌>>=◌}
+use Rattle.farm_files.specs.Course.{Course, made, ◌>>=◌}
 use Rattle.style_objects.specs.TextReadings.{TextReading, SaysGrammar}
 use Rattle.farm_files.specs.Courses.{script_course_by, serve_course_by}
 use Rattle.render_command.specs.Courses.{render_course_by}

@@ -1,7 +1,7 @@
 //! The top call.
 ghost use Rattle.std.specs.Prelude.{◌≡◌, [], map, string_bytes};
 ghost use Rattle.exit_status.specs.Ends.{EndsWith};
-ghost use Rattle.input_files.specs.inner.Runs as works;
+ghost use Rattle.farm_files.specs.inner.Runs as works;
 ghost use Rattle.farm_runs.specs.Actors.{three};
 ghost use Rattle.serve_command.specs.declared.left.Left.TheVariants.{Store};
 ghost use Rattle.farm_call.specs.Words.{Asks};

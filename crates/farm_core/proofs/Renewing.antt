@@ -4,8 +4,8 @@ use Rattle.std.proofs.lemmas.Bool.{ltb-true, ltb-false}
 use Rattle.farm_base.specs.Outside.{Outside}
 use Rattle.farm_base.specs.declared.faults.ApplyFault.{ApplyFault}
 use Rattle.tile_store.specs.Stores.{StoreTold}
-use Rattle.plain_data.specs.Features.{Layer}
-use Rattle.plain_data.specs.Data.{IsLayer, update_result}
+use Rattle.plain_shapes.specs.Features.{Layer}
+use Rattle.plain_shapes.specs.Data.{IsLayer, update_result}
 use Rattle.geo_model.specs.declared.bounds.Bounds.{Bounds}
 use Rattle.farm_history.specs.declared.keys.Key.{Key}
 use Rattle.farm_history.specs.declared.saved.Past.{Past}

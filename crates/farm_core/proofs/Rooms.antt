@@ -12,7 +12,7 @@ use Rattle.farm_history.specs.declared.asks.Why.{Why}
 use Rattle.farm_history.specs.Plans.{Waits, is_in}
 use Rattle.farm_history.specs.Lists.{Each, Differ}
 use Rattle.farm_history.specs.Seen.{Taken, overtaken_by}
-use Rattle.plain_data.specs.Features.{Layer}
+use Rattle.plain_shapes.specs.Features.{Layer}
 use Rattle.std.proofs.lemmas.List.{length-map, length-replicate}
 use Rattle.farm_history.proofs.Lists.{each-append, each-map, each-over, each-filter, any-append, not_any}
 use Rattle.farm_history.proofs.Counts.{count-cons}

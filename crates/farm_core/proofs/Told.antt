@@ -9,7 +9,7 @@ use Rattle.farm_base.specs.declared.faults.ApplyFault.{ApplyFault}
 use Rattle.tile_store.specs.Stores.{StoreTold, StorePuts}
 use Rattle.plain_world.specs.declared.world.Tile.{Tile}
 use Rattle.plain_world.specs.World.{index_place}
-use Rattle.plain_data.specs.Data.{update_result}
+use Rattle.plain_shapes.specs.Data.{update_result}
 use Rattle.farm_history.specs.declared.keys.Key.{Key}
 use Rattle.farm_history.specs.declared.keys.Mark.{Mark}
 use Rattle.farm_history.specs.declared.saved.Past.{Past}

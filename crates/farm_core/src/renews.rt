@@ -1,7 +1,7 @@
 //! Renews: updates that expire what they reach.
 ghost use Rattle.std.specs.Prelude.{◌≡◌, ◌≢◌, ◌<◌, ◌^◌, Bool, List, ◌∷◌, All, length, map as map_list, slice_get, IfErr, IfOk, Err};
 ghost use Rattle.farm_base.specs.declared.faults.ApplyFault.{ApplyFault};
-ghost use Rattle.plain_data.specs.Data.{IsDataset, IsLayer, update_result};
+ghost use Rattle.plain_shapes.specs.Data.{IsDataset, IsLayer, update_result};
 ghost use Rattle.reach_box.specs.Boxes.{IsBox};
 ghost use Rattle.farm_history.specs.Entries.{Entry, Renew};
 ghost use Rattle.farm_history.specs.Lists.{Each};

@@ -3,7 +3,7 @@ ghost use Rattle.std.specs.Prelude.{◌≡◌, ◌≢◌, ◌<◌, ◌+◌, ◌-
 ghost use Rattle.farm_base.specs.Limits.{most_turns};
 ghost use Rattle.farm_base.specs.declared.faults.ApplyFault.{ApplyFault};
 ghost use Rattle.plain_world.specs.World.{IsMeta};
-ghost use Rattle.plain_data.specs.Data.{update_result};
+ghost use Rattle.plain_shapes.specs.Data.{update_result};
 ghost use Rattle.farm_history.specs.Entries.{Entry};
 ghost use Rattle.farm_history.specs.Lists.{Each};
 ghost use Rattle.farm_history.specs.Replays.{are_rising, past_number, replay, replay_from, replay_keys};

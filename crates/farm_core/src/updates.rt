@@ -5,7 +5,7 @@ ghost use Rattle.farm_core.specs.Answers.{Lasts};
 ghost use Rattle.farm_refinement.specs.Stands.{StandsFor};
 ghost use Rattle.std.specs.Vec.{vec_capacity};
 ghost use Rattle.farm_base.specs.declared.faults.ApplyFault.{ApplyFault};
-ghost use Rattle.plain_data.specs.Data.{update_result};
+ghost use Rattle.plain_shapes.specs.Data.{update_result};
 ghost use Rattle.farm_plan.specs.Drawings.{update_of};
 ghost use Rattle.farm_core.specs.inner.Effects.{Advances, IsNext, Nexts, own_of};
 

@@ -4,12 +4,12 @@ use Rattle.std.specs.Prelude.{Ok}
 use Rattle.plain_drawing.specs.Grids.{Grid}
 use Rattle.plain_drawing.specs.Styles.{RasterRef, MapStyle}
 use Rattle.style_objects.specs.Tables.{style_in}
-use Rattle.fault_texts.specs.StyleFaults.{style_text}
+use Rattle.exit_status.specs.StyleFaults.{style_text}
 use Rattle.exit_status.specs.Ends.{FilesAt}
 use Rattle.exit_status.specs.declared.stops.Stop.{Stop}
-use Rattle.input_files.specs.Course.{Course, made, ◌>>=◌, file, each}
-use Rattle.input_files.specs.inner.Follows.{Follows}
-use Rattle.input_files.proofs.Courses.{ended, follows_then, follows_stop}
+use Rattle.farm_files.specs.Course.{Course, made, ◌>>=◌, file, each}
+use Rattle.farm_files.specs.inner.Follows.{Follows}
+use Rattle.farm_files.proofs.Courses.{ended, follows_then, follows_stop}
 use Rattle.farm_files.specs.MapCourses.{raster_course, style_course, style_course_by}
 
 -- the style with these grids

@@ -13,13 +13,13 @@ use Rattle.plain_image.specs.declared.reading.PpmFault.{PpmFault}
 use Rattle.raster_layers.specs.Scales.{grid_or_fault}
 use Rattle.raster_layers.specs.declared.grids.GridFault.{GridFault}
 use Rattle.raster_layers.specs.declared.grids.GridFault.TheVariants.{Size}
-use Rattle.fault_texts.specs.RasterFaults.{ppm_text, grid_text}
+use Rattle.exit_status.specs.RasterFaults.{ppm_text, grid_text}
 use Rattle.exit_status.specs.Ends.{FilesAt}
 use Rattle.exit_status.specs.declared.stops.Stop.{Stop}
-use Rattle.input_files.specs.Course.{Course, made, reads, ◌>>=◌, judged, file, each}
-use Rattle.input_files.specs.inner.Follows.{Follows, Says, Tells}
-use Rattle.input_files.proofs.Courses.{ended, Could, could_parts, followed_could}
-use Rattle.input_files.proofs.Judged.{file_checked, file_stops}
+use Rattle.farm_files.specs.Course.{Course, made, reads, ◌>>=◌, judged, file, each}
+use Rattle.farm_files.specs.inner.Follows.{Follows, Says, Tells}
+use Rattle.farm_files.proofs.Courses.{ended, Could, could_parts, followed_could}
+use Rattle.farm_files.proofs.Judged.{file_checked, file_stops}
 use Rattle.farm_files.specs.MapCourses.{grid_with, raster_course, raster_course_by}
 use Rattle.farm_files.specs.inner.Rasters.{as_raster, after_ppm, raster_in, raster_text}
 use Rattle.farm_files.specs.declared.rasters.RasterFault.{RasterFault}

@@ -5,3 +5,6 @@ pub mod Whole
 pub mod Bound
 pub mod Fitting
 pub mod Reading
+pub mod Courses
+pub mod Each
+pub mod Judged

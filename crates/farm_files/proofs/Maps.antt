@@ -7,9 +7,9 @@ use Rattle.farm_config.specs.declared.config.RestyleEntry.{RestyleEntry}
 use Rattle.farm_plan.specs.Plans.{MapPlan, Restyle}
 use Rattle.exit_status.specs.Ends.{FilesAt}
 use Rattle.exit_status.specs.declared.stops.Stop.{Stop}
-use Rattle.input_files.specs.Course.{made}
-use Rattle.input_files.specs.inner.Follows.{Follows}
-use Rattle.input_files.proofs.Courses.{ended, follows_then, follows_stop}
+use Rattle.farm_files.specs.Course.{made}
+use Rattle.farm_files.specs.inner.Follows.{Follows}
+use Rattle.farm_files.proofs.Courses.{ended, follows_then, follows_stop}
 use Rattle.farm_files.specs.MapCourses.{style_course}
 use Rattle.farm_files.specs.Courses.{map_course, restyle_course, map_course_by, restyle_course_by}
 

@@ -12,12 +12,12 @@ use Rattle.farm_base.specs.Earlier.{each_after}
 use Rattle.tile_paths.specs.Paths.{IsName, is_map_name}
 use Rattle.farm_history.proofs.Lists.{any-append}
 use Rattle.geo_json.specs.DataTexts.{dataset_in}
-use Rattle.fault_texts.specs.DataFaults.{data_text}
+use Rattle.exit_status.specs.DataFaults.{data_text}
 use Rattle.farm_config.specs.Configs.{MapEntry, Config, map_has, map_fits, restyle_known, IsConfig}
 use Rattle.farm_config.specs.declared.config.RestyleEntry.{RestyleEntry}
 use Rattle.farm_plan.specs.Plans.{MapPlan, Restyle, IsMapPlan, HasNamesApart, NamesMap, IsPlan}
-use Rattle.input_files.specs.Course.{Course, made, ◌>>=◌, file, each}
-use Rattle.input_files.proofs.Courses.{Could, could_parts}
+use Rattle.farm_files.specs.Course.{Course, made, ◌>>=◌, file, each}
+use Rattle.farm_files.proofs.Courses.{Could, could_parts}
 use Rattle.farm_files.specs.MapCourses.{style_course}
 use Rattle.farm_files.specs.Courses.{map_course, restyle_course, update_course, list_course, inputs_course, map_course_by, restyle_course_by, inputs_course_by}
 use Rattle.farm_files.specs.Inputs.{FarmInputs}

@@ -2,18 +2,18 @@
 use Rattle.std.proofs.Common.{◌≡◌, ℕ, inl, List, refl, ap, subst}
 use Rattle.std.specs.Prelude.{Result, Ok}
 use Rattle.plain_world.specs.declared.world.Tile.{Tile}
-use Rattle.plain_data.specs.Features.{Layer}
-use Rattle.plain_data.specs.Data.{Change}
+use Rattle.plain_shapes.specs.Features.{Layer}
+use Rattle.plain_shapes.specs.Data.{Change}
 use Rattle.geo_json.specs.DataTexts.{dataset_in}
-use Rattle.fault_texts.specs.DataFaults.{data_text}
+use Rattle.exit_status.specs.DataFaults.{data_text}
 use Rattle.farm_config.specs.Configs.{MapEntry, Config}
 use Rattle.farm_config.specs.declared.config.RestyleEntry.{RestyleEntry}
 use Rattle.farm_plan.specs.Plans.{MapPlan, Restyle}
 use Rattle.exit_status.specs.Ends.{FilesAt}
 use Rattle.exit_status.specs.declared.stops.Stop.{Stop}
-use Rattle.input_files.specs.Course.{Course, made, ◌>>=◌, file, each}
-use Rattle.input_files.specs.inner.Follows.{Follows}
-use Rattle.input_files.proofs.Courses.{ended, follows_then, follows_stop}
+use Rattle.farm_files.specs.Course.{Course, made, ◌>>=◌, file, each}
+use Rattle.farm_files.specs.inner.Follows.{Follows}
+use Rattle.farm_files.proofs.Courses.{ended, follows_then, follows_stop}
 use Rattle.farm_files.specs.Inputs.{FarmInputs}
 use Rattle.farm_files.specs.Courses.{map_course, restyle_course, update_course, list_course, inputs_course, inputs_course_by}
 

@@ -5,13 +5,13 @@ use Rattle.farm_config.specs.Configs.{Config}
 use Rattle.farm_config.specs.Tables.{config_in}
 use Rattle.script_lines.specs.Scripts.{script_in}
 use Rattle.script_lines.specs.declared.script.ScriptLine.{ScriptLine}
-use Rattle.fault_texts.specs.ConfigFaults.{config_text}
-use Rattle.fault_texts.specs.LineFaults.{script_text}
+use Rattle.exit_status.specs.ConfigFaults.{config_text}
+use Rattle.exit_status.specs.LineFaults.{script_text}
 use Rattle.exit_status.specs.Ends.{FilesAt}
 use Rattle.exit_status.specs.declared.stops.Stop.{Stop}
-use Rattle.input_files.specs.Course.{Course, made, ◌>>=◌, file}
-use Rattle.input_files.specs.inner.Follows.{Follows}
-use Rattle.input_files.proofs.Courses.{ended, follows_then, follows_stop}
+use Rattle.farm_files.specs.Course.{Course, made, ◌>>=◌, file}
+use Rattle.farm_files.specs.inner.Follows.{Follows}
+use Rattle.farm_files.proofs.Courses.{ended, follows_then, follows_stop}
 use Rattle.farm_files.specs.Inputs.{FarmInputs, ScriptInputs, ServeInputs}
 use Rattle.farm_files.specs.Addresses.{addressed_in}
 use Rattle.farm_files.specs.Courses.{inputs_course, script_course, serve_course, script_course_by, serve_course_by}

@@ -1,7 +1,7 @@
 -- The courses of the files of a farm.
 use Rattle.std.specs.Prelude.{ℕ, List}
 use Rattle.plain_world.specs.declared.world.Tile.{Tile}
-use Rattle.plain_data.specs.Data.{Change}
+use Rattle.plain_shapes.specs.Data.{Change}
 use Rattle.style_objects.specs.TextReadings.{TextReading, text_reading}
 use Rattle.geo_json.specs.DataTexts.{dataset_in}
 use Rattle.geo_json.specs.UpdateTexts.{update_in}
@@ -10,11 +10,11 @@ use Rattle.farm_config.specs.Configs.{MapEntry, Config}
 use Rattle.farm_config.specs.Tables.{config_in}
 use Rattle.farm_config.specs.declared.config.RestyleEntry.{RestyleEntry}
 use Rattle.script_lines.specs.Scripts.{script_in}
-use Rattle.fault_texts.specs.ConfigFaults.{config_text}
-use Rattle.fault_texts.specs.DataFaults.{data_text}
-use Rattle.fault_texts.specs.LineFaults.{list_text, script_text}
+use Rattle.exit_status.specs.ConfigFaults.{config_text}
+use Rattle.exit_status.specs.DataFaults.{data_text}
+use Rattle.exit_status.specs.LineFaults.{list_text, script_text}
 use Rattle.farm_plan.specs.Plans.{MapPlan, Restyle}
-use Rattle.input_files.specs.Course.{Course, made, ◌>>=◌, file, each}
+use Rattle.farm_files.specs.Course.{Course, made, ◌>>=◌, file, each}
 use Rattle.farm_files.specs.MapCourses.{style_course_by}
 use Rattle.farm_files.specs.Addresses.{addressed_in}
 use Rattle.farm_files.specs.Inputs.{FarmInputs, ScriptInputs, ServeInputs}

@@ -3,3 +3,4 @@ pub mod Courses
 pub mod Inputs
 pub mod MapCourses
 pub mod inner
+pub mod Course

@@ -7,9 +7,9 @@ use Rattle.plain_drawing.specs.Styles.{RasterRef, MapStyle}
 use Rattle.style_objects.specs.TextReadings.{TextReading, text_reading}
 use Rattle.style_objects.specs.Tables.{style_by}
 use Rattle.raster_layers.specs.Scales.{grid_or_fault}
-use Rattle.fault_texts.specs.RasterFaults.{ppm_text, grid_text}
-use Rattle.fault_texts.specs.StyleFaults.{style_text}
-use Rattle.input_files.specs.Course.{Course, made, ◌>>=◌, judged, file, each}
+use Rattle.exit_status.specs.RasterFaults.{ppm_text, grid_text}
+use Rattle.exit_status.specs.StyleFaults.{style_text}
+use Rattle.farm_files.specs.Course.{Course, made, ◌>>=◌, judged, file, each}
 
 -- the grid of a raster with this picture: its name, place and pixel, the picture's sides and the three bytes of each of its pixels
 abbrev pub grid_with : RasterRef → Pixels → Grid

@@ -1,21 +1,21 @@
 //! Configuration files.
 ghost use Rattle.std.specs.Prelude.{◌≡◌};
 ghost use Rattle.farm_config.specs.Tables.{config_in};
-ghost use Rattle.fault_texts.specs.ConfigFaults.{config_text};
-ghost use Rattle.input_files.specs.Course.{file};
-ghost use Rattle.input_files.specs.inner.Follows.{Follows};
+ghost use Rattle.exit_status.specs.ConfigFaults.{config_text};
+ghost use Rattle.farm_files.specs.Course.{file};
+ghost use Rattle.farm_files.specs.inner.Follows.{Follows};
 ghost use Rattle.reading.specs.Steps.{Gives};
 ghost use Rattle.farm_config.specs.declared.fault.ConfigFault.TheVariants as fault;
 ghost use Rattle.farm_files.specs.Addresses.{addressed_in, addressed_of};
 
+use crate::files::{checked, read_file};
 use exit_status::Stop;
 use farm_base::Files;
 use farm_config::{Config, ConfigFault, read_config};
-use input_files::{checked, read_file};
 use std::alloc::Global;
 
 /// Reads a configuration's file and checks it.
-#[tactic(auto, using(input_files::proofs::Judged::file_stops))]
+#[tactic(auto, using(crate::proofs::Judged::file_stops))]
 pub(crate) fn config_file<F: Files>(
     alloc: Global,
     files: &mut F,
@@ -56,7 +56,7 @@ pub fn addressed_config(alloc: Global, bytes: &[u8]) -> Result<Config, ConfigFau
 }
 
 /// Reads the configuration's file of a farm that is to listen, and checks it.
-#[tactic(auto, using(input_files::proofs::Judged::file_stops))]
+#[tactic(auto, using(crate::proofs::Judged::file_stops))]
 pub(crate) fn addressed_file<F: Files>(
     alloc: Global,
     files: &mut F,

@@ -1,17 +1,17 @@
 //! All files that a configuration names.
 ghost use Rattle.std.specs.Prelude.{◌≡◌, IfOk};
-ghost use Rattle.input_files.specs.inner.Follows.{Follows};
+ghost use Rattle.farm_files.specs.inner.Follows.{Follows};
 ghost use Rattle.farm_plan.specs.Plans.{IsPlan};
 ghost use Rattle.farm_files.specs.Courses.{inputs_course};
 
 use crate::layers::data_layers;
+use crate::lists::load_each;
 use crate::loaders::{ListFiles, MapFiles, RestyleFiles, UpdateFiles};
 use exit_status::Stop;
 use expiry_lists::TileList;
 use farm_base::Files;
 use farm_config::Config;
 use farm_plan::FarmPlan;
-use input_files::load_each;
 use std::alloc::Global;
 use std::marker::Model;
 

@@ -2,9 +2,11 @@
 ghost use Rattle.expiry_lists.specs.Lists.{list_in};
 ghost use Rattle.expiry_lists.specs.declared.faults.ListFault.TheVariants as fault;
 ghost use Rattle.reading.specs.Steps.{Gives};
-ghost use Rattle.input_files.specs.inner.Follows.{Follows};
+ghost use Rattle.farm_files.specs.inner.Follows.{Follows};
 ghost use Rattle.farm_files.specs.Courses.{map_course, restyle_course, update_course, list_course};
 
+use crate::files::{checked, read_file};
+use crate::lists::Load;
 use crate::styles::bound_style;
 use data_versions::Update;
 use exit_status::Stop;
@@ -13,7 +15,6 @@ use farm_base::{Files, Text};
 use farm_config::{MapEntry, RestyleEntry};
 use farm_plan::{MapPlan, Restyle};
 use geo_json::read_update;
-use input_files::{Load, checked, read_file};
 use std::alloc::Global;
 
 /// Reads a map's style with its rasters.
@@ -47,7 +48,7 @@ fn restyle_file<F: Files>(
 }
 
 /// Reads an update's file and checks it.
-#[tactic(auto, using(input_files::proofs::Judged::file_stops))]
+#[tactic(auto, using(crate::proofs::Judged::file_stops))]
 fn update_file<F: Files>(alloc: Global, files: &mut F, name: &str) -> Result<Update, Stop>
     ensures { Follows (update_course name.now) (F.state files.old) (F.state files.new) result }
 {
@@ -65,7 +66,7 @@ fn tile_list(alloc: Global, bytes: &[u8]) -> Result<TileList, ListFault>
 }
 
 /// Reads an expiry list's file and checks it.
-#[tactic(auto, using(input_files::proofs::Judged::file_stops))]
+#[tactic(auto, using(crate::proofs::Judged::file_stops))]
 fn list_file<F: Files>(alloc: Global, files: &mut F, name: &str) -> Result<TileList, Stop>
     ensures { Follows (list_course name.now) (F.state files.old) (F.state files.new) result }
 {

@@ -2,15 +2,15 @@
 ghost use Rattle.std.specs.Prelude.{◌≡◌, Some, IfOk};
 ghost use Rattle.plain_image.specs.declared.reading.PpmFault.TheVariants as ppm;
 ghost use Rattle.reading.specs.Steps.{Gives};
-ghost use Rattle.input_files.specs.inner.Follows.{Follows};
+ghost use Rattle.farm_files.specs.inner.Follows.{Follows};
 ghost use Rattle.farm_files.specs.MapCourses.{raster_course};
 ghost use Rattle.farm_files.specs.inner.Rasters.{raster_in, raster_text, with_image};
 ghost use Rattle.farm_files.specs.declared.rasters.RasterFault.TheVariants as fault;
 
-use exit_status::Stop;
+use crate::files::{checked, read_file};
+use crate::lists::Load;
+use exit_status::{FaultText, Stop, grid_text, ppm_text};
 use farm_base::{Files, NoMemory, Text};
-use fault_texts::{FaultText, grid_text, ppm_text};
-use input_files::{Load, checked, read_file};
 use plain_drawing::{Grid, RasterRef};
 use plain_image::{Image, PpmFault, read_ppm};
 use raster_layers::{GridFault, make_grid};

@@ -1,18 +1,18 @@
 //! The files of the commands that run a farm.
 ghost use Rattle.std.specs.Prelude.{◌≡◌, IfOk};
 ghost use Rattle.script_lines.specs.Scripts.{script_in};
-ghost use Rattle.fault_texts.specs.LineFaults.{script_text};
-ghost use Rattle.input_files.specs.Course.{file};
-ghost use Rattle.input_files.specs.inner.Follows.{Follows};
+ghost use Rattle.exit_status.specs.LineFaults.{script_text};
+ghost use Rattle.farm_files.specs.Course.{file};
+ghost use Rattle.farm_files.specs.inner.Follows.{Follows};
 ghost use Rattle.farm_plan.specs.Plans.{IsPlan};
 ghost use Rattle.farm_files.specs.Courses.{inputs_course, script_course, serve_course};
 
 use crate::configs::{addressed_file, config_file};
+use crate::files::{checked, read_file};
 use crate::inputs::{FarmInputs, farm_inputs};
 use exit_status::Stop;
 use farm_base::Files;
 use farm_config::Config;
-use input_files::{checked, read_file};
 use script_lines::{Script, read_script};
 use std::alloc::Global;
 use std::marker::Model;
@@ -56,7 +56,7 @@ impl Model for ServeInputs {
 }
 
 /// Reads a script's file and checks it.
-#[tactic(auto, using(input_files::proofs::Judged::file_stops))]
+#[tactic(auto, using(crate::proofs::Judged::file_stops))]
 fn script_file<F: Files>(alloc: Global, files: &mut F, name: &str) -> Result<Script, Stop>
     ensures { Follows (file script_in script_text name.now) (F.state files.old) (F.state files.new) result }
 {

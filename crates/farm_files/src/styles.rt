@@ -1,14 +1,15 @@
 //! Style files, with the raster files that they name.
 ghost use Rattle.style_objects.specs.Tables.{style_in};
-ghost use Rattle.fault_texts.specs.StyleFaults.{style_text};
-ghost use Rattle.input_files.specs.Course.{file};
-ghost use Rattle.input_files.specs.inner.Follows.{Follows};
+ghost use Rattle.exit_status.specs.StyleFaults.{style_text};
+ghost use Rattle.farm_files.specs.Course.{file};
+ghost use Rattle.farm_files.specs.inner.Follows.{Follows};
 ghost use Rattle.farm_files.specs.MapCourses.{style_course};
 
+use crate::files::{checked, read_file};
+use crate::lists::load_each;
 use crate::rasters::RasterFiles;
 use exit_status::Stop;
 use farm_base::Files;
-use input_files::{checked, load_each, read_file};
 use plain_drawing::MapStyle;
 use std::alloc::Global;
 use style_objects::read_style;
@@ -25,7 +26,7 @@ pub fn bound_style<F: Files>(alloc: Global, files: &mut F, name: &str) -> Result
 }
 
 // Reads a style's file and checks it.
-#[tactic(auto, using(input_files::proofs::Judged::file_stops))]
+#[tactic(auto, using(crate::proofs::Judged::file_stops))]
 fn style_file<F: Files>(alloc: Global, files: &mut F, name: &str) -> Result<MapStyle, Stop>
     ensures { Follows (file style_in style_text name.now) (F.state files.old) (F.state files.new) result }
 {

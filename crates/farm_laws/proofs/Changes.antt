@@ -4,8 +4,8 @@ use Rattle.std.specs.Prelude.{Ok, Err, option_map, unwrap_or}
 use Rattle.std.specs.Str.{bytes_eq}
 use Rattle.std.proofs.lemmas.Bool.Decides.{nat_tests}
 use Rattle.farm_base.specs.declared.faults.ApplyFault.{ApplyFault}
-use Rattle.plain_data.specs.Features.{Feature, Layer}
-use Rattle.plain_data.specs.Data.{Change, has_id, ids_of, without_ids, last_put, puts_in_place, put_features, with_change, changed_layer, layers_after, change_fault, unless_refused, changed_from, update_result}
+use Rattle.plain_shapes.specs.Features.{Feature, Layer}
+use Rattle.plain_shapes.specs.Data.{Change, has_id, ids_of, without_ids, last_put, puts_in_place, put_features, with_change, changed_layer, layers_after, change_fault, unless_refused, changed_from, update_result}
 use Rattle.farm_history.specs.Lists.{Each}
 use Rattle.farm_history.proofs.Lists.{each-join, each-over, each-filter, each-map, filter-append, filter-agree, filter-filter, filter-none}
 use Rattle.farm_plan.specs.Drawings.{features_in, names_id, named_by, named}

@@ -3,3 +3,4 @@ pub mod Legality
 pub mod Local
 pub mod Newest
 pub mod Refusals
+pub mod Sentences

@@ -13,9 +13,9 @@ use Rattle.plain_world.specs.World.{side_at, tile_square, meta_square, meta_of, 
 use Rattle.plain_world.proofs.Windows.{world_wide}
 use Rattle.plain_shapes.specs.Images.{Pixels}
 use Rattle.plain_shapes.specs.Ppm.{ppm}
-use Rattle.plain_data.specs.Features.{Feature, Layer}
-use Rattle.plain_data.specs.Data.{Change, update_result}
-use Rattle.plain_data.specs.Reach.{Reaches, feature_reaches}
+use Rattle.plain_shapes.specs.Features.{Feature, Layer}
+use Rattle.plain_shapes.specs.Data.{Change, update_result}
+use Rattle.plain_shapes.specs.Reach.{Reaches, feature_reaches}
 use Rattle.plain_drawing.specs.Styles.{Style, LayerRef, MapStyle, KeepsRanges}
 use Rattle.plain_drawing.specs.Grids.{Grid}
 use Rattle.plain_drawing.specs.Rules.{denominator_of, is_active}

@@ -5,9 +5,9 @@ use Rattle.farm_base.specs.declared.faults.ApplyFault.{ApplyFault}
 use Rattle.plain_world.specs.declared.world.Tile.{Tile}
 use Rattle.plain_world.specs.declared.world.Meta.{Meta}
 use Rattle.plain_world.specs.World.{meta_square}
-use Rattle.plain_data.specs.Features.{Feature, Layer}
-use Rattle.plain_data.specs.Data.{Change, has_id, ids_of, features_named, update_result}
-use Rattle.plain_data.specs.Reach.{feature_reaches}
+use Rattle.plain_shapes.specs.Features.{Feature, Layer}
+use Rattle.plain_shapes.specs.Data.{Change, has_id, ids_of, features_named, update_result}
+use Rattle.plain_shapes.specs.Reach.{feature_reaches}
 use Rattle.plain_drawing.specs.Styles.{MapStyle}
 use Rattle.plain_drawing.specs.Drawing as drawing
 use Rattle.plain_drawing.specs.Metatiles.{tiles_of}

@@ -2,8 +2,8 @@
 use Rattle.std.specs.Prelude.{ℕ, ◌<◌, ◌≤◌, ◌≡◌, List, length, All, slice_get, position, Option, Some}
 use Rattle.std.specs.Str.{bytes_eq}
 use Rattle.plain_world.specs.World.{IsTileSize}
-use Rattle.plain_data.specs.Features.{Layer}
-use Rattle.plain_data.specs.Data.{Change}
+use Rattle.plain_shapes.specs.Features.{Layer}
+use Rattle.plain_shapes.specs.Data.{Change}
 use Rattle.plain_drawing.specs.Styles.{MapStyle, KeepsRanges}
 use Rattle.tile_paths.specs.Paths.{IsName}
 use Rattle.farm_history.specs.declared.queues.Limits.{Limits}

@@ -8,8 +8,8 @@ use Rattle.farm_base.specs.declared.faults.ApplyFault.TheVariants.{NoLayer, NoFe
 use Rattle.farm_base.specs.Outside.{Outside}
 use Rattle.tile_store.specs.Stores.{StoreTold}
 use Rattle.plain_world.specs.declared.world.Tile.{Tile}
-use Rattle.plain_data.specs.Features.{Layer}
-use Rattle.plain_data.specs.Data.{update_result}
+use Rattle.plain_shapes.specs.Features.{Layer}
+use Rattle.plain_shapes.specs.Data.{update_result}
 use Rattle.farm_history.specs.declared.keys.Key.{Key}
 use Rattle.farm_history.specs.declared.saved.Past.{Past}
 use Rattle.farm_history.specs.declared.answers.Updated.{Updated}

@@ -9,7 +9,7 @@ use Rattle.tile_store.specs.Stores.{StoreTold}
 use Rattle.plain_world.specs.declared.world.Tile.{Tile}
 use Rattle.plain_world.specs.declared.world.Meta.{Meta}
 use Rattle.plain_world.specs.World.{meta_of, index_place}
-use Rattle.plain_data.specs.Features.{Layer}
+use Rattle.plain_shapes.specs.Features.{Layer}
 use Rattle.plain_drawing.specs.Styles.{MapStyle}
 use Rattle.plain_drawing.specs.Metatiles.{tiles_of}
 use Rattle.meta_container.specs.declared.container.Entry.{Entry as Span}

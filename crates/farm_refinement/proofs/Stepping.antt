@@ -1,6 +1,6 @@
 -- What all events share: the farm after an entry that is no claim of a job and no end of a drawing.
 use Rattle.std.proofs.Common.{◌≡◌, ℕ, ◌<◌, Bool, true, false, List, ◌∷◌, length, slice_get, Option, Some, option_map, refl, sym, ap, ap₂, ◌∙◌}
-use Rattle.plain_data.specs.Features.{Layer}
+use Rattle.plain_shapes.specs.Features.{Layer}
 use Rattle.farm_base.specs.Outside.{Outside}
 use Rattle.tile_store.specs.Stores.{StoreTold}
 use Rattle.farm_history.specs.declared.keys.Key.{Key}

@@ -1,6 +1,6 @@
 -- What a farm is seen as.
 use Rattle.std.specs.Prelude.{ℕ, Bool, List, Option}
-use Rattle.plain_data.specs.Features.{Layer}
+use Rattle.plain_shapes.specs.Features.{Layer}
 use Rattle.farm_history.specs.declared.saved.Past.{Past}
 use Rattle.farm_history.specs.Seen.{Taken}
 use Rattle.farm_history.specs.Replays.{Saving}

@@ -27,8 +27,8 @@ use Rattle.farm_shared.specs.Shared.{lasting_of, past, MayTell, Adds, IsClosed}
 use Rattle.render_workers.specs.declared.worker.WorkEnd.{WorkEnd}
 use Rattle.farm_laws.specs.Locality.{IsSentNow}
 use Rattle.farm_laws.proofs.Newest.{sent_now}
-use Rattle.farm_headline.specs.Headline.{Headline}
-use Rattle.farm_headline.proofs.Sentences.{headline}
+use Rattle.farm_laws.specs.Headline.{Headline}
+use Rattle.farm_laws.proofs.Sentences.{headline}
 use Rattle.farm_runs.specs.declared.each_front.EachFront.{EachFront}
 use Rattle.farm_runs.specs.declared.pool.Actor.{Actor}
 use Rattle.farm_runs.specs.Actors.{Leaving, AreOfFront, WorkBy, with_front_seats}

@@ -17,7 +17,7 @@ use Rattle.farm_shared.specs.Seats.{plain}
 use Rattle.farm_shared.specs.Shared.{lasting_of, past, MayTell, IsAfter}
 use Rattle.render_workers.specs.declared.worker.WorkEnd.{WorkEnd}
 use Rattle.farm_laws.specs.Locality.{IsSentNow}
-use Rattle.farm_headline.specs.Headline.{Headline}
+use Rattle.farm_laws.specs.Headline.{Headline}
 use Rattle.farm_runs.specs.declared.each_front.EachFront.{EachFront}
 use Rattle.farm_runs.specs.Actors.{Leaving, WorkBy}
 

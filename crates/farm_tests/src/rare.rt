@@ -1,6 +1,6 @@
 //! Refusals that are rare: each has its status and its line, and is not told as want of memory.
 use crate::call::{NONE, USAGE, call};
-use fault_texts::FaultText;
+use exit_status::FaultText;
 use geo_json::DataFault;
 use std::test::Fail;
 

@@ -7,8 +7,8 @@ use Rattle.std.specs.Ordering.{nat_cmp}
 use Rattle.std.proofs.lemmas.Bool.Decides.{nat_tests}
 use Rattle.std.proofs.lemmas.List.{map-append}
 use Rattle.std.proofs.lemmas.List.Folds.{list_any-append}
-use Rattle.plain_data.specs.Data.{has_id, ids_of}
-use Rattle.plain_data.specs.Features.{Feature}
+use Rattle.plain_shapes.specs.Data.{has_id, ids_of}
+use Rattle.plain_shapes.specs.Features.{Feature}
 use Rattle.geo_json.specs.inner.KnownIds.{KnowsIds}
 
 pushed : (before : List Feature) (f : Feature) (q : ℕ) → has_id (ids_of (before ++ f ∷ [])) q ≡ (has_id (ids_of before) q || (nat_eq q f.id || false))

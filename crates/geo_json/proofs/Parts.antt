@@ -4,8 +4,8 @@ use Rattle.std.specs.Prelude.{nat_lt}
 use Rattle.std.specs.List.{list_any}
 use Rattle.farm_base.specs.declared.values.Attr.{Attr}
 use Rattle.plain_shapes.specs.declared.shapes.Geometry.{Geometry}
-use Rattle.plain_data.specs.Features.{Feature}
-use Rattle.plain_data.specs.Limits.{most_points, most_attrs}
+use Rattle.plain_shapes.specs.Features.{Feature}
+use Rattle.plain_shapes.specs.Limits.{most_points, most_attrs}
 use Rattle.geo_model.specs.declared.faults.GeoFault.TheVariants.{TooFewPoints, OutOfWorld, TooManyPoints, TooManyAttrs}
 use Rattle.geo_model.specs.Shapes.{first_of, parts_of, has_too_few, is_outside, point_count, has_double_name, fault_of}
 use Rattle.reading.specs.Steps.{◌>>=◌, check}

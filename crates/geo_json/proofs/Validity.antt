@@ -14,8 +14,8 @@ use Rattle.serde_json.specs.declared.value.Value.{Value}
 use Rattle.serde_json.specs.Events.{items_len}
 use Rattle.serde_json.specs.View.{items_view}
 use Rattle.farm_base.specs.Earlier.{each_after}
-use Rattle.plain_data.specs.Features.{Feature, Layer}
-use Rattle.plain_data.specs.Data.{Change, is_name, has_id, ids_of, names_of, IsLayer, IsDataset, IsChange, IsUpdate}
+use Rattle.plain_shapes.specs.Features.{Feature, Layer}
+use Rattle.plain_shapes.specs.Data.{Change, is_name, has_id, ids_of, names_of, IsLayer, IsDataset, IsChange, IsUpdate}
 use Rattle.geo_json.specs.FeatureTexts.{is_new}
 use Rattle.geo_json.specs.DataTexts.{has_layer}
 use Rattle.geo_json.specs.DataTexts as data_texts

@@ -6,7 +6,7 @@ use Rattle.serde_json.specs.Find.{as_object}
 use Rattle.farm_base.specs.declared.values.Value.{Value}
 use Rattle.farm_base.specs.declared.values.Value.TheVariants.{Null, Truth, Whole, Text}
 use Rattle.farm_base.specs.declared.values.Attr.{Attr}
-use Rattle.plain_data.specs.Data.{is_name}
+use Rattle.plain_shapes.specs.Data.{is_name}
 use Rattle.reading.specs.Steps.{◌>>=◌, check}
 use Rattle.reading.specs.Values.{signed}
 use Rattle.geo_json.specs.declared.faults.DataFault.{DataFault}

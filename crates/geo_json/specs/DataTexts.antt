@@ -7,8 +7,8 @@ use Rattle.serde_json.specs.Data.{Data}
 use Rattle.serde_json.specs.Find.{get}
 use Rattle.serde_json.specs.Events.{items_len}
 use Rattle.farm_base.specs.Earlier.{each_after}
-use Rattle.plain_data.specs.Features.{Layer}
-use Rattle.plain_data.specs.Data.{is_name}
+use Rattle.plain_shapes.specs.Features.{Layer}
+use Rattle.plain_shapes.specs.Data.{is_name}
 use Rattle.reading.specs.Json.{json_of}
 use Rattle.reading.specs.Lists.{list_of}
 use Rattle.reading.specs.Steps.{◌>>=◌, check}
@@ -19,7 +19,7 @@ use Rattle.geo_json.specs.Openings.{object_of, name_at}
 use Rattle.geo_json.specs.declared.faults.DataFault.{DataFault}
 use Rattle.geo_json.specs.declared.faults.DataFault.TheVariants.{NotJson, Shape, DoubleLayer, TooMany}
 use Rattle.geo_json.specs.declared.coordinates.Units.{Units}
-use Rattle.plain_data.specs.Limits.{most_data_layers, most_features}
+use Rattle.plain_shapes.specs.Limits.{most_data_layers, most_features}
 
 -- a layer at its place after those before it: its own keys, its name among the earlier ones, how many features it has,
 -- and then each feature; there is no layer after 64

@@ -3,8 +3,8 @@ use Rattle.std.specs.Prelude.{ℕ, ◌^◌, ◌-◌, Bool, not, nat_lt, List, []
 use Rattle.std.specs.List.{list_any}
 use Rattle.serde_json.specs.Data.{Data}
 use Rattle.serde_json.specs.Find.{get}
-use Rattle.plain_data.specs.Features.{Feature}
-use Rattle.plain_data.specs.Data.{has_id, ids_of}
+use Rattle.plain_shapes.specs.Features.{Feature}
+use Rattle.plain_shapes.specs.Data.{has_id, ids_of}
 use Rattle.geo_model.specs.declared.faults.GeoFault.TheVariants.{TooFewPoints, OutOfWorld, TooManyPoints, TooManyAttrs}
 use Rattle.geo_model.specs.Shapes.{parts_of, has_too_few, is_outside, point_count}
 use Rattle.reading.specs.Steps.{◌>>=◌, check}
@@ -15,7 +15,7 @@ use Rattle.geo_json.specs.Openings.{object_of}
 use Rattle.geo_json.specs.declared.faults.DataFault.{DataFault}
 use Rattle.geo_json.specs.declared.faults.DataFault.TheVariants.{Shape, Geo, DoubleId}
 use Rattle.geo_json.specs.declared.coordinates.Units.{Units}
-use Rattle.plain_data.specs.Limits.{most_points, most_attrs}
+use Rattle.plain_shapes.specs.Limits.{most_points, most_attrs}
 
 -- an id is a whole number of 64 bits
 unfoldable pub id_of : DataFault → Data → Result ℕ DataFault

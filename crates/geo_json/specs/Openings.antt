@@ -2,7 +2,7 @@
 use Rattle.std.specs.Prelude.{ℕ, List, Result, Ok}
 use Rattle.serde_json.specs.Data.{Data}
 use Rattle.serde_json.specs.Find.{get}
-use Rattle.plain_data.specs.Data.{is_name}
+use Rattle.plain_shapes.specs.Data.{is_name}
 use Rattle.reading.specs.Steps.{◌>>=◌, check}
 use Rattle.reading.specs.Values.{needed, text, opened}
 use Rattle.geo_json.specs.declared.faults.DataFault.{DataFault}

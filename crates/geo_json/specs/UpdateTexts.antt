@@ -4,7 +4,7 @@ use Rattle.std.specs.Option.{ok_or}
 use Rattle.serde_json.specs.Data.{Data, no_items}
 use Rattle.serde_json.specs.Find.{get}
 use Rattle.serde_json.specs.Events.{items_len}
-use Rattle.plain_data.specs.Data.{Change, is_name}
+use Rattle.plain_shapes.specs.Data.{Change, is_name}
 use Rattle.reading.specs.Json.{json_of}
 use Rattle.reading.specs.Lists.{list_of}
 use Rattle.reading.specs.Steps.{◌>>=◌, check}
@@ -15,7 +15,7 @@ use Rattle.geo_json.specs.Openings.{object_of, name_at}
 use Rattle.geo_json.specs.declared.faults.DataFault.{DataFault}
 use Rattle.geo_json.specs.declared.faults.DataFault.TheVariants.{NotJson, Shape, TooMany}
 use Rattle.geo_json.specs.declared.coordinates.Units.{Units}
-use Rattle.plain_data.specs.Limits.{most_features}
+use Rattle.plain_shapes.specs.Limits.{most_features}
 
 -- the ids that a change removes, as a JSON list
 unfoldable pub ids_in : DataFault → Data → Result (List ℕ) DataFault

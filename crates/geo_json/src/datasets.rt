@@ -10,7 +10,7 @@ ghost use Rattle.geo_json.specs.DataTexts as spec;
 ghost use Rattle.geo_json.specs.inner.Keys as keys;
 ghost use Rattle.geo_json.specs.Openings.{object_of};
 ghost use Rattle.geo_json.specs.declared.faults.DataFault.TheVariants as fault;
-ghost use Rattle.plain_data.specs.Limits.{most_features};
+ghost use Rattle.plain_shapes.specs.Limits.{most_features};
 
 use crate::coordinates::{Units, units_at};
 use crate::faults::DataFault;
@@ -19,7 +19,7 @@ use crate::openings::{name_at, open};
 use crate::settled::{ReadLayers, settled};
 use data_versions::{Dataset, Layer};
 use farm_base::Text;
-use plain_data::{MOST_DATA_LAYERS, MOST_FEATURES};
+use plain_shapes::{MOST_DATA_LAYERS, MOST_FEATURES};
 use reading::{ReadKnown, list, read_json, read_list_with};
 use serde_json::Value;
 use std::alloc::Global;

@@ -14,7 +14,7 @@ ghost use Rattle.geo_json.specs.Geometries.{geometry_of};
 ghost use Rattle.geo_json.specs.inner.KnownIds.{KnowsIds};
 ghost use Rattle.geo_json.specs.Openings.{object_of};
 ghost use Rattle.geo_json.specs.declared.faults.DataFault.TheVariants as fault;
-ghost use Rattle.plain_data.specs.Limits.{most_features};
+ghost use Rattle.plain_shapes.specs.Limits.{most_features};
 
 use crate::attributes::attrs_at;
 use crate::coordinates::Units;

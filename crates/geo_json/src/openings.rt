@@ -1,12 +1,12 @@
 //! What the objects of data and updates have in common.
 ghost use Rattle.std.specs.Prelude.{◌≡◌, map, IfOk, IsTrue};
 ghost use Rattle.serde_json.specs.View.{view};
-ghost use Rattle.plain_data.specs.Data.{is_name};
+ghost use Rattle.plain_shapes.specs.Data.{is_name};
 ghost use Rattle.reading.specs.Steps.{seen};
 ghost use Rattle.geo_json.specs.Openings as spec;
 
 use crate::faults::DataFault;
-use plain_data::MOST_NAME_BYTES;
+use plain_shapes::MOST_NAME_BYTES;
 use reading::{opened, text};
 use serde_json::Value;
 

@@ -20,7 +20,7 @@ use crate::feature_texts::{features, id_of};
 use crate::openings::{name_at, open};
 use data_versions::{Change, Update};
 use farm_base::Text;
-use plain_data::MOST_FEATURES;
+use plain_shapes::MOST_FEATURES;
 use reading::{ReadItem, list, read_json, read_list};
 use serde_json::Value;
 use std::alloc::Global;

@@ -2,14 +2,13 @@
 ghost use Rattle.std.specs.Prelude.{◌≡◌, ◌<◌, ◌≤◌, length, ◌^◌, nat_lt, sum_by, MatchResult, Some, None};
 ghost use Rattle.std.specs.List.{list_any};
 ghost use Rattle.std.specs.Str.{bytes_eq};
-ghost use Rattle.plain_data.specs.Limits.{most_points};
+ghost use Rattle.plain_shapes.specs.Limits.{most_points};
 ghost use Rattle.geo_model.specs.Shapes.{parts_of, least_points, is_none, has_too_few, is_outside, point_count, has_double_name, shape_fault, attrs_fault};
 
 use crate::bounds::WORLD;
 use crate::faults::GeoFault;
 use farm_base::Attr;
-use plain_data::{MOST_ATTRS, MOST_POINTS};
-use plain_shapes::{Geometry, Path};
+use plain_shapes::{Geometry, MOST_ATTRS, MOST_POINTS, Path};
 use plain_world::Point;
 use std::slice;
 

@@ -24,7 +24,7 @@ pub struct Feature {
 
 impl Model for Feature {
     ghost use Rattle.std.specs.Prelude.{◌≡◌, None};
-    ghost use Rattle.plain_data.specs.Features.{Feature};
+    ghost use Rattle.plain_shapes.specs.Features.{Feature};
     ghost use Rattle.geo_model.specs.Bounds.{bounds_of};
     ghost use Rattle.geo_model.specs.Shapes.{parts_of, fault_of};
 

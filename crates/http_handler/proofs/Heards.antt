@@ -11,7 +11,7 @@ use Rattle.front_loop.specs.declared.dispositions.Disposition.TheVariants.{Stays
 use Rattle.front_loop.specs.declared.dispositions.Reason.TheVariants as reason
 use Rattle.front_loop.specs.Rules.{Move, Does, wants_of, answer_bytes, each_whole, BeginsWanted}
 use Rattle.front_loop.specs.Front.{HeardWhy, Heard, Hears}
-use Rattle.tile_requests.specs.Heads.{bytes_read, IsOpen}
+use Rattle.tile_http.specs.Heads.{bytes_read, IsOpen}
 use Rattle.http_handler.specs.declared.acts.HttpAsk.{HttpAsk}
 use Rattle.http_handler.specs.declared.acts.Act.{Act}
 use Rattle.http_handler.specs.declared.conn_states.ConnState.{ConnState}

@@ -13,7 +13,7 @@ use Rattle.front_loop.specs.declared.dispositions.Disposition.{Disposition}
 use Rattle.front_loop.specs.declared.dispositions.Disposition.TheVariants.{Stays, Leaves}
 use Rattle.front_loop.specs.declared.dispositions.Reason.TheVariants as reason
 use Rattle.front_loop.specs.Front.{keeps}
-use Rattle.tile_answers.specs.Answers.{status_answer, dirty_answer}
+use Rattle.tile_http.specs.Answers.{status_answer, dirty_answer}
 use Rattle.http_handler.specs.declared.acts.HttpAsk.{HttpAsk}
 use Rattle.http_handler.specs.declared.acts.HttpAsk.TheVariants as http_ask
 use Rattle.http_handler.specs.declared.acts.Act.{Act}

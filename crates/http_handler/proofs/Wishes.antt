@@ -3,10 +3,10 @@ use Rattle.std.proofs.Common.{◌≡◌, ℕ, ◌<◌, ◌≤◌, ◌-◌, List,
 use Rattle.std.proofs.lemmas.List.{take_all, length-take}
 use Rattle.std.proofs.Math.Seq.{take-append-add}
 use Rattle.farm_base.specs.Limits.{most_head_bytes}
-use Rattle.tile_requests.specs.Heads.{bytes_read, IsOpen, IsNothing, IsPart, IsFull}
-use Rattle.tile_requests.proofs.HeadTexts.{bad_stays, whole_stays}
-use Rattle.tile_requests.specs.declared.targets.Kind.{Kind}
-use Rattle.tile_requests.specs.declared.targets.Kind.TheVariants as kind
+use Rattle.tile_http.specs.Heads.{bytes_read, IsOpen, IsNothing, IsPart, IsFull}
+use Rattle.tile_http.proofs.HeadTexts.{bad_stays, whole_stays}
+use Rattle.tile_http.specs.declared.targets.Kind.{Kind}
+use Rattle.tile_http.specs.declared.targets.Kind.TheVariants as kind
 use Rattle.farm_history.specs.declared.asks.Spot.{Spot}
 use Rattle.front_loop.specs.Rules.{Move, Does, Gets, wants_of}
 use Rattle.http_handler.specs.declared.acts.HttpAsk.{HttpAsk}

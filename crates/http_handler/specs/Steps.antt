@@ -9,9 +9,9 @@ use Rattle.front_loop.specs.declared.dispositions.Disposition.{Disposition}
 use Rattle.front_loop.specs.declared.dispositions.Disposition.TheVariants.{Stays, Leaves}
 use Rattle.front_loop.specs.declared.dispositions.Reason.TheVariants as reason
 use Rattle.front_loop.specs.Front.{keeps}
-use Rattle.tile_requests.specs.Heads.{IsOpen}
-use Rattle.tile_requests.specs.Targets.{Place}
-use Rattle.tile_answers.specs.Answers.{tile_answer}
+use Rattle.tile_http.specs.Heads.{IsOpen}
+use Rattle.tile_http.specs.Targets.{Place}
+use Rattle.tile_http.specs.Answers.{tile_answer}
 use Rattle.http_handler.specs.declared.acts.HttpAsk.{HttpAsk}
 use Rattle.http_handler.specs.declared.acts.Act.{Act}
 use Rattle.http_handler.specs.declared.conn_states.Stage.{Stage}

@@ -13,13 +13,13 @@ use Rattle.farm_history.specs.Entries.{Entry, Ask, Fetch, Look}
 use Rattle.farm_history.specs.Past.{number_in}
 use Rattle.front_loop.specs.Rules.{Rules, Move, Does, Gets, is_empty, is_cut}
 use Rattle.front_loop.specs.Moves.{by_move}
-use Rattle.tile_requests.specs.declared.targets.Kind.{Kind}
-use Rattle.tile_requests.specs.declared.targets.Kind.TheVariants as kind
-use Rattle.tile_requests.specs.Targets.{Place}
-use Rattle.tile_requests.specs.Heads.{bytes_read, IsOpen, IsBad}
-use Rattle.tile_requests.specs.Requests.{IsNotGet, GetsNone, GetsTile as GetsPlace}
-use Rattle.tile_answers.specs.declared.faults.Fault.TheVariants as fault
-use Rattle.tile_answers.specs.Answers.{fault_answer, tile_answer, status_answer, dirty_answer}
+use Rattle.tile_http.specs.declared.targets.Kind.{Kind}
+use Rattle.tile_http.specs.declared.targets.Kind.TheVariants as kind
+use Rattle.tile_http.specs.Targets.{Place}
+use Rattle.tile_http.specs.Heads.{bytes_read, IsOpen, IsBad}
+use Rattle.tile_http.specs.Requests.{IsNotGet, GetsNone, GetsTile as GetsPlace}
+use Rattle.tile_http.specs.declared.faults.Fault.TheVariants as fault
+use Rattle.tile_http.specs.Answers.{fault_answer, tile_answer, status_answer, dirty_answer}
 use Rattle.http_handler.specs.declared.acts.HttpAsk.{HttpAsk}
 use Rattle.http_handler.specs.declared.acts.HttpAsk.TheVariants as http_ask
 use Rattle.http_handler.specs.declared.acts.Act.{Act}

@@ -1,7 +1,7 @@
 //! What is kept of a session.
 ghost use Rattle.std.specs.Prelude.{◌≡◌, ◌≤◌, ◌-◌, ◌++◌, OnOk, length, take};
 ghost use Rattle.farm_base.specs.Limits.{most_head_bytes};
-ghost use Rattle.tile_requests.specs.Heads.{bytes_read};
+ghost use Rattle.tile_http.specs.Heads.{bytes_read};
 ghost use Rattle.http_handler.specs.ConnStates as spec;
 
 use farm_base::{MOST_HEAD_BYTES, NoMemory};

@@ -5,7 +5,7 @@ ghost use Rattle.farm_history.specs.Past as past;
 ghost use Rattle.front_loop.specs.Calls.{SameSeat};
 ghost use Rattle.front_loop.specs.Front.{disposition_of};
 ghost use Rattle.http_handler.specs.Tiles as spec;
-ghost use Rattle.tile_answers.specs.Answers.{fault_answer};
+ghost use Rattle.tile_http.specs.Answers.{fault_answer};
 ghost use Rattle.http_handler.specs.Steps.{Finds, Fetches, DoesHttpAsk, Says, SaysTile, place_spot};
 ghost use Rattle.http_handler.specs.declared.acts.HttpAsk.TheVariants as http_ask;
 
@@ -17,8 +17,9 @@ use farm_history::{AskAnswer, Cmd, Conn, Fetched, Spot};
 use front_loop::{Context, Disposition, Farm, Reason};
 use std::alloc::Global;
 use std::sync::Wait;
-use tile_answers::{Fault, put_dirty, put_fault, put_status, put_tile};
-use tile_requests::{Kind, Request, read_request};
+use tile_http::{
+    Fault, Kind, Request, put_dirty, put_fault, put_status, put_tile, read_request,
+};
 
 /// The ask that stands in the bytes; `None` while more are waited for.
 pub(crate) fn http_ask_in<M: Farm>(farm: &M, bytes: &[u8]) -> Option<HttpAsk>

@@ -13,7 +13,7 @@ use Rattle.plain_shapes.specs.declared.colour.Colour.{Colour}
 use Rattle.plain_world.specs.declared.world.Meta.{Meta}
 use Rattle.plain_world.specs.declared.world.Tile.{Tile}
 use Rattle.plain_world.specs.World.{IsTile, meta_of, tiles_across, index_place, window_of, centres}
-use Rattle.plain_data.specs.Features.{Layer}
+use Rattle.plain_shapes.specs.Features.{Layer}
 use Rattle.plain_drawing.specs.Styles.{MapStyle}
 use Rattle.plain_shapes.specs.Ppm.{pixel_bytes, ppm}
 use Rattle.plain_drawing.specs.Drawing as drawing

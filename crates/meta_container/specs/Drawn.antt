@@ -3,7 +3,7 @@ use Rattle.std.specs.Prelude.{◌≡◌, ℕ, List, Ok}
 use Rattle.plain_world.specs.declared.world.Meta.{Meta}
 use Rattle.plain_world.specs.declared.world.Tile.{Tile}
 use Rattle.plain_world.specs.World.{IsTile, IsMeta, IsTileSize, meta_of, index_place}
-use Rattle.plain_data.specs.Features.{Layer}
+use Rattle.plain_shapes.specs.Features.{Layer}
 use Rattle.plain_drawing.specs.Styles.{MapStyle}
 use Rattle.plain_drawing.specs.Drawing as drawing
 use Rattle.plain_drawing.specs.Metatiles.{tiles_of}

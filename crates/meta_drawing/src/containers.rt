@@ -3,7 +3,7 @@ ghost use Rattle.std.specs.Prelude.{◌≡◌, ◌+◌, ◌*◌, ◌<◌, ◌≤
 ghost use Rattle.std.specs.Fmt.{decimal};
 ghost use Rattle.std.specs.List.{range_with_len};
 ghost use Rattle.plain_world.specs.World.{IsMeta, IsTile, IsTileSize, tiles_across};
-ghost use Rattle.plain_data.specs.Features.{Layer};
+ghost use Rattle.plain_shapes.specs.Features.{Layer};
 ghost use Rattle.plain_drawing.specs.Styles.{MapStyle};
 ghost use Rattle.plain_drawing.specs.Drawing.{drawn_tile};
 ghost use Rattle.plain_drawing.specs.Metatiles.{tile_at, tiles_of};

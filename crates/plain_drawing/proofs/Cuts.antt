@@ -10,7 +10,7 @@ use Rattle.plain_world.specs.declared.world.Meta.{Meta}
 use Rattle.plain_world.specs.declared.world.Window.{Window}
 use Rattle.plain_world.specs.World.{side_at, centre, row_centres, centres, tiles_across, window_of, meta_window_of, IsTileSize}
 use Rattle.plain_world.proofs.Windows.{by_sizes}
-use Rattle.plain_data.specs.Features.{Layer}
+use Rattle.plain_shapes.specs.Features.{Layer}
 use Rattle.plain_drawing.specs.Styles.{MapStyle}
 use Rattle.plain_shapes.specs.Images.{Pixels}
 use Rattle.plain_shapes.specs.inner.Canvas.{cut_rows, cut_of}

@@ -10,7 +10,7 @@ use Rattle.plain_shapes.specs.declared.shapes.Geometry.TheVariants as shape
 use Rattle.plain_drawing.specs.declared.style.Symbolizer.{Symbolizer}
 use Rattle.plain_drawing.specs.declared.style.Symbolizer.TheVariants as paint
 use Rattle.plain_world.specs.World.{side_at, window_of, centres}
-use Rattle.plain_data.specs.Features.{Feature, Layer}
+use Rattle.plain_shapes.specs.Features.{Feature, Layer}
 use Rattle.plain_drawing.specs.Styles.{Style, LayerRef, MapStyle}
 use Rattle.plain_drawing.specs.Grids.{Grid, grid_at}
 use Rattle.plain_shapes.specs.Rings.{in_rings}

@@ -8,7 +8,7 @@ use Rattle.plain_drawing.specs.declared.style.FilterMode.{FilterMode}
 use Rattle.plain_drawing.specs.declared.style.Symbolizer.{Symbolizer}
 use Rattle.plain_drawing.specs.declared.style.Symbolizer.TheVariants.{Polygon, Line, Markers, Raster}
 use Rattle.plain_filters.specs.Filters.{FilterTree}
-use Rattle.plain_data.specs.Limits.{most_name_bytes, most_width}
+use Rattle.plain_shapes.specs.Limits.{most_name_bytes, most_width}
 use Rattle.plain_drawing.specs.Limits.{most_styles, most_rules, most_symbolizers, most_map_layers, most_rasters, most_file_bytes}
 use Rattle.plain_drawing.specs.Grids.{Grid}
 

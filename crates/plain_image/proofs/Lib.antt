@@ -7,3 +7,10 @@ pub mod Runs
 pub mod ByteRuns
 pub mod ByteLines
 pub mod Marking
+pub mod PpmParts
+pub mod PpmBytes
+pub mod Gaps
+pub mod Sides
+pub mod Rasters
+pub mod Flow
+pub mod Whole

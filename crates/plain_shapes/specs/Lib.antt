@@ -4,3 +4,7 @@ pub mod Ppm
 pub mod Rings
 pub mod Strokes
 pub mod inner
+pub mod Data
+pub mod Features
+pub mod Limits
+pub mod Reach

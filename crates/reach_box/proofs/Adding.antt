@@ -8,11 +8,11 @@ use Rattle.std.proofs.lemmas.Option.{slice_get_past}
 use Rattle.std.proofs.lemmas.Grind.{flat_map-append}
 use Rattle.std.proofs.lemmas.List.{take_more, take_all, drop_all}
 use Rattle.farm_history.proofs.Lists.{any-append, each-join}
-use Rattle.plain_data.specs.Features.{Feature}
-use Rattle.plain_data.specs.Reach.{feature_reaches}
+use Rattle.plain_shapes.specs.Features.{Feature}
+use Rattle.plain_shapes.specs.Reach.{feature_reaches}
 use Rattle.geo_model.specs.declared.bounds.Bounds.{Bounds}
 use Rattle.reach_box.specs.Boxes.{IsBox, box_reaches}
-use Rattle.plain_data.specs.Data.{Change}
+use Rattle.plain_shapes.specs.Data.{Change}
 use Rattle.reach_box.specs.NamedBoxes.{AreBoxesOf, Adds, feature_list, at_id, at_put, met_by}
 
 both : (fs gs : List Feature) (a b : List Bounds) → AreBoxesOf fs a → AreBoxesOf gs b → AreBoxesOf (fs ++ gs) (a ++ b)

@@ -10,7 +10,7 @@ use Rattle.plain_world.specs.declared.world.Square.{Square}
 use Rattle.plain_world.specs.World.{InWorld, side_at}
 use Rattle.plain_shapes.specs.declared.shapes.Geometry.{Geometry}
 use Rattle.plain_shapes.specs.declared.shapes.Geometry.TheVariants.{Points, Lines, Polygon}
-use Rattle.plain_data.specs.Reach.{all_points, margin_of, points_reach}
+use Rattle.plain_shapes.specs.Reach.{all_points, margin_of, points_reach}
 use Rattle.geo_model.specs.declared.bounds.Bounds.{Bounds}
 use Rattle.geo_model.specs.Bounds.{box_with, no_bounds, bounds_of}
 use Rattle.geo_model.specs.Shapes.{is_none, parts_of, IsShape}

@@ -7,8 +7,8 @@ use Rattle.std.proofs.lemmas.Bool.Decides.{nat_tests}
 use Rattle.std.proofs.lemmas.List.Elements.{recursion_from_All}
 use Rattle.std.proofs.lemmas.Map.Keys.{IsDistinct-head, IsDistinct-tail}
 use Rattle.farm_history.proofs.Lists.{any-append}
-use Rattle.plain_data.specs.Features.{Feature, Layer}
-use Rattle.plain_data.specs.Data.{Change, has_id, ids_of, layer_named, IsLayer}
+use Rattle.plain_shapes.specs.Features.{Feature, Layer}
+use Rattle.plain_shapes.specs.Data.{Change, has_id, ids_of, layer_named, IsLayer}
 use Rattle.farm_plan.specs.Drawings.{features_in, names_id, named_by, named}
 use Rattle.reach_box.specs.NamedBoxes.{feature_list, at_id, at_put, met_by, features_met}
 

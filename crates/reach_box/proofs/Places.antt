@@ -7,8 +7,8 @@ use Rattle.std.proofs.lemmas.Bool.Decides.{nat_tests}
 use Rattle.plain_world.specs.declared.world.Point.{Point}
 use Rattle.plain_world.specs.declared.world.Square.{Square}
 use Rattle.plain_shapes.specs.declared.shapes.Geometry.{Geometry}
-use Rattle.plain_data.specs.Features.{Feature}
-use Rattle.plain_data.specs.Reach.{all_points, margin_of, InReach, Reaches, feature_reaches}
+use Rattle.plain_shapes.specs.Features.{Feature}
+use Rattle.plain_shapes.specs.Reach.{all_points, margin_of, InReach, Reaches, feature_reaches}
 use Rattle.geo_model.specs.Bounds.{bounds_of}
 use Rattle.geo_model.specs.Shapes.{parts_of, IsShape}
 use Rattle.expiry_lists.specs.Boxes.{InWide}

@@ -9,9 +9,9 @@ use Rattle.std.proofs.lemmas.List.{map-append}
 use Rattle.std.proofs.lemmas.List.Elements.{recursion_from_All, All-from_recursion}
 use Rattle.std.proofs.lemmas.Map.Keys.{IsDistinct-head, IsDistinct-tail, IsDistinct-cons}
 use Rattle.farm_base.specs.declared.faults.ApplyFault.{ApplyFault}
-use Rattle.plain_data.specs.Features.{Feature, Layer}
-use Rattle.plain_data.specs.Data.{Change, has_id, ids_of, without_ids, last_put, puts_in_place, put_features, with_change, first_missing, is_too_many, removal_or_put, features_fault, layer_named, fault_at, change_fault, changed_layer, layers_after, unless_refused, changed_from, update_result, IsLayer}
-use Rattle.plain_data.specs.Limits.{most_features}
+use Rattle.plain_shapes.specs.Features.{Feature, Layer}
+use Rattle.plain_shapes.specs.Data.{Change, has_id, ids_of, without_ids, last_put, puts_in_place, put_features, with_change, first_missing, is_too_many, removal_or_put, features_fault, layer_named, fault_at, change_fault, changed_layer, layers_after, unless_refused, changed_from, update_result, IsLayer}
+use Rattle.plain_shapes.specs.Limits.{most_features}
 use Rattle.farm_plan.specs.Plans.{FarmPlan}
 use Rattle.farm_plan.specs.Drawings.{update_of, kept_or, data_step, data_of}
 

@@ -1,7 +1,7 @@
 -- What a bounding box reaches: the box widened by 64 pixels on each side.
 use Rattle.std.specs.Prelude.{ℕ, ◌^◌, ◌≤◌, Bool}
 use Rattle.plain_world.specs.declared.world.Square.{Square}
-use Rattle.plain_data.specs.Reach.{margin_of}
+use Rattle.plain_shapes.specs.Reach.{margin_of}
 use Rattle.geo_model.specs.declared.bounds.Bounds.{Bounds}
 use Rattle.expiry_lists.specs.Boxes.{comes_near}
 

@@ -4,9 +4,9 @@ use Rattle.std.specs.List.{list_any}
 use Rattle.plain_world.specs.declared.world.Square.{Square}
 use Rattle.plain_world.specs.declared.world.Meta.{Meta}
 use Rattle.plain_world.specs.World.{meta_square}
-use Rattle.plain_data.specs.Features.{Feature, Layer}
-use Rattle.plain_data.specs.Data.{Change}
-use Rattle.plain_data.specs.Reach.{feature_reaches}
+use Rattle.plain_shapes.specs.Features.{Feature, Layer}
+use Rattle.plain_shapes.specs.Data.{Change}
+use Rattle.plain_shapes.specs.Reach.{feature_reaches}
 use Rattle.geo_model.specs.declared.bounds.Bounds.{Bounds}
 use Rattle.reach_box.specs.Boxes.{IsBox, box_reaches}
 use Rattle.farm_history.specs.Lists.{Each}

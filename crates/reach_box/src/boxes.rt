@@ -2,7 +2,7 @@
 ghost use Rattle.std.specs.Prelude.{◌≡◌, ◌≤◌, ◌∷◌, [], All, flat_map, position, OnOk, IfOk};
 ghost use Rattle.std.specs.Str.{bytes_eq};
 ghost use Rattle.plain_world.specs.World.{IsMeta, IsTileSize, meta_square};
-ghost use Rattle.plain_data.specs.Data.{IsLayer};
+ghost use Rattle.plain_shapes.specs.Data.{IsLayer};
 ghost use Rattle.farm_history.specs.Lists.{Each};
 ghost use Rattle.reach_box.specs.Boxes.{IsBox};
 ghost use Rattle.farm_plan.specs.Drawings.{features_in, named};

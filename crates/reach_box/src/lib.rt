@@ -6,7 +6,7 @@
 ghost use Rattle.std.specs.Prelude.{◌≡◌, ℕ, ◌≤◌, ◌↔◌, IsTrue};
 ghost use Rattle.plain_world.specs.World.{IsSquare, IsTileSize};
 ghost use Rattle.plain_world.specs.declared.world.Square.{Square};
-ghost use Rattle.plain_data.specs.Reach.{Reaches, feature_reaches};
+ghost use Rattle.plain_shapes.specs.Reach.{Reaches, feature_reaches};
 ghost use Rattle.reach_box.specs.Boxes.{IsBox, box_reaches};
 
 mod boxes;

@@ -2,16 +2,16 @@
 use Rattle.std.proofs.Common.{ℕ, List}
 use Rattle.std.specs.Prelude.{Result, Ok}
 use Rattle.plain_world.specs.declared.world.Tile.{Tile}
-use Rattle.plain_data.specs.Features.{Layer}
+use Rattle.plain_shapes.specs.Features.{Layer}
 use Rattle.plain_drawing.specs.Styles.{MapStyle}
 use Rattle.plain_drawing.specs.Drawing.{drawn_tile}
 use Rattle.geo_json.specs.DataTexts.{dataset_in}
-use Rattle.fault_texts.specs.DataFaults.{data_text}
+use Rattle.exit_status.specs.DataFaults.{data_text}
 use Rattle.exit_status.specs.Ends.{FilesAt}
 use Rattle.exit_status.specs.declared.stops.Stop.{Stop}
-use Rattle.input_files.specs.Course.{Course, made, ◌>>=◌, file}
-use Rattle.input_files.specs.inner.Follows.{Follows, Says}
-use Rattle.input_files.proofs.Courses.{follows_then}
+use Rattle.farm_files.specs.Course.{Course, made, ◌>>=◌, file}
+use Rattle.farm_files.specs.inner.Follows.{Follows, Says}
+use Rattle.farm_files.proofs.Courses.{follows_then}
 use Rattle.farm_files.specs.MapCourses.{style_course}
 use Rattle.render_command.specs.Courses.{render_course, render_course_by}
 

@@ -4,8 +4,8 @@ use Rattle.plain_world.specs.declared.world.Tile.{Tile}
 use Rattle.plain_drawing.specs.Drawing.{drawn_tile}
 use Rattle.geo_json.specs.DataTexts.{dataset_in}
 use Rattle.style_objects.specs.TextReadings.{TextReading, text_reading}
-use Rattle.fault_texts.specs.DataFaults.{data_text}
-use Rattle.input_files.specs.Course.{Course, made, ◌>>=◌, file}
+use Rattle.exit_status.specs.DataFaults.{data_text}
+use Rattle.farm_files.specs.Course.{Course, made, ◌>>=◌, file}
 use Rattle.farm_files.specs.MapCourses.{style_course_by}
 
 -- the style with its rasters is read, where texts are read so, and then the data, and the tile of these is made

@@ -1,8 +1,8 @@
 -- The course by which the lines of a container are made.
 use Rattle.std.specs.Prelude.{ℕ, List}
 use Rattle.meta_container.specs.Reading.{listing_found}
-use Rattle.fault_texts.specs.MetaFaults.{meta_text}
-use Rattle.input_files.specs.Course.{Course, made, ◌>>=◌, file}
+use Rattle.exit_status.specs.MetaFaults.{meta_text}
+use Rattle.farm_files.specs.Course.{Course, made, ◌>>=◌, file}
 use Rattle.render_command.specs.MetaLines.{listing_text}
 
 -- the container is read, and the lines of its listing are made

@@ -2,9 +2,9 @@
 ghost use Rattle.reading.specs.Steps.{seen};
 ghost use Rattle.plain_world.specs.World.{IsTile, IsTileSize};
 ghost use Rattle.plain_drawing.specs.Drawing.{drawn_tile};
-ghost use Rattle.input_files.specs.Course.{made};
-ghost use Rattle.input_files.specs.inner.Follows.{Follows, Says};
-ghost use Rattle.input_files.specs.inner.Runs.{Writes};
+ghost use Rattle.farm_files.specs.Course.{made};
+ghost use Rattle.farm_files.specs.inner.Follows.{Follows, Says};
+ghost use Rattle.farm_files.specs.inner.Runs.{Writes};
 ghost use Rattle.render_command.specs.Courses.{render_course};
 
 use crate::asked::RenderWords;
@@ -36,7 +36,7 @@ pub fn render<F: Files, O: Sink>(
 }
 
 // The text of the tile that the files say.
-#[tactic(auto, using(input_files::proofs::Courses::follows_then, input_files::proofs::Courses::follows_stop), unfolding(crate::specs::Courses::render_course_by))]
+#[tactic(auto, using(farm_files::proofs::Courses::follows_then, farm_files::proofs::Courses::follows_stop), unfolding(crate::specs::Courses::render_course_by))]
 fn picture<F: Files>(alloc: Global, asked: RenderWords, files: &mut F) -> Result<Vec<u8>, Stop>
     requires size { IsTileSize asked.size }
     requires tile { IsTile asked.tile }

@@ -1,16 +1,16 @@
 //! A container is read and checked, and its lines are put.
 ghost use Rattle.reading.specs.Steps.{seen};
 ghost use Rattle.meta_container.specs.Reading.{listing_found};
-ghost use Rattle.fault_texts.specs.MetaFaults.{meta_text};
-ghost use Rattle.input_files.specs.Course.{file};
-ghost use Rattle.input_files.specs.inner.Follows.{Follows};
-ghost use Rattle.input_files.specs.inner.Runs.{Writes};
+ghost use Rattle.exit_status.specs.MetaFaults.{meta_text};
+ghost use Rattle.farm_files.specs.Course.{file};
+ghost use Rattle.farm_files.specs.inner.Follows.{Follows};
+ghost use Rattle.farm_files.specs.inner.Runs.{Writes};
 ghost use Rattle.render_command.specs.MetaCourses.{meta_course};
 
 use crate::meta_lines::listing_text;
 use exit_status::{Stop, put};
 use farm_base::{Files, Sink};
-use input_files::{checked, read_file};
+use farm_files::{checked, read_file};
 use meta_container::{Listing, listing};
 use std::alloc::Global;
 
@@ -32,7 +32,7 @@ pub fn meta<F: Files, O: Sink>(
 }
 
 // The lines of the container that the file holds.
-#[tactic(auto, using(input_files::proofs::Courses::follows_then, input_files::proofs::Courses::follows_stop, input_files::proofs::Courses::follows_wanting), unfolding(crate::specs::MetaCourses::meta_course))]
+#[tactic(auto, using(farm_files::proofs::Courses::follows_then, farm_files::proofs::Courses::follows_stop, farm_files::proofs::Courses::follows_wanting), unfolding(crate::specs::MetaCourses::meta_course))]
 fn text_of<F: Files>(alloc: Global, name: &str, files: &mut F) -> Result<Vec<u8>, Stop>
     ensures { Follows (meta_course name.now) (F.state files.old) (F.state files.new) (seen (λ v. v.items) result) }
 {
@@ -41,7 +41,7 @@ fn text_of<F: Files>(alloc: Global, name: &str, files: &mut F) -> Result<Vec<u8>
 }
 
 // Reads a container and checks it.
-#[tactic(auto, using(input_files::proofs::Judged::file_stops))]
+#[tactic(auto, using(farm_files::proofs::Judged::file_stops))]
 fn read_listing<F: Files>(alloc: Global, files: &mut F, name: &str) -> Result<Listing, Stop>
     ensures { Follows (file listing_found meta_text name.now) (F.state files.old) (F.state files.new) result }
 {

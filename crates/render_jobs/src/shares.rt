@@ -2,7 +2,7 @@
 ghost use Rattle.std.specs.Prelude.{◌≡◌, ◌≤◌, ◌<◌, All, length, position, replicate, slice_get, option_map, Some, None, IfOk};
 ghost use Rattle.std.specs.Option.{option_copied};
 ghost use Rattle.std.specs.Str.{bytes_eq};
-ghost use Rattle.plain_data.specs.Data.{IsDataset};
+ghost use Rattle.plain_shapes.specs.Data.{IsDataset};
 ghost use Rattle.farm_plan.specs.Plans.{AreRanged, IsPlan, IsRanged, maps_in};
 ghost use Rattle.std.specs.Vec.{vec_capacity};
 ghost use Rattle.farm_plan.specs.Drawings.{key_path, styled_as};
@@ -66,7 +66,7 @@ pub struct Setup {
 }
 
 impl Model for Setup {
-    ghost use Rattle.plain_data.specs.Data.{IsDataset};
+    ghost use Rattle.plain_shapes.specs.Data.{IsDataset};
     ghost use Rattle.farm_plan.specs.Plans.{FarmPlan};
     ghost use Rattle.plain_filters.specs.inner.FilterCodes.{filter_code};
     ghost use Rattle.std.specs.Coded.{codes};

@@ -13,7 +13,7 @@ use Rattle.farm_plan.specs.Plans.{FarmPlan}
 use Rattle.farm_saved.specs.Reading.{saved_in}
 use Rattle.farm_saved.specs.declared.fault.SavedFault.{SavedFault}
 use Rattle.farm_saved.specs.declared.fault.SavedFault.TheVariants as saved_fault
-use Rattle.fault_texts.specs.SavedFaults.{saved_text}
+use Rattle.exit_status.specs.SavedFaults.{saved_text}
 use Rattle.render_jobs.specs.Faults.{resume_fault}
 use Rattle.render_jobs.specs.declared.faults.ResumeFault.{ResumeFault}
 use Rattle.render_jobs.specs.declared.faults.ResumeFault.TheVariants as fault

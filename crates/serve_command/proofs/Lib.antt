@@ -3,3 +3,4 @@ mod Beginning
 mod Found
 pub mod Kept
 mod Saving
+pub mod FrontLaws

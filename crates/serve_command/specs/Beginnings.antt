@@ -10,7 +10,7 @@ use Rattle.exit_status.specs.declared.stops.Stop.TheVariants as stop
 use Rattle.farm_history.specs.Replays.{Saving}
 use Rattle.farm_plan.specs.Plans.{FarmPlan}
 use Rattle.farm_saved.specs.Reading.{saved_in}
-use Rattle.fault_texts.specs.SavedFaults.{saved_text}
+use Rattle.exit_status.specs.SavedFaults.{saved_text}
 use Rattle.reading.specs.Steps.{◌>>=◌}
 use Rattle.render_jobs.specs.Faults.{resume_fault}
 use Rattle.render_jobs.specs.declared.faults.ResumeFault.{ResumeFault}

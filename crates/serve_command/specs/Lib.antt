@@ -4,3 +4,4 @@ pub mod Beginnings
 pub mod Listens
 pub mod Endings
 pub mod Savings
+pub mod Fronts

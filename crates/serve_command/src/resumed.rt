@@ -4,11 +4,10 @@ ghost use Rattle.farm_plan.specs.Plans.{IsPlan};
 ghost use Rattle.serve_command.specs.Beginnings as spec;
 ghost use Rattle.serve_command.specs.inner.Setups.{BeganBy, Tells};
 
-use exit_status::{Stop, refused};
+use exit_status::{FaultText, Stop, refused};
 use farm_base::{NoMemory, Text};
 use farm_core::{Farm, FarmPlan, ResumeFault};
 use farm_saved::read_saved;
-use fault_texts::FaultText;
 use std::alloc::Global;
 use tile_store::TileStore;
 

@@ -15,7 +15,7 @@ use Rattle.paint_texts.specs.Colours.{IsColour, colour_of}
 use Rattle.paint_texts.specs.Decimals.{IsDecimal, hundredths_of, thousandths_of}
 use Rattle.paint_texts.proofs.Exact.{colour_exact}
 use Rattle.paint_texts.proofs.Grammar.{hundredths_exact, thousandths_exact}
-use Rattle.ppm_laws.proofs.Whole.{says_images, says_too_large, says_bad, says_nothing_else}
+use Rattle.plain_image.proofs.Whole.{says_images, says_too_large, says_bad, says_nothing_else}
 use Rattle.reading.specs.Steps.{Gives}
 use Rattle.style_objects.specs.declared.fault.StyleFault.{StyleFault}
 use Rattle.style_objects.specs.declared.fault.StyleFault.TheVariants as fault

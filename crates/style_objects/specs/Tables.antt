@@ -25,7 +25,7 @@ use Rattle.style_objects.specs.TextReadings.{TextReading, text_reading}
 use Rattle.style_objects.specs.Keys.{opened_as}
 use Rattle.style_objects.specs.Kinds.{in_grammar, a_bound, a_width, a_text_to, any_text, mode_of, cap_of, a_number, a_filter, an_else}
 use Rattle.style_objects.specs.Places.{at_place}
-use Rattle.plain_data.specs.Limits.{most_name_bytes}
+use Rattle.plain_shapes.specs.Limits.{most_name_bytes}
 use Rattle.plain_drawing.specs.Limits.{most_styles, most_rules, most_symbolizers, most_map_layers, most_rasters, most_file_bytes}
 
 -- a polygon symbolizer: its fill, which is gray where it is absent, and its opacity

@@ -11,7 +11,7 @@ use Rattle.paint_texts.specs.Decimals.{IsDecimal, hundredths_of, thousandths_of}
 use Rattle.plain_image.specs.declared.reading.PpmFault.{PpmFault}
 use Rattle.plain_image.specs.declared.reading.PpmFault.TheVariants.{Bad, TooLarge}
 use Rattle.plain_image.specs.PpmText.{ppm_of}
-use Rattle.ppm_laws.specs.PpmGrammar.{IsPpm, IsBadAt, IsTooLarge}
+use Rattle.plain_image.specs.PpmGrammar.{IsPpm, IsBadAt, IsTooLarge}
 
 -- What each text is: as a filter, its tree or its first fault; as a colour; as a number of hundredths, or of
 -- thousandths up to 1; and as a picture, its pixels or its first fault.

@@ -16,9 +16,8 @@ ghost use Rattle.style_objects.specs.declared.fault.StyleFault.TheVariants as fa
 use crate::fault::{At, StyleFault};
 use filter_expr::{Expr, FilterFault, parse};
 use paint_texts::{Colour, hundredths, thousandths};
-use plain_data::MOST_WIDTH;
 use plain_drawing::FilterMode;
-use plain_shapes::LineCap;
+use plain_shapes::{LineCap, MOST_WIDTH};
 use reading::{text, whole_number};
 use serde_json::Value;
 use std::alloc::Global;

@@ -17,7 +17,7 @@ use Rattle.geo_model.specs.Bounds.{InBounds}
 use Rattle.geo_model.specs.Shapes.{parts_of}
 use Rattle.drawing_reach.specs.inner.Spreads.{Beside, spread_across, spread_down}
 use Rattle.drawing_reach.proofs.Covers.{covered_beside}
-use Rattle.plain_data.specs.Features.{Feature}
+use Rattle.plain_shapes.specs.Features.{Feature}
 use Rattle.plain_shapes.specs.inner.Canvas.{marked}
 use Rattle.plain_drawing.specs.Drawing.{covers}
 use Rattle.plain_shapes.proofs.Places.{length-centres, get_or-centres}

@@ -9,7 +9,7 @@ use Rattle.plain_drawing.specs.declared.style.Symbolizer.{Symbolizer}
 use Rattle.plain_drawing.specs.declared.style.Symbolizer.TheVariants as paint
 use Rattle.plain_drawing.specs.Grids.{Grid}
 use Rattle.drawing_reach.proofs.Unreached.{missed, all_centres}
-use Rattle.plain_data.specs.Features.{Feature}
+use Rattle.plain_shapes.specs.Features.{Feature}
 use Rattle.plain_shapes.specs.Blending.{blend_channel, blend}
 use Rattle.plain_shapes.specs.Images.{Pixels}
 use Rattle.plain_shapes.specs.inner.Canvas.{stepped}

@@ -6,7 +6,7 @@ use Rattle.std.proofs.lemmas.Bool.{and_from, le-leb, false_from_ne_true}
 use Rattle.plain_world.specs.declared.world.Window.{Window}
 use Rattle.plain_drawing.specs.declared.style.Symbolizer.{Symbolizer}
 use Rattle.plain_world.specs.World.{IsWindow, centre}
-use Rattle.plain_data.specs.Features.{Feature}
+use Rattle.plain_shapes.specs.Features.{Feature}
 use Rattle.plain_drawing.specs.Styles.{Style, is_paint}
 use Rattle.plain_shapes.specs.Images.{Pixels}
 use Rattle.plain_drawing.specs.Drawing.{covers, feature}

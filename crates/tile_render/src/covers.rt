@@ -3,7 +3,7 @@ ghost use Rattle.std.specs.Prelude.{◌≡◌, ℕ, ◌*◌, ◌^◌, ◌<◌, �
 ghost use Rattle.drawing_reach.specs.inner.Spreads.{spread_across, spread_down};
 ghost use Rattle.plain_world.specs.declared.world.Point.{Point};
 ghost use Rattle.plain_world.specs.World.{IsWindow, centre};
-ghost use Rattle.plain_data.specs.Limits.{most_width};
+ghost use Rattle.plain_shapes.specs.Limits.{most_width};
 ghost use Rattle.plain_shapes.specs.declared.colour.Colour.{Colour};
 ghost use Rattle.plain_shapes.specs.Strokes.{half_of};
 ghost use Rattle.plain_drawing.specs.declared.style.Symbolizer.TheVariants as paint;

@@ -6,7 +6,7 @@ ghost use Rattle.tile_render.specs.inner.Regions.{IsRegion, InRegion, region_win
 
 use centre_spans::first_at;
 use geo_model::Bounds;
-use plain_data::MOST_WIDTH;
+use plain_shapes::MOST_WIDTH;
 use plain_world::Window;
 
 /// Some columns and rows of a window: a rectangle of its pixels.

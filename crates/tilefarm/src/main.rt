@@ -1,8 +1,10 @@
 //! The program.
 #![tactic(auto)]
 
+mod running;
+
+use crate::running::{run_program, sockets};
 use farm_base::DiskFiles;
-use farm_program::{run_program, sockets};
 use std::process::ExitCode;
 use tile_store::{FileStaging, FileStore};
 

@@ -7,7 +7,7 @@ use Rattle.plain_shapes.specs.declared.colour.Colour.{Colour}
 use Rattle.plain_shapes.specs.declared.shapes.Geometry.{Geometry}
 use Rattle.plain_shapes.specs.declared.shapes.Geometry.TheVariants.{Points, Lines, Polygon}
 use Rattle.plain_shapes.specs.declared.shapes.LineCap.TheVariants as cap
-use Rattle.plain_data.specs.Features.{Feature, Layer}
+use Rattle.plain_shapes.specs.Features.{Feature, Layer}
 use Rattle.plain_filters.specs.Filters.{compare_tree, name_tree, number_tree}
 use Rattle.plain_filters.specs.declared.expr.CompareSign.TheVariants as sign
 use Rattle.plain_drawing.specs.Styles.{MapStyle, Style, Rule, LayerRef}

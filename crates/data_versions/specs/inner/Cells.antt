@@ -2,7 +2,7 @@
 use Rattle.std.specs.Prelude.{◌≡◌, ℕ, ◌+◌, ◌-◌, ◌*◌, ◌/◌, ◌≤◌, List, length, get_or, All}
 use Rattle.std.specs.Int.{bit_at}
 use Rattle.plain_world.specs.declared.world.Point.{Point}
-use Rattle.plain_data.specs.Features.{Feature}
+use Rattle.plain_shapes.specs.Features.{Feature}
 use Rattle.geo_model.specs.declared.bounds.Bounds.{Bounds}
 use Rattle.geo_model.specs.Bounds.{bounds_of, InBounds, Within}
 use Rattle.geo_model.specs.Shapes.{parts_of}

@@ -6,9 +6,9 @@ use Rattle.std.specs.List.Sorted.{IsPermutation, IsSorted}
 use Rattle.std.specs.declared.alloc.Global.{Global}
 use Rattle.std.specs.declared.sync.Arc.{Arc}
 use Rattle.std.specs.Arc.{arc_value}
-use Rattle.plain_data.specs.Features.{Feature}
-use Rattle.plain_data.specs.Data.{ids_of}
-use Rattle.plain_data.specs.Limits.{most_features}
+use Rattle.plain_shapes.specs.Features.{Feature}
+use Rattle.plain_shapes.specs.Data.{ids_of}
+use Rattle.plain_shapes.specs.Limits.{most_features}
 
 -- the features of the chunks, one chunk after another
 abbrev pub joined : List (Arc (List Feature) Global) → List Feature

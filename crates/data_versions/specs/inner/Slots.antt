@@ -6,9 +6,9 @@ use Rattle.std.specs.BTreeMap.{BTreeMap, get}
 use Rattle.std.specs.declared.alloc.Global.{Global}
 use Rattle.std.specs.declared.sync.Arc.{Arc}
 use Rattle.std.specs.Arc.{arc_value}
-use Rattle.plain_data.specs.Features.{Feature}
-use Rattle.plain_data.specs.Data.{has_id, ids_of}
-use Rattle.plain_data.specs.Limits.{most_features}
+use Rattle.plain_shapes.specs.Features.{Feature}
+use Rattle.plain_shapes.specs.Data.{has_id, ids_of}
+use Rattle.plain_shapes.specs.Limits.{most_features}
 use Rattle.data_versions.specs.Near.{place_of}
 
 -- the features that stand in the slots, in order

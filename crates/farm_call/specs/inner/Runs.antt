@@ -7,7 +7,7 @@ use Rattle.farm_words.specs.declared.command.Command.{Command}
 use Rattle.farm_words.specs.declared.command.Command.TheVariants.{Render, Script, Serve, Load, Meta}
 use Rattle.exit_status.specs.Ends.{FilesAt}
 use Rattle.exit_status.specs.declared.stops.Stop.{Stop}
-use Rattle.input_files.specs.inner.Runs.{Writes}
+use Rattle.farm_files.specs.inner.Runs.{Writes}
 use Rattle.farm_files.specs.Courses.{script_course, serve_course}
 use Rattle.script_command.specs.inner.Runs as script
 use Rattle.load_command.specs.Runs.{Loads}

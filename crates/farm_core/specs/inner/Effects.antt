@@ -17,8 +17,8 @@ use Rattle.farm_history.specs.Seen.{Taken}
 use Rattle.render_queues.specs.Tables.{Tables, next_of, after_take, after_end, is_of_front}
 use Rattle.expiry_lists.specs.Marks.{MarksSeen, shown_key, mark_of, dirtied_marks, clean_marks}
 use Rattle.farm_plan.specs.Drawings.{key_path, update_of}
-use Rattle.plain_data.specs.Features.{Layer}
-use Rattle.plain_data.specs.Data.{Change, update_result}
+use Rattle.plain_shapes.specs.Features.{Layer}
+use Rattle.plain_shapes.specs.Data.{Change, update_result}
 use Rattle.farm_history.specs.declared.saved.Past.{Past}
 use Rattle.render_jobs.specs.Shared.{ShareSeen}
 use Rattle.farm_refinement.specs.Seen.{Counts, FarmSeen}

@@ -1,6 +1,6 @@
 -- What a renew does to a farm, without a history.
 use Rattle.std.specs.Prelude.{ℕ, ◌+◌, ◌<◌, ◌≡◌, List, [], ◌∷◌, ◌++◌, All, length, slice_get, Ok}
-use Rattle.plain_data.specs.Data.{IsDataset, IsLayer, update_result}
+use Rattle.plain_shapes.specs.Data.{IsDataset, IsLayer, update_result}
 use Rattle.geo_model.specs.declared.bounds.Bounds.{Bounds}
 use Rattle.reach_box.specs.Boxes.{IsBox}
 use Rattle.farm_history.specs.declared.saved.Past.{Past}

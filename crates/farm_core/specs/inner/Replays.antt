@@ -4,7 +4,7 @@ use Rattle.farm_base.specs.Outside.{Outside}
 use Rattle.tile_store.specs.Stores.{StoreTold}
 use Rattle.farm_base.specs.declared.faults.ApplyFault.{ApplyFault}
 use Rattle.plain_world.specs.World.{IsMeta}
-use Rattle.plain_data.specs.Data.{update_result}
+use Rattle.plain_shapes.specs.Data.{update_result}
 use Rattle.farm_history.specs.declared.keys.Kept.{Kept}
 use Rattle.farm_history.specs.declared.saved.Past.{Past}
 use Rattle.farm_history.specs.Entries.{Entry}

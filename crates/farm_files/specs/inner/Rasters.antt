@@ -7,7 +7,7 @@ use Rattle.plain_image.specs.PpmText.{ppm_of}
 use Rattle.plain_image.specs.declared.reading.PpmFault.{PpmFault}
 use Rattle.raster_layers.specs.Scales.{grid_or_fault}
 use Rattle.raster_layers.specs.declared.grids.GridFault.{GridFault}
-use Rattle.fault_texts.specs.RasterFaults.{ppm_text, grid_text}
+use Rattle.exit_status.specs.RasterFaults.{ppm_text, grid_text}
 use Rattle.farm_files.specs.MapCourses.{grid_with}
 use Rattle.farm_files.specs.declared.rasters.RasterFault.{RasterFault}
 use Rattle.farm_files.specs.declared.rasters.RasterFault.TheVariants.{Ppm, Grid as NoGrid}

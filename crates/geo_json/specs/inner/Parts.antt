@@ -5,8 +5,8 @@ use Rattle.serde_json.specs.Data.{Data}
 use Rattle.serde_json.specs.Find.{get}
 use Rattle.farm_base.specs.declared.values.Attr.{Attr}
 use Rattle.plain_shapes.specs.declared.shapes.Geometry.{Geometry}
-use Rattle.plain_data.specs.Features.{Feature}
-use Rattle.plain_data.specs.Limits.{most_points, most_attrs}
+use Rattle.plain_shapes.specs.Features.{Feature}
+use Rattle.plain_shapes.specs.Limits.{most_points, most_attrs}
 use Rattle.geo_model.specs.declared.faults.GeoFault.{GeoFault}
 use Rattle.geo_model.specs.declared.faults.GeoFault.TheVariants.{TooFewPoints, OutOfWorld, TooManyPoints, TooManyAttrs}
 use Rattle.geo_model.specs.Shapes.{shape_fault, first_of, parts_of, has_too_few, is_outside, point_count}

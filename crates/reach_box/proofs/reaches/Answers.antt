@@ -1,6 +1,6 @@
 -- The test on edges says whether a point is there.
 use Rattle.std.proofs.Common.{◌≡◌, ◌∙◌, sym}
-use Rattle.plain_data.specs.Reach.{feature_reaches}
+use Rattle.plain_shapes.specs.Reach.{feature_reaches}
 use Rattle.reach_box.proofs.Places.{by_points}
 use Rattle.reach_box.proofs.reaches.Goals as goal
 

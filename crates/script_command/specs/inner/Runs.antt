@@ -7,8 +7,8 @@ use Rattle.script_text.specs.declared.ends.ScriptEnd.TheVariants.{Done, SinkFail
 use Rattle.exit_status.specs.Ends.{FilesAt, SinkAt}
 use Rattle.exit_status.specs.declared.stops.Stop.{Stop}
 use Rattle.exit_status.specs.declared.stops.Stop.TheVariants as stop
-use Rattle.input_files.specs.Course.{Course}
-use Rattle.input_files.specs.inner.Follows.{Follows}
+use Rattle.farm_files.specs.Course.{Course}
+use Rattle.farm_files.specs.inner.Follows.{Follows}
 use Rattle.farm_files.specs.Inputs.{ScriptInputs}
 use Rattle.script_command.specs.Scripts.{Scripts}
 

@@ -6,15 +6,15 @@ use Rattle.port_events.specs.declared.ends.FrontDone.{FrontDone}
 use Rattle.exit_status.specs.Ends.{FilesAt, SinkAt}
 use Rattle.exit_status.specs.declared.stops.Stop.{Stop}
 use Rattle.exit_status.specs.declared.stops.Stop.TheVariants as stop
-use Rattle.input_files.specs.Course.{Course}
-use Rattle.input_files.specs.inner.Follows.{Follows}
+use Rattle.farm_files.specs.Course.{Course}
+use Rattle.farm_files.specs.inner.Follows.{Follows}
 use Rattle.farm_history.specs.Entries.{Entry}
 use Rattle.farm_files.specs.Inputs.{ServeInputs}
 use Rattle.farm_refinement.specs.Seen.{FarmSeen}
 use Rattle.farm_runs.specs.declared.each_front.EachFront.{EachFront}
 use Rattle.farm_plan.specs.Plans.{maps_in}
 use Rattle.farm_runs.specs.Promise.{Ends, RunsWell}
-use Rattle.front_leaves.specs.Fronts.{renderd_leaves, tiles_leave, control_leaves}
+use Rattle.serve_command.specs.Fronts.{renderd_leaves, tiles_leave, control_leaves}
 use Rattle.farm_runs.specs.declared.running.Run.{Run}
 use Rattle.serve_command.specs.Endings.{why_ended, WindsUp}
 use Rattle.serve_command.specs.declared.left.Left.{Left}

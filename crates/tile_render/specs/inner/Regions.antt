@@ -5,14 +5,14 @@ use Rattle.plain_world.specs.declared.world.Window.{Window}
 use Rattle.plain_shapes.specs.declared.colour.Colour.{Colour}
 use Rattle.plain_drawing.specs.declared.style.Symbolizer.{Symbolizer}
 use Rattle.plain_world.specs.World.{centre, centres}
-use Rattle.plain_data.specs.Features.{Feature}
+use Rattle.plain_shapes.specs.Features.{Feature}
 use Rattle.plain_shapes.specs.Blending.{blend}
 use Rattle.plain_shapes.specs.Images.{Pixels}
 use Rattle.plain_shapes.specs.inner.Canvas.{at_centres}
 use Rattle.plain_drawing.specs.Drawing.{covers}
 use Rattle.geo_model.specs.declared.bounds.Bounds.{Bounds}
 use Rattle.tile_render.specs.declared.regions.Region.{Region}
-use Rattle.plain_data.specs.Limits.{most_width}
+use Rattle.plain_shapes.specs.Limits.{most_width}
 
 -- the region lies in the window, and has a column and a row at least
 pub record IsRegion (w : Window) (r : Region) : Type 0 where

@@ -1,6 +1,6 @@
 -- The removals that are left do to the edit what all of them do to the one at the start.
 use Rattle.std.proofs.Common.{◌≡◌, drop}
-use Rattle.plain_data.specs.Data.{ids_of, without_ids, first_missing}
+use Rattle.plain_shapes.specs.Data.{ids_of, without_ids, first_missing}
 use Rattle.data_versions.proofs.edited.remove_all.Given as goal
 
 abbrev pub invariant-loop-id : goal.invariant-loop-id

@@ -1,5 +1,5 @@
 use Rattle.std.proofs.Common.{◌+◌, ◌≤◌, List, length, take, sym, ap, ◌∙◌, subst, arith}
-use Rattle.plain_data.specs.Features.{Feature}
+use Rattle.plain_shapes.specs.Features.{Feature}
 use Rattle.data_versions.specs.inner.Chunks.{joined}
 use Rattle.data_versions.proofs.Places.{length_more, joined_within}
 use Rattle.data_versions.proofs.Ids.{length-numbered, chunk_numbered}

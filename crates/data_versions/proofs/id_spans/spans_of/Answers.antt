@@ -1,6 +1,6 @@
 use Rattle.std.proofs.Common.{ap, ◌∙◌, sym}
 use Rattle.std.specs.Prelude.{List}
-use Rattle.plain_data.specs.Features.{Feature}
+use Rattle.plain_shapes.specs.Features.{Feature}
 use Rattle.data_versions.specs.Near.{place_of}
 use Rattle.data_versions.proofs.Spans.{spans_more}
 use Rattle.data_versions.proofs.id_spans.spans_of.Goals as goal

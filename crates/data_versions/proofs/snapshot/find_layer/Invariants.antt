@@ -1,6 +1,6 @@
 -- No layer so far has the name.
 use Rattle.std.proofs.Common.{◌≡◌, drop}
-use Rattle.plain_data.specs.Data.{layer_named}
+use Rattle.plain_shapes.specs.Data.{layer_named}
 use Rattle.data_versions.specs.Shared.{shared_layers}
 use Rattle.data_versions.proofs.snapshot.find_layer.Given as goal
 

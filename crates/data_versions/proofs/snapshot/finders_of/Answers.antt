@@ -1,6 +1,6 @@
 use Rattle.std.proofs.Common.{sym, subst}
-use Rattle.plain_data.specs.Data.{IsLayer}
-use Rattle.plain_data.specs.Features.{Layer}
+use Rattle.plain_shapes.specs.Data.{IsLayer}
+use Rattle.plain_shapes.specs.Features.{Layer}
 use Rattle.data_versions.proofs.Named.{shared_valid}
 use Rattle.data_versions.proofs.snapshot.finders_of.Goals as goal
 

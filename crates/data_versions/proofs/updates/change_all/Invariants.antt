@@ -1,6 +1,6 @@
 -- The changes that are left do to the layers what all of them do to those at the start.
 use Rattle.std.proofs.Common.{◌≡◌, drop}
-use Rattle.plain_data.specs.Data.{changed_from, names_of}
+use Rattle.plain_shapes.specs.Data.{changed_from, names_of}
 use Rattle.data_versions.proofs.updates.change_all.Given as goal
 
 abbrev pub invariant-loop-place : goal.invariant-loop-place

@@ -1,7 +1,7 @@
 -- The layers so far are shared, and valid.
 use Rattle.std.proofs.Common.{◌≡◌, take}
 use Rattle.std.specs.Prelude.{All}
-use Rattle.plain_data.specs.Data.{IsLayer}
+use Rattle.plain_shapes.specs.Data.{IsLayer}
 use Rattle.data_versions.specs.Shared.{shared_layers}
 use Rattle.data_versions.proofs.updates.finish.Given as goal
 

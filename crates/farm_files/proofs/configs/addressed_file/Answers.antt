@@ -1,7 +1,7 @@
 use Rattle.std.proofs.Common.{refl}
 use Rattle.farm_config.specs.declared.fault.ConfigFault.TheVariants as fault
-use Rattle.fault_texts.specs.ConfigFaults.{config_text}
-use Rattle.input_files.proofs.Judged.{file_checked, told_by}
+use Rattle.exit_status.specs.ConfigFaults.{config_text}
+use Rattle.farm_files.proofs.Judged.{file_checked, told_by}
 use Rattle.farm_files.proofs.configs.addressed_file.Goals as goal
 
 pub returns : goal.returns

@@ -1,7 +1,7 @@
 use Rattle.std.proofs.Common.{subst, rules}
 use Rattle.std.proofs.lemmas.Result.{err_from_is_err_and}
 use Rattle.farm_config.specs.Configs.{Config, IsConfig}
-use Rattle.input_files.proofs.Courses.{followed_could}
+use Rattle.farm_files.proofs.Courses.{followed_could}
 use Rattle.farm_files.specs.Courses.{inputs_course}
 use Rattle.farm_files.proofs.Steps.{maps_then, restyles_then, layers_then, updates_then, lists_then, maps_stop, restyles_stop, layers_stop, updates_stop, lists_stop}
 use Rattle.farm_files.proofs.Plans.{plan_valid}

@@ -1,7 +1,7 @@
 use Rattle.std.proofs.Common.{refl}
 use Rattle.geo_json.specs.declared.faults.DataFault.TheVariants as fault
-use Rattle.fault_texts.specs.DataFaults.{data_text}
-use Rattle.input_files.proofs.Judged.{file_checked, told_by}
+use Rattle.exit_status.specs.DataFaults.{data_text}
+use Rattle.farm_files.proofs.Judged.{file_checked, told_by}
 use Rattle.farm_files.proofs.layers.data_layers.Goals as goal
 
 pub returns : goal.returns

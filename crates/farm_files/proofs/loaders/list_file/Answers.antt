@@ -1,7 +1,7 @@
 use Rattle.std.proofs.Common.{refl}
 use Rattle.expiry_lists.specs.declared.faults.ListFault.TheVariants as fault
-use Rattle.fault_texts.specs.LineFaults.{list_text}
-use Rattle.input_files.proofs.Judged.{file_checked, told_by}
+use Rattle.exit_status.specs.LineFaults.{list_text}
+use Rattle.farm_files.proofs.Judged.{file_checked, told_by}
 use Rattle.farm_files.proofs.loaders.list_file.Goals as goal
 
 pub returns : goal.returns

@@ -1,6 +1,6 @@
 use Rattle.std.proofs.Common.{◌≡◌, refl, rules}
 use Rattle.plain_image.specs.declared.reading.PpmFault.TheVariants as ppm
-use Rattle.input_files.proofs.Judged.{told_by}
+use Rattle.farm_files.proofs.Judged.{told_by}
 use Rattle.farm_files.specs.inner.Rasters.{raster_text}
 use Rattle.farm_files.specs.declared.rasters.RasterFault.TheVariants as fault
 use Rattle.farm_files.proofs.Fitting.{raster_checked}

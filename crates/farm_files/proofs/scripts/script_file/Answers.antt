@@ -1,7 +1,7 @@
 use Rattle.std.proofs.Common.{refl}
 use Rattle.script_lines.specs.declared.script.ScriptFault.TheVariants as fault
-use Rattle.fault_texts.specs.LineFaults.{script_text}
-use Rattle.input_files.proofs.Judged.{file_checked, told_by}
+use Rattle.exit_status.specs.LineFaults.{script_text}
+use Rattle.farm_files.proofs.Judged.{file_checked, told_by}
 use Rattle.farm_files.proofs.scripts.script_file.Goals as goal
 
 pub returns : goal.returns

@@ -1,7 +1,7 @@
 use Rattle.std.proofs.Common.{refl}
 use Rattle.style_objects.specs.declared.fault.StyleFault.TheVariants as fault
-use Rattle.fault_texts.specs.StyleFaults.{style_text}
-use Rattle.input_files.proofs.Judged.{file_checked, told_by}
+use Rattle.exit_status.specs.StyleFaults.{style_text}
+use Rattle.farm_files.proofs.Judged.{file_checked, told_by}
 use Rattle.farm_files.proofs.styles.style_file.Goals as goal
 
 pub returns : goal.returns

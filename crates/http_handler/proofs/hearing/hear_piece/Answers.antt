@@ -1,7 +1,7 @@
 use Rattle.std.proofs.Common.{◌≡◌, ◌≤◌, ℕ, List, length, true, false, refl, sym, ap, subst, ◌∙◌, rules, arith}
 use Rattle.std.proofs.lemmas.List.{length-take}
 use Rattle.farm_base.specs.Limits.{most_head_bytes}
-use Rattle.tile_requests.specs.Heads.{bytes_read, IsOpen}
+use Rattle.tile_http.specs.Heads.{bytes_read, IsOpen}
 use Rattle.http_handler.specs.ConnStates.{is_reading}
 use Rattle.http_handler.specs.Tiles.{BytesAsk}
 use Rattle.http_handler.proofs.Heards.{hears_idle, hears_starved, hears_open, hears_http_ask}

@@ -1,5 +1,5 @@
 use Rattle.std.proofs.Common.{sym, subst}
-use Rattle.tile_requests.specs.Targets.{place_of}
+use Rattle.tile_http.specs.Targets.{place_of}
 use Rattle.http_handler.specs.declared.acts.HttpAsk.{HttpAsk}
 use Rattle.http_handler.specs.Tiles.{BytesAsk}
 use Rattle.http_handler.proofs.Wishes.{asks_of}

@@ -1,6 +1,6 @@
 use Rattle.std.proofs.Common.{refl}
 use Rattle.http_handler.specs.declared.acts.HttpAsk.TheVariants as http_ask
-use Rattle.tile_answers.specs.Answers.{status_answer, dirty_answer}
+use Rattle.tile_http.specs.Answers.{status_answer, dirty_answer}
 use Rattle.http_handler.proofs.Says.{put_says, did_refuse, did_look, did_mark, as_http_ask}
 use Rattle.http_handler.proofs.serving.serve_http_ask.Goals as goal
 

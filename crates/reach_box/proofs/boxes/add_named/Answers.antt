@@ -1,8 +1,8 @@
 -- Where the layer is not there, what is put is all that is named.
 use Rattle.std.proofs.Common.{◌≡◌, ◌∙◌, List, [], Option, sym, ap, subst}
 use Rattle.std.specs.Prelude.{OnOk, unwrap_or}
-use Rattle.plain_data.specs.Features.{Feature, Layer}
-use Rattle.plain_data.specs.Data.{Change}
+use Rattle.plain_shapes.specs.Features.{Feature, Layer}
+use Rattle.plain_shapes.specs.Data.{Change}
 use Rattle.farm_plan.specs.Drawings.{features_in}
 use Rattle.data_versions.proofs.Named.{named_place, unnamed}
 use Rattle.reach_box.specs.NamedBoxes.{Adds, met_by}

@@ -2,7 +2,7 @@
 use Rattle.std.proofs.Common.{ℕ, ap, ◌∙◌}
 use Rattle.std.specs.List.{list_any}
 use Rattle.plain_world.specs.declared.world.Square.{Square}
-use Rattle.plain_data.specs.Reach.{margin_of}
+use Rattle.plain_shapes.specs.Reach.{margin_of}
 use Rattle.expiry_lists.specs.Boxes.{comes_near}
 use Rattle.reach_box.proofs.boxes.boxes_reach.Goals as goal
 

@@ -1,7 +1,7 @@
 -- One change after another.
 use Rattle.std.proofs.Common.{◌∙◌, List, [], subst, arith}
-use Rattle.plain_data.specs.Data.{Change}
-use Rattle.plain_data.specs.Reach.{feature_reaches}
+use Rattle.plain_shapes.specs.Data.{Change}
+use Rattle.plain_shapes.specs.Reach.{feature_reaches}
 use Rattle.farm_plan.specs.Drawings.{features_in}
 use Rattle.reach_box.specs.NamedBoxes.{AreBoxesOf, met_by, features_met}
 use Rattle.reach_box.proofs.Adding.{adds_more, adds_all, boxes_from, kept_whole}

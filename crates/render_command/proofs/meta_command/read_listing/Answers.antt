@@ -1,5 +1,5 @@
-use Rattle.fault_texts.specs.MetaFaults.{meta_text}
-use Rattle.input_files.proofs.Judged.{file_checked, tells_same}
+use Rattle.exit_status.specs.MetaFaults.{meta_text}
+use Rattle.farm_files.proofs.Judged.{file_checked, tells_same}
 use Rattle.render_command.proofs.meta_command.read_listing.Goals as goal
 
 pub returns : goal.returns

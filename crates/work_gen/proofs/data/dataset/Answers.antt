@@ -1,6 +1,6 @@
 use Rattle.std.proofs.Common.{subst, sym, List}
-use Rattle.plain_data.specs.Features.{Layer}
-use Rattle.plain_data.specs.Data.{IsDataset}
+use Rattle.plain_shapes.specs.Features.{Layer}
+use Rattle.plain_shapes.specs.Data.{IsDataset}
 use Rattle.work_gen.proofs.Sound.{data_sound}
 use Rattle.work_gen.proofs.data.dataset.Goals as goal
 

@@ -1,6 +1,6 @@
 use Rattle.std.proofs.Common.{ap, ◌∙◌}
 use Rattle.std.specs.Prelude.{List, slice_get}
-use Rattle.plain_data.specs.Features.{Feature}
+use Rattle.plain_shapes.specs.Features.{Feature}
 use Rattle.data_versions.proofs.Old.{whole_at}
 use Rattle.data_versions.proofs.chunk_slots.ChunkSlots.get.Goals as goal
 

@@ -1,6 +1,6 @@
 use Rattle.std.proofs.Common.{◌-◌, ap, ◌∙◌}
 use Rattle.std.specs.Prelude.{List, slice_get}
-use Rattle.plain_data.specs.Features.{Feature}
+use Rattle.plain_shapes.specs.Features.{Feature}
 use Rattle.data_versions.proofs.Places.{get_is}
 use Rattle.data_versions.proofs.chunked.ChunkedLayer.get.Goals as goal
 

@@ -1,6 +1,6 @@
 use Rattle.std.proofs.Common.{List, length, sym, ap, subst, ◌∙◌, arith}
 use Rattle.std.specs.Prelude.{Option}
-use Rattle.plain_data.specs.Features.{Feature}
+use Rattle.plain_shapes.specs.Features.{Feature}
 use Rattle.data_versions.specs.inner.Slots.{standing, KnowsPlaces}
 use Rattle.data_versions.proofs.Old.{whole_stands, knows_first}
 use Rattle.data_versions.proofs.edit.LayerEdit.of.Goals as goal

@@ -2,7 +2,7 @@
 use Rattle.std.proofs.Common.{◌≡◌, ◌≢◌, ℕ, ◌∙◌, List, Some, get_or, drop, length, sym, ap, subst, arith}
 use Rattle.std.proofs.lemmas.Option.{slice_get-get_or, get_or_from_slice_get}
 use Rattle.std.proofs.lemmas.List.{at_drop_more}
-use Rattle.plain_data.specs.Data.{update_result}
+use Rattle.plain_shapes.specs.Data.{update_result}
 use Rattle.farm_history.specs.declared.saved.Past.{Past}
 use Rattle.farm_history.specs.Entries.{Entry}
 use Rattle.farm_history.specs.Replays.{past_number, replay_keys}

@@ -1,7 +1,7 @@
 use Rattle.std.proofs.Common.{◌≡◌, ◌≢◌, length, sym, ap, ◌∙◌, subst}
 use Rattle.std.specs.Prelude.{Err, nat_lt}
 use Rattle.farm_base.specs.declared.faults.ApplyFault.{ApplyFault}
-use Rattle.plain_data.specs.Data.{update_result}
+use Rattle.plain_shapes.specs.Data.{update_result}
 use Rattle.farm_history.specs.declared.saved.Past.{Past}
 use Rattle.farm_plan.specs.Drawings.{update_of}
 use Rattle.farm_refinement.specs.Seen.{FarmSeen}

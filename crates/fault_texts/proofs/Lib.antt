@@ -1,7 +1,0 @@
-mod Configs
-mod Features
-mod LineTexts
-mod Rasters
-mod SavedTexts
-mod Steps
-mod Styles

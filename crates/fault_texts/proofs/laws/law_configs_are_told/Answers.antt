@@ -1,5 +1,0 @@
-use Rattle.fault_texts.proofs.Configs.{configs_are_told}
-use Rattle.fault_texts.proofs.laws.law_configs_are_told.Goals as goal
-
-pub returns : goal.returns
-returns c = configs_are_told

@@ -1,4 +1,0 @@
-pub mod Data
-pub mod Features
-pub mod Limits
-pub mod Reach

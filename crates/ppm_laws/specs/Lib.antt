@@ -1,2 +1,0 @@
-pub mod PpmGrammar
-pub mod Laws

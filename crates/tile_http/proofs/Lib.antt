@@ -1,0 +1,3 @@
+pub mod HeadTexts
+pub mod TargetTexts
+pub mod Puts

@@ -1,0 +1,5 @@
+pub mod Targets
+pub mod Heads
+pub mod Requests
+pub mod Laws
+pub mod Answers
