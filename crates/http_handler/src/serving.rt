@@ -17,9 +17,7 @@ use farm_history::{AskAnswer, Cmd, Conn, Fetched, Spot};
 use front_loop::{Context, Disposition, Farm, Reason};
 use std::alloc::Global;
 use std::sync::Wait;
-use tile_http::{
-    Fault, Kind, Request, put_dirty, put_fault, put_status, put_tile, read_request,
-};
+use tile_http::{Fault, Kind, Request, put_dirty, put_fault, put_status, put_tile, read_request};
 
 /// The ask that stands in the bytes; `None` while more are waited for.
 pub(crate) fn http_ask_in<M: Farm>(farm: &M, bytes: &[u8]) -> Option<HttpAsk>
