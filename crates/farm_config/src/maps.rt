@@ -55,9 +55,10 @@ fn map(alloc: Global, before: &[MapEntry], object: &Value) -> Result<MapEntry, C
     if map_has(name, before) {
         return Err(ConfigFault::Double(before.len() as u32));
     }
+    let style = Text::of(alloc, style)?;
     Ok(MapEntry {
         name: map_name(name),
-        style: Text::of(alloc, style)?,
+        style,
         tile,
         max_zoom,
     })

@@ -63,8 +63,13 @@ fn layers_in(alloc: Global, object: &Value) -> Result<ReadLayers, DataFault>
     let units = units_at(object, shape)?;
     let items = list(object.get("layers"), shape)?;
     let mut ids = Vec::new(alloc);
-    let layers = layers(alloc, units, &mut ids, items)?;
-    Ok(ReadLayers { layers, ids })
+    match layers(alloc, units, &mut ids, items) {
+        Ok(layers) => Ok(ReadLayers { layers, ids }),
+        Err(fault) => {
+            drop(ids);
+            Err(fault)
+        }
+    }
 }
 
 fn layers(
@@ -134,10 +139,24 @@ fn layer(
     if !is_few(items) {
         return Err(DataFault::TooMany(part));
     }
-    let name = Text::of(alloc, name)?;
+    // Dropped by a call: `?` would drop, and have proved, each part in this function.
     let mut known = BTreeSet::new(alloc);
-    let features = new_features(alloc, units, part, &mut known, items)?;
-    ids.push(known)?;
+    let features = match new_features(alloc, units, part, &mut known, items) {
+        Ok(features) => features,
+        Err(fault) => {
+            drop(known);
+            return Err(fault);
+        }
+    };
+    if let Err(refused) = ids.push(known) {
+        drop(refused);
+        drop(features);
+        return Err(DataFault::NoMemory);
+    }
+    let Ok(name) = Text::of(alloc, name) else {
+        drop(features);
+        return Err(DataFault::NoMemory);
+    };
     Ok(Layer { name, features })
 }
 

@@ -114,8 +114,13 @@ fn feature(
     open_feature(object, shape)?;
     let id = id_at(object, shape)?;
     let geometry = geometry_at(alloc, units, object, shape)?;
-    let attrs = attrs_at(alloc, object, shape)?;
-    made(part, place, id, geometry, attrs)
+    match attrs_at(alloc, object, shape) {
+        Ok(attrs) => made(part, place, id, geometry, attrs),
+        Err(fault) => {
+            drop(geometry);
+            Err(fault)
+        }
+    }
 }
 
 /// The feature that the value says after those before it, whose ids are known.
@@ -137,9 +142,13 @@ fn new_feature(
     let feature = feature(alloc, units, part, before.len() as u32, object)?;
     let id = feature.id();
     if known.contains(&id) {
+        drop(feature);
         return Err(DataFault::DoubleId(part, id));
     }
-    known.insert(id)?;
+    let Ok(_is_new) = known.insert(id) else {
+        drop(feature);
+        return Err(DataFault::NoMemory);
+    };
     Ok(feature)
 }
 

@@ -118,13 +118,32 @@ fn change(
     let part = before.len() as u32;
     let shape = DataFault::Shape(part, 0);
     open_change(object, shape)?;
-    let layer = Text::of(alloc, name_at(object, "layer", shape)?)?;
+    let layer = name_at(object, "layer", shape)?;
     let remove = removed(alloc, object, shape)?;
-    let items = puts(object, shape)?;
+    // Dropped by a call: `?` would drop, and have proved, each part in this function.
+    let items = match puts(object, shape) {
+        Ok(items) => items,
+        Err(fault) => {
+            drop(remove);
+            return Err(fault);
+        }
+    };
     if !is_few(items) {
+        drop(remove);
         return Err(DataFault::TooMany(part));
     }
-    let put = features(alloc, units, part, items)?;
+    let put = match features(alloc, units, part, items) {
+        Ok(put) => put,
+        Err(fault) => {
+            drop(remove);
+            return Err(fault);
+        }
+    };
+    let Ok(layer) = Text::of(alloc, layer) else {
+        drop(remove);
+        drop(put);
+        return Err(DataFault::NoMemory);
+    };
     Ok(Change { layer, remove, put })
 }
 

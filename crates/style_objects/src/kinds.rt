@@ -14,6 +14,7 @@ ghost use Rattle.style_objects.specs.inner.Parts as parts;
 ghost use Rattle.style_objects.specs.declared.fault.StyleFault.TheVariants as fault;
 
 use crate::fault::{At, StyleFault};
+use farm_base::{NoMemory, Text};
 use filter_expr::{Expr, FilterFault, parse};
 use paint_texts::{Colour, hundredths, thousandths};
 use plain_drawing::FilterMode;
@@ -142,6 +143,18 @@ pub fn text_to<'a>(
         Some(value) => a_text_to(value, limit, at),
         None => Err(StyleFault::Shape(at)),
     }
+}
+
+/// Copies of two texts.
+pub fn two_texts(alloc: Global, one: &str, other: &str) -> Result<(Text, Text), NoMemory>
+    ensures { IfOk result (λ texts. (texts.0 ≡ one.now) × (texts.1 ≡ other.now)) }
+{
+    let one = Text::of(alloc, one)?;
+    let Ok(other) = Text::of(alloc, other) else {
+        drop(one);
+        return Err(NoMemory);
+    };
+    Ok((one, other))
 }
 
 #[tactic(auto, unfolding(crate::specs::Kinds::any_text))]

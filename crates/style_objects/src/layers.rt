@@ -16,7 +16,7 @@ ghost use Rattle.plain_drawing.specs.Limits.{most_map_layers};
 
 use crate::fault::{At, StyleFault};
 use crate::keys::{Object, open};
-use crate::kinds::{a_text_to, bound_or_none, scale_or_zero, text_to};
+use crate::kinds::{a_text_to, bound_or_none, scale_or_zero, text_to, two_texts};
 use crate::style_list::style_has;
 use farm_base::Text;
 use plain_drawing::{LayerRef, Style};
@@ -92,14 +92,15 @@ fn layer(
     let minimum_scale_denominator = scale_or_zero(object, "minimum-scale-denominator", at)?;
     let maximum_scale_denominator = bound_or_none(object, "maximum-scale-denominator", at)?;
     let items = list(object.get("styles"), StyleFault::Shape(at))?;
-    let is_double = layer_has(name, before);
-    let name = Text::of(alloc, name)?;
-    let source = Text::of(alloc, source)?;
     let names = style_names(alloc, styles, at, items)?;
-    if is_double {
+    if layer_has(name, before) {
         drop(names);
         return Err(StyleFault::Double(at));
     }
+    let Ok((name, source)) = two_texts(alloc, name, source) else {
+        drop(names);
+        return Err(StyleFault::NoMemory);
+    };
     Ok(LayerRef {
         name,
         source,

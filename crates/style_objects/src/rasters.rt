@@ -14,8 +14,7 @@ ghost use Rattle.plain_drawing.specs.Limits.{most_rasters};
 
 use crate::fault::{At, StyleFault};
 use crate::keys::{Object, open};
-use crate::kinds::{number_at, text_to};
-use farm_base::Text;
+use crate::kinds::{number_at, text_to, two_texts};
 use plain_drawing::{MOST_FILE_BYTES, RasterRef};
 use plain_shapes::MOST_NAME_BYTES;
 use reading::{ReadItem, read_list};
@@ -48,9 +47,10 @@ fn raster(
     if raster_has(name, before) {
         return Err(StyleFault::Double(at));
     }
+    let (name, file) = two_texts(alloc, name, file)?;
     Ok(RasterRef {
-        name: Text::of(alloc, name)?,
-        file: Text::of(alloc, file)?,
+        name,
+        file,
         west,
         north,
         pixel,

@@ -45,8 +45,11 @@ fn style(alloc: Global, place: u32, before: &[Style], object: &Value) -> Result<
     if style_has(name, before) {
         return Err(StyleFault::Double(at));
     }
-    let name = Text::of(alloc, name)?;
     let rules = rules(alloc, place, items)?;
+    let Ok(name) = Text::of(alloc, name) else {
+        drop(rules);
+        return Err(StyleFault::NoMemory);
+    };
     Ok(Style {
         name,
         filter_mode,

@@ -121,14 +121,31 @@ fn layer(alloc: Global, name: &str) -> Result<LayerRef, NoMemory>
     })
 }
 
+fn add_style(alloc: Global, styles: &mut Vec<Style>, name: &str, first: u8) -> Result<(), NoMemory>
+    requires first { first ≤ 8 }
+    requires fits { IsTrue (is_text_to 64 name.now) }
+    ensures { OnOk result (styles.new.items ≡ styles.old.items ++ spec.work_style name.now first ∷ []) }
+{
+    styles.push(style(alloc, name, first)?)?;
+    Ok(())
+}
+
+fn add_layer(alloc: Global, layers: &mut Vec<LayerRef>, name: &str) -> Result<(), NoMemory>
+    requires { IsTrue (is_text_to 64 name.now) }
+    ensures { OnOk result (layers.new.items ≡ layers.old.items ++ spec.work_layer name.now ∷ []) }
+{
+    layers.push(layer(alloc, name)?)?;
+    Ok(())
+}
+
 /// The styles of the three layers.
 fn styles(alloc: Global) -> Result<Vec<Style>, NoMemory>
     ensures { IfOk result (λ v. v.items ≡ spec.work_style (codes "land") 0 ∷ spec.work_style (codes "roads") 4 ∷ spec.work_style (codes "spots") 8 ∷ []) }
 {
     let mut styles = Vec::new(alloc);
-    styles.push(style(alloc, "land", 0)?)?;
-    styles.push(style(alloc, "roads", 4)?)?;
-    styles.push(style(alloc, "spots", 8)?)?;
+    add_style(alloc, &mut styles, "land", 0)?;
+    add_style(alloc, &mut styles, "roads", 4)?;
+    add_style(alloc, &mut styles, "spots", 8)?;
     Ok(styles)
 }
 
@@ -137,9 +154,9 @@ fn layers(alloc: Global) -> Result<Vec<LayerRef>, NoMemory>
     ensures { IfOk result (λ v. v.items ≡ spec.work_layer (codes "land") ∷ spec.work_layer (codes "roads") ∷ spec.work_layer (codes "spots") ∷ []) }
 {
     let mut layers = Vec::new(alloc);
-    layers.push(layer(alloc, "land")?)?;
-    layers.push(layer(alloc, "roads")?)?;
-    layers.push(layer(alloc, "spots")?)?;
+    add_layer(alloc, &mut layers, "land")?;
+    add_layer(alloc, &mut layers, "roads")?;
+    add_layer(alloc, &mut layers, "spots")?;
     Ok(layers)
 }
 
