@@ -102,8 +102,7 @@ impl<D: TileStore> SharedFarm<D> {
         ensures turn { MatchResult result (λ answer. Adds (Ask conn cmd spot answer) seat.old seat.new) (λ _. seat.new ≡ worn_out seat.old) }
         ensures legal { IfOk result (λ _. IsLegalSo D.state (lasts D.state self.now) seat.new.seen) }
     {
-        self.cell
-            .turn(rt, &mut seat.seat, AskTurn { conn, cmd, spot })
+        self.take(rt, seat, AskTurn { conn, cmd, spot })
     }
 
     /// A front takes the first of its replies, as `Farm::collect`, through its own seat. A reply is that of an ask
@@ -123,7 +122,7 @@ impl<D: TileStore> SharedFarm<D> {
         ensures legal { IfOk result (λ _. IsLegalSo D.state (lasts D.state self.now) seat.new.seen) }
         ensures own { IfOk result (λ answer. OwnReply front seat.old.mine answer) }
     {
-        self.cell.turn(rt, &mut seat.seat, CollectTurn { front })
+        self.take(rt, seat, CollectTurn { front })
     }
 
     /// Forgets the open asks of a connection, as `Farm::leave`, through the seat of its front. Takes no memory.
@@ -136,6 +135,6 @@ impl<D: TileStore> SharedFarm<D> {
         ensures turn { MatchResult result (λ answer. Adds (Leave conn answer) seat.old seat.new) (λ _. seat.new ≡ worn_out seat.old) }
         ensures legal { IfOk result (λ _. IsLegalSo D.state (lasts D.state self.now) seat.new.seen) }
     {
-        self.cell.turn(rt, &mut seat.seat, LeaveTurn { conn })
+        self.take(rt, seat, LeaveTurn { conn })
     }
 }

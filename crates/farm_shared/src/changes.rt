@@ -146,8 +146,7 @@ impl<D: TileStore> SharedFarm<D> {
         ensures turn { MatchResult result (λ answer. Adds (Update number answer) seat.old seat.new) (λ _. seat.new ≡ worn_out seat.old) }
         ensures legal { IfOk result (λ _. IsLegalSo D.state (lasts D.state self.now) seat.new.seen) }
     {
-        self.cell
-            .turn(rt, &mut seat.seat, UpdateTurn { alloc, number })
+        self.take(rt, seat, UpdateTurn { alloc, number })
     }
 
     /// Applies the update of the number and expires what it reaches, as `Farm::renew`.
@@ -165,8 +164,7 @@ impl<D: TileStore> SharedFarm<D> {
         ensures turn { MatchResult result (λ answer. Adds (Renew number answer) seat.old seat.new) (λ _. seat.new ≡ worn_out seat.old) }
         ensures legal { IfOk result (λ _. IsLegalSo D.state (lasts D.state self.now) seat.new.seen) }
     {
-        self.cell
-            .turn(rt, &mut seat.seat, RenewTurn { alloc, number })
+        self.take(rt, seat, RenewTurn { alloc, number })
     }
 
     /// Gives a map the style of the number, as `Farm::restyle`. Takes no memory.
@@ -183,7 +181,7 @@ impl<D: TileStore> SharedFarm<D> {
         ensures turn { MatchResult result (λ answer. Adds (Restyle number answer) seat.old seat.new) (λ _. seat.new ≡ worn_out seat.old) }
         ensures legal { IfOk result (λ _. IsLegalSo D.state (lasts D.state self.now) seat.new.seen) }
     {
-        self.cell.turn(rt, &mut seat.seat, RestyleTurn { number })
+        self.take(rt, seat, RestyleTurn { number })
     }
 
     /// Expires a tile, as `Farm::expire`. Takes no memory.
@@ -196,7 +194,7 @@ impl<D: TileStore> SharedFarm<D> {
         ensures turn { MatchResult result (λ answer. Adds (Expire t answer) seat.old seat.new) (λ _. seat.new ≡ worn_out seat.old) }
         ensures legal { IfOk result (λ _. IsLegalSo D.state (lasts D.state self.now) seat.new.seen) }
     {
-        self.cell.turn(rt, &mut seat.seat, ExpireTurn { tile: t })
+        self.take(rt, seat, ExpireTurn { tile: t })
     }
 
     /// Stops the farm for good, as `Farm::stop`. Takes no memory.
@@ -208,6 +206,6 @@ impl<D: TileStore> SharedFarm<D> {
         ensures turn { MatchResult result (λ answer. Adds (Stop) seat.old seat.new) (λ _. seat.new ≡ worn_out seat.old) }
         ensures legal { IfOk result (λ _. IsLegalSo D.state (lasts D.state self.now) seat.new.seen) }
     {
-        self.cell.turn(rt, &mut seat.seat, StopTurn)
+        self.take(rt, seat, StopTurn)
     }
 }

@@ -80,7 +80,7 @@ impl<D: TileStore> SharedFarm<D> {
         ensures job { IfOk result (λ answer. IfJob answer (λ job.
             IsValidJob job × (job.worker ≡ worker) × HasJob (lasts D.state self.now) seat.new.number seat.new.seen job)) }
     {
-        self.cell.turn(rt, &mut seat.seat, ClaimTurn { worker })
+        self.take(rt, seat, ClaimTurn { worker })
     }
 
     /// A worker hands back its drawing, as `Farm::finish`. A Claim among the seat's own entries gave the job, and no
@@ -103,7 +103,6 @@ impl<D: TileStore> SharedFarm<D> {
         ensures turn { MatchResult result (λ answer. Adds (Finish job.ticket (is_drawn drawn) answer) seat.old seat.new) (λ _. seat.new ≡ worn_out seat.old) }
         ensures legal { IfOk result (λ _. IsLegalSo D.state (lasts D.state self.now) seat.new.seen) }
     {
-        self.cell
-            .turn(rt, &mut seat.seat, FinishTurn { alloc, job, drawn })
+        self.take(rt, seat, FinishTurn { alloc, job, drawn })
     }
 }

@@ -96,8 +96,7 @@ impl<D: TileStore> SharedFarm<D> {
         ensures turn { MatchResult result (λ answer. Adds (Fetch spot answer) seat.old seat.new) (λ _. seat.new ≡ worn_out seat.old) }
         ensures legal { IfOk result (λ _. IsLegalSo D.state (lasts D.state self.now) seat.new.seen) }
     {
-        self.cell
-            .turn(rt, &mut seat.seat, FetchTurn { alloc, spot })
+        self.take(rt, seat, FetchTurn { alloc, spot })
     }
 
     /// How a spot's metatile stands, as `Farm::look`. Takes no memory.
@@ -109,7 +108,7 @@ impl<D: TileStore> SharedFarm<D> {
         ensures turn { MatchResult result (λ answer. Adds (Look spot answer) seat.old seat.new) (λ _. seat.new ≡ worn_out seat.old) }
         ensures legal { IfOk result (λ _. IsLegalSo D.state (lasts D.state self.now) seat.new.seen) }
     {
-        self.cell.turn(rt, &mut seat.seat, LookTurn { spot })
+        self.take(rt, seat, LookTurn { spot })
     }
 
     /// The farm's counts, as `Farm::tally`. Takes no memory.
@@ -121,6 +120,6 @@ impl<D: TileStore> SharedFarm<D> {
         ensures turn { MatchResult result (λ answer. Adds (Counted answer) seat.old seat.new) (λ _. seat.new ≡ worn_out seat.old) }
         ensures legal { IfOk result (λ _. IsLegalSo D.state (lasts D.state self.now) seat.new.seen) }
     {
-        self.cell.turn(rt, &mut seat.seat, TallyTurn)
+        self.take(rt, seat, TallyTurn)
     }
 }

@@ -1,12 +1,12 @@
 //! The shared farm and its seats.
-ghost use Rattle.std.specs.Prelude.{◌≡◌, ◌<◌, Bool, true, [], length, map, position, IfErr, IfOk, IsOkAnd};
+ghost use Rattle.std.specs.Prelude.{◌≡◌, ◌<◌, Bool, true, [], length, map, position, IfErr, IfOk, IsOkAnd, MatchResult};
 ghost use Rattle.std.specs.Str.{bytes_eq};
 ghost use Rattle.farm_base.specs.Limits.{most_turns};
 ghost use Rattle.farm_refinement.specs.Stands.{StandsFor};
 ghost use Rattle.farm_shared.specs.inner.Turns.{AreNames};
 ghost use Rattle.farm_core.specs.Begins.{origin};
-ghost use Rattle.farm_shared.specs.Shared.{IsClosed, MayTell, lasting_of, maps_of};
-ghost use Rattle.turn_cell.specs.SeatStates.{IsSeatOf, IsWhole, Knows, first_of, joining, split_left, split_right};
+ghost use Rattle.farm_shared.specs.Shared.{Adds, IsAfter, IsClosed, IsLegalSo, MayTell, lasting_of, lasts, maps_of};
+ghost use Rattle.turn_cell.specs.SeatStates.{IsSeatOf, IsWhole, Knows, SameSeat, Took, first_of, joining, split_left, split_right, worn_out};
 ghost use Rattle.turn_cell.specs.Turns.{StartsWith};
 
 use crate::closed::Closed;
@@ -16,8 +16,9 @@ use farm_core::Farm;
 use std::alloc::Global;
 use std::marker::Model;
 use std::snapshot::Snapshot;
+use std::sync::Wait;
 use tile_store::TileStore;
-use turn_cell::TurnCell;
+use turn_cell::{Call, TurnCell, Worn};
 
 /// The right to take turns of one shared farm, and what is known of its history. It has no bytes.
 #[derive(Drop)]
@@ -124,6 +125,28 @@ impl<D: TileStore> SharedFarm<D> {
     {
         let place = place_in(self.names.texts.as_slice(), name)?;
         Some(place as u32)
+    }
+
+    /// One turn of the farm through the seat, by which each of its calls is made.
+    pub(crate) fn take<R: Wait, C: Call<Turned<D>>>(
+        &self,
+        rt: &R,
+        seat: &mut Seat<D>,
+        call: C,
+    ) -> Result<C::Answer, Worn>
+        requires seat { IsSeatOf self.now seat.old }
+        requires need { C.need call seat.old.number seat.old.seen (lasts D.state self.now) }
+        ensures seat { IsSeatOf self.now seat.new }
+        ensures same { SameSeat seat.old seat.new }
+        ensures known { Knows seat.new }
+        ensures turn { MatchResult result (λ answer. Adds (C.entry call answer) seat.old seat.new) (λ _. seat.new ≡ worn_out seat.old) }
+        ensures legal { IfOk result (λ _. IsLegalSo D.state (lasts D.state self.now) seat.new.seen) }
+        ensures took { MatchResult result
+            (λ answer. Took (λ t log. IsAfter D.state t.farm log) (λ t. lasting_of D.state t.farm) self.now.about
+            (C.entry call answer) (C.promise call answer) seat.old seat.new)
+            (λ _. seat.new ≡ worn_out seat.old) }
+    {
+        self.cell.turn(rt, &mut seat.seat, call)
     }
 
     /// A new seat, split from the first. Its number is the number of splits, this one included. No memory is

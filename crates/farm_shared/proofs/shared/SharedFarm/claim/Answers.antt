@@ -1,8 +1,5 @@
-use Rattle.farm_shared.proofs.Given.{claims_given, legal_given}
+use Rattle.farm_shared.proofs.Given.{claims_given}
 use Rattle.farm_shared.proofs.shared.SharedFarm.claim.Goals as goal
 
 pub returns-clause-job : goal.returns-clause-job
-returns-clause-job g c = rw (← c.self.view_is) (claims_given g.D.TileStore.state c.self.inside.cell _ c.seat.inside.seat c.turn.new.seat c.turn.result c.turn.ensures.same.0 c.turn.ensures.turn)
-
-pub returns-clause-legal : goal.returns-clause-legal
-returns-clause-legal g c = rw (← c.self.view_is) (legal_given g.D.TileStore.state c.self.inside.cell _ _ c.seat.inside.seat c.turn.new.seat c.turn.result c.turn.ensures.turn)
+returns-clause-job g c = claims_given g.D.TileStore.state c.args.self.now _ c.args.seat.now c.take.new.seat c.take.result c.take.ensures.same.0 c.take.ensures.took
