@@ -1,4 +1,4 @@
-//! The top call over files and sinks in memory that fail, and calls that no command makes.
+//! The top call over files and sinks in memory that fail, and on sockets, and calls that no command makes.
 #![tactic(auto)]
 
 #[cfg(test)]
@@ -17,3 +17,5 @@ mod plans;
 mod rare;
 #[cfg(test)]
 mod scripted;
+#[cfg(test)]
+mod sockets;

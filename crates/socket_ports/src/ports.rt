@@ -7,10 +7,10 @@ ghost use Rattle.socket_ports.specs.inner.Pieces.{IsQuiet};
 use crate::address;
 use crate::links::{Heard, Link};
 use crate::streams::{Listener, Stream};
-use farm_base::Bell;
+use farm_base::{Bell, Bells};
 use mio::{Events, Poll, Token, Waker};
 use once_cell::race::OnceBox;
-use port_events::{PortEvent, PortFault, Ports, SendFault};
+use port_events::{PortEvent, PortFault, Ports, SendFault, ThreePorts};
 use std::alloc::{AllocError, Global};
 use std::collections::VecDeque;
 use std::net::Net;
@@ -112,6 +112,28 @@ impl<R: Net + rt::Files> SocketPorts<R> {
             faults: 0,
         };
         Ok((ports, bell))
+    }
+
+    /// The ports of the three fronts, as the program has them. They listen nowhere yet, and nothing is taken of the
+    /// system but memory.
+    pub fn three(alloc: Global, rt: R) -> Result<ThreePorts<SocketPorts<R>, SocketBell>, AllocError>
+    where
+        R: Copy + Drop,
+    {
+        let (renderd, first) = SocketPorts::new(alloc, rt)?;
+        let (tiles, second) = SocketPorts::new(alloc, rt)?;
+        let (control, third) = SocketPorts::new(alloc, rt)?;
+        let bells = Bells {
+            renderd: first,
+            tiles: second,
+            control: third,
+        };
+        Ok(ThreePorts {
+            renderd,
+            tiles,
+            control,
+            bells,
+        })
     }
 
     /// What is waited with, which the system gives once.

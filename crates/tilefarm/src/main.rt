@@ -3,8 +3,9 @@
 
 mod running;
 
-use crate::running::{run_program, sockets};
+use crate::running::run_program;
 use farm_base::DiskFiles;
+use socket_ports::SocketPorts;
 use std::process::ExitCode;
 use tile_store::{FileStaging, FileStore};
 
@@ -16,7 +17,7 @@ fn main(rt: HostRuntime) -> ExitCode {
         rt.stdout(),
         rt.stderr(),
         store,
-        sockets(rt.alloc(), rt),
+        SocketPorts::three(rt.alloc(), rt),
         &FileStaging::new(rt),
     )
 }

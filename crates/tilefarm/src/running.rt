@@ -1,14 +1,12 @@
 //! What the program does with its runtime: the top call over the real files, streams, store and sockets.
 
 use exit_status::{Stop, report};
-use farm_base::{Bell, Bells, Files, OutSink};
+use farm_base::{Bell, Files, OutSink};
 use farm_call::program;
 use port_events::{Ports, ThreePorts};
-use socket_ports::{SocketBell, SocketPorts};
 use std::alloc::{AllocError, Global};
-use std::net::Net;
 use std::process::ExitCode;
-use std::rt::{self, Clock, Env, Stderr, Stdout};
+use std::rt::{Clock, Env, Stderr, Stdout};
 use std::sync::Wait;
 use std::thread::Threads;
 use tile_store::{Stage, TileStore};
@@ -42,25 +40,4 @@ pub fn run_program<
         rt, &mut files, &mut out, &mut err, store, &mut ports, staging,
     );
     ExitCode::from(end.into_status())
-}
-
-/// The system's sockets as ports that listen nowhere yet, and their bells. Nothing is taken of the system but memory.
-pub fn sockets<R: rt::Files + Net + Copy + Drop>(
-    alloc: Global,
-    rt: R,
-) -> Result<ThreePorts<SocketPorts<R>, SocketBell>, AllocError> {
-    let (renderd, first) = SocketPorts::new(alloc, rt)?;
-    let (tiles, second) = SocketPorts::new(alloc, rt)?;
-    let (control, third) = SocketPorts::new(alloc, rt)?;
-    let bells = Bells {
-        renderd: first,
-        tiles: second,
-        control: third,
-    };
-    Ok(ThreePorts {
-        renderd,
-        tiles,
-        control,
-        bells,
-    })
 }
