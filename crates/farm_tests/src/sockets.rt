@@ -1,6 +1,6 @@
 //! The farm on real sockets, with its client in a thread of the same process. Each drawing waits at the gate until the
 //! front that asked for it sleeps, so its answer comes in time only where the worker wakes that front. What is wanted
-//! was computed from the formats alone.
+//! is told by `message`, `picture`, `tile` and `tally` of `oracle/serve_cases.py`, over the same style and data.
 use crate::call::files_of;
 use farm_base::{Bell, Gate, MemFiles, MemSink, NoMemory};
 use farm_call::farm_main;
