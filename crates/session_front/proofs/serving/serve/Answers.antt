@@ -18,3 +18,12 @@ returns-clause-same g c =
 
 pub returns-clause-known : goal.returns-clause-known
 returns-clause-known g c = c.serve.ensures.seat.seat.1
+
+pub serve-requires-clause-number : goal.serve-requires-clause-number
+serve-requires-clause-number g c = c.requires.number
+
+pub returns-clause-served : goal.returns-clause-served
+returns-clause-served g c = c.serve.ensures.served
+
+pub returns-clause-broken : goal.returns-clause-broken
+returns-clause-broken g c = c.serve.ensures.broken
