@@ -26,6 +26,10 @@ centre_in w i j ok p q =
       y_fits = omega (arith, ok.south_fits, mul-le-mul_right w.pixel row);
     }
 
+-- neither to the west nor to the east of it
+beside_in : (w : Window) (i j : ℕ) → i < w.cols → (w.west ≤ (centre w i j).x) × ((centre w i j).x ≤ w.west + w.cols * w.pixel)
+beside_in w i j p = (let col : i + 1 ≤ w.cols = omega arith in (omega arith, omega (arith, mul-le-mul_right w.pixel col)))
+
 before_start : (s : Stretch) (v : ℕ) (t : Bool) → (t ≡ true → InStretch s v) → v < s.start → t ≡ false
 before_start s v t covers out = false_from_ne_true t (λ e. let k = (covers e).from_start in omega arith)
 
@@ -145,13 +149,14 @@ run_more m w j cols from end start now next across fits row members is r =
 -- the rows above the first one of the shape
 pub rows_start : (m : Point → Bool) (w : Window) (s : Stretch) (top : ℕ) (old : Bits) → IsWindow w → top ≤ w.rows
     → ((j : ℕ) → j < w.rows → nat_le top j ≡ nat_le s.start (w.north + j * w.pixel + w.pixel / 2))
-    → ((c : Point) → InWorld c → m c ≡ true → InStretch s c.y)
+    → ((c : Point) → InWorld c → w.west ≤ c.x → c.x ≤ w.west + w.cols * w.pixel → m c ≡ true → InStretch s c.y)
     → Reached m w (top * w.cols) old old
 rows_start m w s top old ok le splits covers =
     reached_skip m w 0 (top * w.cols) old old ok.some_col (omega arith) (mul-le-mul_right w.cols le)
     (λ j i p q low high.
     let c : Point = centre w i j in
-    before_start s c.y (m c) (covers c (centre_in w i j ok p q))
+    let beside = beside_in w i j p in
+    before_start s c.y (m c) (covers c (centre_in w i j ok p q) beside.0 beside.1)
     (leb-false s.start c.y (sym (splits j q) ∙ lt-leb top j (row_before j top i w.cols high))))
     (reached_start m w old)
   where
@@ -161,7 +166,7 @@ rows_start m w s top old ok le splits covers =
 -- the rows below the last one of the shape
 pub rows_end : (m : Point → Bool) (w : Window) (s : Stretch) (n bottom : ℕ) (old now : Bits) → IsWindow w → bottom ≤ n → n ≤ w.rows
     → ((j : ℕ) → j < w.rows → nat_le bottom j ≡ nat_le s.end (w.north + j * w.pixel + w.pixel / 2))
-    → ((c : Point) → InWorld c → m c ≡ true → InStretch s c.y)
+    → ((c : Point) → InWorld c → w.west ≤ c.x → c.x ≤ w.west + w.cols * w.pixel → m c ≡ true → InStretch s c.y)
     → Reached m w (n * w.cols) old now → now ≡ record old { bits = marked m (centres w) old.bits }
 rows_end m w s n bottom old now ok past le splits covers r =
     reached_end m w (w.rows * w.cols) old now refl
@@ -169,7 +174,8 @@ rows_end m w s n bottom old now ok past le splits covers r =
     (λ j i p q low high.
     let c : Point = centre w i j in
     let from : n ≤ j = row_from j n i w.cols p low in
-    from_end s c.y (m c) (covers c (centre_in w i j ok p q))
+    let beside = beside_in w i j p in
+    from_end s c.y (m c) (covers c (centre_in w i j ok p q) beside.0 beside.1)
     (leb-true s.end c.y (sym (splits j q) ∙ le-leb bottom j (omega arith)))) r)
   where
     row_from : (j n i c : ℕ) → i < c → n * c ≤ j * c + i → n ≤ j

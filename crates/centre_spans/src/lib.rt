@@ -8,8 +8,8 @@ mod shapes;
 mod sides;
 mod stretches;
 
-pub use marking::{mark, set_run};
-pub use numbers::{apart, root};
+pub use marking::{mark, mark_within, set_run};
+pub use numbers::{apart, inverse, root};
 pub use shapes::{Shape, Stretch};
 pub use sides::first_at;
 pub use stretches::{Growing, around, narrowed, no_more, nowhere};

@@ -2,12 +2,13 @@
 ghost use Rattle.std.specs.Prelude.{◌≡◌, ℕ, ◌+◌, ◌*◌, ◌<◌, ◌≤◌, max, Bool, true};
 ghost use Rattle.plain_world.specs.declared.world.Point.{Point};
 ghost use Rattle.plain_world.specs.declared.world.Window.{Window};
-ghost use Rattle.plain_world.specs.World.{IsWindow, centre};
+ghost use Rattle.plain_world.specs.World.{InWorld, IsWindow, centre};
 ghost use Rattle.plain_shapes.specs.Images.{Bits};
 ghost use Rattle.plain_shapes.specs.inner.Canvas.{Reached};
 ghost use Rattle.plain_image.specs.Surfaces.{Becomes, Marks};
+ghost use Rattle.centre_spans.specs.Stretches.{InStretch};
 
-use crate::shapes::Shape;
+use crate::shapes::{Shape, Stretch};
 use crate::sides::first_at;
 use plain_image::{Mask, Surface};
 use plain_world::Window;
@@ -56,7 +57,21 @@ pub fn mark<S: Shape, K: Surface>(shape: &S, w: Window, mask: &mut K)
     ensures cols { K.cols mask.new ≡ K.cols mask.old }
     ensures rows { K.rows mask.new ≡ K.rows mask.old }
 {
-    let down = shape.heights();
+    mark_within(shape, shape.heights(), w, mask);
+}
+
+/// Covers the same pixels, and enters only rows within `down`: the heights of those of the shape's points that
+/// lie neither to the west nor to the east of the window.
+pub fn mark_within<S: Shape, K: Surface>(shape: &S, down: Stretch, w: Window, mask: &mut K)
+    requires valid { S.valid shape.now }
+    requires heights { (c : Point) → InWorld c → w.west ≤ c.x → c.x ≤ w.west + w.cols * w.pixel → S.holds shape.now c ≡ true → InStretch down c.y }
+    requires window { IsWindow w }
+    requires cols { K.cols mask.old ≡ w.cols }
+    requires rows { K.rows mask.old ≡ w.rows }
+    ensures marks { Marks K.shows (S.holds shape.now) w mask.old mask.new }
+    ensures cols { K.cols mask.new ≡ K.cols mask.old }
+    ensures rows { K.rows mask.new ≡ K.rows mask.old }
+{
     let top = first_at(w.north, w.pixel, w.rows, down.start);
     let bottom = first_at(w.north, w.pixel, w.rows, down.end);
     for j in top..bottom {

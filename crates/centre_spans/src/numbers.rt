@@ -1,5 +1,5 @@
 //! Whole numbers: distances and roots.
-ghost use Rattle.std.specs.Prelude.{◌≡◌, ℕ, ◌+◌, ◌-◌, ◌*◌, ◌<◌, ◌≤◌, true, nat_le};
+ghost use Rattle.std.specs.Prelude.{◌≡◌, ℕ, ◌+◌, ◌-◌, ◌*◌, ◌/◌, ◌%◌, ◌<◌, ◌≤◌, min, true, nat_le};
 
 /// How far two numbers are apart.
 pub fn apart(m: u64, n: u64) -> u64
@@ -57,4 +57,62 @@ fn is_root(guess: u64, n: u64) -> bool
     ensures high { result ≡ true → n < (guess + 1) * (guess + 1) }
 {
     guess < 1 << 32 && guess * guess <= n && n - guess * guess <= 2 * guess
+}
+
+/// `2^64` over a number, rounded down, or hardly less: by it a product stands for a division by that number, which
+/// takes many times as long.
+pub fn inverse(divisor: u64) -> u64 {
+    u64::MAX / divisor.max(1)
+}
+
+/// A quotient, rounded down. Where `inverse` is that of the divisor it is mostly found by it; it is right whatever
+/// that number is.
+pub fn quotient_down(n: u64, divisor: u64, inverse: u64) -> u64
+    requires { 1 ≤ divisor }
+    ensures { result ≡ n / divisor }
+{
+    let guess = guessed(n, inverse);
+    if is_down(guess, n, divisor) {
+        guess
+    } else {
+        n / divisor
+    }
+}
+
+/// A quotient, rounded up, found in the same way.
+pub fn quotient_up(n: u64, divisor: u64, inverse: u64) -> u64
+    requires { 1 ≤ divisor }
+    ensures { result ≡ n / divisor + min 1 (n % divisor) }
+{
+    let guess = guessed(n, inverse).wrapping_add(1);
+    if is_up(guess, n, divisor) {
+        guess
+    } else {
+        n.div_ceil(divisor)
+    }
+}
+
+// A number over another one, rounded down, or one less, where the second one has this inverse.
+fn guessed(n: u64, inverse: u64) -> u64 {
+    ((u128::from(n) * u128::from(inverse)) >> 64) as u64
+}
+
+// Whether a number is the quotient, rounded down.
+#[tactic(auto, using(crate::proofs::Quotients::down_is))]
+fn is_down(guess: u64, n: u64, divisor: u64) -> bool
+    requires { 1 ≤ divisor }
+    ensures { result ≡ true → guess ≡ n / divisor }
+{
+    let product = u128::from(guess) * u128::from(divisor);
+    product <= u128::from(n) && u128::from(n) - product < u128::from(divisor)
+}
+
+// Whether a number is the quotient, rounded up.
+#[tactic(auto, using(crate::proofs::Quotients::up_is))]
+fn is_up(guess: u64, n: u64, divisor: u64) -> bool
+    requires { 1 ≤ divisor }
+    ensures { result ≡ true → guess ≡ n / divisor + min 1 (n % divisor) }
+{
+    let product = u128::from(guess) * u128::from(divisor);
+    u128::from(n) <= product && product - u128::from(n) < u128::from(divisor)
 }

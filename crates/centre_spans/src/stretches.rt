@@ -2,6 +2,7 @@
 ghost use Rattle.std.specs.Prelude.{◌≡◌, ℕ, ◌+◌, ◌-◌, ◌*◌, ◌^◌, ◌≤◌, Bool, false, ◌&&◌, nat_le};
 ghost use Rattle.centre_spans.specs.Stretches.{in_stretch};
 
+use crate::numbers::{quotient_down, quotient_up};
 use crate::shapes::Stretch;
 
 /// No place.
@@ -41,14 +42,15 @@ pub struct Growing {
     pub rest: u64,
 }
 
-/// The places of the world at which the first number is no more than the second.
-pub fn no_more(p: Growing, q: Growing) -> Stretch
+/// The places of the world at which the first number is no more than the second. They are found sooner where
+/// `inverse` is that of how far the two slopes are apart.
+pub fn no_more(p: Growing, q: Growing, inverse: u64) -> Stretch
     requires { q.rest ≤ 2 ^ 63 + 2 ^ 62 }
     ensures { (v : ℕ) → v ≤ 2 ^ 30 → in_stretch result v ≡ nat_le (v * p.slope + p.rest) (v * q.slope + q.rest) }
 {
     if p.slope < q.slope {
         let rise = u64::from(q.slope - p.slope);
-        let start = p.rest.saturating_sub(q.rest).div_ceil(rise);
+        let start = quotient_up(p.rest.saturating_sub(q.rest), rise, inverse);
         Stretch {
             start,
             end: u64::MAX,
@@ -57,7 +59,7 @@ pub fn no_more(p: Growing, q: Growing) -> Stretch
         nowhere()
     } else if q.slope < p.slope {
         let fall = u64::from(p.slope - q.slope);
-        let end = (q.rest - p.rest) / fall + 1;
+        let end = quotient_down(q.rest - p.rest, fall, inverse) + 1;
         Stretch { start: 0, end }
     } else {
         Stretch {

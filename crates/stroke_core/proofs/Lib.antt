@@ -4,3 +4,4 @@ pub mod Boxes
 pub mod Spans
 pub mod Rowwise
 pub mod Sides
+pub mod Between

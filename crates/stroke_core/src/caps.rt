@@ -30,8 +30,12 @@ impl Shape for StartCap {
         }
         let along = along(self.of.a, self.of.b, y);
         let before = narrowed(
-            no_more(raised(along.plus, 1), along.minus),
-            no_more(along.minus, raised(along.plus, self.of.reach)),
+            no_more(raised(along.plus, 1), along.minus, self.of.across),
+            no_more(
+                along.minus,
+                raised(along.plus, self.of.reach),
+                self.of.across,
+            ),
         );
         narrowed(near(self.of, y), before)
     }
@@ -62,10 +66,15 @@ impl Shape for EndCap {
         }
         let along = along(self.of.a, self.of.b, y);
         let past = narrowed(
-            no_more(raised(along.minus, self.of.long + 1), along.plus),
+            no_more(
+                raised(along.minus, self.of.long + 1),
+                along.plus,
+                self.of.across,
+            ),
             no_more(
                 along.plus,
                 raised(along.minus, self.of.long + self.of.reach),
+                self.of.across,
             ),
         );
         narrowed(near(self.of, y), past)

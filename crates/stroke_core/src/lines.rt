@@ -6,12 +6,12 @@ ghost use Rattle.plain_shapes.specs.Strokes.{is_same, in_body, before_start, pas
 ghost use Rattle.plain_image.specs.Surfaces.{Becomes, Marks};
 ghost use Rattle.stroke_core.specs.inner.Parts.{on_ends, on_long, on_parts};
 
-use crate::bodies::Body;
+use crate::bodies::{Body, heights_between};
 use crate::caps::{EndCap, StartCap};
 use crate::disks::{Block, Disk};
 use crate::kept::kept;
 use crate::segments::segment_of;
-use centre_spans::mark;
+use centre_spans::{mark, mark_within};
 use farm_base::NoMemory;
 use plain_image::Surface;
 use plain_shapes::{LineCap, Path};
@@ -30,8 +30,11 @@ fn mark_body<K: Surface>(half: u32, a: Point, b: Point, w: Window, mask: &mut K)
     ensures cols { K.cols mask.new ≡ K.cols mask.old }
     ensures rows { K.rows mask.new ≡ K.rows mask.old }
 {
-    let of = segment_of(half, a, b);
-    mark(&Body { of }, w, mask);
+    let body = Body {
+        of: segment_of(half, a, b),
+    };
+    let down = heights_between(&body, w.west, w.west + w.cols * w.pixel);
+    mark_within(&body, down, w, mask);
 }
 
 // Covers the pixels of the square cap before the start of the segment from `a` to `b`.

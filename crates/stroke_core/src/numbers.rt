@@ -66,6 +66,28 @@ pub fn beside(a: Point, b: Point, y: u32) -> Difference
     }
 }
 
+/// The same for the points of the place `x` to the east, height by height.
+pub fn beside_at(a: Point, b: Point, x: u32) -> Difference
+    requires a { InWorld a }
+    requires b { InWorld b }
+    requires x { x ≤ 2 ^ 30 }
+    ensures plus { result.plus ≡ record { slope = a.x; rest = x * b.y + a.y * b.x } }
+    ensures minus { result.minus ≡ record { slope = b.x; rest = a.x * b.y + x * a.y } }
+    ensures little_plus { result.plus.rest ≤ 2 ^ 62 }
+    ensures little_minus { result.minus.rest ≤ 2 ^ 62 }
+{
+    Difference {
+        plus: Growing {
+            slope: a.x,
+            rest: times(x, b.y) + times(a.y, b.x),
+        },
+        minus: Growing {
+            slope: b.x,
+            rest: times(a.x, b.y) + times(x, a.y),
+        },
+    }
+}
+
 /// The number with another added to it.
 pub fn raised(number: Growing, more: u64) -> Growing
     requires number { number.rest ≤ 2 ^ 62 }

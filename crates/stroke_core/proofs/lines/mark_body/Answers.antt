@@ -6,5 +6,8 @@ use Rattle.stroke_core.proofs.lines.mark_body.Goals as goal
 
 pub returns-clause-marks : goal.returns-clause-marks
 returns-clause-marks g c =
-    marks_same g.K.Surface.shows _ (λ p. not (is_same c.args.a c.args.b) && in_body c.args.half c.args.a c.args.b p) c.args.w c.args.mask.now c.mark.new.mask
-    (λ p. ap (λ (s : Segment). not (is_same s.a s.b) && in_body s.half s.a s.b p) c.segment_of-of.ensures.fields) c.mark.ensures.marks
+    marks_same g.K.Surface.shows _ (λ p. not (is_same c.args.a c.args.b) && in_body c.args.half c.args.a c.args.b p) c.args.w c.args.mask.now c.mark_within.new.mask
+    (λ p. ap (λ (s : Segment). not (is_same s.a s.b) && in_body s.half s.a s.b p) c.segment_of.ensures.fields) c.mark_within.ensures.marks
+
+pub mark_within-requires-clause-heights : goal.mark_within-requires-clause-heights
+mark_within-requires-clause-heights g c = c.heights_between-down.ensures

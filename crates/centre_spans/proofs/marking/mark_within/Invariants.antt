@@ -1,7 +1,7 @@
 use Rattle.std.proofs.Common.{◌≡◌, ◌*◌, ◌≤◌}
 use Rattle.plain_shapes.specs.inner.Canvas.{Reached}
 use Rattle.plain_image.specs.Surfaces.{Becomes}
-use Rattle.centre_spans.proofs.marking.mark.Given as goal
+use Rattle.centre_spans.proofs.marking.mark_within.Given as goal
 
 abbrev pub invariant-loop-j : goal.invariant-loop-j
 invariant-loop-j g l = record {
