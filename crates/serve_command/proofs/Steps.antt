@@ -68,6 +68,10 @@ module _ {D : Type 0} (state : D → Outside StoreTold) where
       pub listened : (old new : EachFront (Outside PortsTold)) (end : Result (Unit {0}) Stop) → Listening (places config old new) end → Listening (places s.config old new) end
       listened old new end h = subst (λ (c : Config). Listening (places c old new) end) config_is h
 
+  -- what is served are inputs, put together of their parts
+  pub of_parts : (parts s : ServeInputs) → parts ≡ s → (store : D) (old new : World D) (end : Result (Unit {0}) Stop) → Serves state parts store old new end → Serves state s store old new end
+  of_parts parts s is store old new end h = subst (λ (x : ServeInputs). Serves state x store old new end) is h
+
   module _ (s : ServeInputs) (store : D) (out out' : SinkAt) (ports ports' : EachFront (Outside PortsTold)) where
     abbrev start : World D
     start = record { out = out; left = Store store; fronts = []; ports = ports }

@@ -110,6 +110,52 @@ fn run<
     }
 }
 
+/// Begins a farm of these inputs as the configuration says, listens, and serves it.
+fn serve_config<
+    R: Threads + Wait + Clock + Sync,
+    D: TileStore + Send,
+    O: Sink,
+    P: Ports + Send,
+    B: Bell + Send + Sync,
+    G: Stage + Sync,
+>(
+    rt: &R,
+    alloc: Global,
+    config: &Config,
+    inputs: FarmInputs,
+    out: &mut O,
+    store: D,
+    ports: &mut ThreePorts<P, B>,
+    gate: &G,
+) -> Done<D>
+    requires { IsPlan inputs.plan }
+    ensures { Serves D.state (record { config = config.now; inputs = inputs }) store
+        (record { out = O.state out.old; left = Store store; fronts = []; ports = three (P.state ports.old.renderd) (P.state ports.old.tiles) (P.state ports.old.control) })
+        (record { out = O.state out.new; left = result.left; fronts = result.fronts.items; ports = three (P.state ports.new.renderd) (P.state ports.new.tiles) (P.state ports.new.control) })
+        result.end }
+{
+    let FarmInputs { plan, lists } = inputs;
+    let workers = plan.workers;
+    let Ok(room) = Vec::with_capacity(alloc, 3) else {
+        return stop_with(alloc, Stop::NoMemory, store);
+    };
+    let farm = match begin(alloc, plan, config.resume, store) {
+        Ok(farm) => farm,
+        Err((store, stop)) => return stop_with(alloc, stop, store),
+    };
+    if let Err(stop) = listen_at(ports, config) {
+        return stop_with(alloc, stop, farm.into_store());
+    }
+    let ready = Ready {
+        farm,
+        workers,
+        resume: config.resume,
+        lists,
+        room,
+    };
+    run(rt, alloc, ready, out, ports, gate)
+}
+
 /// Begins a farm as its files say, listens, and serves it.
 fn serve_inputs<
     R: Threads + Wait + Clock + Sync,
@@ -134,26 +180,7 @@ fn serve_inputs<
         result.end }
 {
     let ServeInputs { config, inputs } = served;
-    let FarmInputs { plan, lists } = inputs;
-    let workers = plan.workers;
-    let Ok(room) = Vec::with_capacity(alloc, 3) else {
-        return stop_with(alloc, Stop::NoMemory, store);
-    };
-    let farm = match begin(alloc, plan, config.resume, store) {
-        Ok(farm) => farm,
-        Err((store, stop)) => return stop_with(alloc, stop, store),
-    };
-    if let Err(stop) = listen_at(ports, &config) {
-        return stop_with(alloc, stop, farm.into_store());
-    }
-    let ready = Ready {
-        farm,
-        workers,
-        resume: config.resume,
-        lists,
-        room,
-    };
-    run(rt, alloc, ready, out, ports, gate)
+    serve_config(rt, alloc, &config, inputs, out, store, ports, gate)
 }
 
 /// Serves the farm of a configuration until it is stopped. The files are read in order, each checked before the next is
