@@ -29,8 +29,8 @@ use Rattle.turn_cell.specs.Turns.{by}
 use Rattle.farm_laws.specs.Locality.{IsSentNow}
 use Rattle.farm_laws.specs.Headline.{Headline}
 use Rattle.farm_runs.specs.Promise.{AreSeated, AreWorked, IsServed}
-use Rattle.serve_command.specs.Fronts.{renderd_leaves, tiles_leave}
-use Rattle.serve_command.proofs.FrontLaws.{marked}
+use Rattle.front_leaves.specs.Fronts.{renderd_leaves, tiles_leave}
+use Rattle.front_leaves.proofs.Laws.{marked}
 use Rattle.tile_paths.specs.Paths.{saved_path}
 use Rattle.serve_command.specs.Beginnings.{HasEmptied, ResumesFrom}
 use Rattle.serve_command.specs.Endings.{why_ended, is_front_worn, is_broken, is_wanting, end_after_put, TellsCounts}

@@ -36,7 +36,7 @@ use Rattle.farm_runs.specs.Promise.{Ends, AreSeated, IsServed, AreWorked, IsStop
 use Rattle.renderd_handler.specs.Renderd.{renderd_rules}
 use Rattle.http_handler.specs.Tiles.{tile_rules}
 use Rattle.control_handler.specs.Control.{control_rules}
-use Rattle.serve_command.specs.Fronts.{FrontLeaves}
+use Rattle.front_leaves.specs.Fronts.{FrontLeaves}
 use Rattle.farm_files.specs.Inputs.{ServeInputs}
 use Rattle.serve_command.specs.Beginnings.{IsSavedIn, RefusesFor, ResumesFrom}
 use Rattle.tile_paths.specs.Paths.{saved_path}

@@ -9,7 +9,8 @@ use Rattle.farm_shared.specs.Shared.{Adds}
 use Rattle.render_workers.specs.declared.worker.WorkEnd.{WorkEnd}
 use Rattle.render_workers.specs.Rounds.{Worked, WorkOf}
 use Rattle.farm_runs.specs.declared.pool.Actor.{Actor}
-use Rattle.farm_runs.specs.Actors.{IsUnbegun, WorkBy, IsReady, HasWorked}
+use Rattle.front_leaves.specs.Kinds.{IsUnbegun}
+use Rattle.farm_runs.specs.Actors.{WorkBy, IsReady, HasWorked}
 
 module _ {T : Type 0} where
   -- a front that is not begun

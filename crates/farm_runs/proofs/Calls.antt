@@ -14,7 +14,8 @@ use Rattle.turn_cell.proofs.Logs.{starts_through}
 use Rattle.farm_runs.specs.declared.each_front.EachFront.{EachFront}
 use Rattle.farm_runs.specs.declared.pool.Actor.{Actor}
 use Rattle.farm_runs.specs.declared.together.RunSeats.{RunSeats}
-use Rattle.farm_runs.specs.Actors.{Leaving, HasServed, HasWorked, IsFrontSeat, IsReady, HaveServed}
+use Rattle.front_leaves.specs.Kinds.{Leaving}
+use Rattle.farm_runs.specs.Actors.{HasServed, HasWorked, IsFrontSeat, IsReady, HaveServed}
 use Rattle.farm_runs.specs.Promise.{is_worker_worn}
 use Rattle.farm_runs.specs.inner.Chain.{first_seat_after, notes, ends_in, Numbered, IsStart, IsSet, HasLeft, IsSpent, Ran}
 use Rattle.farm_runs.proofs.Gathering.{each_left, each_right, gathered_first, gathered_splits, gathered_joined, notes_length}

@@ -31,7 +31,8 @@ use Rattle.farm_laws.specs.Headline.{Headline}
 use Rattle.farm_laws.proofs.Sentences.{headline}
 use Rattle.farm_runs.specs.declared.each_front.EachFront.{EachFront}
 use Rattle.farm_runs.specs.declared.pool.Actor.{Actor}
-use Rattle.farm_runs.specs.Actors.{Leaving, AreOfFront, WorkBy, with_front_seats}
+use Rattle.front_leaves.specs.Kinds.{Leaving, AreOfFront}
+use Rattle.farm_runs.specs.Actors.{WorkBy, with_front_seats}
 use Rattle.farm_runs.specs.Promise.{Ends, own_entries, is_worker_worn, AreSeated, IsServed, AreWorked, IsStop, RunsWell}
 use Rattle.farm_runs.specs.inner.Chain.{first_seat_after, notes, ends_in, IsTally, HasLeft, IsSpent, Ran}
 use Rattle.farm_runs.proofs.Settling.{gives, Settled, landed}

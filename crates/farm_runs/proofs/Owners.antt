@@ -9,7 +9,8 @@ use Rattle.port_events.specs.declared.ends.FrontEnd.{FrontEnd}
 use Rattle.farm_shared.specs.Seats.{gives_ticket, ends_ticket}
 use Rattle.render_workers.specs.declared.worker.WorkEnd.{WorkEnd}
 use Rattle.render_workers.specs.Rounds.{Round, Drew, FoundNone, FoundMany, round_entries, LastEntries, WorkOf}
-use Rattle.farm_runs.specs.Actors.{IsOfFront, AreOfFront, WorkBy}
+use Rattle.front_leaves.specs.Kinds.{IsOfFront, AreOfFront}
+use Rattle.farm_runs.specs.Actors.{WorkBy}
 use Rattle.farm_runs.specs.Promise.{own_entries, is_worker_worn}
 use Rattle.farm_runs.proofs.Settling.{gives, ends, Settled}
 

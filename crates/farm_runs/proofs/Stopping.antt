@@ -11,7 +11,7 @@ use Rattle.farm_history.specs.Lists.{Each}
 use Rattle.port_events.specs.declared.ends.FrontEnd.{FrontEnd}
 use Rattle.turn_cell.specs.Turns.{by}
 use Rattle.farm_shared.specs.Seats.{plain}
-use Rattle.farm_runs.specs.Actors.{IsOfFront, AreOfFront}
+use Rattle.front_leaves.specs.Kinds.{IsOfFront, AreOfFront}
 use Rattle.farm_runs.specs.Promise.{own_entries}
 use Rattle.farm_runs.proofs.Owners.{is_stop}
 

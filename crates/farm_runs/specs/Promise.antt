@@ -19,7 +19,8 @@ use Rattle.render_workers.specs.declared.worker.WorkEnd.{WorkEnd}
 use Rattle.farm_laws.specs.Locality.{IsSentNow}
 use Rattle.farm_laws.specs.Headline.{Headline}
 use Rattle.farm_runs.specs.declared.each_front.EachFront.{EachFront}
-use Rattle.farm_runs.specs.Actors.{Leaving, WorkBy}
+use Rattle.front_leaves.specs.Kinds.{Leaving}
+use Rattle.farm_runs.specs.Actors.{WorkBy}
 
 -- A history H of a run is a list of pairs, a seat's number and an entry, in the order of the turns. Seat 0 is the run's own, seats 1 to 3 are those of the fronts, and seat w + 4 is that of worker w.
 

@@ -1,7 +1,8 @@
 //! Three fronts in three threads, and what follows when they have ended.
 ghost use Rattle.std.specs.Prelude.{◌≡◌, true, []};
 ghost use Rattle.std.specs.Thread.{IsSend, IsSync};
-ghost use Rattle.farm_runs.specs.Actors.{HasEnded, HasServed, IsFrontSeat, IsUnbegun, with_front_seats};
+ghost use Rattle.front_leaves.specs.Kinds.{IsUnbegun};
+ghost use Rattle.farm_runs.specs.Actors.{HasEnded, HasServed, IsFrontSeat, with_front_seats};
 ghost use Rattle.farm_shared.specs.Shared.{maps_of};
 ghost use Rattle.farm_shared.specs.Seats.{plain};
 ghost use Rattle.turn_cell.specs.SeatStates.{IsSeatOf, Knows, SameSeat};

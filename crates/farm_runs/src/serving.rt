@@ -5,7 +5,8 @@ ghost use Rattle.farm_history.specs.Entries.{Entry};
 ghost use Rattle.port_events.specs.declared.ends.FrontDone.{FrontDone};
 ghost use Rattle.port_events.specs.declared.ends.FrontEnd.TheVariants.{Worn};
 ghost use Rattle.port_events.specs.Told.{PortsTold};
-ghost use Rattle.farm_runs.specs.Actors.{AreOfFront, HasServed, IsFrontSeat, IsUnbegun};
+ghost use Rattle.front_leaves.specs.Kinds.{AreOfFront, IsUnbegun};
+ghost use Rattle.farm_runs.specs.Actors.{HasServed, IsFrontSeat};
 ghost use Rattle.farm_shared.specs.Shared.{maps_of};
 
 use farm_base::Bell;

@@ -3,4 +3,3 @@ mod Beginning
 mod Found
 pub mod Kept
 mod Saving
-pub mod FrontLaws

@@ -4,4 +4,3 @@ pub mod Beginnings
 pub mod Listens
 pub mod Endings
 pub mod Savings
-pub mod Fronts

@@ -13,8 +13,8 @@ use tile_store::TileStore;
 pub struct RenderdFront;
 
 impl Serving for RenderdFront {
-    ghost use Rattle.serve_command.specs.Fronts.{renderd_leaves};
-    ghost use Rattle.serve_command.proofs.FrontLaws.{renderd_kinds, marked, unbegun};
+    ghost use Rattle.front_leaves.specs.Fronts.{renderd_leaves};
+    ghost use Rattle.front_leaves.proofs.Laws.{renderd_kinds, marked, unbegun};
 
     ghost number = { λ _. 0 };
 
@@ -44,8 +44,8 @@ impl Serving for RenderdFront {
 pub struct TileFront;
 
 impl Serving for TileFront {
-    ghost use Rattle.serve_command.specs.Fronts.{tiles_leave};
-    ghost use Rattle.serve_command.proofs.FrontLaws.{tiles_kinds, marked, unbegun};
+    ghost use Rattle.front_leaves.specs.Fronts.{tiles_leave};
+    ghost use Rattle.front_leaves.proofs.Laws.{tiles_kinds, marked, unbegun};
 
     ghost number = { λ _. 1 };
 
@@ -77,8 +77,8 @@ pub struct ControlFront {
 }
 
 impl Serving for ControlFront {
-    ghost use Rattle.serve_command.specs.Fronts.{control_leaves};
-    ghost use Rattle.serve_command.proofs.FrontLaws.{control_kinds, marked, unbegun};
+    ghost use Rattle.front_leaves.specs.Fronts.{control_leaves};
+    ghost use Rattle.front_leaves.proofs.Laws.{control_kinds, marked, unbegun};
 
     ghost number = { λ _. 2 };
 

@@ -17,7 +17,8 @@ use Rattle.render_workers.specs.declared.worker.WorkEnd.{WorkEnd}
 use Rattle.farm_runs.specs.declared.each_front.EachFront.{EachFront}
 use Rattle.farm_runs.specs.declared.pool.Actor.{Actor}
 use Rattle.farm_runs.specs.declared.together.RunSeats.{RunSeats}
-use Rattle.farm_runs.specs.Actors.{Leaving, WorkBy, IsReady, HasEnded, AreStanding}
+use Rattle.front_leaves.specs.Kinds.{Leaving}
+use Rattle.farm_runs.specs.Actors.{WorkBy, IsReady, HasEnded, AreStanding}
 
 module _ {T : Type 0} where
   -- the first seat after the workers' seats were joined into it, from the last one on

@@ -12,7 +12,7 @@ use Rattle.farm_refinement.specs.Seen.{FarmSeen}
 use Rattle.farm_runs.specs.declared.each_front.EachFront.{EachFront}
 use Rattle.farm_plan.specs.Plans.{maps_in}
 use Rattle.farm_runs.specs.Promise.{Ends, RunsWell}
-use Rattle.serve_command.specs.Fronts.{renderd_leaves, tiles_leave, control_leaves}
+use Rattle.front_leaves.specs.Fronts.{renderd_leaves, tiles_leave, control_leaves}
 use Rattle.serve_command.specs.Beginnings.{HasBegun}
 use Rattle.serve_command.specs.Listens.{Listening}
 use Rattle.serve_command.specs.Endings.{why_ended, WindsUp}

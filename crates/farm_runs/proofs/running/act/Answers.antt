@@ -1,5 +1,6 @@
 use Rattle.std.proofs.Common.{sym, subst, ◌∙◌}
-use Rattle.farm_runs.specs.Actors.{AreOfFront, three}
+use Rattle.front_leaves.specs.Kinds.{AreOfFront}
+use Rattle.farm_runs.specs.Actors.{three}
 use Rattle.farm_shared.specs.Shared.{maps_of}
 use Rattle.farm_runs.specs.Promise.{RunsWell}
 use Rattle.farm_runs.proofs.Calls.{ran}

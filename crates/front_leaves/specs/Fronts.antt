@@ -11,7 +11,7 @@ use Rattle.front_loop.specs.Serving.{FrontRun}
 use Rattle.renderd_handler.specs.Renderd.{renderd_rules}
 use Rattle.http_handler.specs.Tiles.{tile_rules}
 use Rattle.control_handler.specs.Control.{control_rules}
-use Rattle.farm_runs.specs.Actors.{Leaving}
+use Rattle.front_leaves.specs.Kinds.{Leaving}
 
 -- What a front with these rules leaves: its own entries, what its ports tell and what it hands back are those of its rounds; and it ends Broken only where its ports' count of faults rose
 pub record FrontLeaves {A W : Type 0} (R : Rules A W) (shown after : Outside PortsTold) (es : List Entry) (done : FrontDone) (worn : Bool) : Type 0 where

@@ -26,8 +26,8 @@ use Rattle.control_handler.specs.Control.{control_rules}
 use Rattle.control_handler.proofs.Sorts as control
 use Rattle.http_handler.specs.Tiles.{tile_rules}
 use Rattle.http_handler.proofs.OwnEntries as tiles
-use Rattle.farm_runs.specs.Actors.{IsOfFront, AreOfFront, IsUnbegun}
-use Rattle.serve_command.specs.Fronts.{FrontLeaves, renderd_leaves, tiles_leave, control_leaves}
+use Rattle.front_leaves.specs.Kinds.{IsOfFront, AreOfFront, IsUnbegun}
+use Rattle.front_leaves.specs.Fronts.{FrontLeaves, renderd_leaves, tiles_leave, control_leaves}
 use Rattle.farm_history.proofs.Lists.{each-join}
 
 -- Which entries are of no front, as a test.
