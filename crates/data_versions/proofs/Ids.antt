@@ -44,12 +44,16 @@ numbered_more pairs after old features i place f small at before last more =
     ∙ sym (ap (numbered (length old)) next ∙ numbered-append (length old) (take i features) (f ∷ [])))
 
 -- one more chunk
-pub chunk_numbered : (pairs after : List (ℕ × ℕ)) (chunks : Chunks) (i : ℕ) (c : ChunkShare) (features : List Feature) → i < length chunks → c ≡ get_or chunks i c
-    → features ≡ arc_value c → pairs ≡ numbered 0 (joined (take i chunks)) → after ≡ pairs ++ numbered (length pairs) features
-    → after ≡ numbered 0 (joined (take (i + 1) chunks))
-chunk_numbered pairs after chunks i c features small at same before more =
-    let long : length pairs ≡ 0 + length (joined (take i chunks)) = omega (arith, ap length before, length-numbered 0 (joined (take i chunks))) in
-    more ∙ rw (long, before, same) (sym (ap (numbered 0) (joined_more chunks i c small at) ∙ numbered-append 0 (joined (take i chunks)) (arc_value c)))
+pub chunk_numbered : (pairs after old : List (ℕ × ℕ)) (chunks : Chunks) (i : ℕ) (c : ChunkShare) (features : List Feature) → i < length chunks → c ≡ get_or chunks i c
+    → features ≡ arc_value c → pairs ≡ old ++ numbered (length old) (joined (take i chunks)) → after ≡ pairs ++ numbered (length pairs) features
+    → after ≡ old ++ numbered (length old) (joined (take (i + 1) chunks))
+chunk_numbered pairs after old chunks i c features small at same before more =
+    let long : length pairs ≡ length old + length (joined (take i chunks)) =
+    omega (arith, ap length before, length-append old (numbered (length old) (joined (take i chunks))), length-numbered (length old) (joined (take i chunks))) in
+    let next : numbered (length old) (joined (take (i + 1) chunks)) ≡ numbered (length old) (joined (take i chunks)) ++ numbered (length old + length (joined (take i chunks))) (arc_value c) =
+    ap (numbered (length old)) (joined_more chunks i c small at) ∙ numbered-append (length old) (joined (take i chunks)) (arc_value c) in
+    more ∙ rw (long, before, same) (append_assoc old (numbered (length old) (joined (take i chunks))) (numbered (length old + length (joined (take i chunks))) (arc_value c)))
+    ∙ ap (λ ps. old ++ ps) (sym next)
 
 -- ---- what the table finds
 

@@ -1,5 +1,5 @@
--- The slots of a layer, laid chunk after chunk.
-use Rattle.std.proofs.Common.{◌≡◌, ℕ, zero, suc, ◌+◌, ◌-◌, ◌<◌, ◌≤◌, List, [], ◌∷◌, ◌++◌, length, get_or, set, take, refl, sym, ◌∙◌, ap, inl, inr, append-nil, length-append, arith}
+-- The slots of a layer, laid part after part, and those of a part: a chunk stands for either.
+use Rattle.std.proofs.Common.{◌≡◌, ℕ, zero, suc, ◌+◌, ◌-◌, ◌<◌, ◌≤◌, List, [], ◌∷◌, ◌++◌, length, get_or, set, take, refl, sym, ◌∙◌, ap, inl, inr, append-nil, append_assoc, length-append, arith}
 use Rattle.std.specs.Prelude.{◌⊎◌, map, Option, Some, None}
 use Rattle.std.proofs.lemmas.Bool.{cases_lt}
 use Rattle.std.proofs.lemmas.List.{length-map, length-set, take-map, take_more, take_all, map-append, set-append_left, set-append_right, get_or_append_left, get_or-append_right, get_or_read}
@@ -81,16 +81,21 @@ piece_is pieces i k j p is at = sym (get_or_read pieces k p is.inside at [])
 pub within_piece : (pieces : Pieces) (i k j : ℕ) (p : List (Option Feature)) → IsSlotOf pieces i k j → p ≡ get_or pieces k p → j < length p
 within_piece pieces i k j p is at = omega (arith, is.within, ap length (piece_is pieces i k j p is at))
 
+pub found_piece : (pieces : Pieces) (i k j : ℕ) (p : List (Option Feature)) → IsSlotOf pieces i k j → p ≡ get_or pieces k p → get_or p j None ≡ get_or (laid pieces) i None
+found_piece pieces i k j p is at =
+    ap (λ (q : List (Option Feature)). get_or q j None) (sym (piece_is pieces i k j p is at))
+    ∙ sym (ap (λ (n : ℕ). get_or (laid pieces) n None) is.number ∙ get_or-flat_map (λ q. q) pieces k j [] None is.inside is.within)
+
 pub found_in : (pieces : Pieces) (added : List (Option Feature)) (i k j : ℕ) (p : List (Option Feature)) → IsSlotOf pieces i k j → i < length (laid pieces)
     → p ≡ get_or pieces k p → get_or p j None ≡ get_or (laid pieces ++ added) i None
-found_in pieces added i k j p is small at =
-    ap (λ (q : List (Option Feature)). get_or q j None) (sym (piece_is pieces i k j p is at))
-    ∙ sym (get_or_append_left (laid pieces) added None i small ∙ ap (λ (n : ℕ). get_or (laid pieces) n None) is.number
-    ∙ get_or-flat_map (λ q. q) pieces k j [] None is.inside is.within)
+found_in pieces added i k j p is small at = found_piece pieces i k j p is at ∙ sym (get_or_append_left (laid pieces) added None i small)
 
 pub found_added : (pieces : Pieces) (added : List (Option Feature)) (count i : ℕ) → count ≡ length (laid pieces) → count ≤ i
     → get_or added (i - count) None ≡ get_or (laid pieces ++ added) i None
 found_added pieces added count i e past = sym (get_or-append_right (laid pieces) added count i None (sym e) past)
+
+pub found_past : (pieces : Pieces) (count i : ℕ) → count ≡ length (laid pieces) → count ≤ i → None ≡ get_or (laid pieces) i None
+found_past pieces count i e past = found_added pieces [] count i e past ∙ ap (λ (ss : List (Option Feature)). get_or ss i None) (append-nil (laid pieces))
 
 -- ---- another feature in a slot
 
@@ -107,12 +112,16 @@ set_in (p ∷ pieces) (suc k) j s inside within =
     ∙ set-append_right p (laid pieces) (length p) (length p + (length (laid (take k pieces)) + j)) s refl (omega arith)
     ∙ ap (λ (n : ℕ). p ++ set (laid pieces) n s) left)
 
+pub put_piece : (pieces : Pieces) (i k j : ℕ) (p : List (Option Feature)) (s : Option Feature) → IsSlotOf pieces i k j → p ≡ get_or pieces k p
+    → laid (set pieces k (set p j s)) ≡ set (laid pieces) i s
+put_piece pieces i k j p s is at =
+    ap (λ (q : List (Option Feature)). laid (set pieces k (set q j s))) (sym (piece_is pieces i k j p is at))
+    ∙ set_in pieces k j s is.inside is.within ∙ ap (λ (n : ℕ). set (laid pieces) n s) (sym is.number)
+
 pub put_in : (pieces : Pieces) (added : List (Option Feature)) (i k j : ℕ) (p : List (Option Feature)) (s : Option Feature) → IsSlotOf pieces i k j
     → i < length (laid pieces) → p ≡ get_or pieces k p → laid (set pieces k (set p j s)) ++ added ≡ set (laid pieces ++ added) i s
 put_in pieces added i k j p s is small at =
-    ap (λ (q : List (Option Feature)). laid (set pieces k (set q j s)) ++ added) (sym (piece_is pieces i k j p is at))
-    ∙ ap (λ (ss : List (Option Feature)). ss ++ added) (set_in pieces k j s is.inside is.within ∙ ap (λ (n : ℕ). set (laid pieces) n s) (sym is.number))
-    ∙ sym (set-append_left (laid pieces) added i s small)
+    ap (λ (ss : List (Option Feature)). ss ++ added) (put_piece pieces i k j p s is at) ∙ sym (set-append_left (laid pieces) added i s small)
 
 pub put_added : (pieces : Pieces) (added : List (Option Feature)) (count i : ℕ) (s : Option Feature) → count ≡ length (laid pieces) → count ≤ i
     → laid pieces ++ set added (i - count) s ≡ set (laid pieces ++ added) i s
@@ -141,16 +150,21 @@ still_laid starts count pieces i k j p q is slot at e =
 
 -- ---- what stands in the slots of one chunk more
 
-pub laid_more : (builder after : List Feature) (pieces : Pieces) (k : ℕ) (p : List (Option Feature)) → k < length pieces → p ≡ get_or pieces k p
-    → builder ≡ standing (laid (take k pieces)) → after ≡ builder ++ standing p → after ≡ standing (laid (take (k + 1) pieces))
-laid_more builder after pieces k p small at e more =
-    more ∙ ap (λ (fs : List Feature). fs ++ standing p) e
-    ∙ sym (ap (λ (ps : Pieces). standing (laid ps)) (take_more pieces k p small) ∙ ap standing (flat_map-append (λ q. q) (take k pieces) (get_or pieces k p ∷ []))
+pub laid_more : (start builder after : List Feature) (pieces : Pieces) (k : ℕ) (p : List (Option Feature)) → k < length pieces → p ≡ get_or pieces k p
+    → builder ≡ start ++ standing (laid (take k pieces)) → after ≡ builder ++ standing p → after ≡ start ++ standing (laid (take (k + 1) pieces))
+laid_more start builder after pieces k p small at e more =
+    let next : standing (laid (take (k + 1) pieces)) ≡ standing (laid (take k pieces)) ++ standing p =
+    ap (λ (ps : Pieces). standing (laid ps)) (take_more pieces k p small) ∙ ap standing (flat_map-append (λ q. q) (take k pieces) (get_or pieces k p ∷ []))
     ∙ filter_map-append (λ s. s) (laid (take k pieces)) (get_or pieces k p ++ [])
-    ∙ ap (λ (ss : List (Option Feature)). standing (laid (take k pieces)) ++ standing ss) (append-nil (get_or pieces k p) ∙ sym at))
+    ∙ ap (λ (ss : List (Option Feature)). standing (laid (take k pieces)) ++ standing ss) (append-nil (get_or pieces k p) ∙ sym at) in
+    more ∙ ap (λ (fs : List Feature). fs ++ standing p) e ∙ append_assoc start (standing (laid (take k pieces))) (standing p)
+    ∙ ap (λ (fs : List Feature). start ++ fs) (sym next)
+
+pub laid_end : (start builder : List Feature) (pieces : Pieces) (k : ℕ) → length pieces ≤ k → builder ≡ start ++ standing (laid (take k pieces))
+    → builder ≡ start ++ standing (laid pieces)
+laid_end start builder pieces k past e = e ∙ ap (λ (ps : Pieces). start ++ standing (laid ps)) (take_all k pieces past)
 
 pub laid_all : (builder after : List Feature) (pieces : Pieces) (k : ℕ) (added : List (Option Feature)) → length pieces ≤ k
     → builder ≡ standing (laid (take k pieces)) → after ≡ builder ++ standing added → after ≡ standing (laid pieces ++ added)
 laid_all builder after pieces k added past e more =
-    more ∙ ap (λ (fs : List Feature). fs ++ standing added) (e ∙ ap (λ (ps : Pieces). standing (laid ps)) (take_all k pieces past))
-    ∙ sym (filter_map-append (λ s. s) (laid pieces) added)
+    more ∙ ap (λ (fs : List Feature). fs ++ standing added) (laid_end [] builder pieces k past e) ∙ sym (filter_map-append (λ s. s) (laid pieces) added)

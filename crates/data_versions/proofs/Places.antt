@@ -1,4 +1,4 @@
--- Places in a layer that is cut into chunks.
+-- Places in a layer that is cut into parts, and in a part that is: a chunk stands for either.
 use Rattle.std.proofs.Common.{◌≡◌, ℕ, zero, suc, ◌+◌, ◌-◌, ◌<◌, ◌≤◌, List, [], ◌∷◌, ◌++◌, length, take, drop, get_or, refl, sym, ap, ◌∙◌, subst, inl, inr, arith, append-nil, length-append, length-drop}
 use Rattle.std.specs.Prelude.{Bool, position, Option, Some, None, option_map, slice_get}
 use Rattle.std.specs.declared.alloc.Global.{Global}
@@ -150,10 +150,15 @@ start_is starts count chunks k start whole small at =
     get_or_read starts k start (omega (arith, whole.starts.long)) at 0 ∙ whole.starts.each k small
 
 -- a chunk ends within its layer
+pub ends_in : (starts : List ℕ) (count : ℕ) (chunks : Chunks) (k start : ℕ) (c : ChunkShare) → IsChunked starts count chunks → k < length chunks
+    → start ≡ get_or starts k start → c ≡ get_or chunks k c → start + length (arc_value c) ≤ length (joined chunks)
+ends_in starts count chunks k start c whole small at is =
+    omega (arith, start_is starts count chunks k start whole small at, length_more chunks k c small is, joined_within chunks (k + 1))
+
 pub ends_within : (starts : List ℕ) (count : ℕ) (chunks : Chunks) (k start : ℕ) (c : ChunkShare) → IsChunked starts count chunks → k < length chunks
     → start ≡ get_or starts k start → c ≡ get_or chunks k c → start + length (arc_value c) ≤ 1000000
 ends_within starts count chunks k start c whole small at is =
-    omega (arith, start_is starts count chunks k start whole small at, length_more chunks k c small is, joined_within chunks (k + 1), whole.counted, whole.few)
+    omega (arith, ends_in starts count chunks k start c whole small at is, whole.counted, whole.few)
 
 before_end : (starts : List ℕ) (count : ℕ) (chunks : Chunks) (k i : ℕ) (c : ChunkShare) → IsChunked starts count chunks → k < length chunks
     → c ≡ get_or chunks k c → i < count → (k + 1 < length starts → i < get_or starts (k + 1) 0) → (k + 1 < length chunks) ⊎ (length chunks ≤ k + 1)
@@ -212,3 +217,32 @@ pub near_here : (p : Feature → Bool) (chunks : Chunks) (i from start k : ℕ) 
     → position p (drop (from - start) (arc_value c)) ≡ Some k → o ≡ Some (start + (from - start) + k)
 near_here p chunks i from start k c o small at begun e found =
     e ∙ rw (← begun) (ap (sought p start from) (joined_rest chunks i c small at) ∙ sought_here p start from k (arc_value c) (joined (drop (i + 1) chunks)) found)
+
+-- the same where a chunk is asked for a place of its own, from the place `skip` of its own on
+place_in : (o : Option ℕ) (skip place : ℕ) → option_map (λ k. skip + k) o ≡ Some place → (skip ≤ place) × (o ≡ Some (place - skip))
+place_in None skip place found = cc
+place_in (Some k) skip place found =
+    let at : skip + k ≡ place = same (skip + k) place found in
+    (omega arith, ap Some (omega arith))
+  where
+    same : (a b : ℕ) → Some a ≡ Some b → a ≡ b
+    same a b h = cc
+
+none_in : (o : Option ℕ) (skip : ℕ) → option_map (λ k. skip + k) o ≡ None → o ≡ None
+none_in None skip none = refl
+none_in (Some k) skip none = cc
+
+pub near_place : (p : Feature → Bool) (chunks : Chunks) (i from start skip place : ℕ) (c : ChunkShare) (o : Option ℕ) → i < length chunks → c ≡ get_or chunks i c
+    → start ≡ length (joined (take i chunks)) → skip ≡ from - start → o ≡ sought p (length (joined (take i chunks))) from (joined (drop i chunks))
+    → option_map (λ k. skip + k) (position p (drop skip (arc_value c))) ≡ Some place → o ≡ Some (start + place)
+near_place p chunks i from start skip place c o small at begun is e found =
+    let facts = place_in (position p (drop skip (arc_value c))) skip place found in
+    near_here p chunks i from start (place - skip) c o small at begun e (ap (λ (n : ℕ). position p (drop n (arc_value c))) (sym is) ∙ facts.1)
+    ∙ ap Some (omega (arith, is, facts.0))
+
+pub near_past : (p : Feature → Bool) (chunks : Chunks) (i from start skip : ℕ) (c : ChunkShare) (o : Option ℕ) → i < length chunks → c ≡ get_or chunks i c
+    → start ≡ length (joined (take i chunks)) → skip ≡ from - start → o ≡ sought p (length (joined (take i chunks))) from (joined (drop i chunks))
+    → option_map (λ k. skip + k) (position p (drop skip (arc_value c))) ≡ None → o ≡ sought p (length (joined (take (i + 1) chunks))) from (joined (drop (i + 1) chunks))
+near_past p chunks i from start skip c o small at begun is e none =
+    near_later p chunks i from start c o small at begun e
+    (ap (λ (n : ℕ). position p (drop n (arc_value c))) (sym is) ∙ none_in (position p (drop skip (arc_value c))) skip none)

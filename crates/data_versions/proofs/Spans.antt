@@ -1,6 +1,6 @@
--- The chunks of a layer, each with two numbers between which its ids lie.
+-- The parts of a layer, each with two numbers between which its ids lie.
 use Rattle.std.proofs.Common.{◌≡◌, ℕ, zero, suc, ◌+◌, ◌-◌, ◌<◌, ◌≤◌, refl, drop, List, [], ◌∷◌, ◌++◌, length, take, get_or, sym, ap, ◌∙◌, subst, inl, inr, length-append, arith}
-use Rattle.std.specs.Prelude.{None, max, nat_eq, option_map}
+use Rattle.std.specs.Prelude.{None, min, max, nat_eq, option_map}
 use Rattle.plain_shapes.specs.Features.{Feature}
 use Rattle.data_versions.specs.inner.Chunks.{joined}
 use Rattle.std.proofs.lemmas.Bool.{cases_eq}
@@ -32,6 +32,21 @@ spans_more spans chunks i c span small at before here =
             before.apart k id d (omega arith) there out_there)
       ];
     }
+
+-- two numbers outside of which no feature of one chunk more has its id
+pub span_more : (chunks : Chunks) (i : ℕ) (c : ChunkShare) (here old new : ℕ × ℕ) → i < length chunks → c ≡ get_or chunks i c → new.0 ≡ min here.0 old.0 → new.1 ≡ max here.1 old.1
+    → IsSpan old (joined (take i chunks)) → IsSpan here (arc_value c) → IsSpan new (joined (take (i + 1) chunks))
+span_more chunks i c here old new small at least greatest before now = λ id out.
+    let out_old : IsOutside old id = elim out [
+      | inl below ↦ inl (omega (arith, below, least))
+      | inr above ↦ inr (omega (arith, above, greatest))
+    ] in
+    let out_here : IsOutside here id = elim out [
+      | inl below ↦ inl (omega (arith, below, least))
+      | inr above ↦ inr (omega (arith, above, greatest))
+    ] in
+    ap (λ (fs : List Feature). place_of fs id) (joined_more chunks i c small at) ∙ position-append (λ f. nat_eq f.id id) (joined (take i chunks)) (arc_value c)
+    ∙ rw (before id out_old, now id out_here) refl
 
 -- ---- how far the ids reach up to a chunk
 

@@ -1,9 +1,11 @@
-//! Features that are put into chunks one after another.
+//! Features that are put into the chunks of a layer one after another.
 ghost use Rattle.std.specs.Prelude.{◌≡◌, ◌≤◌, ◌<◌, ◌∷◌, ◌++◌, [], length, IfOk, OnOk};
 ghost use Rattle.std.specs.Arc.{arc_value};
 ghost use Rattle.data_versions.specs.inner.Chunks.{joined};
 
 use crate::chunk::{Chunk, MOST_TOGETHER};
+use crate::segment::Segment;
+use crate::segment_builder::SegmentBuilder;
 use farm_base::NoMemory;
 use geo_model::Feature;
 use std::alloc::Global;
@@ -14,48 +16,56 @@ use std::sync::Arc;
 /// The chunks so far, and the features that are to become the next one. Contracts see all their features.
 #[derive(Drop)]
 pub(crate) struct ChunkBuilder {
-    chunks: Vec<Arc<Chunk>>,
+    chunks: SegmentBuilder,
     loose: Vec<Feature>,
 }
 
 impl Model for ChunkBuilder {
     ghost use Rattle.std.specs.Prelude.{◌≤◌, ◌++◌, List, length};
     ghost use Rattle.plain_shapes.specs.Features.{Feature};
-    ghost use Rattle.data_versions.specs.inner.Chunks.{joined};
 
     ghost Value = { List Feature };
 
-    ghost view = { λ p. joined p.chunks.items ++ p.loose.items };
+    ghost view = { λ p. p.chunks ++ p.loose.items };
 
     ghost invariant = { λ p. length p.loose.items ≤ 256 };
+}
+
+/// A share of a new chunk of the features.
+fn new_chunk(alloc: Global, features: Vec<Feature>) -> Result<Arc<Chunk>, NoMemory>
+    requires { length features.items ≤ 256 }
+    ensures { IfOk result (λ chunk. arc_value chunk ≡ features.items) }
+{
+    let chunk = Chunk::of(alloc, features)?;
+    Ok(Arc::new(alloc, chunk)?)
 }
 
 /// Makes the loose features a chunk, if there are any.
 fn close(
     alloc: Global,
-    chunks: &mut Vec<Arc<Chunk>>,
+    chunks: &mut SegmentBuilder,
     loose: &mut Vec<Feature>,
 ) -> Result<(), NoMemory>
     requires { length loose.old.items ≤ 256 }
-    ensures closed { OnOk result (joined chunks.new.items ≡ joined chunks.old.items ++ loose.old.items) }
+    ensures closed { OnOk result (chunks.new ≡ chunks.old ++ loose.old.items) }
     ensures emptied { loose.new.items ≡ [] }
 {
     let features = mem::replace(loose, Vec::new(alloc));
     if features.is_empty() {
         return Ok(());
     }
-    chunks.push(Arc::new(alloc, Chunk::of(alloc, features)?)?)?;
-    Ok(())
+    let chunk = new_chunk(alloc, features)?;
+    chunks.add(alloc, chunk)
 }
 
 /// Makes the loose features a chunk, if there are enough for one.
 fn make_room(
     alloc: Global,
-    chunks: &mut Vec<Arc<Chunk>>,
+    chunks: &mut SegmentBuilder,
     loose: &mut Vec<Feature>,
 ) -> Result<(), NoMemory>
     requires { length loose.old.items ≤ 256 }
-    ensures same { OnOk result (joined chunks.new.items ++ loose.new.items ≡ joined chunks.old.items ++ loose.old.items) }
+    ensures same { OnOk result (chunks.new ++ loose.new.items ≡ chunks.old ++ loose.old.items) }
     ensures room { length loose.new.items < 256 }
 {
     if loose.len() < MOST_TOGETHER {
@@ -70,7 +80,7 @@ impl ChunkBuilder {
         ensures { result ≡ [] }
     {
         ChunkBuilder {
-            chunks: Vec::new(alloc),
+            chunks: SegmentBuilder::new(alloc),
             loose: Vec::new(alloc),
         }
     }
@@ -85,19 +95,31 @@ impl ChunkBuilder {
     }
 
     /// Puts the features of a chunk at the end; the chunk is shared.
-    pub(crate) fn share(&mut self, alloc: Global, chunk: &Arc<Chunk>) -> Result<(), NoMemory>
+    pub(crate) fn share_chunk(&mut self, alloc: Global, chunk: &Arc<Chunk>) -> Result<(), NoMemory>
         ensures { OnOk result (self.new ≡ self.old ++ arc_value chunk.now) }
     {
         close(alloc, &mut self.chunks, &mut self.loose)?;
-        self.chunks.push(Arc::try_clone(chunk)?)?;
-        Ok(())
+        let shared = Arc::try_clone(chunk)?;
+        self.chunks.add(alloc, shared)
     }
 
-    /// The chunks of all the features.
-    pub(crate) fn into_chunks(mut self, alloc: Global) -> Result<Vec<Arc<Chunk>>, NoMemory>
-        ensures { IfOk result (λ chunks. joined chunks.items ≡ self) }
+    /// Puts the features of a segment at the end; the segment is shared.
+    pub(crate) fn share_segment(
+        &mut self,
+        alloc: Global,
+        segment: &Arc<Segment>,
+    ) -> Result<(), NoMemory>
+        ensures { OnOk result (self.new ≡ self.old ++ arc_value segment.now) }
     {
         close(alloc, &mut self.chunks, &mut self.loose)?;
-        Ok(self.chunks)
+        self.chunks.share(alloc, segment)
+    }
+
+    /// The segments of all the features.
+    pub(crate) fn into_segments(mut self, alloc: Global) -> Result<Vec<Arc<Segment>>, NoMemory>
+        ensures { IfOk result (λ segments. joined segments.items ≡ self) }
+    {
+        close(alloc, &mut self.chunks, &mut self.loose)?;
+        self.chunks.into_segments(alloc)
     }
 }

@@ -14,12 +14,12 @@ use geo_model::{Bounds, Feature};
 use std::alloc::Global;
 use std::marker::Model;
 
-/// The most features of a full chunk. An update that changes one of them copies them all, and each update counts
-/// all chunks.
-pub(crate) const MOST_TOGETHER: usize = 128;
+/// The most features of a full chunk. An update that changes one of them copies them all, and counts all chunks of
+/// their segment.
+pub(crate) const MOST_TOGETHER: usize = 64;
 
 /// Features, their ids from least to greatest, the first and the last of these, the box that holds the features,
-/// and those of its 64 by 64 cells that they meet: 4 bytes a feature, by which a chunk of features that lie far
+/// and those of its 64 by 64 cells that they meet: 8 bytes a feature, by which a chunk of features that lie far
 /// apart is passed over too. Contracts see it as the list of its features.
 #[derive(Drop)]
 pub(crate) struct Chunk {

@@ -88,7 +88,7 @@ impl<'a> ChunkSlots<'a> {
         let chunk: &Chunk = self.chunk;
         let features = chunk.features();
         if may_share || features.len() == MOST_TOGETHER {
-            return builder.share(alloc, self.chunk);
+            return builder.share_chunk(alloc, self.chunk);
         }
         SlotList::of(alloc, features)?.copy_into(alloc, builder)
     }

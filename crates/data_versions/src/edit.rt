@@ -6,10 +6,10 @@ ghost use Rattle.plain_shapes.specs.Data.{has_id, ids_of, IsLayer};
 ghost use Rattle.data_versions.specs.inner.Slots.{without, replaced_by, with_put};
 ghost use Rattle.data_versions.specs.inner.Chunks.{joined};
 
-use crate::chunk::Chunk;
 use crate::chunked::ChunkedLayer;
 use crate::finder::LayerFinder;
 use crate::layer_slots::LayerSlots;
+use crate::segment::Segment;
 use crate::slot::slot_of;
 use farm_base::NoMemory;
 use geo_model::Feature;
@@ -20,7 +20,7 @@ use std::marker::Model;
 use std::sync::Arc;
 
 /// The features of a layer by reference, each in a slot that stays its own, so that a removal moves no other
-/// feature. The first slots are those of the features from the start, chunk by chunk. The places are those of
+/// feature. The first slots are those of the features from the start. The places are those of
 /// the ids that were added; the others are found in the layer. Contracts see it as the list of its features.
 #[derive(Drop)]
 pub(crate) struct LayerEdit<'a> {
@@ -143,11 +143,11 @@ impl<'a> LayerEdit<'a> {
         Ok(true)
     }
 
-    /// The features in chunks. A chunk in which nothing changed is shared, but for the last one, which is
-    /// filled up where new features follow.
-    pub(crate) fn chunks(&self, alloc: Global) -> Result<Vec<Arc<Chunk>>, NoMemory>
-        ensures { IfOk result (λ chunks. joined chunks.items ≡ self.now) }
+    /// The features in segments. One in which nothing changed is shared, but for the last one, which is filled up
+    /// where new features follow.
+    pub(crate) fn segments(&self, alloc: Global) -> Result<Vec<Arc<Segment>>, NoMemory>
+        ensures { IfOk result (λ segments. joined segments.items ≡ self.now) }
     {
-        self.slots.chunks(alloc)
+        self.slots.segments(alloc)
     }
 }

@@ -1,8 +1,9 @@
 //! The layers of a snapshot while an update changes them.
-ghost use Rattle.std.specs.Prelude.{◌≡◌, ◌≢◌, true, false, IfOk, OnOk, IfErr, Some, None, option_map};
+ghost use Rattle.std.specs.Prelude.{◌≡◌, ◌≢◌, ◌≤◌, true, false, length, IfOk, OnOk, IfErr, Some, None, option_map, unwrap_or};
 ghost use Rattle.std.specs.Arc.{arc_value};
 ghost use Rattle.std.specs.Str.{bytes_eq};
 ghost use Rattle.plain_shapes.specs.Data.{ids_of, without_ids, first_missing, is_too_many, with_puts, with_change, features_fault, changed_layer, IsLayer};
+ghost use Rattle.plain_shapes.specs.Limits.{most_features};
 
 use crate::chunked::ChunkedLayer;
 use crate::dataset::Change;
@@ -73,8 +74,41 @@ fn make_change<'a>(
     ensures right { OnOk result (features_fault place change.now edit.old ≡ None) }
     ensures refused { IfErr result (λ e. e ≢ ApplyFault.NoMemory → features_fault place change.now edit.old ≡ Some e) }
 {
+    let ids = change.remove.len().saturating_add(change.put.len());
+    edit.expect(alloc, ids).map_err(no_memory)?;
     remove_all(alloc, edit, place, change.remove.as_slice())?;
     put_all(alloc, edit, place, change.put.as_slice())
+}
+
+/// The edit so far, or one of the layer that begins.
+fn begun_edit<'a>(
+    alloc: Global,
+    layer: &'a ChunkedLayer,
+    edit: Option<LayerEdit<'a>>,
+) -> Result<LayerEdit<'a>, ApplyFault>
+    requires { IsLayer layer.now }
+    ensures begun { IfOk result (λ begun. begun ≡ unwrap_or edit.entry layer.now.features) }
+    ensures refused { IfErr result (λ e. e ≡ ApplyFault.NoMemory) }
+{
+    match edit {
+        Some(edit) => Ok(edit),
+        None => LayerEdit::of(alloc, layer).map_err(no_memory),
+    }
+}
+
+/// A share of the layer with the features of the edit.
+fn share_edited(
+    alloc: Global,
+    layer: &ChunkedLayer,
+    edit: &LayerEdit<'_>,
+) -> Result<Arc<ChunkedLayer>, NoMemory>
+    requires { length edit.now ≤ most_features }
+    ensures { IfOk result (λ shared. arc_value shared ≡ record { name = layer.now.name; features = edit.now }) }
+{
+    let segments = edit.segments(alloc)?;
+    let name = Text::of(alloc, layer.name())?;
+    let changed = ChunkedLayer::of(alloc, name, segments)?;
+    Ok(Arc::new(alloc, changed)?)
 }
 
 /// A layer of a snapshot, and its features under edit from its first change on. Contracts see it as the
@@ -127,12 +161,7 @@ impl<'a> EditedLayer<'a> {
         ensures refused { IfErr result (λ e. e ≢ ApplyFault.NoMemory → features_fault place change.now self.old.features ≡ Some e) }
     {
         let layer: &'a ChunkedLayer = self.shared;
-        let mut edit = match self.edit.take() {
-            Some(edit) => edit,
-            None => LayerEdit::of(alloc, layer).map_err(no_memory)?,
-        };
-        let ids = change.remove.len().saturating_add(change.put.len());
-        edit.expect(alloc, ids).map_err(no_memory)?;
+        let mut edit = begun_edit(alloc, layer, self.edit.take())?;
         make_change(alloc, &mut edit, place, change)?;
         self.edit = Some(edit);
         Ok(())
@@ -149,9 +178,7 @@ impl<'a> EditedLayer<'a> {
             Some(edit) => {
                 // Read for what `len` ensures: the ids are distinct, and there are at most 1,000,000 features.
                 let _count = edit.len();
-                let name = Text::of(alloc, layer.name())?;
-                let changed = ChunkedLayer::of(alloc, name, edit.chunks(alloc)?)?;
-                Ok(Arc::new(alloc, changed)?)
+                share_edited(alloc, layer, edit)
             }
         }
     }

@@ -7,24 +7,27 @@ ghost use Rattle.plain_shapes.specs.Data.{ids_of, IsLayer};
 ghost use Rattle.plain_shapes.specs.Features.{Feature};
 ghost use Rattle.plain_shapes.specs.Limits.{most_features};
 ghost use Rattle.data_versions.specs.Near.{place_of};
+ghost use Rattle.data_versions.specs.inner.Chunks.{joined};
 ghost use Rattle.data_versions.specs.inner.Ids.{numbered, IsIdTable};
 
 use crate::chunk::Chunk;
 use crate::chunked::ChunkedLayer;
 use crate::id_spans::IdSpans;
+use crate::segment::Segment;
 use farm_base::NoMemory;
 use geo_model::Feature;
 use std::alloc::Global;
 use std::marker::Model;
+use std::sync::Arc;
 
-/// The most ids of a layer that are found by walks that look into each chunk. To read between which ids those
-/// of each chunk lie takes about as long as so many walks.
+/// The most ids of a layer that are found by walks that look into each segment. To read between which ids those
+/// of each segment lie takes about as long as so many walks.
 const MOST_WALKS: usize = 4;
 
 /// A table of all ids takes for each feature of the layer about as long as so many looks at a span.
 const LOOKS_OF_TABLE: usize = 64;
 
-/// Finds the features of a layer by their ids: by walks over its chunks, which pass over those that cannot have
+/// Finds the features of a layer by their ids: by walks over its segments, which pass over those that cannot have
 /// the id once several are to be found, or by a table of all ids, once so many are to be found that the walks
 /// would take longer. Contracts see it as the layer.
 #[derive(Drop)]
@@ -63,15 +66,27 @@ fn number(pairs: &mut Vec<(u64, u32)>, features: &[Feature]) -> Result<(), NoMem
     Ok(())
 }
 
+/// Adds the ids of the features of the chunks, each with its place.
+fn number_chunks(pairs: &mut Vec<(u64, u32)>, chunks: &[Arc<Chunk>]) -> Result<(), NoMemory>
+    requires { length pairs.old.items + length (joined chunks.now) ≤ most_features }
+    ensures { OnOk result (pairs.new.items ≡ pairs.old.items ++ numbered (length pairs.old.items) (joined chunks.now)) }
+{
+    for shared in chunks {
+        let chunk: &Chunk = shared;
+        number(pairs, chunk.features())?;
+    }
+    Ok(())
+}
+
 /// The ids of the layer's features in the features' order, each with its place.
 fn numbered_ids(alloc: Global, layer: &ChunkedLayer) -> Result<Vec<(u64, u32)>, NoMemory>
     requires { length layer.now.features ≤ most_features }
     ensures { IfOk result (λ pairs. pairs.items ≡ numbered 0 layer.now.features) }
 {
     let mut pairs = Vec::with_capacity(alloc, layer.len() as usize)?;
-    for shared in layer.chunks() {
-        let chunk: &Chunk = shared;
-        number(&mut pairs, chunk.features())?;
+    for shared in layer.segments() {
+        let segment: &Segment = shared;
+        number_chunks(&mut pairs, segment.chunks())?;
     }
     Ok(pairs)
 }
@@ -134,7 +149,7 @@ impl<'a> LayerFinder<'a> {
         self.layer.name() == name
     }
 
-    /// Reads between which ids those of each chunk lie, once. Told is about how many looks at a span one id
+    /// Reads between which ids those of each segment lie, once. Told is about how many looks at a span one id
     /// takes.
     fn looks(&mut self, alloc: Global) -> Result<usize, NoMemory>
         ensures { self.new ≡ self.old }

@@ -6,9 +6,9 @@ ghost use Rattle.data_versions.specs.inner.Slots.{standing, whole};
 ghost use Rattle.data_versions.specs.inner.Chunks.{joined};
 
 use crate::builder::ChunkBuilder;
-use crate::chunk::Chunk;
-use crate::chunk_slots::ChunkSlots;
-use crate::chunked::{ChunkedLayer, last_start};
+use crate::chunked::ChunkedLayer;
+use crate::segment::{Segment, last_start};
+use crate::segment_slots::SegmentSlots;
 use crate::slot_list::SlotList;
 use farm_base::NoMemory;
 use geo_model::Feature;
@@ -16,12 +16,12 @@ use std::alloc::Global;
 use std::marker::Model;
 use std::sync::Arc;
 
-/// The slots of a layer: those of each chunk's features, chunk by chunk, and then those of the features that
-/// were added. Contracts see them as the list of what stands in them.
+/// The slots of a layer: those of each segment's features, segment by segment, and then those of the features
+/// that were added. Contracts see them as the list of what stands in them.
 #[derive(Drop)]
 pub(crate) struct LayerSlots<'a> {
-    pieces: Vec<ChunkSlots<'a>>,
-    /// The number of each chunk's first slot.
+    pieces: Vec<SegmentSlots<'a>>,
+    /// The number of each segment's first slot.
     starts: &'a [u32],
     /// How many features there were from the start.
     count: usize,
@@ -40,16 +40,16 @@ impl<'a> Model for LayerSlots<'a> {
     ghost invariant = { λ s. IsLaid s.starts.now s.count s.pieces.items };
 }
 
-/// The slots of each chunk.
-fn whole_pieces<'a>(
+/// The slots of each segment.
+fn whole_segments<'a>(
     alloc: Global,
-    chunks: &'a [Arc<Chunk>],
-) -> Result<Vec<ChunkSlots<'a>>, NoMemory>
-    ensures { IfOk result (λ pieces. pieces.items ≡ map whole chunks.now) }
+    segments: &'a [Arc<Segment>],
+) -> Result<Vec<SegmentSlots<'a>>, NoMemory>
+    ensures { IfOk result (λ pieces. pieces.items ≡ map whole segments.now) }
 {
-    let mut pieces = Vec::with_capacity(alloc, chunks.len())?;
-    for chunk in chunks {
-        pieces.push(ChunkSlots::of(chunk))?;
+    let mut pieces = Vec::with_capacity(alloc, segments.len())?;
+    for segment in segments {
+        pieces.push(SegmentSlots::of(segment))?;
     }
     Ok(pieces)
 }
@@ -60,9 +60,9 @@ impl<'a> LayerSlots<'a> {
         requires { length layer.now.features ≤ most_features }
         ensures { IfOk result (λ slots. slots ≡ map Some layer.now.features) }
     {
-        let (chunks, starts) = layer.begun();
+        let (segments, starts) = layer.begun();
         Ok(LayerSlots {
-            pieces: whole_pieces(alloc, chunks)?,
+            pieces: whole_segments(alloc, segments)?,
             starts,
             count: layer.len() as usize,
             added: SlotList::new(alloc),
@@ -77,7 +77,7 @@ impl<'a> LayerSlots<'a> {
             return self.added.get(i - self.count);
         }
         let at = last_start(self.starts, i as u32);
-        self.pieces[at].get(i - self.starts[at] as usize)
+        self.pieces[at].get(i as u32 - self.starts[at])
     }
 
     /// Puts this into the slot of the number.
@@ -96,7 +96,7 @@ impl<'a> LayerSlots<'a> {
             return Ok(());
         }
         let at = last_start(self.starts, i as u32);
-        let place = i - self.starts[at] as usize;
+        let place = i as u32 - self.starts[at];
         let piece = &mut self.pieces[at];
         piece.set(alloc, place, feature)?;
         Ok(())
@@ -121,10 +121,10 @@ impl<'a> LayerSlots<'a> {
         Ok(())
     }
 
-    /// What stands in the slots, in chunks. A chunk in which nothing changed is shared, but for the last one,
+    /// What stands in the slots, in segments. A segment in which nothing changed is shared, but for the last one,
     /// which is filled up where slots were added.
-    pub(crate) fn chunks(&self, alloc: Global) -> Result<Vec<Arc<Chunk>>, NoMemory>
-        ensures { IfOk result (λ chunks. joined chunks.items ≡ standing self.now) }
+    pub(crate) fn segments(&self, alloc: Global) -> Result<Vec<Arc<Segment>>, NoMemory>
+        ensures { IfOk result (λ segments. joined segments.items ≡ standing self.now) }
     {
         let mut builder = ChunkBuilder::new(alloc);
         for (place, piece) in self.pieces.iter().enumerate() {
@@ -132,6 +132,6 @@ impl<'a> LayerSlots<'a> {
             piece.put_into(alloc, may_share, &mut builder)?;
         }
         self.added.copy_into(alloc, &mut builder)?;
-        builder.into_chunks(alloc)
+        builder.into_segments(alloc)
     }
 }

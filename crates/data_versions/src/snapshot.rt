@@ -1,15 +1,18 @@
 //! Data that never change and are shared: snapshots, and views of their layers.
 ghost use Rattle.std.specs.Prelude.{◌≡◌, ◌≤◌, IfOk, All, length, slice_get};
 ghost use Rattle.std.specs.Option.{option_copied};
+ghost use Rattle.std.specs.Arc.{arc_value};
 ghost use Rattle.plain_shapes.specs.Data.{IsLayer, IsDataset, layer_named, features_named};
 ghost use Rattle.data_versions.specs.Near.{place_of, next_near, all_near};
 ghost use Rattle.data_versions.specs.Shared.{shared_layers};
+ghost use Rattle.data_versions.specs.inner.Chunks.{joined};
 ghost use Rattle.plain_shapes.specs.Limits.{most_features};
 
 use crate::builder::ChunkBuilder;
 use crate::chunked::ChunkedLayer;
 use crate::dataset::{Dataset, Layer};
 use crate::finder::LayerFinder;
+use crate::segment::Segment;
 use crate::walk::NearFeatures;
 use farm_base::NoMemory;
 use geo_model::{Bounds, Feature};
@@ -17,8 +20,8 @@ use std::alloc::Global;
 use std::marker::Model;
 use std::sync::Arc;
 
-/// A dataset that never changes and is shared, each layer in chunks of at most 256 features. Contracts see it
-/// as the list of its layers.
+/// A dataset that never changes and is shared, each layer in segments of chunks of at most 256 features. Contracts
+/// see it as the list of its layers.
 #[derive(Drop)]
 pub struct Snapshot {
     layers: Arc<Vec<Arc<ChunkedLayer>>>,
@@ -37,26 +40,36 @@ impl Model for Snapshot {
     ghost invariant = { λ s. IsDataset (shared_layers s.layers.value.items) };
 }
 
-/// Puts the features of the layer into chunks.
-fn chunk_layer(alloc: Global, layer: Layer) -> Result<ChunkedLayer, NoMemory>
-    requires { length layer.features ≤ most_features }
-    ensures { IfOk result (λ chunked. chunked ≡ layer) }
+/// The segments of the features.
+fn segments_of(alloc: Global, features: Vec<Feature>) -> Result<Vec<Arc<Segment>>, NoMemory>
+    ensures { IfOk result (λ segments. joined segments.items ≡ features.items) }
 {
     let mut builder = ChunkBuilder::new(alloc);
-    for feature in layer.features {
+    for feature in features {
         builder.add(alloc, feature)?;
     }
-    ChunkedLayer::of(alloc, layer.name, builder.into_chunks(alloc)?)
+    builder.into_segments(alloc)
 }
 
-/// Puts each layer of the data into chunks, and shares it.
+/// Puts the features of the layer into segments, and shares it.
+fn share_layer(alloc: Global, layer: Layer) -> Result<Arc<ChunkedLayer>, NoMemory>
+    requires { length layer.features ≤ most_features }
+    ensures { IfOk result (λ shared. arc_value shared ≡ layer) }
+{
+    let name = layer.name;
+    let segments = segments_of(alloc, layer.features)?;
+    let chunked = ChunkedLayer::of(alloc, name, segments)?;
+    Ok(Arc::new(alloc, chunked)?)
+}
+
+/// Puts the features of each layer of the data into segments, and shares it.
 fn share_layers(alloc: Global, layers: Vec<Layer>) -> Result<Vec<Arc<ChunkedLayer>>, NoMemory>
     requires { All IsLayer layers.items }
     ensures { IfOk result (λ shared. shared_layers shared.items ≡ layers.items) }
 {
     let mut shared = Vec::with_capacity(alloc, layers.len())?;
     for layer in layers {
-        shared.push(Arc::new(alloc, chunk_layer(alloc, layer)?)?)?;
+        shared.push(share_layer(alloc, layer)?)?;
     }
     Ok(shared)
 }
@@ -213,6 +226,6 @@ impl LayerView<'_> {
             east,
             south,
         };
-        NearFeatures::of(self.layer.chunks(), around)
+        NearFeatures::of(self.layer.segments(), around)
     }
 }

@@ -95,7 +95,7 @@ fn finish(
 /// order: a put with a known id replaces in place, and one with a new id goes last. Else the first fault in
 /// order: a change of a layer that there is not, a removal of an id that its layer does not hold (any more),
 /// a put that would give its layer more than 1,000,000 features. The old snapshot stays as it is, and the two
-/// share the layers, and in a changed layer the chunks, in which nothing changed.
+/// share the layers, and in a changed layer the segments and chunks, in which nothing changed.
 #[tactic(auto, using(crate::proofs::Named::dataset_kept))]
 pub fn apply(alloc: Global, old: &Snapshot, update: &Update) -> Result<Snapshot, ApplyFault>
     ensures done { IfOk result (λ next. update_result update.now old.now ≡ Ok next) }

@@ -5,21 +5,21 @@ ghost use Rattle.data_versions.specs.inner.Cells.{IsWide};
 ghost use Rattle.data_versions.specs.inner.Chunks.{joined};
 
 use crate::chunk::{Chunk, find_near};
+use crate::segment::Segment;
 use geo_model::{Bounds, Feature};
 use std::marker::Model;
 use std::sync::Arc;
 
-/// What is left of a walk over the features of a layer near a rectangle: features of the chunk in which the
-/// walk is, and the chunks after it. Contracts see it as the list of the features to come. Its calls take no
-/// memory.
+/// What is left of a walk over the features of chunks near a rectangle: features of the chunk in which the walk
+/// is, and the chunks after it. Contracts see it as the list of the features to come.
 #[derive(Drop)]
-pub struct NearFeatures<'a> {
+struct NearInChunks<'a> {
     around: Bounds,
     here: &'a [Feature],
     later: &'a [Arc<Chunk>],
 }
 
-impl<'a> Model for NearFeatures<'a> {
+impl<'a> Model for NearInChunks<'a> {
     ghost use Rattle.std.specs.Prelude.{◌≤◌, ◌++◌, List, length};
     ghost use Rattle.plain_shapes.specs.Features.{Feature};
     ghost use Rattle.data_versions.specs.Near.{all_near};
@@ -33,13 +33,13 @@ impl<'a> Model for NearFeatures<'a> {
     ghost invariant = { λ n. IsWide n.around × (length n.here.now ≤ 256) };
 }
 
-impl<'a> NearFeatures<'a> {
+impl<'a> NearInChunks<'a> {
     /// The walk over the features of the chunks.
-    pub(crate) fn of(chunks: &'a [Arc<Chunk>], around: Bounds) -> NearFeatures<'a>
+    fn of(chunks: &'a [Arc<Chunk>], around: Bounds) -> NearInChunks<'a>
         requires { IsWide around }
         ensures { result ≡ all_near (joined chunks.now) around }
     {
-        NearFeatures {
+        NearInChunks {
             around,
             here: &[],
             later: chunks,
@@ -47,7 +47,7 @@ impl<'a> NearFeatures<'a> {
     }
 
     /// The next feature, or none exactly where none is left.
-    pub fn next(&mut self) -> Option<&'a Feature>
+    fn next(&mut self) -> Option<&'a Feature>
         ensures { MatchOption result ((self.old ≡ []) × (self.new ≡ [])) (λ f. self.old ≡ f.now ∷ self.new) }
     {
         let mut here = self.here;
@@ -66,6 +66,60 @@ impl<'a> NearFeatures<'a> {
             let chunk: &'a Chunk = first;
             here = chunk.near_part(self.around);
             later = rest;
+        }
+    }
+}
+
+/// What is left of a walk over the features of a layer near a rectangle: those of the segment in which the walk
+/// is, and the segments after it. Contracts see it as the list of the features to come. Its calls take no memory.
+#[derive(Drop)]
+pub struct NearFeatures<'a> {
+    around: Bounds,
+    here: NearInChunks<'a>,
+    later: &'a [Arc<Segment>],
+}
+
+impl<'a> Model for NearFeatures<'a> {
+    ghost use Rattle.std.specs.Prelude.{◌++◌, List};
+    ghost use Rattle.plain_shapes.specs.Features.{Feature};
+    ghost use Rattle.data_versions.specs.Near.{all_near};
+    ghost use Rattle.data_versions.specs.inner.Cells.{IsWide};
+    ghost use Rattle.data_versions.specs.inner.Chunks.{joined};
+
+    ghost Value = { List Feature };
+
+    ghost view = { λ n. n.here ++ all_near (joined n.later.now) n.around };
+
+    ghost invariant = { λ n. IsWide n.around };
+}
+
+impl<'a> NearFeatures<'a> {
+    /// The walk over the features of the segments.
+    pub(crate) fn of(segments: &'a [Arc<Segment>], around: Bounds) -> NearFeatures<'a>
+        requires { IsWide around }
+        ensures { result ≡ all_near (joined segments.now) around }
+    {
+        NearFeatures {
+            around,
+            here: NearInChunks::of(&[], around),
+            later: segments,
+        }
+    }
+
+    /// The next feature, or none exactly where none is left.
+    pub fn next(&mut self) -> Option<&'a Feature>
+        ensures { MatchOption result ((self.old ≡ []) × (self.new ≡ [])) (λ f. self.old ≡ f.now ∷ self.new) }
+    {
+        loop {
+            if let Some(feature) = self.here.next() {
+                return Some(feature);
+            }
+            let Some((first, rest)) = self.later.split_first() else {
+                return None;
+            };
+            let segment: &'a Segment = first;
+            self.here = NearInChunks::of(segment.chunks(), self.around);
+            self.later = rest;
         }
     }
 }

@@ -5,15 +5,15 @@ use Rattle.data_versions.proofs.chunked.starts_of.Goals as goal
 
 pub overflow_add-count : goal.overflow_add-count
 overflow_add-count c =
-    let size : length c.features.result.now ≡ length (arc_value c.shared-item.result) = ap length (c.features.ensures.value ∙ c.deref-chunk.ensures) in
-    let more = length_more c.args.chunks.now c.loop-shared.shared-index c.shared-item.result c.loop-shared-test.true c.shared-item.is in
-    omega (arith, size, more, joined_within c.args.chunks.now (c.loop-shared.shared-index + 1), c.loop-shared.invariant.count)
+    let size : c.len-count.result ≡ length (arc_value c.shared-item.result) = c.len-count.ensures.count ∙ ap length c.deref-segment.ensures in
+    let more = length_more c.args.segments.now c.loop-shared.shared-index c.shared-item.result c.loop-shared-test.true c.shared-item.is in
+    omega (arith, size, more, joined_within c.args.segments.now (c.loop-shared.shared-index + 1), c.loop-shared.invariant.count)
 
 pub loop-shared-preserved : goal.loop-shared-preserved
 loop-shared-preserved c =
-    let size : length c.features.result.now ≡ length (arc_value c.shared-item.result) = ap length (c.features.ensures.value ∙ c.deref-chunk.ensures) in
-    let more = length_more c.args.chunks.now c.loop-shared.shared-index c.shared-item.result c.loop-shared-test.true c.shared-item.is in record {
-      starts = rw c.in_ok-push.ensures.items (starts_more c.loop-shared.starts.items c.args.chunks.now c.loop-shared.shared-index c.loop-shared.count
+    let size : c.len-count.result ≡ length (arc_value c.shared-item.result) = c.len-count.ensures.count ∙ ap length c.deref-segment.ensures in
+    let more = length_more c.args.segments.now c.loop-shared.shared-index c.shared-item.result c.loop-shared-test.true c.shared-item.is in record {
+      starts = rw c.in_ok-push.ensures.items (starts_more c.loop-shared.starts.items c.args.segments.now c.loop-shared.shared-index c.loop-shared.count
           c.loop-shared-test.true c.loop-shared.invariant.starts c.loop-shared.invariant.count);
       count = omega (arith, size, more, c.loop-shared.invariant.count);
     }

@@ -1,4 +1,4 @@
--- The features of the chunks so far are numbered.
+-- The features of the segments so far are numbered.
 use Rattle.std.proofs.Common.{◌≡◌, take}
 use Rattle.data_versions.specs.inner.Ids.{numbered}
 use Rattle.data_versions.specs.inner.Chunks.{joined}

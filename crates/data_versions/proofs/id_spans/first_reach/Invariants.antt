@@ -1,4 +1,4 @@
--- No id up to the chunk before `low` reaches so far.
+-- No id up to the segment before `low` reaches so far.
 use Rattle.std.proofs.Common.{◌≤◌, ◌<◌, ◌-◌, length, slice_index}
 use Rattle.data_versions.proofs.id_spans.first_reach.Given as goal
 

@@ -1,4 +1,4 @@
--- The chunks so far have their numbers, and no id among them is past the greatest.
+-- The segments so far have their numbers, and no id among them is past the greatest.
 use Rattle.std.proofs.Common.{◌≡◌, ◌<◌, ℕ, take}
 use Rattle.std.specs.Prelude.{None}
 use Rattle.data_versions.specs.Near.{place_of}
@@ -8,6 +8,6 @@ use Rattle.data_versions.proofs.id_spans.reach_of.Given as goal
 
 abbrev pub invariant-loop-shared : goal.invariant-loop-shared
 invariant-loop-shared l = record {
-  table : IsReach l.reach.items (take l.shared-index l.chunks);
-  all : (id : ℕ) → l.greatest < id → place_of (joined (take l.shared-index l.chunks)) id ≡ None;
+  table : IsReach l.reach.items (take l.shared-index l.segments);
+  all : (id : ℕ) → l.greatest < id → place_of (joined (take l.shared-index l.segments)) id ≡ None;
 }

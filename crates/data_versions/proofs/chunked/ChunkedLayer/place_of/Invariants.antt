@@ -1,4 +1,4 @@
--- The id stands in no chunk so far.
+-- The id stands in no segment so far.
 use Rattle.std.proofs.Common.{◌≡◌, ◌+◌, length, take, drop}
 use Rattle.std.specs.Prelude.{option_map}
 use Rattle.data_versions.specs.Near.{place_of}
@@ -7,4 +7,4 @@ use Rattle.data_versions.proofs.chunked.ChunkedLayer.place_of.Given as goal
 
 abbrev pub invariant-loop-at : goal.invariant-loop-at
 invariant-loop-at l =
-    place_of (joined l.self-inside.chunks.items) l.id ≡ option_map (λ k. length (joined (take l.at l.self-inside.chunks.items)) + k) (place_of (joined (drop l.at l.self-inside.chunks.items)) l.id)
+    place_of (joined l.self-inside.segments.items) l.id ≡ option_map (λ k. length (joined (take l.at l.self-inside.segments.items)) + k) (place_of (joined (drop l.at l.self-inside.segments.items)) l.id)

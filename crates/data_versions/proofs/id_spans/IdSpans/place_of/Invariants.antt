@@ -1,4 +1,4 @@
--- No feature of the chunks so far has the id.
+-- No feature of the segments so far has the id.
 use Rattle.std.proofs.Common.{◌≡◌, ◌+◌, length, take, drop}
 use Rattle.std.specs.Prelude.{option_map}
 use Rattle.data_versions.specs.Near.{place_of}
@@ -7,5 +7,5 @@ use Rattle.data_versions.proofs.id_spans.IdSpans.place_of.Given as goal
 
 abbrev pub invariant-loop-at : goal.invariant-loop-at
 invariant-loop-at l =
-    place_of (joined l.self-inside.chunks.now) l.id
-    ≡ option_map (λ k. length (joined (take l.at l.self-inside.chunks.now)) + k) (place_of (joined (drop l.at l.self-inside.chunks.now)) l.id)
+    place_of (joined l.self-inside.segments.now) l.id
+    ≡ option_map (λ k. length (joined (take l.at l.self-inside.segments.now)) + k) (place_of (joined (drop l.at l.self-inside.segments.now)) l.id)

@@ -1,6 +1,6 @@
--- The chunk sought is not before `low`, and before `high`.
+-- The part sought is not before `low`, and before `high`.
 use Rattle.std.proofs.Common.{◌≤◌, ◌<◌, ◌-◌, length, slice_index}
-use Rattle.data_versions.proofs.chunked.last_start.Given as goal
+use Rattle.data_versions.proofs.segment.last_start.Given as goal
 
 abbrev pub invariant-loop-high : goal.invariant-loop-high
 invariant-loop-high l = record {

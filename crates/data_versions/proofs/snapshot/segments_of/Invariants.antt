@@ -1,6 +1,6 @@
 -- The features so far are in the builder.
 use Rattle.std.proofs.Common.{◌≡◌}
-use Rattle.data_versions.proofs.snapshot.chunk_layer.Given as goal
+use Rattle.data_versions.proofs.snapshot.segments_of.Given as goal
 
 abbrev pub invariant-loop-feature : goal.invariant-loop-feature
 invariant-loop-feature l = l.builder ≡ l.yielded

@@ -5,7 +5,7 @@ use Rattle.data_versions.specs.Near.{is_near, all_near}
 use Rattle.data_versions.specs.inner.Chunks.{joined}
 use Rattle.data_versions.proofs.Finds.{walk_finds, walk_goes_on, walk_ends}
 use Rattle.data_versions.proofs.Places.{joined_none}
-use Rattle.data_versions.proofs.walk.NearFeatures.next.Goals as goal
+use Rattle.data_versions.proofs.walk.NearInChunks.next.Goals as goal
 
 pub returns-in-Some : goal.returns-in-Some
 returns-in-Some c =
