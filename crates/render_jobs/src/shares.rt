@@ -241,12 +241,9 @@ impl Share {
     pub fn first(alloc: Global, plan: FarmPlan) -> Result<Share, NoMemory>
         ensures { IfOk result (λ s. s ≡ record { plan = plan; data_now = plan.dataset }) }
     {
-        let setup = Setup::of(alloc, plan)?;
+        let setup = Arc::new(alloc, Setup::of(alloc, plan)?)?;
         let snapshot = setup.first.share()?;
-        Ok(Share {
-            setup: Arc::new(alloc, setup)?,
-            snapshot,
-        })
+        Ok(Share { setup, snapshot })
     }
 
     /// One more share of the same.
