@@ -280,16 +280,22 @@ def leaves_nothing():
 
 
 def is_refused_a_file(program):
-    """A saved farm that may not be read is not taken for none, and stays."""
+    """A saved farm that may not be read is not taken for none, and stays. All else is open to the farm: the file alone stops it."""
+    user = 65534 if os.geteuid() == 0 else None
     os.chmod(SAVED, 0)
     try:
-        farm = Farm(program, user=65534 if os.geteuid() == 0 else None, resume=True)
+        for folder in (".", "tiles") if user else ():
+            os.chown(folder, user, -1)
+        farm = Farm(program, user=user, resume=True)
         try:
             same("the end at a closed file", farm.ended(), (6, "", wanted.STORE_FAILED))
         finally:
             farm.kill()
     except PermissionError:  # a folder above that nobody may enter
         pass
+    finally:
+        for folder in (".", "tiles") if user else ():
+            os.chown(folder, 0, -1)
     os.chmod(SAVED, 0o644)
     has_saved()
 
