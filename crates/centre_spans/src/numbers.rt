@@ -1,5 +1,5 @@
 //! Whole numbers: distances and roots.
-ghost use Rattle.std.specs.Prelude.{◌≡◌, ℕ, ◌+◌, ◌-◌, ◌*◌, ◌/◌, ◌%◌, ◌<◌, ◌≤◌, min, true, nat_le};
+ghost use Rattle.std.specs.Prelude.{◌≡◌, ℕ, ◌+◌, ◌-◌, ◌*◌, ◌/◌, ◌%◌, ◌^◌, ◌<◌, ◌≤◌, max, min, true, nat_le};
 
 /// How far two numbers are apart.
 pub fn apart(m: u64, n: u64) -> u64
@@ -61,7 +61,9 @@ fn is_root(guess: u64, n: u64) -> bool
 
 /// `2^64` over a number, rounded down, or hardly less: by it a product stands for a division by that number, which
 /// takes many times as long.
-pub fn inverse(divisor: u64) -> u64 {
+pub fn inverse(divisor: u64) -> u64
+    ensures { result ≡ (2 ^ 64 - 1) / max divisor 1 }
+{
     u64::MAX / divisor.max(1)
 }
 

@@ -27,6 +27,11 @@ impl From<NoMemory> for StoreFault {
 }
 
 impl From<FileFault> for StoreFault {
+    ghost use Rattle.farm_base.specs.declared.files.FileFault.TheVariants as file;
+    ghost use Rattle.tile_store.specs.declared.stores.StoreFault.TheVariants.{Failed, NoMemory};
+
+    ghost from_gives = { λ fault e. (fault ≡ file.Failed → e ≡ Failed) × (fault ≡ file.NoMemory → e ≡ NoMemory) };
+
     fn from(fault: FileFault) -> StoreFault {
         match fault {
             FileFault::Failed => StoreFault::Failed,
