@@ -18,7 +18,7 @@ use Rattle.geo_model.specs.Bounds.{InBounds, Within, IsLeastBounds, meets}
 use Rattle.geo_model.specs.Shapes.{parts_of, least_points, is_none, IsShape}
 use Rattle.data_versions.specs.Near.{is_near}
 use Rattle.data_versions.specs.declared.cells.CellBlock.{CellBlock}
-use Rattle.data_versions.specs.inner.Cells.{scale_of, part_of, row_of, column_of, Marks, HasCells, IsWide, box_of, IsBoxed, IsMarked, IsChunk}
+use Rattle.data_versions.specs.inner.Cells.{scale_of, part_of, row_of, column_of, Marks, HasCells, IsWide, box_of, IsBoxed, IsMarked, IsPlaced}
 use Rattle.std.proofs.Math.Nat.{div-mul-le_self, mul-div-le, mul-le-mul_right}
 use Rattle.std.proofs.lemmas.Nat.{le-div}
 use Rattle.std.proofs.lemmas.Nat.Bits.{bit_at_or, bit_at_and, bit_at-lt, bit_at-zero, bit_at_set_same}
@@ -133,13 +133,13 @@ untrue true h = absurd (h refl)
 untrue false h = refl
 
 -- where the features' cells and the rectangle's share no bit, no feature is near
-pub none_near : (box around : Bounds) (cells : List ℕ) (block : CellBlock) (features : List Feature) → IsChunk box cells features → IsWide around → Marks box around block
+pub none_near : (box around : Bounds) (cells : List ℕ) (block : CellBlock) (features : List Feature) → IsPlaced box cells features → IsWide around → Marks box around block
     → ((k : ℕ) → block.top ≤ k → k ≤ block.bottom → bit_and (get_or cells k 0) block.columns ≡ 0) → All (λ f. is_near around f ≡ false) features
-none_near box around cells block features chunk wide marks none = λ k d small.
+none_near box around cells block features placed wide marks none = λ k d small.
     untrue (is_near around (get_or features k d)) (λ near.
-    let boxed : IsBoxed box (get_or features k d) = chunk.boxed k d small in
+    let boxed : IsBoxed box (get_or features k d) = placed.boxed k d small in
     let facts = tested (box_of (get_or features k d)) around near in
-    common_point box (box_of (get_or features k d)) around cells block boxed.wide wide boxed.within (chunk.marked k d small) marks none facts.0 facts.1 facts.2 facts.3)
+    common_point box (box_of (get_or features k d)) around cells block boxed.wide wide boxed.within (placed.marked k d small) marks none facts.0 facts.1 facts.2 facts.3)
 
 -- ---- one more feature
 

@@ -4,6 +4,7 @@ ghost use Rattle.std.specs.Arc.{arc_value};
 ghost use Rattle.data_versions.specs.inner.Chunks.{joined};
 
 use crate::chunk::{Chunk, MOST_TOGETHER};
+use crate::placed::PlacedChunk;
 use crate::segment::Segment;
 use crate::segment_builder::SegmentBuilder;
 use farm_base::NoMemory;
@@ -31,13 +32,13 @@ impl Model for ChunkBuilder {
     ghost invariant = { λ p. length p.loose.items ≤ 256 };
 }
 
-/// A share of a new chunk of the features.
-fn new_chunk(alloc: Global, features: Vec<Feature>) -> Result<Arc<Chunk>, NoMemory>
+/// A new chunk of the features.
+fn new_chunk(alloc: Global, features: Vec<Feature>) -> Result<PlacedChunk, NoMemory>
     requires { length features.items ≤ 256 }
     ensures { IfOk result (λ chunk. arc_value chunk ≡ features.items) }
 {
     let chunk = Chunk::of(alloc, features)?;
-    Ok(Arc::new(alloc, chunk)?)
+    Ok(PlacedChunk::of(Arc::new(alloc, chunk)?))
 }
 
 /// Makes the loose features a chunk, if there are any.
@@ -95,11 +96,11 @@ impl ChunkBuilder {
     }
 
     /// Puts the features of a chunk at the end; the chunk is shared.
-    pub(crate) fn share_chunk(&mut self, alloc: Global, chunk: &Arc<Chunk>) -> Result<(), NoMemory>
+    pub(crate) fn share_chunk(&mut self, alloc: Global, chunk: &PlacedChunk) -> Result<(), NoMemory>
         ensures { OnOk result (self.new ≡ self.old ++ arc_value chunk.now) }
     {
         close(alloc, &mut self.chunks, &mut self.loose)?;
-        let shared = Arc::try_clone(chunk)?;
+        let shared = chunk.share()?;
         self.chunks.add(alloc, shared)
     }
 

@@ -1,16 +1,14 @@
 //! Which of the 64 by 64 cells of a box a rectangle meets, and the cells that many rectangles meet: of each row a
 //! number, in which the bit of a column stands for a cell. Rows are counted from the north, columns from the west.
-ghost use Rattle.std.specs.Prelude.{◌≡◌, ◌≤◌, ◌<◌, ◌+◌, ◌*◌, ◌/◌, ℕ, false, length, slice_set, slice_index_or, bit_and, bit_or, IfOk};
+ghost use Rattle.std.specs.Prelude.{◌≡◌, ◌≤◌, ◌<◌, ◌+◌, ◌*◌, ◌/◌, ℕ, false, length, slice_set, slice_index_or, bit_and, bit_or};
 ghost use Rattle.std.specs.Int.{bit_at};
 ghost use Rattle.data_versions.specs.inner.Cells.{scale_of, Marks};
 
-use farm_base::NoMemory;
 use geo_model::Bounds;
-use std::alloc::Global;
 use std::marker::Model;
 
-// How many rows of cells a box has.
-const CELL_ROWS: usize = 64;
+/// How many rows of cells a box has.
+pub(crate) const CELL_ROWS: usize = 64;
 
 // Into so many shares a cell is cut on its way across or down.
 const SHARES_OF_CELL: u64 = 68_719_476_736;
@@ -87,6 +85,17 @@ impl Grid {
         }
     }
 
+    /// The same cells once more.
+    pub(crate) fn again(&self) -> Grid
+        ensures { result ≡ self.now }
+    {
+        Grid {
+            bounds: self.bounds,
+            across: self.across,
+            down: self.down,
+        }
+    }
+
     /// The cells that the part meets.
     pub(crate) fn cells_met(&self, part: Bounds) -> CellBlock
         ensures marks { Marks self.now part result }
@@ -115,30 +124,22 @@ impl Grid {
     }
 }
 
-/// No cells.
-pub(crate) fn no_cells(alloc: Global) -> Result<Vec<u64>, NoMemory>
-    ensures { IfOk result (λ v. length v.items ≡ 64) }
-{
-    let rows = vec![in alloc; 0u64; CELL_ROWS]?;
-    Ok(rows)
-}
-
 // Adds columns to those of a row.
-fn add_columns(rows: &mut Vec<u64>, row: u32, columns: u64)
-    requires { row < length rows.old.items }
-    ensures { rows.new.items ≡ slice_set rows.old.items row (bit_or (slice_index_or rows.old.items row 0) columns) }
+fn add_columns(rows: &mut [u64; CELL_ROWS], row: u32, columns: u64)
+    requires { row < length rows.old }
+    ensures { rows.new ≡ slice_set rows.old row (bit_or (slice_index_or rows.old row 0) columns) }
 {
     let k = row as usize;
     rows[k] |= columns;
 }
 
 /// Adds the cells of a block.
-pub(crate) fn add_block(rows: &mut Vec<u64>, block: CellBlock)
-    requires rows { length rows.old.items ≡ 64 }
+pub(crate) fn add_block(rows: &mut [u64; CELL_ROWS], block: CellBlock)
+    requires rows { length rows.old ≡ 64 }
     requires few { block.bottom < 64 }
-    ensures rows { length rows.new.items ≡ 64 }
-    ensures kept { (k i : ℕ) → bit_at (slice_index_or rows.old.items k 0) i ≡ 1 → bit_at (slice_index_or rows.new.items k 0) i ≡ 1 }
-    ensures added { (k i : ℕ) → block.top ≤ k → k ≤ block.bottom → bit_at block.columns i ≡ 1 → bit_at (slice_index_or rows.new.items k 0) i ≡ 1 }
+    ensures rows { length rows.new ≡ 64 }
+    ensures kept { (k i : ℕ) → bit_at (slice_index_or rows.old k 0) i ≡ 1 → bit_at (slice_index_or rows.new k 0) i ≡ 1 }
+    ensures added { (k i : ℕ) → block.top ≤ k → k ≤ block.bottom → bit_at block.columns i ≡ 1 → bit_at (slice_index_or rows.new k 0) i ≡ 1 }
 {
     for row in block.top..block.bottom + 1 {
         add_columns(rows, row, block.columns);
@@ -146,7 +147,7 @@ pub(crate) fn add_block(rows: &mut Vec<u64>, block: CellBlock)
 }
 
 /// Whether one of the cells of a block is there.
-pub(crate) fn has_one(rows: &[u64], block: CellBlock) -> bool
+pub(crate) fn has_one(rows: &[u64; CELL_ROWS], block: CellBlock) -> bool
     requires rows { length rows.now ≡ 64 }
     requires few { block.bottom < 64 }
     ensures { result ≡ false → (k : ℕ) → block.top ≤ k → k ≤ block.bottom → bit_and (slice_index_or rows.now k 0) block.columns ≡ 0 }

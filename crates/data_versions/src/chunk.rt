@@ -1,14 +1,11 @@
-//! A chunk of a layer: features that snapshots share, with the box and the cells in which they lie.
-ghost use Rattle.std.specs.Prelude.{◌≡◌, ◌≤◌, ◌<◌, ◌+◌, ℕ, List, None, false, length, drop, position, slice_get, All, IfSome, IfOk};
+//! A chunk of a layer: features that snapshots share.
+ghost use Rattle.std.specs.Prelude.{◌≡◌, ◌≤◌, ◌<◌, ◌+◌, ℕ, List, None, length, drop, position, slice_get, IfSome, IfOk};
 ghost use Rattle.std.specs.Option.{option_copied};
-ghost use Rattle.data_versions.specs.Near.{place_of, is_near, all_near};
-ghost use Rattle.data_versions.specs.inner.Cells.{IsWide, IsBoxed, IsMarked, box_of};
+ghost use Rattle.data_versions.specs.Near.{place_of, is_near};
 ghost use Rattle.data_versions.specs.inner.Chunks.{IsIndex};
 ghost use Rattle.data_versions.specs.inner.Ids.{IsOutside, IsSpan};
 ghost use Rattle.plain_shapes.specs.Features.{Feature};
-ghost use Rattle.geo_model.specs.Bounds.{Within};
 
-use crate::cells::{Grid, add_block, has_one, no_cells};
 use farm_base::NoMemory;
 use geo_model::{Bounds, Feature};
 use std::alloc::Global;
@@ -18,22 +15,18 @@ use std::marker::Model;
 /// their segment.
 pub(crate) const MOST_TOGETHER: usize = 64;
 
-/// Features, their ids from least to greatest, the first and the last of these, the box that holds the features,
-/// and those of its 64 by 64 cells that they meet: 8 bytes a feature, by which a chunk of features that lie far
-/// apart is passed over too. Contracts see it as the list of its features.
+/// Features, their ids from least to greatest, and the first and the last of these. Contracts see it as the list
+/// of its features.
 #[derive(Drop)]
 pub(crate) struct Chunk {
     features: Vec<Feature>,
     ids: Vec<u64>,
     span: (u64, u64),
-    grid: Grid,
-    cells: Vec<u64>,
 }
 
 impl Model for Chunk {
-    ghost use Rattle.std.specs.Prelude.{List};
+    ghost use Rattle.std.specs.Prelude.{◌≤◌, List, length};
     ghost use Rattle.plain_shapes.specs.Features.{Feature};
-    ghost use Rattle.data_versions.specs.inner.Cells.{IsChunk};
     ghost use Rattle.data_versions.specs.inner.Chunks.{IsIndex};
     ghost use Rattle.data_versions.specs.inner.Ids.{IsSpan};
 
@@ -41,58 +34,7 @@ impl Model for Chunk {
 
     ghost view = { λ c. c.features.items };
 
-    ghost invariant = { λ c. IsChunk c.grid c.cells.items c.features.items × IsIndex c.ids.items c.features.items × IsSpan c.span c.features.items };
-}
-
-/// The least rectangle that holds both.
-fn widened(bounds: Bounds, part: Bounds) -> Bounds
-    ensures old { Within bounds result }
-    ensures new { Within part result }
-{
-    Bounds {
-        west: bounds.west.min(part.west),
-        north: bounds.north.min(part.north),
-        east: bounds.east.max(part.east),
-        south: bounds.south.max(part.south),
-    }
-}
-
-/// The feature's box, which holds a point.
-fn wide_box(feature: &Feature) -> Bounds
-    ensures value { result ≡ box_of feature.now }
-    ensures wide { IsWide result }
-{
-    // Read for what `geometry` ensures: the shape has a point.
-    let _geometry = feature.geometry();
-    feature.bbox()
-}
-
-/// The box that holds all the features.
-fn box_around(features: &[Feature]) -> Bounds
-    ensures { All (IsBoxed result) features.now }
-{
-    let mut bounds = Bounds {
-        west: u32::MAX,
-        north: u32::MAX,
-        east: 0,
-        south: 0,
-    };
-    for feature in features {
-        bounds = widened(bounds, wide_box(feature));
-    }
-    bounds
-}
-
-/// The cells of the box that the features meet.
-fn cells_under(alloc: Global, grid: &Grid, features: &[Feature]) -> Result<Vec<u64>, NoMemory>
-    ensures rows { IfOk result (λ v. length v.items ≡ 64) }
-    ensures marked { IfOk result (λ v. All (IsMarked grid.now v.items) features.now) }
-{
-    let mut cells = no_cells(alloc)?;
-    for feature in features {
-        add_block(&mut cells, grid.cells_met(feature.bbox()));
-    }
-    Ok(cells)
+    ghost invariant = { λ c. (length c.features.items ≤ 256) × IsIndex c.ids.items c.features.items × IsSpan c.span c.features.items };
 }
 
 /// The ids of the features from least to greatest.
@@ -126,14 +68,10 @@ impl Chunk {
     {
         let ids = sorted_ids(alloc, features.as_slice())?;
         let span = span_of(&ids);
-        let grid = Grid::of(box_around(features.as_slice()));
-        let cells = cells_under(alloc, &grid, features.as_slice())?;
         Ok(Chunk {
             features,
             ids,
             span,
-            grid,
-            cells,
         })
     }
 
@@ -152,40 +90,15 @@ impl Chunk {
         self.features.get(i)
     }
 
-    /// Whether a cell of the features meets the rectangle; if none does, no feature is near it.
-    fn may_meet(&self, around: Bounds) -> bool
-        requires { IsWide around }
-        ensures { result ≡ false → All (λ f. is_near around f ≡ false) self.now }
-    {
-        has_one(self.cells.as_slice(), self.grid.cells_met(around))
-    }
-
     /// How many steps past the place `from` the first feature near the rectangle stands.
     pub(crate) fn next_near(&self, from: usize, around: Bounds) -> Option<usize>
-        requires { IsWide around }
         ensures steps { result ≡ position (is_near around) (drop from self.now) }
         ensures bound { IfSome result (λ steps. from + steps < length self.now) }
     {
-        if !self.may_meet(around) {
-            return None;
-        }
         if from >= self.features.len() {
             return None;
         }
         find_near(&self.features[from..], around)
-    }
-
-    /// The features among which all that are near the rectangle are: none where no cell meets it.
-    pub(crate) fn near_part(&self, around: Bounds) -> &[Feature]
-        requires { IsWide around }
-        ensures near { all_near result.now around ≡ all_near self.now around }
-        ensures few { length result.now ≤ 256 }
-    {
-        if self.may_meet(around) {
-            self.features.as_slice()
-        } else {
-            &[]
-        }
     }
 
     /// The least and the greatest id of the features; no feature has an id outside of these.

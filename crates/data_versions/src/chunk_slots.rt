@@ -4,19 +4,19 @@ ghost use Rattle.std.specs.Option.{option_copied};
 ghost use Rattle.data_versions.specs.inner.Slots.{standing, whole};
 
 use crate::builder::ChunkBuilder;
-use crate::chunk::{Chunk, MOST_TOGETHER};
+use crate::chunk::MOST_TOGETHER;
+use crate::placed::PlacedChunk;
 use crate::slot_list::SlotList;
 use farm_base::NoMemory;
 use geo_model::Feature;
 use std::alloc::Global;
 use std::marker::Model;
-use std::sync::Arc;
 
 /// The slots of a chunk's features, which it has of its own from the first change on. Contracts see them as
 /// the list of what stands in them.
 #[derive(Drop)]
 pub(crate) struct ChunkSlots<'a> {
-    chunk: &'a Arc<Chunk>,
+    chunk: &'a PlacedChunk,
     own: Option<SlotList<'a>>,
 }
 
@@ -32,7 +32,7 @@ impl<'a> Model for ChunkSlots<'a> {
 
 impl<'a> ChunkSlots<'a> {
     /// A slot for each feature of the chunk, which stands there.
-    pub(crate) fn of(chunk: &'a Arc<Chunk>) -> ChunkSlots<'a>
+    pub(crate) fn of(chunk: &'a PlacedChunk) -> ChunkSlots<'a>
         ensures { result ≡ whole chunk.now }
     {
         ChunkSlots { chunk, own: None }
@@ -45,7 +45,7 @@ impl<'a> ChunkSlots<'a> {
         match &self.own {
             Some(own) => own.get(i),
             None => {
-                let chunk: &'a Chunk = self.chunk;
+                let chunk = self.chunk.chunk();
                 chunk.get(i)
             }
         }
@@ -62,7 +62,7 @@ impl<'a> ChunkSlots<'a> {
         ensures done { OnOk result (self.new ≡ set self.old i (option_copied feature.entry)) }
         ensures same { OnErr result (self.new ≡ self.old) }
     {
-        let chunk: &'a Chunk = self.chunk;
+        let chunk = self.chunk.chunk();
         let mut own = match self.own.take() {
             Some(own) => own,
             None => SlotList::of(alloc, chunk.features())?,
@@ -85,7 +85,7 @@ impl<'a> ChunkSlots<'a> {
         if let Some(own) = &self.own {
             return own.copy_into(alloc, builder);
         }
-        let chunk: &Chunk = self.chunk;
+        let chunk = self.chunk.chunk();
         let features = chunk.features();
         if may_share || features.len() == MOST_TOGETHER {
             return builder.share_chunk(alloc, self.chunk);

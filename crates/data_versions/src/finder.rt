@@ -10,15 +10,14 @@ ghost use Rattle.data_versions.specs.Near.{place_of};
 ghost use Rattle.data_versions.specs.inner.Chunks.{joined};
 ghost use Rattle.data_versions.specs.inner.Ids.{numbered, IsIdTable};
 
-use crate::chunk::Chunk;
 use crate::chunked::ChunkedLayer;
 use crate::id_spans::IdSpans;
+use crate::placed::PlacedChunk;
 use crate::segment::Segment;
 use farm_base::NoMemory;
 use geo_model::Feature;
 use std::alloc::Global;
 use std::marker::Model;
-use std::sync::Arc;
 
 /// The most ids of a layer that are found by walks that look into each segment. To read between which ids those
 /// of each segment lie takes about as long as so many walks.
@@ -67,12 +66,12 @@ fn number(pairs: &mut Vec<(u64, u32)>, features: &[Feature]) -> Result<(), NoMem
 }
 
 /// Adds the ids of the features of the chunks, each with its place.
-fn number_chunks(pairs: &mut Vec<(u64, u32)>, chunks: &[Arc<Chunk>]) -> Result<(), NoMemory>
+fn number_chunks(pairs: &mut Vec<(u64, u32)>, chunks: &[PlacedChunk]) -> Result<(), NoMemory>
     requires { length pairs.old.items + length (joined chunks.now) ≤ most_features }
     ensures { OnOk result (pairs.new.items ≡ pairs.old.items ++ numbered (length pairs.old.items) (joined chunks.now)) }
 {
-    for shared in chunks {
-        let chunk: &Chunk = shared;
+    for placed in chunks {
+        let chunk = placed.chunk();
         number(pairs, chunk.features())?;
     }
     Ok(())

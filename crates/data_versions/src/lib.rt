@@ -12,6 +12,7 @@ mod edited;
 mod finder;
 mod id_spans;
 mod layer_slots;
+mod placed;
 mod segment;
 mod segment_builder;
 mod segment_slots;

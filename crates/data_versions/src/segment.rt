@@ -8,18 +8,17 @@ ghost use Rattle.data_versions.specs.inner.Cells.{IsWide};
 ghost use Rattle.data_versions.specs.inner.Chunks.{joined, IsStarts};
 ghost use Rattle.data_versions.specs.inner.Ids.{IsSpan};
 
-use crate::chunk::Chunk;
+use crate::placed::PlacedChunk;
 use farm_base::NoMemory;
 use geo_model::{Bounds, Feature};
 use std::alloc::Global;
 use std::marker::Model;
-use std::sync::Arc;
 
 /// Features in chunks that are shared, and the least and the greatest of their ids. Contracts see it as the list
 /// of its features.
 #[derive(Drop)]
 pub(crate) struct Segment {
-    chunks: Vec<Arc<Chunk>>,
+    chunks: Vec<PlacedChunk>,
     starts: Vec<u32>,
     count: u32,
     span: (u64, u64),
@@ -39,15 +38,15 @@ impl Model for Segment {
 }
 
 /// The place of each chunk's first feature, and how many features there are.
-fn starts_of(alloc: Global, chunks: &[Arc<Chunk>]) -> Result<(Vec<u32>, u32), NoMemory>
+fn starts_of(alloc: Global, chunks: &[PlacedChunk]) -> Result<(Vec<u32>, u32), NoMemory>
     requires { length (joined chunks.now) ≤ most_features }
     ensures starts { IfOk result (λ r. IsStarts r.0.items chunks.now) }
     ensures count { IfOk result (λ r. r.1 ≡ length (joined chunks.now)) }
 {
     let mut starts = Vec::with_capacity(alloc, chunks.len())?;
     let mut count = 0u32;
-    for shared in chunks {
-        let chunk: &Chunk = shared;
+    for placed in chunks {
+        let chunk = placed.chunk();
         starts.push(count)?;
         count += chunk.features().len() as u32;
     }
@@ -55,13 +54,13 @@ fn starts_of(alloc: Global, chunks: &[Arc<Chunk>]) -> Result<(Vec<u32>, u32), No
 }
 
 /// The least and the greatest id of the chunks; no feature has an id outside of these.
-fn span_of(chunks: &[Arc<Chunk>]) -> (u64, u64)
+fn span_of(chunks: &[PlacedChunk]) -> (u64, u64)
     ensures { IsSpan result (joined chunks.now) }
 {
     let mut least = u64::MAX;
     let mut greatest = 0;
-    for shared in chunks {
-        let chunk: &Chunk = shared;
+    for placed in chunks {
+        let chunk = placed.chunk();
         let span = chunk.id_span();
         least = span.0.min(least);
         greatest = span.1.max(greatest);
@@ -92,7 +91,7 @@ pub(crate) fn last_start(starts: &[u32], place: u32) -> usize
 
 impl Segment {
     /// The segment of the chunks.
-    pub(crate) fn of(alloc: Global, chunks: Vec<Arc<Chunk>>) -> Result<Segment, NoMemory>
+    pub(crate) fn of(alloc: Global, chunks: Vec<PlacedChunk>) -> Result<Segment, NoMemory>
         requires { length (joined chunks.items) ≤ most_features }
         ensures { IfOk result (λ s. s ≡ joined chunks.items) }
     {
@@ -107,14 +106,14 @@ impl Segment {
     }
 
     /// The chunks in order.
-    pub(crate) fn chunks(&self) -> &[Arc<Chunk>]
+    pub(crate) fn chunks(&self) -> &[PlacedChunk]
         ensures { joined result.now ≡ self.now }
     {
         self.chunks.as_slice()
     }
 
     /// The chunks in order, and the place of each one's first feature.
-    pub(crate) fn begun(&self) -> (&[Arc<Chunk>], &[u32])
+    pub(crate) fn begun(&self) -> (&[PlacedChunk], &[u32])
         ensures features { joined result.0.now ≡ self.now }
         ensures starts { IsStarts result.1.now result.0.now }
     {
@@ -144,7 +143,7 @@ impl Segment {
             return None;
         }
         let at = last_start(self.starts.as_slice(), i);
-        let chunk: &Chunk = &self.chunks[at];
+        let chunk = self.chunks[at].chunk();
         chunk.get((i - self.starts[at]) as usize)
     }
 
@@ -153,8 +152,8 @@ impl Segment {
         ensures place { result ≡ place_of self.now id }
         ensures bound { IfSome result (λ place. place < length self.now) }
     {
-        for (at, shared) in self.chunks.iter().enumerate() {
-            let chunk: &Chunk = shared;
+        for (at, placed) in self.chunks.iter().enumerate() {
+            let chunk = placed.chunk();
             if let Some(place) = chunk.place_of(id) {
                 return Some(self.starts[at] + place as u32);
             }
@@ -185,10 +184,10 @@ impl Segment {
             return None;
         }
         for at in last_start(self.starts.as_slice(), from)..self.chunks.len() {
-            let chunk: &Chunk = &self.chunks[at];
+            let placed = &self.chunks[at];
             let start = self.starts[at];
             let skip = from.saturating_sub(start);
-            if let Some(steps) = chunk.next_near(skip as usize, around) {
+            if let Some(steps) = placed.next_near(skip as usize, around) {
                 return Some(start + skip + steps as u32);
             }
         }

@@ -3,7 +3,7 @@ ghost use Rattle.std.specs.Prelude.{◌≡◌, ◌≤◌, ◌++◌, [], true, le
 ghost use Rattle.std.specs.Arc.{arc_value};
 ghost use Rattle.data_versions.specs.inner.Chunks.{joined};
 
-use crate::chunk::Chunk;
+use crate::placed::PlacedChunk;
 use crate::segment::Segment;
 use farm_base::NoMemory;
 use std::alloc::Global;
@@ -18,7 +18,7 @@ const FULL_SEGMENT: usize = 2_048;
 /// Chunks that are to become a segment, and how many features they have. Contracts see the features.
 #[derive(Drop)]
 struct OpenSegment {
-    chunks: Vec<Arc<Chunk>>,
+    chunks: Vec<PlacedChunk>,
     count: usize,
 }
 
@@ -35,12 +35,11 @@ impl Model for OpenSegment {
 }
 
 /// How many features the chunk has.
-fn count_of(chunk: &Arc<Chunk>) -> usize
+fn count_of(chunk: &PlacedChunk) -> usize
     ensures value { result ≡ length (arc_value chunk.now) }
     ensures few { result ≤ 256 }
 {
-    let chunk: &Chunk = chunk;
-    chunk.features().len()
+    chunk.chunk().features().len()
 }
 
 impl OpenSegment {
@@ -69,7 +68,7 @@ impl OpenSegment {
     }
 
     /// Puts a chunk at the end.
-    fn push(&mut self, chunk: Arc<Chunk>) -> Result<(), NoMemory>
+    fn push(&mut self, chunk: PlacedChunk) -> Result<(), NoMemory>
         requires { length self.old ≤ 2048 }
         ensures { OnOk result (self.new ≡ self.old ++ arc_value chunk) }
     {
@@ -149,7 +148,7 @@ impl SegmentBuilder {
     }
 
     /// Puts the features of a chunk at the end.
-    pub(crate) fn add(&mut self, alloc: Global, chunk: Arc<Chunk>) -> Result<(), NoMemory>
+    pub(crate) fn add(&mut self, alloc: Global, chunk: PlacedChunk) -> Result<(), NoMemory>
         ensures { OnOk result (self.new ≡ self.old ++ arc_value chunk) }
     {
         make_room(alloc, &mut self.segments, &mut self.open)?;

@@ -5,8 +5,8 @@ ghost use Rattle.std.specs.Arc.{arc_value};
 ghost use Rattle.data_versions.specs.inner.Slots.{standing, whole};
 
 use crate::builder::ChunkBuilder;
-use crate::chunk::Chunk;
 use crate::chunk_slots::ChunkSlots;
+use crate::placed::PlacedChunk;
 use crate::segment::{Segment, last_start};
 use farm_base::NoMemory;
 use geo_model::Feature;
@@ -38,7 +38,7 @@ impl<'a> Model for OwnSlots<'a> {
 /// The slots of each chunk.
 fn whole_chunks<'a>(
     alloc: Global,
-    chunks: &'a [Arc<Chunk>],
+    chunks: &'a [PlacedChunk],
 ) -> Result<Vec<ChunkSlots<'a>>, NoMemory>
     ensures { IfOk result (λ pieces. pieces.items ≡ map whole chunks.now) }
 {

@@ -4,7 +4,8 @@ ghost use Rattle.data_versions.specs.Near.{all_near};
 ghost use Rattle.data_versions.specs.inner.Cells.{IsWide};
 ghost use Rattle.data_versions.specs.inner.Chunks.{joined};
 
-use crate::chunk::{Chunk, find_near};
+use crate::chunk::find_near;
+use crate::placed::PlacedChunk;
 use crate::segment::Segment;
 use geo_model::{Bounds, Feature};
 use std::marker::Model;
@@ -16,7 +17,7 @@ use std::sync::Arc;
 struct NearInChunks<'a> {
     around: Bounds,
     here: &'a [Feature],
-    later: &'a [Arc<Chunk>],
+    later: &'a [PlacedChunk],
 }
 
 impl<'a> Model for NearInChunks<'a> {
@@ -35,7 +36,7 @@ impl<'a> Model for NearInChunks<'a> {
 
 impl<'a> NearInChunks<'a> {
     /// The walk over the features of the chunks.
-    fn of(chunks: &'a [Arc<Chunk>], around: Bounds) -> NearInChunks<'a>
+    fn of(chunks: &'a [PlacedChunk], around: Bounds) -> NearInChunks<'a>
         requires { IsWide around }
         ensures { result ≡ all_near (joined chunks.now) around }
     {
@@ -63,8 +64,7 @@ impl<'a> NearInChunks<'a> {
                 self.later = &[];
                 return None;
             };
-            let chunk: &'a Chunk = first;
-            here = chunk.near_part(self.around);
+            here = first.near_part(self.around);
             later = rest;
         }
     }

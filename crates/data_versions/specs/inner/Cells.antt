@@ -1,4 +1,4 @@
--- The 64 by 64 cells of a box, and the features of a chunk that its box and its cells speak of.
+-- The 64 by 64 cells of a box, and the features of a chunk that lie in them.
 use Rattle.std.specs.Prelude.{◌≡◌, ℕ, ◌+◌, ◌-◌, ◌*◌, ◌/◌, ◌≤◌, List, length, get_or, All}
 use Rattle.std.specs.Int.{bit_at}
 use Rattle.plain_world.specs.declared.world.Point.{Point}
@@ -51,9 +51,8 @@ pub record IsBoxed (box : Bounds) (f : Feature) : Type 0 where
 abbrev pub IsMarked : Bounds → List ℕ → Feature → Type 0
 IsMarked box cells f = HasCells box (box_of f) cells
 
--- at most 256 features, each of which lies in the box and in the cells, which have 64 rows
-pub record IsChunk (box : Bounds) (cells : List ℕ) (features : List Feature) : Type 0 where
-  pub few : length features ≤ 256
+-- each of the features lies in the box and in the cells, which have 64 rows
+pub record IsPlaced (box : Bounds) (cells : List ℕ) (features : List Feature) : Type 0 where
   pub rows : length cells ≡ 64
   pub boxed : All (IsBoxed box) features
   pub marked : All (IsMarked box cells) features

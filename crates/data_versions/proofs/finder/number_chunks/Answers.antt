@@ -9,19 +9,19 @@ pub number-requires : goal.number-requires
 number-requires c =
     let old = c.args.pairs.now.items in
     let chunks = c.args.chunks.now in
-    let i = c.loop-shared.shared-index in
+    let i = c.loop-placed.placed-index in
     omega (
       arith,
-      ap length c.loop-shared.invariant,
+      ap length c.loop-placed.invariant,
       length-append old (numbered (length old) (joined (take i chunks))),
       length-numbered (length old) (joined (take i chunks)),
-      ap length (c.features.ensures.value ∙ c.deref-chunk.ensures),
-      length_more chunks i c.shared-item.result c.loop-shared-test.true c.shared-item.is,
+      ap length (c.features.ensures.value ∙ c.chunk.ensures),
+      length_more chunks i c.placed-item.result c.loop-placed-test.true c.placed-item.is,
       joined_within chunks (i + 1),
       c.requires,
     )
 
-pub loop-shared-preserved : goal.loop-shared-preserved
-loop-shared-preserved c =
-    chunk_numbered c.loop-shared.pairs.items c.number.new.pairs.items c.args.pairs.now.items c.args.chunks.now c.loop-shared.shared-index c.shared-item.result c.features.result.now
-    c.loop-shared-test.true c.shared-item.is (c.features.ensures.value ∙ c.deref-chunk.ensures) c.loop-shared.invariant c.in_ok-number.ensures
+pub loop-placed-preserved : goal.loop-placed-preserved
+loop-placed-preserved c =
+    chunk_numbered c.loop-placed.pairs.items c.number.new.pairs.items c.args.pairs.now.items c.args.chunks.now c.loop-placed.placed-index c.placed-item.result c.features.result.now
+    c.loop-placed-test.true c.placed-item.is (c.features.ensures.value ∙ c.chunk.ensures) c.loop-placed.invariant c.in_ok-number.ensures

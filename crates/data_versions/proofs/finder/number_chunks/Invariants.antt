@@ -4,5 +4,5 @@ use Rattle.data_versions.specs.inner.Ids.{numbered}
 use Rattle.data_versions.specs.inner.Chunks.{joined}
 use Rattle.data_versions.proofs.finder.number_chunks.Given as goal
 
-abbrev pub invariant-loop-shared : goal.invariant-loop-shared
-invariant-loop-shared l = l.pairs.items ≡ l.fn.pairs.items ++ numbered (length l.fn.pairs.items) (joined (take l.shared-index l.chunks))
+abbrev pub invariant-loop-placed : goal.invariant-loop-placed
+invariant-loop-placed l = l.pairs.items ≡ l.fn.pairs.items ++ numbered (length l.fn.pairs.items) (joined (take l.placed-index l.chunks))

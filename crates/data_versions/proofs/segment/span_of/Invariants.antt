@@ -4,5 +4,5 @@ use Rattle.data_versions.specs.inner.Chunks.{joined}
 use Rattle.data_versions.specs.inner.Ids.{IsSpan}
 use Rattle.data_versions.proofs.segment.span_of.Given as goal
 
-abbrev pub invariant-loop-shared : goal.invariant-loop-shared
-invariant-loop-shared l = IsSpan (l.least, l.greatest) (joined (take l.shared-index l.chunks))
+abbrev pub invariant-loop-placed : goal.invariant-loop-placed
+invariant-loop-placed l = IsSpan (l.least, l.greatest) (joined (take l.placed-index l.chunks))

@@ -9,14 +9,14 @@ loop-at-init c = near_begins (is_near c.args.around) c.self.inside.starts.items 
 
 pub overflow_cast-result : goal.overflow_cast-result
 overflow_cast-result c =
-    let small = rw c.deref-chunk.ensures at c.in-Some.ensures.bound in
+    let small = c.in-Some.ensures.bound in
     let ends = ends_within c.self.inside.starts.items c.self.inside.count c.self.inside.chunks.items c.loop-at.at c.index-start.result.now c.index.result.now
     c.self.invariant.0 (omega (arith, c.loop-at-test.true, c.len-at-end.ensures)) c.index-start.ensures c.index.ensures in
     omega (arith, small, ends)
 
 pub overflow_add-result-in-Some : goal.overflow_add-result-in-Some
 overflow_add-result-in-Some c =
-    let small = rw c.deref-chunk.ensures at c.in-Some.ensures.bound in
+    let small = c.in-Some.ensures.bound in
     let ends = ends_within c.self.inside.starts.items c.self.inside.count c.self.inside.chunks.items c.loop-at.at c.index-start.result.now c.index.result.now
     c.self.invariant.0 (omega (arith, c.loop-at-test.true, c.len-at-end.ensures)) c.index-start.ensures c.index.ensures in
     omega (arith, small, ends)
@@ -26,7 +26,7 @@ returns-in-Some-clause-place c =
     let inside : c.loop-at.at < length c.self.inside.chunks.items = omega (arith, c.loop-at-test.true, c.len-at-end.ensures) in
     let skip = c.saturating_sub-skip.ensures in
     let start = start_is c.self.inside.starts.items c.self.inside.count c.self.inside.chunks.items c.loop-at.at c.index-start.result.now c.self.invariant.0 inside c.index-start.ensures in
-    let found = rw (c.deref-chunk.ensures, skip) at (sym c.next_near.ensures.steps ∙ c.in-Some.is) in
+    let found = rw skip at (sym c.next_near.ensures.steps ∙ c.in-Some.is) in
     rw (skip, ← c.self.view_is) (sym (near_here (is_near c.args.around) c.self.inside.chunks.items c.loop-at.at c.args.from c.index-start.result.now c.in-Some.steps c.index.result.now _
     inside c.index.ensures start c.loop-at.invariant found))
 
@@ -35,13 +35,13 @@ loop-at-preserved c =
     let inside : c.loop-at.at < length c.self.inside.chunks.items = omega (arith, c.loop-at-test.true, c.len-at-end.ensures) in
     let skip = c.saturating_sub-skip.ensures in
     let start = start_is c.self.inside.starts.items c.self.inside.count c.self.inside.chunks.items c.loop-at.at c.index-start.result.now c.self.invariant.0 inside c.index-start.ensures in
-    let none = rw (c.deref-chunk.ensures, skip) at (sym c.next_near.ensures.steps ∙ c.in_default.is) in
+    let none = rw skip at (sym c.next_near.ensures.steps ∙ c.in_default.is) in
     near_later (is_near c.args.around) c.self.inside.chunks.items c.loop-at.at c.args.from c.index-start.result.now c.index.result.now _
     inside c.index.ensures start c.loop-at.invariant none
 
 pub returns-in-Some-clause-bound : goal.returns-in-Some-clause-bound
 returns-in-Some-clause-bound c =
-    let small = rw c.deref-chunk.ensures at c.in-Some.ensures.bound in
+    let small = c.in-Some.ensures.bound in
     let ends = ends_in c.self.inside.starts.items c.self.inside.count c.self.inside.chunks.items c.loop-at.at c.index-start.result.now c.index.result.now
     c.self.invariant.0 (omega (arith, c.loop-at-test.true, c.len-at-end.ensures)) c.index-start.ensures c.index.ensures in
     rw (← c.self.view_is) (omega (arith, small, ends))

@@ -32,7 +32,7 @@ loop-place-preserved c =
       left = c.loop-place.invariant.left
           ∙ ap (λ cs. all_near (c.loop-place.here.now ++ joined cs) around) c.in-Some-split_first.ensures.cases.0
           ∙ walk_goes_on (is_near around) c.loop-place.here.now c.near_part-here.result.now (arc_value c.in-Some-split_first.first.now) (joined c.in-Some-split_first.rest.now)
-          (sym c.find_near.ensures.place ∙ c.in_default.is) (rw c.deref-chunk.ensures at c.near_part-here.ensures.near);
+          (sym c.find_near.ensures.place ∙ c.in_default.is) c.near_part-here.ensures.near;
       kept = c.loop-place.invariant.kept;
       few = c.near_part-here.ensures.few;
     }

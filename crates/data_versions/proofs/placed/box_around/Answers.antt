@@ -1,5 +1,5 @@
 use Rattle.data_versions.proofs.Bits.{boxed_more}
-use Rattle.data_versions.proofs.chunk.box_around.Goals as goal
+use Rattle.data_versions.proofs.placed.box_around.Goals as goal
 
 pub loop-feature-preserved : goal.loop-feature-preserved
 loop-feature-preserved c = boxed_more c.args.features.now c.loop-feature.feature-index c.feature-item.result c.loop-feature.bounds c.widened-bounds.result
