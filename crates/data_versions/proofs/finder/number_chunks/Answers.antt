@@ -15,7 +15,7 @@ number-requires c =
       ap length c.loop-placed.invariant,
       length-append old (numbered (length old) (joined (take i chunks))),
       length-numbered (length old) (joined (take i chunks)),
-      ap length (c.features.ensures.value ∙ c.chunk.ensures),
+      ap length (c.features.ensures.value ∙ c.chunk-chunk.ensures),
       length_more chunks i c.placed-item.result c.loop-placed-test.true c.placed-item.is,
       joined_within chunks (i + 1),
       c.requires,
@@ -24,4 +24,4 @@ number-requires c =
 pub loop-placed-preserved : goal.loop-placed-preserved
 loop-placed-preserved c =
     chunk_numbered c.loop-placed.pairs.items c.number.new.pairs.items c.args.pairs.now.items c.args.chunks.now c.loop-placed.placed-index c.placed-item.result c.features.result.now
-    c.loop-placed-test.true c.placed-item.is (c.features.ensures.value ∙ c.chunk.ensures) c.loop-placed.invariant c.in_ok-number.ensures
+    c.loop-placed-test.true c.placed-item.is (c.features.ensures.value ∙ c.chunk-chunk.ensures) c.loop-placed.invariant c.in_ok-number.ensures

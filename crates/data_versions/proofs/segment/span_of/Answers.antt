@@ -15,7 +15,7 @@ pub loop-placed-preserved : goal.loop-placed-preserved
 loop-placed-preserved c = span_more c.args.chunks.now c.loop-placed.placed-index c.placed-item.result c.id_span-span.result
     (c.loop-placed.least, c.loop-placed.greatest) (c.min-least.result, c.max-greatest.result)
     c.loop-placed-test.true c.placed-item.is c.min-least.ensures c.max-greatest.ensures c.loop-placed.invariant
-    (λ id out. ap (λ (fs : List Feature). place_of fs id) (sym c.chunk.ensures) ∙ c.id_span-span.ensures id out)
+    (λ id out. ap (λ (fs : List Feature). place_of fs id) (sym c.chunk-chunk.ensures) ∙ c.id_span-span.ensures id out)
 
 pub returns : goal.returns
 returns c = λ id out.

@@ -10,15 +10,15 @@ loop-at-init c = near_begins (is_near c.args.around) c.self.inside.starts.items 
 pub overflow_cast-result : goal.overflow_cast-result
 overflow_cast-result c =
     let small = c.in-Some.ensures.bound in
-    let ends = ends_within c.self.inside.starts.items c.self.inside.count c.self.inside.chunks.items c.loop-at.at c.index-start.result.now c.index.result.now
-    c.self.invariant.0 (omega (arith, c.loop-at-test.true, c.len-at-end.ensures)) c.index-start.ensures c.index.ensures in
+    let ends = ends_within c.self.inside.starts.items c.self.inside.count c.self.inside.chunks.items c.loop-at.at c.index-start.result.now c.index-placed.result.now
+    c.self.invariant.0 (omega (arith, c.loop-at-test.true, c.len-at-end.ensures)) c.index-start.ensures c.index-placed.ensures in
     omega (arith, small, ends)
 
 pub overflow_add-result-in-Some : goal.overflow_add-result-in-Some
 overflow_add-result-in-Some c =
     let small = c.in-Some.ensures.bound in
-    let ends = ends_within c.self.inside.starts.items c.self.inside.count c.self.inside.chunks.items c.loop-at.at c.index-start.result.now c.index.result.now
-    c.self.invariant.0 (omega (arith, c.loop-at-test.true, c.len-at-end.ensures)) c.index-start.ensures c.index.ensures in
+    let ends = ends_within c.self.inside.starts.items c.self.inside.count c.self.inside.chunks.items c.loop-at.at c.index-start.result.now c.index-placed.result.now
+    c.self.invariant.0 (omega (arith, c.loop-at-test.true, c.len-at-end.ensures)) c.index-start.ensures c.index-placed.ensures in
     omega (arith, small, ends)
 
 pub returns-in-Some-clause-place : goal.returns-in-Some-clause-place
@@ -27,8 +27,8 @@ returns-in-Some-clause-place c =
     let skip = c.saturating_sub-skip.ensures in
     let start = start_is c.self.inside.starts.items c.self.inside.count c.self.inside.chunks.items c.loop-at.at c.index-start.result.now c.self.invariant.0 inside c.index-start.ensures in
     let found = rw skip at (sym c.next_near.ensures.steps ∙ c.in-Some.is) in
-    rw (skip, ← c.self.view_is) (sym (near_here (is_near c.args.around) c.self.inside.chunks.items c.loop-at.at c.args.from c.index-start.result.now c.in-Some.steps c.index.result.now _
-    inside c.index.ensures start c.loop-at.invariant found))
+    rw (skip, ← c.self.view_is) (sym (near_here (is_near c.args.around) c.self.inside.chunks.items c.loop-at.at c.args.from c.index-start.result.now c.in-Some.steps c.index-placed.result.now _
+    inside c.index-placed.ensures start c.loop-at.invariant found))
 
 pub loop-at-preserved : goal.loop-at-preserved
 loop-at-preserved c =
@@ -36,12 +36,12 @@ loop-at-preserved c =
     let skip = c.saturating_sub-skip.ensures in
     let start = start_is c.self.inside.starts.items c.self.inside.count c.self.inside.chunks.items c.loop-at.at c.index-start.result.now c.self.invariant.0 inside c.index-start.ensures in
     let none = rw skip at (sym c.next_near.ensures.steps ∙ c.in_default.is) in
-    near_later (is_near c.args.around) c.self.inside.chunks.items c.loop-at.at c.args.from c.index-start.result.now c.index.result.now _
-    inside c.index.ensures start c.loop-at.invariant none
+    near_later (is_near c.args.around) c.self.inside.chunks.items c.loop-at.at c.args.from c.index-start.result.now c.index-placed.result.now _
+    inside c.index-placed.ensures start c.loop-at.invariant none
 
 pub returns-in-Some-clause-bound : goal.returns-in-Some-clause-bound
 returns-in-Some-clause-bound c =
     let small = c.in-Some.ensures.bound in
-    let ends = ends_in c.self.inside.starts.items c.self.inside.count c.self.inside.chunks.items c.loop-at.at c.index-start.result.now c.index.result.now
-    c.self.invariant.0 (omega (arith, c.loop-at-test.true, c.len-at-end.ensures)) c.index-start.ensures c.index.ensures in
+    let ends = ends_in c.self.inside.starts.items c.self.inside.count c.self.inside.chunks.items c.loop-at.at c.index-start.result.now c.index-placed.result.now
+    c.self.invariant.0 (omega (arith, c.loop-at-test.true, c.len-at-end.ensures)) c.index-start.ensures c.index-placed.ensures in
     rw (← c.self.view_is) (omega (arith, small, ends))
