@@ -11,8 +11,8 @@ use std::marker::Model;
 use std::mem;
 use std::sync::Arc;
 
-/// A segment that has so many features is full. An update that changes one of them counts its chunks, and each
-/// update counts all segments.
+/// A segment that has so many features is full. An update that changes one of them copies the boxes and the cells
+/// of its chunks, and each update counts all segments.
 const FULL_SEGMENT: usize = 2_048;
 
 /// Chunks that are to become a segment, and how many features they have. Contracts see the features.
