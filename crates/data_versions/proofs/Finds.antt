@@ -1,18 +1,14 @@
 -- Where the first one that passes stands in a list that is cut into parts.
-use Rattle.std.proofs.Common.{◌≡◌, ℕ, suc, ◌+◌, ◌-◌, ◌<◌, ◌≤◌, List, [], ◌∷◌, ◌++◌, length, drop, get_or, add-one, refl, sym, ap, ◌∙◌, inl, inr, arith}
-use Rattle.std.specs.Prelude.{◌⊎◌, Bool, true, false, not, cond, filter, nat_eq, nat_lt, position, All, Option, Some, None, option_map, Result, Ok, Err, is_err}
-use Rattle.std.specs.Ordering.{nat_cmp}
-use Rattle.std.specs.List.Sorted.{IsBinarySearchResult, IsNonDecreasingBy}
+use Rattle.std.proofs.Common.{◌≡◌, ℕ, suc, ◌+◌, ◌-◌, ◌<◌, ◌≤◌, List, [], ◌∷◌, ◌++◌, length, take, drop, get_or, add-one, refl, sym, ap, ◌∙◌, inl, inr, arith}
+use Rattle.std.specs.Prelude.{◌⊎◌, Bool, true, false, not, cond, filter, nat_eq, nat_lt, position, All, Option, Some, None, option_map, min, max}
 use Rattle.std.specs.List.{AllByRecursion, position_or_len}
 use Rattle.std.proofs.lemmas.Bool.Decides.{nat_tests}
 use Rattle.std.proofs.lemmas.List.Elements.{All-drop, filter-append, recursion_from_All}
-use Rattle.std.proofs.lemmas.Bool.{cases_lt}
-use Rattle.std.proofs.lemmas.List.{get_or_default}
-use Rattle.std.proofs.lemmas.List.Sorted.{searched, All-permutation, IsPermutation-sym, IsNonDecreasingBy-from_sort}
+use Rattle.std.proofs.lemmas.List.{take_more}
 use Rattle.plain_shapes.specs.Features.{Feature}
 use Rattle.plain_shapes.specs.Data.{ids_of}
 use Rattle.data_versions.specs.Near.{place_of}
-use Rattle.data_versions.specs.inner.Chunks.{IsIndex}
+use Rattle.data_versions.specs.inner.Ids.{IsOutside, IsSpan}
 
 first_cases : (b : Bool) (n m : ℕ) → cond (nat_lt (cond (not b) (1 + n) 0) (suc m)) (Some (cond (not b) (1 + n) 0)) None
     ≡ cond b (Some 0) (option_map (λ k. k + 1) (cond (nat_lt n m) (Some n) None))
@@ -121,41 +117,21 @@ no_place (f ∷ features) id each = position-cons (λ g. nat_eq g.id id) f featu
     flip : (a b : ℕ) → nat_eq a b ≡ nat_eq b a
     flip a b = grind (arith, nat_tests)
 
--- an id that a search by halving misses has no place
-pub missed : (ids : List ℕ) (features : List Feature) (id : ℕ) (r : Result ℕ ℕ) → IsIndex ids features → IsBinarySearchResult (λ q. nat_cmp q id) ids r → is_err r ≡ true
-    → place_of features id ≡ None
-missed ids features id (Ok i) index result e = cc
-missed ids features id (Err i) index result e =
-    let up : IsNonDecreasingBy (λ q. q) ids = IsNonDecreasingBy-from_sort (λ q. q) ids index.sorted in
-    let parts = searched ids id (Err i) result (λ j k before small. up j k 0 before small) in
-    let other : All (λ q. nat_eq id q ≡ false) ids = λ k d small. elim (cases_lt k i) [
-      | inl low ↦ below id (get_or ids k d) (rw (get_or_default ids k d 0 small) (parts.1 k low))
-      | inr high ↦ above id (get_or ids k d) (rw (get_or_default ids k d 0 small) (parts.2 k high small))
+-- an id below the least one of the features so far or above the greatest has no place
+pub span_with : (features : List Feature) (i : ℕ) (f : Feature) (old new : ℕ × ℕ) → i < length features → f ≡ get_or features i f → new.0 ≡ min f.id old.0
+    → new.1 ≡ max f.id old.1 → IsSpan old (take i features) → IsSpan new (take (i + 1) features)
+span_with features i f old new small at least greatest before = λ id out.
+    let out_old : IsOutside old id = elim out [
+      | inl below ↦ inl (omega (arith, below, least))
+      | inr above ↦ inr (omega (arith, above, greatest))
     ] in
-    no_place features id (recursion_from_All (λ q. nat_eq id q ≡ false) (ids_of features)
-    (All-permutation (λ q. nat_eq id q ≡ false) ids (ids_of features) (IsPermutation-sym (ids_of features) ids index.all) other))
-  where
-    below : (a b : ℕ) → b < a → nat_eq a b ≡ false
-    below a b h = grind (arith, nat_tests)
-
-    above : (a b : ℕ) → a < b → nat_eq a b ≡ false
-    above a b h = grind (arith, nat_tests)
-
--- an id below the least one or above the greatest has no place
-pub outside : (ids : List ℕ) (features : List Feature) (id low high : ℕ) → IsIndex ids features
-    → (0 < length ids → (low ≡ get_or ids 0 0) × (high ≡ get_or ids (length ids - 1) 0)) → (id < low) ⊎ (high < id) → place_of features id ≡ None
-outside ids features id low high index ends out =
-    let up : IsNonDecreasingBy (λ q. q) ids = IsNonDecreasingBy-from_sort (λ q. q) ids index.sorted in
-    let other : All (λ q. nat_eq id q ≡ false) ids = λ k d small.
-    let here = ends (omega arith) in
-    let least : get_or ids 0 0 ≤ get_or ids k 0 = up 0 k 0 (omega arith) small in
-    let greatest : get_or ids k 0 ≤ get_or ids (length ids - 1) 0 = up k (length ids - 1) 0 (omega arith) (omega arith) in
-    rw (get_or_default ids k d 0 small) (differ id (get_or ids k 0) (elim out [
-      | inl below ↦ inl (omega (arith, least, here.0))
-      | inr above ↦ inr (omega (arith, greatest, here.1))
-    ])) in
-    no_place features id (recursion_from_All (λ q. nat_eq id q ≡ false) (ids_of features)
-    (All-permutation (λ q. nat_eq id q ≡ false) ids (ids_of features) (IsPermutation-sym (ids_of features) ids index.all) other))
+    let other : nat_eq f.id id ≡ false = elim out [
+      | inl below ↦ differ f.id id (inr (omega (arith, below, least)))
+      | inr above ↦ differ f.id id (inl (omega (arith, above, greatest)))
+    ] in
+    let here : place_of (get_or features i f ∷ []) id ≡ None = ap (λ (g : Feature). place_of (g ∷ []) id) (sym at) ∙ position-cons (λ g. nat_eq g.id id) f [] ∙ rw other refl in
+    ap (λ (fs : List Feature). place_of fs id) (take_more features i f small) ∙ position-append (λ g. nat_eq g.id id) (take i features) (get_or features i f ∷ [])
+    ∙ rw (before id out_old, here) refl
   where
     differ : (a b : ℕ) → (a < b) ⊎ (b < a) → nat_eq a b ≡ false
     differ a b (inl h) = grind (arith, nat_tests)

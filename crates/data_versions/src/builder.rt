@@ -7,8 +7,8 @@ use crate::chunk::{Chunk, MOST_TOGETHER};
 use crate::placed::PlacedChunk;
 use crate::segment::Segment;
 use crate::segment_builder::SegmentBuilder;
+use crate::shared::SharedFeature;
 use farm_base::NoMemory;
-use geo_model::Feature;
 use std::alloc::Global;
 use std::marker::Model;
 use std::mem;
@@ -18,7 +18,7 @@ use std::sync::Arc;
 #[derive(Drop)]
 pub(crate) struct ChunkBuilder {
     chunks: SegmentBuilder,
-    loose: Vec<Feature>,
+    loose: Vec<SharedFeature>,
 }
 
 impl Model for ChunkBuilder {
@@ -33,11 +33,11 @@ impl Model for ChunkBuilder {
 }
 
 /// A new chunk of the features.
-fn new_chunk(alloc: Global, features: Vec<Feature>) -> Result<PlacedChunk, NoMemory>
+fn new_chunk(alloc: Global, features: Vec<SharedFeature>) -> Result<PlacedChunk, NoMemory>
     requires { length features.items ≤ 256 }
     ensures { IfOk result (λ chunk. arc_value chunk ≡ features.items) }
 {
-    let chunk = Chunk::of(alloc, features)?;
+    let chunk = Chunk::of(features);
     Ok(PlacedChunk::of(Arc::new(alloc, chunk)?))
 }
 
@@ -45,7 +45,7 @@ fn new_chunk(alloc: Global, features: Vec<Feature>) -> Result<PlacedChunk, NoMem
 fn close(
     alloc: Global,
     chunks: &mut SegmentBuilder,
-    loose: &mut Vec<Feature>,
+    loose: &mut Vec<SharedFeature>,
 ) -> Result<(), NoMemory>
     requires { length loose.old.items ≤ 256 }
     ensures closed { OnOk result (chunks.new ≡ chunks.old ++ loose.old.items) }
@@ -63,7 +63,7 @@ fn close(
 fn make_room(
     alloc: Global,
     chunks: &mut SegmentBuilder,
-    loose: &mut Vec<Feature>,
+    loose: &mut Vec<SharedFeature>,
 ) -> Result<(), NoMemory>
     requires { length loose.old.items ≤ 256 }
     ensures same { OnOk result (chunks.new ++ loose.new.items ≡ chunks.old ++ loose.old.items) }
@@ -87,7 +87,7 @@ impl ChunkBuilder {
     }
 
     /// Puts a feature at the end.
-    pub(crate) fn add(&mut self, alloc: Global, feature: Feature) -> Result<(), NoMemory>
+    pub(crate) fn add(&mut self, alloc: Global, feature: SharedFeature) -> Result<(), NoMemory>
         ensures { OnOk result (self.new ≡ self.old ++ feature ∷ []) }
     {
         make_room(alloc, &mut self.chunks, &mut self.loose)?;

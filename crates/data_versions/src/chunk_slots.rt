@@ -83,13 +83,13 @@ impl<'a> ChunkSlots<'a> {
         ensures { OnOk result (builder.new ≡ builder.old ++ standing self.now) }
     {
         if let Some(own) = &self.own {
-            return own.copy_into(alloc, builder);
+            return own.put_into(alloc, builder);
         }
         let chunk = self.chunk.chunk();
         let features = chunk.features();
         if may_share || features.len() == MOST_TOGETHER {
             return builder.share_chunk(alloc, self.chunk);
         }
-        SlotList::of(alloc, features)?.copy_into(alloc, builder)
+        SlotList::of(alloc, features)?.put_into(alloc, builder)
     }
 }

@@ -14,6 +14,7 @@ use crate::chunked::ChunkedLayer;
 use crate::id_spans::IdSpans;
 use crate::placed::PlacedChunk;
 use crate::segment::Segment;
+use crate::shared::SharedFeature;
 use farm_base::NoMemory;
 use geo_model::Feature;
 use std::alloc::Global;
@@ -54,7 +55,7 @@ impl<'a> Model for LayerFinder<'a> {
 }
 
 /// Adds the ids of the features, each with its place.
-fn number(pairs: &mut Vec<(u64, u32)>, features: &[Feature]) -> Result<(), NoMemory>
+fn number(pairs: &mut Vec<(u64, u32)>, features: &[SharedFeature]) -> Result<(), NoMemory>
     requires { length pairs.old.items + length features.now ≤ most_features }
     ensures { OnOk result (pairs.new.items ≡ pairs.old.items ++ numbered (length pairs.old.items) features.now) }
 {

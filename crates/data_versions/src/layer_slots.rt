@@ -131,7 +131,7 @@ impl<'a> LayerSlots<'a> {
             let may_share = place + 1 < self.pieces.len() || self.added.len() == 0;
             piece.put_into(alloc, may_share, &mut builder)?;
         }
-        self.added.copy_into(alloc, &mut builder)?;
+        self.added.put_into(alloc, &mut builder)?;
         builder.into_segments(alloc)
     }
 }

@@ -16,6 +16,7 @@ mod placed;
 mod segment;
 mod segment_builder;
 mod segment_slots;
+mod shared;
 mod slot;
 mod slot_list;
 mod snapshot;

@@ -3,13 +3,14 @@ ghost use Rattle.std.specs.Prelude.{◌≡◌, ◌≤◌, ◌<◌, ◌+◌, fals
 ghost use Rattle.std.specs.Arc.{arc_value};
 ghost use Rattle.plain_shapes.specs.Features.{Feature};
 ghost use Rattle.data_versions.specs.Near.{is_near, all_near};
-ghost use Rattle.data_versions.specs.inner.Cells.{IsWide, IsBoxed, IsMarked, box_of};
+ghost use Rattle.data_versions.specs.inner.Cells.{IsWide, IsBoxed, IsMarked};
 ghost use Rattle.geo_model.specs.Bounds.{Within};
 
 use crate::cells::{CELL_ROWS, Grid, add_block, has_one};
 use crate::chunk::Chunk;
+use crate::shared::SharedFeature;
 use farm_base::NoMemory;
-use geo_model::{Bounds, Feature};
+use geo_model::Bounds;
 use std::marker::Model;
 use std::sync::Arc;
 
@@ -51,18 +52,8 @@ fn widened(bounds: Bounds, part: Bounds) -> Bounds
     }
 }
 
-/// The feature's box, which holds a point.
-fn wide_box(feature: &Feature) -> Bounds
-    ensures value { result ≡ box_of feature.now }
-    ensures wide { IsWide result }
-{
-    // Read for what `geometry` ensures: the shape has a point.
-    let _geometry = feature.geometry();
-    feature.bbox()
-}
-
 /// The box that holds all the features.
-fn box_around(features: &[Feature]) -> Bounds
+fn box_around(features: &[SharedFeature]) -> Bounds
     ensures { All (IsBoxed result) features.now }
 {
     let mut bounds = Bounds {
@@ -72,13 +63,13 @@ fn box_around(features: &[Feature]) -> Bounds
         south: 0,
     };
     for feature in features {
-        bounds = widened(bounds, wide_box(feature));
+        bounds = widened(bounds, feature.bbox());
     }
     bounds
 }
 
 /// The cells of the box that the features meet.
-fn cells_under(grid: &Grid, features: &[Feature]) -> [u64; CELL_ROWS]
+fn cells_under(grid: &Grid, features: &[SharedFeature]) -> [u64; CELL_ROWS]
     ensures rows { length result ≡ 64 }
     ensures marked { All (IsMarked grid.now result) features.now }
 {
@@ -139,7 +130,7 @@ impl PlacedChunk {
     }
 
     /// The features among which all that are near the rectangle are: none where no cell meets it.
-    pub(crate) fn near_part(&self, around: Bounds) -> &[Feature]
+    pub(crate) fn near_part(&self, around: Bounds) -> &[SharedFeature]
         requires { IsWide around }
         ensures near { all_near result.now around ≡ all_near (arc_value self.now) around }
         ensures few { length result.now ≤ 256 }

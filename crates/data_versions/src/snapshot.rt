@@ -13,6 +13,7 @@ use crate::chunked::ChunkedLayer;
 use crate::dataset::{Dataset, Layer};
 use crate::finder::LayerFinder;
 use crate::segment::Segment;
+use crate::shared::SharedFeature;
 use crate::walk::NearFeatures;
 use farm_base::NoMemory;
 use geo_model::{Bounds, Feature};
@@ -46,7 +47,7 @@ fn segments_of(alloc: Global, features: Vec<Feature>) -> Result<Vec<Arc<Segment>
 {
     let mut builder = ChunkBuilder::new(alloc);
     for feature in features {
-        builder.add(alloc, feature)?;
+        builder.add(alloc, SharedFeature::of(alloc, feature)?)?;
     }
     builder.into_segments(alloc)
 }

@@ -7,6 +7,7 @@ ghost use Rattle.data_versions.specs.inner.Chunks.{joined};
 use crate::chunk::find_near;
 use crate::placed::PlacedChunk;
 use crate::segment::Segment;
+use crate::shared::SharedFeature;
 use geo_model::{Bounds, Feature};
 use std::marker::Model;
 use std::sync::Arc;
@@ -16,7 +17,7 @@ use std::sync::Arc;
 #[derive(Drop)]
 struct NearInChunks<'a> {
     around: Bounds,
-    here: &'a [Feature],
+    here: &'a [SharedFeature],
     later: &'a [PlacedChunk],
 }
 
@@ -57,7 +58,7 @@ impl<'a> NearInChunks<'a> {
             if let Some(place) = find_near(here, self.around) {
                 self.here = &here[place + 1..];
                 self.later = later;
-                return Some(&here[place]);
+                return Some(here[place].feature());
             }
             let Some((first, rest)) = later.split_first() else {
                 self.here = &[];

@@ -1,13 +1,10 @@
 -- A layer in chunks that snapshots share.
 use Rattle.std.specs.Prelude.{◌≡◌, ℕ, ◌<◌, ◌≤◌, List, length, take, get_or}
-use Rattle.std.specs.Ordering.{nat_cmp}
 use Rattle.std.specs.List.{flat_map}
-use Rattle.std.specs.List.Sorted.{IsPermutation, IsSorted}
 use Rattle.std.specs.declared.alloc.Global.{Global}
 use Rattle.std.specs.declared.sync.Arc.{Arc}
 use Rattle.std.specs.Arc.{arc_value}
 use Rattle.plain_shapes.specs.Features.{Feature}
-use Rattle.plain_shapes.specs.Data.{ids_of}
 use Rattle.plain_shapes.specs.Limits.{most_features}
 
 -- the features of the chunks, one chunk after another
@@ -24,8 +21,3 @@ pub record IsChunked (begun : List ℕ) (count : ℕ) (chunks : List (Arc (List 
   pub starts : IsStarts begun chunks
   pub counted : count ≡ length (joined chunks)
   pub few : count ≤ most_features
-
--- the ids of the features, from least to greatest
-pub record IsIndex (ids : List ℕ) (features : List Feature) : Type 0 where
-  pub all : IsPermutation (ids_of features) ids
-  pub sorted : IsSorted nat_cmp ids

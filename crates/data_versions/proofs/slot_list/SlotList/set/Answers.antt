@@ -1,6 +1,10 @@
-use Rattle.std.specs.Option.{option_copied}
+use Rattle.std.proofs.Common.{ap, ◌∙◌}
+use Rattle.std.specs.Prelude.{map, set}
+use Rattle.data_versions.specs.inner.Held.{held}
 use Rattle.std.proofs.lemmas.List.{map-set}
 use Rattle.data_versions.proofs.slot_list.SlotList.set.Goals as goal
 
 pub returns : goal.returns
-returns c = rw (← c.self.view_is) (map-set option_copied c.self.inside.slots.items c.args.i c.args.feature)
+returns c =
+    let slots = c.self.inside.slots.items in
+    rw (← c.self.view_is) (map-set held slots c.args.i c.of.result ∙ ap (set (map held slots) c.args.i) c.of.ensures)

@@ -1,0 +1,86 @@
+//! A feature that snapshots share, with what is read of many features at once beside it.
+ghost use Rattle.std.specs.Prelude.{◌≡◌, IfOk};
+ghost use Rattle.data_versions.specs.inner.Cells.{IsWide, box_of};
+
+use farm_base::NoMemory;
+use geo_model::{Bounds, Feature};
+use std::alloc::Global;
+use std::marker::Model;
+use std::sync::Arc;
+
+/// A share of a feature, and the feature's id and its box, which holds a point, so that a search by either does
+/// not read the feature itself. Contracts see it as the feature.
+#[derive(Drop)]
+pub(crate) struct SharedFeature {
+    id: u64,
+    bounds: Bounds,
+    feature: Arc<Feature>,
+}
+
+impl Model for SharedFeature {
+    ghost use Rattle.std.specs.Prelude.{◌≡◌};
+    ghost use Rattle.plain_shapes.specs.Features.{Feature};
+    ghost use Rattle.data_versions.specs.inner.Cells.{IsWide, box_of};
+
+    ghost Value = { Feature };
+
+    ghost view = { λ s. s.feature.value };
+
+    ghost invariant = { λ s. (s.id ≡ s.feature.value.id) × (s.bounds ≡ box_of s.feature.value) × IsWide s.bounds };
+}
+
+/// The feature's box, which holds a point.
+fn wide_box(feature: &Feature) -> Bounds
+    ensures value { result ≡ box_of feature.now }
+    ensures wide { IsWide result }
+{
+    // Read for what `geometry` ensures: the shape has a point.
+    let _geometry = feature.geometry();
+    feature.bbox()
+}
+
+impl SharedFeature {
+    /// A first share of the feature.
+    pub(crate) fn of(alloc: Global, feature: Feature) -> Result<SharedFeature, NoMemory>
+        ensures { IfOk result (λ shared. shared ≡ feature) }
+    {
+        Ok(SharedFeature {
+            id: feature.id(),
+            bounds: wide_box(&feature),
+            feature: Arc::new(alloc, feature)?,
+        })
+    }
+
+    /// One more share.
+    pub(crate) fn share(&self) -> Result<SharedFeature, NoMemory>
+        ensures { IfOk result (λ shared. shared ≡ self.now) }
+    {
+        Ok(SharedFeature {
+            id: self.id,
+            bounds: self.bounds,
+            feature: Arc::try_clone(&self.feature)?,
+        })
+    }
+
+    /// The feature itself.
+    pub(crate) fn feature(&self) -> &Feature
+        ensures { result.now ≡ self.now }
+    {
+        &self.feature
+    }
+
+    /// The feature's id.
+    pub(crate) fn id(&self) -> u64
+        ensures { result ≡ self.now.id }
+    {
+        self.id
+    }
+
+    /// The feature's box.
+    pub(crate) fn bbox(&self) -> Bounds
+        ensures value { result ≡ box_of self.now }
+        ensures wide { IsWide result }
+    {
+        self.bounds
+    }
+}
