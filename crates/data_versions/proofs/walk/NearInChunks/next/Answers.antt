@@ -13,7 +13,7 @@ returns-in-Some c =
     rw (take_rest c.loop-place.here.now (c.in-Some.place + 1))
     (c.loop-place.invariant.left
     ∙ walk_finds (is_near around) c.loop-place.here.now (joined c.loop-place.later.now) c.in-Some.place c.index-here-place.result (sym c.find_near.ensures.place ∙ c.in-Some.is)
-    ∙ ap (λ f. f ∷ all_near (drop (c.in-Some.place + 1) c.loop-place.here.now ++ joined c.loop-place.later.now) around) (sym c.index-here-place.is))
+    ∙ ap (λ f. f ∷ all_near (drop (c.in-Some.place + 1) c.loop-place.here.now ++ joined c.loop-place.later.now) around) (sym c.index-here-place.is ∙ sym c.feature.ensures))
 
 pub invariant_of-self-in_default-split_first : goal.invariant_of-self-in_default-split_first
 invariant_of-self-in_default-split_first c = (c.loop-place.invariant.kept.0, omega arith)
