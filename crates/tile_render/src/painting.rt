@@ -35,9 +35,9 @@ pub(crate) fn paint_pieces(
 {
     for piece in pieces {
         image.blend_run(
-            region.row + piece.row,
-            region.col + piece.start,
-            region.col + piece.end,
+            region.row + piece.row as u32,
+            region.col + piece.start as u32,
+            region.col + piece.end as u32,
             paint.colour,
             paint.opacity,
         );
