@@ -14,6 +14,51 @@ use plain_image::Image;
 use plain_world::Window;
 use raster_core::run_at;
 
+// What lies under so many pieces is read before they are painted.
+const TOGETHER: usize = 64;
+
+// The red of what lies under the first pixel of a piece, or under the last one of its row where it has none.
+fn red_under(w: Window, region: Region, piece: Piece, image: &Image) -> u8
+    requires window { IsWindow w }
+    requires region { IsRegion w region }
+    requires fits { IsPiece region.cols region.rows piece }
+    requires cols { image.now.cols ≡ w.cols }
+    requires rows { image.now.rows ≡ w.rows }
+{
+    let col = region.col + piece.start as u32;
+    let row = region.row + piece.row as u32;
+    image.pixel(col.min(w.cols - 1), row).r
+}
+
+// The opacity as it is. Before the k-th piece, and so many others with it, is painted, what lies under all of them is
+// read: one after another they would wait for memory, of which each row is far from the one before. That it is read
+// must be of some use, or it would be left out.
+fn opacity_at(
+    w: Window,
+    region: Region,
+    pieces: &[Piece],
+    k: usize,
+    opacity: u32,
+    image: &Image,
+) -> u32
+    requires window { IsWindow w }
+    requires region { IsRegion w region }
+    requires fits { All (IsPiece region.cols region.rows) pieces.now }
+    requires cols { image.now.cols ≡ w.cols }
+    requires rows { image.now.rows ≡ w.rows }
+    requires opacity { opacity ≤ 1000 }
+    ensures { result ≡ opacity }
+{
+    if k % TOGETHER != 0 {
+        return opacity;
+    }
+    let mut reds = 0;
+    for n in k..pieces.len().min(k.saturating_add(TOGETHER)) {
+        reds |= red_under(w, region, pieces[n], image);
+    }
+    opacity.min(1000 + u32::from(reds))
+}
+
 /// Paints the pixels of pieces of the region that are apart. All others stay.
 pub(crate) fn paint_pieces(
     w: Window,
@@ -33,13 +78,15 @@ pub(crate) fn paint_pieces(
     ensures cols { image.new.cols ≡ image.old.cols }
     ensures rows { image.new.rows ≡ image.old.rows }
 {
-    for piece in pieces {
+    for k in 0..pieces.len() {
+        let piece = pieces[k];
+        let opacity = opacity_at(w, region, pieces, k, paint.opacity, image);
         image.blend_run(
             region.row + piece.row as u32,
             region.col + piece.start as u32,
             region.col + piece.end as u32,
             paint.colour,
-            paint.opacity,
+            opacity,
         );
     }
 }
