@@ -8,6 +8,6 @@ loop-place-preserved c = laid_more [] c.loop-place.builder c.put_into.new.builde
 
 pub returns : goal.returns
 returns c =
-    let all = laid_all c.loop-place.builder c.copy_into.new.builder c.self.inside.pieces.items c.loop-place.place c.self.inside.added
-    (rw c.deref-piece-items.ensures.value at c.loop-place-test.false) c.loop-place.invariant c.in_ok-copy_into.ensures in
+    let all = laid_all c.loop-place.builder c.put_into-2.new.builder c.self.inside.pieces.items c.loop-place.place c.self.inside.added
+    (rw c.deref-piece-items.ensures.value at c.loop-place-test.false) c.loop-place.invariant c.in_ok-put_into-2.ensures in
     rw (← c.self.view_is, ← all) c.into_segments.ensures
