@@ -33,11 +33,11 @@ use Rattle.farm_call.specs.Call.{Work, puts, scripts, loads, serves}
 use Rattle.farm_call.specs.inner.Works.{Does, over}
 use Rattle.port_events.specs.Told.{PortsTold}
 use Rattle.farm_runs.specs.declared.each_front.EachFront.{EachFront}
-use Rattle.serve_command.specs.inner.Serving.{World}
-use Rattle.serve_command.specs.inner.Steps as serve
-use Rattle.serve_command.specs.declared.left.Left.{Left}
-use Rattle.serve_command.specs.declared.left.Left.TheVariants.{Store}
-use Rattle.serve_command.specs.declared.left.Done.{Done}
+use Rattle.farm_call.specs.inner.Serving.{World}
+use Rattle.farm_call.specs.inner.Steps as serve
+use Rattle.farm_call.specs.declared.left.Left.{Left}
+use Rattle.farm_call.specs.declared.left.Left.TheVariants.{Store}
+use Rattle.farm_call.specs.declared.left.Done.{Done}
 use Rattle.farm_call.specs.inner.Runs.{LeavesStore, Runs}
 
 -- the values of words that ask for a command are those that clap reads

@@ -32,14 +32,14 @@ use Rattle.farm_runs.specs.Promise.{AreSeated, AreWorked, IsServed}
 use Rattle.front_leaves.specs.Fronts.{renderd_leaves, tiles_leave}
 use Rattle.front_leaves.proofs.Laws.{marked}
 use Rattle.tile_paths.specs.Paths.{saved_path}
-use Rattle.serve_command.specs.Beginnings.{HasEmptied, ResumesFrom}
-use Rattle.serve_command.specs.Endings.{why_ended, is_front_worn, is_broken, is_wanting, end_after_put, TellsCounts}
-use Rattle.serve_command.specs.Savings.{MaySave}
-use Rattle.serve_command.proofs.Kept.{Keeps as KeepsFarm, keeps}
-use Rattle.serve_command.specs.Serves.{fronts_of, end_of, is_worn_out, ClosedFarm, whole_history}
-use Rattle.serve_command.specs.inner.Serving.{HasServed}
-use Rattle.serve_command.specs.declared.left.Left.{Left}
-use Rattle.serve_command.specs.declared.left.Left.TheVariants.{Farm}
+use Rattle.farm_call.specs.Beginnings.{HasEmptied, ResumesFrom}
+use Rattle.farm_call.specs.Endings.{why_ended, is_front_worn, is_broken, is_wanting, end_after_put, TellsCounts}
+use Rattle.farm_call.specs.Savings.{MaySave}
+use Rattle.farm_call.proofs.Kept.{Keeps as KeepsFarm, keeps}
+use Rattle.farm_call.specs.Serves.{fronts_of, end_of, is_worn_out, ClosedFarm, whole_history}
+use Rattle.farm_call.specs.inner.Serving.{HasServed}
+use Rattle.farm_call.specs.declared.left.Left.{Left}
+use Rattle.farm_call.specs.declared.left.Left.TheVariants.{Farm}
 use Rattle.farm_call.specs.Call.{CallBefore, CallAfter, store_of}
 use Rattle.farm_call.specs.Keeps.{MaySay, SavesSo, ServedWell}
 use Rattle.farm_call.specs.inner.Works.{world_before, world_after}

@@ -21,11 +21,11 @@ use Rattle.farm_files.specs.Inputs.{ServeInputs}
 use Rattle.farm_runs.specs.declared.each_front.EachFront.{EachFront}
 use Rattle.script_command.specs.Scripts.{Scripts}
 use Rattle.load_command.specs.Runs.{Loads}
-use Rattle.serve_command.specs.Serves.{ClosedFarm, whole_history}
-use Rattle.serve_command.specs.inner.Serving as inner
-use Rattle.serve_command.specs.inner.Serving.{World, HasServed, Serves}
-use Rattle.serve_command.specs.declared.left.Left.{Left}
-use Rattle.serve_command.specs.declared.left.Left.TheVariants.{Store, Farm}
+use Rattle.farm_call.specs.Serves.{ClosedFarm, whole_history}
+use Rattle.farm_call.specs.inner.Serving as inner
+use Rattle.farm_call.specs.inner.Serving.{World, HasServed, Serves}
+use Rattle.farm_call.specs.declared.left.Left.{Left}
+use Rattle.farm_call.specs.declared.left.Left.TheVariants.{Store, Farm}
 use Rattle.farm_call.specs.Call.{CallBefore, CallAfter, Work, puts, scripts, loads, serves, store_of, PortsRose}
 use Rattle.farm_call.specs.Words.{Asks}
 use Rattle.farm_call.specs.Keeps.{AreLed, SavedRefused, ReadFailed, Idle, StoreIsLeft, MaySay, ServesTo, Done, Worked, Cause, EndsFor, StoreFailed, TurnsAreGone, Unhindered, Keeps}

@@ -8,3 +8,8 @@ pub mod WholeCall
 pub mod Scripting
 pub mod Serving
 pub mod Whys
+mod Steps
+mod Beginning
+mod Found
+pub mod Kept
+mod Saving

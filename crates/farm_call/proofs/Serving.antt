@@ -27,15 +27,15 @@ use Rattle.script_answers.specs.Answers.{tally_line}
 use Rattle.farm_shared.specs.Shared.{lasting_of, past}
 use Rattle.farm_runs.specs.declared.each_front.EachFront.{EachFront}
 use Rattle.farm_shared.specs.declared.turned.LastingPart.{LastingPart}
-use Rattle.serve_command.specs.Listens.{ListenEnds, Listening, listen_end}
+use Rattle.farm_call.specs.Listens.{ListenEnds, Listening, listen_end}
 use Rattle.tile_paths.specs.Paths.{saved_path}
-use Rattle.serve_command.specs.Beginnings.{HasBegun, CannotBegin, IsSavedIn, RefusesFor, ResumesFrom, resumed_by}
-use Rattle.serve_command.specs.Endings.{is_front_worn, is_broken, is_wanting, end_after_put, TellsCounts}
-use Rattle.serve_command.specs.Savings.{MaySave}
-use Rattle.serve_command.specs.Serves.{ClosedFarm, WhyNot, places, fronts_of, end_of, is_worn_out}
-use Rattle.serve_command.specs.inner.Serving.{World, HasServed, NotServed, Serves, ServesTo}
-use Rattle.serve_command.specs.declared.left.Left.{Left}
-use Rattle.serve_command.specs.declared.left.Left.TheVariants.{Store, Farm}
+use Rattle.farm_call.specs.Beginnings.{HasBegun, CannotBegin, IsSavedIn, RefusesFor, ResumesFrom, resumed_by}
+use Rattle.farm_call.specs.Endings.{is_front_worn, is_broken, is_wanting, end_after_put, TellsCounts}
+use Rattle.farm_call.specs.Savings.{MaySave}
+use Rattle.farm_call.specs.Serves.{ClosedFarm, WhyNot, places, fronts_of, end_of, is_worn_out}
+use Rattle.farm_call.specs.inner.Serving.{World, HasServed, NotServed, Serves, ServesTo}
+use Rattle.farm_call.specs.declared.left.Left.{Left}
+use Rattle.farm_call.specs.declared.left.Left.TheVariants.{Store, Farm}
 use Rattle.farm_call.specs.Call.{CallBefore, CallAfter, serves, store_of, PortsRose}
 use Rattle.farm_call.proofs.Whys as whys
 use Rattle.farm_call.specs.inner.Works.{world_before, world_after}

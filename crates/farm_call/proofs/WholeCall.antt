@@ -6,7 +6,7 @@ use Rattle.tile_store.specs.Stores.{StoreTold}
 use Rattle.exit_status.specs.Stops.{told_of}
 use Rattle.exit_status.specs.Ends.{Reports}
 use Rattle.exit_status.specs.declared.stops.Stop.{Stop}
-use Rattle.serve_command.specs.declared.left.Left.TheVariants.{Store}
+use Rattle.farm_call.specs.declared.left.Left.TheVariants.{Store}
 use Rattle.farm_call.specs.Call.{CallBefore, CallAfter}
 use Rattle.farm_call.specs.Keeps.{Keeps, IsWordless, ProgramKeeps}
 

@@ -13,11 +13,11 @@ use Rattle.exit_status.specs.declared.stops.Stop.TheVariants as stop
 use Rattle.farm_files.proofs.Courses.{ended}
 use Rattle.script_text.proofs.Lost.{lost}
 use Rattle.farm_files.specs.Inputs.{ServeInputs}
-use Rattle.serve_command.specs.Beginnings.{RefusesFor, IsSavedIn}
-use Rattle.serve_command.specs.inner.Serving.{World}
-use Rattle.serve_command.specs.declared.left.Left.{Left}
-use Rattle.serve_command.specs.declared.left.Left.TheVariants.{Store, Farm}
-use Rattle.serve_command.specs.Serves.{ClosedFarm}
+use Rattle.farm_call.specs.Beginnings.{RefusesFor, IsSavedIn}
+use Rattle.farm_call.specs.inner.Serving.{World}
+use Rattle.farm_call.specs.declared.left.Left.{Left}
+use Rattle.farm_call.specs.declared.left.Left.TheVariants.{Store, Farm}
+use Rattle.farm_call.specs.Serves.{ClosedFarm}
 use Rattle.farm_call.specs.Call.{Work, serves, store_of, PortsRose}
 
 -- a put on out failed, or a call of the store, or memory was wanting

@@ -6,8 +6,8 @@ use Rattle.port_events.specs.Told.{PortsTold}
 use Rattle.exit_status.specs.Ends.{FilesAt, SinkAt}
 use Rattle.farm_runs.specs.declared.each_front.EachFront.{EachFront}
 use Rattle.farm_files.specs.Inputs.{ScriptInputs, ServeInputs}
-use Rattle.serve_command.specs.declared.left.Left.{Left}
-use Rattle.serve_command.specs.declared.left.Left.TheVariants.{Store, Farm}
+use Rattle.farm_call.specs.declared.left.Left.{Left}
+use Rattle.farm_call.specs.declared.left.Left.TheVariants.{Store, Farm}
 
 -- the words after the program's name, the store, and what the files, out, err and the ports show
 pub record CallBefore (D : Type 0) : Type 0 where

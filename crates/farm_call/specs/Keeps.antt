@@ -38,17 +38,17 @@ use Rattle.http_handler.specs.Tiles.{tile_rules}
 use Rattle.control_handler.specs.Control.{control_rules}
 use Rattle.front_leaves.specs.Fronts.{FrontLeaves}
 use Rattle.farm_files.specs.Inputs.{ServeInputs}
-use Rattle.serve_command.specs.Beginnings.{IsSavedIn, RefusesFor, ResumesFrom}
+use Rattle.farm_call.specs.Beginnings.{IsSavedIn, RefusesFor, ResumesFrom}
 use Rattle.tile_paths.specs.Paths.{saved_path}
-use Rattle.serve_command.specs.Listens.{Listening}
-use Rattle.serve_command.specs.Endings.{why_ended, TellsCounts}
+use Rattle.farm_call.specs.Listens.{Listening}
+use Rattle.farm_call.specs.Endings.{why_ended, TellsCounts}
 use Rattle.script_command.specs.Scripts.{Scripts}
 use Rattle.load_command.specs.Loads.{GivesNone}
 use Rattle.load_command.specs.Runs.{Loads}
-use Rattle.serve_command.specs.Serves.{ClosedFarm, whole_history, WhyNot}
-use Rattle.serve_command.specs.Serves.{places}
-use Rattle.serve_command.specs.declared.left.Left.{Left}
-use Rattle.serve_command.specs.declared.left.Left.TheVariants.{Store, Farm}
+use Rattle.farm_call.specs.Serves.{ClosedFarm, whole_history, WhyNot}
+use Rattle.farm_call.specs.Serves.{places}
+use Rattle.farm_call.specs.declared.left.Left.{Left}
+use Rattle.farm_call.specs.declared.left.Left.TheVariants.{Store, Farm}
 use Rattle.farm_call.specs.Call.{CallBefore, CallAfter, store_of, PortsRose}
 use Rattle.farm_call.specs.Call.{Work, puts, scripts, loads, serves}
 use Rattle.farm_call.specs.Owing.{IsPaidUp}

@@ -2,4 +2,9 @@ pub mod Call
 pub mod Words
 pub mod Owing
 pub mod Keeps
+pub mod Serves
+pub mod Beginnings
+pub mod Listens
+pub mod Endings
+pub mod Savings
 pub mod inner

@@ -3,15 +3,15 @@ ghost use Rattle.std.specs.Prelude.{◌≡◌, [], Err};
 ghost use Rattle.exit_status.specs.Stops.{told_of};
 ghost use Rattle.exit_status.specs.Ends.{Reports};
 ghost use Rattle.farm_runs.specs.Actors.{three};
-ghost use Rattle.serve_command.specs.declared.left.Left.TheVariants.{Store};
+ghost use Rattle.farm_call.specs.declared.left.Left.TheVariants.{Store};
 ghost use Rattle.farm_call.specs.Keeps.{ProgramKeeps};
 
 use crate::call::farm_main;
 use crate::ends::FarmEnd;
+use crate::left::Left;
 use exit_status::{Stop, report};
 use farm_base::{Bell, Files, Sink};
 use port_events::{Ports, ThreePorts};
-use serve_command::Left;
 use std::alloc::Global;
 use std::env;
 use std::io::{self, ErrorKind};

@@ -1,8 +1,8 @@
 //! How a call ends.
 ghost use Rattle.std.specs.Prelude.{◌≡◌};
 
+use crate::left::Left;
 use port_events::FrontDone;
-use serve_command::Left;
 use tile_store::TileStore;
 
 /// How a call ended.

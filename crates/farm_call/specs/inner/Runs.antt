@@ -13,9 +13,9 @@ use Rattle.script_command.specs.inner.Runs as script
 use Rattle.load_command.specs.Runs.{Loads}
 use Rattle.render_command.specs.Courses.{render_course}
 use Rattle.render_command.specs.MetaCourses.{meta_course}
-use Rattle.serve_command.specs.inner.Serving.{World}
-use Rattle.serve_command.specs.inner.Steps as serve
-use Rattle.serve_command.specs.declared.left.Left.TheVariants.{Store}
+use Rattle.farm_call.specs.inner.Serving.{World}
+use Rattle.farm_call.specs.inner.Steps as serve
+use Rattle.farm_call.specs.declared.left.Left.TheVariants.{Store}
 
 -- what the words make sure of a command: its tile is one of the world, and its size is one that
 -- tiles may have; its work is not too large

@@ -8,8 +8,8 @@ use Rattle.exit_status.specs.declared.stops.Stop.{Stop}
 use Rattle.farm_runs.specs.declared.each_front.EachFront.{EachFront}
 use Rattle.script_command.specs.Scripts.{Scripts}
 use Rattle.load_command.specs.Runs.{Loads}
-use Rattle.serve_command.specs.inner.Serving.{World, Serves}
-use Rattle.serve_command.specs.declared.left.Left.TheVariants.{Store}
+use Rattle.farm_call.specs.inner.Serving.{World, Serves}
+use Rattle.farm_call.specs.declared.left.Left.TheVariants.{Store}
 use Rattle.farm_call.specs.Call.{CallBefore, CallAfter, Work, puts, scripts, loads, serves}
 
 -- out, the store and what the ports show, and no fronts

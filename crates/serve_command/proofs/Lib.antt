@@ -1,5 +1,0 @@
-mod Steps
-mod Beginning
-mod Found
-pub mod Kept
-mod Saving

@@ -1,7 +1,0 @@
-use Rattle.std.proofs.Common.{sym, subst}
-use Rattle.serve_command.specs.Beginnings.{Begins}
-use Rattle.serve_command.proofs.Beginning.{begun_new}
-use Rattle.serve_command.proofs.begun.begin.Goals as goal
-
-pub returns-else-resume : goal.returns-else-resume
-returns-else-resume g c = subst (λ r. Begins g.D.TileStore.state c.args.plan r c.args.store c.start.result) (sym c.if-resume.false) (begun_new g.D.TileStore.state c.args.plan c.args.store c.start.result c.start.ensures)

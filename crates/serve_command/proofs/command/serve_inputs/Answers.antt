@@ -1,5 +1,0 @@
-use Rattle.serve_command.proofs.Steps.{of_parts}
-use Rattle.serve_command.proofs.command.serve_inputs.Goals as goal
-
-pub returns : goal.returns
-returns g c = of_parts g.D.TileStore.state _ _ c.served.view_is _ _ _ _ c.serve_config.ensures
