@@ -25,8 +25,8 @@ fn red_under(w: Window, region: Region, piece: Piece, image: &Image) -> u8
     requires cols { image.now.cols ≡ w.cols }
     requires rows { image.now.rows ≡ w.rows }
 {
-    let col = region.col + piece.start as u32;
-    let row = region.row + piece.row as u32;
+    let col = region.col + piece.start;
+    let row = region.row + piece.row;
     image.pixel(col.min(w.cols - 1), row).r
 }
 
@@ -82,9 +82,9 @@ pub(crate) fn paint_pieces(
         let piece = pieces[k];
         let opacity = opacity_at(w, region, pieces, k, paint.opacity, image);
         image.blend_run(
-            region.row + piece.row as u32,
-            region.col + piece.start as u32,
-            region.col + piece.end as u32,
+            region.row + piece.row,
+            region.col + piece.start,
+            region.col + piece.end,
             paint.colour,
             opacity,
         );

@@ -1,7 +1,6 @@
 //! What the parts of strokes and marks cover, piece by piece, so that a pixel of several parts is painted once.
-ghost use Rattle.std.specs.Prelude.{◌≡◌, ℕ, ◌^◌, ◌<◌, ◌≤◌, ◌&&◌, ◌||◌, nat_eq, nat_le, false, [], All, IfOk, OnOk, IsPermutation};
+ghost use Rattle.std.specs.Prelude.{◌≡◌, ℕ, ◌^◌, ◌<◌, ◌&&◌, ◌||◌, nat_eq, nat_le, false, [], All, IfOk, OnOk, IsPermutation};
 ghost use Rattle.std.specs.List.Sorted.{IsNonDecreasingBy};
-ghost use Rattle.plain_world.specs.Limits.{most_side};
 ghost use Rattle.tile_render.specs.inner.Pieces.{IsPiece, has, covered, Apart, place};
 
 use farm_base::NoMemory;
@@ -11,13 +10,12 @@ use std::alloc::Global;
 // So many pieces are never too many.
 const FEW: usize = 65_536;
 
-/// Pixels side by side in a row: from the column `start` on and before the column `end`. It takes no more than
-/// eight bytes, of which short lists are sorted without a branch.
+/// Pixels side by side in a row: from the column `start` on and before the column `end`.
 #[derive(Clone, Copy)]
 pub(crate) struct Piece {
-    pub row: u16,
-    pub start: u16,
-    pub end: u16,
+    pub row: u32,
+    pub start: u32,
+    pub end: u32,
 }
 
 /// What is covered of so many columns and rows: a list of pieces, some of which may have pixels in common. Only
@@ -26,33 +24,23 @@ pub(crate) struct Piece {
 #[derive(Drop)]
 pub(crate) struct Pieces {
     pub alloc: Global,
-    pub cols: u16,
-    pub rows: u16,
+    pub cols: u32,
+    pub rows: u32,
     pub list: Vec<Piece>,
     pub most: usize,
     pub is_short: bool,
 }
 
-// A number that is at most another one of so few digits.
-fn short(n: u32, most: u16) -> u16
-    requires { n ≤ most }
-    ensures { result ≡ n }
-{
-    n as u16
-}
-
 /// Nothing is covered of so many columns and rows.
 pub(crate) fn no_pieces(alloc: Global, cols: u32, rows: u32) -> Pieces
-    requires cols { cols ≤ most_side }
-    requires rows { rows ≤ most_side }
     ensures cols { result.cols ≡ cols }
     ensures rows { result.rows ≡ rows }
     ensures none { result.list.items ≡ [] }
 {
     Pieces {
         alloc,
-        cols: cols as u16,
-        rows: rows as u16,
+        cols,
+        rows,
         list: Vec::new(alloc),
         most: FEW,
         is_short: false,
@@ -156,13 +144,10 @@ impl Surface for Pieces {
         if from >= end {
             return;
         }
-        let row = short(j, self.rows);
-        let start = short(from, self.cols);
-        let past = short(end, self.cols);
         let piece = Piece {
-            row,
-            start,
-            end: past,
+            row: j,
+            start: from,
+            end,
         };
         match self.add(piece) {
             Ok(()) => {}
