@@ -1,7 +1,10 @@
-//! One call of the program over named contents.
-use farm_base::{Bytes, MemFiles, MemSink, NoMemory, OpenGate, Text};
+//! One call of the program over named contents. All calls are over one kind of files, sinks, store, ports and gate, so
+//! that the farm is built once for them.
+use crate::slow_gate::SlowGate;
+use farm_base::{Bell, Bytes, MemFiles, MemSink, NoMemory, Text};
 use farm_call::farm_main;
-use memory_ports::MemPorts;
+use port_events::{Ports, ThreePorts};
+use socket_ports::SocketPorts;
 use std::alloc::Global;
 use std::process::Abort;
 use std::rt::Clock;
@@ -64,14 +67,29 @@ pub(crate) fn files_of(
     MemFiles::new(alloc, files, Vec::from_slice(alloc, reads)?)
 }
 
-/// Calls with these words over these files.
-pub(crate) fn call<R: Threads + Wait + Clock + Sync>(
-    rt: &R,
+/// Calls with these words over these files. Nobody listens.
+pub(crate) fn call(
+    rt: HostRuntime,
     alloc: Global,
     words: &[&str],
     held: &[(&str, &[u8])],
     faults: Faults,
 ) -> Result<Ended, Fail> {
+    let mut ports = SocketPorts::three(alloc, rt)?;
+    let ended = call_over(&rt, alloc, words, held, faults, &mut ports);
+    drop(ports);
+    Ok(ended?)
+}
+
+/// Calls with these words over these files and ports.
+pub(crate) fn call_over<R: Threads + Wait + Clock + Sync, P: Ports + Send, B: Bell + Send + Sync>(
+    rt: &R,
+    alloc: Global,
+    words: &[&str],
+    held: &[(&str, &[u8])],
+    faults: Faults,
+    ports: &mut ThreePorts<P, B>,
+) -> Result<Ended, NoMemory> {
     let mut all = Vec::new(alloc);
     for word in words {
         all.push(String::from_str(alloc, *word)?)?;
@@ -80,8 +98,6 @@ pub(crate) fn call<R: Threads + Wait + Clock + Sync>(
     let mut out = MemSink::new(alloc, 1000, Vec::from_slice(alloc, faults.out)?)?;
     let mut err = MemSink::new(alloc, 1000, Vec::from_slice(alloc, faults.err)?)?;
     let store = MemStore::new(alloc, Vec::new(alloc), Vec::new(alloc), Vec::new(alloc))?;
-    let (one, two, three) = (Vec::new(alloc), Vec::new(alloc), Vec::new(alloc));
-    let mut ports = MemPorts::three(alloc, one, two, three, 0, 0)?;
     let end = farm_main(
         rt,
         alloc,
@@ -90,8 +106,8 @@ pub(crate) fn call<R: Threads + Wait + Clock + Sync>(
         &mut out,
         &mut err,
         store,
-        &mut ports,
-        &OpenGate,
+        ports,
+        &SlowGate { rt },
     );
     let status = end.into_status();
     Ok(Ended { status, out, err })

@@ -18,4 +18,6 @@ mod rare;
 #[cfg(test)]
 mod scripted;
 #[cfg(test)]
+mod slow_gate;
+#[cfg(test)]
 mod sockets;

@@ -1,9 +1,8 @@
 //! The farm on real sockets, with its client in a thread of the same process. Each drawing waits at the gate until the
 //! front that asked for it sleeps, so its answer comes in time only where the worker wakes that front. What is wanted
 //! is told by `message`, `picture`, `tile` and `tally` of `oracle/serve_cases.py`, over the same style and data.
-use crate::call::files_of;
-use farm_base::{Bell, Gate, MemFiles, MemSink, NoMemory};
-use farm_call::farm_main;
+use crate::call::{NONE, call_over};
+use farm_base::{Bell, NoMemory};
 use port_events::{Ports, ThreePorts};
 use socket_ports::SocketPorts;
 use std::alloc::Global;
@@ -15,7 +14,6 @@ use std::sync::Wait;
 use std::test::Fail;
 use std::thread::{Threads, join, sleep};
 use std::time::Duration;
-use tile_store::{MemStore, Stage};
 
 /// Version 2, command 1, x 0, y 1, z 1, of the map `default`.
 const RENDER: [u8; 64] = [
@@ -45,31 +43,8 @@ const DATA: &[u8] =
 /// What is put at the end.
 const TALLY: &[u8] = b"asks 3 done 3 stored 2 version 0\n";
 
-/// How many milliseconds a drawing waits: longer than a front that has nothing to do is awake.
-const WAIT: u64 = 300;
-
 /// How many seconds the client waits for an answer.
 const PATIENCE: u64 = 20;
-
-/// A gate at which each drawing waits.
-#[derive(Drop)]
-struct SlowGate<'a, R> {
-    rt: &'a R,
-}
-
-impl<'a, R: Clock> Gate for SlowGate<'a, R> {
-    fn before_draw(&self, _ticket: u64) {
-        sleep(self.rt, Duration::from_millis(WAIT));
-    }
-}
-
-impl<'a, R: Clock> Stage for SlowGate<'a, R> {
-    fn write(&self, _alloc: Global, _number: u64, _bytes: &[u8]) -> bool {
-        false
-    }
-
-    fn clear(&self, _alloc: Global, _number: u64) {}
-}
 
 /// The ports of loopback at which the three fronts listen.
 #[derive(Clone, Copy)]
@@ -174,22 +149,16 @@ fn visit<R: Net<Stream = TcpStream> + Clock + Abort>(rt: &R, alloc: Global, plac
     assert!(rt; stopping, "not told that it stops");
 }
 
-/// The files of a farm that listens at these ports.
-fn files(alloc: Global, places: Places) -> Result<MemFiles, NoMemory> {
+/// The configuration of a farm that listens at these ports.
+fn config(alloc: Global, places: Places) -> Result<String, NoMemory> {
     let Places {
         renderd,
         tiles,
         control,
     } = places;
-    let config = format!(in alloc;
+    Ok(format!(in alloc;
         "{{\"maps\":[{{\"name\":\"default\",\"style\":\"red.style\",\"tile\":16}}],\"data\":\"square.data\",\"renderd\":\"tcp:127.0.0.1:{renderd}\",\"tiles\":\"tcp:127.0.0.1:{tiles}\",\"control\":\"tcp:127.0.0.1:{control}\"}}"
-    )?;
-    let held = [
-        ("farm.config", config.as_bytes()),
-        ("red.style", STYLE),
-        ("square.data", DATA),
-    ];
-    files_of(alloc, held.as_slice(), &[])
+    )?)
 }
 
 /// Serves until the farm is stopped: the status, and whether it put the tally on out and nothing on err.
@@ -199,26 +168,18 @@ fn serve<R: Threads + Wait + Clock + Sync, P: Ports + Send, B: Bell + Send + Syn
     places: Places,
     ports: &mut ThreePorts<P, B>,
 ) -> Result<(u8, bool), NoMemory> {
-    let mut words = Vec::new(alloc);
-    words.push(String::from_str(alloc, "serve")?)?;
-    words.push(String::from_str(alloc, "farm.config")?)?;
-    let mut files = files(alloc, places)?;
-    let mut out = MemSink::new(alloc, 100, Vec::new(alloc))?;
-    let mut err = MemSink::new(alloc, 100, Vec::new(alloc))?;
-    let store = MemStore::new(alloc, Vec::new(alloc), Vec::new(alloc), Vec::new(alloc))?;
-    let end = farm_main(
-        rt,
-        alloc,
-        words.as_slice(),
-        &mut files,
-        &mut out,
-        &mut err,
-        store,
-        ports,
-        &SlowGate { rt },
-    );
-    let is_told = out.bytes() == TALLY && err.bytes().is_empty();
-    Ok((end.into_status(), is_told))
+    let config = config(alloc, places)?;
+    let held = [
+        ("farm.config", config.as_bytes()),
+        ("red.style", STYLE),
+        ("square.data", DATA),
+    ];
+    let words = ["serve", "farm.config"];
+    let ended = call_over(rt, alloc, words.as_slice(), held.as_slice(), NONE, ports)?;
+    let is_told = ended.out.bytes() == TALLY && ended.err.bytes().is_empty();
+    let told = (ended.status, is_told);
+    drop(ended);
+    Ok(told)
 }
 
 #[test]

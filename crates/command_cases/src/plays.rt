@@ -19,6 +19,9 @@ use tile_store::MemStore;
 /// How often an Await answers Woken at most: more often than it takes to draw all tiles of a case.
 const TURNS: u64 = 400_000;
 
+/// How many bytes a case may put on out: more than the largest tile.
+const ROOM: u32 = 300_000;
+
 /// Runs the case and tells how it ended. None where its steps are in no order, a put on out fails, or memory runs out.
 pub(crate) fn play<R: Threads + Wait + Clock + Sync, F: Files, O: Sink>(
     rt: &R,
@@ -44,7 +47,7 @@ fn play_on<R: Threads + Wait + Clock + Sync, F: Files, O: Sink>(
     files: &mut F,
     out: &mut O,
 ) -> Option<()> {
-    let mut put = MemSink::new(alloc, 10_000, taken(alloc, &mut case.outs)).ok()?;
+    let mut put = MemSink::new(alloc, ROOM, taken(alloc, &mut case.outs)).ok()?;
     let mut err = MemSink::new(alloc, 1_000, Vec::new(alloc)).ok()?;
     let store = store_of(alloc, case)?;
     let gate = HoldGate::new(rt, replace(&mut case.holds, Vec::new(alloc)));

@@ -42,6 +42,8 @@ pub enum Telling {
     Lengths,
     /// The status, what stands on err, which fronts broke, and the connections that are sure.
     Status,
+    /// What stands on out and on err, and then the status.
+    Command,
 }
 
 /// A case.

@@ -72,8 +72,10 @@ pub(crate) fn tell<O: Sink>(
     store: &mut MemStore,
     out: &mut O,
 ) -> Option<()> {
-    let status = ended.status;
-    put_text(format!(in alloc; "status {status}\n").ok()?, out)?;
+    if manner.telling == Telling::Command {
+        return tell_command(alloc, ended, out);
+    }
+    put_status(alloc, ended, out)?;
     if ended.is_late {
         out.put(b"late\n").ok()?;
     }
@@ -104,6 +106,17 @@ pub(crate) fn tell<O: Sink>(
     let left = ended.left;
     put_text(format!(in alloc; "left {left}\n").ok()?, out)?;
     saved(alloc, store, out)
+}
+
+fn tell_command<O: Sink>(alloc: Global, ended: Ended<'_>, out: &mut O) -> Option<()> {
+    out.put(ended.put).ok()?;
+    out.put(ended.err).ok()?;
+    put_status(alloc, ended, out)
+}
+
+fn put_status<O: Sink>(alloc: Global, ended: Ended<'_>, out: &mut O) -> Option<()> {
+    let status = ended.status;
+    put_text(format!(in alloc; "status {status}\n").ok()?, out)
 }
 
 // What is sure where the ports of a front failed.

@@ -1,30 +1,28 @@
-//! Commands as cases of the gate's program: those that stand in a file, one a line, are run over the
-//! files beside it and a store in memory that holds nothing.
+//! Commands as cases: those that stand in a file, one a line, are run over the files beside it and a store in memory that
+//! holds nothing.
 //!
 //! A line `configs TABLE FILE..` or `scripts TABLE FILE..` runs `script` once for each row of the table, with the row
 //! as the configuration or the script and these files alone beside it. `puts N..` and then `gets N..` at a line's end
 //! are the calls of the store that are to fail. Before the answers stands `case` with the line, and before that of a row
 //! `row TABLE:LINE`.
-#![tactic(auto)]
-
+use crate::beside::CaseFiles;
+use crate::cases::{Case, Telling};
+use crate::plays::play;
 use case_tables::{Frame, frame_of, row};
-use farm_base::{Bytes, Files, MemFiles, MemSink, OpenGate, Sink, Text};
-use farm_call::farm_main;
-use memory_ports::MemPorts;
+use farm_base::{Bytes, Files, MemFiles, Sink, Text};
 use std::alloc::Global;
 use std::rt::Clock;
 use std::str;
 use std::sync::Wait;
 use std::thread::Threads;
-use tile_store::MemStore;
 
 /// Runs the cases of the file `list`, and writes of each its line, what it puts on out, then what it puts on err, then its status; `None`
 /// where the cases cannot be read, a put on out fails, or memory runs out.
-pub fn run_cases<R: Threads + Wait + Clock + Sync, F: Files, O: Sink>(
+pub(crate) fn run_cases<R: Threads + Wait + Clock + Sync, F: Files, O: Sink>(
     threads: &R,
     alloc: Global,
     list: &str,
-    files: &mut F,
+    files: &mut CaseFiles<F>,
     out: &mut O,
 ) -> Option<()> {
     let cases = files.read(alloc, list).ok()?;
@@ -43,36 +41,43 @@ fn case<R: Threads + Wait + Clock + Sync, F: Files, O: Sink>(
     threads: &R,
     alloc: Global,
     line: &str,
-    files: &mut F,
+    files: &mut CaseFiles<F>,
     out: &mut O,
 ) -> Option<()> {
-    let (line, gets) = calls_after(alloc, line, " gets ")?;
-    let (line, puts) = calls_after(alloc, line, " puts ")?;
+    let mut case = Case::new(alloc);
+    let told = told(threads, alloc, line, &mut case, files, out);
+    drop(case);
+    told
+}
+
+// A table's rows, or one command whose calls of the store fail as the end of the line says.
+fn told<R: Threads + Wait + Clock + Sync, F: Files, O: Sink>(
+    threads: &R,
+    alloc: Global,
+    line: &str,
+    case: &mut Case,
+    files: &mut CaseFiles<F>,
+    out: &mut O,
+) -> Option<()> {
+    let line = calls_before(line, " gets ", &mut case.gets)?;
+    let line = calls_before(line, " puts ", &mut case.puts)?;
     if let Some((kind, rest)) = line.split_once(' ') {
         if kind == "configs" || kind == "scripts" {
             return table(threads, alloc, kind, rest, files, out);
         }
     }
-    answer(threads, alloc, line, files, Failing { puts, gets }, out)
+    answer(threads, alloc, line, case, files, out)
 }
 
-// The line before the sign, and the numbers after it.
-fn calls_after<'a>(alloc: Global, line: &'a str, sign: &str) -> Option<(&'a str, Vec<u64>)> {
-    let mut calls = Vec::new(alloc);
+// The line before the sign; the numbers after it are put behind the calls.
+fn calls_before<'a>(line: &'a str, sign: &str, calls: &mut Vec<u64>) -> Option<&'a str> {
     let Some((before, after)) = line.split_once(sign) else {
-        return Some((line, calls));
+        return Some(line);
     };
     for word in after.split(' ') {
         calls.push(word.parse::<u64>().ok()?).ok()?;
     }
-    Some((before, calls))
-}
-
-// The calls of the store that are to fail, by their numbers.
-#[derive(Drop)]
-struct Failing {
-    puts: Vec<u64>,
-    gets: Vec<u64>,
+    Some(before)
 }
 
 // One command over a store that holds nothing: out, err and the status.
@@ -80,58 +85,15 @@ fn answer<R: Threads + Wait + Clock + Sync, F: Files, O: Sink>(
     threads: &R,
     alloc: Global,
     line: &str,
-    files: &mut F,
-    failing: Failing,
+    case: &mut Case,
+    files: &mut CaseFiles<F>,
     out: &mut O,
 ) -> Option<()> {
-    let words = words_of(alloc, line)?;
-    let mut err = MemSink::new(alloc, 1000, Vec::new(alloc)).ok()?;
-    let status = status_of(
-        threads,
-        alloc,
-        words.as_slice(),
-        files,
-        failing,
-        out,
-        &mut err,
-    )?;
-    out.put(err.bytes()).ok()?;
-    put_line(format!(in alloc; "status {status}\n").ok()?, out)
-}
-
-fn words_of(alloc: Global, line: &str) -> Option<Vec<String>> {
-    let mut words = Vec::new(alloc);
     for word in line.split(' ') {
-        words.push(String::from_str(alloc, word).ok()?).ok()?;
+        case.words.push(String::from_str(alloc, word).ok()?).ok()?;
     }
-    Some(words)
-}
-
-// The status of the call alone. The store is made last, and the ports are let go by a call: that a way out lets them go in line would be dear to prove.
-fn status_of<R: Threads + Wait + Clock + Sync, F: Files, O: Sink>(
-    threads: &R,
-    alloc: Global,
-    words: &[String],
-    files: &mut F,
-    failing: Failing,
-    out: &mut O,
-    err: &mut MemSink,
-) -> Option<u8> {
-    let Failing { puts, gets } = failing;
-    let (one, two, three) = (Vec::new(alloc), Vec::new(alloc), Vec::new(alloc));
-    let Ok(ports) = MemPorts::three(alloc, one, two, three, 0, 0) else {
-        return None;
-    };
-    let mut ports = ports;
-    let Ok(store) = MemStore::new(alloc, Vec::new(alloc), puts, gets) else {
-        drop(ports);
-        return None;
-    };
-    let end = farm_main(
-        threads, alloc, words, files, out, err, store, &mut ports, &OpenGate,
-    );
-    drop(ports);
-    Some(end.into_status())
+    case.telling = Telling::Command;
+    play(threads, alloc, case, files, out)
 }
 
 // How the rows of a table are run: its name, the words, the name that a row has as a file, and the files beside it.
@@ -149,7 +111,7 @@ fn table<R: Threads + Wait + Clock + Sync, F: Files, O: Sink>(
     alloc: Global,
     kind: &str,
     rest: &str,
-    files: &mut F,
+    files: &mut CaseFiles<F>,
     out: &mut O,
 ) -> Option<()> {
     let (name, beside) = rest.split_once(' ')?;
@@ -182,7 +144,7 @@ fn each_row<R: Threads + Wait + Clock + Sync, F: Files, O: Sink>(
     alloc: Global,
     way: &Frames<'_>,
     text: &str,
-    files: &mut F,
+    files: &mut CaseFiles<F>,
     out: &mut O,
 ) -> Option<()> {
     let mut around = Frame {
@@ -221,20 +183,33 @@ fn one_row<R: Threads + Wait + Clock + Sync, F: Files, O: Sink>(
     alloc: Global,
     way: &Frames<'_>,
     line: Line<'_>,
-    files: &mut F,
+    files: &mut CaseFiles<F>,
     out: &mut O,
 ) -> Option<()> {
     let Some(found) = row(alloc, &line.around, line.text).ok()? else {
         return Some(());
     };
-    let mut alone = files_with(alloc, way, found.as_str(), files)?;
+    let alone = files_with(alloc, way, found.as_str(), files)?;
     let (table, number) = (way.table, line.number);
     put_line(format!(in alloc; "row {table}:{number}\n").ok()?, out)?;
-    let failing = Failing {
-        puts: Vec::new(alloc),
-        gets: Vec::new(alloc),
-    };
-    answer(threads, alloc, way.words, &mut alone, failing, out)
+    files.keep_to(Some(alone));
+    let told = one_answer(threads, alloc, way.words, files, out);
+    files.keep_to(None);
+    told
+}
+
+// A command of which no call of the store fails.
+fn one_answer<R: Threads + Wait + Clock + Sync, F: Files, O: Sink>(
+    threads: &R,
+    alloc: Global,
+    line: &str,
+    files: &mut CaseFiles<F>,
+    out: &mut O,
+) -> Option<()> {
+    let mut case = Case::new(alloc);
+    let told = answer(threads, alloc, line, &mut case, files, out);
+    drop(case);
+    told
 }
 
 // The row as a file, and those beside it.
