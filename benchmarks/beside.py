@@ -293,10 +293,10 @@ print((time.process_time() - begin) / rounds)
 """
 
 
-def processor(words):
+def processor(words, **how):
     """The processor time of a run and its peak memory in KiB."""
     with open(os.devnull, "w") as nothing:
-        child = subprocess.Popen(words, stdout=nothing)
+        child = subprocess.Popen(words, stdout=nothing, **how)
     _, status, used = os.wait4(child.pid, 0)
     child.returncode = status
     if status:
@@ -304,22 +304,38 @@ def processor(words):
     return used.ru_utime + used.ru_stime, used.ru_maxrss
 
 
-def rounds_for(words):
-    first = processor(words + ["1"])[0] - processor(words + ["0"])[0]
+class Farm:
+    """A farm that draws one metatile again and again, by a script over the folder's style and data."""
+
+    def __init__(self, program, folder, place):
+        self.program, self.folder, self.place = os.path.abspath(program), folder, "%d %d %d" % place
+        with open(folder + "/config.json", "w") as out:
+            json.dump({"maps": [{"name": "default", "style": "style.json", "tile": 256}], "data": "data.json"}, out)
+
+    def __call__(self, rounds):
+        with open(self.folder + "/script", "w") as out:
+            for ticket in range(rounds):
+                out.write("ask 1 render default %s\nclaim 1\nfinish %d\ncollect 0\nexpire %s\n" % (self.place, ticket, self.place))
+        preloaded = dict(os.environ, LD_PRELOAD=os.path.abspath(self.folder + "/unwritten.so"))
+        return processor([self.program, "script", "config.json", "script"], cwd=self.folder, env=preloaded)
+
+
+def rounds_for(run):
+    first = run(1)[0] - run(0)[0]
     return max(2, min(100, int(1 / max(first, 0.005))))
 
 
-def a_round(words, rounds):
-    none, _ = processor(words + ["0"])
-    spent, peak = processor(words + [str(rounds)])
+def a_round(run, rounds):
+    none, _ = run(0)
+    spent, peak = run(rounds)
     return max(0.0, spent - none) / rounds, peak
 
 
 def measure(program, raw, folder, mapnik, z, point):
     place = z, point[0] >> (30 - z), point[1] >> (30 - z)
     west, north, side, _ = metatile(*place)
-    words = [program, folder + "/style.json", folder + "/data.json", *map(str, place)]
-    rounds = rounds_for(words)
+    ours, copied = Farm(program, folder, place), lambda rounds: processor([raw, str(rounds)])
+    rounds = rounds_for(ours)
     got = {"mapnik": [], "raw": [], "ours": []}
     peak = 0
     for _ in range(REPEATS):
@@ -329,8 +345,8 @@ def measure(program, raw, folder, mapnik, z, point):
             if said.returncode:
                 sys.exit("beside.py: Mapnik failed")
             got["mapnik"].append(float(said.stdout))
-        got["raw"].append(a_round([raw], 100)[0])
-        spent, most = a_round(words, rounds)
+        got["raw"].append(a_round(copied, 100)[0])
+        spent, most = a_round(ours, rounds)
         got["ours"].append(spent)
         peak = max(peak, most)
     return {key: statistics.median(all_of) if all_of else None for key, all_of in got.items()}, peak

@@ -5,24 +5,23 @@
 #   benchmarks/beside.sh [CASE..]       (all cases of benchmarks/beside.py where none is named)
 #
 # A case is a number of features of generated work, those of `tilefarm load 7 NUMBER`, as 10000, or a name, as
-# wide; `benchmarks/beside.sh -l` lists them. REPEATS sets how many runs a median is taken of (5). DRAW_BENCH names
-# another build of crates/draw_bench.
+# wide; `benchmarks/beside.sh -l` lists them. REPEATS sets how many runs a median is taken of (5). With TILEFARM another
+# program is measured than the one that was built here or, where none was, the released one.
 #
 # The last line says which of the cases that were drawn is the slowest against Mapnik.
 #
-# Mapnik is Debian's python3-mapnik; where no python3 has it, its column stays empty. Ours is drawing and packing,
-# Mapnik's is drawing alone, and raw is the cutting of a ready picture into a ready container, in C.
+# Mapnik is Debian's python3-mapnik; where no python3 has it, its column stays empty. Ours is `tilefarm script`: an ask,
+# its claim, its end and its reply, of which the drawing and packing take nearly all, and whose write is left out
+# (unwritten.c). Mapnik's is drawing alone, and raw is the cutting of a ready picture into a ready container, in C.
 set -eu
 top="$(cd "$(dirname "${BASH_SOURCE[0]}")/.." && pwd)"
-program="${DRAW_BENCH:-$top/crates/draw_bench/out/draw_bench}"
-
-if [ ! -x "$program" ]; then
-    echo "beside.sh: building draw_bench (the first time takes some minutes)" >&2
-    (cd "$top/crates/draw_bench" && PATH="$PATH:/opt/rattle/bin" rt run </dev/null >/dev/null)
-fi
+built="$top/crates/tilefarm/out/tilefarm"
+[ -x "$built" ] || built="$top/release/tilefarm"
+program="${TILEFARM:-$built}"
 folder="$(mktemp -d)"
 trap 'rm -rf "$folder"' EXIT
 cc -O3 -o "$folder/raw" "$top/benchmarks/raw.c"
+cc -O2 -shared -fPIC -o "$folder/unwritten.so" "$top/benchmarks/unwritten.c"
 mapnik=
 for python in python3 /usr/bin/python3; do
     if "$python" -c 'import mapnik' 2>/dev/null; then mapnik="$python"; fi

@@ -3,6 +3,7 @@
 #
 #   benchmarks/serve.sh [quick]             (with `quick` a tenth of everything)
 #   benchmarks/serve.sh waits [FOLDER..]    (what drawings cost others, below each folder: /dev/shm and /var/tmp; some 4 minutes)
+#   benchmarks/serve.sh workers             (how the workers scale where nothing is written; a minute)
 #
 # starts `tilefarm serve` in a folder of its own, with sixteen maps over 10,000 features that all lie in one metatile of
 # zoom 14, and measures: clean metatiles answered Done on one connection of renderd's protocol; clean tiles of 256
@@ -15,12 +16,16 @@
 # With `waits` it measures only what 1, 2 and 4 workers (or as many as WORKERS names) store in ten rounds over all
 # features, and what 1 and 4 who look at a clean tile wait beside them. PEER, as "tcp:127.0.0.1:80 /a/page", is a page
 # of another server that is looked at in the same way, as a tile of mod_tile's while its renderd draws.
+#
+# With `workers` it measures only what 1, 2 and 4 workers (or as many as WORKERS names) draw in ten rounds, with tiles of
+# 32 and of 256 pixels over 200 and over all features; each write of a container is left out (unwritten.c).
 # The client is benchmarks/serve_client.c, compiled by cc. With TILEFARM another program is measured.
 set -eu
 top="$(cd "$(dirname "${BASH_SOURCE[0]}")/.." && pwd)"
 program="${TILEFARM:-$top/tilefarm}"
 part=1
 only=
+preloaded=
 case "${1:-}" in
     quick) part=10 ;;
     waits)
@@ -30,6 +35,7 @@ case "${1:-}" in
         exit
         ;;
     below) only="$2" ;;
+    workers) preloaded=unwritten.so ;;
 esac
 if [ -z "${TMPDIR:-}" ] && [ -w /dev/shm ]; then export TMPDIR=/dev/shm; fi
 folder="$(mktemp -d)"
@@ -41,6 +47,7 @@ ended() {
 }
 trap ended EXIT
 cc -O2 -Wall -pthread -o "$folder/client" "$top/benchmarks/serve_client.c"
+cc -O2 -shared -fPIC -o "$folder/unwritten.so" "$top/benchmarks/unwritten.c"
 "$program" >/dev/null 2>&1 || true # builds the program where it is not built yet
 ulimit -n "$(ulimit -H -n)" 2>/dev/null || true
 
@@ -103,7 +110,7 @@ config = json.load(open(sys.argv[1]))
 config["tiles"] = sys.argv[2]
 json.dump(config, open(sys.argv[1], "w"))
 PYTHON
-    (cd "$folder" && exec "$program" serve "farm$1_$2_$3.json" >out 2>err) &
+    (cd "$folder" && exec ${preloaded:+env LD_PRELOAD="$folder/$preloaded"} "$program" serve "farm$1_$2_$3.json" >out 2>err) &
     farm=$!
     for _ in $(seq 600); do
         control stats >/dev/null 2>&1 && return
@@ -173,6 +180,19 @@ if [ -n "$only" ]; then
             row "a page of $PEER, $viewers viewers" "$(client view "${PEER% *}" 10 $viewers $tile "${PEER#* }")" "ms"
         done
     fi
+    exit
+fi
+if [ -n "$preloaded" ]; then
+    for pixels in 32 256; do
+        for features in 200 10000; do
+            for workers in ${WORKERS:-1 2 4}; do
+                start "$workers" "$features" "$pixels"
+                drawn 3 >/dev/null
+                row "metatiles over $features features, tiles of $pixels pixels, not written, ten rounds, $workers workers" "$(rounds)" "a second"
+                stop
+            done
+        done
+    done
     exit
 fi
 

@@ -9,6 +9,7 @@ pub(crate) enum Bench {
     Filters,
     Turns,
     Tables,
+    Ports,
 }
 
 /// Whether rates are asked for too.
@@ -16,6 +17,16 @@ pub(crate) enum Bench {
 pub(crate) enum Work {
     Counts,
     Rates,
+}
+
+/// The address behind the word `serve`, if these are the words.
+pub(crate) fn read_address(rt: &(impl Env + Alloc)) -> io::Result<Option<String>> {
+    let mut words = env::args(rt)?.skip(1);
+    let (first, second) = (words.next(), words.next());
+    Ok(match first {
+        Some(word) if word.as_str() == "serve" => second,
+        _ => None,
+    })
 }
 
 /// Without words all are asked for; else the first word is one of them, and the word `rates` may follow.
@@ -41,6 +52,7 @@ fn bench_named(word: &str) -> Option<Bench> {
         "filters" => Some(Bench::Filters),
         "turns" => Some(Bench::Turns),
         "tables" => Some(Bench::Tables),
+        "ports" => Some(Bench::Ports),
         _ => None,
     }
 }

@@ -1,56 +1,91 @@
-//! Benchmarks of filters, of turns and of the farm's tables.
+//! Benchmarks of filters, of turns, of the farm's tables and of ports over sockets.
 //!
-//! `benches` prints what each of them counts, the same on every run. `benches filters`, `benches turns` and
-//! `benches tables` take one of them alone; the word `rates` behind it takes more of them and prints what they take too.
+//! `benches` prints what each of them counts, the same on every run. `benches filters`, `benches turns`, `benches tables`
+//! and `benches ports` take one of them alone; the word `rates` behind it takes more of them and prints what they take
+//! too. `benches serve ADDRESS` echoes what the clients of another program send, until it is stopped.
 #![tactic(auto)]
 
 mod asked;
+mod clients;
+mod echo;
 mod filters;
+mod listens;
 mod marks;
+mod ports;
 mod queues;
+mod runs;
 mod tables;
 mod turns;
 mod under_cell;
 mod under_mutex;
 
-use crate::asked::{Bench, Work, read_words};
+use crate::asked::{Bench, Work, read_address, read_words};
+use crate::echo::Echo;
 use crate::filters::filter_lines;
+use crate::ports::{port_lines, serve_at};
 use crate::tables::table_lines;
 use crate::turns::turn_lines;
+use socket_ports::{SocketBell, SocketPorts};
 use std::alloc::Global;
 use std::io;
+use std::net::{Net, TcpListener, TcpStream};
 use std::process::ExitCode;
-use std::rt::Clock;
+use std::rt::{Clock, Env, Files};
 use std::sync::Wait;
 use std::thread::Threads;
 
 fn main(rt: HostRuntime) -> io::Result<ExitCode> {
-    let Some((bench, work)) = read_words(&rt)? else {
-        eprintln!(&rt; "usage: benches [filters|turns|tables [rates]]")?;
-        return Ok(ExitCode::from(2));
-    };
-    if lines(&rt, rt.alloc(), bench, work)? {
-        return Ok(ExitCode::SUCCESS);
-    }
-    eprintln!(&rt; "no memory")?;
-    Ok(ExitCode::from(1))
+    let (ports, bell) = SocketPorts::new(rt.alloc(), rt)?;
+    let mut echo = Echo::new(rt.alloc(), ports);
+    let told = tell(&rt, &mut echo, &bell);
+    drop(echo);
+    drop(bell);
+    Ok(ExitCode::from(told?))
 }
 
-/// The lines of one benchmark, or of all: false where memory was wanting.
-fn lines<R: Threads + Wait + Sync + Clock + Print>(
+/// Does what the words ask for: the status.
+fn tell<R>(rt: &R, echo: &mut Echo<R>, bell: &SocketBell) -> io::Result<u8>
+where
+    R: Env + Alloc<A = Global> + Threads + Wait + Sync + Clock + Print + Files,
+    R: Net<Listener = TcpListener, Stream = TcpStream>,
+{
+    if let Some(address) = read_address(rt)? {
+        return Ok(u8::from(!serve_at(echo, address.as_str())));
+    }
+    let Some((bench, work)) = read_words(rt)? else {
+        eprintln!(rt; "usage: benches [filters|turns|tables|ports [rates] | serve ADDRESS]")?;
+        return Ok(2);
+    };
+    if lines(rt, rt.alloc(), bench, work, echo, bell)? {
+        return Ok(0);
+    }
+    eprintln!(rt; "no memory, or the ports failed")?;
+    Ok(1)
+}
+
+/// The lines of one benchmark, or of all: false where memory was wanting or the ports failed.
+fn lines<R>(
     rt: &R,
     alloc: Global,
     bench: Bench,
     work: Work,
-) -> io::Result<bool> {
+    echo: &mut Echo<R>,
+    bell: &SocketBell,
+) -> io::Result<bool>
+where
+    R: Threads + Wait + Sync + Clock + Print + Files,
+    R: Net<Listener = TcpListener, Stream = TcpStream>,
+{
     match bench {
         Bench::Filters => filter_lines(rt, alloc, work),
         Bench::Turns => turn_lines(rt, alloc, work),
         Bench::Tables => table_lines(rt, alloc, work),
+        Bench::Ports => port_lines(rt, alloc, work, echo, bell),
         Bench::All => Ok(
             filter_lines(rt, alloc, work)?
                 && turn_lines(rt, alloc, work)?
-                && table_lines(rt, alloc, work)?,
+                && table_lines(rt, alloc, work)?
+                && port_lines(rt, alloc, work, echo, bell)?,
         ),
     }
 }
