@@ -1,12 +1,12 @@
 #!/usr/bin/env python3
-"""Ports over sockets under pressure: what comes back of `port_bench serve`, with clients on the same machine.
+"""Ports over sockets under pressure: what comes back of `benches serve`, with clients on the same machine.
 
     benchmarks/ports.py [PROGRAM]
 
 1,024 connections at once and more; clients that wait while the descriptors are used up; one client that asks, and one
 that connects, beside others that send without end. Each line says what was seen; where an echo is lost, or a client
 waits longer than five seconds for one, the line says so and the status is 1. PROGRAM is what the gate built of
-`port_bench`, if no other is named. It takes about a minute.
+`benches`, if no other is named. It takes about a minute.
 """
 
 import multiprocessing
@@ -19,7 +19,7 @@ import sys
 import time
 
 TOP = os.path.dirname(os.path.dirname(os.path.abspath(__file__)))
-PROGRAM = os.path.join(TOP, "crates", "port_bench", "out", "port_bench")
+PROGRAM = os.path.join(TOP, "crates", "benches", "out", "benches")
 MESSAGE = bytes(range(64))
 SECONDS = 20
 LONGEST = 5
@@ -178,7 +178,7 @@ def main():
     global PROGRAM
     PROGRAM = sys.argv[1] if len(sys.argv) > 1 else PROGRAM
     if not os.access(PROGRAM, os.X_OK):
-        sys.exit("ports.py: there is no %s: `rt ci port_bench` builds it" % PROGRAM)
+        sys.exit("ports.py: there is no %s: `rt ci benches` builds it" % PROGRAM)
     hard = resource.getrlimit(resource.RLIMIT_NOFILE)[1]
     resource.setrlimit(resource.RLIMIT_NOFILE, (hard, hard))
     print("%s, %d processors, load %.1f" % (time.strftime("%F"), os.cpu_count(), os.getloadavg()[0]))

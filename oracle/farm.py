@@ -6,7 +6,7 @@ wanted output of the crate `command_cases` is made by it, from the repository's 
 
     python3 oracle/farm.py cases crates/command_cases/data > crates/command_cases/stdout
 
-which has the drawings of `oracle/tilefarm.py` behind its scripts,
+which has what `oracle/serve_cases.py` wants before its scripts, and the drawings of `oracle/tilefarm.py` behind them,
 
 and one command is run by `python3 oracle/farm.py script CONFIG SCRIPT` or `.. load SEED N`. `.. answers FOLDER` tells
 how often each answer and each refusal comes in a folder's scripts. A line of a folder's file `scripts` is one of
@@ -30,6 +30,7 @@ import os
 import re
 import sys
 
+import serve_cases
 import texts
 import tilefarm
 from tilefarm import Ended, Refused, SIZES, USAGE, WORLD, is_number
@@ -822,6 +823,7 @@ def told_cases(folder):
 
 
 def cases(folder):
+    sys.stdout.buffer.write(b"".join(serve_cases.WANTED))
     wrong = 0
     for named, (out, err, status), want in told_cases(folder):
         sys.stdout.buffer.write(named.encode() + out + err + b"status %d\n" % status)

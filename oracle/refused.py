@@ -3,7 +3,7 @@
 
     python3 oracle/refused.py [PROGRAM [SERVES [STEP]]]
 
-PROGRAM is the built program and SERVES that of the crate `serve_cases`; where they are not given, those that `rt ci` built.
+PROGRAM is the built program and SERVES that of the crate `command_cases`; where they are not given, those that `rt ci` built.
 A proved program takes its memory by `malloc` and `realloc` of the C library alone, and `refused.c` answers one of these
 calls, by its number, that there is none. The runs are
 
@@ -30,7 +30,7 @@ import serve_cases
 
 HERE = os.path.dirname(os.path.abspath(__file__))
 CRATES = os.path.join(os.path.dirname(HERE), "crates")
-BUILT = [os.path.join(CRATES, name, "out", name) for name in ("tilefarm", "serve_cases")]
+BUILT = [os.path.join(CRATES, name, "out", name) for name in ("tilefarm", "command_cases")]
 EACH = 120  # seconds for one run
 NO_MEMORY = b"tilefarm: out of memory\n"
 
@@ -51,8 +51,9 @@ class Ran:
 class Program:
     """A program with its words, in a folder of its own."""
 
-    def __init__(self, shim, program, words, source, files=None):
+    def __init__(self, shim, program, words, source, files=None, ends=0):
         self.shim, self.words, self.folder = shim, [program] + words, tempfile.mkdtemp(prefix="refused-")
+        self.ends = ends  # its status where nothing is refused
         for name in os.listdir(source):
             shutil.copy(os.path.join(source, name), self.folder)
         for name, content in (files or {}).items():
@@ -105,7 +106,8 @@ def told_of(out):
 
 
 def serve_kind(ran, whole):
-    """The same of the program that plays cases, which ends with status 1 where it finds no memory for the case itself."""
+    """The same of the program that plays cases, which ends with status 1 where it finds no memory for the case itself, and
+    behind the case runs the command of its own words, which are none."""
     if ran.is_same(whole):
         return "as without"
     if ran.status == 1:
@@ -115,7 +117,7 @@ def serve_kind(ran, whole):
     # The first peer leaves; where its drawing ends before that, it is sent its Done.
     wanted[b"0.0"] = serve_cases.message(serve_cases.DONE, 5, 8, 8)
     is_beginning = all(wanted.get(conn, b"").startswith(data) for conn, data in sent.items())
-    return "status %s" % status if ran.status == 0 and status in (0, 5) and is_beginning else None
+    return "status %s" % status if ran.status in (whole.status, 5) and status in (0, 5) and is_beginning else None
 
 
 # --- All of it --------------------------------------------------------------------------------------------------
@@ -124,7 +126,7 @@ def serve_kind(ran, whole):
 def tried(name, program, kind_of, step):
     """Refuses each growth of so many; how many runs were right, and how many were not."""
     growths, whole = program.growths()
-    if whole.status != 0:
+    if whole.status != program.ends:
         print("%s: it fails without a refusal: %s" % (name, whole.told()))
         return 0, 1
     kinds, wrong = collections.Counter(), 0
@@ -145,7 +147,7 @@ def three_fronts():
     """The case in which all three fronts are asked: no drawing is held, so that none is waited for in vain."""
     case = serve_cases.three_fronts("three fronts")
     files = {name: content if isinstance(content, bytes) else content.encode() for name, content in serve_cases.FILES.items()}
-    return dict(files, cases=case.text().encode())
+    return dict(files, serves=case.text().encode(), scripts=b"", drawings=b"")
 
 
 def main(words):
@@ -161,7 +163,7 @@ def main(words):
             ("meta", Program(shim, program, ["meta", "world.meta"], data("command_cases")), command_kind, 1),
             ("script", Program(shim, program, ["script", "square.config", "life_of_a_tile.script"], data("command_cases")), command_kind, 1),
             ("load", Program(shim, program, ["load", "7", "200"], folder), command_kind, step),
-            ("serve", Program(shim, serves, [], folder, three_fronts()), serve_kind, 10),
+            ("serve", Program(shim, serves, [], folder, three_fronts(), ends=2), serve_kind, 10),
         )
         passed = failed = 0
         try:

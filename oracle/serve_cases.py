@@ -1,10 +1,12 @@
 #!/usr/bin/env python3
 """Calls of the farm with `serve`, and what each is to give: worked out by hand from the formats and the rules.
 
-It is no part of the product. The crate `serve_cases` plays the cases over ports, a store and sinks in memory; this
-script writes its files and what it is to write, from the repository's top by
+It is no part of the product. The crate `command_cases` plays the cases over ports, a store and sinks in memory; this
+script writes its list `serves` and the files that the cases name, from the repository's top by
 
-    python3 oracle/serve_cases.py crates/serve_cases
+    python3 oracle/serve_cases.py crates/command_cases/data
+
+and `farm.py` puts what is wanted of them before what is wanted of the other commands.
 
 Each case below says what happens on the three ports and, behind it, what is wanted: never what a run gave. Only the
 bytes of messages, answers and pictures are computed here, plainly. It needs Python 3 and nothing else.
@@ -1041,15 +1043,10 @@ case.wants_status(4)
 
 
 def main(folder):
-    os.makedirs(folder + "/data", exist_ok=True)
-    for name in os.listdir(folder + "/data"):
-        os.remove(folder + "/data/" + name)
-    file("cases", "# made by oracle/serve_cases.py\n" + "\n".join(case.text() for case in CASES))
+    file("serves", "# made by oracle/serve_cases.py\n" + "\n".join(case.text() for case in CASES))
     for name, content in FILES.items():
-        with open(folder + "/data/" + name, "wb") as out:
+        with open(folder + "/" + name, "wb") as out:
             out.write(content)
-    with open(folder + "/stdout", "wb") as out:
-        out.write(b"".join(WANTED))
     assert len(CASES) == len(WANTED)
 
 
