@@ -1,4 +1,5 @@
 //! What the words of the command line ask for.
+use std::alloc::Global;
 use std::rt::Env;
 use std::{env, io};
 
@@ -20,7 +21,7 @@ pub(crate) enum Work {
 }
 
 /// The address behind the word `serve`, if these are the words.
-pub(crate) fn read_address(rt: &(impl Env + Alloc)) -> io::Result<Option<String>> {
+pub(crate) fn read_address<R: Env + Alloc<A = Global>>(rt: &R) -> io::Result<Option<String>> {
     let mut words = env::args(rt)?.skip(1);
     let (first, second) = (words.next(), words.next());
     Ok(match first {

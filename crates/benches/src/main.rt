@@ -46,7 +46,7 @@ fn main(rt: HostRuntime) -> io::Result<ExitCode> {
 /// Does what the words ask for: the status.
 fn tell<R>(rt: &R, echo: &mut Echo<R>, bell: &SocketBell) -> io::Result<u8>
 where
-    R: Env + Alloc<A = Global> + Threads + Wait + Sync + Clock + Print + Files,
+    R: Env + Alloc<A = Global> + Threads + Wait + Sync + Clock + Print + Eprint + Files,
     R: Net<Listener = TcpListener, Stream = TcpStream>,
 {
     if let Some(address) = read_address(rt)? {
