@@ -1,5 +1,10 @@
 //! Tests of single crates by their public calls, some on threads. They stand here and not beside what they call, since
 //! a crate with tests of its own is proved twice.
+//!
+//! Among them are drawings that no command reaches: a metatile's tiles in their places, one of very many points, and a
+//! map whose grids are not bound; the bits of a mask; an update of very many ids, and one of a layer of very many
+//! features; and values that were worked out by hand. The tiles that a command draws are those of the program
+//! `command_cases`.
 #![tactic(auto)]
 
 #[cfg(test)]
@@ -7,8 +12,18 @@ mod cells;
 #[cfg(test)]
 mod counter;
 #[cfg(test)]
+mod drawings;
+#[cfg(test)]
+mod masks;
+#[cfg(test)]
+mod metatiles;
+#[cfg(test)]
 mod outside;
 #[cfg(test)]
 mod places;
 #[cfg(test)]
+mod rows;
+#[cfg(test)]
 mod stores;
+#[cfg(test)]
+mod updates;

@@ -1,6 +1,6 @@
 use Rattle.std.proofs.Common.{arith}
-use Rattle.drawing_tests.proofs.Layers.{one_feature}
-use Rattle.drawing_tests.proofs.metatiles.data_with.Goals as goal
+use Rattle.crate_tests.proofs.Layers.{one_feature}
+use Rattle.crate_tests.proofs.metatiles.data_with.Goals as goal
 
 pub data_of-requires : goal.data_of-requires
 data_of-requires c =
