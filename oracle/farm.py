@@ -6,7 +6,8 @@ wanted output of the crate `command_cases` is made by it, from the repository's 
 
     python3 oracle/farm.py cases crates/command_cases/data > crates/command_cases/stdout
 
-which has what `oracle/serve_cases.py` wants before its scripts, and the drawings of `oracle/tilefarm.py` behind them,
+which has what `oracle/texts.py` and `oracle/serve_cases.py` want before its scripts, and the drawings of
+`oracle/tilefarm.py` behind them,
 
 and one command is run by `python3 oracle/farm.py script CONFIG SCRIPT` or `.. load SEED N`. `.. answers FOLDER` tells
 how often each answer and each refusal comes in a folder's scripts. A line of a folder's file `scripts` is one of
@@ -823,8 +824,10 @@ def told_cases(folder):
 
 
 def cases(folder):
+    sys.stdout.reconfigure(encoding="utf-8")
+    wrong = 1 if texts.cases(folder) else 0
+    sys.stdout.flush()
     sys.stdout.buffer.write(b"".join(serve_cases.WANTED))
-    wrong = 0
     for named, (out, err, status), want in told_cases(folder):
         sys.stdout.buffer.write(named.encode() + out + err + b"status %d\n" % status)
         sys.stdout.buffer.flush()

@@ -147,7 +147,9 @@ def three_fronts():
     """The case in which all three fronts are asked: no drawing is held, so that none is waited for in vain."""
     case = serve_cases.three_fronts("three fronts")
     files = {name: content if isinstance(content, bytes) else content.encode() for name, content in serve_cases.FILES.items()}
-    return dict(files, serves=case.text().encode(), scripts=b"", drawings=b"")
+    with open(os.path.join(CRATES, "command_cases", "data", "old.data"), "rb") as old:
+        files["old.data"] = old.read()
+    return dict(files, texts=b"", serves=case.text().encode(), scripts=b"", drawings=b"")
 
 
 def main(words):

@@ -2,12 +2,13 @@
 """What texts of styles, data, updates, filters, configurations, scripts, expiry lists, containers, saved farms and paths
 are read as, written a second time, from the formats alone.
 
-It is no part of the product. The wanted output of the crate `text_cases` is made by it, from the repository's top by
+It is no part of the product. What is wanted of the texts in the crate `command_cases` is told by it, and by `farm.py` with
+what is wanted of all other cases, from the repository's top by
 
-    python3 oracle/texts.py crates/text_cases/data > crates/text_cases/stdout
+    python3 oracle/texts.py crates/command_cases/data
 
 and it ends with status 1 where a row wants what it does not read, or a table has no row: the wants were worked out by
-hand, so each row has two sources that know nothing of the program. The folder's file `cases` has a line for each file:
+hand, so each row has two sources that know nothing of the program. The folder's file `texts` has a line for each file:
 
     KIND rows FILE          FILE is a table of texts: `in A%B` says what the texts after it stand in, at the `%`;
                             `WANTED <- TEXT` is a text, and `WANTED <* COUNT SEPARATOR PIECE` one of COUNT pieces,
@@ -20,7 +21,7 @@ hand, so each row has two sources that know nothing of the program. The folder's
 
 Each text gives one line: its first fault, or that it is read; of a filter its tree or its value, of an update the
 layers after it, of an expiry list its tiles, of a container its entries, and of a path its metatile. Before it stands
-`case` with the line of `cases`, and before each text of a table `row FILE:LINE`. A table's wants are of all that is
+`case` with the line of `texts`, and before each text of a table `row FILE:LINE`. A table's wants are of all that is
 read, object by object. It needs Python 3 and nothing else.
 """
 
@@ -569,7 +570,7 @@ def table(kind, name, data, old, is_known):
 def cases(folder):
     read = lambda name: open(os.path.join(folder, name), "rb").read()
     old, known, wrong = read("old.data"), set(), 0
-    for line in read("cases").decode().splitlines():
+    for line in read("texts").decode().splitlines():
         print("case " + line)
         kind, form, name = line.split(" ")
         data = read(name)

@@ -1,22 +1,34 @@
-//! Whole calls over files: `serve` over ports in memory, then scripts and generated work, and then drawings and
-//! containers. All of them go through one call of `farm_main`, over one kind of files, sinks, store, ports and gate, so
-//! that the farm is built once for them. What is wanted of each case was computed by three other programs, which were
-//! written from the formats and the farm's rules alone. After the cases comes the program itself over the words that it
-//! was called with, which are refused: nothing on out, the line on err, which is put on standard output too, and status 2.
+//! Texts of every kind that the readers read, and then whole calls over files: `serve` over ports in memory, scripts and
+//! generated work, drawings and containers. All calls go through one call of `farm_main`, over one kind of files, sinks,
+//! store, ports and gate, so that the farm is built once for them. What is wanted of each case was computed by other
+//! programs, which were written from the formats and the farm's rules alone. After the cases comes the program itself
+//! over the words that it was called with, which are refused: nothing on out, the line on err, which is put on standard
+//! output too, and status 2.
 #![tactic(auto)]
 
 mod beside;
 mod cases;
+mod change_told;
 mod commands;
+mod config_told;
+mod data_told;
+mod filter_told;
 mod gates;
+mod lines_told;
+mod meta_told;
+mod path_told;
 mod plays;
+mod saved_told;
 mod serves;
+mod style_told;
 mod tells;
+mod texts;
 
 use crate::beside::CaseFiles;
 use crate::commands::run_cases;
 use crate::gates::HoldGate;
 use crate::serves::run_serves;
+use crate::texts::run_texts;
 use farm_base::{DiskFiles, Files, MemSink, OutSink, Sink};
 use farm_call::program;
 use memory_ports::MemPorts;
@@ -43,6 +55,7 @@ fn run<R: Env + Alloc<A = Global> + Threads + Wait + Clock + Sync, F: Files, O: 
     out: &mut O,
 ) -> Option<u8> {
     let alloc = rt.alloc();
+    run_texts(alloc, "texts", files, out)?;
     run_serves(rt, alloc, "serves", files, out)?;
     run_cases(rt, alloc, "scripts", files, out)?;
     run_cases(rt, alloc, "drawings", files, out)?;

@@ -1,21 +1,8 @@
 //! Reads the texts of styles, data, updates, filters, configurations, scripts, expiry lists, containers, saved farms and
 //! paths that stand in files, and writes of each one line: its first fault, or that it is read; of a filter its tree or
 //! its value, of an update the layers after it, of an expiry list its tiles, and of a container its entries. Before that
-//! stand the line of the file `cases`, and of a text in a table the table and its line there. What is wanted of it was
-//! computed by another program, which was written from the formats alone, and agrees with what the tables want of each
-//! text.
-#![tactic(auto)]
-
-mod change_told;
-mod config_told;
-mod data_told;
-mod filter_told;
-mod lines_told;
-mod meta_told;
-mod path_told;
-mod saved_told;
-mod style_told;
-
+//! stand the line of the list, and of a text in a table the table and its line there. What is wanted of it was computed
+//! by another program, which was written from the formats alone, and agrees with what the tables want of each text.
 use crate::change_told::change_told;
 use crate::config_told::config_told;
 use crate::data_told::{data_told, update_told};
@@ -27,27 +14,21 @@ use crate::saved_told::saved_told;
 use crate::style_told::style_told;
 use case_tables::{Frame, frame_of, row};
 use data_versions::Snapshot;
-use farm_base::{DiskFiles, Files, OutSink, Sink};
+use farm_base::{Files, Sink};
 use geo_json::read_data;
 use std::alloc::{AllocError, Global};
-use std::process::ExitCode;
 use std::str;
 
-fn main(rt: HostRuntime) -> ExitCode {
-    match run(rt) {
-        Some(()) => ExitCode::SUCCESS,
-        None => ExitCode::FAILURE,
-    }
-}
-
-// None where the cases cannot be read, a put on out fails, or memory runs out.
-fn run(rt: HostRuntime) -> Option<()> {
-    let alloc = rt.alloc();
-    let mut files = DiskFiles::new(rt);
-    let mut out = OutSink::new(rt.stdout());
-    let cases = files.read(alloc, "cases").ok()?;
-    let old = old_data(alloc, &mut files)?;
-    let ran = each_case(alloc, cases.as_slice(), &old, &mut files, &mut out);
+/// Tells the texts of the file `list`; `None` where it cannot be read, a put on out fails, or memory runs out.
+pub(crate) fn run_texts<F: Files, O: Sink>(
+    alloc: Global,
+    list: &str,
+    files: &mut F,
+    out: &mut O,
+) -> Option<()> {
+    let cases = files.read(alloc, list).ok()?;
+    let old = old_data(alloc, files)?;
+    let ran = each_case(alloc, cases.as_slice(), &old, files, out);
     drop(old);
     ran
 }
