@@ -4,7 +4,7 @@ use std::rt::Env;
 use std::{env, io};
 
 /// Which benchmark is asked for.
-#[derive(Clone, Copy, PartialEq, Eq)]
+#[derive(Clone, Copy)]
 pub(crate) enum Bench {
     All,
     Filters,
