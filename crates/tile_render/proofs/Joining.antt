@@ -1,5 +1,5 @@
 -- Pieces put in order and joined, one after another, and what they tell of bits and of members.
-use Rattle.std.proofs.Common.{◌≡◌, ℕ, ◌+◌, ◌-◌, ◌*◌, ◌^◌, ◌<◌, ◌≤◌, ◌⊎◌, Bool, true, false, ◌&&◌, ◌||◌, List, [], ◌∷◌, ◌++◌, length, take, get_or, max, replicate, refl, ap, sym, subst, ◌∙◌, inl, inr, arith}
+use Rattle.std.proofs.Common.{◌≡◌, ℕ, ◌+◌, ◌-◌, ◌*◌, ◌<◌, ◌≤◌, ◌⊎◌, Bool, true, false, ◌&&◌, ◌||◌, List, [], ◌∷◌, ◌++◌, length, take, get_or, max, replicate, refl, ap, sym, subst, ◌∙◌, inl, inr, arith}
 use Rattle.std.specs.Prelude.{nat_eq, nat_le, All}
 use Rattle.std.specs.List.Sorted.{IsNonDecreasingBy}
 use Rattle.std.proofs.Math.Nat.{mul-le-mul_right}
@@ -20,7 +20,7 @@ use Rattle.plain_image.specs.Surfaces.{ShowsSome, Marks}
 use Rattle.plain_image.proofs.Runs.{run_length}
 use Rattle.tile_render.specs.declared.pieces.Piece.{Piece}
 use Rattle.tile_render.specs.declared.pieces.Pieces.{Pieces}
-use Rattle.tile_render.specs.inner.Pieces.{IsPiece, has, covered, place, IsBefore, Apart, ToldBits, ShowsPieces, PiecesTell}
+use Rattle.tile_render.specs.inner.Pieces.{row_of, start_of, IsPiece, has, covered, place, IsBefore, Apart, ToldBits, ShowsPieces, PiecesTell}
 use Rattle.tile_render.proofs.Brushing.{Beyond, run_in, run_beyond, unset}
 use Rattle.tile_render.proofs.Covering.{bit_told}
 use Rattle.tile_render.proofs.Runs.{NextRun, ordered}
@@ -28,20 +28,20 @@ use Rattle.tile_render.proofs.Runs.{NextRun, ordered}
 -- ---- which pixels a piece has
 
 pub record Held (j i : ℕ) (p : Piece) : Type 0 where
-  pub row : j ≡ p.row
-  pub from : p.start ≤ i
+  pub row : j ≡ (row_of p)
+  pub from : start_of p ≤ i
   pub to : i < p.end
 
 pub in_piece : (j i : ℕ) (p : Piece) → Held j i p → has j i p ≡ true
 unfolding has
-in_piece j i p h = and_from _ _ (eq-eqb j p.row h.row) (and_from _ _ (le-leb p.start i h.from) (le-leb (i + 1) p.end (omega (arith, h.to))))
+in_piece j i p h = and_from _ _ (eq-eqb j (row_of p) h.row) (and_from _ _ (le-leb (start_of p) i h.from) (le-leb (i + 1) p.end (omega (arith, h.to))))
 
 pub held : (j i : ℕ) (p : Piece) → has j i p ≡ true → Held j i p
 unfolding has
 held j i p h =
     let a = and_parts _ _ h in
     let b = and_parts _ _ a.1 in
-    record { row = eqb-true j p.row a.0; from = leb-true p.start i b.0; to = (let lt = leb-true (i + 1) p.end b.1 in omega (arith, lt)) }
+    record { row = eqb-true j (row_of p) a.0; from = leb-true (start_of p) i b.0; to = (let lt = leb-true (i + 1) p.end b.1 in omega (arith, lt)) }
 
 off_piece : (j i : ℕ) (p : Piece) → (Held j i p → ⊥) → has j i p ≡ false
 off_piece j i p out = false_from_ne_true (has j i p) (λ e. out (held j i p e))
@@ -74,7 +74,7 @@ pub record JoinedTo (pieces kept : List Piece) (last : Piece) (k : ℕ) : Type 0
   pub inside : (cols rows : ℕ) → All (IsPiece cols rows) pieces → All (IsPiece cols rows) kept × IsPiece cols rows last
 
 -- a piece that begins in the last one, or at its end
-merged_has : (j i : ℕ) (last piece : Piece) (end : ℕ) → piece.row ≡ last.row → last.start ≤ piece.start → piece.start ≤ last.end → last.end ≤ end → piece.end ≤ end
+merged_has : (j i : ℕ) (last piece : Piece) (end : ℕ) → row_of piece ≡ (row_of last) → start_of last ≤ (start_of piece) → start_of piece ≤ last.end → last.end ≤ end → piece.end ≤ end
     → (end ≡ last.end) ⊎ (end ≡ piece.end) → has j i (record last { end = end }) ≡ (has j i last || has j i piece)
 merged_has j i last piece end row from touches left right which = same_bool _ _ to back
   where
@@ -95,7 +95,7 @@ merged_has j i last piece end row from touches left right which = same_bool _ _ 
 
 -- one piece more, joined to the last one
 pub joined_touching : (pieces kept : List Piece) (last next piece : Piece) (k : ℕ) → k < length pieces → IsNonDecreasingBy place pieces → piece ≡ get_or pieces k piece
-    → (nat_eq piece.row last.row && nat_le piece.start last.end) ≡ true → next ≡ record last { end = max last.end piece.end }
+    → (nat_eq (row_of piece) (row_of last) && nat_le (start_of piece) last.end) ≡ true → next ≡ record last { end = max last.end piece.end }
     → JoinedTo pieces kept last k → JoinedTo pieces kept next (k + 1)
 joined_touching pieces kept last next piece k within order is touches next_is f = subst (λ p. JoinedTo pieces kept p (k + 1)) (sym next_is) (record {
   same = λ j i.
@@ -115,14 +115,14 @@ joined_touching pieces kept last next piece k within order is touches next_is f 
     end : ℕ
     end = max last.end piece.end
 
-    both : (nat_eq piece.row last.row ≡ true) × (nat_le piece.start last.end ≡ true)
+    both : (nat_eq (row_of piece) (row_of last) ≡ true) × (nat_le (start_of piece) last.end ≡ true)
     both = and_parts _ _ touches
 
-    row : piece.row ≡ last.row
-    row = eqb-true piece.row last.row both.0
+    row : row_of piece ≡ (row_of last)
+    row = eqb-true (row_of piece) (row_of last) both.0
 
-    start : piece.start ≤ last.end
-    start = leb-true piece.start last.end both.1
+    start : start_of piece ≤ last.end
+    start = leb-true (start_of piece) last.end both.1
 
     below : place last ≤ place piece
     below = omega (arith, f.next k piece (omega arith) within, ap place is)
@@ -150,9 +150,9 @@ pushed_covers pieces kept last k f j i =
 
 -- one piece more, which begins past the last one
 pub joined_past : (pieces kept : List Piece) (last piece : Piece) (k : ℕ) → k < length pieces → IsNonDecreasingBy place pieces → piece ≡ get_or pieces k piece
-    → last.start < 2 ^ 32 → piece.start < 2 ^ 32 → (nat_eq piece.row last.row && nat_le piece.start last.end) ≡ false
+    → (nat_eq (row_of piece) (row_of last) && nat_le (start_of piece) last.end) ≡ false
     → JoinedTo pieces kept last k → JoinedTo pieces (kept ++ last ∷ []) piece (k + 1)
-joined_past pieces kept last piece k within order is small small' past f = record {
+joined_past pieces kept last piece k within order is past f = record {
   same = λ j i.
       ap (λ t. t || has j i piece) (pushed_covers pieces kept last k f j i) ∙ ap (λ p. covered (take k pieces) j i || has j i p) is
       ∙ sym (list_any_more (has j i) pieces k piece within);
@@ -169,14 +169,14 @@ joined_past pieces kept last piece k within order is small small' past f = recor
     below : place last ≤ place piece
     below = omega (arith, f.next k piece (omega arith) within, ap place is)
 
-    row : last.row ≤ piece.row
+    row : row_of last ≤ (row_of piece)
     row = omega (arith, below)
 
-    beyond : piece.row ≤ last.row → last.end ≤ piece.start
+    beyond : row_of piece ≤ (row_of last) → last.end ≤ (start_of piece)
     beyond r =
-        let e : piece.row ≡ last.row = omega (arith, row) in
-        let off : nat_le piece.start last.end ≡ false = sym (ap (λ t. t && nat_le piece.start last.end) (eq-eqb piece.row last.row e)) ∙ past in
-        let lt = leb-false piece.start last.end off in
+        let e : row_of piece ≡ (row_of last) = omega (arith, row) in
+        let off : nat_le (start_of piece) last.end ≡ false = sym (ap (λ t. t && nat_le (start_of piece) last.end) (eq-eqb (row_of piece) (row_of last) e)) ∙ past in
+        let lt = leb-false (start_of piece) last.end off in
         omega (arith, lt)
 
 -- all pieces
@@ -188,34 +188,34 @@ joined_inside pieces kept last k cols rows f all = (let g = f.inside cols rows a
 
 -- ---- pieces and bits
 
-run_bit : (cols j from end : ℕ) (bits : List Bool) (v i : ℕ) → from ≤ end → end ≤ cols → i < cols → v * cols + i < length bits
+run_bit : (cols j from end : ℕ) (p : Piece) (bits : List Bool) (v i : ℕ) → row_of p ≡ j → start_of p ≡ from → p.end ≡ end → from ≤ end → end ≤ cols → i < cols → v * cols + i < length bits
     → get_or (run_changed (λ _. true) (j * cols + from) (end - from) bits) (v * cols + i) false
-    ≡ (get_or bits (v * cols + i) false || has v i (record { row = j; start = from; end = end }))
-run_bit cols j from end bits v i order fits col within = elim (cases_lt v j) [
-  | inl up ↦ (let q : v + 1 ≤ j = omega arith in off (inl (omega (arith, mul-le-mul_right cols q))) (λ h. omega (arith, h.row)))
+    ≡ (get_or bits (v * cols + i) false || has v i p)
+run_bit cols j from end p bits v i er es ee order fits col within = elim (cases_lt v j) [
+  | inl up ↦ (let q : v + 1 ≤ j = omega arith in off (inl (omega (arith, mul-le-mul_right cols q))) (λ h. omega (arith, h.row, er)))
   | inr level ↦ (elim (cases_lt j v) [
-    | inl under ↦ (let q : j + 1 ≤ v = omega arith in off (inr (omega (arith, mul-le-mul_right cols q))) (λ h. omega (arith, h.row)))
+    | inl under ↦ (let q : j + 1 ≤ v = omega arith in off (inr (omega (arith, mul-le-mul_right cols q))) (λ h. omega (arith, h.row, er)))
     | inr here ↦ (
         let e : v ≡ j = omega arith in
         let a = ap (λ k. k * cols) e in
         elim (cases_lt i from) [
-          | inl west ↦ off (inl (omega (arith, a))) (λ h. omega (arith, h.from))
+          | inl west ↦ off (inl (omega (arith, a))) (λ h. omega (arith, h.from, es))
           | inr west ↦ (elim (cases_lt i end) [
             | inl inner ↦
                 run_in (λ _. true) (j * cols + from) (end - from) bits (v * cols + i) false (omega (arith, a)) (omega (arith, a)) within
-                ∙ sym (or_right (get_or bits (v * cols + i) false) _ (in_piece v i (record { row = j; start = from; end = end }) (record { row = e; from = west; to = inner })))
-            | inr east ↦ off (inr (omega (arith, a))) (λ h. omega (arith, h.to))
+                ∙ sym (or_right (get_or bits (v * cols + i) false) _ (in_piece v i p (record { row = e ∙ sym er; from = omega (arith, es, west); to = omega (arith, ee, inner) })))
+            | inr east ↦ off (inr (omega (arith, a))) (λ h. omega (arith, h.to, ee))
           ])
         ])
   ])
 ]
   where
-    off : Beyond (v * cols + i) (j * cols + from) (end - from) → (Held v i (record { row = j; start = from; end = end }) → ⊥)
+    off : Beyond (v * cols + i) (j * cols + from) (end - from) → (Held v i p → ⊥)
         → get_or (run_changed (λ _. true) (j * cols + from) (end - from) bits) (v * cols + i) false
-        ≡ (get_or bits (v * cols + i) false || has v i (record { row = j; start = from; end = end }))
+        ≡ (get_or bits (v * cols + i) false || has v i p)
     off far out =
         run_beyond (λ _. true) (j * cols + from) (end - from) bits (v * cols + i) false far
-        ∙ sym (ap (λ t. get_or bits (v * cols + i) false || t) (off_piece v i (record { row = j; start = from; end = end }) out) ∙ or-false (get_or bits (v * cols + i) false))
+        ∙ sym (ap (λ t. get_or bits (v * cols + i) false || t) (off_piece v i p out) ∙ or-false (get_or bits (v * cols + i) false))
 
 -- nothing is covered yet
 pub shows_none : (start : Pieces) → start.list.items ≡ [] → ShowsPieces start (record { cols = start.cols; rows = start.rows; bits = replicate (start.rows * start.cols) false })
@@ -230,13 +230,13 @@ shows_none start none = record {
 }
 
 -- one piece more
-pub shows_more : (old new : Pieces) (bits : Bits) (j from end : ℕ) → j < old.rows → end ≤ old.cols → from ≤ end → new.cols ≡ old.cols → new.rows ≡ old.rows
+pub shows_more : (old new : Pieces) (bits : Bits) (j from end : ℕ) (p : Piece) → row_of p ≡ j → start_of p ≡ from → p.end ≡ end → j < old.rows → end ≤ old.cols → from ≤ end → new.cols ≡ old.cols → new.rows ≡ old.rows
     → (new.is_short ≡ false → (old.is_short ≡ false)
-    × ((v i : ℕ) → covered new.list.items v i ≡ (covered old.list.items v i || has v i (record { row = j; start = from; end = end })))
-    × (All (IsPiece old.cols old.rows) old.list.items → IsPiece old.cols old.rows (record { row = j; start = from; end = end }) → All (IsPiece old.cols old.rows) new.list.items))
+    × ((v i : ℕ) → covered new.list.items v i ≡ (covered old.list.items v i || has v i p))
+    × (All (IsPiece old.cols old.rows) old.list.items → IsPiece old.cols old.rows p → All (IsPiece old.cols old.rows) new.list.items))
     → ShowsPieces old bits
     → ShowsSome ShowsPieces (λ next. next ≡ record bits { bits = run_changed (λ _. true) (j * old.cols + from) (end - from) bits.bits }) new
-shows_more old new bits j from end row col order cols rows added s = record {
+shows_more old new bits j from end p er es ee row col order cols rows added s = record {
   bits = record bits { bits = next };
   shown = record {
     cols = s.cols ∙ sym cols;
@@ -246,11 +246,11 @@ shows_more old new bits j from end row col order cols rows added s = record {
         (let more = added whole in
         let t = s.told more.0 in
         subst (λ n. ToldBits n new.rows new.list.items next) (sym cols) (subst (λ n. ToldBits old.cols n new.list.items next) (sym rows) (record {
-          inside = more.2 t.inside (record { row = row; order = order; end = col });
+          inside = more.2 t.inside (record { row = omega (arith, er, row); order = omega (arith, es, ee, order); end = omega (arith, ee, col) });
           at = λ v i hv hi.
               (let down : v + 1 ≤ old.rows = omega arith in
-              run_bit old.cols j from end bits.bits v i order col hi (omega (arith, s.count, mul-le-mul_right old.cols down))
-              ∙ ap (λ t. t || has v i (record { row = j; start = from; end = end })) (t.at v i hv hi) ∙ sym (more.1 v i));
+              run_bit old.cols j from end p bits.bits v i er es ee order col hi (omega (arith, s.count, mul-le-mul_right old.cols down))
+              ∙ ap (λ t. t || has v i p) (t.at v i hv hi) ∙ sym (more.1 v i));
         })));
   };
   is = refl;
@@ -281,8 +281,8 @@ pieces_made w member start now found cols rows none marks whole same apart insid
 
 -- the first k pieces end before the place n, and the others begin there or behind it
 pub record PiecesDone (cols : ℕ) (pieces : List Piece) (k n : ℕ) : Type 0 where
-  pub before : (x : ℕ) (d : Piece) → x < k → x < length pieces → (get_or pieces x d).row * cols + (get_or pieces x d).end ≤ n
-  pub behind : (y : ℕ) (d : Piece) → k ≤ y → y < length pieces → n ≤ (get_or pieces y d).row * cols + (get_or pieces y d).start
+  pub before : (x : ℕ) (d : Piece) → x < k → x < length pieces → row_of (get_or pieces x d) * cols + (get_or pieces x d).end ≤ n
+  pub behind : (y : ℕ) (d : Piece) → k ≤ y → y < length pieces → n ≤ row_of (get_or pieces y d) * cols + start_of (get_or pieces y d)
 
 pub pieces_none : (cols : ℕ) (pieces : List Piece) → PiecesDone cols pieces 0 0
 pieces_none cols pieces = record { before = λ x d lt within. absurd (omega arith); behind = λ y d low within. omega arith }
@@ -291,13 +291,13 @@ pieces_none cols pieces = record { before = λ x d lt within. absurd (omega arit
 none_has : (pieces : List Piece) (j i : ℕ) → ((x : ℕ) (d : Piece) → x < length pieces → Held j i (get_or pieces x d) → ⊥) → covered pieces j i ≡ false
 none_has pieces j i out = list_any_none (has j i) pieces (λ x d within. off_piece j i (get_or pieces x d) (out x d within))
 
-piece_row : (cols j i : ℕ) (p : Piece) → Held j i p → (p.row * cols + p.start ≤ j * cols + i) × (j * cols + i < p.row * cols + p.end)
+piece_row : (cols j i : ℕ) (p : Piece) → Held j i p → ((row_of p) * cols + (start_of p) ≤ j * cols + i) × (j * cols + i < (row_of p) * cols + p.end)
 piece_row cols j i p h = (let a = ap (λ k. k * cols) h.row in (omega (arith, a, h.from), omega (arith, a, h.to)))
 
 -- the k-th piece is the next run of members
 pub piece_next : (w : Window) (member : Point → Bool) (pieces : List Piece) (k n : ℕ) (piece : Piece) → k < length pieces → piece ≡ get_or pieces k piece
     → PiecesTell w member pieces → PiecesDone w.cols pieces k n
-    → NextRun w member (PiecesDone w.cols pieces (k + 1)) n piece.row piece.start piece.end
+    → NextRun w member (PiecesDone w.cols pieces (k + 1)) n (row_of piece) (start_of piece) piece.end
 piece_next w member pieces k n piece within is tells done = record {
   begins = first;
   before = λ j i hi hj low high. tells.at j i hj hi ∙ none_has pieces j i (λ x d lt h.
@@ -307,37 +307,37 @@ piece_next w member pieces k n piece within is tells done = record {
         | inr late ↦ omega (arith, at.0, high, later x d late lt)
       ]));
   within = λ i low high.
-      tells.at piece.row i inside.row (omega (arith, inside.end))
-      ∙ list_any_at (has piece.row i) pieces k piece within (ap (has piece.row i) (sym is) ∙ in_piece piece.row i piece (record { row = refl; from = low; to = high }));
+      tells.at (row_of piece) i inside.row (omega (arith, inside.end))
+      ∙ list_any_at (has (row_of piece) i) pieces k piece within (ap (has (row_of piece) i) (sym is) ∙ in_piece (row_of piece) i piece (record { row = refl; from = low; to = high }));
   past = record {
     before = λ x d lt there. elim (cases_lt x k) [
       | inl early ↦ omega (arith, done.before x d early there, first, inside.order)
       | inr here ↦ (
           let e : x ≡ k = omega arith in
           let q : get_or pieces x d ≡ piece = ap (λ m. get_or pieces m d) e ∙ get_or_default pieces k d piece within ∙ sym is in
-          omega (arith, ap (λ p. p.row * w.cols + p.end) q))
+          omega (arith, ap (λ p. (row_of p) * w.cols + p.end) q))
     ];
     behind = λ y d low there.
         (let b : IsBefore piece (get_or pieces y d) = subst (λ p. IsBefore p (get_or pieces y d)) (get_or_default pieces k d piece within ∙ sym is) (tells.apart.at k y d (omega arith) there) in
-        ordered piece.row piece.end (get_or pieces y d).row (get_or pieces y d).start w.cols inside.end b.row b.col);
+        ordered (row_of piece) piece.end (row_of (get_or pieces y d)) (start_of (get_or pieces y d)) w.cols inside.end b.row b.col);
   };
 }
   where
     inside : IsPiece w.cols w.rows piece
     inside = subst (IsPiece w.cols w.rows) (sym is) (tells.inside k piece within)
 
-    first : n ≤ piece.row * w.cols + piece.start
-    first = omega (arith, done.behind k piece (omega arith) within, ap (λ p. p.row * w.cols + p.start) is)
+    first : n ≤ row_of piece * w.cols + (start_of piece)
+    first = omega (arith, done.behind k piece (omega arith) within, ap (λ p. (row_of p) * w.cols + (start_of p)) is)
 
-    later : (x : ℕ) (d : Piece) → k ≤ x → x < length pieces → piece.row * w.cols + piece.start ≤ (get_or pieces x d).row * w.cols + (get_or pieces x d).start
+    later : (x : ℕ) (d : Piece) → k ≤ x → x < length pieces → row_of piece * w.cols + (start_of piece) ≤ row_of (get_or pieces x d) * w.cols + start_of (get_or pieces x d)
     later x d late lt = elim (cases_lt k x) [
       | inl behind ↦ (
           let b : IsBefore piece (get_or pieces x d) = subst (λ p. IsBefore p (get_or pieces x d)) (get_or_default pieces k d piece within ∙ sym is) (tells.apart.at k x d behind lt) in
-          omega (arith, inside.order, ordered piece.row piece.end (get_or pieces x d).row (get_or pieces x d).start w.cols inside.end b.row b.col))
+          omega (arith, inside.order, ordered (row_of piece) piece.end (row_of (get_or pieces x d)) (start_of (get_or pieces x d)) w.cols inside.end b.row b.col))
       | inr here ↦ (
           let e : x ≡ k = omega arith in
           let q : get_or pieces x d ≡ piece = ap (λ m. get_or pieces m d) e ∙ get_or_default pieces k d piece within ∙ sym is in
-          omega (arith, ap (λ p. p.row * w.cols + p.start) q))
+          omega (arith, ap (λ p. (row_of p) * w.cols + (start_of p)) q))
     ]
 
 -- the pixels behind all pieces

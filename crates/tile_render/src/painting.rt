@@ -7,7 +7,7 @@ ghost use Rattle.tile_render.specs.inner.Pieces.{IsPiece};
 ghost use Rattle.tile_render.specs.inner.Covers.{RunsFit, Between, Consists};
 ghost use Rattle.tile_render.specs.inner.Regions.{IsRegion, over_member};
 
-use crate::pieces::Piece;
+use crate::pieces::{Piece, row_of, start_of};
 use crate::regions::{Region, region_window};
 use crate::symbolizers::Paint;
 use plain_image::Image;
@@ -25,8 +25,8 @@ fn red_under(w: Window, region: Region, piece: Piece, image: &Image) -> u8
     requires cols { image.now.cols ≡ w.cols }
     requires rows { image.now.rows ≡ w.rows }
 {
-    let col = region.col + piece.start;
-    let row = region.row + piece.row;
+    let col = region.col + start_of(piece);
+    let row = region.row + row_of(piece);
     image.pixel(col.min(w.cols - 1), row).r
 }
 
@@ -80,10 +80,12 @@ pub(crate) fn paint_pieces(
 {
     for k in 0..pieces.len() {
         let piece = pieces[k];
+        let row = row_of(piece);
+        let start = start_of(piece);
         let opacity = opacity_at(w, region, pieces, k, paint.opacity, image);
         image.blend_run(
-            region.row + piece.row,
-            region.col + piece.start,
+            region.row + row,
+            region.col + start,
             region.col + piece.end,
             paint.colour,
             opacity,

@@ -1,7 +1,8 @@
 //! What the parts of strokes and marks cover, piece by piece, so that a pixel of several parts is painted once.
-ghost use Rattle.std.specs.Prelude.{◌≡◌, ℕ, ◌^◌, ◌<◌, ◌&&◌, ◌||◌, nat_eq, nat_le, false, [], All, IfOk, OnOk, IsPermutation};
+ghost use Rattle.std.specs.Prelude.{◌≡◌, ℕ, ◌^◌, ◌<◌, ◌≤◌, ◌&&◌, ◌||◌, nat_eq, nat_le, false, [], All, IfOk, OnOk, IsPermutation};
 ghost use Rattle.std.specs.List.Sorted.{IsNonDecreasingBy};
-ghost use Rattle.tile_render.specs.inner.Pieces.{IsPiece, has, covered, Apart, place};
+ghost use Rattle.plain_world.specs.Limits.{most_side};
+ghost use Rattle.tile_render.specs.inner.Pieces.{row_of, start_of, piece_at, IsPiece, has, covered, Apart, place};
 
 use farm_base::NoMemory;
 use plain_image::Surface;
@@ -10,12 +11,41 @@ use std::alloc::Global;
 // So many pieces are never too many.
 const FEW: usize = 65_536;
 
-/// Pixels side by side in a row: from the column `start` on and before the column `end`.
+/// Pixels side by side in a row: before the column `end`, and from the column on that is told by the lower 16 digits of
+/// `place`, of which the others tell the row. Their order is that of one number, and they are sorted in half the time
+/// that three numbers take.
 #[derive(Clone, Copy)]
 pub(crate) struct Piece {
-    pub row: u32,
-    pub start: u32,
+    pub place: u32,
     pub end: u32,
+}
+
+/// The row of a piece.
+pub(crate) fn row_of(piece: Piece) -> u32
+    ensures { result ≡ row_of piece }
+{
+    piece.place / (1 << 16)
+}
+
+/// The column that a piece begins at.
+pub(crate) fn start_of(piece: Piece) -> u32
+    ensures { result ≡ start_of piece }
+{
+    piece.place % (1 << 16)
+}
+
+// The piece of a row from a column on and before another one, in so many rows of so many columns.
+fn piece_at(cols: u16, rows: u16, row: u32, start: u32, end: u32) -> Piece
+    requires row { row ≤ rows }
+    requires start { start ≤ cols }
+    ensures value { result ≡ piece_at row start end }
+    ensures few_rows { row < 2 ^ 16 }
+    ensures few_cols { start < 2 ^ 16 }
+{
+    Piece {
+        place: row * (1 << 16) + start,
+        end,
+    }
 }
 
 /// What is covered of so many columns and rows: a list of pieces, some of which may have pixels in common. Only
@@ -24,8 +54,8 @@ pub(crate) struct Piece {
 #[derive(Drop)]
 pub(crate) struct Pieces {
     pub alloc: Global,
-    pub cols: u32,
-    pub rows: u32,
+    pub cols: u16,
+    pub rows: u16,
     pub list: Vec<Piece>,
     pub most: usize,
     pub is_short: bool,
@@ -33,14 +63,16 @@ pub(crate) struct Pieces {
 
 /// Nothing is covered of so many columns and rows.
 pub(crate) fn no_pieces(alloc: Global, cols: u32, rows: u32) -> Pieces
+    requires cols { cols ≤ most_side }
+    requires rows { rows ≤ most_side }
     ensures cols { result.cols ≡ cols }
     ensures rows { result.rows ≡ rows }
     ensures none { result.list.items ≡ [] }
 {
     Pieces {
         alloc,
-        cols,
-        rows,
+        cols: cols as u16,
+        rows: rows as u16,
         list: Vec::new(alloc),
         most: FEW,
         is_short: false,
@@ -52,16 +84,14 @@ fn sort(pieces: &mut [Piece])
     ensures same { IsPermutation pieces.old pieces.new }
     ensures order { IsNonDecreasingBy place pieces.new }
 {
-    pieces.sort_unstable_by_key(|piece| u64::from(piece.row) * (1 << 32) + u64::from(piece.start));
+    pieces.sort_unstable_by_key(|piece| piece.place);
 }
 
 // Whether a piece that does not begin before the last one begins in it or at its end.
 fn touches(last: Piece, piece: Piece) -> bool
-    ensures value { result ≡ (nat_eq piece.row last.row && nat_le piece.start last.end) }
-    ensures last_fits { last.start < 2 ^ 32 }
-    ensures piece_fits { piece.start < 2 ^ 32 }
+    ensures { result ≡ (nat_eq (row_of piece) (row_of last) && nat_le (start_of piece) last.end) }
 {
-    piece.row == last.row && piece.start <= last.end
+    row_of(piece) == row_of(last) && start_of(piece) <= last.end
 }
 
 // The pieces of a list in order, with those that touch joined.
@@ -144,11 +174,7 @@ impl Surface for Pieces {
         if from >= end {
             return;
         }
-        let piece = Piece {
-            row: j,
-            start: from,
-            end,
-        };
+        let piece = piece_at(self.cols, self.rows, j, from, end);
         match self.add(piece) {
             Ok(()) => {}
             Err(_) => {

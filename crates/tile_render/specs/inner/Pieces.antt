@@ -1,5 +1,5 @@
 -- Pieces of rows, the pixels that a list of them covers, and the bits that are told by it.
-use Rattle.std.specs.Prelude.{◌≡◌, ℕ, ◌+◌, ◌*◌, ◌^◌, ◌<◌, ◌≤◌, Bool, false, ◌&&◌, nat_eq, nat_le, List, length, slice_index_or, All}
+use Rattle.std.specs.Prelude.{◌≡◌, ℕ, ◌+◌, ◌*◌, ◌/◌, ◌%◌, ◌^◌, ◌<◌, ◌≤◌, Bool, false, ◌&&◌, nat_eq, nat_le, List, length, slice_index_or, All}
 use Rattle.std.specs.List.{list_any}
 use Rattle.plain_world.specs.declared.world.Point.{Point}
 use Rattle.plain_world.specs.declared.world.Window.{Window}
@@ -8,28 +8,39 @@ use Rattle.plain_shapes.specs.Images.{Bits}
 use Rattle.tile_render.specs.declared.pieces.Piece.{Piece}
 use Rattle.tile_render.specs.declared.pieces.Pieces.{Pieces}
 
+-- the row of a piece, and the column that it begins at
+abbrev pub row_of : Piece → ℕ
+row_of p = p.place / 2 ^ 16
+
+abbrev pub start_of : Piece → ℕ
+start_of p = p.place % 2 ^ 16
+
+-- the piece of a row from the column `start` on and before the column `end`; columns lie below 2 ^ 16
+abbrev pub piece_at : ℕ → ℕ → ℕ → Piece
+piece_at row start end = record { place = row * 2 ^ 16 + start; end = end }
+
 -- the piece lies in one of so many rows of so many columns
 pub record IsPiece (cols rows : ℕ) (p : Piece) : Type 0 where
-  pub row : p.row < rows
-  pub order : p.start ≤ p.end
+  pub row : row_of p < rows
+  pub order : start_of p ≤ p.end
   pub end : p.end ≤ cols
 
 -- whether the piece has the pixel in row j and column i
 unfoldable pub has : ℕ → ℕ → Piece → Bool
-has j i p = nat_eq j p.row && (nat_le p.start i && nat_le (i + 1) p.end)
+has j i p = nat_eq j (row_of p) && (nat_le (start_of p) i && nat_le (i + 1) p.end)
 
 -- whether one of the pieces has it
 abbrev pub covered : List Piece → ℕ → ℕ → Bool
 covered pieces j i = list_any (has j i) pieces
 
--- the order of pieces: by their rows, and in a row by where they start; columns lie below 2 ^ 32
+-- the order of pieces: by their rows, and in a row by where they start
 abbrev pub place : Piece → ℕ
-place p = p.row * 2 ^ 32 + p.start
+place p = p.place
 
 -- the piece q begins where p ends, or behind it
 pub record IsBefore (p q : Piece) : Type 0 where
-  pub row : p.row ≤ q.row
-  pub col : q.row ≤ p.row → p.end ≤ q.start
+  pub row : row_of p ≤ row_of q
+  pub col : row_of q ≤ row_of p → p.end ≤ start_of q
 
 -- the pieces are in order, and no two of them have a pixel in common
 pub record Apart (pieces : List Piece) : Type 0 where

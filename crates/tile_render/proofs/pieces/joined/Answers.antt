@@ -9,7 +9,7 @@ use Rattle.tile_render.proofs.pieces.joined.Goals as goal
 
 -- what a place past a list's end is read as
 abbrev none : Piece
-none = record { row = 0; start = 0; end = 0 }
+none = record { place = 0; end = 0 }
 
 pub loop-k-preserved : goal.loop-k-preserved
 loop-k-preserved c =
@@ -19,11 +19,11 @@ loop-k-preserved c =
     let is = get_or_default pieces c.loop-k.k none piece within in
     elim c.if-touches.branch [
       | then-touches w ↦
-          rw (w.kept-is) (joined_touching pieces c.loop-k.kept.items c.loop-k.last _ piece c.loop-k.k within c.requires is (sym c.touches.ensures.value ∙ w.if-touches.true)
+          rw (w.kept-is) (joined_touching pieces c.loop-k.kept.items c.loop-k.last _ piece c.loop-k.k within c.requires is (sym c.touches.ensures ∙ w.if-touches.true)
           (w.last-is ∙ ap (λ n. record c.loop-k.last { end = n }) w.max.ensures) c.loop-k.invariant)
       | else-touches+in_ok-push w ↦
           rw (w.kept-is, w.last-is) (subst (λ (ps : List Piece). JoinedTo pieces ps piece (c.loop-k.k + 1)) (sym w.in_ok-push.ensures.items)
-          (joined_past pieces c.loop-k.kept.items c.loop-k.last piece c.loop-k.k within c.requires is c.touches.ensures.last_fits c.touches.ensures.piece_fits (sym c.touches.ensures.value ∙ w.if-touches.false) c.loop-k.invariant))
+          (joined_past pieces c.loop-k.kept.items c.loop-k.last piece c.loop-k.k within c.requires is (sym c.touches.ensures ∙ w.if-touches.false) c.loop-k.invariant))
     ]
 
 pub returns-clause-apart : goal.returns-clause-apart
