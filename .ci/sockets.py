@@ -93,8 +93,8 @@ class Farm:
 
     def __init__(self, program, limit=None, user=None, **more):
         self.tiles = ("127.0.0.1", free_port())
-        name = wanted.config("sockets", updates=["west.update"], renderd="unix:" + self.renderd,
-                             tiles="tcp:%s:%d" % self.tiles, control="unix:" + self.control, **more)  # fmt: skip
+        name = wanted.config("sockets", renderd="unix:" + self.renderd, tiles="tcp:%s:%d" % self.tiles,
+                             control="unix:" + self.control, **{"updates": ["west.update"], **more})  # fmt: skip
         content = wanted.FILES.pop(name)
         for name, content in [(name, content)] + [(it, wanted.FILES[it]) for it in ("red.style", "square.data", "west.update")]:
             with open(name, "wb") as out:
@@ -309,19 +309,10 @@ def begun_narrow(program):
     return farm
 
 
-def tried(built):
-    """All runs of a program, in a folder of its own, that goes in the end."""
-    folder, narrow = tempfile.mkdtemp(prefix="tilefarm-"), None
-    os.chmod(folder, 0o755)
-    os.umask(0o022)
-    os.chdir(folder)
+def runs_of_sockets(program):
+    """All runs of this script, in the folder where it is."""
+    narrow = begun_narrow(program)
     try:
-        if not has_sockets():
-            raise OSError("no sockets on this machine")
-        program = os.path.join(folder, "tilefarm")
-        shutil.copyfile(built, program)
-        os.chmod(program, 0o755)
-        narrow = begun_narrow(program)
         for run in (first_run, second_run):
             serves(program, run, resume=True)
             has_saved()
@@ -334,53 +325,73 @@ def tried(built):
         serves(program, run_of_many, resume=True)
         same("the end of a farm with too few threads", narrow.ended(PATIENCE), (5, wanted.tally(0, 0, 0, 0), NO_MEMORY))
     finally:
+        narrow.kill()
+
+
+def tried(built, runs):
+    """All runs of a program, in a folder of its own, that goes in the end."""
+    folder = tempfile.mkdtemp(prefix="tilefarm-")
+    os.chmod(folder, 0o755)
+    os.umask(0o022)
+    os.chdir(folder)
+    try:
+        if not has_sockets():
+            raise OSError("no sockets on this machine")
+        program = os.path.join(folder, "tilefarm")
+        shutil.copyfile(built, program)
+        os.chmod(program, 0o755)
+        runs(program)
+    finally:
         os.chdir(TOP)
-        if narrow:
-            narrow.kill()
         shutil.rmtree(folder, ignore_errors=True)
+
+
+def say(text):
+    print("%s: %s" % (os.path.basename(sys.argv[0]), text), flush=True)
 
 
 def is_busy():
     return os.getloadavg()[0] > 2 * os.cpu_count()
 
 
-def passes(built, name):
+def passes(built, name, runs):
     """Whether a program does as wanted; one for which something came late is tried twice."""
     for _ in range(2):
         try:
-            tried(built)
-            print("sockets.py: %s passed" % name, flush=True)
+            tried(built, runs)
+            say("%s passed" % name)
             return True
         except Unlike as unlike:
-            print("sockets.py: %s FAILED: %s" % (name, unlike), flush=True)
+            say("%s FAILED: %s" % (name, unlike))
             return False
         except Late as late:
-            print("sockets.py: %s: %s did not come in %d seconds" % (name, late, EACH), flush=True)
+            say("%s: %s did not come in time" % (name, late))
         except OSError as error:
-            print("sockets.py: %s not tried: %s" % (name, error), flush=True)
+            say("%s not tried: %s" % (name, error))
             return True
     return is_busy()
 
 
 def late(*_):
     """The end where the time for all is over."""
-    print("sockets.py: not through after %d seconds" % WHOLE, flush=True)
+    say("not through after %d seconds" % WHOLE)
     sys.exit(0 if is_busy() else 1)
 
 
-def main(programs):
+def main(runs, programs):
+    """Whether a program does not as wanted, of those that were built or are named."""
     signal.signal(signal.SIGTERM, lambda *_: sys.exit(1))
     signal.signal(signal.SIGALRM, late)
     signal.alarm(WHOLE)
     failed = 0
-    for built in map(os.path.abspath, programs):
+    for built in map(os.path.abspath, programs or BUILT):
         name = os.path.relpath(built, TOP)
         if not os.path.isfile(built):
-            print("sockets.py: not tried: there is no %s" % name, flush=True)
-        elif not passes(built, name):
+            say("not tried: there is no %s" % name)
+        elif not passes(built, name, runs):
             failed += 1
     return 1 if failed else 0
 
 
 if __name__ == "__main__":
-    sys.exit(main(sys.argv[1:] or BUILT))
+    sys.exit(main(runs_of_sockets, sys.argv[1:]))
