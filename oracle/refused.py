@@ -51,9 +51,8 @@ class Ran:
 class Program:
     """A program with its words, in a folder of its own."""
 
-    def __init__(self, shim, program, words, source, files=None, ends=0):
+    def __init__(self, shim, program, words, source, files=None):
         self.shim, self.words, self.folder = shim, [program] + words, tempfile.mkdtemp(prefix="refused-")
-        self.ends = ends  # its status where nothing is refused
         for name in os.listdir(source):
             shutil.copy(os.path.join(source, name), self.folder)
         for name, content in (files or {}).items():
@@ -106,8 +105,7 @@ def told_of(out):
 
 
 def serve_kind(ran, whole):
-    """The same of the program that plays cases, which ends with status 1 where it finds no memory for the case itself, and
-    behind the case runs the command of its own words, which are none."""
+    """The same of the program that plays cases, which ends with status 1 where it finds no memory for the case itself."""
     if ran.is_same(whole):
         return "as without"
     if ran.status == 1:
@@ -117,7 +115,7 @@ def serve_kind(ran, whole):
     # The first peer leaves; where its drawing ends before that, it is sent its Done.
     wanted[b"0.0"] = serve_cases.message(serve_cases.DONE, 5, 8, 8)
     is_beginning = all(wanted.get(conn, b"").startswith(data) for conn, data in sent.items())
-    return "status %s" % status if ran.status in (whole.status, 5) and status in (0, 5) and is_beginning else None
+    return "status %s" % status if ran.status == 0 and status in (0, 5) and is_beginning else None
 
 
 # --- All of it --------------------------------------------------------------------------------------------------
@@ -126,7 +124,7 @@ def serve_kind(ran, whole):
 def tried(name, program, kind_of, step):
     """Refuses each growth of so many; how many runs were right, and how many were not."""
     growths, whole = program.growths()
-    if whole.status != program.ends:
+    if whole.status != 0:
         print("%s: it fails without a refusal: %s" % (name, whole.told()))
         return 0, 1
     kinds, wrong = collections.Counter(), 0
@@ -165,7 +163,7 @@ def main(words):
             ("meta", Program(shim, program, ["meta", "world.meta"], data("command_cases")), command_kind, 1),
             ("script", Program(shim, program, ["script", "square.config", "life_of_a_tile.script"], data("command_cases")), command_kind, 1),
             ("load", Program(shim, program, ["load", "7", "200"], folder), command_kind, step),
-            ("serve", Program(shim, serves, [], folder, three_fronts(), ends=2), serve_kind, 10),
+            ("serve", Program(shim, serves, [], folder, three_fronts()), serve_kind, 10),
         )
         passed = failed = 0
         try:

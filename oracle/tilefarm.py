@@ -902,13 +902,11 @@ def run(folder, words):
 
 
 def cases(folder):
-    """Of each drawing its line and what it ends with, and then the words that the program is called with."""
+    """Of each drawing its line and what it ends with."""
     for line in read(folder, "drawings").decode().splitlines():
         out, err, status = run(folder, line.split(" "))
         sys.stdout.buffer.write(b"case %s\n" % line.encode() + out + err + b"status %d\n" % status)
         sys.stdout.buffer.flush()
-    out, err, _status = run(folder, read(folder, "../args").decode().splitlines())
-    sys.stdout.buffer.write(out + err)
     return 0
 
 
