@@ -155,7 +155,7 @@ def received(what, made, length=None):
     except socket.timeout:
         raise Late(what)
     except OSError as error:
-        raise Unlike("%s: %s" % (what, error))
+        raise Unlike("%s: %s after %d bytes" % (what, error, len(got)))
     return got
 
 
@@ -354,22 +354,23 @@ def is_busy():
     return os.getloadavg()[0] > 2 * os.cpu_count()
 
 
-def passes(built, name, runs):
-    """Whether a program does as wanted; one for which something came late is tried twice."""
+def passes(built, name, run):
+    """Whether a program does as wanted, None where that cannot be told; what came late is tried twice."""
     for _ in range(2):
         try:
-            tried(built, runs)
-            say("%s passed" % name)
+            tried(built, run)
             return True
-        except Unlike as unlike:
+        except (Unlike, ConnectionError, FileNotFoundError) as unlike:
             say("%s FAILED: %s" % (name, unlike))
             return False
         except Late as late:
             say("%s: %s did not come in time" % (name, late))
+        except socket.timeout:
+            say("%s: something was not taken in time" % name)
         except OSError as error:
             say("%s not tried: %s" % (name, error))
-            return True
-    return is_busy()
+            return None
+    return None if is_busy() else False
 
 
 def late(*_):
@@ -379,19 +380,22 @@ def late(*_):
 
 
 def main(runs, programs):
-    """Whether a program does not as wanted, of those that were built or are named."""
+    """Whether one of the programs, those that were built or are named, does not as wanted."""
     signal.signal(signal.SIGTERM, lambda *_: sys.exit(1))
     signal.signal(signal.SIGALRM, late)
     signal.alarm(WHOLE)
-    failed = 0
+    failed = False
     for built in map(os.path.abspath, programs or BUILT):
         name = os.path.relpath(built, TOP)
         if not os.path.isfile(built):
             say("not tried: there is no %s" % name)
-        elif not passes(built, name, runs):
-            failed += 1
+            continue
+        ends = [passes(built, name + ": " + run.__name__, run) for run in runs]
+        failed |= False in ends
+        if all(ends):
+            say("%s passed" % name)
     return 1 if failed else 0
 
 
 if __name__ == "__main__":
-    sys.exit(main(runs_of_sockets, sys.argv[1:]))
+    sys.exit(main([runs_of_sockets], sys.argv[1:]))
