@@ -12,6 +12,7 @@ program and leaves nothing behind. The status is 1 where a row failed, as `.ci/s
 
 import json
 import os
+import resource
 import shutil
 import socket
 import subprocess
@@ -31,6 +32,8 @@ FEATURES = 8192
 LINES = 1000000  # of a script and of a list
 ANSWERS = 1 << 20  # bytes that are kept for who does not read
 HEAD = 8192
+CONNECTIONS = 1024  # at each front
+FILES = 8192  # that farm and script may have open, each
 ENOUGH = 4 * EACH  # seconds for a command
 
 
@@ -367,6 +370,43 @@ def many_drawings(program):
     serves(program, run, maps=[{"name": long_name(number), "style": "red.style", "tile": 16} for number in range(MAPS)])
 
 
+def open_files():
+    """How many files may be open, as many as are wanted where the system allows it."""
+    _, hard = resource.getrlimit(resource.RLIMIT_NOFILE)
+    most = FILES if hard == resource.RLIM_INFINITY else min(FILES, hard)
+    resource.setrlimit(resource.RLIMIT_NOFILE, (most, hard))
+    return most
+
+
+def full_fronts(program):
+    """As many connections as a front has, at all three at once, of which each is answered; one more is closed."""
+    count = min(CONNECTIONS, (open_files() - 100) // 3)
+
+    def run(farm):
+        refused = wanted.message(wanted.RENDER, 0, 1, 0), wanted.message(wanted.NOT_DONE, 0, 1, 0)
+        status = wanted.get("/default/0/0/0.ppm/status"), wanted.MISSING
+        fronts = ((farm.renderd,) + refused, (farm.tiles,) + status, (farm.control, b"update 9\n", b"no update\n"))
+        there = [[connected(address) for _ in range(count)] for address, _, _ in fronts]
+        try:
+            if count == CONNECTIONS:
+                for address, _, _ in fronts:
+                    with connected(address) as one_more:
+                        same("a connection too many", received("a connection too many", one_more), b"")
+            for conns, (_, sent, wants) in zip(there, fronts):
+                for number, conn in enumerate(conns):
+                    conn.sendall(sent)
+                    same("connection %d of many" % number, received("connection %d of many" % number, conn, len(wants)), wants)
+            told("a connection after many", farm.tiles, *status, True)
+            there[2][-1].sendall(b"stop\n")
+            same("stop", received("stop", there[2][-1], 9), b"stopping\n")
+        finally:
+            for conn in sum(there, []):
+                conn.close()
+        same("the end", farm.ended(ENOUGH), (0, wanted.tally(count, 0, 0, 0), ""))
+
+    serves(program, run)
+
+
 def many_versions(program):
     """Updates by control lines, of which each one is applied again and again, over a restart."""
 
@@ -446,7 +486,7 @@ def every_worker(program):
 
 
 ROWS = (full_tables, large_renew, full_styles, long_rings, large_grids, long_texts, many_drawings, every_size, every_place,
-        heads, long_conversations, many_versions, many_kept, every_worker)  # fmt: skip
+        heads, long_conversations, full_fronts, many_versions, many_kept, every_worker)  # fmt: skip
 
 if __name__ == "__main__":
     sys.exit(main(ROWS, sys.argv[1:]))

@@ -30,7 +30,7 @@ NARROW = 40 << 20  # bytes of addresses: less than the stacks of MANY workers
 MANY = 16
 MOST = 3000  # metatiles of a saved text of more than 65,536 bytes
 CONNECTIONS = 66000
-PATIENCE = 30  # seconds, more than the actors of a run wait for one that has no thread
+PATIENCE = 26  # seconds from its begin, more than the actors of a run wait for one that has no thread
 SAVED = "tiles/farm.saved"
 sys.dont_write_bytecode = True
 sys.path.insert(0, os.path.join(TOP, "oracle"))
@@ -100,6 +100,7 @@ class Farm:
             with open(name, "wb") as out:
                 out.write(content)
         narrow = (lambda: resource.setrlimit(resource.RLIMIT_AS, (limit, limit))) if limit else None
+        self.began = time.monotonic()
         self.process = subprocess.Popen([program, "serve", "sockets.config"], stdin=subprocess.DEVNULL, stdout=subprocess.PIPE,
                                         stderr=subprocess.PIPE, preexec_fn=narrow, user=user)  # fmt: skip
 
@@ -323,7 +324,8 @@ def runs_of_sockets(program):
         with open(SAVED, "wb") as out:
             out.write(wanted.saved_text([0], [], [(18, 8 * number, 8, 0) for number in range(MOST)]))
         serves(program, run_of_many, resume=True)
-        same("the end of a farm with too few threads", narrow.ended(PATIENCE), (5, wanted.tally(0, 0, 0, 0), NO_MEMORY))
+        rest = max(narrow.began + PATIENCE - time.monotonic(), 1)
+        same("the end of a farm with too few threads", narrow.ended(rest), (5, wanted.tally(0, 0, 0, 0), NO_MEMORY))
     finally:
         narrow.kill()
 
