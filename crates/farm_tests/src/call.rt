@@ -67,16 +67,17 @@ pub(crate) fn files_of(
     MemFiles::new(alloc, files, Vec::from_slice(alloc, reads)?)
 }
 
-/// Calls with these words over these files. Nobody listens.
-pub(crate) fn call(
-    rt: HostRuntime,
+/// Calls with these words over these files. Nobody listens at the ports, which `sockets` would give.
+pub(crate) fn call<R: Threads + Wait + Clock + Sync>(
+    rt: &R,
+    sockets: HostRuntime,
     alloc: Global,
     words: &[&str],
     held: &[(&str, &[u8])],
     faults: Faults,
 ) -> Result<Ended, Fail> {
-    let mut ports = SocketPorts::three(alloc, rt)?;
-    let ended = call_over(&rt, alloc, words, held, faults, &mut ports);
+    let mut ports = SocketPorts::three(alloc, sockets)?;
+    let ended = call_over(rt, alloc, words, held, faults, &mut ports);
     drop(ports);
     Ok(ended?)
 }

@@ -2,7 +2,10 @@
 //! and what it refuses, is shown by the program `command_cases`.
 use crate::call::{Ended, Faults, NONE, USAGE, call};
 use std::alloc::Global;
+use std::rt::Clock;
+use std::sync::Wait;
 use std::test::Fail;
+use std::thread::Threads;
 
 // Two rasters.
 const STYLE: &[u8] =
@@ -16,10 +19,22 @@ const RASTER: &[u8] = b"P6 1 1 255\n\xff\x00\x00";
 const NUMBERS: &[u8] = b"META\x40\0\0\0\0\0\0\0\0\0\0\0\0\0\0\0\x14\x02\0\0\x01\0\0\0";
 
 // `render` of a white tile over a style with two rasters.
-fn render(rt: HostRuntime, alloc: Global, faults: Faults) -> Result<Ended, Fail> {
+fn render<R: Threads + Wait + Clock + Sync>(
+    rt: &R,
+    sockets: HostRuntime,
+    alloc: Global,
+    faults: Faults,
+) -> Result<Ended, Fail> {
     let words = ["render", "S", "D", "16", "0", "0", "0"];
     let files = [("S", STYLE), ("R", RASTER), ("Q", RASTER), ("D", DATA)];
-    call(rt, alloc, words.as_slice(), files.as_slice(), faults)
+    call(
+        rt,
+        sockets,
+        alloc,
+        words.as_slice(),
+        files.as_slice(),
+        faults,
+    )
 }
 
 // The status, and whether a proper front of this was put on out, and nothing on err.
@@ -30,8 +45,12 @@ fn put_front(ended: &Ended, whole: &[u8]) -> (u8, bool) {
 }
 
 // What is put on out where nothing fails.
-fn tile(rt: HostRuntime, alloc: Global) -> Result<Vec<u8>, Fail> {
-    let ended = render(rt, alloc, NONE)?;
+fn tile<R: Threads + Wait + Clock + Sync>(
+    rt: &R,
+    sockets: HostRuntime,
+    alloc: Global,
+) -> Result<Vec<u8>, Fail> {
+    let ended = render(rt, sockets, alloc, NONE)?;
     let bytes = Vec::from_slice(alloc, ended.out.bytes());
     drop(ended);
     Ok(bytes?)
@@ -46,7 +65,7 @@ fn put_all(ended: &Ended, count: usize) -> (u8, bool) {
 // A put on err that is to fail asks nothing of a success.
 #[test]
 fn a_success_puts_nothing_on_err(rt: HostRuntime) -> Result<(), Fail> {
-    let ended = render(rt, rt.alloc(), Faults { err: &[0], ..NONE })?;
+    let ended = render(&rt, rt, rt.alloc(), Faults { err: &[0], ..NONE })?;
     assert_eq!(rt; put_all(&ended, 781), (0, true));
     Ok(())
 }
@@ -54,8 +73,8 @@ fn a_success_puts_nothing_on_err(rt: HostRuntime) -> Result<(), Fail> {
 // A put on out that fails leaves a front of the tile, and err stays empty.
 #[test]
 fn a_tile_whose_put_fails(rt: HostRuntime) -> Result<(), Fail> {
-    let whole = tile(rt, rt.alloc())?;
-    let ended = render(rt, rt.alloc(), Faults { out: &[0], ..NONE })?;
+    let whole = tile(&rt, rt, rt.alloc())?;
+    let ended = render(&rt, rt, rt.alloc(), Faults { out: &[0], ..NONE })?;
     assert_eq!(rt; put_front(&ended, whole.as_slice()), (4, true));
     Ok(())
 }
@@ -63,7 +82,7 @@ fn a_tile_whose_put_fails(rt: HostRuntime) -> Result<(), Fail> {
 // A put on err that fails turns a refusal into 4, with a front of its line.
 #[test]
 fn a_refusal_whose_put_fails(rt: HostRuntime) -> Result<(), Fail> {
-    let ended = call(rt, rt.alloc(), &[], &[], Faults { err: &[0], ..NONE })?;
+    let ended = call(&rt, rt, rt.alloc(), &[], &[], Faults { err: &[0], ..NONE })?;
     let is_front = USAGE.as_bytes().starts_with(ended.err.bytes());
     let is_told = is_front && ended.out.bytes().is_empty();
     assert_eq!(rt; (ended.status, is_told), (4, true));
@@ -71,30 +90,35 @@ fn a_refusal_whose_put_fails(rt: HostRuntime) -> Result<(), Fail> {
 }
 
 // `meta` of a container of one tile of one byte.
-fn meta(rt: HostRuntime, alloc: Global, faults: Faults) -> Result<Ended, Fail> {
+fn meta<R: Threads + Wait + Clock + Sync>(
+    rt: &R,
+    sockets: HostRuntime,
+    alloc: Global,
+    faults: Faults,
+) -> Result<Ended, Fail> {
     let mut bytes = Vec::from_slice(alloc, NUMBERS)?;
     for _ in 0..505 {
         bytes.push(0)?;
     }
     let files = [("M", bytes.as_slice())];
-    call(rt, alloc, &["meta", "M"], files.as_slice(), faults)
+    call(rt, sockets, alloc, &["meta", "M"], files.as_slice(), faults)
 }
 
 #[test]
 fn a_container_whose_read_fails(rt: HostRuntime) -> Result<(), Fail> {
     let alloc = rt.alloc();
-    meta(rt, alloc, NONE)?.put(&rt, b"0 0 0\n0 532 1\n");
+    meta(&rt, rt, alloc, NONE)?.put(&rt, b"0 0 0\n0 532 1\n");
     let unread = Faults {
         reads: &[0],
         ..NONE
     };
-    meta(rt, alloc, unread)?.says(&rt, 3, "tilefarm: M: cannot be read\n");
+    meta(&rt, rt, alloc, unread)?.says(&rt, 3, "tilefarm: M: cannot be read\n");
     Ok(())
 }
 
 #[test]
 fn a_container_whose_put_fails(rt: HostRuntime) -> Result<(), Fail> {
-    let ended = meta(rt, rt.alloc(), Faults { out: &[0], ..NONE })?;
+    let ended = meta(&rt, rt, rt.alloc(), Faults { out: &[0], ..NONE })?;
     let is_half = ended.out.bytes() == b"0 0 0\n0".as_slice() && ended.err.bytes().is_empty();
     assert_eq!(rt; (ended.status, is_half), (4, true));
     Ok(())
@@ -128,17 +152,28 @@ const ANSWERS: &[u8] =
 const PUTS: u64 = 16;
 
 // `script` over these files.
-fn script(rt: HostRuntime, alloc: Global, faults: Faults) -> Result<Ended, Fail> {
-    call(rt, alloc, &["script", "C", "L"], &SQUARE, faults)
+fn script<R: Threads + Wait + Clock + Sync>(
+    rt: &R,
+    sockets: HostRuntime,
+    alloc: Global,
+    faults: Faults,
+) -> Result<Ended, Fail> {
+    call(rt, sockets, alloc, &["script", "C", "L"], &SQUARE, faults)
 }
 
 // The status where that put on out fails, and whether a front of all that is put else was put, and nothing on err.
-fn unput(rt: HostRuntime, alloc: Global, put: u64, whole: &[u8]) -> Result<(u8, bool), Fail> {
+fn unput<R: Threads + Wait + Clock + Sync>(
+    rt: &R,
+    sockets: HostRuntime,
+    alloc: Global,
+    put: u64,
+    whole: &[u8],
+) -> Result<(u8, bool), Fail> {
     let faults = Faults {
         out: &[put],
         ..NONE
     };
-    let ended = script(rt, alloc, faults)?;
+    let ended = script(rt, sockets, alloc, faults)?;
     Ok(put_front(&ended, whole))
 }
 
@@ -155,14 +190,18 @@ fn a_script_whose_reads_fail(rt: HostRuntime) -> Result<(), Fail> {
             reads: &[read],
             ..NONE
         };
-        script(rt, alloc, faults)?.says(&rt, 3, line);
+        script(&rt, rt, alloc, faults)?.says(&rt, 3, line);
     }
     Ok(())
 }
 
 // Whether the script ends as it is to, and all that it puts.
-fn whole_script(rt: HostRuntime, alloc: Global) -> Result<(bool, Vec<u8>), Fail> {
-    let ended = script(rt, alloc, NONE)?;
+fn whole_script<R: Threads + Wait + Clock + Sync>(
+    rt: &R,
+    sockets: HostRuntime,
+    alloc: Global,
+) -> Result<(bool, Vec<u8>), Fail> {
+    let ended = script(rt, sockets, alloc, NONE)?;
     let bytes = Vec::from_slice(alloc, ended.out.bytes());
     let is_told = ended.out.bytes().starts_with(ANSWERS);
     let is_whole = put_all(&ended, ANSWERS.len() + 769) == (0, true);
@@ -173,13 +212,13 @@ fn whole_script(rt: HostRuntime, alloc: Global) -> Result<(bool, Vec<u8>), Fail>
 #[test]
 fn a_script_whose_puts_fail(rt: HostRuntime) -> Result<(), Fail> {
     let alloc = rt.alloc();
-    let (is_whole, whole) = whole_script(rt, alloc)?;
+    let (is_whole, whole) = whole_script(&rt, rt, alloc)?;
     assert!(rt; is_whole, "the script where nothing fails");
     for put in 0..PUTS {
-        let seen = unput(rt, alloc, put, whole.as_slice())?;
+        let seen = unput(&rt, rt, alloc, put, whole.as_slice())?;
         assert_eq!(rt; seen, (4, true), "at put {put}");
     }
     // There is no further put that could fail.
-    assert_eq!(rt; unput(rt, alloc, PUTS, whole.as_slice())?, (0, false));
+    assert_eq!(rt; unput(&rt, rt, alloc, PUTS, whole.as_slice())?, (0, false));
     Ok(())
 }

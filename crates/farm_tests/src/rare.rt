@@ -7,12 +7,12 @@ use std::test::Fail;
 #[test]
 fn words_too_few_and_too_many(rt: HostRuntime) -> Result<(), Fail> {
     let alloc = rt.alloc();
-    call(rt, alloc, &["script", "C"], &[], NONE)?.says(&rt, 2, USAGE);
-    call(rt, alloc, &["script", "C", "S", "T"], &[], NONE)?.says(&rt, 2, USAGE);
-    call(rt, alloc, &["load", "1"], &[], NONE)?.says(&rt, 2, USAGE);
-    call(rt, alloc, &["load", "1", "2", "3"], &[], NONE)?.says(&rt, 2, USAGE);
-    call(rt, alloc, &["serve"], &[], NONE)?.says(&rt, 2, USAGE);
-    call(rt, alloc, &["meta", "M", "N"], &[], NONE)?.says(&rt, 2, USAGE);
+    call(&rt, rt, alloc, &["script", "C"], &[], NONE)?.says(&rt, 2, USAGE);
+    call(&rt, rt, alloc, &["script", "C", "S", "T"], &[], NONE)?.says(&rt, 2, USAGE);
+    call(&rt, rt, alloc, &["load", "1"], &[], NONE)?.says(&rt, 2, USAGE);
+    call(&rt, rt, alloc, &["load", "1", "2", "3"], &[], NONE)?.says(&rt, 2, USAGE);
+    call(&rt, rt, alloc, &["serve"], &[], NONE)?.says(&rt, 2, USAGE);
+    call(&rt, rt, alloc, &["meta", "M", "N"], &[], NONE)?.says(&rt, 2, USAGE);
     Ok(())
 }
 
@@ -27,7 +27,7 @@ fn a_long_name(rt: HostRuntime) -> Result<(), Fail> {
     let mut line = String::from_str(alloc, "tilefarm: ")?;
     line.push_str(name.as_str())?;
     line.push_str(": cannot be read\n")?;
-    call(rt, alloc, &["meta", name.as_str()], &[], NONE)?.says(&rt, 3, line.as_str());
+    call(&rt, rt, alloc, &["meta", name.as_str()], &[], NONE)?.says(&rt, 3, line.as_str());
     Ok(())
 }
 
@@ -43,7 +43,7 @@ fn too_many_features(rt: HostRuntime) -> Result<(), Fail> {
 #[test]
 fn work_over_many_features(rt: HostRuntime) -> Result<(), Fail> {
     let alloc = rt.alloc();
-    let ended = call(rt, alloc, &["load", "1", "3000"], &[], NONE)?;
+    let ended = call(&rt, rt, alloc, &["load", "1", "3000"], &[], NONE)?;
     assert_eq!(rt; ended.status, 0);
     assert!(rt;
         ended
