@@ -20,7 +20,7 @@ import sys
 import time
 
 sys.dont_write_bytecode = True
-from sockets import EACH, Late, SAVED, Unlike, connected, main, received, same, serves, told, wanted  # noqa: E402
+from sockets import EACH, Late, NO_MEMORY, SAVED, Unlike, connected, main, received, same, serves, told, wanted  # noqa: E402
 
 SIZES = (16, 32, 64, 128, 256, 512)
 MAPS = 16
@@ -69,10 +69,11 @@ def long_name(number):
     return ("m%d" % number).ljust(40, "-")
 
 
-def ran(program, *words):
-    """The status and both streams of a command."""
+def ran(program, *words, most=None):
+    """The status and both streams of a command, which may have so many bytes of addresses."""
+    little = (lambda: resource.setrlimit(resource.RLIMIT_AS, (most, most))) if most else None
     try:
-        made = subprocess.run([program, *words], stdin=subprocess.DEVNULL, capture_output=True, timeout=ENOUGH)
+        made = subprocess.run([program, *words], stdin=subprocess.DEVNULL, capture_output=True, timeout=ENOUGH, preexec_fn=little)
     except subprocess.TimeoutExpired:
         raise Late(words[0])
     return made.returncode, made.stdout, made.stderr
@@ -206,10 +207,10 @@ def full_styles(program):
 
 
 def long_rings(program):
-    """A ring of 65,536 points, and 20 of them."""
+    """Three rings of 65,536 points."""
     most, steps = 1 << 29, range(0, 1 << 29, 1 << 15)
     ring = [(at, 0) for at in steps] + [(most, at) for at in steps] + [(most - at, most) for at in steps] + [(0, most - at) for at in steps]
-    features = data(*({"id": number, "geometry": {"polygon": [ring]}} for number in range(20)))
+    features = data(*({"id": number, "geometry": {"polygon": [ring]}} for number in range(3)))
     draws(program, "long rings", json.loads(wanted.FILES["red.style"]), features, picture(16, 0, 0, 8, 8))
 
 
@@ -245,6 +246,31 @@ def long_texts(program):
     put("long.list", b"\n" * (LINES + 1))
     wants = b"tilefarm: long.list: list 1 at line %d\n" % (LINES + 1)
     same("one line more of a list", ran(program, "script", "long.config", "long.script"), (1, b"", wants))
+
+
+def little_memory(program):
+    """Commands that have ever more memory, from too little to begin at all: each ends as it is to, or says what is wanting
+    behind a beginning of its answers."""
+    for name in ("red.style", "square.data"):
+        put(name, wanted.FILES[name])
+    put("a.config", {"maps": [{"name": "default", "style": "red.style", "tile": 256}], "data": "square.data"})
+    put("a.script", b"tally\nask 0 render default 3 0 0\nclaim 0\nfinish 0\nfetch default 3 2 2\ntally\n")
+    tile = picture(256, 0, 0, 256, 256)
+    said = [b"asks 0 done 0 stored 0 version 0\n", b"queued 0\n", b"job 0 default 3 0 0 0\n", b"clean\n",
+            b"clean 0 %d\n%s\n" % (len(tile), tile), b"asks 1 done 0 stored 1 version 0\n"]  # fmt: skip
+    beginnings = [b"".join(said[:count]) for count in range(len(said) + 1)]
+    long = "n" * 120000
+    for words, wants, before, step in (
+            (("render", long, long, "16", "0", "0", "0"), (3, b"", b"tilefarm: %s: cannot be read\n" % long.encode()), [b""], 1 << 16),
+            (("render", "red.style", "square.data", "512", "3", "2", "2"), (0, picture(512, 0, 0, 512, 512), b""), [b""], 1 << 18),
+            (("script", "a.config", "a.script"), (0, beginnings[-1], b""), beginnings, 1 << 18)):  # fmt: skip
+        wanting = [(5, out, NO_MEMORY.encode()) for out in before]
+        for most in list(range(3 << 20, 5 << 20, step)) + list(range(5 << 20, 40 << 20, 3 << 20)) + [1 << 30]:
+            seen = ran(program, *words, most=most)
+            has_begun = 0 <= seen[0] < 100  # else the system ended it
+            if has_begun and seen not in wanting:
+                same("%s with %d bytes of addresses" % (words[0], most), seen, wants)
+        same("%s with enough memory" % words[0], seen, wants)
 
 
 # --- farms --------------------------------------------------------------------------------------------------------------
@@ -380,7 +406,7 @@ def open_files():
 
 def full_fronts(program):
     """As many connections as a front has, at all three at once, of which each is answered; one more is closed."""
-    count = min(CONNECTIONS, (open_files() - 100) // 3)
+    count = max(1, min(CONNECTIONS, (open_files() - 100) // 3))
 
     def run(farm):
         refused = wanted.message(wanted.RENDER, 0, 1, 0), wanted.message(wanted.NOT_DONE, 0, 1, 0)
@@ -485,8 +511,8 @@ def every_worker(program):
         shutil.rmtree("tiles")
 
 
-ROWS = (full_tables, large_renew, full_styles, long_rings, large_grids, long_texts, many_drawings, every_size, every_place,
-        heads, long_conversations, full_fronts, many_versions, many_kept, every_worker)  # fmt: skip
+ROWS = (full_tables, large_renew, full_styles, long_rings, large_grids, little_memory, long_texts, many_drawings,
+        every_size, every_place, heads, long_conversations, full_fronts, many_versions, many_kept, every_worker)  # fmt: skip
 
 if __name__ == "__main__":
     sys.exit(main(ROWS, sys.argv[1:]))
