@@ -1,8 +1,7 @@
 -- What is shown, against what each key's node has.
-use Rattle.std.proofs.Common.{◌≡◌, ◌≤◌, Bool, true, false, ◌&&◌, cond, List, [], ◌∷◌, length, find, Option, Some, None, option_map, is_some, refl, sym, ap, ◌∙◌, subst, arith}
+use Rattle.std.proofs.Common.{◌≡◌, ◌≤◌, Bool, true, false, ◌&&◌, cond, List, [], ◌∷◌, ◌++◌, length, find, Option, Some, None, option_map, is_some, refl, sym, ap, ◌∙◌, subst, arith}
 use Rattle.std.specs.List.{AllByRecursion, IsDistinct, list_any}
 use Rattle.std.specs.Map.{set_value, keys_of}
-use Rattle.indexmap.specs.IndexMap.{insert_entry}
 use Rattle.farm_history.specs.declared.keys.Key.{Key}
 use Rattle.farm_history.specs.declared.keys.Mark.{Mark}
 use Rattle.farm_history.specs.Plans.{same_key, AreApart}
@@ -122,14 +121,10 @@ set-same_mark (e ∷ es) key n w found same = go (λ is. set-same_mark es key n 
     go ih true is = let own : e.1 ≡ n = cc in ap (λ o. shown_before e.0 o (shown_of es)) (same ∙ sym (ap (λ (x : Node). x.mark) own))
     go ih false is = ap (shown_before e.0 e.1.mark) (ih is)
 
--- a new key that is not shown shows the same;
-pub insert-unmarked : (es : List (Key × Node)) (key : Key) (w : Node) → node_of es key ≡ None → w.mark ≡ None → shown_of (insert_entry same_key es key w) ≡ shown_of es
-insert-unmarked [] key w new none = ap (λ o. shown_before key o []) none
-insert-unmarked (e ∷ es) key w new none = go (λ is. insert-unmarked es key w is none) (same_key key e.0) new
-  where
-    go : (node_of es key ≡ None → shown_of (insert_entry same_key es key w) ≡ shown_of es) → (b : Bool) → cond b (Some e.1) (node_of es key) ≡ None → shown_of (cond b ((e.0, w) ∷ es) (e ∷ insert_entry same_key es key w)) ≡ shown_before e.0 e.1.mark (shown_of es)
-    go ih true is = cc
-    go ih false is = ap (shown_before e.0 e.1.mark) (ih is)
+-- a node that is added without a mark shows the same;
+pub add-unmarked : (es : List (Key × Node)) (key : Key) (w : Node) → w.mark ≡ None → shown_of (es ++ (key, w) ∷ []) ≡ shown_of es
+add-unmarked [] key w none = ap (λ o. shown_before key o []) none
+add-unmarked (e ∷ es) key w none = ap (shown_before e.0 e.1.mark) (add-unmarked es key w none)
 
 -- and a write of the mark made dirty is the expiry of that key alone
 pub set-dirties : (es : List (Key × Node)) → Distinct es → (key : Key) (n w : Node) → node_of es key ≡ Some n → w.mark ≡ option_map (touched_by true) n.mark →

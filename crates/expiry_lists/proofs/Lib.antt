@@ -6,6 +6,7 @@ pub mod Live
 pub mod Marking
 pub mod Near
 pub mod Over
+pub mod Placing
 pub mod Quarters
 pub mod Saving
 pub mod Settling

@@ -1,5 +1,5 @@
 -- The lines of an expiry list: from the first on, and one that is refused.
-use Rattle.std.proofs.Common.{◌≡◌, ℕ, ◌≤◌, List, [], ◌∷◌, Result, Ok, Err, refl}
+use Rattle.std.proofs.Common.{◌≡◌, ℕ, ◌≤◌, List, [], ◌∷◌, Result, Err, refl}
 use Rattle.std.specs.Str.Lines.{lines}
 use Rattle.plain_world.specs.declared.world.Tile.{Tile}
 use Rattle.reading.specs.Lines.{items_after}

@@ -1,5 +1,5 @@
 -- Marks that are given to keys with a node, and nodes that are made for keys.
-use Rattle.std.proofs.Common.{◌≡◌, ◌<◌, ◌≤◌, Bool, true, false, ◌||◌, cond, List, Option, Some, None, is_some, IsSome, refl, sym, ap, ◌∙◌, subst, inl, inr, ◌⊎◌}
+use Rattle.std.proofs.Common.{◌≡◌, ◌<◌, ◌≤◌, Bool, true, false, ◌||◌, cond, List, [], ◌∷◌, ◌++◌, Option, Some, None, is_some, IsSome, refl, sym, ap, ◌∙◌, subst, inl, inr, ◌⊎◌}
 use Rattle.std.specs.List.{IsDistinct}
 use Rattle.std.specs.Map.{set_value}
 use Rattle.std.proofs.lemmas.Map.{keys-set_value}
@@ -9,13 +9,12 @@ use Rattle.farm_history.specs.declared.keys.Mark.{Mark}
 use Rattle.farm_history.specs.Plans.{same_key}
 use Rattle.farm_history.proofs.Lists.{same_key-true}
 use Rattle.plain_world.specs.World.{IsMeta}
-use Rattle.indexmap.specs.IndexMap.{insert_entry}
 use Rattle.expiry_lists.specs.declared.nodes.Node.{Node}
 use Rattle.expiry_lists.specs.Marks.{mark_of}
 use Rattle.expiry_lists.specs.inner.Nodes.{parent, node_of, node_live, node_mark, is_clean, has_node, is_live, shown_of, IsTree, Writes}
 use Rattle.expiry_lists.specs.inner.Waking.{Wakes}
-use Rattle.expiry_lists.proofs.Finding.{Distinct, mark_found, set-same_mark, insert-unmarked}
-use Rattle.expiry_lists.proofs.Writing.{Fits, set-writes, insert-writes, still_there, written_here, written_other, written_tree, as_live_fits}
+use Rattle.expiry_lists.proofs.Finding.{Distinct, mark_found, set-same_mark, add-unmarked}
+use Rattle.expiry_lists.proofs.Writing.{Fits, set-writes, add-writes, still_there, written_here, written_other, written_tree, as_live_fits}
 
 module _ (es : List (Key × Node)) (key : Key) (n w : Node) (found : node_of es key ≡ Some n) (same : w.live ≡ n.live) where
   writes : Writes es key w (set_value (same_key key) es w)
@@ -85,11 +84,11 @@ module _ (es : List (Key × Node)) (key : Key) (live : Bool) (tree : IsTree es) 
       (set-same_mark es key n w found marks) (λ on. lives ∙ or_right n.live live on) tree
 
   -- and one that has none
-  pub wakes_new : (w : Node) → node_of es key ≡ None → w ≡ record { mark = None; live = live } → Wakes key live es (insert_entry same_key es key w)
+  pub wakes_new : (w : Node) → node_of es key ≡ None → w ≡ record { mark = None; live = live } → Wakes key live es (es ++ (key, w) ∷ [])
   wakes_new w gone is =
       let lives : w.live ≡ live = ap (λ (x : Node). x.live) is in
       let marks : w.mark ≡ None = ap (λ (x : Node). x.mark) is in
-      wakes_by es (insert_entry same_key es key w) key w live (insert-writes es key w)
+      wakes_by es (es ++ (key, w) ∷ []) key w live (add-writes es key w gone)
       (record {
         meta = meta;
         rooted = rooted;
@@ -97,4 +96,4 @@ module _ (es : List (Key × Node)) (key : Key) (live : Bool) (tree : IsTree es) 
         live_above = λ deep on. above deep (sym lives ∙ on);
         live_below = λ k deep on up. let never : false ≡ true = sym (ap node_live gone) ∙ subst (λ (x : Key). is_live es x ≡ true) up (tree.rises k deep on) in cc;
       })
-      (insert-unmarked es key w gone marks) (λ on. lives ∙ on) tree
+      (add-unmarked es key w marks) (λ on. lives ∙ on) tree

@@ -1,8 +1,7 @@
 -- One write into the table: what each key has after it, and that the table stays a quadtree.
-use Rattle.std.proofs.Common.{◌≡◌, ◌<◌, ◌≤◌, Bool, true, false, cond, List, [], ◌∷◌, Option, Some, is_some, refl, sym, ap, ◌∙◌, subst, arith}
+use Rattle.std.proofs.Common.{◌≡◌, ◌<◌, ◌≤◌, Bool, true, false, cond, List, [], ◌∷◌, ◌++◌, Option, Some, None, is_some, refl, sym, ap, ◌∙◌, subst, arith}
 use Rattle.std.specs.Map.{set_value}
 use Rattle.std.proofs.lemmas.Bool.Decides.{nat_tests}
-use Rattle.indexmap.specs.IndexMap.{insert_entry}
 use Rattle.farm_history.specs.declared.keys.Key.{Key}
 use Rattle.farm_history.specs.Plans.{same_key}
 use Rattle.farm_history.proofs.Lists.{same_key-true, same_key-self, same_key-sym}
@@ -11,7 +10,7 @@ use Rattle.expiry_lists.specs.declared.nodes.Node.{Node}
 use Rattle.expiry_lists.specs.inner.Nodes.{parent, node_of, node_live, node_mark, is_clean, has_node, is_live, is_clean_at, IsTree, Writes}
 
 -- keys of which a third is one are one
-same_key-through : (a b c : Key) → same_key a b ≡ true → same_key c b ≡ same_key c a
+pub same_key-through : (a b c : Key) → same_key a b ≡ true → same_key c b ≡ same_key c a
 same_key-through a b c same = ap (same_key c) (sym (same_key-true a b same))
 
 -- a write at a key that has a node
@@ -33,24 +32,20 @@ set-writes (e ∷ es) key w there k = go (λ there'. set-writes es key w there' 
         split true is = let apart : same_key key k ≡ false = sym (same_key-through k e.0 key is) ∙ other in rw apart refl
         split false is = ih there
 
--- an insertion at any key
-pub insert-writes : (es : List (Key × Node)) (key : Key) (w : Node) → Writes es key w (insert_entry same_key es key w)
-insert-writes [] key w k = rw (same_key-sym k key) refl
-insert-writes (e ∷ es) key w k = go (insert-writes es key w k) (same_key key e.0) refl
+-- a node that is added for a key that has none
+pub add-writes : (es : List (Key × Node)) (key : Key) (w : Node) → node_of es key ≡ None → Writes es key w (es ++ (key, w) ∷ [])
+add-writes [] key w new k = rw (same_key-sym k key) refl
+add-writes (e ∷ es) key w new k = go (λ gone. add-writes es key w gone k) (same_key key e.0) refl new
   where
-    go : node_of (insert_entry same_key es key w) k ≡ cond (same_key key k) (Some w) (node_of es k) → (b : Bool) → same_key key e.0 ≡ b
-        → node_of (cond b ((e.0, w) ∷ es) (e ∷ insert_entry same_key es key w)) k ≡ cond (same_key key k) (Some w) (cond (same_key k e.0) (Some e.1) (node_of es k))
-    go ih true same = rw (same_key-through key e.0 k same, same_key-sym k key) (split (same_key key k))
-      where
-        split : (c : Bool) → cond c (Some w) (node_of es k) ≡ cond c (Some w) (cond c (Some e.1) (node_of es k))
-        split true = refl
-        split false = refl
-    go ih false other = split (same_key k e.0) refl
+    go : (node_of es key ≡ None → node_of (es ++ (key, w) ∷ []) k ≡ cond (same_key key k) (Some w) (node_of es k)) → (b : Bool) → same_key key e.0 ≡ b → cond b (Some e.1) (node_of es key) ≡ None
+        → cond (same_key k e.0) (Some e.1) (node_of (es ++ (key, w) ∷ []) k) ≡ cond (same_key key k) (Some w) (cond (same_key k e.0) (Some e.1) (node_of es k))
+    go ih true same gone = cc
+    go ih false other gone = split (same_key k e.0) refl
       where
         split : (c : Bool) → same_key k e.0 ≡ c
-            → cond c (Some e.1) (node_of (insert_entry same_key es key w) k) ≡ cond (same_key key k) (Some w) (cond c (Some e.1) (node_of es k))
+            → cond c (Some e.1) (node_of (es ++ (key, w) ∷ []) k) ≡ cond (same_key key k) (Some w) (cond c (Some e.1) (node_of es k))
         split true is = let apart : same_key key k ≡ false = sym (same_key-through k e.0 key is) ∙ other in rw apart refl
-        split false is = ih
+        split false is = ih gone
 
 -- a key and its parent differ
 pub parent_apart : (k : Key) → 3 < k.meta.z → same_key k (parent k) ≡ false

@@ -4,7 +4,8 @@ ghost use Rattle.farm_history.specs.declared.keys.Kept.{Kept};
 ghost use Rattle.farm_history.specs.Replays.{key_before};
 ghost use Rattle.expiry_lists.specs.inner.Keeping.{kept_at, kept_list};
 
-use crate::nodes::{Node, Nodes};
+use crate::nodes::Node;
+use crate::table::Nodes;
 use farm_base::NoMemory;
 use farm_history::{Kept, Key};
 use std::alloc::Global;
@@ -26,7 +27,10 @@ fn kept_at(key: Key, node: Node) -> Option<Kept>
 pub fn clean_entries(alloc: Global, nodes: &Nodes) -> Result<Vec<Kept>, NoMemory>
     ensures { IfOk result (λ v. v.items ≡ kept_list nodes.now.entries) }
 {
-    let clean = nodes.iter().filter_map(|(key, node)| kept_at(*key, *node));
+    let clean = nodes
+        .entries()
+        .iter()
+        .filter_map(|(key, node)| kept_at(*key, *node));
     Ok(clean.collect(alloc)?)
 }
 

@@ -7,6 +7,7 @@ mod keeping;
 mod lists;
 mod marks;
 mod nodes;
+mod table;
 mod waking;
 mod walks;
 

@@ -8,13 +8,13 @@ ghost use Rattle.plain_world.specs.World.{IsMeta, IsTile, IsTileSize};
 ghost use Rattle.expiry_lists.specs.Marks.{shown_key, mark_of, dirtied_marks, clean_marks, is_of_map, is_near_boxes, clean_version};
 
 use crate::keeping::{clean_entries, sort_by_key};
-use crate::nodes::{Nodes, mark_at, mark_one_dirty, settle_all};
+use crate::nodes::{mark_at, mark_one_dirty, settle_all};
+use crate::table::Nodes;
 use crate::waking::{put_mark, wake};
 use crate::walks::{is_some_live, mark_map_boxes_dirty, mark_map_dirty, mark_maps_dirty};
 use farm_base::NoMemory;
 use farm_history::{Kept, Key, Mark};
 use geo_model::Bounds;
-use indexmap::IndexMap;
 use plain_world::Tile;
 use std::alloc::Global;
 use std::marker::Model;
@@ -29,14 +29,13 @@ pub struct Marks {
 
 impl Model for Marks {
     ghost use Rattle.std.specs.Prelude.{◌/◌, ◌-◌, min, vec_len, vec_capacity};
-    ghost use Rattle.indexmap.specs.IndexMap.{spare};
     ghost use Rattle.expiry_lists.specs.Marks.{MarksSeen};
     ghost use Rattle.expiry_lists.specs.inner.Nodes.{shown_of};
     ghost use Rattle.expiry_lists.specs.inner.Keeping.{IsKept};
 
     ghost Value = { MarksSeen };
 
-    ghost view = { λ m. record { shown = shown_of m.nodes.entries; room = min (spare m.nodes / 16) (vec_capacity m.maps - vec_len m.maps) } };
+    ghost view = { λ m. record { shown = shown_of m.nodes.entries; room = min (m.nodes.room / 16) (vec_capacity m.maps - vec_len m.maps) } };
 
     ghost invariant = { λ m. IsKept m.maps.items m.nodes.entries };
 }
@@ -50,7 +49,7 @@ impl Marks {
         ensures { result.shown ≡ [] }
     {
         Marks {
-            nodes: IndexMap::new(alloc),
+            nodes: Nodes::new(alloc),
             maps: Vec::new(alloc),
         }
     }

@@ -1,14 +1,13 @@
-//! The table of nodes that marks are kept in: one look-up or write each.
+//! The nodes that marks are kept in: one look-up or write each.
 ghost use Rattle.std.specs.Prelude.{◌≡◌, ◌≢◌, ◌<◌, ◌||◌, Option, Some, None, option_map, true, false, if◌then◌else◌};
-ghost use Rattle.indexmap.specs.IndexMap.{spare};
 ghost use Rattle.farm_history.specs.Plans.{same_key};
 ghost use Rattle.expiry_lists.specs.Marks.{touched_by};
 ghost use Rattle.farm_history.specs.declared.keys.Key.{Key};
 ghost use Rattle.expiry_lists.specs.inner.Nodes.{is_live, is_clean, node_of, node_mark, parent, IsTree};
 ghost use Rattle.expiry_lists.specs.inner.Walks.{Walks};
 
+use crate::table::Nodes;
 use farm_history::{Key, Mark};
-use indexmap::IndexMap;
 
 /// What is kept of a key: its mark where it is shown, and whether it or a key below it may be clean.
 #[derive(Clone, Copy)]
@@ -17,35 +16,31 @@ pub struct Node {
     pub live: bool,
 }
 
-/// The nodes by their keys.
-pub type Nodes = IndexMap<Key, Node>;
-
 /// Whether the key or one below it may be clean.
 pub fn is_live(nodes: &Nodes, key: Key) -> bool
     ensures { result ≡ is_live nodes.now.entries key }
 {
-    nodes.get(&key).is_some_and(|node| node.live)
+    nodes.get(key).is_some_and(|node| node.live)
 }
 
 /// The mark of a key.
 pub fn mark_at(nodes: &Nodes, key: Key) -> Option<Mark>
     ensures { result ≡ node_mark (node_of nodes.now.entries key) }
 {
-    nodes.get(&key)?.mark
+    nodes.get(key)?.mark
 }
 
 /// Makes the mark of a key dirty, and counts what was clean: 0 or 1.
 pub fn mark_one_dirty(nodes: &mut Nodes, key: Key) -> u64
     requires { IsTree nodes.old.entries }
     ensures walks { Walks (same_key key) nodes.old.entries nodes.new.entries result }
-    ensures room { spare nodes.new ≡ spare nodes.old }
+    ensures room { nodes.new.room ≡ nodes.old.room }
 {
     let _count = nodes.len();
-    let Some(node) = nodes.get_mut(&key) else {
+    let Some((place, was)) = nodes.find(key) else {
         return 0;
     };
-    let was = *node;
-    *node = was.dirtied();
+    nodes.put_at(place, was.dirtied());
     was.clean_count()
 }
 
@@ -56,17 +51,13 @@ pub fn settle(nodes: &mut Nodes, key: Key) -> u64
         → parent k ≢ key }
     ensures walks { Walks (same_key key) nodes.old.entries nodes.new.entries result }
     ensures quiet { is_live nodes.new.entries key ≡ false }
-    ensures room { spare nodes.new ≡ spare nodes.old }
+    ensures room { nodes.new.room ≡ nodes.old.room }
 {
     let _count = nodes.len();
-    let Some(node) = nodes.get_mut(&key) else {
+    let Some((place, was)) = nodes.find(key) else {
         return 0;
     };
-    let was = *node;
-    *node = Node {
-        live: false,
-        ..was.dirtied()
-    };
+    nodes.put_at(place, was.settled());
     was.clean_count()
 }
 
@@ -74,16 +65,12 @@ pub fn settle(nodes: &mut Nodes, key: Key) -> u64
 pub fn settle_all(nodes: &mut Nodes) -> u64
     requires { IsTree nodes.old.entries }
     ensures walks { Walks (λ k. true) nodes.old.entries nodes.new.entries result }
-    ensures room { spare nodes.new ≡ spare nodes.old }
+    ensures room { nodes.new.room ≡ nodes.old.room }
 {
     let mut count = 0;
     for i in 0..nodes.len() {
-        if let Some(node) = nodes.get_index_mut(i) {
-            let was = *node;
-            *node = Node {
-                live: false,
-                ..was.dirtied()
-            };
+        if let Some(was) = nodes.at(i) {
+            nodes.put_at(i, was.settled());
             count += was.clean_count();
         }
     }
@@ -100,6 +87,16 @@ impl Node {
             ..mark
         });
         Node { mark, ..self }
+    }
+
+    /// The node with its mark, if any, dirty, and not live.
+    fn settled(self) -> Node
+        ensures { result ≡ record { mark = option_map (touched_by true) self.mark; live = false } }
+    {
+        Node {
+            live: false,
+            ..self.dirtied()
+        }
     }
 
     /// The node, live where it was or where that is asked for.

@@ -1,7 +1,6 @@
 //! Walks over the quadtree of a map: down from a key over the live nodes, and up to the root.
 ghost use Rattle.std.specs.Prelude.{◌≡◌, ◌<◌, ◌≤◌, ◌-◌, ◌&&◌, true, false, IsPermutation};
 ghost use Rattle.std.specs.List.{list_any};
-ghost use Rattle.indexmap.specs.IndexMap.{spare};
 ghost use Rattle.farm_history.specs.Plans.{overlaps, same_key};
 ghost use Rattle.plain_world.specs.World.{IsTile, IsTileSize};
 ghost use Rattle.expiry_lists.specs.Marks.{is_of_map, some_meets, is_near_boxes};
@@ -10,7 +9,8 @@ ghost use Rattle.expiry_lists.specs.inner.Tiles.{world_key, is_flat, key_over, i
 ghost use Rattle.expiry_lists.specs.inner.Walks.{child, is_under, is_above, IsNode, Walks};
 
 use crate::boxes::{gather, margin_of, some_comes_near};
-use crate::nodes::{Nodes, is_live, mark_one_dirty, settle};
+use crate::nodes::{is_live, mark_one_dirty, settle};
+use crate::table::Nodes;
 use farm_history::Key;
 use geo_model::Bounds;
 use merc_fixed::meta_square;
@@ -72,7 +72,7 @@ pub fn mark_below_dirty(nodes: &mut Nodes, top: Key) -> u64
     requires tree { IsTree nodes.old.entries }
     ensures walks { Walks (is_under (18 - top.meta.z) top) nodes.old.entries nodes.new.entries result }
     ensures quiet { is_live nodes.new.entries top ≡ false }
-    ensures room { spare nodes.new ≡ spare nodes.old }
+    ensures room { nodes.new.room ≡ nodes.old.room }
 {
     let _count = nodes.len();
     if top.meta.z == LAST_ZOOM {
@@ -94,7 +94,7 @@ pub fn mark_above_dirty(nodes: &mut Nodes, low: Key) -> u64
     requires node { IsNode low }
     requires tree { IsTree nodes.old.entries }
     ensures walks { Walks (is_above (low.meta.z - 3) low) nodes.old.entries nodes.new.entries result }
-    ensures room { spare nodes.new ≡ spare nodes.old }
+    ensures room { nodes.new.room ≡ nodes.old.room }
 {
     let _count = nodes.len();
     if low.meta.z == ROOT_ZOOM {
@@ -115,7 +115,7 @@ fn mark_boxes_dirty(nodes: &mut Nodes, top: Key, size: u32, boxes: &mut [Bounds]
     requires tree { IsTree nodes.old.entries }
     ensures walks { Walks (λ k. is_under (18 - top.meta.z) top k && some_meets size boxes.old k)
         nodes.old.entries nodes.new.entries result }
-    ensures room { spare nodes.new ≡ spare nodes.old }
+    ensures room { nodes.new.room ≡ nodes.old.room }
     ensures moved { IsPermutation boxes.old boxes.new }
 {
     let _count = nodes.len();
@@ -139,7 +139,7 @@ fn mark_near_dirty(nodes: &mut Nodes, top: Key, size: u32, boxes: &mut [Bounds])
     requires near { some_meets size boxes.old top ≡ true }
     ensures walks { Walks (λ k. is_under (18 - top.meta.z) top k && some_meets size boxes.old k)
         nodes.old.entries nodes.new.entries result }
-    ensures room { spare nodes.new ≡ spare nodes.old }
+    ensures room { nodes.new.room ≡ nodes.old.room }
     ensures moved { IsPermutation boxes.old boxes.new }
 {
     let _count = nodes.len();
@@ -188,7 +188,7 @@ fn key_over(map: u32, t: Tile) -> Key
 fn mark_flat_dirty(nodes: &mut Nodes, map: u32) -> u64
     requires { IsTree nodes.old.entries }
     ensures walks { Walks (is_flat map) nodes.old.entries nodes.new.entries result }
-    ensures room { spare nodes.new ≡ spare nodes.old }
+    ensures room { nodes.new.room ≡ nodes.old.room }
 {
     let _count = nodes.len();
     let first = mark_one_dirty(nodes, world_key(map, 0));
@@ -202,7 +202,7 @@ fn mark_tile_dirty(nodes: &mut Nodes, map: u32, t: Tile) -> u64
     requires tile { IsTile t }
     requires tree { IsTree nodes.old.entries }
     ensures walks { Walks (λ k. is_of_map map k && overlaps t k) nodes.old.entries nodes.new.entries result }
-    ensures room { spare nodes.new ≡ spare nodes.old }
+    ensures room { nodes.new.room ≡ nodes.old.room }
 {
     let _count = nodes.len();
     let top = key_over(map, t);
@@ -218,7 +218,7 @@ pub fn mark_maps_dirty(nodes: &mut Nodes, maps: &[u32], t: Tile) -> u64
     requires tree { IsTree nodes.old.entries }
     ensures walks { Walks (λ k. is_of_maps maps.now k && overlaps t k)
         nodes.old.entries nodes.new.entries result }
-    ensures room { spare nodes.new ≡ spare nodes.old }
+    ensures room { nodes.new.room ≡ nodes.old.room }
 {
     let _count = nodes.len();
     let mut count = 0;
@@ -232,7 +232,7 @@ pub fn mark_maps_dirty(nodes: &mut Nodes, maps: &[u32], t: Tile) -> u64
 pub fn mark_map_dirty(nodes: &mut Nodes, map: u32) -> u64
     requires { IsTree nodes.old.entries }
     ensures walks { Walks (is_of_map map) nodes.old.entries nodes.new.entries result }
-    ensures room { spare nodes.new ≡ spare nodes.old }
+    ensures room { nodes.new.room ≡ nodes.old.room }
 {
     let _count = nodes.len();
     let flat = mark_flat_dirty(nodes, map);
@@ -248,7 +248,7 @@ fn mark_world_dirty(nodes: &mut Nodes, map: u32, z: u32, size: u32, boxes: &[Bou
     requires tree { IsTree nodes.old.entries }
     ensures walks { Walks (λ k. same_key (world_key map z) k && some_meets size boxes.now k)
         nodes.old.entries nodes.new.entries result }
-    ensures room { spare nodes.new ≡ spare nodes.old }
+    ensures room { nodes.new.room ≡ nodes.old.room }
 {
     let _count = nodes.len();
     let key = world_key(map, z);
@@ -266,7 +266,7 @@ pub fn mark_map_boxes_dirty(nodes: &mut Nodes, map: u32, size: u32, boxes: &mut 
     requires size { IsTileSize size }
     requires tree { IsTree nodes.old.entries }
     ensures walks { Walks (is_near_boxes map size boxes.old) nodes.old.entries nodes.new.entries result }
-    ensures room { spare nodes.new ≡ spare nodes.old }
+    ensures room { nodes.new.room ≡ nodes.old.room }
     ensures moved { IsPermutation boxes.old boxes.new }
 {
     let _count = nodes.len();

@@ -1,13 +1,12 @@
 //! The tables of a farm and their calls.
 ghost use Rattle.std.specs.Prelude.{◌≡◌, ◌<◌, true, nat_lt, if◌then◌else◌, find, length, option_map, IsSome, None, Some, IfOk};
-ghost use Rattle.std.specs.Vec.{vec_capacity};
 ghost use Rattle.farm_base.specs.Limits.{most_asks};
 ghost use Rattle.farm_history.specs.Lists.{without_first};
-ghost use Rattle.farm_history.specs.Plans.{is_in};
-ghost use Rattle.render_queues.specs.OneQueue.{is_below, without};
+ghost use Rattle.render_queues.specs.OneQueue.{is_below};
 ghost use Rattle.render_queues.specs.Tables.{AreSound, after_end, after_leave, after_take, is_liftable, is_of_front, after_join, after_lift, line_of, next_of, no_tables, open_count, open_of, after_place, standing, takes_lifted};
 
 use crate::asks::{Asked, add_ask, asks_of, drop_asks_of, drop_asks_on, reply_all};
+use crate::line::{drop_key, is_among};
 use crate::lines::Lines;
 use crate::replies::{drop_replies, first_reply, replies_of};
 use crate::standing::Standing;
@@ -58,21 +57,6 @@ impl Model for Queues {
         ended = q.ended.items;
       });
     } };
-}
-
-/// Whether the key is among the keys.
-fn is_among(keys: &[Key], key: Key) -> bool
-    ensures { result ≡ is_in key keys.now }
-{
-    keys.iter().any(|k| *k == key)
-}
-
-/// Drops the key.
-fn drop_key(keys: &mut Vec<Key>, key: Key)
-    ensures keys { keys.new.items ≡ without key keys.old.items }
-    ensures room { vec_capacity keys.new ≡ vec_capacity keys.old }
-{
-    keys.retain(|k| *k != key);
 }
 
 impl Queues {

@@ -1,18 +1,16 @@
-use Rattle.std.proofs.Common.{◌≡◌, refl, rules}
+use Rattle.std.proofs.Common.{◌≡◌, rules, ◌∙◌}
 use Rattle.std.specs.Map.{set_value}
 use Rattle.farm_history.specs.Plans.{same_key}
+use Rattle.expiry_lists.proofs.Placing.{placed_value}
 use Rattle.expiry_lists.proofs.Walked.{walks_as, walks_absent, walks_mark_one_dirty}
 use Rattle.expiry_lists.proofs.nodes.mark_one_dirty.Goals as goal
 
 pub returns-in_default-clause-walks : goal.returns-in_default-clause-walks
-returns-in_default-clause-walks c =
-    let old = c.args.nodes.now.entries in
-    let same : c.get_mut.follows.lender-at-none.entries ≡ old = search rules in
-    walks_as _ old _ old 0 0 same refl (walks_absent old c.args.key c.len-count.ensures.unique (search rules) c.requires)
+returns-in_default-clause-walks c = walks_absent c.args.nodes.now.entries c.args.key c.len-count.ensures.unique (search rules) c.requires
 
 pub returns-clause-walks : goal.returns-clause-walks
 returns-clause-walks c =
     let old = c.args.nodes.now.entries in
-    let written : (c.get_mut.follows.lender c.dirtied.result).entries ≡ set_value (same_key c.args.key) old c.dirtied.result = search rules in
+    let written : c.put_at.new.self.entries ≡ set_value (same_key c.args.key) old c.dirtied.result = c.put_at.ensures.entries ∙ placed_value old c.args.key _ c.dirtied.result (search rules) in
     walks_as _ old _ _ _ _ written c.clean_count.ensures
-    (walks_mark_one_dirty old c.args.key c.in-Some.node.now c.dirtied.result c.len-count.ensures.unique (search rules) (search rules) c.requires (search rules))
+    (walks_mark_one_dirty old c.args.key c.in-Some.was c.dirtied.result c.len-count.ensures.unique (search rules) (search rules) c.requires (search rules))

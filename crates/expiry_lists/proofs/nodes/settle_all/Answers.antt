@@ -1,5 +1,5 @@
 use Rattle.std.proofs.Common.{◌≡◌, ◌+◌, ◌<◌, true, false, length, is_some, refl, sym, ap, ◌∙◌, arith, rules}
-use Rattle.expiry_lists.specs.declared.nodes.Node.{Node}
+use Rattle.expiry_lists.proofs.Placing.{some_at}
 use Rattle.expiry_lists.proofs.Settling.{quiet_more, sum_more, sum_few, quieted_long, walks_settled}
 use Rattle.expiry_lists.proofs.nodes.settle_all.Goals as goal
 use Rattle.expiry_lists.proofs.nodes.settle_all.Goals.{in-Some, in_default}
@@ -8,22 +8,19 @@ pub overflow_add-count : goal.overflow_add-count
 overflow_add-count c =
     let one = c.clean_count-count.ensures in
     let few = sum_few c.args.nodes.now.entries (c.loop-i.i + 1) in
-    let next = sum_more c.args.nodes.now.entries c.loop-i.nodes.entries c.loop-i.i c.loop-i.count c.clean_count-count.result (c.loop-i.count + c.clean_count-count.result) c.in-Some.node.now c.loop-i.invariant.done c.in-Some.ensures.value c.loop-i.invariant.counted one refl in
+    let next = sum_more c.args.nodes.now.entries c.loop-i.nodes.entries c.loop-i.i c.loop-i.count c.clean_count-count.result (c.loop-i.count + c.clean_count-count.result) c.in-Some.was c.loop-i.invariant.done c.in-Some.ensures c.loop-i.invariant.counted one refl in
     omega (arith, few, next, c.loop-i-test.true, c.len-i-end.ensures.small, c.len-i-end.ensures.len)
 
 pub loop-i-preserved : goal.loop-i-preserved
-loop-i-preserved c = elim c.match-get_index_mut.branch [
+loop-i-preserved c = elim c.match-at.branch [
   | in-Some w ↦ rw (w.nodes-is, w.count-is) (record {
-    done =
-        quiet_more c.args.nodes.now.entries c.loop-i.nodes.entries _ c.loop-i.i w.in-Some.node.now (record { mark = w.dirtied.result.mark; live = false }) c.loop-i.invariant.done w.in-Some.ensures.value
-        (ap (λ (n : Node). record { mark = n.mark; live = false }) w.dirtied.ensures) refl;
-    counted = sum_more c.args.nodes.now.entries c.loop-i.nodes.entries c.loop-i.i c.loop-i.count w.clean_count-count.result _ w.in-Some.node.now c.loop-i.invariant.done w.in-Some.ensures.value c.loop-i.invariant.counted w.clean_count-count.ensures refl;
+    done = quiet_more c.args.nodes.now.entries c.loop-i.nodes.entries _ c.loop-i.i w.in-Some.was w.settled.result c.loop-i.invariant.done w.in-Some.ensures w.settled.ensures w.put_at.ensures.entries;
+    counted = sum_more c.args.nodes.now.entries c.loop-i.nodes.entries c.loop-i.i c.loop-i.count w.clean_count-count.result _ w.in-Some.was c.loop-i.invariant.done w.in-Some.ensures c.loop-i.invariant.counted w.clean_count-count.ensures refl;
     room = search rules;
   })
   | in_default w ↦ (
       let small : c.loop-i.i < length c.loop-i.nodes.entries = omega (arith, c.loop-i-test.true, c.len-i-end.ensures.len, ap length c.loop-i.invariant.done, quieted_long c.args.nodes.now.entries c.loop-i.i) in
-      let some = c.get_index_mut.ensures.found.1 small in
-      absurd (nothing (sym some ∙ ap is_some w.in_default.is)))
+      absurd (nothing (sym (some_at c.loop-i.nodes.entries c.loop-i.i small) ∙ ap is_some (sym c.at.ensures ∙ w.in_default.is))))
 ]
   where
     nothing : true ≡ false → ⊥

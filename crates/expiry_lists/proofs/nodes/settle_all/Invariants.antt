@@ -1,6 +1,5 @@
 -- The entries so far are dirty and quiet.
 use Rattle.std.proofs.Common.{◌≡◌, take}
-use Rattle.indexmap.specs.IndexMap.{spare}
 use Rattle.expiry_lists.proofs.Settling.{quieted, clean_sum}
 use Rattle.expiry_lists.proofs.nodes.settle_all.Given as goal
 
@@ -8,5 +7,5 @@ abbrev pub invariant-loop-i : goal.invariant-loop-i
 invariant-loop-i l = record {
   done : l.nodes.entries ≡ quieted l.i l.initial.nodes.entries;
   counted : l.count ≡ clean_sum (take l.i l.initial.nodes.entries);
-  room : spare l.nodes ≡ spare l.initial.nodes;
+  room : l.nodes.room ≡ l.initial.nodes.room;
 }

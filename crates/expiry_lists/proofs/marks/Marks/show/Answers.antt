@@ -1,5 +1,4 @@
 use Rattle.std.proofs.Common.{◌≡◌, ◌-◌, ◌/◌, min, true, false, vec_len, vec_capacity, ap, ◌∙◌}
-use Rattle.indexmap.specs.IndexMap.{spare}
 use Rattle.expiry_lists.specs.Marks.{MarksSeen}
 use Rattle.expiry_lists.specs.inner.Nodes.{has_node}
 use Rattle.expiry_lists.proofs.Showing.{place_for, shown_has, unlisted_gone, room_for_path, room_for_map, kept_after}
@@ -27,7 +26,7 @@ pub returns-clause-free : goal.returns-clause-free
 returns-clause-free c = λ some.
     let es = c.self.inside.nodes.entries in
     let there : has_node es c.args.key ≡ true = shown_has es c.len-count.ensures.unique c.args.key _ (ap (λ (m : MarksSeen). m.shown) c.self.view_is) some in
-    let nodes : spare c.put_mark.new.nodes ≡ spare c.self.inside.nodes = c.put_mark.ensures.room ∙ c.wake.ensures.free there in
+    let nodes : c.put_mark.new.nodes.room ≡ c.self.inside.nodes.room = c.put_mark.ensures.room ∙ c.wake.ensures.free there in
     let maps : c.add_map.new.maps ≡ c.self.inside.maps = c.add_map.ensures.free (c.self.invariant.listed c.args.key there) in
     ap (λ n. min (n / 16) (vec_capacity c.add_map.new.maps - vec_len c.add_map.new.maps)) nodes
-    ∙ (ap (λ ms. min (spare c.self.inside.nodes / 16) (vec_capacity ms - vec_len ms)) maps ∙ ap (λ (m : MarksSeen). m.room) c.self.view_is)
+    ∙ (ap (λ ms. min (c.self.inside.nodes.room / 16) (vec_capacity ms - vec_len ms)) maps ∙ ap (λ (m : MarksSeen). m.room) c.self.view_is)
