@@ -1,6 +1,6 @@
 //! The real files and streams as files and sinks. They do not tell what they hold; what is proved of
 //! them is that they count their failures.
-ghost use Rattle.std.specs.Prelude.{◌≡◌, ℕ, ◌≤◌, length, IfOk, OnOk};
+ghost use Rattle.std.specs.Prelude.{◌≡◌, ℕ, ◌≤◌, length, IfOk, IfSome, OnOk};
 ghost use Rattle.std.specs.Io.KnownBytes.{Appends};
 ghost use Rattle.farm_base.specs.Limits.{most_file_bytes};
 ghost use Rattle.farm_base.specs.Outside.{Reads, Puts, untold};
@@ -59,19 +59,19 @@ fn whole<R: rt::Files>(alloc: Global, files: &R, name: &str) -> Result<Vec<u8>, 
     read_to_end(alloc, file, MOST_FILE_BYTES)
 }
 
-/// All that a reader gives. Failed where it refuses, or gives more than `most` bytes.
+/// All that a reader gives: where its bytes are known, exactly they. Failed where it refuses, or gives
+/// more than `most` bytes.
 pub fn read_to_end<F: Read + Drop>(alloc: Global, from: F, most: u32) -> Result<Vec<u8>, FileFault>
-    ensures { IfOk result (λ v. length v.items ≤ most) }
+    ensures short { IfOk result (λ v. length v.items ≤ most) }
+    ensures whole { IfOk result (λ v. IfSome (F.remaining from) (λ bytes. v.items ≡ bytes)) }
 {
     let mut bytes = Vec::new(alloc);
     // One byte more than the most shows that there are more.
-    from.take(u64::from(most) + 1)
-        .read_to_end(&mut bytes)
-        .map_err(|e| fault(&e))?;
-    if bytes.len() > most as usize {
-        return Err(FileFault::Failed);
+    match from.take(u64::from(most) + 1).read_to_end(&mut bytes) {
+        Ok(_) if bytes.len() <= most as usize => Ok(bytes),
+        Ok(_) => Err(FileFault::Failed),
+        Err(e) => Err(fault(&e)),
     }
-    Ok(bytes)
 }
 
 fn fault(error: &io::Error) -> FileFault {
