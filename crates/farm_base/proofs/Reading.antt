@@ -9,8 +9,8 @@ all_short limit most bytes one short = omega (arith, length-take limit bytes, on
 
 -- What a limit of one byte more than the most gave, put to no bytes, and is not longer than the most, is all that there was.
 pub read_whole : (known : Option (List ℕ)) (limit most : ℕ) (none got : List ℕ) → none ≡ [] → limit ≡ most + 1
-  → IfSome (option_map (take limit) known) (λ bytes. got ≡ none ++ bytes) → length got ≤ most → IfSome known (λ bytes. got ≡ bytes)
+    → IfSome (option_map (take limit) known) (λ bytes. got ≡ none ++ bytes) → length got ≤ most → IfSome known (λ bytes. got ≡ bytes)
 read_whole None limit most none got empty one given short = tt
 read_whole (Some bytes) limit most none got empty one given short =
-  let taken : got ≡ take limit bytes = given ∙ ap (λ it. it ++ take limit bytes) empty in
-  taken ∙ take_all limit bytes (all_short limit most bytes one (subst (λ it. length it ≤ most) taken short))
+    let taken : got ≡ take limit bytes = given ∙ ap (λ it. it ++ take limit bytes) empty in
+    taken ∙ take_all limit bytes (all_short limit most bytes one (subst (λ it. length it ≤ most) taken short))
