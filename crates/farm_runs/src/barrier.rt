@@ -1,4 +1,6 @@
 //! Whether all actors have threads.
+ghost use Rattle.std.specs.Prelude.{◌≡◌};
+
 use crossbeam_utils::sync::Unparker;
 use std::rt::Clock;
 use std::sync::atomic::{AtomicU64, Ordering};
@@ -39,7 +41,10 @@ pub struct StartBarrier {
 
 impl StartBarrier {
     /// A barrier for so many actors, of whom the workers are woken by these.
-    pub fn new(all: u64, sleepers: Vec<Unparker>) -> StartBarrier {
+    pub fn new(all: u64, sleepers: Vec<Unparker>) -> StartBarrier
+        ensures count { result.all ≡ all }
+        ensures sleepers { result.sleepers ≡ sleepers }
+    {
         StartBarrier {
             begun: AtomicU64::new(0),
             all,
@@ -48,7 +53,7 @@ impl StartBarrier {
     }
 
     /// One more actor has begun: waits until all have, which is the answer. All get the same answer. It promises
-    /// nothing to a proof.
+    /// nothing to a proof, since no contract knows what other threads do, or what the clock says.
     pub fn begin<R: Clock>(&self, rt: &R) -> bool {
         self.begun.fetch_add(1, Ordering::SeqCst);
         let mut seen = self.wait(rt);

@@ -13,7 +13,8 @@ pub struct Alarms<'a, B> {
 }
 
 impl<'a, B: Bell> Alarms<'a, B> {
-    /// Wakes all. It promises nothing: who is woken looks for work whatever woke it. Takes no memory.
+    /// Wakes all. It promises nothing, since no contract knows who sleeps: who is woken looks for work whatever woke
+    /// it. Takes no memory.
     pub fn ring_all(&self) {
         for worker in self.workers {
             worker.unpark();

@@ -1,4 +1,6 @@
 //! What is kept from drawing to drawing.
+ghost use Rattle.std.specs.Prelude.{◌≡◌};
+
 use std::alloc::Global;
 use std::mem;
 
@@ -12,7 +14,9 @@ pub struct PictureBuffer {
 
 impl PictureBuffer {
     /// A picture buffer that keeps nothing yet.
-    pub fn new(alloc: Global) -> PictureBuffer {
+    pub fn new(alloc: Global) -> PictureBuffer
+        ensures { result.alloc ≡ alloc }
+    {
         PictureBuffer {
             alloc,
             buffer: Vec::new(alloc),
@@ -20,7 +24,9 @@ impl PictureBuffer {
     }
 
     /// Where its memory is from.
-    pub fn alloc(&self) -> Global {
+    pub fn alloc(&self) -> Global
+        ensures { result ≡ self.now.alloc }
+    {
         self.alloc
     }
 

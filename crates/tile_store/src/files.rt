@@ -116,7 +116,9 @@ pub struct FileStaging<R> {
 
 impl<R> FileStaging<R> {
     /// What stages for the store in the files that this runtime reaches; takes no memory.
-    pub fn new(rt: R) -> FileStaging<R> {
+    pub fn new(rt: R) -> FileStaging<R>
+        ensures { result.rt ≡ rt }
+    {
         FileStaging { rt }
     }
 }
