@@ -91,6 +91,9 @@ impl ChunkBuilder {
         ensures { OnOk result (self.new ≡ self.old ++ feature ∷ []) }
     {
         make_room(alloc, &mut self.chunks, &mut self.loose)?;
+        if self.loose.is_empty() {
+            self.loose.reserve(MOST_TOGETHER)?;
+        }
         self.loose.push(feature)?;
         Ok(())
     }

@@ -3,6 +3,7 @@ ghost use Rattle.std.specs.Prelude.{◌≡◌, ◌≤◌, ◌++◌, [], true, le
 ghost use Rattle.std.specs.Arc.{arc_value};
 ghost use Rattle.data_versions.specs.inner.Chunks.{joined};
 
+use crate::chunk::MOST_TOGETHER;
 use crate::placed::PlacedChunk;
 use crate::segment::Segment;
 use farm_base::NoMemory;
@@ -14,6 +15,9 @@ use std::sync::Arc;
 /// A segment that has so many features is full. An update that changes one of them copies the boxes and the cells
 /// of its chunks, and each update counts all segments.
 const FULL_SEGMENT: usize = 2_048;
+
+/// So many full chunks fill a segment.
+const FULL_CHUNKS: usize = FULL_SEGMENT / MOST_TOGETHER;
 
 /// Chunks that are to become a segment, and how many features they have. Contracts see the features.
 #[derive(Drop)]
@@ -73,6 +77,9 @@ impl OpenSegment {
         ensures { OnOk result (self.new ≡ self.old ++ arc_value chunk) }
     {
         let count = self.count + count_of(&chunk);
+        if self.chunks.is_empty() {
+            self.chunks.reserve(FULL_CHUNKS)?;
+        }
         self.chunks.push(chunk)?;
         self.count = count;
         Ok(())
@@ -91,7 +98,7 @@ impl OpenSegment {
 #[derive(Drop)]
 pub(crate) struct SegmentBuilder {
     segments: Vec<Arc<Segment>>,
-    open: OpenSegment,
+    next: OpenSegment,
 }
 
 impl Model for SegmentBuilder {
@@ -101,19 +108,19 @@ impl Model for SegmentBuilder {
 
     ghost Value = { List Feature };
 
-    ghost view = { λ b. joined b.segments.items ++ b.open };
+    ghost view = { λ b. joined b.segments.items ++ b.next };
 }
 
-/// Makes the open chunks a segment, if there are any.
+/// Makes the chunks of the next segment one, if there are any.
 fn close(
     alloc: Global,
     segments: &mut Vec<Arc<Segment>>,
-    open: &mut OpenSegment,
+    next: &mut OpenSegment,
 ) -> Result<(), NoMemory>
-    ensures closed { OnOk result (joined segments.new.items ≡ joined segments.old.items ++ open.old) }
-    ensures emptied { open.new ≡ [] }
+    ensures closed { OnOk result (joined segments.new.items ≡ joined segments.old.items ++ next.old) }
+    ensures emptied { next.new ≡ [] }
 {
-    let chunks = mem::replace(open, OpenSegment::new(alloc));
+    let chunks = mem::replace(next, OpenSegment::new(alloc));
     if chunks.is_empty() {
         return Ok(());
     }
@@ -121,19 +128,19 @@ fn close(
     Ok(())
 }
 
-/// Makes the open chunks a segment, if they have enough features for one.
+/// Makes the chunks of the next segment one, if they have enough features for it.
 fn make_room(
     alloc: Global,
     segments: &mut Vec<Arc<Segment>>,
-    open: &mut OpenSegment,
+    next: &mut OpenSegment,
 ) -> Result<(), NoMemory>
-    ensures same { OnOk result (joined segments.new.items ++ open.new ≡ joined segments.old.items ++ open.old) }
-    ensures room { length open.new ≤ 2048 }
+    ensures same { OnOk result (joined segments.new.items ++ next.new ≡ joined segments.old.items ++ next.old) }
+    ensures room { length next.new ≤ 2048 }
 {
-    if open.len() < FULL_SEGMENT {
+    if next.len() < FULL_SEGMENT {
         return Ok(());
     }
-    close(alloc, segments, open)
+    close(alloc, segments, next)
 }
 
 impl SegmentBuilder {
@@ -143,7 +150,7 @@ impl SegmentBuilder {
     {
         SegmentBuilder {
             segments: Vec::new(alloc),
-            open: OpenSegment::new(alloc),
+            next: OpenSegment::new(alloc),
         }
     }
 
@@ -151,15 +158,15 @@ impl SegmentBuilder {
     pub(crate) fn add(&mut self, alloc: Global, chunk: PlacedChunk) -> Result<(), NoMemory>
         ensures { OnOk result (self.new ≡ self.old ++ arc_value chunk) }
     {
-        make_room(alloc, &mut self.segments, &mut self.open)?;
-        self.open.push(chunk)
+        make_room(alloc, &mut self.segments, &mut self.next)?;
+        self.next.push(chunk)
     }
 
     /// Puts the features of a segment at the end; the segment is shared.
     pub(crate) fn share(&mut self, alloc: Global, segment: &Arc<Segment>) -> Result<(), NoMemory>
         ensures { OnOk result (self.new ≡ self.old ++ arc_value segment.now) }
     {
-        close(alloc, &mut self.segments, &mut self.open)?;
+        close(alloc, &mut self.segments, &mut self.next)?;
         self.segments.push(Arc::try_clone(segment)?)?;
         Ok(())
     }
@@ -168,7 +175,7 @@ impl SegmentBuilder {
     pub(crate) fn into_segments(mut self, alloc: Global) -> Result<Vec<Arc<Segment>>, NoMemory>
         ensures { IfOk result (λ segments. joined segments.items ≡ self) }
     {
-        close(alloc, &mut self.segments, &mut self.open)?;
+        close(alloc, &mut self.segments, &mut self.next)?;
         Ok(self.segments)
     }
 }
