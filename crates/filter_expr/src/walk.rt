@@ -93,9 +93,26 @@ fn after_products<'a>(
     v
 }
 
+/// The value of one side of a comparison. Most are names and constants, which need no walk.
+#[tactic(auto, using(crate::proofs::Nodes::nodes))]
+fn side<'a>(e: &'a Expr, attrs: &'a [Attr]) -> ValueRef<'a>
+    ensures { plain result ≡ tree_value attrs.now (tree_of e.now) }
+{
+    match e {
+        Expr::Name(name) => attribute(name.as_str(), attrs),
+        Expr::Text(text) => ValueRef::Text(text.as_str()),
+        Expr::Number(n) => ValueRef::Whole(*n),
+        _ => eval(e, attrs),
+    }
+}
+
 /// Whether the filter's value counts as true for these attributes; takes no memory.
+#[tactic(auto, using(crate::proofs::Nodes::nodes))]
 pub fn holds(e: &Expr, attrs: &[Attr]) -> bool
     ensures { result ≡ tree_holds attrs.now (tree_of e.now) }
 {
-    truth(eval(e, attrs))
+    match e {
+        Expr::Compare(a, sign, b) => compares(*sign, side(a, attrs), side(b, attrs)),
+        _ => truth(eval(e, attrs)),
+    }
 }
