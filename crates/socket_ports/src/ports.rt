@@ -119,6 +119,9 @@ impl<R: Net + rt::Files> SocketPorts<R> {
     pub fn three(alloc: Global, rt: R) -> Result<ThreePorts<SocketPorts<R>, SocketBell>, AllocError>
     where
         R: Copy + Drop,
+        ensures renderd { IfOk result (λ ports. ports.renderd.faults ≡ 0) }
+        ensures tiles { IfOk result (λ ports. ports.tiles.faults ≡ 0) }
+        ensures control { IfOk result (λ ports. ports.control.faults ≡ 0) }
     {
         let (renderd, first) = SocketPorts::new(alloc, rt)?;
         let (tiles, second) = SocketPorts::new(alloc, rt)?;
