@@ -8,7 +8,7 @@
 use crate::beside::CaseFiles;
 use crate::cases::{Case, Telling};
 use crate::plays::play;
-use case_tables::{Frame, frame_of, row};
+use crate::rows::{Frame, frame_of, row};
 use farm_base::{Bytes, Files, MemFiles, Sink, Text};
 use std::alloc::Global;
 use std::rt::Clock;

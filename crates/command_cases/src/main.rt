@@ -16,6 +16,7 @@ mod lines_told;
 mod meta_told;
 mod path_told;
 mod plays;
+mod rows;
 mod saved_told;
 mod serves;
 mod style_told;

@@ -1,4 +1,11 @@
-//! The top call over files and sinks in memory that fail, and on sockets, and calls that no command makes.
+//! Tests of single crates by their public calls, some on threads, and of the top call over files and sinks in memory
+//! that fail, and on sockets. They stand here and not beside what they call, since a crate with tests of its own is
+//! proved twice, and in one crate, since a second one would load all that it stands on once more.
+//!
+//! Among them are drawings that no command reaches: a metatile's tiles in their places, one of very many points, and a
+//! map whose grids are not bound; the bits of a mask; an update of very many ids, and one of a layer of very many
+//! features; and values that were worked out by hand. The tiles that a command draws are those of the program
+//! `command_cases`.
 #![tactic(auto)]
 
 #[cfg(test)]
@@ -8,16 +15,36 @@ mod barrier;
 #[cfg(test)]
 mod call;
 #[cfg(test)]
+mod cells;
+#[cfg(test)]
+mod counter;
+#[cfg(test)]
+mod drawings;
+#[cfg(test)]
 mod failing;
 #[cfg(test)]
+mod masks;
+#[cfg(test)]
+mod metatiles;
+#[cfg(test)]
 mod one_seat;
+#[cfg(test)]
+mod outside;
+#[cfg(test)]
+mod places;
 #[cfg(test)]
 mod plans;
 #[cfg(test)]
 mod rare;
+#[cfg(test)]
+mod rows;
 #[cfg(test)]
 mod scripted;
 #[cfg(test)]
 mod slow_gate;
 #[cfg(test)]
 mod sockets;
+#[cfg(test)]
+mod stores;
+#[cfg(test)]
+mod updates;

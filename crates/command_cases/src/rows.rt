@@ -1,23 +1,21 @@
 //! Tables of texts. A line `in A%B` says what the texts after it stand in, at the `%`; a line `WANTED <- TEXT`
 //! is a text, and a line `WANTED <* COUNT SEPARATOR PIECE` is one of so many pieces, each `#` in a piece being
 //! its number. What is wanted is for readers, and for the script that makes the output wanted of this program.
-#![tactic(auto)]
-
 ghost use Rattle.std.specs.Prelude.{◌≡◌, ◌++◌, string_bytes, IfOk, IfSome};
-ghost use Rattle.case_tables.specs.Rows.{IsFrame, Stands};
+ghost use Rattle.command_cases.specs.Rows.{IsFrame, Stands};
 
 use line_reading::cut;
 use std::alloc::{AllocError, Global};
 
 /// What the texts of a table stand in.
 #[derive(Clone, Copy)]
-pub struct Frame<'a> {
+pub(crate) struct Frame<'a> {
     pub before: &'a str,
     pub after: &'a str,
 }
 
 /// The frame of a line, if it says one.
-pub fn frame_of(line: &str) -> Option<Frame<'_>>
+pub(crate) fn frame_of(line: &str) -> Option<Frame<'_>>
     ensures { IfSome result (λ f. IsFrame line.now f.before.now f.after.now) }
 {
     let Some(around) = line.strip_prefix("in ") else {
@@ -30,7 +28,11 @@ pub fn frame_of(line: &str) -> Option<Frame<'_>>
 }
 
 /// The text of a line within the frame; none of a line without an arrow, or that counts no pieces.
-pub fn row(alloc: Global, frame: &Frame<'_>, line: &str) -> Result<Option<String>, AllocError>
+pub(crate) fn row(
+    alloc: Global,
+    frame: &Frame<'_>,
+    line: &str,
+) -> Result<Option<String>, AllocError>
     ensures { IfOk result (λ row. IfSome row (λ text. Stands (string_bytes text) frame.now.before.now frame.now.after.now)) }
 {
     if let Some((_, text)) = line.split_once(" <- ") {

@@ -60,16 +60,21 @@ fn holds<S: TileStore>(rt: &impl Abort, store: &mut S, alloc: Global) {
     assert_eq!(rt; store.faults(), 0);
 }
 
+/// Removes what a run left.
+fn clear<R: Files + Alloc>(rt: &R) {
+    let _left_by_an_earlier_run = fs::remove_dir_all(rt, "tiles");
+}
+
 #[test]
 fn memory_and_files_hold(rt: HostRuntime) -> Result<(), Fail> {
     let alloc = rt.alloc();
     let mut memory = MemStore::new(alloc, Vec::new(alloc), Vec::new(alloc), Vec::new(alloc))?;
     holds(&rt, &mut memory, alloc);
-    let _left_by_an_earlier_run = fs::remove_dir_all(&rt, "tiles");
-    let mut files = FileStore::new(rt.clone()?);
+    clear(&rt);
+    let mut files = FileStore::new(rt);
     holds(&rt, &mut files, alloc);
     gets(&rt, &mut files, alloc, "map/0/0/0/0/0/0.meta", b"xy");
-    fs::remove_dir_all(&rt, "tiles")?;
+    clear(&rt);
     Ok(())
 }
 
@@ -91,30 +96,29 @@ fn refuses<S: TileStore>(rt: &impl Abort, store: &mut S, alloc: Global, path: &s
 fn is_missing<R: Files>(rt: &R, name: &str) -> bool {
     match fs::open(rt, name) {
         Ok(_) => false,
-        Err(error) => error.kind() == io::ErrorKind::NotFound,
+        Err(error) => matches!(error.kind(), io::ErrorKind::NotFound),
     }
 }
 
 #[test]
-fn the_system_refuses(rt: HostRuntime) -> Result<(), Fail> {
+fn the_system_refuses(rt: HostRuntime) {
     let alloc = rt.alloc();
-    let _left_by_an_earlier_run = fs::remove_dir_all(&rt, "tiles");
-    let mut files = FileStore::new(rt.clone()?);
+    clear(&rt);
+    let mut files = FileStore::new(rt);
     assert_eq!(rt; files.put(alloc, "one", b"one"), Ok(()));
     assert!(rt;
         is_missing(&rt, "tiles/one.new"),
         "written beside and renamed"
     );
     refuses(&rt, &mut files, alloc, "one/below_a_file");
-    fs::create_dir(&rt, "tiles/folder")?;
+    assert!(rt; fs::create_dir(&rt, "tiles/folder").is_ok());
     refuses(&rt, &mut files, alloc, "folder");
     assert!(rt;
         is_missing(&rt, "tiles/folder.new"),
         "nothing is left of a put that failed"
     );
     gets(&rt, &mut files, alloc, "one", b"one");
-    fs::remove_dir_all(&rt, "tiles")?;
-    Ok(())
+    clear(&rt);
 }
 
 /// The bytes, staged under the number.
@@ -124,10 +128,14 @@ fn staged_as<R: Files>(
     alloc: Global,
     number: u64,
     bytes: &[u8],
-) -> Result<Staged, Fail> {
-    let staged = stage_bytes(staging, alloc, number, Vec::from_slice(alloc, bytes)?);
-    assert!(rt; staged.is_ok(), "staged as {number}");
-    Ok(staged.unwrap())
+) -> Staged {
+    let Ok(bytes) = Vec::from_slice(alloc, bytes) else {
+        panic!(rt; "no memory")
+    };
+    let Ok(staged) = stage_bytes(staging, alloc, number, bytes) else {
+        panic!(rt; "not staged as {number}")
+    };
+    staged
 }
 
 /// Stages the bytes, puts them at the path and clears what is left.
@@ -138,30 +146,28 @@ fn puts_staged<R: Files>(
     alloc: Global,
     path: &str,
     bytes: &[u8],
-) -> Result<(), Fail> {
-    let staged = staged_as(rt, staging, alloc, 7, bytes)?;
+) {
+    let staged = staged_as(rt, staging, alloc, 7, bytes);
     let put = files.put_staged(alloc, path, &staged);
     staging.clear(alloc, 7);
     assert!(rt; put == Ok(()), "staged put of {path}");
     gets(rt, files, alloc, path, bytes);
-    Ok(())
 }
 
 /// Each staged file takes the place of what its path had, and nothing is left of it.
 #[test]
-fn what_was_staged_is_put(rt: HostRuntime) -> Result<(), Fail> {
+fn what_was_staged_is_put(rt: HostRuntime) {
     let alloc = rt.alloc();
-    let _left_by_an_earlier_run = fs::remove_dir_all(&rt, "tiles");
-    let (staging, mut files) = (FileStaging::new(rt.clone()?), FileStore::new(rt.clone()?));
-    puts_staged(&rt, &staging, &mut files, alloc, "map/one", b"first")?;
-    puts_staged(&rt, &staging, &mut files, alloc, "map/one", b"second")?;
+    clear(&rt);
+    let (staging, mut files) = (FileStaging::new(rt), FileStore::new(rt));
+    puts_staged(&rt, &staging, &mut files, alloc, "map/one", b"first");
+    puts_staged(&rt, &staging, &mut files, alloc, "map/one", b"second");
     assert!(rt; files.faults() == 0);
     assert!(rt;
         is_missing(&rt, "tiles/.new/7") && is_missing(&rt, "tiles/.new/7.old"),
         "nothing is left of a staging"
     );
-    fs::remove_dir_all(&rt, "tiles")?;
-    Ok(())
+    clear(&rt);
 }
 
 /// A number that is 7 in its last 32 bits.
@@ -169,76 +175,71 @@ const FAR: u64 = 4_294_967_303;
 
 /// Of two that are staged at once each is put at its own path, the later one first.
 #[test]
-fn two_are_staged_at_once(rt: HostRuntime) -> Result<(), Fail> {
+fn two_are_staged_at_once(rt: HostRuntime) {
     let alloc = rt.alloc();
-    let _left_by_an_earlier_run = fs::remove_dir_all(&rt, "tiles");
-    let (staging, mut files) = (FileStaging::new(rt.clone()?), FileStore::new(rt.clone()?));
-    let seven = staged_as(&rt, &staging, alloc, 7, b"seven")?;
-    let far = staged_as(&rt, &staging, alloc, FAR, b"far")?;
+    clear(&rt);
+    let (staging, mut files) = (FileStaging::new(rt), FileStore::new(rt));
+    let seven = staged_as(&rt, &staging, alloc, 7, b"seven");
+    let far = staged_as(&rt, &staging, alloc, FAR, b"far");
     let later = files.put_staged(alloc, "map/far", &far);
     let earlier = files.put_staged(alloc, "map/7", &seven);
     assert!(rt; later == Ok(()) && earlier == Ok(()));
     gets(&rt, &mut files, alloc, "map/7", b"seven");
     gets(&rt, &mut files, alloc, "map/far", b"far");
-    fs::remove_dir_all(&rt, "tiles")?;
-    Ok(())
+    clear(&rt);
 }
 
 /// The file of an earlier drawing, which was not put, is none of this one's.
 #[test]
-fn a_number_is_staged_anew(rt: HostRuntime) -> Result<(), Fail> {
+fn a_number_is_staged_anew(rt: HostRuntime) {
     let alloc = rt.alloc();
-    let _left_by_an_earlier_run = fs::remove_dir_all(&rt, "tiles");
-    let (staging, mut files) = (FileStaging::new(rt.clone()?), FileStore::new(rt.clone()?));
-    let _never_put = staged_as(&rt, &staging, alloc, 7, b"the longer one of an earlier run")?;
-    puts_staged(&rt, &staging, &mut files, alloc, "map/one", b"short")?;
-    fs::remove_dir_all(&rt, "tiles")?;
-    Ok(())
+    clear(&rt);
+    let (staging, mut files) = (FileStaging::new(rt), FileStore::new(rt));
+    let _never_put = staged_as(&rt, &staging, alloc, 7, b"the longer one of an earlier run");
+    puts_staged(&rt, &staging, &mut files, alloc, "map/one", b"short");
+    clear(&rt);
 }
 
 /// Where its staged file is gone the bytes are put all the same, in place of those before.
 #[test]
-fn bytes_whose_file_is_gone_are_put(rt: HostRuntime) -> Result<(), Fail> {
+fn bytes_whose_file_is_gone_are_put(rt: HostRuntime) {
     let alloc = rt.alloc();
-    let _left_by_an_earlier_run = fs::remove_dir_all(&rt, "tiles");
-    let (staging, mut files) = (FileStaging::new(rt.clone()?), FileStore::new(rt.clone()?));
+    clear(&rt);
+    let (staging, mut files) = (FileStaging::new(rt), FileStore::new(rt));
     assert_eq!(rt; files.put(alloc, "one", b"one"), Ok(()));
-    let staged = staged_as(&rt, &staging, alloc, 8, b"two")?;
-    fs::remove_file(&rt, "tiles/.new/8")?;
+    let staged = staged_as(&rt, &staging, alloc, 8, b"two");
+    assert!(rt; fs::remove_file(&rt, "tiles/.new/8").is_ok());
     assert_eq!(rt; files.put_staged(alloc, "one", &staged), Ok(()));
     gets(&rt, &mut files, alloc, "one", b"two");
-    fs::remove_dir_all(&rt, "tiles")?;
-    Ok(())
+    clear(&rt);
 }
 
 /// At a path that is a folder nothing is put, and the folder stays.
 #[test]
-fn a_staged_put_that_fails_is_told(rt: HostRuntime) -> Result<(), Fail> {
+fn a_staged_put_that_fails_is_told(rt: HostRuntime) {
     let alloc = rt.alloc();
-    let _left_by_an_earlier_run = fs::remove_dir_all(&rt, "tiles");
-    let (staging, mut files) = (FileStaging::new(rt.clone()?), FileStore::new(rt.clone()?));
+    clear(&rt);
+    let (staging, mut files) = (FileStaging::new(rt), FileStore::new(rt));
     assert_eq!(rt; files.put(alloc, "map/one", b"one"), Ok(()));
-    let staged = staged_as(&rt, &staging, alloc, 9, b"two")?;
+    let staged = staged_as(&rt, &staging, alloc, 9, b"two");
     let answer = files.put_staged(alloc, "map", &staged);
     assert!(rt; answer == Err(StoreFault::Failed) && files.faults() == 1);
     staging.clear(alloc, 9);
     gets(&rt, &mut files, alloc, "map/one", b"one");
     assert!(rt; is_missing(&rt, "tiles/.new/9") && is_missing(&rt, "tiles/map.new"));
-    fs::remove_dir_all(&rt, "tiles")?;
-    Ok(())
+    clear(&rt);
 }
 
 /// No folder can be made where a file stands.
 #[test]
 fn a_staging_that_fails_is_told(rt: HostRuntime) -> Result<(), Fail> {
     let alloc = rt.alloc();
-    let _left_by_an_earlier_run = fs::remove_dir_all(&rt, "tiles");
+    clear(&rt);
     fs::write(&rt, "tiles", b"a file")?;
-    let staging = FileStaging::new(rt.clone()?);
-    match stage_bytes(&staging, alloc, 9, Vec::from_slice(alloc, b"bytes")?) {
-        Ok(_) => assert!(rt; false, "nothing is staged"),
-        Err(back) => assert!(rt; back.as_slice() == b"bytes".as_slice()),
-    }
-    fs::remove_file(&rt, "tiles")?;
+    let bytes = Vec::from_slice(alloc, b"bytes")?;
+    let staging = FileStaging::new(rt);
+    let staged = stage_bytes(&staging, alloc, 9, bytes);
+    assert!(rt; matches!(&staged, Err(back) if back.as_slice() == b"bytes".as_slice()));
+    assert!(rt; fs::remove_file(&rt, "tiles").is_ok());
     Ok(())
 }

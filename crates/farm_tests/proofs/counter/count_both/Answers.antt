@@ -1,7 +1,7 @@
 use Rattle.std.proofs.Common.{◌≡◌, ◌+◌, ◌*◌, ap, ◌∙◌, arith, length, subst, IsOkAnd}
 use Rattle.turn_cell.specs.SeatStates.{split_left, split_right, joining}
 use Rattle.turn_cell.proofs.Counting.{seen_by_two}
-use Rattle.crate_tests.proofs.counter.count_both.Goals as goal
+use Rattle.farm_tests.proofs.counter.count_both.Goals as goal
 
 -- what the first seat has seen when it closes the cell
 counted : (g : _) (c : goal.Then-both g) → length c.join-2.new.into.seen ≡ 2 * c.args.each

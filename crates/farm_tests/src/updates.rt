@@ -1,36 +1,52 @@
 //! Updates of very many ids, and of a layer of very many features.
 use crate::drawings::data;
-use case_tables::{Frame, row};
 use data_versions::{LayerView, Snapshot, apply};
 use geo_json::read_update;
-use std::alloc::Global;
+use std::alloc::{AllocError, Global};
 use std::test::Fail;
 
-const DATA: Frame<'static> = Frame {
-    before: r#"{"units":"world","layers":[{"name":"land","features":["#,
-    after: "]}]}",
-};
+// What the features of a layer stand between.
+const DATA: [&str; 2] = [
+    r#"{"units":"world","layers":[{"name":"land","features":["#,
+    "]}]}",
+];
 
-const FEATURES: &str = r#"features <* 1001 , {"id":#,"geometry":{"points":[[3,4]]}}"#;
+// A feature, but for its id.
+const FEATURE: [&str; 2] = [r#"{"id":"#, r#","geometry":{"points":[[3,4]]}}"#];
 
-const REMOVE: Frame<'static> = Frame {
-    before: r#"{"units":"world","changes":[{"layer":"land","remove":["#,
-    after: r#"],"put":[{"id":7,"geometry":{"points":[[5,6]]}}]}]}"#,
-};
-
-const IDS: &str = "ids <* 1001 , #";
-
-const MANY: &str = r#"features <* 2100 , {"id":#,"geometry":{"points":[[3,4]]}}"#;
+// What the ids stand between that are removed.
+const REMOVE: [&str; 2] = [
+    r#"{"units":"world","changes":[{"layer":"land","remove":["#,
+    r#"],"put":[{"id":7,"geometry":{"points":[[5,6]]}}]}]}"#,
+];
 
 const FAR_ON: &str =
     r#"{"units":"world","changes":[{"layer":"land","remove":[2060],"put":[{"id":2070,"geometry":{"points":[[50,6]]}},{"id":9000,"geometry":{"points":[[60,7]]}}]}]}"#;
 
-// The text of a line in its frame.
-fn text_in(alloc: Global, frame: &Frame<'_>, line: &str) -> Result<String, Fail> {
-    match row(alloc, frame, line)? {
-        Some(text) => Ok(text),
-        None => Err(Fail::new("no text")),
+// Between two texts the numbers from 0 on, so many, each in its piece.
+fn numbered(
+    alloc: Global,
+    around: [&str; 2],
+    piece: [&str; 2],
+    count: u32,
+) -> Result<String, AllocError> {
+    let [before, after] = around;
+    let [front, back] = piece;
+    let mut text = String::from_str(alloc, before)?;
+    for number in 0..count {
+        let comma = if number > 0 { "," } else { "" };
+        text.push_str(format!(in alloc; "{comma}{front}{number}{back}")?.as_str())?;
     }
+    text.push_str(after)?;
+    Ok(text)
+}
+
+// Data of so many features, with the ids from 0 on, all at one point.
+fn many(alloc: Global, count: u32) -> Result<Snapshot, Fail> {
+    let text = numbered(alloc, DATA, FEATURE, count)?;
+    let read = data(alloc, text.as_str());
+    drop(text);
+    read
 }
 
 /// The next version of the data, by the text of an update.
@@ -45,7 +61,7 @@ pub(crate) fn updated(alloc: Global, old: &Snapshot, text: &str) -> Result<Snaps
 }
 
 fn removed(alloc: Global, old: &Snapshot) -> Result<Snapshot, Fail> {
-    let text = text_in(alloc, &REMOVE, IDS)?;
+    let text = numbered(alloc, REMOVE, ["", ""], 1001)?;
     updated(alloc, old, text.as_str())
 }
 
@@ -60,8 +76,7 @@ fn has_one(snapshot: &Snapshot, id: u64) -> bool {
 #[test]
 fn an_update_of_1001_ids(rt: HostRuntime) -> Result<(), Fail> {
     let alloc = rt.alloc();
-    let text = text_in(alloc, &DATA, FEATURES)?;
-    let old = data(alloc, text.as_str())?;
+    let old = many(alloc, 1001)?;
     let new = removed(alloc, &old)?;
     assert!(rt; has_one(&new, 7));
     Ok(())
@@ -146,8 +161,7 @@ fn is_unchanged(snapshot: &Snapshot) -> bool {
 #[test]
 fn an_update_far_on(rt: HostRuntime) -> Result<(), Fail> {
     let alloc = rt.alloc();
-    let text = text_in(alloc, &DATA, MANY)?;
-    let old = data(alloc, text.as_str())?;
+    let old = many(alloc, 2100)?;
     let new = updated(alloc, &old, FAR_ON)?;
     let changed = is_changed(alloc, &new)?;
     assert!(rt; changed && is_unchanged(&old));

@@ -1,18 +1,14 @@
 //! The tiles of a metatile in their places, also of a ring of very many points, and a map without its grids.
-ghost use Rattle.std.specs.Prelude.{◌<◌, ◌^◌};
-ghost use Rattle.plain_shapes.specs.Data.{IsLayer};
 ghost use Rattle.plain_world.specs.World.{IsMeta, IsTile, IsTileSize};
 
 use crate::drawings::{data, is_boxed, map};
-use data_versions::{Dataset, Layer, Snapshot};
-use farm_base::{Bytes, Listed, NoMemory, Text};
-use geo_model::{Feature, make_feature};
+use data_versions::Snapshot;
+use farm_base::{Bytes, NoMemory};
 use meta_container::{encode, law_drawn_container};
 use meta_drawing::{PictureBuffer, draw_container};
 use plain_drawing::MapStyle;
-use plain_shapes::{Geometry, Path};
-use plain_world::{Meta, Point, Tile};
-use std::alloc::Global;
+use plain_world::{Meta, Tile};
+use std::alloc::{AllocError, Global};
 use std::test::Fail;
 use tile_render::{DrawnMeta, draw_meta, draw_tile};
 
@@ -25,11 +21,17 @@ const SQUARE: &str =
 // The four tiles of zoom 1.
 const QUARTERS: Meta = Meta { z: 1, x: 0, y: 0 };
 
-// The square in red as the tiles of a metatile.
-fn red_tiles(alloc: Global) -> Result<DrawnMeta, Fail> {
+// The data of a text in red as the tiles of a metatile.
+fn drawn(alloc: Global, text: &str, size: u32, meta: Meta) -> Result<DrawnMeta, Fail>
+    requires size { IsTileSize size }
+    requires meta { IsMeta meta }
+{
+    let snapshot = data(alloc, text)?;
     let style = map(alloc, RED)?;
-    let snapshot = data(alloc, SQUARE)?;
-    Ok(draw_meta(alloc, &style, 16, QUARTERS, &snapshot)?)
+    let drawn = draw_meta(alloc, &style, size, meta, &snapshot);
+    drop(style);
+    drop(snapshot);
+    Ok(drawn?)
 }
 
 // Whether the tiles have the square in these bounds.
@@ -44,7 +46,7 @@ fn are_boxed(tiles: &[Bytes], bounds: [[usize; 4]; 4]) -> bool {
 
 #[test]
 fn four_tiles_of_one_window(rt: HostRuntime) -> Result<(), Fail> {
-    let drawn = red_tiles(rt.alloc())?;
+    let drawn = drawn(rt.alloc(), SQUARE, 16, QUARTERS)?;
     // In order of index place, which goes by columns: north-west, south-west, north-east, south-east.
     let bounds = [[8, 8, 16, 16], [8, 0, 16, 8], [0, 8, 8, 16], [0, 0, 8, 8]];
     assert!(rt; drawn.meta == QUARTERS && are_boxed(drawn.tiles.as_slice(), bounds));
@@ -63,9 +65,12 @@ pub(crate) fn container(
     requires size { IsTileSize size }
     requires meta { IsMeta meta }
 {
-    let style = map(buffer.alloc(), style)?;
     let snapshot = data(buffer.alloc(), SQUARE)?;
-    Ok(draw_container(buffer, &style, size, meta, &snapshot)?)
+    let style = map(buffer.alloc(), style)?;
+    let drawn = draw_container(buffer, &style, size, meta, &snapshot);
+    drop(style);
+    drop(snapshot);
+    Ok(drawn?)
 }
 
 // The container of a metatile by way of its tiles.
@@ -88,9 +93,12 @@ fn encoded(
 fn red_encoded(alloc: Global, size: u32) -> Result<Vec<u8>, Fail>
     requires { IsTileSize size }
 {
-    let style = map(alloc, RED)?;
     let snapshot = data(alloc, SQUARE)?;
-    Ok(encoded(alloc, &style, size, QUARTERS, &snapshot)?)
+    let style = map(alloc, RED)?;
+    let bytes = encoded(alloc, &style, size, QUARTERS, &snapshot);
+    drop(style);
+    drop(snapshot);
+    Ok(bytes?)
 }
 
 // The buffer holds a larger picture, which is blue all over.
@@ -115,69 +123,38 @@ fn large_tiles_of_few_data(rt: HostRuntime) -> Result<(), Fail> {
 }
 
 // The boundary of the square from (0, 0) to (2^29, 2^29), one point every 2^15 units.
-fn boundary(k: u32) -> Point
-    requires { k < 2 ^ 16 }
-{
+fn boundary(k: u32) -> (u32, u32) {
     let along = (k % 16384) * 32768;
     match k / 16384 {
-        0 => Point { x: along, y: 0 },
-        1 => Point {
-            x: 536870912,
-            y: along,
-        },
-        2 => Point {
-            x: 536870912 - along,
-            y: 536870912,
-        },
-        _ => Point {
-            x: 0,
-            y: 536870912 - along,
-        },
+        0 => (along, 0),
+        1 => (536870912, along),
+        2 => (536870912 - along, 536870912),
+        _ => (0, 536870912 - along),
     }
 }
 
-// A polygon of that one ring.
-fn ring(alloc: Global) -> Result<Feature, Fail> {
-    let mut points = Vec::new(alloc);
-    for k in 0..65536 {
-        points.push(boundary(k))?;
+// Data of a polygon of that one ring.
+fn ring(alloc: Global) -> Result<String, AllocError> {
+    let mut text = String::from_str(
+        alloc,
+        r#"{"units":"world","layers":[{"name":"land","features":[{"id":1,"geometry":{"polygon":[["#,
+    )?;
+    for k in 0..65536u32 {
+        let (x, y) = boundary(k);
+        let comma = if k > 0 { "," } else { "" };
+        text.push_str(format!(in alloc; "{comma}[{x},{y}]")?.as_str())?;
     }
-    let mut rings = Vec::new(alloc);
-    rings.push(Path { points })?;
-    match make_feature(1, Geometry::Polygon(Listed::of(rings)), Vec::new(alloc)) {
-        Ok(feature) => Ok(feature),
-        Err(_) => Err(Fail::new("no feature")),
-    }
-}
-
-// Data of one layer.
-#[tactic(auto, using(data_versions::proofs::Named::lone_layer))]
-fn data_of(alloc: Global, layer: Layer) -> Result<Snapshot, Fail>
-    requires { IsLayer layer }
-{
-    let dataset = Dataset::of(vec![in alloc; layer]?);
-    Ok(Snapshot::first(alloc, dataset)?)
-}
-
-// Data of one layer of this name, which has the feature alone.
-#[tactic(auto, using(crate::proofs::Layers::one_feature))]
-fn data_with(alloc: Global, name: &str, feature: Feature) -> Result<Snapshot, Fail> {
-    if name.len() < 1 || name.len() > 64 {
-        return Err(Fail::new("no name"));
-    }
-    let layer = Layer {
-        name: Text::of(alloc, name)?,
-        features: vec![in alloc; feature]?,
-    };
-    data_of(alloc, layer)
+    text.push_str("]]}}]}]}")?;
+    Ok(text)
 }
 
 // The ring in red as the 64 tiles of a metatile of 512 pixels: a body that tested each centre against each edge would
 // make some 10^12 tests.
 fn ring_tiles(alloc: Global) -> Result<DrawnMeta, Fail> {
-    let style = map(alloc, RED)?;
-    let snapshot = data_with(alloc, "land", ring(alloc)?)?;
-    Ok(draw_meta(alloc, &style, 512, Meta { z: 3, x: 0, y: 0 }, &snapshot)?)
+    let text = ring(alloc)?;
+    let drawn = drawn(alloc, text.as_str(), 512, Meta { z: 3, x: 0, y: 0 });
+    drop(text);
+    drawn
 }
 
 // The first place at which the tile is not wholly red in columns and rows 0 to 3, and else white.
@@ -210,9 +187,12 @@ fn a_ring_of_65536_points(rt: HostRuntime) -> Result<(), Fail> {
 pub(crate) fn tile_of_the_square(alloc: Global, style: &str, t: Tile) -> Result<Vec<u8>, Fail>
     requires { IsTile t }
 {
-    let style = map(alloc, style)?;
     let snapshot = data(alloc, SQUARE)?;
-    Ok(draw_tile(alloc, &style, 16, t, &snapshot)?)
+    let style = map(alloc, style)?;
+    let drawn = draw_tile(alloc, &style, 16, t, &snapshot);
+    drop(style);
+    drop(snapshot);
+    Ok(drawn?)
 }
 
 // A map of a grid, and over it a fill of the features of its source.

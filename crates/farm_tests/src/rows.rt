@@ -24,12 +24,11 @@ fn points(alloc: Global) -> Result<Snapshot, Fail> {
         r#"{"units":"world","layers":[{"name":"land","features":["#,
     )?;
     for id in 1..601u32 {
-        if id > 1 {
-            text.push_str(",")?;
-        }
-        text.push_str(format!(in alloc; "{}\"id\":{id},", "{")?.as_str())?;
-        text.push_str(r#""geometry":{"points":[["#)?;
-        text.push_str(format!(in alloc; "{id},0]]{}", "}}")?.as_str())?;
+        let comma = if id > 1 { "," } else { "" };
+        let point = format!(in alloc;
+            "{comma}{{\"id\":{id},\"geometry\":{{\"points\":[[{id},0]]}}}}"
+        )?;
+        text.push_str(point.as_str())?;
     }
     text.push_str("]}]}")?;
     data(alloc, text.as_str())
