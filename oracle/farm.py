@@ -21,7 +21,8 @@ how often each answer and each refusal comes in a folder's scripts. A line of a 
 and may end with `puts N..` and then `gets N..`: which calls of the store, counted from 0, are to fail. A row is
 written as those of `oracle/texts.py` are, and `\\n` and `\\r` in it are line ends. What a row wants is what its text
 says of the file, or `ok`; the command ends with status 1 where another thing comes. Before the answers of a line stands
-`case` with the line, and before that of a row `row TABLE:LINE`.
+`case` with the line, and before that of a row `row TABLE:LINE`. An output of more than 12,000 bytes is told by its
+length and its weighted sum.
 
 Tiles are drawn by `tilefarm.py`. It needs Python 3 and nothing else.
 """
@@ -829,7 +830,7 @@ def cases(folder):
     sys.stdout.flush()
     sys.stdout.buffer.write(b"".join(serve_cases.WANTED))
     for named, (out, err, status), want in told_cases(folder):
-        sys.stdout.buffer.write(named.encode() + out + err + b"status %d\n" % status)
+        sys.stdout.buffer.write(named.encode() + tilefarm.told_out(out) + err + b"status %d\n" % status)
         sys.stdout.buffer.flush()
         if want:
             print(want, file=sys.stderr)

@@ -17,7 +17,8 @@ hand, so each row has two sources that know nothing of the program. The folder's
     KIND whole FILE         FILE is one text
     KIND beginnings FILE    the proper beginnings of FILE, told once where neighbours are told alike
     KIND changes FILE       FILE with each value of each of its bytes in turn, told once where neighbours are told
-                            alike, behind the byte's place and its value
+                            alike (the last value of a byte and the first of the next are neighbours), behind the
+                            byte's place and its value
 
 Each text gives one line: its first fault, or that it is read; of a filter its tree or its value, of an update the
 layers after it, of an expiry list its tiles, of a container its entries, and of a path its metatile. Before it stands
@@ -543,8 +544,8 @@ def beginnings(kind, data, old):
 
 def changes(kind, data, old):
     """What a text is told by with each value of each of its bytes in turn."""
+    last = None
     for place in range(len(data)):
-        last = None
         for byte in range(256):
             line = told(kind, data[:place] + bytes([byte]) + data[place + 1 :], old)[1]
             if line != last:

@@ -20,6 +20,7 @@ import re
 import sys
 
 WORLD = 2**30
+MOST_TOLD = 12000  # bytes that are told one by one of what a command puts on out
 SIZES = (16, 32, 64, 128, 256, 512)
 USAGE = "usage: tilefarm render STYLE DATA T Z X Y | script CONFIG SCRIPT | serve CONFIG | load SEED N | meta FILE"
 COLOURS = {
@@ -901,11 +902,18 @@ def run(folder, words):
         return b"", (end.line + "\n").encode(), end.status
 
 
+def told_out(out):
+    """What a command put on out; of many bytes how many they are and their sum, each times its place, from 1 on."""
+    if len(out) <= MOST_TOLD:
+        return out
+    return b"%d bytes, sum %d\n" % (len(out), sum(place * byte for place, byte in enumerate(out, 1)) % 2**64)
+
+
 def cases(folder):
     """Of each drawing its line and what it ends with."""
     for line in read(folder, "drawings").decode().splitlines():
         out, err, status = run(folder, line.split(" "))
-        sys.stdout.buffer.write(b"case %s\n" % line.encode() + out + err + b"status %d\n" % status)
+        sys.stdout.buffer.write(b"case %s\n" % line.encode() + told_out(out) + err + b"status %d\n" % status)
         sys.stdout.buffer.flush()
     return 0
 

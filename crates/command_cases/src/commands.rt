@@ -4,7 +4,8 @@
 //! A line `configs TABLE FILE..` or `scripts TABLE FILE..` runs `script` once for each row of the table, with the row
 //! as the configuration or the script and these files alone beside it. `puts N..` and then `gets N..` at a line's end
 //! are the calls of the store that are to fail. Before the answers stands `case` with the line, and before that of a row
-//! `row TABLE:LINE`.
+//! `row TABLE:LINE`. An output of more than 12,000 bytes is told by its length and its sum, in which each byte counts
+//! as often as its place says.
 use crate::beside::CaseFiles;
 use crate::cases::{Case, Telling};
 use crate::plays::play;

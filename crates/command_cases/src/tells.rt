@@ -6,6 +6,9 @@ use port_events::{FrontDone, FrontEnd, Rest, ThreePorts};
 use std::alloc::Global;
 use tile_store::{MemStore, TileStore};
 
+/// How many bytes that a command puts on out are told one by one.
+const MOST_TOLD: usize = 12_000;
+
 /// How a front is told.
 #[derive(Clone, Copy)]
 struct FrontManner {
@@ -109,9 +112,30 @@ pub(crate) fn tell<O: Sink>(
 }
 
 fn tell_command<O: Sink>(alloc: Global, ended: Ended<'_>, out: &mut O) -> Option<()> {
-    out.put(ended.put).ok()?;
+    put_output(alloc, ended.put, out)?;
     out.put(ended.err).ok()?;
     put_status(alloc, ended, out)
+}
+
+// The bytes, or of many how many they are and their weighted sum.
+fn put_output<O: Sink>(alloc: Global, bytes: &[u8], out: &mut O) -> Option<()> {
+    let length = bytes.len();
+    if length <= MOST_TOLD {
+        return out.put(bytes).ok();
+    }
+    let sum = weighted_sum(bytes);
+    put_text(format!(in alloc; "{length} bytes, sum {sum}\n").ok()?, out)
+}
+
+// The sum of the bytes, each times its place, from 1 on; of a sum over 64 bits its low 64.
+fn weighted_sum(bytes: &[u8]) -> u64 {
+    let mut place = 0u64;
+    let mut sum = 0u64;
+    for byte in bytes {
+        place = place.wrapping_add(1);
+        sum = sum.wrapping_add(place.wrapping_mul(u64::from(*byte)));
+    }
+    sum
 }
 
 fn put_status<O: Sink>(alloc: Global, ended: Ended<'_>, out: &mut O) -> Option<()> {

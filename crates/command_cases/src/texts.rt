@@ -132,8 +132,8 @@ fn beginnings<O: Sink>(
     Some(())
 }
 
-// What a text is told by with each value of each of its bytes in turn, once where neighbours are told alike, behind the
-// byte's place and its value.
+// What a text is told by with each value of each of its bytes in turn, once where neighbours are told alike (the last
+// value of a byte and the first of the next are neighbours), behind the byte's place and its value.
 fn changes<O: Sink>(
     alloc: Global,
     kind: &str,
@@ -141,8 +141,8 @@ fn changes<O: Sink>(
     old: &Snapshot,
     out: &mut O,
 ) -> Option<()> {
+    let mut last = String::new(alloc);
     for place in 0..bytes.len() {
-        let mut last = String::new(alloc);
         for byte in 0..=255u8 {
             let text = with_byte(alloc, bytes, place, byte)?;
             let next = told(alloc, kind, text.as_slice(), old)?;
