@@ -173,7 +173,8 @@ fn what_was_staged_is_put(rt: HostRuntime) {
 /// A number that is 7 in its last 32 bits.
 const FAR: u64 = 4_294_967_303;
 
-/// Of two that are staged at once each is put at its own path, the later one first.
+/// Of two that are staged at once each is put at its own path, the earlier one first: were their files one, it would put
+/// the bytes of the later one.
 #[test]
 fn two_are_staged_at_once(rt: HostRuntime) {
     let alloc = rt.alloc();
@@ -181,9 +182,9 @@ fn two_are_staged_at_once(rt: HostRuntime) {
     let (staging, mut files) = (FileStaging::new(rt), FileStore::new(rt));
     let seven = staged_as(&rt, &staging, alloc, 7, b"seven");
     let far = staged_as(&rt, &staging, alloc, FAR, b"far");
-    let later = files.put_staged(alloc, "map/far", &far);
     let earlier = files.put_staged(alloc, "map/7", &seven);
-    assert!(rt; later == Ok(()) && earlier == Ok(()));
+    let later = files.put_staged(alloc, "map/far", &far);
+    assert!(rt; earlier == Ok(()) && later == Ok(()));
     gets(&rt, &mut files, alloc, "map/7", b"seven");
     gets(&rt, &mut files, alloc, "map/far", b"far");
     clear(&rt);
