@@ -124,12 +124,13 @@ fn large_tiles_of_few_data(rt: HostRuntime) -> Result<(), Fail> {
 
 // The boundary of the square from (0, 0) to (2^29, 2^29), one point every 2^15 units.
 fn boundary(k: u32) -> (u32, u32) {
-    let along = (k % 16384) * 32768;
+    let along = (k % 16384).saturating_mul(32768);
+    let back = 536870912u32.saturating_sub(along);
     match k / 16384 {
         0 => (along, 0),
         1 => (536870912, along),
-        2 => (536870912 - along, 536870912),
-        _ => (0, 536870912 - along),
+        2 => (back, 536870912),
+        _ => (0, back),
     }
 }
 
