@@ -26,6 +26,7 @@ BUILT = [os.path.join(TOP, "crates", "tilefarm", "out", name) for name in ("tile
 EACH = 8  # seconds for one wait
 WHOLE = 110  # seconds for all
 LARGE = 512  # pixels of a large tile
+BEGUN = 0.01  # seconds after which a drawing has begun; one of large tiles has not ended yet
 NARROW = 40 << 20  # bytes of addresses: less than the stacks of MANY workers
 MANY = 16
 MOST = 3000  # metatiles of a saved text of more than 65,536 bytes
@@ -215,6 +216,7 @@ def run_of_large_tiles(farm):
     told("a tile that is waited for", farm.tiles, wanted.get("/default/5/16/8.ppm"), wanted.tile(large), True)
     with connected(farm.renderd) as waits:
         waits.sendall(wanted.message(wanted.RENDER, 5, 24, 8))
+        time.sleep(BEGUN)  # an update that comes before the drawing begins is drawn
         told("an update meanwhile", farm.control, b"update 0\n", b"version 1\n")
         done = wanted.message(wanted.DONE, 5, 24, 8)
         same("a Done over an update", received("a Done over an update", waits, len(done)), done)
