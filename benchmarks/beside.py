@@ -308,36 +308,50 @@ class Farm:
     """A farm that draws one metatile again and again, by a script over the folder's style and data."""
 
     def __init__(self, program, folder, place):
-        self.program, self.folder, self.place = os.path.abspath(program), folder, "%d %d %d" % place
+        self.program, self.folder, self.place = os.path.abspath(program), os.path.abspath(folder), "%d %d %d" % place
         with open(folder + "/config.json", "w") as out:
             json.dump({"maps": [{"name": "default", "style": "style.json", "tile": 256}], "data": "data.json"}, out)
 
     def __call__(self, rounds):
+        """The processor time of each round, from the end of one drawing to that of the next, and the peak memory in KiB."""
         with open(self.folder + "/script", "w") as out:
-            for ticket in range(rounds):
+            for ticket in range(rounds + 1):
                 out.write("ask 1 render default %s\nclaim 1\nfinish %d\ncollect 0\nexpire %s\n" % (self.place, ticket, self.place))
-        preloaded = dict(os.environ, LD_PRELOAD=os.path.abspath(self.folder + "/unwritten.so"))
-        return processor([self.program, "script", "config.json", "script"], cwd=self.folder, env=preloaded)
+        notes = self.folder + "/notes"
+        open(notes, "w").close()
+        preloaded = dict(os.environ, LD_PRELOAD=self.folder + "/unwritten.so", NOTES=notes)
+        _, peak = processor([self.program, "script", "config.json", "script"], cwd=self.folder, env=preloaded)
+        ends = [int(line) / 1e9 for line in open(notes)]
+        if len(ends) != rounds + 1:
+            sys.exit("beside.py: %d of %d drawings were told" % (len(ends), rounds + 1))
+        return [end - begin for begin, end in zip(ends, ends[1:])], peak
 
 
-def rounds_for(run):
-    first = run(1)[0] - run(0)[0]
-    return max(2, min(100, int(1 / max(first, 0.005))))
+def rounds_for(farm):
+    (first,), _ = farm(1)
+    return max(5, min(100, int(1 / max(first, 0.005))))
 
 
-def a_round(run, rounds):
-    none, _ = run(0)
-    spent, peak = run(rounds)
-    return max(0.0, spent - none) / rounds, peak
+def a_copy(raw):
+    """The processor time of cutting one picture into one container, without what the program begins with."""
+    return max(0.0, processor([raw, "100"])[0] - processor([raw, "0"])[0]) / 100
+
+
+def ticks():
+    """What all processors did since the system began, and what of it the host took."""
+    with open("/proc/stat") as file:
+        they = [int(it) for it in file.readline().split()[1:9]]
+    return sum(they), they[7]
 
 
 def measure(program, raw, folder, mapnik, z, point):
     place = z, point[0] >> (30 - z), point[1] >> (30 - z)
     west, north, side, _ = metatile(*place)
-    ours, copied = Farm(program, folder, place), lambda rounds: processor([raw, str(rounds)])
-    rounds = rounds_for(ours)
+    farm = Farm(program, folder, place)
+    rounds = rounds_for(farm)
     got = {"mapnik": [], "raw": [], "ours": []}
     peak = 0
+    all_before, taken_before = ticks()
     for _ in range(REPEATS):
         if mapnik:
             box = [west, WORLD - north - side, west + side, WORLD - north]
@@ -345,11 +359,13 @@ def measure(program, raw, folder, mapnik, z, point):
             if said.returncode:
                 sys.exit("beside.py: Mapnik failed")
             got["mapnik"].append(float(said.stdout))
-        got["raw"].append(a_round(copied, 100)[0])
-        spent, most = a_round(ours, rounds)
-        got["ours"].append(spent)
+        got["raw"].append(a_copy(raw))
+        spent, most = farm(rounds)
+        got["ours"].append(statistics.median(spent))
         peak = max(peak, most)
-    return {key: statistics.median(all_of) if all_of else None for key, all_of in got.items()}, peak
+    all_after, taken_after = ticks()
+    steal = 100 * (taken_after - taken_before) / max(1, all_after - all_before)
+    return {key: statistics.median(all_of) if all_of else None for key, all_of in got.items()}, peak, steal
 
 
 def ratio(a, b):
@@ -369,8 +385,8 @@ def main():
     if names == ["-l"]:
         print(*CASES)
         return
-    row = "%-12s %3s %9s %8s %8s %14s %10s %9s"
-    print(row % ("case", "z", "Mapnik s", "raw s", "ours s", "Mapnik / ours", "ours / raw", "peak KiB"))
+    row = "%-12s %3s %9s %8s %8s %14s %10s %9s %5s %7s"
+    print(row % ("case", "z", "Mapnik s", "raw s", "ours s", "Mapnik / ours", "ours / raw", "peak KiB", "load", "steal %"))
     ratios = []
     for name in names or CASES:
         shapes, style, zooms, point = CASES[name]
@@ -383,9 +399,9 @@ def main():
             out.write(of_mapnik(features, style, folder))
         del features, data_said
         for z in zooms:
-            got, peak = measure(program, folder + "/raw", folder, mapnik, z, point)
+            got, peak, steal = measure(program, folder + "/raw", folder, mapnik, z, point)
             number = lambda it: "-" if it is None else "%.4f" % it
-            print(row % (name, z, number(got["mapnik"]), number(got["raw"]), number(got["ours"]), ratio(got["mapnik"], got["ours"]), ratio(got["ours"], got["raw"]), peak), flush=True)
+            print(row % (name, z, number(got["mapnik"]), number(got["raw"]), number(got["ours"]), ratio(got["mapnik"], got["ours"]), ratio(got["ours"], got["raw"]), peak, "%.1f" % os.getloadavg()[0], "%.1f" % steal), flush=True)
             if got["mapnik"] is not None and got["ours"]:
                 ratios.append((got["mapnik"] / got["ours"], name, z))
     print(slowest(ratios))
