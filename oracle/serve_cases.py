@@ -786,6 +786,10 @@ def sure_of_loss(made, name, conn, step):
         made.control.sure(0, b"stopping\n")
 
 
+# What is answered at once: a tile beyond the world, and a status.
+SPARSE = message(RENDER, 0, 1, 0), message(NOT_DONE, 0, 1, 0)
+STATUS = get("/default/0/0/0.ppm/status"), plain(200, "OK", "missing\n")
+
 for place, name in enumerate(("renderd", "tiles", "control")):
     steps = three_fronts("").sides[place].lines
     CASES.pop()
@@ -797,6 +801,9 @@ for place, name in enumerate(("renderd", "tiles", "control")):
             case.wants_status(0)
         else:
             case.wants_status(7, PORTS_FAILED, broken=place)
+            # nobody stops the farm, or the stop could come before the break is heard
+            if name != "control":
+                case.control.lines = [it for it in case.control.lines if " await " in it]
         # a connection that is there, whose later steps are left out, with the waits for what is not sent on it
         opened = sum(before == name + " open 1" for before in steps[:step + 1])
         gone = [before.split()[2] for before in steps[:step + 1] if before.startswith(name + " end")]
@@ -811,6 +818,11 @@ for place, name in enumerate(("renderd", "tiles", "control")):
             unsent = not any(before.startswith("%s await %d" % (name, place)) for before in steps[:step + 1])
             if unsent and (name, conn) != ("renderd", 0):
                 fewer(case, place)
+            if (name, conn, step) == ("renderd", 1, 5):
+                # the stop waits for the answer to another one, so that the loss was heard before it
+                case.renderd.open()
+                case.renderd.piece(2, SPARSE[0], "render_0_1_0.v2")
+                case.control.lines[0] = "control await 0 128"
             sure_of_loss(case, name, conn, step)
             case.wants_status(0)
     case = three_fronts("%s: the first send fails" % name, held=True)
@@ -825,32 +837,31 @@ for place, name in enumerate(("renderd", "tiles", "control")):
     case.wants_status(0)
 
 # Two connections on each port, each answered in the round of its piece, so that it is determined on which one a send fails.
-SPARSE = message(RENDER, 0, 1, 0), message(NOT_DONE, 0, 1, 0)
-STATUS = get("/default/0/0/0.ppm/status"), plain(200, "OK", "missing\n")
+# Where it is the last one, a third is answered behind it, so that the stop comes when the failing one was heard.
 for place, name in enumerate(("renderd", "tiles", "control")):
     for failing in (0, 1):
-        case = Case("%s: send %d of two fails" % (name, failing))
+        counts = [3 if failing and front == place else 2 for front in (0, 1)]
+        case = Case("%s: send %d of %s fails" % (name, failing, "three" if 3 in counts else "two"))
         renderd, tiles, control = case.sides
-        for conn in (0, 1):
-            renderd.open()
-            renderd.piece(conn, SPARSE[0], "render_0_1_0.v2")
-            tiles.open()
-            tiles.piece(conn, STATUS[0], "get_0_0_0_status")
+        for side, count, ask, file_name in ((renderd, counts[0], SPARSE[0], "render_0_1_0.v2"), (tiles, counts[1], STATUS[0], "get_0_0_0_status")):
+            for conn in range(count):
+                side.open()
+                side.piece(conn, ask, file_name)
         control.open()
         control.piece(0, "update 7\n", "update.control")
         for front, answer in ((0, SPARSE[1]), (1, STATUS[1])):
-            control.waits(front, len(answer) * (1 if front == place else 2))
+            control.waits(front, len(answer) * (counts[front] - (front == place)))
         control.open()
         control.piece(1, "stop\n", "stop.control")
         case.sides[place].fail(failing)
-        for side, answers in zip(case.sides, ([SPARSE[1]] * 2, [STATUS[1]] * 2, [b"no update\n", b"stopping\n"])):
+        for side, answers in zip(case.sides, ([SPARSE[1]] * counts[0], [STATUS[1]] * counts[1], [b"no update\n", b"stopping\n"])):
             for conn, answer in enumerate(answers):
                 is_lost = side.number == place and conn == failing
                 side.want[conn] = ("closed" if is_lost or side is tiles else "open", b"" if is_lost else answer)
         renderd.either()
         tiles.either()
         control.end = "stopped"
-        case.wants(out=tally(2, 0, 0, 0))
+        case.wants(out=tally(counts[0], 0, 0, 0))
 
 # Ticket 0 is held until an ask, a fetch and a drawing beside it were answered: one worker cannot do that.
 for apart in (False, True):
