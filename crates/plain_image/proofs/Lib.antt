@@ -5,7 +5,6 @@ pub mod Texts
 pub mod RoundTrip
 pub mod Runs
 pub mod ByteRuns
-pub mod ByteLines
 pub mod Marking
 pub mod PpmParts
 pub mod PpmBytes

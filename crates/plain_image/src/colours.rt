@@ -4,12 +4,8 @@ ghost use Rattle.plain_shapes.specs.declared.colour.Colour.{Colour};
 ghost use Rattle.plain_shapes.specs.Ppm.{pixel_bytes};
 ghost use Rattle.plain_shapes.specs.inner.Canvas.{cut_rows};
 ghost use Rattle.plain_image.specs.PpmText.{colours};
-ghost use Rattle.plain_image.specs.Runs.{run_changed};
-ghost use Rattle.plain_shapes.specs.Blending.{blend};
 ghost use Rattle.plain_world.specs.Limits.{most_side};
 
-use crate::blending;
-use crate::ready_line::ReadyLine;
 use farm_base::NoMemory;
 use plain_shapes::Colour;
 use std::alloc::Global;
@@ -46,23 +42,15 @@ fn line(alloc: Global, cols: u32, c: Colour) -> Result<Vec<u8>, NoMemory>
     Ok(out)
 }
 
-// The bytes of so many rows of one colour, in the place of what the buffer held.
+// The bytes of so many rows of one colour.
 #[tactic(auto, using(crate::proofs::Bytes::lines_more, crate::proofs::Bytes::no_lines))]
-fn lines(
-    alloc: Global,
-    buffer: Vec<u8>,
-    rows: u32,
-    cols: u32,
-    c: Colour,
-) -> Result<Vec<u8>, NoMemory>
+fn lines(alloc: Global, rows: u32, cols: u32, c: Colour) -> Result<Vec<u8>, NoMemory>
     requires rows { rows ≤ most_side }
     requires cols { cols ≤ most_side }
     ensures { IfOk result (λ v. v.items ≡ flat_map pixel_bytes (replicate (rows * cols) c)) }
 {
     let line = line(alloc, cols, c)?;
-    let mut out = buffer;
-    out.clear();
-    out.reserve_exact(rows as usize * cols as usize * 3)?;
+    let mut out = Vec::with_capacity(alloc, rows as usize * cols as usize * 3)?;
     for _row in 0..rows {
         out.extend_from_slice(&line)?;
     }
@@ -70,24 +58,18 @@ fn lines(
 }
 
 impl Colours {
-    /// So many rows of so many columns that are all of one colour, in a buffer that is used again.
+    /// So many rows of so many columns that are all of one colour.
     #[tactic(auto, using(crate::proofs::Bytes::colours_of))]
-    pub fn over(
-        alloc: Global,
-        buffer: Vec<u8>,
-        rows: u32,
-        cols: u32,
-        c: Colour,
-    ) -> Result<Colours, NoMemory>
+    pub fn of_one(alloc: Global, rows: u32, cols: u32, c: Colour) -> Result<Colours, NoMemory>
         requires rows { rows ≤ most_side }
         requires cols { cols ≤ most_side }
         ensures { IfOk result (λ v. v ≡ replicate (rows * cols) c) }
     {
-        let bytes = lines(alloc, buffer, rows, cols, c)?;
+        let bytes = lines(alloc, rows, cols, c)?;
         Ok(Colours { bytes })
     }
 
-    /// Its bytes, three for each colour. The buffer may be used again.
+    /// Its bytes, three for each colour.
     pub fn into_bytes(self) -> Vec<u8>
         ensures { result.items ≡ flat_map pixel_bytes self }
     {
@@ -135,31 +117,6 @@ impl Colours {
         self.bytes[k * 3] = c.r;
         self.bytes[k * 3 + 1] = c.g;
         self.bytes[k * 3 + 2] = c.b;
-    }
-
-    /// Paints the colours from the place `start` on and before the place `end` over with the colour `s`.
-    pub fn paint_run(&mut self, s: Colour, opacity: u32, start: usize, end: usize)
-        requires opacity { opacity ≤ 1000 }
-        requires order { start ≤ end }
-        requires inside { end ≤ length self.old }
-        requires few { length self.old ≤ most_side * most_side }
-        ensures painted { self.new ≡ run_changed (blend s opacity) start (end - start) self.old }
-        ensures len { length self.new ≡ length self.old }
-    {
-        blending::paint_run(s, opacity, start, end, &mut self.bytes);
-    }
-
-    /// Copies the first pixels of a line that is ready to the places from `start` on and before `end`.
-    pub fn copy_run(&mut self, line: &ReadyLine, start: usize, end: usize)
-        requires order { start ≤ end }
-        requires ready { end - start ≤ line.now.1 }
-        requires inside { end ≤ length self.old }
-        requires few { length self.old ≤ most_side * most_side }
-        ensures painted { self.new ≡ run_changed (λ (d : Colour). line.now.0) start (end - start) self.old }
-        ensures len { length self.new ≡ length self.old }
-    {
-        let run = line.bytes(end - start);
-        self.bytes[start * 3..end * 3].copy_from_slice(run);
     }
 
     /// Appends the bytes of `count` colours from the place `from` on.

@@ -1,14 +1,10 @@
 //! A picture: one colour for each pixel, by rows.
 use crate::colours::Colours;
-use crate::ready_line::ReadyLine;
 use crate::{Mask, blending, pixels};
 use farm_base::NoMemory;
 use plain_shapes::Colour;
 use std::alloc::Global;
 use std::marker::Model;
-
-// An opaque run of so many pixels or more is copied. A shorter one takes no less time that way.
-const COPIED: usize = 8;
 
 /// An image, by rows. Contracts see its sides and its pixels, row by row. Its sides are 1 to 4,096.
 #[derive(Drop)]
@@ -16,7 +12,6 @@ pub struct Image {
     cols: u32,
     rows: u32,
     pixels: Colours,
-    line: ReadyLine,
 }
 
 impl Model for Image {
@@ -37,30 +32,14 @@ impl Image {
     ghost use Rattle.plain_shapes.specs.inner.Canvas.{painted, cut_of};
     ghost use Rattle.plain_shapes.specs.Ppm.{pixel_bytes, ppm};
     ghost use Rattle.plain_image.specs.PpmText.{ppm_of};
-    ghost use Rattle.plain_image.specs.Runs.{run_changed};
 
     /// An image of these sides that is all of one colour. Sides are 1 to 4,096.
     pub fn new(alloc: Global, cols: u32, rows: u32, c: Colour) -> Result<Image, NoMemory>
         requires { IsSides cols rows }
         ensures { IfOk result (λ m. m ≡ record { cols = cols; rows = rows; pixels = replicate (rows * cols) c }) }
     {
-        Image::over(alloc, Vec::new(alloc), cols, rows, c)
-    }
-
-    /// The same in a buffer that is used again: what it held goes, and its pixels take no new memory
-    /// where it has room; one row's bytes are taken beside it. `into_bytes` gives the buffer back.
-    pub fn over(
-        alloc: Global,
-        buffer: Vec<u8>,
-        cols: u32,
-        rows: u32,
-        c: Colour,
-    ) -> Result<Image, NoMemory>
-        requires { IsSides cols rows }
-        ensures { IfOk result (λ m. m ≡ record { cols = cols; rows = rows; pixels = replicate (rows * cols) c }) }
-    {
-        let pixels = Colours::over(alloc, buffer, rows, cols, c)?;
-        Ok(Image::of_pixels(alloc, cols, rows, pixels))
+        let pixels = Colours::of_one(alloc, rows, cols, c)?;
+        Ok(Image::of_pixels(cols, rows, pixels))
     }
 
     /// The three bytes of each pixel, by rows.
@@ -122,26 +101,6 @@ impl Image {
         self.pixels.put(place, blending::over(c, opacity, under));
     }
 
-    /// Paints the pixels of row `j` from the column `start` on and before the column `end`, which are
-    /// inside, by the formula of `paint`.
-    pub fn blend_run(&mut self, j: u32, start: u32, end: u32, c: Colour, opacity: u32)
-        requires row { j < self.old.rows }
-        requires order { start ≤ end }
-        requires cols { end ≤ self.old.cols }
-        requires opacity { opacity ≤ 1000 }
-        ensures { self.new ≡ record self.old {
-          pixels = run_changed (blend c opacity) (j * self.old.cols + start) (end - start) self.old.pixels;
-        } }
-    {
-        let from = j as usize * self.cols as usize + start as usize;
-        let count = (end - start) as usize;
-        if opacity == 1000 && count >= COPIED && self.line.prepare(c, count) {
-            self.pixels.copy_run(&self.line, from, from + count);
-        } else {
-            self.pixels.paint_run(c, opacity, from, from + count);
-        }
-    }
-
     /// The image of a part of it: `cols` columns from `col` on and `rows` rows from `row` on. The part
     /// is inside and has sides of at least 1.
     pub fn cut(
@@ -159,7 +118,7 @@ impl Image {
         ensures { IfOk result (λ m. m ≡ cut_of self.now col row cols rows) }
     {
         let pixels = self.pixels.cut(alloc, self.cols, col, row, cols, rows)?;
-        Ok(Image::of_pixels(alloc, cols, rows, pixels))
+        Ok(Image::of_pixels(cols, rows, pixels))
     }
 
     /// The image as a binary PPM text (Netpbm's P6): `P6`, a newline, the columns, a space, the rows, a
@@ -173,43 +132,11 @@ impl Image {
         pixels::bytes_after(alloc, head.as_str(), &self.pixels)
     }
 
-    /// Appends its text, as `write_ppm` gives it.
-    pub fn put_ppm(&self, out: &mut Vec<u8>) -> Result<(), NoMemory>
-        ensures { OnOk result (out.new.items ≡ out.old.items ++ ppm self.now.cols self.now.rows self.now.pixels) }
-    {
-        let head = pixels::head_of(*out.allocator(), self.cols, self.rows)?;
-        pixels::put_after(head.as_str(), &self.pixels, out)
-    }
-
-    /// Appends the text of a part of it, which is inside, as `cut` and then `write_ppm` give it.
-    pub fn put_part(
-        &self,
-        col: u32,
-        row: u32,
-        cols: u32,
-        rows: u32,
-        out: &mut Vec<u8>,
-    ) -> Result<(), NoMemory>
-        requires in_cols { col + cols ≤ self.now.cols }
-        requires in_rows { row + rows ≤ self.now.rows }
-        ensures { OnOk result (out.new.items ≡ out.old.items ++ ppm cols rows (cut_of self.now col row cols rows).pixels) }
-    {
-        let head = pixels::head_of(*out.allocator(), cols, rows)?;
-        out.extend_from_slice(head.as_str().as_bytes())?;
-        self.pixels.write_rows(self.cols, col, row, cols, rows, out)
-    }
-
     /// The image of these pixels.
-    pub(crate) fn of_pixels(alloc: Global, cols: u32, rows: u32, pixels: Colours) -> Image
+    pub(crate) fn of_pixels(cols: u32, rows: u32, pixels: Colours) -> Image
         requires { IsRaster cols rows (length pixels) }
         ensures { result ≡ record { cols = cols; rows = rows; pixels = pixels } }
     {
-        let black = Colour { r: 0, g: 0, b: 0 };
-        Image {
-            cols,
-            rows,
-            pixels,
-            line: ReadyLine::new(alloc, black),
-        }
+        Image { cols, rows, pixels }
     }
 }

@@ -16,9 +16,11 @@ mod reading;
 mod ready_line;
 mod surfaces;
 
+pub use blending::paint_run;
 pub use image::Image;
 pub use laws::{law_ppm_faults, law_ppm_images};
 pub use mask::Mask;
 pub use ppm::read_ppm;
 pub use reading::PpmFault;
+pub use ready_line::ReadyLine;
 pub use surfaces::Surface;

@@ -28,5 +28,5 @@ pub fn read_ppm(alloc: Global, bytes: &[u8]) -> Result<Image, PpmFault>
         return Err(PpmFault::Bad((head.start + count * 3) as u64));
     }
     let read = Colours::of_bytes(alloc, &bytes[head.start..], count)?;
-    Ok(Image::of_pixels(alloc, head.cols, head.rows, read))
+    Ok(Image::of_pixels(head.cols, head.rows, read))
 }
