@@ -1,0 +1,174 @@
+//! Square tiles that are kept as their PPM texts, one behind another.
+ghost use Rattle.std.specs.Prelude.{◌≡◌, ℕ, ◌+◌, ◌-◌, ◌*◌, ◌^◌, ◌≤◌, ◌<◌, ◌++◌, List, [], length, drop, map, flat_map, replicate, slice_get, slice_set, slice_index_or, Some, IfOk};
+ghost use Rattle.plain_shapes.specs.declared.colour.Colour.{Colour};
+ghost use Rattle.plain_shapes.specs.Blending.{blend};
+ghost use Rattle.plain_shapes.specs.Ppm.{pixel_bytes, ppm};
+ghost use Rattle.plain_image.specs.PpmText.{colours};
+ghost use Rattle.plain_image.specs.Runs.{run_changed};
+ghost use Rattle.plain_world.specs.Limits.{most_side};
+
+use farm_base::NoMemory;
+use plain_image::{Image, ReadyLine, paint_run};
+use plain_shapes::Colour;
+use std::alloc::Global;
+use std::marker::Model;
+
+// An opaque run of so many pixels or more is copied. A shorter one takes no less time that way.
+const COPIED: usize = 8;
+
+/// Square tiles of the same size, each as its binary PPM text, one behind another, and other bytes before them. Contracts
+/// see how many bytes stand before, the side, and the colours of each tile, row by row.
+#[derive(Drop)]
+pub(crate) struct TileTexts {
+    before: usize,
+    side: u32,
+    count: u32,
+    head: usize,
+    bytes: Vec<u8>,
+    line: ReadyLine,
+}
+
+impl Model for TileTexts {
+    ghost use Rattle.std.specs.Prelude.{◌*◌, drop};
+    ghost use Rattle.tiled_image.specs.Tiles.{Texts};
+    ghost use Rattle.tiled_image.specs.Written.{tiles_in, AreTexts};
+
+    ghost Value = { Texts };
+
+    ghost view = { λ m. record { before = m.before; side = m.side; tiles = tiles_in m.head (m.side * m.side) m.count (drop m.before m.bytes.items) } };
+
+    ghost invariant = { λ m. AreTexts m.before m.side m.count m.head m.bytes.items };
+}
+
+// So many zeros, and then a text so many times.
+fn copies(alloc: Global, before: usize, count: u32, text: &[u8]) -> Result<Vec<u8>, NoMemory>
+    requires before { before ≤ 2 ^ 16 }
+    requires count { count ≤ 64 }
+    requires len { length text.now ≤ 2 ^ 20 }
+    ensures { IfOk result (λ v. v.items ≡ replicate before 0 ++ flat_map (λ bytes. bytes) (replicate count text.now)) }
+{
+    let mut out = Vec::with_capacity(alloc, before + count as usize * text.len())?;
+    out.resize(before, 0)?;
+    for _copy in 0..count {
+        out.extend_from_slice(text)?;
+    }
+    Ok(out)
+}
+
+// Puts these bytes in the place of the first.
+fn put_front(bytes: &mut Vec<u8>, front: &[u8])
+    requires { length front.now ≤ length bytes.old.items }
+    ensures { bytes.new.items ≡ front.now ++ drop (length front.now) bytes.old.items }
+{
+    bytes[0..front.len()].copy_from_slice(front);
+}
+
+// Where the pixels of a tile begin.
+fn pixels_at(before: usize, head: usize, pixels: usize, tile: usize) -> usize
+    requires fits { before + (tile + 1) * (head + pixels * 3) < 2 ^ 64 }
+    ensures { result ≡ before + tile * (head + pixels * 3) + head }
+{
+    before + tile * (head + pixels * 3) + head
+}
+
+// Paints `count` pixels, which are all of these bytes.
+fn paint(run: &mut [u8], count: usize, c: Colour, opacity: u32, line: &mut ReadyLine)
+    requires opacity { opacity ≤ 1000 }
+    requires len { length run.old ≡ count * 3 }
+    requires few { count ≤ most_side * most_side }
+    ensures { run.new ≡ flat_map pixel_bytes (map (blend c opacity) (colours run.old)) }
+{
+    if opacity == 1000 && count >= COPIED && line.prepare(c, count) {
+        run.copy_from_slice(line.bytes(count));
+    } else {
+        paint_run(c, opacity, 0, count, run);
+    }
+}
+
+impl TileTexts {
+    /// So many tiles that are all of one colour, behind so many zeros.
+    pub(crate) fn over(
+        alloc: Global,
+        before: usize,
+        side: u32,
+        count: u32,
+        c: Colour,
+    ) -> Result<TileTexts, NoMemory>
+        requires before { before ≤ 2 ^ 16 }
+        requires some { 1 ≤ side }
+        requires small { side ≤ 512 }
+        requires few { count ≤ 64 }
+        ensures { IfOk result (λ v. v ≡ record { before = before; side = side; tiles = replicate count (replicate (side * side) c) }) }
+    {
+        let blank = Image::new(alloc, side, side, c)?.write_ppm(alloc)?;
+        let bytes = copies(alloc, before, count, &blank)?;
+        Ok(TileTexts {
+            before,
+            side,
+            count,
+            head: blank.len() - (side * side) as usize * 3,
+            bytes,
+            line: ReadyLine::new(alloc, c),
+        })
+    }
+
+    /// How many bytes stand before the texts.
+    pub(crate) fn before(&self) -> usize
+        ensures { result ≡ self.now.before }
+    {
+        self.before
+    }
+
+    /// How many pixels a side has.
+    pub(crate) fn side(&self) -> u32
+        ensures { result ≡ self.now.side }
+    {
+        self.side
+    }
+
+    /// The colour at the place `k` of the tile `tile`, both of which are inside.
+    pub(crate) fn at(&self, tile: usize, k: usize) -> Colour
+        requires tile { tile < length self.now.tiles }
+        requires place { k < self.now.side * self.now.side }
+        ensures { slice_get (slice_index_or self.now.tiles tile []) k ≡ Some result }
+    {
+        let pixels = (self.side * self.side) as usize;
+        let at = pixels_at(self.before, self.head, pixels, tile) + k * 3;
+        Colour {
+            r: self.bytes[at],
+            g: self.bytes[at + 1],
+            b: self.bytes[at + 2],
+        }
+    }
+
+    /// Paints the colours of a tile from the place `start` on and before the place `end` over with the colour `c`.
+    pub(crate) fn paint_run(
+        &mut self,
+        tile: usize,
+        start: usize,
+        end: usize,
+        c: Colour,
+        opacity: u32,
+    )
+        requires tile { tile < length self.old.tiles }
+        requires order { start ≤ end }
+        requires inside { end ≤ self.old.side * self.old.side }
+        requires opacity { opacity ≤ 1000 }
+        ensures { self.new ≡ record self.old { tiles = slice_set self.old.tiles tile (run_changed (blend c opacity) start (end - start) (slice_index_or self.old.tiles tile [])) } }
+    {
+        let pixels = (self.side * self.side) as usize;
+        let at = pixels_at(self.before, self.head, pixels, tile);
+        let run = &mut self.bytes[at + start * 3..at + end * 3];
+        paint(run, end - start, c, opacity, &mut self.line);
+    }
+
+    /// All its bytes, with these in the place of those before the texts.
+    pub(crate) fn into_bytes(self, front: &[u8]) -> Vec<u8>
+        requires { length front.now ≡ self.before }
+        ensures { result.items ≡ front.now ++ flat_map (ppm self.side self.side) self.tiles }
+    {
+        let mut bytes = self.bytes;
+        put_front(&mut bytes, front);
+        bytes
+    }
+}
