@@ -1,0 +1,214 @@
+//! A square image that is kept as the texts of its tiles.
+ghost use Rattle.std.specs.Prelude.{◌≡◌, ◌^◌, ◌≤◌};
+ghost use Rattle.plain_world.specs.World.{IsTileSize};
+
+use crate::tile_texts::TileTexts;
+use farm_base::NoMemory;
+use plain_shapes::Colour;
+use std::alloc::Global;
+use std::marker::Model;
+
+/// A square image that is kept as the binary PPM texts of its square tiles, by columns, one behind another, with room for
+/// other bytes before them: where a container is to hold them, none of its pixels is copied. The rows of a tile lie close
+/// together, so that what is painted near a place lies near in memory. Contracts see its sides and its pixels, row by row.
+#[derive(Drop)]
+pub struct TiledImage {
+    texts: TileTexts,
+    shift: u32,
+    across: u32,
+}
+
+impl Model for TiledImage {
+    ghost use Rattle.std.specs.Prelude.{◌*◌};
+    ghost use Rattle.plain_shapes.specs.Images.{Pixels};
+    ghost use Rattle.tiled_image.specs.Tiles.{IsTiled, joined};
+
+    ghost Value = { Pixels };
+
+    ghost view = { λ m. record { cols = m.texts.side * m.across; rows = m.texts.side * m.across; pixels = joined m.texts.side m.across m.texts.tiles } };
+
+    ghost invariant = { λ m. IsTiled m.shift m.across m.texts };
+}
+
+// How often two is multiplied to make the size of a tile.
+fn shift_of(size: u32) -> u32
+    requires { IsTileSize size }
+    ensures value { size ≡ 2 ^ result }
+    ensures few { result ≤ 9 }
+{
+    match size {
+        16 => 4,
+        32 => 5,
+        64 => 6,
+        128 => 7,
+        256 => 8,
+        _ => 9,
+    }
+}
+
+impl TiledImage {
+    ghost use Rattle.std.specs.Prelude.{◌≡◌, ◌+◌, ◌-◌, ◌*◌, ◌^◌, ◌<◌, ◌≤◌, ◌++◌, ℕ, IfOk, OnOk, MatchResult, flat_map, slice_set, slice_get, slice_index_or, Some, replicate, length};
+    ghost use Rattle.plain_world.specs.World.{IsTileSize};
+    ghost use Rattle.plain_shapes.specs.Blending.{blend};
+    ghost use Rattle.plain_shapes.specs.Images.{IsRaster};
+    ghost use Rattle.plain_shapes.specs.inner.Canvas.{cut_of};
+    ghost use Rattle.plain_shapes.specs.Ppm.{ppm};
+    ghost use Rattle.plain_drawing.specs.inner.PartTexts.{part_texts};
+    ghost use Rattle.plain_image.specs.Runs.{run_changed};
+
+    /// An image of `across` by `across` tiles of `size` by `size` pixels that is all of one colour, with room for so many
+    /// bytes before the texts.
+    pub fn over(
+        alloc: Global,
+        before: usize,
+        size: u32,
+        across: u32,
+        c: Colour,
+    ) -> Result<TiledImage, NoMemory>
+        requires before { before ≤ 2 ^ 16 }
+        requires size { IsTileSize size }
+        requires some { 1 ≤ across }
+        requires few { across ≤ 8 }
+        ensures { IfOk result (λ m. m ≡ record { cols = size * across; rows = size * across; pixels = replicate (size * across * (size * across)) c }) }
+    {
+        let texts = TileTexts::over(alloc, before, size, across * across, c)?;
+        Ok(TiledImage {
+            texts,
+            shift: shift_of(size),
+            across,
+        })
+    }
+
+    /// How many columns it has.
+    pub fn cols(&self) -> u32
+        ensures value { result ≡ self.now.cols }
+        ensures raster { IsRaster self.now.cols self.now.rows (length self.now.pixels) }
+    {
+        self.texts.side() * self.across
+    }
+
+    /// How many rows it has.
+    pub fn rows(&self) -> u32
+        ensures { result ≡ self.now.rows }
+    {
+        self.texts.side() * self.across
+    }
+
+    /// The colour of the pixel in column `i` and row `j`, which is inside.
+    pub fn pixel(&self, i: u32, j: u32) -> Colour
+        requires col { i < self.now.cols }
+        requires row { j < self.now.rows }
+        ensures { slice_get self.now.pixels (j * self.now.cols + i) ≡ Some result }
+    {
+        self.texts.at(self.tile_at(i, j), self.place_at(i, j))
+    }
+
+    /// Paints the one pixel in column `i` and row `j`, which is inside, with the colour `c`, in an opacity of 0 to 1,000
+    /// thousandths: each channel d becomes `(s*a + d*(1000-a) + 500) div 1000`, with s the painted channel and a the opacity.
+    pub fn blend(&mut self, i: u32, j: u32, c: Colour, opacity: u32)
+        requires col { i < self.old.cols }
+        requires row { j < self.old.rows }
+        requires opacity { opacity ≤ 1000 }
+        ensures { self.new ≡ record self.old {
+          pixels = slice_set self.old.pixels (j * self.old.cols + i)
+              (blend c opacity (slice_index_or self.old.pixels (j * self.old.cols + i) c));
+        } }
+    {
+        self.blend_run(j, i, i + 1, c, opacity);
+    }
+
+    /// Paints the pixels of row `j` from the column `start` on and before the column `end`, which are inside, by the
+    /// formula of `blend`.
+    pub fn blend_run(&mut self, j: u32, start: u32, end: u32, c: Colour, opacity: u32)
+        requires row { j < self.old.rows }
+        requires order { start ≤ end }
+        requires cols { end ≤ self.old.cols }
+        requires opacity { opacity ≤ 1000 }
+        ensures { self.new ≡ record self.old {
+          pixels = run_changed (blend c opacity) (j * self.old.cols + start) (end - start) self.old.pixels;
+        } }
+    {
+        let mut from = start;
+        while from < end {
+            let until = end.min(((from >> self.shift) + 1) << self.shift);
+            self.blend_within(j, from, until, c, opacity);
+            from = until;
+        }
+    }
+
+    /// Appends the binary PPM text of a part of it: `cols` columns from `col` on and `rows` rows from `row` on, which are
+    /// inside.
+    pub fn put_part(
+        &self,
+        col: u32,
+        row: u32,
+        cols: u32,
+        rows: u32,
+        out: &mut Vec<u8>,
+    ) -> Result<(), NoMemory>
+        requires in_cols { col + cols ≤ self.now.cols }
+        requires in_rows { row + rows ≤ self.now.rows }
+        ensures { OnOk result (out.new.items ≡ out.old.items ++ ppm cols rows (cut_of self.now col row cols rows).pixels) }
+    {
+        let head = format!(in *out.allocator(); "P6\n{} {}\n255\n", cols, rows)?;
+        out.extend_from_slice(head.as_str().as_bytes())?;
+        for j in row..row + rows {
+            self.put_row(j, col, col + cols, out)?;
+        }
+        Ok(())
+    }
+
+    /// The texts of its parts of `size` by `size` pixels, by columns, `across` side by side, behind these bytes: its own
+    /// bytes, where it was made of such tiles with room for as many bytes before them. Else it comes back.
+    pub fn into_texts(self, front: &[u8], size: u32, across: u32) -> Result<Vec<u8>, TiledImage>
+        ensures { MatchResult result (λ v. v.items ≡ front.now ++ flat_map (λ text. text) (part_texts self size across)) (λ image. image ≡ self) }
+    {
+        if self.texts.before() == front.len()
+            && self.texts.side() == size
+            && self.across == across
+        {
+            Ok(self.texts.into_bytes(front))
+        } else {
+            Err(self)
+        }
+    }
+
+    // Which tile has the pixel in column `i` and row `j`.
+    fn tile_at(&self, i: u32, j: u32) -> usize
+        requires col { i < self.now.cols }
+        requires row { j < self.now.rows }
+    {
+        (i >> self.shift) as usize * self.across as usize + (j >> self.shift) as usize
+    }
+
+    // The place in its tile of the pixel in column `i` and row `j`.
+    fn place_at(&self, i: u32, j: u32) -> usize
+        requires col { i < self.now.cols }
+        requires row { j < self.now.rows }
+    {
+        let col = i - (i >> self.shift << self.shift);
+        let row = j - (j >> self.shift << self.shift);
+        ((row << self.shift) + col) as usize
+    }
+
+    // Paints a run as `blend_run` does that lies within one tile.
+    fn blend_within(&mut self, j: u32, start: u32, end: u32, c: Colour, opacity: u32) {
+        let tile = self.tile_at(start, j);
+        let place = self.place_at(start, j);
+        let count = (end - start) as usize;
+        self.texts.paint_run(tile, place, place + count, c, opacity);
+    }
+
+    // Appends the bytes of the pixels of row `j` from the column `start` on and before the column `end`.
+    fn put_row(&self, j: u32, start: u32, end: u32, out: &mut Vec<u8>) -> Result<(), NoMemory>
+        requires row { j < self.now.rows }
+        requires order { start ≤ end }
+        requires cols { end ≤ self.now.cols }
+    {
+        for i in start..end {
+            let c = self.pixel(i, j);
+            out.extend_from_slice(&[c.r, c.g, c.b])?;
+        }
+        Ok(())
+    }
+}
