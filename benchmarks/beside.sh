@@ -1,6 +1,6 @@
 #!/usr/bin/env bash
 # The drawing of one metatile of 64 tiles of 256 pixels, beside Mapnik's drawing of the same shapes and beside
-# what copying the pixels alone costs: processor time of one round, medians of interleaved runs, of ours of the medians
+# what writing a container alone costs: processor time of one round, medians of interleaved runs, of ours of the medians
 # of their rounds. Beside each figure stand the load and what the host took of all processors meanwhile.
 #
 #   benchmarks/beside.sh [CASE..]       (all cases of benchmarks/beside.py where none is named)
@@ -13,7 +13,7 @@
 #
 # Mapnik is Debian's python3-mapnik; where no python3 has it, its column stays empty. Ours is `tilefarm script`: an ask,
 # its claim, its end and its reply, of which the drawing and packing take nearly all, from the end of one to that of the
-# next, so that reading is in none; the write is left out (unwritten.c). Mapnik's is drawing alone, and raw is the cutting of a ready picture into a ready container, in C.
+# next, so that reading is in none; the write is left out (unwritten.c). Mapnik's is drawing alone, and raw is the writing of a container of one tile again and again, in C.
 set -eu
 top="$(cd "$(dirname "${BASH_SOURCE[0]}")/.." && pwd)"
 built="$top/crates/tilefarm/out/tilefarm"
