@@ -7,7 +7,7 @@ use Rattle.plain_image.specs.PpmText.{colours}
 -- the tiles of so many texts, one behind another, each of so many bytes before so many pixels
 unfoldable pub tiles_in : ℕ → ℕ → ℕ → List ℕ → List (List Colour)
 tiles_in head pixels zero bytes = []
-tiles_in head pixels (suc n) bytes = colours (take (pixels * 3) (drop head bytes)) ∷ tiles_in head pixels n (drop (head + pixels * 3) bytes)
+tiles_in head pixels (suc n) bytes = colours (take (pixels * 3) (drop head bytes)) ∷ tiles_in head pixels n (drop (pixels * 3) (drop head bytes))
 
 -- behind so many bytes stand the texts of so many tiles, and nothing else
 pub record AreTexts (before side count head : ℕ) (bytes : List ℕ) : Type 0 where

@@ -1,9 +1,11 @@
 //! Square tiles that are kept as their PPM texts, one behind another.
-ghost use Rattle.std.specs.Prelude.{◌≡◌, ℕ, ◌+◌, ◌-◌, ◌*◌, ◌^◌, ◌≤◌, ◌<◌, ◌++◌, List, [], length, flat_map, replicate, slice_get, slice_set, slice_index_or, Some, IfOk};
+ghost use Rattle.std.specs.Prelude.{◌≡◌, ℕ, ◌+◌, ◌-◌, ◌*◌, ◌^◌, ◌≤◌, ◌<◌, ◌++◌, List, [], length, drop, map, flat_map, replicate, slice_get, slice_set, slice_index_or, Some, IfOk};
 ghost use Rattle.plain_shapes.specs.declared.colour.Colour.{Colour};
 ghost use Rattle.plain_shapes.specs.Blending.{blend};
-ghost use Rattle.plain_shapes.specs.Ppm.{ppm};
+ghost use Rattle.plain_shapes.specs.Ppm.{pixel_bytes, ppm};
+ghost use Rattle.plain_image.specs.PpmText.{colours};
 ghost use Rattle.plain_image.specs.Runs.{run_changed};
+ghost use Rattle.plain_world.specs.Limits.{most_side};
 
 use farm_base::NoMemory;
 use plain_image::{Image, ReadyLine, paint_run};
@@ -38,6 +40,51 @@ impl Model for TileTexts {
     ghost invariant = { λ m. AreTexts m.before m.side m.count m.head m.bytes.items };
 }
 
+// So many zeros, and then a text so many times.
+fn copies(alloc: Global, before: usize, count: u32, text: &[u8]) -> Result<Vec<u8>, NoMemory>
+    requires before { before ≤ 2 ^ 16 }
+    requires count { count ≤ 64 }
+    requires len { length text.now ≤ 2 ^ 20 }
+    ensures { IfOk result (λ v. v.items ≡ replicate before 0 ++ flat_map (λ bytes. bytes) (replicate count text.now)) }
+{
+    let mut out = Vec::with_capacity(alloc, before + count as usize * text.len())?;
+    out.resize(before, 0)?;
+    for _copy in 0..count {
+        out.extend_from_slice(text)?;
+    }
+    Ok(out)
+}
+
+// Puts these bytes in the place of the first.
+fn put_front(bytes: &mut Vec<u8>, front: &[u8])
+    requires { length front.now ≤ length bytes.old.items }
+    ensures { bytes.new.items ≡ front.now ++ drop (length front.now) bytes.old.items }
+{
+    bytes[0..front.len()].copy_from_slice(front);
+}
+
+// Where the pixels of a tile begin.
+fn pixels_at(before: usize, head: usize, pixels: usize, tile: usize) -> usize
+    requires fits { before + (tile + 1) * (head + pixels * 3) < 2 ^ 64 }
+    ensures { result ≡ before + tile * (head + pixels * 3) + head }
+{
+    before + tile * (head + pixels * 3) + head
+}
+
+// Paints `count` pixels, which are all of these bytes.
+fn paint(run: &mut [u8], count: usize, c: Colour, opacity: u32, line: &mut ReadyLine)
+    requires opacity { opacity ≤ 1000 }
+    requires len { length run.old ≡ count * 3 }
+    requires few { count ≤ most_side * most_side }
+    ensures { run.new ≡ flat_map pixel_bytes (map (blend c opacity) (colours run.old)) }
+{
+    if opacity == 1000 && count >= COPIED && line.prepare(c, count) {
+        run.copy_from_slice(line.bytes(count));
+    } else {
+        paint_run(c, opacity, 0, count, run);
+    }
+}
+
 impl TileTexts {
     /// So many tiles that are all of one colour, behind so many zeros.
     pub(crate) fn over(
@@ -54,16 +101,12 @@ impl TileTexts {
         ensures { IfOk result (λ v. v ≡ record { before = before; side = side; tiles = replicate count (replicate (side * side) c) }) }
     {
         let blank = Image::new(alloc, side, side, c)?.write_ppm(alloc)?;
-        let mut bytes = Vec::with_capacity(alloc, before + count as usize * blank.len())?;
-        bytes.resize(before, 0)?;
-        for _tile in 0..count {
-            bytes.extend_from_slice(&blank)?;
-        }
+        let bytes = copies(alloc, before, count, &blank)?;
         Ok(TileTexts {
             before,
             side,
             count,
-            head: blank.len() - 3 * (side * side) as usize,
+            head: blank.len() - (side * side) as usize * 3,
             bytes,
             line: ReadyLine::new(alloc, c),
         })
@@ -89,7 +132,8 @@ impl TileTexts {
         requires place { k < self.now.side * self.now.side }
         ensures { slice_get (slice_index_or self.now.tiles tile []) k ≡ Some result }
     {
-        let at = self.pixels_at(tile) + 3 * k;
+        let pixels = (self.side * self.side) as usize;
+        let at = pixels_at(self.before, self.head, pixels, tile) + k * 3;
         Colour {
             r: self.bytes[at],
             g: self.bytes[at + 1],
@@ -112,14 +156,10 @@ impl TileTexts {
         requires opacity { opacity ≤ 1000 }
         ensures { self.new ≡ record self.old { tiles = slice_set self.old.tiles tile (run_changed (blend c opacity) start (end - start) (slice_index_or self.old.tiles tile [])) } }
     {
-        let pixels = self.pixels_at(tile);
-        let run = &mut self.bytes[pixels + 3 * start..pixels + 3 * end];
-        let count = end - start;
-        if opacity == 1000 && count >= COPIED && self.line.prepare(c, count) {
-            run.copy_from_slice(self.line.bytes(count));
-        } else {
-            paint_run(c, opacity, 0, count, run);
-        }
+        let pixels = (self.side * self.side) as usize;
+        let at = pixels_at(self.before, self.head, pixels, tile);
+        let run = &mut self.bytes[at + start * 3..at + end * 3];
+        paint(run, end - start, c, opacity, &mut self.line);
     }
 
     /// All its bytes, with these in the place of those before the texts.
@@ -128,15 +168,7 @@ impl TileTexts {
         ensures { result.items ≡ front.now ++ flat_map (ppm self.side self.side) self.tiles }
     {
         let mut bytes = self.bytes;
-        bytes[..self.before].copy_from_slice(front);
+        put_front(&mut bytes, front);
         bytes
-    }
-
-    // Where the pixels of a tile begin among its bytes.
-    fn pixels_at(&self, tile: usize) -> usize
-        requires tile { tile < length self.now.tiles }
-    {
-        let each = self.head + 3 * (self.side * self.side) as usize;
-        self.before + tile * each + self.head
     }
 }

@@ -1,0 +1,3 @@
+pub mod TextsAround
+pub mod TextsKept
+pub mod TextsRuns
