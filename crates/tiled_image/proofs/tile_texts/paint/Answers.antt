@@ -1,4 +1,4 @@
-use Rattle.std.proofs.Common.{◌≡◌, ◌-◌, length, map, flat_map, replicate, ap, sym, ◌∙◌, arith}
+use Rattle.std.proofs.Common.{◌≡◌, ◌-◌, map, flat_map, replicate, ap, sym, ◌∙◌, arith}
 use Rattle.plain_shapes.specs.Blending.{blend}
 use Rattle.plain_shapes.specs.Ppm.{pixel_bytes}
 use Rattle.plain_image.specs.PpmText.{colours}
