@@ -23,6 +23,7 @@ joined side across tiles = map (λ k. colour_in side across tiles (k % (side * a
 pub record IsTiled (shift across : ℕ) (texts : Texts) : Type 0 where
   pub size : IsTileSize texts.side
   pub power : texts.side ≡ 2 ^ shift
+  pub small : shift ≤ 9
   pub some : 1 ≤ across
   pub few : across ≤ 8
   pub count : length texts.tiles ≡ across * across

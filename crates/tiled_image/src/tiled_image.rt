@@ -1,6 +1,7 @@
 //! A square image that is kept as the texts of its tiles.
-ghost use Rattle.std.specs.Prelude.{◌≡◌, ◌^◌, ◌≤◌};
+ghost use Rattle.std.specs.Prelude.{◌≡◌, ◌+◌, ◌*◌, ◌/◌, ◌%◌, ◌^◌, ◌≤◌, ◌<◌, [], IfOk, string_bytes};
 ghost use Rattle.plain_world.specs.World.{IsTileSize};
+ghost use Rattle.plain_shapes.specs.Ppm.{ppm};
 
 use crate::tile_texts::TileTexts;
 use farm_base::NoMemory;
@@ -14,6 +15,12 @@ use std::marker::Model;
 #[derive(Drop)]
 pub struct TiledImage {
     texts: TileTexts,
+    grid: Grid,
+}
+
+// How the tiles stand: two so often multiplied is the side of one, and so many stand side by side.
+#[derive(Clone, Copy)]
+struct Grid {
     shift: u32,
     across: u32,
 }
@@ -25,9 +32,9 @@ impl Model for TiledImage {
 
     ghost Value = { Pixels };
 
-    ghost view = { λ m. record { cols = m.texts.side * m.across; rows = m.texts.side * m.across; pixels = joined m.texts.side m.across m.texts.tiles } };
+    ghost view = { λ m. record { cols = m.texts.side * m.grid.across; rows = m.texts.side * m.grid.across; pixels = joined m.texts.side m.grid.across m.texts.tiles } };
 
-    ghost invariant = { λ m. IsTiled m.shift m.across m.texts };
+    ghost invariant = { λ m. IsTiled m.grid.shift m.grid.across m.texts };
 }
 
 // How often two is multiplied to make the size of a tile.
@@ -46,13 +53,50 @@ fn shift_of(size: u32) -> u32
     }
 }
 
+// What stands before the pixels of a PPM text: the text of no pixels.
+fn head_of(alloc: Global, cols: u32, rows: u32) -> Result<String, NoMemory>
+    ensures { IfOk result (λ head. string_bytes head ≡ ppm cols rows []) }
+{
+    Ok(format!(in alloc; "P6\n{} {}\n255\n", cols, rows)?)
+}
+
+impl Grid {
+    // Which tile has the pixel in column `i` and row `j`.
+    fn tile_at(self, i: u32, j: u32) -> usize
+        requires few { self.across ≤ 8 }
+        requires small { self.shift ≤ 9 }
+        ensures { result ≡ i / 2 ^ self.shift * self.across + j / 2 ^ self.shift }
+    {
+        (i >> self.shift) as usize * self.across as usize + (j >> self.shift) as usize
+    }
+
+    // The place in its tile of the pixel in column `i` and row `j`.
+    fn place_at(self, i: u32, j: u32) -> usize
+        requires { self.shift ≤ 9 }
+        ensures { result ≡ j % 2 ^ self.shift * 2 ^ self.shift + i % 2 ^ self.shift }
+    {
+        let col = i - (i >> self.shift << self.shift);
+        let row = j - (j >> self.shift << self.shift);
+        ((row << self.shift) + col) as usize
+    }
+
+    // The column behind the tile that has the column `i`.
+    fn tile_end(self, i: u32) -> u32
+        requires small { self.shift ≤ 9 }
+        requires col { i < 2 ^ 16 }
+        ensures { result ≡ (i / 2 ^ self.shift + 1) * 2 ^ self.shift }
+    {
+        ((i >> self.shift) + 1) << self.shift
+    }
+}
+
 impl TiledImage {
-    ghost use Rattle.std.specs.Prelude.{◌≡◌, ◌+◌, ◌-◌, ◌*◌, ◌^◌, ◌<◌, ◌≤◌, ◌++◌, ℕ, IfOk, OnOk, MatchResult, flat_map, slice_set, slice_get, slice_index_or, Some, replicate, length};
+    ghost use Rattle.std.specs.Prelude.{◌≡◌, ◌+◌, ◌-◌, ◌*◌, ◌^◌, ◌<◌, ◌≤◌, ◌++◌, ℕ, IfOk, OnOk, MatchResult, flat_map, slice_set, slice_get, slice_index_or, Some, replicate, length, take, drop};
     ghost use Rattle.plain_world.specs.World.{IsTileSize};
     ghost use Rattle.plain_shapes.specs.Blending.{blend};
     ghost use Rattle.plain_shapes.specs.Images.{IsRaster};
-    ghost use Rattle.plain_shapes.specs.inner.Canvas.{cut_of};
-    ghost use Rattle.plain_shapes.specs.Ppm.{ppm};
+    ghost use Rattle.plain_shapes.specs.inner.Canvas.{cut_of, cut_rows};
+    ghost use Rattle.plain_shapes.specs.Ppm.{ppm, pixel_bytes};
     ghost use Rattle.plain_drawing.specs.inner.PartTexts.{part_texts};
     ghost use Rattle.plain_image.specs.Runs.{run_changed};
 
@@ -74,8 +118,10 @@ impl TiledImage {
         let texts = TileTexts::over(alloc, before, size, across * across, c)?;
         Ok(TiledImage {
             texts,
-            shift: shift_of(size),
-            across,
+            grid: Grid {
+                shift: shift_of(size),
+                across,
+            },
         })
     }
 
@@ -84,14 +130,14 @@ impl TiledImage {
         ensures value { result ≡ self.now.cols }
         ensures raster { IsRaster self.now.cols self.now.rows (length self.now.pixels) }
     {
-        self.texts.side() * self.across
+        self.texts.side() * self.grid.across
     }
 
     /// How many rows it has.
     pub fn rows(&self) -> u32
         ensures { result ≡ self.now.rows }
     {
-        self.texts.side() * self.across
+        self.texts.side() * self.grid.across
     }
 
     /// The colour of the pixel in column `i` and row `j`, which is inside.
@@ -100,7 +146,9 @@ impl TiledImage {
         requires row { j < self.now.rows }
         ensures { slice_get self.now.pixels (j * self.now.cols + i) ≡ Some result }
     {
-        self.texts.at(self.tile_at(i, j), self.place_at(i, j))
+        let tile = self.grid.tile_at(i, j);
+        let place = self.grid.place_at(i, j);
+        self.texts.at(tile, place)
     }
 
     /// Paints the one pixel in column `i` and row `j`, which is inside, with the colour `c`, in an opacity of 0 to 1,000
@@ -114,6 +162,8 @@ impl TiledImage {
               (blend c opacity (slice_index_or self.old.pixels (j * self.old.cols + i) c));
         } }
     {
+        // Opened, so that its columns are known to be few.
+        let _tiles = &self.texts;
         self.blend_run(j, i, i + 1, c, opacity);
     }
 
@@ -130,8 +180,11 @@ impl TiledImage {
     {
         let mut from = start;
         while from < end {
-            let until = end.min(((from >> self.shift) + 1) << self.shift);
-            self.blend_within(j, from, until, c, opacity);
+            let until = end.min(self.grid.tile_end(from));
+            let tile = self.grid.tile_at(from, j);
+            let place = self.grid.place_at(from, j);
+            let count = (until - from) as usize;
+            self.texts.paint_run(tile, place, place + count, c, opacity);
             from = until;
         }
     }
@@ -150,12 +203,11 @@ impl TiledImage {
         requires in_rows { row + rows ≤ self.now.rows }
         ensures { OnOk result (out.new.items ≡ out.old.items ++ ppm cols rows (cut_of self.now col row cols rows).pixels) }
     {
-        let head = format!(in *out.allocator(); "P6\n{} {}\n255\n", cols, rows)?;
+        // Opened, so that its rows are known to be few.
+        let _tiles = &self.texts;
+        let head = head_of(*out.allocator(), cols, rows)?;
         out.extend_from_slice(head.as_str().as_bytes())?;
-        for j in row..row + rows {
-            self.put_row(j, col, col + cols, out)?;
-        }
-        Ok(())
+        self.put_rows(col, row, cols, rows, out)
     }
 
     /// The texts of its parts of `size` by `size` pixels, by columns, `across` side by side, behind these bytes: its own
@@ -165,7 +217,7 @@ impl TiledImage {
     {
         if self.texts.before() == front.len()
             && self.texts.side() == size
-            && self.across == across
+            && self.grid.across == across
         {
             Ok(self.texts.into_bytes(front))
         } else {
@@ -173,30 +225,24 @@ impl TiledImage {
         }
     }
 
-    // Which tile has the pixel in column `i` and row `j`.
-    fn tile_at(&self, i: u32, j: u32) -> usize
-        requires col { i < self.now.cols }
-        requires row { j < self.now.rows }
+    // Appends the bytes of the pixels of a part, row by row.
+    fn put_rows(
+        &self,
+        col: u32,
+        row: u32,
+        cols: u32,
+        rows: u32,
+        out: &mut Vec<u8>,
+    ) -> Result<(), NoMemory>
+        requires raster { IsRaster self.now.cols self.now.rows (length self.now.pixels) }
+        requires in_cols { col + cols ≤ self.now.cols }
+        requires in_rows { row + rows ≤ self.now.rows }
+        ensures { OnOk result (out.new.items ≡ out.old.items ++ flat_map pixel_bytes (cut_rows self.now.cols col row cols rows self.now.pixels)) }
     {
-        (i >> self.shift) as usize * self.across as usize + (j >> self.shift) as usize
-    }
-
-    // The place in its tile of the pixel in column `i` and row `j`.
-    fn place_at(&self, i: u32, j: u32) -> usize
-        requires col { i < self.now.cols }
-        requires row { j < self.now.rows }
-    {
-        let col = i - (i >> self.shift << self.shift);
-        let row = j - (j >> self.shift << self.shift);
-        ((row << self.shift) + col) as usize
-    }
-
-    // Paints a run as `blend_run` does that lies within one tile.
-    fn blend_within(&mut self, j: u32, start: u32, end: u32, c: Colour, opacity: u32) {
-        let tile = self.tile_at(start, j);
-        let place = self.place_at(start, j);
-        let count = (end - start) as usize;
-        self.texts.paint_run(tile, place, place + count, c, opacity);
+        for j in row..row + rows {
+            self.put_row(j, col, col + cols, out)?;
+        }
+        Ok(())
     }
 
     // Appends the bytes of the pixels of row `j` from the column `start` on and before the column `end`.
@@ -204,6 +250,7 @@ impl TiledImage {
         requires row { j < self.now.rows }
         requires order { start ≤ end }
         requires cols { end ≤ self.now.cols }
+        ensures { OnOk result (out.new.items ≡ out.old.items ++ flat_map pixel_bytes (take (end - start) (drop (j * self.now.cols + start) self.now.pixels))) }
     {
         for i in start..end {
             let c = self.pixel(i, j);
