@@ -1,5 +1,5 @@
 -- A run of pixels within one tile is a run of the image.
-use Rattle.std.proofs.Common.{◌≡◌, ℕ, ◌+◌, ◌-◌, ◌*◌, ◌<◌, ◌≤◌, List, [], length, get_or, set, ap, sym, ◌∙◌, inl, inr, arith, length-set}
+use Rattle.std.proofs.Common.{◌≡◌, ℕ, ◌+◌, ◌-◌, ◌*◌, ◌<◌, ◌≤◌, List, [], length, get_or, set, ap, sym, ◌∙◌, inl, inr, arith}
 use Rattle.std.proofs.lemmas.Bool.{cases_lt, cases_eq}
 use Rattle.std.proofs.lemmas.Nat.{mul-add-lt, same_from_place}
 use Rattle.std.proofs.lemmas.List.{get_or-set_other}
@@ -77,16 +77,16 @@ are_tiles shift a t is =
 -- a pixel beside the run is as it was
 beside : {s a : ℕ} (f : Colour → Colour) (v w : Spot s a) (m : ℕ) (tiles : List (List Colour)) → AreTiles s a tiles → v.p + m ≤ s → (OnRun v w m → ⊥)
     → get_or (get_or (set tiles (tile_of v) (run_changed f (inner_of v) m (get_or tiles (tile_of v) []))) (tile_of w) []) (inner_of w) black
-        ≡ get_or (get_or tiles (tile_of w) []) (inner_of w) black
+    ≡ get_or (get_or tiles (tile_of w) []) (inner_of w) black
 beside {s} {a} f v w m tiles are fits off =
     let tile : List Colour = get_or tiles (tile_of v) [] in
     let painted : List Colour = run_changed f (inner_of v) m tile in
     elim (cases_eq (tile_of w) (tile_of v)) [
-      inl same ↦ ap (λ c. get_or c (inner_of w) black) (get_or-set_at tiles (tile_of v) (tile_of w) painted [] same (omega (arith, tile_in v, are.count)))
+      | inl same ↦ ap (λ c. get_or c (inner_of w) black) (get_or-set_at tiles (tile_of v) (tile_of w) painted [] same (omega (arith, tile_in v, are.count)))
           ∙ elim (cases_lt (inner_of w) (inner_of v)) [
-            inl p ↦ run_before f (inner_of v) m (inner_of w) tile black p
+            | inl p ↦ run_before f (inner_of v) m (inner_of w) tile black p
             | inr p ↦ elim (cases_lt (inner_of w) (inner_of v + m)) [
-              inl q ↦ absurd (off (by_tile v w m fits same p q))
+              | inl q ↦ absurd (off (by_tile v w m fits same p q))
               | inr q ↦ run_behind f (inner_of v) m (inner_of w) tile black q
             ]
           ]
@@ -97,7 +97,7 @@ beside {s} {a} f v w m tiles are fits off =
 -- a pixel on the run is changed
 upon : {s a : ℕ} (f : Colour → Colour) (v w : Spot s a) (m : ℕ) (tiles : List (List Colour)) → AreTiles s a tiles → OnRun v w m
     → get_or (get_or (set tiles (tile_of v) (run_changed f (inner_of v) m (get_or tiles (tile_of v) []))) (tile_of w) []) (inner_of w) black
-        ≡ f (get_or (get_or tiles (tile_of w) []) (inner_of w) black)
+    ≡ f (get_or (get_or tiles (tile_of w) []) (inner_of w) black)
 upon {s} {a} f v w m tiles are on =
     let tile : List Colour = get_or tiles (tile_of v) [] in
     let painted : List Colour = run_changed f (inner_of v) m tile in
@@ -113,9 +113,9 @@ painted_tile {s} {a} f v m tiles are fits =
     let now : List (List Colour) = set tiles (tile_of v) (run_changed f (inner_of v) m (get_or tiles (tile_of v) [])) in
     same_joined s a (joined s a now) (run_changed f (place_of v) m old) are.some are.across (length_joined s a now) (run_length f (place_of v) m old ∙ length_joined s a tiles)
     (λ w d. joined_at w now d ∙ elim (cases_lt (place_of w) (place_of v)) [
-      inl p ↦ beside f v w m tiles are fits (λ on. absurd (omega (arith, on.low, p))) ∙ sym (joined_at w tiles d) ∙ sym (run_before f (place_of v) m (place_of w) old d p)
+      | inl p ↦ beside f v w m tiles are fits (λ on. absurd (omega (arith, on.low, p))) ∙ sym (joined_at w tiles d) ∙ sym (run_before f (place_of v) m (place_of w) old d p)
       | inr p ↦ elim (cases_lt (place_of w) (place_of v + m)) [
-        inl q ↦ upon f v w m tiles are (by_image v w m fits p q) ∙ ap f (sym (joined_at w tiles d))
+        | inl q ↦ upon f v w m tiles are (by_image v w m fits p q) ∙ ap f (sym (joined_at w tiles d))
             ∙ sym (run_at f (place_of v) m (place_of w) old d p q (omega (arith, place_in w, length_joined s a tiles)))
         | inr q ↦ beside f v w m tiles are fits (λ on. absurd (omega (arith, on.high, q))) ∙ sym (joined_at w tiles d) ∙ sym (run_behind f (place_of v) m (place_of w) old d q)
       ]

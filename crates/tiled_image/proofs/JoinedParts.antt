@@ -1,5 +1,5 @@
 -- The tiles of an image are its parts.
-use Rattle.std.proofs.Common.{◌≡◌, ℕ, zero, suc, ◌+◌, ◌-◌, ◌*◌, ◌<◌, ◌≤◌, List, [], ◌∷◌, ◌++◌, length, map, take, drop, get_or, flat_map, replicate, refl, ap, sym, ◌∙◌, arith, append_assoc}
+use Rattle.std.proofs.Common.{◌≡◌, ℕ, zero, suc, ◌+◌, ◌-◌, ◌*◌, ◌<◌, ◌≤◌, List, [], ◌∷◌, ◌++◌, length, map, take, drop, get_or, flat_map, replicate, refl, ap, sym, ◌∙◌, arith}
 use Rattle.std.specs.List.{range_with_len}
 use Rattle.std.proofs.Math.Nat.{mul-le-mul_right}
 use Rattle.std.proofs.lemmas.List.{same_lists, get_or-take, get_or-drop, get_or-map, get_or-replicate, get_or_default, length-take, length-drop, length-map, length-replicate, map-append, take_all, drop-drop}
@@ -7,7 +7,7 @@ use Rattle.std.proofs.lemmas.List.FromFn.{fill_by_all}
 use Rattle.plain_shapes.specs.declared.colour.Colour.{Colour}
 use Rattle.plain_shapes.specs.Images.{Pixels}
 use Rattle.plain_shapes.specs.Ppm.{ppm}
-use Rattle.plain_shapes.specs.inner.Canvas.{cut_rows, cut_of}
+use Rattle.plain_shapes.specs.inner.Canvas.{cut_rows}
 use Rattle.plain_drawing.specs.inner.PartTexts.{part_text, column_texts, part_texts}
 use Rattle.tiled_image.specs.Tiles.{Texts, IsTiled, joined}
 use Rattle.tiled_image.proofs.Joined.{Spot, tile_of, inner_of, place_of, black, length_joined, tile_in, inner_in, place_in, joined_at, same_joined}

@@ -52,11 +52,11 @@ runs_adjoin {X} f start a b xs =
     same_lists (run_changed f (start + a) b once) (run_changed f start (a + b) xs) (kept_twice ∙ sym (run_length f start (a + b) xs))
     (λ k d lt. let l : k < length xs = omega (arith, lt, kept_twice) in
     elim (cases_lt k start) [
-      inl p ↦ run_before f (start + a) b k once d (omega arith) ∙ run_before f start a k xs d p ∙ sym (run_before f start (a + b) k xs d p)
+      | inl p ↦ run_before f (start + a) b k once d (omega arith) ∙ run_before f start a k xs d p ∙ sym (run_before f start (a + b) k xs d p)
       | inr p ↦ elim (cases_lt k (start + a)) [
-        inl q ↦ run_before f (start + a) b k once d q ∙ run_at f start a k xs d p q l ∙ sym (run_at f start (a + b) k xs d p (omega arith) l)
+        | inl q ↦ run_before f (start + a) b k once d q ∙ run_at f start a k xs d p q l ∙ sym (run_at f start (a + b) k xs d p (omega arith) l)
         | inr q ↦ elim (cases_lt k (start + a + b)) [
-          inl r ↦ run_at f (start + a) b k once d q r (omega (arith, l, kept)) ∙ ap f (run_behind f start a k xs d q) ∙ sym (run_at f start (a + b) k xs d p (omega arith) l)
+          | inl r ↦ run_at f (start + a) b k once d q r (omega (arith, l, kept)) ∙ ap f (run_behind f start a k xs d q) ∙ sym (run_at f start (a + b) k xs d p (omega arith) l)
           | inr r ↦ run_behind f (start + a) b k once d r ∙ run_behind f start a k xs d q ∙ sym (run_behind f start (a + b) k xs d (omega arith))
         ]
       ]

@@ -1,4 +1,4 @@
-use Rattle.std.proofs.Common.{ap, ◌∙◌, min, arith}
+use Rattle.std.proofs.Common.{ap, ◌∙◌, min}
 use Rattle.plain_shapes.specs.Blending.{blend}
 use Rattle.tiled_image.proofs.JoinedSteps.{next_found, reached_more}
 use Rattle.tiled_image.proofs.tiled_image.TiledImage.blend_run.Goals as goal
@@ -14,7 +14,7 @@ loop-from-preserved c =
     let inside = c.loop-from.self-inside in
     let f = blend c.args.c c.args.opacity in
     reached_more f c.args.j c.args.start c.loop-from.from c.min-until.result c.args.end inside.grid.shift inside.grid.across c.tile_at-tile.result c.place_at-place.result c.args.self.now inside.texts
-        c.paint_run.new.self c.loop-from.invariant
-        (next_found f c.args.j c.args.start c.loop-from.from c.args.end inside.grid.shift inside.grid.across c.tile_at-tile.result c.place_at-place.result c.args.self.now inside.texts
-        c.loop-from.invariant c.loop-from-test.true c.requires.cols c.requires.row c.tile_at-tile.ensures c.place_at-place.ensures)
-        c.loop-from-test.true (c.min-until.ensures ∙ ap (min c.args.end) c.tile_end.ensures) c.paint_run.ensures
+    c.paint_run.new.self c.loop-from.invariant
+    (next_found f c.args.j c.args.start c.loop-from.from c.args.end inside.grid.shift inside.grid.across c.tile_at-tile.result c.place_at-place.result c.args.self.now inside.texts
+    c.loop-from.invariant c.loop-from-test.true c.requires.cols c.requires.row c.tile_at-tile.ensures c.place_at-place.ensures)
+    c.loop-from-test.true (c.min-until.ensures ∙ ap (min c.args.end) c.tile_end.ensures) c.paint_run.ensures
