@@ -1,6 +1,5 @@
-use Rattle.std.proofs.Common.{◌≡◌, ◌*◌, ◌++◌, ap, sym, ◌∙◌}
+use Rattle.std.proofs.Common.{◌*◌, ◌++◌, ap, sym, ◌∙◌}
 use Rattle.plain_drawing.specs.inner.PartTexts.{part_texts}
-use Rattle.plain_drawing.specs.Metatiles.{tiles_of}
 use Rattle.meta_container.specs.Container.{tile_bytes}
 use Rattle.meta_drawing.proofs.containers.draw_container.Goals as goal
 
@@ -14,13 +13,13 @@ put_tiles-requires-clause-rows c =
 
 pub returns-in-Ok : goal.returns-in-Ok
 returns-in-Ok c =
-    c.in-Ok.ensures
+    c.in-Ok.ensures ∙ ap (λ bs. bs ++ tile_bytes (part_texts c.in_ok-image.image c.args.size c.tiles_across-across.result)) c.as_slice.ensures.value
     ∙ ap (λ ts. c.in_ok-head.head.items ++ tile_bytes ts) (ap (part_texts c.in_ok-image.image c.args.size) c.tiles_across-across.ensures.value ∙ c.in_ok-image.ensures.tiles)
     ∙ c.in_ok-head.ensures c.args.style.now c.args.snapshot.now
 
-pub returns : goal.returns
-returns c =
-    c.in_ok-put_tiles.ensures
+pub returns-in_ok-put_tiles-in-Err : goal.returns-in_ok-put_tiles-in-Err
+returns-in_ok-put_tiles-in-Err c =
+    c.in_ok-put_tiles-in-Err.ensures
     ∙ ap (λ ts. c.in_ok-head.head.items ++ tile_bytes ts)
     (ap (λ i. part_texts i c.args.size c.tiles_across-across.result) c.in-Err.ensures
     ∙ ap (part_texts c.in_ok-image.image c.args.size) c.tiles_across-across.ensures.value ∙ c.in_ok-image.ensures.tiles)
