@@ -1,7 +1,8 @@
-//! Which pixels a mask covers, and an image under it.
-ghost use Rattle.std.specs.Prelude.{IfOk, All};
+//! Which pixels a mask covers, an image under it, and one that is kept as the texts of its tiles.
+ghost use Rattle.std.specs.Prelude.{◌≡◌, IfOk, All};
 ghost use Rattle.plain_world.specs.World.{InWorld};
 
+use crate::drawings::is_boxed;
 use farm_base::NoMemory;
 use plain_image::{Image, Mask};
 use plain_shapes::{Colour, Path};
@@ -9,6 +10,7 @@ use plain_world::{Point, Window};
 use raster_core::fill_mask;
 use std::alloc::Global;
 use std::test::Fail;
+use tiled_image::TiledImage;
 
 const WHITE: Colour = Colour {
     r: 255,
@@ -53,5 +55,42 @@ fn a_square_with_centres_on_its_edges(rt: HostRuntime) -> Result<(), Fail> {
     let mut image = Image::new(alloc, 4, 3, WHITE)?;
     image.paint(&mask, RED, 1000);
     assert!(rt; image.pixel(1, 1) == RED && image.pixel(2, 1) == WHITE);
+    Ok(())
+}
+
+// The four parts of an image of 32 by 32 pixels, by columns.
+fn put_parts(image: &TiledImage, out: &mut Vec<u8>) -> Result<(), NoMemory>
+    requires cols { image.now.cols ≡ 32 }
+    requires rows { image.now.rows ≡ 32 }
+{
+    image.put_part(0, 0, 16, 16, out)?;
+    image.put_part(0, 16, 16, 16, out)?;
+    image.put_part(16, 0, 16, 16, out)?;
+    image.put_part(16, 16, 16, 16, out)
+}
+
+// The run lies in two tiles: the columns 14 and 15 of the western one, and 0 to 3 of the eastern one.
+#[test]
+fn an_image_of_four_tiles(rt: HostRuntime) -> Result<(), Fail> {
+    let alloc = rt.alloc();
+    let mut image = TiledImage::over(alloc, 4, 16, 2, WHITE)?;
+    image.blend_run(3, 14, 20, RED, 1000);
+    let mut part = Vec::new(alloc);
+    image.put_part(16, 0, 16, 16, &mut part)?;
+    assert!(rt; is_boxed(part.as_slice(), b"P6\n16 16\n255\n", 16, [0, 3, 4, 4]));
+
+    let mut wanted = Vec::new(alloc);
+    wanted.extend_from_slice(b"head")?;
+    put_parts(&image, &mut wanted)?;
+    let Err(image) = image.into_texts(b"", 16, 2) else {
+        return Err(Fail::new("no bytes stood before the texts"));
+    };
+    let Err(image) = image.into_texts(b"head", 32, 1) else {
+        return Err(Fail::new("the image was one tile"));
+    };
+    let Ok(texts) = image.into_texts(b"head", 16, 2) else {
+        return Err(Fail::new("the tiles were others"));
+    };
+    assert!(rt; texts == wanted);
     Ok(())
 }

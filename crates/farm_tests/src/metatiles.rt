@@ -5,7 +5,7 @@ use crate::drawings::{data, is_boxed, map};
 use data_versions::Snapshot;
 use farm_base::{Bytes, NoMemory};
 use meta_container::{encode, law_drawn_container};
-use meta_drawing::{PictureBuffer, draw_container};
+use meta_drawing::draw_container;
 use plain_drawing::MapStyle;
 use plain_world::{Meta, Tile};
 use std::alloc::{AllocError, Global};
@@ -53,21 +53,14 @@ fn four_tiles_of_one_window(rt: HostRuntime) -> Result<(), Fail> {
     Ok(())
 }
 
-const BLUE: &str = r#"{"background-color":"blue","styles":[],"layers":[]}"#;
-
 /// The square in a style as the container of a metatile.
-pub(crate) fn container(
-    buffer: &mut PictureBuffer,
-    style: &str,
-    size: u32,
-    meta: Meta,
-) -> Result<Vec<u8>, Fail>
+pub(crate) fn container(alloc: Global, style: &str, size: u32, meta: Meta) -> Result<Vec<u8>, Fail>
     requires size { IsTileSize size }
     requires meta { IsMeta meta }
 {
-    let snapshot = data(buffer.alloc(), SQUARE)?;
-    let style = map(buffer.alloc(), style)?;
-    let drawn = draw_container(buffer, &style, size, meta, &snapshot);
+    let snapshot = data(alloc, SQUARE)?;
+    let style = map(alloc, style)?;
+    let drawn = draw_container(alloc, &style, size, meta, &snapshot);
     drop(style);
     drop(snapshot);
     Ok(drawn?)
@@ -101,22 +94,19 @@ fn red_encoded(alloc: Global, size: u32) -> Result<Vec<u8>, Fail>
     Ok(bytes?)
 }
 
-// The buffer holds a larger picture, which is blue all over.
+// Nothing is left of the first drawing for the second.
 #[test]
-fn a_container_from_a_used_buffer(rt: HostRuntime) -> Result<(), Fail> {
-    let mut buffer = PictureBuffer::new(rt.alloc());
-    let larger = container(&mut buffer, BLUE, 32, QUARTERS)?;
-    let drawn = container(&mut buffer, RED, 16, QUARTERS)?;
+fn a_container_drawn_twice(rt: HostRuntime) -> Result<(), Fail> {
+    let drawn = container(rt.alloc(), RED, 16, QUARTERS)?;
+    let again = container(rt.alloc(), RED, 16, QUARTERS)?;
     let wanted = red_encoded(rt.alloc(), 16)?;
-    assert!(rt; larger.len() > drawn.len() && drawn == wanted);
+    assert!(rt; drawn == wanted && again == wanted);
     Ok(())
 }
 
-// Each of the tiles has a picture of its own, in one buffer.
 #[test]
-fn large_tiles_of_few_data(rt: HostRuntime) -> Result<(), Fail> {
-    let mut buffer = PictureBuffer::new(rt.alloc());
-    let drawn = container(&mut buffer, RED, 256, QUARTERS)?;
+fn a_container_of_large_tiles(rt: HostRuntime) -> Result<(), Fail> {
+    let drawn = container(rt.alloc(), RED, 256, QUARTERS)?;
     let wanted = red_encoded(rt.alloc(), 256)?;
     assert!(rt; drawn == wanted);
     Ok(())

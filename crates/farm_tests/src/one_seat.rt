@@ -14,7 +14,6 @@ use farm_core::{Claimed, Farm, FarmPlan, Job};
 use farm_files::ScriptInputs;
 use farm_history::{ClaimAnswer, Cmd, Conn, Spot};
 use farm_shared::{Seat, SharedFarm};
-use meta_drawing::PictureBuffer;
 use plain_world::Tile;
 use render_workers::draw;
 use script_answers::{
@@ -153,9 +152,7 @@ fn finish<R: Wait, D: TileStore>(
     let answer = ClaimAnswer::Job(job.ticket, job.key(), job.version);
     let line = claim_line(said.alloc, "default", answer);
     said.add(line);
-    let mut picture_buffer = PictureBuffer::new(said.alloc);
-    let drawn = draw(&mut picture_buffer, &job);
-    drop(picture_buffer);
+    let drawn = draw(said.alloc, &job);
     if let Ok(answer) = farm.finish(rt, seat, said.alloc, job, drawn) {
         let line = finish_line(said.alloc, answer);
         said.add(line);

@@ -9,7 +9,6 @@ use data_versions::Snapshot;
 use farm_base::MetaFault;
 use merc_fixed::{meta_of, tile, tile_square};
 use meta_container::{Entry, entry_in, tile_in};
-use meta_drawing::PictureBuffer;
 use plain_image::{Image, read_ppm};
 use plain_shapes::Colour;
 use plain_world::{Meta, Tile};
@@ -94,7 +93,7 @@ fn places_in_a_changed_layer(rt: HostRuntime) -> Result<(), Fail> {
 fn red_container(alloc: Global, m: Meta) -> Result<Vec<u8>, Fail>
     requires { IsMeta m }
 {
-    container(&mut PictureBuffer::new(alloc), RED, 16, m)
+    container(alloc, RED, 16, m)
 }
 
 // `META`, the count 64, x, y and z, and the tile at place 0: from byte 532 on, 781 bytes.

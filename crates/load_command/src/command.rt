@@ -16,7 +16,6 @@ use crate::totals::Totals;
 use exit_status::{Stop, put};
 use farm_base::{NoMemory, Sink};
 use farm_core::Farm;
-use meta_drawing::PictureBuffer;
 use std::alloc::Global;
 use tile_store::TileStore;
 use work_gen::{Step, plan, steps};
@@ -33,10 +32,9 @@ fn run_steps<D: TileStore>(
     ensures run { (store_tells : Bool) → StandsFor D.state store_tells farm.old [] → Runs D.state store_tells farm.new steps.now result }
     ensures kept { Lasts D.state farm.old farm.new }
 {
-    let mut picture_buffer = PictureBuffer::new(alloc);
     let mut totals = Totals::none();
     for step in steps {
-        let seen = match run_step(&mut picture_buffer, farm, step) {
+        let seen = match run_step(alloc, farm, step) {
             Ok(seen) => seen,
             Err(_) => return Err(NoMemory),
         };

@@ -14,7 +14,7 @@ ghost use Rattle.work_gen.specs.declared.stepping.Step.{Step};
 use farm_base::NoMemory;
 use farm_core::{Claimed, Drawn, Farm};
 use farm_plan::{Cmd, Collected, Conn, Fetched, Finished, Spot};
-use meta_drawing::{PictureBuffer, draw_job_on};
+use meta_drawing::draw_job;
 use plain_world::Tile;
 use script_text::{is_failed_fetch, is_failed_finish};
 use std::alloc::Global;
@@ -59,10 +59,7 @@ fn is_wanting(answer: Finished) -> bool
 }
 
 /// Claims what waits first; a job is drawn and finished. Answers whether its put failed.
-fn draw_next<D: TileStore>(
-    picture_buffer: &mut PictureBuffer,
-    farm: &mut Farm<D>,
-) -> Result<bool, NoMemory>
+fn draw_next<D: TileStore>(alloc: Global, farm: &mut Farm<D>) -> Result<bool, NoMemory>
     requires stands { (store_tells : Bool) × (g : List Entry) × StandsFor D.state store_tells farm.old g × (weight g < most_turns) }
     ensures grows { (store_tells : Bool) (g : List Entry) (step : Step) → StandsFor D.state store_tells farm.old g → Grows D.state store_tells farm.new (weight g + 2) (Draws step g result) }
     ensures kept { Lasts D.state farm.old farm.new }
@@ -71,11 +68,11 @@ fn draw_next<D: TileStore>(
         Claimed::Job(job) => job,
         _ => return Ok(false),
     };
-    let bytes = match draw_job_on(picture_buffer, &job) {
+    let bytes = match draw_job(alloc, &job) {
         Ok(bytes) => bytes,
         Err(_) => return Err(NoMemory),
     };
-    let answer = farm.finish(picture_buffer.alloc(), job, Drawn::Bytes(bytes));
+    let answer = farm.finish(alloc, job, Drawn::Bytes(bytes));
     if is_wanting(answer) {
         return Err(NoMemory);
     }
@@ -130,7 +127,7 @@ fn fetch_one<D: TileStore>(
 /// Runs a step: its tile is expired, if so marked, and asked for; what waits first is drawn; the replies are
 /// collected; and the tile is fetched.
 pub(crate) fn run_step<D: TileStore>(
-    picture_buffer: &mut PictureBuffer,
+    alloc: Global,
     farm: &mut Farm<D>,
     step: &Step,
 ) -> Result<StepSeen, NoMemory>
@@ -141,10 +138,10 @@ pub(crate) fn run_step<D: TileStore>(
 {
     expire_marked(farm, *step);
     farm.ask(LOADER, Cmd::Render, step.spot);
-    let lost = match draw_next(picture_buffer, farm) {
+    let lost = match draw_next(alloc, farm) {
         Ok(lost) => lost,
         Err(_) => return Err(NoMemory),
     };
     collect_all(farm);
-    fetch_one(picture_buffer.alloc(), farm, step.spot, lost)
+    fetch_one(alloc, farm, step.spot, lost)
 }

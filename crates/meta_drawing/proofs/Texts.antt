@@ -1,13 +1,11 @@
 -- The texts of a metatile's tiles, one behind another.
-use Rattle.std.proofs.Common.{◌≡◌, ℕ, zero, suc, ◌+◌, ◌*◌, ◌%◌, ◌^◌, ◌<◌, ◌≤◌, min, arith, List, [], ◌∷◌, ◌++◌, length, map, flat_map, refl, sym, ap, ◌∙◌, append_assoc}
+use Rattle.std.proofs.Common.{◌≡◌, ℕ, ◌+◌, ◌*◌, ◌^◌, ◌<◌, ◌≤◌, arith, List, [], ◌∷◌, ◌++◌, length, map, flat_map, refl, sym, ap, ◌∙◌, append_assoc}
 use Rattle.std.specs.List.{range_with_len}
 use Rattle.std.specs.Fmt.{decimal, digits}
 use Rattle.std.specs.Prelude.{nat_lt, if◌then◌else◌}
-use Rattle.std.proofs.Math.Nat.{pow-le-pow_right}
 use Rattle.std.proofs.lemmas.Bool.{lt-ltb, le-ltb}
-use Rattle.std.proofs.lemmas.List.{append-nil, map-append}
+use Rattle.std.proofs.lemmas.List.{append-nil}
 use Rattle.std.proofs.lemmas.Grind.{flat_map-append}
-use Rattle.plain_world.specs.declared.world.Tile.{Tile}
 use Rattle.plain_world.specs.World.{IsTileSize}
 use Rattle.plain_world.proofs.Windows.{by_sizes}
 use Rattle.meta_container.specs.Container.{tile_bytes}
@@ -47,25 +45,3 @@ column_behind f old now next col so_far step =
     let before : List (List ℕ) = flat_map f (range_with_len 0 col) in
     step ∙ ap (λ bs. bs ++ tile_bytes (f col)) so_far ∙ append_assoc old (tile_bytes before) (tile_bytes (f col))
     ∙ ap (λ bs. old ++ bs) (sym (joined_append before (f col)) ∙ ap tile_bytes (one_more_column f before (before ++ f col) col refl refl))
-
--- one column of drawings more
-pub drawn_behind : (draw : Tile → List ℕ) (g : ℕ → List Tile) (old now next : List ℕ) (col : ℕ) → now ≡ old ++ tile_bytes (map draw (flat_map g (range_with_len 0 col)))
-    → next ≡ now ++ tile_bytes (map draw (g col)) → next ≡ old ++ tile_bytes (map draw (flat_map g (range_with_len 0 (col + 1))))
-drawn_behind draw g old now next col so_far step =
-    let before : List Tile = flat_map g (range_with_len 0 col) in
-    step ∙ ap (λ bs. bs ++ tile_bytes (map draw (g col))) so_far ∙ append_assoc old (tile_bytes (map draw before)) (tile_bytes (map draw (g col)))
-    ∙ ap (λ bs. old ++ bs) (sym (joined_append (map draw before) (map draw (g col)))
-    ∙ ap tile_bytes (sym (map-append draw before (g col)) ∙ ap (map draw) (one_more_column g before (before ++ g col) col refl refl)))
-
--- a metatile's columns and rows of tiles are those of the zoom
-pub beside : (z x k : ℕ) → x < 2 ^ z → x % 8 ≡ 0 → k < min 8 (2 ^ z) → x + k < 2 ^ z
-beside zero x k h eights inside = omega arith
-beside (suc zero) x k h eights inside = omega arith
-beside (suc (suc zero)) x k h eights inside = omega arith
-beside (suc (suc (suc z))) x k h eights inside = omega arith
-
--- there are few of them
-pub few_places : (z x : ℕ) → z ≤ 18 → x < 2 ^ z → x < 2 ^ 18
-few_places z x few h =
-    let most : 2 ^ z ≤ 2 ^ 18 = pow-le-pow_right (omega arith) few in
-    omega (arith, most)

@@ -3,8 +3,6 @@
 
 mod containers;
 mod jobs;
-mod picture_buffer;
 
 pub use containers::draw_container;
-pub use jobs::draw_job_on;
-pub use picture_buffer::PictureBuffer;
+pub use jobs::draw_job;

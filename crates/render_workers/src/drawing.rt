@@ -5,16 +5,16 @@ ghost use Rattle.farm_core.specs.Answers.{IsDrawingOf};
 
 use farm_base::NoMemory;
 use farm_core::{Drawn, Job};
-use meta_drawing::{PictureBuffer, draw_job_on};
+use meta_drawing::draw_job;
 use std::alloc::Global;
 use tile_store::{Stage, stage_bytes};
 
 /// What is handed back of a job: the container of its metatile, or that there was no memory for it.
-pub fn draw(picture_buffer: &mut PictureBuffer, job: &Job) -> Drawn
+pub fn draw(alloc: Global, job: &Job) -> Drawn
     requires { IsValidJob job.now }
     ensures { IsDrawingOf job.now result }
 {
-    match draw_job_on(picture_buffer, job) {
+    match draw_job(alloc, job) {
         Ok(bytes) => Drawn::Bytes(bytes),
         Err(NoMemory) => Drawn::NoMemory,
     }

@@ -10,7 +10,6 @@ use crossbeam_utils::sync::Parker;
 use farm_base::{Bell, Gate};
 use farm_core::Claimed;
 use farm_shared::{Alarms, Seat, SharedFarm};
-use meta_drawing::PictureBuffer;
 use std::alloc::Global;
 use std::sync::Wait;
 use tile_store::{Stage, TileStore};
@@ -39,7 +38,7 @@ enum Next {
 /// fronts are woken, and what its staging has left is removed.
 fn round<R: Wait, D: TileStore, G: Stage, B: Bell>(
     rt: &R,
-    picture_buffer: &mut PictureBuffer,
+    alloc: Global,
     farm: &SharedFarm<D>,
     seat: &mut Seat<D>,
     worker: u32,
@@ -59,8 +58,8 @@ fn round<R: Wait, D: TileStore, G: Stage, B: Bell>(
     match claimed {
         Claimed::Job(job) => {
             gate.before_draw(job.ticket);
-            let (alloc, ticket) = (picture_buffer.alloc(), job.ticket);
-            let drawn = draw(picture_buffer, &job);
+            let ticket = job.ticket;
+            let drawn = draw(alloc, &job);
             let drawn = stage(gate, alloc, &job, drawn);
             let finished = farm.finish(rt, seat, alloc, job, drawn);
             alarms.ring_fronts();
@@ -95,9 +94,8 @@ pub fn work<R: Wait, D: TileStore, G: Stage, B: Bell>(
     ensures entries { Worked worker result seat.old seat.new }
     ensures worn { result ≡ WorkEnd.Worn → seat.new.worn ≡ true }
 {
-    let mut picture_buffer = PictureBuffer::new(alloc);
     for _ in rt.forever() {
-        match round(rt, &mut picture_buffer, farm, seat, worker, gate, alarms) {
+        match round(rt, alloc, farm, seat, worker, gate, alarms) {
             Next::Again => {}
             Next::Rest => nap.park(rt),
             Next::End(end) => return end,

@@ -15,7 +15,6 @@ use crate::said::{LineAnswer, said};
 use farm_base::{NoMemory, Text};
 use farm_core::{Farm, Job};
 use merc_fixed::tile;
-use meta_drawing::PictureBuffer;
 use script_lines::ScriptLine;
 use std::alloc::Global;
 use tile_store::TileStore;
@@ -39,9 +38,9 @@ fn expire_at<D: TileStore>(
     }
 }
 
-/// Answers a line: its event, if it has one, is asked of the farm. A picture is drawn on the picture buffer.
+/// Answers a line: its event, if it has one, is asked of the farm.
 pub(crate) fn answer<D: TileStore>(
-    picture_buffer: &mut PictureBuffer,
+    alloc: Global,
     farm: &mut Farm<D>,
     hand: &mut Vec<Job>,
     l: &ScriptLine,
@@ -52,11 +51,10 @@ pub(crate) fn answer<D: TileStore>(
         → Answers D.state store_tells farm.new farm.old.plan l.now g hand.old.items hand.new.items result }
     ensures kept { Lasts D.state farm.old farm.new }
 {
-    let alloc = picture_buffer.alloc();
     match l {
         ScriptLine::Ask(c, cmd, map, z, x, y) => ask(alloc, farm, *c, *cmd, map, (*z, *x, *y)),
         ScriptLine::Claim(worker) => claim(alloc, farm, hand, *worker),
-        ScriptLine::Finish(ticket) => finish(picture_buffer, farm, hand, *ticket),
+        ScriptLine::Finish(ticket) => finish(alloc, farm, hand, *ticket),
         ScriptLine::Cut(ticket) => cut(alloc, farm, hand, *ticket),
         ScriptLine::Update(n) => update(alloc, farm, *n),
         ScriptLine::Expire(z, x, y) => expire_at(alloc, farm, hand, (*z, *x, *y)),

@@ -16,7 +16,7 @@ use crate::said::{LineAnswer, noted, said};
 use farm_base::{NoMemory, Text};
 use farm_core::{Claimed, Drawn, Farm, Job};
 use farm_history::{ClaimAnswer, Finished};
-use meta_drawing::{PictureBuffer, draw_job_on};
+use meta_drawing::draw_job;
 use script_answers::{claim_line, finish_line};
 use std::alloc::Global;
 use tile_store::TileStore;
@@ -95,7 +95,7 @@ pub fn is_failed_finish(answer: Finished) -> bool
 
 /// `finish T`: the job in hand is drawn and finished.
 pub(crate) fn finish<D: TileStore>(
-    picture_buffer: &mut PictureBuffer,
+    alloc: Global,
     farm: &mut Farm<D>,
     hand: &mut Vec<Job>,
     ticket: u64,
@@ -106,12 +106,11 @@ pub(crate) fn finish<D: TileStore>(
         → Answers D.state store_tells farm.new farm.old.plan (line.Finish ticket) g hand.old.items hand.new.items result }
     ensures kept { Lasts D.state farm.old farm.new }
 {
-    let alloc = picture_buffer.alloc();
     let job = match take_job(hand, ticket) {
         Some(job) => job,
         None => return said(Text::of(alloc, "nojob\n")),
     };
-    let bytes = draw_job_on(picture_buffer, &job)?;
+    let bytes = draw_job(alloc, &job)?;
     let answer = farm.finish(alloc, job, Drawn::Bytes(bytes));
     noted(finish_line(alloc, answer), is_failed_finish(answer))
 }

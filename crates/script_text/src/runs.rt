@@ -11,7 +11,6 @@ use crate::ends::ScriptEnd;
 use crate::said::{has_failed, put_said};
 use farm_base::Sink;
 use farm_core::Farm;
-use meta_drawing::PictureBuffer;
 use script_lines::Script;
 use std::alloc::Global;
 use tile_store::TileStore;
@@ -26,7 +25,7 @@ pub struct ScriptRun {
 /// Runs a script on a farm, which stands for some history and was called fewer than `2^62` times: each line
 /// is asked, and its answer put, before the next. It goes on after a failed call of the store. It ends with
 /// SinkFailed at the first put that fails, and with NoMemory at the first line that finds no memory, but for
-/// the drawing of a line `cut`. All pictures are drawn in one buffer. Answers also whether a call of the store failed.
+/// the drawing of a line `cut`. Answers also whether a call of the store failed.
 pub fn run_noting<D: TileStore, O: Sink>(
     alloc: Global,
     farm: &mut Farm<D>,
@@ -39,11 +38,10 @@ pub fn run_noting<D: TileStore, O: Sink>(
         → Runs farm.old.plan script.now g (λ h. StandsFor D.state store_tells farm.new h) (O.state out.old) (O.state out.new) result.failed result.end }
     ensures kept { Lasts D.state farm.old farm.new }
 {
-    let mut picture_buffer = PictureBuffer::new(alloc);
     let mut hand = Vec::new(alloc);
     let mut failed = false;
     for line in script.lines.as_slice() {
-        let said = match answer(&mut picture_buffer, farm, &mut hand, line) {
+        let said = match answer(alloc, farm, &mut hand, line) {
             Ok(said) => said,
             Err(_) => {
                 return ScriptRun {

@@ -1,13 +1,14 @@
 //! Covered pixels painted straight on the picture.
 use crate::regions::Region;
-use plain_image::{Image, Surface};
+use plain_image::Surface;
 use plain_shapes::Colour;
+use tiled_image::TiledImage;
 
 /// A region of a picture on which a pixel that is covered is painted at once, at full opacity: painting it
 /// again changes nothing, so no mask need say which pixels are.
 #[derive(Drop)]
 pub(crate) struct Brush<'a> {
-    pub image: &'a mut Image,
+    pub image: &'a mut TiledImage,
     pub region: Region,
     pub colour: Colour,
 }

@@ -8,17 +8,17 @@ use crate::symbolizers::Paint;
 use farm_base::NoMemory;
 use geo_model::Feature;
 use plain_drawing::{Grid, Symbolizer};
-use plain_image::Image;
 use plain_shapes::Colour;
 use plain_world::Window;
 use std::alloc::Global;
 use std::marker::Model;
+use tiled_image::TiledImage;
 
 /// A window and the picture of it, which has a pixel for each of the window's.
 #[derive(Drop)]
 pub(crate) struct Canvas {
     window: Window,
-    image: Image,
+    image: TiledImage,
 }
 
 impl Model for Canvas {
@@ -32,7 +32,7 @@ impl Model for Canvas {
 }
 
 impl Canvas {
-    ghost use Rattle.std.specs.Prelude.{◌≡◌, ◌*◌, ◌≤◌, Bool, false, IsTrue, IfOk, OnOk, replicate};
+    ghost use Rattle.std.specs.Prelude.{◌≡◌, ◌≤◌, Bool, false, IsTrue, OnOk};
     ghost use Rattle.plain_world.specs.declared.world.Point.{Point};
     ghost use Rattle.plain_world.specs.World.{IsWindow};
     ghost use Rattle.plain_shapes.specs.inner.Canvas.{stepped};
@@ -43,18 +43,14 @@ impl Canvas {
     ghost use Rattle.tile_render.specs.inner.Covers.{is_fill, Fits, Says};
     ghost use Rattle.tile_render.specs.inner.Regions.{IsRegion, HoldsCovered, over_member};
 
-    /// A canvas that is all of one colour, in a buffer that is used again.
-    pub(crate) fn over(
-        alloc: Global,
-        buffer: Vec<u8>,
-        window: Window,
-        colour: Colour,
-    ) -> Result<Canvas, NoMemory>
-        requires { IsWindow window }
-        ensures { IfOk result (λ m. m ≡ record { window = window; image = record { cols = window.cols; rows = window.rows; pixels = replicate (window.rows * window.cols) colour } }) }
+    /// The canvas of a window whose picture this is.
+    pub(crate) fn of(window: Window, image: TiledImage) -> Canvas
+        requires valid { IsWindow window }
+        requires cols { image.cols ≡ window.cols }
+        requires rows { image.rows ≡ window.rows }
+        ensures { result ≡ record { window = window; image = image } }
     {
-        let image = Image::over(alloc, buffer, window.cols, window.rows, colour)?;
-        Ok(Canvas { window, image })
+        Canvas { window, image }
     }
 
     /// Its window.
@@ -65,16 +61,8 @@ impl Canvas {
         self.window
     }
 
-    /// Its picture.
-    pub(crate) fn image(&self) -> &Image
-        ensures value { result.now ≡ self.now.image }
-        ensures valid { IsCanvas self.now.window self.now.image }
-    {
-        &self.image
-    }
-
     /// The picture, when it is painted.
-    pub(crate) fn into_image(self) -> Image
+    pub(crate) fn into_image(self) -> TiledImage
         ensures value { result ≡ self.image }
         ensures valid { IsCanvas self.window self.image }
     {

@@ -9,11 +9,11 @@ ghost use Rattle.tile_render.specs.inner.Places.{changed_at};
 
 use merc_fixed::centre;
 use plain_drawing::Grid;
-use plain_image::Image;
 use plain_world::Window;
+use tiled_image::TiledImage;
 
 /// Paints the grid's colour at the centre of one pixel over that pixel, if the grid has one there.
-fn blend_pixel(w: Window, grid: &Grid, opacity: u32, i: u32, j: u32, image: &mut Image)
+fn blend_pixel(w: Window, grid: &Grid, opacity: u32, i: u32, j: u32, image: &mut TiledImage)
     requires window { IsWindow w }
     requires cols { image.old.cols ≡ w.cols }
     requires rows { image.old.rows ≡ w.rows }
@@ -29,7 +29,7 @@ fn blend_pixel(w: Window, grid: &Grid, opacity: u32, i: u32, j: u32, image: &mut
 }
 
 /// Paints the grid over the pixels of one row whose centres it holds.
-fn blend_row(w: Window, grid: &Grid, opacity: u32, j: u32, image: &mut Image)
+fn blend_row(w: Window, grid: &Grid, opacity: u32, j: u32, image: &mut TiledImage)
     requires window { IsWindow w }
     requires cols { image.old.cols ≡ w.cols }
     requires rows { image.old.rows ≡ w.rows }
@@ -46,7 +46,7 @@ fn blend_row(w: Window, grid: &Grid, opacity: u32, j: u32, image: &mut Image)
 }
 
 /// Paints the grid over all pixels whose centres it holds.
-pub(crate) fn blend_grid(w: Window, grid: &Grid, opacity: u32, image: &mut Image)
+pub(crate) fn blend_grid(w: Window, grid: &Grid, opacity: u32, image: &mut TiledImage)
     requires window { IsWindow w }
     requires cols { image.old.cols ≡ w.cols }
     requires rows { image.old.rows ≡ w.rows }

@@ -7,7 +7,6 @@ mod covers;
 mod grids;
 mod items;
 mod layers;
-mod loads;
 mod metatiles;
 mod painting;
 mod pieces;
@@ -17,6 +16,5 @@ mod styles;
 mod symbolizers;
 mod tiles;
 
-pub use loads::is_light;
 pub use metatiles::{DrawnMeta, draw_meta, draw_picture};
-pub use tiles::{draw_tile, draw_tile_picture};
+pub use tiles::draw_tile;

@@ -1,5 +1,5 @@
 //! All tiles of a metatile, cut from one picture.
-ghost use Rattle.std.specs.Prelude.{◌≡◌, ◌+◌, ◌*◌, ◌<◌, ◌≤◌, ◌++◌, IfOk, OnOk, IsTrue};
+ghost use Rattle.std.specs.Prelude.{◌≡◌, ◌+◌, ◌*◌, ◌^◌, ◌<◌, ◌≤◌, ◌++◌, IfOk, OnOk, IsTrue};
 ghost use Rattle.std.specs.List.{list_all};
 ghost use Rattle.plain_world.specs.World.{IsMeta, IsTileSize, tiles_across};
 ghost use Rattle.plain_drawing.specs.Metatiles.{tiles_of};
@@ -11,9 +11,9 @@ use data_versions::Snapshot;
 use farm_base::{Bytes, NoMemory};
 use merc_fixed::{Meta, meta_window, tiles_across};
 use plain_drawing::MapStyle;
-use plain_image::Image;
 use scale_rules::denominator;
 use std::alloc::Global;
+use tiled_image::TiledImage;
 
 /// The tiles of a metatile as binary PPM texts, in order of index place.
 #[derive(Drop)]
@@ -23,7 +23,13 @@ pub struct DrawnMeta {
 }
 
 /// The text of the part of the image that is so many tiles from its west and north edge.
-fn cut_tile(alloc: Global, image: &Image, size: u32, col: u32, row: u32) -> Result<Bytes, NoMemory>
+fn cut_tile(
+    alloc: Global,
+    image: &TiledImage,
+    size: u32,
+    col: u32,
+    row: u32,
+) -> Result<Bytes, NoMemory>
     requires some { 1 ≤ size }
     requires few { size ≤ 512 }
     requires col { col < 8 }
@@ -32,15 +38,15 @@ fn cut_tile(alloc: Global, image: &Image, size: u32, col: u32, row: u32) -> Resu
     requires in_rows { row * size + size ≤ image.now.rows }
     ensures { IfOk result (λ tile. tile ≡ part_text image.now size col row) }
 {
-    let part = image.cut(alloc, col * size, row * size, size, size)?;
-    let text = part.write_ppm(alloc)?;
+    let mut text = Vec::new(alloc);
+    image.put_part(col * size, row * size, size, size, &mut text)?;
     Ok(Bytes::from_vec(text))
 }
 
 /// Adds the texts of a column of tiles, from north to south.
 fn cut_column(
     alloc: Global,
-    image: &Image,
+    image: &TiledImage,
     size: u32,
     across: u32,
     col: u32,
@@ -62,7 +68,12 @@ fn cut_column(
 }
 
 /// The texts of all tiles of the image, by columns.
-fn cut_tiles(alloc: Global, image: &Image, size: u32, across: u32) -> Result<Vec<Bytes>, NoMemory>
+fn cut_tiles(
+    alloc: Global,
+    image: &TiledImage,
+    size: u32,
+    across: u32,
+) -> Result<Vec<Bytes>, NoMemory>
     requires some { 1 ≤ size }
     requires few { size ≤ 512 }
     requires few_across { across ≤ 8 }
@@ -77,27 +88,27 @@ fn cut_tiles(alloc: Global, image: &Image, size: u32, across: u32) -> Result<Vec
     Ok(tiles)
 }
 
-/// The picture of a metatile, whose parts are exactly its tiles, each its `draw_tile`. It is made in the buffer:
-/// what this held goes, and the picture's pixels take no new memory where it has room; one row's bytes are taken
-/// beside it.
+/// The picture of a metatile, whose parts are exactly its tiles, each its `draw_tile`. It is kept as the texts of these
+/// tiles, with room for so many bytes before them.
 pub fn draw_picture(
     alloc: Global,
-    buffer: Vec<u8>,
+    before: usize,
     style: &MapStyle,
     size: u32,
     m: Meta,
     snapshot: &Snapshot,
-) -> Result<Image, NoMemory>
+) -> Result<TiledImage, NoMemory>
+    requires before { before ≤ 2 ^ 16 }
     requires size { IsTileSize size }
     requires meta { IsMeta m }
     ensures tiles { IfOk result (λ image. part_texts image size (tiles_across m) ≡ tiles_of style.now size m snapshot.now) }
     ensures cols { IfOk result (λ image. image.cols ≡ size * tiles_across m) }
     ensures rows { IfOk result (λ image. image.rows ≡ size * tiles_across m) }
 {
-    let w = meta_window(m, size);
-    let scale = denominator(m.z, size);
-    let mut canvas = Canvas::over(alloc, buffer, w, style.background_color)?;
-    draw_map(alloc, scale, style, snapshot, &mut canvas)?;
+    let across = tiles_across(m);
+    let blank = TiledImage::over(alloc, before, size, across, style.background_color)?;
+    let mut canvas = Canvas::of(meta_window(m, size), blank);
+    draw_map(alloc, denominator(m.z, size), style, snapshot, &mut canvas)?;
     Ok(canvas.into_image())
 }
 
@@ -115,7 +126,7 @@ pub fn draw_meta(
     ensures meta { IfOk result (λ drawn. drawn.meta ≡ m) }
     ensures tiles { IfOk result (λ drawn. drawn.tiles.items ≡ tiles_of style.now size m snapshot.now) }
 {
-    let image = draw_picture(alloc, Vec::new(alloc), style, size, m, snapshot)?;
+    let image = draw_picture(alloc, 0, style, size, m, snapshot)?;
     let tiles = cut_tiles(alloc, &image, size, tiles_across(m))?;
     Ok(DrawnMeta { meta: m, tiles })
 }

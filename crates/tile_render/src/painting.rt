@@ -10,15 +10,15 @@ ghost use Rattle.tile_render.specs.inner.Regions.{IsRegion, over_member};
 use crate::pieces::{Piece, row_of, start_of};
 use crate::regions::{Region, region_window};
 use crate::symbolizers::Paint;
-use plain_image::Image;
 use plain_world::Window;
 use raster_core::run_at;
+use tiled_image::TiledImage;
 
 // What lies under so many pieces is read before they are painted.
 const TOGETHER: usize = 64;
 
 // The red of what lies under the first pixel of a piece, or under the last one of its row where it has none.
-fn red_under(w: Window, region: Region, piece: Piece, image: &Image) -> u8
+fn red_under(w: Window, region: Region, piece: Piece, image: &TiledImage) -> u8
     requires window { IsWindow w }
     requires region { IsRegion w region }
     requires fits { IsPiece region.cols region.rows piece }
@@ -39,7 +39,7 @@ fn opacity_at(
     pieces: &[Piece],
     k: usize,
     opacity: u32,
-    image: &Image,
+    image: &TiledImage,
 ) -> u32
     requires window { IsWindow w }
     requires region { IsRegion w region }
@@ -65,7 +65,7 @@ pub(crate) fn paint_pieces(
     region: Region,
     pieces: &[Piece],
     paint: Paint,
-    image: &mut Image,
+    image: &mut TiledImage,
 )
     requires window { IsWindow w }
     requires region { IsRegion w region }
@@ -94,7 +94,13 @@ pub(crate) fn paint_pieces(
 }
 
 /// Paints the pixels of the region that lie in runs between the crossings. All others stay.
-pub(crate) fn paint_runs(w: Window, region: Region, places: &[u32], paint: Paint, image: &mut Image)
+pub(crate) fn paint_runs(
+    w: Window,
+    region: Region,
+    places: &[u32],
+    paint: Paint,
+    image: &mut TiledImage,
+)
     requires window { IsWindow w }
     requires region { IsRegion w region }
     requires fits { RunsFit w region places.now }

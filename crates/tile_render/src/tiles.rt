@@ -2,7 +2,6 @@
 ghost use Rattle.std.specs.Prelude.{◌≡◌, IfOk, IsTrue};
 ghost use Rattle.std.specs.List.{list_all};
 ghost use Rattle.plain_world.specs.World.{IsTile, IsTileSize};
-ghost use Rattle.plain_shapes.specs.Ppm.{ppm};
 ghost use Rattle.plain_drawing.specs.Drawing.{drawn_tile};
 
 use crate::canvas::Canvas;
@@ -11,30 +10,9 @@ use data_versions::Snapshot;
 use farm_base::NoMemory;
 use merc_fixed::{Tile, window};
 use plain_drawing::MapStyle;
-use plain_image::Image;
 use scale_rules::denominator;
 use std::alloc::Global;
-
-/// The picture of a tile, whose text is the one of `draw_tile`. It is made in the buffer: what this held goes, and
-/// the picture's pixels take no new memory where it has room; one row's bytes are taken beside it.
-pub fn draw_tile_picture(
-    alloc: Global,
-    buffer: Vec<u8>,
-    style: &MapStyle,
-    size: u32,
-    t: Tile,
-    snapshot: &Snapshot,
-) -> Result<Image, NoMemory>
-    requires size { IsTileSize size }
-    requires tile { IsTile t }
-    ensures { IfOk result (λ image. ppm image.cols image.rows image.pixels ≡ drawn_tile style.now size t snapshot.now) }
-{
-    let w = window(t, size);
-    let scale = denominator(t.z, size);
-    let mut canvas = Canvas::over(alloc, buffer, w, style.background_color)?;
-    draw_map(alloc, scale, style, snapshot, &mut canvas)?;
-    Ok(canvas.into_image())
-}
+use tiled_image::TiledImage;
 
 /// The tile of a map style over data, with `size` by `size` pixels, as a binary PPM text: exactly the plain
 /// drawing, whose colour at the centre of each pixel is that of the background and of each symbolizer over it.
@@ -49,6 +27,11 @@ pub fn draw_tile(
     requires tile { IsTile t }
     ensures { IfOk result (λ v. v.items ≡ drawn_tile style.now size t snapshot.now) }
 {
-    let image = draw_tile_picture(alloc, Vec::new(alloc), style, size, t, snapshot)?;
-    image.write_ppm(alloc)
+    let blank = TiledImage::over(alloc, 0, size, 1, style.background_color)?;
+    let mut canvas = Canvas::of(window(t, size), blank);
+    draw_map(alloc, denominator(t.z, size), style, snapshot, &mut canvas)?;
+    let image = canvas.into_image();
+    let mut text = Vec::new(alloc);
+    image.put_part(0, 0, size, size, &mut text)?;
+    Ok(text)
 }

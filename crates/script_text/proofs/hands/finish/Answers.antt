@@ -15,8 +15,8 @@ returns-in-None-clause-step g c = λ told h s hand.
     (λ said is. (not_in_hand c.args.hand.now.items c.args.ticket (sym c.in-None.ensures.found), is)))
     (c.in-None.ensures.left ∙ none_taken c.args.hand.now.items c.args.ticket (sym c.in-None.ensures.found)) hand s
 
-pub draw_job_on-requires : goal.draw_job_on-requires
-draw_job_on-requires g c = taken_valid _ c.requires.stands.1 _ c.args.ticket _ (sym c.in-Some.ensures.found) c.requires.stands.3
+pub draw_job-requires : goal.draw_job-requires
+draw_job-requires g c = taken_valid _ c.requires.stands.1 _ c.args.ticket _ (sym c.in-Some.ensures.found) c.requires.stands.3
 
 pub finish-answer-requires-clause-flight : goal.finish-answer-requires-clause-flight
 finish-answer-requires-clause-flight g c =
