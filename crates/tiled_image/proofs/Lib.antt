@@ -1,6 +1,7 @@
 pub mod TextsAround
 pub mod TextsKept
 pub mod TextsRuns
+pub mod TextsBlank
 pub mod JoinedRuns
 pub mod Joined
 pub mod JoinedPaint

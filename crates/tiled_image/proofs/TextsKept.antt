@@ -1,5 +1,5 @@
 -- Bytes that are those of some tiles, where one of the tiles is read and where it is painted.
-use Rattle.std.proofs.Common.{◌≡◌, ℕ, suc, ◌+◌, ◌-◌, ◌*◌, ◌^◌, ◌<◌, ◌≤◌, List, [], ◌++◌, length, take, drop, set, get_or, map, replicate, flat_map, ap, sym, subst, ◌∙◌, arith, append_assoc, length-append, Some}
+use Rattle.std.proofs.Common.{◌≡◌, ℕ, suc, ◌+◌, ◌*◌, ◌^◌, ◌<◌, ◌≤◌, List, [], ◌++◌, length, take, drop, set, get_or, map, replicate, flat_map, ap, sym, subst, ◌∙◌, arith, append_assoc, length-append, Some}
 use Rattle.std.specs.Prelude.{slice_get, codes}
 use Rattle.std.specs.Fmt.{decimal}
 use Rattle.std.proofs.lemmas.Fmt.{length-decimal-le}
@@ -195,13 +195,12 @@ text_few side t small whole =
     omega (arith, text_length side t whole)
 
 -- so many tiles of one colour
-pub of_one : (before side count n : ℕ) (c : Colour) (text next : List ℕ) → before ≤ 2 ^ 16 → 1 ≤ side → side ≤ 512 → count ≤ 64 → text ≡ ppm side side (replicate (side * side) c)
-    → length text ≡ n → next ≡ replicate before 0 ++ flat_map (λ bytes. bytes) (replicate count text)
-    → AreTexts before side count (n - side * side * 3) next × (tiles_in (n - side * side * 3) (side * side) count (drop before next) ≡ replicate count (replicate (side * side) c))
-of_one before side count n c text next room some small few text_is size next_is =
+pub of_one : (before side count head : ℕ) (c : Colour) (text next : List ℕ) → before ≤ 2 ^ 16 → 1 ≤ side → side ≤ 512 → count ≤ 64 → head ≡ length (ppm side side [])
+    → text ≡ ppm side side (replicate (side * side) c) → next ≡ replicate before 0 ++ flat_map (λ bytes. bytes) (replicate count text)
+    → AreTexts before side count head next × (tiles_in head (side * side) count (drop before next) ≡ replicate count (replicate (side * side) c))
+of_one before side count head c text next room some small few head_is text_is next_is =
     let t : List Colour = replicate (side * side) c in
     let whole : length t ≡ side * side = length-replicate (side * side) c in
-    let long : length text ≡ length (ppm side side []) + side * side * 3 = ap length text_is ∙ text_length side t whole in
-    made before side count (n - side * side * 3) (replicate before 0) next (replicate count t) room some small few (omega arith) (length-replicate before 0)
+    made before side count head (replicate before 0) next (replicate count t) room some small few head_is (length-replicate before 0)
     (All-replicate (λ u. length u ≡ side * side) count t whole) (length-replicate count t)
     (next_is ∙ ap (λ bs. replicate before 0 ++ flat_map (λ bytes. bytes) (replicate count bs)) text_is ∙ ap (λ bs. replicate before 0 ++ bs) (copies_of (ppm side side) count t))

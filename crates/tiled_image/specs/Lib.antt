@@ -1,2 +1,3 @@
 pub mod Tiles
 pub mod Written
+pub mod Blanks

@@ -1,11 +1,13 @@
 //! Square tiles that are kept as their PPM texts, one behind another.
-ghost use Rattle.std.specs.Prelude.{◌≡◌, ℕ, ◌+◌, ◌-◌, ◌*◌, ◌^◌, ◌≤◌, ◌<◌, ◌++◌, List, [], length, drop, map, flat_map, replicate, slice_get, slice_set, slice_index_or, Some, IfOk};
+ghost use Rattle.std.specs.Prelude.{◌≡◌, ℕ, ◌+◌, ◌-◌, ◌*◌, ◌^◌, ◌≤◌, ◌<◌, ◌++◌, List, [], length, drop, map, flat_map, replicate, slice_get, slice_set, slice_index_or, Some, IfOk, OnOk, string_bytes};
 ghost use Rattle.plain_shapes.specs.declared.colour.Colour.{Colour};
 ghost use Rattle.plain_shapes.specs.Blending.{blend};
 ghost use Rattle.plain_shapes.specs.Ppm.{pixel_bytes, ppm};
 ghost use Rattle.plain_image.specs.PpmText.{colours};
 ghost use Rattle.plain_image.specs.Runs.{run_changed};
 ghost use Rattle.plain_world.specs.Limits.{most_side};
+ghost use Rattle.plain_world.specs.World.{IsTileSize};
+ghost use Rattle.tiled_image.specs.Blanks.{text_of};
 
 use farm_base::NoMemory;
 use plain_image::{Image, ReadyLine, paint_run};
@@ -15,6 +17,9 @@ use std::marker::Model;
 
 // An opaque run of so many pixels or more is copied. A shorter one takes no less time that way.
 const COPIED: usize = 8;
+
+// A tile of one colour is written so many rows at a time: each size of a tile is so many or a multiple.
+const ROWS: u32 = 8;
 
 /// Square tiles of the same size, each as its binary PPM text, one behind another, and other bytes before them. Contracts
 /// see how many bytes stand before, the side, and the colours of each tile, row by row.
@@ -40,17 +45,60 @@ impl Model for TileTexts {
     ghost invariant = { λ m. AreTexts m.before m.side m.count m.head m.bytes.items };
 }
 
+// What stands before the pixels of a PPM text: the text of no pixels.
+pub(crate) fn head_of(alloc: Global, cols: u32, rows: u32) -> Result<String, NoMemory>
+    ensures { IfOk result (λ head. string_bytes head ≡ ppm cols rows []) }
+{
+    Ok(format!(in alloc; "P6\n{} {}\n255\n", cols, rows)?)
+}
+
+// The text of a tile of one colour, for many of them: its head, and some rows that come so many times. They stay in
+// the nearest cache, where a whole text would be fetched from farther away for each tile.
+#[derive(Drop)]
+struct Blank {
+    head: String,
+    rows: Vec<u8>,
+    times: u32,
+}
+
+// The text of a tile of one colour.
+fn blank_of(alloc: Global, side: u32, c: Colour) -> Result<Blank, NoMemory>
+    requires { IsTileSize side }
+    ensures head { IfOk result (λ b. string_bytes b.head ≡ ppm side side []) }
+    ensures text { IfOk result (λ b. text_of b ≡ ppm side side (replicate (side * side) c)) }
+{
+    let head = head_of(alloc, side, side)?;
+    let rows = Image::new(alloc, side, ROWS, c)?.into_bytes();
+    Ok(Blank {
+        head,
+        rows,
+        times: side / ROWS,
+    })
+}
+
+// Appends the text of a tile of one colour.
+fn put_blank(blank: &Blank, out: &mut Vec<u8>) -> Result<(), NoMemory>
+    ensures { OnOk result (out.new.items ≡ out.old.items ++ text_of blank.now) }
+{
+    out.extend_from_slice(blank.head.as_bytes())?;
+    for _row in 0..blank.times {
+        out.extend_from_slice(&blank.rows)?;
+    }
+    Ok(())
+}
+
 // So many zeros, and then a text so many times.
-fn copies(alloc: Global, before: usize, count: u32, text: &[u8]) -> Result<Vec<u8>, NoMemory>
+fn copies(alloc: Global, before: usize, count: u32, text: &Blank) -> Result<Vec<u8>, NoMemory>
     requires before { before ≤ 2 ^ 16 }
     requires count { count ≤ 64 }
-    requires len { length text.now ≤ 2 ^ 20 }
-    ensures { IfOk result (λ v. v.items ≡ replicate before 0 ++ flat_map (λ bytes. bytes) (replicate count text.now)) }
+    requires len { length (text_of text.now) ≤ 2 ^ 20 }
+    ensures { IfOk result (λ v. v.items ≡ replicate before 0 ++ flat_map (λ bytes. bytes) (replicate count (text_of text.now))) }
 {
-    let mut out = Vec::with_capacity(alloc, before + count as usize * text.len())?;
+    let each = text.head.len() + text.times as usize * text.rows.len();
+    let mut out = Vec::with_capacity(alloc, before + count as usize * each)?;
     out.resize(before, 0)?;
     for _copy in 0..count {
-        out.extend_from_slice(text)?;
+        put_blank(text, &mut out)?;
     }
     Ok(out)
 }
@@ -95,18 +143,17 @@ impl TileTexts {
         c: Colour,
     ) -> Result<TileTexts, NoMemory>
         requires before { before ≤ 2 ^ 16 }
-        requires some { 1 ≤ side }
-        requires small { side ≤ 512 }
+        requires size { IsTileSize side }
         requires few { count ≤ 64 }
         ensures { IfOk result (λ v. v ≡ record { before = before; side = side; tiles = replicate count (replicate (side * side) c) }) }
     {
-        let blank = Image::new(alloc, side, side, c)?.write_ppm(alloc)?;
-        let bytes = copies(alloc, before, count, &blank)?;
+        let text = blank_of(alloc, side, c)?;
+        let bytes = copies(alloc, before, count, &text)?;
         Ok(TileTexts {
             before,
             side,
             count,
-            head: blank.len() - (side * side) as usize * 3,
+            head: text.head.len(),
             bytes,
             line: ReadyLine::new(alloc, c),
         })

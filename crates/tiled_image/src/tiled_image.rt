@@ -3,7 +3,7 @@ ghost use Rattle.std.specs.Prelude.{◌≡◌, ◌+◌, ◌*◌, ◌/◌, ◌%�
 ghost use Rattle.plain_world.specs.World.{IsTileSize};
 ghost use Rattle.plain_shapes.specs.Ppm.{ppm};
 
-use crate::tile_texts::TileTexts;
+use crate::tile_texts::{TileTexts, head_of};
 use farm_base::NoMemory;
 use plain_shapes::Colour;
 use std::alloc::Global;
@@ -51,13 +51,6 @@ fn shift_of(size: u32) -> u32
         256 => 8,
         _ => 9,
     }
-}
-
-// What stands before the pixels of a PPM text: the text of no pixels.
-fn head_of(alloc: Global, cols: u32, rows: u32) -> Result<String, NoMemory>
-    ensures { IfOk result (λ head. string_bytes head ≡ ppm cols rows []) }
-{
-    Ok(format!(in alloc; "P6\n{} {}\n255\n", cols, rows)?)
 }
 
 impl Grid {
