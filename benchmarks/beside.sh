@@ -13,7 +13,7 @@
 #
 # Mapnik is Debian's python3-mapnik; where no python3 has it, its column stays empty. Ours is `tilefarm script`: an ask,
 # its claim, its end and its reply, of which the drawing and packing take nearly all, from the end of one to that of the
-# next, so that reading is in none; the write is left out (unwritten.c). Mapnik's is drawing alone, and raw is the writing of a container of one tile again and again, in C.
+# next, so that reading is in none; the write is left out (unwritten.c). Mapnik's is drawing alone, and raw is the writing of a container of one colour, in C.
 set -eu
 top="$(cd "$(dirname "${BASH_SOURCE[0]}")/.." && pwd)"
 built="$top/crates/tilefarm/out/tilefarm"
