@@ -2,6 +2,9 @@
 //! them is that they count their failures.
 ghost use Rattle.std.specs.Prelude.{◌≡◌, ℕ, ◌≤◌, length, IfOk, IfSome, OnOk};
 ghost use Rattle.std.specs.Io.KnownBytes.{Appends};
+ghost use Rattle.std.specs.IoError.{error_kind};
+ghost use Rattle.std.specs.declared.io.ErrorKind.TheVariants.{OutOfMemory};
+ghost use Rattle.farm_base.specs.declared.files.FileFault.TheVariants.{NoMemory};
 ghost use Rattle.farm_base.specs.Limits.{most_file_bytes};
 ghost use Rattle.farm_base.specs.Outside.{Reads, Puts, untold};
 
@@ -55,7 +58,7 @@ impl<R: rt::Files> Files for DiskFiles<R> {
 fn whole<R: rt::Files>(alloc: Global, files: &R, name: &str) -> Result<Vec<u8>, FileFault>
     ensures { IfOk result (λ v. length v.items ≤ most_file_bytes) }
 {
-    let file = fs::open(files, name).map_err(|e| fault(&e))?;
+    let file = fs::open(files, name).map_err(|e| file_fault(&e))?;
     read_to_end(alloc, file, MOST_FILE_BYTES)
 }
 
@@ -70,11 +73,16 @@ pub fn read_to_end<F: Read + Drop>(alloc: Global, from: F, most: u32) -> Result<
     match from.take(u64::from(most) + 1).read_to_end(&mut bytes) {
         Ok(_) if bytes.len() <= most as usize => Ok(bytes),
         Ok(_) => Err(FileFault::Failed),
-        Err(e) => Err(fault(&e)),
+        Err(e) => Err(file_fault(&e)),
     }
 }
 
-fn fault(error: &io::Error) -> FileFault {
+/// What an error of the system means for a call on files: want of memory where the system says so, and
+/// else that the call failed.
+pub fn file_fault(error: &io::Error) -> FileFault
+    ensures memory { error_kind error.now ≡ OutOfMemory → result ≡ NoMemory }
+    ensures failed { result ≡ NoMemory → error_kind error.now ≡ OutOfMemory }
+{
     match error.kind() {
         io::ErrorKind::OutOfMemory => FileFault::NoMemory,
         _ => FileFault::Failed,

@@ -16,7 +16,7 @@ mod turns;
 mod values;
 
 pub use bells::{Bell, Bells, Gate, NoBell, OpenGate};
-pub use disk::{DiskFiles, OutSink, read_to_end};
+pub use disk::{DiskFiles, OutSink, file_fault, read_to_end};
 pub use faults::{ApplyFault, MetaFault};
 pub use files::{FailedCall, FileFault, Files, MemFiles};
 pub use limits::{
