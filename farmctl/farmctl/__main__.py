@@ -1,0 +1,7 @@
+"""`python3 -m farmctl`."""
+
+import sys
+
+from farmctl.cli import main
+
+sys.exit(main())
