@@ -123,7 +123,8 @@ impl Snapshot {
 
     /// A finder of features by their ids for each layer, in the layers' order.
     pub fn finders(&self, alloc: Global) -> Result<Vec<LayerFinder<'_>>, NoMemory>
-        ensures { IfOk result (λ finders. finders.items ≡ self.now) }
+        ensures each { IfOk result (λ finders. finders.items ≡ self.now) }
+        ensures valid { IsDataset self.now }
     {
         finders_of(alloc, self.layers.as_slice())
     }
