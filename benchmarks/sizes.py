@@ -19,7 +19,7 @@ import sys
 import time
 
 TOP = os.path.dirname(os.path.dirname(os.path.abspath(__file__)))
-sys.path.insert(0, os.path.join(TOP, "examples", "clients"))
+sys.path.insert(0, os.path.join(TOP, "trials"))
 import trial  # noqa: E402
 from trial import Farm, Folder  # noqa: E402
 

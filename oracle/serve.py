@@ -4,7 +4,7 @@
     python3 oracle/serve.py CONFIG
 
 It is no part of the product. One lock is round the farm of `farm.py`; each connection and each worker is a thread.
-`examples/clients/alike.py` asks it and the program the same and compares every answer. It has no bounds of
+`trials/alike` asks it and the program the same and compares every answer. It has no bounds of
 connections and rests, and reads heads of requests less closely than the program does.
 """
 

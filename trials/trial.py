@@ -11,11 +11,15 @@ import sys
 import tempfile
 import time
 
-import farmclient
-
 os.environ["PATH"] += os.pathsep + "/usr/sbin"  # where Debian has servers, which the path of others than root lacks
-TOP = os.path.dirname(os.path.dirname(os.path.dirname(os.path.abspath(__file__))))
+TOP = os.path.dirname(os.path.dirname(os.path.abspath(__file__)))
+sys.path.insert(0, os.path.join(TOP, "farmctl"))
+sys.dont_write_bytecode = True
+
+from farmctl import client as farmclient  # noqa: E402  (the path has to be there first)
+
 PROGRAM = os.environ.get("TILEFARM", os.path.join(TOP, "tilefarm"))
+CLIENTS = os.path.join(TOP, "examples", "clients")
 MIDDLE = 2**29  # the column and row of world units where tile 14/8192/8192 begins
 TILE = 2**16  # and how many of them a tile of zoom 14 is wide
 HERE = (14, 8192, 8192)  # a tile with land; a road comes with update 0
@@ -63,6 +67,13 @@ MAPS = [
     {"name": "default", "style": "style.json", "tile": 256},
     {"name": "small", "style": "style.json", "tile": 16, "maxzoom": 3},
 ]
+
+
+def tool(name, *words, folder=None, given=""):
+    """The status of one of the operator's scripts, and all that it says."""
+    done = subprocess.run([os.path.join(CLIENTS, name)] + list(words), cwd=folder.path if folder else None, input=given,
+                          stdout=subprocess.PIPE, stderr=subprocess.STDOUT, text=True, timeout=120)  # fmt: skip
+    return done.returncode, done.stdout
 
 
 def free_port():
