@@ -34,7 +34,7 @@ def farm_options(default: object = None) -> argparse.ArgumentParser:
         group.add_argument(
             f"--{front}-address", metavar="ADDRESS", help=f"in place of the configuration's `{front}`: tcp:a.b.c.d:PORT or unix:PATH"
         )
-    group.add_argument("--program", metavar="FILE", help="the program tilefarm (that of this clone, or of PATH)")
+    group.add_argument("--program", metavar="FILE", help="the program tilefarm (TILEFARM, that of this clone's release, or of PATH)")
     return options
 
 

@@ -16,8 +16,8 @@ CONFIG = "farm.json"
 
 
 def program_of(named: str | None) -> str:
-    """The program tilefarm: the named one, that of TILEFARM, of this clone, or of PATH."""
-    clone = Path(__file__).resolve().parents[2] / "tilefarm"
+    """The program tilefarm: the named one, that of TILEFARM, the released one of this clone, or that of PATH."""
+    clone = Path(__file__).resolve().parents[2] / "release" / "tilefarm"
     found = named or os.environ.get("TILEFARM") or (str(clone) if clone.is_file() else shutil.which("tilefarm"))
     if found is None:
         raise FarmError("no program tilefarm: name it by --program, or install it")
@@ -56,6 +56,13 @@ class Farm:
     @property
     def config(self) -> dict[str, Any]:
         return read_config(self.path)
+
+    def loose_config(self) -> dict[str, Any]:
+        """The configuration, or an empty one where it is none: for commands in which the program is to tell the fault."""
+        try:
+            return self.config
+        except FarmError:
+            return {}
 
     @property
     def tiles(self) -> Path:
