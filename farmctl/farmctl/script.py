@@ -39,11 +39,15 @@ class Tried:
     answers: tuple[str, ...]
 
 
-def kept_lines(folder: Path) -> list[str]:
-    """The lines of `farm.lines`, in the order in which a farm that began anew is told them."""
-    path = folder / LINES
+def lines_of(path: Path) -> list[str]:
+    """The control lines of a file; none where there is no file."""
     text = path.read_text(encoding="utf-8") if path.exists() else ""
     return [line.strip() for line in text.splitlines() if line.strip()]
+
+
+def kept_lines(folder: Path) -> list[str]:
+    """The lines of `farm.lines`, in the order in which a farm that began anew is told them."""
+    return lines_of(folder / LINES)
 
 
 def keep_line(folder: Path, line: str) -> None:
@@ -70,8 +74,9 @@ def tried(program: str, folder: Path, config: Path, lines: Sequence[str]) -> Tri
     with tempfile.NamedTemporaryFile("w", suffix=".script", encoding="utf-8") as script:
         script.write("".join(f"{line}\n" for line in lines))
         script.flush()
+        words = [program, "script", str(config), script.name]
         try:
-            done = subprocess.run([program, "script", str(config), script.name], cwd=folder, capture_output=True, text=True, timeout=SECONDS)
+            done = subprocess.run(words, cwd=folder, capture_output=True, text=True, timeout=SECONDS)
         except subprocess.TimeoutExpired as fault:
             raise FarmError(f"{program} has not read the files after {SECONDS:.0f} s") from fault
         except OSError as fault:
