@@ -26,6 +26,8 @@
 #define NAME(name, call) #name,
 enum { KINDS(NUMBER) PARTS(NUMBER) OF_pthread_create, ALL };
 static const char *const names[] = {KINDS(NAME) PARTS(NAME) "pthread_create", "all"};
+enum { MOST = 1024 };
+static char is_bell[MOST]; // whether the descriptor is one of eventfd, of which no system refuses a read or a write
 static atomic_long calls[ALL + 1];
 static long first, count, value;
 static char kind[32], what[16];
@@ -62,9 +64,10 @@ static int is_hit(int of) {
 }
 
 static long made(int of, long number, int is_part, long a, long b, long c, long d, long e, long f) {
-    int hit = is_hit(of);
+    int hit = is_part && a >= 0 && a < MOST && is_bell[a] ? 0 : is_hit(of);
     if (hit && is("short") && is_part) c = (c + 1) / 2;
     long answer = hit && is("fail") ? -1 : syscall(number, a, b, c, d, e, f);
+    if (of == OF_eventfd && answer >= 0 && answer < MOST) is_bell[answer] = 1;
     if (hit && is("killed")) killed();
     if (hit && (is("fail") || is("done"))) answer = -1, errno = value;
     return answer;

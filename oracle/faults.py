@@ -1,7 +1,7 @@
 #!/usr/bin/env python3
 """Each call of the program to the system goes wrong in turn: the program runs once for each, and nothing wrong may come of it.
 
-    python3 oracle/faults.py [--gate] [PROGRAM..]
+    python3 oracle/faults.py [--gate | --within SECONDS] [PROGRAM..]
 
 PROGRAM is the built one, or several; where none is named, those that `rt ci` built. `faults.c`, which `cc` compiles here, is
 preloaded to it and has one call, by its kind and number, fail with an error that a system may give, be cut short, be told as
@@ -18,13 +18,15 @@ run each path of the folder has a whole container, the old one or the new one, a
 each `serve` another goes on from the folder with nothing in its way, and each tile that it calls clean is, byte for byte,
 the drawing of the data that it has.
 
-With --gate it is a fixed part of that, for at most 110 seconds. The last line is `N passed, M failed`; the status is 1
+With --gate it is a fixed part of that, for at most 110 seconds; --within says another time after which the rest, which is
+spread over all of it, is left out. The last line is `N passed, M failed`; the status is 1
 where one failed. It needs Python 3 and a C compiler (`cc`, glibc).
 """
 
 import collections
 import concurrent.futures
 import errno
+import hashlib
 import itertools
 import json
 import os
@@ -120,12 +122,12 @@ def stripes(version):
     return [{"id": 1 + number, "geometry": {"polygon": [ring(number * EVERY)]}} for number in range(WIDE // EVERY)]
 
 
-def drawn(version, z, x):
+def drawn(version, z, x, side=TILE):
     """A tile of the version: a pixel has the colour of its centre, all rows are alike."""
-    pixel = 2 ** (30 - z) // TILE
-    centres = [x * 2 ** (30 - z) + column * pixel + pixel // 2 for column in range(TILE)]
+    pixel = 2 ** (30 - z) // side
+    centres = [x * 2 ** (30 - z) + column * pixel + pixel // 2 for column in range(side)]
     row = b"".join(wanted.RED if centre % EVERY < (version + 1) * STEP else wanted.WHITE for centre in centres)
-    return b"P6\n%d %d\n255\n" % (TILE, TILE) + row * TILE
+    return b"P6\n%d %d\n255\n" % (side, side) + row * side
 
 
 def container(version, spot):
@@ -211,14 +213,9 @@ def content_of(*parts):
         return None
 
 
-def is_set_aside(folder, old):
-    """Whether a program that renames twice was ended between the two: what it replaces is among what is staged."""
-    staged = os.path.join(folder, "tiles", ".new")
-    return os.path.isdir(staged) and any(content_of(staged, name) == old for name in os.listdir(staged) if name.endswith(".old"))
-
-
 def check_folder(folder, links, versions=range(MOST + 1)):
-    """Each path has a whole container of a version that may be there; where the folder had one, it has one."""
+    """Each path has a whole container of a version that may be there; where the folder had one, it has one, unless the
+    program is one that does not link what it replaces: between its two renames the path has none."""
     paths = {second.path_of("default", *spot): spot for spot in SPOTS}
     for below, _, names in os.walk(os.path.join(folder, "tiles", "default")):
         for name in names:
@@ -227,8 +224,7 @@ def check_folder(folder, links, versions=range(MOST + 1)):
     for path, spot in paths.items():
         content = content_of(folder, path)
         if content is None:
-            gone = not links and spot in HAD and is_set_aside(folder, CONTAINERS[spot][HAD[spot]])
-            holds(spot not in HAD or gone, "%s is gone", path)
+            holds(spot not in HAD or not links, "%s is gone", path)
         else:
             holds(content in [CONTAINERS[spot][version] for version in versions], "%s is not whole: %d bytes", path, len(content))
 
@@ -300,21 +296,39 @@ class Command:
         else:
             holds(self.answers.get(out) == status and err == LINES.get(status, ""), "%s", told)
             holds(status == 0 or 6 in fault.ends(), "%s", told)
+        check_folder(folder, shim.links)
         return status
 
 
+def stored(folder):
+    """What stands in each container below a folder, by its path."""
+    found = {}
+    for below, _, names in os.walk(os.path.join(folder, "tiles", "default")):
+        for name in names:
+            content = content_of(below, name) if name.endswith(".meta") else b""
+            found[os.path.relpath(os.path.join(below, name), folder)] = hashlib.sha256(content).digest()
+    return found
+
+
 class Load(Command):
-    """The command that draws its own work: of what was put, lengths and sums tell what it fetched."""
+    """The command that draws its own work: what it fetched is told by lengths and sums, and it stores what it stores else."""
 
     def prepare(self, folder):
         pass
 
     def check(self, shim, folder, fault):
-        status, out, err = shim.ran(self.words, folder, fault)
+        ran = shim.ran(self.words, folder, fault)
+        if fault is NONE:
+            self.whole, self.stored = [int(word) for word in ran[1].split()[1::2]], stored(folder)
+            self.length = self.whole[3] // 32
+        status = self.line(fault, *ran)
+        for path, content in stored(folder).items():
+            holds(path.endswith(".meta.new") or self.stored.get(path) == content, "%s is another", path)
+        return status
+
+    def line(self, fault, status, out, err):
         told = "status %d, %.100r, %.200s" % (status, out, err)
         numbers = [int(word) for word in out.split()[1::2]]
-        if fault is NONE:
-            self.whole, self.length = numbers, numbers[3] // 32
         if status in (4, -signal.SIGKILL):
             holds((status < 0) == fault.kills() and len(numbers) < 6 and err == "", "%s", told)
             return status
@@ -332,11 +346,11 @@ class Load(Command):
 class Server:
     """A running `serve` in a folder, with or without something in its way."""
 
-    def __init__(self, shim, folder, fault=None):
+    def __init__(self, shim, folder, fault=None, config="config"):
         self.folder = folder
         env = shim.environment(folder, fault) if fault else dict(os.environ)
         self.patience = NO_THREAD if fault and fault.kind == "pthread_create" else EACH
-        self.process = subprocess.Popen([shim.program, "serve", "config"], cwd=folder, env=env, stdin=subprocess.DEVNULL,
+        self.process = subprocess.Popen([shim.program, "serve", config], cwd=folder, env=env, stdin=subprocess.DEVNULL,
                                         stdout=subprocess.PIPE, stderr=subprocess.PIPE)  # fmt: skip
 
     def connected(self, name):
@@ -349,10 +363,10 @@ class Server:
             raise
         return made
 
-    def listens(self):
+    def listens(self, names=("r", "t", "c")):
         """Whether it listens at all three fronts; not where it has ended."""
         end = time.monotonic() + self.patience
-        for name in "rtc":
+        for name in names:
             while True:
                 try:
                     self.connected(name).close()
@@ -382,11 +396,11 @@ class Server:
             pass
         return got
 
-    def line(self, line):
+    def line(self, line, name="c"):
         """The answer to a control line, or nothing where the connection was lost."""
         got = b""
         try:
-            with self.connected("c") as made:
+            with self.connected(name) as made:
                 made.sendall(line.encode() + b"\n")
                 while not got.endswith(b"\n"):
                     piece = made.recv(4096)
@@ -399,10 +413,10 @@ class Server:
             pass
         return got.decode()
 
-    def ended(self):
+    def ended(self, name="c"):
         """Status and both streams of its end, for which it is told to stop as often as it does not hear."""
         for _ in range(5):
-            if self.line("stop") or self.process.poll() is not None:
+            if self.line("stop", name) or self.process.poll() is not None:
                 break
         try:
             out, err = self.process.communicate(timeout=self.patience)
@@ -595,9 +609,13 @@ class Run:
         else:
             self.ends[end] += 1
 
+    def right(self):
+        """How many runs were right in which a call went wrong."""
+        return sum(self.ends.values()) - self.ends["not reached"]
+
     def tell(self):
         ends = ", ".join("%d %s" % (count, end) for end, count in sorted(self.ends.items()))
-        print("%s: %d runs: %s, %d wrong" % (self.name, sum(self.ends.values()) + self.wrong, ends, self.wrong), flush=True)
+        print("%s: %d calls refused: %s, %d wrong" % (self.name, self.right() + self.wrong, ends, self.wrong), flush=True)
 
 
 def all_faults(run):
@@ -618,7 +636,7 @@ def fixed_faults(run):
             yield from itertools.chain(*(faults_of(kind, number, True) for number in range(1, count + 1, step)))
 
 
-def tried(program, base, end):
+def tried(program, base, faults, end):
     """All runs of a program until a time, or all that there are; how many were right, were wrong, and were left out."""
     os.mkdir(os.path.join(base, "whole"))
     os.mkdir(os.path.join(base, "whole", "tiles"))
@@ -629,7 +647,7 @@ def tried(program, base, end):
     runs = [Run(name, command, shim, base) for name, command in commands.items()]
     for run in runs:
         run.begin()
-    tries = [(run, fault) for run in runs for fault in (fixed_faults if end else all_faults)(run)]
+    tries = [(run, fault) for run in runs for fault in faults(run)]
     random.Random(1).shuffle(tries)
 
     def one(run, fault):
@@ -645,20 +663,29 @@ def tried(program, base, end):
                 run.count(told)
     for run in runs:
         run.tell()
-    return sum(sum(run.ends.values()) for run in runs), sum(run.wrong for run in runs), left
+    return sum(run.right() for run in runs), sum(run.wrong for run in runs), left
+
+
+def options(words):
+    """Whether it is the gate's part, for how many seconds at most, and the programs."""
+    if words[:1] == ["--gate"]:
+        return True, GATE, words[1:]
+    if words[:1] == ["--within"]:
+        return False, int(words[1]), words[2:]
+    return False, None, words
 
 
 def main(words):
-    is_gate = words[:1] == ["--gate"]
-    programs = [os.path.abspath(name) for name in words[is_gate:] or BUILT if os.path.exists(name)]
+    is_gate, seconds, programs = options(words)
+    programs = [os.path.abspath(name) for name in programs or BUILT if os.path.exists(name)]
     begun, passed, failed, left = time.monotonic(), 0, 0, 0
     for number, program in enumerate(programs, 1):
-        end = begun + GATE * number / len(programs) if is_gate else None
+        end = begun + seconds * number / len(programs) if seconds else None
         with tempfile.TemporaryDirectory(prefix="faults-") as base:
-            right, wrong, rest = tried(program, base, end)
+            right, wrong, rest = tried(program, base, fixed_faults if is_gate else all_faults, end)
         passed, failed, left = passed + right, failed + wrong, left + rest
-    if left:
-        print("faults: %d were left out, after %d seconds" % (left, GATE))
+    if left:  # the machine is busy
+        print("faults: %d more were left out, after %d seconds" % (left, seconds))
     print("faults: tried %d calls refused" % (passed + failed))
     print("%d passed, %d failed" % (passed, failed))
     return 1 if failed or not passed else 0
