@@ -97,7 +97,7 @@ for workers, count, tile in ((w, c, t) for w in (1, 2, 4) for c in (200, 10000) 
 PYTHON
 
 client() { "$folder/client" "$@"; }
-control() { "$top/examples/clients/control" "unix:$folder/control.sock" "$@"; }
+control() { "$top/farmctl/bin/farmctl" --control-address "unix:$folder/control.sock" control "$@"; }
 memory() { awk '/^VmRSS/ { print $2 }' "/proc/$farm/status"; }
 rate() { awk '{ printf "%.0f", $1 / $2 }'; }
 row() { printf '%-80s %14s  %s\n' "$1" "$2" "$3"; }

@@ -19,7 +19,7 @@ sys.dont_write_bytecode = True
 from farmctl import client as farmclient  # noqa: E402  (the path has to be there first)
 
 PROGRAM = os.environ.get("TILEFARM", os.path.join(TOP, "tilefarm"))
-CLIENTS = os.path.join(TOP, "examples", "clients")
+FARMCTL = os.path.join(TOP, "farmctl", "bin", "farmctl")
 MIDDLE = 2**29  # the column and row of world units where tile 14/8192/8192 begins
 TILE = 2**16  # and how many of them a tile of zoom 14 is wide
 HERE = (14, 8192, 8192)  # a tile with land; a road comes with update 0
@@ -69,10 +69,10 @@ MAPS = [
 ]
 
 
-def tool(name, *words, folder=None, given=""):
-    """The status of one of the operator's scripts, and all that it says."""
-    done = subprocess.run([os.path.join(CLIENTS, name)] + list(words), cwd=folder.path if folder else None, input=given,
-                          stdout=subprocess.PIPE, stderr=subprocess.STDOUT, text=True, timeout=120)  # fmt: skip
+def tool(name, *words, folder, given=""):
+    """The status of one of farmctl's commands for the farm of a folder, and all that it says."""
+    words = [FARMCTL, "--program", PROGRAM, "-c", folder.name("farm.json"), *([name] + list(words))]
+    done = subprocess.run(words, cwd=folder.path, input=given, stdout=subprocess.PIPE, stderr=subprocess.STDOUT, text=True, timeout=120)
     return done.returncode, done.stdout
 
 
