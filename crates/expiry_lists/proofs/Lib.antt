@@ -1,5 +1,6 @@
 pub mod Above
 pub mod BoxLaws
+pub mod Boxed
 pub mod Finding
 pub mod Lines
 pub mod Live

@@ -2,12 +2,13 @@
 use Rattle.std.proofs.Common.{◌≡◌, ℕ, zero, suc, ◌+◌, ◌≤◌, Bool, true, false, cond, List, [], ◌∷◌, ◌++◌, length, take, drop, map, Option, Some, None, option_map, is_some, add-one, refl, sym, ap, ◌∙◌, subst, arith}
 use Rattle.std.specs.Prelude.{slice_get}
 use Rattle.std.proofs.lemmas.List.{take_all, drop_all}
+use Rattle.indexmap.specs.IndexMap.{set_value_at}
 use Rattle.farm_history.specs.declared.keys.Key.{Key}
 use Rattle.farm_history.specs.declared.keys.Mark.{Mark}
 use Rattle.farm_history.specs.Plans.{same_key}
 use Rattle.expiry_lists.specs.declared.nodes.Node.{Node}
 use Rattle.expiry_lists.specs.Marks.{touched_by}
-use Rattle.expiry_lists.specs.inner.Nodes.{parent, node_of, node_mark, node_live, is_clean, has_node, is_live, with_node_at, shown_before, shown_of, IsTree}
+use Rattle.expiry_lists.specs.inner.Nodes.{parent, node_of, node_mark, node_live, is_clean, has_node, is_live, shown_before, shown_of, IsTree}
 use Rattle.expiry_lists.specs.inner.Walks.{Dirties, Walks}
 use Rattle.expiry_lists.proofs.Dirtying.{dirties_more, dirties_none}
 
@@ -31,7 +32,7 @@ clean_sum [] = 0
 clean_sum (e ∷ es) = clean_of e.1 + clean_sum es
 
 -- one entry more
-quiet_next : (es : List (Key × Node)) (i : ℕ) (n : Node) → Some n ≡ option_map (λ e. e.1) (slice_get (quieted i es) i) → with_node_at (quieted i es) i (quiet_node n) ≡ quieted (suc i) es
+quiet_next : (es : List (Key × Node)) (i : ℕ) (n : Node) → Some n ≡ option_map (λ e. e.1) (slice_get (quieted i es) i) → set_value_at (quieted i es) i (quiet_node n) ≡ quieted (suc i) es
 quiet_next [] zero n at = cc
 quiet_next [] (suc i) n at = cc
 quiet_next (e ∷ es) zero n at = let same : n ≡ e.1 = cc in ap (λ (m : Node). (e.0, quiet_node m) ∷ es) same
@@ -43,7 +44,7 @@ sum_next [] (suc i) n at = cc
 sum_next (e ∷ es) zero n at = let same : n ≡ e.1 = cc in omega (arith, ap clean_of same)
 sum_next (e ∷ es) (suc i) n at = omega (arith, sum_next es i n at)
 
-pub quiet_more : (es now after : List (Key × Node)) (i : ℕ) (n w : Node) → now ≡ quieted i es → Some n ≡ option_map (λ e. e.1) (slice_get now i) → w ≡ quiet_node n → after ≡ with_node_at now i w → after ≡ quieted (i + 1) es
+pub quiet_more : (es now after : List (Key × Node)) (i : ℕ) (n w : Node) → now ≡ quieted i es → Some n ≡ option_map (λ e. e.1) (slice_get now i) → w ≡ quiet_node n → after ≡ set_value_at now i w → after ≡ quieted (i + 1) es
 quiet_more es now after i n w before at is more =
     more ∙ rw (before, is) (quiet_next es i n (rw before at at) ∙ ap (λ m. quieted m es) (sym (add-one i)))
 

@@ -1,5 +1,5 @@
 -- Marks: what is shown of metatiles, and what an expiry makes of it.
-use Rattle.std.specs.Prelude.{ℕ, Bool, ◌&&◌, ◌==◌, not, nat_lt, List, map, count_by, find, Option, Some, None, option_map, if◌then◌else◌}
+use Rattle.std.specs.Prelude.{ℕ, ◌≡◌, Bool, ◌&&◌, ◌==◌, not, nat_lt, List, map, count_by, find, Option, Some, None, option_map, if◌then◌else◌}
 use Rattle.std.specs.List.{list_any}
 use Rattle.farm_history.specs.declared.keys.Key.{Key}
 use Rattle.farm_history.specs.declared.keys.Mark.{Mark}
@@ -7,7 +7,7 @@ use Rattle.farm_history.specs.Plans.{same_key}
 use Rattle.plain_world.specs.World.{meta_square}
 use Rattle.geo_model.specs.declared.bounds.Bounds.{Bounds}
 use Rattle.plain_shapes.specs.Reach.{margin_of}
-use Rattle.expiry_lists.specs.Boxes.{comes_near}
+use Rattle.expiry_lists.specs.Boxes.{Holds, comes_near}
 
 -- a shown metatile with its mark
 pub record Shown : Type 0 where
@@ -58,6 +58,20 @@ some_meets size boxes k = list_any (λ b. is_met b size k) boxes
 -- whether the key is of that map, at one of the zooms 0 to 18, and some of the boxes is that near
 abbrev pub is_near_boxes : ℕ → ℕ → List Bounds → Key → Bool
 is_near_boxes map size boxes k = is_of_map map k && (nat_lt k.meta.z 19 && some_meets size boxes k)
+
+-- the box with these edges
+abbrev pub rectangle : ℕ → ℕ → ℕ → ℕ → Bounds
+rectangle west north east south = record { west = west; north = north; east = east; south = south }
+
+-- whether the key is of that map and zoom, and the box holds a point of the key's square
+abbrev pub is_in_box : ℕ → ℕ → Bounds → Key → Bool
+is_in_box map z b k = is_of_map map k && ((k.meta.z == z) && comes_near b 0 (meta_square k.meta))
+
+-- the same in the world's words: the edges of the box belong to it
+pub record InBox (map z : ℕ) (b : Bounds) (k : Key) : Type 0 where
+  pub of_map : map ≡ k.map
+  pub of_zoom : k.meta.z ≡ z
+  pub holds : Holds (meta_square k.meta) b 0
 
 -- the version of a mark that is clean
 abbrev pub clean_version : Option Mark → Option ℕ

@@ -27,10 +27,7 @@ fn kept_at(key: Key, node: Node) -> Option<Kept>
 pub fn clean_entries(alloc: Global, nodes: &Nodes) -> Result<Vec<Kept>, NoMemory>
     ensures { IfOk result (λ v. v.items ≡ kept_list nodes.now.entries) }
 {
-    let clean = nodes
-        .entries()
-        .iter()
-        .filter_map(|(key, node)| kept_at(*key, *node));
+    let clean = nodes.iter().filter_map(|(key, node)| kept_at(*key, *node));
     Ok(clean.collect(alloc)?)
 }
 

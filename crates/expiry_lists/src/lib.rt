@@ -7,6 +7,7 @@ mod keeping;
 mod lists;
 mod marks;
 mod nodes;
+mod rectangles;
 mod table;
 mod waking;
 mod walks;

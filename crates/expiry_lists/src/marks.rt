@@ -1,14 +1,15 @@
 //! Marks: what is shown of metatiles, and whether it is clean.
-ghost use Rattle.std.specs.Prelude.{◌≡◌, ◌≤◌, ◌<◌, ◌+◌, ◌==◌, ℕ, [], Some, None, IsSome, IfOk, OnOk, option_map, if◌then◌else◌, true, false, vec_len, vec_capacity, IsPermutation};
+ghost use Rattle.std.specs.Prelude.{◌≡◌, ◌≤◌, ◌<◌, ◌+◌, ◌==◌, ◌↔◌, IsTrue, ℕ, [], Some, None, IsSome, IfOk, OnOk, option_map, if◌then◌else◌, true, false, vec_len, vec_capacity, IsPermutation};
 ghost use Rattle.std.specs.List.{list_any};
 ghost use Rattle.farm_history.specs.declared.keys.Key.{Key};
 ghost use Rattle.farm_history.specs.Plans.{same_key, overlaps, AreApart};
 ghost use Rattle.farm_history.specs.Replays.{are_rising, kept_of, kept_version};
 ghost use Rattle.plain_world.specs.World.{IsMeta, IsTile, IsTileSize};
-ghost use Rattle.expiry_lists.specs.Marks.{shown_key, mark_of, dirtied_marks, clean_marks, is_of_map, is_near_boxes, clean_version};
+ghost use Rattle.expiry_lists.specs.Marks.{shown_key, mark_of, dirtied_marks, clean_marks, is_of_map, is_near_boxes, is_in_box, rectangle, clean_version, InBox};
 
 use crate::keeping::{clean_entries, sort_by_key};
 use crate::nodes::{mark_at, mark_one_dirty, settle_all};
+use crate::rectangles::mark_box_dirty;
 use crate::table::Nodes;
 use crate::waking::{put_mark, wake};
 use crate::walks::{is_some_live, mark_map_boxes_dirty, mark_map_dirty, mark_maps_dirty};
@@ -140,6 +141,39 @@ impl Marks {
         mark_map_boxes_dirty(&mut self.nodes, map, size, boxes)
     }
 
+    /// Makes dirty what is shown of the map at zoom `z` where the metatile's square holds a point of the
+    /// rectangle, whose edges belong to it, and counts what was clean of it. It goes over all that is shown.
+    pub fn expire_box(
+        &mut self,
+        map: u32,
+        z: u32,
+        west: u32,
+        north: u32,
+        east: u32,
+        south: u32,
+    ) -> u64
+        requires zoom { z ≤ 18 }
+        requires across { west ≤ east }
+        requires down { north ≤ south }
+        ensures shown { let b = rectangle west north east south in
+            self.new.shown ≡ dirtied_marks (is_in_box map z b) self.old.shown }
+        ensures count { let b = rectangle west north east south in
+            result ≡ clean_marks (is_in_box map z b) self.old.shown }
+        ensures meaning { (k : Key) → let b = rectangle west north east south in
+            IsTrue (is_in_box map z b k) ↔ InBox map z b k }
+        ensures apart { AreApart shown_key self.old.shown }
+        ensures room { self.new.room ≡ self.old.room }
+    {
+        let _count = self.nodes.len();
+        let b = Bounds {
+            west,
+            north,
+            east,
+            south,
+        };
+        mark_box_dirty(&mut self.nodes, map, z, b)
+    }
+
     /// Makes a key dirty, where it is shown.
     pub fn expire_one(&mut self, key: Key)
         ensures shown { self.new.shown ≡ dirtied_marks (same_key key) self.old.shown }
@@ -148,6 +182,13 @@ impl Marks {
     {
         let _count = self.nodes.len();
         let _count = mark_one_dirty(&mut self.nodes, key);
+    }
+
+    /// No key is shown twice.
+    pub fn law_apart(&self)
+        ensures { AreApart shown_key self.now.shown }
+    {
+        let _count = self.nodes.len();
     }
 
     /// What is clean, with its versions, by map, zoom, column and row.

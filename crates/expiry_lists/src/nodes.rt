@@ -1,5 +1,6 @@
 //! The nodes that marks are kept in: one look-up or write each.
 ghost use Rattle.std.specs.Prelude.{◌≡◌, ◌≢◌, ◌<◌, ◌||◌, Option, Some, None, option_map, true, false, if◌then◌else◌};
+ghost use Rattle.std.specs.Map.{keys_of};
 ghost use Rattle.farm_history.specs.Plans.{same_key};
 ghost use Rattle.expiry_lists.specs.Marks.{touched_by};
 ghost use Rattle.farm_history.specs.declared.keys.Key.{Key};
@@ -34,6 +35,7 @@ pub fn mark_at(nodes: &Nodes, key: Key) -> Option<Mark>
 pub fn mark_one_dirty(nodes: &mut Nodes, key: Key) -> u64
     requires { IsTree nodes.old.entries }
     ensures walks { Walks (same_key key) nodes.old.entries nodes.new.entries result }
+    ensures keys { keys_of nodes.new.entries ≡ keys_of nodes.old.entries }
     ensures room { nodes.new.room ≡ nodes.old.room }
 {
     let _count = nodes.len();

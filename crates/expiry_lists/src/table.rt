@@ -1,35 +1,33 @@
-//! The table of nodes: a list of them in the order in which they came, and the place of each in it by its key.
-ghost use Rattle.std.specs.Prelude.{◌≡◌, ◌+◌, ◌<◌, ◌≤◌, ◌^◌, [], ◌∷◌, ◌++◌, length, slice_get, option_map, None, OnOk};
+//! The table of nodes: each with its key, in the order in which they came.
+ghost use Rattle.std.specs.Prelude.{◌≡◌, ◌+◌, ◌<◌, ◌≤◌, ◌^◌, [], ◌∷◌, ◌++◌, length, slice_get, position, option_map, Some, None, OnOk};
 ghost use Rattle.std.specs.List.{IsDistinct};
 ghost use Rattle.std.specs.Map.{keys_of};
+ghost use Rattle.std.specs.Map.Iter.{ShowsInOrder, deref_pair};
+ghost use Rattle.indexmap.specs.IndexMap.{set_value_at};
 ghost use Rattle.farm_history.specs.Plans.{same_key};
-ghost use Rattle.expiry_lists.specs.inner.Nodes.{node_of, place_of, with_node_at};
+ghost use Rattle.expiry_lists.specs.inner.Nodes.{node_of};
 
 use crate::nodes::Node;
 use farm_base::NoMemory;
 use farm_history::Key;
+use indexmap::IndexMap;
+use indexmap::map::Iter;
 use std::alloc::Global;
-use std::collections::HashMap;
 use std::marker::Model;
 
 /// The nodes by their keys. A node keeps its place.
 #[derive(Drop)]
 pub struct Nodes {
-    places: HashMap<Key, usize>,
-    entries: Vec<(Key, Node)>,
+    map: IndexMap<Key, Node>,
 }
 
 impl Model for Nodes {
-    ghost use Rattle.std.specs.Prelude.{◌-◌, min, vec_len, vec_capacity};
-    ghost use Rattle.std.specs.HashMap.{get, spare};
-    ghost use Rattle.farm_history.specs.Plans.{same_key};
-    ghost use Rattle.expiry_lists.specs.inner.Nodes.{NodeTable, IsPlaced};
+    ghost use Rattle.indexmap.specs.IndexMap.{spare};
+    ghost use Rattle.expiry_lists.specs.inner.Nodes.{NodeTable};
 
     ghost Value = { NodeTable };
 
-    ghost view = { λ n. record { entries = n.entries.items; room = min (spare n.places) (vec_capacity n.entries - vec_len n.entries) } };
-
-    ghost invariant = { λ n. IsPlaced (λ k. get same_key n.places k) n.entries.items };
+    ghost view = { λ n. record { entries = n.map.entries; room = spare n.map } };
 }
 
 impl Nodes {
@@ -38,8 +36,7 @@ impl Nodes {
         ensures { result.entries ≡ [] }
     {
         Nodes {
-            places: HashMap::new(alloc),
-            entries: Vec::new(alloc),
+            map: IndexMap::new(alloc),
         }
     }
 
@@ -49,9 +46,7 @@ impl Nodes {
         ensures room { self.old.room ≤ self.new.room }
         ensures reserved { OnOk result (more ≤ self.new.room) }
     {
-        self.places.reserve(more)?;
-        self.entries.reserve(more)?;
-        Ok(())
+        Ok(self.map.reserve(more)?)
     }
 
     /// How many nodes there are; no two have one key.
@@ -60,51 +55,58 @@ impl Nodes {
         ensures small { result < 2 ^ 64 }
         ensures unique { IsDistinct same_key (keys_of self.now.entries) }
     {
-        self.entries.len()
+        self.map.len()
     }
 
     /// The nodes with their keys, in their order.
-    pub fn entries(&self) -> &[(Key, Node)]
-        ensures { result.now ≡ self.now.entries }
+    pub fn iter(&self) -> Iter<'_, Key, Node>
+        ensures rest { result ≡ self.now.entries }
+        ensures runs { ShowsInOrder (deref_pair {K = Key} {X = Node}) }
     {
-        self.entries.as_slice()
+        self.map.iter()
     }
 
     /// The node at a place.
     pub fn at(&self, place: usize) -> Option<Node>
         ensures { result ≡ option_map (λ e. e.1) (slice_get self.now.entries place) }
     {
-        let entry = self.entries.get(place)?;
-        Some(entry.1)
+        let (_, node) = self.map.get_index(place)?;
+        Some(*node)
+    }
+
+    /// The key of the node at a place.
+    pub fn key_at(&self, place: usize) -> Key
+        requires { place < length self.now.entries }
+        ensures { slice_get (keys_of self.now.entries) place ≡ Some result }
+    {
+        let (key, _) = self.map.get_index(place).unwrap();
+        *key
     }
 
     /// The place and the node of a key.
     pub fn find(&self, key: Key) -> Option<(usize, Node)>
-        ensures place { option_map (λ f. f.0) result ≡ place_of self.now.entries key }
+        ensures place { option_map (λ f. f.0) result ≡ position (same_key key) (keys_of self.now.entries) }
         ensures node { option_map (λ f. f.1) result ≡ node_of self.now.entries key }
     {
-        let place = *self.places.get(&key)?;
-        let node = self.at(place)?;
-        Some((place, node))
+        let (place, _, node) = self.map.get_full(&key)?;
+        Some((place, *node))
     }
 
     /// The node of a key.
     pub fn get(&self, key: Key) -> Option<Node>
         ensures { result ≡ node_of self.now.entries key }
     {
-        let (_, node) = self.find(key)?;
-        Some(node)
+        self.map.get(&key).copied()
     }
 
     /// Puts another node at a place, where there is one.
     pub fn put_at(&mut self, place: usize, node: Node)
-        ensures entries { self.new.entries ≡ with_node_at self.old.entries place node }
+        ensures entries { self.new.entries ≡ set_value_at self.old.entries place node }
         ensures room { self.new.room ≡ self.old.room }
     {
-        let Some(entry) = self.entries.get_mut(place) else {
-            return;
-        };
-        entry.1 = node;
+        if let Some(there) = self.map.get_index_mut(place) {
+            *there = node;
+        }
     }
 
     /// Adds the node of a key that has none, in the room that was made for it.
@@ -114,10 +116,6 @@ impl Nodes {
         ensures entries { self.new.entries ≡ self.old.entries ++ (key, node) ∷ [] }
         ensures room { self.old.room ≤ self.new.room + 1 }
     {
-        let place = self.entries.len();
-        let Ok(_) = self.places.insert(key, place) else {
-            unreachable!()
-        };
-        self.entries.push_reserved((key, node));
+        self.map.insert(key, node).unwrap();
     }
 }

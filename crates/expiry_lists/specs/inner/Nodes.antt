@@ -1,8 +1,7 @@
 -- The table that Marks keep: a node for each key that was shown, and for each key above one. The square of a key of zoom 3 or later has four
 -- squares of the next zoom, whose keys are found by their numbers; so the nodes of a map are a quadtree, and the keys are its links.
-use Rattle.std.specs.Prelude.{ℕ, zero, suc, ◌-◌, ◌*◌, ◌/◌, ◌≤◌, ◌<◌, ◌≡◌, Bool, true, false, List, [], ◌∷◌, Option, Some, None, option_map, is_some, if◌then◌else◌}
-use Rattle.std.specs.List.{IsDistinct}
-use Rattle.std.specs.Map.{lookup, keys_of}
+use Rattle.std.specs.Prelude.{ℕ, ◌-◌, ◌*◌, ◌/◌, ◌≤◌, ◌<◌, ◌≡◌, Bool, true, false, List, [], ◌∷◌, Option, Some, None, is_some, if◌then◌else◌}
+use Rattle.std.specs.Map.{lookup}
 use Rattle.farm_history.specs.declared.keys.Key.{Key}
 use Rattle.farm_history.specs.declared.keys.Mark.{Mark}
 use Rattle.farm_history.specs.Plans.{same_key}
@@ -22,22 +21,6 @@ node_of es k = lookup (same_key k) es
 pub record NodeTable : Type 0 where
   pub entries : List (Key × Node)
   pub room : ℕ
-
--- the place of a key's node among them
-abbrev pub place_of : List (Key × Node) → Key → Option ℕ
-place_of [] k = None
-place_of (e ∷ es) k = if same_key k e.0 then Some 0 else option_map suc (place_of es k)
-
--- the places that are told of keys are those of their nodes, and no two nodes have one key
-pub record IsPlaced (told : Key → Option ℕ) (es : List (Key × Node)) : Type 0 where
-  pub placed : (k : Key) → told k ≡ place_of es k
-  pub apart : IsDistinct same_key (keys_of es)
-
--- the nodes with another one at a place, where there is one
-abbrev pub with_node_at : List (Key × Node) → ℕ → Node → List (Key × Node)
-with_node_at [] i w = []
-with_node_at (e ∷ es) zero w = (e.0, w) ∷ es
-with_node_at (e ∷ es) (suc i) w = e ∷ with_node_at es i w
 
 -- whether a node is live, where there is one: then its key or one below it may be clean
 abbrev pub node_live : Option Node → Bool

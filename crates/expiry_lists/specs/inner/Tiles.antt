@@ -21,3 +21,7 @@ key_over map t = if nat_le t.z 15 then record { map = map; meta = record { z = t
 -- whether the key's map is one of these
 abbrev pub is_of_maps : List ℕ → Key → Bool
 is_of_maps maps k = list_any (λ map. map == k.map) maps
+
+-- whether the key is one of these
+abbrev pub is_one_of : List Key → Key → Bool
+is_one_of keys k = list_any (λ key. same_key key k) keys

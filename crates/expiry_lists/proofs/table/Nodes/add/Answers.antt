@@ -1,10 +1,13 @@
-use Rattle.std.proofs.Common.{◌≡◌, length, ap, ◌∙◌, arith}
+use Rattle.std.proofs.Common.{◌≡◌, ◌∷◌, ◌++◌, [], None, ap, ◌∙◌, rules}
+use Rattle.indexmap.specs.IndexMap.{insert_entry}
+use Rattle.indexmap.proofs.CallerLemmas.{insert_entry-new}
+use Rattle.farm_history.specs.Plans.{same_key}
 use Rattle.expiry_lists.specs.inner.Nodes.{NodeTable, node_of}
-use Rattle.expiry_lists.proofs.Placing.{add_placed}
 use Rattle.expiry_lists.proofs.table.Nodes.add.Goals as goal
 
-pub invariant_of-self : goal.invariant_of-self
-invariant_of-self c =
-    let last : c.len-place.result ≡ length c.self.inside.entries.items = omega (arith, c.len-place.ensures) in
-    let gone = ap (λ (t : NodeTable). node_of t.entries c.args.key) c.self.view_is ∙ c.requires.absent in
-    add_placed _ _ _ _ c.args.key c.args.node c.len-place.result last gone c.in-Ok.ensures.updates.0 c.push_reserved.ensures.items c.self.invariant
+pub returns-clause-entries : goal.returns-clause-entries
+returns-clause-entries c =
+    let es = c.self.inside.map.entries in
+    let gone : node_of es c.args.key ≡ None = ap (λ (t : NodeTable). node_of t.entries c.args.key) c.self.view_is ∙ c.requires.absent in
+    let put : c.insert.new.self.entries ≡ insert_entry same_key es c.args.key c.args.node = search (rules, c.insert.ensures.entries, c.unwrap.ensures) in
+    put ∙ (insert_entry-new same_key c.self.inside.map c.args.key c.args.node gone ∙ ap (λ (t : NodeTable). t.entries ++ (c.args.key, c.args.node) ∷ []) c.self.view_is)

@@ -1,26 +1,19 @@
-use Rattle.std.proofs.Common.{◌≡◌, ◌<◌, true, false, length, Some, refl, sym, ap, ◌∙◌, arith}
-use Rattle.std.specs.Prelude.{slice_get}
-use Rattle.std.proofs.lemmas.Option.{slice_get-get_or}
-use Rattle.expiry_lists.specs.inner.Nodes.{NodeTable, with_node_at}
-use Rattle.expiry_lists.proofs.Placing.{put_entry, put_past, put_placed}
+use Rattle.std.proofs.Common.{◌≡◌, ◌<◌, ◌≤◌, true, false, length, is_some, sym, ap, ◌∙◌, rules}
+use Rattle.indexmap.specs.IndexMap.{set_value_at}
+use Rattle.expiry_lists.specs.inner.Nodes.{NodeTable}
+use Rattle.expiry_lists.proofs.Placing.{past_from, put_past}
 use Rattle.expiry_lists.proofs.table.Nodes.put_at.Goals as goal
-
-pub returns-in_default-clause-entries : goal.returns-in_default-clause-entries
-returns-in_default-clause-entries c =
-    let es = c.self.inside.entries.items in
-    let past : c.args.place < length es → ⊥ = λ within. let never : false ≡ true = c.in_default.ensures.variant.1 (omega (arith, within)) in cc in
-    sym (put_past es c.args.place c.args.node past) ∙ ap (λ (t : NodeTable). with_node_at t.entries c.args.place c.args.node) c.self.view_is
-
-pub invariant_of-self-2 : goal.invariant_of-self-2
-invariant_of-self-2 c =
-    let es = c.self.inside.entries.items in
-    let within : c.args.place < length es = omega (arith, c.in-Some.ensures.variant.0 refl) in
-    let at : slice_get es c.args.place ≡ Some c.in-Some.entry.now = slice_get-get_or es c.args.place c.in-Some.entry.now within ∙ ap Some (sym c.in-Some.ensures.value) in
-    put_placed _ es _ c.args.place c.args.node (put_entry es c.args.place c.in-Some.entry.now c.args.node at) c.self.invariant
+use Rattle.expiry_lists.proofs.table.Nodes.put_at.Goals.{in-Some, in_default}
 
 pub returns-clause-entries : goal.returns-clause-entries
 returns-clause-entries c =
-    let es = c.self.inside.entries.items in
-    let within : c.args.place < length es = omega (arith, c.in-Some.ensures.variant.0 refl) in
-    let at : slice_get es c.args.place ≡ Some c.in-Some.entry.now = slice_get-get_or es c.args.place c.in-Some.entry.now within ∙ ap Some (sym c.in-Some.ensures.value) in
-    put_entry es c.args.place c.in-Some.entry.now c.args.node at ∙ ap (λ (t : NodeTable). with_node_at t.entries c.args.place c.args.node) c.self.view_is
+    let es = c.self.inside.map.entries in
+    let seen : set_value_at es c.args.place c.args.node ≡ set_value_at c.args.self.now.entries c.args.place c.args.node = ap (λ (t : NodeTable). set_value_at t.entries c.args.place c.args.node) c.self.view_is in
+    elim c.match-get_index_mut.branch [
+      | in-Some w ↦ let put : c.match-get_index_mut.self-inside.map.entries ≡ set_value_at es c.args.place c.args.node = search rules in put ∙ seen
+      | in_default w ↦ (
+          let none : c.args.place < length es → true ≡ false = λ within. sym (c.get_index_mut.ensures.found.1 within) ∙ ap is_some w.in_default.is in
+          let past : length es ≤ c.args.place = past_from c.args.place (length es) none in
+          let same : c.match-get_index_mut.self-inside.map.entries ≡ es = search rules in
+          same ∙ (sym (put_past es c.args.place c.args.node past) ∙ seen))
+    ]
