@@ -12,9 +12,10 @@ from collections.abc import Sequence
 from types import ModuleType
 
 from farmctl import commands
-from farmctl.errors import FarmError
+from farmctl.errors import REFUSED, FarmError
 
 INTERRUPTED = 130  # as a shell has it after Ctrl-C
+TRACE = "FARMCTL_TRACE"  # in the environment: a fault of farmctl's own ends in a traceback
 CLOSED = 141  # as a shell has it after a closed pipe
 
 
@@ -76,4 +77,9 @@ def main(words: Sequence[str] | None = None) -> int:
         return CLOSED
     except OSError as fault:
         print(f"farmctl {args.command}: {fault}", file=sys.stderr)
-        return 1
+        return REFUSED
+    except Exception as fault:  # a fault of farmctl's own: still one line, and a word on how to see where
+        if os.environ.get(TRACE):
+            raise
+        print(f"farmctl {args.command}: {type(fault).__name__}: {fault} ({TRACE}=1 shows where)", file=sys.stderr)
+        return REFUSED

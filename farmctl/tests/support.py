@@ -78,6 +78,7 @@ class InFolder(unittest.TestCase):
         for name, value in FILES.items():
             self.write(name, value)
         self.config = json.loads(json.dumps(CONFIG))
+        self.addresses: dict[str, str] = {}  # in place of the configuration's
         self.write("farm.json", self.config)
 
     def write(self, name: str, value: Any) -> None:
@@ -87,7 +88,7 @@ class InFolder(unittest.TestCase):
         return farmctl("-c", self.folder / "farm.json", *words)
 
     def address(self, front: str) -> str:
-        return f"unix:{self.folder / front}.sock"
+        return self.addresses.get(front) or f"unix:{self.folder / front}.sock"
 
 
 class WithFarm(InFolder):

@@ -86,7 +86,8 @@ class Check(InFolder):
         self.assertIn("1 lines (0 of farm.lines)", self.farmctl("check")[1])
         self.assertEqual(list((self.folder).glob("tiles")), [])
         self.write("farm.json", dict(self.config, updates=["road.json", "wrong.json"]))
-        self.assertEqual(self.farmctl("check")[2], "farmctl check: renew 1 (wrong.json): refused 2: it removes a feature that is not there\n")
+        told = "farmctl check: renew 1 (wrong.json): refused 2: it removes a feature that is not there\n"
+        self.assertEqual(self.farmctl("check")[2], told)
         self.assertEqual(self.farmctl("check", "--sent")[0], 0)
         self.write("farm.json", dict(self.config, updates=["bad.json"]))
         self.assertIn("too few points", self.farmctl("check", "--sent")[2])

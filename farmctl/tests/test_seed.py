@@ -34,7 +34,8 @@ class Seed(WithFarm):
     def test_a_list_and_a_log(self) -> None:
         self.write("tiles.list", "14/8192/8192\n14/8193/8193\n3/0/0\n")
         self.assertIn("2 metatiles are done", self.farmctl("seed", "default", "--list", self.folder / "tiles.list", "-y", "-q")[1])
-        lines = [f'1.2.3.4 - - [30/Nov/2026] "GET /default/{tile}.png HTTP/1.1" 200 9 "-" "x"' for tile in ("9/9/9", "5/31/31", "5/30/31", "2/9/9")]
+        asked = ("9/9/9", "5/31/31", "5/30/31", "2/9/9")
+        lines = [f'1.2.3.4 - - [30/Nov/2026] "GET /default/{tile}.png HTTP/1.1" 200 9 "-" "x"' for tile in asked]
         self.write("access.log", "\n".join([*lines, '"GET /other/1/0/0.png', '"GET /default/99/0/0.png']))
         self.assertEqual(of_log("default", self.folder / "access.log", 10), [Metatile("default", 5, 24, 24), Metatile("default", 9, 8, 8)])
         told = self.farmctl("seed", "default", "--from-log", self.folder / "access.log", "--top", "1", "-y", "-q")

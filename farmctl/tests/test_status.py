@@ -40,7 +40,7 @@ class Status(WithFarm):
     def test_over_tcp_the_process_is_found_by_its_port(self) -> None:
         self.stop()
         self.write("farm.json", dict(self.config, control="tcp:127.0.0.1:18733"))
-        self.address = lambda front: "tcp:127.0.0.1:18733" if front == "control" else f"unix:{self.folder / front}.sock"  # type: ignore[method-assign]
+        self.addresses["control"] = "tcp:127.0.0.1:18733"
         self.start()
         self.assertEqual(seen(self.farm()).process.pid, self.running[-1].pid)
 
@@ -84,7 +84,8 @@ class Status(WithFarm):
     @unittest.skipUnless(HAS_PROMETHEUS, "not installed (Debian: python3-prometheus-client)")
     def test_metrics(self) -> None:
         _, out, _ = self.farmctl("metrics")
-        for line in ("tilefarm_up 1.0", "tilefarm_asks_total 3.0", 'tilefarm_containers{map="default",zoom="14"} 2.0', "tilefarm_version 0.0"):
+        self.assertIn('tilefarm_containers{map="default",zoom="14"} 2.0\n', out)
+        for line in ("tilefarm_up 1.0", "tilefarm_asks_total 3.0", "tilefarm_version 0.0"):
             self.assertIn(line + "\n", out)
         self.farmctl("metrics", "-o", self.folder / "t.prom")
         self.assertIn("tilefarm_up 1.0\n", (self.folder / "t.prom").read_text())

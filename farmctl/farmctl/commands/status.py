@@ -82,7 +82,8 @@ def of_disk(now: Seen) -> Iterator[tuple[str, str]]:
     if now.store.oldest is not None:
         yield "oldest", f"{span(max(0.0, now.time - now.store.oldest))} old: {'/'.join(map(str, now.store.oldest_metatile or ()))}"
     if now.store.strange.containers:
-        yield "strange", f"{now.store.strange.containers:,} of maps or zooms that the configuration has not, {size(now.store.strange.bytes)}"
+        strange = now.store.strange
+        yield "strange", f"{strange.containers:,} of maps or zooms that the configuration has not, {size(strange.bytes)}"
     if now.store.left.containers:
         yield "left over", f"{now.store.left.containers} half-written files in tiles/.new, {size(now.store.left.bytes)}"
 
