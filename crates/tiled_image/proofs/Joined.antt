@@ -5,7 +5,7 @@ use Rattle.std.proofs.lemmas.Nat.{mul-add-lt, div-mul-add, mod-mul-add, div-add-
 use Rattle.std.proofs.lemmas.List.{same_lists}
 use Rattle.std.proofs.lemmas.List.FromFn.{get_or-map-range_with_len, length-map-range_with_len}
 use Rattle.plain_shapes.specs.declared.colour.Colour.{Colour}
-use Rattle.tiled_image.specs.Tiles.{colour_in, joined}
+use Rattle.tiled_image.specs.inner.Tiles.{colour_in, joined}
 
 -- a pixel of so many tiles side by side: its tile's column and row, and its column and row in the tile
 pub record Spot (side across : ℕ) : Type 0 where

@@ -9,7 +9,7 @@ use Rattle.plain_shapes.specs.declared.colour.Colour.{Colour}
 use Rattle.plain_image.specs.Runs.{run_changed}
 use Rattle.plain_image.proofs.Runs.{run_length}
 use Rattle.plain_world.proofs.Windows.{size_bounds}
-use Rattle.tiled_image.specs.Tiles.{Texts, IsTiled, joined}
+use Rattle.tiled_image.specs.inner.Tiles.{Texts, IsTiled, joined}
 use Rattle.tiled_image.proofs.JoinedRuns.{run_at, run_before, run_behind}
 use Rattle.tiled_image.proofs.Joined.{Spot, tile_of, inner_of, place_of, black, length_joined, col_in, tile_in, inner_in, place_in, joined_at, same_joined}
 

@@ -9,7 +9,7 @@ use Rattle.plain_shapes.specs.Images.{Pixels}
 use Rattle.plain_shapes.specs.Ppm.{ppm}
 use Rattle.plain_shapes.specs.inner.Canvas.{cut_rows}
 use Rattle.plain_drawing.specs.inner.PartTexts.{part_text, column_texts, part_texts}
-use Rattle.tiled_image.specs.Tiles.{Texts, IsTiled, joined}
+use Rattle.tiled_image.specs.inner.Tiles.{Texts, IsTiled, joined}
 use Rattle.tiled_image.proofs.Joined.{Spot, tile_of, inner_of, place_of, black, length_joined, tile_in, inner_in, place_in, joined_at, same_joined}
 use Rattle.tiled_image.proofs.JoinedPaint.{AreTiles, are_tiles}
 

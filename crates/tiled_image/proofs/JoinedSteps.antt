@@ -11,7 +11,7 @@ use Rattle.plain_shapes.specs.declared.colour.Colour.{Colour}
 use Rattle.plain_shapes.specs.Images.{Pixels, IsRaster}
 use Rattle.plain_image.specs.Runs.{run_changed}
 use Rattle.plain_image.proofs.Runs.{run_length, run_none}
-use Rattle.tiled_image.specs.Tiles.{Texts, IsTiled, joined}
+use Rattle.tiled_image.specs.inner.Tiles.{Texts, IsTiled, joined}
 use Rattle.tiled_image.proofs.JoinedRuns.{runs_adjoin}
 use Rattle.tiled_image.proofs.Joined.{Spot, tile_of, inner_of, place_of, black, spot, place_is as place_at, place_in, tile_in, inner_in, length_joined, joined_at}
 use Rattle.tiled_image.proofs.JoinedPaint.{are_tiles, painted_tile}

@@ -7,7 +7,7 @@ use Rattle.plain_shapes.specs.declared.colour.Colour.{Colour}
 use Rattle.plain_shapes.specs.Ppm.{pixel_bytes}
 use Rattle.plain_image.specs.PpmText.{colours}
 use Rattle.plain_image.proofs.Bytes.{colours_written, length_written, thirds}
-use Rattle.tiled_image.specs.Written.{tiles_in}
+use Rattle.tiled_image.specs.inner.Written.{tiles_in}
 
 -- what stands around the inner part of the text i, whatever is put there
 pub around : {X : Type 0} (text inner : X → List ℕ) (head : List ℕ) → ((x : X) → text x ≡ head ++ inner x) → (i : ℕ) (xs : List X) (x : X) → i < length xs

@@ -17,7 +17,7 @@ use Rattle.plain_image.specs.Runs.{run_changed}
 use Rattle.plain_image.proofs.Bytes.{at_bytes, colours_written, length_written, thirds}
 use Rattle.plain_image.proofs.Runs.{run_length}
 use Rattle.plain_image.proofs.Texts.{ppm_head}
-use Rattle.tiled_image.specs.Written.{tiles_in, AreTexts}
+use Rattle.tiled_image.specs.inner.Written.{tiles_in, AreTexts}
 use Rattle.tiled_image.proofs.TextsAround.{around, even, parsed, tiles_count, tiles_whole, copies_of}
 use Rattle.tiled_image.proofs.TextsRuns.{regroup, between, put_between}
 

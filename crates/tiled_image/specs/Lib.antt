@@ -1,3 +1,1 @@
-pub mod Tiles
-pub mod Written
-pub mod Blanks
+pub mod inner

@@ -7,7 +7,7 @@ ghost use Rattle.plain_image.specs.PpmText.{colours};
 ghost use Rattle.plain_image.specs.Runs.{run_changed};
 ghost use Rattle.plain_world.specs.Limits.{most_side};
 ghost use Rattle.plain_world.specs.World.{IsTileSize};
-ghost use Rattle.tiled_image.specs.Blanks.{text_of};
+ghost use Rattle.tiled_image.specs.inner.Blanks.{text_of};
 
 use farm_base::NoMemory;
 use plain_image::{Image, ReadyLine, paint_run};
@@ -35,8 +35,8 @@ pub(crate) struct TileTexts {
 
 impl Model for TileTexts {
     ghost use Rattle.std.specs.Prelude.{◌*◌, drop};
-    ghost use Rattle.tiled_image.specs.Tiles.{Texts};
-    ghost use Rattle.tiled_image.specs.Written.{tiles_in, AreTexts};
+    ghost use Rattle.tiled_image.specs.inner.Tiles.{Texts};
+    ghost use Rattle.tiled_image.specs.inner.Written.{tiles_in, AreTexts};
 
     ghost Value = { Texts };
 

@@ -28,7 +28,7 @@ struct Grid {
 impl Model for TiledImage {
     ghost use Rattle.std.specs.Prelude.{◌*◌};
     ghost use Rattle.plain_shapes.specs.Images.{Pixels};
-    ghost use Rattle.tiled_image.specs.Tiles.{IsTiled, joined};
+    ghost use Rattle.tiled_image.specs.inner.Tiles.{IsTiled, joined};
 
     ghost Value = { Pixels };
 

@@ -1,5 +1,5 @@
 use Rattle.std.proofs.Common.{◌∙◌, replicate}
-use Rattle.tiled_image.specs.Blanks.{text_of}
+use Rattle.tiled_image.specs.inner.Blanks.{text_of}
 use Rattle.tiled_image.proofs.TextsAround.{copies_more}
 use Rattle.tiled_image.proofs.tile_texts.copies.Goals as goal
 

@@ -1,5 +1,5 @@
 use Rattle.std.proofs.Common.{◌≡◌, ◌++◌, flat_map, replicate}
-use Rattle.tiled_image.specs.Blanks.{text_of}
+use Rattle.tiled_image.specs.inner.Blanks.{text_of}
 use Rattle.tiled_image.proofs.tile_texts.copies.Given as goal
 
 abbrev pub invariant-loop-copy : goal.invariant-loop-copy

@@ -1,5 +1,5 @@
 use Rattle.std.proofs.Common.{◌≡◌, ◌+◌, ◌*◌, ◌<◌, get_or, ap, ◌∙◌, arith}
-use Rattle.tiled_image.specs.Tiles.{Texts}
+use Rattle.tiled_image.specs.inner.Tiles.{Texts}
 use Rattle.tiled_image.proofs.TextsKept.{colour_there, fits}
 use Rattle.tiled_image.proofs.tile_texts.TileTexts.at.Goals as goal
 

@@ -1,6 +1,6 @@
 use Rattle.std.proofs.Common.{◌++◌, drop, flat_map, ap, sym, ◌∙◌}
 use Rattle.plain_shapes.specs.Ppm.{ppm}
-use Rattle.tiled_image.specs.Tiles.{Texts}
+use Rattle.tiled_image.specs.inner.Tiles.{Texts}
 use Rattle.tiled_image.proofs.tile_texts.TileTexts.into_bytes.Goals as goal
 
 pub returns : goal.returns

@@ -1,7 +1,7 @@
 use Rattle.std.proofs.Common.{◌*◌, length, replicate, ap, arith}
 use Rattle.std.proofs.lemmas.List.{length-replicate}
 use Rattle.plain_world.proofs.Windows.{size_bounds}
-use Rattle.tiled_image.specs.Blanks.{text_of}
+use Rattle.tiled_image.specs.inner.Blanks.{text_of}
 use Rattle.tiled_image.proofs.TextsKept.{text_few, of_one}
 use Rattle.tiled_image.proofs.tile_texts.TileTexts.over.Goals as goal
 

@@ -2,7 +2,7 @@ use Rattle.std.proofs.Common.{◌≡◌, ◌+◌, ◌-◌, ◌*◌, ◌≤◌, L
 use Rattle.plain_shapes.specs.declared.colour.Colour.{Colour}
 use Rattle.plain_shapes.specs.Blending.{blend}
 use Rattle.plain_image.specs.Runs.{run_changed}
-use Rattle.tiled_image.specs.Tiles.{Texts}
+use Rattle.tiled_image.specs.inner.Tiles.{Texts}
 use Rattle.tiled_image.proofs.TextsKept.{painted_there, fits}
 use Rattle.tiled_image.proofs.tile_texts.TileTexts.paint_run.Goals as goal
 
