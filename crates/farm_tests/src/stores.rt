@@ -1,11 +1,13 @@
 //! The two stores by their trait.
 use std::alloc::Global;
+use std::fs::{self, File};
+use std::io;
 use std::process::Abort;
 use std::rt::Files;
 use std::test::Fail;
-use std::{fs, io};
 use tile_store::{
-    FileStaging, FileStore, MemStore, Stage, Staged, StoreFault, TileStore, stage_bytes,
+    FileStaging, FileStore, Folder, MOST_PART_BYTES, MemStore, Stage, Staged, StoreFault,
+    TileStore, stage_bytes,
 };
 
 /// What a get gave, as a slice.
@@ -51,6 +53,13 @@ fn holds<S: TileStore>(rt: &impl Abort, store: &mut S, alloc: Global) {
     gets_part(rt, store, alloc, 6, 1, b"");
     gets_part(rt, store, alloc, 18_446_744_073_709_551_615, 1, b"");
     gets_part(rt, store, alloc, 1, 0, b"");
+    // A beginning that was read is of its own path alone.
+    gets_part(rt, store, alloc, 0, 1, b"a");
+    let other = store.get_part(alloc, "farm.saved", 1, 1);
+    assert!(rt;
+        slice(&other) == Ok(Some(b"")),
+        "behind the beginning of another path"
+    );
     // A beginning that was read does not keep what a put replaces.
     gets_part(rt, store, alloc, 0, 1, b"a");
     assert_eq!(rt; store.put(alloc, path, b"xy"), Ok(()));
@@ -71,7 +80,8 @@ fn memory_and_files_hold(rt: HostRuntime) -> Result<(), Fail> {
     let mut memory = MemStore::new(alloc, Vec::new(alloc), Vec::new(alloc), Vec::new(alloc))?;
     holds(&rt, &mut memory, alloc);
     clear(&rt);
-    let mut files = FileStore::new(rt);
+    let folder = Folder::new();
+    let mut files = FileStore::new(rt, &folder);
     holds(&rt, &mut files, alloc);
     gets(&rt, &mut files, alloc, "map/0/0/0/0/0/0.meta", b"xy");
     clear(&rt);
@@ -104,7 +114,8 @@ fn is_missing<R: Files>(rt: &R, name: &str) -> bool {
 fn the_system_refuses(rt: HostRuntime) {
     let alloc = rt.alloc();
     clear(&rt);
-    let mut files = FileStore::new(rt);
+    let folder = Folder::new();
+    let mut files = FileStore::new(rt, &folder);
     assert_eq!(rt; files.put(alloc, "one", b"one"), Ok(()));
     assert!(rt;
         is_missing(&rt, "tiles/one.new"),
@@ -124,7 +135,7 @@ fn the_system_refuses(rt: HostRuntime) {
 /// The bytes, staged under the number.
 fn staged_as<R: Files>(
     rt: &impl Abort,
-    staging: &FileStaging<R>,
+    staging: &FileStaging<'_, R>,
     alloc: Global,
     number: u64,
     bytes: &[u8],
@@ -138,19 +149,30 @@ fn staged_as<R: Files>(
     staged
 }
 
-/// Stages the bytes, puts them at the path and clears what is left.
-fn puts_staged<R: Files>(
-    rt: &impl Abort,
-    staging: &FileStaging<R>,
-    files: &mut FileStore<R>,
+/// The first call of a store, which takes the folder.
+fn takes_folder<S: TileStore>(rt: &impl Abort, files: &mut S, alloc: Global) {
+    let found = files.get(alloc, "nothing");
+    assert!(rt; slice(&found) == Ok(None), "the folder is taken");
+}
+
+/// Stages the bytes, puts them at the path and clears what is left. The staged file itself is put, and a beginning that was read
+/// before is not kept.
+fn puts_staged<R: Files<File = File> + Abort>(
+    rt: &R,
+    staging: &FileStaging<'_, R>,
+    files: &mut FileStore<'_, R>,
     alloc: Global,
     path: &str,
     bytes: &[u8],
 ) {
     let staged = staged_as(rt, staging, alloc, 7, bytes);
+    let _before = files.get_part(alloc, path, 0, 1);
     let put = files.put_staged(alloc, path, &staged);
+    assert!(rt; is_missing(rt, "tiles/.new/7"), "renamed to {path}");
+    let rest = files.get_part(alloc, path, 1, MOST_PART_BYTES);
     staging.clear(alloc, 7);
     assert!(rt; put == Ok(()), "staged put of {path}");
+    assert!(rt; slice(&rest) == Ok(bytes.get(1..)), "the rest of {path}");
     gets(rt, files, alloc, path, bytes);
 }
 
@@ -159,7 +181,9 @@ fn puts_staged<R: Files>(
 fn what_was_staged_is_put(rt: HostRuntime) {
     let alloc = rt.alloc();
     clear(&rt);
-    let (staging, mut files) = (FileStaging::new(rt), FileStore::new(rt));
+    let folder = Folder::new();
+    let (staging, mut files) = (FileStaging::new(rt, &folder), FileStore::new(rt, &folder));
+    takes_folder(&rt, &mut files, alloc);
     puts_staged(&rt, &staging, &mut files, alloc, "map/one", b"first");
     puts_staged(&rt, &staging, &mut files, alloc, "map/one", b"second");
     assert!(rt; files.faults() == 0);
@@ -179,7 +203,9 @@ const FAR: u64 = 4_294_967_303;
 fn two_are_staged_at_once(rt: HostRuntime) {
     let alloc = rt.alloc();
     clear(&rt);
-    let (staging, mut files) = (FileStaging::new(rt), FileStore::new(rt));
+    let folder = Folder::new();
+    let (staging, mut files) = (FileStaging::new(rt, &folder), FileStore::new(rt, &folder));
+    takes_folder(&rt, &mut files, alloc);
     let seven = staged_as(&rt, &staging, alloc, 7, b"seven");
     let far = staged_as(&rt, &staging, alloc, FAR, b"far");
     let earlier = files.put_staged(alloc, "map/7", &seven);
@@ -190,15 +216,106 @@ fn two_are_staged_at_once(rt: HostRuntime) {
     clear(&rt);
 }
 
-/// The file of an earlier drawing, which was not put, is none of this one's.
+/// Where the number has a file, nothing is staged, and the file stays as it is.
 #[test]
-fn a_number_is_staged_anew(rt: HostRuntime) {
+fn a_number_that_is_there_is_not_staged(rt: HostRuntime) -> Result<(), Fail> {
     let alloc = rt.alloc();
     clear(&rt);
-    let (staging, mut files) = (FileStaging::new(rt), FileStore::new(rt));
-    let _never_put = staged_as(&rt, &staging, alloc, 7, b"the longer one of an earlier run");
-    puts_staged(&rt, &staging, &mut files, alloc, "map/one", b"short");
+    let folder = Folder::new();
+    let (staging, mut files) = (FileStaging::new(rt, &folder), FileStore::new(rt, &folder));
+    takes_folder(&rt, &mut files, alloc);
+    let _never_put = staged_as(&rt, &staging, alloc, 7, b"earlier");
+    let bytes = Vec::from_slice(alloc, b"later")?;
+    assert!(rt; stage_bytes(&staging, alloc, 7, bytes).is_err());
+    assert!(rt; fs::read(&rt, "tiles/.new/7")?.as_slice() == b"earlier".as_slice());
     clear(&rt);
+    Ok(())
+}
+
+/// What a put of a staged file replaces stays until the clear; where it cannot be kept it is replaced all the same.
+#[test]
+fn what_is_replaced_is_kept_until_the_clear(rt: HostRuntime) -> Result<(), Fail> {
+    let alloc = rt.alloc();
+    clear(&rt);
+    let folder = Folder::new();
+    let (staging, mut files) = (FileStaging::new(rt, &folder), FileStore::new(rt, &folder));
+    assert_eq!(rt; files.put(alloc, "one", b"one"), Ok(()));
+    let two = staged_as(&rt, &staging, alloc, 7, b"two");
+    assert_eq!(rt; files.put_staged(alloc, "one", &two), Ok(()));
+    assert!(rt; fs::read(&rt, "tiles/.new/7.old")?.as_slice() == b"one".as_slice());
+    staging.clear(alloc, 7);
+    fs::create_dir(&rt, "tiles/.new/8.old")?;
+    let three = staged_as(&rt, &staging, alloc, 8, b"three");
+    assert_eq!(rt; files.put_staged(alloc, "one", &three), Ok(()));
+    assert!(rt; is_missing(&rt, "tiles/.new/8"));
+    gets(&rt, &mut files, alloc, "one", b"three");
+    clear(&rt);
+    Ok(())
+}
+
+/// What an earlier run left of its staging is removed by the first call; without it nothing is staged.
+#[test]
+fn what_a_run_left_is_removed(rt: HostRuntime) -> Result<(), Fail> {
+    let alloc = rt.alloc();
+    clear(&rt);
+    fs::create_dir_all(&rt, "tiles/.new")?;
+    fs::write(&rt, "tiles/.new/3", b"left")?;
+    fs::write(&rt, "tiles/.new/70.old", b"left")?;
+    let folder = Folder::new();
+    let (staging, mut files) = (FileStaging::new(rt, &folder), FileStore::new(rt, &folder));
+    let bytes = Vec::from_slice(alloc, b"early")?;
+    assert!(rt; stage_bytes(&staging, alloc, 4, bytes).is_err());
+    assert!(rt; is_missing(&rt, "tiles/.new/4") && is_missing(&rt, "tiles/.lock"));
+    takes_folder(&rt, &mut files, alloc);
+    assert!(rt; is_missing(&rt, "tiles/.new/3") && is_missing(&rt, "tiles/.new/70.old"));
+    puts_staged(&rt, &staging, &mut files, alloc, "map/one", b"first");
+    clear(&rt);
+    Ok(())
+}
+
+/// While one store has the folder another one fails, stages nothing and clears nothing.
+#[test]
+fn one_store_has_the_folder(rt: HostRuntime) -> Result<(), Fail> {
+    let alloc = rt.alloc();
+    clear(&rt);
+    let (ours, theirs) = (Folder::new(), Folder::new());
+    let mut second = FileStore::new(rt, &theirs);
+    {
+        let (staging, mut first) = (FileStaging::new(rt, &ours), FileStore::new(rt, &ours));
+        assert_eq!(rt; first.put(alloc, "one", b"one"), Ok(()));
+        let staged = staged_as(&rt, &staging, alloc, 7, b"two");
+        refuses(&rt, &mut second, alloc, "one");
+        let others = FileStaging::new(rt, &theirs);
+        let bytes = Vec::from_slice(alloc, b"bytes")?;
+        assert!(rt; stage_bytes(&others, alloc, 8, bytes).is_err());
+        others.clear(alloc, 7);
+        assert_eq!(rt; first.put_staged(alloc, "one", &staged), Ok(()));
+        assert!(rt;
+            is_missing(&rt, "tiles/.new/7"),
+            "what was staged stood there"
+        );
+        assert_eq!(rt; first.faults(), 0);
+    }
+    gets(&rt, &mut second, alloc, "one", b"two");
+    clear(&rt);
+    Ok(())
+}
+
+/// A part is no longer than a tile's text can be, whatever length a container tells.
+#[test]
+fn the_longest_part(rt: HostRuntime) -> Result<(), Fail> {
+    let alloc = rt.alloc();
+    clear(&rt);
+    let folder = Folder::new();
+    let mut files = FileStore::new(rt, &folder);
+    let long = vec![in alloc; 7; 786_448]?;
+    assert_eq!(rt; files.put(alloc, "long", long.as_slice()), Ok(()));
+    let all = files.get_part(alloc, "long", 0, 4_294_967_295);
+    assert!(rt; slice(&all) == Err(StoreFault::Failed));
+    let most = files.get_part(alloc, "long", 1, 4_294_967_295);
+    assert!(rt; slice(&most) == Ok(long.as_slice().get(1..)));
+    clear(&rt);
+    Ok(())
 }
 
 /// Where its staged file is gone the bytes are put all the same, in place of those before.
@@ -206,7 +323,9 @@ fn a_number_is_staged_anew(rt: HostRuntime) {
 fn bytes_whose_file_is_gone_are_put(rt: HostRuntime) {
     let alloc = rt.alloc();
     clear(&rt);
-    let (staging, mut files) = (FileStaging::new(rt), FileStore::new(rt));
+    let folder = Folder::new();
+    let (staging, mut files) = (FileStaging::new(rt, &folder), FileStore::new(rt, &folder));
+    takes_folder(&rt, &mut files, alloc);
     assert_eq!(rt; files.put(alloc, "one", b"one"), Ok(()));
     let staged = staged_as(&rt, &staging, alloc, 8, b"two");
     assert!(rt; fs::remove_file(&rt, "tiles/.new/8").is_ok());
@@ -220,7 +339,9 @@ fn bytes_whose_file_is_gone_are_put(rt: HostRuntime) {
 fn a_staged_put_that_fails_is_told(rt: HostRuntime) {
     let alloc = rt.alloc();
     clear(&rt);
-    let (staging, mut files) = (FileStaging::new(rt), FileStore::new(rt));
+    let folder = Folder::new();
+    let (staging, mut files) = (FileStaging::new(rt, &folder), FileStore::new(rt, &folder));
+    takes_folder(&rt, &mut files, alloc);
     assert_eq!(rt; files.put(alloc, "map/one", b"one"), Ok(()));
     let staged = staged_as(&rt, &staging, alloc, 9, b"two");
     let answer = files.put_staged(alloc, "map", &staged);
@@ -236,9 +357,12 @@ fn a_staged_put_that_fails_is_told(rt: HostRuntime) {
 fn a_staging_that_fails_is_told(rt: HostRuntime) -> Result<(), Fail> {
     let alloc = rt.alloc();
     clear(&rt);
+    let folder = Folder::new();
+    let (staging, mut files) = (FileStaging::new(rt, &folder), FileStore::new(rt, &folder));
+    takes_folder(&rt, &mut files, alloc);
+    clear(&rt);
     fs::write(&rt, "tiles", b"a file")?;
     let bytes = Vec::from_slice(alloc, b"bytes")?;
-    let staging = FileStaging::new(rt);
     let staged = stage_bytes(&staging, alloc, 9, bytes);
     assert!(rt; matches!(&staged, Err(back) if back.as_slice() == b"bytes".as_slice()));
     assert!(rt; fs::remove_file(&rt, "tiles").is_ok());

@@ -3,11 +3,13 @@
 #![tactic(auto)]
 
 mod files;
+mod folder;
 mod memory;
 mod staging;
 mod stores;
 
-pub use files::{FileStaging, FileStore};
+pub use files::{FileStaging, FileStore, MOST_PART_BYTES};
+pub use folder::Folder;
 pub use memory::MemStore;
 pub use staging::{Stage, Staged, stage_bytes};
 pub use stores::{StoreFault, TileStore};

@@ -1,5 +1,5 @@
 //! Bytes that are written beside what a store holds, before they are put.
-ghost use Rattle.std.specs.Prelude.{◌≡◌, IfErr, IfOk};
+ghost use Rattle.std.specs.Prelude.{◌≡◌, ℕ, List, true, ⊤, IfErr, IfOk};
 
 use farm_base::{Gate, OpenGate};
 use std::alloc::Global;
@@ -10,15 +10,21 @@ use std::marker::Model;
 ///
 /// It is no type of the store's own: the checker covers no threads over a generic store that has one.
 pub trait Stage: Gate {
+    /// That the bytes were written under the number, where the implementor says more of that than that it was told so.
+    ghost wrote: { Self → ℕ → List ℕ → Type 0 };
+
     /// Writes bytes that are to be put, under a number that nothing else has that was written and not cleared;
     /// answers whether it did. Bytes are staged by the function `stage_bytes`, which calls this.
-    fn write(&self, alloc: Global, number: u64, bytes: &[u8]) -> bool;
+    fn write(&self, alloc: Global, number: u64, bytes: &[u8]) -> bool
+        ensures { result ≡ true → wrote self.now number bytes.now };
 
     /// Removes what a writing under the number has left, whether it was put or not.
     fn clear(&self, alloc: Global, number: u64);
 }
 
 impl Stage for OpenGate {
+    ghost wrote = { λ _ _ _. ⊤ };
+
     /// Nothing is written.
     fn write(&self, _alloc: Global, _number: u64, _bytes: &[u8]) -> bool {
         false
@@ -67,6 +73,7 @@ pub fn stage_bytes<G: Stage>(
     bytes: Vec<u8>,
 ) -> Result<Staged, Vec<u8>>
     ensures staged { IfOk result (λ staged. staged ≡ record { number = number; bytes = bytes.items }) }
+    ensures written { IfOk result (λ staged. G.wrote gate.now staged.number staged.bytes) }
     ensures refused { IfErr result (λ back. back ≡ bytes) }
 {
     if gate.write(alloc, number, bytes.as_slice()) {

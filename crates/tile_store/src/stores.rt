@@ -4,8 +4,9 @@ ghost use Rattle.farm_base.specs.Outside.{Outside};
 ghost use Rattle.tile_store.specs.Stores.{StoreTold, StorePuts, Gets, whole, part};
 
 use crate::staging::Staged;
-use farm_base::{FileFault, NoMemory};
+use farm_base::{FileFault, NoMemory, file_fault};
 use std::alloc::{AllocError, AllocFailed, Global};
+use std::io;
 
 /// Why a call on a store gave no answer.
 #[derive(Clone, Copy, Debug, PartialEq, Eq)]
@@ -37,6 +38,18 @@ impl From<FileFault> for StoreFault {
             FileFault::Failed => StoreFault::Failed,
             FileFault::NoMemory => StoreFault::NoMemory,
         }
+    }
+}
+
+impl From<io::Error> for StoreFault {
+    ghost use Rattle.std.specs.IoError.{error_kind};
+    ghost use Rattle.std.specs.declared.io.ErrorKind.TheVariants.{OutOfMemory};
+    ghost use Rattle.tile_store.specs.declared.stores.StoreFault.TheVariants.{NoMemory};
+
+    ghost from_gives = { λ error e. (error_kind error ≡ OutOfMemory → e ≡ NoMemory) × (e ≡ NoMemory → error_kind error ≡ OutOfMemory) };
+
+    fn from(error: io::Error) -> StoreFault {
+        StoreFault::from(file_fault(&error))
     }
 }
 

@@ -7,10 +7,11 @@ use crate::running::run_program;
 use farm_base::DiskFiles;
 use socket_ports::SocketPorts;
 use std::process::ExitCode;
-use tile_store::{FileStaging, FileStore};
+use tile_store::{FileStaging, FileStore, Folder};
 
 fn main(rt: HostRuntime) -> ExitCode {
-    let (files, store) = (DiskFiles::new(rt), FileStore::new(rt));
+    let folder = Folder::new();
+    let (files, store) = (DiskFiles::new(rt), FileStore::new(rt, &folder));
     run_program(
         &rt,
         files,
@@ -18,6 +19,6 @@ fn main(rt: HostRuntime) -> ExitCode {
         rt.stderr(),
         store,
         SocketPorts::three(rt.alloc(), rt),
-        &FileStaging::new(rt),
+        &FileStaging::new(rt, &folder),
     )
 }
