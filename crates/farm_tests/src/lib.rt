@@ -4,8 +4,8 @@
 //!
 //! Among them are drawings that no command reaches: a metatile's tiles in their places, one of very many points, and a
 //! map whose grids are not bound; the bits of a mask; an update of very many ids, and one of a layer of very many
-//! features; and values that were worked out by hand. The tiles that a command draws are those of the program
-//! `command_cases`.
+//! features; the marks that a rectangle makes dirty; and values that were worked out by hand. The tiles that a command
+//! draws are those of the program `command_cases`.
 #![tactic(auto)]
 
 #[cfg(test)]
@@ -22,6 +22,8 @@ mod counter;
 mod drawings;
 #[cfg(test)]
 mod failing;
+#[cfg(test)]
+mod marks;
 #[cfg(test)]
 mod masks;
 #[cfg(test)]
