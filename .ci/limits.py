@@ -5,7 +5,7 @@
 
 Want of memory is free in every contract, so a program that answers it from some size on keeps them all. Here memory is
 ample, and each answer is the one that the formats and the rules say. It is for the programs that `rt ci` built, as both
-compilers build them, or for those named as words, and needs Python 3 and `.ci/sockets.py`. Each row is a function that
+compilers build them, or for those named as words, and needs Python 3, a C compiler (`cc`) and `.ci/sockets.py`. Each row is a function that
 runs in a folder of its own; of one that fails the first difference is told. It takes a quarter of a minute for each
 program and leaves nothing behind. The status is 1 where a row failed, as `.ci/sockets.py` has it.
 """
@@ -15,6 +15,7 @@ import os
 import resource
 import shutil
 import socket
+import struct
 import subprocess
 import sys
 import time
@@ -35,6 +36,15 @@ HEAD = 8192
 CONNECTIONS = 1024  # at each front
 FILES = 8192  # that farm and script may have open, each
 ENOUGH = 4 * EACH  # seconds for a command
+STAGED_BYTES = 532 + 64 * (15 + 3 * 128 * 128)  # of 64 tiles of 128 pixels
+# What a program writes out to the disk waits until a file `go` is there.
+HOLD = b"""#include <sys/syscall.h>
+#include <unistd.h>
+int fdatasync(int file) {
+    while (access("go", F_OK)) usleep(2000);
+    return syscall(SYS_fdatasync, file);
+}
+"""
 
 
 def put(name, content):
@@ -471,44 +481,50 @@ def many_kept(program):
         same("what is saved", file.read() == wanted.saved_text([0], [], [(0, 0, 0, 0)] + kept), True)
 
 
-def stored_by(ticket):
-    """Waits until a worker writes the drawing of a ticket, into a pipe that stands where it is staged."""
-    end = time.monotonic() + EACH
-    pipe = os.open("tiles/.new/%d" % ticket, os.O_RDONLY | os.O_NONBLOCK)
-    try:
-        while time.monotonic() < end:
-            try:
-                if os.read(pipe, 1 << 16).startswith(b"META"):
-                    return
-            except BlockingIOError:
-                pass
-            time.sleep(0.002)
-    finally:
-        os.close(pipe)
-    raise Late("the drawing %d" % ticket)
+def staged(number, place):
+    """Waits until the drawing of a ticket stands whole where it is staged, and compares its place."""
+    head = struct.pack("<4s4i", b"META", 64, place[1], place[2], place[0])
+    name, end = "tiles/.new/%d" % number, time.monotonic() + EACH
+    while not (os.path.exists(name) and os.path.getsize(name) == STAGED_BYTES):
+        if time.monotonic() > end:
+            raise Late("the drawing %d" % number)
+        time.sleep(0.002)
+    with open(name, "rb") as file:
+        same("the drawing %d" % number, file.read(len(head)), head)
 
 
 def every_worker(program):
-    """Farms of 1 to 16 workers, of which each has a drawing in hand: the files in which drawings are staged are pipes, at
-    which a worker waits until somebody reads. The last drawing is read first, and the others only after it."""
-    for workers in range(1, 17):
-        os.makedirs("tiles/.new")
-        for ticket in range(workers):
-            os.mkfifo("tiles/.new/%d" % ticket)
+    """Farms of 1 to 16 workers, of which each has a drawing in hand, staged under its ticket: what is written out to the disk waits
+    until all are there. The first drawing is not staged, since by its put the farm takes the folder."""
+    subprocess.run(["cc", "-shared", "-fPIC", "-o", "hold.so", put("hold.c", HOLD)], check=True)
+    os.environ["LD_PRELOAD"] = os.path.abspath("hold.so")
+    try:
+        for workers in range(1, 17):
+            hold_each(program, workers, [(18, 8 * number, 0) for number in range(workers + 1)])
+            shutil.rmtree("tiles")
+            os.remove("go")
+    finally:
+        del os.environ["LD_PRELOAD"]
 
-        def run(farm):
-            asked = b"".join(wanted.message(wanted.RENDER, 18, 8 * number, 0) for number in range(workers))
-            with connected(farm.renderd) as made:
-                made.sendall(asked)
-                for ticket in reversed(range(workers)):
-                    stored_by(ticket)
-                seen = received("each Done", made, len(asked))
-            wants = [wanted.message(wanted.DONE, 18, 8 * number, 0) for number in range(workers)]
-            same("each Done of %d workers" % workers, each_message(seen), sorted(wants))
-            stops(farm, (workers, workers, workers, 0))
 
-        serves(program, run, workers=workers)
-        shutil.rmtree("tiles")
+def hold_each(program, workers, places):
+    """One of these farms, and what it is asked for, of which the first is drawn before the others."""
+    wants = [wanted.message(wanted.DONE, *place) for place in places]
+
+    def run(farm):
+        asked = [wanted.message(wanted.RENDER, *place) for place in places]
+        with connected(farm.renderd) as made:
+            made.sendall(asked[0])
+            same("the first Done", received("the first Done", made, len(asked[0])), wants[0])
+            made.sendall(b"".join(asked[1:]))
+            for ticket in range(1, workers + 1):
+                staged(ticket, places[ticket])
+            put("go", b"")
+            seen = received("each Done", made, len(asked[0]) * workers)
+        same("each Done of %d workers" % workers, each_message(seen), sorted(wants[1:]))
+        stops(farm, (workers + 1, workers + 1, workers + 1, 0))
+
+    serves(program, run, workers=workers, maps=[{"name": "default", "style": "red.style", "tile": 128}])
 
 
 ROWS = (full_tables, large_renew, full_styles, long_rings, large_grids, little_memory, long_texts, many_drawings,

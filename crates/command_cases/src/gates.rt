@@ -75,6 +75,8 @@ impl<'a, R: Clock> Gate for HoldGate<'a, R> {
 }
 
 impl<'a, R: Clock> Stage for HoldGate<'a, R> {
+    ghost use Rattle.std.specs.Prelude.{⊤};
+
     ghost wrote = { λ _ _ _. ⊤ };
 
     fn write(&self, _alloc: Global, _number: u64, _bytes: &[u8]) -> bool {

@@ -22,6 +22,8 @@ impl<'a, R: Clock> Gate for SlowGate<'a, R> {
 }
 
 impl<'a, R: Clock> Stage for SlowGate<'a, R> {
+    ghost use Rattle.std.specs.Prelude.{⊤};
+
     ghost wrote = { λ _ _ _. ⊤ };
 
     fn write(&self, _alloc: Global, _number: u64, _bytes: &[u8]) -> bool {
