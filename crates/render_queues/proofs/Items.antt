@@ -11,8 +11,7 @@ use Rattle.farm_history.specs.Lists.{Each}
 use Rattle.farm_history.specs.Plans.{Waits, same_key, same_conn, is_in}
 use Rattle.farm_history.proofs.Lists.{same_key-self, same_key-sym, any-filter_off, map-filter, none-each}
 use Rattle.farm_history.proofs.Ends.{map-map}
-use Rattle.render_queues.specs.OneQueue.{Line, without, line_without}
-use Rattle.render_queues.specs.declared.lines.Lines.{Lines}
+use Rattle.render_queues.specs.OneQueue.{Line, Lines, without, line_without}
 use Rattle.render_queues.specs.Tables.{Tables, AreSound, line_of, with_line, with_last, lifted_out, chain_of, after_place, after_join, after_lift, standing, is_liftable, takes_lifted, after_take, after_end, after_leave, how_often, stands_often}
 use Rattle.render_queues.specs.Laws.{Item, item_of, items_of, taken_items, without_conn, LawItems}
 use Rattle.render_queues.proofs.Counted.{there_once, often_more, stands_never, liftable_waits}

@@ -9,7 +9,7 @@ use Rattle.farm_history.specs.declared.queues.Reply.{Reply}
 use Rattle.farm_history.specs.declared.queues.Waiter.{Waiter}
 use Rattle.farm_history.specs.Plans.{Waits, same_key, same_conn, next}
 use Rattle.farm_history.specs.Seen.{in_queue}
-use Rattle.render_queues.specs.declared.lines.Lines.{Lines}
+use Rattle.render_queues.specs.OneQueue.{Lines}
 use Rattle.render_queues.specs.Tables.{Tables, AreSound, line_of, chain_of, after_place, after_join, after_lift, standing, is_liftable, takes_lifted, next_of, after_take, after_end, after_leave}
 
 -- the reply to a waiter
