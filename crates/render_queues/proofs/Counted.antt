@@ -1,18 +1,15 @@
 -- How often a key stands, and how each step changes it.
-use Rattle.std.proofs.Common.{suc, ◌≡◌, ℕ, ◌+◌, ◌<◌, ◌≤◌, Bool, true, false, not, ◌&&◌, ◌||◌, cond, List, [], ◌∷◌, ◌++◌, length, filter, count_by, Option, Some, None, refl, sym, ap, subst, ◌∙◌, arith}
+use Rattle.std.proofs.Common.{◌≡◌, ℕ, ◌+◌, ◌≤◌, Bool, true, false, not, ◌||◌, cond, List, [], ◌∷◌, ◌++◌, Option, Some, None, refl, sym, ap, subst, ◌∙◌, arith}
 use Rattle.std.specs.Prelude.{IsSome, is_some, slice_get, option_map}
 use Rattle.std.proofs.lemmas.Bool.{false≢true}
 use Rattle.std.specs.Option.{option_or}
-use Rattle.std.specs.List.{list_any}
-use Rattle.std.proofs.lemmas.Bool.Decides.{nat_tests}
-use Rattle.std.proofs.lemmas.List.Sums.{length-filter, count_by-le-length}
 use Rattle.farm_history.specs.declared.keys.Key.{Key}
 use Rattle.farm_history.specs.declared.queues.Queue.{Queue}
 use Rattle.farm_history.specs.Plans.{Waits, same_key, is_in}
 use Rattle.farm_history.proofs.Lists.{same_key-true, same_key-self, none-each}
 use Rattle.farm_history.proofs.Counts.{count-cons}
 use Rattle.farm_history.proofs.Opens.{count-append, count-zero}
-use Rattle.render_queues.specs.OneQueue.{Line, Lines, without, line_without, is_below}
+use Rattle.render_queues.specs.OneQueue.{Line, Lines, without, line_without}
 use Rattle.render_queues.specs.declared.standing.Standing.{Standing}
 use Rattle.render_queues.specs.declared.standing.Standing.TheVariants.{Waits as InLine, Taken}
 use Rattle.render_queues.proofs.Keys.{without_absent, without_gone}

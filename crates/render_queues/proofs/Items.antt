@@ -1,5 +1,5 @@
 -- The items of the queues and those that are taken, each with its chain, after each step.
-use Rattle.std.proofs.Common.{◌≡◌, ℕ, ◌+◌, ◌≤◌, Bool, true, false, not, ◌||◌, cond, List, [], ◌∷◌, ◌++◌, map, filter, Option, Some, None, refl, sym, ap, ap₂, ◌∙◌, arith}
+use Rattle.std.proofs.Common.{◌≡◌, ◌+◌, ◌≤◌, Bool, true, false, not, cond, List, [], ◌∷◌, ◌++◌, map, filter, Option, Some, None, refl, sym, ap, ap₂, ◌∙◌, arith}
 use Rattle.std.specs.Option.{option_to_list}
 use Rattle.std.proofs.lemmas.Bool.{false≢true}
 use Rattle.farm_history.specs.declared.keys.Key.{Key}
@@ -8,7 +8,7 @@ use Rattle.farm_history.specs.declared.queues.Outcome.{Outcome}
 use Rattle.farm_history.specs.declared.queues.Queue.{Queue}
 use Rattle.farm_history.specs.declared.queues.Waiter.{Waiter}
 use Rattle.farm_history.specs.Lists.{Each}
-use Rattle.farm_history.specs.Plans.{Waits, same_key, same_conn, is_in}
+use Rattle.farm_history.specs.Plans.{Waits, same_key, is_in}
 use Rattle.farm_history.proofs.Lists.{same_key-self, same_key-sym, any-filter_off, map-filter, none-each}
 use Rattle.farm_history.proofs.Ends.{map-map}
 use Rattle.render_queues.specs.OneQueue.{Line, Lines, without, line_without}

@@ -1,5 +1,5 @@
 -- What the steps do to the chain of each key, and what is taken next, as laws.
-use Rattle.std.specs.Prelude.{ℕ, Bool, true, not, ◌≡◌, if◌then◌else◌, List, [], ◌∷◌, ◌++◌, map, filter, Option, Some, None}
+use Rattle.std.specs.Prelude.{true, not, ◌≡◌, if◌then◌else◌, List, [], ◌∷◌, ◌++◌, map, filter, Option, Some, None}
 use Rattle.std.specs.Option.{option_to_list}
 use Rattle.farm_history.specs.declared.keys.Key.{Key}
 use Rattle.farm_history.specs.declared.queues.Conn.{Conn}

@@ -1,12 +1,11 @@
-use Rattle.std.proofs.Common.{rules, ◌≡◌, true, [], ◌∷◌, ◌++◌, length, ap, subst, sym, ◌∙◌, arith, append_assoc}
+use Rattle.std.proofs.Common.{rules, ◌≡◌, true, [], ◌∷◌, ◌++◌, ap, subst, sym, ◌∙◌, arith, append_assoc}
 use Rattle.std.specs.Prelude.{is_some}
 use Rattle.std.specs.List.{IsDistinct}
 use Rattle.std.specs.Map.{keys_of}
 use Rattle.indexmap.specs.IndexMap.{insert_entry}
 use Rattle.indexmap.specs.Drain.{drain_rest}
 use Rattle.farm_history.specs.Plans.{same_key}
-use Rattle.render_queues.specs.inner.Entries.{still_there}
-use Rattle.render_queues.proofs.Entries.{sifted, sifted_more, some_few}
+use Rattle.render_queues.proofs.Entries.{sifted, sifted_more}
 use Rattle.render_queues.proofs.waiting.sift.Goals as goal
 
 pub loop-key-preserved-then-is_some : goal.loop-key-preserved-then-is_some

@@ -1,4 +1,4 @@
-use Rattle.std.proofs.Common.{rules, ◌≡◌, ◌<◌, ◌≤◌, true, Some, cond, ap, subst, sym, ◌∙◌, arith}
+use Rattle.std.proofs.Common.{rules, ◌≡◌, ◌<◌, true, Some, cond, ap, subst, sym, ◌∙◌, arith}
 use Rattle.std.specs.Prelude.{IsSome}
 use Rattle.render_queues.specs.OneQueue.{is_below}
 use Rattle.render_queues.specs.Tables.{Tables, line_of, after_join, after_lift, standing, is_liftable, open_count}

@@ -1,8 +1,8 @@
-use Rattle.std.proofs.Common.{rules, ◌≡◌, ◌+◌, suc, take, [], true, false, Some, ap, sym, subst, ◌∙◌, slice_get, length, arith}
+use Rattle.std.proofs.Common.{rules, ◌≡◌, ◌+◌, suc, take, [], true, false, Some, ap, sym, subst, ◌∙◌, slice_get, arith}
 use Rattle.render_queues.specs.OneQueue.{Line, Lines}
 use Rattle.render_queues.specs.Tables.{line_of}
 use Rattle.render_queues.specs.inner.Entries.{is_there, keys_in}
-use Rattle.render_queues.proofs.Entries.{first_found, none_more, line_in, none_wait}
+use Rattle.render_queues.proofs.Entries.{first_found, none_more, line_in}
 use Rattle.render_queues.proofs.waiting.Waiting.first.Goals as goal
 
 pub returns-then-is_there : goal.returns-then-is_there

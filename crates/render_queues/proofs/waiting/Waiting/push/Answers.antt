@@ -1,10 +1,9 @@
-use Rattle.std.proofs.Common.{rules, ◌≡◌, ◌≤◌, true, false, None, Some, [], ◌∷◌, ◌++◌, length, ap, sym, ◌∙◌, arith}
+use Rattle.std.proofs.Common.{rules, ◌≡◌, true, None, Some, [], ◌∷◌, ◌++◌, length, ap, sym, ◌∙◌, arith}
 use Rattle.std.proofs.lemmas.List.{length-append}
-use Rattle.farm_history.specs.declared.queues.Queue.{Queue}
-use Rattle.farm_history.specs.Plans.{is_in, limit_of}
+use Rattle.farm_history.specs.Plans.{is_in}
 use Rattle.render_queues.specs.OneQueue.{Line, Lines, is_below}
 use Rattle.render_queues.specs.Tables.{line_of, waits_where, with_last}
-use Rattle.render_queues.specs.inner.Entries.{keys_in, lines_in, twice_room}
+use Rattle.render_queues.specs.inner.Entries.{lines_in, twice_room}
 use Rattle.render_queues.proofs.Entries.{counted_last, goes_last, in_no_queue, line_in, lines_last, none_there, one_fits, one_left}
 use Rattle.render_queues.proofs.waiting.Waiting.push.Goals as goal
 
