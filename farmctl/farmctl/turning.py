@@ -9,7 +9,6 @@ from __future__ import annotations
 
 import contextlib
 import os
-import re
 import shlex
 import socket
 import struct
@@ -17,24 +16,21 @@ import subprocess
 import sys
 import tempfile
 import time
-from collections import Counter
-from collections.abc import Iterable, Iterator
 from dataclasses import dataclass
 from pathlib import Path
 
 from farmctl import client, script, tally
 from farmctl.errors import FarmError
 from farmctl.farm import CONFIG, Farm
+from farmctl.metatiles import Metatile
+from farmctl.seeding import Seeding, of_log
 from farmctl.updating import Cut, cut_by_signals
 
 FRONTS = ("tiles", "renderd")  # those that a proxy or mod_tile may be connected to
 SAVED = "farm.saved"
 PAUSE = 0.2
 QUIET = 5  # looks at which nobody is connected
-AGAIN = 10  # times that a tile is asked for which full queues refused
-TILE = re.compile(r"/([a-z0-9_-]{1,40})/(\d{1,2})/(\d{1,7})/(\d{1,7})\.(?:png|ppm)\b")
-
-Place = tuple[str, client.Tile]  # a map, and the first tile of a metatile
+OPEN = 16  # asks of a farm at a time, as many as it has workers at most
 
 
 @dataclass(frozen=True)
@@ -59,16 +55,6 @@ def farm_in(folder: Path, program: str | None) -> Farm:
 def maps_of(farm: Farm) -> dict[str, int]:
     """The size of a tile of each map."""
     return {each["name"]: each["tile"] for each in farm.config["maps"]}
-
-
-def asked_most(lines: Iterable[str], maps: Iterable[str], most: int) -> list[Place]:
-    """The metatiles that an access log names most often, the first of them first."""
-    known, counted = set(maps), Counter[Place]()
-    for line in lines:
-        if (found := TILE.search(line)) and found[1] in known:
-            z, x, y = (int(number) for number in found.groups()[1:])
-            counted[found[1], client.Tile(z, x & ~7, y & ~7)] += 1
-    return [place for place, _ in counted.most_common(most)]
 
 
 def process_at(address: str) -> int:
@@ -213,29 +199,12 @@ class Turn:
         """Has the other draw what was asked most, so that who comes after the turn does not wait for it."""
         if self.plan.log is None:
             return
-        with self.plan.log.open(encoding="utf-8", errors="replace") as lines:
-            places = asked_most(lines, maps_of(self.new), self.plan.most)
-        done = sum(self.drawn(places))
-        tally.say(f"of the {len(places)} metatiles that were asked most {done} are drawn")
-
-    def drawn(self, places: list[Place]) -> Iterator[bool]:
-        """Asks for them, one for each worker at a time; whether each was drawn."""
-        width = int(self.new.config.get("workers", 2)) + 1
-        with client.Renderd(self.new.address("renderd")) as asks:
-            for at in range(0, len(places), width):
-                open_ = places[at : at + width]
-                for _ in range(AGAIN):
-                    for name, tile in open_:
-                        asks.send((client.RENDER, tile), name=name)
-                    told = [asks.answer() for _ in open_]
-                    if None in told:
-                        raise FarmError(f"the farm in {self.new.folder} closed the connection")
-                    yield from (True for each in told if each.command == client.DONE)
-                    late = {(each.map, each.tile) for each in told if each.command != client.DONE}
-                    open_ = [place for place in open_ if place in late]
-                    if not open_:
-                        break
-                    time.sleep(1)
+        places: list[Metatile] = []
+        for name in maps_of(self.new):
+            places += of_log(name, self.plan.log, self.plan.most)
+        drawn: list[None] = []
+        Seeding(self.new.address("renderd"), places, OPEN, lambda: drawn.append(None), self.plan.wait).run()
+        tally.say(f"drawn beforehand: {len(drawn)} metatiles that were asked most")
 
     def swap(self) -> None:
         """From here on each new connection is the other's."""

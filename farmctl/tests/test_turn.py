@@ -19,14 +19,6 @@ from tests import support
 LOG = '1.2.3.4 - - [30/Nov/2026:07:00:00 +0000] "GET /default/{}.png HTTP/1.1" 200 812 "-" "-"\n'
 
 
-class Log(unittest.TestCase):
-    def test_what_was_asked_most_comes_first(self) -> None:
-        asked = ["14/8600/5738", "3/1/1", "14/8601/5739", "14/8607/5743", "3/7/7", "14/8608/5738"]
-        lines = [LOG.format(each) for each in asked] + ["GET /other/1/1/1.png", "GET /default.json", "\n"]
-        found = turning.asked_most(lines, ["default"], 2)
-        self.assertEqual(found, [("default", (14, 8600, 5736)), ("default", (3, 0, 0))])
-
-
 class Turns(unittest.TestCase):
     def setUp(self) -> None:
         self.top = Path(tempfile.mkdtemp(prefix="farmctl-"))
@@ -81,7 +73,7 @@ class Turns(unittest.TestCase):
         (self.top / "log").write_text(LOG.format("14/8192/8192"))
         status, told = self.turn("--from-log", str(self.top / "log"))
         self.assertEqual((status, os.readlink(self.link)), (0, "b"), told)
-        self.assertIn("of the 1 metatiles that were asked most 1 are drawn", told)
+        self.assertIn("drawn beforehand: 1 metatiles that were asked most", told)
         self.assertEqual(client.get(self.tiles, "/default/14/8192/8192.ppm/status").body, b"clean 0\n")
         self.assertNotEqual(self.get().body, before.body)
         self.assertEqual(self.first.wait(1), 0)
