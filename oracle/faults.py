@@ -250,6 +250,12 @@ def check_folder(folder, links, versions=range(MOST + 1)):
             holds(content in [CONTAINERS[spot][version] for version in versions], "%s is not whole: %d bytes", path, len(content))
 
 
+def check_staged(folder):
+    """Of what was staged nothing is left."""
+    left = os.listdir(os.path.join(folder, "tiles", ".new"))
+    holds(not left, "of what was staged there is left: %s", left)
+
+
 # --- One program with its shim ----------------------------------------------------------------------------------
 
 
@@ -534,6 +540,7 @@ def check_resumed(shim, folder, versions):
         if not server.listens():
             raise Wrong("the next does not begin: status %d, %s, %s" % server.ended())
         stats = server.line("stats").split(" ")
+        holds(len(stats) == 8, "the next answers stats: %s", stats)
         version = int(stats[7])
         holds(version in versions, "the next begins with version %d", version)
         for spot in SPOTS:
@@ -549,6 +556,8 @@ def check_resumed(shim, folder, versions):
     finally:
         server.kill()
     check_folder(folder, shim.links, [version])
+    if shim.links:
+        check_staged(folder)
 
 
 class Serve:
@@ -570,7 +579,8 @@ class Serve:
             server.kill()
         check_folder(folder, shim.links)
         whole = status == 0 and play is not None
-        holds(not whole or not os.listdir(os.path.join(folder, "tiles", ".new")) or not fault.changes_nothing(), "something is left")
+        if whole and fault.changes_nothing():
+            check_staged(folder)
         check_resumed(shim, folder, range(play.least if whole else 0, play.most + 1 if play else 2))
         return status
 
