@@ -22,9 +22,8 @@ import sys
 import time
 
 sys.dont_write_bytecode = True
-import patience  # noqa: E402
-from sockets import (EACH, Late, NO_MEMORY, SAVED, Unlike, connected, counted, finished, main, received, same, send, serves,
-                     told, wanted)  # noqa: E402  # fmt: skip
+from sockets import (EACH, Late, NO_MEMORY, SAVED, Unlike, connected, counted, finished, main, patience, received, same, send,
+                     serves, told, wanted)  # noqa: E402  # fmt: skip
 
 SIZES = (16, 32, 64, 128, 256, 512)
 MAPS = 16
