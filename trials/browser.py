@@ -97,7 +97,7 @@ def shows(rows, picture):
     return any(all(rows[top + row][left : left + wide] == tile[row] for row in range(TILE)) for top, left in places)
 
 
-def waits(browser, picture, seconds=60):
+def waits(browser, picture, seconds=150):
     """Whether the screen shows the tile within so many seconds."""
     end = time.monotonic() + seconds
     while time.monotonic() < end:
