@@ -7,6 +7,7 @@ them ended. So a backup has the checksum of each file, and what is restored keep
 from __future__ import annotations
 
 import contextlib
+import fcntl
 import io
 import json
 import lzma
@@ -28,6 +29,7 @@ from farmctl.files import PIECE, checksum
 FORM = 1
 MANIFEST = "farmctl-backup.json"
 SAVED = "farm.saved"
+LOCK = ".lock"
 RESTS_ON = ("maps", "data", "updates", "restyles")  # the keys of a configuration that saved tiles rest on
 TILE_MEMBER = re.compile(r"tiles/(farm\.saved|planet-import-complete|[a-z0-9_-]{1,40}/\d{1,2}(/\d{1,3}){4}/\d{1,3}\.meta)")
 
@@ -88,11 +90,23 @@ def sums(folder: Path, names: list[str]) -> dict[str, str]:
 
 
 def is_up(farm: Farm) -> bool:
+    """Whether a farm answers, or has the folder by its lock."""
     try:
         tally.tally(farm.address("control"), 2)
     except FarmError:
-        return False
+        return is_locked(farm.tiles / LOCK)
     return True
+
+
+def is_locked(path: Path) -> bool:
+    try:
+        with path.open("rb") as file:
+            fcntl.flock(file, fcntl.LOCK_SH | fcntl.LOCK_NB)
+    except BlockingIOError:
+        return True
+    except OSError:
+        return False  # no such file, or a disk without locks
+    return False
 
 
 def tile_files(tiles: Path) -> Iterator[Path]:

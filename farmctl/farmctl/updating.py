@@ -113,27 +113,17 @@ def merged(paths: Sequence[Path]) -> str:
     return json.dumps({"units": units.pop(), "changes": changes}, ensure_ascii=False) + "\n"
 
 
-@dataclass
-class Placed:
-    """The file of the new update in the farm's folder, and its name in the configuration."""
-
-    name: str
-    made: Path | None  # what is removed again where the update does not come in
-
-
-def placed(folder: Path, paths: Sequence[Path], number: int) -> Placed:
-    """One file below the farm's folder is taken as it is; what lies elsewhere, or is several, becomes one file there."""
-    for path in paths:
-        read_update(path)
-    only = paths[0].absolute()
-    if len(paths) == 1 and only.resolve().is_relative_to(folder.resolve()):
-        return Placed(str(only.resolve().relative_to(folder.resolve())), None)
-    name = f"update-{number}.json"
-    if (folder / name).exists():
-        raise FarmError(f"{folder / name} is there: remove or rename it")
-    (folder / name).write_text(only.read_text(encoding="utf-8") if len(paths) == 1 else merged(paths), encoding="utf-8")
-    keep_owner(folder / name, folder.stat())
-    return Placed(name, folder / name)
+def placed(folder: Path, paths: Sequence[Path], number: int) -> Path:
+    """The new update as a file of its own in the farm's folder: what its configuration names is never written over, as the
+    files of a day may be on the next one.
+    """
+    text = merged(paths) if len(paths) > 1 else paths[0].read_text(encoding="utf-8")
+    path = folder / f"update-{number}.json"
+    if path.exists():
+        raise FarmError(f"{path} is there: remove or rename it")
+    path.write_text(text, encoding="utf-8")
+    keep_owner(path, folder.stat())
+    return path
 
 
 class Update:
@@ -157,15 +147,17 @@ class Update:
             raise FarmError(f"{MOST} updates are there: {ANEW}")
         now = self.serving()
         line = f"renew {len(updates)}"
-        place = placed(self.farm.folder, paths, len(updates))
+        for path in paths:
+            read_update(path)
+        made = placed(self.farm.folder, paths, len(updates))
         try:
-            updates.append(place.name)
+            updates.append(made.name)
             restart = self.checked(line, now)
             with cut_by_signals():
                 return self.brought(line, restart, now)
         except BaseException:
-            if place.made and not self.is_in:
-                place.made.unlink(missing_ok=True)
+            if not self.is_in:
+                made.unlink(missing_ok=True)
             raise
 
     def serving(self) -> tally.Tally:

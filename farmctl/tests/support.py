@@ -18,7 +18,7 @@ from farmctl import cli, client, farm
 
 MIDDLE = 2**29  # the column and row of world units where tile 14/8192/8192 begins
 HERE = client.Tile(14, 8192, 8192)  # a tile with land; a road comes with update 0
-SECONDS = 60.0
+SECONDS = 240.0  # a machine that proves beside this is slow
 LAND = {"id": 1, "geometry": {"polygon": [[[MIDDLE + a, MIDDLE + b] for a, b in ((9000, 9000), (29000, 9000), (29000, 29000))]]}}
 ROAD = {"id": 1, "geometry": {"lines": [[[MIDDLE + 5000, MIDDLE + 5000], [MIDDLE + 40000, MIDDLE + 50000]]]}}
 STYLE = {

@@ -1,5 +1,6 @@
 """`backup` and `restore`: what is kept comes back, and clean tiles only with the files that they were drawn of."""
 
+import fcntl
 import io
 import json
 import shutil
@@ -89,6 +90,14 @@ class Backup(WithFarm):
         self.assertEqual(self.restore()[0], 1)
         self.write("farm.json", dict(self.config, data="/etc/hostname"))
         self.assertIn("outside the farm's folder", self.farmctl("backup", "-f", self.out)[2])
+
+    def test_a_folder_that_is_locked_is_left_alone(self) -> None:
+        self.farmctl("backup", self.out)
+        self.stop()
+        with (self.folder / "tiles" / ".lock").open("wb") as lock:
+            fcntl.flock(lock, fcntl.LOCK_EX)
+            self.assertIn("the farm runs", self.restore()[2])
+        self.assertEqual(self.restore()[0], 0)
 
     def test_an_archive_that_leads_outside_is_refused(self) -> None:
         self.stop()

@@ -34,7 +34,8 @@ class Container(InFolder):
     def test_a_stop_is_orderly(self) -> None:
         entry, *words = json.loads(re.search(r"^ENTRYPOINT (.*)$", self.text, re.M)[1])
         environment = {"PATH": f"{self.root}/usr/local/bin:/usr/bin:/bin"}
-        made = subprocess.Popen([str(self.root / entry.lstrip("/")), *words], cwd=self.folder, env=environment, stdout=subprocess.PIPE, text=True)
+        words = [str(self.root / entry.lstrip("/")), *words]
+        made = subprocess.Popen(words, cwd=self.folder, env=environment, stdout=subprocess.PIPE, text=True)
         self.addCleanup(made.kill)
         end = time.monotonic() + SECONDS
         while not (self.folder / "control.sock").exists() and time.monotonic() < end:

@@ -7,6 +7,7 @@ from __future__ import annotations
 
 import importlib.util
 import json
+import shutil
 import unittest
 from pathlib import Path
 from typing import Any
@@ -111,13 +112,14 @@ class Data(InFolder):
         geometries = {"type": "Feature", "id": 3, "properties": {}, "geometry": {"type": "GeometryCollection", "geometries": []}}
         filled = {"type": "GeometryCollection", "geometries": [{"type": "Point", "coordinates": [1, 1]}]}
         bare = {"type": "Feature", "id": 4, "properties": {}, "geometry": None}
-        status, out, _ = self.make(collection(feature("Point", [1, 1], 1), antimeridian, geometries, dict(geometries, id=5, geometry=filled), bare))
+        others = [antimeridian, geometries, dict(geometries, id=5, geometry=filled), bare]
+        status, out, _ = self.make(collection(feature("Point", [1, 1], 1), *others))
         self.assertEqual((status, [each["id"] for each in self.features()]), (0, [1]))
         for told in ("antimeridian", "GEOMETRYCOLLECTION", "without a geometry"):
             self.assertIn(told, out)
 
     def test_ids(self) -> None:
-        self.make(collection(feature("Point", [1, 1], None, id=5), feature("Point", [1, 1], None, id=5), feature("Point", [1, 1], None, id=9)))
+        self.make(collection(*(feature("Point", [1, 1], None, id=n) for n in (5, 5, 9))))
         self.assertEqual([each["id"] for each in self.features()], [5, 9])
         self.make(collection(*(feature("Point", [1, 1], None) for _ in range(3))))
         self.assertEqual(len({each["id"] for each in self.features()}), 3)
@@ -196,6 +198,24 @@ class Data(InFolder):
         self.assertEqual([put["attrs"] for put in changes["points"]["put"]], [{"place": "city"}])
         self.assertIn("points: removes 0 and puts 1 features", told)
         self.assertIn("it touches 1 metatiles of zoom 14", told)
+
+    @unittest.skipUnless(shutil.which("osmium"), "not installed (Debian: osmium-tool)")
+    def test_a_change_file_over_an_extract(self) -> None:
+        nodes = "".join(f"<node id='{n}' version='1' lat='49.{n}' lon='8.{n}'><tag k='place' v='town'/></node>" for n in (1, 2))
+        (self.folder / "old.osm").write_text(f"<osm version='0.6'>{nodes}</osm>")
+        changed = "<node id='1' version='2' lat='49.1' lon='8.1'><tag k='place' v='city'/></node>"
+        (self.folder / "day.osc").write_text(
+            f"<osmChange version='0.6'><modify>{changed}</modify><delete><node id='2' version='2' lat='49.2' lon='8.2'/></delete></osmChange>"
+        )
+        words = [self.folder / "old.osm", self.folder / "day.osc", "--layers", "points", "-o", self.folder / "u.json"]
+        status, _, err = farmctl("changes", *words, "--keep", self.folder / "new.osm.pbf")
+        self.assertEqual(status, 0, err)
+        (change,) = json.loads((self.folder / "u.json").read_text())["changes"]
+        self.assertEqual((change["remove"], [put["id"] for put in change["put"]]), ([2], [1]))
+        self.assertEqual(farmctl("changes", self.folder / "new.osm.pbf", *words[1:])[0], 3)  # a second time it changes nothing
+        (self.folder / "day.osc").write_text("<osmChange")
+        status, _, err = farmctl("changes", *words)
+        self.assertEqual((status, err.count("\n")), (1, 1), err)
 
     def test_changes_by_hand(self) -> None:
         old = collection(*(feature("Point", [n, 1], n, name="a") for n in range(4)))

@@ -10,7 +10,7 @@ import unittest
 from pathlib import Path
 
 from farmctl import client
-from tests.support import HERE, InFolder, program
+from tests.support import HERE, SECONDS, InFolder, program
 
 LAUNCHER = Path(__file__).resolve().parents[1] / "bin" / "farmctl"
 
@@ -22,7 +22,7 @@ class Run(InFolder):
         self.ready = socket.socket(socket.AF_UNIX, socket.SOCK_DGRAM)
         self.addCleanup(self.ready.close)
         self.ready.bind(str(self.folder / "notify.sock"))
-        self.ready.settimeout(60)
+        self.ready.settimeout(SECONDS)
 
     def start(self) -> "subprocess.Popen[str]":
         words = [sys.executable, str(LAUNCHER), "run"]
@@ -33,7 +33,7 @@ class Run(InFolder):
         return made
 
     def ended(self, made: "subprocess.Popen[str]") -> tuple[int, str, str]:
-        out, err = made.communicate(timeout=60)
+        out, err = made.communicate(timeout=SECONDS)
         return made.returncode, out, err
 
     def test_a_signal_is_an_orderly_end(self) -> None:

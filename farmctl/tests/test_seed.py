@@ -5,7 +5,7 @@ import unittest
 
 from farmctl.metatiles import Metatile, container_bytes, path_of
 from farmctl.seeding import Seeding, of_log
-from tests.support import WithFarm
+from tests.support import SECONDS, WithFarm
 
 WORLD = "-180,-85,180,85"
 
@@ -60,7 +60,7 @@ class Seed(WithFarm):
             pass
         self.stop()
         self.start()
-        thread.join(120)
+        thread.join(SECONDS)
         self.assertEqual(len(done), 256)
 
     def test_a_farm_that_is_away_is_given_up(self) -> None:

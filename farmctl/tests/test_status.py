@@ -12,7 +12,7 @@ from farmctl.client import Tile
 from farmctl.farm import Farm
 from farmctl.metatiles import container_bytes
 from farmctl.observing import seen
-from tests.support import HERE, WithFarm
+from tests.support import HERE, SECONDS, WithFarm
 
 HAS_PROMETHEUS = importlib.util.find_spec("prometheus_client") is not None
 
@@ -81,6 +81,17 @@ class Status(WithFarm):
         self.assertEqual((status, out.count("\n")), (0, 3))
         self.assertRegex(out.splitlines()[2], r"^\d\d:\d\d:\d\d +0\.0 +0\.0 +0\.0 +3 +3 +0 ")
 
+    def scraped(self, address: str) -> bytes:
+        """What is told once the server is there, and the farm has answered it in time."""
+        text, end = b"", time.monotonic() + SECONDS
+        while b"tilefarm_up 1.0" not in text and time.monotonic() < end:
+            try:
+                with urllib.request.urlopen(address, timeout=SECONDS) as answer:
+                    text = answer.read()
+            except OSError:
+                time.sleep(0.05)
+        return text
+
     @unittest.skipUnless(HAS_PROMETHEUS, "not installed (Debian: python3-prometheus-client)")
     def test_metrics(self) -> None:
         _, out, _ = self.farmctl("metrics")
@@ -91,14 +102,7 @@ class Status(WithFarm):
         self.assertIn("tilefarm_up 1.0\n", (self.folder / "t.prom").read_text())
         thread = threading.Thread(target=self.farmctl, args=("metrics", "--listen", "127.0.0.1:18734"), daemon=True)
         thread.start()
-        end = time.monotonic() + 20
-        while time.monotonic() < end:
-            try:
-                with urllib.request.urlopen("http://127.0.0.1:18734/metrics", timeout=20) as answer:
-                    self.assertIn(b"tilefarm_stored_total 3.0\n", answer.read())
-                    break
-            except OSError:
-                time.sleep(0.05)
+        self.assertIn(b"tilefarm_stored_total 3.0\n", self.scraped("http://127.0.0.1:18734/metrics"))
         self.stop()
         self.assertIn("tilefarm_up 0.0\n", self.farmctl("metrics")[1])
         self.assertIsNone(re.search("tilefarm_asks_total", self.farmctl("metrics")[1]))

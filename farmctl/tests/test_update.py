@@ -10,7 +10,7 @@ import time
 import unittest
 from pathlib import Path
 
-from tests.support import HERE, WithFarm, farmctl, program
+from tests.support import HERE, SECONDS, WithFarm, farmctl, program
 
 TOP = Path(__file__).resolve().parents[1]
 RESTART = """#!/bin/sh
@@ -65,7 +65,7 @@ class Update(WithFarm):
         self.farmctl("control", "stop")
         last = (self.folder / "farm.pid").read_text().strip()
         if last not in {str(made.pid) for made in self.running}:  # one that the script started is no child of this
-            subprocess.run(["tail", f"--pid={last}", "-f", "/dev/null"], timeout=60, check=True)
+            subprocess.run(["tail", f"--pid={last}", "-f", "/dev/null"], timeout=SECONDS, check=True)
         super().end()
 
     def update(self, *words: str | Path) -> tuple[int, str, str]:
@@ -84,6 +84,7 @@ class Update(WithFarm):
                     self.assertEqual((status, out), (1, ""))
                     self.assertIn(told, err)
                     self.assertEqual((self.folder / "farm.json").read_bytes(), before)
+        self.assertFalse((self.folder / "update-1.json").exists())
         self.assertGreater(asking.asked, 0)
         self.assertEqual(asking.failed, [])
         self.assertEqual((self.folder / "farm.lines").read_text(), "renew 0\n")
@@ -91,7 +92,8 @@ class Update(WithFarm):
     def test_one_file_comes_in(self) -> None:
         status, out, err = self.update(self.folder / "more.json")
         self.assertEqual((status, out[:18]), (0, "renew 1: version 2"), err)
-        self.assertEqual(self.updates(), ["road.json", "more.json"])
+        self.assertEqual(self.updates(), ["road.json", "update-1.json"])
+        self.assertEqual((self.folder / "update-1.json").read_bytes(), (self.folder / "more.json").read_bytes())
         self.assertEqual((self.folder / "farm.lines").read_text(), "renew 0\nrenew 1\n")
         self.assertTrue((self.folder / "tiles" / "planet-import-complete").exists())
 
@@ -116,8 +118,8 @@ class Update(WithFarm):
         self.assertEqual(self.get(HERE, "/status").body[:5], b"missi")
 
     def test_a_restart_after_which_the_farm_is_down(self) -> None:
-        self.script("#!/bin/sh\n{farmctl} -c {folder}/farm.json control stop\n")
-        status, _, err = self.update("--wait", "2", self.folder / "more.json")
+        self.script(f"#!/bin/sh\nkill -9 {self.running[0].pid}\ntrue\n")
+        status, _, err = self.update("--wait", "5", self.folder / "more.json")
         self.assertEqual(status, 5, err)
         self.assertIn("THE FARM IS DOWN", err)
         self.assertEqual(self.updates(), ["road.json"])
@@ -135,11 +137,11 @@ class Update(WithFarm):
         self.script(RESTART.replace("setsid", "sleep 2\nsetsid"))
         words = [sys.executable, TOP / "bin" / "farmctl", "-c", "farm.json", "update", "more.json", "--restart", self.restart]
         made = subprocess.Popen(words, cwd=self.folder, stdout=subprocess.PIPE, stderr=subprocess.PIPE, text=True)
-        end = time.monotonic() + 30
+        end = time.monotonic() + SECONDS
         while self.answers() and time.monotonic() < end:
             time.sleep(0.02)
         os.kill(made.pid, signal.SIGINT)
-        _, err = made.communicate(timeout=60)
+        _, err = made.communicate(timeout=SECONDS)
         self.assertEqual(made.returncode, 1, err)
         self.assertIn("ended by SIGINT", err)
         self.assertIn("the farm is up", err)

@@ -1,9 +1,9 @@
 """Brings new updates into a running farm, whose configuration did not name them when it began.
 
 A farm reads its files when it begins. So this checks the files with all that the farm has, by the program itself and
-while the farm serves; appends them, several as one, to the list `updates`; has the farm restarted by COMMAND, which must
-stop it in order; waits until it answers; sends `renew N`; keeps that line in farm.lines; and touches
-tiles/planet-import-complete, by which mod_tile learns of it. A file outside the farm's folder is copied there.
+while the farm serves; copies them, several as one, to update-N.json in the farm's folder and appends that to the list
+`updates`; has the farm restarted by COMMAND, which must stop it in order; waits until it answers; sends `renew N`; keeps
+that line in farm.lines; and touches tiles/planet-import-complete, by which mod_tile learns of it.
 
 A file that is refused changes nothing. Where the restart fails, or this is cut off, the configuration is put back, and
 the farm started again where it does not answer. It needs `"resume": true`.
