@@ -3,10 +3,11 @@
 
     benchmarks/updates.py [FEATURES [CLEAN]]          (100000 features and 1000000 clean metatiles where none are given)
 
-A farm goes on from a saved one, in which CLEAN metatiles of zoom 18 are clean, shared by 1 map and then by 16 of the same style. For updates
-that move 1, 1,000, a tenth and all of the features (at most 100,000), told is the time until `update` and `renew` are answered, then that
-until `expire 0 0 0` of the first map is. No time of drawing is in it, since the farm draws nothing meanwhile. Each is one run on a fresh
-farm. With TILEFARM another program is measured.
+A farm goes on from a saved one, in which CLEAN metatiles of zoom 18 are clean, shared by 1 map and then by 16 of the same style. They stand
+side by side, and the features lie in what they cover, as those of a site do whose viewers look where something is. For updates that move
+1, 1,000, a tenth and all of the features (at most 100,000), told is the time until `update` and `renew` are answered, then that until
+the expiry of the world is, and of 100,000 tiles of zoom 18 among the clean ones. No time of drawing is in it, since the farm draws nothing
+meanwhile. Beside each stands the processor time that it took. Each is one run on a fresh farm. With TILEFARM another program is measured.
 """
 
 import json
@@ -27,8 +28,19 @@ STYLE = {
 }
 
 
-def square(draw, number):
-    x, y, s = draw.randrange(2**29), draw.randrange(2**29), 1 + draw.randrange(4096)
+# The first tile that is clean, how many metatiles stand below one another, and a tile's side in units.
+WEST, NORTH, ROWS, SIDE = 120000, 80000, 1024, 4096
+
+
+def across(maps, clean):
+    """How many tiles the clean ones of a map reach to the east."""
+    return 8 * -(-(clean // maps) // ROWS)
+
+
+def square(draw, number, tiles):
+    x = WEST * SIDE + draw.randrange(tiles * SIDE)
+    y = NORTH * SIDE + draw.randrange(8 * ROWS * SIDE)
+    s = 1 + draw.randrange(4096)
     return {"id": number, "geometry": {"polygon": [[[x, y], [x + s, y], [x + s, y + s], [x, y + s]]]}}
 
 
@@ -44,8 +56,8 @@ def write_saved(path, maps, clean):
         out.write(b"FSV1" + struct.pack("<I", maps) + bytes(4 * maps) + struct.pack("<QQ", 0, each * maps))
         for place in range(maps):
             for n in range(each):
-                x, y = n // 1024, n % 1024
-                out.write(struct.pack("<4IQ", place, 18, 120000 + 8 * x, 80000 + 8 * y, 0))
+                x, y = n // ROWS, n % ROWS
+                out.write(struct.pack("<4IQ", place, 18, WEST + 8 * x, NORTH + 8 * y, 0))
 
 
 class Farm:
@@ -55,7 +67,7 @@ class Farm:
         self.names = ["m%d" % n for n in range(maps)]
         write(os.path.join(folder, "farm.json"), {
             "maps": [{"name": name, "style": "style.json", "tile": 256} for name in self.names],
-            "data": "data.json", "updates": ["update.json"], "expiries": ["world.list"], "resume": True, "workers": 1,
+            "data": "data.json", "updates": ["update.json"], "expiries": ["world.list", "tiles.list"], "resume": True, "workers": 1,
             "renderd": "unix:renderd.sock", "tiles": "unix:tiles.sock", "control": "unix:control.sock"})  # fmt: skip
         self.process = subprocess.Popen([PROGRAM, "serve", "farm.json"], cwd=folder, stdout=subprocess.DEVNULL)
         while True:
@@ -70,14 +82,24 @@ class Farm:
                 time.sleep(0.05)
         self.line("stats")
 
+    def busy(self):
+        """The milliseconds of processor time that the farm's threads took."""
+        total = 0
+        for task in os.listdir("/proc/%d/task" % self.process.pid):
+            with open("/proc/%d/task/%s/schedstat" % (self.process.pid, task)) as stat:
+                total += int(stat.read().split()[0])
+        return total / 1e6
+
     def line(self, text):
-        """The milliseconds until the answer, and the answer."""
+        """The milliseconds until the answer, those of processor time, and the answer."""
+        busy = self.busy()
         begun = time.monotonic()
         self.control.sendall(text.encode() + b"\n")
         got = b""
         while not got.endswith(b"\n"):
             got += self.control.recv(4096)
-        return 1000 * (time.monotonic() - begun), got.decode().strip()
+        took = 1000 * (time.monotonic() - begun)
+        return took, self.busy() - busy, got.decode().strip()
 
     def end(self):
         self.process.kill()
@@ -97,20 +119,29 @@ def main():
     features = int(sys.argv[1]) if len(sys.argv) > 1 else 100000
     clean = int(sys.argv[2]) if len(sys.argv) > 2 else 1000000
     with tempfile.TemporaryDirectory() as folder:
-        draw = random.Random(1)
         write(os.path.join(folder, "style.json"), STYLE)
-        write(os.path.join(folder, "data.json"), {"units": "world", "layers": [
-            {"name": "land", "features": [square(draw, number) for number in range(features)]}]})  # fmt: skip
         with open(os.path.join(folder, "world.list"), "w") as out:
             out.write("0/0/0\n")
         print("load %.1f; %d features, %d clean metatiles" % (os.getloadavg()[0], features, clean))
         for maps in (1, 16):
-            for changed in sorted({1, 1000, features // 10, min(features, 100000)}):
-                moved = [square(draw, number) for number in draw.sample(range(features), changed)]
-                write(os.path.join(folder, "update.json"), {"units": "world", "changes": [{"layer": "land", "put": moved}]})
-                told = ["%s %.1f ms (%s)" % (line, *timed(folder, maps, clean, line)) for line in ("update 0", "renew 0")]
-                print("%d maps, %d changed: %s" % (maps, changed, ", ".join(told)), flush=True)
-            print("%d maps: %s %.1f ms (%s)" % (maps, "expire 0", *timed(folder, maps, clean, "expire 0")), flush=True)
+            measure(folder, maps, features, clean)
+
+
+def measure(folder, maps, features, clean):
+    draw = random.Random(1)
+    tiles = across(maps, clean)
+    write(os.path.join(folder, "data.json"), {"units": "world", "layers": [
+        {"name": "land", "features": [square(draw, number, tiles) for number in range(features)]}]})  # fmt: skip
+    with open(os.path.join(folder, "tiles.list"), "w") as out:
+        for _ in range(min(features, 100000)):
+            out.write("18/%d/%d\n" % (WEST + draw.randrange(tiles), NORTH + draw.randrange(8 * ROWS)))
+    for changed in sorted({1, min(features, 1000), features // 10, min(features, 100000)}):
+        moved = [square(draw, number, tiles) for number in draw.sample(range(features), changed)]
+        write(os.path.join(folder, "update.json"), {"units": "world", "changes": [{"layer": "land", "put": moved}]})
+        told = ["%s %.1f ms, %.1f of processor (%s)" % (line, *timed(folder, maps, clean, line)) for line in ("update 0", "renew 0")]
+        print("%d maps, %d changed: %s" % (maps, changed, ", ".join(told)), flush=True)
+    for line, what in (("expire 0", "the world"), ("expire 1", "the tiles")):
+        print("%d maps, %s: %s %.1f ms, %.1f of processor (%s)" % (maps, what, line, *timed(folder, maps, clean, line)), flush=True)
 
 
 if __name__ == "__main__":
