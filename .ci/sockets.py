@@ -26,7 +26,7 @@ import time
 TOP = os.path.dirname(os.path.dirname(os.path.abspath(__file__)))
 BUILT = [os.path.join(TOP, "crates", "tilefarm", "out", name) for name in ("tilefarm", "tilefarm.by-rattle")]
 EACH = 8  # seconds for one wait, by the clock of patience.py
-WHOLE = 110  # such seconds for all of a program
+WHOLE = 300  # such seconds for all of a program
 LOOK = 1  # second, after which it is seen whether a wait is over
 LARGE = 512  # pixels of a large tile
 BEGUN = 0.01  # seconds after which a drawing has begun; one of large tiles has not ended yet
