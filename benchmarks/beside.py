@@ -3,12 +3,13 @@
 Shapes are in world units, 2^30 across the world, with y to the south. Mapnik gets the same numbers with y turned
 round, in one projection for data and map, so that it projects nothing."""
 
-import json, math, os, random, statistics, subprocess, sys
+import collections, glob, json, math, os, random, shutil, statistics, struct, subprocess, sys, zlib
 
 sys.path.insert(0, os.path.join(os.path.dirname(os.path.abspath(__file__)), "..", "oracle"))
 import farm
 
 WORLD = 2**30
+BACKGROUND = (0xF2, 0xEF, 0xE9)
 REPEATS = int(os.environ.get("REPEATS", "5"))
 MIDDLE = WORLD // 2
 SHORE = [MIDDLE + 3 * 2**23, MIDDLE + 2**24]
@@ -167,7 +168,38 @@ def scattered(count):
     return {"all": squares}
 
 
-# ---- styles: for each layer of data some rules (kind or None for the rest, symbolizers)
+def squares(count):
+    """Small squares of ten kinds in the metatile of zoom 12 at the middle."""
+    west, north, side, _ = metatile(12, 2**11, 2**11)
+    draw, made = random.Random(9), []
+    for _ in range(count):
+        x, y, wide = west + draw.randrange(side), north + draw.randrange(side), 1024 + draw.randrange(4096)
+        made.append((draw.randrange(10), "polygon", [[[x, y], [x + wide, y], [x + wide, y + wide], [x, y + wide]]]))
+    return {"all": made}
+
+
+# A picture of 1,024 by 1,024 pixels, two of zoom 12 each, that lies over the metatile of zoom 12 at the middle.
+BASE_SIDE = 1024
+
+
+def base_picture():
+    """Its bytes, three for each pixel, by rows: a relief that is made, so that neighbours differ."""
+    row = lambda j: b"".join(bytes((int(128 + 60 * math.sin(i / 23) + 40 * math.cos(j / 17)) & 255, (i * 7 + j) & 255, (i ^ j) & 255)) for i in range(BASE_SIDE))
+    return b"".join(row(j) for j in range(BASE_SIDE))
+
+
+def roads_on_base():
+    """2,000 roads in the metatile of zoom 12 at the middle."""
+    west, north, side, pixel = metatile(12, 2**11, 2**11)
+    draw = random.Random(10)
+    return {"all": [(0, "lines", [along(draw, west + draw.randrange(side), north + draw.randrange(side), 20 * pixel, 12)]) for _ in range(2000)]}
+
+
+# ---- styles: for each layer of data some rules (kind or None for the rest, symbolizers, and maybe the least and the
+# greatest scale denominator)
+
+# A layer that more than one style draws, each a list of rules.
+Styled = collections.namedtuple("Styled", "styles")
 
 
 def fill(colour, opacity=1):
@@ -200,6 +232,12 @@ def one(*symbolizers):
     return {"all": [(None, list(symbolizers))]}
 
 
+def beside_others(count):
+    """One style that draws, and so many of ten rules each that begin at zoom 17 (a denominator of 4,265)."""
+    other = [(kind, [fill("#cc0000")], (0, 5000)) for kind in range(10)]
+    return {"all": Styled([one(fill("#336699"))["all"]] + [other] * count)}
+
+
 # what is drawn, how, at which zooms, and round which point
 HERE = [MIDDLE, MIDDLE]
 CASES = {
@@ -222,14 +260,29 @@ CASES = {
     "alpha": (across, one(stroke("#336699", 2, "butt", 0.5)), [14], HERE),
     "passing": (passing, one(stroke("#336699", 2, "butt", 0.5)), [18], HERE),
     "contours": (contours, one(stroke("#996633", 1, "butt", 0.5)), [14], HERE),
-    "comb8000": (comb(8000), one(fill("#336699")), [14, 18], HERE),
-    "comb32000": (comb(32000), one(fill("#336699")), [14, 18], HERE),
+    "comb500": (comb(500), one(fill("#336699")), [14, 18], HERE),
     "scattered": (lambda: scattered(300000), one(fill("#336699")), [18], HERE),
+    "inactive": (lambda: squares(100000), beside_others(20), [12, 14], HERE),
+    "base": (roads_on_base, {"base": [(None, [{"symbolizer": "RasterSymbolizer", "opacity": "1"}])]} | one(stroke("#ffffff", 2)), [12, 14, 16, 18], HERE),
     "elsewhere": (lambda: mixed(100000), TWELVE, [18], HERE),
     "nothing": (lambda: {"all": []}, one(fill("#336699")), [14], HERE),
 }
 
 # ---- files
+
+
+def styles_of(name, rules):
+    """The names and the rules of the styles that draw a layer."""
+    if isinstance(rules, Styled):
+        return [("%s%d" % (name, place), they) for place, they in enumerate(rules.styles)]
+    return [(name, rules)]
+
+
+def our_rule(kind, symbolizers, scales=None):
+    said = {"ElseFilter": True} if kind is None else {"Filter": "[kind] = %d" % kind}
+    if scales:
+        said |= {"MinScaleDenominator": str(scales[0]), "MaxScaleDenominator": str(scales[1])}
+    return said | {"symbolizers": symbolizers}
 
 
 def ours(features, style):
@@ -238,40 +291,78 @@ def ours(features, style):
         layers.append({"name": name, "features": [{"id": n, "geometry": {shape: at}, "attrs": {"kind": kind}} for n, (kind, shape, at) in enumerate(items)]})
     styles, shown = [], []
     for name, rules in style.items():
-        styles.append({"name": name, "rules": [({"ElseFilter": True} if kind is None else {"Filter": "[kind] = %d" % kind}) | {"symbolizers": they} for kind, they in rules]})
-        shown.append({"name": name, "source": name, "styles": [name]})
-    return {"background-color": "#f2efe9", "styles": styles, "layers": shown}, {"units": "world", "layers": layers}
+        they = styles_of(name, rules)
+        styles += [{"name": own, "rules": [our_rule(*rule) for rule in of]} for own, of in they]
+        shown.append({"name": name, "source": name, "styles": [own for own, _ in they]})
+    said = {"background-color": "#f2efe9", "styles": styles, "layers": shown}
+    if "base" in style:
+        west, north, side, _ = metatile(12, 2**11, 2**11)
+        said["rasters"] = [{"name": "base", "file": "base.ppm", "west": west, "north": north, "pixel": side // BASE_SIDE}]
+    return said, {"units": "world", "layers": layers}
+
+
+def png(side, pixels):
+    """A PNG file of so many columns and rows of three bytes each."""
+    part = lambda kind, data: struct.pack(">I", len(data)) + kind + data + struct.pack(">I", zlib.crc32(kind + data))
+    rows = b"".join(b"\0" + pixels[3 * side * j : 3 * side * (j + 1)] for j in range(side))
+    return b"\x89PNG\r\n\x1a\n" + part(b"IHDR", struct.pack(">IIBBBBB", side, side, 8, 2, 0, 0, 0)) + part(b"IDAT", zlib.compress(rows)) + part(b"IEND", b"")
+
+
+def put_base(folder):
+    """The base picture for both."""
+    pixels = base_picture()
+    with open(folder + "/base.ppm", "wb") as out:
+        out.write(b"P6\n%d %d\n255\n" % (BASE_SIDE, BASE_SIDE) + pixels)
+    with open(folder + "/base.png", "wb") as out:
+        out.write(png(BASE_SIDE, pixels))
 
 
 def turned(at):
     return [at[0], WORLD - at[1]] if isinstance(at[0], int) else [turned(it) for it in at]
 
 
+def mapnik_rule(kind, symbolizers, scales=None):
+    out = ["<Rule>" + ("<ElseFilter/>" if kind is None else "<Filter>[kind] = %d</Filter>" % kind)]
+    if scales:
+        out.append("<MinScaleDenominator>%d</MinScaleDenominator><MaxScaleDenominator>%d</MaxScaleDenominator>" % scales)
+    for it in symbolizers:
+        said = {key: value for key, value in it.items() if key != "symbolizer"}
+        if it["symbolizer"] == "LineSymbolizer":
+            said["stroke-linejoin"] = "round"
+        if it["symbolizer"] == "MarkersSymbolizer":
+            said |= {"marker-type": "ellipse", "allow-overlap": "true", "ignore-placement": "true", "stroke-width": "0", "multi-policy": "each"}
+        if it["symbolizer"] == "RasterSymbolizer":
+            said["scaling"] = "near"
+        out.append("<%s %s/>" % (it["symbolizer"], " ".join('%s="%s"' % pair for pair in said.items())))
+    return "".join(out) + "</Rule>"
+
+
+def mapnik_source(name, items, folder):
+    """The parameters of a layer's source; its data go into a file of the folder."""
+    if name == "base":
+        west, north, side, _ = metatile(12, 2**11, 2**11)
+        box = {"lox": west, "loy": WORLD - north - side, "hix": west + side, "hiy": WORLD - north}
+        return {"type": "raster", "file": folder + "/base.png", "format": "png"} | box
+    kinds = {"polygon": "Polygon", "lines": "MultiLineString", "points": "MultiPoint"}
+    they = [{"type": "Feature", "properties": {"kind": kind}, "geometry": {"type": kinds[shape], "coordinates": [it + it[:1] for it in turned(at)] if shape == "polygon" else turned(at)}} for kind, shape, at in items]
+    with open("%s/%s.geojson" % (folder, name), "w") as file:
+        json.dump({"type": "FeatureCollection", "features": they}, file)
+    return {"type": "geojson", "file": "%s/%s.geojson" % (folder, name), "cache-features": "true"}
+
+
 def of_mapnik(features, style, folder):
     """Mapnik's map file; the data go into files beside it."""
-    kinds = {"polygon": "Polygon", "lines": "MultiLineString", "points": "MultiPoint"}
     out = ['<Map background-color="#f2efe9">']
+    shown = []
     for name, rules in style.items():
-        out.append('<Style name="%s">' % name)
-        for kind, they in rules:
-            out.append("<Rule>" + ("<ElseFilter/>" if kind is None else "<Filter>[kind] = %d</Filter>" % kind))
-            for it in they:
-                said = {key: value for key, value in it.items() if key != "symbolizer"}
-                if it["symbolizer"] == "LineSymbolizer":
-                    said["stroke-linejoin"] = "round"
-                if it["symbolizer"] == "MarkersSymbolizer":
-                    said |= {"marker-type": "ellipse", "allow-overlap": "true", "ignore-placement": "true", "stroke-width": "0", "multi-policy": "each"}
-                out.append("<%s %s/>" % (it["symbolizer"], " ".join('%s="%s"' % pair for pair in said.items())))
-            out.append("</Rule>")
-        out.append("</Style>")
-    for name, items in features.items():
-        they = [{"type": "Feature", "properties": {"kind": kind}, "geometry": {"type": kinds[shape], "coordinates": [it + it[:1] for it in turned(at)] if shape == "polygon" else turned(at)}} for kind, shape, at in items]
-        if not they:
+        they = styles_of(name, rules)
+        out += ['<Style name="%s">%s</Style>' % (own, "".join(mapnik_rule(*rule) for rule in of)) for own, of in they]
+        if name != "base" and not features[name]:
             continue
-        with open("%s/%s.geojson" % (folder, name), "w") as file:
-            json.dump({"type": "FeatureCollection", "features": they}, file)
-        out.append('<Layer name="%s"><StyleName>%s</StyleName><Datasource><Parameter name="type">geojson</Parameter><Parameter name="file">%s/%s.geojson</Parameter><Parameter name="cache-features">true</Parameter></Datasource></Layer>' % (name, name, folder, name))
-    return "\n".join(out + ["</Map>"])
+        named = "".join("<StyleName>%s</StyleName>" % own for own, _ in they)
+        source = "".join('<Parameter name="%s">%s</Parameter>' % pair for pair in mapnik_source(name, features.get(name), folder).items())
+        shown.append('<Layer name="%s">%s<Datasource>%s</Datasource></Layer>' % (name, named, source))
+    return "\n".join(out + shown + ["</Map>"])
 
 
 # ---- runs
@@ -285,6 +376,9 @@ m.zoom_to_box(Box2d(*map(float, sys.argv[2:6])))
 m.aspect_fix_mode = mapnik.aspect_fix_mode.RESPECT
 image = Image(2048, 2048)
 render(m, image)
+if len(sys.argv) > 6:
+    with open(sys.argv[6], "wb") as out:
+        out.write(image.tostring())
 rounds, begin = 0, time.process_time()
 while rounds < 1 or time.process_time() - begin < 0.5:
     render(m, Image(2048, 2048))
@@ -312,6 +406,15 @@ class Farm:
         with open(folder + "/config.json", "w") as out:
             json.dump({"maps": [{"name": "default", "style": "style.json", "tile": 256}], "data": "data.json"}, out)
 
+    def drawn(self):
+        """The container of the metatile, drawn and written once."""
+        shutil.rmtree(self.folder + "/tiles", ignore_errors=True)
+        with open(self.folder + "/script", "w") as out:
+            out.write("ask 1 render default %s\nclaim 1\nfinish 0\ncollect 0\n" % self.place)
+        processor([self.program, "script", "config.json", "script"], cwd=self.folder)
+        (path,) = glob.glob(self.folder + "/tiles/default/**/*.meta", recursive=True)
+        return path
+
     def __call__(self, rounds):
         """The processor time of each round, from the end of one drawing to that of the next, and the peak memory in KiB."""
         with open(self.folder + "/script", "w") as out:
@@ -325,6 +428,36 @@ class Farm:
         if len(ends) != rounds + 1:
             sys.exit("beside.py: %d of %d drawings were told" % (len(ends), rounds + 1))
         return [end - begin for begin, end in zip(ends, ends[1:])], peak
+
+
+def summary(pixels, wide):
+    """The mean colour of a picture whose pixels have so many bytes, and how much of it is covered: the share of pixels
+    that are more than half as far from the background as the farthest. Of each seventh pixel."""
+    bands = [pixels[band::wide][::7] for band in range(3)]
+    count = len(bands[0])
+    far = [abs(r - BACKGROUND[0]) + abs(g - BACKGROUND[1]) + abs(b - BACKGROUND[2]) for r, g, b in zip(*bands)]
+    half = max(far) / 2
+    return [sum(band) / count for band in bands], sum(1 for it in far if it > half > 0) / count
+
+
+def of_container(path):
+    """The pixels of the tiles of a container, one tile behind another."""
+    with open(path, "rb") as file:
+        whole = file.read()
+    (count,) = struct.unpack_from("<i", whole, 4)
+    entries = [struct.unpack_from("<ii", whole, 20 + 8 * n) for n in range(count)]
+    return b"".join(whole[offset : offset + size].split(b"\n", 3)[3] for offset, size in entries)
+
+
+def alike(farm, mapnik, folder, box):
+    """Whether both pictures have the same mean colour, to two levels of 255, and the same cover, to two hundredths: where
+    they have not, one of the two left something out, and the times say nothing."""
+    container = farm.drawn()
+    ours, our_cover = summary(of_container(container), 3)
+    subprocess.run([mapnik, "-c", MAPNIK, folder + "/map.xml", *map(str, box), folder + "/picture"], stdout=subprocess.DEVNULL, check=True)
+    with open(folder + "/picture", "rb") as file:
+        theirs, their_cover = summary(file.read(), 4)
+    return all(abs(a - b) <= 2 for a, b in zip(ours, theirs)) and abs(our_cover - their_cover) <= 0.02
 
 
 def rounds_for(farm):
@@ -351,10 +484,11 @@ def measure(program, raw, folder, mapnik, z, point):
     rounds = rounds_for(farm)
     got = {"mapnik": [], "raw": [], "ours": []}
     peak = 0
+    box = [west, WORLD - north - side, west + side, WORLD - north]
+    same = alike(farm, mapnik, folder, box) if mapnik else None
     all_before, taken_before = ticks()
     for _ in range(REPEATS):
         if mapnik:
-            box = [west, WORLD - north - side, west + side, WORLD - north]
             said = subprocess.run([mapnik, "-c", MAPNIK, folder + "/map.xml", *map(str, box)], stdout=subprocess.PIPE, text=True)
             if said.returncode:
                 sys.exit("beside.py: Mapnik failed")
@@ -365,7 +499,7 @@ def measure(program, raw, folder, mapnik, z, point):
         peak = max(peak, most)
     all_after, taken_after = ticks()
     steal = 100 * (taken_after - taken_before) / max(1, all_after - all_before)
-    return {key: statistics.median(all_of) if all_of else None for key, all_of in got.items()}, peak, steal
+    return {key: statistics.median(all_of) if all_of else None for key, all_of in got.items()}, peak, steal, same
 
 
 def ratio(a, b):
@@ -385,8 +519,8 @@ def main():
     if names == ["-l"]:
         print(*CASES)
         return
-    row = "%-12s %3s %9s %8s %8s %14s %10s %9s %5s %7s"
-    print(row % ("case", "z", "Mapnik s", "raw s", "ours s", "Mapnik / ours", "ours / raw", "peak KiB", "load", "steal %"))
+    row = "%-12s %3s %9s %8s %8s %14s %10s %9s %5s %7s %5s"
+    print(row % ("case", "z", "Mapnik s", "raw s", "ours s", "Mapnik / ours", "ours / raw", "peak KiB", "load", "steal %", "alike"))
     ratios = []
     for name in names or CASES:
         shapes, style, zooms, point = CASES[name]
@@ -395,14 +529,16 @@ def main():
         for file, said in (("style", style_said), ("data", data_said)):
             with open("%s/%s.json" % (folder, file), "w") as out:
                 json.dump(said, out)
+        if "base" in style:
+            put_base(folder)
         with open(folder + "/map.xml", "w") as out:
             out.write(of_mapnik(features, style, folder))
         del features, data_said
         for z in zooms:
-            got, peak, steal = measure(program, folder + "/raw", folder, mapnik, z, point)
+            got, peak, steal, same = measure(program, folder + "/raw", folder, mapnik, z, point)
             number = lambda it: "-" if it is None else "%.4f" % it
-            print(row % (name, z, number(got["mapnik"]), number(got["raw"]), number(got["ours"]), ratio(got["mapnik"], got["ours"]), ratio(got["ours"], got["raw"]), peak, "%.1f" % os.getloadavg()[0], "%.1f" % steal), flush=True)
-            if got["mapnik"] is not None and got["ours"]:
+            print(row % (name, z, number(got["mapnik"]), number(got["raw"]), number(got["ours"]), ratio(got["mapnik"], got["ours"]), ratio(got["ours"], got["raw"]), peak, "%.1f" % os.getloadavg()[0], "%.1f" % steal, {None: "-", True: "yes", False: "NO"}[same]), flush=True)
+            if got["mapnik"] is not None and got["ours"] and same:
                 ratios.append((got["mapnik"] / got["ours"], name, z))
     print(slowest(ratios))
 

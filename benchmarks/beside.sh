@@ -9,7 +9,8 @@
 # wide; `benchmarks/beside.sh -l` lists them. REPEATS sets how many runs a median is taken of (5). With TILEFARM another
 # program is measured than the one that was built here or, where none was, the released one.
 #
-# The last line says which of the cases that were drawn is the slowest against Mapnik.
+# A case counts where both pictures agree in mean colour and cover (`alike`): Mapnik leaves parts of some pictures out. The
+# last line says which of the cases that count is the slowest against Mapnik.
 #
 # Mapnik is Debian's python3-mapnik; where no python3 has it, its column stays empty. Ours is `tilefarm script`: an ask,
 # its claim, its end and its reply, of which the drawing and packing take nearly all, from the end of one to that of the
