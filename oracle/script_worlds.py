@@ -103,7 +103,7 @@ def line(r, maps, hand):
     return r.choices([text for _, text in lines], [weight for weight, _ in lines])[0]
 
 
-def script_file(r, folder, config, count):
+def script_file(r, folder, config, count, line=line):
     """The lines, each drawn with the tickets that the answers before it gave."""
     plan = {"limits": config["limits"], "workers": config["workers"], "layers": {}, "updates": [], "restyles": []}
     plan["maps"] = [dict(entry, maxzoom=entry.get("maxzoom", 18), style=None) for entry in config["maps"]]
