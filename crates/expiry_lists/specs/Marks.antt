@@ -55,9 +55,17 @@ is_met b size k = comes_near b (margin_of size k.meta.z) (meta_square k.meta)
 abbrev pub some_meets : ℕ → List Bounds → Key → Bool
 some_meets size boxes k = list_any (λ b. is_met b size k) boxes
 
--- whether the key is of that map, at one of the zooms 0 to 18, and some of the boxes is that near
+-- whether the key is at one of the zooms 0 to 18, and some of the boxes is that near
+abbrev pub is_near_zooms : ℕ → List Bounds → Key → Bool
+is_near_zooms size boxes k = nat_lt k.meta.z 19 && some_meets size boxes k
+
+-- whether it is of that map too
 abbrev pub is_near_boxes : ℕ → ℕ → List Bounds → Key → Bool
-is_near_boxes map size boxes k = is_of_map map k && (nat_lt k.meta.z 19 && some_meets size boxes k)
+is_near_boxes map size boxes k = is_of_map map k && is_near_zooms size boxes k
+
+-- whether it is of one of these maps too
+abbrev pub is_near_maps : List ℕ → ℕ → List Bounds → Key → Bool
+is_near_maps maps size boxes k = list_any (λ map. is_of_map map k) maps && is_near_zooms size boxes k
 
 -- the box with these edges
 abbrev pub rectangle : ℕ → ℕ → ℕ → ℕ → Bounds

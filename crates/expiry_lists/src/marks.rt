@@ -5,14 +5,16 @@ ghost use Rattle.farm_history.specs.declared.keys.Key.{Key};
 ghost use Rattle.farm_history.specs.Plans.{same_key, overlaps, AreApart};
 ghost use Rattle.farm_history.specs.Replays.{are_rising, kept_of, kept_version};
 ghost use Rattle.plain_world.specs.World.{IsMeta, IsTile, IsTileSize};
-ghost use Rattle.expiry_lists.specs.Marks.{shown_key, mark_of, dirtied_marks, clean_marks, is_of_map, is_near_boxes, is_in_box, rectangle, clean_version, InBox};
+ghost use Rattle.expiry_lists.specs.Marks.{shown_key, mark_of, dirtied_marks, clean_marks, is_of_map, is_near_boxes, is_near_maps, is_in_box, rectangle, clean_version, InBox};
 
 use crate::keeping::{clean_entries, sort_by_key};
 use crate::nodes::{mark_at, mark_one_dirty, settle_all};
 use crate::rectangles::mark_box_dirty;
 use crate::table::Nodes;
-use crate::waking::{put_mark, wake};
-use crate::walks::{is_some_live, mark_map_boxes_dirty, mark_map_dirty, mark_maps_dirty};
+use crate::waking::{drop_mark, own, put_mark, wake};
+use crate::walks::{
+    is_some_live, mark_groups_dirty, mark_map_boxes_dirty, mark_map_dirty, mark_maps_boxes_dirty,
+};
 use farm_base::NoMemory;
 use farm_history::{Kept, Key, Mark};
 use geo_model::Bounds;
@@ -20,12 +22,13 @@ use plain_world::Tile;
 use std::alloc::Global;
 use std::marker::Model;
 
-/// What is shown of metatiles, each with its data version and whether it is clean, in a quadtree for each map.
+/// What is shown of metatiles, each with its data version and whether it is clean, in a quadtree for
+/// each group of 64 maps.
 #[derive(Drop)]
 pub struct Marks {
     nodes: Nodes,
-    /// The maps that have nodes.
-    maps: Vec<u32>,
+    /// The groups of maps that have spots.
+    groups: Vec<u32>,
 }
 
 impl Model for Marks {
@@ -36,12 +39,12 @@ impl Model for Marks {
 
     ghost Value = { MarksSeen };
 
-    ghost view = { λ m. record { shown = shown_of m.nodes.entries; room = min (m.nodes.room / 16) (vec_capacity m.maps - vec_len m.maps) } };
+    ghost view = { λ m. record { shown = shown_of m.nodes.entries; room = min m.nodes.room (min (m.nodes.free / 16) (vec_capacity m.groups - vec_len m.groups)) } };
 
-    ghost invariant = { λ m. IsKept m.maps.items m.nodes.entries };
+    ghost invariant = { λ m. IsKept m.groups.items m.nodes };
 }
 
-/// How many nodes a key may need.
+/// How many spots a key may need.
 const PATH: usize = 16;
 
 impl Marks {
@@ -51,7 +54,7 @@ impl Marks {
     {
         Marks {
             nodes: Nodes::new(alloc),
-            maps: Vec::new(alloc),
+            groups: Vec::new(alloc),
         }
     }
 
@@ -62,7 +65,7 @@ impl Marks {
         ensures reserved { OnOk result (1 ≤ self.new.room) }
     {
         self.nodes.reserve(PATH)?;
-        self.maps.reserve(1)?;
+        self.groups.reserve(1)?;
         Ok(())
     }
 
@@ -85,9 +88,15 @@ impl Marks {
         ensures free { IsSome (mark_of self.old.shown key) → self.new.room ≡ self.old.room }
     {
         let _count = self.nodes.len();
-        add_map(&mut self.maps, key.map);
-        wake(&mut self.nodes, key, clean);
-        put_mark(&mut self.nodes, key, Some(Mark { version, clean }));
+        let place = Key {
+            map: key.map / 64,
+            meta: key.meta,
+        };
+        let mask = if clean { 1 << (key.map % 64) } else { 0 };
+        add_group(&mut self.groups, place.map);
+        wake(&mut self.nodes, place, mask);
+        own(&mut self.nodes, place, mask);
+        put_mark(&mut self.nodes, key, Mark { version, clean });
     }
 
     /// Shows nothing of a key.
@@ -96,7 +105,7 @@ impl Marks {
             ≡ (if same_key key k then None else mark_of self.old.shown k) }
         ensures room { self.new.room ≡ self.old.room }
     {
-        put_mark(&mut self.nodes, key, None);
+        drop_mark(&mut self.nodes, key);
     }
 
     /// Makes dirty what overlaps the tile, on every map and zoom, and counts what was clean of it.
@@ -109,10 +118,10 @@ impl Marks {
     {
         let _count = self.nodes.len();
         // A tile of zoom 0 overlaps all: a pass over the table takes a small part of the time of a walk.
-        if t.z == 0 && is_some_live(&self.nodes, &self.maps) {
+        if t.z == 0 && is_some_live(&self.nodes, &self.groups) {
             return settle_all(&mut self.nodes);
         }
-        mark_maps_dirty(&mut self.nodes, &self.maps, t)
+        mark_groups_dirty(&mut self.nodes, &self.groups, t)
     }
 
     /// Makes dirty what is shown of the map, and counts what was clean of it.
@@ -139,6 +148,19 @@ impl Marks {
     {
         let _count = self.nodes.len();
         mark_map_boxes_dirty(&mut self.nodes, map, size, boxes)
+    }
+
+    /// The same for these maps, whose tiles have that size, together.
+    pub fn expire_maps_boxes(&mut self, maps: &[u32], size: u32, boxes: &mut [Bounds]) -> u64
+        requires { IsTileSize size }
+        ensures shown { self.new.shown ≡ dirtied_marks (is_near_maps maps.now size boxes.old) self.old.shown }
+        ensures count { result ≡ clean_marks (is_near_maps maps.now size boxes.old) self.old.shown }
+        ensures moved { IsPermutation boxes.old boxes.new }
+        ensures apart { AreApart shown_key self.old.shown }
+        ensures room { self.new.room ≡ self.old.room }
+    {
+        let _count = self.nodes.len();
+        mark_maps_boxes_dirty(&mut self.nodes, &self.groups, maps, size, boxes)
     }
 
     /// Makes dirty what is shown of the map at zoom `z` where the metatile's square holds a point of the
@@ -205,15 +227,15 @@ impl Marks {
     }
 }
 
-/// Whether the map is in the list.
+/// Whether the number is in the list.
 fn lists(maps: &[u32], map: u32) -> bool
     ensures { result ≡ list_any (λ m. m == map) maps.now }
 {
     maps.iter().any(|m| *m == map)
 }
 
-/// Adds a map to the list, where it is not there.
-fn add_map(maps: &mut Vec<u32>, map: u32)
+/// Adds a number to the list, where it is not there.
+fn add_group(maps: &mut Vec<u32>, map: u32)
     requires { list_any (λ m. m == map) maps.old.items ≡ false
         → vec_len maps.old < vec_capacity maps.old }
     ensures added { list_any (λ m. m == map) maps.new.items ≡ true }
