@@ -1,10 +1,11 @@
 //! Marks: what is shown of metatiles, and whether it is clean.
-ghost use Rattle.std.specs.Prelude.{◌≡◌, ◌≤◌, ◌<◌, ◌+◌, ◌==◌, ◌↔◌, IsTrue, ℕ, [], Some, None, IsSome, IfOk, OnOk, option_map, if◌then◌else◌, true, false, vec_len, vec_capacity, IsPermutation};
+ghost use Rattle.std.specs.Prelude.{◌≡◌, ◌≤◌, ◌<◌, ◌+◌, ◌%◌, ◌==◌, ◌↔◌, IsTrue, ℕ, [], Some, None, IsSome, IfOk, OnOk, option_map, if◌then◌else◌, true, false, vec_len, vec_capacity, IsPermutation};
 ghost use Rattle.std.specs.List.{list_any};
 ghost use Rattle.farm_history.specs.declared.keys.Key.{Key};
 ghost use Rattle.farm_history.specs.Plans.{same_key, overlaps, AreApart};
 ghost use Rattle.farm_history.specs.Replays.{are_rising, kept_of, kept_version};
 ghost use Rattle.plain_world.specs.World.{IsMeta, IsTile, IsTileSize};
+ghost use Rattle.expiry_lists.specs.inner.Nodes.{has_bit};
 ghost use Rattle.expiry_lists.specs.Marks.{shown_key, mark_of, dirtied_marks, clean_marks, is_of_map, is_near_boxes, is_near_maps, is_in_box, rectangle, clean_version, InBox};
 
 use crate::keeping::{clean_entries, sort_by_key};
@@ -33,6 +34,7 @@ pub struct Marks {
 
 impl Model for Marks {
     ghost use Rattle.std.specs.Prelude.{◌/◌, ◌-◌, min, vec_len, vec_capacity};
+    ghost use Rattle.expiry_lists.specs.inner.Nodes.{has_bit};
     ghost use Rattle.expiry_lists.specs.Marks.{MarksSeen};
     ghost use Rattle.expiry_lists.specs.inner.Nodes.{shown_of};
     ghost use Rattle.expiry_lists.specs.inner.Keeping.{IsKept};
@@ -92,7 +94,7 @@ impl Marks {
             map: key.map / 64,
             meta: key.meta,
         };
-        let mask = if clean { 1 << (key.map % 64) } else { 0 };
+        let mask = clean_bit(key.map, clean);
         add_group(&mut self.groups, place.map);
         wake(&mut self.nodes, place, mask);
         own(&mut self.nodes, place, mask);
@@ -225,6 +227,13 @@ impl Marks {
         sort_by_key(&mut kept);
         Ok(kept)
     }
+}
+
+/// The bit of the map, where it is clean.
+fn clean_bit(map: u32, clean: bool) -> u64
+    ensures { clean ≡ true → has_bit result (map % 64) ≡ true }
+{
+    if clean { 1 << (map % 64) } else { 0 }
 }
 
 /// Whether the number is in the list.

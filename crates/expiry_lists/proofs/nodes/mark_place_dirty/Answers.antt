@@ -3,7 +3,6 @@ use Rattle.std.specs.Int.{bit_not, w64}
 use Rattle.std.specs.Prelude.{bit_and}
 use Rattle.std.specs.Map.{set_value}
 use Rattle.farm_history.specs.Plans.{same_key}
-use Rattle.expiry_lists.specs.declared.nodes.Spot.{Spot}
 use Rattle.expiry_lists.proofs.Placing.{placed_value}
 use Rattle.expiry_lists.proofs.Spots.{mask_none, spotless, taken_walks}
 use Rattle.expiry_lists.proofs.nodes.mark_place_dirty.Goals as goal

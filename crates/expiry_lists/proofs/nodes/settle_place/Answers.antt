@@ -1,4 +1,3 @@
-use Rattle.std.proofs.Common.{refl}
 use Rattle.expiry_lists.proofs.Spots.{settle_walks, masked_dirty}
 use Rattle.expiry_lists.proofs.nodes.settle_place.Goals as goal
 

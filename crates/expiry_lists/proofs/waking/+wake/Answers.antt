@@ -1,6 +1,6 @@
-use Rattle.std.proofs.Common.{◌≡◌, ◌<◌, ap, sym, ◌∙◌, subst, refl, arith}
+use Rattle.std.proofs.Common.{ap, sym, ◌∙◌}
 use Rattle.farm_history.specs.declared.keys.Key.{Key}
-use Rattle.expiry_lists.specs.inner.Nodes.{has_bit, has_spot, lives_at}
+use Rattle.expiry_lists.specs.inner.Nodes.{has_spot, lives_at}
 use Rattle.expiry_lists.proofs.Paths.{wakes_same, wakes_then}
 use Rattle.expiry_lists.proofs.waking.+wake.Goals as goal
 

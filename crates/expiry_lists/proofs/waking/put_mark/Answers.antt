@@ -1,7 +1,6 @@
-use Rattle.std.proofs.Common.{◌≡◌, true, Some, is_some, ap, sym, ◌∙◌, subst, rules}
+use Rattle.std.proofs.Common.{◌≡◌, true, Some, sym, ◌∙◌, subst, rules}
 use Rattle.std.specs.Map.{set_value}
 use Rattle.farm_history.specs.Plans.{same_key}
-use Rattle.expiry_lists.specs.declared.nodes.Node.{Node}
 use Rattle.expiry_lists.specs.inner.Nodes.{has_node}
 use Rattle.expiry_lists.proofs.Finding.{Distinct}
 use Rattle.expiry_lists.proofs.Marking.{marking_tree, marking_marks, marking_apart}

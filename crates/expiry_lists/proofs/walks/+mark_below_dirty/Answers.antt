@@ -1,7 +1,6 @@
-use Rattle.std.proofs.Common.{◌≡◌, ℕ, ◌+◌, ◌-◌, ◌<◌, Bool, false, ◌||◌, ◌&&◌, List, sym, ap, ◌∙◌, refl, subst, arith}
+use Rattle.std.proofs.Common.{◌≡◌, ℕ, ◌+◌, ◌-◌, ◌<◌, false, ◌||◌, sym, ap, ◌∙◌, subst, arith}
 use Rattle.farm_history.specs.declared.keys.Key.{Key}
-use Rattle.farm_history.specs.Plans.{same_key}
-use Rattle.expiry_lists.specs.inner.Nodes.{lives_at, at_bits, has_bit}
+use Rattle.expiry_lists.specs.inner.Nodes.{lives_at}
 use Rattle.expiry_lists.specs.inner.Walks.{child, is_under, under_bits, Walks}
 use Rattle.expiry_lists.proofs.Bits.{none_live}
 use Rattle.expiry_lists.proofs.Walked.{walks_then, walks_none, walks_few}

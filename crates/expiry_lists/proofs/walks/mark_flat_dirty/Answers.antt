@@ -1,7 +1,5 @@
-use Rattle.std.proofs.Common.{◌+◌, ◌||◌, ◌&&◌, List, subst, arith}
-use Rattle.farm_history.specs.declared.keys.Key.{Key}
+use Rattle.std.proofs.Common.{◌+◌, ◌||◌, ◌&&◌, arith}
 use Rattle.farm_history.proofs.Lists.{each-all}
-use Rattle.farm_history.specs.Plans.{same_key}
 use Rattle.expiry_lists.specs.inner.Nodes.{at_bits, bit_of, has_bit, place_of, shown_of}
 use Rattle.expiry_lists.specs.inner.Tiles.{world_key, is_flat}
 use Rattle.expiry_lists.specs.inner.Walks.{Walks}

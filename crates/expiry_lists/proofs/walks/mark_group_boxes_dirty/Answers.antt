@@ -35,7 +35,7 @@ overflow_add-result-3 c =
 pub returns-clause-walks : goal.returns-clause-walks
 returns-clause-walks c =
     let boxes = c.args.boxes.now in
-    let test = λ k. (is_of_map c.args.at.group (place_of k) && has_bit c.args.at.mask (bit_of k)) && is_near_zooms c.args.size boxes k in
+    let test = λ (k : Key). (is_of_map c.args.at.group (place_of k) && has_bit c.args.at.mask (bit_of k)) && is_near_zooms c.args.size boxes k in
     let below = subst (λ (x : Key). Walks (near_under (18 - x.meta.z) c.args.size boxes x c.args.at.mask) c.mark_world_dirty-third.new.nodes c.mark_boxes_dirty-below.new.nodes c.mark_boxes_dirty-below.result) c.world_key.ensures c.mark_boxes_dirty-below.ensures.walks in
     walks_agree test (agree_metas c.args.nodes.now.entries c.args.nodes.now.spots c.len-count.ensures.unique c.requires.tree _ test (λ k meta. group_near c.args.at.group c.args.at.mask c.args.size boxes k meta))
     (walks_then (walks_then (walks_then c.mark_world_dirty-first.ensures.walks c.mark_world_dirty-second.ensures.walks) c.mark_world_dirty-third.ensures.walks) below)

@@ -1,4 +1,4 @@
-use Rattle.std.proofs.Common.{◌&&◌, List, ap, sym, ◌∙◌, arith, rules}
+use Rattle.std.proofs.Common.{◌&&◌, arith, rules}
 use Rattle.std.proofs.lemmas.List.Sorted.{IsPermutation-refl, IsPermutation-trans}
 use Rattle.expiry_lists.specs.Marks.{is_near_zooms}
 use Rattle.expiry_lists.specs.inner.Tiles.{is_of_maps}

@@ -1,5 +1,5 @@
 -- The keys of the groups so far are dirty.
-use Rattle.std.proofs.Common.{◌≡◌, ◌&&◌, take}
+use Rattle.std.proofs.Common.{◌&&◌, take}
 use Rattle.std.specs.Prelude.{IsPermutation}
 use Rattle.expiry_lists.specs.Marks.{is_near_zooms}
 use Rattle.expiry_lists.specs.inner.Nodes.{place_of}

@@ -1,5 +1,5 @@
 -- The bits of the maps so far.
-use Rattle.std.proofs.Common.{◌≡◌, ◌==◌, ◌+◌, ◌*◌, ◌<◌, ◌^◌, ℕ, take}
+use Rattle.std.proofs.Common.{◌≡◌, ◌==◌, ◌+◌, ◌*◌, ◌<◌, ℕ, take}
 use Rattle.std.specs.List.{list_any}
 use Rattle.expiry_lists.specs.inner.Nodes.{has_bit}
 use Rattle.expiry_lists.proofs.walks.mask_of.Given as goal

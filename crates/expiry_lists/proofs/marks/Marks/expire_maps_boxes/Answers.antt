@@ -1,6 +1,6 @@
-use Rattle.std.proofs.Common.{◌&&◌, List, ℕ, sym, ap, ◌∙◌, subst}
+use Rattle.std.proofs.Common.{◌&&◌, List, ℕ, ap, ◌∙◌, subst}
 use Rattle.farm_history.specs.Plans.{AreApart}
-use Rattle.expiry_lists.specs.Marks.{MarksSeen, shown_key, dirtied_marks, clean_marks, is_near_maps, is_near_zooms}
+use Rattle.expiry_lists.specs.Marks.{MarksSeen, shown_key, dirtied_marks, clean_marks, is_near_maps}
 use Rattle.expiry_lists.specs.inner.Nodes.{place_of, shown_of}
 use Rattle.expiry_lists.specs.inner.Tiles.{is_of_maps}
 use Rattle.expiry_lists.specs.inner.Walks.{Dirties}
@@ -8,9 +8,9 @@ use Rattle.expiry_lists.proofs.Finding.{apart_shown}
 use Rattle.expiry_lists.proofs.Showing.{all_listed}
 use Rattle.expiry_lists.proofs.Dirtying.{dirties_agree}
 use Rattle.expiry_lists.proofs.marks.Marks.expire_maps_boxes.Goals as goal
-use Rattle.expiry_lists.proofs.marks.Marks.expire_maps_boxes.Goals.{After-mark_maps_boxes_dirty}
+use Rattle.expiry_lists.proofs.marks.Marks.expire_maps_boxes.Goals.{After-boxes-1}
 
-dirtied : (c : After-mark_maps_boxes_dirty) → Dirties (is_near_maps c.args.maps.now c.args.size c.args.boxes.now) (shown_of c.self.inside.nodes.entries) (shown_of c.mark_maps_boxes_dirty.new.nodes.entries) c.mark_maps_boxes_dirty.result
+dirtied : (c : After-boxes-1) → Dirties (is_near_maps c.args.maps.now c.args.size c.args.boxes.now) (shown_of c.self.inside.nodes.entries) (shown_of c.mark_maps_boxes_dirty.new.nodes.entries) c.mark_maps_boxes_dirty.result
 dirtied c =
     let test = is_near_maps c.args.maps.now c.args.size c.args.boxes.now in
     let es = c.self.inside.nodes.entries in
