@@ -1,7 +1,7 @@
 -- Marks that are given to keys and taken from them.
-use Rattle.std.proofs.Common.{◌≡◌, ◌≤◌, Bool, true, false, cond, List, [], ◌∷◌, ◌++◌, Option, Some, None, is_some, refl, sym, ap, ◌∙◌, subst}
+use Rattle.std.proofs.Common.{◌≡◌, ◌≤◌, Bool, true, false, cond, List, Some, None, refl, sym, ap, ◌∙◌, subst}
 use Rattle.std.specs.List.{IsDistinct}
-use Rattle.std.specs.Map.{set_value, keys_of}
+use Rattle.std.specs.Map.{set_value}
 use Rattle.std.proofs.lemmas.Map.{keys-set_value}
 use Rattle.farm_history.specs.declared.keys.Key.{Key}
 use Rattle.farm_history.specs.declared.keys.Mark.{Mark}
@@ -11,9 +11,9 @@ use Rattle.plain_world.specs.World.{IsMeta}
 use Rattle.expiry_lists.specs.declared.nodes.Node.{Node}
 use Rattle.expiry_lists.specs.declared.nodes.Spot.{Spot}
 use Rattle.expiry_lists.specs.Marks.{mark_of}
-use Rattle.expiry_lists.specs.inner.Nodes.{place_of, bit_of, node_of, node_mark, is_clean, has_node, has_spot, owns_at, lives_at, shown_of, IsTree}
+use Rattle.expiry_lists.specs.inner.Nodes.{place_of, bit_of, node_of, node_mark, has_node, has_spot, owns_at, lives_at, shown_of, IsTree}
 use Rattle.expiry_lists.proofs.Finding.{Distinct, mark_found}
-use Rattle.expiry_lists.proofs.Writing.{FitsNode, Writes, set-writes, node_tree}
+use Rattle.expiry_lists.proofs.Writing.{Writes, node_tree}
 
 -- what is shown after a write
 pub marking_marks : (es new : List (Key × Node)) (key : Key) (w : Node) → Distinct es → Distinct new → Writes es key w new → (k : Key) → mark_of (shown_of new) k ≡ cond (same_key key k) w.mark (mark_of (shown_of es) k)

@@ -1,5 +1,5 @@
 -- Which keys boxes come near, in a walk down with those boxes alone that come near the key over them.
-use Rattle.std.proofs.Common.{◌≡◌, ℕ, suc, ◌+◌, ◌-◌, ◌*◌, ◌<◌, ◌≤◌, Bool, true, false, ◌&&◌, ◌||◌, ◌==◌, nat_lt, List, [], ◌∷◌, ◌++◌, length, take, drop, get_or, refl, sym, ap, ap₂, ◌∙◌, subst, inl, inr, arith}
+use Rattle.std.proofs.Common.{◌≡◌, ℕ, suc, ◌+◌, ◌-◌, ◌*◌, ◌<◌, ◌≤◌, Bool, true, false, ◌&&◌, ◌||◌, nat_lt, List, [], ◌∷◌, ◌++◌, length, take, drop, get_or, refl, sym, ap, ap₂, ◌∙◌, subst, inl, inr, arith}
 use Rattle.std.specs.Prelude.{All, IsPermutation}
 use Rattle.std.specs.List.{list_any, swap}
 use Rattle.std.proofs.lemmas.Bool.{and_parts, cases_eq, false_from_ne_true}
@@ -21,14 +21,14 @@ use Rattle.farm_history.proofs.Lists.{each-map, each-all, same_key-true}
 use Rattle.expiry_lists.specs.Boxes.{comes_near}
 use Rattle.expiry_lists.specs.Marks.{is_met, some_meets, is_of_map, is_near_zooms}
 use Rattle.expiry_lists.specs.inner.Nodes.{NodeTable, place_of, bit_of, has_bit, at_bits, lives_at, shown_of, IsTree}
-use Rattle.expiry_lists.specs.inner.Tiles.{world_key, is_of_maps}
+use Rattle.expiry_lists.specs.inner.Tiles.{world_key}
 use Rattle.expiry_lists.specs.inner.Walks.{child, is_under, under_bits, IsNode, Walks}
 use Rattle.expiry_lists.proofs.Finding.{Distinct}
 use Rattle.expiry_lists.proofs.Live.{node_on_grid, none_under}
 use Rattle.expiry_lists.proofs.Walked.{walks_agree, walks_none}
 use Rattle.expiry_lists.proofs.BoxLaws.{over_near}
 use Rattle.expiry_lists.proofs.Over.{node_square, meta_square-node, under_below, below_over}
-use Rattle.expiry_lists.proofs.Tiles.{agree_metas, none_metas, map_agrees, mask_stands}
+use Rattle.expiry_lists.proofs.Tiles.{agree_metas, none_metas, map_agrees}
 
 -- ---- margins
 
@@ -254,15 +254,3 @@ pub some_told : (boxes : List Bounds) (size group z margin : ℕ) (key : Key) (s
     → some_meets size boxes (world_key group z) ≡ answer
 some_told boxes size group z margin key s answer wide is square told =
     ap₂ (λ (x : ℕ) (y : Square). list_any (λ b. comes_near b x y) boxes) (sym wide) (sym (square ∙ ap (λ (k : Key). meta_square k.meta) is)) ∙ sym told
-
-and_turns : (x y z : Bool) → ((x && y) && z) ≡ (x && (y && z))
-and_turns true y z = refl
-and_turns false y z = refl
-
--- what a walk over a group did, told by its maps and by the boxes as they first stood
-pub group_told : {a b : NodeTable} {n : ℕ} (maps : List ℕ) (group mask size : ℕ) (boxes now : List Bounds) → IsPermutation boxes now → ((i : ℕ) → i < 64 → has_bit mask i ≡ list_any (λ m. m == group * 64 + i) maps)
-    → Walks (λ k. (is_of_map group (place_of k) && has_bit mask (bit_of k)) && is_near_zooms size now k) a b n → Walks (λ k. is_of_map group (place_of k) && (is_of_maps maps k && is_near_zooms size boxes k)) a b n
-group_told {a} maps group mask size boxes now moved told w =
-    walks_agree (λ k. is_of_map group (place_of k) && (is_of_maps maps k && is_near_zooms size boxes k)) (each-all _ (shown_of a.entries) (λ s clean.
-    ap₂ (λ x y. x && (nat_lt s.key.meta.z 19 && y)) (mask_stands maps group mask s.key told) (sym (list_any-IsPermutation (λ b. is_met b size s.key) boxes now moved))
-    ∙ and_turns (is_of_map group (place_of s.key)) (is_of_maps maps s.key) (is_near_zooms size boxes s.key))) w

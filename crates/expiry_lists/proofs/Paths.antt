@@ -1,17 +1,15 @@
 -- Spots on the way from a group's root to a place, one after another.
-use Rattle.std.proofs.Common.{◌≡◌, ℕ, ◌+◌, ◌-◌, ◌<◌, ◌≤◌, ◌^◌, ◌==◌, Bool, true, false, ◌&&◌, ◌||◌, cond, List, [], ◌∷◌, ◌++◌, Option, Some, None, is_some, refl, sym, ap, ◌∙◌, subst, inl, inr, ◌⊎◌, arith}
+use Rattle.std.proofs.Common.{◌≡◌, ℕ, ◌<◌, ◌^◌, ◌==◌, Bool, true, false, ◌&&◌, cond, [], ◌∷◌, ◌++◌, Some, None, is_some, refl, sym, ap, ◌∙◌, subst, inl, inr}
 use Rattle.std.specs.Prelude.{bit_and, bit_or}
 use Rattle.std.specs.Map.{set_value}
-use Rattle.std.proofs.lemmas.Bool.{and_parts, eqb-true, or_cases, or_left, or_right, false_from_ne_true}
-use Rattle.std.proofs.lemmas.Bool.Decides.{nat_tests}
+use Rattle.std.proofs.lemmas.Bool.{and_parts, eqb-true, or_cases, or_left, or_right}
 use Rattle.farm_history.specs.declared.keys.Key.{Key}
 use Rattle.farm_history.specs.Plans.{same_key}
-use Rattle.farm_history.proofs.Lists.{same_key-true, same_key-self}
+use Rattle.farm_history.proofs.Lists.{same_key-true}
 use Rattle.plain_world.specs.World.{IsMeta}
-use Rattle.expiry_lists.specs.declared.nodes.Node.{Node}
 use Rattle.expiry_lists.specs.declared.nodes.Spot.{Spot}
 use Rattle.expiry_lists.specs.inner.Nodes.{NodeTable, parent, place_of, bit_of, has_bit, is_clean_at, spot_of, has_spot, own_word, live_word, owns_at, lives_at, IsTree}
-use Rattle.expiry_lists.specs.inner.Waking.{path_len, Wakes}
+use Rattle.expiry_lists.specs.inner.Waking.{Wakes}
 use Rattle.expiry_lists.proofs.Bits.{or_bit, whole_met, no_bit}
 use Rattle.expiry_lists.proofs.Writing.{FitsSpot, Writes, set-writes, add-writes, spot_tree, still_there, written_at, written_here}
 

@@ -1,6 +1,6 @@
 -- The marks at a place made dirty by a word of bits, and bits taken from its spot.
-use Rattle.std.proofs.Common.{◌≡◌, ◌≢◌, ℕ, ◌+◌, ◌*◌, ◌/◌, ◌%◌, ◌^◌, ◌<◌, ◌≤◌, ◌==◌, nat_lt, Bool, true, false, not, ◌&&◌, ◌||◌, List, length, Option, Some, None, is_some, refl, sym, ap, ap₂, ◌∙◌, subst, inl, inr, ◌⊎◌, arith}
-use Rattle.std.specs.Int.{bit_at, bit_not, w64}
+use Rattle.std.proofs.Common.{◌≡◌, ◌≢◌, ℕ, ◌+◌, ◌*◌, ◌^◌, ◌<◌, ◌≤◌, ◌==◌, nat_lt, Bool, true, false, not, ◌&&◌, ◌||◌, List, Some, None, is_some, refl, sym, ap, ap₂, ◌∙◌, subst, arith}
+use Rattle.std.specs.Int.{bit_not, w64}
 use Rattle.std.specs.Prelude.{bit_and}
 use Rattle.std.specs.Map.{set_value}
 use Rattle.std.proofs.lemmas.Bool.{and_parts, and_from, false_from_ne_true}
@@ -10,13 +10,12 @@ use Rattle.farm_history.specs.Plans.{same_key}
 use Rattle.farm_history.proofs.Lists.{each-all, each-map, same_key-true}
 use Rattle.expiry_lists.specs.declared.nodes.Node.{Node}
 use Rattle.expiry_lists.specs.declared.nodes.Spot.{Spot}
-use Rattle.expiry_lists.specs.Marks.{Shown}
 use Rattle.expiry_lists.specs.inner.Nodes.{NodeTable, parent, place_of, bit_of, has_bit, at_bits, has_node, has_spot, is_clean, is_clean_at, spot_of, own_word, live_word, owns_at, lives_at, shown_of, IsTree, Quieter}
 use Rattle.expiry_lists.specs.inner.Walks.{Dirties, Walks}
 use Rattle.expiry_lists.proofs.Bits.{and_bit, less_bit, few_bits, no_bit}
-use Rattle.expiry_lists.proofs.Dirtying.{AgreeOn, NoneOf}
+use Rattle.expiry_lists.proofs.Dirtying.{AgreeOn}
 use Rattle.expiry_lists.proofs.Finding.{Distinct, Marked, all_marked}
-use Rattle.expiry_lists.proofs.Walked.{walks_then, walks_agree, walks_none, walks_clean, walks_of}
+use Rattle.expiry_lists.proofs.Walked.{walks_then, walks_agree, walks_none, walks_clean}
 use Rattle.expiry_lists.proofs.Writing.{Takes, Writes, same_there, set-writes, spot_tree, takes_fits, takes_quieter, written_here}
 
 -- one bit: the key of that place with that map

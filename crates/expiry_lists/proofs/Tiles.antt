@@ -1,11 +1,9 @@
 -- Which keys an expiry of a tile, of a map or of a rectangle meets.
-use Rattle.std.proofs.Common.{◌≡◌, ◌≢◌, ℕ, zero, suc, [], ◌∷◌, ◌++◌, take, get_or, length, ◌+◌, ◌-◌, ◌*◌, ◌/◌, ◌%◌, ◌^◌, ◌<◌, ◌≤◌, Bool, true, false, ◌&&◌, ◌||◌, ◌==◌, nat_le, if◌then◌else◌, List, refl, sym, ap, ap₂, ◌∙◌, subst, inl, inr, ◌⊎◌, arith}
+use Rattle.std.proofs.Common.{◌≡◌, ◌≢◌, ℕ, zero, suc, [], ◌∷◌, ◌++◌, take, get_or, length, ◌+◌, ◌-◌, ◌*◌, ◌/◌, ◌%◌, ◌^◌, ◌<◌, ◌≤◌, Bool, true, false, ◌&&◌, ◌||◌, ◌==◌, nat_le, nat_lt, if◌then◌else◌, List, refl, sym, ap, ◌∙◌, subst, inl, inr, ◌⊎◌, arith}
 use Rattle.std.proofs.lemmas.Bool.{cases_eq, cases_lt, eqb-true, eq-eqb, false_from_ne_true, or_left, or_right}
 use Rattle.std.proofs.lemmas.List.{take_more}
 use Rattle.std.proofs.lemmas.Bool.Decides.{nat_tests}
 use Rattle.std.specs.Int.{bit_at}
-use Rattle.std.specs.Prelude.{bit_or}
-use Rattle.std.specs.List.{list_any}
 use Rattle.std.proofs.lemmas.Nat.Bits.{bit_at-pow_same, bit_at-pow_other}
 use Rattle.std.proofs.lemmas.Nat.{pow_pos, pow_below, pow-add, shr-shr, div_below, shr_below}
 use Rattle.plain_world.specs.declared.world.Square.{Square}
@@ -16,12 +14,12 @@ use Rattle.farm_history.specs.declared.keys.Key.{Key}
 use Rattle.farm_history.specs.Plans.{same_key, overlaps}
 use Rattle.farm_history.proofs.Lists.{each-map, each-all, any-append, same_key-self}
 use Rattle.expiry_lists.specs.declared.nodes.Node.{Node}
-use Rattle.expiry_lists.specs.Marks.{is_of_map}
+use Rattle.expiry_lists.specs.Marks.{is_of_map, is_of_bits}
 use Rattle.expiry_lists.specs.inner.Nodes.{NodeTable, place_of, bit_of, has_bit, at_bits, node_of, shown_of, IsTree}
 use Rattle.expiry_lists.specs.inner.Tiles.{world_key, is_flat, key_over, is_of_maps}
 use Rattle.expiry_lists.specs.inner.Walks.{is_under, is_above, under_bits, above_bits, IsNode, Walks}
 use Rattle.expiry_lists.specs.declared.nodes.Spot.{Spot}
-use Rattle.expiry_lists.proofs.Bits.{all_bits, no_bit, or_bit}
+use Rattle.expiry_lists.proofs.Bits.{all_bits}
 use Rattle.expiry_lists.proofs.Dirtying.{AgreeOn, NoneOf}
 use Rattle.expiry_lists.proofs.Finding.{Distinct, Marked, all_marked, marked_there}
 use Rattle.expiry_lists.proofs.Live.{OnGrid, node_on_grid, under_deep}
@@ -262,37 +260,20 @@ one_bit i b few = go (cases_eq b i)
 pub mask_of_map : (map : ℕ) (k : Key) → has_bit (1 * 2 ^ (map % 64) % 2 ^ 64) (bit_of k) ≡ (bit_of k == map % 64)
 mask_of_map map k = one_bit (map % 64) (bit_of k) (omega arith)
 
--- the bit of a map in a group,
-pub bit_there : (map group b : ℕ) → map / 64 ≡ group → b < 64 → has_bit (1 * 2 ^ (map % 64) % 2 ^ 64) b ≡ (map == group * 64 + b)
-bit_there map group b own few = one_bit (map % 64) b (omega arith) ∙ same
+-- and of those of the first 64 maps that have their bits in a word
+pub first_bits : (word : ℕ) (k : Key) → ((0 == k.map / 64) && has_bit word (bit_of k)) ≡ is_of_bits word k
+first_bits word k = go (cases_lt k.map 64)
   where
-    same : (b == map % 64) ≡ (map == group * 64 + b)
-    same = grind (arith, nat_tests)
-
-pub bit_elsewhere : (map group b : ℕ) → (map / 64 ≡ group → ⊥) → b < 64 → has_bit 0 b ≡ (map == group * 64 + b)
-bit_elsewhere map group b other few = no_bit b ∙ sym (false_from_ne_true (map == group * 64 + b) (λ h. other (omega (arith, eqb-true map (group * 64 + b) h, few))))
-
--- and those of maps, one after another
-pub bits_joined : (maps : List ℕ) (i map group mask bit b : ℕ) → i < length maps → map ≡ get_or maps i 0 → has_bit mask b ≡ list_any (λ m. m == group * 64 + b) (take i maps) → has_bit bit b ≡ (map == group * 64 + b)
-    → has_bit (bit_or mask bit) b ≡ list_any (λ m. m == group * 64 + b) (take (i + 1) maps)
-bits_joined maps i map group mask bit b within is before own =
-    or_bit mask bit b ∙ (ap₂ (λ x y. x || y) before own ∙ (or_false (list_any (λ m. m == group * 64 + b) (take i maps)) (map == group * 64 + b)
-    ∙ sym (ap (list_any (λ m. m == group * 64 + b)) (take_more maps i 0 within ∙ ap (λ x. take i maps ++ x ∷ []) (sym is)) ∙ any-append (λ m. m == group * 64 + b) (take i maps) (map ∷ []))))
-  where
-    or_false : (x y : Bool) → (x || y) ≡ (x || (y || false))
-    or_false true y = refl
-    or_false false true = refl
-    or_false false false = refl
-
--- so the mask of maps in a group stands for them
-pub mask_stands : (maps : List ℕ) (group mask : ℕ) (k : Key) → ((b : ℕ) → b < 64 → has_bit mask b ≡ list_any (λ m. m == group * 64 + b) maps) → (is_of_map group (place_of k) && has_bit mask (bit_of k)) ≡ (is_of_map group (place_of k) && is_of_maps maps k)
-mask_stands maps group mask k told = go (group == k.map / 64) refl
-  where
-    go : (x : Bool) → (group == k.map / 64) ≡ x → (x && has_bit mask (bit_of k)) ≡ (x && is_of_maps maps k)
-    go false other = refl
-    go true own =
-        let is : group * 64 + bit_of k ≡ k.map = omega (arith, eqb-true group (k.map / 64) own) in
-        told (bit_of k) (omega arith) ∙ ap (λ n. list_any (λ m. m == n) maps) is
+    go : (k.map < 64) ⊎ (64 ≤ k.map) → ((0 == k.map / 64) && has_bit word (bit_of k)) ≡ is_of_bits word k
+    go (inl few) =
+        let first : (0 == k.map / 64) ≡ true = eq-eqb 0 (k.map / 64) (omega (arith, few)) in
+        let bit : bit_of k ≡ k.map = omega (arith, few) in
+        let small : nat_lt k.map 64 ≡ true = grind (arith, nat_tests) in
+        rw (first, small) (ap (has_bit word) bit)
+    go (inr many) =
+        let later : (0 == k.map / 64) ≡ false = grind (arith, nat_tests) in
+        let large : nat_lt k.map 64 ≡ false = grind (arith, nat_tests) in
+        rw (later, large) refl
 
 one_map : (map : ℕ) (k : Key) → ((map / 64 == k.map / 64) && (bit_of k == map % 64)) ≡ (map == k.map)
 one_map map k = grind (arith, nat_tests)

@@ -1,12 +1,11 @@
 -- Expiries of the tables, one after another, and the one of a single key.
-use Rattle.std.proofs.Common.{◌≡◌, ◌≢◌, ℕ, ◌+◌, ◌<◌, ◌≤◌, Bool, true, false, ◌||◌, cond, List, [], ◌∷◌, length, find, Option, Some, None, option_map, is_some, refl, sym, ap, ◌∙◌, subst, arith}
+use Rattle.std.proofs.Common.{◌≡◌, ℕ, ◌+◌, ◌≤◌, Bool, true, false, ◌||◌, cond, List, [], ◌∷◌, length, find, Option, Some, None, option_map, is_some, refl, sym, ap, ◌∙◌, subst, arith}
 use Rattle.std.specs.Map.{set_value}
 use Rattle.farm_history.specs.declared.keys.Key.{Key}
 use Rattle.farm_history.specs.declared.keys.Mark.{Mark}
 use Rattle.farm_history.specs.Plans.{same_key}
 use Rattle.farm_history.proofs.Lists.{same_key-true}
 use Rattle.expiry_lists.specs.declared.nodes.Node.{Node}
-use Rattle.expiry_lists.specs.declared.nodes.Spot.{Spot}
 use Rattle.expiry_lists.specs.Marks.{Shown, mark_of, touched_by, dirtied_marks}
 use Rattle.expiry_lists.specs.inner.Nodes.{NodeTable, node_of, node_mark, is_clean, has_node, has_spot, is_clean_at, lives_at, shown_of, IsTree}
 use Rattle.expiry_lists.specs.inner.Walks.{Dirties, Walks}

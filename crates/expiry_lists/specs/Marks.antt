@@ -1,5 +1,6 @@
 -- Marks: what is shown of metatiles, and what an expiry makes of it.
 use Rattle.std.specs.Prelude.{ℕ, ◌≡◌, Bool, ◌&&◌, ◌==◌, not, nat_lt, List, map, count_by, find, Option, Some, None, option_map, if◌then◌else◌}
+use Rattle.std.specs.Int.{bit_at}
 use Rattle.std.specs.List.{list_any}
 use Rattle.farm_history.specs.declared.keys.Key.{Key}
 use Rattle.farm_history.specs.declared.keys.Mark.{Mark}
@@ -63,9 +64,13 @@ is_near_zooms size boxes k = nat_lt k.meta.z 19 && some_meets size boxes k
 abbrev pub is_near_boxes : ℕ → ℕ → List Bounds → Key → Bool
 is_near_boxes map size boxes k = is_of_map map k && is_near_zooms size boxes k
 
--- whether it is of one of these maps too
-abbrev pub is_near_maps : List ℕ → ℕ → List Bounds → Key → Bool
-is_near_maps maps size boxes k = list_any (λ map. is_of_map map k) maps && is_near_zooms size boxes k
+-- whether the key's map is one of the first 64, and has its bit in the word
+abbrev pub is_of_bits : ℕ → Key → Bool
+is_of_bits word k = nat_lt k.map 64 && (bit_at word k.map == 1)
+
+-- whether it is that near too
+abbrev pub is_near_bits : ℕ → ℕ → List Bounds → Key → Bool
+is_near_bits word size boxes k = is_of_bits word k && is_near_zooms size boxes k
 
 -- the box with these edges
 abbrev pub rectangle : ℕ → ℕ → ℕ → ℕ → Bounds

@@ -6,7 +6,7 @@ ghost use Rattle.farm_history.specs.Plans.{same_key, overlaps, AreApart};
 ghost use Rattle.farm_history.specs.Replays.{are_rising, kept_of, kept_version};
 ghost use Rattle.plain_world.specs.World.{IsMeta, IsTile, IsTileSize};
 ghost use Rattle.expiry_lists.specs.inner.Nodes.{has_bit};
-ghost use Rattle.expiry_lists.specs.Marks.{shown_key, mark_of, dirtied_marks, clean_marks, is_of_map, is_near_boxes, is_near_maps, is_in_box, rectangle, clean_version, InBox};
+ghost use Rattle.expiry_lists.specs.Marks.{shown_key, mark_of, dirtied_marks, clean_marks, is_of_map, is_near_boxes, is_near_bits, is_in_box, rectangle, clean_version, InBox};
 
 use crate::keeping::{clean_entries, sort_by_key};
 use crate::nodes::{mark_at, mark_one_dirty, settle_all};
@@ -14,7 +14,7 @@ use crate::rectangles::mark_box_dirty;
 use crate::table::Nodes;
 use crate::waking::{drop_mark, own, put_mark, wake};
 use crate::walks::{
-    is_some_live, mark_groups_dirty, mark_map_boxes_dirty, mark_map_dirty, mark_maps_boxes_dirty,
+    is_some_live, mark_bits_boxes_dirty, mark_groups_dirty, mark_map_boxes_dirty, mark_map_dirty,
 };
 use farm_base::NoMemory;
 use farm_history::{Kept, Key, Mark};
@@ -152,17 +152,17 @@ impl Marks {
         mark_map_boxes_dirty(&mut self.nodes, map, size, boxes)
     }
 
-    /// The same for these maps, whose tiles have that size, together.
-    pub fn expire_maps_boxes(&mut self, maps: &[u32], size: u32, boxes: &mut [Bounds]) -> u64
+    /// The same for those of the first 64 maps whose bits are in the word, in one walk.
+    pub fn expire_bits_boxes(&mut self, word: u64, size: u32, boxes: &mut [Bounds]) -> u64
         requires { IsTileSize size }
-        ensures shown { self.new.shown ≡ dirtied_marks (is_near_maps maps.now size boxes.old) self.old.shown }
-        ensures count { result ≡ clean_marks (is_near_maps maps.now size boxes.old) self.old.shown }
+        ensures shown { self.new.shown ≡ dirtied_marks (is_near_bits word size boxes.old) self.old.shown }
+        ensures count { result ≡ clean_marks (is_near_bits word size boxes.old) self.old.shown }
         ensures moved { IsPermutation boxes.old boxes.new }
         ensures apart { AreApart shown_key self.old.shown }
         ensures room { self.new.room ≡ self.old.room }
     {
         let _count = self.nodes.len();
-        mark_maps_boxes_dirty(&mut self.nodes, &self.groups, maps, size, boxes)
+        mark_bits_boxes_dirty(&mut self.nodes, word, size, boxes)
     }
 
     /// Makes dirty what is shown of the map at zoom `z` where the metatile's square holds a point of the

@@ -4,7 +4,7 @@ ghost use Rattle.std.specs.Prelude.{◌≡◌, ◌<◌, ◌≤◌, ◌-◌, ◌&
 ghost use Rattle.std.specs.List.{list_any};
 ghost use Rattle.farm_history.specs.Plans.{overlaps, same_key};
 ghost use Rattle.plain_world.specs.World.{IsTile, IsTileSize};
-ghost use Rattle.expiry_lists.specs.Marks.{is_of_map, some_meets, is_near_boxes, is_near_zooms};
+ghost use Rattle.expiry_lists.specs.Marks.{is_of_map, some_meets, is_near_bits, is_near_boxes, is_near_zooms};
 ghost use Rattle.expiry_lists.specs.inner.Nodes.{at_bits, bit_of, has_bit, lives_at, parent, place_of, IsTree};
 ghost use Rattle.expiry_lists.specs.inner.Tiles.{world_key, is_flat, key_over, is_of_maps};
 ghost use Rattle.expiry_lists.specs.inner.Walks.{child, under_bits, above_bits, IsNode, Walks};
@@ -272,6 +272,17 @@ pub fn mark_group_boxes_dirty(nodes: &mut Nodes, at: World, size: u32, boxes: &m
     first + second + third + below
 }
 
+/// Makes the keys of the first 64 maps dirty whose bits are in the mask, likewise.
+pub fn mark_bits_boxes_dirty(nodes: &mut Nodes, mask: u64, size: u32, boxes: &mut [Bounds]) -> u64
+    requires size { IsTileSize size }
+    requires tree { IsTree nodes.old.entries nodes.old.spots }
+    ensures walks { Walks (is_near_bits mask size boxes.old) nodes.old nodes.new result }
+    ensures moved { IsPermutation boxes.old boxes.new }
+{
+    let at = World { group: 0, mask };
+    mark_group_boxes_dirty(nodes, at, size, boxes)
+}
+
 /// Makes the map's keys dirty that some of the boxes is near, likewise.
 pub fn mark_map_boxes_dirty(nodes: &mut Nodes, map: u32, size: u32, boxes: &mut [Bounds]) -> u64
     requires size { IsTileSize size }
@@ -285,51 +296,4 @@ pub fn mark_map_boxes_dirty(nodes: &mut Nodes, map: u32, size: u32, boxes: &mut 
         mask,
     };
     mark_group_boxes_dirty(nodes, at, size, boxes)
-}
-
-/// The bit of the map, where it is of the group.
-fn bit_in(map: u32, group: u32) -> u64
-    ensures { (b : ℕ) → b < 64 → has_bit result b ≡ (map == group * 64 + b) }
-{
-    if map / 64 == group {
-        1 << (map % 64)
-    } else {
-        0
-    }
-}
-
-/// The bits of those of these maps that are of the group.
-fn mask_of(maps: &[u32], group: u32) -> u64
-    ensures { (b : ℕ) → b < 64 → has_bit result b ≡ list_any (λ m. m == group * 64 + b) maps.now }
-{
-    let mut mask = 0;
-    for map in maps {
-        mask |= bit_in(*map, group);
-    }
-    mask
-}
-
-/// Makes the keys of these maps dirty that some of the boxes is near, in one walk for each group.
-pub fn mark_maps_boxes_dirty(
-    nodes: &mut Nodes,
-    groups: &[u32],
-    maps: &[u32],
-    size: u32,
-    boxes: &mut [Bounds],
-) -> u64
-    requires size { IsTileSize size }
-    requires tree { IsTree nodes.old.entries nodes.old.spots }
-    ensures walks { Walks (λ k. is_of_maps groups.now (place_of k) && (is_of_maps maps.now k && is_near_zooms size boxes.old k)) nodes.old nodes.new result }
-    ensures moved { IsPermutation boxes.old boxes.new }
-{
-    let _count = nodes.len();
-    let mut count = 0;
-    for group in groups {
-        let at = World {
-            group: *group,
-            mask: mask_of(maps, *group),
-        };
-        count += mark_group_boxes_dirty(nodes, at, size, boxes);
-    }
-    count
 }

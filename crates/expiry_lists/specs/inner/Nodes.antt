@@ -1,7 +1,7 @@
 -- The tables that Marks keep. One has a node for each key that was shown. The other has a spot for the place of each such key, and for each place
 -- above one: a word of bits, one for each of 64 maps. The square of a place of zoom 3 or later has four squares of the next zoom, whose places
 -- are found by their numbers; so the spots are a quadtree for all maps of a group, and the places are its links.
-use Rattle.std.specs.Prelude.{ℕ, ◌-◌, ◌*◌, ◌/◌, ◌%◌, ◌^◌, ◌≤◌, ◌<◌, ◌≡◌, ◌==◌, ◌&&◌, Bool, true, false, List, [], ◌∷◌, Option, Some, None, is_some, if◌then◌else◌}
+use Rattle.std.specs.Prelude.{ℕ, ◌-◌, ◌*◌, ◌/◌, ◌%◌, ◌^◌, ◌≤◌, ◌<◌, ◌≡◌, ◌==◌, ◌&&◌, Bool, true, false, List, [], ◌∷◌, Option, Some, None, is_some}
 use Rattle.std.specs.Int.{bit_at}
 use Rattle.std.specs.Map.{lookup}
 use Rattle.farm_history.specs.declared.keys.Key.{Key}

@@ -1,7 +1,7 @@
 -- What it takes to show a key: spots on the way from its group's root.
-use Rattle.std.specs.Prelude.{ℕ, ◌+◌, ◌-◌, ◌≡◌, ◌⊎◌, Bool, true, List}
+use Rattle.std.specs.Prelude.{ℕ, ◌+◌, ◌-◌, ◌≡◌, ◌⊎◌, true}
 use Rattle.farm_history.specs.declared.keys.Key.{Key}
-use Rattle.expiry_lists.specs.inner.Nodes.{NodeTable, has_bit, has_spot, lives_at, owns_at, IsTree}
+use Rattle.expiry_lists.specs.inner.Nodes.{NodeTable, has_bit, has_spot, lives_at, IsTree}
 
 -- how many spots lead to a place, its own among them: at most 16
 abbrev pub path_len : Key → ℕ

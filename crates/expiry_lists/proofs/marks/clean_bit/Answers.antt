@@ -1,4 +1,4 @@
-use Rattle.std.proofs.Common.{◌≡◌, ◌==◌, ◌%◌, refl, ◌∙◌, arith}
+use Rattle.std.proofs.Common.{◌%◌, refl, ◌∙◌, arith}
 use Rattle.std.proofs.lemmas.Bool.{eq-eqb}
 use Rattle.expiry_lists.proofs.Tiles.{one_bit}
 use Rattle.expiry_lists.proofs.marks.clean_bit.Goals as goal

@@ -1,6 +1,6 @@
-use Rattle.std.proofs.Common.{◌≡◌, ◌≤◌, ◌-◌, ◌/◌, ◌%◌, min, true, false, vec_len, vec_capacity, ap, sym, ◌∙◌, arith}
+use Rattle.std.proofs.Common.{◌≡◌, ◌≤◌, ◌-◌, ◌/◌, min, true, false, vec_len, vec_capacity, ap, sym, ◌∙◌, arith}
 use Rattle.expiry_lists.specs.Marks.{MarksSeen}
-use Rattle.expiry_lists.specs.inner.Nodes.{has_bit, has_node, has_spot, place_of, bit_of}
+use Rattle.expiry_lists.specs.inner.Nodes.{has_node, has_spot, place_of, bit_of}
 use Rattle.expiry_lists.proofs.Showing.{place_for, shown_has, unlisted_gone, spotless_key, room_for_path, room_for_node, room_for_group, kept_after}
 use Rattle.expiry_lists.proofs.marks.Marks.show.Goals as goal
 
