@@ -5,9 +5,10 @@
 
 Want of memory is free in every contract, so a program that answers it from some size on keeps them all. Here memory is
 ample, and each answer is the one that the formats and the rules say. It is for the programs that `rt ci` built, as both
-compilers build them, or for those named as words, and needs Python 3, a C compiler (`cc`) and `.ci/sockets.py`. Each row is a function that
-runs in a folder of its own; of one that fails the first difference is told. It takes a quarter of a minute for each
-program and leaves nothing behind. The status is 1 where a row failed, as `.ci/sockets.py` has it.
+compilers build them, or for those named as words, and needs Python 3, a C compiler
+(`cc`) and `.ci/sockets.py`. Each row is a function that runs in a folder of its own (`--row NAME`: that one alone); of the
+first that fails the difference is told. It takes a quarter of a minute for each program and leaves nothing behind. The status
+is 1 where a row failed, as `.ci/sockets.py` has it, and where this machine allows less than a row wants.
 """
 
 import json
@@ -21,7 +22,9 @@ import sys
 import time
 
 sys.dont_write_bytecode = True
-from sockets import EACH, Late, NO_MEMORY, SAVED, Unlike, connected, main, received, same, serves, told, wanted  # noqa: E402
+import patience  # noqa: E402
+from sockets import (EACH, Late, NO_MEMORY, SAVED, Unlike, connected, counted, finished, main, received, same, send, serves,
+                     told, wanted)  # noqa: E402  # fmt: skip
 
 SIZES = (16, 32, 64, 128, 256, 512)
 MAPS = 16
@@ -34,8 +37,9 @@ LINES = 1000000  # of a script and of a list
 ANSWERS = 1 << 20  # bytes that are kept for who does not read
 HEAD = 8192
 CONNECTIONS = 1024  # at each front
-FILES = 8192  # that farm and script may have open, each
+FILES = 4096  # that farm and script may have open, each
 ENOUGH = 4 * EACH  # seconds for a command
+BEGINS = 8 << 20  # bytes of addresses with which each command begins, at the latest
 STAGED_BYTES = 532 + 64 * (15 + 3 * 128 * 128)  # of 64 tiles of 128 pixels
 # What a program writes out to the disk waits until a file `go` is there.
 HOLD = b"""#include <sys/syscall.h>
@@ -82,11 +86,14 @@ def long_name(number):
 def ran(program, *words, most=None):
     """The status and both streams of a command, which may have so many bytes of addresses."""
     little = (lambda: resource.setrlimit(resource.RLIMIT_AS, (most, most))) if most else None
+    counted["commands"] = counted.get("commands", 0) + 1
+    made = subprocess.Popen([program, *words], stdin=subprocess.DEVNULL, stdout=subprocess.PIPE, stderr=subprocess.PIPE, preexec_fn=little)
     try:
-        made = subprocess.run([program, *words], stdin=subprocess.DEVNULL, capture_output=True, timeout=ENOUGH, preexec_fn=little)
-    except subprocess.TimeoutExpired:
-        raise Late(words[0])
-    return made.returncode, made.stdout, made.stderr
+        return finished(words[0], made, ENOUGH)
+    finally:
+        if made.poll() is None:
+            made.kill()
+            made.wait()
 
 
 def answers(program, asked, **keys):
@@ -260,7 +267,7 @@ def long_texts(program):
 
 def little_memory(program):
     """Commands that have ever more memory, from too little to begin at all: each ends as it is to, or says what is wanting
-    behind a beginning of its answers."""
+    behind a beginning of its answers. Only as long as none has begun may the system have ended it."""
     for name in ("red.style", "square.data"):
         put(name, wanted.FILES[name])
     put("a.config", {"maps": [{"name": "default", "style": "red.style", "tile": 256}], "data": "square.data"})
@@ -275,9 +282,10 @@ def little_memory(program):
             (("render", "red.style", "square.data", "512", "3", "2", "2"), (0, picture(512, 0, 0, 512, 512), b""), [b""], 1 << 18),
             (("script", "a.config", "a.script"), (0, beginnings[-1], b""), beginnings, 1 << 18)):  # fmt: skip
         wanting = [(5, out, NO_MEMORY.encode()) for out in before]
+        has_begun = False
         for most in list(range(3 << 20, 5 << 20, step)) + list(range(5 << 20, 40 << 20, 3 << 20)) + [1 << 30]:
             seen = ran(program, *words, most=most)
-            has_begun = 0 <= seen[0] < 100  # else the system ended it
+            has_begun |= 0 <= seen[0] < 100 or most >= BEGINS
             if has_begun and seen not in wanting:
                 same("%s with %d bytes of addresses" % (words[0], most), seen, wants)
         same("%s with enough memory" % words[0], seen, wants)
@@ -329,7 +337,7 @@ def in_pieces(what, address, content, cuts, wants):
         made.setsockopt(socket.IPPROTO_TCP, socket.TCP_NODELAY, 1)
         try:
             for begin, end in zip([0] + cuts, cuts + [len(content)]):
-                made.sendall(content[begin:end])
+                send(made, content[begin:end])
                 time.sleep(0.005 if len(cuts) < 100 else 0)
         except ConnectionError:
             pass
@@ -354,7 +362,7 @@ def all_at_once(what, address, sent, wants):
     """Sends all before anything is read, unless the connection is closed; the first answer that is not as wanted is told."""
     with connected(address) as made:
         try:
-            made.sendall(sent)
+            send(made, sent)
         except ConnectionError:
             pass
         seen = received(what, made, sum(map(len, wants)))
@@ -397,7 +405,7 @@ def many_drawings(program):
     def run(farm):
         with connected(farm.renderd) as made:
             for turn in range(TURNS):
-                made.sendall(asked)
+                send(made, asked)
                 seen = received("drawings %d" % (turn * len(places)), made, 64 * len(places))
                 same("replies to drawings from %d on" % (turn * len(places)), each_message(seen), wants)
         count = TURNS * len(places)
@@ -407,16 +415,18 @@ def many_drawings(program):
 
 
 def open_files():
-    """How many files may be open, as many as are wanted where the system allows it."""
+    """Lets farm and script have as many files open as are wanted; where the system does not allow it, that is told."""
     _, hard = resource.getrlimit(resource.RLIMIT_NOFILE)
-    most = FILES if hard == resource.RLIM_INFINITY else min(FILES, hard)
-    resource.setrlimit(resource.RLIMIT_NOFILE, (most, hard))
-    return most
+    try:
+        resource.setrlimit(resource.RLIMIT_NOFILE, (FILES, FILES if hard < FILES and hard != resource.RLIM_INFINITY else hard))
+    except (OSError, ValueError):
+        raise Unlike("%d connections at each front want %d open files, and the limit RLIMIT_NOFILE (ulimit -Hn) is %d" % (CONNECTIONS, FILES, hard))
 
 
 def full_fronts(program):
     """As many connections as a front has, at all three at once, of which each is answered; one more is closed."""
-    count = max(1, min(CONNECTIONS, (open_files() - 100) // 3))
+    count = CONNECTIONS
+    open_files()
 
     def run(farm):
         refused = wanted.message(wanted.RENDER, 0, 1, 0), wanted.message(wanted.NOT_DONE, 0, 1, 0)
@@ -424,16 +434,15 @@ def full_fronts(program):
         fronts = ((farm.renderd,) + refused, (farm.tiles,) + status, (farm.control, b"update 9\n", b"no update\n"))
         there = [[connected(address) for _ in range(count)] for address, _, _ in fronts]
         try:
-            if count == CONNECTIONS:
-                for address, _, _ in fronts:
-                    with connected(address) as one_more:
-                        same("a connection too many", received("a connection too many", one_more), b"")
+            for address, _, _ in fronts:
+                with connected(address) as one_more:
+                    same("a connection too many", received("a connection too many", one_more), b"")
             for conns, (_, sent, wants) in zip(there, fronts):
                 for number, conn in enumerate(conns):
-                    conn.sendall(sent)
+                    send(conn, sent)
                     same("connection %d of many" % number, received("connection %d of many" % number, conn, len(wants)), wants)
             told("a connection after many", farm.tiles, *status, True)
-            there[2][-1].sendall(b"stop\n")
+            send(there[2][-1], b"stop\n")
             same("stop", received("stop", there[2][-1], 9), b"stopping\n")
         finally:
             for conn in sum(there, []):
@@ -484,9 +493,9 @@ def many_kept(program):
 def staged(number, place):
     """Waits until the drawing of a ticket stands whole where it is staged, and compares its place."""
     head = struct.pack("<4s4i", b"META", 64, place[1], place[2], place[0])
-    name, end = "tiles/.new/%d" % number, time.monotonic() + EACH
+    name, end = "tiles/.new/%d" % number, patience.now() + EACH
     while not (os.path.exists(name) and os.path.getsize(name) == STAGED_BYTES):
-        if time.monotonic() > end:
+        if patience.now() > end:
             raise Late("the drawing %d" % number)
         time.sleep(0.002)
     with open(name, "rb") as file:
@@ -514,9 +523,9 @@ def hold_each(program, workers, places):
     def run(farm):
         asked = [wanted.message(wanted.RENDER, *place) for place in places]
         with connected(farm.renderd) as made:
-            made.sendall(asked[0])
+            send(made, asked[0])
             same("the first Done", received("the first Done", made, len(asked[0])), wants[0])
-            made.sendall(b"".join(asked[1:]))
+            send(made, b"".join(asked[1:]))
             for ticket in range(1, workers + 1):
                 staged(ticket, places[ticket])
             put("go", b"")

@@ -5,10 +5,11 @@
 
 It is for the programs that `rt ci` built, as both compilers build them, or for those named as words. Each listens at
 Unix sockets and on loopback; what it answers by renderd's protocol, over HTTP and to control lines, its tally and what
-it saves are compared with what oracle/serve_cases.py says. So is what no contract speaks of: who is woken, what stands
-on the disk, a full disk, too few threads. It needs Python 3 alone, takes half a minute for each, most of it asleep, and
-leaves nothing behind. The status is 1 only where something came that is not as wanted, or where twice something did not
-come in time though the machine is not busy.
+it saves are compared with what oracle/serve_cases.py says. So is what no contract speaks of: who is woken, who is heard beside one
+that never stops, what stands on the disk, a full disk, too few threads. It needs Python 3 alone, takes half a minute for
+each, most of it asleep, and leaves nothing behind. What it waits for comes in time by a clock that goes slower the busier
+the machine is (patience.py). The status is 1 where something came that is not as wanted, where twice something did not come
+in time, and where something could not be tried.
 """
 
 import os
@@ -19,12 +20,14 @@ import socket
 import subprocess
 import sys
 import tempfile
+import threading
 import time
 
 TOP = os.path.dirname(os.path.dirname(os.path.abspath(__file__)))
 BUILT = [os.path.join(TOP, "crates", "tilefarm", "out", name) for name in ("tilefarm", "tilefarm.by-rattle")]
-EACH = 8  # seconds for one wait
-WHOLE = 110  # seconds for all
+EACH = 8  # seconds for one wait, by the clock of patience.py
+WHOLE = 110  # such seconds for all of a program
+LOOK = 1  # second, after which it is seen whether a wait is over
 LARGE = 512  # pixels of a large tile
 BEGUN = 0.01  # seconds after which a drawing has begun; one of large tiles has not ended yet
 NARROW = 40 << 20  # bytes of addresses: less than the stacks of MANY workers
@@ -35,9 +38,11 @@ PATIENCE = 26  # seconds from its begin, more than the actors of a run wait for 
 SAVED = "tiles/farm.saved"
 sys.dont_write_bytecode = True
 sys.path.insert(0, os.path.join(TOP, "oracle"))
+import patience  # noqa: E402
 import serve_cases as wanted  # noqa: E402
 
 NO_MEMORY = "tilefarm: out of memory\n"
+counted = {"farms": 0, "connections": 0}
 
 
 class Unlike(Exception):
@@ -64,14 +69,24 @@ def free_port():
 
 
 def connected(address):
-    made = socket.socket(socket.AF_UNIX if isinstance(address, str) else socket.AF_INET)
-    try:
-        made.settimeout(EACH)
-        made.connect(address)
-    except OSError:
-        made.close()
-        raise
-    return made
+    """A connection; where as many wait to be accepted as may, this one waits too."""
+    end = patience.now() + EACH
+    while True:
+        made = socket.socket(socket.AF_UNIX if isinstance(address, str) else socket.AF_INET)
+        try:
+            made.settimeout(EACH)
+            made.connect(address)
+            made.settimeout(LOOK)
+            counted["connections"] += 1
+            return made
+        except (BlockingIOError, socket.timeout):
+            made.close()
+            if patience.now() > end:
+                raise Late("that a connection is taken")
+            time.sleep(0.01)
+        except OSError:
+            made.close()
+            raise
 
 
 def has_sockets():
@@ -101,13 +116,14 @@ class Farm:
             with open(name, "wb") as out:
                 out.write(content)
         narrow = (lambda: resource.setrlimit(resource.RLIMIT_AS, (limit, limit))) if limit else None
-        self.began = time.monotonic()
+        self.began = patience.now()
+        counted["farms"] += 1
         self.process = subprocess.Popen([program, "serve", "sockets.config"], stdin=subprocess.DEVNULL, stdout=subprocess.PIPE,
                                         stderr=subprocess.PIPE, preexec_fn=narrow, user=user)  # fmt: skip
 
     def listens(self):
         """Waits until all three ports listen."""
-        end = time.monotonic() + EACH
+        end = patience.now() + EACH
         for address in (self.renderd, self.tiles, self.control):
             while True:
                 try:
@@ -119,7 +135,7 @@ class Farm:
                         if ended == (7, wanted.PORTS_FAILED.encode()):
                             raise Taken()
                         raise Unlike("the start: status %d, %r" % ended)
-                    if time.monotonic() > end:
+                    if patience.now() > end:
                         raise Late("the start")
                     time.sleep(0.02)
 
@@ -131,11 +147,8 @@ class Farm:
 
     def ended(self, seconds=EACH):
         """The status, and what was written on both streams."""
-        try:
-            out, err = self.process.communicate(timeout=seconds)
-        except subprocess.TimeoutExpired:
-            raise Late("the end")
-        return self.process.returncode, out.decode(), err.decode()
+        status, out, err = finished("the end", self.process, seconds)
+        return status, out.decode(), err.decode()
 
     def kill(self):
         if self.process.poll() is None:
@@ -145,35 +158,63 @@ class Farm:
         self.process.stderr.close()
 
 
+def finished(what, process, seconds=EACH):
+    """The status of a process that ends in time, and what it wrote on both streams."""
+    end = patience.now() + seconds
+    while True:
+        try:
+            out, err = process.communicate(timeout=LOOK)
+            return process.returncode, out, err
+        except subprocess.TimeoutExpired:
+            if patience.now() > end:
+                raise Late(what)
+
+
+def in_time(what, call, *words):
+    """Calls again as long as nothing comes or nothing is taken and there is time."""
+    end = patience.now() + EACH
+    while True:
+        try:
+            return call(*words)
+        except socket.timeout:
+            if patience.now() > end:
+                raise Late(what)
+
+
 def received(what, made, length=None):
     """What comes on a connection, to its end or so many bytes."""
-    got = b""
+    got = []
     try:
-        while length is None or len(got) < length:
-            piece = made.recv(65536)
+        while length is None or sum(map(len, got)) < length:
+            piece = in_time(what, made.recv, 65536)
             if not piece:
                 break
-            got += piece
-    except socket.timeout:
-        raise Late(what)
+            got.append(piece)
     except OSError as error:
-        raise Unlike("%s: %s after %d bytes" % (what, error, len(got)))
-    return got
+        raise Unlike("%s: %s after %d bytes" % (what, error, sum(map(len, got))))
+    return b"".join(got)
+
+
+def send(made, content):
+    """Sends all of it."""
+    rest = memoryview(content)
+    while rest:
+        rest = rest[in_time("that all is taken", made.send, rest) :]
 
 
 def told(what, address, sent, wants, closes=False):
     """Sends on a connection of its own; what comes, to its end or as long as what is wanted, is that."""
     with connected(address) as made:
-        made.sendall(sent)
+        send(made, sent)
         same(what, received(what, made, None if closes else len(wants)), wants)
 
 
 def comes(what, address, sent, wants):
     """Sends on connections of their own, until what comes to the end of one is as wanted."""
-    end = time.monotonic() + EACH
-    while time.monotonic() < end:
+    end = patience.now() + EACH
+    while patience.now() < end:
         with connected(address) as made:
-            made.sendall(sent)
+            send(made, sent)
             if received(what, made) == wants:
                 return
         time.sleep(0.05)
@@ -215,7 +256,7 @@ def run_of_large_tiles(farm):
     told("the last tile of that drawing", farm.tiles, wanted.get("/default/5/15/15.ppm"), wanted.tile(large), True)
     told("a tile that is waited for", farm.tiles, wanted.get("/default/5/16/8.ppm"), wanted.tile(large), True)
     with connected(farm.renderd) as waits:
-        waits.sendall(wanted.message(wanted.RENDER, 5, 24, 8))
+        send(waits, wanted.message(wanted.RENDER, 5, 24, 8))
         time.sleep(BEGUN)  # an update that comes before the drawing begins is drawn
         told("an update meanwhile", farm.control, b"update 0\n", b"version 1\n")
         done = wanted.message(wanted.DONE, 5, 24, 8)
@@ -238,12 +279,41 @@ def run_of_large_tiles(farm):
     same("the third end", farm.ended(), (0, wanted.tally(7, 6, 4, 1), ""))
 
 
+def run_beside_a_busy_one(farm):
+    """A connection on which something always comes, and beside it two that ask once: one that was there before."""
+    ignored = wanted.message(0, 0, 0, 0) * 1024
+    is_over = threading.Event()
+
+    def never_stops(made):
+        while not is_over.is_set():
+            try:
+                made.send(ignored)
+            except socket.timeout:
+                pass
+
+    with connected(farm.renderd) as before, connected(farm.renderd) as busy:
+        sender = threading.Thread(target=never_stops, args=(busy,))
+        sender.start()
+        try:
+            time.sleep(BEGUN)
+            asked, refused = wanted.message(wanted.RENDER, 0, 1, 0), wanted.message(wanted.NOT_DONE, 0, 1, 0)
+            send(before, asked)
+            same("an ask beside a busy connection", received("an ask beside a busy connection", before, len(refused)), refused)
+            told("another, of one that came later", farm.renderd, asked, refused)
+        finally:
+            is_over.set()
+            sender.join()
+    told("stop", farm.control, b"stop\n", b"stopping\n")
+    same("the end", farm.ended(), (0, wanted.tally(2, 0, 0, 0), ""))
+
+
 def run_of_many(farm):
     """A saved text of more than 65,536 bytes, and more connections than that. At the end the disk is full."""
     told("one of many", farm.tiles, wanted.get("/default/18/0/8.ppm/status"), wanted.plain(200, "OK", "clean 0\n"), True)
     for _ in range(CONNECTIONS):
         with socket.socket(socket.AF_UNIX) as made:
             made.connect(farm.control)
+    counted["connections"] += CONNECTIONS
     told("a connection after many", farm.control, b"update 0\n", b"version 1\n")
     os.symlink("/dev/full", SAVED + ".new")
     told("stop", farm.control, b"stop\n", b"stopping\n")
@@ -323,10 +393,11 @@ def runs_of_sockets(program):
         is_refused_a_file(program)
         serves(program, run_of_large_tiles, maps=[{"name": "default", "style": "red.style", "tile": LARGE}])
         leaves_nothing()
+        serves(program, run_beside_a_busy_one)
         with open(SAVED, "wb") as out:
             out.write(wanted.saved_text([0], [], [(18, 8 * number, 8, 0) for number in range(MOST)]))
         serves(program, run_of_many, resume=True)
-        rest = max(narrow.began + PATIENCE - time.monotonic(), 1)
+        rest = max(narrow.began + PATIENCE - patience.now(), 1)
         same("the end of a farm with too few threads", narrow.ended(rest), (5, wanted.tally(0, 0, 0, 0), NO_MEMORY))
     finally:
         narrow.kill()
@@ -354,51 +425,49 @@ def say(text):
     print("%s: %s" % (os.path.basename(sys.argv[0]), text), flush=True)
 
 
-def is_busy():
-    return os.getloadavg()[0] > 2 * os.cpu_count()
-
-
 def passes(built, name, run):
-    """Whether a program does as wanted, None where that cannot be told; what came late is tried twice."""
-    for _ in range(2):
+    """Whether a program does as wanted; what came late is tried once more, when the load has fallen."""
+    for is_last in (False, True):
         try:
             tried(built, run)
             return True
-        except (Unlike, ConnectionError, FileNotFoundError) as unlike:
+        except Late as late:
+            say("%s%s: %s did not come in time" % (name, " FAILED" if is_last else "", late))
+            if not is_last:
+                patience.wait_for_calm()
+        except (Unlike, OSError) as unlike:
             say("%s FAILED: %s" % (name, unlike))
             return False
-        except Late as late:
-            say("%s: %s did not come in time" % (name, late))
-        except socket.timeout:
-            say("%s: something was not taken in time" % name)
-        except OSError as error:
-            say("%s not tried: %s" % (name, error))
-            return None
-    return None if is_busy() else False
+    return False
 
 
-def late(*_):
-    """The end where the time for all is over."""
-    say("not through after %d seconds" % WHOLE)
-    sys.exit(0 if is_busy() else 1)
+def failing(runs, built):
+    """The first of these runs in which the program does not as wanted, or None."""
+    name = os.path.relpath(built, TOP)
+    if not os.path.isfile(built):
+        say("FAILED: there is no %s" % name)
+        return runs[0]
+    for run in runs:
+        if not passes(built, name + ": " + run.__name__, run):
+            return run
+    say("%s passed" % name)
+    return None
 
 
-def main(runs, programs):
-    """Whether one of the programs, those that were built or are named, does not as wanted."""
+def main(runs, words):
+    """Whether one of the programs, those that were built or are named, does not as wanted; with `--row NAME` only in that run."""
     signal.signal(signal.SIGTERM, lambda *_: sys.exit(1))
-    signal.signal(signal.SIGALRM, late)
-    signal.alarm(WHOLE)
-    failed = False
-    for built in map(os.path.abspath, programs or BUILT):
-        name = os.path.relpath(built, TOP)
-        if not os.path.isfile(built):
-            say("not tried: there is no %s" % name)
-            continue
-        ends = [passes(built, name + ": " + run.__name__, run) for run in runs]
-        failed |= False in ends
-        if all(ends):
-            say("%s passed" % name)
-    return 1 if failed else 0
+    if words[:1] == ["--row"]:
+        runs, words = [run for run in runs if run.__name__ == words[1]], words[2:]
+    programs = [os.path.abspath(it) for it in words or BUILT]
+    patience.begin(WHOLE * len(programs))
+    found = [failing(runs, built) for built in programs]
+    patience.end()
+    if not runs or any(found):
+        return 1
+    for what, number in dict(counted, rows=len(runs) * len(programs)).items():
+        say("tried %d %s" % (number, what))
+    return 0
 
 
 if __name__ == "__main__":

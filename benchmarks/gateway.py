@@ -23,10 +23,10 @@ import time
 TOP = os.path.dirname(os.path.dirname(os.path.abspath(__file__)))
 sys.path.insert(0, os.path.join(TOP, "trials"))
 import trial  # noqa: E402
-from trial import HERE, MIDDLE, TILE, Farm  # noqa: E402
+from trial import FARMCTL, HERE, MIDDLE, PYTHON, TILE, Farm  # noqa: E402
 
-PYTHON = "/usr/bin/python3" if os.path.exists("/usr/bin/python3") else sys.executable  # Debian's own, which has the libraries
 SIDE = 64  # tiles
+HAS_IT = '{["If-None-Match"]="*"}'  # as wrk's script sends it: fits each entity tag
 TICK = os.sysconf("SC_CLK_TCK")
 SCRIPT = """
 math.randomseed(os.time())
@@ -76,17 +76,6 @@ def world():
     return {"units": "world", "layers": [{"name": "land", "features": land}, {"name": "roads", "features": roads}]}
 
 
-def colours():
-    """A style in which a tile has some dozens of colours."""
-    rules = [
-        {"filter": "id %% 40 = %d" % number, "symbolizers": [{"symbolizer": "PolygonSymbolizer", "fill": "#%06x" % (0xADD19E + 4111 * number)}]}
-        for number in range(40)
-    ]
-    made = trial.style("#f2efe9", "#add19e", "#a06b00")
-    made["styles"][0]["rules"] = [{"symbolizers": rules[0]["symbolizers"]}]
-    return made
-
-
 def ticks(pid):
     """Processor seconds of a process and of all below it."""
     total = 0
@@ -119,13 +108,13 @@ def machine():
 
 
 def listens(port):
-    end = time.monotonic() + 30
+    end = time.monotonic() + 120
     while not Farm.listens("tcp:127.0.0.1:%d" % port) and time.monotonic() < end:
         time.sleep(0.05)
 
 
 def gateway(folder, port, processes, *words):
-    command = [PYTHON, os.path.join(TOP, "farmctl", "bin", "farmctl"), "-c", folder.name("farm.json"), "gateway",
+    command = [PYTHON, FARMCTL, "-c", folder.name("farm.json"), "gateway",
                "--listen", "tcp:127.0.0.1:%d" % port, "--processes", str(processes), *words]  # fmt: skip
     made = subprocess.Popen(command, stdout=subprocess.DEVNULL)
     Farm.running.append(made)
@@ -135,7 +124,7 @@ def gateway(folder, port, processes, *words):
 
 def end(process):
     process.terminate()
-    process.wait(20)
+    process.wait(120)
 
 
 def measure(folder, what, port, seconds, processes, heads="nil"):
@@ -152,11 +141,6 @@ def measure(folder, what, port, seconds, processes, heads="nil"):
     rest = machine() - others - sum(used.values())
     each = ", ".join("%s %.2f ms" % (name, 1000 * value / count) for name, value in used.items())
     print("| %s | %d | %d | %s | %d | %.1f |" % (what, count / took, errors, each, size / count, rest / took), flush=True)
-
-
-def etags(folder):
-    """As wrk's script is to send them: one entity tag for all tiles would fit none."""
-    return '{["If-None-Match"]="*"}'
 
 
 def all_rows(seconds, processes):
@@ -177,7 +161,7 @@ def all_rows(seconds, processes):
         for what, words, heads in (
             ("pictures made anew", ["--memory", "1"], "nil"),
             ("pictures known, the farm asked", [], "nil"),
-            ("304, the farm asked", [], etags(folder)),
+            ("304, the farm asked", [], HAS_IT),
             ("kept for 10 s", ["--keep", "10"], "nil"),
         ):
             made = gateway(folder, port, processes, *words)

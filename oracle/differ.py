@@ -13,6 +13,7 @@ folder too. The last line is `N passed, M failed`; the status is 1 where anythin
 else.
 """
 
+import contextlib
 import copy
 import json
 import os
@@ -36,11 +37,14 @@ FIXED = 1
 EACH = 60  # seconds for one command
 SHRINK = 30  # seconds for making a case smaller
 SHARES = (("tiles", 0.3), ("scripts", 0.2), ("texts", 0.25), ("saved", 0.1), ("sockets", 0.15))
+LEAST = {"tiles": 20, "scripts": 40, "texts": 60, "saved": 100, "sockets": 300}  # cases, however long they take
+MOST_FOUND = 5  # cases that differ, after which no more of a kind are looked for
 
 
 def commit_seed():
     """A number that the commit gives, and 2 where there is none."""
-    told = subprocess.run(["git", "rev-parse", "HEAD"], cwd=TOP, capture_output=True, text=True)
+    others = {name: value for name, value in os.environ.items() if not name.startswith("GIT_")}
+    told = subprocess.run(["git", "rev-parse", "HEAD"], cwd=TOP, capture_output=True, text=True, env=others)
     return int(told.stdout[:8], 16) if told.returncode == 0 else 2
 
 
@@ -285,46 +289,62 @@ def texts(seed, number):
 # --- All of it --------------------------------------------------------------------------------------------------
 
 
-def tried(program, kind, seconds, seeds):
-    """How many cases of a kind agreed, and how many did not; of these the smallest is told."""
-    end, agreed, found, number = time.monotonic() + seconds, 0, [], 0
-    while time.monotonic() < end and len(found) < 5:
-        case = {"tiles": tiles, "scripts": scripts, "texts": texts}[kind](seeds[number % 2], number // 2)
-        number += 1
+def tried(program, kind, seconds, seeds, begin=0):
+    """How many cases of a kind agreed, those of each seed in turn from a number on, and which did not."""
+    end, agreed, found = time.monotonic() + seconds, 0, []
+    while len(found) < MOST_FOUND and (time.monotonic() < end or agreed + len(found) < LEAST[kind]):
+        at = begin + agreed + len(found)
+        case = {"tiles": tiles, "scripts": scripts, "texts": texts}[kind](seeds[at % len(seeds)], at // len(seeds))
         if difference(program, case) is None:
             agreed += 1
         else:
             found.append(case)
+    return agreed, found
+
+
+def tell_smallest(program, found):
+    """Of the cases that differ the smallest is made smaller, told and kept."""
+    case = min(found, key=Case.size)
+    case = smallest(case, lambda made: difference(program, made) is not None)
+    tell(case, difference(program, case))
+
+
+def counted(program, kind, seconds, seeds, begin=0):
+    """How many cases of any kind agreed, and how many did not; of these the smallest is told."""
+    if kind in ("saved", "sockets"):
+        return differ_serve.tried(program, kind, seconds, seeds, LEAST[kind], begin)
+    agreed, found = tried(program, kind, seconds, seeds, begin)
     if found:
-        case = min(found, key=Case.size)
-        case = smallest(case, lambda made: difference(program, made) is not None)
-        tell(case, difference(program, case))
+        tell_smallest(program, found)
     return agreed, len(found)
+
+
+@contextlib.contextmanager
+def copied(program):
+    """A copy of a program, since one of the gate's folder may be built anew meanwhile."""
+    with tempfile.TemporaryDirectory(prefix="differ-") as folder:
+        copy = os.path.join(folder, "tilefarm")
+        shutil.copyfile(program, copy)
+        os.chmod(copy, 0o755)
+        yield copy
 
 
 def main(words):
     program = os.path.abspath(words[0] if words else BUILT)
     seconds = float(words[1]) if len(words) > 1 else 120
     if not os.path.exists(program):
-        print("%s is not there: rt ci builds it" % program)
+        print("differ: FAILED: %s is not there: rt ci builds it" % program)
         return 1
-    seeds = (FIXED, commit_seed())
-    # a copy, since a program of the gate's folder may be built anew meanwhile
-    with tempfile.TemporaryDirectory(prefix="differ-") as folder:
-        copied = os.path.join(folder, "tilefarm")
-        shutil.copyfile(program, copied)
-        os.chmod(copied, 0o755)
-        return compared(copied, seconds, seeds)
+    with copied(program) as copy:
+        return compared(copy, seconds, (FIXED, commit_seed()))
 
 
 def compared(program, seconds, seeds):
     passed = failed = 0
     for kind, share in SHARES:
-        if kind in ("saved", "sockets"):
-            agreed, differ = differ_serve.tried(program, kind, share * seconds, seeds)
-        else:
-            agreed, differ = tried(program, kind, share * seconds, seeds)
+        agreed, differ = counted(program, kind, share * seconds, seeds)
         print("%s: %d cases of the seeds %d and %d, %d differ" % ((kind, agreed + differ) + seeds + (differ,)), flush=True)
+        print("differ: tried %d %s" % (agreed + differ, kind), flush=True)
         passed, failed = passed + agreed, failed + differ
     print("%d passed, %d failed" % (passed, failed))
     return 1 if failed else 0

@@ -1,8 +1,7 @@
 """Cases of a running farm for `differ.py`: saved farms that it goes on from, and bytes on its three sockets.
 
 What is wanted is told by the formats alone: of a saved farm its first fault, or what is clean; of a head, a stream of
-messages and control lines the answer. All happens in a folder of its own over Unix sockets. Where a machine gives none,
-nothing is tried.
+messages and control lines the answer. All happens in a folder of its own over Unix sockets.
 """
 
 import json
@@ -110,16 +109,6 @@ def send(call, values):
             call(value)
     except OSError:
         pass
-
-
-def has_sockets():
-    """Whether this machine gives Unix sockets at all."""
-    try:
-        with tempfile.TemporaryDirectory() as folder, socket.socket(socket.AF_UNIX) as made:
-            made.bind(os.path.join(folder, "s"))
-        return True
-    except OSError:
-        return False
 
 
 # --- Saved farms ------------------------------------------------------------------------------------------------
@@ -335,18 +324,15 @@ def socket_case(farm, seed, number):
 # --- All of it --------------------------------------------------------------------------------------------------
 
 
-def tried(program, kind, seconds, seeds):
-    """How many cases of a kind agreed, and how many did not; of these the shortest is told."""
-    if not has_sockets():
-        print("%s: no sockets here, so nothing is tried" % kind)
-        return 0, 0
-    end, agreed, found, number = time.monotonic() + seconds, 0, [], 0
+def tried(program, kind, seconds, seeds, least, begin=0):
+    """How many cases agreed, those of each seed in turn from a number on, and how many did not; of these the shortest is told."""
+    end, agreed, found = time.monotonic() + seconds, 0, []
     with tempfile.TemporaryDirectory(prefix="differ-") as folder:
         farm = begun(program, folder) if kind == "sockets" else None
-        while time.monotonic() < end and len(found) < 5:
-            at = seeds[number % 2], number // 2
+        while len(found) < 5 and (time.monotonic() < end or agreed + len(found) < least):
+            number = begin + agreed + len(found)
+            at = seeds[number % len(seeds)], number // len(seeds)
             told = saved_case(program, *at) if kind == "saved" else socket_case(farm, *at)
-            number += 1
             if told is None:
                 agreed += 1
             else:

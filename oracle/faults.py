@@ -18,8 +18,8 @@ run each path of the folder has a whole container, the old one or the new one, a
 each `serve` another goes on from the folder with nothing in its way, and each tile that it calls clean is, byte for byte,
 the drawing of the data that it has.
 
-With --gate it is a fixed part of that, for at most 110 seconds; --within says another time after which the rest, which is
-spread over all of it, is left out. The last line is `N passed, M failed`; the status is 1
+With --gate it is a fixed part of that, and after 110 seconds the rest, which is spread over all of it, is left out, but for
+180 runs of each program that are always made; --within says another time. The last line is `N passed, M failed`; the status is 1
 where one failed. It needs Python 3 and a C compiler (`cc`, glibc).
 """
 
@@ -42,6 +42,7 @@ import time
 
 sys.dont_write_bytecode = True
 import farm as farms  # noqa: E402
+import patience  # noqa: E402
 import serve as second  # noqa: E402
 import serve_cases as wanted  # noqa: E402
 import tilefarm  # noqa: E402
@@ -49,9 +50,10 @@ import tilefarm  # noqa: E402
 HERE = os.path.dirname(os.path.abspath(__file__))
 TOP = os.path.dirname(HERE)
 BUILT = [os.path.join(TOP, "crates", "tilefarm", "out", name) for name in ("tilefarm", "tilefarm.by-rattle")]
-EACH = 20  # seconds for one wait
+EACH = 20  # seconds for one wait, by a clock that goes slower the busier the machine is
 NO_THREAD = 40  # seconds for one where a thread is wanting, which is told after twenty
-GATE = 110  # seconds for a fixed part
+GATE = 110  # seconds for a fixed part, of the day
+LEAST = 180  # runs of each program that are made in any case
 AT_ONCE = min(os.cpu_count() or 1, 4)
 LINES = {5: "tilefarm: out of memory\n", 6: "tilefarm: the store failed\n", 7: "tilefarm: the ports failed\n"}
 
@@ -97,6 +99,25 @@ class Fault:
 
 
 NONE = Fault("none", 0, "none")
+CLOCK = threading.Lock()
+
+
+def now():
+    """The seconds by which waits are counted."""
+    with CLOCK:
+        return patience.now()
+
+
+def finished(process, seconds=EACH):
+    """Status and both streams of a program's end."""
+    end = now() + seconds
+    while True:
+        try:
+            out, err = process.communicate(timeout=1)
+            return process.returncode, out, err.decode("utf-8", "replace")
+        except subprocess.TimeoutExpired:
+            if now() > end:
+                raise Late("no end within %d seconds" % seconds)
 
 
 def faults_of(kind, number, is_short=False):
@@ -229,6 +250,12 @@ def check_folder(folder, links, versions=range(MOST + 1)):
             holds(content in [CONTAINERS[spot][version] for version in versions], "%s is not whole: %d bytes", path, len(content))
 
 
+def check_staged(folder):
+    """Of what was staged nothing is left."""
+    left = os.listdir(os.path.join(folder, "tiles", ".new"))
+    holds(not left, "of what was staged there is left: %s", left)
+
+
 # --- One program with its shim ----------------------------------------------------------------------------------
 
 
@@ -248,12 +275,12 @@ class Shim:
 
     def ran(self, words, folder, fault):
         """Status and both streams of a command."""
-        how = {"cwd": folder, "env": self.environment(folder, fault), "stdin": subprocess.DEVNULL, "capture_output": True}
+        process = subprocess.Popen([self.program, *words], cwd=folder, env=self.environment(folder, fault), stdin=subprocess.DEVNULL,
+                                   stdout=subprocess.PIPE, stderr=subprocess.PIPE)  # fmt: skip
         try:
-            end = subprocess.run([self.program, *words], timeout=EACH, **how)
-        except subprocess.TimeoutExpired:
-            raise Late("no end within %d seconds" % EACH)
-        return end.returncode, end.stdout, end.stderr.decode("utf-8", "replace")
+            return finished(process)
+        finally:
+            process.kill()
 
 
 def calls_of(folder):
@@ -365,7 +392,7 @@ class Server:
 
     def listens(self, names=("r", "t", "c")):
         """Whether it listens at all three fronts; not where it has ended."""
-        end = time.monotonic() + self.patience
+        end = now() + self.patience
         for name in names:
             while True:
                 try:
@@ -374,55 +401,43 @@ class Server:
                 except OSError:
                     if self.process.poll() is not None:
                         return False
-                    if time.monotonic() > end:
+                    if now() > end:
                         raise Late("it does not listen")
                     time.sleep(0.003)
         return True
 
-    def told(self, name, sent, length=None):
-        """What comes on a connection of its own, to its end or so many bytes; less where it is lost."""
-        got = b""
+    def told(self, name, sent, is_whole=lambda got: False):
+        """What comes on a connection of its own, until it is whole, it ends or is lost."""
+        got, end = b"", now() + self.patience
         try:
             with self.connected(name) as made:
                 made.sendall(sent)
-                while length is None or len(got) < length:
-                    piece = made.recv(65536)
+                made.settimeout(1)
+                while not is_whole(got):
+                    try:
+                        piece = made.recv(65536)
+                    except socket.timeout:
+                        if now() > end:
+                            raise Late("no answer to %.100r within %d seconds" % (sent, self.patience))
+                        continue
                     if not piece:
                         break
                     got += piece
-        except socket.timeout:
-            raise Late("no answer to %.100r within %d seconds" % (sent, self.patience))
         except OSError:
             pass
         return got
 
     def line(self, line, name="c"):
         """The answer to a control line, or nothing where the connection was lost."""
-        got = b""
-        try:
-            with self.connected(name) as made:
-                made.sendall(line.encode() + b"\n")
-                while not got.endswith(b"\n"):
-                    piece = made.recv(4096)
-                    if not piece:
-                        break
-                    got += piece
-        except socket.timeout:
-            raise Late("no answer to %s within %d seconds" % (line, self.patience))
-        except OSError:
-            pass
-        return got.decode()
+        return self.told(name, line.encode() + b"\n", lambda got: got.endswith(b"\n")).decode()
 
     def ended(self, name="c"):
         """Status and both streams of its end, for which it is told to stop as often as it does not hear."""
         for _ in range(5):
             if self.line("stop", name) or self.process.poll() is not None:
                 break
-        try:
-            out, err = self.process.communicate(timeout=self.patience)
-        except subprocess.TimeoutExpired:
-            raise Late("no end within %d seconds" % self.patience)
-        return self.process.returncode, out.decode(), err.decode()
+        status, out, err = finished(self.process, self.patience)
+        return status, out.decode(), err
 
     def kill(self):
         if self.process.poll() is None:
@@ -488,7 +503,7 @@ class Play:
     def renders(self):
         """Drawings for each worker, asked for on one connection."""
         asked = SPOTS[4:]
-        got = self.server.told("r", b"".join(wanted.message(wanted.RENDER, *spot) for spot in asked), 64 * len(asked))
+        got = self.server.told("r", b"".join(wanted.message(wanted.RENDER, *spot) for spot in asked), lambda got: len(got) == 64 * len(asked))
         ends = [wanted.message(end, *spot) for end in (wanted.DONE, wanted.NOT_DONE) for spot in asked]
         replies = [got[at : at + 64] for at in range(0, len(got), 64)]
         is_told = lambda reply: any(end.startswith(reply) for end in ends)
@@ -525,6 +540,7 @@ def check_resumed(shim, folder, versions):
         if not server.listens():
             raise Wrong("the next does not begin: status %d, %s, %s" % server.ended())
         stats = server.line("stats").split(" ")
+        holds(len(stats) == 8, "the next answers stats: %s", stats)
         version = int(stats[7])
         holds(version in versions, "the next begins with version %d", version)
         for spot in SPOTS:
@@ -540,6 +556,8 @@ def check_resumed(shim, folder, versions):
     finally:
         server.kill()
     check_folder(folder, shim.links, [version])
+    if shim.links:
+        check_staged(folder)
 
 
 class Serve:
@@ -561,7 +579,8 @@ class Serve:
             server.kill()
         check_folder(folder, shim.links)
         whole = status == 0 and play is not None
-        holds(not whole or not os.listdir(os.path.join(folder, "tiles", ".new")) or not fault.changes_nothing(), "something is left")
+        if whole and fault.changes_nothing():
+            check_staged(folder)
         check_resumed(shim, folder, range(play.least if whole else 0, play.most + 1 if play else 2))
         return status
 
@@ -650,12 +669,12 @@ def tried(program, base, faults, end):
     tries = [(run, fault) for run in runs for fault in faults(run)]
     random.Random(1).shuffle(tries)
 
-    def one(run, fault):
-        return run, None if end and time.monotonic() > end else run.tried(fault)
+    def one(number, run, fault):
+        return run, None if end and time.monotonic() > end and number >= LEAST else run.tried(fault)
 
     with concurrent.futures.ThreadPoolExecutor(AT_ONCE) as pool:
         left = 0
-        for made in concurrent.futures.as_completed([pool.submit(one, *given) for given in tries]):
+        for made in concurrent.futures.as_completed([pool.submit(one, number, *given) for number, given in enumerate(tries)]):
             run, told = made.result()
             if told is None:
                 left += 1

@@ -78,23 +78,26 @@ class Browser:
     def screen(self):
         """The middle of the screen, as rows of three bytes a pixel."""
         clip = {"x": FROM, "y": FROM, "width": TILE + 2 * SLACK, "height": TILE + 2 * SLACK, "scale": 1}
-        return pictures.of_png(base64.b64decode(self.ask("Page.captureScreenshot", format="png", clip=clip)["data"]))
+        told = self.ask("Page.captureScreenshot", format="png", clip=clip)
+        return pictures.of_png(base64.b64decode(told["data"])) if "data" in told else []  # a page that is being loaded has none
 
     def end(self):
         self.session = None
         self.ask("Browser.close")
-        self.process.wait(20)
+        self.process.wait(60)
 
 
 def shows(rows, picture):
     """Whether the tile is what the screen shows."""
     wide = 3 * TILE
     tile = [picture[-wide * TILE :][wide * row : wide * (row + 1)] for row in range(TILE)]
+    if not rows:
+        return False
     places = [(top, 3 * left) for top in range(2 * SLACK + 1) for left in range(2 * SLACK + 1)]
     return any(all(rows[top + row][left : left + wide] == tile[row] for row in range(TILE)) for top, left in places)
 
 
-def waits(browser, picture, seconds=15):
+def waits(browser, picture, seconds=60):
     """Whether the screen shows the tile within so many seconds."""
     end = time.monotonic() + seconds
     while time.monotonic() < end:

@@ -14,26 +14,37 @@ def of_ppm(text):
 
 
 def of_png(text):
-    """A PNG of eight bits a channel in colours, with or without opacity, which is left out (W3C, PNG, sections 9 and 11)."""
-    at, packed = 8, b""
+    """A PNG of eight bits a channel in colours, with or without opacity, which is left out, or with a palette (W3C, PNG, sections
+    9 and 11)."""
+    at, packed, palette = 8, b"", b""
     while at < len(text):
         (size,), kind = struct.unpack_from(">I", text, at), text[at + 4 : at + 8]
         data = text[at + 8 : at + 8 + size]
         if kind == b"IHDR":
             columns, rows, bits, colour, _, _, laced = struct.unpack(">IIBBBBB", data)
         packed += data if kind == b"IDAT" else b""
+        palette = data if kind == b"PLTE" else palette
         at += 12 + size
-    step = {2: 3, 6: 4}.get(colour)
-    if bits != 8 or laced or not step:
+    step = {2: 3, 3: 1, 6: 4}.get(colour)
+    if laced or not step or (bits != 8 and colour != 3):
         raise ValueError("not this kind of PNG")
-    data, wide = zlib.decompress(packed), columns * step
+    data, wide = zlib.decompress(packed), -(-columns * step * bits // 8)
     before, made = bytearray(wide), []
     for row in range(rows):
         line = bytearray(data[row * (wide + 1) + 1 : (row + 1) * (wide + 1)])
         unfilter(data[row * (wide + 1)], line, before, step)
-        made.append(bytes(line) if step == 3 else b"".join(line[i : i + 3] for i in range(0, wide, 4)))
+        made.append(line)
         before = line
-    return made
+    if colour == 3:
+        return [of_palette(line, columns, bits, palette) for line in made]
+    return [bytes(line) if step == 3 else b"".join(line[i : i + 3] for i in range(0, wide, 4)) for line in made]
+
+
+def of_palette(line, columns, bits, palette):
+    """The colours of a row of places in a palette, of so many bits each, the upper ones of a byte first."""
+    each, most = 8 // bits, (1 << bits) - 1
+    places = [line[i // each] >> 8 - bits * (i % each + 1) & most for i in range(columns)]
+    return b"".join(palette[3 * place : 3 * place + 3] for place in places)
 
 
 def unfilter(kind, line, before, step):

@@ -20,6 +20,8 @@ from farmctl import client as farmclient  # noqa: E402  (the path has to be ther
 
 PROGRAM = os.environ.get("TILEFARM", os.path.join(TOP, "tilefarm"))
 FARMCTL = os.path.join(TOP, "farmctl", "bin", "farmctl")
+PYTHON = "/usr/bin/python3" if os.path.exists("/usr/bin/python3") else sys.executable  # Debian's own has Debian's libraries
+LIBRARIES = {"aiohttp": "python3-aiohttp", "PIL": "python3-pil", "numpy": "python3-numpy"}
 MIDDLE = 2**29  # the column and row of world units where tile 14/8192/8192 begins
 TILE = 2**16  # and how many of them a tile of zoom 14 is wide
 HERE = (14, 8192, 8192)  # a tile with land; a road comes with update 0
@@ -74,6 +76,21 @@ def tool(name, *words, folder, given=""):
     words = [FARMCTL, "--program", PROGRAM, "-c", folder.name("farm.json"), *([name] + list(words))]
     done = subprocess.run(words, cwd=folder.path, input=given, stdout=subprocess.PIPE, stderr=subprocess.STDOUT, text=True, timeout=120)
     return done.returncode, done.stdout
+
+
+def ctl(*words, folder=None):
+    """The status of farmctl with these words, and all that it says."""
+    done = subprocess.run([PYTHON, FARMCTL, *words], cwd=folder, stdin=subprocess.DEVNULL, stdout=subprocess.PIPE, text=True,
+                          stderr=subprocess.STDOUT, timeout=240, env=dict(os.environ, TILEFARM=PROGRAM))  # fmt: skip
+    return done.returncode, done.stdout
+
+
+def missing_library(*names):
+    """The first of these libraries that PYTHON has not, and the package that has it; None where it has them all."""
+    for name in names:
+        if subprocess.run([PYTHON, "-c", "import " + name], stderr=subprocess.DEVNULL).returncode != 0:
+            return name, "not installed (Debian: %s)" % LIBRARIES[name]
+    return None
 
 
 def free_port():

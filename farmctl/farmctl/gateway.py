@@ -29,6 +29,7 @@ from aiohttp import web
 from farmctl import client, pictures
 
 SECONDS = 120  # for a drawing, and all that waits before it
+END = 5.0  # seconds, for who is being answered when this ends
 WAITING = 1024  # connections that nobody has taken yet
 OPEN = 512  # connections to the farm, of all processes together; its front has 1,024
 TILE = re.compile(r"/([a-z0-9_-]+)/(0|[1-9]\d?)/(0|[1-9]\d{0,6})/(0|[1-9]\d{0,6})\.png")
@@ -329,7 +330,7 @@ async def serve(settings: Settings, listening: socket.socket, ended: asyncio.Eve
     server = web.Server(Gateway(settings).answer, access_log=log, access_log_format=ACCESS)
     runner = web.ServerRunner(server)
     await runner.setup()
-    await web.SockSite(runner, listening, backlog=1).start()  # it takes one connection at a time, so that others get some
+    await web.SockSite(runner, listening, backlog=1, shutdown_timeout=END).start()  # it takes one connection at a time, so that others get some
     listening.listen(WAITING)
     await ended.wait()
     await runner.cleanup()

@@ -4,7 +4,7 @@ use Rattle.std.specs.Str.{bytes_eq}
 use Rattle.reading.specs.Steps.{◌>>=◌}
 use Rattle.farm_history.specs.declared.keys.Kept.{Kept}
 use Rattle.farm_history.specs.declared.saved.Past.{Past}
-use Rattle.farm_saved.specs.Reading.{after_magic, bytes_number, many, style_in, past_in, is_kept, fields_in, entry_in, nothing_left, saving_in, saved_in}
+use Rattle.farm_saved.specs.Reading.{after_magic, bytes_number, many, style_number_in, past_in, is_kept, fields_in, entry_in, nothing_left, saving_in, saved_in}
 use Rattle.farm_saved.specs.inner.Fields.{saved_magic}
 use Rattle.farm_saved.specs.declared.fault.SavedFault.{SavedFault}
 use Rattle.farm_saved.specs.declared.fault.SavedFault.TheVariants.{Short, Magic, Kind, Order, Extra}
@@ -34,8 +34,8 @@ unfolding many
 many_told read h zero before bytes = tt
 many_told read h (suc n) before bytes = step HasText _ _ (h before bytes) (λ item. many_told read h n (before ++ item.0 ∷ []) item.1)
 
-style_told : (short : SavedFault) → HasText short → (before : List (Option ℕ)) (bytes : List ℕ) → Told (style_in short before bytes)
-unfolding style_in
+style_told : (short : SavedFault) → HasText short → (before : List (Option ℕ)) (bytes : List ℕ) → Told (style_number_in short before bytes)
+unfolding style_number_in
 style_told short h before bytes = step HasText _ _ (number_told short h 4 bytes) (λ number. tt)
 
 past_told : (short : SavedFault) → HasText short → (before : List Past) (bytes : List ℕ) → Told (past_in short before bytes)
@@ -69,7 +69,7 @@ unfolding saving_in
 text_told short h all bytes =
     step HasText _ _ (opened_told short h bytes) (λ start.
     step HasText _ _ (number_told short h 4 start) (λ maps.
-    step HasText _ _ (many_told (style_in short) (style_told short h) maps.0 [] maps.1) (λ styles.
+    step HasText _ _ (many_told (style_number_in short) (style_told short h) maps.0 [] maps.1) (λ styles.
     step HasText _ _ (number_told short h 8 styles.1) (λ pasts.
     step HasText _ _ (many_told (past_in short) (past_told short h) pasts.0 [] pasts.1) (λ updates.
     step HasText _ _ (number_told short h 8 updates.1) (λ entries.

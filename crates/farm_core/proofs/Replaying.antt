@@ -1,5 +1,5 @@
 -- A farm in its replay, step by step.
-use Rattle.std.proofs.Common.{◌≡◌, ℕ, zero, suc, ◌+◌, ◌*◌, ◌/◌, ◌%◌, ◌<◌, ◌≤◌, Bool, true, false, ◌||◌, ◌&&◌, cond, ◌==◌, nat_lt, nat_le, List, [], ◌∷◌, length, get_or, drop, slice_get, Option, Some, None, is_some, option_map, refl, sym, ap, ◌∙◌, subst, arith}
+use Rattle.std.proofs.Common.{◌≡◌, ℕ, zero, suc, ◌+◌, ◌*◌, ◌/◌, ◌%◌, ◌<◌, ◌≤◌, Bool, true, false, ◌||◌, ◌&&◌, cond, ◌==◌, nat_lt, nat_le, List, [], ◌∷◌, length, get_or, drop, slice_get, Option, Some, None, refl, sym, ap, ◌∙◌, subst, arith}
 use Rattle.std.specs.List.{list_any}
 use Rattle.std.specs.Prelude.{MatchBool}
 use Rattle.std.proofs.lemmas.Bool.{eqb-true}
@@ -15,7 +15,7 @@ use Rattle.farm_history.specs.Entries.{Entry}
 use Rattle.farm_history.specs.Lists.{Each}
 use Rattle.farm_history.specs.Plans.{AreApart, same_key}
 use Rattle.farm_history.specs.Past.{shown}
-use Rattle.farm_history.specs.Seen.{dirtied, mark_at}
+use Rattle.farm_history.specs.Seen.{mark_at}
 use Rattle.farm_history.specs.Replays.{past_number, lowest, replay_key, replay_keys, replay_change}
 use Rattle.farm_history.proofs.Lists.{same_key-sym}
 use Rattle.farm_history.proofs.Counts.{count-cons}
@@ -23,15 +23,13 @@ use Rattle.farm_history.proofs.Keyed.{IsServed}
 use Rattle.farm_plan.specs.Plans.{MapPlan, FarmPlan}
 use Rattle.farm_plan.specs.Drawings.{plan_of}
 use Rattle.render_jobs.proofs.Servable.{served}
-use Rattle.expiry_lists.specs.Marks.{Shown, mark_of, shown_key}
+use Rattle.expiry_lists.specs.Marks.{Shown, mark_of}
 use Rattle.reach_box.specs.Marks.{is_reached}
 use Rattle.farm_refinement.specs.Seen.{FarmSeen}
 use Rattle.farm_refinement.proofs.Resuming.{Replays, replay_key_step, replay_update_step, replay_renew_step}
 use Rattle.render_jobs.specs.Faults.{has_zoom}
-use Rattle.farm_core.specs.inner.Effects.{turn}
-use Rattle.farm_core.specs.inner.Renews.{Renews}
 use Rattle.farm_core.specs.inner.Replays.{IsReplaying, Stays, CanReplay, IsFresh, how_many_of, how_many_from, Replayed, ReplaysAt, ReplaysChange}
-use Rattle.farm_core.proofs.Renewing.{once, once_apart, once_same, other_rows, same_marks, marks_after, new_is}
+use Rattle.farm_core.proofs.Renewing.{same_marks, marks_after, new_is}
 
 -- ---- places
 
@@ -199,22 +197,13 @@ module _ {D : Type 0} (state : D → Outside StoreTold) where
 
   -- ---- updates
 
-  with_rows : (farm : FarmSeen D) (g : List Entry) (rows : List Shown) → ((k : Key) → mark_of rows k ≡ mark_of farm.marks.shown k) → IsReplaying state farm g → Replays state (record farm { marks = record { shown = rows; room = farm.marks.room } }) g
-  with_rows farm g rows same r = record { quiet = (to_replays farm g r).quiet; stands = other_rows state false farm g rows same r.stands; unfailed = r.unfailed }
-
-  renewed_rows : (old new : FarmSeen D) (g : List Entry) (n count : ℕ) (rows : List Shown) → n < length old.plan.updates → Renews (turn old) new n count → AreApart shown_key rows → ((k : Key) → mark_of rows k ≡ mark_of old.marks.shown k) → IsReplaying state old g → IsReplaying state new (replay_change (plan_of old.plan) (Past.Renew n) g)
-  renewed_rows old new g n count rows lt c apart same r =
-      subst (λ (f : FarmSeen D). IsReplaying state f (replay_change (plan_of old.plan) (Past.Renew n) g)) (sym (new_is state false old new g n count c r.stands))
-      (from_replays _ _ (replay_renew_step state (record old { marks = record { shown = rows; room = old.marks.room } }) g n new.data_now (is_reached old.plan.maps c.boxes) new.marks lt c.applied apart
-      (λ k some. same_marks state false old new g n count c r.stands k (sym (ap is_some (same k)) ∙ some))
-      (λ k. marks_after state false old new g n count c r.stands k ∙ ap (option_map (dirtied (is_reached old.plan.maps c.boxes k))) (sym (same k)))
-      (with_rows old g rows same r)))
-
   -- an update that was made again
   pub change_step : (old new : FarmSeen D) (g : List Entry) (c : Past) → past_number c < length old.plan.updates → ReplaysChange old new c → IsReplaying state old g → IsReplaying state new (replay_change (plan_of old.plan) c g)
   change_step old new g (Past.Update n) lt d r =
       subst (λ (f : FarmSeen D). IsReplaying state f (replay_change (plan_of old.plan) (Past.Update n) g)) (sym d.1) (from_replays _ _ (replay_update_step state old g n new.data_now lt d.0 (to_replays old g r)))
-  change_step old new g (Past.Renew n) lt d r = renewed_rows old new g n d.0 (once old.marks.shown) lt d.1 (once_apart old.marks.shown) (λ k. once_same k old.marks.shown) r
+  change_step old new g (Past.Renew n) lt d r =
+      subst (λ (f : FarmSeen D). IsReplaying state f (replay_change (plan_of old.plan) (Past.Renew n) g)) (sym (new_is state false old new g n d.0 d.1 r.stands))
+      (from_replays _ _ (replay_renew_step state old g n new.data_now (is_reached old.plan.maps d.1.boxes) new.marks lt d.1.applied d.1.apart (same_marks state false old new g n d.0 d.1 r.stands) (marks_after state false old new g n d.0 d.1 r.stands) (to_replays old g r)))
 
 pub stays_then : {D : Type 0} (a b c : FarmSeen D) → Stays a b → Stays b c → Stays a c
 stays_then a b c x y = record { plan = y.plan ∙ x.plan; saved = y.saved ∙ x.saved; first = y.first ∙ x.first; store = y.store ∙ x.store }

@@ -16,8 +16,7 @@ use Rattle.plain_shapes.specs.Features.{Layer}
 use Rattle.std.proofs.lemmas.List.{length-map, length-replicate}
 use Rattle.farm_history.proofs.Lists.{each-append, each-map, each-over, each-filter, any-append, not_any}
 use Rattle.farm_history.proofs.Counts.{count-cons}
-use Rattle.render_queues.specs.declared.lines.Lines.{Lines}
-use Rattle.render_queues.specs.OneQueue.{is_below}
+use Rattle.render_queues.specs.OneQueue.{Lines, is_below}
 use Rattle.render_queues.specs.Tables.{Tables, line_of, first_of, next_of, after_take, after_place, lifted_out}
 use Rattle.farm_plan.specs.Plans.{FarmPlan, IsPlan}
 use Rattle.farm_plan.specs.Spots.{IsKeyOf}

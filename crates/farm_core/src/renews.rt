@@ -1,8 +1,7 @@
 //! Renews: updates that expire what they reach.
-ghost use Rattle.std.specs.Prelude.{◌≡◌, ◌≢◌, ◌<◌, ◌^◌, Bool, List, ◌∷◌, All, length, map as map_list, slice_get, IfErr, IfOk, Err};
+ghost use Rattle.std.specs.Prelude.{◌≡◌, ◌≢◌, ◌<◌, ◌^◌, Bool, List, ◌∷◌, length, map as map_list, slice_get, IfErr, IfOk, Err};
 ghost use Rattle.farm_base.specs.declared.faults.ApplyFault.{ApplyFault};
-ghost use Rattle.plain_shapes.specs.Data.{IsDataset, IsLayer, update_result};
-ghost use Rattle.reach_box.specs.Boxes.{IsBox};
+ghost use Rattle.plain_shapes.specs.Data.{update_result};
 ghost use Rattle.farm_history.specs.Entries.{Entry, Renew};
 ghost use Rattle.farm_history.specs.Lists.{Each};
 ghost use Rattle.farm_history.specs.Seen.{overtaken_by};
@@ -12,7 +11,7 @@ ghost use Rattle.farm_plan.specs.Spots.{IsKeyOf};
 ghost use Rattle.reach_box.specs.NamedBoxes.{AreBoxesOf, boxes_reach_map};
 ghost use Rattle.farm_refinement.specs.Stands.{StandsFor};
 ghost use Rattle.farm_core.specs.Answers.{Lasts};
-ghost use Rattle.farm_core.specs.inner.Renews.{Names, Reaches, Renews};
+ghost use Rattle.farm_core.specs.inner.Renews.{Reaches, Renews};
 
 use crate::farm::Farm;
 use farm_base::{ApplyFault, NoMemory};
@@ -48,16 +47,14 @@ impl<D> Farm<D> {
     /// The boxes of the features that the update of the number names.
     fn named(&self, alloc: Global, number: u32) -> Result<Vec<Bounds>, NoMemory>
         requires { number < length self.now.plan.updates }
-        ensures { IfOk result (λ boxes. Names self.now number boxes.items) }
+        ensures { IfOk result (λ boxes. AreBoxesOf (named self.now.data_now (update_of self.now.plan number)) boxes.items) }
     {
-        self.own.setup().law_dataset();
         let update = self.own.setup().update(number).unwrap();
         named_boxes(alloc, self.own.snapshot(), update)
     }
 
     /// Touches what the boxes reach, and counts what was clean of it. The boxes end in another order.
     fn mark_reached_dirty(&mut self, boxes: &mut [Bounds]) -> u64
-        requires { Each IsBox boxes.old }
         ensures { Reaches boxes.old self.old self.new result }
     {
         touch_reached(self.taken.as_mut_slice(), self.own.setup(), boxes);

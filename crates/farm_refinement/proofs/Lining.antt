@@ -12,8 +12,7 @@ use Rattle.farm_history.specs.Plans.{Waits, AreApart, same_key, same_queue, is_i
 use Rattle.farm_history.specs.Seen.{in_queue}
 use Rattle.farm_history.proofs.Lists.{same_key-true, find-any, find-passes, each-map, each-passes, none-each, filter-all, map-filter}
 use Rattle.farm_history.proofs.Queued.{how_many_in_queue, in_queue_append, in_queue_without, find_first}
-use Rattle.render_queues.specs.declared.lines.Lines.{Lines}
-use Rattle.render_queues.specs.OneQueue.{is_below, without}
+use Rattle.render_queues.specs.OneQueue.{Lines, is_below, without}
 use Rattle.render_queues.specs.Tables.{line_of, with_last, cut_from, lifted_out, first_of, next_of}
 use Rattle.farm_refinement.specs.Stands.{waits_key}
 

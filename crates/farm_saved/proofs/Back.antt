@@ -20,7 +20,7 @@ use Rattle.farm_saved.specs.declared.fault.SavedFault.{SavedFault}
 use Rattle.farm_saved.specs.declared.fault.SavedFault.TheVariants.{Short, Kind}
 use Rattle.farm_saved.specs.Savings.{StyleFits, IsKept, IsSaving}
 use Rattle.farm_saved.specs.Writing.{style_bytes, past_bytes, kept_bytes, saved_bytes}
-use Rattle.farm_saved.specs.Reading.{after_magic, bytes_number, many, style_if_any, style_in, past_in, is_behind, is_kept, fields_in, entry_in, nothing_left, saved_in, saving_in}
+use Rattle.farm_saved.specs.Reading.{after_magic, bytes_number, many, style_if_any, style_number_in, past_in, is_behind, is_kept, fields_in, entry_in, nothing_left, saved_in, saving_in}
 use Rattle.farm_saved.specs.inner.Fields.{saved_magic, past_of, last_of}
 use Rattle.farm_saved.proofs.Loops.{many_step, many_none}
 use Rattle.farm_saved.specs.Laws.{PastFits, MapFits, HasNumbers, ReadsBack}
@@ -35,11 +35,11 @@ field_back short n x rest h =
 
 -- ---- styles
 
-style_step : (short : SavedFault) (before : List (Option ℕ)) (bytes : List ℕ) → style_in short before bytes ≡ (bytes_number short 4 bytes >>= λ number. Ok (style_if_any number.0, number.1))
-unfolding style_in
+style_step : (short : SavedFault) (before : List (Option ℕ)) (bytes : List ℕ) → style_number_in short before bytes ≡ (bytes_number short 4 bytes >>= λ number. Ok (style_if_any number.0, number.1))
+unfolding style_number_in
 style_step short before bytes = refl
 
-style_back : (short : SavedFault) (before : List (Option ℕ)) (s : Option ℕ) (rest : List ℕ) → StyleFits s → style_in short before (style_bytes s ++ rest) ≡ Ok (s, rest)
+style_back : (short : SavedFault) (before : List (Option ℕ)) (s : Option ℕ) (rest : List ℕ) → StyleFits s → style_number_in short before (style_bytes s ++ rest) ≡ Ok (s, rest)
 style_back short before None rest h =
     style_step short before (little_bytes 4 0 ++ rest)
     ∙ ap (λ (r : Result (ℕ × List ℕ) SavedFault). r >>= λ number. Ok (style_if_any number.0, number.1)) (field_back short 4 0 rest (omega arith))
@@ -49,14 +49,14 @@ style_back short before (Some n) rest h =
     ∙ ap (λ (k : ℕ). Ok (style_if_any k, rest)) (add-one n)
 
 styles_back : (short : SavedFault) (styles before : List (Option ℕ)) (rest : List ℕ) → All StyleFits styles
-    → many (style_in short) (length styles) before (flat_map style_bytes styles ++ rest) ≡ Ok (before ++ styles, rest)
-styles_back short [] before rest h = many_none (style_in short) before rest ∙ ap (λ (b : List (Option ℕ)). Ok (b, rest)) (sym (append-nil before))
+    → many (style_number_in short) (length styles) before (flat_map style_bytes styles ++ rest) ≡ Ok (before ++ styles, rest)
+styles_back short [] before rest h = many_none (style_number_in short) before rest ∙ ap (λ (b : List (Option ℕ)). Ok (b, rest)) (sym (append-nil before))
 styles_back short (s ∷ styles) before rest h =
     let behind = flat_map style_bytes styles ++ rest in
-    let one : style_in short before ((style_bytes s ++ flat_map style_bytes styles) ++ rest) ≡ Ok (s, behind) =
-    ap (style_in short before) (append_assoc (style_bytes s) (flat_map style_bytes styles) rest) ∙ style_back short before s behind (All-head StyleFits s styles h) in
-    many_step (style_in short) (length styles) before ((style_bytes s ++ flat_map style_bytes styles) ++ rest)
-    ∙ ap (λ (r : Result (Option ℕ × List ℕ) SavedFault). r >>= λ p. many (style_in short) (length styles) (before ++ p.0 ∷ []) p.1) one
+    let one : style_number_in short before ((style_bytes s ++ flat_map style_bytes styles) ++ rest) ≡ Ok (s, behind) =
+    ap (style_number_in short before) (append_assoc (style_bytes s) (flat_map style_bytes styles) rest) ∙ style_back short before s behind (All-head StyleFits s styles h) in
+    many_step (style_number_in short) (length styles) before ((style_bytes s ++ flat_map style_bytes styles) ++ rest)
+    ∙ ap (λ (r : Result (Option ℕ × List ℕ) SavedFault). r >>= λ p. many (style_number_in short) (length styles) (before ++ p.0 ∷ []) p.1) one
     ∙ styles_back short styles (before ++ s ∷ []) rest (All-tail StyleFits s styles h)
     ∙ ap (λ (b : List (Option ℕ)). Ok (b, rest)) (append_assoc before (s ∷ []) styles)
 
@@ -191,7 +191,7 @@ clean_back short updates (k ∷ clean) before rest few maps kept rise follows =
 -- ---- the whole text
 
 text_steps : (short : SavedFault) (all : ℕ) (bytes start b0 b1 b2 b3 b4 : List ℕ) (n0 n1 n2 : ℕ) (styles : List (Option ℕ)) (updates : List Past) (clean : List Kept)
-    → after_magic short bytes ≡ Ok start → bytes_number short 4 start ≡ Ok (n0, b0) → many (style_in short) n0 [] b0 ≡ Ok (styles, b1)
+    → after_magic short bytes ≡ Ok start → bytes_number short 4 start ≡ Ok (n0, b0) → many (style_number_in short) n0 [] b0 ≡ Ok (styles, b1)
     → bytes_number short 8 b1 ≡ Ok (n1, b2) → many (past_in short) n1 [] b2 ≡ Ok (updates, b3)
     → bytes_number short 8 b3 ≡ Ok (n2, b4) → many (entry_in short (length updates)) n2 [] b4 ≡ Ok (clean, []) → nothing_left all [] ≡ Ok tt
     → saving_in short all bytes ≡ Ok (record { styles = styles; updates = updates; clean = clean })

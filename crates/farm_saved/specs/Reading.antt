@@ -31,8 +31,8 @@ style_if_any zero = None
 style_if_any (suc n) = Some n
 
 -- a map
-unfoldable pub style_in : SavedFault → List (Option ℕ) → List ℕ → Result (Option ℕ × List ℕ) SavedFault
-style_in short before bytes = bytes_number short 4 bytes >>= λ number. Ok (style_if_any number.0, number.1)
+unfoldable pub style_number_in : SavedFault → List (Option ℕ) → List ℕ → Result (Option ℕ × List ℕ) SavedFault
+style_number_in short before bytes = bytes_number short 4 bytes >>= λ number. Ok (style_if_any number.0, number.1)
 
 -- an update: its kind, 0 for an update and 1 for one that expired what it reaches, and its number
 unfoldable pub past_in : SavedFault → List Past → List ℕ → Result (Past × List ℕ) SavedFault
@@ -77,7 +77,7 @@ unfoldable pub saving_in : SavedFault → ℕ → List ℕ → Result Saving Sav
 saving_in short all bytes = do
   start ← after_magic short bytes
   maps ← bytes_number short 4 start
-  styles ← many (style_in short) maps.0 [] maps.1
+  styles ← many (style_number_in short) maps.0 [] maps.1
   pasts ← bytes_number short 8 styles.1
   updates ← many (past_in short) pasts.0 [] pasts.1
   entries ← bytes_number short 8 updates.1

@@ -60,9 +60,9 @@ fn style_of(number: u32) -> Option<u32>
 }
 
 /// A map: the number of its last style, if it has one.
-#[tactic(auto, unfolding(crate::specs::Reading::style_in))]
+#[tactic(auto, unfolding(crate::specs::Reading::style_number_in))]
 pub fn style(bytes: &[u8], short: SavedFault) -> Result<(Option<u32>, &[u8]), SavedFault>
-    ensures value { (before : List (Option ℕ)) → seen (λ p. (p.0, p.1.now)) result ≡ spec.style_in short before bytes.entry.now }
+    ensures value { (before : List (Option ℕ)) → seen (λ p. (p.0, p.1.now)) result ≡ spec.style_number_in short before bytes.entry.now }
     ensures fits { IfOk result (λ p. StyleFits p.0) }
     ensures left { IfOk result (λ p. length p.1.now + 4 ≡ length bytes.entry.now) }
 {

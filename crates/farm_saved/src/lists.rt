@@ -18,7 +18,7 @@ pub fn styles(
     bytes: &[u8],
     short: SavedFault,
 ) -> Result<(Vec<Option<u32>>, &[u8]), SavedFault>
-    ensures value { Gives fault.NoMemory (λ p. (p.0.items, p.1.now)) (spec.many (spec.style_in short) count [] bytes.entry.now) result }
+    ensures value { Gives fault.NoMemory (λ p. (p.0.items, p.1.now)) (spec.many (spec.style_number_in short) count [] bytes.entry.now) result }
     ensures fit { IfOk result (λ p. All StyleFits p.0.items) }
     ensures count { IfOk result (λ p. length p.0.items ≡ count) }
     ensures left { IfOk result (λ p. length p.1.now ≤ length bytes.entry.now) }

@@ -13,7 +13,8 @@ use Rattle.plain_shapes.specs.Reach.{feature_reaches}
 use Rattle.geo_model.specs.declared.bounds.Bounds.{Bounds}
 use Rattle.reach_box.specs.Boxes.{IsBox, box_reaches}
 use Rattle.plain_shapes.specs.Data.{Change}
-use Rattle.reach_box.specs.NamedBoxes.{AreBoxesOf, Adds, feature_list, at_id, at_put, met_by}
+use Rattle.reach_box.specs.NamedBoxes.{AreBoxesOf}
+use Rattle.reach_box.specs.inner.Lookups.{Adds, feature_list, at_id, at_put, met_by}
 
 both : (fs gs : List Feature) (a b : List Bounds) → AreBoxesOf fs a → AreBoxesOf gs b → AreBoxesOf (fs ++ gs) (a ++ b)
 both fs gs a b x y = record {

@@ -1,5 +1,5 @@
 -- Expiries of what boxes reach, one after another.
-use Rattle.std.proofs.Common.{◌≡◌, ℕ, ◌+◌, ◌^◌, ◌<◌, ◌≤◌, min, Bool, true, false, ◌||◌, ◌&&◌, ◌==◌, nat_lt, List, [], ◌∷◌, length, slice_get, Option, Some, None, refl, sym, ap, ◌∙◌, subst, arith}
+use Rattle.std.proofs.Common.{◌≡◌, ℕ, ◌+◌, ◌^◌, ◌<◌, ◌≤◌, min, Bool, true, false, ◌||◌, ◌&&◌, ◌==◌, nat_lt, List, length, slice_get, Option, Some, None, refl, sym, ap, ◌∙◌, subst, arith}
 use Rattle.std.specs.Prelude.{IsPermutation}
 use Rattle.std.specs.List.{list_any}
 use Rattle.std.proofs.lemmas.Bool.{eqb-true}
@@ -7,15 +7,13 @@ use Rattle.std.proofs.lemmas.Bool.Decides.{nat_tests}
 use Rattle.std.proofs.lemmas.List.Sorted.{list_any-IsPermutation}
 use Rattle.std.proofs.lemmas.Option.{slice_get_past}
 use Rattle.farm_history.specs.declared.keys.Key.{Key}
-use Rattle.farm_history.specs.Plans.{AreApart, same_key}
 use Rattle.farm_history.proofs.Lists.{each-all}
 use Rattle.geo_model.specs.declared.bounds.Bounds.{Bounds}
-use Rattle.expiry_lists.specs.Marks.{Shown, shown_key, dirtied_mark, dirtied_marks, clean_marks, is_of_map, is_met, is_near_boxes}
+use Rattle.expiry_lists.specs.Marks.{Shown, dirtied_marks, clean_marks, is_of_map, is_met, is_near_boxes}
 use Rattle.expiry_lists.proofs.Dirtying.{dirties_none, dirtied_marks-dirtied_marks, clean_marks-dirtied_marks}
 use Rattle.farm_plan.specs.Plans.{MapPlan}
 use Rattle.reach_box.specs.NamedBoxes.{boxes_reach_map}
 use Rattle.reach_box.specs.Marks.{is_reached, most_told, Expires}
-use Rattle.reach_box.proofs.Naming.{any_map}
 
 -- nothing is expired by a test that no key passes
 pub expires_none : (test : Key → Bool) (a : List Shown) → ((k : Key) → test k ≡ false) → Expires test a a 0
@@ -38,14 +36,6 @@ expires_then p q both a b c m n total same x y is = subst (λ t. Expires t a c t
 -- a count that is told in full
 pub expires_told : (test : Key → Bool) (a b : List Shown) (n : ℕ) → n < 2 ^ 64 → b ≡ dirtied_marks test a → n ≡ clean_marks test a → Expires test a b n
 expires_told test a b n fits shown count = record { shown = shown; count_is = omega (arith, fits, count) }
-
--- what is shown once after an expiry was shown once before
-pub apart_before : (test : Key → Bool) (a b : List Shown) → b ≡ dirtied_marks test a → AreApart shown_key b → AreApart shown_key a
-apart_before test a b is apart = go a (subst (AreApart shown_key) is apart)
-  where
-    go : (xs : List Shown) → AreApart shown_key (dirtied_marks test xs) → AreApart shown_key xs
-    go [] h = tt
-    go (x ∷ xs) h = (sym (any_map (λ (y : Shown). same_key y.key x.key) (dirtied_mark test) xs) ∙ h.0, go xs h.1)
 
 -- what boxes reach of a map, told of them in another order
 pub near_told : (map size : ℕ) (boxes now : List Bounds) (a b : List Shown) (n : ℕ) → IsPermutation boxes now → n < 2 ^ 64 → b ≡ dirtied_marks (is_near_boxes map size now) a → n ≡ clean_marks (is_near_boxes map size now) a

@@ -4,4 +4,3 @@ pub mod Adding
 pub mod Naming
 pub mod Dirtied
 pub mod Reached
-pub mod Valid

@@ -10,7 +10,7 @@ use Rattle.farm_history.proofs.Lists.{any-append}
 use Rattle.plain_shapes.specs.Features.{Feature, Layer}
 use Rattle.plain_shapes.specs.Data.{Change, has_id, ids_of, layer_named, IsLayer}
 use Rattle.farm_plan.specs.Drawings.{features_in, names_id, named_by, named}
-use Rattle.reach_box.specs.NamedBoxes.{feature_list, at_id, at_put, met_by, features_met}
+use Rattle.reach_box.specs.inner.Lookups.{feature_list, at_id, at_put, met_by, features_met}
 
 -- ---- some of a list
 
@@ -34,7 +34,7 @@ any_filter q t (x ∷ xs) = go (t x) (any_filter q t xs)
     go true ih = ap (λ r. q x || r) ih
     go false ih = ih
 
-pub any_map : {X Y : Type 0} (p : Y → Bool) (f : X → Y) (xs : List X) → list_any p (map f xs) ≡ list_any (λ x. p (f x)) xs
+any_map : {X Y : Type 0} (p : Y → Bool) (f : X → Y) (xs : List X) → list_any p (map f xs) ≡ list_any (λ x. p (f x)) xs
 any_map p f [] = refl
 any_map p f (x ∷ xs) = ap (λ r. p (f x) || r) (any_map p f xs)
 

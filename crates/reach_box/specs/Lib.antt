@@ -1,3 +1,4 @@
 pub mod Boxes
 pub mod NamedBoxes
 pub mod Marks
+pub mod inner

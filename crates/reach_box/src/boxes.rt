@@ -1,12 +1,12 @@
 //! The bounding boxes of the features that an update names.
-ghost use Rattle.std.specs.Prelude.{◌≡◌, ◌≤◌, ◌∷◌, [], All, flat_map, position, OnOk, IfOk};
+ghost use Rattle.std.specs.Prelude.{◌≡◌, ◌≤◌, ◌∷◌, [], flat_map, position, OnOk, IfOk};
 ghost use Rattle.std.specs.Str.{bytes_eq};
 ghost use Rattle.plain_world.specs.World.{IsMeta, IsTileSize, meta_square};
-ghost use Rattle.plain_shapes.specs.Data.{IsLayer};
 ghost use Rattle.farm_history.specs.Lists.{Each};
 ghost use Rattle.reach_box.specs.Boxes.{IsBox};
 ghost use Rattle.farm_plan.specs.Drawings.{features_in, named};
-ghost use Rattle.reach_box.specs.NamedBoxes.{Adds, AreBoxesOf, at_id, at_put, boxes_reach, features_met, met_by};
+ghost use Rattle.reach_box.specs.NamedBoxes.{AreBoxesOf, boxes_reach};
+ghost use Rattle.reach_box.specs.inner.Lookups.{Adds, at_id, at_put, met_by};
 
 use crate::box_of;
 use data_versions::{Change, Feature, LayerFinder, Snapshot, Update};
@@ -121,7 +121,7 @@ pub fn named_boxes(
     update: &Update,
 ) -> Result<Vec<Bounds>, NoMemory>
     ensures sound { IfOk result (λ v. Each IsBox v.items) }
-    ensures named { IfOk result (λ v. All IsLayer snapshot.now → AreBoxesOf (named snapshot.now update.now) v.items) }
+    ensures named { IfOk result (λ v. AreBoxesOf (named snapshot.now update.now) v.items) }
 {
     let mut boxes = Vec::new(alloc);
     let mut layers = snapshot.finders(alloc)?;

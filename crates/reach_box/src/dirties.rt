@@ -1,5 +1,5 @@
 //! Marks of the metatiles that boxes reach.
-ghost use Rattle.std.specs.Prelude.{◌≡◌, ◌<◌, ◌≤◌, All, length, IsPermutation};
+ghost use Rattle.std.specs.Prelude.{◌≡◌, ◌≤◌, All, length, IsPermutation};
 ghost use Rattle.farm_history.specs.Plans.{AreApart};
 ghost use Rattle.farm_plan.specs.Plans.{IsMapPlan};
 ghost use Rattle.expiry_lists.specs.Marks.{shown_key};
@@ -15,9 +15,10 @@ pub fn mark_maps_dirty(marks: &mut Marks, maps: &[MapPlan], boxes: &mut [Bounds]
     requires few { length maps.now ≤ 16 }
     requires maps { All IsMapPlan maps.now }
     ensures dirties { Expires (is_reached maps.now boxes.old) marks.old.shown marks.new.shown result }
-    ensures apart { 0 < length maps.now → 0 < length boxes.old → AreApart shown_key marks.old.shown }
+    ensures apart { AreApart shown_key marks.old.shown }
     ensures moved { IsPermutation boxes.old boxes.new }
 {
+    marks.law_apart();
     let mut clean: u64 = 0;
     for (place, plan) in maps.iter().enumerate() {
         clean = clean.saturating_add(marks.expire_boxes(place as u32, plan.tile, boxes));

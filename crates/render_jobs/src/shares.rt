@@ -2,7 +2,6 @@
 ghost use Rattle.std.specs.Prelude.{◌≡◌, ◌≤◌, ◌<◌, All, length, position, replicate, slice_get, option_map, Some, None, IfOk};
 ghost use Rattle.std.specs.Option.{option_copied};
 ghost use Rattle.std.specs.Str.{bytes_eq};
-ghost use Rattle.plain_shapes.specs.Data.{IsDataset};
 ghost use Rattle.farm_plan.specs.Plans.{AreRanged, IsPlan, IsRanged, maps_in};
 ghost use Rattle.std.specs.Vec.{vec_capacity};
 ghost use Rattle.farm_plan.specs.Drawings.{key_path, styled_as};
@@ -66,7 +65,6 @@ pub struct Setup {
 }
 
 impl Model for Setup {
-    ghost use Rattle.plain_shapes.specs.Data.{IsDataset};
     ghost use Rattle.farm_plan.specs.Plans.{FarmPlan};
     ghost use Rattle.plain_filters.specs.inner.FilterCodes.{filter_code};
     ghost use Rattle.std.specs.Coded.{codes};
@@ -83,8 +81,6 @@ impl Model for Setup {
       limits = s.limits;
       restyles = s.restyles.items;
     } };
-
-    ghost invariant = { λ s. IsDataset s.first };
 }
 
 impl Setup {
@@ -100,7 +96,6 @@ impl Setup {
             limits,
             restyles,
         } = plan;
-        let _layers = dataset.layers();
         let first = Snapshot::first(alloc, dataset)?;
         Ok(Setup {
             maps,
@@ -110,14 +105,6 @@ impl Setup {
             limits,
             restyles,
         })
-    }
-
-    /// What is true of the data to begin with: at most 64 layers of names of their own, and in each at most
-    /// 1,000,000 features of ids of their own.
-    pub fn law_dataset(&self)
-        ensures { IsDataset self.now.dataset }
-    {
-        let _first = &self.first;
     }
 
     /// What is true of the styles: the symbolizers of each are within their ranges.

@@ -1,16 +1,15 @@
 -- The chain of each key after each step.
-use Rattle.std.proofs.Common.{zero, suc, ◌≡◌, ℕ, ◌+◌, Bool, true, false, not, ◌&&◌, cond, List, [], ◌∷◌, ◌++◌, length, map, filter, count_by, Option, Some, None, refl, sym, ap, subst, ◌∙◌, arith}
+use Rattle.std.proofs.Common.{◌≡◌, Bool, true, false, not, ◌&&◌, cond, List, [], ◌∷◌, ◌++◌, length, map, filter, Option, Some, None, refl, sym, ap, subst, ◌∙◌, arith}
 use Rattle.std.proofs.lemmas.List.Sums.{length-filter}
 use Rattle.farm_history.specs.declared.keys.Key.{Key}
 use Rattle.farm_history.specs.declared.queues.Conn.{Conn}
 use Rattle.farm_history.specs.declared.queues.Outcome.{Outcome}
-use Rattle.farm_history.specs.declared.queues.Queue.{Queue}
 use Rattle.farm_history.specs.declared.queues.Waiter.{Waiter}
 use Rattle.farm_history.specs.Plans.{Waits, same_key, same_conn}
-use Rattle.farm_history.proofs.Lists.{same_key-true, same_key-self, same_key-sym, each-all, map-filter, filter-append, filter-agree, filter-none, filter-filter}
+use Rattle.farm_history.proofs.Lists.{same_key-true, same_key-sym, each-all, map-filter, filter-append, filter-agree, filter-none, filter-filter}
 use Rattle.farm_history.proofs.Ends.{filter_swap, map-map}
 use Rattle.render_queues.specs.declared.asks.Asked.{Asked}
-use Rattle.render_queues.specs.Tables.{Tables, AreSound, chain_of, after_place, after_join, after_lift, standing, after_take, after_end, after_leave, waits_on, asked_by, reply_with}
+use Rattle.render_queues.specs.Tables.{Tables, AreSound, chain_of, after_join, standing, after_take, after_end, after_leave, waits_on, asked_by, reply_with}
 use Rattle.render_queues.specs.Laws.{LawChains, reply_from}
 use Rattle.render_queues.proofs.Counted.{stands_never}
 

@@ -1,22 +1,19 @@
 -- How often a key stands, and how each step changes it.
-use Rattle.std.proofs.Common.{suc, ◌≡◌, ℕ, ◌+◌, ◌<◌, ◌≤◌, Bool, true, false, not, ◌&&◌, ◌||◌, cond, List, [], ◌∷◌, ◌++◌, length, filter, count_by, Option, Some, None, refl, sym, ap, subst, ◌∙◌, arith}
+use Rattle.std.proofs.Common.{◌≡◌, ℕ, ◌+◌, ◌≤◌, Bool, true, false, not, ◌||◌, cond, List, [], ◌∷◌, ◌++◌, Option, Some, None, refl, sym, ap, subst, ◌∙◌, arith}
 use Rattle.std.specs.Prelude.{IsSome, is_some, slice_get, option_map}
 use Rattle.std.proofs.lemmas.Bool.{false≢true}
 use Rattle.std.specs.Option.{option_or}
-use Rattle.std.specs.List.{list_any}
-use Rattle.std.proofs.lemmas.Bool.Decides.{nat_tests}
-use Rattle.std.proofs.lemmas.List.Sums.{length-filter, count_by-le-length}
 use Rattle.farm_history.specs.declared.keys.Key.{Key}
 use Rattle.farm_history.specs.declared.queues.Queue.{Queue}
 use Rattle.farm_history.specs.Plans.{Waits, same_key, is_in}
 use Rattle.farm_history.proofs.Lists.{same_key-true, same_key-self, none-each}
 use Rattle.farm_history.proofs.Counts.{count-cons}
 use Rattle.farm_history.proofs.Opens.{count-append, count-zero}
-use Rattle.render_queues.specs.OneQueue.{Line, without, line_without, is_below}
-use Rattle.render_queues.specs.declared.lines.Lines.{Lines}
+use Rattle.render_queues.specs.OneQueue.{Line, Lines, without, line_without}
 use Rattle.render_queues.specs.declared.standing.Standing.{Standing}
 use Rattle.render_queues.specs.declared.standing.Standing.TheVariants.{Waits as InLine, Taken}
-use Rattle.render_queues.specs.Tables.{Tables, line_of, with_line, with_last, cut_from, next_of, standing, is_liftable, how_often, waits_often, stands_often}
+use Rattle.render_queues.proofs.Keys.{without_absent, without_gone}
+use Rattle.render_queues.specs.Tables.{Tables, line_of, with_line, with_last, cut_from, lifted_out, out_of_all, waits_where, next_of, standing, is_liftable, how_often, waits_often, stands_often}
 
 pub often_last : (k key : Key) (ks : List Key) → how_often k (ks ++ key ∷ []) ≡ how_often k ks + cond (same_key key k) 1 0
 often_last k key ks = count-append (λ x. same_key x k) ks (key ∷ []) ∙ ap (λ n. how_often k ks + n) (count-cons (λ x. same_key x k) key [] ∙ omega arith)
@@ -144,6 +141,46 @@ liftable_waits t k h = go (is_in k t.taken) (is_in k t.lines.prio.keys) (is_in k
     go false false false false true i f j h = let once = there_once k t.lines.dirty.keys i in omega arith
     go false false false false false i true j h = let once = there_once k t.lines.bulk.keys j in omega arith
     go false false false false false i false j h = absurd (false≢true h)
+
+-- where a list and another hold a key once together, it is in one of them alone
+not_both : (k : Key) (own other : List Key) → how_often k own + how_often k other ≤ 1 → is_in k own ≡ true → is_in k other ≡ false
+not_both k own other once there = go (is_in k other) refl
+  where
+    go : (b : Bool) → is_in k other ≡ b → is_in k other ≡ false
+    go true is = let a = there_once k own there in let b = there_once k other is in absurd (omega arith)
+    go false is = is
+
+-- a key that waits once is out of all queues where it is out of its own
+pub out_of_one : (ls : Lines) (queue : Queue) (key : Key) → waits_often key ls ≤ 1 → is_in key (line_of ls queue).keys ≡ true → out_of_all ls key ≡ cut_from ls queue key
+out_of_one ls queue key once there = go queue there
+  where
+    off : (own other : List Key) → how_often key own + how_often key other ≤ waits_often key ls → is_in key own ≡ true → without key other ≡ other
+    off own other few is = without_absent key other (not_both key own other (omega (arith, once)) is)
+
+    go : (q : Queue) → is_in key (line_of ls q).keys ≡ true → out_of_all ls key ≡ cut_from ls q key
+    go Queue.Prio h = rw (off ls.prio.keys ls.request.keys (omega arith) h, off ls.prio.keys ls.low.keys (omega arith) h, off ls.prio.keys ls.dirty.keys (omega arith) h, off ls.prio.keys ls.bulk.keys (omega arith) h) refl
+    go Queue.Request h = rw (off ls.request.keys ls.prio.keys (omega arith) h, off ls.request.keys ls.low.keys (omega arith) h, off ls.request.keys ls.dirty.keys (omega arith) h, off ls.request.keys ls.bulk.keys (omega arith) h) refl
+    go Queue.Low h = rw (off ls.low.keys ls.prio.keys (omega arith) h, off ls.low.keys ls.request.keys (omega arith) h, off ls.low.keys ls.dirty.keys (omega arith) h, off ls.low.keys ls.bulk.keys (omega arith) h) refl
+    go Queue.Dirty h = rw (off ls.dirty.keys ls.prio.keys (omega arith) h, off ls.dirty.keys ls.request.keys (omega arith) h, off ls.dirty.keys ls.low.keys (omega arith) h, off ls.dirty.keys ls.bulk.keys (omega arith) h) refl
+    go Queue.Bulk h = rw (off ls.bulk.keys ls.prio.keys (omega arith) h, off ls.bulk.keys ls.request.keys (omega arith) h, off ls.bulk.keys ls.low.keys (omega arith) h, off ls.bulk.keys ls.dirty.keys (omega arith) h) refl
+
+-- one that can be lifted is out of all where it is out of the dirty and bulk queues
+pub out_lifted : (t : Tables) (key : Key) → is_liftable (standing t key) ≡ true → out_of_all t.lines key ≡ lifted_out t.lines key
+out_lifted t key liftable =
+    let ls = t.lines in
+    let off = not_higher (is_in key t.taken) (is_in key ls.prio.keys) (is_in key ls.request.keys) (is_in key ls.low.keys) (is_in key ls.dirty.keys) (is_in key ls.bulk.keys) liftable in
+    rw (without_absent key ls.prio.keys off.0, without_absent key ls.request.keys off.1, without_absent key ls.low.keys off.2) refl
+  where
+    not_higher : (a b c d e f : Bool) → is_liftable (found_at a b c d e f) ≡ true → (b ≡ false) × (c ≡ false) × (d ≡ false)
+    not_higher true b c d e f h = absurd (false≢true h)
+    not_higher false true c d e f h = absurd (false≢true h)
+    not_higher false false true d e f h = absurd (false≢true h)
+    not_higher false false false true e f h = absurd (false≢true h)
+    not_higher false false false false e f h = (refl, refl, refl)
+
+-- one that is out of all queues waits nowhere
+pub out_nowhere : (ls : Lines) (key : Key) → waits_where (out_of_all ls key) key ≡ None
+out_nowhere ls key = rw (without_gone key ls.prio.keys, without_gone key ls.request.keys, without_gone key ls.low.keys, without_gone key ls.dirty.keys, without_gone key ls.bulk.keys) refl
 
 -- what is taken next stands in its queue
 pub next_there : (ls : Lines) (w : Waits) → next_of ls ≡ Some w → is_in w.key (line_of ls w.queue).keys ≡ true

@@ -8,7 +8,7 @@ use Rattle.farm_history.specs.Plans.{Waits, same_queue, first_in, next}
 use Rattle.farm_history.specs.Seen.{in_queue}
 use Rattle.farm_history.proofs.Lists.{each-passes}
 use Rattle.farm_history.proofs.Queued.{find_first}
-use Rattle.render_queues.specs.declared.lines.Lines.{Lines}
+use Rattle.render_queues.specs.OneQueue.{Lines}
 use Rattle.render_queues.specs.Tables.{line_of, first_of}
 use Rattle.render_queues.specs.Laws.{LawNext}
 

@@ -1,5 +1,5 @@
 -- The items of the queues and those that are taken, each with its chain, after each step.
-use Rattle.std.proofs.Common.{◌≡◌, ℕ, ◌+◌, ◌≤◌, Bool, true, false, not, ◌||◌, cond, List, [], ◌∷◌, ◌++◌, map, filter, Option, Some, None, refl, sym, ap, ap₂, ◌∙◌, arith}
+use Rattle.std.proofs.Common.{◌≡◌, ◌+◌, ◌≤◌, Bool, true, false, not, cond, List, [], ◌∷◌, ◌++◌, map, filter, Option, Some, None, refl, sym, ap, ap₂, ◌∙◌, arith}
 use Rattle.std.specs.Option.{option_to_list}
 use Rattle.std.proofs.lemmas.Bool.{false≢true}
 use Rattle.farm_history.specs.declared.keys.Key.{Key}
@@ -8,11 +8,10 @@ use Rattle.farm_history.specs.declared.queues.Outcome.{Outcome}
 use Rattle.farm_history.specs.declared.queues.Queue.{Queue}
 use Rattle.farm_history.specs.declared.queues.Waiter.{Waiter}
 use Rattle.farm_history.specs.Lists.{Each}
-use Rattle.farm_history.specs.Plans.{Waits, same_key, same_conn, is_in}
+use Rattle.farm_history.specs.Plans.{Waits, same_key, is_in}
 use Rattle.farm_history.proofs.Lists.{same_key-self, same_key-sym, any-filter_off, map-filter, none-each}
 use Rattle.farm_history.proofs.Ends.{map-map}
-use Rattle.render_queues.specs.OneQueue.{Line, without, line_without}
-use Rattle.render_queues.specs.declared.lines.Lines.{Lines}
+use Rattle.render_queues.specs.OneQueue.{Line, Lines, without, line_without}
 use Rattle.render_queues.specs.Tables.{Tables, AreSound, line_of, with_line, with_last, lifted_out, chain_of, after_place, after_join, after_lift, standing, is_liftable, takes_lifted, after_take, after_end, after_leave, how_often, stands_often}
 use Rattle.render_queues.specs.Laws.{Item, item_of, items_of, taken_items, without_conn, LawItems}
 use Rattle.render_queues.proofs.Counted.{there_once, often_more, stands_never, liftable_waits}

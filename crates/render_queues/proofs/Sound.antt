@@ -1,6 +1,6 @@
 -- What is true of all tables stays true at each step.
-use Rattle.std.proofs.Common.{zero, suc, ◌≡◌, ℕ, ◌+◌, ◌<◌, ◌≤◌, Bool, true, false, not, ◌&&◌, cond, nat_lt, List, [], ◌∷◌, ◌++◌, length, map, filter, count_by, Option, Some, None, refl, sym, ap, ap₂, subst, ◌∙◌, arith}
-use Rattle.std.specs.Prelude.{IsSome}
+use Rattle.std.proofs.Common.{suc, ◌≡◌, ℕ, ◌+◌, ◌<◌, ◌≤◌, Bool, true, false, not, cond, List, [], ◌∷◌, ◌++◌, length, map, filter, count_by, Option, Some, None, refl, sym, ap, ap₂, subst, ◌∙◌, arith}
+use Rattle.std.specs.Prelude.{IsSome, option_map}
 use Rattle.std.proofs.lemmas.Bool.Decides.{nat_tests}
 use Rattle.std.proofs.lemmas.List.{length-append, length-map}
 use Rattle.farm_history.specs.declared.keys.Key.{Key}
@@ -11,17 +11,16 @@ use Rattle.farm_history.specs.declared.queues.Queue.{Queue}
 use Rattle.farm_history.specs.declared.queues.Reply.{Reply}
 use Rattle.farm_history.specs.declared.queues.Waiter.{Waiter}
 use Rattle.farm_history.specs.Lists.{without_first}
-use Rattle.farm_history.specs.Plans.{Waits, same_key, is_in}
+use Rattle.farm_history.specs.Plans.{Waits, same_key}
 use Rattle.farm_history.proofs.Lists.{same_key-true, same_key-self}
 use Rattle.farm_history.proofs.Counts.{count-cons}
 use Rattle.farm_history.proofs.Opens.{count-append}
-use Rattle.render_queues.specs.OneQueue.{Line, no_line, without, line_without, is_below}
+use Rattle.render_queues.specs.OneQueue.{Line, Lines, without, line_without, is_below}
 use Rattle.render_queues.specs.declared.asks.Asked.{Asked}
-use Rattle.render_queues.specs.declared.lines.Lines.{Lines}
-use Rattle.render_queues.specs.Tables.{Tables, AreSound, IsWithin, no_tables, line_of, with_line, with_last, cut_from, lifted_out, after_lift, after_place, after_join, with_waiter, next_of, standing, is_liftable, takes_lifted, after_take, after_end, after_leave, waits_on, reply_with, asked_by, replies_to_conn, open_count, how_often, waits_often, stands_often, chain_length}
+use Rattle.render_queues.specs.Tables.{Tables, AreSound, IsWithin, no_tables, line_of, with_line, with_last, cut_from, lifted_out, out_of_all, after_lift, after_place, after_join, next_of, standing, is_liftable, takes_lifted, after_take, after_end, after_leave, waits_on, reply_with, asked_by, replies_to_conn, open_count, how_often, waits_often, stands_often, chain_length}
 use Rattle.render_queues.proofs.Ends.{filter_fewer}
 use Rattle.render_queues.proofs.Keys.{without_few}
-use Rattle.render_queues.proofs.Counted.{often_last, often_without, there_once, often_more, often_pushed, often_cut, stands_never, stands_somewhere, liftable_waits, next_there}
+use Rattle.render_queues.proofs.Counted.{often_last, often_without, there_once, often_more, often_pushed, often_cut, stands_never, liftable_waits, out_of_one, next_there}
 
 -- empty tables
 pub sound_none : (limits : Limits) (workers : ℕ) → AreSound (no_tables limits workers)
@@ -179,6 +178,23 @@ sound_taken t w next few sound = record {
   few_taken = omega (arith, length-append t.taken (w.key ∷ []));
   few_asks = sound.few_asks;
 }
+
+-- what is next is out of its queue where it is out of all
+pub next_out : (t : Tables) (key : Key) → option_map (λ w. w.key) (next_of t.lines) ≡ Some key → AreSound t → record t { lines = out_of_all t.lines key; taken = t.taken ++ key ∷ [] } ≡ after_take t (next_of t.lines)
+next_out t key is sound = go (next_of t.lines) refl is
+  where
+    go : (o : Option Waits) → next_of t.lines ≡ o → option_map (λ w. w.key) o ≡ Some key → record t { lines = out_of_all t.lines key; taken = t.taken ++ key ∷ [] } ≡ after_take t o
+    go None next h = cc
+    go (Some w) next h =
+        let mine : w.key ≡ key = cc in
+        rw (sym mine) (ap (λ ls. let u : Tables = record t { lines = ls; taken = t.taken ++ w.key ∷ [] } in u) (out_of_one t.lines w.queue w.key (omega (arith, sound.once w.key)) (next_there t.lines w next)))
+
+pub sound_next : (t : Tables) → length t.taken < t.workers → AreSound t → AreSound (after_take t (next_of t.lines))
+sound_next t few sound = go (next_of t.lines) refl
+  where
+    go : (o : Option Waits) → next_of t.lines ≡ o → AreSound (after_take t o)
+    go None next = sound
+    go (Some w) next = sound_taken t w next few sound
 
 -- a filter and its contrary share the list out
 shared_out : {X : Type 0} (q : X → Bool) (xs : List X) → length (filter (λ x. not (q x)) xs) + length (filter q xs) ≡ length xs

@@ -1,5 +1,5 @@
 -- What the steps do to the chain of each key, and what is taken next, as laws.
-use Rattle.std.specs.Prelude.{ℕ, Bool, true, not, ◌≡◌, if◌then◌else◌, List, [], ◌∷◌, ◌++◌, map, filter, Option, Some, None}
+use Rattle.std.specs.Prelude.{true, not, ◌≡◌, if◌then◌else◌, List, [], ◌∷◌, ◌++◌, map, filter, Option, Some, None}
 use Rattle.std.specs.Option.{option_to_list}
 use Rattle.farm_history.specs.declared.keys.Key.{Key}
 use Rattle.farm_history.specs.declared.queues.Conn.{Conn}
@@ -9,7 +9,7 @@ use Rattle.farm_history.specs.declared.queues.Reply.{Reply}
 use Rattle.farm_history.specs.declared.queues.Waiter.{Waiter}
 use Rattle.farm_history.specs.Plans.{Waits, same_key, same_conn, next}
 use Rattle.farm_history.specs.Seen.{in_queue}
-use Rattle.render_queues.specs.declared.lines.Lines.{Lines}
+use Rattle.render_queues.specs.OneQueue.{Lines}
 use Rattle.render_queues.specs.Tables.{Tables, AreSound, line_of, chain_of, after_place, after_join, after_lift, standing, is_liftable, takes_lifted, next_of, after_take, after_end, after_leave}
 
 -- the reply to a waiter

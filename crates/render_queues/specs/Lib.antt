@@ -1,3 +1,4 @@
 pub mod Laws
 pub mod OneQueue
 pub mod Tables
+pub mod inner

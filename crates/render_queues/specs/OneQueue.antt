@@ -1,4 +1,4 @@
--- One queue: keys in order.
+-- One queue: keys in order; and the five queues.
 use Rattle.std.specs.Prelude.{ℕ, Bool, not, nat_lt, List, [], length, filter}
 use Rattle.farm_history.specs.declared.keys.Key.{Key}
 use Rattle.farm_history.specs.Plans.{same_key}
@@ -23,3 +23,11 @@ without key keys = filter (λ k. not (same_key k key)) keys
 -- a queue without the key
 abbrev pub line_without : Line → Key → Line
 line_without l key = record l { keys = without key l.keys }
+
+-- the five queues
+pub record Lines : Type 0 where
+  pub prio : Line
+  pub request : Line
+  pub low : Line
+  pub dirty : Line
+  pub bulk : Line

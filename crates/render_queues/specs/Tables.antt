@@ -1,5 +1,5 @@
 -- What waits, what is taken and what has ended, as plain lists.
-use Rattle.std.specs.Prelude.{ℕ, ◌+◌, ◌≤◌, Bool, true, false, not, ◌&&◌, ◌==◌, nat_lt, ◌≡◌, if◌then◌else◌, List, [], ◌∷◌, ◌++◌, length, map, filter, count_by, slice_get, Option, Some, None, option_map}
+use Rattle.std.specs.Prelude.{ℕ, ◌+◌, ◌≤◌, Bool, true, false, not, ◌==◌, ◌≡◌, if◌then◌else◌, List, [], ◌∷◌, ◌++◌, length, map, filter, count_by, slice_get, Option, Some, None, option_map}
 use Rattle.std.specs.Option.{option_or}
 use Rattle.farm_base.specs.Limits.{most_asks}
 use Rattle.farm_history.specs.declared.keys.Key.{Key}
@@ -10,11 +10,10 @@ use Rattle.farm_history.specs.declared.queues.Queue.{Queue}
 use Rattle.farm_history.specs.declared.queues.Reply.{Reply}
 use Rattle.farm_history.specs.declared.queues.Waiter.{Waiter}
 use Rattle.farm_history.specs.Plans.{Waits, same_key, same_conn, is_in}
-use Rattle.render_queues.specs.OneQueue.{Line, no_line, without, line_without}
+use Rattle.render_queues.specs.OneQueue.{Line, Lines, no_line, without, line_without}
 use Rattle.render_queues.specs.declared.asks.Asked.{Asked}
 use Rattle.render_queues.specs.declared.standing.Standing.{Standing}
 use Rattle.render_queues.specs.declared.standing.Standing.TheVariants.{Waits as InLine, Taken}
-use Rattle.render_queues.specs.declared.lines.Lines.{Lines}
 
 -- The tables: the five queues, and what is taken. Chains are seen in one list: each ask that waits, with its key, in the order
 -- in which they came. Replies are in the order in which their drawings ended, and those of one drawing in the order of its chain
@@ -62,6 +61,16 @@ cut_from ls queue key = with_line ls queue (line_without (line_of ls queue) key)
 -- the key is out of the dirty and bulk queues
 abbrev pub lifted_out : Lines → Key → Lines
 lifted_out ls key = record ls { dirty = line_without ls.dirty key; bulk = line_without ls.bulk key }
+
+-- the key is out of all queues
+abbrev pub out_of_all : Lines → Key → Lines
+out_of_all ls key = record {
+  prio = line_without ls.prio key;
+  request = line_without ls.request key;
+  low = line_without ls.low key;
+  dirty = line_without ls.dirty key;
+  bulk = line_without ls.bulk key;
+}
 
 -- the first that waits in that queue
 abbrev pub first_of : Lines → Queue → Option Waits

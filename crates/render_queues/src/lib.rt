@@ -5,12 +5,12 @@
 #![tactic(auto)]
 
 mod asks;
+mod key_list;
 mod laws;
-mod line;
-mod lines;
 mod queues;
 mod replies;
 mod standing;
+mod waiting;
 
 pub use asks::Asked;
 pub use farm_history::{Conn, Key, Limits, Outcome, Queue, Reply, Waiter};

@@ -6,10 +6,10 @@ ghost use Rattle.render_queues.specs.OneQueue.{is_below};
 ghost use Rattle.render_queues.specs.Tables.{AreSound, after_end, after_leave, after_take, is_liftable, is_of_front, after_join, after_lift, line_of, next_of, no_tables, open_count, open_of, after_place, standing, takes_lifted};
 
 use crate::asks::{Asked, add_ask, asks_of, drop_asks_of, drop_asks_on, reply_all};
-use crate::line::{drop_key, is_among};
-use crate::lines::Lines;
+use crate::key_list::{drop_key, is_among};
 use crate::replies::{drop_replies, first_reply, replies_of};
 use crate::standing::Standing;
+use crate::waiting::Waiting;
 use farm_base::{MOST_ASKS, NoMemory};
 use farm_history::{Conn, Key, Limits, Outcome, Queue, Reply, Waiter};
 use std::alloc::Global;
@@ -22,7 +22,7 @@ use std::marker::Model;
 /// then until its reply is collected; at most 4,096 are open at once.
 #[derive(Drop)]
 pub struct Queues {
-    lines: Lines,
+    lines: Waiting,
     workers: u32,
     taken: Vec<Key>,
     asks: Vec<Asked>,
@@ -67,7 +67,7 @@ impl Queues {
         let taken = Vec::with_capacity(alloc, workers as usize)?;
         let asks = Vec::with_capacity(alloc, MOST_ASKS as usize)?;
         let ended = Vec::with_capacity(alloc, MOST_ASKS as usize)?;
-        let lines = Lines::with_limits(alloc, limits)?;
+        let lines = Waiting::with_limits(alloc, limits)?;
         Ok(Queues {
             lines,
             workers,
@@ -140,7 +140,7 @@ impl Queues {
         if !self.lines.has_room(queue) {
             return false;
         }
-        self.lines.lift_out(key);
+        self.lines.remove(key);
         self.lines.push(queue, key);
         add_ask(&mut self.asks, key, Some(waiter));
         true
@@ -160,10 +160,10 @@ impl Queues {
         ensures next { result ≡ option_map (λ w. w.key) (next_of self.old.lines) }
         ensures tables { self.new ≡ after_take self.old (next_of self.old.lines) }
     {
-        let (queue, key) = self.lines.next()?;
-        self.lines.remove(queue, key);
-        self.taken.push_reserved(key);
-        Some(key)
+        let first = self.lines.next()?;
+        self.lines.remove(first);
+        self.taken.push_reserved(first);
+        Some(first)
     }
 
     /// Ends the drawing of a metatile that was taken: its waiters have replies, in the order of its chain.

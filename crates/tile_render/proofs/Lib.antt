@@ -2,6 +2,7 @@ pub mod Brushing
 pub mod Changing
 pub mod Choices
 pub mod Covering
+pub mod GridRuns
 pub mod Joining
 pub mod Metas
 pub mod Painted

@@ -42,7 +42,7 @@ at_run f g (c ∷ cs) (x ∷ xs) (suc n) k d fits each =
     ∙ ap (λ ys. f c x ∷ ys) (at_run f g cs xs n k d (omega arith) (λ p low high. each (suc p) (omega arith) (omega arith)))
 
 -- a run of one row painted
-changed_run : (f : Point → Colour → Colour) (w : Window) (g : Colour → Colour) (j from end : ℕ) (start now after : Pixels) → from ≤ end → end ≤ w.cols → j < w.rows
+pub changed_run : (f : Point → Colour → Colour) (w : Window) (g : Colour → Colour) (j from end : ℕ) (start now after : Pixels) → from ≤ end → end ≤ w.cols → j < w.rows
     → now.cols ≡ w.cols → ((i : ℕ) → from ≤ i → i < end → (d : Colour) → f (centre w i j) d ≡ g d)
     → after ≡ record now { pixels = run_changed g (j * now.cols + from) (end - from) now.pixels }
     → Changed f w (j * w.cols + from) start now → Changed f w (j * w.cols + end) start after

@@ -2,6 +2,7 @@ pub mod Brushes
 pub mod Canvases
 pub mod Chosen
 pub mod Covers
+pub mod GridPlaces
 pub mod Items
 pub mod Pieces
 pub mod Places

@@ -119,11 +119,16 @@ impl Canvas {
     }
 
     /// Paints the grid over all pixels whose centres it holds.
-    pub(crate) fn blend_grid(&mut self, grid: &Grid, opacity: u32)
+    pub(crate) fn blend_grid(
+        &mut self,
+        alloc: Global,
+        grid: &Grid,
+        opacity: u32,
+    ) -> Result<(), NoMemory>
         requires { opacity ≤ 1000 }
-        ensures blended { self.new.image ≡ stepped self.old.window (λ c d. raster_over grid.now c d (paint.Raster opacity)) self.old.image }
+        ensures blended { OnOk result (self.new.image ≡ stepped self.old.window (λ c d. raster_over grid.now c d (paint.Raster opacity)) self.old.image) }
         ensures window { self.new.window ≡ self.old.window }
     {
-        blend_grid(self.window, grid, opacity, &mut self.image);
+        blend_grid(alloc, self.window, grid, opacity, &mut self.image)
     }
 }

@@ -1,59 +1,125 @@
-//! Grids painted over an image.
-ghost use Rattle.std.specs.Prelude.{◌≡◌, ◌+◌, ◌*◌, ◌<◌, ◌≤◌, List, take};
-ghost use Rattle.plain_shapes.specs.declared.colour.Colour.{Colour};
+//! Grids painted over an image, by runs of pixels whose centres lie in one pixel of the grid.
+ghost use Rattle.std.specs.Prelude.{◌≡◌, ℕ, ◌+◌, ◌*◌, ◌<◌, ◌≤◌, IfOk, OnOk, map, length, get_or};
+ghost use Rattle.std.specs.List.{range_with_len};
 ghost use Rattle.plain_drawing.specs.declared.style.Symbolizer.TheVariants as paint;
-ghost use Rattle.plain_world.specs.World.{IsWindow, centre, centres};
-ghost use Rattle.plain_shapes.specs.inner.Canvas.{at_centres, stepped};
+ghost use Rattle.plain_drawing.specs.Grids.{colour_in};
+ghost use Rattle.plain_world.specs.World.{IsWindow, centre};
+ghost use Rattle.plain_shapes.specs.Images.{Pixels};
+ghost use Rattle.plain_shapes.specs.inner.Canvas.{stepped};
 ghost use Rattle.plain_drawing.specs.Drawing.{raster_over};
-ghost use Rattle.tile_render.specs.inner.Places.{changed_at};
+ghost use Rattle.tile_render.specs.inner.GridPlaces.{place_in, column_at, row_at};
+ghost use Rattle.tile_render.specs.inner.Regions.{Changed};
 
+use farm_base::NoMemory;
 use merc_fixed::centre;
 use plain_drawing::Grid;
+use plain_shapes::Colour;
 use plain_world::Window;
+use std::alloc::Global;
 use tiled_image::TiledImage;
 
-/// Paints the grid's colour at the centre of one pixel over that pixel, if the grid has one there.
-fn blend_pixel(w: Window, grid: &Grid, opacity: u32, i: u32, j: u32, image: &mut TiledImage)
-    requires window { IsWindow w }
-    requires cols { image.old.cols ≡ w.cols }
-    requires rows { image.old.rows ≡ w.rows }
-    requires opacity { opacity ≤ 1000 }
-    requires col { i < w.cols }
-    requires row { j < w.rows }
-    ensures { image.new ≡ record image.old { pixels = changed_at (λ c d. raster_over grid.now c d (paint.Raster opacity)) (j * w.cols + i) (centre w i j) image.old.pixels } }
+/// The place of `v` among `count` pixels of a grid from `edge` on, and `count` where it lies in none of them.
+#[tactic(auto, unfolding(crate::specs::inner::GridPlaces::place_in))]
+fn place_in(edge: u32, pixel: u32, count: u32, v: u32) -> u32
+    requires { 1 ≤ pixel }
+    ensures { result ≡ place_in edge pixel count v }
 {
-    match grid.at(centre(w, i, j)) {
-        Some(colour) => image.blend(i, j, colour, opacity),
-        None => {}
+    if v < edge {
+        return count;
+    }
+    ((v - edge) / pixel).min(count)
+}
+
+/// The grid's column of each column of the window, or the number of its columns where it has none there.
+fn grid_columns(alloc: Global, w: Window, grid: &Grid) -> Result<Vec<u32>, NoMemory>
+    requires window { IsWindow w }
+    ensures { IfOk result (λ v. v.items ≡ map (λ i. column_at grid.now (centre w i 0)) (range_with_len 0 w.cols)) }
+{
+    let mut columns = Vec::new(alloc);
+    for i in 0..w.cols {
+        let x = centre(w, i, 0).x;
+        columns.push(place_in(grid.west, grid.pixel, grid.cols, x))?;
+    }
+    Ok(columns)
+}
+
+/// Where the run of equal places that begins at `from` ends.
+fn run_end(places: &[u32], from: u32, count: u32) -> u32
+    requires count { length places.now ≡ count }
+    requires from { from < count }
+    ensures after { from < result }
+    ensures within { result ≤ count }
+    ensures same { (k : ℕ) → from ≤ k → k < result → get_or places.now k 0 ≡ get_or places.now from 0 }
+{
+    let place = places[from as usize];
+    let mut end = from + 1;
+    while end < count && places[end as usize] == place {
+        end += 1;
+    }
+    end
+}
+
+/// The colour of the grid's pixel in this column and row.
+fn colour_at(grid: &Grid, col: u32, row: u32) -> Colour
+    requires col { col < grid.now.cols }
+    requires row { row < grid.now.rows }
+    ensures { result ≡ colour_in grid.now.bytes (row * grid.now.cols + col) }
+{
+    let place = 3 * (row as usize * grid.cols as usize + col as usize);
+    Colour {
+        r: grid.bytes[place],
+        g: grid.bytes[place + 1],
+        b: grid.bytes[place + 2],
     }
 }
 
 /// Paints the grid over the pixels of one row whose centres it holds.
-fn blend_row(w: Window, grid: &Grid, opacity: u32, j: u32, image: &mut TiledImage)
+fn blend_row(w: Window, grid: &Grid, columns: &[u32], opacity: u32, j: u32, image: &mut TiledImage)
     requires window { IsWindow w }
+    requires columns { columns.now ≡ map (λ i. column_at grid.now (centre w i 0)) (range_with_len 0 w.cols) }
     requires cols { image.old.cols ≡ w.cols }
     requires rows { image.old.rows ≡ w.rows }
     requires opacity { opacity ≤ 1000 }
     requires row { j < w.rows }
-    ensures painted { (start : List Colour) → image.old.pixels ≡ at_centres (λ c d. raster_over grid.now c d (paint.Raster opacity)) (take (j * w.cols) (centres w)) start
-        → image.new.pixels ≡ at_centres (λ c d. raster_over grid.now c d (paint.Raster opacity)) (take ((j + 1) * w.cols) (centres w)) start }
+    ensures painted { (start : Pixels) → Changed (λ c d. raster_over grid.now c d (paint.Raster opacity)) w (j * w.cols) start image.old
+        → Changed (λ c d. raster_over grid.now c d (paint.Raster opacity)) w ((j + 1) * w.cols) start image.new }
     ensures cols { image.new.cols ≡ image.old.cols }
     ensures rows { image.new.rows ≡ image.old.rows }
 {
-    for i in 0..w.cols {
-        blend_pixel(w, grid, opacity, i, j, image);
+    let row = place_in(grid.north, grid.pixel, grid.rows, centre(w, 0, j).y);
+    if row == grid.rows {
+        return;
+    }
+    let mut i = 0;
+    while i < w.cols {
+        let end = run_end(columns, i, w.cols);
+        let col = columns[i as usize];
+        if col < grid.cols {
+            image.blend_run(j, i, end, colour_at(grid, col, row), opacity);
+        }
+        i = end;
     }
 }
 
 /// Paints the grid over all pixels whose centres it holds.
-pub(crate) fn blend_grid(w: Window, grid: &Grid, opacity: u32, image: &mut TiledImage)
+pub(crate) fn blend_grid(
+    alloc: Global,
+    w: Window,
+    grid: &Grid,
+    opacity: u32,
+    image: &mut TiledImage,
+) -> Result<(), NoMemory>
     requires window { IsWindow w }
     requires cols { image.old.cols ≡ w.cols }
     requires rows { image.old.rows ≡ w.rows }
     requires opacity { opacity ≤ 1000 }
-    ensures { image.new ≡ stepped w (λ c d. raster_over grid.now c d (paint.Raster opacity)) image.old }
+    ensures blended { OnOk result (image.new ≡ stepped w (λ c d. raster_over grid.now c d (paint.Raster opacity)) image.old) }
+    ensures cols { image.new.cols ≡ image.old.cols }
+    ensures rows { image.new.rows ≡ image.old.rows }
 {
+    let columns = grid_columns(alloc, w, grid)?;
     for j in 0..w.rows {
-        blend_row(w, grid, opacity, j, image);
+        blend_row(w, grid, columns.as_slice(), opacity, j, image);
     }
+    Ok(())
 }

@@ -12,6 +12,7 @@ mod painting;
 mod pieces;
 mod regions;
 mod rules;
+mod scaled;
 mod styles;
 mod symbolizers;
 mod tiles;

@@ -1,32 +1,19 @@
-//! Which rules of a style draw on an item.
-ghost use Rattle.std.specs.Prelude.{◌≡◌, ◌*◌, ◌^◌, ◌<◌, option_map, position};
+//! Which rules of a style that are at scale draw on an item.
+ghost use Rattle.std.specs.Prelude.{◌≡◌, map, option_map, position};
 ghost use Rattle.plain_filters.specs.Filters.{tree_of};
-ghost use Rattle.plain_drawing.specs.Rules.{at_scale, filter_holds, matches, is_fallback};
-ghost use Rattle.tile_render.specs.inner.Chosen.{is_chosen};
+ghost use Rattle.plain_drawing.specs.Rules.{filter_holds};
+ghost use Rattle.tile_render.specs.inner.Chosen.{is_chosen, takes};
 
 use farm_base::Attr;
 use filter_expr::holds;
 use plain_drawing::Rule;
 use plain_filters::Expr;
-use scale_rules::active;
 
-/// Which rules of a style are drawn: the active Filter rules whose filter holds, or the active ElseFilter rules.
+/// Which rules at scale are drawn: the Filter rules whose filter holds, or the ElseFilter rules.
 #[derive(Clone, Copy)]
 pub(crate) enum Choice {
     Matching,
     Fallback,
-}
-
-/// Whether the rule is active at the denominator.
-fn at_scale(rule: &Rule, denominator: u64) -> bool
-    requires { 100 * denominator < 2 ^ 64 }
-    ensures { result ≡ at_scale denominator rule.now }
-{
-    active(
-        rule.min_scale_denominator,
-        rule.max_scale_denominator,
-        denominator,
-    )
 }
 
 /// Whether the filter holds of the attributes; none always holds.
@@ -39,39 +26,31 @@ fn filter_holds(filter: &Option<Expr>, attrs: &[Attr]) -> bool
     }
 }
 
-/// Whether the rule is an active Filter rule whose filter holds of the attributes.
-fn matches_item(rule: &Rule, attrs: &[Attr], denominator: u64) -> bool
-    requires { 100 * denominator < 2 ^ 64 }
-    ensures { result ≡ matches attrs.now denominator rule.now }
+/// Whether the rule is a Filter rule whose filter holds of the attributes.
+fn takes(rule: &Rule, attrs: &[Attr]) -> bool
+    ensures { result ≡ takes attrs.now rule.now }
 {
-    at_scale(rule, denominator) && !rule.else_filter && filter_holds(&rule.filter, attrs)
-}
-
-/// Whether the rule is an active ElseFilter rule.
-fn is_fallback(rule: &Rule, denominator: u64) -> bool
-    requires { 100 * denominator < 2 ^ 64 }
-    ensures { result ≡ is_fallback denominator rule.now }
-{
-    at_scale(rule, denominator) && rule.else_filter
+    !rule.else_filter && filter_holds(&rule.filter, attrs)
 }
 
 /// Whether the rule is among those that are drawn.
-pub(crate) fn is_chosen(choice: Choice, rule: &Rule, attrs: &[Attr], denominator: u64) -> bool
-    requires { 100 * denominator < 2 ^ 64 }
-    ensures { result ≡ is_chosen choice attrs.now denominator rule.now }
+pub(crate) fn is_chosen(choice: Choice, rule: &Rule, attrs: &[Attr]) -> bool
+    ensures { result ≡ is_chosen choice attrs.now rule.now }
 {
     match choice {
-        Choice::Matching => matches_item(rule, attrs, denominator),
-        Choice::Fallback => is_fallback(rule, denominator),
+        Choice::Matching => takes(rule, attrs),
+        Choice::Fallback => rule.else_filter,
     }
 }
 
-/// The place of the first active Filter rule among them whose filter holds of the attributes.
-pub(crate) fn first_match(rules: &[Rule], attrs: &[Attr], denominator: u64) -> Option<usize>
-    requires { 100 * denominator < 2 ^ 64 }
-    ensures { result ≡ position (matches attrs.now denominator) rules.now }
+/// The place of the first Filter rule among them whose filter holds of the attributes.
+pub(crate) fn first_match(rules: &[&Rule], attrs: &[Attr]) -> Option<usize>
+    ensures { result ≡ position (takes attrs.now) (map (λ r. r.now) rules.now) }
 {
-    rules
-        .iter()
-        .position(|rule| matches_item(rule, attrs, denominator))
+    for place in 0..rules.len() {
+        if takes(rules[place], attrs) {
+            return Some(place);
+        }
+    }
+    None
 }

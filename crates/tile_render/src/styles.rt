@@ -9,6 +9,7 @@ use crate::canvas::Canvas;
 use crate::items::{Item, Items};
 use crate::regions::around;
 use crate::rules::{Choice, first_match, is_chosen};
+use crate::scaled::ScaledStyle;
 use crate::symbolizers::draw_symbolizer;
 use data_versions::LayerView;
 use farm_base::NoMemory;
@@ -35,20 +36,18 @@ fn draw_rule(
 /// Draws an item by each chosen rule, in order.
 fn draw_rules(
     alloc: Global,
-    denominator: u64,
     item: Item<'_>,
     choice: Choice,
-    rules: &[Rule],
+    rules: &[&Rule],
     canvas: &mut Canvas,
 ) -> Result<(), NoMemory>
-    requires { 100 * denominator < 2 ^ 64 }
     ensures drawn { OnOk result (canvas.new.image
-        ≡ fold (with_chosen canvas.old.window (item_of item.entry) (is_chosen choice (item_attrs (item_of item.entry)) denominator)) canvas.old.image rules.now) }
+        ≡ fold (with_chosen canvas.old.window (item_of item.entry) (is_chosen choice (item_attrs (item_of item.entry)))) canvas.old.image (map (λ r. r.now) rules.now)) }
     ensures window { canvas.new.window ≡ canvas.old.window }
 {
     let attrs = item.attrs();
     for rule in rules {
-        if !is_chosen(choice, rule, attrs, denominator) {
+        if !is_chosen(choice, rule, attrs) {
             continue;
         }
         draw_rule(alloc, item, rule, canvas)?;
@@ -60,28 +59,26 @@ fn draw_rules(
 /// rule.
 fn draw_item(
     alloc: Global,
-    denominator: u64,
-    style: &Style,
+    scaled: &ScaledStyle<'_>,
     item: Item<'_>,
     canvas: &mut Canvas,
 ) -> Result<(), NoMemory>
-    requires { 100 * denominator < 2 ^ 64 }
-    ensures drawn { OnOk result (canvas.new.image ≡ with_item canvas.old.window denominator style.now canvas.old.image (item_of item.entry)) }
+    ensures drawn { OnOk result (canvas.new.image ≡ with_item canvas.old.window scaled.now.denominator scaled.now.style canvas.old.image (item_of item.entry)) }
     ensures window { canvas.new.window ≡ canvas.old.window }
 {
-    let rules = style.rules.as_slice();
-    match first_match(rules, item.attrs(), denominator) {
+    let rules = scaled.rules();
+    match first_match(rules, item.attrs()) {
         Some(place) => {
-            draw_rule(alloc, item, &rules[place], canvas)?;
-            match style.filter_mode {
+            draw_rule(alloc, item, rules[place], canvas)?;
+            match scaled.filter_mode() {
                 FilterMode::All => {
                     let rest = &rules[place + 1..];
-                    draw_rules(alloc, denominator, item, Choice::Matching, rest, canvas)
+                    draw_rules(alloc, item, Choice::Matching, rest, canvas)
                 }
                 FilterMode::First => Ok(()),
             }
         }
-        None => draw_rules(alloc, denominator, item, Choice::Fallback, rules, canvas),
+        None => draw_rules(alloc, item, Choice::Fallback, rules, canvas),
     }
 }
 
@@ -89,25 +86,24 @@ fn draw_item(
 /// paint any of its pixels are passed over.
 fn draw_features(
     alloc: Global,
-    denominator: u64,
-    style: &Style,
+    scaled: &ScaledStyle<'_>,
     features: &LayerView<'_>,
     canvas: &mut Canvas,
 ) -> Result<(), NoMemory>
-    requires { 100 * denominator < 2 ^ 64 }
-    ensures drawn { OnOk result (canvas.new.image ≡ fold (with_item canvas.old.window denominator style.now) canvas.old.image (map feature features.now)) }
+    ensures drawn { OnOk result (canvas.new.image
+        ≡ fold (with_item canvas.old.window scaled.now.denominator scaled.now.style) canvas.old.image (map feature features.now)) }
     ensures window { canvas.new.window ≡ canvas.old.window }
 {
-    style.know();
+    scaled.know();
     let near = around(canvas.window());
     let mut walk = features.near(near.west, near.north, near.east, near.south);
     while let Some(feature) = walk.next() {
-        draw_item(alloc, denominator, style, Item::Feature(feature), canvas)?;
+        draw_item(alloc, scaled, Item::Feature(feature), canvas)?;
     }
     Ok(())
 }
 
-/// Draws all items of a layer by a style: one pass.
+/// Draws all items of a layer by a style: one pass. Where no rule of the style is at scale, none is looked at.
 #[tactic(auto, unfolding(plain_drawing::specs::inner::Pictures::with_style))]
 pub(crate) fn draw_style(
     alloc: Global,
@@ -120,12 +116,16 @@ pub(crate) fn draw_style(
     ensures drawn { OnOk result (canvas.new.image ≡ with_style canvas.old.window denominator (items_in items.now) canvas.old.image style.now) }
     ensures window { canvas.new.window ≡ canvas.old.window }
 {
+    let scaled = ScaledStyle::of(alloc, style, denominator)?;
+    if scaled.rules().is_empty() {
+        return Ok(());
+    }
     match items {
         Items::Raster(grid) => {
             let grid = *grid;
-            draw_item(alloc, denominator, style, Item::Raster(grid), canvas)
+            draw_item(alloc, &scaled, Item::Raster(grid), canvas)
         }
-        Items::Features(features) => draw_features(alloc, denominator, style, features, canvas),
+        Items::Features(features) => draw_features(alloc, &scaled, features, canvas),
         Items::Nothing => Ok(()),
     }
 }

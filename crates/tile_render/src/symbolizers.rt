@@ -58,16 +58,21 @@ fn paint_of(symbolizer: Symbolizer) -> Paint
 }
 
 /// Paints a grid in its own colours, by a RasterSymbolizer; the others cover nothing of it.
-fn draw_on_grid(grid: &Grid, symbolizer: Symbolizer, canvas: &mut Canvas)
+fn draw_on_grid(
+    alloc: Global,
+    grid: &Grid,
+    symbolizer: Symbolizer,
+    canvas: &mut Canvas,
+) -> Result<(), NoMemory>
     requires paint { IsTrue (is_paint symbolizer) }
-    ensures drawn { canvas.new.image ≡ with_symbolizer canvas.old.window (raster grid.now) canvas.old.image symbolizer }
+    ensures drawn { OnOk result (canvas.new.image ≡ with_symbolizer canvas.old.window (raster grid.now) canvas.old.image symbolizer) }
     ensures window { canvas.new.window ≡ canvas.old.window }
 {
     match symbolizer {
-        Symbolizer::Polygon { .. } => {}
-        Symbolizer::Line { .. } => {}
-        Symbolizer::Markers { .. } => {}
-        Symbolizer::Raster { opacity } => canvas.blend_grid(grid, opacity),
+        Symbolizer::Polygon { .. } => Ok(()),
+        Symbolizer::Line { .. } => Ok(()),
+        Symbolizer::Markers { .. } => Ok(()),
+        Symbolizer::Raster { opacity } => canvas.blend_grid(alloc, grid, opacity),
     }
 }
 
@@ -137,9 +142,6 @@ pub(crate) fn draw_symbolizer(
 {
     match item {
         Item::Feature(feature) => draw_on_feature(alloc, feature, symbolizer, canvas),
-        Item::Raster(grid) => {
-            draw_on_grid(grid, symbolizer, canvas);
-            Ok(())
-        }
+        Item::Raster(grid) => draw_on_grid(alloc, grid, symbolizer, canvas),
     }
 }

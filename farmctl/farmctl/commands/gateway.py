@@ -38,7 +38,7 @@ LEAST = 1.0  # seconds from one start of a process to the next
 def add(parser: argparse.ArgumentParser) -> None:
     parser.add_argument("--listen", metavar="ADDRESS", default="tcp:127.0.0.1:8080",
                         help="tcp:a.b.c.d:PORT or unix:PATH (%(default)s)")  # fmt: skip
-    parser.add_argument("--processes", metavar="N", type=int, default=os.cpu_count() or 1, help="how many (%(default)s)")
+    parser.add_argument("--processes", metavar="N", type=int, help="how many (one for each processor)")
     parser.add_argument("--keep", metavar="SECONDS", type=float, default=0.0,
                         help="keep clean tiles here, by so much older than the farm would tell (%(default)s: ask each time)")  # fmt: skip
     parser.add_argument("--max-age", metavar="SECONDS", type=int, default=0,
@@ -70,6 +70,7 @@ def settings_of(args: argparse.Namespace) -> Settings:
     from farmctl.gateway import OPEN, Settings, maps_of
 
     farm = Farm.of(args)
+    args.processes = args.processes if args.processes is not None else os.cpu_count() or 1
     maps = maps_of(farm.config)
     if not maps:
         raise FarmError(f"{farm.path}: no maps")
@@ -131,6 +132,8 @@ def tell(_number: int, _frame: FrameType | None) -> None:
 
 def run_all(settings: Settings, listens: socket.socket, count: int) -> None:
     """Keeps so many processes until a signal; one that ends is started anew, not more often than once a second each."""
+    from farmctl.gateway import END
+
     fork = multiprocessing.get_context("fork")
 
     def begun() -> multiprocessing.Process:
@@ -154,10 +157,12 @@ def run_all(settings: Settings, listens: socket.socket, count: int) -> None:
         for each in running:
             each.terminate()
         for each in running:
-            each.join(10)
+            each.join(2 * END)
+            each.kill()
 
 
 def run(args: argparse.Namespace) -> int:
+    os.environ.setdefault("OPENBLAS_NUM_THREADS", "1")  # numpy's threads have nothing to do here
     for name, package in (("aiohttp", "python3-aiohttp"), ("PIL", "python3-pil"), ("numpy", "python3-numpy")):
         library(name, package)
     settings = settings_of(args)

@@ -1,19 +1,28 @@
 -- The rules of a style that are chosen for an item, one after another.
-use Rattle.std.specs.Prelude.{ℕ, Bool, if◌then◌else◌, List, fold}
+use Rattle.std.specs.Prelude.{ℕ, Bool, not, ◌&&◌, if◌then◌else◌, List, fold}
 use Rattle.farm_base.specs.declared.Attr.{Attr}
 use Rattle.plain_world.specs.declared.world.Window.{Window}
-use Rattle.plain_drawing.specs.Styles.{Rule}
+use Rattle.plain_drawing.specs.Styles.{Rule, Style}
 use Rattle.plain_shapes.specs.Images.{Pixels}
-use Rattle.plain_drawing.specs.Rules.{matches, is_fallback}
+use Rattle.plain_drawing.specs.Rules.{filter_holds}
 use Rattle.plain_drawing.specs.Drawing.{Item}
 use Rattle.plain_drawing.specs.inner.Pictures.{with_symbolizer}
 use Rattle.tile_render.specs.declared.rules.Choice.{Choice}
 use Rattle.tile_render.specs.declared.rules.Choice.TheVariants.{Matching, Fallback}
 
--- the active Filter rules whose filter holds, or the active ElseFilter rules
-abbrev pub is_chosen : Choice → List Attr → ℕ → Rule → Bool
-is_chosen Matching attrs denominator r = matches attrs denominator r
-is_chosen Fallback attrs denominator r = is_fallback denominator r
+-- a style at a scale denominator
+pub record Scaled : Type 0 where
+  pub style : Style
+  pub denominator : ℕ
+
+-- a Filter rule whose filter holds
+abbrev pub takes : List Attr → Rule → Bool
+takes attrs r = not r.else_filter && filter_holds attrs r.filter
+
+-- the Filter rules whose filter holds, or the ElseFilter rules
+abbrev pub is_chosen : Choice → List Attr → Rule → Bool
+is_chosen Matching attrs r = takes attrs r
+is_chosen Fallback attrs r = r.else_filter
 
 -- the picture after a rule's symbolizers on an item
 unfoldable pub with_rule : Window → Item → Pixels → Rule → Pixels

@@ -5,7 +5,7 @@ use Rattle.plain_shapes.specs.Features.{Feature, Layer}
 use Rattle.plain_shapes.specs.Data.{Change}
 use Rattle.farm_plan.specs.Drawings.{features_in}
 use Rattle.data_versions.proofs.Named.{named_place, unnamed}
-use Rattle.reach_box.specs.NamedBoxes.{Adds, met_by}
+use Rattle.reach_box.specs.inner.Lookups.{Adds, met_by}
 use Rattle.reach_box.proofs.Adding.{met_new}
 use Rattle.reach_box.proofs.boxes.add_named.Goals as goal
 

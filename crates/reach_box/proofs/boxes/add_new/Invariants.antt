@@ -1,5 +1,5 @@
 use Rattle.std.proofs.Common.{take}
-use Rattle.reach_box.specs.NamedBoxes.{Adds}
+use Rattle.reach_box.specs.inner.Lookups.{Adds}
 use Rattle.reach_box.proofs.boxes.add_new.Given as goal
 
 abbrev pub invariant-loop-f : goal.invariant-loop-f

@@ -3,7 +3,7 @@ use Rattle.std.proofs.Common.{◌≡◌, ◌∙◌, List, Some, sym, ap, subst}
 use Rattle.std.specs.Prelude.{OnOk, slice_get}
 use Rattle.std.specs.Option.{option_copied}
 use Rattle.plain_shapes.specs.Features.{Feature}
-use Rattle.reach_box.specs.NamedBoxes.{Adds}
+use Rattle.reach_box.specs.inner.Lookups.{Adds}
 use Rattle.reach_box.proofs.Adding.{adds_none, placed, unplaced}
 use Rattle.reach_box.proofs.boxes.add_old.Goals as goal
 

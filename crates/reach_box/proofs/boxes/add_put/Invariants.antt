@@ -1,5 +1,5 @@
 use Rattle.std.proofs.Common.{take, flat_map}
-use Rattle.reach_box.specs.NamedBoxes.{Adds, at_put}
+use Rattle.reach_box.specs.inner.Lookups.{Adds, at_put}
 use Rattle.reach_box.proofs.boxes.add_put.Given as goal
 
 abbrev pub invariant-loop-f : goal.invariant-loop-f

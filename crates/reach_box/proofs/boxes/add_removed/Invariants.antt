@@ -1,5 +1,5 @@
 use Rattle.std.proofs.Common.{take, flat_map}
-use Rattle.reach_box.specs.NamedBoxes.{Adds, at_id}
+use Rattle.reach_box.specs.inner.Lookups.{Adds, at_id}
 use Rattle.reach_box.proofs.boxes.add_removed.Given as goal
 
 abbrev pub invariant-loop-id : goal.invariant-loop-id

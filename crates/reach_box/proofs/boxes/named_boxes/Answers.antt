@@ -3,7 +3,8 @@ use Rattle.std.proofs.Common.{◌∙◌, List, [], subst, arith}
 use Rattle.plain_shapes.specs.Data.{Change}
 use Rattle.plain_shapes.specs.Reach.{feature_reaches}
 use Rattle.farm_plan.specs.Drawings.{features_in}
-use Rattle.reach_box.specs.NamedBoxes.{AreBoxesOf, met_by, features_met}
+use Rattle.reach_box.specs.NamedBoxes.{AreBoxesOf}
+use Rattle.reach_box.specs.inner.Lookups.{met_by, features_met}
 use Rattle.reach_box.proofs.Adding.{adds_more, adds_all, boxes_from, kept_whole}
 use Rattle.reach_box.proofs.Naming.{met_named}
 use Rattle.reach_box.proofs.boxes.named_boxes.Goals as goal
@@ -26,7 +27,7 @@ pub returns-clause-sound : goal.returns-clause-sound
 returns-clause-sound c = (all_met c).sound
 
 pub returns-clause-named : goal.returns-clause-named
-returns-clause-named c = λ valid. record {
+returns-clause-named c = record {
   sound = (all_met c).sound;
-  reach = λ size z s. (all_met c).reach size z s ∙ met_named (λ f. feature_reaches f size z s) c.args.snapshot.now c.args.update.now valid;
+  reach = λ size z s. (all_met c).reach size z s ∙ met_named (λ f. feature_reaches f size z s) c.args.snapshot.now c.args.update.now c.finders.ensures.valid.each;
 }

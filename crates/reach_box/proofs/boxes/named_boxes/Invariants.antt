@@ -1,6 +1,6 @@
 use Rattle.std.proofs.Common.{◌≡◌, take, flat_map, []}
 use Rattle.farm_plan.specs.Drawings.{features_in}
-use Rattle.reach_box.specs.NamedBoxes.{Adds, met_by}
+use Rattle.reach_box.specs.inner.Lookups.{Adds, met_by}
 use Rattle.reach_box.proofs.boxes.named_boxes.Given as goal
 
 abbrev pub invariant-loop-change : goal.invariant-loop-change

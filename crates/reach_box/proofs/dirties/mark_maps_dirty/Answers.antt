@@ -5,14 +5,13 @@ use Rattle.std.proofs.lemmas.List.Sorted.{IsPermutation-refl, IsPermutation-tran
 use Rattle.farm_plan.specs.Plans.{MapPlan}
 use Rattle.expiry_lists.specs.Marks.{is_near_boxes}
 use Rattle.reach_box.specs.Marks.{Expires}
-use Rattle.reach_box.proofs.Dirtied.{below_map, expires_none, near_told, apart_before, no_map, map_more, map_all}
+use Rattle.reach_box.proofs.Dirtied.{below_map, expires_none, near_told, no_map, map_more, map_all}
 use Rattle.reach_box.proofs.dirties.mark_maps_dirty.Goals as goal
 
 pub loop-place-init : goal.loop-place-init
 loop-place-init c = record {
   dirties = expires_none (below_map c.args.maps.now c.args.boxes.now 0) c.args.marks.now.shown (no_map c.args.maps.now c.args.boxes.now);
   moved = IsPermutation-refl c.args.boxes.now;
-  apart = λ h. absurd (omega (arith, h));
 }
 
 pub loop-place-preserved : goal.loop-place-preserved
@@ -24,7 +23,6 @@ loop-place-preserved c = record {
       (near_told c.loop-place.place c.plan.inside.tile c.args.boxes.now c.loop-place.boxes c.loop-place.marks.shown c.expire_boxes.new.self.shown c.expire_boxes.result c.loop-place.invariant.moved c.expire_boxes.type_inv c.expire_boxes.ensures.shown c.expire_boxes.ensures.count))
       c.saturating_add-clean.ensures c.loop-place.invariant.dirties;
   moved = IsPermutation-trans c.args.boxes.now c.loop-place.boxes c.expire_boxes.new.boxes c.loop-place.invariant.moved c.expire_boxes.ensures.moved;
-  apart = λ h. apart_before (below_map c.args.maps.now c.args.boxes.now c.loop-place.place) c.args.marks.now.shown c.loop-place.marks.shown c.loop-place.invariant.dirties.shown c.expire_boxes.ensures.apart;
 }
 
 pub returns-clause-dirties : goal.returns-clause-dirties

@@ -1,4 +1,4 @@
-use Rattle.std.proofs.Common.{◌≡◌, ◌+◌, ◌<◌, ◌++◌, length, map, filter, take, ap, ◌∙◌, arith}
+use Rattle.std.proofs.Common.{length, map, filter, take, ap, arith}
 use Rattle.std.proofs.lemmas.List.{length-append, length-map, length-take}
 use Rattle.render_queues.specs.Tables.{waits_on, reply_with}
 use Rattle.render_queues.proofs.Ends.{filter_fewer}

@@ -1,4 +1,4 @@
-use Rattle.std.proofs.Common.{rules, arith, ◌∙◌, ◌≡◌, ap, sym, Some, None, position}
+use Rattle.std.proofs.Common.{rules, ◌∙◌, ◌≡◌, sym, Some, None, position}
 use Rattle.render_queues.specs.Tables.{is_of_front}
 use Rattle.render_queues.proofs.Ends.{first_none, no_place, found_there, left_there}
 use Rattle.render_queues.proofs.replies.first_reply.Goals as goal

@@ -1,26 +1,82 @@
-use Rattle.std.proofs.Common.{◌∙◌, ap, arith, refl}
-use Rattle.plain_drawing.specs.declared.style.Symbolizer.TheVariants as paint
-use Rattle.plain_drawing.specs.Drawing.{raster_over}
-use Rattle.tile_render.proofs.Pixels.{row_begins, row_ends, next_pixel}
+use Rattle.std.proofs.Common.{◌≡◌, ◌+◌, ◌-◌, ◌*◌, ◌<◌, ◌∙◌, get_or, ap, subst, refl, arith}
+use Rattle.plain_world.specs.World.{centre}
+use Rattle.plain_shapes.specs.Images.{Pixels}
+use Rattle.plain_shapes.specs.Blending.{blend}
+use Rattle.plain_image.specs.Runs.{run_changed}
+use Rattle.plain_drawing.specs.Grids.{Grid}
+use Rattle.tile_render.specs.inner.GridPlaces.{row_at}
+use Rattle.tile_render.specs.inner.Regions.{Changed}
+use Rattle.tile_render.proofs.GridRuns.{over, place_within, each_column, row_found, row_off, run_held, run_off}
 use Rattle.tile_render.proofs.grids.blend_row.Goals as goal
+
+pub run_end-end-requires-clause-count : goal.run_end-end-requires-clause-count
+run_end-end-requires-clause-count c = each_column c.args.w c.args.grid.now c.args.columns.now c.requires.columns
+
+pub bounds-columns-i : goal.bounds-columns-i
+bounds-columns-i c =
+    let long = each_column c.args.w c.args.grid.now c.args.columns.now c.requires.columns in
+    omega (arith, long, c.loop-i-test.true)
+
+pub colour_at-requires-clause-row : goal.colour_at-requires-clause-row
+colour_at-requires-clause-row c =
+    let rows : c.grid.inside.rows ≡ c.args.grid.now.rows = ap (λ (g : Grid). g.rows) c.grid.view_is in
+    let at : row_at c.args.grid.now (centre c.args.w 0 c.args.j) ≡ c.place_in-row.result = row_found _ c.args.grid.now c.centre.result (centre c.args.w 0 c.args.j) c.place_in-row.result c.place_in-row.ensures c.grid.view_is c.centre.ensures.value in
+    let within = place_within c.args.grid.now.north c.args.grid.now.pixel c.args.grid.now.rows (centre c.args.w 0 c.args.j).y in
+    omega (arith, rows, at, within, c.if-row-grid.false)
+
+pub returns-then-row-grid-clause-painted : goal.returns-then-row-grid-clause-painted
+returns-then-row-grid-clause-painted c start so_far =
+    let rows : c.grid.inside.rows ≡ c.args.grid.now.rows = ap (λ (g : Grid). g.rows) c.grid.view_is in
+    let at : row_at c.args.grid.now (centre c.args.w 0 c.args.j) ≡ c.place_in-row.result = row_found _ c.args.grid.now c.centre.result (centre c.args.w 0 c.args.j) c.place_in-row.result c.place_in-row.ensures c.grid.view_is c.centre.ensures.value in
+    let off : row_at c.args.grid.now (centre c.args.w 0 c.args.j) ≡ c.args.grid.now.rows = omega (arith, rows, at, c.if-row-grid.true) in
+    row_off c.args.w c.args.grid.now c.args.opacity c.args.j start c.args.image.now c.requires.window.some_col c.requires.row off so_far
 
 pub loop-i-init : goal.loop-i-init
 loop-i-init c = record {
   cols = refl;
   rows = refl;
-  painted = λ start so_far. row_begins c.args.w (λ p d. raster_over c.args.grid.now p d (paint.Raster c.args.opacity)) start c.args.image.now.pixels c.args.j so_far;
+  within = omega arith;
+  painted = λ start so_far.
+      (let same : c.args.j * c.args.w.cols ≡ c.args.j * c.args.w.cols + 0 = omega arith in
+      subst (λ n. Changed (over c.args.grid.now c.args.opacity) c.args.w n start c.args.image.now) same so_far);
 }
 
+pub loop-i-preserved-then-col-grid : goal.loop-i-preserved-then-col-grid
+loop-i-preserved-then-col-grid c =
+    let cols : c.grid.inside.cols ≡ c.args.grid.now.cols = ap (λ (g : Grid). g.cols) c.grid.view_is in
+    let rows : c.grid.inside.rows ≡ c.args.grid.now.rows = ap (λ (g : Grid). g.rows) c.grid.view_is in
+    let at : row_at c.args.grid.now (centre c.args.w 0 c.args.j) ≡ c.place_in-row.result = row_found _ c.args.grid.now c.centre.result (centre c.args.w 0 c.args.j) c.place_in-row.result c.place_in-row.ensures c.grid.view_is c.centre.ensures.value in
+    let within = place_within c.args.grid.now.north c.args.grid.now.pixel c.args.grid.now.rows (centre c.args.w 0 c.args.j).y in
+    let low_row : c.place_in-row.result < c.args.grid.now.rows = omega (arith, rows, at, within, c.if-row-grid.false) in
+    let written =
+    c.blend_run.ensures
+    ∙ ap (λ s. record c.loop-i.image { pixels = run_changed (blend s c.args.opacity) (c.args.j * c.loop-i.image.cols + c.loop-i.i) (c.run_end-end.result - c.loop-i.i) c.loop-i.image.pixels })
+    c.colour_at.ensures in
+    let image_cols : c.loop-i.image.cols ≡ c.args.w.cols = c.loop-i.invariant.cols ∙ c.requires.cols in
+    record {
+      cols = ap (λ (m : Pixels). m.cols) c.blend_run.ensures ∙ c.loop-i.invariant.cols;
+      rows = ap (λ (m : Pixels). m.rows) c.blend_run.ensures ∙ c.loop-i.invariant.rows;
+      within = c.run_end-end.ensures.within;
+      painted = λ start so_far.
+          run_held c.args.w c.args.grid.now c.args.columns.now c.args.opacity c.args.j c.loop-i.i c.run_end-end.result (get_or c.args.columns.now c.loop-i.i 0) c.place_in-row.result start
+          c.loop-i.image c.blend_run.new.self c.requires.columns c.run_end-end.ensures.after c.run_end-end.ensures.within c.requires.row image_cols c.run_end-end.ensures.same
+          (omega (arith, cols, c.if-col-grid.true)) at low_row written (c.loop-i.invariant.painted start so_far);
+    }
+
 pub loop-i-preserved : goal.loop-i-preserved
-loop-i-preserved c = record {
-  cols = ap (λ m. m.cols) c.blend_pixel.ensures ∙ c.loop-i.invariant.cols;
-  rows = ap (λ m. m.rows) c.blend_pixel.ensures ∙ c.loop-i.invariant.rows;
-  painted = λ start so_far.
-      next_pixel c.args.w (λ p d. raster_over c.args.grid.now p d (paint.Raster c.args.opacity)) start _ _ c.args.j c.loop-i.i c.loop-i-test.true c.requires.row
-      (c.loop-i.invariant.painted start so_far) (ap (λ m. m.pixels) c.blend_pixel.ensures);
-}
+loop-i-preserved c =
+    let cols : c.grid.inside.cols ≡ c.args.grid.now.cols = ap (λ (g : Grid). g.cols) c.grid.view_is in
+    record {
+      cols = c.loop-i.invariant.cols;
+      rows = c.loop-i.invariant.rows;
+      within = c.run_end-end.ensures.within;
+      painted = λ start so_far.
+          run_off c.args.w c.args.grid.now c.args.columns.now c.args.opacity c.args.j c.loop-i.i c.run_end-end.result (get_or c.args.columns.now c.loop-i.i 0) start c.loop-i.image
+          c.requires.columns c.run_end-end.ensures.after c.run_end-end.ensures.within c.requires.row c.run_end-end.ensures.same (omega (arith, cols, c.if-col-grid.false))
+          (c.loop-i.invariant.painted start so_far);
+    }
 
 pub returns-clause-painted : goal.returns-clause-painted
 returns-clause-painted c start so_far =
-    row_ends c.args.w (λ p d. raster_over c.args.grid.now p d (paint.Raster c.args.opacity)) start c.loop-i.image.pixels c.args.j c.loop-i.i
-    (omega (arith, c.loop-i-test.false, c.loop-i.auto.i-end)) (c.loop-i.invariant.painted start so_far)
+    let end : c.args.j * c.args.w.cols + c.loop-i.i ≡ (c.args.j + 1) * c.args.w.cols = omega (arith, c.loop-i-test.false, c.loop-i.invariant.within) in
+    subst (λ n. Changed (over c.args.grid.now c.args.opacity) c.args.w n start c.loop-i.image) end (c.loop-i.invariant.painted start so_far)

@@ -1,15 +1,18 @@
-use Rattle.std.proofs.Common.{◌≡◌, ◌+◌, ◌*◌, List, take}
-use Rattle.plain_shapes.specs.declared.colour.Colour.{Colour}
+use Rattle.std.proofs.Common.{◌≡◌, ◌+◌, ◌-◌, ◌*◌, ◌≤◌}
+use Rattle.plain_shapes.specs.Images.{Pixels}
 use Rattle.plain_drawing.specs.declared.style.Symbolizer.TheVariants as paint
-use Rattle.plain_world.specs.World.{centres}
-use Rattle.plain_shapes.specs.inner.Canvas.{at_centres}
 use Rattle.plain_drawing.specs.Drawing.{raster_over}
+use Rattle.tile_render.specs.inner.Regions.{Changed}
 use Rattle.tile_render.proofs.grids.blend_row.Given as goal
 
 abbrev pub invariant-loop-i : goal.invariant-loop-i
 invariant-loop-i l = record {
   cols : l.image.cols ≡ l.fn.image.cols;
   rows : l.image.rows ≡ l.fn.image.rows;
-  painted : (start : List Colour) → l.fn.image.pixels ≡ at_centres (λ c d. raster_over l.grid c d (paint.Raster l.opacity)) (take (l.j * l.w.cols) (centres l.w)) start
-      → l.image.pixels ≡ at_centres (λ c d. raster_over l.grid c d (paint.Raster l.opacity)) (take (l.j * l.w.cols + l.i) (centres l.w)) start;
+  within : l.i ≤ l.w.cols;
+  painted : (start : Pixels) → Changed (λ c d. raster_over l.grid c d (paint.Raster l.opacity)) l.w (l.j * l.w.cols) start l.fn.image
+      → Changed (λ c d. raster_over l.grid c d (paint.Raster l.opacity)) l.w (l.j * l.w.cols + l.i) start l.image;
 }
+
+abbrev pub decreases-loop-i : goal.decreases-loop-i
+decreases-loop-i l = l.w.cols - l.i

@@ -10,9 +10,9 @@ use Rattle.tile_render.proofs.styles.draw_features.Goals as goal
 pub loop-feature-init : goal.loop-feature-init
 loop-feature-init c = record {
   drawn =
-      ap (λ fs. fold (with_item c.args.canvas.now.window c.args.denominator c.args.style.now) c.args.canvas.now.image (map feature fs))
+      ap (λ fs. fold (with_item c.args.canvas.now.window c.args.scaled.now.denominator c.args.scaled.now.style) c.args.canvas.now.image (map feature fs))
       (c.near-walk.ensures ∙ ap (all_near c.args.features.now) (c.around-near.ensures.value ∙ ap around c.window.ensures.value))
-      ∙ near_drawn c.args.canvas.now.window c.args.denominator c.args.style.now c.args.features.now c.args.canvas.now.image
+      ∙ near_drawn c.args.canvas.now.window c.args.scaled.now.denominator c.args.scaled.now.style c.args.features.now c.args.canvas.now.image
       (subst IsWindow c.window.ensures.value c.window.ensures.valid) c.know.ensures;
   window = refl;
 }
@@ -20,7 +20,7 @@ loop-feature-init c = record {
 pub loop-feature-preserved : goal.loop-feature-preserved
 loop-feature-preserved c = record {
   drawn =
-      one_drawn c.args.canvas.now.window c.loop-feature.canvas.window c.args.denominator c.args.style.now c.in-Some.feature.now c.loop-feature.walk c.next.new.self
+      one_drawn c.args.canvas.now.window c.loop-feature.canvas.window c.args.scaled.now.denominator c.args.scaled.now.style c.in-Some.feature.now c.loop-feature.walk c.next.new.self
       c.loop-feature.canvas.image c.draw_item.new.canvas.image c.in-Some.ensures c.loop-feature.invariant.window c.in_ok-draw_item.ensures.drawn
       ∙ c.loop-feature.invariant.drawn;
   window = c.draw_item.ensures.window ∙ c.loop-feature.invariant.window;
@@ -28,5 +28,5 @@ loop-feature-preserved c = record {
 
 pub returns-clause-drawn : goal.returns-clause-drawn
 returns-clause-drawn c =
-    ap (λ fs. fold (with_item c.args.canvas.now.window c.args.denominator c.args.style.now) c.loop-feature.canvas.image (map feature fs)) (sym c.in_default.ensures.0)
+    ap (λ fs. fold (with_item c.args.canvas.now.window c.args.scaled.now.denominator c.args.scaled.now.style) c.loop-feature.canvas.image (map feature fs)) (sym c.in_default.ensures.0)
     ∙ c.loop-feature.invariant.drawn

@@ -5,8 +5,8 @@ use Rattle.tile_render.proofs.styles.draw_features.Given as goal
 
 abbrev pub invariant-loop-feature : goal.invariant-loop-feature
 invariant-loop-feature l = record {
-  drawn : fold (with_item l.fn.canvas.window l.denominator l.style) l.canvas.image (map feature l.walk)
-      ≡ fold (with_item l.fn.canvas.window l.denominator l.style) l.fn.canvas.image (map feature l.features);
+  drawn : fold (with_item l.fn.canvas.window l.scaled.denominator l.scaled.style) l.canvas.image (map feature l.walk)
+      ≡ fold (with_item l.fn.canvas.window l.scaled.denominator l.scaled.style) l.fn.canvas.image (map feature l.features);
   window : l.canvas.window ≡ l.fn.canvas.window;
 }
 

@@ -1,4 +1,4 @@
-use Rattle.std.proofs.Common.{◌≡◌, fold, take}
+use Rattle.std.proofs.Common.{◌≡◌, fold, map, take}
 use Rattle.plain_drawing.specs.Drawing.{item_attrs}
 use Rattle.tile_render.specs.inner.Chosen.{is_chosen, with_chosen}
 use Rattle.tile_render.specs.inner.Items.{item_of}
@@ -7,6 +7,6 @@ use Rattle.tile_render.proofs.styles.draw_rules.Given as goal
 abbrev pub invariant-loop-rule : goal.invariant-loop-rule
 invariant-loop-rule l = record {
   drawn : l.canvas.image
-      ≡ fold (with_chosen l.fn.canvas.window (item_of l.item) (is_chosen l.choice (item_attrs (item_of l.item)) l.denominator)) l.fn.canvas.image (take l.rule-index l.rules);
+      ≡ fold (with_chosen l.fn.canvas.window (item_of l.item) (is_chosen l.choice (item_attrs (item_of l.item)))) l.fn.canvas.image (take l.rule-index (map (λ r. r.now) l.rules));
   window : l.canvas.window ≡ l.fn.canvas.window;
 }

@@ -25,5 +25,5 @@ returns g c =
     let ts = take c.self.inside.taken.len (c.touch_reached.new.taken ++ drop (length c.touch_reached.new.taken) c.self.inside.taken.items) in
     let was : FarmSeen g.row.D.Denot = farm.the_view (param 0 g.row.D) c.self.inside in
     subst (λ (f : FarmSeen g.row.D.Denot). Reaches c.args.boxes.now f (record was { taken = ts; marks = c.mark_maps_dirty.new.marks }) c.mark_maps_dirty.result) c.self.view_is
-    (reached_told was c.args.boxes.now c.setup.result.now c.maps.result.now ts c.mark_maps_dirty.new.marks c.mark_maps_dirty.result c.setup.ensures (c.maps.ensures ∙ ap (λ (p : FarmPlan). p.maps) c.setup-2.ensures) c.self.invariant.is_plan.count_maps.some
+    (reached_told was c.args.boxes.now c.setup.result.now c.maps.result.now ts c.mark_maps_dirty.new.marks c.mark_maps_dirty.result c.setup.ensures (c.maps.ensures ∙ ap (λ (p : FarmPlan). p.maps) c.setup-2.ensures)
     touched c.mark_maps_dirty.ensures.dirties c.mark_maps_dirty.ensures.apart)

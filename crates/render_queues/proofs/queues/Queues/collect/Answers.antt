@@ -1,4 +1,4 @@
-use Rattle.std.proofs.Common.{rules, ◌≡◌, ◌≤◌, arith}
+use Rattle.std.proofs.Common.{arith}
 use Rattle.render_queues.specs.Tables.{Tables, is_of_front}
 use Rattle.render_queues.proofs.Sound.{sound_collected}
 use Rattle.render_queues.proofs.queues.Queues.collect.Goals as goal

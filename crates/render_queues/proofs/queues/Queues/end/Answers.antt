@@ -1,4 +1,4 @@
-use Rattle.std.proofs.Common.{rules, ◌≡◌, ◌≤◌, arith}
+use Rattle.std.proofs.Common.{arith}
 use Rattle.render_queues.specs.Tables.{Tables}
 use Rattle.render_queues.proofs.Sound.{sound_ended}
 use Rattle.render_queues.proofs.queues.Queues.end.Goals as goal

@@ -1,4 +1,4 @@
-use Rattle.std.proofs.Common.{rules, ◌≡◌, ◌<◌, ◌≤◌, Some, subst, sym, arith}
+use Rattle.std.proofs.Common.{◌≡◌, ◌<◌, Some, subst, sym, arith}
 use Rattle.std.specs.Prelude.{IsSome}
 use Rattle.render_queues.specs.Tables.{Tables, standing, open_count}
 use Rattle.render_queues.proofs.Counted.{stands_somewhere}

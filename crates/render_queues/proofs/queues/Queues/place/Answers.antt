@@ -1,4 +1,4 @@
-use Rattle.std.proofs.Common.{rules, ◌≡◌, ◌<◌, ◌≤◌, true, None, subst, sym, arith}
+use Rattle.std.proofs.Common.{rules, ◌≡◌, ◌<◌, true, None, subst, sym, arith}
 use Rattle.std.specs.Prelude.{IsSome}
 use Rattle.render_queues.specs.OneQueue.{is_below}
 use Rattle.render_queues.specs.Tables.{Tables, line_of, after_place, standing, open_count}
