@@ -1,1 +1,2 @@
-pub mod Lookups
+-- What serves inner contracts alone: the maps by the sizes of their tiles.
+pub mod Sizes
