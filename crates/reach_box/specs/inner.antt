@@ -1,2 +1,2 @@
--- What serves inner contracts alone: the maps by the sizes of their tiles.
+pub mod Lookups
 pub mod Sizes

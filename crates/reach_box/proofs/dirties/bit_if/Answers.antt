@@ -1,4 +1,3 @@
-use Rattle.std.proofs.Common.{◌≡◌}
 use Rattle.reach_box.proofs.Dirtied.{bit_there, bit_gone}
 use Rattle.reach_box.proofs.dirties.bit_if.Goals as goal
 

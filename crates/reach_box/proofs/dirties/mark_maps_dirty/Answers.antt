@@ -1,5 +1,5 @@
 -- One size after another.
-use Rattle.std.proofs.Common.{length, arith}
+use Rattle.std.proofs.Common.{arith}
 use Rattle.std.proofs.lemmas.List.Sorted.{IsPermutation-refl, IsPermutation-trans}
 use Rattle.reach_box.proofs.Dirtied.{below_size, expires_none, near_told, no_size, size_more, size_at, size_whole, all_sizes}
 use Rattle.reach_box.proofs.dirties.mark_maps_dirty.Goals as goal
