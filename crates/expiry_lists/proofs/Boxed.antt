@@ -14,7 +14,7 @@ use Rattle.plain_world.specs.World.{meta_square}
 use Rattle.expiry_lists.specs.declared.nodes.Node.{Node}
 use Rattle.expiry_lists.specs.Boxes.{comes_near}
 use Rattle.expiry_lists.specs.Marks.{is_in_box, InBox}
-use Rattle.expiry_lists.specs.inner.Nodes.{node_of, has_node, shown_of, IsTree}
+use Rattle.expiry_lists.specs.inner.Nodes.{NodeTable, node_of, has_node, shown_of, IsTree}
 use Rattle.expiry_lists.specs.inner.Tiles.{is_one_of}
 use Rattle.expiry_lists.specs.inner.Walks.{Walks}
 use Rattle.expiry_lists.proofs.BoxLaws.{holds_at, holds_from}
@@ -36,15 +36,15 @@ failed test key k own = go (same_key key k) refl
     go true same = sym (ap test (same_key-true key k same)) ∙ own
     go false other = refl
 
-pub walks_passed : (test : Key → Bool) (key : Key) {a b : List (Key × Node)} {n : ℕ} → test key ≡ true → Walks (same_key key) a b n → Walks (λ k. same_key key k && test k) a b n
-walks_passed test key {a} own w = walks_agree (λ k. same_key key k && test k) (each-all _ (shown_of a) (λ s clean. passed test key s.key own)) w
+pub walks_passed : (test : Key → Bool) (key : Key) {a b : NodeTable} {n : ℕ} → test key ≡ true → Walks (same_key key) a b n → Walks (λ k. same_key key k && test k) a b n
+walks_passed test key {a} own w = walks_agree (λ k. same_key key k && test k) (each-all _ (shown_of a.entries) (λ s clean. passed test key s.key own)) w
 
-pub walks_failed : (test : Key → Bool) (key : Key) (a : List (Key × Node)) → test key ≡ false → IsTree a → Walks (λ k. same_key key k && test k) a a 0
-walks_failed test key a own tree = walks_none _ a (each-all _ (shown_of a) (λ s clean. failed test key s.key own)) tree
+pub walks_failed : (test : Key → Bool) (key : Key) (a : NodeTable) → test key ≡ false → IsTree a.entries a.spots → Walks (λ k. same_key key k && test k) a a 0
+walks_failed test key a own tree = walks_none _ a (each-all _ (shown_of a.entries) (λ s clean. failed test key s.key own)) tree
 
 -- no key, and one key after others
-pub walks_no_key : (test : Key → Bool) (es : List (Key × Node)) → IsTree es → Walks (λ k. is_one_of [] k && test k) es es 0
-walks_no_key test es tree = walks_none _ es (each-all _ (shown_of es) (λ s clean. refl)) tree
+pub walks_no_key : (test : Key → Bool) (a : NodeTable) → IsTree a.entries a.spots → Walks (λ k. is_one_of [] k && test k) a a 0
+walks_no_key test a tree = walks_none _ a (each-all _ (shown_of a.entries) (λ s clean. refl)) tree
 
 one_more : (x y o : Bool) → ((x && o) || (y && o)) ≡ ((x || (y || false)) && o)
 one_more true true true = refl
@@ -56,10 +56,10 @@ one_more false true false = refl
 one_more false false true = refl
 one_more false false false = refl
 
-pub walks_key : (test : Key → Bool) (keys now : List Key) (i : ℕ) (key : Key) {a b c : List (Key × Node)} {m n : ℕ} → now ≡ keys → i < length keys → slice_get now i ≡ Some key →
+pub walks_key : (test : Key → Bool) (keys now : List Key) (i : ℕ) (key : Key) {a b c : NodeTable} {m n : ℕ} → now ≡ keys → i < length keys → slice_get now i ≡ Some key →
     Walks (λ k. is_one_of (take i keys) k && test k) a b m → Walks (λ k. same_key key k && test k) b c n → Walks (λ k. is_one_of (take (i + 1) keys) k && test k) a c (m + n)
 walks_key test keys now i key {a} {b} {c} {m} {n} same within at first second =
-    walks_agree (λ k. is_one_of (take (i + 1) keys) k && test k) (each-all _ (shown_of a) (λ s clean. both s.key)) (walks_then first second)
+    walks_agree (λ k. is_one_of (take (i + 1) keys) k && test k) (each-all _ (shown_of a.entries) (λ s clean. both s.key)) (walks_then first second)
   where
     own : get_or keys i key ≡ key
     own = let there : Some (get_or keys i key) ≡ Some key = sym (slice_get-get_or keys i key within) ∙ (ap (λ ks. slice_get ks i) (sym same) ∙ at) in cc
@@ -91,12 +91,12 @@ key_there (e ∷ es) (suc i) k at = go (same_key k e.0) (key_there es i k at)
     go false there = there
 
 -- so an expiry of all keys is that of all that is shown
-pub walks_keys : (test : Key → Bool) (a b : List (Key × Node)) (i n : ℕ) → Distinct a → length a ≤ i → Walks (λ k. is_one_of (take i (keys_of a)) k && test k) a b n → Walks test a b n
+pub walks_keys : (test : Key → Bool) (a b : NodeTable) (i n : ℕ) → Distinct a.entries → length a.entries ≤ i → Walks (λ k. is_one_of (take i (keys_of a.entries)) k && test k) a b n → Walks test a b n
 walks_keys test a b i n apart all w =
-    walks_agree test (each-map (Marked a) _ (shown_of a) (λ s is clean. ap (λ x. x && test s.key) (listed s.key (marked_there (node_of a s.key) s.mark is))) (all_marked a apart)) w
+    walks_agree test (each-map (Marked a.entries) _ (shown_of a.entries) (λ s is clean. ap (λ x. x && test s.key) (listed s.key (marked_there (node_of a.entries s.key) s.mark is))) (all_marked a.entries apart)) w
   where
-    listed : (k : Key) → has_node a k ≡ true → is_one_of (take i (keys_of a)) k ≡ true
-    listed k there = ap (λ ks. is_one_of ks k) (take_all i (keys_of a) (omega (arith, length-keys_of a, all))) ∙ one_there a k there
+    listed : (k : Key) → has_node a.entries k ≡ true → is_one_of (take i (keys_of a.entries)) k ≡ true
+    listed k there = ap (λ ks. is_one_of ks k) (take_all i (keys_of a.entries) (omega (arith, length-keys_of a.entries, all))) ∙ one_there a.entries k there
 
 -- what the test on edges says of a key
 pub in_box_means : (map z : ℕ) (b : Bounds) (k : Key) → b.west ≤ b.east → b.north ≤ b.south → (is_in_box map z b k ≡ true → InBox map z b k) × (InBox map z b k → is_in_box map z b k ≡ true)

@@ -1,5 +1,5 @@
 -- What is shown, against what each key's node has.
-use Rattle.std.proofs.Common.{◌≡◌, ◌≤◌, Bool, true, false, ◌&&◌, cond, List, [], ◌∷◌, ◌++◌, length, find, Option, Some, None, option_map, is_some, refl, sym, ap, ◌∙◌, subst, arith}
+use Rattle.std.proofs.Common.{◌≡◌, ◌≤◌, Bool, true, false, ◌&&◌, cond, List, [], ◌∷◌, length, find, Option, Some, None, option_map, is_some, refl, sym, ap, ◌∙◌, subst, arith}
 use Rattle.std.specs.List.{AllByRecursion, IsDistinct, list_any}
 use Rattle.std.specs.Map.{set_value, keys_of}
 use Rattle.farm_history.specs.declared.keys.Key.{Key}
@@ -112,21 +112,7 @@ length-shown_of (e ∷ es) = go e.1.mark (length-shown_of es)
     go None ih = omega arith
     go (Some m) ih = omega arith
 
--- A write that keeps the mark shows the same;
-pub set-same_mark : (es : List (Key × Node)) (key : Key) (n w : Node) → node_of es key ≡ Some n → w.mark ≡ n.mark → shown_of (set_value (same_key key) es w) ≡ shown_of es
-set-same_mark [] key n w found same = refl
-set-same_mark (e ∷ es) key n w found same = go (λ is. set-same_mark es key n w is same) (same_key key e.0) found
-  where
-    go : (node_of es key ≡ Some n → shown_of (set_value (same_key key) es w) ≡ shown_of es) → (b : Bool) → cond b (Some e.1) (node_of es key) ≡ Some n → shown_of (cond b ((e.0, w) ∷ es) (e ∷ set_value (same_key key) es w)) ≡ shown_before e.0 e.1.mark (shown_of es)
-    go ih true is = let own : e.1 ≡ n = cc in ap (λ o. shown_before e.0 o (shown_of es)) (same ∙ sym (ap (λ (x : Node). x.mark) own))
-    go ih false is = ap (shown_before e.0 e.1.mark) (ih is)
-
--- a node that is added without a mark shows the same;
-pub add-unmarked : (es : List (Key × Node)) (key : Key) (w : Node) → w.mark ≡ None → shown_of (es ++ (key, w) ∷ []) ≡ shown_of es
-add-unmarked [] key w none = ap (λ o. shown_before key o []) none
-add-unmarked (e ∷ es) key w none = ap (shown_before e.0 e.1.mark) (add-unmarked es key w none)
-
--- and a write of the mark made dirty is the expiry of that key alone
+-- A write of the mark made dirty is the expiry of that key alone
 pub set-dirties : (es : List (Key × Node)) → Distinct es → (key : Key) (n w : Node) → node_of es key ≡ Some n → w.mark ≡ option_map (touched_by true) n.mark →
     Dirties (same_key key) (shown_of es) (shown_of (set_value (same_key key) es w)) (cond (is_clean n.mark) 1 0)
 unfolding IsDistinct

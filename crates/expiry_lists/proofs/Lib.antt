@@ -1,4 +1,5 @@
 pub mod Above
+pub mod Bits
 pub mod BoxLaws
 pub mod Boxed
 pub mod Finding
@@ -11,8 +12,10 @@ pub mod Placing
 pub mod Quarters
 pub mod Saving
 pub mod Settling
+pub mod Spots
 pub mod Showing
 pub mod Dirtying
 pub mod Tiles
+pub mod Paths
 pub mod Walked
 pub mod Writing

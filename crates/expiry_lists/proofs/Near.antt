@@ -2,7 +2,7 @@
 use Rattle.std.proofs.Common.{◌≡◌, ℕ, suc, ◌+◌, ◌-◌, ◌*◌, ◌<◌, ◌≤◌, Bool, true, false, ◌&&◌, ◌||◌, nat_lt, List, [], ◌∷◌, ◌++◌, length, take, drop, get_or, refl, sym, ap, ap₂, ◌∙◌, subst, inl, inr, arith}
 use Rattle.std.specs.Prelude.{All, IsPermutation}
 use Rattle.std.specs.List.{list_any, swap}
-use Rattle.std.proofs.lemmas.Bool.{cases_eq, false_from_ne_true}
+use Rattle.std.proofs.lemmas.Bool.{and_parts, cases_eq, false_from_ne_true}
 use Rattle.std.proofs.lemmas.Bool.Decides.{nat_tests}
 use Rattle.std.proofs.lemmas.Nat.{le-div, div-add-mod'}
 use Rattle.std.proofs.Math.Nat.{pow-le-pow_right}
@@ -18,12 +18,11 @@ use Rattle.geo_model.specs.declared.bounds.Bounds.{Bounds}
 use Rattle.farm_history.specs.declared.keys.Key.{Key}
 use Rattle.farm_history.specs.Plans.{same_key}
 use Rattle.farm_history.proofs.Lists.{each-map, each-all, same_key-true}
-use Rattle.expiry_lists.specs.declared.nodes.Node.{Node}
 use Rattle.expiry_lists.specs.Boxes.{comes_near}
-use Rattle.expiry_lists.specs.Marks.{is_met, some_meets, is_near_boxes}
-use Rattle.expiry_lists.specs.inner.Nodes.{is_live, shown_of, IsTree}
+use Rattle.expiry_lists.specs.Marks.{is_met, some_meets, is_of_map, is_near_zooms}
+use Rattle.expiry_lists.specs.inner.Nodes.{NodeTable, place_of, bit_of, has_bit, at_bits, lives_at, shown_of, IsTree}
 use Rattle.expiry_lists.specs.inner.Tiles.{world_key}
-use Rattle.expiry_lists.specs.inner.Walks.{child, is_under, IsNode, Walks}
+use Rattle.expiry_lists.specs.inner.Walks.{child, is_under, under_bits, IsNode, Walks}
 use Rattle.expiry_lists.proofs.Finding.{Distinct}
 use Rattle.expiry_lists.proofs.Live.{node_on_grid, none_under}
 use Rattle.expiry_lists.proofs.Walked.{walks_agree, walks_none}
@@ -100,9 +99,12 @@ near_above b size n top k tile node meta under near =
     ∙ over_near b (margin_of size top.meta.z) (margin_of size k.meta.z) (node_square top) (node_square k) (margin_less size top.meta.z k.meta.z tile (omega (arith, found.2.zoom))) (omega (arith, meta.z_fits))
     (below_over found.0 top k node.deep found.2) (sym (ap (comes_near b (margin_of size k.meta.z)) (meta_square-node k deep)) ∙ near)
 
--- what a walk from a key is to make dirty
-abbrev pub near_under : ℕ → ℕ → List Bounds → Key → Key → Bool
-near_under n size boxes top k = is_under n top k && some_meets size boxes k
+-- what a walk from a place is to make dirty
+abbrev pub near_under : ℕ → ℕ → List Bounds → Key → ℕ → Key → Bool
+near_under n size boxes top mask k = under_bits n top mask k && some_meets size boxes k
+
+under_first : (x y : Bool) → (x && y) ≡ true → x ≡ true
+under_first x y both = (and_parts x y both).0
 
 none_and : (x y : Bool) → (x ≡ true → y ≡ false) → (x && y) ≡ false
 none_and true y none = none refl
@@ -139,27 +141,28 @@ front_near boxes after m size n top k tile node meta moved others under =
 
 -- ---- the walk
 
-module _ (es : List (Key × Node)) (apart : Distinct es) (tree : IsTree es) (size n : ℕ) (top : Key) (tile : IsTileSize size) (node : IsNode top) where
-  -- where no box comes near the key
-  pub near_none : (boxes after : List Bounds) (m : ℕ) → IsPermutation boxes after → m ≡ 0 → All (λ b. is_met b size top ≡ false) (drop m after) → Walks (near_under n size boxes top) es es 0
+module _ (t : NodeTable) (apart : Distinct t.entries) (tree : IsTree t.entries t.spots) (size n : ℕ) (top : Key) (mask : ℕ) (tile : IsTileSize size) (node : IsNode top) where
+  -- where no box comes near the place
+  pub near_none : (boxes after : List Bounds) (m : ℕ) → IsPermutation boxes after → m ≡ 0 → All (λ b. is_met b size top ≡ false) (drop m after) → Walks (near_under n size boxes top mask) t t 0
   near_none boxes after m moved is others =
-      walks_none (near_under n size boxes top) es (none_metas es apart tree (near_under n size boxes top) (λ k meta.
-      none_and (is_under n top k) (some_meets size boxes k) (λ under.
+      walks_none (near_under n size boxes top mask) t (none_metas t.entries t.spots apart tree (near_under n size boxes top mask) (λ k meta.
+      none_and (under_bits n top mask k) (some_meets size boxes k) (λ under.
       list_any-IsPermutation (λ b. is_met b size k) boxes after moved
-      ∙ none_near after size n top k tile node meta (subst (λ (i : ℕ). All (λ b. is_met b size top ≡ false) (drop i after)) is others) under))) tree
+      ∙ none_near after size n top (place_of k) tile node meta (subst (λ (i : ℕ). All (λ b. is_met b size top ≡ false) (drop i after)) is others) (under_first _ _ under)))) tree
 
-  -- where the key is not live
-  pub near_quiet : (boxes : List Bounds) → is_live es top ≡ false → Walks (near_under n size boxes top) es es 0
+  -- where none of the mask is live at the place
+  pub near_quiet : (boxes : List Bounds) → ((b : ℕ) → has_bit mask b ≡ true → lives_at t.spots top b ≡ false) → Walks (near_under n size boxes top mask) t t 0
   near_quiet boxes still =
-      walks_none (near_under n size boxes top) es (each-map _ _ (shown_of es) (λ s none clean. no_and (is_under n top s.key) (some_meets size boxes s.key) (none clean)) (none_under es apart tree n top (node_on_grid top node) still)) tree
+      walks_none (near_under n size boxes top mask) t (each-map _ _ (shown_of t.entries) (λ s none clean. no_and (under_bits n top mask s.key) (some_meets size boxes s.key) (none clean))
+      (none_under t.entries t.spots apart tree n top mask (node_on_grid top node) still)) tree
 
   -- what the boxes at the front come near is what all do
-  pub near_front : {new : List (Key × Node)} {count : ℕ} (boxes after front : List Bounds) (m : ℕ) → IsPermutation boxes after → front ≡ take m after → All (λ b. is_met b size top ≡ false) (drop m after)
-      → Walks (near_under n size front top) es new count → Walks (near_under n size boxes top) es new count
+  pub near_front : {new : NodeTable} {count : ℕ} (boxes after front : List Bounds) (m : ℕ) → IsPermutation boxes after → front ≡ take m after → All (λ b. is_met b size top ≡ false) (drop m after)
+      → Walks (near_under n size front top mask) t new count → Walks (near_under n size boxes top mask) t new count
   near_front {new} {count} boxes after front m moved is others w =
-      walks_agree (near_under n size boxes top) (agree_metas es apart tree (near_under n size front top) (near_under n size boxes top) (λ k meta.
-      same_and (is_under n top k) (some_meets size front k) (some_meets size boxes k) (λ under.
-      ap (λ bs. some_meets size bs k) is ∙ front_near boxes after m size n top k tile node meta moved others under))) w
+      walks_agree (near_under n size boxes top mask) (agree_metas t.entries t.spots apart tree (near_under n size front top mask) (near_under n size boxes top mask) (λ k meta.
+      same_and (under_bits n top mask k) (some_meets size front k) (some_meets size boxes k) (λ under.
+      ap (λ bs. some_meets size bs k) is ∙ front_near boxes after m size n top (place_of k) tile node meta moved others (under_first _ _ under)))) w
 
 -- some box that is at the front comes near the key
 pub front_some : (boxes front : List Bounds) (m size : ℕ) (top : Key) → (m ≡ 0 → ⊥) → m ≤ length boxes → front ≡ take m boxes → All (λ b. is_met b size top ≡ true) (take m boxes) → some_meets size front top ≡ true
@@ -174,83 +177,80 @@ front_some (b ∷ boxes) front m size top some few is near =
         positive : (i : ℕ) → (i ≡ 0 → ⊥) → 0 < i
         positive i h = elim (cases_eq i 0) [ inl e ↦ absurd (h e) | inr e ↦ omega (arith, e) ]
 
--- the last zoom's key alone
-pub near_own : {es new : List (Key × Node)} {count : ℕ} (n size : ℕ) (boxes : List Bounds) (top : Key) → 0 ≡ n → some_meets size boxes top ≡ true → Walks (same_key top) es new count → Walks (near_under n size boxes top) es new count
-unfolding is_under
-near_own {es} {new} {count} n size boxes top depth near w =
-    subst (λ d. Walks (near_under d size boxes top) es new count) depth (walks_agree (near_under 0 size boxes top) (each-all _ (shown_of es) (λ s clean. go s.key (same_key top s.key) refl)) w)
+-- a place's own keys, which some box is near or none
+pub own_near : {t new : NodeTable} {count : ℕ} (place : Key) (mask size : ℕ) (boxes : List Bounds) → some_meets size boxes place ≡ true → Walks (at_bits place mask) t new count
+    → Walks (λ k. at_bits place mask k && some_meets size boxes k) t new count
+own_near {t} place mask size boxes near w =
+    walks_agree (λ k. at_bits place mask k && some_meets size boxes k) (each-all _ (shown_of t.entries) (λ s clean. go s.key (same_key place (place_of s.key)) (has_bit mask (bit_of s.key)) refl)) w
   where
-    go : (k : Key) (x : Bool) → same_key top k ≡ x → x ≡ (x && some_meets size boxes k)
-    go k false other = refl
-    go k true same = sym (ap (some_meets size boxes) (sym (same_key-true top k same)) ∙ near)
+    go : (k : Key) (x y : Bool) → same_key place (place_of k) ≡ x → (x && y) ≡ ((x && y) && some_meets size boxes k)
+    go k false y other = refl
+    go k true false same = refl
+    go k true true same = sym (ap (some_meets size boxes) (sym (same_key-true place (place_of k) same)) ∙ near)
+
+pub own_far : (t : NodeTable) → IsTree t.entries t.spots → (place : Key) (mask size : ℕ) (boxes : List Bounds) → some_meets size boxes place ≡ false → Walks (λ k. at_bits place mask k && some_meets size boxes k) t t 0
+own_far t tree place mask size boxes far =
+    walks_none (λ k. at_bits place mask k && some_meets size boxes k) t (each-all _ (shown_of t.entries) (λ s clean. none_and (at_bits place mask s.key) (some_meets size boxes s.key)
+    (λ both. ap (some_meets size boxes) (sym (same_key-true place (place_of s.key) (under_first _ _ both))) ∙ far))) tree
+
+-- the last zoom's place alone
+pub near_own : {t new : NodeTable} {count : ℕ} (n size : ℕ) (boxes : List Bounds) (top : Key) (mask : ℕ) → 0 ≡ n → some_meets size boxes top ≡ true → Walks (at_bits top mask) t new count → Walks (near_under n size boxes top mask) t new count
+unfolding is_under
+near_own {t} {new} {count} n size boxes top mask depth near w = subst (λ d. Walks (near_under d size boxes top mask) t new count) depth (own_near top mask size boxes near w)
 
 -- a quarter, with the boxes in another order
-pub near_quarter : {es new : List (Key × Node)} {count : ℕ} (size : ℕ) (boxes now : List Bounds) (top r : Key) (j : ℕ) → r ≡ child j top → IsPermutation boxes now → Walks (near_under (18 - r.meta.z) size now r) es new count
-    → Walks (near_under (17 - top.meta.z) size boxes (child j top)) es new count
-near_quarter {es} {new} {count} size boxes now top r j is moved w =
+pub near_quarter : {t new : NodeTable} {count : ℕ} (size : ℕ) (boxes now : List Bounds) (top r : Key) (mask j : ℕ) → r ≡ child j top → IsPermutation boxes now → Walks (near_under (18 - r.meta.z) size now r mask) t new count
+    → Walks (near_under (17 - top.meta.z) size boxes (child j top) mask) t new count
+near_quarter {t} {new} {count} size boxes now top r mask j is moved w =
     let depth : 18 - (top.meta.z + 1) ≡ 17 - top.meta.z = omega arith in
-    walks_agree (near_under (17 - top.meta.z) size boxes (child j top)) (each-all _ (shown_of es) (λ s clean.
-    ap (λ x. is_under (17 - top.meta.z) (child j top) s.key && x) (sym (list_any-IsPermutation (λ b. is_met b size s.key) boxes now moved))))
-    (subst (λ d. Walks (near_under d size now (child j top)) es new count) depth (subst (λ (x : Key). Walks (near_under (18 - x.meta.z) size now x) es new count) is w))
+    walks_agree (near_under (17 - top.meta.z) size boxes (child j top) mask) (each-all _ (shown_of t.entries) (λ s clean.
+    ap (λ x. under_bits (17 - top.meta.z) (child j top) mask s.key && x) (sym (list_any-IsPermutation (λ b. is_met b size s.key) boxes now moved))))
+    (subst (λ d. Walks (near_under d size now (child j top) mask) t new count) depth (subst (λ (x : Key). Walks (near_under (18 - x.meta.z) size now x mask) t new count) is w))
 
-five_parts : (p q r s own near : Bool) → (own ≡ true → near ≡ true) → (((((p && near) || (q && near)) || (r && near)) || (s && near)) || own) ≡ (((((p || q) || r) || s) || own) && near)
-five_parts p q r s own true some = plain p q r s own
+five_parts : (p q r s own has near : Bool) → ((own && has) ≡ true → near ≡ true) → ((((((p && has) && near) || ((q && has) && near)) || ((r && has) && near)) || ((s && has) && near)) || (own && has)) ≡ ((((((p || q) || r) || s) || own) && has) && near)
+five_parts p q r s own false near some = grind arith
+five_parts p q r s own true true some = plain p q r s own
   where
-    plain : (p q r s own : Bool) → (((((p && true) || (q && true)) || (r && true)) || (s && true)) || own) ≡ (((((p || q) || r) || s) || own) && true)
+    plain : (p q r s own : Bool) → ((((((p && true) && true) || ((q && true) && true)) || ((r && true) && true)) || ((s && true) && true)) || (own && true)) ≡ ((((((p || q) || r) || s) || own) && true) && true)
     plain true q r s own = grind arith
     plain false q r s own = grind arith
-five_parts p q r s true false some = let never : false ≡ true = some refl in cc
-five_parts p q r s false false some = grind arith
+five_parts p q r s true true false some = let never : false ≡ true = some refl in cc
+five_parts p q r s false true false some = grind arith
 
--- the four quarters and the key itself
-pub near_quarters : {es new : List (Key × Node)} {count : ℕ} (size : ℕ) (boxes : List Bounds) (top : Key) → top.meta.z < 18 → some_meets size boxes top ≡ true →
-    Walks (λ k. (((near_under (17 - top.meta.z) size boxes (child 0 top) k || near_under (17 - top.meta.z) size boxes (child 1 top) k) || near_under (17 - top.meta.z) size boxes (child 2 top) k) || near_under (17 - top.meta.z) size boxes (child 3 top) k) || same_key top k) es new count →
-    Walks (near_under (18 - top.meta.z) size boxes top) es new count
+-- the four quarters and the place itself
+pub near_quarters : {t new : NodeTable} {count : ℕ} (size : ℕ) (boxes : List Bounds) (top : Key) (mask : ℕ) → top.meta.z < 18 → some_meets size boxes top ≡ true →
+    Walks (λ k. (((near_under (17 - top.meta.z) size boxes (child 0 top) mask k || near_under (17 - top.meta.z) size boxes (child 1 top) mask k) || near_under (17 - top.meta.z) size boxes (child 2 top) mask k) || near_under (17 - top.meta.z) size boxes (child 3 top) mask k) || at_bits top mask k) t new count →
+    Walks (near_under (18 - top.meta.z) size boxes top mask) t new count
 unfolding is_under
-near_quarters {es} {new} {count} size boxes top above near w =
+near_quarters {t} {new} {count} size boxes top mask above near w =
     let depth : suc (17 - top.meta.z) ≡ 18 - top.meta.z = omega (arith, above) in
-    subst (λ d. Walks (near_under d size boxes top) es new count) depth (walks_agree (near_under (suc (17 - top.meta.z)) size boxes top) (each-all _ (shown_of es) (λ s clean. same s.key)) w)
+    subst (λ d. Walks (near_under d size boxes top mask) t new count) depth (walks_agree (near_under (suc (17 - top.meta.z)) size boxes top mask) (each-all _ (shown_of t.entries) (λ s clean. same s.key)) w)
   where
-    own : (k : Key) → same_key top k ≡ true → some_meets size boxes k ≡ true
-    own k same = ap (some_meets size boxes) (sym (same_key-true top k same)) ∙ near
+    own : (k : Key) → at_bits top mask k ≡ true → some_meets size boxes k ≡ true
+    own k same = ap (some_meets size boxes) (sym (same_key-true top (place_of k) (under_first _ _ same))) ∙ near
 
-    same : (k : Key) → ((((near_under (17 - top.meta.z) size boxes (child 0 top) k || near_under (17 - top.meta.z) size boxes (child 1 top) k) || near_under (17 - top.meta.z) size boxes (child 2 top) k) || near_under (17 - top.meta.z) size boxes (child 3 top) k) || same_key top k)
-        ≡ near_under (suc (17 - top.meta.z)) size boxes top k
-    same k = five_parts _ _ _ _ (same_key top k) (some_meets size boxes k) (own k)
+    same : (k : Key) → ((((near_under (17 - top.meta.z) size boxes (child 0 top) mask k || near_under (17 - top.meta.z) size boxes (child 1 top) mask k) || near_under (17 - top.meta.z) size boxes (child 2 top) mask k) || near_under (17 - top.meta.z) size boxes (child 3 top) mask k) || at_bits top mask k)
+        ≡ near_under (suc (17 - top.meta.z)) size boxes top mask k
+    same k = five_parts _ _ _ _ (same_key top (place_of k)) (has_bit mask (bit_of k)) (some_meets size boxes k) (own k)
 
--- ---- a map
+-- ---- a group
 
 zooms : (k : Key) → IsMeta k.meta → nat_lt k.meta.z 19 ≡ true
 zooms k meta = let fits = meta.z_fits in grind (arith, nat_tests)
 
-four_parts : (p q r s near : Bool) → ((((p && near) || (q && near)) || (r && near)) || (s && near)) ≡ ((((p || q) || r) || s) && near)
-four_parts p q r s near = grind arith
+four_parts : (p q r s has near : Bool) → (((((p && has) && near) || ((q && has) && near)) || ((r && has) && near)) || ((s && has) && near)) ≡ (((((p || q) || r) || s) && has) && near)
+four_parts p q r s has near = grind arith
 
 -- its keys of zooms 0 to 2 and those below its root
-pub map_near : (map size : ℕ) (boxes : List Bounds) (k : Key) → IsMeta k.meta →
-    ((((same_key (world_key map 0) k && some_meets size boxes k) || (same_key (world_key map 1) k && some_meets size boxes k)) || (same_key (world_key map 2) k && some_meets size boxes k)) || near_under 15 size boxes (world_key map 3) k)
-    ≡ is_near_boxes map size boxes k
-map_near map size boxes k meta =
-    four_parts (same_key (world_key map 0) k) (same_key (world_key map 1) k) (same_key (world_key map 2) k) (is_under 15 (world_key map 3) k) (some_meets size boxes k)
-    ∙ ap₂ (λ x y. x && (y && some_meets size boxes k)) (map_agrees map k meta) (sym (zooms k meta))
+pub group_near : (group mask size : ℕ) (boxes : List Bounds) (k : Key) → IsMeta k.meta →
+    ((((at_bits (world_key group 0) mask k && some_meets size boxes k) || (at_bits (world_key group 1) mask k && some_meets size boxes k)) || (at_bits (world_key group 2) mask k && some_meets size boxes k)) || near_under 15 size boxes (world_key group 3) mask k)
+    ≡ ((is_of_map group (place_of k) && has_bit mask (bit_of k)) && is_near_zooms size boxes k)
+group_near group mask size boxes k meta =
+    four_parts (same_key (world_key group 0) (place_of k)) (same_key (world_key group 1) (place_of k)) (same_key (world_key group 2) (place_of k)) (is_under 15 (world_key group 3) (place_of k)) (has_bit mask (bit_of k)) (some_meets size boxes k)
+    ∙ ap₂ (λ x y. (x && has_bit mask (bit_of k)) && (y && some_meets size boxes k)) (map_agrees group (place_of k) meta) (sym (zooms k meta))
 
--- a test at a key of one of the first zooms, by margin and square that are told by equations
-pub some_told : (boxes : List Bounds) (size map z margin : ℕ) (key : Key) (s : Square) (answer : Bool) → margin ≡ margin_of size z → key ≡ world_key map z → s ≡ meta_square key.meta → answer ≡ list_any (λ b. comes_near b margin s) boxes
-    → some_meets size boxes (world_key map z) ≡ answer
-some_told boxes size map z margin key s answer wide is square told =
+-- a test at a place of one of the first zooms, by margin and square that are told by equations
+pub some_told : (boxes : List Bounds) (size group z margin : ℕ) (key : Key) (s : Square) (answer : Bool) → margin ≡ margin_of size z → key ≡ world_key group z → s ≡ meta_square key.meta → answer ≡ list_any (λ b. comes_near b margin s) boxes
+    → some_meets size boxes (world_key group z) ≡ answer
+some_told boxes size group z margin key s answer wide is square told =
     ap₂ (λ (x : ℕ) (y : Square). list_any (λ b. comes_near b x y) boxes) (sym wide) (sym (square ∙ ap (λ (k : Key). meta_square k.meta) is)) ∙ sym told
-
--- a key of one of the first zooms, which some box is near or none
-pub world_near : {es new : List (Key × Node)} {count : ℕ} (map z size : ℕ) (boxes : List Bounds) → some_meets size boxes (world_key map z) ≡ true → Walks (same_key (world_key map z)) es new count
-    → Walks (λ k. same_key (world_key map z) k && some_meets size boxes k) es new count
-world_near {es} {new} {count} map z size boxes near w =
-    walks_agree (λ k. same_key (world_key map z) k && some_meets size boxes k) (each-all _ (shown_of es) (λ s clean. go s.key (same_key (world_key map z) s.key) refl)) w
-  where
-    go : (k : Key) (x : Bool) → same_key (world_key map z) k ≡ x → x ≡ (x && some_meets size boxes k)
-    go k false other = refl
-    go k true same = sym (ap (some_meets size boxes) (sym (same_key-true (world_key map z) k same)) ∙ near)
-
-pub world_far : (es : List (Key × Node)) → IsTree es → (map z size : ℕ) (boxes : List Bounds) → some_meets size boxes (world_key map z) ≡ false → Walks (λ k. same_key (world_key map z) k && some_meets size boxes k) es es 0
-world_far es tree map z size boxes far =
-    walks_none (λ k. same_key (world_key map z) k && some_meets size boxes k) es (each-all _ (shown_of es) (λ s clean. none_and (same_key (world_key map z) s.key) (some_meets size boxes s.key)
-    (λ same. ap (some_meets size boxes) (sym (same_key-true (world_key map z) s.key same)) ∙ far))) tree

@@ -1,4 +1,4 @@
--- The whole table made dirty and quiet, entry by entry.
+-- The whole table made dirty, entry by entry.
 use Rattle.std.proofs.Common.{◌≡◌, ℕ, zero, suc, ◌+◌, ◌≤◌, Bool, true, false, cond, List, [], ◌∷◌, ◌++◌, length, take, drop, map, Option, Some, None, option_map, is_some, add-one, refl, sym, ap, ◌∙◌, subst, arith}
 use Rattle.std.specs.Prelude.{slice_get}
 use Rattle.std.proofs.lemmas.List.{take_all, drop_all}
@@ -8,13 +8,13 @@ use Rattle.farm_history.specs.declared.keys.Mark.{Mark}
 use Rattle.farm_history.specs.Plans.{same_key}
 use Rattle.expiry_lists.specs.declared.nodes.Node.{Node}
 use Rattle.expiry_lists.specs.Marks.{touched_by}
-use Rattle.expiry_lists.specs.inner.Nodes.{parent, node_of, node_mark, node_live, is_clean, has_node, is_live, shown_before, shown_of, IsTree}
+use Rattle.expiry_lists.specs.inner.Nodes.{NodeTable, node_of, node_mark, is_clean, has_node, has_spot, is_clean_at, lives_at, shown_before, shown_of, IsTree}
 use Rattle.expiry_lists.specs.inner.Walks.{Dirties, Walks}
 use Rattle.expiry_lists.proofs.Dirtying.{dirties_more, dirties_none}
 
--- a node's mark made dirty, and the node not live
+-- a node's mark made dirty
 abbrev pub quiet_node : Node → Node
-quiet_node n = record { mark = option_map (touched_by true) n.mark; live = false }
+quiet_node n = record { mark = option_map (touched_by true) n.mark }
 
 abbrev pub quiet_entry : Key × Node → Key × Node
 quiet_entry e = (e.0, quiet_node e.1)
@@ -92,10 +92,6 @@ same_there : (o : Option Node) → is_some (option_map quiet_node o) ≡ is_some
 same_there None = refl
 same_there (Some n) = refl
 
-none_live : (o : Option Node) → node_live (option_map quiet_node o) ≡ false
-none_live None = refl
-none_live (Some n) = refl
-
 touched_not : (o : Option Mark) → is_clean (option_map (touched_by true) o) ≡ false
 touched_not None = refl
 touched_not (Some m) = refl
@@ -116,29 +112,35 @@ all_dirty (e ∷ es) = go e.1.mark (all_dirty es)
     go None rest = subst (λ (n : ℕ). Dirties (λ k. true) (shown_of es) (shown_of (map quiet_entry es)) n) (none_more (clean_sum es)) rest
     go (Some m) rest = dirties_more (λ k. true) (record { key = e.0; mark = m }) refl rest
 
-pub walks_all : (es : List (Key × Node)) → IsTree es → Walks (λ k. true) es (map quiet_entry es) (clean_sum es)
-walks_all es tree = record {
-  dirties = all_dirty es;
-  tree = record {
+pub walks_settled : (a b : NodeTable) (i count : ℕ) → IsTree a.entries a.spots → length a.entries ≤ i → b.entries ≡ quieted i a.entries → b.spots ≡ a.spots → b.room ≡ a.room → b.free ≡ a.free → count ≡ clean_sum (take i a.entries) → Walks (λ k. true) a b count
+walks_settled a b i count tree all is spots room free sum = record {
+  dirties = subst (λ (n : ℕ). Dirties (λ k. true) (shown_of a.entries) (shown_of b.entries) n) (sym (sum ∙ ap clean_sum (take_all i a.entries all)))
+      (subst (λ es. Dirties (λ k. true) (shown_of a.entries) (shown_of es) (clean_sum a.entries)) (sym whole) (all_dirty a.entries));
+  tree = subst (λ ss. IsTree b.entries ss) (sym spots) (record {
     metas = λ k there. tree.metas k (sym (there_now k) ∙ there);
-    rooted = λ k deep there. there_now (parent k) ∙ tree.rooted k deep (sym (there_now k) ∙ there);
-    clean_live = λ k deep clean. absurd (never (sym clean ∙ (ap (λ o. is_clean (node_mark o)) (quiet_at es k) ∙ none_clean (node_of es k))));
-    rises = λ k deep live. absurd (never (sym live ∙ still k));
-  };
+    places = tree.places;
+    groups = tree.groups;
+    spotted = λ k there. tree.spotted k (sym (there_now k) ∙ there);
+    rooted = tree.rooted;
+    own = λ k clean. absurd (never (sym clean ∙ dirty k));
+    clean_live = λ k deep clean. absurd (never (sym clean ∙ dirty k));
+    rises = tree.rises;
+  });
   there = there_now;
-  quieter = λ k live. absurd (never (sym live ∙ still k));
+  spotted = λ p. ap (λ ss. has_spot ss p) spots;
+  quieter = λ p x live. subst (λ ss. lives_at ss p x ≡ true) spots live;
+  room = room;
+  free = free;
 }
   where
-    there_now : (k : Key) → has_node (map quiet_entry es) k ≡ has_node es k
-    there_now k = ap is_some (quiet_at es k) ∙ same_there (node_of es k)
+    whole : b.entries ≡ map quiet_entry a.entries
+    whole = is ∙ all_done a.entries i all
 
-    still : (k : Key) → is_live (map quiet_entry es) k ≡ false
-    still k = ap node_live (quiet_at es k) ∙ none_live (node_of es k)
+    there_now : (k : Key) → has_node b.entries k ≡ has_node a.entries k
+    there_now k = ap (λ es. has_node es k) whole ∙ (ap is_some (quiet_at a.entries k) ∙ same_there (node_of a.entries k))
+
+    dirty : (k : Key) → is_clean_at b.entries k ≡ false
+    dirty k = ap (λ es. is_clean_at es k) whole ∙ (ap (λ o. is_clean (node_mark o)) (quiet_at a.entries k) ∙ none_clean (node_of a.entries k))
 
     never : true ≡ false → ⊥
     never h = cc
-
-pub walks_settled : (es after : List (Key × Node)) (i count : ℕ) → IsTree es → length es ≤ i → after ≡ quieted i es → count ≡ clean_sum (take i es) → Walks (λ k. true) es after count
-walks_settled es after i count tree all is sum =
-    subst (λ (t : List (Key × Node)). Walks (λ k. true) es t count) (sym (is ∙ all_done es i all))
-    (subst (λ (m : ℕ). Walks (λ k. true) es (map quiet_entry es) m) (sym (sum ∙ ap clean_sum (take_all i es all))) (walks_all es tree))

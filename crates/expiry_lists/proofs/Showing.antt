@@ -1,5 +1,5 @@
 -- Room for a key that is to be shown, and what showing it keeps.
-use Rattle.std.proofs.Common.{◌≡◌, ℕ, ◌-◌, ◌/◌, ◌<◌, ◌≤◌, min, Bool, true, false, ◌&&◌, ◌==◌, List, Option, Some, None, IsSome, is_some, sym, ap, ◌∙◌, subst, inl, inr, refl, arith}
+use Rattle.std.proofs.Common.{◌≡◌, ℕ, [], ◌-◌, ◌/◌, ◌<◌, ◌≤◌, min, Bool, true, false, ◌&&◌, ◌==◌, List, Option, Some, None, IsSome, is_some, sym, ap, ◌∙◌, subst, inl, inr, refl, arith}
 use Rattle.std.specs.List.{list_any}
 use Rattle.std.proofs.lemmas.Bool.{false_from_ne_true}
 use Rattle.farm_history.specs.declared.keys.Key.{Key}
@@ -8,10 +8,12 @@ use Rattle.plain_world.specs.World.{IsMeta}
 use Rattle.expiry_lists.specs.declared.nodes.Node.{Node}
 use Rattle.expiry_lists.specs.Marks.{Shown, mark_of}
 use Rattle.expiry_lists.specs.inner.Keeping.{IsKept}
-use Rattle.expiry_lists.specs.inner.Nodes.{has_node, node_of, node_mark, shown_of, IsTree}
+use Rattle.expiry_lists.specs.inner.Nodes.{NodeTable, has_node, has_spot, node_of, node_mark, place_of, shown_of, IsTree}
 use Rattle.expiry_lists.specs.inner.Waking.{path_len, Wakes}
 use Rattle.expiry_lists.specs.inner.Tiles.{is_of_maps}
+use Rattle.expiry_lists.specs.inner.Walks.{Walks}
 use Rattle.expiry_lists.proofs.Finding.{Distinct, Marked, all_marked, marked_there, mark_found}
+use Rattle.expiry_lists.proofs.Bits.{no_bit}
 use Rattle.expiry_lists.proofs.Dirtying.{AgreeOn}
 
 no_mark : (o : Option Node) → is_some o ≡ false → node_mark o ≡ None
@@ -32,28 +34,60 @@ pub shown_has : (es : List (Key × Node)) → Distinct es → (key : Key) (shown
 shown_has es apart key shown seen some =
     some_node (node_of es key) (subst IsSome (sym (ap (λ ss. mark_of ss key) seen) ∙ mark_found es apart key) some)
 
--- a key of a map that is not listed has no node
-pub unlisted_gone : (maps : List ℕ) (es : List (Key × Node)) → IsKept maps es → (key : Key) → list_any (λ m. m == key.map) maps ≡ false → has_node es key ≡ false
-unlisted_gone maps es kept key unlisted = false_from_ne_true (has_node es key) (λ there. let never : true ≡ false = sym (kept.listed key there) ∙ unlisted in cc)
+-- a place of a group that is not listed has no spot
+pub unlisted_gone : (groups : List ℕ) (t : NodeTable) → IsKept groups t → (place : Key) → list_any (λ g. g == place.map) groups ≡ false → has_spot t.spots place ≡ false
+unlisted_gone groups t kept place unlisted = false_from_ne_true (has_spot t.spots place) (λ there. let never : true ≡ false = sym (kept.listed place there) ∙ unlisted in cc)
 
-pub room_for_path : (spare free room : ℕ) (key : Key) → IsMeta key.meta → min (spare / 16) free ≡ room → 1 ≤ room → path_len key ≤ spare
-room_for_path spare free room key meta is some = omega (arith, meta.z_fits)
+-- and a key without a spot has no node
+pub spotless_key : (t : NodeTable) → IsTree t.entries t.spots → (key : Key) → has_spot t.spots (place_of key) ≡ false → has_node t.entries key ≡ false
+spotless_key t tree key gone = false_from_ne_true (has_node t.entries key) (λ there. let never : true ≡ false = sym (tree.spotted key there) ∙ gone in cc)
 
-pub room_for_map : (spare capacity len room : ℕ) → min (spare / 16) (capacity - len) ≡ room → 1 ≤ room → len < capacity
-room_for_map spare capacity len room is some = omega arith
+pub room_for_path : (spare free groups room : ℕ) (key : Key) → IsMeta key.meta → min spare (min (free / 16) groups) ≡ room → 1 ≤ room → path_len key ≤ free
+room_for_path spare free groups room key meta is some = omega (arith, meta.z_fits)
 
--- what is kept after a key was woken and given its mark
-pub kept_after : (maps maps' : List ℕ) (old woken new : List (Key × Node)) (key : Key) (live : Bool) → IsKept maps old → Wakes key live old woken → ((k : Key) → has_node new k ≡ has_node woken k) → IsTree new →
-    ((m : ℕ) → list_any (λ n. n == m) maps ≡ true → list_any (λ n. n == m) maps' ≡ true) → list_any (λ m. m == key.map) maps' ≡ true → IsKept maps' new
-kept_after maps maps' old woken new key live kept wakes same tree others added = record {
+pub room_for_node : (spare free groups room : ℕ) → min spare (min (free / 16) groups) ≡ room → 1 ≤ room → 1 ≤ spare
+room_for_node spare free groups room is some = omega arith
+
+pub room_for_group : (spare free capacity len room : ℕ) → min spare (min (free / 16) (capacity - len)) ≡ room → 1 ≤ room → len < capacity
+room_for_group spare free capacity len room is some = omega arith
+
+-- what is kept after a place was woken and the key given its mark
+pub kept_after : (groups groups' : List ℕ) (old woken new : NodeTable) (place : Key) (mask : ℕ) → IsKept groups old → Wakes place mask old woken → ((p : Key) → has_spot new.spots p ≡ has_spot woken.spots p) → IsTree new.entries new.spots →
+    ((m : ℕ) → list_any (λ n. n == m) groups ≡ true → list_any (λ n. n == m) groups' ≡ true) → list_any (λ m. m == place.map) groups' ≡ true → IsKept groups' new
+kept_after groups groups' old woken new place mask kept wakes same tree others added = record {
   tree = tree;
-  listed = λ k there. elim (wakes.of_map k (sym (same k) ∙ there)) [
-    | inl before ↦ others k.map (kept.listed k before)
-    | inr own ↦ subst (λ m. list_any (λ n. n == m) maps' ≡ true) (sym own) added
+  listed = λ p there. elim (wakes.of_group p (sym (same p) ∙ there)) [
+    | inl before ↦ others p.map (kept.listed p before)
+    | inr own ↦ subst (λ m. list_any (λ n. n == m) groups' ≡ true) (sym own) added
   ];
 }
 
--- what is shown is of a map that is listed
-pub all_listed : (maps : List ℕ) (es : List (Key × Node)) → Distinct es → IsKept maps es → (p : Key → Bool) → AgreeOn (λ k. is_of_maps maps k && p k) p (shown_of es)
-all_listed maps es apart kept p =
-    each-map (Marked es) _ (shown_of es) (λ s is clean. ap (λ b. b && p s.key) (kept.listed s.key (marked_there (node_of es s.key) s.mark is))) (all_marked es apart)
+-- what is shown is of a group that is listed
+pub all_listed : (groups : List ℕ) (t : NodeTable) → Distinct t.entries → IsKept groups t → (p : Key → Bool) → AgreeOn (λ k. is_of_maps groups (place_of k) && p k) p (shown_of t.entries)
+all_listed groups t apart kept p =
+    each-map (Marked t.entries) _ (shown_of t.entries) (λ s is clean. ap (λ b. b && p s.key) (kept.listed (place_of s.key) (kept.tree.spotted s.key (marked_there (node_of t.entries s.key) s.mark is)))) (all_marked t.entries apart)
+
+-- and what is kept after an expiry
+pub kept_walked : {test : Key → Bool} {a b : NodeTable} {n : ℕ} (groups : List ℕ) → IsKept groups a → Walks test a b n → IsKept groups b
+kept_walked groups kept w = record { tree = w.tree; listed = λ p there. kept.listed p (sym (w.spotted p) ∙ there) }
+
+pub kept_same : {a b : NodeTable} (groups : List ℕ) → IsKept groups a → IsTree b.entries b.spots → b.spots ≡ a.spots → IsKept groups b
+kept_same groups kept tree same = record { tree = tree; listed = λ p there. kept.listed p (sym (ap (λ ss. has_spot ss p) same) ∙ there) }
+
+pub kept_made : {a b : NodeTable} (groups groups' : List ℕ) → IsKept groups a → b.entries ≡ a.entries → b.spots ≡ a.spots → groups' ≡ groups → IsKept groups' b
+kept_made {a} {b} groups groups' kept entries spots same = subst (λ gs. IsKept gs b) (sym same) (kept_same groups kept (subst (λ es. IsTree es b.spots) (sym entries) (subst (λ ss. IsTree a.entries ss) (sym spots) kept.tree)) spots)
+
+pub none_kept : (t : NodeTable) → t.entries ≡ [] → t.spots ≡ [] → IsKept [] t
+none_kept t entries spots = record {
+  tree = subst (λ es. IsTree es t.spots) (sym entries) (subst (λ ss. IsTree [] ss) (sym spots) (record {
+    metas = λ k there. let never : false ≡ true = there in cc;
+    places = λ p there. let never : false ≡ true = there in cc;
+    groups = λ p there. let never : false ≡ true = there in cc;
+    spotted = λ k there. let never : false ≡ true = there in cc;
+    rooted = λ p deep there. let never : false ≡ true = there in cc;
+    own = λ k clean. let never : false ≡ true = clean in cc;
+    clean_live = λ k deep clean. let never : false ≡ true = clean in cc;
+    rises = λ p b deep live. let never : false ≡ true = sym (no_bit b) ∙ live in cc;
+  }));
+  listed = λ p there. let never : false ≡ true = sym (ap (λ ss. has_spot ss p) spots) ∙ there in cc;
+}

@@ -1,8 +1,10 @@
 -- Which keys an expiry of a tile, of a map or of a rectangle meets.
-use Rattle.std.proofs.Common.{◌≡◌, ℕ, zero, suc, [], ◌∷◌, ◌++◌, take, get_or, length, ◌+◌, ◌-◌, ◌*◌, ◌/◌, ◌^◌, ◌<◌, ◌≤◌, Bool, true, false, ◌&&◌, ◌||◌, ◌==◌, nat_le, if◌then◌else◌, List, refl, sym, ap, ◌∙◌, subst, inl, inr, ◌⊎◌, arith}
-use Rattle.std.proofs.lemmas.Bool.{cases_lt, eqb-true, eq-eqb, false_from_ne_true, or_left, or_right}
+use Rattle.std.proofs.Common.{◌≡◌, ◌≢◌, ℕ, zero, suc, [], ◌∷◌, ◌++◌, take, get_or, length, ◌+◌, ◌-◌, ◌*◌, ◌/◌, ◌%◌, ◌^◌, ◌<◌, ◌≤◌, Bool, true, false, ◌&&◌, ◌||◌, ◌==◌, nat_le, nat_lt, if◌then◌else◌, List, refl, sym, ap, ◌∙◌, subst, inl, inr, ◌⊎◌, arith}
+use Rattle.std.proofs.lemmas.Bool.{cases_eq, cases_lt, eqb-true, eq-eqb, false_from_ne_true, or_left, or_right}
 use Rattle.std.proofs.lemmas.List.{take_more}
 use Rattle.std.proofs.lemmas.Bool.Decides.{nat_tests}
+use Rattle.std.specs.Int.{bit_at}
+use Rattle.std.proofs.lemmas.Nat.Bits.{bit_at-pow_same, bit_at-pow_other}
 use Rattle.std.proofs.lemmas.Nat.{pow_pos, pow_below, pow-add, shr-shr, div_below, shr_below}
 use Rattle.plain_world.specs.declared.world.Square.{Square}
 use Rattle.plain_world.specs.declared.world.Tile.{Tile}
@@ -12,10 +14,12 @@ use Rattle.farm_history.specs.declared.keys.Key.{Key}
 use Rattle.farm_history.specs.Plans.{same_key, overlaps}
 use Rattle.farm_history.proofs.Lists.{each-map, each-all, any-append, same_key-self}
 use Rattle.expiry_lists.specs.declared.nodes.Node.{Node}
-use Rattle.expiry_lists.specs.Marks.{is_of_map}
-use Rattle.expiry_lists.specs.inner.Nodes.{node_of, shown_of, IsTree}
+use Rattle.expiry_lists.specs.Marks.{is_of_map, is_of_bits}
+use Rattle.expiry_lists.specs.inner.Nodes.{NodeTable, place_of, bit_of, has_bit, at_bits, node_of, shown_of, IsTree}
 use Rattle.expiry_lists.specs.inner.Tiles.{world_key, is_flat, key_over, is_of_maps}
-use Rattle.expiry_lists.specs.inner.Walks.{is_under, is_above, IsNode, Walks}
+use Rattle.expiry_lists.specs.inner.Walks.{is_under, is_above, under_bits, above_bits, IsNode, Walks}
+use Rattle.expiry_lists.specs.declared.nodes.Spot.{Spot}
+use Rattle.expiry_lists.proofs.Bits.{all_bits}
 use Rattle.expiry_lists.proofs.Dirtying.{AgreeOn, NoneOf}
 use Rattle.expiry_lists.proofs.Finding.{Distinct, Marked, all_marked, marked_there}
 use Rattle.expiry_lists.proofs.Live.{OnGrid, node_on_grid, under_deep}
@@ -23,11 +27,11 @@ use Rattle.expiry_lists.proofs.Walked.{walks_then, walks_agree, walks_none}
 use Rattle.expiry_lists.proofs.Over.{Below, node_square, meta_square-node, above_below, below_under, around_meets}
 
 -- tests that agree on metatiles agree on what the table shows
-pub agree_metas : (es : List (Key × Node)) → Distinct es → IsTree es → (p q : Key → Bool) → ((k : Key) → IsMeta k.meta → p k ≡ q k) → AgreeOn p q (shown_of es)
-agree_metas es apart tree p q same = each-map (Marked es) _ (shown_of es) (λ s is clean. same s.key (tree.metas s.key (marked_there (node_of es s.key) s.mark is))) (all_marked es apart)
+pub agree_metas : (es : List (Key × Node)) (ss : List (Key × Spot)) → Distinct es → IsTree es ss → (p q : Key → Bool) → ((k : Key) → IsMeta k.meta → p k ≡ q k) → AgreeOn p q (shown_of es)
+agree_metas es ss apart tree p q same = each-map (Marked es) _ (shown_of es) (λ s is clean. same s.key (tree.metas s.key (marked_there (node_of es s.key) s.mark is))) (all_marked es apart)
 
-pub none_metas : (es : List (Key × Node)) → Distinct es → IsTree es → (p : Key → Bool) → ((k : Key) → IsMeta k.meta → p k ≡ false) → NoneOf p (shown_of es)
-none_metas es apart tree p none = each-map (Marked es) _ (shown_of es) (λ s is clean. none s.key (tree.metas s.key (marked_there (node_of es s.key) s.mark is))) (all_marked es apart)
+pub none_metas : (es : List (Key × Node)) (ss : List (Key × Spot)) → Distinct es → IsTree es ss → (p : Key → Bool) → ((k : Key) → IsMeta k.meta → p k ≡ false) → NoneOf p (shown_of es)
+none_metas es ss apart tree p none = each-map (Marked es) _ (shown_of es) (λ s is clean. none s.key (tree.metas s.key (marked_there (node_of es s.key) s.mark is))) (all_marked es apart)
 
 -- The root of a map.
 pub root_node : (map : ℕ) → IsNode (world_key map 3)
@@ -242,9 +246,70 @@ tile_agrees map t top k is node tile meta = go (map == k.map) refl
     go true same = split same (cases_lt k.meta.z 3)
     go false other = rw (flat_other map k other, none_up other, none_down other) refl
 
--- No map, and one map after others.
-pub walks_no_map : (t : Tile) (es : List (Key × Node)) → IsTree es → Walks (λ k. is_of_maps [] k && overlaps t k) es es 0
-walks_no_map t es tree = walks_none (λ k. is_of_maps [] k && overlaps t k) es (each-all _ (shown_of es) (λ s clean. refl)) tree
+-- The same by place and with masks: of one map,
+pub one_bit : (i b : ℕ) → i < 64 → has_bit (1 * 2 ^ i % 2 ^ 64) b ≡ (b == i)
+one_bit i b few = go (cases_eq b i)
+  where
+    small : 1 * 2 ^ i % 2 ^ 64 ≡ 2 ^ i
+    small = let p : 2 ^ i < 2 ^ 64 = pow_below i 64 few in omega (arith, p)
+
+    go : (b ≡ i) ⊎ (b ≢ i) → has_bit (1 * 2 ^ i % 2 ^ 64) b ≡ (b == i)
+    go (inl same) = ap (λ n. has_bit n b) small ∙ (ap (λ j. has_bit (2 ^ i) j) same ∙ (eq-eqb (bit_at (2 ^ i) i) 1 (bit_at-pow_same i) ∙ sym (eq-eqb b i same)))
+    go (inr other) = ap (λ n. has_bit n b) small ∙ (ap (λ n. n == 1) (bit_at-pow_other i b other) ∙ sym (false_from_ne_true (b == i) (λ h. absurd (other (eqb-true b i h)))))
+
+pub mask_of_map : (map : ℕ) (k : Key) → has_bit (1 * 2 ^ (map % 64) % 2 ^ 64) (bit_of k) ≡ (bit_of k == map % 64)
+mask_of_map map k = one_bit (map % 64) (bit_of k) (omega arith)
+
+-- and of those of the first 64 maps that have their bits in a word
+pub first_bits : (word : ℕ) (k : Key) → ((0 == k.map / 64) && has_bit word (bit_of k)) ≡ is_of_bits word k
+first_bits word k = go (cases_lt k.map 64)
+  where
+    go : (k.map < 64) ⊎ (64 ≤ k.map) → ((0 == k.map / 64) && has_bit word (bit_of k)) ≡ is_of_bits word k
+    go (inl few) =
+        let first : (0 == k.map / 64) ≡ true = eq-eqb 0 (k.map / 64) (omega (arith, few)) in
+        let bit : bit_of k ≡ k.map = omega (arith, few) in
+        let small : nat_lt k.map 64 ≡ true = grind (arith, nat_tests) in
+        rw (first, small) (ap (has_bit word) bit)
+    go (inr many) =
+        let later : (0 == k.map / 64) ≡ false = grind (arith, nat_tests) in
+        let large : nat_lt k.map 64 ≡ false = grind (arith, nat_tests) in
+        rw (later, large) refl
+
+one_map : (map : ℕ) (k : Key) → ((map / 64 == k.map / 64) && (bit_of k == map % 64)) ≡ (map == k.map)
+one_map map k = grind (arith, nat_tests)
+
+pub map_masked : (map : ℕ) (k : Key) → (is_of_map (map / 64) (place_of k) && has_bit (1 * 2 ^ (map % 64) % 2 ^ 64) (bit_of k)) ≡ is_of_map map k
+map_masked map k = ap (λ x. (map / 64 == k.map / 64) && x) (mask_of_map map k) ∙ one_map map k
+
+two_masks : (p q has : Bool) → ((p && has) || (q && has)) ≡ ((p || q) && has)
+two_masks p q has = grind arith
+
+pub map_bits : (map : ℕ) (k : Key) → IsMeta k.meta → ((is_flat (map / 64) (place_of k) && has_bit (1 * 2 ^ (map % 64) % 2 ^ 64) (bit_of k)) || under_bits 15 (world_key (map / 64) 3) (1 * 2 ^ (map % 64) % 2 ^ 64) k) ≡ is_of_map map k
+map_bits map k meta =
+    two_masks (is_flat (map / 64) (place_of k)) (is_under 15 (world_key (map / 64) 3) (place_of k)) (has_bit (1 * 2 ^ (map % 64) % 2 ^ 64) (bit_of k))
+    ∙ (ap (λ x. x && has_bit (1 * 2 ^ (map % 64) % 2 ^ 64) (bit_of k)) (map_agrees (map / 64) (place_of k) meta) ∙ map_masked map k)
+
+-- and of all maps of a group
+three_masks : (p q r has : Bool) → has ≡ true → (((p && has) || (q && has)) || (r && has)) ≡ ((p || q) || r)
+three_masks p q r true is = grind arith
+three_masks p q r false is = cc
+
+pub tile_bits : (group : ℕ) (t : Tile) (top k : Key) → top ≡ key_over group t → IsNode top → IsTile t → IsMeta k.meta →
+    (((is_flat group (place_of k) && has_bit (2 ^ 64 - 1) (bit_of k)) || above_bits (top.meta.z - 3) top (2 ^ 64 - 1) k) || under_bits (18 - top.meta.z) top (2 ^ 64 - 1) k) ≡ (is_of_map group (place_of k) && overlaps t k)
+unfolding overlaps
+tile_bits group t top k is node tile meta =
+    three_masks (is_flat group (place_of k)) (is_above (top.meta.z - 3) top (place_of k)) (is_under (18 - top.meta.z) top (place_of k)) (has_bit (2 ^ 64 - 1) (bit_of k)) (all_bits (bit_of k) (omega arith))
+    ∙ tile_agrees group t top (place_of k) is node tile meta
+
+three_parts : (p q r has : Bool) → (((p && has) || (q && has)) || (r && has)) ≡ (((p || q) || r) && has)
+three_parts p q r has = grind arith
+
+pub flat_masks : (group mask : ℕ) (k : Key) → ((at_bits (world_key group 0) mask k || at_bits (world_key group 1) mask k) || at_bits (world_key group 2) mask k) ≡ (is_flat group (place_of k) && has_bit mask (bit_of k))
+flat_masks group mask k = three_parts (same_key (world_key group 0) (place_of k)) (same_key (world_key group 1) (place_of k)) (same_key (world_key group 2) (place_of k)) (has_bit mask (bit_of k))
+
+-- No group, and one group after others.
+pub walks_no_group : (test : Key → Bool) (a : NodeTable) → IsTree a.entries a.spots → Walks (λ k. is_of_maps [] (place_of k) && test k) a a 0
+walks_no_group test a tree = walks_none (λ k. is_of_maps [] (place_of k) && test k) a (each-all _ (shown_of a.entries) (λ s clean. refl)) tree
 
 one_more : (x y o : Bool) → ((x && o) || (y && o)) ≡ ((x || (y || false)) && o)
 one_more true true true = refl
@@ -256,15 +321,15 @@ one_more false true false = refl
 one_more false false true = refl
 one_more false false false = refl
 
-pub walks_map : {a b c : List (Key × Node)} {m n : ℕ} (t : Tile) (maps : List ℕ) (i map : ℕ) → i < length maps → map ≡ get_or maps i 0 →
-    Walks (λ k. is_of_maps (take i maps) k && overlaps t k) a b m → Walks (λ k. is_of_map map k && overlaps t k) b c n → Walks (λ k. is_of_maps (take (i + 1) maps) k && overlaps t k) a c (m + n)
-walks_map {a} {b} {c} {m} {n} t maps i map within is first second =
-    walks_agree (λ k. is_of_maps (take (i + 1) maps) k && overlaps t k) (each-all _ (shown_of a) (λ s clean. same s.key)) (walks_then first second)
+pub walks_group : {a b c : NodeTable} {m n : ℕ} (test : Key → Bool) (groups : List ℕ) (i group : ℕ) → i < length groups → group ≡ get_or groups i 0 →
+    Walks (λ k. is_of_maps (take i groups) (place_of k) && test k) a b m → Walks (λ k. is_of_map group (place_of k) && test k) b c n → Walks (λ k. is_of_maps (take (i + 1) groups) (place_of k) && test k) a c (m + n)
+walks_group {a} {b} {c} {m} {n} test groups i group within is first second =
+    walks_agree (λ k. is_of_maps (take (i + 1) groups) (place_of k) && test k) (each-all _ (shown_of a.entries) (λ s clean. same s.key)) (walks_then first second)
   where
-    more : (k : Key) → is_of_maps (take (i + 1) maps) k ≡ (is_of_maps (take i maps) k || ((map == k.map) || false))
-    more k =
-        ap (λ xs. is_of_maps xs k) (take_more maps i 0 within ∙ ap (λ x. take i maps ++ x ∷ []) (sym is))
-        ∙ any-append (λ x. x == k.map) (take i maps) (map ∷ [])
+    more : (p : Key) → is_of_maps (take (i + 1) groups) p ≡ (is_of_maps (take i groups) p || ((group == p.map) || false))
+    more p =
+        ap (λ xs. is_of_maps xs p) (take_more groups i 0 within ∙ ap (λ x. take i groups ++ x ∷ []) (sym is))
+        ∙ any-append (λ x. x == p.map) (take i groups) (group ∷ [])
 
-    same : (k : Key) → ((is_of_maps (take i maps) k && overlaps t k) || (is_of_map map k && overlaps t k)) ≡ (is_of_maps (take (i + 1) maps) k && overlaps t k)
-    same k = one_more (is_of_maps (take i maps) k) (map == k.map) (overlaps t k) ∙ sym (ap (λ x. x && overlaps t k) (more k))
+    same : (k : Key) → ((is_of_maps (take i groups) (place_of k) && test k) || (is_of_map group (place_of k) && test k)) ≡ (is_of_maps (take (i + 1) groups) (place_of k) && test k)
+    same k = one_more (is_of_maps (take i groups) (place_of k)) (group == k.map / 64) (test k) ∙ sym (ap (λ x. x && test k) (more (place_of k)))

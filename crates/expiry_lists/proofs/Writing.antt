@@ -1,49 +1,54 @@
--- One write into the table: what each key has after it, and that the table stays a quadtree.
-use Rattle.std.proofs.Common.{◌≡◌, ◌<◌, ◌≤◌, Bool, true, false, cond, List, [], ◌∷◌, ◌++◌, Option, Some, None, is_some, refl, sym, ap, ◌∙◌, subst, arith}
-use Rattle.std.specs.Map.{set_value}
+-- One write into a table: what each key has after it, and that the tables stay a quadtree.
+use Rattle.std.proofs.Common.{◌≡◌, ℕ, ◌<◌, ◌≤◌, ◌^◌, Bool, true, false, cond, List, [], ◌∷◌, ◌++◌, Option, Some, None, is_some, refl, sym, ap, ◌∙◌, subst, arith}
+use Rattle.std.specs.Map.{lookup, set_value}
 use Rattle.std.proofs.lemmas.Bool.Decides.{nat_tests}
 use Rattle.farm_history.specs.declared.keys.Key.{Key}
 use Rattle.farm_history.specs.Plans.{same_key}
 use Rattle.farm_history.proofs.Lists.{same_key-true, same_key-self, same_key-sym}
 use Rattle.plain_world.specs.World.{IsMeta}
 use Rattle.expiry_lists.specs.declared.nodes.Node.{Node}
-use Rattle.expiry_lists.specs.inner.Nodes.{parent, node_of, node_live, node_mark, is_clean, has_node, is_live, is_clean_at, IsTree, Writes}
+use Rattle.expiry_lists.specs.declared.nodes.Spot.{Spot}
+use Rattle.expiry_lists.specs.inner.Nodes.{parent, place_of, bit_of, has_bit, node_mark, is_clean, is_clean_at, spot_of, has_spot, own_word, live_word, owns_at, lives_at, IsTree}
 
 -- keys of which a third is one are one
 pub same_key-through : (a b c : Key) → same_key a b ≡ true → same_key c b ≡ same_key c a
 same_key-through a b c same = ap (same_key c) (sym (same_key-true a b same))
 
--- a write at a key that has a node
-pub set-writes : (es : List (Key × Node)) (key : Key) (w : Node) → has_node es key ≡ true → Writes es key w (set_value (same_key key) es w)
+-- the key has that value, and each other key what it had
+abbrev pub Writes : {X : Type 0} → List (Key × X) → Key → X → List (Key × X) → Type 0
+Writes old key w new = (k : Key) → lookup (same_key k) new ≡ cond (same_key key k) (Some w) (lookup (same_key k) old)
+
+-- a write at a key that has a value
+pub set-writes : {X : Type 0} (es : List (Key × X)) (key : Key) (w : X) → is_some (lookup (same_key key) es) ≡ true → Writes es key w (set_value (same_key key) es w)
 set-writes [] key w there k = let never : false ≡ true = there in cc
-set-writes (e ∷ es) key w there k = go (λ there'. set-writes es key w there' k) (same_key key e.0) refl there
+set-writes {X} (e ∷ es) key w there k = go (λ there'. set-writes es key w there' k) (same_key key e.0) refl there
   where
-    go : (has_node es key ≡ true → node_of (set_value (same_key key) es w) k ≡ cond (same_key key k) (Some w) (node_of es k)) → (b : Bool) → same_key key e.0 ≡ b → is_some (cond b (Some e.1) (node_of es key)) ≡ true
-        → node_of (cond b ((e.0, w) ∷ es) (e ∷ set_value (same_key key) es w)) k ≡ cond (same_key key k) (Some w) (cond (same_key k e.0) (Some e.1) (node_of es k))
+    go : (is_some (lookup (same_key key) es) ≡ true → lookup (same_key k) (set_value (same_key key) es w) ≡ cond (same_key key k) (Some w) (lookup (same_key k) es)) → (b : Bool) → same_key key e.0 ≡ b → is_some (cond b (Some e.1) (lookup (same_key key) es)) ≡ true
+        → lookup (same_key k) (cond b ((e.0, w) ∷ es) (e ∷ set_value (same_key key) es w)) ≡ cond (same_key key k) (Some w) (cond (same_key k e.0) (Some e.1) (lookup (same_key k) es))
     go ih true same there = rw (same_key-through key e.0 k same, same_key-sym k key) (split (same_key key k))
       where
-        split : (c : Bool) → cond c (Some w) (node_of es k) ≡ cond c (Some w) (cond c (Some e.1) (node_of es k))
+        split : (c : Bool) → cond c (Some w) (lookup (same_key k) es) ≡ cond c (Some w) (cond c (Some e.1) (lookup (same_key k) es))
         split true = refl
         split false = refl
     go ih false other there = split (same_key k e.0) refl
       where
         split : (c : Bool) → same_key k e.0 ≡ c
-            → cond c (Some e.1) (node_of (set_value (same_key key) es w) k) ≡ cond (same_key key k) (Some w) (cond c (Some e.1) (node_of es k))
+            → cond c (Some e.1) (lookup (same_key k) (set_value (same_key key) es w)) ≡ cond (same_key key k) (Some w) (cond c (Some e.1) (lookup (same_key k) es))
         split true is = let apart : same_key key k ≡ false = sym (same_key-through k e.0 key is) ∙ other in rw apart refl
         split false is = ih there
 
--- a node that is added for a key that has none
-pub add-writes : (es : List (Key × Node)) (key : Key) (w : Node) → node_of es key ≡ None → Writes es key w (es ++ (key, w) ∷ [])
+-- a value that is added for a key that has none
+pub add-writes : {X : Type 0} (es : List (Key × X)) (key : Key) (w : X) → lookup (same_key key) es ≡ None → Writes es key w (es ++ (key, w) ∷ [])
 add-writes [] key w new k = rw (same_key-sym k key) refl
-add-writes (e ∷ es) key w new k = go (λ gone. add-writes es key w gone k) (same_key key e.0) refl new
+add-writes {X} (e ∷ es) key w new k = go (λ gone. add-writes es key w gone k) (same_key key e.0) refl new
   where
-    go : (node_of es key ≡ None → node_of (es ++ (key, w) ∷ []) k ≡ cond (same_key key k) (Some w) (node_of es k)) → (b : Bool) → same_key key e.0 ≡ b → cond b (Some e.1) (node_of es key) ≡ None
-        → cond (same_key k e.0) (Some e.1) (node_of (es ++ (key, w) ∷ []) k) ≡ cond (same_key key k) (Some w) (cond (same_key k e.0) (Some e.1) (node_of es k))
+    go : (lookup (same_key key) es ≡ None → lookup (same_key k) (es ++ (key, w) ∷ []) ≡ cond (same_key key k) (Some w) (lookup (same_key k) es)) → (b : Bool) → same_key key e.0 ≡ b → cond b (Some e.1) (lookup (same_key key) es) ≡ None
+        → cond (same_key k e.0) (Some e.1) (lookup (same_key k) (es ++ (key, w) ∷ [])) ≡ cond (same_key key k) (Some w) (cond (same_key k e.0) (Some e.1) (lookup (same_key k) es))
     go ih true same gone = cc
     go ih false other gone = split (same_key k e.0) refl
       where
         split : (c : Bool) → same_key k e.0 ≡ c
-            → cond c (Some e.1) (node_of (es ++ (key, w) ∷ []) k) ≡ cond (same_key key k) (Some w) (cond c (Some e.1) (node_of es k))
+            → cond c (Some e.1) (lookup (same_key k) (es ++ (key, w) ∷ [])) ≡ cond (same_key key k) (Some w) (cond c (Some e.1) (lookup (same_key k) es))
         split true is = let apart : same_key key k ≡ false = sym (same_key-through k e.0 key is) ∙ other in rw apart refl
         split false is = ih gone
 
@@ -51,100 +56,134 @@ add-writes (e ∷ es) key w new k = go (λ gone. add-writes es key w gone k) (sa
 pub parent_apart : (k : Key) → 3 < k.meta.z → same_key k (parent k) ≡ false
 parent_apart k deep = grind (arith, nat_tests)
 
--- what a write that keeps the table a quadtree has to keep
-pub record Fits (es : List (Key × Node)) (key : Key) (w : Node) : Type 0 where
-  pub meta : IsMeta key.meta
-  pub rooted : 3 < key.meta.z → has_node es (parent key) ≡ true
-  pub clean_live : 3 ≤ key.meta.z → is_clean w.mark ≡ true → w.live ≡ true
-  pub live_above : 3 < key.meta.z → w.live ≡ true → is_live es (parent key) ≡ true
-  pub live_below : (k : Key) → 3 < k.meta.z → is_live es k ≡ true → parent k ≡ key → w.live ≡ true
-
-module _ (es new : List (Key × Node)) (key : Key) (w : Node) (writes : Writes es key w new) where
-  pub written_here : node_of new key ≡ Some w
+module _ {X : Type 0} (es new : List (Key × X)) (key : Key) (w : X) (writes : Writes es key w new) where
+  pub written_here : lookup (same_key key) new ≡ Some w
   written_here = writes key ∙ rw (same_key-self key) refl
 
-  pub written_own : (k : Key) → same_key key k ≡ true → node_of new k ≡ Some w
+  pub written_own : (k : Key) → same_key key k ≡ true → lookup (same_key k) new ≡ Some w
   written_own k same = writes k ∙ rw same refl
 
-  pub written_other : (k : Key) → same_key key k ≡ false → node_of new k ≡ node_of es k
+  pub written_other : (k : Key) → same_key key k ≡ false → lookup (same_key k) new ≡ lookup (same_key k) es
   written_other k other = writes k ∙ rw other refl
 
-  pub still_there : (k : Key) → has_node es k ≡ true → has_node new k ≡ true
+  pub still_there : (k : Key) → is_some (lookup (same_key k) es) ≡ true → is_some (lookup (same_key k) new) ≡ true
   still_there k there = ap is_some (writes k) ∙ go (same_key key k)
     where
-      go : (b : Bool) → is_some (cond b (Some w) (node_of es k)) ≡ true
+      go : (b : Bool) → is_some (cond b (Some w) (lookup (same_key k) es)) ≡ true
       go true = refl
       go false = there
 
-  pub written_tree : IsTree es → Fits es key w → IsTree new
-  written_tree tree fits = record {
-    metas = λ k there. at k (λ node. is_some node ≡ true) there (λ own. subst (λ (x : Key). IsMeta x.meta) own fits.meta) (tree.metas k);
-    rooted = λ k deep there. still_there (parent k) (at k (λ node. is_some node ≡ true) there
-        (λ own. subst (λ (x : Key). has_node es (parent x) ≡ true) own (fits.rooted (rw own deep))) (tree.rooted k deep));
-    clean_live = λ k deep clean. clean_at k deep (same_key key k) refl clean;
-    rises = λ k deep live. rises_at k deep (same_key key k) refl live;
-  }
+  -- a fact of each key's value, from the own one's and from the others'
+  pub written_at : (k : Key) (P : Option X → Type 0) {Q : Type 0} → P (lookup (same_key k) new) → (key ≡ k → P (Some w) → Q) → (P (lookup (same_key k) es) → Q) → Q
+  written_at k P {Q} here own other = go (same_key key k) refl
     where
-      at : (k : Key) (P : Option Node → Type 0) {Q : Type 0} → P (node_of new k) → (key ≡ k → Q) → (P (node_of es k) → Q) → Q
-      at k P {Q} here own other = go (same_key key k) refl
-        where
-          go : (b : Bool) → same_key key k ≡ b → Q
-          go true same = own (same_key-true key k same)
-          go false apart = other (subst P (written_other k apart) here)
+      go : (b : Bool) → same_key key k ≡ b → Q
+      go true same = own (same_key-true key k same) (subst P (written_own k same) here)
+      go false apart = other (subst P (written_other k apart) here)
 
-      clean_at : (k : Key) → 3 ≤ k.meta.z → (b : Bool) → same_key key k ≡ b → is_clean_at new k ≡ true → is_live new k ≡ true
-      clean_at k deep true same clean =
-          let own : key ≡ k = same_key-true key k same in
-          let here : node_of new k ≡ Some w = written_own k same in
-          let z : key.meta.z ≡ k.meta.z = ap (λ (x : Key). x.meta.z) own in
-          ap node_live here ∙ fits.clean_live (omega (arith, z)) (sym (ap (λ n. is_clean (node_mark n)) here) ∙ clean)
-      clean_at k deep false apart clean =
-          let here = written_other k apart in
-          ap node_live here ∙ tree.clean_live k deep (sym (ap (λ n. is_clean (node_mark n)) here) ∙ clean)
-
-      above_at : (k : Key) → 3 < k.meta.z → (b : Bool) → same_key key (parent k) ≡ b → is_live es k ≡ true → is_live new (parent k) ≡ true
-      above_at k deep true same live =
-          ap node_live (written_own (parent k) same) ∙ fits.live_below k deep live (sym (same_key-true key (parent k) same))
-      above_at k deep false apart live = ap node_live (written_other (parent k) apart) ∙ tree.rises k deep live
-
-      rises_at : (k : Key) → 3 < k.meta.z → (b : Bool) → same_key key k ≡ b → is_live new k ≡ true → is_live new (parent k) ≡ true
-      rises_at k deep true same live =
-          let own : key ≡ k = same_key-true key k same in
-          let here : node_of new k ≡ Some w = written_own k same in
-          let z : key.meta.z ≡ k.meta.z = ap (λ (x : Key). x.meta.z) own in
-          let up : is_live es (parent key) ≡ true = fits.live_above (omega (arith, z)) (sym (ap node_live here) ∙ live) in
-          let apart : same_key key (parent key) ≡ false = parent_apart key (omega (arith, z)) in
-          subst (λ (x : Key). is_live new (parent x) ≡ true) own (ap node_live (written_other (parent key) apart) ∙ up)
-      rises_at k deep false apart live = above_at k deep (same_key key (parent k)) refl (sym (ap node_live (written_other k apart)) ∙ live)
-
-  pub written_quieter : (w.live ≡ true → is_live es key ≡ true) → (k : Key) → is_live new k ≡ true → is_live es k ≡ true
-  written_quieter was k live = go (same_key key k) refl
+  -- and what holds of the own value and of the others' holds of each
+  pub written_to : (k : Key) (P : Option X → Type 0) → (key ≡ k → P (Some w)) → (same_key key k ≡ false → P (lookup (same_key k) es)) → P (lookup (same_key k) new)
+  written_to k P own other = go (same_key key k) refl
     where
-      go : (b : Bool) → same_key key k ≡ b → is_live es k ≡ true
-      go true same =
-          let own : key ≡ k = same_key-true key k same in
-          subst (λ (x : Key). is_live es x ≡ true) own (was (sym (ap node_live (written_own k same)) ∙ live))
-      go false apart = sym (ap node_live (written_other k apart)) ∙ live
+      go : (b : Bool) → same_key key k ≡ b → P (lookup (same_key k) new)
+      go true same = subst P (sym (written_own k same)) (own (same_key-true key k same))
+      go false apart = subst P (sym (written_other k apart)) (other apart)
 
--- A write at a key that has a node, into a quadtree: it fits where the node is as live as before, and clean only where it is live;
-pub as_live_fits : (es : List (Key × Node)) (key : Key) (n w : Node) → node_of es key ≡ Some n → w.live ≡ n.live → (3 ≤ key.meta.z → is_clean w.mark ≡ true → w.live ≡ true) → IsTree es → Fits es key w
-as_live_fits es key n w found same clean tree =
-    let there : has_node es key ≡ true = ap is_some found in
-    let live : is_live es key ≡ w.live = ap node_live found ∙ sym same in
-    record {
-      meta = tree.metas key there;
-      rooted = λ deep. tree.rooted key deep there;
-      clean_live = clean;
-      live_above = λ deep lives. tree.rises key deep (live ∙ lives);
-      live_below = λ k deep lives up. sym live ∙ subst (λ (x : Key). is_live es x ≡ true) up (tree.rises k deep lives);
-    }
+-- another value of a key that has one leaves what is there
+pub same_there : {X : Type 0} (es new : List (Key × X)) (key : Key) (w : X) → is_some (lookup (same_key key) es) ≡ true → Writes es key w new → (k : Key) → is_some (lookup (same_key k) new) ≡ is_some (lookup (same_key k) es)
+same_there es new key w there writes k = ap is_some (writes k) ∙ go (same_key key k) refl
+  where
+    go : (b : Bool) → same_key key k ≡ b → is_some (cond b (Some w) (lookup (same_key k) es)) ≡ is_some (lookup (same_key k) es)
+    go true same = sym (ap (λ (x : Key). is_some (lookup (same_key x) es)) (sym (same_key-true key k same)) ∙ there)
+    go false other = refl
 
--- and it fits where the node is dirty and not live, and no node below is live
-pub quiet_fits : (es : List (Key × Node)) (key : Key) (w : Node) → has_node es key ≡ true → w.live ≡ false → is_clean w.mark ≡ false → ((k : Key) → 3 < k.meta.z → is_live es k ≡ true → parent k ≡ key → false ≡ true) → IsTree es → Fits es key w
-quiet_fits es key w there still dirty quiet tree = record {
-  meta = tree.metas key there;
-  rooted = λ deep. tree.rooted key deep there;
-  clean_live = λ deep clean. let never : false ≡ true = sym dirty ∙ clean in cc;
-  live_above = λ deep lives. let never : false ≡ true = sym still ∙ lives in cc;
-  live_below = λ k deep lives up. still ∙ quiet k deep lives up;
+-- A node that is written into the tables: they stay a quadtree where its place has a spot, with its bits where it is clean.
+pub record FitsNode (ss : List (Key × Spot)) (key : Key) (w : Node) : Type 0 where
+  pub meta : IsMeta key.meta
+  pub spotted : has_spot ss (place_of key) ≡ true
+  pub own : is_clean w.mark ≡ true → owns_at ss (place_of key) (bit_of key) ≡ true
+  pub clean_live : 3 ≤ key.meta.z → is_clean w.mark ≡ true → lives_at ss (place_of key) (bit_of key) ≡ true
+
+pub node_tree : (es new : List (Key × Node)) (ss : List (Key × Spot)) (key : Key) (w : Node) → Writes es key w new → FitsNode ss key w → IsTree es ss → IsTree new ss
+node_tree es new ss key w writes fits tree = record {
+  metas = λ k there. written_at es new key w writes k (λ o. is_some o ≡ true) there (λ own here. subst (λ (x : Key). IsMeta x.meta) own fits.meta) (tree.metas k);
+  places = tree.places;
+  groups = tree.groups;
+  spotted = λ k there. written_at es new key w writes k (λ o. is_some o ≡ true) there (λ own here. subst (λ (x : Key). has_spot ss (place_of x) ≡ true) own fits.spotted) (tree.spotted k);
+  rooted = tree.rooted;
+  own = λ k clean. written_at es new key w writes k (λ o. is_clean (node_mark o) ≡ true) clean
+      (λ own here. subst (λ (x : Key). owns_at ss (place_of x) (bit_of x) ≡ true) own (fits.own here)) (tree.own k);
+  clean_live = λ k deep clean. written_at es new key w writes k (λ o. is_clean (node_mark o) ≡ true) clean
+      (λ own here. subst (λ (x : Key). lives_at ss (place_of x) (bit_of x) ≡ true) own (fits.clean_live (subst (λ (x : Key). 3 ≤ x.meta.z) (sym own) deep) here)) (tree.clean_live k deep);
+  rises = tree.rises;
 }
+
+-- A spot that is written: it has the bits of what is clean at its place, and lies rightly between those above and below.
+pub record FitsSpot (es : List (Key × Node)) (ss : List (Key × Spot)) (p : Key) (w : Spot) : Type 0 where
+  pub meta : IsMeta p.meta
+  pub group : p.map < 2 ^ 26
+  pub rooted : 3 < p.meta.z → has_spot ss (parent p) ≡ true
+  pub own : (k : Key) → p ≡ place_of k → is_clean_at es k ≡ true → has_bit w.own (bit_of k) ≡ true
+  pub clean_live : (k : Key) → p ≡ place_of k → 3 ≤ k.meta.z → is_clean_at es k ≡ true → has_bit w.live (bit_of k) ≡ true
+  pub live_above : (b : ℕ) → 3 < p.meta.z → has_bit w.live b ≡ true → lives_at ss (parent p) b ≡ true
+  pub live_below : (q : Key) (b : ℕ) → 3 < q.meta.z → lives_at ss q b ≡ true → p ≡ parent q → has_bit w.live b ≡ true
+
+pub spot_tree : (es : List (Key × Node)) (ss new : List (Key × Spot)) (p : Key) (w : Spot) → Writes ss p w new → FitsSpot es ss p w → IsTree es ss → IsTree es new
+spot_tree es ss new p w writes fits tree = record {
+  metas = tree.metas;
+  places = λ q there. written_at ss new p w writes q (λ o. is_some o ≡ true) there (λ own here. subst (λ (x : Key). IsMeta x.meta) own fits.meta) (tree.places q);
+  groups = λ q there. written_at ss new p w writes q (λ o. is_some o ≡ true) there (λ own here. subst (λ (x : Key). x.map < 2 ^ 26) own fits.group) (tree.groups q);
+  spotted = λ k there. still_there ss new p w writes (place_of k) (tree.spotted k there);
+  rooted = λ q deep there. still_there ss new p w writes (parent q) (written_at ss new p w writes q (λ o. is_some o ≡ true) there
+      (λ own here. subst (λ (x : Key). has_spot ss (parent x) ≡ true) own (fits.rooted (subst (λ (x : Key). 3 < x.meta.z) (sym own) deep))) (tree.rooted q deep));
+  own = λ k clean. written_to ss new p w writes (place_of k) (λ o. has_bit (own_word o) (bit_of k) ≡ true) (λ own. fits.own k own clean) (λ other. tree.own k clean);
+  clean_live = λ k deep clean. written_to ss new p w writes (place_of k) (λ o. has_bit (live_word o) (bit_of k) ≡ true) (λ own. fits.clean_live k own deep clean) (λ other. tree.clean_live k deep clean);
+  rises = λ q b deep live. written_at ss new p w writes q (λ o. has_bit (live_word o) b ≡ true) live (λ own here. own_rises q b deep own here) (λ was. other_rises q b deep was);
+}
+  where
+    other_rises : (q : Key) (b : ℕ) → 3 < q.meta.z → lives_at ss q b ≡ true → lives_at new (parent q) b ≡ true
+    other_rises q b deep was = written_to ss new p w writes (parent q) (λ o. has_bit (live_word o) b ≡ true) (λ own. fits.live_below q b deep was own) (λ other. tree.rises q b deep was)
+
+    own_rises : (q : Key) (b : ℕ) → 3 < q.meta.z → p ≡ q → has_bit w.live b ≡ true → lives_at new (parent q) b ≡ true
+    own_rises q b deep own here =
+        let high : 3 < p.meta.z = subst (λ (x : Key). 3 < x.meta.z) (sym own) deep in
+        let up : lives_at ss (parent p) b ≡ true = fits.live_above b high here in
+        let apart : same_key p (parent p) ≡ false = parent_apart p high in
+        subst (λ (x : Key). lives_at new (parent x) b ≡ true) own (ap (λ o. has_bit (live_word o) b) (written_other ss new p w writes (parent p) apart) ∙ up)
+
+-- Bits that are taken from a spot that is there: what is not clean needs none, and no live one stands right below.
+pub record Takes (es : List (Key × Node)) (ss : List (Key × Spot)) (p : Key) (s w : Spot) : Type 0 where
+  pub found : spot_of ss p ≡ Some s
+  pub own : (k : Key) → p ≡ place_of k → is_clean_at es k ≡ true → has_bit s.own (bit_of k) ≡ true → has_bit w.own (bit_of k) ≡ true
+  pub clean_live : (k : Key) → p ≡ place_of k → is_clean_at es k ≡ true → has_bit s.live (bit_of k) ≡ true → has_bit w.live (bit_of k) ≡ true
+  pub fewer : (b : ℕ) → has_bit w.live b ≡ true → has_bit s.live b ≡ true
+  pub below : (q : Key) (b : ℕ) → 3 < q.meta.z → lives_at ss q b ≡ true → p ≡ parent q → has_bit s.live b ≡ true → has_bit w.live b ≡ true
+
+pub takes_fits : (es : List (Key × Node)) (ss : List (Key × Spot)) (p : Key) (s w : Spot) → Takes es ss p s w → IsTree es ss → FitsSpot es ss p w
+takes_fits es ss p s w takes tree = record {
+  meta = tree.places p there;
+  group = tree.groups p there;
+  rooted = λ deep. tree.rooted p deep there;
+  own = λ k at clean. takes.own k at clean (was_own k at clean);
+  clean_live = λ k at deep clean. takes.clean_live k at clean (was_live k at deep clean);
+  live_above = λ b deep here. tree.rises p b deep (lives b ∙ takes.fewer b here);
+  live_below = λ q b deep live up. takes.below q b deep live up (sym (lives b) ∙ subst (λ (x : Key). lives_at ss x b ≡ true) (sym up) (tree.rises q b deep live));
+}
+  where
+    there : has_spot ss p ≡ true
+    there = ap is_some takes.found
+
+    lives : (b : ℕ) → lives_at ss p b ≡ has_bit s.live b
+    lives b = ap (λ o. has_bit (live_word o) b) takes.found
+
+    was_own : (k : Key) → p ≡ place_of k → is_clean_at es k ≡ true → has_bit s.own (bit_of k) ≡ true
+    was_own k at clean = sym (ap (λ o. has_bit (own_word o) (bit_of k)) takes.found) ∙ subst (λ (x : Key). owns_at ss x (bit_of k) ≡ true) (sym at) (tree.own k clean)
+
+    was_live : (k : Key) → p ≡ place_of k → 3 ≤ k.meta.z → is_clean_at es k ≡ true → has_bit s.live (bit_of k) ≡ true
+    was_live k at deep clean = sym (lives (bit_of k)) ∙ subst (λ (x : Key). lives_at ss x (bit_of k) ≡ true) (sym at) (tree.clean_live k deep clean)
+
+-- and then nothing is live that was not
+pub takes_quieter : (es : List (Key × Node)) (ss new : List (Key × Spot)) (p : Key) (s w : Spot) → Takes es ss p s w → Writes ss p w new → (q : Key) (b : ℕ) → lives_at new q b ≡ true → lives_at ss q b ≡ true
+takes_quieter es ss new p s w takes writes q b live =
+    written_at ss new p w writes q (λ o. has_bit (live_word o) b ≡ true) live
+    (λ own here. subst (λ (x : Key). lives_at ss x b ≡ true) own (ap (λ o. has_bit (live_word o) b) takes.found ∙ takes.fewer b here)) (λ was. was)

@@ -1,5 +1,6 @@
 -- Marks: what is shown of metatiles, and what an expiry makes of it.
 use Rattle.std.specs.Prelude.{ℕ, ◌≡◌, Bool, ◌&&◌, ◌==◌, not, nat_lt, List, map, count_by, find, Option, Some, None, option_map, if◌then◌else◌}
+use Rattle.std.specs.Int.{bit_at}
 use Rattle.std.specs.List.{list_any}
 use Rattle.farm_history.specs.declared.keys.Key.{Key}
 use Rattle.farm_history.specs.declared.keys.Mark.{Mark}
@@ -55,9 +56,21 @@ is_met b size k = comes_near b (margin_of size k.meta.z) (meta_square k.meta)
 abbrev pub some_meets : ℕ → List Bounds → Key → Bool
 some_meets size boxes k = list_any (λ b. is_met b size k) boxes
 
--- whether the key is of that map, at one of the zooms 0 to 18, and some of the boxes is that near
+-- whether the key is at one of the zooms 0 to 18, and some of the boxes is that near
+abbrev pub is_near_zooms : ℕ → List Bounds → Key → Bool
+is_near_zooms size boxes k = nat_lt k.meta.z 19 && some_meets size boxes k
+
+-- whether it is of that map too
 abbrev pub is_near_boxes : ℕ → ℕ → List Bounds → Key → Bool
-is_near_boxes map size boxes k = is_of_map map k && (nat_lt k.meta.z 19 && some_meets size boxes k)
+is_near_boxes map size boxes k = is_of_map map k && is_near_zooms size boxes k
+
+-- whether the key's map is one of the first 64, and has its bit in the word
+abbrev pub is_of_bits : ℕ → Key → Bool
+is_of_bits word k = nat_lt k.map 64 && (bit_at word k.map == 1)
+
+-- whether it is that near too
+abbrev pub is_near_bits : ℕ → ℕ → List Bounds → Key → Bool
+is_near_bits word size boxes k = is_of_bits word k && is_near_zooms size boxes k
 
 -- the box with these edges
 abbrev pub rectangle : ℕ → ℕ → ℕ → ℕ → Bounds

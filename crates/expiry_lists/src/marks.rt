@@ -1,18 +1,21 @@
 //! Marks: what is shown of metatiles, and whether it is clean.
-ghost use Rattle.std.specs.Prelude.{◌≡◌, ◌≤◌, ◌<◌, ◌+◌, ◌==◌, ◌↔◌, IsTrue, ℕ, [], Some, None, IsSome, IfOk, OnOk, option_map, if◌then◌else◌, true, false, vec_len, vec_capacity, IsPermutation};
+ghost use Rattle.std.specs.Prelude.{◌≡◌, ◌≤◌, ◌<◌, ◌+◌, ◌%◌, ◌==◌, ◌↔◌, IsTrue, ℕ, [], Some, None, IsSome, IfOk, OnOk, option_map, if◌then◌else◌, true, false, vec_len, vec_capacity, IsPermutation};
 ghost use Rattle.std.specs.List.{list_any};
 ghost use Rattle.farm_history.specs.declared.keys.Key.{Key};
 ghost use Rattle.farm_history.specs.Plans.{same_key, overlaps, AreApart};
 ghost use Rattle.farm_history.specs.Replays.{are_rising, kept_of, kept_version};
 ghost use Rattle.plain_world.specs.World.{IsMeta, IsTile, IsTileSize};
-ghost use Rattle.expiry_lists.specs.Marks.{shown_key, mark_of, dirtied_marks, clean_marks, is_of_map, is_near_boxes, is_in_box, rectangle, clean_version, InBox};
+ghost use Rattle.expiry_lists.specs.inner.Nodes.{has_bit};
+ghost use Rattle.expiry_lists.specs.Marks.{shown_key, mark_of, dirtied_marks, clean_marks, is_of_map, is_near_boxes, is_near_bits, is_in_box, rectangle, clean_version, InBox};
 
 use crate::keeping::{clean_entries, sort_by_key};
 use crate::nodes::{mark_at, mark_one_dirty, settle_all};
 use crate::rectangles::mark_box_dirty;
 use crate::table::Nodes;
-use crate::waking::{put_mark, wake};
-use crate::walks::{is_some_live, mark_map_boxes_dirty, mark_map_dirty, mark_maps_dirty};
+use crate::waking::{drop_mark, own, put_mark, wake};
+use crate::walks::{
+    is_some_live, mark_bits_boxes_dirty, mark_groups_dirty, mark_map_boxes_dirty, mark_map_dirty,
+};
 use farm_base::NoMemory;
 use farm_history::{Kept, Key, Mark};
 use geo_model::Bounds;
@@ -20,28 +23,30 @@ use plain_world::Tile;
 use std::alloc::Global;
 use std::marker::Model;
 
-/// What is shown of metatiles, each with its data version and whether it is clean, in a quadtree for each map.
+/// What is shown of metatiles, each with its data version and whether it is clean, in a quadtree for
+/// each group of 64 maps.
 #[derive(Drop)]
 pub struct Marks {
     nodes: Nodes,
-    /// The maps that have nodes.
-    maps: Vec<u32>,
+    /// The groups of maps that have spots.
+    groups: Vec<u32>,
 }
 
 impl Model for Marks {
     ghost use Rattle.std.specs.Prelude.{◌/◌, ◌-◌, min, vec_len, vec_capacity};
+    ghost use Rattle.expiry_lists.specs.inner.Nodes.{has_bit};
     ghost use Rattle.expiry_lists.specs.Marks.{MarksSeen};
     ghost use Rattle.expiry_lists.specs.inner.Nodes.{shown_of};
     ghost use Rattle.expiry_lists.specs.inner.Keeping.{IsKept};
 
     ghost Value = { MarksSeen };
 
-    ghost view = { λ m. record { shown = shown_of m.nodes.entries; room = min (m.nodes.room / 16) (vec_capacity m.maps - vec_len m.maps) } };
+    ghost view = { λ m. record { shown = shown_of m.nodes.entries; room = min m.nodes.room (min (m.nodes.free / 16) (vec_capacity m.groups - vec_len m.groups)) } };
 
-    ghost invariant = { λ m. IsKept m.maps.items m.nodes.entries };
+    ghost invariant = { λ m. IsKept m.groups.items m.nodes };
 }
 
-/// How many nodes a key may need.
+/// How many spots a key may need.
 const PATH: usize = 16;
 
 impl Marks {
@@ -51,7 +56,7 @@ impl Marks {
     {
         Marks {
             nodes: Nodes::new(alloc),
-            maps: Vec::new(alloc),
+            groups: Vec::new(alloc),
         }
     }
 
@@ -62,7 +67,7 @@ impl Marks {
         ensures reserved { OnOk result (1 ≤ self.new.room) }
     {
         self.nodes.reserve(PATH)?;
-        self.maps.reserve(1)?;
+        self.groups.reserve(1)?;
         Ok(())
     }
 
@@ -85,9 +90,15 @@ impl Marks {
         ensures free { IsSome (mark_of self.old.shown key) → self.new.room ≡ self.old.room }
     {
         let _count = self.nodes.len();
-        add_map(&mut self.maps, key.map);
-        wake(&mut self.nodes, key, clean);
-        put_mark(&mut self.nodes, key, Some(Mark { version, clean }));
+        let place = Key {
+            map: key.map / 64,
+            meta: key.meta,
+        };
+        let mask = clean_bit(key.map, clean);
+        add_group(&mut self.groups, place.map);
+        wake(&mut self.nodes, place, mask);
+        own(&mut self.nodes, place, mask);
+        put_mark(&mut self.nodes, key, Mark { version, clean });
     }
 
     /// Shows nothing of a key.
@@ -96,7 +107,7 @@ impl Marks {
             ≡ (if same_key key k then None else mark_of self.old.shown k) }
         ensures room { self.new.room ≡ self.old.room }
     {
-        put_mark(&mut self.nodes, key, None);
+        drop_mark(&mut self.nodes, key);
     }
 
     /// Makes dirty what overlaps the tile, on every map and zoom, and counts what was clean of it.
@@ -109,10 +120,10 @@ impl Marks {
     {
         let _count = self.nodes.len();
         // A tile of zoom 0 overlaps all: a pass over the table takes a small part of the time of a walk.
-        if t.z == 0 && is_some_live(&self.nodes, &self.maps) {
+        if t.z == 0 && is_some_live(&self.nodes, &self.groups) {
             return settle_all(&mut self.nodes);
         }
-        mark_maps_dirty(&mut self.nodes, &self.maps, t)
+        mark_groups_dirty(&mut self.nodes, &self.groups, t)
     }
 
     /// Makes dirty what is shown of the map, and counts what was clean of it.
@@ -139,6 +150,19 @@ impl Marks {
     {
         let _count = self.nodes.len();
         mark_map_boxes_dirty(&mut self.nodes, map, size, boxes)
+    }
+
+    /// The same for those of the first 64 maps whose bits are in the word, in one walk.
+    pub fn expire_bits_boxes(&mut self, word: u64, size: u32, boxes: &mut [Bounds]) -> u64
+        requires { IsTileSize size }
+        ensures shown { self.new.shown ≡ dirtied_marks (is_near_bits word size boxes.old) self.old.shown }
+        ensures count { result ≡ clean_marks (is_near_bits word size boxes.old) self.old.shown }
+        ensures moved { IsPermutation boxes.old boxes.new }
+        ensures apart { AreApart shown_key self.old.shown }
+        ensures room { self.new.room ≡ self.old.room }
+    {
+        let _count = self.nodes.len();
+        mark_bits_boxes_dirty(&mut self.nodes, word, size, boxes)
     }
 
     /// Makes dirty what is shown of the map at zoom `z` where the metatile's square holds a point of the
@@ -205,15 +229,22 @@ impl Marks {
     }
 }
 
-/// Whether the map is in the list.
+/// The bit of the map, where it is clean.
+fn clean_bit(map: u32, clean: bool) -> u64
+    ensures { clean ≡ true → has_bit result (map % 64) ≡ true }
+{
+    if clean { 1 << (map % 64) } else { 0 }
+}
+
+/// Whether the number is in the list.
 fn lists(maps: &[u32], map: u32) -> bool
     ensures { result ≡ list_any (λ m. m == map) maps.now }
 {
     maps.iter().any(|m| *m == map)
 }
 
-/// Adds a map to the list, where it is not there.
-fn add_map(maps: &mut Vec<u32>, map: u32)
+/// Adds a number to the list, where it is not there.
+fn add_group(maps: &mut Vec<u32>, map: u32)
     requires { list_any (λ m. m == map) maps.old.items ≡ false
         → vec_len maps.old < vec_capacity maps.old }
     ensures added { list_any (λ m. m == map) maps.new.items ≡ true }

@@ -26,11 +26,10 @@ fn is_in_box(key: Key, map: u32, z: u32, b: Bounds) -> bool
 /// Makes the key dirty where it is of that map and zoom and in the box, and counts what was clean: 0 or 1.
 fn mark_key_dirty(nodes: &mut Nodes, key: Key, map: u32, z: u32, b: Bounds) -> u64
     requires meta { IsMeta key.meta }
-    requires tree { IsTree nodes.old.entries }
+    requires tree { IsTree nodes.old.entries nodes.old.spots }
     ensures walks { Walks (λ k. same_key key k && is_in_box map z b k)
-        nodes.old.entries nodes.new.entries result }
+        nodes.old nodes.new result }
     ensures keys { keys_of nodes.new.entries ≡ keys_of nodes.old.entries }
-    ensures room { nodes.new.room ≡ nodes.old.room }
 {
     if is_in_box(key, map, z, b) {
         mark_one_dirty(nodes, key)
@@ -41,9 +40,8 @@ fn mark_key_dirty(nodes: &mut Nodes, key: Key, map: u32, z: u32, b: Bounds) -> u
 
 /// Makes the keys of that map and zoom dirty whose squares hold a point of the box, and counts what was clean.
 pub fn mark_box_dirty(nodes: &mut Nodes, map: u32, z: u32, b: Bounds) -> u64
-    requires { IsTree nodes.old.entries }
-    ensures walks { Walks (is_in_box map z b) nodes.old.entries nodes.new.entries result }
-    ensures room { nodes.new.room ≡ nodes.old.room }
+    requires { IsTree nodes.old.entries nodes.old.spots }
+    ensures walks { Walks (is_in_box map z b) nodes.old nodes.new result }
 {
     let mut count = 0;
     for i in 0..nodes.len() {

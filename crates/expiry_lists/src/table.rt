@@ -1,13 +1,13 @@
-//! The table of nodes: each with its key, in the order in which they came.
+//! The tables of nodes and of spots: each with its key, in the order in which they came.
 ghost use Rattle.std.specs.Prelude.{◌≡◌, ◌+◌, ◌<◌, ◌≤◌, ◌^◌, [], ◌∷◌, ◌++◌, length, slice_get, position, option_map, Some, None, OnOk};
 ghost use Rattle.std.specs.List.{IsDistinct};
 ghost use Rattle.std.specs.Map.{keys_of};
 ghost use Rattle.std.specs.Map.Iter.{ShowsInOrder, deref_pair};
 ghost use Rattle.indexmap.specs.IndexMap.{set_value_at};
 ghost use Rattle.farm_history.specs.Plans.{same_key};
-ghost use Rattle.expiry_lists.specs.inner.Nodes.{node_of};
+ghost use Rattle.expiry_lists.specs.inner.Nodes.{node_of, spot_of};
 
-use crate::nodes::Node;
+use crate::nodes::{Node, Spot};
 use farm_base::NoMemory;
 use farm_history::Key;
 use indexmap::IndexMap;
@@ -15,10 +15,11 @@ use indexmap::map::Iter;
 use std::alloc::Global;
 use std::marker::Model;
 
-/// The nodes by their keys. A node keeps its place.
+/// The nodes by their keys, and the spots by theirs. Each keeps its place.
 #[derive(Drop)]
 pub struct Nodes {
     map: IndexMap<Key, Node>,
+    spots: IndexMap<Key, Spot>,
 }
 
 impl Model for Nodes {
@@ -27,26 +28,32 @@ impl Model for Nodes {
 
     ghost Value = { NodeTable };
 
-    ghost view = { λ n. record { entries = n.map.entries; room = spare n.map } };
+    ghost view = { λ n. record { entries = n.map.entries; spots = n.spots.entries; room = spare n.map; free = spare n.spots } };
 }
 
 impl Nodes {
-    /// No nodes.
+    /// No nodes and no spots.
     pub fn new(alloc: Global) -> Nodes
-        ensures { result.entries ≡ [] }
+        ensures entries { result.entries ≡ [] }
+        ensures spots { result.spots ≡ [] }
     {
         Nodes {
             map: IndexMap::new(alloc),
+            spots: IndexMap::new(alloc),
         }
     }
 
-    /// Makes room for so many nodes more.
-    pub fn reserve(&mut self, more: usize) -> Result<(), NoMemory>
+    /// Makes room for one node and so many spots more.
+    pub fn reserve(&mut self, spots: usize) -> Result<(), NoMemory>
         ensures entries { self.new.entries ≡ self.old.entries }
+        ensures spots { self.new.spots ≡ self.old.spots }
         ensures room { self.old.room ≤ self.new.room }
-        ensures reserved { OnOk result (more ≤ self.new.room) }
+        ensures free { self.old.free ≤ self.new.free }
+        ensures reserved { OnOk result ((1 ≤ self.new.room) × (spots ≤ self.new.free)) }
     {
-        Ok(self.map.reserve(more)?)
+        self.map.reserve(1)?;
+        self.spots.reserve(spots)?;
+        Ok(())
     }
 
     /// How many nodes there are; no two have one key.
@@ -56,6 +63,13 @@ impl Nodes {
         ensures unique { IsDistinct same_key (keys_of self.now.entries) }
     {
         self.map.len()
+    }
+
+    /// No two spots have one key.
+    pub fn law_spots(&self)
+        ensures { IsDistinct same_key (keys_of self.now.spots) }
+    {
+        let _count = self.spots.len();
     }
 
     /// The nodes with their keys, in their order.
@@ -102,7 +116,9 @@ impl Nodes {
     /// Puts another node at a place, where there is one.
     pub fn put_at(&mut self, place: usize, node: Node)
         ensures entries { self.new.entries ≡ set_value_at self.old.entries place node }
+        ensures spots { self.new.spots ≡ self.old.spots }
         ensures room { self.new.room ≡ self.old.room }
+        ensures free { self.new.free ≡ self.old.free }
     {
         if let Some(there) = self.map.get_index_mut(place) {
             *there = node;
@@ -114,8 +130,51 @@ impl Nodes {
         requires absent { node_of self.old.entries key ≡ None }
         requires room { 1 ≤ self.old.room }
         ensures entries { self.new.entries ≡ self.old.entries ++ (key, node) ∷ [] }
+        ensures spots { self.new.spots ≡ self.old.spots }
         ensures room { self.old.room ≤ self.new.room + 1 }
+        ensures free { self.new.free ≡ self.old.free }
+        ensures unique { IsDistinct same_key (keys_of self.new.entries) }
     {
         self.map.insert(key, node).unwrap();
+    }
+
+    /// The place and the spot of a key.
+    pub fn find_spot(&self, key: Key) -> Option<(usize, Spot)>
+        ensures place { option_map (λ f. f.0) result ≡ position (same_key key) (keys_of self.now.spots) }
+        ensures spot { option_map (λ f. f.1) result ≡ spot_of self.now.spots key }
+    {
+        let (place, _, spot) = self.spots.get_full(&key)?;
+        Some((place, *spot))
+    }
+
+    /// The spot of a key.
+    pub fn spot(&self, key: Key) -> Option<Spot>
+        ensures { result ≡ spot_of self.now.spots key }
+    {
+        self.spots.get(&key).copied()
+    }
+
+    /// Puts another spot at a place, where there is one.
+    pub fn put_spot_at(&mut self, place: usize, spot: Spot)
+        ensures entries { self.new.entries ≡ self.old.entries }
+        ensures spots { self.new.spots ≡ set_value_at self.old.spots place spot }
+        ensures room { self.new.room ≡ self.old.room }
+        ensures free { self.new.free ≡ self.old.free }
+    {
+        if let Some(there) = self.spots.get_index_mut(place) {
+            *there = spot;
+        }
+    }
+
+    /// Adds the spot of a key that has none, in the room that was made for it.
+    pub fn add_spot(&mut self, key: Key, spot: Spot)
+        requires absent { spot_of self.old.spots key ≡ None }
+        requires free { 1 ≤ self.old.free }
+        ensures entries { self.new.entries ≡ self.old.entries }
+        ensures spots { self.new.spots ≡ self.old.spots ++ (key, spot) ∷ [] }
+        ensures room { self.new.room ≡ self.old.room }
+        ensures free { self.old.free ≤ self.new.free + 1 }
+    {
+        self.spots.insert(key, spot).unwrap();
     }
 }

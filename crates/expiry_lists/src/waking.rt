@@ -1,78 +1,126 @@
-//! Nodes on the way from a map's root to a key, and the marks of keys that have one.
-ghost use Rattle.std.specs.Prelude.{◌≡◌, ◌<◌, ◌≤◌, ◌+◌, ◌&&◌, ◌||◌, not, true, false, if◌then◌else◌, None, IsSome, Option};
+//! Spots on the way from a group's root to a place, and the marks of keys whose places have one.
+ghost use Rattle.std.specs.Prelude.{◌≡◌, ◌==◌, ◌^◌, ◌<◌, ◌≤◌, ◌+◌, ◌&&◌, not, true, false, if◌then◌else◌, None, Some, Option, ℕ, bit_and};
 ghost use Rattle.farm_history.specs.declared.keys.Key.{Key};
 ghost use Rattle.farm_history.specs.Plans.{same_key};
 ghost use Rattle.plain_world.specs.World.{IsMeta};
 ghost use Rattle.expiry_lists.specs.Marks.{mark_of};
-ghost use Rattle.expiry_lists.specs.inner.Nodes.{is_live, is_clean, has_node, parent, shown_of, IsTree};
+ghost use Rattle.expiry_lists.specs.inner.Nodes.{has_bit, has_node, has_spot, is_clean, bit_of, lives_at, live_word, owns_at, parent, place_of, shown_of, spot_of, IsTree};
 ghost use Rattle.expiry_lists.specs.inner.Waking.{path_len, Wakes};
 
-use crate::nodes::Node;
+use crate::nodes::{Node, Spot};
 use crate::table::Nodes;
 use crate::walks::{ROOT_ZOOM, parent};
 use farm_history::{Key, Mark};
 
-/// Whether the key has a node, which is live where that is asked for.
-fn is_awake(nodes: &Nodes, key: Key, live: bool) -> bool
-    ensures { result ≡ (has_node nodes.now.entries key
-        && (is_live nodes.now.entries key || not live)) }
+/// Whether the place has a spot where all maps of the mask are live.
+fn is_awake(nodes: &Nodes, place: Key, mask: u64) -> bool
+    ensures { result ≡ (has_spot nodes.now.spots place
+        && (bit_and (live_word (spot_of nodes.now.spots place)) mask == mask)) }
 {
-    match nodes.get(key) {
-        Some(node) => node.live || !live,
+    match nodes.spot(place) {
+        Some(spot) => spot.live & mask == mask,
         None => false,
     }
 }
 
-/// Gives the key a node, where it has none, and makes it live where that is asked for.
-fn wake_one(nodes: &mut Nodes, key: Key, live: bool)
-    requires tree { IsTree nodes.old.entries }
-    requires meta { IsMeta key.meta }
-    requires rooted { 3 < key.meta.z → has_node nodes.old.entries (parent key) ≡ true }
-    requires live_above { 3 < key.meta.z → live ≡ true → is_live nodes.old.entries (parent key) ≡ true }
-    requires room { has_node nodes.old.entries key ≡ false → 1 ≤ nodes.old.room }
-    ensures wakes { Wakes key live nodes.old.entries nodes.new.entries }
-    ensures room { nodes.old.room ≤ nodes.new.room + 1 }
-    ensures free { has_node nodes.old.entries key ≡ true → nodes.new.room ≡ nodes.old.room }
+/// Gives the place a spot, where it has none, and makes the maps of the mask live there.
+fn wake_one(nodes: &mut Nodes, place: Key, mask: u64)
+    requires tree { IsTree nodes.old.entries nodes.old.spots }
+    requires meta { IsMeta place.meta }
+    requires group { place.map < 2 ^ 26 }
+    requires rooted { 3 < place.meta.z → has_spot nodes.old.spots (parent place) ≡ true }
+    requires live_above { (b : ℕ) → 3 < place.meta.z → has_bit mask b ≡ true → lives_at nodes.old.spots (parent place) b ≡ true }
+    requires free { has_spot nodes.old.spots place ≡ false → 1 ≤ nodes.old.free }
+    ensures wakes { Wakes place mask nodes.old nodes.new }
+    ensures free { nodes.old.free ≤ nodes.new.free + 1 }
+    ensures there { has_spot nodes.old.spots place ≡ true → nodes.new.free ≡ nodes.old.free }
 {
-    match nodes.find(key) {
-        Some((place, was)) => nodes.put_at(place, was.woken(live)),
-        None => nodes.add(key, Node { mark: None, live }),
+    match nodes.find_spot(place) {
+        Some((at, spot)) => {
+            let live = spot.live | mask;
+            nodes.put_spot_at(at, Spot { live, ..spot });
+        }
+        None => nodes.add_spot(place, Spot { own: 0, live: mask }),
     }
 }
 
-/// Gives the key and those above it nodes, where they have none, and makes them live where that is asked for.
-pub fn wake(nodes: &mut Nodes, key: Key, live: bool)
-    requires tree { IsTree nodes.old.entries }
-    requires meta { IsMeta key.meta }
-    requires room { has_node nodes.old.entries key ≡ false → path_len key ≤ nodes.old.room }
-    ensures wakes { Wakes key live nodes.old.entries nodes.new.entries }
-    ensures room { nodes.old.room ≤ nodes.new.room + path_len key }
-    ensures free { has_node nodes.old.entries key ≡ true → nodes.new.room ≡ nodes.old.room }
+/// Gives the place and those above it spots, where they have none, and makes the maps of the mask live there.
+pub fn wake(nodes: &mut Nodes, place: Key, mask: u64)
+    requires tree { IsTree nodes.old.entries nodes.old.spots }
+    requires meta { IsMeta place.meta }
+    requires group { place.map < 2 ^ 26 }
+    requires free { has_spot nodes.old.spots place ≡ false → path_len place ≤ nodes.old.free }
+    ensures wakes { Wakes place mask nodes.old nodes.new }
+    ensures free { nodes.old.free ≤ nodes.new.free + path_len place }
+    ensures there { has_spot nodes.old.spots place ≡ true → nodes.new.free ≡ nodes.old.free }
 {
-    if is_awake(nodes, key, live) {
+    if is_awake(nodes, place, mask) {
         return;
     }
-    if key.meta.z <= ROOT_ZOOM {
-        wake_one(nodes, key, live);
+    if place.meta.z <= ROOT_ZOOM {
+        wake_one(nodes, place, mask);
         return;
     }
-    wake(nodes, parent(key), live);
-    wake_one(nodes, key, live);
+    wake(nodes, parent(place), mask);
+    wake_one(nodes, place, mask);
 }
 
-/// Gives the key's node that mark, or none.
-pub fn put_mark(nodes: &mut Nodes, key: Key, mark: Option<Mark>)
-    requires tree { IsTree nodes.old.entries }
-    requires there { IsSome mark → has_node nodes.old.entries key ≡ true }
-    requires live { 3 ≤ key.meta.z → is_clean mark ≡ true → is_live nodes.old.entries key ≡ true }
-    ensures tree { IsTree nodes.new.entries }
-    ensures marks { (k : Key) → mark_of (shown_of nodes.new.entries) k
-        ≡ (if same_key key k then mark else mark_of (shown_of nodes.old.entries) k) }
-    ensures there { (k : Key) → has_node nodes.new.entries k ≡ has_node nodes.old.entries k }
+/// Gives the maps of the mask their bits at a place that has a spot.
+pub fn own(nodes: &mut Nodes, place: Key, mask: u64)
+    requires tree { IsTree nodes.old.entries nodes.old.spots }
+    ensures entries { nodes.new.entries ≡ nodes.old.entries }
+    ensures tree { IsTree nodes.new.entries nodes.new.spots }
+    ensures there { (p : Key) → has_spot nodes.new.spots p ≡ has_spot nodes.old.spots p }
+    ensures lives { (p : Key) (b : ℕ) → lives_at nodes.new.spots p b ≡ lives_at nodes.old.spots p b }
+    ensures owned { has_spot nodes.old.spots place ≡ true → (b : ℕ) → has_bit mask b ≡ true → owns_at nodes.new.spots place b ≡ true }
     ensures room { nodes.new.room ≡ nodes.old.room }
+    ensures free { nodes.new.free ≡ nodes.old.free }
+{
+    let Some((at, spot)) = nodes.find_spot(place) else {
+        return;
+    };
+    let own = spot.own | mask;
+    nodes.put_spot_at(at, Spot { own, ..spot });
+}
+
+/// Gives the key that mark, in place of what it had.
+pub fn put_mark(nodes: &mut Nodes, key: Key, mark: Mark)
+    requires tree { IsTree nodes.old.entries nodes.old.spots }
+    requires meta { IsMeta key.meta }
+    requires there { has_spot nodes.old.spots (place_of key) ≡ true }
+    requires owned { mark.clean ≡ true → owns_at nodes.old.spots (place_of key) (bit_of key) ≡ true }
+    requires live { 3 ≤ key.meta.z → mark.clean ≡ true
+        → lives_at nodes.old.spots (place_of key) (bit_of key) ≡ true }
+    requires room { has_node nodes.old.entries key ≡ false → 1 ≤ nodes.old.room }
+    ensures tree { IsTree nodes.new.entries nodes.new.spots }
+    ensures marks { (k : Key) → mark_of (shown_of nodes.new.entries) k
+        ≡ (if same_key key k then Some mark else mark_of (shown_of nodes.old.entries) k) }
+    ensures spots { nodes.new.spots ≡ nodes.old.spots }
+    ensures room { nodes.old.room ≤ nodes.new.room + 1 }
+    ensures known { has_node nodes.old.entries key ≡ true → nodes.new.room ≡ nodes.old.room }
+    ensures free { nodes.new.free ≡ nodes.old.free }
 {
     let _count = nodes.len();
-    if let Some((place, was)) = nodes.find(key) {
-        nodes.put_at(place, Node { mark, ..was });
+    let node = Node { mark: Some(mark) };
+    match nodes.find(key) {
+        Some((place, _)) => nodes.put_at(place, node),
+        None => nodes.add(key, node),
     }
+}
+
+/// Takes its mark from a key.
+pub fn drop_mark(nodes: &mut Nodes, key: Key)
+    requires { IsTree nodes.old.entries nodes.old.spots }
+    ensures tree { IsTree nodes.new.entries nodes.new.spots }
+    ensures marks { (k : Key) → mark_of (shown_of nodes.new.entries) k
+        ≡ (if same_key key k then None else mark_of (shown_of nodes.old.entries) k) }
+    ensures spots { nodes.new.spots ≡ nodes.old.spots }
+    ensures room { nodes.new.room ≡ nodes.old.room }
+    ensures free { nodes.new.free ≡ nodes.old.free }
+{
+    let _count = nodes.len();
+    let Some((place, _)) = nodes.find(key) else {
+        return;
+    };
+    nodes.put_at(place, Node { mark: None });
 }

@@ -4,13 +4,13 @@ use Rattle.farm_history.specs.declared.keys.Key.{Key}
 use Rattle.farm_history.specs.declared.keys.Mark.{Mark}
 use Rattle.farm_history.specs.declared.keys.Kept.{Kept}
 use Rattle.expiry_lists.specs.declared.nodes.Node.{Node}
-use Rattle.expiry_lists.specs.inner.Nodes.{has_node, IsTree}
+use Rattle.expiry_lists.specs.inner.Nodes.{NodeTable, has_spot, IsTree}
 use Rattle.expiry_lists.specs.inner.Tiles.{is_of_maps}
 
--- the nodes are quadtrees, and their maps are listed
-pub record IsKept (maps : List ℕ) (es : List (Key × Node)) : Type 0 where
-  pub tree : IsTree es
-  pub listed : (k : Key) → has_node es k ≡ true → is_of_maps maps k ≡ true
+-- the tables are a quadtree, and the groups of its places are listed
+pub record IsKept (groups : List ℕ) (t : NodeTable) : Type 0 where
+  pub tree : IsTree t.entries t.spots
+  pub listed : (p : Key) → has_spot t.spots p ≡ true → is_of_maps groups p ≡ true
 
 -- what is kept of a key with that mark: its version, where it is clean
 abbrev pub kept_at : Key → Option Mark → Option Kept

@@ -1,31 +1,47 @@
--- The table that Marks keep: a node for each key that was shown, and for each key above one. The square of a key of zoom 3 or later has four
--- squares of the next zoom, whose keys are found by their numbers; so the nodes of a map are a quadtree, and the keys are its links.
-use Rattle.std.specs.Prelude.{ℕ, ◌-◌, ◌*◌, ◌/◌, ◌≤◌, ◌<◌, ◌≡◌, Bool, true, false, List, [], ◌∷◌, Option, Some, None, is_some, if◌then◌else◌}
+-- The tables that Marks keep. One has a node for each key that was shown. The other has a spot for the place of each such key, and for each place
+-- above one: a word of bits, one for each of 64 maps. The square of a place of zoom 3 or later has four squares of the next zoom, whose places
+-- are found by their numbers; so the spots are a quadtree for all maps of a group, and the places are its links.
+use Rattle.std.specs.Prelude.{ℕ, ◌-◌, ◌*◌, ◌/◌, ◌%◌, ◌^◌, ◌≤◌, ◌<◌, ◌≡◌, ◌==◌, ◌&&◌, Bool, true, false, List, [], ◌∷◌, Option, Some, None, is_some}
+use Rattle.std.specs.Int.{bit_at}
 use Rattle.std.specs.Map.{lookup}
 use Rattle.farm_history.specs.declared.keys.Key.{Key}
 use Rattle.farm_history.specs.declared.keys.Mark.{Mark}
 use Rattle.farm_history.specs.Plans.{same_key}
 use Rattle.plain_world.specs.World.{IsMeta}
 use Rattle.expiry_lists.specs.declared.nodes.Node.{Node}
+use Rattle.expiry_lists.specs.declared.nodes.Spot.{Spot}
 use Rattle.expiry_lists.specs.Marks.{Shown}
 
 -- the key whose square is the quarter's that holds this key's square, for keys from zoom 4 on
 abbrev pub parent : Key → Key
 parent k = record { map = k.map; meta = record { z = k.meta.z - 1; x = k.meta.x / 16 * 8; y = k.meta.y / 16 * 8 } }
 
+-- the place of a key, for its group of 64 maps: the group's number stands for the map's
+abbrev pub place_of : Key → Key
+place_of k = record { map = k.map / 64; meta = k.meta }
+
+-- the bit of the key's map in the words of its group
+abbrev pub bit_of : Key → ℕ
+bit_of k = k.map % 64
+
+-- whether a word has that bit
+abbrev pub has_bit : ℕ → ℕ → Bool
+has_bit word b = bit_at word b == 1
+
+-- whether the key stands at that place, and its map has its bit in the word
+abbrev pub at_bits : Key → ℕ → Key → Bool
+at_bits place word k = same_key place (place_of k) && has_bit word (bit_of k)
+
+-- the tables: the nodes and the spots with their keys, in the order in which they came, and for how many more of each there is room
+pub record NodeTable : Type 0 where
+  pub entries : List (Key × Node)
+  pub spots : List (Key × Spot)
+  pub room : ℕ
+  pub free : ℕ
+
 -- the node of a key
 abbrev pub node_of : List (Key × Node) → Key → Option Node
 node_of es k = lookup (same_key k) es
-
--- the table: the nodes with their keys, in the order in which they came, and for how many more there is room
-pub record NodeTable : Type 0 where
-  pub entries : List (Key × Node)
-  pub room : ℕ
-
--- whether a node is live, where there is one: then its key or one below it may be clean
-abbrev pub node_live : Option Node → Bool
-node_live None = false
-node_live (Some n) = n.live
 
 -- a node's mark, where there is one
 abbrev pub node_mark : Option Node → Option Mark
@@ -41,10 +57,6 @@ is_clean (Some m) = m.clean
 abbrev pub has_node : List (Key × Node) → Key → Bool
 has_node es k = is_some (node_of es k)
 
--- whether the key or one below it may be clean
-abbrev pub is_live : List (Key × Node) → Key → Bool
-is_live es k = node_live (node_of es k)
-
 -- whether the key is clean
 abbrev pub is_clean_at : List (Key × Node) → Key → Bool
 is_clean_at es k = is_clean (node_mark (node_of es k))
@@ -59,17 +71,43 @@ abbrev pub shown_of : List (Key × Node) → List Shown
 shown_of [] = []
 shown_of (e ∷ es) = shown_before e.0 e.1.mark (shown_of es)
 
--- the table is a quadtree for each map: its keys are those of metatiles, above each of them stand nodes up to zoom 3, a clean one is live, and what stands above a live one is live
-pub record IsTree (es : List (Key × Node)) : Type 0 where
+-- the spot of a place
+abbrev pub spot_of : List (Key × Spot) → Key → Option Spot
+spot_of ss p = lookup (same_key p) ss
+
+-- whether the place has a spot
+abbrev pub has_spot : List (Key × Spot) → Key → Bool
+has_spot ss p = is_some (spot_of ss p)
+
+-- the word of the maps whose keys at a place may be clean
+abbrev pub own_word : Option Spot → ℕ
+own_word None = 0
+own_word (Some s) = s.own
+
+-- the word of the maps that may have a clean key at a place or below it
+abbrev pub live_word : Option Spot → ℕ
+live_word None = 0
+live_word (Some s) = s.live
+
+-- whether the map of that bit has its bit in the one or the other
+abbrev pub owns_at : List (Key × Spot) → Key → ℕ → Bool
+owns_at ss p b = has_bit (own_word (spot_of ss p)) b
+
+abbrev pub lives_at : List (Key × Spot) → Key → ℕ → Bool
+lives_at ss p b = has_bit (live_word (spot_of ss p)) b
+
+-- the keys and the places are those of metatiles, a shown key's place has a spot, above each spot stand spots up to zoom 3, a clean key has its
+-- bits, and what stands above a live one is live
+pub record IsTree (es : List (Key × Node)) (ss : List (Key × Spot)) : Type 0 where
   pub metas : (k : Key) → has_node es k ≡ true → IsMeta k.meta
-  pub rooted : (k : Key) → 3 < k.meta.z → has_node es k ≡ true → has_node es (parent k) ≡ true
-  pub clean_live : (k : Key) → 3 ≤ k.meta.z → is_clean_at es k ≡ true → is_live es k ≡ true
-  pub rises : (k : Key) → 3 < k.meta.z → is_live es k ≡ true → is_live es (parent k) ≡ true
+  pub places : (p : Key) → has_spot ss p ≡ true → IsMeta p.meta
+  pub groups : (p : Key) → has_spot ss p ≡ true → p.map < 2 ^ 26
+  pub spotted : (k : Key) → has_node es k ≡ true → has_spot ss (place_of k) ≡ true
+  pub rooted : (p : Key) → 3 < p.meta.z → has_spot ss p ≡ true → has_spot ss (parent p) ≡ true
+  pub own : (k : Key) → is_clean_at es k ≡ true → owns_at ss (place_of k) (bit_of k) ≡ true
+  pub clean_live : (k : Key) → 3 ≤ k.meta.z → is_clean_at es k ≡ true → lives_at ss (place_of k) (bit_of k) ≡ true
+  pub rises : (p : Key) (b : ℕ) → 3 < p.meta.z → lives_at ss p b ≡ true → lives_at ss (parent p) b ≡ true
 
--- no key is live that was not
-abbrev pub Quieter : List (Key × Node) → List (Key × Node) → Type 0
-Quieter old new = (k : Key) → is_live new k ≡ true → is_live old k ≡ true
-
--- the key has that node, and each other key what it had
-abbrev pub Writes : List (Key × Node) → Key → Node → List (Key × Node) → Type 0
-Writes old key node new = (k : Key) → node_of new k ≡ (if same_key key k then Some node else node_of old k)
+-- nothing is live that was not
+abbrev pub Quieter : List (Key × Spot) → List (Key × Spot) → Type 0
+Quieter old new = (p : Key) (b : ℕ) → lives_at new p b ≡ true → lives_at old p b ≡ true

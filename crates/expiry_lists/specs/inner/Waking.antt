@@ -1,18 +1,18 @@
--- What it takes to show a key: nodes on the way from its map's root.
-use Rattle.std.specs.Prelude.{ℕ, ◌+◌, ◌-◌, ◌≡◌, ◌⊎◌, Bool, true, List}
+-- What it takes to show a key: spots on the way from its group's root.
+use Rattle.std.specs.Prelude.{ℕ, ◌+◌, ◌-◌, ◌≡◌, ◌⊎◌, true}
 use Rattle.farm_history.specs.declared.keys.Key.{Key}
-use Rattle.expiry_lists.specs.declared.nodes.Node.{Node}
-use Rattle.expiry_lists.specs.inner.Nodes.{has_node, is_live, shown_of, IsTree}
+use Rattle.expiry_lists.specs.inner.Nodes.{NodeTable, has_bit, has_spot, lives_at, IsTree}
 
--- how many nodes lead to a key, its own among them: at most 16
+-- how many spots lead to a place, its own among them: at most 16
 abbrev pub path_len : Key → ℕ
-path_len k = k.meta.z - 3 + 1
+path_len p = p.meta.z - 3 + 1
 
--- the key has a node, which is live where that is asked for; the same is shown, and only keys of its map are new
-pub record Wakes (key : Key) (live : Bool) (old new : List (Key × Node)) : Type 0 where
-  pub tree : IsTree new
-  pub shown : shown_of new ≡ shown_of old
-  pub woken : has_node new key ≡ true
-  pub lives : live ≡ true → is_live new key ≡ true
-  pub still_there : (k : Key) → has_node old k ≡ true → has_node new k ≡ true
-  pub of_map : (k : Key) → has_node new k ≡ true → (has_node old k ≡ true) ⊎ (k.map ≡ key.map)
+-- the place has a spot, where the maps of the mask are live; the nodes are the same, and only places of its group are new
+pub record Wakes (place : Key) (mask : ℕ) (old new : NodeTable) : Type 0 where
+  pub entries : new.entries ≡ old.entries
+  pub tree : IsTree new.entries new.spots
+  pub woken : has_spot new.spots place ≡ true
+  pub lives : (b : ℕ) → has_bit mask b ≡ true → lives_at new.spots place b ≡ true
+  pub still_there : (p : Key) → has_spot old.spots p ≡ true → has_spot new.spots p ≡ true
+  pub of_group : (p : Key) → has_spot new.spots p ≡ true → (has_spot old.spots p ≡ true) ⊎ (p.map ≡ place.map)
+  pub room : new.room ≡ old.room

@@ -14,9 +14,11 @@ overflow_add-count c =
 pub loop-i-preserved : goal.loop-i-preserved
 loop-i-preserved c = elim c.match-at.branch [
   | in-Some w ↦ rw (w.nodes-is, w.count-is) (record {
-    done = quiet_more c.args.nodes.now.entries c.loop-i.nodes.entries _ c.loop-i.i w.in-Some.was w.settled.result c.loop-i.invariant.done w.in-Some.ensures w.settled.ensures w.put_at.ensures.entries;
+    done = quiet_more c.args.nodes.now.entries c.loop-i.nodes.entries _ c.loop-i.i w.in-Some.was w.dirtied.result c.loop-i.invariant.done w.in-Some.ensures w.dirtied.ensures w.put_at.ensures.entries;
     counted = sum_more c.args.nodes.now.entries c.loop-i.nodes.entries c.loop-i.i c.loop-i.count w.clean_count-count.result _ w.in-Some.was c.loop-i.invariant.done w.in-Some.ensures c.loop-i.invariant.counted w.clean_count-count.ensures refl;
+    spots = search rules;
     room = search rules;
+    free = search rules;
   })
   | in_default w ↦ (
       let small : c.loop-i.i < length c.loop-i.nodes.entries = omega (arith, c.loop-i-test.true, c.len-i-end.ensures.len, ap length c.loop-i.invariant.done, quieted_long c.args.nodes.now.entries c.loop-i.i) in
@@ -26,6 +28,7 @@ loop-i-preserved c = elim c.match-at.branch [
     nothing : true ≡ false → ⊥
     nothing h = cc
 
-pub returns-clause-walks : goal.returns-clause-walks
-returns-clause-walks c =
-    walks_settled c.args.nodes.now.entries c.loop-i.nodes.entries c.loop-i.i c.loop-i.count c.requires (omega (arith, c.loop-i-test.false, c.len-i-end.ensures.len)) c.loop-i.invariant.done c.loop-i.invariant.counted
+pub returns : goal.returns
+returns c = record {
+  walks = walks_settled c.args.nodes.now c.loop-i.nodes c.loop-i.i c.loop-i.count c.requires (omega (arith, c.loop-i-test.false, c.len-i-end.ensures.len)) c.loop-i.invariant.done c.loop-i.invariant.spots c.loop-i.invariant.room c.loop-i.invariant.free c.loop-i.invariant.counted;
+}

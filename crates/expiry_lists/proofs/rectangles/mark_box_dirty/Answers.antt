@@ -7,7 +7,7 @@ use Rattle.expiry_lists.proofs.Walked.{walks_few}
 use Rattle.expiry_lists.proofs.rectangles.mark_box_dirty.Goals as goal
 
 pub loop-i-init : goal.loop-i-init
-loop-i-init c = record { walks = walks_no_key (is_in_box c.args.map c.args.z c.args.b) c.args.nodes.now.entries c.requires; keys = refl; room = refl }
+loop-i-init c = record { walks = walks_no_key (is_in_box c.args.map c.args.z c.args.b) c.args.nodes.now c.requires; keys = refl }
 
 pub key_at-key-requires : goal.key_at-key-requires
 key_at-key-requires c =
@@ -34,10 +34,11 @@ loop-i-preserved c =
       walks = walks_key (is_in_box c.args.map c.args.z c.args.b) (keys_of es) (keys_of c.loop-i.nodes.entries) c.loop-i.i c.key_at-key.result c.loop-i.invariant.keys
           (omega (arith, c.loop-i-test.true, c.len-i-end.ensures.len, length-keys_of es)) c.key_at-key.ensures c.loop-i.invariant.walks c.mark_key_dirty-count.ensures.walks;
       keys = c.mark_key_dirty-count.ensures.keys ∙ c.loop-i.invariant.keys;
-      room = c.mark_key_dirty-count.ensures.room ∙ c.loop-i.invariant.room;
     }
 
-pub returns-clause-walks : goal.returns-clause-walks
-returns-clause-walks c =
-    walks_keys (is_in_box c.args.map c.args.z c.args.b) c.args.nodes.now.entries c.loop-i.nodes.entries c.loop-i.i c.loop-i.count c.len-i-end.ensures.unique
-    (omega (arith, c.loop-i-test.false, c.len-i-end.ensures.len)) c.loop-i.invariant.walks
+pub returns : goal.returns
+returns c = record {
+  walks =
+      walks_keys (is_in_box c.args.map c.args.z c.args.b) c.args.nodes.now c.loop-i.nodes c.loop-i.i c.loop-i.count c.len-i-end.ensures.unique
+      (omega (arith, c.loop-i-test.false, c.len-i-end.ensures.len)) c.loop-i.invariant.walks;
+}

@@ -8,7 +8,6 @@ use Rattle.expiry_lists.proofs.rectangles.mark_box_dirty.Given as goal
 
 abbrev pub invariant-loop-i : goal.invariant-loop-i
 invariant-loop-i l = record {
-  walks : Walks (λ k. is_one_of (take l.i (keys_of l.initial.nodes.entries)) k && is_in_box l.map l.z l.b k) l.initial.nodes.entries l.nodes.entries l.count;
+  walks : Walks (λ k. is_one_of (take l.i (keys_of l.initial.nodes.entries)) k && is_in_box l.map l.z l.b k) l.initial.nodes l.nodes l.count;
   keys : keys_of l.nodes.entries ≡ keys_of l.initial.nodes.entries;
-  room : l.nodes.room ≡ l.initial.nodes.room;
 }

@@ -9,4 +9,4 @@ returns-then-is_in_box-clause-walks c =
 
 pub returns-else-is_in_box-clause-walks : goal.returns-else-is_in_box-clause-walks
 returns-else-is_in_box-clause-walks c =
-    walks_failed (is_in_box c.args.map c.args.z c.args.b) c.args.key c.args.nodes.now.entries (sym c.is_in_box.ensures ∙ c.if-is_in_box.false) c.requires.tree
+    walks_failed (is_in_box c.args.map c.args.z c.args.b) c.args.key c.args.nodes.now (sym c.is_in_box.ensures ∙ c.if-is_in_box.false) c.requires.tree

@@ -1,32 +1,39 @@
-use Rattle.std.proofs.Common.{◌≡◌, refl, sym, ap, ◌∙◌, subst, rules}
+use Rattle.std.proofs.Common.{◌≡◌, true, Some, sym, ◌∙◌, subst, rules}
 use Rattle.std.specs.Map.{set_value}
 use Rattle.farm_history.specs.Plans.{same_key}
-use Rattle.expiry_lists.specs.declared.nodes.Node.{Node}
-use Rattle.expiry_lists.specs.Marks.{mark_of}
-use Rattle.expiry_lists.specs.inner.Nodes.{has_node, shown_of, IsTree}
-use Rattle.expiry_lists.proofs.Marking.{marking_tree, marking_there, marking_marks, marking_absent}
+use Rattle.expiry_lists.specs.inner.Nodes.{has_node}
+use Rattle.expiry_lists.proofs.Finding.{Distinct}
+use Rattle.expiry_lists.proofs.Marking.{marking_tree, marking_marks, marking_apart}
 use Rattle.expiry_lists.proofs.Placing.{placed_value}
+use Rattle.expiry_lists.proofs.Writing.{Writes, set-writes, add-writes}
 use Rattle.expiry_lists.proofs.waking.put_mark.Goals as goal
-use Rattle.expiry_lists.proofs.waking.put_mark.Goals.{After-put_at}
+use Rattle.expiry_lists.proofs.waking.put_mark.Goals.{After-put_at, After-add}
 
-abbrev node : After-put_at → Node
-node c = record { mark = c.args.mark; live = c.in-Some.was.live }
+put : (c : After-put_at) → c.put_at.new.self.entries ≡ set_value (same_key c.args.key) c.args.nodes.now.entries (record { mark = Some c.args.mark })
+put c = c.put_at.ensures.entries ∙ placed_value c.args.nodes.now.entries c.args.key _ _ (search rules)
 
-written : (c : After-put_at) → c.put_at.new.self.entries ≡ set_value (same_key c.args.key) c.args.nodes.now.entries (node c)
-written c = c.put_at.ensures.entries ∙ placed_value c.args.nodes.now.entries c.args.key _ (node c) (search rules)
+there : (c : After-put_at) → has_node c.args.nodes.now.entries c.args.key ≡ true
+there c = search rules
+
+put_writes : (c : After-put_at) → Writes c.args.nodes.now.entries c.args.key (record { mark = Some c.args.mark }) c.put_at.new.self.entries
+put_writes c = subst (λ es. Writes c.args.nodes.now.entries c.args.key (record { mark = Some c.args.mark }) es) (sym (put c)) (set-writes c.args.nodes.now.entries c.args.key (record { mark = Some c.args.mark }) (there c))
+
+add_writes : (c : After-add) → Writes c.args.nodes.now.entries c.args.key (record { mark = Some c.args.mark }) c.add.new.self.entries
+add_writes c = subst (λ es. Writes c.args.nodes.now.entries c.args.key (record { mark = Some c.args.mark }) es) (sym c.add.ensures.entries) (add-writes c.args.nodes.now.entries c.args.key (record { mark = Some c.args.mark }) (search rules))
 
 pub returns-in-Some-clause-tree : goal.returns-in-Some-clause-tree
 returns-in-Some-clause-tree c =
-    subst IsTree (sym (written c)) (marking_tree c.args.nodes.now.entries c.args.key c.in-Some.was (node c) (search rules) refl c.requires.live c.requires.tree)
+    marking_tree c.args.nodes.now.entries c.put_at.new.self.entries c.args.nodes.now.spots c.put_at.new.self.spots c.args.key c.args.mark (put_writes c) c.put_at.ensures.spots c.requires.meta c.requires.there c.requires.owned c.requires.live c.requires.tree
 
 pub returns-in-Some-clause-marks : goal.returns-in-Some-clause-marks
-returns-in-Some-clause-marks c = λ k.
-    ap (λ es. mark_of (shown_of es) k) (written c) ∙ marking_marks c.args.nodes.now.entries c.args.key c.in-Some.was (node c) (search rules) refl c.len-count.ensures.unique k
+returns-in-Some-clause-marks c =
+    marking_marks c.args.nodes.now.entries c.put_at.new.self.entries c.args.key (record { mark = Some c.args.mark }) c.len-count.ensures.unique
+    (subst Distinct (sym (put c)) (marking_apart c.args.nodes.now.entries c.args.key _ c.len-count.ensures.unique)) (put_writes c)
 
-pub returns-in-Some-clause-there : goal.returns-in-Some-clause-there
-returns-in-Some-clause-there c = λ k.
-    ap (λ es. has_node es k) (written c) ∙ marking_there c.args.nodes.now.entries c.args.key c.in-Some.was (node c) (search rules) refl k
+pub returns-in-None-clause-tree : goal.returns-in-None-clause-tree
+returns-in-None-clause-tree c =
+    marking_tree c.args.nodes.now.entries c.add.new.self.entries c.args.nodes.now.spots c.add.new.self.spots c.args.key c.args.mark (add_writes c) c.add.ensures.spots c.requires.meta c.requires.there c.requires.owned c.requires.live c.requires.tree
 
-pub returns-in_default-clause-marks : goal.returns-in_default-clause-marks
-returns-in_default-clause-marks c = λ k.
-    marking_absent c.args.nodes.now.entries c.len-count.ensures.unique c.args.key c.args.mark (search rules) c.requires.there k
+pub returns-in-None-clause-marks : goal.returns-in-None-clause-marks
+returns-in-None-clause-marks c =
+    marking_marks c.args.nodes.now.entries c.add.new.self.entries c.args.key (record { mark = Some c.args.mark }) c.len-count.ensures.unique c.add.ensures.unique (add_writes c)

@@ -1,29 +1,27 @@
--- One map after another.
-use Rattle.std.proofs.Common.{length, refl, subst, arith}
-use Rattle.std.proofs.lemmas.Option.{slice_get_read}
+-- One size after another.
+use Rattle.std.proofs.Common.{arith}
 use Rattle.std.proofs.lemmas.List.Sorted.{IsPermutation-refl, IsPermutation-trans}
-use Rattle.farm_plan.specs.Plans.{MapPlan}
-use Rattle.expiry_lists.specs.Marks.{is_near_boxes}
-use Rattle.reach_box.specs.Marks.{Expires}
-use Rattle.reach_box.proofs.Dirtied.{below_map, expires_none, near_told, no_map, map_more, map_all}
+use Rattle.reach_box.proofs.Dirtied.{below_size, expires_none, near_told, no_size, size_more, size_at, size_whole, all_sizes}
 use Rattle.reach_box.proofs.dirties.mark_maps_dirty.Goals as goal
 
-pub loop-place-init : goal.loop-place-init
-loop-place-init c = record {
-  dirties = expires_none (below_map c.args.maps.now c.args.boxes.now 0) c.args.marks.now.shown (no_map c.args.maps.now c.args.boxes.now);
+pub loop-i-init : goal.loop-i-init
+loop-i-init c = record {
+  dirties = expires_none (below_size c.args.maps.now c.args.boxes.now 0) c.args.marks.now.shown (no_size c.args.maps.now c.args.boxes.now c.requires.few c.requires.maps);
   moved = IsPermutation-refl c.args.boxes.now;
 }
 
-pub loop-place-preserved : goal.loop-place-preserved
-loop-place-preserved c = record {
+pub expire_bits_boxes-requires : goal.expire_bits_boxes-requires
+expire_bits_boxes-requires c = size_at c.loop-i.i (omega (arith, c.loop-i-test.true))
+
+pub loop-i-preserved : goal.loop-i-preserved
+loop-i-preserved c = record {
   dirties =
-      map_more c.args.maps.now c.args.boxes.now c.loop-place.place c.index-maps-place.result c.args.marks.now.shown c.loop-place.marks.shown c.expire_boxes.new.self.shown c.loop-place.clean c.expire_boxes.result c.saturating_add-clean.result
-      (slice_get_read c.args.maps.now (length c.args.maps.now) c.loop-place.place c.index-maps-place.result refl c.loop-place-test.true c.index-maps-place.is)
-      (subst (λ (mp : MapPlan). Expires (is_near_boxes c.loop-place.place mp.tile c.args.boxes.now) c.loop-place.marks.shown c.expire_boxes.new.self.shown c.expire_boxes.result) c.plan.view_is
-      (near_told c.loop-place.place c.plan.inside.tile c.args.boxes.now c.loop-place.boxes c.loop-place.marks.shown c.expire_boxes.new.self.shown c.expire_boxes.result c.loop-place.invariant.moved c.expire_boxes.type_inv c.expire_boxes.ensures.shown c.expire_boxes.ensures.count))
-      c.saturating_add-clean.ensures c.loop-place.invariant.dirties;
-  moved = IsPermutation-trans c.args.boxes.now c.loop-place.boxes c.expire_boxes.new.boxes c.loop-place.invariant.moved c.expire_boxes.ensures.moved;
+      size_more c.args.maps.now c.args.boxes.now c.requires.few c.requires.maps c.loop-i.i c.word_of-word.result _ c.args.marks.now.shown c.loop-i.marks.shown c.expire_bits_boxes.new.self.shown c.loop-i.clean c.expire_bits_boxes.result c.saturating_add-clean.result
+      (omega (arith, c.loop-i-test.true)) (size_whole c.loop-i.i (omega (arith, c.loop-i-test.true))) c.word_of-word.ensures
+      (near_told c.word_of-word.result _ c.args.boxes.now c.loop-i.boxes c.loop-i.marks.shown c.expire_bits_boxes.new.self.shown c.expire_bits_boxes.result c.loop-i.invariant.moved c.expire_bits_boxes.type_inv c.expire_bits_boxes.ensures.shown c.expire_bits_boxes.ensures.count)
+      c.saturating_add-clean.ensures c.loop-i.invariant.dirties;
+  moved = IsPermutation-trans c.args.boxes.now c.loop-i.boxes c.expire_bits_boxes.new.boxes c.loop-i.invariant.moved c.expire_bits_boxes.ensures.moved;
 }
 
 pub returns-clause-dirties : goal.returns-clause-dirties
-returns-clause-dirties c = map_all c.args.maps.now c.args.boxes.now c.loop-place.place c.args.marks.now.shown c.loop-place.marks.shown c.loop-place.clean (omega arith) c.loop-place.invariant.dirties
+returns-clause-dirties c = all_sizes c.args.maps.now c.args.boxes.now c.requires.few c.requires.maps c.loop-i.i (omega (arith, c.loop-i-test.false)) c.loop-i.invariant.dirties
