@@ -20,7 +20,7 @@ use tile_store::TileStore;
 /// Serves control lines until the front ends, as the front of that number: the lines of each connection
 /// are done in order, each is answered once, and what is owed is sent. The lists are those of `expire N`.
 /// It may wait.
-pub fn serve<R: Wait, D: TileStore, B: Bell, P: Ports>(
+pub fn serve<R: Wait, P: Ports, B: Bell, D: TileStore>(
     rt: &R,
     alloc: Global,
     front: u32,

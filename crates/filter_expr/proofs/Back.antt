@@ -5,7 +5,8 @@ use Rattle.plain_filters.specs.declared.ProductSign.TheVariants as product
 use Rattle.filter_expr.specs.declared.tokens.Token.{Token}
 use Rattle.filter_expr.specs.declared.tokens.Token.TheVariants as token
 use Rattle.filter_expr.specs.Trees.{Kind, JoinSign, or_sign, and_sign, sum_sign, product_sign, sign_token, Tree, Terms, leaf, negation, negative, comparison, chain, parens, no_terms, term, or_chain, and_chain, sum_chain, product_chain, joins, is_leaf, bare, bare_terms, InRange, TermsInRange}
-use Rattle.filter_expr.specs.Grammar.{kind_strength, Stands, StandTerms}
+use Rattle.filter_expr.specs.Grammar.{kind_strength}
+use Rattle.filter_expr.specs.inner.TreeGrammar.{Stands, StandTerms}
 use Rattle.filter_expr.specs.Seen.{shape, same_terms, sum_terms, product_terms}
 use Rattle.filter_expr.specs.FilterTexts.{sum_sign_of, product_sign_of, leaf_back, back, backs, back_sums, back_products}
 use Rattle.filter_expr.proofs.Rows.{wrong}

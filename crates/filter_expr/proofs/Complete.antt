@@ -8,7 +8,8 @@ use Rattle.filter_expr.specs.declared.faults.FilterFault.TheVariants.{Bad, Numbe
 use Rattle.plain_filters.specs.declared.CompareSign.{CompareSign}
 use Rattle.filter_expr.specs.Trees.{Kind, JoinSign, sign_token, Tree, Terms, leaf, negation, negative, comparison, chain, parens, no_terms, term, or_chain, and_chain, sum_chain, product_chain, joins, is_leaf, is_out_of_range, is_open_paren, is_minus, is_not, is_compare, is_close_paren, bare, bare_terms, nesting, nesting_terms, InRange, TermsInRange}
 use Rattle.filter_expr.specs.Seen.{Part, terms_of}
-use Rattle.filter_expr.specs.Grammar.{IsSpelled, AreSpelled, kind_strength, IsMany, Stands, StandTerms}
+use Rattle.filter_expr.specs.Grammar.{kind_strength}
+use Rattle.filter_expr.specs.inner.TreeGrammar.{IsSpelled, AreSpelled, IsMany, Stands, StandTerms}
 use Rattle.filter_expr.specs.Reading.{join_of, Step, got, failed, Reader, then_read, starts, with_front, later, chain_or_part, chain_after, chain_of, Inner, or_in, and_in, not_in, compare_in, sum_in, product_in, unary_in, atom_in, within_depth, compare_rest, got_negation, got_negative, close_read, sign_of}
 use Rattle.filter_expr.proofs.Signs.{sign_back}
 use Rattle.filter_expr.proofs.Chains.{later-stop, later-more}

@@ -7,7 +7,8 @@ use Rattle.filter_expr.specs.declared.tokens.PlacedToken.{PlacedToken}
 use Rattle.filter_expr.specs.declared.faults.FilterFault.{FilterFault}
 use Rattle.filter_expr.specs.declared.faults.FilterFault.TheVariants.{Bad, NumberRange, TooDeep, NoMemory}
 use Rattle.filter_expr.specs.Trees.{Kind, sign_token, Tree, Terms, leaf, negation, negative, comparison, chain, parens, no_terms, term, joins, is_leaf, is_out_of_range, is_end, is_unknown, bare, nesting, InRange, or_chain, and_chain, sum_chain, product_chain}
-use Rattle.filter_expr.specs.Grammar.{IsSpelled, AreSpelled, kind_strength, Stands, StandTerms}
+use Rattle.filter_expr.specs.Grammar.{kind_strength}
+use Rattle.filter_expr.specs.inner.TreeGrammar.{IsSpelled, AreSpelled, Stands, StandTerms}
 use Rattle.filter_expr.specs.inner.ByTrees.{IsText, IsFilter, IsFault, Begins, GoesOn, StandsAt, Passes, HasCause}
 use Rattle.filter_expr.proofs.Places.{IsAt}
 use Rattle.filter_expr.specs.Reading.{Step, got, failed, then_read, or_in, within_depth, end_read, whole_filter}

@@ -11,7 +11,8 @@ use Rattle.filter_expr.specs.declared.tokens.Token.TheVariants as token
 use Rattle.filter_expr.specs.declared.tokens.PlacedToken.{PlacedToken}
 use Rattle.filter_expr.specs.Spelled.{Spelled, Parts, Sums, Products, or_form, and_form, not_form, compare_form, sum_form, product_form, negate_form, parens_form, name_form, text_form, number_form, out_of_range_form, true_form, false_form, null_form, last_part, more_parts, last_sum, more_sums, last_product, more_products, sum_token, product_token}
 use Rattle.filter_expr.specs.Trees.{Kind, JoinSign, or_sign, and_sign, sum_sign, product_sign, Tree, Terms, leaf, negation, negative, comparison, chain, parens, no_terms, term, or_chain, and_chain, sum_chain, product_chain, joins, sign_token, is_leaf, is_out_of_range, bare, bare_terms, nesting, nesting_terms, InRange, TermsInRange}
-use Rattle.filter_expr.specs.Grammar.{IsSpelled, AreSpelled, kind_strength, IsMany, Stands, StandTerms}
+use Rattle.filter_expr.specs.Grammar.{kind_strength}
+use Rattle.filter_expr.specs.inner.TreeGrammar.{IsSpelled, AreSpelled, IsMany, Stands, StandTerms}
 use Rattle.filter_expr.specs.FilterTexts.{sum_sign_of, product_sign_of, leaf_back, back, backs, back_sums, back_products}
 use Rattle.filter_expr.specs.Filters.{tokens}
 use Rattle.filter_expr.proofs.Back.{or_again, and_again, sum_again, product_again}

@@ -7,7 +7,7 @@ use Rattle.filter_expr.specs.declared.faults.FilterFault.{FilterFault}
 use Rattle.filter_expr.specs.declared.faults.FilterFault.TheVariants.{Bad, NumberRange, TooDeep, NoMemory}
 use Rattle.filter_expr.specs.Trees.{Tree, bare, nesting, InRange, is_out_of_range}
 use Rattle.filter_expr.specs.Lexing.{tokens_from}
-use Rattle.filter_expr.specs.Grammar.{IsSpelled, Stands}
+use Rattle.filter_expr.specs.inner.TreeGrammar.{IsSpelled, Stands}
 use Rattle.filter_expr.specs.Filters.{OneTokenList}
 use Rattle.filter_expr.specs.inner.ByTrees.{IsText, IsFilter, IsFault, Begins, GoesOn, StandsAt, Passes, HasCause, may_open}
 use Rattle.filter_expr.specs.Reading.{Step, got, failed, or_in, within_depth, whole_filter}

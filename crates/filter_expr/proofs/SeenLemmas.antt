@@ -15,7 +15,8 @@ use Rattle.plain_filters.specs.Filters.{FilterTree, FilterTrees, SumTrees, Produ
 use Rattle.filter_expr.specs.declared.tokens.PlacedToken.{PlacedToken}
 use Rattle.filter_expr.specs.declared.tokens.Token.TheVariants as token
 use Rattle.filter_expr.specs.Trees.{Kind, JoinSign, or_sign, and_sign, sum_sign, product_sign, Tree, Terms, leaf, negation, negative, comparison, chain, parens, no_terms, term, or_chain, and_chain, sum_chain, product_chain, bare, bare_terms}
-use Rattle.filter_expr.specs.Grammar.{kind_strength, IsMany, Stands, StandTerms}
+use Rattle.filter_expr.specs.Grammar.{kind_strength}
+use Rattle.filter_expr.specs.inner.TreeGrammar.{IsMany, Stands, StandTerms}
 use Rattle.filter_expr.specs.inner.ByTrees.{IsFilter}
 use Rattle.filter_expr.specs.FilterTexts.{back, backs, back_sums, back_products}
 use Rattle.filter_expr.specs.inner.SeenParts.{tree_of_sum, tree_of_product, seen_sum, seen_product}

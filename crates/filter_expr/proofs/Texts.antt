@@ -9,7 +9,7 @@ use Rattle.filter_expr.specs.declared.tokens.PlacedToken.{PlacedToken}
 use Rattle.filter_expr.specs.declared.faults.FilterFault.{FilterFault}
 use Rattle.filter_expr.specs.declared.faults.FilterFault.TheVariants.{Bad, NumberRange, TooDeep, NoMemory}
 use Rattle.filter_expr.specs.Trees.{Tree, bare, nesting, InRange}
-use Rattle.filter_expr.specs.Grammar.{Stands}
+use Rattle.filter_expr.specs.inner.TreeGrammar.{Stands}
 use Rattle.filter_expr.specs.Seen.{seen, shape}
 use Rattle.filter_expr.specs.Spelling.{TokensOf}
 use Rattle.filter_expr.specs.Lexing.{tokens_from}

@@ -5,3 +5,4 @@ pub mod Kinds
 pub mod Parts
 pub mod SeenParts
 pub mod Shown
+pub mod TreeGrammar

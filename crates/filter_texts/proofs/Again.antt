@@ -15,7 +15,8 @@ use Rattle.filter_expr.specs.Trees.{Kind, Tree, Terms, leaf, negation, negative,
 use Rattle.filter_expr.specs.Seen.{shape}
 use Rattle.farm_base.specs.Digits.{is_digit, number_after}
 use Rattle.filter_expr.specs.Spelling.{IsDigits, digits_number, IsQuoting, SpellsToken, begins_with, EndsBefore, AreTokens, TokensOf}
-use Rattle.filter_expr.specs.Grammar.{IsSpelled, AreSpelled, kind_strength, strength, IsMany, Stands, StandTerms}
+use Rattle.filter_expr.specs.Grammar.{kind_strength, strength}
+use Rattle.filter_expr.specs.inner.TreeGrammar.{IsSpelled, AreSpelled, IsMany, Stands, StandTerms}
 use Rattle.filter_expr.specs.Filters.{FilterOf}
 use Rattle.filter_expr.specs.inner.ByTrees.{IsFilter}
 use Rattle.filter_texts.specs.Written.{escaped_text, spelling, parens_below, shown, shown_terms, tokens_in, tokens_of_terms, put_tokens, filter_text, ReadsAgain, AnswersAgain, IsKnownByText}

@@ -20,7 +20,7 @@ use tile_store::TileStore;
 /// Serves tiles over HTTP until the front ends, as the front of that number; it may wait. A connection has
 /// one request: `GET` of `/NAME/Z/X/Y.ppm`, or of the same with `/status` or `/dirty` behind it. It is
 /// closed when its answer was sent whole.
-pub fn serve<R: Wait, D: TileStore, B: Bell, P: Ports>(
+pub fn serve<R: Wait, P: Ports, B: Bell, D: TileStore>(
     rt: &R,
     alloc: Global,
     front: u32,

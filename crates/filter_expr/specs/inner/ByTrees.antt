@@ -6,7 +6,7 @@ use Rattle.filter_expr.specs.declared.tokens.PlacedToken.{PlacedToken}
 use Rattle.filter_expr.specs.declared.faults.FilterFault.{FilterFault}
 use Rattle.filter_expr.specs.declared.faults.FilterFault.TheVariants.{Bad, NumberRange, TooDeep, NoMemory}
 use Rattle.filter_expr.specs.Trees.{Tree, bare, nesting, InRange, is_out_of_range, is_not, is_minus, is_open_paren}
-use Rattle.filter_expr.specs.Grammar.{IsSpelled, Stands}
+use Rattle.filter_expr.specs.inner.TreeGrammar.{IsSpelled, Stands}
 
 -- all these tokens, the end of the text among them, spell the tree
 abbrev pub IsText : Tree → List PlacedToken → Type 0
