@@ -10,7 +10,7 @@ import subprocess
 import time
 
 import pictures
-from trial import Farm
+from trial import Farm, patient
 
 SIDE, TILE = 512, 256  # the window's and a tile's
 SLACK = 2  # a library may round a tile's place by as many pixels
@@ -61,7 +61,7 @@ class Browser:
         os.write(self.to, json.dumps(text).encode() + b"\0")
         while True:
             while b"\0" not in self.rest:
-                if not select.select([self.come], [], [], 60)[0]:
+                if not select.select([self.come], [], [], patient(60))[0]:
                     raise OSError("the browser does not answer %s" % method)
                 piece = os.read(self.come, 1 << 20)
                 if not piece:
@@ -84,7 +84,7 @@ class Browser:
     def end(self):
         self.session = None
         self.ask("Browser.close")
-        self.process.wait(60)
+        self.process.wait(patient(60))
 
 
 def shows(rows, picture):
@@ -99,7 +99,7 @@ def shows(rows, picture):
 
 def waits(browser, picture, seconds=150):
     """Whether the screen shows the tile within so many seconds."""
-    end = time.monotonic() + seconds
+    end = time.monotonic() + patient(seconds)
     while time.monotonic() < end:
         if shows(browser.screen(), picture):
             return True
