@@ -276,7 +276,7 @@ def short(value):
 
 def run(trials, seconds):
     """Runs trials over a folder and a report, within so many seconds in all, and removes the folder."""
-    seconds = patient(seconds)
+    seconds = int(patient(seconds))
     most = resource.getrlimit(resource.RLIMIT_NOFILE)[1]
     resource.setrlimit(resource.RLIMIT_NOFILE, (min(most, 16384) if most > 0 else 16384, most))
     subprocess.run([PROGRAM], stdout=subprocess.DEVNULL, stderr=subprocess.DEVNULL)  # builds it where it is not built
