@@ -166,7 +166,7 @@ apart_last (y ∷ fs) f x q apart is = go (q y) (apart_last fs f x q apart.1) is
     go true later is = let same : y ≡ f = cc in subst (λ (z : Flight). same_key x.key z.key ≡ false) same other
     go false later is = later is
 
-drawn_once : (p : Plan) (told : Bool) (h : List Entry) → Legal p told h → DrawnOnce h
+pub drawn_once : (p : Plan) (told : Bool) (h : List Entry) → Legal p told h → DrawnOnce h
 unfolding flights
 drawn_once p told h legal later between before worker other ticket next v w k is = go (is_finished_in between ticket) refl
   where
@@ -195,7 +195,7 @@ ended p g o f drawn answer fits (inl is) = is
 ended p g None f drawn answer fits (inr none) = absurd fits
 ended p g (Some x) f drawn answer fits (inr none) = cc
 
-left_dirty : (plan : FarmPlan) (told : Bool) (h : List Entry) → Legal (plan_of plan) told h → LeftDirty plan h
+pub left_dirty : (plan : FarmPlan) (told : Bool) (h : List Entry) → Legal (plan_of plan) told h → LeftDirty plan h
 unfolding Fits
 left_dirty plan told h legal later between before worker ticket v k drawn clean is touched =
     here (GapAt p) h (sound p told h legal).gap later ticket drawn clean g f is flies touched
@@ -215,9 +215,13 @@ left_dirty plan told h legal later between before worker ticket v k drawn clean 
     flies : flight_in (flights g) ticket ≡ Some f
     flies = ended p g (flight_in (flights g) ticket) f drawn (Stored clean) at.0 (only p told between worker ticket v k before at.1).found
 
+each_left_dirty : (plan : FarmPlan) (told : Bool) (h : List Entry) → Legal (plan_of plan) told h → EachPast (LeftDirty plan) h
+each_left_dirty plan told [] legal = left_dirty plan told [] legal
+each_left_dirty plan told (e ∷ g) legal = (left_dirty plan told (e ∷ g) legal, each_left_dirty plan told g legal.1)
+
 -- 4.
 
-names_stored : (plan : FarmPlan) (told : Bool) (h : List Entry) → Legal (plan_of plan) told h → NamesStored plan h
+pub names_stored : (plan : FarmPlan) (told : Bool) (h : List Entry) → Legal (plan_of plan) told h → NamesStored plan h
 names_stored plan told h legal = record {
   at_once = λ later g conn command spot is. at_moment (DoneAt (plan_of plan)) later _ g (subst (EachMoment (DoneAt (plan_of plan))) is (sound (plan_of plan) told h legal).done);
   by_reply = λ later g front r is done. subst (DoneReply g r) done (at_moment (DoneAt (plan_of plan)) later _ g (subst (EachMoment (DoneAt (plan_of plan))) is (sound (plan_of plan) told h legal).done));
@@ -227,6 +231,6 @@ pub headline : LawHeadline
 headline plan told h valid legal = record {
   clean_tiles = clean_tiles plan told h valid legal;
   drawn_once = drawn_once (plan_of plan) told h legal;
-  left_dirty = left_dirty plan told h legal;
+  left_dirty = each_left_dirty plan told h legal;
   done = names_stored plan told h legal;
 }

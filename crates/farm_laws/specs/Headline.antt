@@ -14,7 +14,7 @@ use Rattle.farm_history.specs.declared.answers.ClaimAnswer.TheVariants.{Job}
 use Rattle.farm_history.specs.declared.answers.Finished.TheVariants.{Stored}
 use Rattle.farm_history.specs.declared.answers.Fetched.{Fetched}
 use Rattle.farm_history.specs.declared.answers.Collected.{Collected}
-use Rattle.farm_history.specs.Entries.{Entry, Ask, Claim, Finish, Fetch, Collect}
+use Rattle.farm_history.specs.Entries.{Entry, Ask, Claim, Finish, Fetch, Collect, EachPast}
 use Rattle.farm_history.specs.Plans.{key_of, map_of, spot_tile}
 use Rattle.farm_history.specs.Past.{data_after, version, style_after, is_touched_after, is_clean}
 use Rattle.farm_history.specs.Rules.{Legal}
@@ -81,7 +81,7 @@ pub record NamesStored (plan : FarmPlan) (h : List Entry) : Type 0 where
 pub record Headline (plan : FarmPlan) (store_tells : Bool) (h : List Entry) : Type 0 where
   pub clean_tiles : CleanTiles plan store_tells h
   pub drawn_once : DrawnOnce h
-  pub left_dirty : LeftDirty plan h
+  pub left_dirty : EachPast (LeftDirty plan) h
   pub done : NamesStored plan h
 
 -- Each legal history of a valid plan keeps it

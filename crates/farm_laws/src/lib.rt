@@ -12,6 +12,7 @@ ghost use Rattle.farm_history.specs.Laws.{IsLocal, LawApart, LawNow, LawOneReply
 ghost use Rattle.farm_history.specs.Replays.{LawResumed, IsSaved, replay};
 ghost use Rattle.farm_history.specs.Rules.{Legal};
 ghost use Rattle.farm_laws.specs.Headline.{LawHeadline};
+ghost use Rattle.farm_laws.specs.Promise.{LawPromise};
 ghost use Rattle.farm_laws.specs.Locality.{LawLocal, LawPassedOver, LawSentNow, LawUpdatesLocal};
 ghost use Rattle.farm_laws.specs.Examples.{changing, changed, saved_changes, resumed_changes, low_narrow, narrow, plain, renewed, restyled, updated, asked_twice, expired_while_drawn, updated_then_expired, expired_from_above, updated_while_drawn, queues_filled, asked_just_often, asked_too_often, put_failed, drawing_cut, left_alone, lifted_from_bulk, marked_dirty, restyled_while_drawn, renewed_one, renewed_both, has_each};
 ghost use Rattle.farm_laws.specs.Mistakes.{IsMistake, stored_clean_though_expired, clean_by_version, dirty_by_update, updated_past_the_table, update_fault_passed_over, queued_while_drawn, claimed_twice, replied_out_of_order, drawn_over_newest_data, expired_on_its_zoom_alone, expired_beside, joined_though_overtaken, dirty_before_low, dropped_though_room, deferred_past_the_limit, more_drawn_than_workers, claimed_after_stop, shown_after_failed_put, done_after_failed_put, stored_though_cut, ended_twice, replied_though_left, left_with_its_items, counted_before_collected, queued_a_second_time, joined_in_bulk, marked_and_clean, clean_in_the_old_style, drawn_in_the_old_style, restyled_past_the_table, clean_though_reached, renewed_out_of_reach, gone_though_told};
@@ -22,6 +23,12 @@ ghost use Rattle.farm_laws.specs.Mistakes.{IsMistake, stored_clean_though_expire
 /// a later drawing of it is stored; and every Done names a metatile that was clean at the ask or stored after it.
 pub fn law_headline()
     ensures { LawHeadline }
+{}
+
+/// The same, said over one word, `Drawing`: and of what is touched while it is being drawn, that wherever it is clean later
+/// another drawing of it was claimed after that and stored.
+pub fn law_promise()
+    ensures { LawPromise }
 {}
 
 /// In each legal history: every tile sent as clean is of a drawing that was claimed and then stored, and nothing
