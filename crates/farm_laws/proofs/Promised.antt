@@ -11,20 +11,19 @@ use Rattle.farm_history.specs.declared.asks.AskAnswer.{AskAnswer}
 use Rattle.farm_history.specs.declared.answers.ClaimAnswer.TheVariants.{Job}
 use Rattle.farm_history.specs.declared.answers.Finished.TheVariants.{Stored}
 use Rattle.farm_history.specs.declared.answers.Fetched.{Fetched}
-use Rattle.farm_history.specs.Entries.{Entry, Ask, Claim, Finish, Fetch}
+use Rattle.farm_history.specs.Entries.{Entry, Ask, Claim, Finish, Fetch, EachMoment}
 use Rattle.farm_history.specs.Plans.{Plan, same_key, key_of, map_of, spot_tile}
 use Rattle.farm_history.specs.Past.{Flight, flights, flight_in, is_on, version, is_touched_after, is_clean, drawn_after, data_after, style_after}
 use Rattle.farm_history.specs.Rules.{Fits, Legal}
-use Rattle.farm_history.specs.Laws.{is_stored_in, is_stored_after, is_claimed_after, is_redrawn_after, StaysDirty as StaysDirtyAt, IsStoredFor}
+use Rattle.farm_history.specs.Laws.{is_stored_in, is_stored_after, is_claimed_after, is_redrawn_after, StaysDirty as StaysDirtyAt, IsStoredFor, DoneAt, DoneReply}
 use Rattle.farm_history.proofs.Lists.{same_key-true, find-passes, each-find}
 use Rattle.farm_history.proofs.Since.{clean_since}
-use Rattle.farm_history.proofs.Sounds.{IsClaimed, flights_claimed, legal_before, sent_clean, shown_drawn}
+use Rattle.farm_history.proofs.Sounds.{IsClaimed, flights_claimed, legal_before, sent_clean, shown_drawn, sound}
 use Rattle.farm_plan.specs.Plans.{MapPlan, FarmPlan, IsPlan}
 use Rattle.farm_plan.specs.Drawings.{tile_in, data_of, plan_of}
 use Rattle.farm_plan.proofs.Spots.{spot_of}
-use Rattle.farm_laws.specs.Headline.{is_finished_in}
-use Rattle.farm_laws.specs.Promise.{Drawing, IsTouched, IsClean, IsAnswered, StaysDirty, Promise, LawPromise}
-use Rattle.farm_laws.proofs.Sentences.{drawn_once, left_dirty, names_stored}
+use Rattle.farm_laws.specs.Promise.{is_finished_in, Drawing, IsTouched, IsClean, IsAnswered, StaysDirty, Promise, LawPromise}
+use Rattle.farm_laws.proofs.Sentences.{at_moment, drawn_once, left_dirty}
 
 -- ---- lists
 
@@ -56,8 +55,8 @@ stored_more (Finish t' drawn (Stored clean)) since t h = grind arith
 stored_more (Finish t' drawn _) since t h = h
 stored_more _ since t h = h
 
-abbrev later : (e : Entry) (g : List Entry) (k : Key) → Drawing g k → Drawing (e ∷ g) k
-later e g k d = record { since = e ∷ d.since; worker = d.worker; ticket = d.ticket; of_version = d.of_version; before = d.before; is_in = ap (λ x. e ∷ x) d.is_in }
+abbrev one_more : (e : Entry) (g : List Entry) (k : Key) → Drawing g k → Drawing (e ∷ g) k
+one_more e g k d = record { since = e ∷ d.since; worker = d.worker; ticket = d.ticket; of_version = d.of_version; before = d.before; is_in = ap (λ x. e ∷ x) d.is_in }
 
 -- one that has all of the second part behind it stands in the first
 abbrev among : (first rest : List Entry) (k : Key) (d : Drawing (first ++ rest) k) → length rest ≤ length d.before → Drawing first k
@@ -81,7 +80,7 @@ record IsRedrawn (h : List Entry) (place : ℕ) (k : Key) : Type 0 where
   pub stored : is_stored_in drawing.since drawing.ticket ≡ true
 
 redrawn_more : (e : Entry) (g : List Entry) (place : ℕ) (k : Key) → IsRedrawn g place k → IsRedrawn (e ∷ g) place k
-redrawn_more e g place k r = record { drawing = later e g k r.drawing; behind = r.behind; stored = stored_more e r.drawing.since r.drawing.ticket r.stored }
+redrawn_more e g place k r = record { drawing = one_more e g k r.drawing; behind = r.behind; stored = stored_more e r.drawing.since r.drawing.ticket r.stored }
 
 under : (a b : ℕ) → nat_lt a b ≡ true → a < b
 under a b h = grind (arith, nat_tests)
@@ -118,7 +117,7 @@ record IsStoredSince (g since : List Entry) (k : Key) : Type 0 where
   pub stored : is_stored_in since drawing.ticket ≡ true
 
 since_more : (e : Entry) (g since : List Entry) (k : Key) → IsStoredSince g since k → IsStoredSince (e ∷ g) (e ∷ since) k
-since_more e g since k s = record { drawing = later e g k s.drawing; stored = stored_more e since s.drawing.ticket s.stored }
+since_more e g since k s = record { drawing = one_more e g k s.drawing; stored = stored_more e since s.drawing.ticket s.stored }
 
 no_either : (a b c : Bool) → b ≡ false → c ≡ false → ((a && b) || c) ≡ false
 no_either true false false p q = refl
@@ -216,7 +215,7 @@ module _ (plan : FarmPlan) (tells : Type 0) (told : Bool) (h : List Entry) (vali
 
   once : (later g : List Entry) (worker ticket v : ℕ) (k : Key) → h ≡ later ++ Claim worker (Job ticket k v) ∷ g → (d : Drawing g k) → is_finished_in d.since d.ticket ≡ true
   once later g worker ticket v k is d =
-      drawn_once p told h legal later d.since d.before d.worker worker d.ticket ticket d.of_version v k (is ∙ ap (λ x. later ++ Claim worker (Job ticket k v) ∷ x) d.is_in)
+      drawn_once p told d.since d.before d.worker worker d.ticket ticket d.of_version v k (subst (λ (x : List Entry). Legal p told (Claim worker (Job ticket k v) ∷ x)) d.is_in (at told later _ g is legal))
 
   module _ (later g : List Entry) (k : Key) (d : Drawing g k) (drawn clean : Bool) (is : h ≡ later ++ Finish d.ticket drawn (Stored clean) ∷ g) (touched : IsTouched plan tells g k d) where
     abbrev stored : Entry
@@ -225,8 +224,7 @@ module _ (plan : FarmPlan) (tells : Type 0) (told : Bool) (h : List Entry) (vali
     stays : (h' later' : List Entry) → Legal p told h' → h' ≡ later' ++ stored ∷ g → StaysDirtyAt p h' (length g) k clean
     stays h' later' legal' is' =
         subst (λ (x : List Entry). StaysDirtyAt p h' (length x) k clean) (sym d.is_in)
-        (left_dirty plan told h' legal' later' d.since d.before d.worker d.ticket d.of_version k drawn clean
-        (is' ∙ ap (λ x. later' ++ stored ∷ x) d.is_in)
+        (left_dirty p told h' later' d.since d.before d.worker d.ticket d.of_version k drawn clean legal' (is' ∙ ap (λ x. later' ++ stored ∷ x) d.is_in)
         (subst (λ (x : List Entry). is_touched_after p x (length d.before) k ≡ true) d.is_in touched))
 
     until : StaysDirty plan tells later (stored ∷ g) k
@@ -241,13 +239,16 @@ module _ (plan : FarmPlan) (tells : Type 0) (told : Bool) (h : List Entry) (vali
     dirty : (clean ≡ false) × StaysDirty plan tells later (stored ∷ g) k
     dirty = ((stays h later legal is).stored_dirty, until)
 
+  done_at : (later : List Entry) (e : Entry) (g : List Entry) → h ≡ later ++ e ∷ g → DoneAt p g e
+  done_at later e g is = at_moment (DoneAt p) later e g (subst (EachMoment (DoneAt p)) is (sound p told h legal).done)
+
   pub keeps : Promise plan tells h
   keeps = record {
     clean_tiles = clean;
     drawn_once = once;
     left_dirty = dirty;
-    done_at_once = (names_stored plan told h legal).at_once;
-    done_by_reply = λ later g front r is done. answered p told g r (at told later _ g is legal).1 ((names_stored plan told h legal).by_reply later g front r is done);
+    done_at_once = λ later g conn command spot is. done_at later _ g is;
+    done_by_reply = λ later g front r is done. answered p told g r (at told later _ g is legal).1 (subst (DoneReply g r) done (done_at later _ g is));
   }
 
 pub promise : LawPromise
