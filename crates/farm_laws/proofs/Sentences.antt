@@ -15,9 +15,9 @@ use Rattle.farm_history.specs.Laws.{flight_key, GapAt, StaysDirty}
 use Rattle.farm_history.proofs.Lists.{same_key-self, any-append, each-map, each-none, find-none}
 use Rattle.farm_history.proofs.Apart.{job_is_next}
 use Rattle.farm_history.proofs.Numbers.{tickets_below}
-use Rattle.farm_history.proofs.Flying.{ends_ticket, still_flies}
+use Rattle.farm_history.proofs.Flying.{still_flies}
 use Rattle.farm_history.proofs.Sounds.{legal_before, sound}
-use Rattle.farm_laws.specs.Promise.{is_finish_of, is_finished_in}
+use Rattle.farm_laws.specs.Promise.{is_finished_in}
 
 -- What holds at each moment, and of each past, at one of them.
 
@@ -108,16 +108,14 @@ only p told (e ∷ between) worker t v k before legal = only_later p told e (bet
 
 -- No metatile is drawn twice at once.
 
-same_test : (e : Entry) (t : ℕ) → is_finish_of t e ≡ ends_ticket e t
-same_test (Finish u drawn answer) t = refl
-same_test e t = refl
-
 -- without its Finish a drawing is still under way
 still : (p : Plan) (told : Bool) (between : List Entry) (worker t v : ℕ) (k : Key) (before : List Entry) → Legal p told (between ++ Claim worker (Job t k v) ∷ before) → is_finished_in between t ≡ false →
     flight_in (flights (between ++ Claim worker (Job t k v) ∷ before)) t ≡ Some (flight_of t k before)
 still p told [] worker t v k before legal none = new_flies p told worker t v k before legal
+still p told (Finish u drawn answer ∷ between) worker t v k before legal none =
+    still_flies (Finish u drawn answer) (between ++ Claim worker (Job t k v) ∷ before) t (flight_of t k before) (grind arith) (still p told between worker t v k before legal.1 (grind arith))
 still p told (e ∷ between) worker t v k before legal none =
-    still_flies e (between ++ Claim worker (Job t k v) ∷ before) t (flight_of t k before) (grind (arith, same_test e t)) (still p told between worker t v k before legal.1 (grind arith))
+    still_flies e (between ++ Claim worker (Job t k v) ∷ before) t (flight_of t k before) refl (still p told between worker t v k before legal.1 none)
 
 apart_last : (fs : List Flight) (f x : Flight) (q : Flight → Bool) → AreApart flight_key (fs ++ x ∷ []) → find q fs ≡ Some f → same_key x.key f.key ≡ false
 apart_last [] f x q apart is = cc

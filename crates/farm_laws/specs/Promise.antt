@@ -2,8 +2,7 @@
 -- `tells` says that the store tells what it holds; what is said of bytes needs it, and nothing else does. These words may be taken by their names:
 -- key_of, map_of, spot_tile: the metatile of a spot with its map, its map, its tile; version: how many updates succeeded; data_after: which did, in order; style_after: the style that a map was last given;
 -- is_clean: a drawing of the key is stored and shown, and nothing has touched the key since its Claim; drawn_tile: the picture of a tile, pixel by pixel.
-use Rattle.std.specs.Prelude.{ℕ, Bool, true, false, ◌≡◌, ◌==◌, List, ◌∷◌, ◌++◌, length, slice_get, Some}
-use Rattle.std.specs.List.{list_any}
+use Rattle.std.specs.Prelude.{ℕ, Bool, true, false, ◌≡◌, ◌==◌, ◌||◌, List, [], ◌∷◌, ◌++◌, length, slice_get, Some}
 use Rattle.plain_drawing.specs.Drawing.{drawn_tile}
 use Rattle.farm_history.specs.declared.keys.Key.{Key}
 use Rattle.farm_history.specs.declared.queues.Conn.{Conn}
@@ -24,14 +23,11 @@ use Rattle.farm_history.specs.Laws.{is_stored_in}
 use Rattle.farm_plan.specs.Plans.{MapPlan, FarmPlan, IsPlan}
 use Rattle.farm_plan.specs.Drawings.{data_of, styled_as, plan_of}
 
--- whether the entry is the Finish of that ticket
-abbrev pub is_finish_of : ℕ → Entry → Bool
-is_finish_of ticket (Finish t drawn answer) = t == ticket
-is_finish_of ticket _ = false
-
--- whether the Finish of that ticket stands among the entries
+-- whether the drawing of that ticket is finished in those entries
 abbrev pub is_finished_in : List Entry → ℕ → Bool
-is_finished_in entries ticket = list_any (is_finish_of ticket) entries
+is_finished_in [] ticket = false
+is_finished_in (Finish t drawn answer ∷ g) ticket = t == ticket || is_finished_in g ticket
+is_finished_in (_ ∷ g) ticket = is_finished_in g ticket
 
 -- a drawing of the key, among these entries: the Claim that gave it, with its ticket, what came before that, and what came since
 pub record Drawing (h : List Entry) (k : Key) : Type 0 where
