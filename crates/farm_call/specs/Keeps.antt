@@ -42,13 +42,11 @@ module _ {D : Type 0} (state : D → Outside StoreTold) (was : CallBefore D) (is
     pub asks : Asks was.words course
     pub leads : IfSome was.files.told (λ t. Leads t.content course left)
 
-  -- they make this work of what is asked; they refuse it by this line; this file is to be read next
+  -- they make this work of what is asked; they refuse it by this line
   abbrev pub FilesMake : Work → Type 0
   FilesMake work = ComesTo (made work)
   abbrev pub FilesRefuse : List ℕ → Type 0
   FilesRefuse line = ComesTo (refused line)
-  abbrev pub FilesWant : List ℕ → (List ℕ → Course Work) → Type 0
-  FilesWant name on = ComesTo (reads name on)
 
   -- it is the line of what is saved in the store, which the configuration says is to be resumed
   pub record SavedRefused (line : List ℕ) : Type 0 where
@@ -64,7 +62,7 @@ module _ {D : Type 0} (state : D → Outside StoreTold) (was : CallBefore D) (is
   pub record ReadFailed (line : List ℕ) : Type 0 where
     pub name : List ℕ
     pub on : List ℕ → Course Work
-    pub next : FilesWant name on
+    pub next : ComesTo (reads name on)
     pub line_is : line ≡ unreadable_line name
     pub failed : is.files.told ≡ option_map (with_failed (failed_read name)) was.files.told
     pub rose : Rose was.files.faults is.files.faults
@@ -116,8 +114,7 @@ module _ {D : Type 0} (state : D → Outside StoreTold) (was : CallBefore D) (is
       ⊎ (SavedRefused line × (is.out ≡ was.out)
       × StoreIsLeft (λ store. state store ≡ state was.store)))
   Cause (Err stop.NoMemory) =
-      (Idle × ((is.files ≡ was.files) ⊎ ((line : List ℕ) × ReadFailed line)))
-      ⊎ Worked (Err stop.NoMemory)
+      (Idle × ((is.files ≡ was.files) ⊎ ((line : List ℕ) × ReadFailed line))) ⊎ Worked (Err stop.NoMemory)
   Cause end = Worked end
 
   -- ---- What is promised

@@ -57,8 +57,7 @@ module _ {D : Type 0} (state : D → Outside StoreTold) (was : CallBefore D) (is
     pub saving : Saving
     pub is_saved : IsSaved (plan_of plan) h saving
     pub before : Outside StoreTold
-    pub puts : StorePuts before (state (store_of is.left)) saved_path (saved_bytes saving)
-        (Err Failed)
+    pub puts : StorePuts before (state (store_of is.left)) saved_path (saved_bytes saving) (Err Failed)
 
   -- What was saved, by whether a farm is to be resumed, why the run ended and how the saving went:
   -- after a run that ended in order the text of what is saved after its history, where it could be
@@ -73,8 +72,7 @@ module _ {D : Type 0} (state : D → Outside StoreTold) (was : CallBefore D) (is
   SavesSo plan h resume (Err why) saved = (saved ≡ Err why) × (resume ≡ true → HoldsSaved [])
 
   -- **A farm was served.** `s` is what its files say
-  pub record ServedWell (s : ServeInputs) (farm : FarmSeen D) (turns : List (ℕ × Entry)) (end : End)
-      : Type 0 where
+  pub record ServedWell (s : ServeInputs) (farm : FarmSeen D) (turns : List (ℕ × Entry)) (end : End) : Type 0 where
     -- 1. The farm has the plan that the files spell; it began over the store that was handed in,
     -- with what is saved there, if the configuration says so; it stands for all that happened,
     -- which is legal; and each entry is of a seat that may make it
@@ -115,8 +113,7 @@ module _ {D : Type 0} (state : D → Outside StoreTold) (was : CallBefore D) (is
     pub saves : SavesSo farm.plan (whole_history state farm turns) s.config.resume
         (why_ended (ends.worn || not ends.stopped || is_none ends.tally)
         (map (λ (d : FrontDone). d.end) is.fronts)) saved
-    pub unsaved : s.config.resume ≡ false
-        → at_saved (state (store_of is.left)) ≡ at_saved (state was.store)
+    pub unsaved : s.config.resume ≡ false → at_saved (state (store_of is.left)) ≡ at_saved (state was.store)
     pub turns_gone : saved ≡ Err stop.TurnsUsedUp → most_turns ≤ length turns
     pub counted : TellsCounts ends.tally was.out is.out saved end
     -- 8. A Collect that gave no reply left none that had ended; and where all ended in order

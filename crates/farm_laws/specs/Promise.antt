@@ -56,7 +56,7 @@ module _ (plan : FarmPlan) (tells : Type 0) where
   IsTouched h k d = is_touched_after (plan_of plan) h (length d.before) k ≡ true
 
   -- the bytes are the plain drawing of the spot's tile: in the style that its map has after g, over the data after `before`
-  pub record IsPlain (g before : List Entry) (spot : Spot) (bytes : List ℕ) : Type 0 where
+  pub record IsPlainTile (g before : List Entry) (spot : Spot) (bytes : List ℕ) : Type 0 where
     pub map : MapPlan
     pub is_map : slice_get plan.maps (map_of spot) ≡ Some map
     pub are : bytes ≡ drawn_tile (styled_as plan map (style_after (plan_of plan) g (map_of spot))) map.tile (spot_tile spot) (data_of plan (data_after before))
@@ -67,7 +67,7 @@ module _ (plan : FarmPlan) (tells : Type 0) where
     pub stored : is_stored_in drawing.since drawing.ticket ≡ true
     pub untouched : is_touched_after (plan_of plan) g (length drawing.before) (key_of spot) ≡ false
     pub version_is : (v ≡ version drawing.before) × (v ≡ drawing.of_version)
-    pub plain : tells → IsPlain g drawing.before spot bytes
+    pub plain : tells → IsPlainTile g drawing.before spot bytes
 
   -- wherever the key is clean later, g being what came before `later`, a drawing of it was claimed after g and stored
   abbrev pub StaysDirty : (later g : List Entry) → Key → Type 0
