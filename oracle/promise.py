@@ -9,7 +9,7 @@ to say something, they are tried over mistaken histories too: each of these keep
 breaks with it the sentence that stands beside it, and no other. `--gate` is shorter, at most a minute where the machine
 is idle. What a picture must be is drawn by `tilefarm.py`; Python 3 and nothing else is needed.
 
-The properties say in the words of an ordinary test what `crates/farm_laws/specs/Headline.antt` says, which is proved of
+The properties say in the words of an ordinary test what `crates/farm_laws/specs/Promise.antt` says, which is proved of
 every history; a history here is one that was seen.
 """
 
