@@ -199,7 +199,6 @@ module _ {D : Type 0} (state : D → Outside StoreTold) (was : CallBefore D) (is
       (subst (EachMoment (IsSentNow served.first.plan)) whole_first
       (served.runs.sent_now (may_first true (λ is. tells) refl) (subst (λ (g : List Entry). has_plain_update g ≡ false) (sym whole_first) renewed)))
 
-
   resumes : ResumesFrom (state was.store) closed.0.plan s.config.resume closed.0.saved
   resumes =
       subst (λ (p : FarmPlan). ResumesFrom (state was.store) p s.config.resume closed.0.saved) (sym plan_left)

@@ -45,6 +45,7 @@ module _ {D : Type 0} (state : D → Outside StoreTold) (was : CallBefore D) (is
   -- they make this work of what is asked; they refuse it by this line
   abbrev pub FilesMake : Work → Type 0
   FilesMake work = ComesTo (made work)
+
   abbrev pub FilesRefuse : List ℕ → Type 0
   FilesRefuse line = ComesTo (refused line)
 

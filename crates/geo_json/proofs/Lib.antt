@@ -3,4 +3,3 @@ pub mod Keys
 pub mod Ids
 pub mod Parts
 pub mod Validity
-pub mod Gathered

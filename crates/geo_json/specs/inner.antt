@@ -1,4 +1,3 @@
-pub mod Gathered
 pub mod Keys
 pub mod KnownIds
 pub mod Parts

@@ -8,8 +8,7 @@ mod faults;
 mod feature_texts;
 mod geometries;
 mod openings;
-mod pulled_data;
-mod pulled_layers;
+mod settled;
 mod updates;
 
 pub use coordinates::Units;
