@@ -21,7 +21,7 @@ from farmctl import client as farmclient  # noqa: E402  (the path has to be ther
 PROGRAM = os.environ.get("TILEFARM", os.path.join(TOP, "tilefarm"))
 FARMCTL = os.path.join(TOP, "farmctl", "bin", "farmctl")
 PYTHON = "/usr/bin/python3" if os.path.exists("/usr/bin/python3") else sys.executable  # Debian's own has Debian's libraries
-LIBRARIES = {"aiohttp": "python3-aiohttp", "PIL": "python3-pil", "numpy": "python3-numpy"}
+LIBRARIES = {"prometheus_client": "python3-prometheus-client", "aiohttp": "python3-aiohttp", "PIL": "python3-pil", "numpy": "python3-numpy"}
 MIDDLE = 2**29  # the column and row of world units where tile 14/8192/8192 begins
 TILE = 2**16  # and how many of them a tile of zoom 14 is wide
 HERE = (14, 8192, 8192)  # a tile with land; a road comes with update 0
@@ -78,7 +78,7 @@ def patient(seconds):
 
 def tool(name, *words, folder, given=""):
     """The status of one of farmctl's commands for the farm of a folder, and all that it says."""
-    words = [FARMCTL, "--program", PROGRAM, "-c", folder.name("farm.json"), *([name] + list(words))]
+    words = [PYTHON, FARMCTL, "--program", PROGRAM, "-c", folder.name("farm.json"), *([name] + list(words))]
     done = subprocess.run(words, cwd=folder.path, input=given, stdout=subprocess.PIPE, stderr=subprocess.STDOUT, text=True, timeout=600)
     return done.returncode, done.stdout
 

@@ -3,3 +3,4 @@ pub mod Keys
 pub mod Ids
 pub mod Parts
 pub mod Validity
+pub mod Gathered

@@ -8,7 +8,8 @@ mod faults;
 mod feature_texts;
 mod geometries;
 mod openings;
-mod settled;
+mod pulled_data;
+mod pulled_layers;
 mod updates;
 
 pub use coordinates::Units;

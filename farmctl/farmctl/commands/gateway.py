@@ -45,7 +45,7 @@ def add(parser: argparse.ArgumentParser) -> None:
                         help="browsers may keep clean tiles as long (%(default)s: they ask each time, and are answered 304)")  # fmt: skip
     parser.add_argument("--shared-max-age", metavar="SECONDS", type=int,
                         help="caches that serve many may (as --max-age), for example nginx before this")  # fmt: skip
-    parser.add_argument("--memory", metavar="MIB", type=int, default=64, help="for pictures, in each process (%(default)s)")
+    parser.add_argument("--memory", metavar="MIB", type=int, default=64, help="for pictures, in each process (%(default)s; 0: none is kept)")
     parser.add_argument("--view", metavar="Z/LAT/LON", default="2/20/0", help="what the page shows first (%(default)s)")
     parser.add_argument("--public", metavar="URL", help="the address in TileJSON (that which was asked)")
     parser.add_argument("--origin", metavar="ORIGIN", default="*",
@@ -74,8 +74,8 @@ def settings_of(args: argparse.Namespace) -> Settings:
     maps = maps_of(farm.config)
     if not maps:
         raise FarmError(f"{farm.path}: no maps")
-    if min(args.processes, args.memory) < 1 or min(args.keep, args.max_age, args.shared_max_age or 0) < 0:
-        raise FarmError("--processes and --memory are at least 1, and no age is less than 0", USAGE)
+    if args.processes < 1 or min(args.memory, args.keep, args.max_age, args.shared_max_age or 0) < 0:
+        raise FarmError("--processes is at least 1, --memory and ages are at least 0", USAGE)
     return Settings(
         farm=farm.address("tiles"), maps=maps, view=view_of(args.view), max_age=args.max_age,
         shared_max_age=args.shared_max_age, keep=args.keep, memory=args.memory << 20,
