@@ -38,18 +38,18 @@ known_put_at Equal names k l d e ms one here known later = rw (here, known) refl
 known_put_at Greater names k l d e ms one here known later = rw (here, later) refl
 
 -- a key more that may be there
-known_put : (names : List (List ℕ)) (k : List ℕ) (d : Data) (ms : Members) → is_one_of names k ≡ true → members_known names ms ≡ true → members_known names (put k d ms) ≡ true
+pub known_put : (names : List (List ℕ)) (k : List ℕ) (d : Data) (ms : Members) → is_one_of names k ≡ true → members_known names ms ≡ true → members_known names (put k d ms) ≡ true
 known_put names k d no_members one known = rw one refl
 known_put names k d (member l e ms) one known =
     let both = and_parts (is_one_of names l) (members_known names ms) known in
     known_put_at (slice_cmp nat_cmp k l) names k l d e ms one both.0 both.1 (known_put names k d ms one both.1)
 
 -- what stands at a key, after the value at it was put
-put_here : (P : Option Data → Type 0) (k : List ℕ) (d : Data) (ms : Members) → P (Some d) → P (get_member k (put k d ms))
+pub put_here : (P : Option Data → Type 0) (k : List ℕ) (d : Data) (ms : Members) → P (Some d) → P (get_member k (put k d ms))
 put_here P k d ms here = subst P (sym (get_member-put k d ms)) here
 
 -- what stands at another key stays
-put_there : (P : Option Data → Type 0) (q k : List ℕ) (d : Data) (ms : Members) → (q ≡ k → ⊥) → P (get_member q ms) → P (get_member q (put k d ms))
+pub put_there : (P : Option Data → Type 0) (q k : List ℕ) (d : Data) (ms : Members) → (q ≡ k → ⊥) → P (get_member q ms) → P (get_member q (put k d ms))
 put_there P q k d ms other there = subst P (sym (get_member-put_other q k d ms other)) there
 
 -- ---- a layer
@@ -75,7 +75,7 @@ layer_filled units part name features fs ds ms read new parts = (
 pub new_more : (before : List Feature) (f : Feature) → length before < 1000000 → AreNew before → is_new before f ≡ true → AreNew (before ++ f ∷ [])
 new_more before f room new fresh = (omega (arith, length-append before (f ∷ [])), each_more is_new before (before ++ f ∷ []) f refl new.1 fresh)
 
-few_items : {A : Type 0} (read : List A → Data → Result A DataFault) (xs : List A) (ds : Items) → list_of read ds ≡ Ok xs → length xs ≤ 1000000 → nat_le (items_len ds) 1000000 ≡ true
+pub few_items : {A : Type 0} (read : List A → Data → Result A DataFault) (xs : List A) (ds : Items) → list_of read ds ≡ Ok xs → length xs ≤ 1000000 → nat_le (items_len ds) 1000000 ≡ true
 few_items read xs ds is few = let many = as_many read [] xs ds is in grind (arith, nat_tests)
 
 -- the parts are a layer

@@ -4,3 +4,4 @@ pub mod Ids
 pub mod Parts
 pub mod Validity
 pub mod Gathered
+pub mod GatheredUpdates

@@ -101,7 +101,7 @@ fn open_feature(object: &Value, shape: DataFault) -> Result<(), DataFault>
 
 /// The feature that the value says, at its place in the list of its layer or change.
 #[tactic(auto, unfolding(crate::specs::FeatureTexts::feature_of))]
-fn feature(
+pub(crate) fn feature(
     alloc: Global,
     units: Units,
     part: u32,

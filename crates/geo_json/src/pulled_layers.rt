@@ -23,11 +23,11 @@ use pulled_json::{PullItem, PullMember, pull_list, pull_object, str_from, value_
 use std::alloc::Global;
 use std::collections::BTreeSet;
 
-/// The units and the place of a layer.
+/// The units and the place of a layer or change.
 #[derive(Clone, Copy)]
-struct Place {
-    units: Units,
-    part: u32,
+pub(crate) struct Place {
+    pub(crate) units: Units,
+    pub(crate) part: u32,
 }
 
 /// The next value as a name of 1 to 64 bytes.
