@@ -21,7 +21,7 @@ from farmctl import client as farmclient  # noqa: E402  (the path has to be ther
 PROGRAM = os.environ.get("TILEFARM", os.path.join(TOP, "tilefarm"))
 FARMCTL = os.path.join(TOP, "farmctl", "bin", "farmctl")
 PYTHON = "/usr/bin/python3" if os.path.exists("/usr/bin/python3") else sys.executable  # Debian's own has Debian's libraries
-LIBRARIES = {"prometheus_client": "python3-prometheus-client", "aiohttp": "python3-aiohttp", "PIL": "python3-pil", "numpy": "python3-numpy"}
+LIBRARIES = {"osgeo": "python3-gdal", "prometheus_client": "python3-prometheus-client", "aiohttp": "python3-aiohttp", "PIL": "python3-pil", "numpy": "python3-numpy"}
 MIDDLE = 2**29  # the column and row of world units where tile 14/8192/8192 begins
 TILE = 2**16  # and how many of them a tile of zoom 14 is wide
 HERE = (14, 8192, 8192)  # a tile with land; a road comes with update 0
