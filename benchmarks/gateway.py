@@ -64,16 +64,16 @@ http {
 """
 
 
-def world():
-    """Land and streets over 16 by 16 tiles of zoom 14, each of which looks other."""
+def world(side):
+    """Land and streets over so many tiles of zoom 14 each way, some six of each to a tile, which all look other."""
     draw = random.Random(7)
 
     def place():
-        return MIDDLE + draw.randrange(SIDE * TILE), MIDDLE + draw.randrange(SIDE * TILE)
+        return MIDDLE + draw.randrange(side * TILE), MIDDLE + draw.randrange(side * TILE)
 
-    land = [trial.polygon(number, *place(), draw.randrange(TILE // 2)) for number in range(1500)]
+    land = [trial.polygon(number, *place(), draw.randrange(TILE // 2)) for number in range(6 * side**2)]
     roads = []
-    for number in range(1500):
+    for number in range(6 * side**2):
         x, y = place()
         roads.append(trial.road(number, (x, y), (x + draw.randrange(TILE), y + draw.randrange(TILE))))
     return {"units": "world", "layers": [{"name": "land", "features": land}, {"name": "roads", "features": roads}]}
@@ -165,7 +165,7 @@ def asked_before(folder, port, made):
 def all_rows(seconds, processes):
     folder = trial.Folder()
     try:
-        folder.write("data.json", json.dumps(world()))
+        folder.write("data.json", json.dumps(world(SIDE)))
         folder.config.update(maps=trial.MAPS[:1], updates=[], restyles=[], expiries=[], workers=4)
         farm = Farm(folder)
         if not farm.wait(120):
