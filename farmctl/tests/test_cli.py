@@ -39,6 +39,15 @@ class Errors(unittest.TestCase):
         self.assertEqual(err.count("\n"), 1)
         self.assertIn("/nowhere/farm.json", err)
 
+    def test_no_time_is_refused_as_words(self) -> None:
+        words = {"again": ["--wait"], "gateway": ["--keep"], "metrics": ["--walk"], "run": ["--grace"], "seed": ["default", "--patience"],
+                 "turn": ["a", "b", "--drain"], "update": ["file", "--wait"], "watch": ["-n"], "status": ["--slow"]}  # fmt: skip
+        for name, before in words.items():
+            for number in ("nan", "-1", "inf", "1e10", "soon"):
+                with self.subTest(f"{name} {number}"):
+                    status, out, err = run(name, *before, number)
+                    self.assertEqual((status, out, "invalid seconds value" in err), (2, "", True))
+
     def test_nobody_at_the_address_is_one_line(self) -> None:
         status, out, err = run("--control-address", "unix:/nowhere/sock", "control", "stats")
         self.assertEqual((status, out), (1, ""))

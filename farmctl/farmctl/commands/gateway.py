@@ -23,6 +23,7 @@ from typing import TYPE_CHECKING
 
 from farmctl.errors import USAGE, FarmError, library
 from farmctl.farm import Farm
+from farmctl.words import seconds
 
 if TYPE_CHECKING:
     from farmctl.gateway import Settings, View
@@ -39,7 +40,7 @@ def add(parser: argparse.ArgumentParser) -> None:
     parser.add_argument("--listen", metavar="ADDRESS", default="tcp:127.0.0.1:8080",
                         help="tcp:a.b.c.d:PORT or unix:PATH (%(default)s)")  # fmt: skip
     parser.add_argument("--processes", metavar="N", type=int, help="how many (one for each processor)")
-    parser.add_argument("--keep", metavar="SECONDS", type=float, default=0.0,
+    parser.add_argument("--keep", metavar="SECONDS", type=seconds, default=0.0,
                         help="keep clean tiles here, by so much older than the farm would tell (%(default)s: ask each time)")  # fmt: skip
     parser.add_argument("--max-age", metavar="SECONDS", type=int, default=0,
                         help="browsers may keep clean tiles as long (%(default)s: they ask each time, and are answered 304)")  # fmt: skip

@@ -13,6 +13,7 @@ import argparse
 from pathlib import Path
 
 from farmctl.turning import Plan, Turn
+from farmctl.words import seconds
 
 HELP = "have another folder's farm take over, unseen"
 EXAMPLE = """
@@ -29,8 +30,8 @@ def add(parser: argparse.ArgumentParser) -> None:
     parser.add_argument("--stop", metavar="COMMAND", help="stops the first, likewise (the control line stop)")
     parser.add_argument("--from-log", metavar="FILE", type=Path, help="the access log of a proxy or of the gateway")
     parser.add_argument("--most", metavar="N", type=int, default=200, help="so many metatiles of it are drawn first (%(default)s)")
-    parser.add_argument("--wait", metavar="SECONDS", type=float, default=600, help="at most so long for a start or an end (%(default)s)")
-    parser.add_argument("--drain", metavar="SECONDS", type=float, default=60,
+    parser.add_argument("--wait", metavar="SECONDS", type=seconds, default=600, help="at most so long for a start or an end (%(default)s)")
+    parser.add_argument("--drain", metavar="SECONDS", type=seconds, default=60,
                         help="at most so long for the first's last connections (%(default)s)")  # fmt: skip
 
 

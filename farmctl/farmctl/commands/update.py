@@ -21,6 +21,7 @@ from pathlib import Path
 from farmctl.errors import FarmError
 from farmctl.farm import Farm
 from farmctl.updating import Update
+from farmctl.words import seconds
 
 HELP = "bring new updates into a running farm"
 RESTART = "systemctl restart tilefarm"
@@ -35,7 +36,7 @@ def add(parser: argparse.ArgumentParser) -> None:
     named = os.environ.get("FARMCTL_RESTART", RESTART)
     parser.add_argument("--restart", metavar="COMMAND", default=named, help=f"restarts the farm in order (FARMCTL_RESTART, or {RESTART})")
     parser.add_argument(
-        "--wait", metavar="SECONDS", type=float, help="at most so long for the restart and for the start (20 times the check, at least 60)"
+        "--wait", metavar="SECONDS", type=seconds, help="at most so long for the restart and for the start (20 times the check, at least 60)"
     )
 
 
