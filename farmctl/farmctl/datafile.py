@@ -16,7 +16,7 @@ from typing import IO
 from farmctl.errors import FarmError
 from farmctl.sources import Box, Item
 
-MOST_LAYERS, MOST_FEATURES = 64, 1_000_000
+MOST_LAYERS, MOST_FEATURES, MOST_BYTES = 64, 1_000_000, 1 << 31
 
 
 class Ids:
@@ -125,6 +125,8 @@ class Layers:
                 target.write(b"]}")
             target.write(b"\n]}\n")
             length = target.tell()
+        if length > MOST_BYTES:
+            raise FarmError(f"{length:,} bytes, and a farm reads at most {MOST_BYTES:,}: --style leaves out what it does not name")
         os.replace(made, out)
         return length
 

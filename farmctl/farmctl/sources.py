@@ -24,6 +24,9 @@ OSM_NAMES = {
     "other_relations": "relations",
 }
 OTHER_TAGS = "other_tags"
+# An extract's nodes are kept in a file: GDAL's own index takes a kilobyte of memory or eight for each 65,536 ids of the world;
+# and its threads unpack some 140 MB beforehand
+OSM_OPTIONS = {"OSM_MAX_TMPFILE_SIZE": "20", "OSM_USE_CUSTOM_INDEXING": "NO", "GDAL_NUM_THREADS": "1"}
 FAR = 1e-4  # of a coordinate; there and back it differs by far less
 
 Box = tuple[int, int, int, int]
@@ -112,14 +115,16 @@ def wanted_of(args: argparse.Namespace) -> Wanted:
 
 
 class Libraries:
-    """GDAL, and its two coordinate systems."""
+    """GDAL, and its two coordinate systems. What it must keep of a file goes into files of the folder."""
 
-    def __init__(self) -> None:
+    def __init__(self, folder: Path) -> None:
         self.gdal = library("osgeo.gdal", PACKAGE)
         self.osr = library("osgeo.osr", PACKAGE)
         self.ogr = library("osgeo.ogr", PACKAGE)
         for each in (self.gdal, self.osr, self.ogr):
             each.UseExceptions()
+        for name, value in {**OSM_OPTIONS, "CPL_TMPDIR": str(folder)}.items():
+            self.gdal.SetConfigOption(name, value)
         self.told = ""  # the last that GDAL said, which not every exception of it has
         self.gdal.PushErrorHandler(self.hear)
         self.degrees = self.system(DEGREES)

@@ -266,7 +266,12 @@ class Data(InFolder):
         self.assertEqual(farmctl("changes", *words, "-o", self.folder / "u.json")[0], 0)
         (change,) = json.loads((self.folder / "u.json").read_text())["changes"]
         self.assertEqual((change["layer"], change["remove"], [put["id"] for put in change["put"]]), ("places", [2, 3], [1, 9]))
-        words[1] = words[1].replace("places=", "others=")
+        (self.folder / "farm.json").write_text(json.dumps({"updates": ["u.json"] * 255}))
+        words += ["-c", self.folder / "farm.json", "-o", self.folder / "u.json"]
+        self.assertIn("has 255 of 256 updates", farmctl("changes", *words)[1])
+        (self.folder / "farm.json").write_text(json.dumps({"updates": ["u.json"] * 256}))
+        self.assertIn("has 256 updates, and may have no more: put the newest data", farmctl("changes", *words)[2])
+        words = [words[0], words[1].replace("places=", "others=")]
         self.assertIn("others: no layer of", farmctl("changes", *words, "-o", self.folder / "u.json")[2])
 
 

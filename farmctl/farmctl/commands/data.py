@@ -43,7 +43,8 @@ def add(parser: argparse.ArgumentParser) -> None:
 
 def read(words: list[str], args: argparse.Namespace, folder: Path) -> tuple[Layers, list[Source]]:
     """All features of the sources, layer by layer in the folder."""
-    wanted, libraries = wanted_of(args), Libraries()
+    folder.mkdir(parents=True, exist_ok=True)
+    wanted, libraries = wanted_of(args), Libraries(folder)
     sources = [Source(word, wanted, libraries) for word in words]
     layers = Layers(folder, [name for source in sources for name in source.taken()], wanted.leaves_out)
     try:
