@@ -296,7 +296,7 @@ def has(request: web.BaseRequest, etag: str) -> bool:
 def maps_of(config: dict[str, object]) -> dict[str, Map]:
     """The maps of a configuration, which the farm itself has read without a fault."""
     found = config.get("maps")
-    maps = [Map(each["name"], each["tile"], each.get("maxzoom", 18)) for each in found] if isinstance(found, list) else []
+    maps = [Map(each["name"], each.get("tile", 256), each.get("maxzoom", 18)) for each in found] if isinstance(found, list) else []
     return {each.name: each for each in maps}
 
 

@@ -116,7 +116,7 @@ class Collector:
 
 def served(listen: str, registry: Any) -> int:
     host, colon, port = listen.rpartition(":")
-    if not colon or not port.isdecimal():
+    if not colon or not port.isdecimal() or int(port) > 65535:
         raise FarmError(f"no HOST:PORT: {listen}")
     try:
         library("prometheus_client", "python3-prometheus-client").start_http_server(int(port), host, registry)
