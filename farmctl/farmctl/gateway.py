@@ -31,6 +31,7 @@ from farmctl import client, pictures
 SECONDS = 120  # for a drawing, and all that waits before it
 END = 5.0  # seconds, for who is being answered when this ends
 WAITING = 1024  # connections that nobody has taken yet
+AGAIN = 0.01  # seconds
 PIECE = 1 << 16  # bytes of an answer that are read at once
 OPEN = 512  # connections to the farm, of all processes together; its front has 1,024
 TILE = re.compile(r"/([a-z0-9_-]+)/(0|[1-9]\d?)/(0|[1-9]\d{0,6})/(0|[1-9]\d{0,6})\.png")
@@ -148,6 +149,17 @@ def place_of(address: str) -> tuple[socket.AddressFamily, str | tuple[str, int]]
     return socket.AF_INET, (host, int(port))
 
 
+async def connected(made: socket.socket, place: str | tuple[str, int]) -> None:
+    """Connects. Where too many wait at a Unix address already the system does not keep one more, and says to come again."""
+    if made.family != socket.AF_UNIX:
+        return await asyncio.get_running_loop().sock_connect(made, place)
+    while True:
+        try:
+            return made.connect(place)
+        except BlockingIOError:
+            await asyncio.sleep(AGAIN)
+
+
 async def fetched(address: str, target: str) -> client.Page:
     """The farm's answer to a GET, on a connection that has no more than this one. Raises OSError where none comes.
 
@@ -156,7 +168,7 @@ async def fetched(address: str, target: str) -> client.Page:
     loop, pieces = asyncio.get_running_loop(), []
     family, place = place_of(address)
     with socket.socket(family, socket.SOCK_STREAM | socket.SOCK_NONBLOCK) as made:
-        await loop.sock_connect(made, place)
+        await connected(made, place)
         await loop.sock_sendall(made, f"GET {target} HTTP/1.1\r\nHost: farm\r\n\r\n".encode())
         while piece := await loop.sock_recv(made, PIECE):
             pieces.append(piece)
