@@ -30,7 +30,7 @@ EXAMPLE = """
     farmctl data town.osm.pbf --style style.json -o data.json
     farmctl data land=coast.shp lakes=lakes.gpkg --round area=100 -o data.json
 """
-READING, STAYS = 4, 2  # times the data's bytes in a farm's memory: while it reads them, and then
+READING, STAYS = 5, 3  # times the data's bytes in a farm's memory: while it reads them, and then
 AROUND = 4007501668  # the equator in centimetres
 ADDRESS = "http://127.0.0.1:8080/"  # where the gateway shows its page
 
