@@ -154,6 +154,8 @@ def run(args: argparse.Namespace) -> int:
         unknown = sorted(set(new.layers) - set(old.layers))
         if unknown:
             raise FarmError(f"{', '.join(unknown)}: no layer of {args.old}: make the data anew (farmctl data)")
+        for source in sources:
+            source.path = args.new  # which is what the user knows of
         tell_left(new, sources)
         found = [change_of(old, new, name) for name in new.layers]
         changes = [change for change in found if change.put or change.remove]
