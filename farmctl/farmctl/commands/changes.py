@@ -149,7 +149,7 @@ def run(args: argparse.Namespace) -> int:
         if args.keep and not is_osc:
             raise FarmError("--keep is for a change file")
         newer = applied(args.old, args.new, folder) if is_osc else args.new
-        old, _ = read([args.old], args, folder / "old")
+        old = read([args.old], args, folder / "old")[0]
         new, sources = read([newer], args, folder / "new")
         unknown = sorted(set(new.layers) - set(old.layers))
         if unknown:
