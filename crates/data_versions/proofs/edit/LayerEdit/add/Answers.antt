@@ -1,5 +1,5 @@
 use Rattle.std.proofs.Common.{arith}
-use Rattle.data_versions.proofs.Slots.{knows_same, knows_undone, knows_added, added_is, added_count, unheld}
+use Rattle.data_versions.proofs.Standing.{knows_same, knows_undone, knows_added, added_is, added_count, unheld}
 use Rattle.data_versions.proofs.edit.LayerEdit.add.Goals as goal
 
 pub invariant_of-self : goal.invariant_of-self
