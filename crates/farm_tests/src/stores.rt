@@ -2,6 +2,7 @@
 use std::alloc::Global;
 use std::fs::{self, File};
 use std::io;
+use std::os::unix::fs::symlink;
 use std::process::Abort;
 use std::rt::Files;
 use std::test::Fail;
@@ -297,6 +298,47 @@ fn one_store_has_the_folder(rt: HostRuntime) -> Result<(), Fail> {
         assert_eq!(rt; first.faults(), 0);
     }
     gets(&rt, &mut second, alloc, "one", b"two");
+    clear(&rt);
+    Ok(())
+}
+
+/// A file that was cut to nothing is read anew from its beginning, once it has bytes again; so is one whose beginning was read.
+#[test]
+fn a_cut_file_is_read_anew(rt: HostRuntime) -> Result<(), Fail> {
+    let alloc = rt.alloc();
+    clear(&rt);
+    let folder = Folder::new();
+    let mut files = FileStore::new(rt, &folder);
+    takes_folder(&rt, &mut files, alloc);
+    fs::write(&rt, "tiles/cut", b"")?;
+    let nothing = files.get_part(alloc, "cut", 0, 4);
+    assert!(rt; slice(&nothing) == Ok(Some(b"".as_slice())));
+    fs::write(&rt, "tiles/other", b"whole")?;
+    fs::rename(&rt, "tiles/other", "tiles/cut")?;
+    let whole = files.get_part(alloc, "cut", 0, 4);
+    assert!(rt; slice(&whole) == Ok(Some(b"whol".as_slice())));
+    fs::write(&rt, "tiles/other", b"later")?;
+    fs::rename(&rt, "tiles/other", "tiles/cut")?;
+    let behind = files.get_part(alloc, "cut", 4, 4);
+    assert!(rt; slice(&behind) == Ok(Some(b"e".as_slice())));
+    let later = files.get_part(alloc, "cut", 0, 4);
+    assert!(rt; slice(&later) == Ok(Some(b"late".as_slice())));
+    clear(&rt);
+    Ok(())
+}
+
+/// Where the folder of what is staged is a link, what it leads to stays.
+#[test]
+fn a_linked_folder_is_not_emptied(rt: HostRuntime) -> Result<(), Fail> {
+    let alloc = rt.alloc();
+    clear(&rt);
+    fs::create_dir_all(&rt, "tiles/other")?;
+    fs::write(&rt, "tiles/other/kept", b"mine")?;
+    symlink(&rt, "other", "tiles/.new")?;
+    let folder = Folder::new();
+    let mut files = FileStore::new(rt, &folder);
+    takes_folder(&rt, &mut files, alloc);
+    gets(&rt, &mut files, alloc, "other/kept", b"mine");
     clear(&rt);
     Ok(())
 }
