@@ -36,11 +36,18 @@ one_more false n (Some k) later = refl
 one_more false n None (Some k) = ap Some (omega arith)
 one_more false n None None = refl
 
-pub position-append : {X : Type 0} (p : X → Bool) (xs ys : List X) → position p (xs ++ ys) ≡ or_later (length xs) (position p xs) (position p ys)
+position-append : {X : Type 0} (p : X → Bool) (xs ys : List X) → position p (xs ++ ys) ≡ or_later (length xs) (position p xs) (position p ys)
 position-append p [] ys = no_steps (position p ys)
 position-append p (x ∷ xs) ys =
     position-cons p x (xs ++ ys) ∙ ap (λ (o : Option ℕ). cond (p x) (Some 0) (option_map (λ k. k + 1) o)) (position-append p xs ys)
     ∙ one_more (p x) (length xs) (position p xs) (position p ys) ∙ ap (λ (o : Option ℕ). or_later (suc (length xs)) o (position p ys)) (sym (position-cons p x xs))
+
+-- one that is found in the first part, and one that is not
+pub found_left : {X : Type 0} (p : X → Bool) (xs ys : List X) (k : ℕ) → position p xs ≡ Some k → position p (xs ++ ys) ≡ Some k
+found_left p xs ys k found = position-append p xs ys ∙ rw found refl
+
+pub found_right : {X : Type 0} (p : X → Bool) (xs ys : List X) → position p xs ≡ None → position p (xs ++ ys) ≡ option_map (λ k. length xs + k) (position p ys)
+found_right p xs ys none = position-append p xs ys ∙ rw none refl
 
 -- where none passes, none is found
 pub none_passes : {X : Type 0} (p : X → Bool) (xs : List X) → AllByRecursion (λ x. p x ≡ false) xs → position p xs ≡ None

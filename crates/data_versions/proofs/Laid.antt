@@ -8,7 +8,7 @@ use Rattle.std.proofs.lemmas.List.Concat.{flat_map-append}
 use Rattle.std.proofs.lemmas.List.Elements.{All-append, filter-append, recursion_from_All}
 use Rattle.std.proofs.lemmas.Option.{slice_get-get_or, slice_get_past}
 use Rattle.data_versions.specs.inner.Parts.{IsLaid, IsPart, next_answer}
-use Rattle.data_versions.proofs.Finds.{position-append, none_passes, none_kept}
+use Rattle.data_versions.proofs.Finds.{found_left, found_right, none_passes, none_kept}
 
 drop_past : {A : Type 0} (xs ys : List A) (n : ℕ) → drop (length xs + n) (xs ++ ys) ≡ drop n ys
 drop_past [] ys n = let e : 0 + n ≡ n = omega arith in ap (λ (m : ℕ). drop m ys) e
@@ -183,6 +183,10 @@ module _ {B A : Type 0} (f : B → List A) where
 
 -- ---- parts
 
+two_steps : (o : Option ℕ) (a b c : ℕ) → a + b ≡ c → option_map (λ k. a + k) (option_map (λ k. b + k) o) ≡ option_map (λ k. c + k) o
+two_steps None a b c e = refl
+two_steps (Some k) a b c e = ap Some (omega arith)
+
 module _ {A : Type 0} (p : A → Bool) (all : List A) where
   -- past the end nothing is left
   pub part_past : (from : ℕ) → length all ≤ from → IsPart p from from [] all
@@ -191,7 +195,7 @@ module _ {A : Type 0} (p : A → Bool) (all : List A) where
     none = λ i d after early inside. absurd (omega arith);
     side = ap (λ (n : ℕ). drop n all) (omega arith);
     on = λ small. absurd (omega arith);
-    within = λ _. omega arith;
+    within = λ h. omega (arith, h);
   }
 
   -- all that is left
@@ -230,29 +234,21 @@ module _ {A : Type 0} (p : A → Bool) (all : List A) where
   at_part from at part small is =
       let size : length (skipped from at) ≡ at - from = length-take-le (at - from) (drop from all) (omega (arith, is.within, length-drop from all)) in
       ap (λ xs. option_map (λ k. from + k) (position p xs)) (skip from at part is)
-      ∙ ap (option_map (λ k. from + k)) (position-append p (skipped from at) (drop at all) ∙ rw (none_passes p (skipped from at) (none_skipped from at part is), size) refl)
-      ∙ two_steps (position p (drop at all)) from (at - from) at (omega (arith, is.since))
-    where
-      two_steps : (o : Option ℕ) (a b c : ℕ) → a + b ≡ c → option_map (λ k. a + k) (option_map (λ k. b + k) o) ≡ option_map (λ k. c + k) o
-      two_steps None a b c e = refl
-      two_steps (Some k) a b c e = ap Some (omega arith)
+      ∙ ap (λ o. option_map (λ k. from + k) o) (found_right p (skipped from at) (drop at all) (none_passes p (skipped from at) (none_skipped from at part is)))
+      ∙ two_steps (position p (drop at all)) from (length (skipped from at)) at (omega (arith, is.since, size))
 
   pub part_found : (from at k : ℕ) (part : List A) → from < length all → IsPart p from at part all → position p part ≡ Some k
       → next_answer p all from ≡ Some (at + k)
   part_found from at k part small is found =
       at_part from at part small is ∙ ap (λ xs. option_map (λ k. at + k) (position p xs)) is.side
-      ∙ ap (option_map (λ k. at + k)) (position-append p part (drop (at + length part) all) ∙ rw found refl)
+      ∙ ap (λ o. option_map (λ k. at + k) o) (found_left p part (drop (at + length part) all) k found)
 
   pub part_lacks : (from at : ℕ) (part : List A) → from < length all → IsPart p from at part all → position p part ≡ None
       → next_answer p all from ≡ next_answer p all (at + length part)
   part_lacks from at part small is none =
       at_part from at part small is ∙ ap (λ xs. option_map (λ k. at + k) (position p xs)) is.side
-      ∙ ap (option_map (λ k. at + k)) (position-append p part (drop (at + length part) all) ∙ rw none refl)
+      ∙ ap (λ o. option_map (λ k. at + k) o) (found_right p part (drop (at + length part) all) none)
       ∙ two_steps (position p (drop (at + length part) all)) at (length part) (at + length part) refl
-    where
-      two_steps : (o : Option ℕ) (a b c : ℕ) → a + b ≡ c → option_map (λ k. a + k) (option_map (λ k. b + k) o) ≡ option_map (λ k. c + k) o
-      two_steps None a b c e = refl
-      two_steps (Some k) a b c e = ap Some (omega arith)
 
   pub no_answer : (from : ℕ) → length all ≤ from → next_answer p all from ≡ None
   no_answer from past = ap (λ xs. option_map (λ k. from + k) (position p xs)) (drop_all from all past)

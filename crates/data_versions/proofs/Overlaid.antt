@@ -20,6 +20,9 @@ use Rattle.data_versions.specs.inner.Edits.{edits_of, standing_edits, edited}
 abbrev Put : Type 0
 Put = List (ℕ × Option (Bor Feature))
 
+abbrev free : Option Feature
+free = None
+
 -- what was put into the slot of the number, if something was
 abbrev put_at : Put → ℕ → Option (Option (Bor Feature))
 put_at put n = lookup (is_at (nat_cmp n)) put
@@ -49,7 +52,7 @@ base_more features count enough =
     ap (λ (n : ℕ). map Some features ++ replicate n None) more ∙ ap (λ ss. map Some features ++ ss) (sym (replicate_more (count - length features) None))
     ∙ sym (append_assoc (map Some features) (replicate (count - length features) None) (None ∷ []))
 
-nothing : (n i : ℕ) → get_or (replicate n (None {A = Feature})) i None ≡ None
+nothing : (n i : ℕ) → get_or (replicate n free) i None ≡ None
 nothing zero i = refl
 nothing (suc n) zero = refl
 nothing (suc n) (suc i) = nothing n i
@@ -104,7 +107,7 @@ own_slot a = grind (arith, nat_tests)
 
 module _ (old new : BTreeMap ℕ (Option (Bor Feature))) (k : ℕ) (v : Option (Bor Feature)) (updates : Updates nat_cmp old new k (Some v)) where
   stays : (q : ℕ) → (k ≡ q → ⊥) → put_at new.entries q ≡ put_at old.entries q
-  stays q other = updates.2.1 q (other_slot k q other)
+  stays q other = updates.2 q (other_slot k q other)
 
   lies : put_at new.entries k ≡ Some v
   lies = updates.1
@@ -176,7 +179,7 @@ overlaid_skip n e put [] early = refl
 overlaid_skip n e put (s ∷ slots) early =
     rw (other_slot n e.0 (λ h. absurd (omega (arith, h, early))), overlaid_skip (suc n) e put slots (omega (arith, early))) refl
 
-none_stand : (n : ℕ) (m : ℕ) → standing (replicate m (None {A = Feature})) ≡ []
+none_stand : (n : ℕ) (m : ℕ) → standing (replicate m free) ≡ []
 none_stand n zero = refl
 none_stand n (suc m) = none_stand n m
 
@@ -193,8 +196,8 @@ tail_lacks e put q none = by_test (is_at (nat_cmp q) e.0) none
 
 -- past the features, what was put stands, and nothing else
 rest_stands : (m n : ℕ) (put : Put) → IsStrictlySortedBy nat_cmp (keys_of put) → FromOn n put → ((q : ℕ) → n + m ≤ q → put_at put q ≡ None)
-    → standing (overlaid n put (replicate m None)) ≡ standing_edits (edits_of put)
-rest_stands m n [] sorted from within = ap standing (nothing_put n (replicate m None)) ∙ none_stand n m
+    → standing (overlaid n put (replicate m free)) ≡ standing_edits (edits_of put)
+rest_stands m n [] sorted from within = ap standing (nothing_put n (replicate m free)) ∙ none_stand n m
 rest_stands zero n (e ∷ put) sorted from within =
     let there : put_at (e ∷ put) e.0 ≡ Some e.1 = rw (own_slot e.0) refl in
     let none : put_at (e ∷ put) e.0 ≡ None = within e.0 (omega (arith, from.0)) in cc
@@ -202,7 +205,7 @@ rest_stands (suc m) n (e ∷ put) sorted from within = elim (cases_eq e.0 n) [
   | inl here ↦ (
       let there : put_at (e ∷ put) n ≡ Some e.1 = rw (← here, own_slot e.0) refl in
       rw there (ap (cons_option (option_copied e.1))
-      (ap standing (overlaid_skip (suc n) e put (replicate m None) (omega (arith, here)))
+      (ap standing (overlaid_skip (suc n) e put (replicate m free) (omega (arith, here)))
       ∙ rest_stands m (suc n) put (sorted_tail nat_cmp e.0 (keys_of put) sorted) (after_first n e.0 (keys_of put) (omega (arith, here)) (sorted_head nat_cmp e.0 (keys_of put) sorted))
         (λ q past. tail_lacks e put q (within q (omega (arith, past)))))))
   | inr other ↦ (
@@ -210,19 +213,19 @@ rest_stands (suc m) n (e ∷ put) sorted from within = elim (cases_eq e.0 n) [
       rw (none_at_first n (e ∷ put) later) (rest_stands m (suc n) (e ∷ put) sorted later (λ q past. within q (omega (arith, past)))))
 ]
 
-all_stand : (features : List Feature) (m : ℕ) → standing (map Some features ++ replicate m None) ≡ features
+all_stand : (features : List Feature) (m : ℕ) → standing (map Some features ++ replicate m free) ≡ features
 all_stand [] m = none_stand 0 m
 all_stand (f ∷ features) m = ap (λ fs. f ∷ fs) (all_stand features m)
 
 pub stands_edited : (features : List Feature) (m n : ℕ) (put : Put) → IsStrictlySortedBy nat_cmp (keys_of put) → FromOn n put → ((q : ℕ) → n + length features + m ≤ q → put_at put q ≡ None)
-    → standing (overlaid n put (map Some features ++ replicate m None)) ≡ edited n (edits_of put) features
+    → standing (overlaid n put (map Some features ++ replicate m free)) ≡ edited n (edits_of put) features
 stands_edited [] m n put sorted from within = rest_stands m n put sorted from (λ q past. within q (omega (arith, past)))
-stands_edited (f ∷ features) m n [] sorted from within = ap standing (nothing_put n (Some f ∷ (map Some features ++ replicate m None))) ∙ all_stand (f ∷ features) m
+stands_edited (f ∷ features) m n [] sorted from within = ap standing (nothing_put n (Some f ∷ (map Some features ++ replicate m free))) ∙ all_stand (f ∷ features) m
 stands_edited (f ∷ features) m n (e ∷ put) sorted from within = elim (cases_eq e.0 n) [
   | inl here ↦ (
       let there : put_at (e ∷ put) n ≡ Some e.1 = rw (← here, own_slot e.0) refl in
       rw (there, eq-eqb e.0 n here) (ap (cons_option (option_copied e.1))
-      (ap standing (overlaid_skip (suc n) e put (map Some features ++ replicate m None) (omega (arith, here)))
+      (ap standing (overlaid_skip (suc n) e put (map Some features ++ replicate m free) (omega (arith, here)))
       ∙ stands_edited features m (suc n) put (sorted_tail nat_cmp e.0 (keys_of put) sorted) (after_first n e.0 (keys_of put) (omega (arith, here)) (sorted_head nat_cmp e.0 (keys_of put) sorted))
         (λ q past. tail_lacks e put q (within q (omega (arith, past)))))
       ∙ cons_is (option_copied e.1) (edited (suc n) (edits_of put) features)))

@@ -149,7 +149,7 @@ impl<B: Block> Blocks<B> {
         requires { length pairs.old.items + length self.now ≤ 4294967295 }
         ensures { OnOk result (pairs.new.items ≡ pairs.old.items ++ numbered (length pairs.old.items) self.now) }
     {
-        for block in self.blocks.as_slice() {
+        for block in self.blocks() {
             block.number(pairs)?;
         }
         Ok(())

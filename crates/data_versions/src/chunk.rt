@@ -1,8 +1,8 @@
 //! A chunk of a layer: features that snapshots share.
-ghost use Rattle.std.specs.Prelude.{◌≡◌, ◌≤◌, false, length, All, IfOk};
+ghost use Rattle.std.specs.Prelude.{◌≡◌, ◌≤◌, true, false, length, All, IfOk};
 ghost use Rattle.plain_shapes.specs.Features.{Feature};
 ghost use Rattle.data_versions.specs.Near.{is_near};
-ghost use Rattle.data_versions.specs.inner.Cells.{IsMarked};
+ghost use Rattle.data_versions.specs.inner.Cells.{IsWide, IsMarked};
 ghost use Rattle.data_versions.specs.inner.Extents.{IsIn};
 
 use crate::block::Block;
@@ -67,6 +67,13 @@ fn cells_under(grid: &Grid, features: &[SharedFeature]) -> [u64; CELL_ROWS]
     cells
 }
 
+/// Whether the rectangle holds a point.
+fn is_wide(around: Bounds) -> bool
+    ensures { result ≡ true → IsWide around }
+{
+    around.west <= around.east && around.north <= around.south
+}
+
 impl Chunk {
     /// The chunk of the features, of which there are 64 at most.
     pub(crate) fn of(alloc: Global, features: Vec<SharedFeature>) -> Result<Chunk, NoMemory>
@@ -118,9 +125,10 @@ impl Chunk {
     fn is_met(&self, around: Bounds) -> bool
         ensures { result ≡ false → All (λ f. is_near around f ≡ false) self.now }
     {
-        around.west > around.east
-            || around.north > around.south
-            || has_one(&self.cells, self.grid.cells_met(around))
+        if !is_wide(around) {
+            return true;
+        }
+        has_one(&self.cells, self.grid.cells_met(around))
     }
 }
 
@@ -155,7 +163,7 @@ impl Block for Chunk {
     }
 
     fn number(&self, pairs: &mut Vec<(u64, u32)>) -> Result<(), NoMemory> {
-        for feature in self.features.as_slice() {
+        for feature in self.features() {
             let place = pairs.len() as u32;
             pairs.push((feature.id(), place))?;
         }

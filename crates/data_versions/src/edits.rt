@@ -4,6 +4,7 @@ ghost use Rattle.std.specs.Option.{option_copied, option_to_list};
 ghost use Rattle.plain_shapes.specs.Features.{Feature};
 ghost use Rattle.data_versions.specs.inner.Building.{built};
 ghost use Rattle.data_versions.specs.inner.Edits.{edits_of, edited, edits_at, begins_past, standing_edits};
+ghost use Rattle.data_versions.specs.inner.Parts.{laid};
 
 use crate::block::Block;
 use crate::blocks::Blocks;
@@ -109,8 +110,26 @@ trait Editable: Block {
         ensures { OnOk result ((more : List Feature) → built builder.old ++ edited first edits.old (Self.features self.now ++ more) ≡ built builder.new ++ edited (first + length (Self.features self.now)) edits.new more) };
 }
 
-/// Puts the features of the blocks at the end as they are after the edits. A block is shared where no edit is of
-/// one of its numbers, or of the next one: so the last block is filled up where new features follow.
+/// Puts the features of the block, of which the first has the number, at the end as they are after the edits. The
+/// block is shared where no edit is of one of its numbers, or of the next one: so the last block is filled up where
+/// new features follow.
+fn edit_block<B: Editable>(
+    alloc: Global,
+    block: &B,
+    first: u32,
+    edits: &mut Edits<'_>,
+    builder: &mut Builder,
+) -> Result<(), NoMemory>
+    requires { first + length (B.features block.now) ≤ 4294967295 }
+    ensures { OnOk result ((more : List Feature) → built builder.old ++ edited first edits.old (B.features block.now ++ more) ≡ built builder.new ++ edited (first + length (B.features block.now)) edits.new more) }
+{
+    if edits.begin_past(first + block.len()) {
+        return block.share_into(alloc, builder);
+    }
+    block.edit_into(alloc, first, edits, builder)
+}
+
+/// Puts the features of the blocks, of which the first has the number, at the end as they are after the edits.
 fn edit_blocks<B: Editable>(
     alloc: Global,
     blocks: &Blocks<B>,
@@ -123,15 +142,26 @@ fn edit_blocks<B: Editable>(
 {
     let mut start = first;
     for block in blocks.blocks() {
-        let end = start + block.len();
-        if edits.begin_past(end) {
-            block.share_into(alloc, builder)?;
-        } else {
-            block.edit_into(alloc, start, edits, builder)?;
-        }
-        start = end;
+        edit_block(alloc, block, start, edits, builder)?;
+        start += block.len();
     }
     Ok(())
+}
+
+/// Puts the feature of the number at the end, or what stands there by the first edit.
+fn edit_feature(
+    alloc: Global,
+    feature: &SharedFeature,
+    number: u32,
+    edits: &mut Edits<'_>,
+    builder: &mut Builder,
+) -> Result<(), NoMemory>
+    ensures { OnOk result ((more : List Feature) → built builder.old ++ edited number edits.old (feature.now ∷ more) ≡ built builder.new ++ edited (number + 1) edits.new more) }
+{
+    match edits.take(number) {
+        Some(edit) => add_edit(alloc, edit, builder),
+        None => builder.add(alloc, feature.share()?),
+    }
 }
 
 impl Editable for Chunk {
@@ -148,10 +178,7 @@ impl Editable for Chunk {
     ) -> Result<(), NoMemory> {
         let mut number = first;
         for feature in self.features() {
-            match edits.take(number) {
-                Some(edit) => add_edit(alloc, edit, builder)?,
-                None => builder.add(alloc, feature.share()?)?,
-            }
+            edit_feature(alloc, feature, number, edits, builder)?;
             number += 1;
         }
         Ok(())
@@ -191,7 +218,7 @@ pub(crate) fn edited_segments(
     segments: &Blocks<Segment>,
     edits: Edits<'_>,
 ) -> Result<Vec<Segment>, NoMemory>
-    ensures { IfOk result (λ v. laid v.items ≡ edited 0 edits segments.now) }
+    ensures { IfOk result (λ v. laid v.items ≡ edited 0 edits.entry segments.now) }
 {
     let mut edits = edits;
     let mut builder = Builder::new(alloc);

@@ -18,7 +18,7 @@ invariant_of-self-in-Ok c =
     rw c.in-Ok.ensures.done (
       knows_added c.self.inside.places c.insert.new.self c.self.inside.finder.features c.self.inside.slots c.args.feature.now c.self.invariant.0
           (unheld c.self.inside.slots c.args.feature.now.id fresh)
-          (rw (c.id-id.ensures, c.in_ok-place.ensures) at c.in_ok-insert.ensures.updates),
+          (rw (c.id-id.ensures, c.next_number-place.ensures) at c.in_ok-insert.ensures.updates),
       added_count c.self.inside.slots c.args.feature.now c.self.inside.count c.self.invariant.1,
       omega (arith, c.self.invariant.1, rw (← c.self.view_is) at c.requires.room),
     )
