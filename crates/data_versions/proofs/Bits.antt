@@ -135,14 +135,15 @@ untrue true h = absurd (h refl)
 untrue false h = refl
 
 -- where the features' cells and the rectangle's share no bit, no feature is near
-pub none_near : (extent : Extent) (around : Bounds) (cells : List ℕ) (block : CellBlock) (features : List Feature) → All (IsIn extent) features
-    → IsPlaced extent.bounds cells features → IsWide around → Marks extent.bounds around block
+pub none_near : (extent : Extent) (box around : Bounds) (cells : List ℕ) (block : CellBlock) (features : List Feature) → All (IsIn extent) features
+    → box ≡ extent.bounds → IsPlaced box cells features → IsWide around → Marks box around block
     → ((k : ℕ) → block.top ≤ k → k ≤ block.bottom → bit_and (get_or cells k 0) block.columns ≡ 0) → All (λ f. is_near around f ≡ false) features
-none_near extent around cells block features inside placed wide marks none = λ k d small.
+none_near extent box around cells block features inside same placed wide marks none = λ k d small.
     untrue (is_near around (get_or features k d)) (λ near.
     let here : IsIn extent (get_or features k d) = inside k d small in
+    let within : Within (box_of (get_or features k d)) box = subst (λ (b : Bounds). Within (box_of (get_or features k d)) b) (sym same) here.within in
     let facts = tested (box_of (get_or features k d)) around near in
-    common_point extent.bounds (box_of (get_or features k d)) around cells block here.wide wide here.within (placed.marked k d small) marks none facts.0 facts.1 facts.2 facts.3)
+    common_point box (box_of (get_or features k d)) around cells block here.wide wide within (placed.marked k d small) marks none facts.0 facts.1 facts.2 facts.3)
 
 -- ---- one more feature
 

@@ -115,7 +115,8 @@ impl<B: Block> Blocks<B> {
     pub(crate) fn part_from(&self, from: u32, question: Question) -> (u32, &[SharedFeature])
         ensures { IsPart (answers question) from result.0 result.1.now self.now }
     {
-        if from >= self.count {
+        let count = self.len();
+        if from >= count {
             return (from, &[]);
         }
         for at in last_start(self.starts.as_slice(), from)..self.blocks.len() {
@@ -126,15 +127,16 @@ impl<B: Block> Blocks<B> {
                 return (start + place, part);
             }
         }
-        (self.count, &[])
+        (count, &[])
     }
 
     /// The place of the first feature from the place `from` on that answers the question.
     pub(crate) fn find(&self, from: u32, question: Question) -> Option<u32>
         ensures { result ≡ next_answer (answers question) self.now from }
     {
+        let count = self.len();
         let mut from = from;
-        while from < self.count {
+        while from < count {
             let (place, part) = self.part_from(from, question);
             if let Some(steps) = first_answer(part, question) {
                 return Some(place + steps as u32);

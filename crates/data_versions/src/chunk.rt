@@ -32,7 +32,7 @@ pub(crate) struct Chunk {
 }
 
 impl Model for Chunk {
-    ghost use Rattle.std.specs.Prelude.{◌≤◌, List, All, length};
+    ghost use Rattle.std.specs.Prelude.{◌≡◌, ◌≤◌, List, All, length};
     ghost use Rattle.plain_shapes.specs.Features.{Feature};
     ghost use Rattle.data_versions.specs.inner.Cells.{IsPlaced};
     ghost use Rattle.data_versions.specs.inner.Extents.{IsIn};
@@ -41,7 +41,7 @@ impl Model for Chunk {
 
     ghost view = { λ c. c.features.value.items };
 
-    ghost invariant = { λ c. (length c.features.value.items ≤ 64) × All (IsIn c.extent) c.features.value.items × IsPlaced c.grid c.cells c.features.value.items };
+    ghost invariant = { λ c. (length c.features.value.items ≤ 64) × All (IsIn c.extent) c.features.value.items × (c.grid ≡ c.extent.bounds) × IsPlaced c.grid c.cells c.features.value.items };
 }
 
 /// The extent of the features.
