@@ -5,7 +5,7 @@ use Rattle.std.specs.List.{flat_map}
 use Rattle.std.specs.Borrow.{Bor}
 use Rattle.std.specs.Option.{option_copied, option_to_list}
 use Rattle.std.proofs.lemmas.Bool.Decides.{nat_tests}
-use Rattle.std.proofs.lemmas.List.{take_more, drop_more, drop_all, map-append}
+use Rattle.std.proofs.lemmas.List.{take_more, take_all, drop_more, drop_all, map-append}
 use Rattle.std.proofs.lemmas.List.Elements.{filter_map-append}
 use Rattle.plain_shapes.specs.Features.{Feature}
 use Rattle.data_versions.specs.inner.Edits.{edits_of, edits_at, begins_past, standing_edits, edited}
@@ -89,3 +89,26 @@ rest_more before built after edits k e small at is more =
     alone : (o : Option Feature) → standing_edits ((e.0, o) ∷ []) ≡ option_to_list o
     alone None = refl
     alone (Some f) = refl
+
+-- all blocks are done, and all features
+pub blocks_end : {B : Type 0} (inside : B → List Feature) (blocks : List B) (features more before after : List Feature) (first start k : ℕ) (all left : List Edit)
+    → flat_map inside blocks ≡ features → length blocks ≤ k → start ≡ first + length (flat_map inside (take k blocks))
+    → before ++ edited first all (flat_map inside blocks ++ more) ≡ after ++ edited start left (flat_map inside (drop k blocks) ++ more)
+    → before ++ edited first all (features ++ more) ≡ after ++ edited (first + length features) left more
+blocks_end inside blocks features more before after first start k all left same past number is =
+    let whole : flat_map inside (take k blocks) ≡ features = ap (flat_map inside) (take_all k blocks past) ∙ same in
+    ap (λ fs. before ++ edited first all (fs ++ more)) (sym same) ∙ is ∙ ap (λ bs. after ++ edited start left (flat_map inside bs ++ more)) (drop_all k blocks past)
+    ∙ ap (λ (n : ℕ). after ++ edited n left more) (number ∙ ap (λ fs. first + length fs) whole)
+
+pub features_end : (items features more before after : List Feature) (first number k : ℕ) (all left : List Edit) → items ≡ features → length items ≤ k → k ≤ length items → number ≡ first + k
+    → before ++ edited first all (items ++ more) ≡ after ++ edited number left (drop k items ++ more)
+    → before ++ edited first all (features ++ more) ≡ after ++ edited (first + length features) left more
+features_end items features more before after first number k all left same past within is_number is =
+    ap (λ fs. before ++ edited first all (fs ++ more)) (sym same) ∙ is ∙ ap (λ fs. after ++ edited number left (fs ++ more)) (drop_all k items past)
+    ∙ ap (λ (n : ℕ). after ++ edited n left more) (omega (arith, is_number, ap length same))
+
+-- the edits that are left once all features are done stand after them
+pub rest_ends : (features before after : List Feature) (n : ℕ) (all left : List Edit) → before ≡ []
+    → ((more : List Feature) → before ++ edited 0 all (features ++ more) ≡ after ++ edited n left more) → after ++ standing_edits left ≡ edited 0 all features
+rest_ends features before after n all left none is =
+    sym (is []) ∙ ap (λ fs. fs ++ edited 0 all (features ++ [])) none ∙ ap (edited 0 all) (append-nil features)

@@ -27,7 +27,7 @@ free = None
 abbrev put_at : Put → ℕ → Option (Option (Bor Feature))
 put_at put n = lookup (is_at (nat_cmp n)) put
 
-pub length-overlaid : (n : ℕ) (put : Put) (slots : List (Option Feature)) → length (overlaid n put slots) ≡ length slots
+length-overlaid : (n : ℕ) (put : Put) (slots : List (Option Feature)) → length (overlaid n put slots) ≡ length slots
 length-overlaid n put [] = refl
 length-overlaid n put (s ∷ slots) = ap suc (length-overlaid (suc n) put slots)
 
@@ -37,7 +37,7 @@ nothing_put n (s ∷ slots) = ap (λ ss. s ∷ ss) (nothing_put (suc n) slots)
 
 -- ---- the slots from the start
 
-pub length-base : (features : List Feature) (count : ℕ) → length features ≤ count → length (base_slots features count) ≡ count
+length-base : (features : List Feature) (count : ℕ) → length features ≤ count → length (base_slots features count) ≡ count
 length-base features count enough =
     omega (arith, length-append (map Some features) (replicate (count - length features) None), length-map features Some, length-replicate {A = Option Feature} (count - length features) None)
 
@@ -77,7 +77,7 @@ past_all [] i past = refl
 past_all (s ∷ slots) zero past = absurd (omega arith)
 past_all (s ∷ slots) (suc i) past = past_all slots i (omega arith)
 
-pub stands_at : (put : Put) (features : List Feature) (count i : ℕ) → IsPutWithin put features count
+stands_at : (put : Put) (features : List Feature) (count i : ℕ) → IsPutWithin put features count
     → get_or (overlaid 0 put (base_slots features count)) i None ≡ unwrap_or (option_map option_copied (put_at put i)) (slice_get features i)
 stands_at put features count i is = elim (cases_lt i count) [
   | inl small ↦ (let e : 0 + i ≡ i = omega arith in
@@ -93,6 +93,17 @@ stands_at put features count i is = elim (cases_lt i count) [
     beyond [] i past = refl
     beyond (f ∷ features) zero past = absurd (omega arith)
     beyond (f ∷ features) (suc i) past = beyond features i (omega arith)
+
+pub slot_count : (put : Put) (features : List Feature) (count : ℕ) → IsPutWithin put features count → length (overlaid 0 put (base_slots features count)) ≡ count
+slot_count put features count is = length-overlaid 0 put (base_slots features count) ∙ length-base features count is.enough
+
+pub put_there : (put : Put) (features : List Feature) (count i : ℕ) (v : Option (Bor Feature)) → IsPutWithin put features count → put_at put i ≡ Some v
+    → get_or (overlaid 0 put (base_slots features count)) i None ≡ option_copied v
+put_there put features count i v is there = stands_at put features count i is ∙ ap (λ o. unwrap_or (option_map option_copied o) (slice_get features i)) there
+
+pub none_put : (put : Put) (features : List Feature) (count i : ℕ) → IsPutWithin put features count → put_at put i ≡ None
+    → get_or (overlaid 0 put (base_slots features count)) i None ≡ slice_get features i
+none_put put features count i is none = stands_at put features count i is ∙ ap (λ o. unwrap_or (option_map option_copied o) (slice_get features i)) none
 
 -- ---- something more is put
 
@@ -130,16 +141,18 @@ module _ (old new : BTreeMap ℕ (Option (Bor Feature))) (k : ℕ) (v : Option (
   overlaid_set n (suc j) (s ∷ slots) e small =
       rw (stays n (λ h. absurd (omega (arith, e, h))), overlaid_set (suc n) j slots (omega (arith, e)) (omega (arith, small))) refl
 
-  pub put_is : (features : List Feature) (count : ℕ) → length features ≤ count → k < length (overlaid 0 old.entries (base_slots features count))
+  pub put_is : (features : List Feature) (count : ℕ) → k < length (overlaid 0 old.entries (base_slots features count))
       → overlaid 0 new.entries (base_slots features count) ≡ set (overlaid 0 old.entries (base_slots features count)) k (option_copied v)
-  put_is features count enough small =
+  put_is features count small =
       overlaid_set 0 k (base_slots features count) (omega arith) (omega (arith, small, length-overlaid 0 old.entries (base_slots features count)))
 
-  pub put_within : (features : List Feature) (count : ℕ) → IsPutWithin old.entries features count → k < count → IsPutWithin new.entries features count
-  put_within features count is small = record {
-    enough = is.enough;
-    none = λ n past. stays n (λ e. absurd (omega (arith, e))) ∙ is.none n past;
-  }
+  pub put_within : (features : List Feature) (count : ℕ) → IsPutWithin old.entries features count → k < length (overlaid 0 old.entries (base_slots features count))
+      → IsPutWithin new.entries features count
+  put_within features count is small =
+      let below : k < count = omega (arith, small, slot_count old.entries features count is) in record {
+        enough = is.enough;
+        none = λ n past. stays n (λ e. absurd (omega (arith, e, below, past))) ∙ is.none n past;
+      }
 
   pub pushed_is : (features : List Feature) (count : ℕ) → length features ≤ count → k ≡ count
       → overlaid 0 new.entries (base_slots features (count + 1)) ≡ overlaid 0 old.entries (base_slots features count) ++ option_copied v ∷ []
@@ -217,7 +230,7 @@ all_stand : (features : List Feature) (m : ℕ) → standing (map Some features 
 all_stand [] m = none_stand 0 m
 all_stand (f ∷ features) m = ap (λ fs. f ∷ fs) (all_stand features m)
 
-pub stands_edited : (features : List Feature) (m n : ℕ) (put : Put) → IsStrictlySortedBy nat_cmp (keys_of put) → FromOn n put → ((q : ℕ) → n + length features + m ≤ q → put_at put q ≡ None)
+stands_edited : (features : List Feature) (m n : ℕ) (put : Put) → IsStrictlySortedBy nat_cmp (keys_of put) → FromOn n put → ((q : ℕ) → n + length features + m ≤ q → put_at put q ≡ None)
     → standing (overlaid n put (map Some features ++ replicate m free)) ≡ edited n (edits_of put) features
 stands_edited [] m n put sorted from within = rest_stands m n put sorted from (λ q past. within q (omega (arith, past)))
 stands_edited (f ∷ features) m n [] sorted from within = ap standing (nothing_put n (Some f ∷ (map Some features ++ replicate m free))) ∙ all_stand (f ∷ features) m
@@ -237,3 +250,12 @@ stands_edited (f ∷ features) m n (e ∷ put) sorted from within = elim (cases_
   where
     differs : (a b : ℕ) → (a ≡ b → ⊥) → nat_eq a b ≡ false
     differs a b h = grind (arith, nat_tests)
+
+pub all_edited : (put : BTreeMap ℕ (Option (Bor Feature))) (features : List Feature) (count : ℕ) → IsPutWithin put.entries features count → IsOrdered nat_cmp put
+    → standing (overlaid 0 put.entries (base_slots features count)) ≡ edited 0 (edits_of put.entries) features
+all_edited put features count is ordered =
+    stands_edited features (count - length features) 0 put.entries ordered (from_nothing (keys_of put.entries)) (λ q past. is.none q (omega (arith, is.enough, past)))
+  where
+    from_nothing : (qs : List ℕ) → AllByRecursion (λ (q : ℕ). 0 ≤ q) qs
+    from_nothing [] = tt
+    from_nothing (q ∷ qs) = (omega arith, from_nothing qs)

@@ -16,7 +16,7 @@ use std::marker::Model;
 /// Blocks in order, and the place of each one's first feature. Contracts see them as the list of their features.
 #[derive(Drop)]
 pub(crate) struct Blocks<B: Block> {
-    blocks: Vec<B>,
+    list: Vec<B>,
     starts: Vec<u32>,
     count: u32,
 }
@@ -29,9 +29,9 @@ impl<B: Block> Model for Blocks<B> {
 
     ghost Value = { List Feature };
 
-    ghost view = { λ b. flat_map B.features b.blocks.items };
+    ghost view = { λ b. flat_map B.features b.list.items };
 
-    ghost invariant = { λ b. IsLaid B.features b.starts.items b.count b.blocks.items };
+    ghost invariant = { λ b. IsLaid B.features b.starts.items b.count b.list.items };
 }
 
 /// The place of each block's first feature, and how many features there are. More than a `u32` counts are more
@@ -79,7 +79,7 @@ impl<B: Block> Blocks<B> {
     {
         let (starts, count) = starts_of(alloc, blocks.as_slice())?;
         Ok(Blocks {
-            blocks,
+            list: blocks,
             starts,
             count,
         })
@@ -89,7 +89,7 @@ impl<B: Block> Blocks<B> {
     pub(crate) fn blocks(&self) -> &[B]
         ensures { flat_map B.features result.now ≡ self.now }
     {
-        self.blocks.as_slice()
+        self.list.as_slice()
     }
 
     /// How many features there are.
@@ -107,7 +107,7 @@ impl<B: Block> Blocks<B> {
             return None;
         }
         let at = last_start(self.starts.as_slice(), i);
-        self.blocks[at].get(i - self.starts[at])
+        self.list[at].get(i - self.starts[at])
     }
 
     /// The place, from the place `from` on, before which no feature answers the question, and features that stand
@@ -119,8 +119,8 @@ impl<B: Block> Blocks<B> {
         if from >= count {
             return (from, &[]);
         }
-        for at in last_start(self.starts.as_slice(), from)..self.blocks.len() {
-            let block = &self.blocks[at];
+        for at in last_start(self.starts.as_slice(), from)..self.list.len() {
+            let block = &self.list[at];
             if block.may_answer(question) {
                 let start = self.starts[at];
                 let (place, part) = block.part_from(from.saturating_sub(start), question);

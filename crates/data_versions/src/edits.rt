@@ -1,6 +1,8 @@
 //! Edits of the features of a layer by their numbers, which go down the tree of its parts once.
 ghost use Rattle.std.specs.Prelude.{◌≡◌, ◌≤◌, ◌+◌, ◌∷◌, ◌++◌, ℕ, List, true, false, length, MatchOption, IfOk, OnOk};
+ghost use Rattle.std.specs.BTreeMap.{IsOrdered};
 ghost use Rattle.std.specs.Option.{option_copied, option_to_list};
+ghost use Rattle.std.specs.Ordering.{nat_cmp};
 ghost use Rattle.plain_shapes.specs.Features.{Feature};
 ghost use Rattle.data_versions.specs.inner.Building.{built};
 ghost use Rattle.data_versions.specs.inner.Edits.{edits_of, edited, edits_at, begins_past, standing_edits};
@@ -42,7 +44,8 @@ impl<'a> Edits<'a> {
         alloc: Global,
         put: &BTreeMap<u32, Option<&'a Feature>>,
     ) -> Result<Edits<'a>, NoMemory>
-        ensures { IfOk result (λ edits. edits ≡ edits_of put.now.entries) }
+        ensures all { IfOk result (λ edits. edits ≡ edits_of put.now.entries) }
+        ensures ordered { OnOk result (IsOrdered nat_cmp put.now) }
     {
         let mut all = Vec::with_capacity(alloc, put.len())?;
         for (number, edit) in put.iter() {

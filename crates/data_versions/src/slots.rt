@@ -82,11 +82,11 @@ impl<'a> Slots<'a> {
         ensures done { OnOk result (self.new ≡ self.old ++ option_copied feature.entry ∷ []) }
         ensures same { OnErr result (self.new ≡ self.old) }
     {
-        let Some(next) = self.count.checked_add(1) else {
+        if self.count == u32::MAX {
             return Err(NoMemory);
-        };
+        }
         self.put.insert(self.count, feature)?;
-        self.count = next;
+        self.count += 1;
         Ok(())
     }
 

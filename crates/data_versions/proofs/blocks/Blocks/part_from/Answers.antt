@@ -8,7 +8,7 @@ use Rattle.data_versions.proofs.blocks.Blocks.part_from.Goals as goal
 pub overflow_add-result : goal.overflow_add-result
 overflow_add-result g c =
     let inside = g.B.Block.features in
-    let ps = c.self.inside.blocks.items in
+    let ps = c.self.inside.list.items in
     let small : c.loop-at.at < length ps = omega (arith, c.loop-at-test.true, c.len-at-end.ensures) in
     let start = start_is inside c.self.inside.starts.items c.self.inside.count ps c.loop-at.at c.index-start.result.now c.self.invariant small c.index-start.ensures in
     let whole = part_in inside (answers c.args.question) ps c.args.from c.loop-at.at c.index-start.result.now c.part_from-place.result.0 c.index-block.result.now c.part_from-place.result.1.now
@@ -19,7 +19,7 @@ overflow_add-result g c =
 pub returns-then-may_answer : goal.returns-then-may_answer
 returns-then-may_answer g c =
     let inside = g.B.Block.features in
-    let ps = c.self.inside.blocks.items in
+    let ps = c.self.inside.list.items in
     let small : c.loop-at.at < length ps = omega (arith, c.loop-at-test.true, c.len-at-end.ensures) in
     let start = start_is inside c.self.inside.starts.items c.self.inside.count ps c.loop-at.at c.index-start.result.now c.self.invariant small c.index-start.ensures in
     rw (← c.self.view_is) (part_in inside (answers c.args.question) ps c.args.from c.loop-at.at c.index-start.result.now c.part_from-place.result.0 c.index-block.result.now
@@ -27,7 +27,7 @@ returns-then-may_answer g c =
 
 pub loop-at-preserved : goal.loop-at-preserved
 loop-at-preserved g c =
-    let ps = c.self.inside.blocks.items in
+    let ps = c.self.inside.list.items in
     let small : c.loop-at.at < length ps = omega (arith, c.loop-at-test.true, c.len-at-end.ensures) in record {
       none = none_more g.B.Block.features (answers c.args.question) ps c.args.from c.loop-at.at c.index-block.result.now small c.index-block.ensures
           (c.may_answer.ensures c.if-may_answer.false) c.loop-at.invariant.none;

@@ -7,6 +7,6 @@ use Rattle.data_versions.proofs.blocks.Blocks.part_from.Given as goal
 
 abbrev pub invariant-loop-at : goal.invariant-loop-at
 invariant-loop-at g l = record {
-  none : NoneBefore g.B.Block.features (answers l.question) l.self-inside.blocks.items l.from l.at;
-  reach : l.from < length (flat_map g.B.Block.features (take (l.at + 1) l.self-inside.blocks.items));
+  none : NoneBefore g.B.Block.features (answers l.question) l.self-inside.list.items l.from l.at;
+  reach : l.from < length (flat_map g.B.Block.features (take (l.at + 1) l.self-inside.list.items));
 }
