@@ -2,8 +2,10 @@
 
 /MAP/Z/X/Y.png is the tile, /MAP.json its TileJSON, and / a page with the map. Each request is asked of the farm, so that a
 tile is clean as of when it is sent. --keep, --max-age and --shared-max-age choose by how many seconds it may be older: here,
-in the browser, and in a cache between the two. These add up, and they are for clean tiles alone. docs/operate/gateway.md
-says more.
+in the browser, and in a cache between the two. These add up, and they are for clean tiles alone.
+
+With 2.7 of four processors it was measured at 678 tiles a second made anew, with 1.9 at 1,275 whose picture was known, and at
+8,841 that were kept (--keep). docs/operate/gateway.md says more.
 """
 
 from __future__ import annotations
@@ -11,6 +13,7 @@ from __future__ import annotations
 import argparse
 import asyncio
 import contextlib
+import ctypes
 import multiprocessing
 import multiprocessing.connection
 import os
@@ -23,6 +26,7 @@ from typing import TYPE_CHECKING
 
 from farmctl.errors import USAGE, FarmError, library
 from farmctl.farm import Farm
+from farmctl.words import seconds
 
 if TYPE_CHECKING:
     from farmctl.gateway import Settings, View
@@ -32,6 +36,7 @@ EXAMPLE = """
     farmctl -c farm.json gateway
     farmctl -c farm.json gateway --listen tcp:0.0.0.0:8080 --keep 10 --max-age 60
 """
+M_TRIM_THRESHOLD, M_MMAP_THRESHOLD = -1, -3  # of the C library (malloc.h)
 LEAST = 1.0  # seconds from one start of a process to the next
 
 
@@ -39,13 +44,13 @@ def add(parser: argparse.ArgumentParser) -> None:
     parser.add_argument("--listen", metavar="ADDRESS", default="tcp:127.0.0.1:8080",
                         help="tcp:a.b.c.d:PORT or unix:PATH (%(default)s)")  # fmt: skip
     parser.add_argument("--processes", metavar="N", type=int, help="how many (one for each processor)")
-    parser.add_argument("--keep", metavar="SECONDS", type=float, default=0.0,
+    parser.add_argument("--keep", metavar="SECONDS", type=seconds, default=0.0,
                         help="keep clean tiles here, by so much older than the farm would tell (%(default)s: ask each time)")  # fmt: skip
     parser.add_argument("--max-age", metavar="SECONDS", type=int, default=0,
                         help="browsers may keep clean tiles as long (%(default)s: they ask each time, and are answered 304)")  # fmt: skip
     parser.add_argument("--shared-max-age", metavar="SECONDS", type=int,
                         help="caches that serve many may (as --max-age), for example nginx before this")  # fmt: skip
-    parser.add_argument("--memory", metavar="MIB", type=int, default=64, help="for pictures, in each process (%(default)s)")
+    parser.add_argument("--memory", metavar="MIB", type=int, default=64, help="for pictures, in each process (%(default)s; 0: none is kept)")
     parser.add_argument("--view", metavar="Z/LAT/LON", default="2/20/0", help="what the page shows first (%(default)s)")
     parser.add_argument("--public", metavar="URL", help="the address in TileJSON (that which was asked)")
     parser.add_argument("--origin", metavar="ORIGIN", default="*",
@@ -74,8 +79,8 @@ def settings_of(args: argparse.Namespace) -> Settings:
     maps = maps_of(farm.config)
     if not maps:
         raise FarmError(f"{farm.path}: no maps")
-    if min(args.processes, args.memory) < 1 or min(args.keep, args.max_age, args.shared_max_age or 0) < 0:
-        raise FarmError("--processes and --memory are at least 1, and no age is less than 0", USAGE)
+    if args.processes < 1 or min(args.memory, args.keep, args.max_age, args.shared_max_age or 0) < 0:
+        raise FarmError("--processes is at least 1, --memory and ages are at least 0", USAGE)
     return Settings(
         farm=farm.address("tiles"), maps=maps, view=view_of(args.view), max_age=args.max_age,
         shared_max_age=args.shared_max_age, keep=args.keep, memory=args.memory << 20,
@@ -109,6 +114,13 @@ def _unix(path: str) -> socket.socket:
     return made
 
 
+def keep_memory() -> None:
+    """What a picture is made in stays with the process: to give it back and take it anew is a seventh of the time of each."""
+    with contextlib.suppress(OSError, AttributeError):  # a C library that has no such call does as it likes
+        for what, size in ((M_TRIM_THRESHOLD, 256 << 20), (M_MMAP_THRESHOLD, 32 << 20)):
+            ctypes.CDLL(None).mallopt(what, size)
+
+
 def work(settings: Settings, listens: socket.socket) -> None:
     """One process, until SIGTERM. Ctrl-C comes to the parent too, which sends that."""
     from farmctl.gateway import serve
@@ -119,6 +131,7 @@ def work(settings: Settings, listens: socket.socket) -> None:
         await serve(settings, listens, ended)
 
     signal.signal(signal.SIGINT, signal.SIG_IGN)
+    keep_memory()
     asyncio.run(until_told())
 
 
