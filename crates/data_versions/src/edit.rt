@@ -126,7 +126,7 @@ impl<'a> LayerEdit<'a> {
         }
     }
 
-    #[tactic(auto, using(crate::proofs::Standing::put_known, crate::proofs::Slots::put_new))]
+    #[tactic(auto, using(crate::proofs::Standing::put_known, crate::proofs::Standing::put_new))]
     /// Puts a feature, in place of the one of its id or last. False where it is new and the layer is full.
     pub(crate) fn put(&mut self, feature: &'a Feature) -> Result<bool, NoMemory>
         ensures done { IfOk result (λ fits. fits ≡ true → self.new ≡ with_put feature.now self.old) }

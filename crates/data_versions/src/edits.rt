@@ -29,13 +29,15 @@ pub(crate) struct Edits<'a> {
 }
 
 impl<'a> Model for Edits<'a> {
-    ghost use Rattle.std.specs.Prelude.{ℕ, List, Option, drop};
+    ghost use Rattle.std.specs.Prelude.{◌≤◌, ℕ, List, Option, drop, length};
     ghost use Rattle.plain_shapes.specs.Features.{Feature};
     ghost use Rattle.data_versions.specs.inner.Edits.{edits_of};
 
     ghost Value = { List (ℕ × Option Feature) };
 
     ghost view = { λ e. edits_of (drop e.next e.all.items) };
+
+    ghost invariant = { λ e. e.next ≤ length e.all.items };
 }
 
 impl<'a> Edits<'a> {
@@ -62,6 +64,13 @@ impl<'a> Edits<'a> {
             Some(edit) => edit.0 > number,
             None => true,
         }
+    }
+
+    /// The edits that are left.
+    fn left(&self) -> &[(u32, Option<&'a Feature>)]
+        ensures { edits_of result.now ≡ self.now }
+    {
+        &self.all[self.next..]
     }
 
     /// Takes the first edit that is left, if it is of the number.
@@ -208,7 +217,7 @@ impl Editable for Segment {
 fn add_rest(alloc: Global, edits: &Edits<'_>, builder: &mut Builder) -> Result<(), NoMemory>
     ensures { OnOk result (built builder.new ≡ built builder.old ++ standing_edits edits.now) }
 {
-    for edit in &edits.all[edits.next..] {
+    for edit in edits.left() {
         add_edit(alloc, edit.1, builder)?;
     }
     Ok(())
@@ -223,6 +232,8 @@ pub(crate) fn edited_segments(
 ) -> Result<Vec<Segment>, NoMemory>
     ensures { IfOk result (λ v. laid v.items ≡ edited 0 edits.entry segments.now) }
 {
+    // Read for what `len` ensures: a u32 counts the features.
+    let _count = segments.len();
     let mut edits = edits;
     let mut builder = Builder::new(alloc);
     edit_blocks(alloc, segments, 0, &mut edits, &mut builder)?;

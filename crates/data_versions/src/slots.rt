@@ -34,6 +34,16 @@ impl<'a> Model for Slots<'a> {
     ghost invariant = { λ s. IsPutWithin s.put.entries s.layer.now.features s.count };
 }
 
+/// The feature's id, if there is one.
+fn id_of(feature: Option<&Feature>) -> Option<u64>
+    ensures { result ≡ slot_id (option_copied feature.entry) }
+{
+    match feature {
+        Some(feature) => Some(feature.id()),
+        None => None,
+    }
+}
+
 impl<'a> Slots<'a> {
     /// A slot for each feature of the layer, which stands there.
     pub(crate) fn of(alloc: Global, layer: &'a ChunkedLayer) -> Slots<'a>
@@ -50,9 +60,8 @@ impl<'a> Slots<'a> {
     pub(crate) fn id_at(&self, i: u32) -> Option<u64>
         ensures { result ≡ slot_id (get_or self.now i None) }
     {
-        match self.put.get(&i) {
-            Some(Some(feature)) => Some(feature.id()),
-            Some(None) => None,
+        match self.put.get(&i).copied() {
+            Some(put) => id_of(put),
             None => match self.layer.segments().get(i) {
                 Some(shared) => Some(shared.id()),
                 None => None,

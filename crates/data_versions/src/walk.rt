@@ -28,7 +28,7 @@ impl<'a> Model for NearFeatures<'a> {
 
     ghost view = { λ n. all_near (n.here.now ++ drop n.from n.segments.now) n.around };
 
-    ghost invariant = { λ n. n.from ≤ length n.segments.now };
+    ghost invariant = { λ n. (n.from ≤ length n.segments.now) × (length n.here.now ≤ 4294967295) };
 }
 
 impl<'a> NearFeatures<'a> {

@@ -28,7 +28,7 @@ overflow_add-start g c =
     omega (
       arith,
       c.requires,
-      c.len.ensures,
+      c.len-start.ensures,
       ap length c.blocks-block-items.ensures,
       c.loop-block.invariant.number,
       length_more inside blocks i c.block-item.result c.loop-block-test.true c.block-item.is,
@@ -41,11 +41,11 @@ loop-block-preserved g c =
     let blocks = c.blocks-block-items.result.now in
     let i = c.loop-block.block-index in
     let rest = flat_map inside (drop (i + 1) blocks) in record {
-      number = omega (arith, c.len.ensures, c.loop-block.invariant.number, length_more inside blocks i c.block-item.result c.loop-block-test.true c.block-item.is);
+      number = omega (arith, c.len-start.ensures, c.loop-block.invariant.number, length_more inside blocks i c.block-item.result c.loop-block-test.true c.block-item.is);
       same = λ more. c.loop-block.invariant.same more
           ∙ ap (λ fs. built c.loop-block.builder ++ edited c.loop-block.start c.loop-block.edits fs) (block_first inside blocks more i c.block-item.result c.loop-block-test.true c.block-item.is)
           ∙ c.in_ok-edit_block.ensures (rest ++ more)
-          ∙ ap (λ n. built c.edit_block.new.builder ++ edited (c.loop-block.start + n) c.edit_block.new.edits (rest ++ more)) (sym c.len.ensures);
+          ∙ ap (λ n. built c.edit_block.new.builder ++ edited (c.loop-block.start + n) c.edit_block.new.edits (rest ++ more)) (sym c.len-start.ensures);
     }
 
 pub returns : goal.returns

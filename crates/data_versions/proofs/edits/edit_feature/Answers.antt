@@ -9,7 +9,7 @@ returns-in-Some c =
     on_ok_weaker c.add_edit.result (λ is more. built_edited (built c.args.builder.now) (built c.add_edit.new.builder) c.args.number (option_copied c.in-Some.edit) c.args.edits.now
     c.take.new.self c.args.feature.now more c.in-Some.ensures is) c.add_edit.ensures
 
-pub returns-in-None : goal.returns-in-None
-returns-in-None c =
+pub returns-in_ok-share-in-None : goal.returns-in_ok-share-in-None
+returns-in_ok-share-in-None c =
     on_ok_weaker c.add.result (λ is more. rw c.in-None.ensures.0 (built_other (built c.args.builder.now) (built c.add.new.builder) c.args.number c.args.edits.now c.args.feature.now more
-    c.in-None.ensures.1 (rw c.in_ok-share.ensures at is))) c.add.ensures
+    c.in-None.ensures.1 (rw c.in_ok-share-in-None.ensures at is))) c.add.ensures

@@ -11,9 +11,10 @@ pub returns-in-Some : goal.returns-in-Some
 returns-in-Some c =
     let around = c.loop-place.self-inside.around in
     let rest = drop c.loop-place.from c.loop-place.self-inside.segments.now in
-    rw (take_rest c.loop-place.here.now (c.in-Some.place + 1), c.feature.ensures)
+    rw (take_rest c.loop-place.here.now (c.in-Some.place + 1))
     (c.loop-place.invariant.left
-    ∙ walk_finds (is_near around) c.loop-place.here.now rest c.in-Some.place _ (sym c.first_answer.ensures.place ∙ c.in-Some.is))
+    ∙ walk_finds (is_near around) c.loop-place.here.now rest c.in-Some.place c.index-here-place.result (sym c.first_answer.ensures.place ∙ c.in-Some.is)
+    ∙ ap (λ f. f ∷ filter (is_near around) (drop (c.in-Some.place + 1) c.loop-place.here.now ++ rest)) (sym c.index-here-place.is ∙ sym c.feature.ensures))
 
 pub returns-then-from-count : goal.returns-then-from-count
 returns-then-from-count c =
@@ -33,4 +34,16 @@ loop-place-preserved c =
         ∙ ap (λ xs. xs ++ filter (is_near around) rest) (none_at (is_near around) c.loop-place.here.now (sym c.first_answer.ensures.place ∙ c.in_default.is))
         ∙ part_kept (is_near around) c.loop-place.self-inside.segments.now c.loop-place.from c.part_from-place.result.0 c.part_from-place.result.1.now c.part_from-place.ensures;
       within = c.part_from-place.ensures.within c.loop-place.invariant.within;
+      few = omega (arith, c.part_from-place.ensures.within c.loop-place.invariant.within, c.len-count.ensures, c.len-count.type_inv);
     }
+
+pub overflow_cast-from : goal.overflow_cast-from
+overflow_cast-from c = omega (arith, c.part_from-place.ensures.within c.loop-place.invariant.within, c.len-count.ensures, c.len-count.type_inv)
+
+pub overflow_add-from : goal.overflow_add-from
+overflow_add-from c = omega (arith, c.part_from-place.ensures.within c.loop-place.invariant.within, c.len-count.ensures, c.len-count.type_inv)
+
+pub loop-place-smaller : goal.loop-place-smaller
+loop-place-smaller c =
+    omega (arith, c.if-from-count.false, c.len-count.ensures, c.part_from-place.ensures.on (omega (arith, c.if-from-count.false, c.len-count.ensures)),
+    c.part_from-place.ensures.within c.loop-place.invariant.within)
