@@ -98,6 +98,10 @@ walk_finds p here later k d found =
     filter-append p here later ∙ ap (λ xs. xs ++ filter p later) (first_kept p here k d found)
     ∙ ap (λ xs. get_or here k d ∷ xs) (sym (filter-append p (drop (k + 1) here) later))
 
+-- the walk ends, where no part is left
+pub walk_ends : {X : Type 0} (p : X → Bool) (here : List X) → position p here ≡ None → filter p (here ++ []) ≡ []
+walk_ends p here none = filter-append p here [] ∙ ap (λ xs. xs ++ []) (none_at p here none)
+
 -- ---- the place of an id
 
 -- where no feature has the id, it has no place

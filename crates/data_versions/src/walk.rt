@@ -48,11 +48,11 @@ impl<'a> NearFeatures<'a> {
     pub fn next(&mut self) -> Option<&'a Feature>
         ensures { MatchOption result ((self.old ≡ []) × (self.new ≡ [])) (λ f. self.old ≡ f.now ∷ self.new) }
     {
-        let question = Question::IsNear(self.around);
         let count = self.segments.len();
         let mut here = self.here;
         let mut from = self.from;
         loop {
+            let question = Question::IsNear(self.around);
             if let Some(place) = first_answer(here, question) {
                 self.here = &here[place + 1..];
                 self.from = from;

@@ -11,5 +11,5 @@ returns-in-Some c =
 
 pub returns-in_ok-share-in-None : goal.returns-in_ok-share-in-None
 returns-in_ok-share-in-None c =
-    on_ok_weaker c.add.result (λ is more. rw c.in-None.ensures.0 (built_other (built c.args.builder.now) (built c.add.new.builder) c.args.number c.args.edits.now c.args.feature.now more
+    on_ok_weaker c.add.result (λ is more. rw c.in-None.ensures.0 (built_other (built c.args.builder.now) (built c.add.new.self) c.args.number c.args.edits.now c.args.feature.now more
     c.in-None.ensures.1 (rw c.in_ok-share-in-None.ensures at is))) c.add.ensures

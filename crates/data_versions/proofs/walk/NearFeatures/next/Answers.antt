@@ -20,7 +20,7 @@ pub returns-then-from-count : goal.returns-then-from-count
 returns-then-from-count c =
     let around = c.loop-place.self-inside.around in
     let all = c.loop-place.self-inside.segments.now in
-    let none : drop c.loop-place.from all ≡ [] = drop_all c.loop-place.from all (omega (arith, c.len-count.ensures, c.if-from-count.true)) in (
+    let none : drop c.loop-place.from all ≡ [] = drop_all c.loop-place.from all (omega (arith, c.loop-place.invariant.count, c.if-from-count.true)) in (
       c.loop-place.invariant.left ∙ ap (λ xs. filter (is_near around) (c.loop-place.here.now ++ xs)) none
           ∙ walk_ends (is_near around) c.loop-place.here.now (sym c.first_answer.ensures.place ∙ c.in_default.is),
       ap (filter (is_near around)) none,
@@ -34,16 +34,17 @@ loop-place-preserved c =
         ∙ ap (λ xs. xs ++ filter (is_near around) rest) (none_at (is_near around) c.loop-place.here.now (sym c.first_answer.ensures.place ∙ c.in_default.is))
         ∙ part_kept (is_near around) c.loop-place.self-inside.segments.now c.loop-place.from c.part_from-place.result.0 c.part_from-place.result.1.now c.part_from-place.ensures;
       within = c.part_from-place.ensures.within c.loop-place.invariant.within;
-      few = omega (arith, c.part_from-place.ensures.within c.loop-place.invariant.within, c.len-count.ensures, c.len-count.type_inv);
+      count = c.loop-place.invariant.count;
+      few = omega (arith, c.part_from-place.ensures.within c.loop-place.invariant.within, c.loop-place.invariant.count, c.len-count.type_inv);
     }
 
 pub overflow_cast-from : goal.overflow_cast-from
-overflow_cast-from c = omega (arith, c.part_from-place.ensures.within c.loop-place.invariant.within, c.len-count.ensures, c.len-count.type_inv)
+overflow_cast-from c = omega (arith, c.part_from-place.ensures.within c.loop-place.invariant.within, c.loop-place.invariant.count, c.len-count.type_inv)
 
 pub overflow_add-from : goal.overflow_add-from
-overflow_add-from c = omega (arith, c.part_from-place.ensures.within c.loop-place.invariant.within, c.len-count.ensures, c.len-count.type_inv)
+overflow_add-from c = omega (arith, c.part_from-place.ensures.within c.loop-place.invariant.within, c.loop-place.invariant.count, c.len-count.type_inv)
 
 pub loop-place-smaller : goal.loop-place-smaller
 loop-place-smaller c =
-    omega (arith, c.if-from-count.false, c.len-count.ensures, c.part_from-place.ensures.on (omega (arith, c.if-from-count.false, c.len-count.ensures)),
+    omega (arith, c.if-from-count.false, c.loop-place.invariant.count, c.part_from-place.ensures.on (omega (arith, c.if-from-count.false, c.loop-place.invariant.count)),
     c.part_from-place.ensures.within c.loop-place.invariant.within)

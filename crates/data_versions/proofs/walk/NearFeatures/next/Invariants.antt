@@ -7,6 +7,7 @@ abbrev pub invariant-loop-place : goal.invariant-loop-place
 invariant-loop-place l = record {
   left : l.fn.self ≡ all_near (l.here ++ drop l.from l.self-inside.segments.now) l.self-inside.around;
   within : l.from ≤ length l.self-inside.segments.now;
+  count : l.count ≡ length l.self-inside.segments.now;
   few : length l.here ≤ 4294967295;
 }
 
