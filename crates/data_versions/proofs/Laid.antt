@@ -1,12 +1,12 @@
 -- Parts that are laid one after another.
-use Rattle.std.proofs.Common.{◌≡◌, ℕ, zero, suc, ◌+◌, ◌-◌, ◌<◌, ◌≤◌, List, [], ◌∷◌, ◌++◌, length, take, drop, get_or, refl, sym, ap, ◌∙◌, subst, inl, inr, arith, append-nil, append_assoc, length-append, length-drop}
-use Rattle.std.specs.Prelude.{◌⊎◌, slice_get, Bool, false, All, filter, position, Option, Some, None, option_map}
+use Rattle.std.proofs.Common.{◌≡◌, ℕ, suc, ◌+◌, ◌-◌, ◌<◌, ◌≤◌, List, [], ◌∷◌, ◌++◌, length, take, drop, get_or, refl, sym, ap, ◌∙◌, subst, inl, inr, arith, append-nil, append_assoc, length-append, length-drop}
+use Rattle.std.specs.Prelude.{slice_get, Bool, false, All, filter, position, Option, Some, None, option_map}
 use Rattle.std.specs.List.{flat_map, AllByRecursion}
 use Rattle.std.proofs.lemmas.Bool.{cases_eq, cases_lt}
 use Rattle.std.proofs.lemmas.List.{take_more, drop_more, drop_all, take_all, take-take, take-append-le, take-append-drop, drop-append-le, get_or_push, get_or_append_left, get_or-append-add, get_or_read, get_or-drop, get_or-take, drop-drop, length-take, length-take-le}
 use Rattle.std.proofs.lemmas.List.Concat.{flat_map-append}
 use Rattle.std.proofs.lemmas.List.Elements.{All-append, filter-append, recursion_from_All}
-use Rattle.std.proofs.lemmas.Option.{slice_get-get_or, slice_get_past}
+use Rattle.std.proofs.lemmas.Option.{slice_get-get_or}
 use Rattle.data_versions.specs.inner.Parts.{IsLaid, IsPart, next_answer}
 use Rattle.data_versions.proofs.Finds.{found_left, found_right, none_passes, none_kept}
 
@@ -148,8 +148,8 @@ module _ {B A : Type 0} (f : B → List A) where
       let rest : List A = flat_map f (drop (k + 1) ps) in
       let within : place + length part ≤ length (f b) = is.within (omega arith) in
       let cut : (n : ℕ) → n ≤ length (f b) → drop (start + n) (flat_map f ps) ≡ drop n (f b) ++ rest = λ n h.
-        ap (λ xs. drop (start + n) xs) (laid_around ps k b small at) ∙ ap (λ (m : ℕ). drop (m + n) (flat_map f (take k ps) ++ (f b ++ rest))) begins
-        ∙ drop_past (flat_map f (take k ps)) (f b ++ rest) n ∙ drop-append-le n (f b) rest h in
+      ap (λ xs. drop (start + n) xs) (laid_around ps k b small at) ∙ ap (λ (m : ℕ). drop (m + n) (flat_map f (take k ps) ++ (f b ++ rest))) begins
+      ∙ drop_past (flat_map f (take k ps)) (f b ++ rest) n ∙ drop-append-le n (f b) rest h in
       record {
         since = omega (arith, is.since);
         none = λ i d after early inside. elim (cases_lt i start) [
@@ -161,7 +161,7 @@ module _ {B A : Type 0} (f : B → List A) where
               ∙ is.none (i - start) d (omega arith) (omega arith) here)
         ];
         side = cut place (omega (arith, within)) ∙ ap (λ xs. xs ++ rest) is.side ∙ append_assoc part (drop (place + length part) (f b)) rest
-          ∙ ap (λ xs. part ++ xs) (sym (cut (place + length part) within) ∙ ap (λ (n : ℕ). drop n (flat_map f ps)) (omega arith));
+            ∙ ap (λ xs. part ++ xs) (sym (cut (place + length part) within) ∙ ap (λ (n : ℕ). drop n (flat_map f ps)) (omega arith));
         on = λ _. elim (cases_lt from start) [
           | inl low ↦ omega arith
           | inr high ↦ omega (arith, is.on (omega arith))

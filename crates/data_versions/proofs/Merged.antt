@@ -1,6 +1,6 @@
 -- Edits that go through the features block after block.
-use Rattle.std.proofs.Common.{◌≡◌, ℕ, zero, suc, ◌+◌, ◌<◌, ◌≤◌, List, [], ◌∷◌, ◌++◌, length, take, drop, get_or, refl, sym, ap, ◌∙◌, append-nil, append_assoc, arith}
-use Rattle.std.specs.Prelude.{Bool, true, false, nat_eq, cond, Option, Some, None}
+use Rattle.std.proofs.Common.{◌≡◌, ℕ, suc, ◌+◌, ◌<◌, ◌≤◌, List, [], ◌∷◌, ◌++◌, length, take, drop, get_or, refl, sym, ap, ◌∙◌, append-nil, append_assoc, arith}
+use Rattle.std.specs.Prelude.{true, false, nat_eq, Option, Some, None}
 use Rattle.std.specs.List.{flat_map}
 use Rattle.std.specs.Borrow.{Bor}
 use Rattle.std.specs.Option.{option_copied, option_to_list}
@@ -9,7 +9,7 @@ use Rattle.std.proofs.lemmas.List.{take_more, take_all, drop_more, drop_all, map
 use Rattle.std.proofs.lemmas.List.Elements.{filter_map-append}
 use Rattle.plain_shapes.specs.Features.{Feature}
 use Rattle.data_versions.specs.inner.Edits.{edits_of, edits_at, begins_past, standing_edits, edited}
-use Rattle.data_versions.proofs.Laid.{laid_rest, length_more}
+use Rattle.data_versions.proofs.Laid.{laid_rest}
 
 abbrev Edit : Type 0
 Edit = ℕ × Option Feature
@@ -80,9 +80,9 @@ pub rest_more : (before built after : List Feature) (edits : List (ℕ × Option
     → after ≡ before ++ standing_edits (edits_of (take (k + 1) edits))
 rest_more before built after edits k e small at is more =
     let next : standing_edits (edits_of (take (k + 1) edits)) ≡ standing_edits (edits_of (take k edits)) ++ option_to_list (option_copied e.1) =
-      ap (λ es. standing_edits (edits_of es)) (take_more edits k e small ∙ ap (λ d. take k edits ++ d ∷ []) (sym at))
-      ∙ ap standing_edits (map-append _ (take k edits) (e ∷ [])) ∙ filter_map-append (λ d. d.1) (edits_of (take k edits)) (edits_of (e ∷ []))
-      ∙ ap (λ fs. standing_edits (edits_of (take k edits)) ++ fs) (alone (option_copied e.1)) in
+    ap (λ es. standing_edits (edits_of es)) (take_more edits k e small ∙ ap (λ d. take k edits ++ d ∷ []) (sym at))
+    ∙ ap standing_edits (map-append _ (take k edits) (e ∷ [])) ∙ filter_map-append (λ d. d.1) (edits_of (take k edits)) (edits_of (e ∷ []))
+    ∙ ap (λ fs. standing_edits (edits_of (take k edits)) ++ fs) (alone (option_copied e.1)) in
     more ∙ ap (λ fs. fs ++ option_to_list (option_copied e.1)) is ∙ append_assoc before (standing_edits (edits_of (take k edits))) (option_to_list (option_copied e.1))
     ∙ ap (λ fs. before ++ fs) (sym next)
   where

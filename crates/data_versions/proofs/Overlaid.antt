@@ -1,6 +1,6 @@
 -- Slots into some of which something was put.
 use Rattle.std.proofs.Common.{◌≡◌, ℕ, zero, suc, ◌+◌, ◌-◌, ◌<◌, ◌≤◌, List, [], ◌∷◌, ◌++◌, length, get_or, set, refl, sym, ap, ◌∙◌, inl, inr, append-nil, append_assoc, length-append, arith}
-use Rattle.std.specs.Prelude.{◌⊎◌, Bool, true, false, nat_eq, cond, map, replicate, slice_get, Option, Some, None, option_map, unwrap_or}
+use Rattle.std.specs.Prelude.{Bool, true, false, nat_eq, cond, map, replicate, slice_get, Option, Some, None, option_map, unwrap_or}
 use Rattle.std.specs.Ordering.{nat_cmp}
 use Rattle.std.specs.declared.cmp.Ordering.TheVariants.{Less}
 use Rattle.std.specs.Map.{lookup, keys_of}
@@ -12,7 +12,7 @@ use Rattle.std.specs.Option.{option_copied, option_to_list}
 use Rattle.std.proofs.lemmas.Bool.{cases_eq, cases_lt, eq-eqb}
 use Rattle.std.proofs.lemmas.Bool.Decides.{nat_tests}
 use Rattle.std.proofs.lemmas.Map.Keys.{sorted_head, sorted_tail}
-use Rattle.std.proofs.lemmas.List.{length-map, length-replicate, replicate_more, get_or_append_left, get_or-append_right}
+use Rattle.std.proofs.lemmas.List.{length-map, length-replicate, replicate_more}
 use Rattle.plain_shapes.specs.Features.{Feature}
 use Rattle.data_versions.specs.inner.Slots.{standing, base_slots, overlaid, IsPutWithin}
 use Rattle.data_versions.specs.inner.Edits.{edits_of, standing_edits, edited}
@@ -220,7 +220,7 @@ rest_stands (suc m) n (e ∷ put) sorted from within = elim (cases_eq e.0 n) [
       rw there (ap (cons_option (option_copied e.1))
       (ap standing (overlaid_skip (suc n) e put (replicate m free) (omega (arith, here)))
       ∙ rest_stands m (suc n) put (sorted_tail nat_cmp e.0 (keys_of put) sorted) (after_first n e.0 (keys_of put) (omega (arith, here)) (sorted_head nat_cmp e.0 (keys_of put) sorted))
-        (λ q past. tail_lacks e put q (within q (omega (arith, past)))))))
+      (λ q past. tail_lacks e put q (within q (omega (arith, past)))))))
   | inr other ↦ (
       let later : AllByRecursion (λ (q : ℕ). suc n ≤ q) (keys_of (e ∷ put)) = (omega (arith, from.0), after_first n e.0 (keys_of put) from.0 (sorted_head nat_cmp e.0 (keys_of put) sorted)) in
       rw (none_at_first n (e ∷ put) later) (rest_stands m (suc n) (e ∷ put) sorted later (λ q past. within q (omega (arith, past)))))
@@ -240,7 +240,7 @@ stands_edited (f ∷ features) m n (e ∷ put) sorted from within = elim (cases_
       rw (there, eq-eqb e.0 n here) (ap (cons_option (option_copied e.1))
       (ap standing (overlaid_skip (suc n) e put (map Some features ++ replicate m free) (omega (arith, here)))
       ∙ stands_edited features m (suc n) put (sorted_tail nat_cmp e.0 (keys_of put) sorted) (after_first n e.0 (keys_of put) (omega (arith, here)) (sorted_head nat_cmp e.0 (keys_of put) sorted))
-        (λ q past. tail_lacks e put q (within q (omega (arith, past)))))
+      (λ q past. tail_lacks e put q (within q (omega (arith, past)))))
       ∙ cons_is (option_copied e.1) (edited (suc n) (edits_of put) features)))
   | inr other ↦ (
       let later : AllByRecursion (λ (q : ℕ). suc n ≤ q) (keys_of (e ∷ put)) = (omega (arith, from.0), after_first n e.0 (keys_of put) from.0 (sorted_head nat_cmp e.0 (keys_of put) sorted)) in

@@ -6,8 +6,8 @@ ghost use Rattle.plain_shapes.specs.Data.{has_id, ids_of, IsLayer};
 ghost use Rattle.data_versions.specs.inner.Slots.{without, replaced_by, with_put};
 ghost use Rattle.data_versions.specs.inner.Parts.{laid};
 
-use crate::finder::LayerFinder;
 use crate::chunked::ChunkedLayer;
+use crate::finder::LayerFinder;
 use crate::segment::Segment;
 use crate::slot::slot_of;
 use crate::slots::Slots;

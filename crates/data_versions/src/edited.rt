@@ -37,11 +37,7 @@ fn remove_all(edit: &mut LayerEdit<'_>, place: u32, ids: &[u64]) -> Result<(), A
 
 /// Puts the features, in order.
 #[tactic(auto, using(crate::proofs::Changes::puts_more, crate::proofs::Changes::puts_end, crate::proofs::Changes::puts_full))]
-fn put_all<'a>(
-    edit: &mut LayerEdit<'a>,
-    place: u32,
-    puts: &'a [Feature],
-) -> Result<(), ApplyFault>
+fn put_all<'a>(edit: &mut LayerEdit<'a>, place: u32, puts: &'a [Feature]) -> Result<(), ApplyFault>
     ensures done { OnOk result (edit.new ≡ with_puts puts.now edit.old) }
     ensures fits { OnOk result (is_too_many (with_puts puts.now edit.old) ≡ false) }
     ensures cause { IfErr result (λ e. e ≢ ApplyFault.NoMemory → e ≡ ApplyFault.TooMany place) }

@@ -88,11 +88,7 @@ impl<'a> Edits<'a> {
 }
 
 /// Adds what stands there by an edit.
-fn add_edit(
-    alloc: Global,
-    edit: Option<&Feature>,
-    builder: &mut Builder,
-) -> Result<(), NoMemory>
+fn add_edit(alloc: Global, edit: Option<&Feature>, builder: &mut Builder) -> Result<(), NoMemory>
     ensures { OnOk result (built builder.new ≡ built builder.old ++ option_to_list (option_copied edit.entry)) }
 {
     match edit {

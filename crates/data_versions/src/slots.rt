@@ -4,8 +4,8 @@ ghost use Rattle.std.specs.Option.{option_copied};
 ghost use Rattle.data_versions.specs.inner.Parts.{laid};
 ghost use Rattle.data_versions.specs.inner.Slots.{standing, slot_id};
 
-use crate::edits::{Edits, edited_segments};
 use crate::chunked::ChunkedLayer;
+use crate::edits::{Edits, edited_segments};
 use crate::segment::Segment;
 use farm_base::NoMemory;
 use geo_model::Feature;

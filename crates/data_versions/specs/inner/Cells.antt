@@ -4,7 +4,7 @@ use Rattle.std.specs.Int.{bit_at}
 use Rattle.plain_world.specs.declared.world.Point.{Point}
 use Rattle.plain_shapes.specs.Features.{Feature}
 use Rattle.geo_model.specs.declared.bounds.Bounds.{Bounds}
-use Rattle.geo_model.specs.Bounds.{bounds_of, InBounds, Within}
+use Rattle.geo_model.specs.Bounds.{bounds_of, InBounds}
 use Rattle.geo_model.specs.Shapes.{parts_of}
 use Rattle.data_versions.specs.declared.cells.CellBlock.{CellBlock}
 

@@ -10,5 +10,5 @@ abbrev pub invariant-loop-block : goal.invariant-loop-block
 invariant-loop-block g l = record {
   number : l.start ≡ l.first + length (flat_map g.B.Block.features (take l.block-index l.block-items));
   same : (more : List Feature) → built l.fn.builder ++ edited l.first l.fn.edits (flat_map g.B.Block.features l.block-items ++ more)
-    ≡ built l.builder ++ edited l.start l.edits (flat_map g.B.Block.features (drop l.block-index l.block-items) ++ more);
+      ≡ built l.builder ++ edited l.start l.edits (flat_map g.B.Block.features (drop l.block-index l.block-items) ++ more);
 }

@@ -1,5 +1,4 @@
-use Rattle.std.proofs.Common.{◌-◌, ap, ◌∙◌}
-use Rattle.std.specs.Prelude.{slice_get}
+use Rattle.std.proofs.Common.{◌∙◌}
 use Rattle.data_versions.proofs.Laid.{get_in}
 use Rattle.data_versions.proofs.blocks.Blocks.get.Goals as goal
 

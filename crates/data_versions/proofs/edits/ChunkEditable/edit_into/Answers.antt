@@ -1,4 +1,4 @@
-use Rattle.std.proofs.Common.{◌+◌, ◌++◌, length, take, drop, ap, sym, ◌∙◌, arith}
+use Rattle.std.proofs.Common.{◌+◌, ◌++◌, length, drop, ap, ◌∙◌, arith}
 use Rattle.data_versions.specs.inner.Building.{built}
 use Rattle.data_versions.specs.inner.Edits.{edited}
 use Rattle.data_versions.proofs.Merged.{feature_first, features_end}

@@ -9,5 +9,5 @@ abbrev pub invariant-loop-feature : goal.invariant-loop-feature
 invariant-loop-feature l = record {
   number : l.number ≡ l.first + l.feature-index;
   same : (more : List Feature) → built l.fn.builder ++ edited l.first l.fn.edits (l.feature-items ++ more)
-    ≡ built l.builder ++ edited l.number l.edits (drop l.feature-index l.feature-items ++ more);
+      ≡ built l.builder ++ edited l.number l.edits (drop l.feature-index l.feature-items ++ more);
 }

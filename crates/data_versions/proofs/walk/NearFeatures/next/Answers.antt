@@ -1,4 +1,4 @@
-use Rattle.std.proofs.Common.{◌≡◌, ◌+◌, ◌∷◌, [], ◌++◌, length, drop, ap, sym, ◌∙◌, arith}
+use Rattle.std.proofs.Common.{◌≡◌, ◌+◌, ◌∷◌, [], ◌++◌, drop, ap, sym, ◌∙◌, arith}
 use Rattle.std.specs.Prelude.{filter}
 use Rattle.std.proofs.lemmas.List.{take_rest, drop_all}
 use Rattle.std.proofs.lemmas.List.Elements.{filter-append}
@@ -31,8 +31,8 @@ loop-place-preserved c =
     let around = c.loop-place.self-inside.around in
     let rest = drop c.loop-place.from c.loop-place.self-inside.segments.now in record {
       left = c.loop-place.invariant.left ∙ filter-append (is_near around) c.loop-place.here.now rest
-        ∙ ap (λ xs. xs ++ filter (is_near around) rest) (none_at (is_near around) c.loop-place.here.now (sym c.first_answer.ensures.place ∙ c.in_default.is))
-        ∙ part_kept (is_near around) c.loop-place.self-inside.segments.now c.loop-place.from c.part_from-place.result.0 c.part_from-place.result.1.now c.part_from-place.ensures;
+          ∙ ap (λ xs. xs ++ filter (is_near around) rest) (none_at (is_near around) c.loop-place.here.now (sym c.first_answer.ensures.place ∙ c.in_default.is))
+          ∙ part_kept (is_near around) c.loop-place.self-inside.segments.now c.loop-place.from c.part_from-place.result.0 c.part_from-place.result.1.now c.part_from-place.ensures;
       within = c.part_from-place.ensures.within c.loop-place.invariant.within;
       count = c.loop-place.invariant.count;
       few = omega (arith, c.part_from-place.ensures.within c.loop-place.invariant.within, c.loop-place.invariant.count, c.len-count.type_inv);
@@ -46,5 +46,10 @@ overflow_add-from c = omega (arith, c.part_from-place.ensures.within c.loop-plac
 
 pub loop-place-smaller : goal.loop-place-smaller
 loop-place-smaller c =
-    omega (arith, c.if-from-count.false, c.loop-place.invariant.count, c.part_from-place.ensures.on (omega (arith, c.if-from-count.false, c.loop-place.invariant.count)),
-    c.part_from-place.ensures.within c.loop-place.invariant.within)
+    omega (
+      arith,
+      c.if-from-count.false,
+      c.loop-place.invariant.count,
+      c.part_from-place.ensures.on (omega (arith, c.if-from-count.false, c.loop-place.invariant.count)),
+      c.part_from-place.ensures.within c.loop-place.invariant.within,
+    )
