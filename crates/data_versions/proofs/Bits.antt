@@ -18,7 +18,9 @@ use Rattle.geo_model.specs.Bounds.{InBounds, Within, IsLeastBounds, meets}
 use Rattle.geo_model.specs.Shapes.{parts_of, least_points, is_none, IsShape}
 use Rattle.data_versions.specs.Near.{is_near}
 use Rattle.data_versions.specs.declared.cells.CellBlock.{CellBlock}
-use Rattle.data_versions.specs.inner.Cells.{scale_of, part_of, row_of, column_of, Marks, HasCells, IsWide, box_of, IsBoxed, IsMarked, IsPlaced}
+use Rattle.data_versions.specs.inner.Cells.{scale_of, part_of, row_of, column_of, Marks, HasCells, IsWide, box_of, IsMarked, IsPlaced}
+use Rattle.data_versions.specs.declared.extent.Extent.{Extent}
+use Rattle.data_versions.specs.inner.Extents.{IsIn}
 use Rattle.std.proofs.Math.Nat.{div-mul-le_self, mul-div-le, mul-le-mul_right}
 use Rattle.std.proofs.lemmas.Nat.{le-div}
 use Rattle.std.proofs.lemmas.Nat.Bits.{bit_at_or, bit_at_and, bit_at-lt, bit_at-zero, bit_at_set_same}
@@ -133,25 +135,17 @@ untrue true h = absurd (h refl)
 untrue false h = refl
 
 -- where the features' cells and the rectangle's share no bit, no feature is near
-pub none_near : (box around : Bounds) (cells : List ℕ) (block : CellBlock) (features : List Feature) → IsPlaced box cells features → IsWide around → Marks box around block
+pub none_near : (extent : Extent) (box around : Bounds) (cells : List ℕ) (block : CellBlock) (features : List Feature) → All (IsIn extent) features
+    → box ≡ extent.bounds → IsPlaced box cells features → IsWide around → Marks box around block
     → ((k : ℕ) → block.top ≤ k → k ≤ block.bottom → bit_and (get_or cells k 0) block.columns ≡ 0) → All (λ f. is_near around f ≡ false) features
-none_near box around cells block features placed wide marks none = λ k d small.
+none_near extent box around cells block features inside same placed wide marks none = λ k d small.
     untrue (is_near around (get_or features k d)) (λ near.
-    let boxed : IsBoxed box (get_or features k d) = placed.boxed k d small in
+    let here : IsIn extent (get_or features k d) = inside k d small in
+    let within : Within (box_of (get_or features k d)) box = subst (λ (b : Bounds). Within (box_of (get_or features k d)) b) (sym same) here.within in
     let facts = tested (box_of (get_or features k d)) around near in
-    common_point box (box_of (get_or features k d)) around cells block boxed.wide wide boxed.within (placed.marked k d small) marks none facts.0 facts.1 facts.2 facts.3)
+    common_point box (box_of (get_or features k d)) around cells block here.wide wide within (placed.marked k d small) marks none facts.0 facts.1 facts.2 facts.3)
 
 -- ---- one more feature
-
-pub boxed_more : (features : List Feature) (i : ℕ) (f : Feature) (old new : Bounds) → i < length features → f ≡ get_or features i f
-    → All (IsBoxed old) (take i features) → Within old new → Within (box_of f) new → IsWide (box_of f) → All (IsBoxed new) (take (i + 1) features)
-boxed_more features i f old new small at each larger within wide =
-    let later : (g : Feature) → IsBoxed old g → IsBoxed new g = λ g h. record {
-      within = record { west = omega (arith, h.within.west, larger.west); north = omega (arith, h.within.north, larger.north); east = omega (arith, h.within.east, larger.east); south = omega (arith, h.within.south, larger.south) };
-      wide = h.wide;
-    } in
-    let here : IsBoxed new f = record { within = within; wide = wide } in
-    All-more (IsBoxed new) features i f small (All-weaker (IsBoxed old) (IsBoxed new) later (take i features) each) (subst (λ (g : Feature). IsBoxed new g) at here)
 
 pub marked_more : (features : List Feature) (n : ℕ) (f : Feature) (box : Bounds) (old new : List ℕ) (block : CellBlock) → n < length features → f ≡ get_or features n f
     → All (IsMarked box old) (take n features) → Marks box (box_of f) block

@@ -1,14 +1,12 @@
 -- Where the first one that passes stands in a list that is cut into parts.
-use Rattle.std.proofs.Common.{◌≡◌, ℕ, suc, ◌+◌, ◌<◌, List, [], ◌∷◌, ◌++◌, length, take, drop, get_or, add-one, refl, sym, ap, ◌∙◌, inl, inr, arith}
-use Rattle.std.specs.Prelude.{◌⊎◌, Bool, true, false, not, cond, filter, nat_eq, nat_lt, position, All, Option, Some, None, option_map, min, max}
+use Rattle.std.proofs.Common.{◌≡◌, ℕ, suc, ◌+◌, List, [], ◌∷◌, ◌++◌, length, drop, get_or, add-one, refl, sym, ap, ◌∙◌, arith}
+use Rattle.std.specs.Prelude.{Bool, true, false, not, cond, filter, nat_eq, nat_lt, position, Option, Some, None, option_map}
 use Rattle.std.specs.List.{AllByRecursion, position_or_len}
 use Rattle.std.proofs.lemmas.Bool.Decides.{nat_tests}
-use Rattle.std.proofs.lemmas.List.Elements.{All-drop, filter-append, recursion_from_All}
-use Rattle.std.proofs.lemmas.List.{take_more}
+use Rattle.std.proofs.lemmas.List.Elements.{filter-append}
 use Rattle.plain_shapes.specs.Features.{Feature}
 use Rattle.plain_shapes.specs.Data.{ids_of}
 use Rattle.data_versions.specs.Near.{place_of}
-use Rattle.data_versions.specs.inner.Ids.{IsOutside, IsSpan}
 
 first_cases : (b : Bool) (n m : ℕ) → cond (nat_lt (cond (not b) (1 + n) 0) (suc m)) (Some (cond (not b) (1 + n) 0)) None
     ≡ cond b (Some 0) (option_map (λ k. k + 1) (cond (nat_lt n m) (Some n) None))
@@ -23,7 +21,7 @@ pub position-cons : {X : Type 0} (p : X → Bool) (x : X) (xs : List X) → posi
 position-cons p x xs = first_cases (p x) (position_or_len p xs) (length xs)
 
 -- one that is found, or a later one, n steps on
-abbrev pub or_later : ℕ → Option ℕ → Option ℕ → Option ℕ
+abbrev or_later : ℕ → Option ℕ → Option ℕ → Option ℕ
 or_later n (Some k) later = Some k
 or_later n None later = option_map (λ k. n + k) later
 
@@ -38,19 +36,23 @@ one_more false n (Some k) later = refl
 one_more false n None (Some k) = ap Some (omega arith)
 one_more false n None None = refl
 
-pub position-append : {X : Type 0} (p : X → Bool) (xs ys : List X) → position p (xs ++ ys) ≡ or_later (length xs) (position p xs) (position p ys)
+position-append : {X : Type 0} (p : X → Bool) (xs ys : List X) → position p (xs ++ ys) ≡ or_later (length xs) (position p xs) (position p ys)
 position-append p [] ys = no_steps (position p ys)
 position-append p (x ∷ xs) ys =
     position-cons p x (xs ++ ys) ∙ ap (λ (o : Option ℕ). cond (p x) (Some 0) (option_map (λ k. k + 1) o)) (position-append p xs ys)
     ∙ one_more (p x) (length xs) (position p xs) (position p ys) ∙ ap (λ (o : Option ℕ). or_later (suc (length xs)) o (position p ys)) (sym (position-cons p x xs))
 
-none_passes : {X : Type 0} (p : X → Bool) (xs : List X) → AllByRecursion (λ x. p x ≡ false) xs → position p xs ≡ None
+-- one that is found in the first part, and one that is not
+pub found_left : {X : Type 0} (p : X → Bool) (xs ys : List X) (k : ℕ) → position p xs ≡ Some k → position p (xs ++ ys) ≡ Some k
+found_left p xs ys k found = position-append p xs ys ∙ rw found refl
+
+pub found_right : {X : Type 0} (p : X → Bool) (xs ys : List X) → position p xs ≡ None → position p (xs ++ ys) ≡ option_map (λ k. length xs + k) (position p ys)
+found_right p xs ys none = position-append p xs ys ∙ rw none refl
+
+-- where none passes, none is found
+pub none_passes : {X : Type 0} (p : X → Bool) (xs : List X) → AllByRecursion (λ x. p x ≡ false) xs → position p xs ≡ None
 none_passes p [] each = refl
 none_passes p (x ∷ xs) each = position-cons p x xs ∙ rw (each.0, none_passes p xs each.1) refl
-
--- where none passes, none does from a place on
-pub none_found : {X : Type 0} (p : X → Bool) (xs : List X) (n : ℕ) → All (λ x. p x ≡ false) xs → position p (drop n xs) ≡ None
-none_found p xs n each = none_passes p (drop n xs) (recursion_from_All (λ x. p x ≡ false) (drop n xs) (All-drop (λ x. p x ≡ false) n xs each))
 
 -- ---- those that pass
 
@@ -96,13 +98,6 @@ walk_finds p here later k d found =
     filter-append p here later ∙ ap (λ xs. xs ++ filter p later) (first_kept p here k d found)
     ∙ ap (λ xs. get_or here k d ∷ xs) (sym (filter-append p (drop (k + 1) here) later))
 
--- the walk goes on with the next part, where its own has none any more
-pub walk_goes_on : {X : Type 0} (p : X → Bool) (here part next later : List X) → position p here ≡ None → filter p part ≡ filter p next
-    → filter p (here ++ (next ++ later)) ≡ filter p (part ++ later)
-walk_goes_on p here part next later none same =
-    filter-append p here (next ++ later) ∙ ap (λ xs. xs ++ filter p (next ++ later)) (none_at p here none)
-    ∙ filter-append p next later ∙ ap (λ xs. xs ++ filter p later) (sym same) ∙ sym (filter-append p part later)
-
 -- the walk ends, where no part is left
 pub walk_ends : {X : Type 0} (p : X → Bool) (here : List X) → position p here ≡ None → filter p (here ++ []) ≡ []
 walk_ends p here none = filter-append p here [] ∙ ap (λ xs. xs ++ []) (none_at p here none)
@@ -116,23 +111,3 @@ no_place (f ∷ features) id each = position-cons (λ g. nat_eq g.id id) f featu
   where
     flip : (a b : ℕ) → nat_eq a b ≡ nat_eq b a
     flip a b = grind (arith, nat_tests)
-
--- an id below the least one of the features so far or above the greatest has no place
-pub span_with : (features : List Feature) (i : ℕ) (f : Feature) (old new : ℕ × ℕ) → i < length features → f ≡ get_or features i f → new.0 ≡ min f.id old.0
-    → new.1 ≡ max f.id old.1 → IsSpan old (take i features) → IsSpan new (take (i + 1) features)
-span_with features i f old new small at least greatest before = λ id out.
-    let out_old : IsOutside old id = elim out [
-      | inl below ↦ inl (omega (arith, below, least))
-      | inr above ↦ inr (omega (arith, above, greatest))
-    ] in
-    let other : nat_eq f.id id ≡ false = elim out [
-      | inl below ↦ differ f.id id (inr (omega (arith, below, least)))
-      | inr above ↦ differ f.id id (inl (omega (arith, above, greatest)))
-    ] in
-    let here : place_of (get_or features i f ∷ []) id ≡ None = ap (λ (g : Feature). place_of (g ∷ []) id) (sym at) ∙ position-cons (λ g. nat_eq g.id id) f [] ∙ rw other refl in
-    ap (λ (fs : List Feature). place_of fs id) (take_more features i f small) ∙ position-append (λ g. nat_eq g.id id) (take i features) (get_or features i f ∷ [])
-    ∙ rw (before id out_old, here) refl
-  where
-    differ : (a b : ℕ) → (a < b) ⊎ (b < a) → nat_eq a b ≡ false
-    differ a b (inl h) = grind (arith, nat_tests)
-    differ a b (inr h) = grind (arith, nat_tests)

@@ -2,7 +2,7 @@
 use Rattle.std.proofs.Common.{◌≡◌, ℕ, suc, ◌+◌, ◌<◌, List, [], ◌∷◌, ◌++◌, length, take, get_or, refl, sym, ap, ◌∙◌, inl, inr, append_assoc, length-append, arith}
 use Rattle.std.specs.Prelude.{true, false, nat_eq, All, Option, Some, None, option_map, cond, Ok, Err}
 use Rattle.std.specs.Ordering.{nat_cmp, ordering_index}
-use Rattle.std.specs.List.{AllByRecursion, IsDistinct}
+use Rattle.std.specs.List.{AllByRecursion, IsDistinct, flat_map}
 use Rattle.std.specs.List.Sorted.{IsBinarySearchResult, IsNonDecreasingBy}
 use Rattle.std.proofs.lemmas.Bool.{cases_lt}
 use Rattle.std.proofs.lemmas.Bool.Decides.{nat_tests}
@@ -11,13 +11,11 @@ use Rattle.std.proofs.lemmas.List.{take_more}
 use Rattle.std.proofs.lemmas.List.Elements.{All-from_recursion, recursion_from_All}
 use Rattle.std.proofs.lemmas.List.Sorted.{All-permutation, IsPermutation-sym, IsNonDecreasingBy-from_default}
 use Rattle.std.proofs.lemmas.Map.Keys.{IsDistinct-head, IsDistinct-tail}
-use Rattle.std.specs.Arc.{arc_value}
 use Rattle.plain_shapes.specs.Features.{Feature}
 use Rattle.plain_shapes.specs.Data.{ids_of}
 use Rattle.data_versions.specs.Near.{place_of}
-use Rattle.data_versions.specs.inner.Chunks.{joined}
 use Rattle.data_versions.specs.inner.Ids.{numbered, IsIdTable}
-use Rattle.data_versions.proofs.Places.{Chunks, ChunkShare, joined_more}
+use Rattle.data_versions.proofs.Laid.{laid_more}
 use Rattle.data_versions.proofs.Finds.{position-cons, no_place}
 
 -- ---- numbering
@@ -27,9 +25,13 @@ numbered-append n [] ys = ap (λ m. numbered m ys) (omega arith)
 numbered-append n (x ∷ xs) ys =
     ap (λ ps. (x.id, n) ∷ ps) (numbered-append (suc n) xs ys ∙ ap (λ m. numbered (suc n) xs ++ numbered m ys) (omega arith))
 
-pub length-numbered : (n : ℕ) (xs : List Feature) → length (numbered n xs) ≡ length xs
+length-numbered : (n : ℕ) (xs : List Feature) → length (numbered n xs) ≡ length xs
 length-numbered n [] = refl
 length-numbered n (x ∷ xs) = ap suc (length-numbered (suc n) xs)
+
+pub numbered_long : (pairs old : List (ℕ × ℕ)) (features : List Feature) → pairs ≡ old ++ numbered (length old) features → length pairs ≡ length old + length features
+numbered_long pairs old features before =
+    omega (arith, ap length before, length-append old (numbered (length old) features), length-numbered (length old) features)
 
 -- one more feature
 pub numbered_more : (pairs after old : List (ℕ × ℕ)) (features : List Feature) (i place : ℕ) (f : Feature) → i < length features → f ≡ get_or features i f
@@ -43,17 +45,16 @@ numbered_more pairs after old features i place f small at before last more =
     ∙ ap (λ ps. old ++ ps) (ap (λ n. numbered (length old) (take i features) ++ (f.id, n) ∷ []) number
     ∙ sym (ap (numbered (length old)) next ∙ numbered-append (length old) (take i features) (f ∷ [])))
 
--- one more chunk
-pub chunk_numbered : (pairs after old : List (ℕ × ℕ)) (chunks : Chunks) (i : ℕ) (c : ChunkShare) (features : List Feature) → i < length chunks → c ≡ get_or chunks i c
-    → features ≡ arc_value c → pairs ≡ old ++ numbered (length old) (joined (take i chunks)) → after ≡ pairs ++ numbered (length pairs) features
-    → after ≡ old ++ numbered (length old) (joined (take (i + 1) chunks))
-chunk_numbered pairs after old chunks i c features small at same before more =
-    let long : length pairs ≡ length old + length (joined (take i chunks)) =
-    omega (arith, ap length before, length-append old (numbered (length old) (joined (take i chunks))), length-numbered (length old) (joined (take i chunks))) in
-    let next : numbered (length old) (joined (take (i + 1) chunks)) ≡ numbered (length old) (joined (take i chunks)) ++ numbered (length old + length (joined (take i chunks))) (arc_value c) =
-    ap (numbered (length old)) (joined_more chunks i c small at) ∙ numbered-append (length old) (joined (take i chunks)) (arc_value c) in
-    more ∙ rw (long, before, same) (append_assoc old (numbered (length old) (joined (take i chunks))) (numbered (length old + length (joined (take i chunks))) (arc_value c)))
-    ∙ ap (λ ps. old ++ ps) (sym next)
+-- one more block
+pub block_numbered : {B : Type 0} (inside : B → List Feature) (pairs after old : List (ℕ × ℕ)) (blocks : List B) (i : ℕ) (b : B) → i < length blocks → b ≡ get_or blocks i b
+    → pairs ≡ old ++ numbered (length old) (flat_map inside (take i blocks)) → after ≡ pairs ++ numbered (length pairs) (inside b)
+    → after ≡ old ++ numbered (length old) (flat_map inside (take (i + 1) blocks))
+block_numbered inside pairs after old blocks i b small at before more =
+    let so_far : List Feature = flat_map inside (take i blocks) in
+    let long : length pairs ≡ length old + length so_far = numbered_long pairs old so_far before in
+    more ∙ ap (λ n. pairs ++ numbered n (inside b)) long ∙ ap (λ ps. ps ++ numbered (length old + length so_far) (inside b)) before
+    ∙ append_assoc old (numbered (length old) so_far) (numbered (length old + length so_far) (inside b))
+    ∙ ap (λ ps. old ++ ps) (sym (ap (numbered (length old)) (laid_more inside blocks i b small at) ∙ numbered-append (length old) so_far (inside b)))
 
 -- ---- what the table finds
 

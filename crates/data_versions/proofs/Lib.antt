@@ -1,10 +1,10 @@
-pub mod Changes
-pub mod Slots
-pub mod Named
 pub mod Bits
+pub mod Changes
 pub mod Finds
-pub mod Places
-pub mod Old
-pub mod Laid
 pub mod Ids
-pub mod Spans
+pub mod Laid
+pub mod Merged
+pub mod Named
+pub mod Old
+pub mod Overlaid
+pub mod Standing

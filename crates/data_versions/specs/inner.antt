@@ -1,5 +1,8 @@
+pub mod Building
 pub mod Cells
-pub mod Chunks
-pub mod Slots
+pub mod Edits
+pub mod Extents
 pub mod Ids
-pub mod Held
+pub mod Parts
+pub mod Questions
+pub mod Slots

@@ -1,96 +1,91 @@
-//! Features that are put into the chunks of a layer one after another.
-ghost use Rattle.std.specs.Prelude.{◌≡◌, ◌≤◌, ◌<◌, ◌∷◌, ◌++◌, [], length, IfOk, OnOk};
-ghost use Rattle.std.specs.Arc.{arc_value};
-ghost use Rattle.data_versions.specs.inner.Chunks.{joined};
+//! Features that are put into the segments of a layer one after another.
+ghost use Rattle.std.specs.Prelude.{◌≡◌, ◌∷◌, ◌++◌, [], IfOk, OnOk};
+ghost use Rattle.data_versions.specs.inner.Building.{built};
+ghost use Rattle.data_versions.specs.inner.Parts.{laid};
 
 use crate::chunk::{Chunk, MOST_TOGETHER};
-use crate::placed::PlacedChunk;
 use crate::segment::Segment;
-use crate::segment_builder::SegmentBuilder;
 use crate::shared::SharedFeature;
 use farm_base::NoMemory;
 use std::alloc::Global;
-use std::marker::Model;
 use std::mem;
-use std::sync::Arc;
 
-/// The chunks so far, and the features that are to become the next one. Contracts see all their features.
+/// A segment that has so many chunks is full. An update that changes one of its features copies the boxes and the
+/// cells of them all, and each update counts all segments.
+const FULL_SEGMENT: usize = 32;
+
+/// The segments so far, the chunks that are to become the next one, and the features that are to become the next
+/// chunk.
 #[derive(Drop)]
-pub(crate) struct ChunkBuilder {
-    chunks: SegmentBuilder,
+pub(crate) struct Builder {
+    segments: Vec<Segment>,
+    chunks: Vec<Chunk>,
     loose: Vec<SharedFeature>,
 }
 
-impl Model for ChunkBuilder {
-    ghost use Rattle.std.specs.Prelude.{◌≤◌, ◌++◌, List, length};
-    ghost use Rattle.plain_shapes.specs.Features.{Feature};
-
-    ghost Value = { List Feature };
-
-    ghost view = { λ p. p.chunks ++ p.loose.items };
-
-    ghost invariant = { λ p. length p.loose.items ≤ 256 };
-}
-
-/// A new chunk of the features.
-fn new_chunk(alloc: Global, features: Vec<SharedFeature>) -> Result<PlacedChunk, NoMemory>
-    requires { length features.items ≤ 256 }
-    ensures { IfOk result (λ chunk. arc_value chunk ≡ features.items) }
-{
-    let chunk = Chunk::of(features);
-    Ok(PlacedChunk::of(Arc::new(alloc, chunk)?))
-}
-
-/// Makes the loose features a chunk, if there are any.
-fn close(
-    alloc: Global,
-    chunks: &mut SegmentBuilder,
-    loose: &mut Vec<SharedFeature>,
-) -> Result<(), NoMemory>
-    requires { length loose.old.items ≤ 256 }
-    ensures closed { OnOk result (chunks.new ≡ chunks.old ++ loose.old.items) }
-    ensures emptied { loose.new.items ≡ [] }
-{
-    let features = mem::replace(loose, Vec::new(alloc));
-    if features.is_empty() {
-        return Ok(());
-    }
-    let chunk = new_chunk(alloc, features)?;
-    chunks.add(alloc, chunk)
-}
-
-/// Makes the loose features a chunk, if there are enough for one.
-fn make_room(
-    alloc: Global,
-    chunks: &mut SegmentBuilder,
-    loose: &mut Vec<SharedFeature>,
-) -> Result<(), NoMemory>
-    requires { length loose.old.items ≤ 256 }
-    ensures same { OnOk result (chunks.new ++ loose.new.items ≡ chunks.old ++ loose.old.items) }
-    ensures room { length loose.new.items < 256 }
-{
-    if loose.len() < MOST_TOGETHER {
-        return Ok(());
-    }
-    close(alloc, chunks, loose)
-}
-
-impl ChunkBuilder {
+impl Builder {
     /// No features yet.
-    pub(crate) fn new(alloc: Global) -> ChunkBuilder
-        ensures { result ≡ [] }
+    pub(crate) fn new(alloc: Global) -> Builder
+        ensures { built result ≡ [] }
     {
-        ChunkBuilder {
-            chunks: SegmentBuilder::new(alloc),
+        Builder {
+            segments: Vec::new(alloc),
+            chunks: Vec::new(alloc),
             loose: Vec::new(alloc),
         }
     }
 
+    /// Makes the chunks a segment, if there are any. No features are loose.
+    fn close_segment(&mut self, alloc: Global) -> Result<(), NoMemory>
+        requires { self.old.loose.items ≡ [] }
+        ensures all { OnOk result (laid self.new.segments.items ≡ built self.old) }
+        ensures chunks { self.new.chunks.items ≡ [] }
+        ensures loose { self.new.loose.items ≡ [] }
+    {
+        let chunks = mem::replace(&mut self.chunks, Vec::new(alloc));
+        if chunks.is_empty() {
+            return Ok(());
+        }
+        self.segments.push(Segment::of(alloc, chunks)?)?;
+        Ok(())
+    }
+
+    /// Puts a chunk at the end. No features are loose.
+    fn add_chunk(&mut self, alloc: Global, chunk: Chunk) -> Result<(), NoMemory>
+        requires { self.old.loose.items ≡ [] }
+        ensures all { OnOk result (built self.new ≡ built self.old ++ chunk) }
+        ensures loose { self.new.loose.items ≡ [] }
+    {
+        if self.chunks.len() >= FULL_SEGMENT {
+            self.close_segment(alloc)?;
+        }
+        if self.chunks.is_empty() {
+            self.chunks.reserve(FULL_SEGMENT)?;
+        }
+        self.chunks.push(chunk)?;
+        Ok(())
+    }
+
+    /// Makes the loose features a chunk, if there are any.
+    fn close_chunk(&mut self, alloc: Global) -> Result<(), NoMemory>
+        ensures all { OnOk result (built self.new ≡ built self.old) }
+        ensures loose { self.new.loose.items ≡ [] }
+    {
+        let features = mem::replace(&mut self.loose, Vec::new(alloc));
+        if features.is_empty() {
+            return Ok(());
+        }
+        let chunk = Chunk::of(alloc, features)?;
+        self.add_chunk(alloc, chunk)
+    }
+
     /// Puts a feature at the end.
     pub(crate) fn add(&mut self, alloc: Global, feature: SharedFeature) -> Result<(), NoMemory>
-        ensures { OnOk result (self.new ≡ self.old ++ feature ∷ []) }
+        ensures { OnOk result (built self.new ≡ built self.old ++ feature ∷ []) }
     {
-        make_room(alloc, &mut self.chunks, &mut self.loose)?;
+        if self.loose.len() >= MOST_TOGETHER {
+            self.close_chunk(alloc)?;
+        }
         if self.loose.is_empty() {
             self.loose.reserve(MOST_TOGETHER)?;
         }
@@ -99,31 +94,30 @@ impl ChunkBuilder {
     }
 
     /// Puts the features of a chunk at the end; the chunk is shared.
-    pub(crate) fn share_chunk(&mut self, alloc: Global, chunk: &PlacedChunk) -> Result<(), NoMemory>
-        ensures { OnOk result (self.new ≡ self.old ++ arc_value chunk.now) }
+    pub(crate) fn share_chunk(&mut self, alloc: Global, chunk: &Chunk) -> Result<(), NoMemory>
+        ensures { OnOk result (built self.new ≡ built self.old ++ chunk.now) }
     {
-        close(alloc, &mut self.chunks, &mut self.loose)?;
+        self.close_chunk(alloc)?;
         let shared = chunk.share()?;
-        self.chunks.add(alloc, shared)
+        self.add_chunk(alloc, shared)
     }
 
     /// Puts the features of a segment at the end; the segment is shared.
-    pub(crate) fn share_segment(
-        &mut self,
-        alloc: Global,
-        segment: &Arc<Segment>,
-    ) -> Result<(), NoMemory>
-        ensures { OnOk result (self.new ≡ self.old ++ arc_value segment.now) }
+    pub(crate) fn share_segment(&mut self, alloc: Global, segment: &Segment) -> Result<(), NoMemory>
+        ensures { OnOk result (built self.new ≡ built self.old ++ segment.now) }
     {
-        close(alloc, &mut self.chunks, &mut self.loose)?;
-        self.chunks.share(alloc, segment)
+        self.close_chunk(alloc)?;
+        self.close_segment(alloc)?;
+        self.segments.push(segment.share()?)?;
+        Ok(())
     }
 
     /// The segments of all the features.
-    pub(crate) fn into_segments(mut self, alloc: Global) -> Result<Vec<Arc<Segment>>, NoMemory>
-        ensures { IfOk result (λ segments. joined segments.items ≡ self) }
+    pub(crate) fn into_segments(mut self, alloc: Global) -> Result<Vec<Segment>, NoMemory>
+        ensures { IfOk result (λ segments. laid segments.items ≡ built self) }
     {
-        close(alloc, &mut self.chunks, &mut self.loose)?;
-        self.chunks.into_segments(alloc)
+        self.close_chunk(alloc)?;
+        self.close_segment(alloc)?;
+        Ok(self.segments)
     }
 }

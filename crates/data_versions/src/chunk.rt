@@ -1,127 +1,172 @@
 //! A chunk of a layer: features that snapshots share.
-ghost use Rattle.std.specs.Prelude.{◌≡◌, ◌≤◌, ◌<◌, ◌+◌, ℕ, None, length, drop, position, slice_get, IfSome, IfOk};
-ghost use Rattle.std.specs.Option.{option_copied};
-ghost use Rattle.data_versions.specs.Near.{place_of, is_near};
-ghost use Rattle.data_versions.specs.inner.Ids.{IsOutside, IsSpan};
+ghost use Rattle.std.specs.Prelude.{◌≡◌, ◌≤◌, true, false, length, All, IfOk};
+ghost use Rattle.plain_shapes.specs.Features.{Feature};
+ghost use Rattle.data_versions.specs.Near.{is_near};
+ghost use Rattle.data_versions.specs.inner.Cells.{IsWide, IsMarked};
+ghost use Rattle.data_versions.specs.inner.Extents.{IsIn};
 
+use crate::block::Block;
+use crate::cells::{CELL_ROWS, Grid, add_block, has_one};
+use crate::extent::{Extent, extent_of, no_extent};
+use crate::question::Question;
 use crate::shared::SharedFeature;
-use geo_model::{Bounds, Feature};
+use farm_base::NoMemory;
+use geo_model::Bounds;
+use std::alloc::Global;
 use std::marker::Model;
+use std::sync::Arc;
 
-/// The most features of a full chunk. An update that changes one of them makes a new list of them all, and counts
-/// all chunks of their segment.
+/// The most features of a chunk. An update that changes one of them makes a new list of them all, and counts all
+/// chunks of their segment.
 pub(crate) const MOST_TOGETHER: usize = 64;
 
-/// Features, and the least and the greatest of their ids. Contracts see it as the list of its features.
+/// A share of some features, their extent, and those of its 64 by 64 cells that they meet: 8 bytes a feature, by
+/// which a chunk of features that lie far apart is passed over too. They stand beside those of the next chunk, so
+/// that a walk follows the share only where a cell is met. Contracts see it as the list of its features.
 #[derive(Drop)]
 pub(crate) struct Chunk {
-    features: Vec<SharedFeature>,
-    span: (u64, u64),
+    extent: Extent,
+    grid: Grid,
+    cells: [u64; CELL_ROWS],
+    features: Arc<Vec<SharedFeature>>,
 }
 
 impl Model for Chunk {
-    ghost use Rattle.std.specs.Prelude.{◌≤◌, List, length};
+    ghost use Rattle.std.specs.Prelude.{◌≡◌, ◌≤◌, List, All, length};
     ghost use Rattle.plain_shapes.specs.Features.{Feature};
-    ghost use Rattle.data_versions.specs.inner.Ids.{IsSpan};
+    ghost use Rattle.data_versions.specs.inner.Cells.{IsPlaced};
+    ghost use Rattle.data_versions.specs.inner.Extents.{IsIn};
 
     ghost Value = { List Feature };
 
-    ghost view = { λ c. c.features.items };
+    ghost view = { λ c. c.features.value.items };
 
-    ghost invariant = { λ c. (length c.features.items ≤ 256) × IsSpan c.span c.features.items };
+    ghost invariant = { λ c. (length c.features.value.items ≤ 64) × All (IsIn c.extent) c.features.value.items × (c.grid ≡ c.extent.bounds) × IsPlaced c.grid c.cells c.features.value.items };
 }
 
-/// The least and the greatest id of the features; no feature has an id outside of these.
-fn span_of(features: &[SharedFeature]) -> (u64, u64)
-    ensures { IsSpan result features.now }
+/// The extent of the features.
+fn extent_over(features: &[SharedFeature]) -> Extent
+    ensures { All (IsIn result) features.now }
 {
-    let mut least = u64::MAX;
-    let mut greatest = 0;
+    let mut extent = no_extent();
     for feature in features {
-        let id = feature.id();
-        least = id.min(least);
-        greatest = id.max(greatest);
+        extent = extent.with(extent_of(feature));
     }
-    (least, greatest)
+    extent
+}
+
+/// The cells of the box that the features meet.
+fn cells_under(grid: &Grid, features: &[SharedFeature]) -> [u64; CELL_ROWS]
+    ensures rows { length result ≡ 64 }
+    ensures marked { All (IsMarked grid.now result) features.now }
+{
+    let mut cells = [0u64; CELL_ROWS];
+    for feature in features {
+        add_block(&mut cells, grid.cells_met(feature.bbox()));
+    }
+    cells
+}
+
+/// Whether the rectangle holds a point.
+fn is_wide(around: Bounds) -> bool
+    ensures { result ≡ true → IsWide around }
+{
+    around.west <= around.east && around.north <= around.south
 }
 
 impl Chunk {
-    /// The chunk of the features.
-    pub(crate) fn of(features: Vec<SharedFeature>) -> Chunk
-        requires { length features.items ≤ 256 }
-        ensures { result ≡ features.items }
+    /// The chunk of the features, of which there are 64 at most.
+    pub(crate) fn of(alloc: Global, features: Vec<SharedFeature>) -> Result<Chunk, NoMemory>
+        ensures { IfOk result (λ c. c ≡ features.items) }
     {
-        let span = span_of(features.as_slice());
-        Chunk { features, span }
+        if features.len() > MOST_TOGETHER {
+            return Err(NoMemory);
+        }
+        let extent = extent_over(features.as_slice());
+        let grid = Grid::of(extent.bounds);
+        let cells = cells_under(&grid, features.as_slice());
+        Ok(Chunk {
+            extent,
+            grid,
+            cells,
+            features: Arc::new(alloc, features)?,
+        })
+    }
+
+    /// The same with one more share of the features.
+    pub(crate) fn share(&self) -> Result<Chunk, NoMemory>
+        ensures { IfOk result (λ c. c ≡ self.now) }
+    {
+        Ok(Chunk {
+            extent: self.extent,
+            grid: self.grid.again(),
+            cells: self.cells,
+            features: Arc::try_clone(&self.features)?,
+        })
+    }
+
+    /// The extent of the features.
+    pub(crate) fn extent(&self) -> Extent
+        ensures { All (IsIn result) self.now }
+    {
+        self.extent
     }
 
     /// The features in order.
     pub(crate) fn features(&self) -> &[SharedFeature]
         ensures value { result.now ≡ self.now }
-        ensures few { length self.now ≤ 256 }
+        ensures few { length self.now ≤ 64 }
     {
         self.features.as_slice()
     }
 
-    /// The feature at the place.
-    pub(crate) fn get(&self, i: usize) -> Option<&Feature>
-        ensures { option_copied result ≡ slice_get self.now i }
+    /// Whether a cell of the features meets the rectangle, or the rectangle holds no point; if not, no feature is
+    /// near it.
+    fn is_met(&self, around: Bounds) -> bool
+        ensures { result ≡ false → All (λ f. is_near around f ≡ false) self.now }
     {
-        match self.features.get(i) {
-            Some(shared) => Some(shared.feature()),
-            None => None,
+        if !is_wide(around) {
+            return true;
         }
-    }
-
-    /// How many steps past the place `from` the first feature near the rectangle stands.
-    pub(crate) fn next_near(&self, from: usize, around: Bounds) -> Option<usize>
-        ensures steps { result ≡ position (is_near around) (drop from self.now) }
-        ensures bound { IfSome result (λ steps. from + steps < length self.now) }
-    {
-        if from >= self.features.len() {
-            return None;
-        }
-        find_near(&self.features[from..], around)
-    }
-
-    /// The least and the greatest id of the features; no feature has an id outside of these.
-    pub(crate) fn id_span(&self) -> (u64, u64)
-        ensures { (id : ℕ) → IsOutside result id → place_of self.now id ≡ None }
-    {
-        self.span
-    }
-
-    /// The place of the feature with the id.
-    pub(crate) fn place_of(&self, id: u64) -> Option<usize>
-        ensures place { result ≡ place_of self.now id }
-        ensures bound { IfSome result (λ place. place < length self.now) }
-    {
-        let span = self.id_span();
-        if id < span.0 || span.1 < id {
-            return None;
-        }
-        find_id(self.features.as_slice(), id)
+        has_one(&self.cells, self.grid.cells_met(around))
     }
 }
 
-fn is_near(feature: &SharedFeature, around: Bounds) -> bool
-    ensures { result ≡ is_near around feature.now }
-{
-    feature.bbox().meets(&around)
-}
+impl Block for Chunk {
+    ghost features = { λ fs. fs };
 
-/// The first place of a feature near the rectangle.
-pub(crate) fn find_near(features: &[SharedFeature], around: Bounds) -> Option<usize>
-    ensures place { result ≡ position (is_near around) features.now }
-    ensures bound { IfSome result (λ place. place < length features.now) }
-{
-    features.iter().position(|f| is_near(f, around))
-}
+    fn len(&self) -> u32 {
+        self.features().len() as u32
+    }
 
-/// The first place of a feature with the id.
-fn find_id(features: &[SharedFeature], id: u64) -> Option<usize>
-    ensures place { result ≡ place_of features.now id }
-    ensures bound { IfSome result (λ place. place < length features.now) }
-{
-    features.iter().position(|f| f.id() == id)
+    fn may_answer(&self, question: Question) -> bool {
+        if !self.extent.may_answer(question) {
+            return false;
+        }
+        match question {
+            Question::HasId(_) => true,
+            Question::IsNear(around) => self.is_met(around),
+        }
+    }
+
+    fn get(&self, i: u32) -> Option<&SharedFeature> {
+        self.features.get(i as usize)
+    }
+
+    fn part_from(&self, from: u32, question: Question) -> (u32, &[SharedFeature]) {
+        let _ = question;
+        let features = self.features();
+        if from as usize >= features.len() {
+            return (from, &[]);
+        }
+        (from, &features[from as usize..])
+    }
+
+    fn number(&self, pairs: &mut Vec<(u64, u32)>) -> Result<(), NoMemory> {
+        for feature in self.features() {
+            let place = pairs.len() as u32;
+            pairs.push((feature.id(), place))?;
+        }
+        Ok(())
+    }
 }

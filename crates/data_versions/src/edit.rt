@@ -4,20 +4,19 @@ ghost use Rattle.std.specs.List.{IsDistinct};
 ghost use Rattle.plain_shapes.specs.Limits.{most_features};
 ghost use Rattle.plain_shapes.specs.Data.{has_id, ids_of, IsLayer};
 ghost use Rattle.data_versions.specs.inner.Slots.{without, replaced_by, with_put};
-ghost use Rattle.data_versions.specs.inner.Chunks.{joined};
+ghost use Rattle.data_versions.specs.inner.Parts.{laid};
 
 use crate::chunked::ChunkedLayer;
 use crate::finder::LayerFinder;
-use crate::layer_slots::LayerSlots;
 use crate::segment::Segment;
 use crate::slot::slot_of;
+use crate::slots::Slots;
 use farm_base::NoMemory;
 use geo_model::Feature;
 use plain_shapes::MOST_FEATURES;
 use std::alloc::Global;
 use std::collections::BTreeMap;
 use std::marker::Model;
-use std::sync::Arc;
 
 /// The features of a layer by reference, each in a slot that stays its own, so that a removal moves no other
 /// feature. The first slots are those of the features from the start. The places are those of
@@ -25,8 +24,8 @@ use std::sync::Arc;
 #[derive(Drop)]
 pub(crate) struct LayerEdit<'a> {
     finder: LayerFinder<'a>,
-    slots: LayerSlots<'a>,
-    places: BTreeMap<u64, usize>,
+    slots: Slots<'a>,
+    places: BTreeMap<u64, u32>,
     count: usize,
 }
 
@@ -45,16 +44,16 @@ impl<'a> Model for LayerEdit<'a> {
 
 impl<'a> LayerEdit<'a> {
     /// The features of a layer.
-    pub(crate) fn of(alloc: Global, layer: &'a ChunkedLayer) -> Result<LayerEdit<'a>, NoMemory>
+    pub(crate) fn of(alloc: Global, layer: &'a ChunkedLayer) -> LayerEdit<'a>
         requires { IsLayer layer.now }
-        ensures { IfOk result (λ b. b ≡ layer.now.features) }
+        ensures { result ≡ layer.now.features }
     {
-        Ok(LayerEdit {
-            finder: LayerFinder::of(alloc, layer),
-            slots: LayerSlots::of(alloc, layer)?,
+        LayerEdit {
+            finder: LayerFinder::of(layer),
+            slots: Slots::of(alloc, layer),
             places: BTreeMap::new(alloc),
             count: layer.len() as usize,
-        })
+        }
     }
 
     /// Makes ready for so many more ids to be found.
@@ -65,7 +64,7 @@ impl<'a> LayerEdit<'a> {
     }
 
     /// How many features there are: at most 1,000,000, of distinct ids.
-    #[tactic(auto, using(crate::proofs::Slots::standing_distinct))]
+    #[tactic(auto, using(crate::proofs::Standing::standing_distinct))]
     pub(crate) fn len(&self) -> usize
         ensures count { result ≡ length self.now }
         ensures few { length self.now ≤ most_features }
@@ -75,14 +74,14 @@ impl<'a> LayerEdit<'a> {
     }
 
     /// Takes the feature of the id out, or answers false where there is none.
-    pub(crate) fn remove(&mut self, alloc: Global, id: u64) -> Result<bool, NoMemory>
+    pub(crate) fn remove(&mut self, id: u64) -> Result<bool, NoMemory>
         ensures found { IfOk result (λ found. found ≡ has_id (ids_of self.old) id) }
         ensures gone { IfOk result (λ found. found ≡ true → self.new ≡ without id self.old) }
         ensures absent { IfOk result (λ found. found ≡ false → self.new ≡ self.old) }
     {
         match slot_of(&self.places, &self.finder, &self.slots, id) {
             Some(place) => {
-                self.slots.set(alloc, place, None)?;
+                self.slots.set(place, None)?;
                 self.places.remove(&id);
                 self.count -= 1;
                 Ok(true)
@@ -98,7 +97,7 @@ impl<'a> LayerEdit<'a> {
         ensures { OnOk result (self.new ≡ self.old ++ feature.now ∷ []) }
     {
         let id = feature.id();
-        let place = self.slots.next_number()?;
+        let place = self.slots.next_number();
         self.places.insert(id, place)?;
         match self.slots.push(Some(feature)) {
             Ok(()) => {
@@ -113,27 +112,27 @@ impl<'a> LayerEdit<'a> {
     }
 
     /// Puts a feature in place of the one of its id, if there is one.
-    fn replace(&mut self, alloc: Global, feature: &'a Feature) -> Result<bool, NoMemory>
+    fn replace(&mut self, feature: &'a Feature) -> Result<bool, NoMemory>
         ensures found { IfOk result (λ found. found ≡ has_id (ids_of self.old) feature.now.id) }
         ensures done { IfOk result (λ found. found ≡ true → self.new ≡ replaced_by feature.now self.old) }
         ensures absent { IfOk result (λ found. found ≡ false → self.new ≡ self.old) }
     {
         match slot_of(&self.places, &self.finder, &self.slots, feature.id()) {
             Some(place) => {
-                self.slots.set(alloc, place, Some(feature))?;
+                self.slots.set(place, Some(feature))?;
                 Ok(true)
             }
             None => Ok(false),
         }
     }
 
-    #[tactic(auto, using(crate::proofs::Slots::put_known, crate::proofs::Slots::put_new))]
+    #[tactic(auto, using(crate::proofs::Standing::put_known, crate::proofs::Standing::put_new))]
     /// Puts a feature, in place of the one of its id or last. False where it is new and the layer is full.
-    pub(crate) fn put(&mut self, alloc: Global, feature: &'a Feature) -> Result<bool, NoMemory>
+    pub(crate) fn put(&mut self, feature: &'a Feature) -> Result<bool, NoMemory>
         ensures done { IfOk result (λ fits. fits ≡ true → self.new ≡ with_put feature.now self.old) }
         ensures full { IfOk result (λ fits. fits ≡ false → (has_id (ids_of self.old) feature.now.id ≡ false) × (most_features ≤ length self.old)) }
     {
-        if self.replace(alloc, feature)? {
+        if self.replace(feature)? {
             return Ok(true);
         }
         if self.len() >= MOST_FEATURES {
@@ -145,8 +144,8 @@ impl<'a> LayerEdit<'a> {
 
     /// The features in segments. One in which nothing changed is shared, but for the last one, which is filled up
     /// where new features follow.
-    pub(crate) fn segments(&self, alloc: Global) -> Result<Vec<Arc<Segment>>, NoMemory>
-        ensures { IfOk result (λ segments. joined segments.items ≡ self.now) }
+    pub(crate) fn segments(&self, alloc: Global) -> Result<Vec<Segment>, NoMemory>
+        ensures { IfOk result (λ segments. laid segments.items ≡ self.now) }
     {
         self.slots.segments(alloc)
     }

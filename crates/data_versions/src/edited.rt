@@ -22,18 +22,13 @@ pub(crate) fn no_memory(_refused: NoMemory) -> ApplyFault
 
 /// Takes the features of the ids out, in order.
 #[tactic(auto, using(crate::proofs::Changes::kept_more, crate::proofs::Changes::missing_more, crate::proofs::Changes::missing_now, crate::proofs::Changes::kept_end, crate::proofs::Changes::missing_end))]
-fn remove_all(
-    alloc: Global,
-    edit: &mut LayerEdit<'_>,
-    place: u32,
-    ids: &[u64],
-) -> Result<(), ApplyFault>
+fn remove_all(edit: &mut LayerEdit<'_>, place: u32, ids: &[u64]) -> Result<(), ApplyFault>
     ensures found { OnOk result (first_missing (ids_of edit.old) ids.now ≡ None) }
     ensures gone { OnOk result (edit.new ≡ without_ids ids.now edit.old) }
     ensures missing { IfErr result (λ e. e ≢ ApplyFault.NoMemory → option_map (λ id. ApplyFault.NoFeature place id) (first_missing (ids_of edit.old) ids.now) ≡ Some e) }
 {
     for id in ids {
-        if !edit.remove(alloc, *id).map_err(no_memory)? {
+        if !edit.remove(*id).map_err(no_memory)? {
             return Err(ApplyFault::NoFeature(place, *id));
         }
     }
@@ -42,19 +37,14 @@ fn remove_all(
 
 /// Puts the features, in order.
 #[tactic(auto, using(crate::proofs::Changes::puts_more, crate::proofs::Changes::puts_end, crate::proofs::Changes::puts_full))]
-fn put_all<'a>(
-    alloc: Global,
-    edit: &mut LayerEdit<'a>,
-    place: u32,
-    puts: &'a [Feature],
-) -> Result<(), ApplyFault>
+fn put_all<'a>(edit: &mut LayerEdit<'a>, place: u32, puts: &'a [Feature]) -> Result<(), ApplyFault>
     ensures done { OnOk result (edit.new ≡ with_puts puts.now edit.old) }
     ensures fits { OnOk result (is_too_many (with_puts puts.now edit.old) ≡ false) }
     ensures cause { IfErr result (λ e. e ≢ ApplyFault.NoMemory → e ≡ ApplyFault.TooMany place) }
     ensures full { IfErr result (λ e. e ≢ ApplyFault.NoMemory → is_too_many (with_puts puts.now edit.old) ≡ true) }
 {
     for feature in puts {
-        if !edit.put(alloc, feature).map_err(no_memory)? {
+        if !edit.put(feature).map_err(no_memory)? {
             return Err(ApplyFault::TooMany(place));
         }
     }
@@ -76,8 +66,8 @@ fn make_change<'a>(
 {
     let ids = change.remove.len().saturating_add(change.put.len());
     edit.expect(alloc, ids).map_err(no_memory)?;
-    remove_all(alloc, edit, place, change.remove.as_slice())?;
-    put_all(alloc, edit, place, change.put.as_slice())
+    remove_all(edit, place, change.remove.as_slice())?;
+    put_all(edit, place, change.put.as_slice())
 }
 
 /// The edit so far, or one of the layer that begins.
@@ -85,14 +75,13 @@ fn begun_edit<'a>(
     alloc: Global,
     layer: &'a ChunkedLayer,
     edit: Option<LayerEdit<'a>>,
-) -> Result<LayerEdit<'a>, ApplyFault>
+) -> LayerEdit<'a>
     requires { IsLayer layer.now }
-    ensures begun { IfOk result (λ begun. begun ≡ unwrap_or edit.entry layer.now.features) }
-    ensures refused { IfErr result (λ e. e ≡ ApplyFault.NoMemory) }
+    ensures { result ≡ unwrap_or edit.entry layer.now.features }
 {
     match edit {
-        Some(edit) => Ok(edit),
-        None => LayerEdit::of(alloc, layer).map_err(no_memory),
+        Some(edit) => edit,
+        None => LayerEdit::of(alloc, layer),
     }
 }
 
@@ -102,7 +91,6 @@ fn share_edited(
     layer: &ChunkedLayer,
     edit: &LayerEdit<'_>,
 ) -> Result<Arc<ChunkedLayer>, NoMemory>
-    requires { length edit.now ≤ most_features }
     ensures { IfOk result (λ shared. arc_value shared ≡ record { name = layer.now.name; features = edit.now }) }
 {
     let segments = edit.segments(alloc)?;
@@ -161,7 +149,7 @@ impl<'a> EditedLayer<'a> {
         ensures refused { IfErr result (λ e. e ≢ ApplyFault.NoMemory → features_fault place change.now self.old.features ≡ Some e) }
     {
         let layer: &'a ChunkedLayer = self.shared;
-        let mut edit = begun_edit(alloc, layer, self.edit.take())?;
+        let mut edit = begun_edit(alloc, layer, self.edit.take());
         make_change(alloc, &mut edit, place, change)?;
         self.edit = Some(edit);
         Ok(())

@@ -1,48 +1,62 @@
 //! Features of a layer, found by their ids.
-ghost use Rattle.std.specs.Prelude.{◌≡◌, ◌≤◌, ◌+◌, ◌++◌, List, nat_eq, length, slice_get, IfOk, OnOk};
+ghost use Rattle.std.specs.Prelude.{◌≡◌, List, slice_get, IfOk};
 ghost use Rattle.std.specs.Option.{option_copied};
 ghost use Rattle.std.specs.List.Sorted.{IsNonDecreasingBy, IsPermutation};
 ghost use Rattle.std.specs.Str.{bytes_eq};
-ghost use Rattle.plain_shapes.specs.Data.{ids_of, IsLayer};
+ghost use Rattle.plain_shapes.specs.Data.{IsLayer};
 ghost use Rattle.plain_shapes.specs.Features.{Feature};
-ghost use Rattle.plain_shapes.specs.Limits.{most_features};
 ghost use Rattle.data_versions.specs.Near.{place_of};
-ghost use Rattle.data_versions.specs.inner.Chunks.{joined};
-ghost use Rattle.data_versions.specs.inner.Ids.{numbered, IsIdTable};
+ghost use Rattle.data_versions.specs.inner.Ids.{IsIdTable};
 
 use crate::chunked::ChunkedLayer;
-use crate::id_spans::IdSpans;
-use crate::placed::PlacedChunk;
 use crate::segment::Segment;
-use crate::shared::SharedFeature;
 use farm_base::NoMemory;
 use geo_model::Feature;
 use std::alloc::Global;
 use std::marker::Model;
 
-/// The most ids of a layer that are found by walks that look into each segment. To read between which ids those
-/// of each segment lie takes about as long as so many walks.
+/// The most ids of a layer for which a table of all ids is not thought of.
 const MOST_WALKS: usize = 4;
 
-/// A table of all ids takes for each feature of the layer about as long as so many looks at a span.
+/// To come to the segment that has an id, and to its chunk, takes about as long as so many looks at a segment.
+const LOOKS_OF_SEARCH: usize = 64;
+
+/// A search among the ids of each chunk of a segment, which mostly lie in no cache, takes about as long as so many
+/// looks at a segment.
+const LOOKS_INTO_SEGMENT: usize = 2_048;
+
+/// A table of all ids takes for each feature of the layer about as long as so many looks at a segment.
 const LOOKS_OF_TABLE: usize = 64;
 
-/// Finds the features of a layer by their ids: by walks over its segments, which pass over those that cannot have
-/// the id once several are to be found, or by a table of all ids, once so many are to be found that the walks
-/// would take longer. Contracts see it as the layer.
+/// About how many looks at a segment one id takes, where a segment whose ids do not begin after those of the
+/// segments before it has to be searched.
+fn looks_for_one(segments: &[Segment]) -> usize {
+    let mut greatest = 0;
+    let mut looks = LOOKS_OF_SEARCH.saturating_add(segments.len() / 2);
+    for segment in segments {
+        let extent = segment.extent();
+        if extent.least <= greatest {
+            looks = looks.saturating_add(LOOKS_INTO_SEGMENT);
+        }
+        greatest = greatest.max(extent.greatest);
+    }
+    looks
+}
+
+/// Finds the features of a layer by their ids: by walks over its segments, or by a table of all ids, once so many
+/// are to be found that the walks would take longer. Contracts see it as the layer.
 #[derive(Drop)]
 pub struct LayerFinder<'a> {
     layer: &'a ChunkedLayer,
-    /// Known once several ids are to be found.
-    spans: Option<IdSpans<'a>>,
-    /// The ids in order, each with its place; only where there is a table.
-    table: Vec<(u64, u32)>,
-    has_table: bool,
+    /// The ids in order, each with its place.
+    table: Option<Vec<(u64, u32)>>,
+    /// About how many looks one id takes; known once several ids are to be found.
+    looks: Option<usize>,
     expected: usize,
 }
 
 impl<'a> Model for LayerFinder<'a> {
-    ghost use Rattle.std.specs.Prelude.{◌≡◌, true, IfSome};
+    ghost use Rattle.std.specs.Prelude.{IfSome};
     ghost use Rattle.plain_shapes.specs.Features.{Layer};
     ghost use Rattle.plain_shapes.specs.Data.{IsLayer};
     ghost use Rattle.data_versions.specs.inner.Ids.{IsIdTable};
@@ -51,44 +65,7 @@ impl<'a> Model for LayerFinder<'a> {
 
     ghost view = { λ f. f.layer.now };
 
-    ghost invariant = { λ f. IsLayer f.layer.now × (f.has_table ≡ true → IsIdTable f.table.items f.layer.now.features) × IfSome f.spans (λ s. s ≡ f.layer.now.features) };
-}
-
-/// Adds the ids of the features, each with its place.
-fn number(pairs: &mut Vec<(u64, u32)>, features: &[SharedFeature]) -> Result<(), NoMemory>
-    requires { length pairs.old.items + length features.now ≤ most_features }
-    ensures { OnOk result (pairs.new.items ≡ pairs.old.items ++ numbered (length pairs.old.items) features.now) }
-{
-    for feature in features {
-        let place = pairs.len() as u32;
-        pairs.push((feature.id(), place))?;
-    }
-    Ok(())
-}
-
-/// Adds the ids of the features of the chunks, each with its place.
-fn number_chunks(pairs: &mut Vec<(u64, u32)>, chunks: &[PlacedChunk]) -> Result<(), NoMemory>
-    requires { length pairs.old.items + length (joined chunks.now) ≤ most_features }
-    ensures { OnOk result (pairs.new.items ≡ pairs.old.items ++ numbered (length pairs.old.items) (joined chunks.now)) }
-{
-    for placed in chunks {
-        let chunk = placed.chunk();
-        number(pairs, chunk.features())?;
-    }
-    Ok(())
-}
-
-/// The ids of the layer's features in the features' order, each with its place.
-fn numbered_ids(alloc: Global, layer: &ChunkedLayer) -> Result<Vec<(u64, u32)>, NoMemory>
-    requires { length layer.now.features ≤ most_features }
-    ensures { IfOk result (λ pairs. pairs.items ≡ numbered 0 layer.now.features) }
-{
-    let mut pairs = Vec::with_capacity(alloc, layer.len() as usize)?;
-    for shared in layer.segments() {
-        let segment: &Segment = shared;
-        number_chunks(&mut pairs, segment.chunks())?;
-    }
-    Ok(pairs)
+    ghost invariant = { λ f. IsLayer f.layer.now × IfSome f.table (λ t. IsIdTable t.items f.layer.now.features) };
 }
 
 /// Sorts the pairs by their ids.
@@ -104,7 +81,8 @@ fn id_table(alloc: Global, layer: &ChunkedLayer) -> Result<Vec<(u64, u32)>, NoMe
     requires { IsLayer layer.now }
     ensures { IfOk result (λ table. IsIdTable table.items layer.now.features) }
 {
-    let mut pairs = numbered_ids(alloc, layer)?;
+    let mut pairs = Vec::with_capacity(alloc, layer.len() as usize)?;
+    layer.segments().number(&mut pairs)?;
     sort_ids(&mut pairs);
     Ok(pairs)
 }
@@ -121,25 +99,16 @@ fn place_in(table: &[(u64, u32)], id: u64) -> Option<u32>
 
 impl<'a> LayerFinder<'a> {
     /// For the layer, with no ids expected yet.
-    pub(crate) fn of(alloc: Global, layer: &'a ChunkedLayer) -> LayerFinder<'a>
+    pub(crate) fn of(layer: &'a ChunkedLayer) -> LayerFinder<'a>
         requires { IsLayer layer.now }
         ensures { result ≡ layer.now }
     {
         LayerFinder {
             layer,
-            spans: None,
-            table: Vec::new(alloc),
-            has_table: false,
+            table: None,
+            looks: None,
             expected: 0,
         }
-    }
-
-    /// The layer itself.
-    pub(crate) fn layer(&self) -> &'a ChunkedLayer
-        ensures value { result.now ≡ self.now }
-        ensures valid { IsLayer self.now }
-    {
-        self.layer
     }
 
     /// Whether the layer has the name.
@@ -149,18 +118,16 @@ impl<'a> LayerFinder<'a> {
         self.layer.name() == name
     }
 
-    /// Reads between which ids those of each segment lie, once. Told is about how many looks at a span one id
-    /// takes.
-    fn looks(&mut self, alloc: Global) -> Result<usize, NoMemory>
+    /// About how many looks one id takes, which is reckoned once.
+    fn looks(&mut self) -> usize
         ensures { self.new ≡ self.old }
     {
-        if let Some(spans) = &self.spans {
-            return Ok(spans.looks());
+        if let Some(looks) = self.looks {
+            return looks;
         }
-        let spans = IdSpans::of(alloc, self.layer)?;
-        let looks = spans.looks();
-        self.spans = Some(spans);
-        Ok(looks)
+        let looks = looks_for_one(self.layer.segments().blocks());
+        self.looks = Some(looks);
+        looks
     }
 
     /// Makes ready for so many more ids to be found: where many are expected, of all calls together, the table
@@ -169,15 +136,14 @@ impl<'a> LayerFinder<'a> {
         ensures { self.new ≡ self.old }
     {
         self.expected = self.expected.saturating_add(ids);
-        if self.has_table || self.expected <= MOST_WALKS {
+        if self.table.is_some() || self.expected <= MOST_WALKS {
             return Ok(());
         }
-        let walks = self.looks(alloc)?.saturating_mul(self.expected);
+        let walks = self.looks().saturating_mul(self.expected);
         if walks <= LOOKS_OF_TABLE.saturating_mul(self.layer.len() as usize) {
             return Ok(());
         }
-        self.table = id_table(alloc, self.layer)?;
-        self.has_table = true;
+        self.table = Some(id_table(alloc, self.layer)?);
         Ok(())
     }
 
@@ -185,11 +151,8 @@ impl<'a> LayerFinder<'a> {
     pub fn place_of(&self, id: u64) -> Option<u32>
         ensures { result ≡ place_of self.now.features id }
     {
-        if self.has_table {
-            return place_in(self.table.as_slice(), id);
-        }
-        match &self.spans {
-            Some(spans) => spans.place_of(id),
+        match &self.table {
+            Some(table) => place_in(table.as_slice(), id),
             None => self.layer.place_of(id),
         }
     }

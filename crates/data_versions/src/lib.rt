@@ -1,24 +1,23 @@
 //! Data in versions: datasets, updates and snapshots that never change.
 #![tactic(auto)]
 
+mod block;
+mod blocks;
 mod builder;
 mod cells;
 mod chunk;
-mod chunk_slots;
 mod chunked;
 mod dataset;
 mod edit;
 mod edited;
+mod edits;
+mod extent;
 mod finder;
-mod id_spans;
-mod layer_slots;
-mod placed;
+mod question;
 mod segment;
-mod segment_builder;
-mod segment_slots;
 mod shared;
 mod slot;
-mod slot_list;
+mod slots;
 mod snapshot;
 mod updates;
 mod walk;

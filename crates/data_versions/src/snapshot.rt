@@ -5,10 +5,10 @@ ghost use Rattle.std.specs.Arc.{arc_value};
 ghost use Rattle.plain_shapes.specs.Data.{IsLayer, IsDataset, layer_named, features_named};
 ghost use Rattle.data_versions.specs.Near.{place_of, next_near, all_near};
 ghost use Rattle.data_versions.specs.Shared.{shared_layers};
-ghost use Rattle.data_versions.specs.inner.Chunks.{joined};
+ghost use Rattle.data_versions.specs.inner.Parts.{laid};
 ghost use Rattle.plain_shapes.specs.Limits.{most_features};
 
-use crate::builder::ChunkBuilder;
+use crate::builder::Builder;
 use crate::chunked::ChunkedLayer;
 use crate::dataset::{Dataset, Layer};
 use crate::finder::LayerFinder;
@@ -21,7 +21,7 @@ use std::alloc::Global;
 use std::marker::Model;
 use std::sync::Arc;
 
-/// A dataset that never changes and is shared, each layer in segments of chunks of at most 256 features. Contracts
+/// A dataset that never changes and is shared, each layer in segments of chunks of at most 64 features. Contracts
 /// see it as the list of its layers.
 #[derive(Drop)]
 pub struct Snapshot {
@@ -42,10 +42,10 @@ impl Model for Snapshot {
 }
 
 /// The segments of the features.
-fn segments_of(alloc: Global, features: Vec<Feature>) -> Result<Vec<Arc<Segment>>, NoMemory>
-    ensures { IfOk result (λ segments. joined segments.items ≡ features.items) }
+fn segments_of(alloc: Global, features: Vec<Feature>) -> Result<Vec<Segment>, NoMemory>
+    ensures { IfOk result (λ segments. laid segments.items ≡ features.items) }
 {
-    let mut builder = ChunkBuilder::new(alloc);
+    let mut builder = Builder::new(alloc);
     for feature in features {
         builder.add(alloc, SharedFeature::of(alloc, feature)?)?;
     }
@@ -54,7 +54,6 @@ fn segments_of(alloc: Global, features: Vec<Feature>) -> Result<Vec<Arc<Segment>
 
 /// Puts the features of the layer into segments, and shares it.
 fn share_layer(alloc: Global, layer: Layer) -> Result<Arc<ChunkedLayer>, NoMemory>
-    requires { length layer.features ≤ most_features }
     ensures { IfOk result (λ shared. arc_value shared ≡ layer) }
 {
     let name = layer.name;
@@ -65,7 +64,6 @@ fn share_layer(alloc: Global, layer: Layer) -> Result<Arc<ChunkedLayer>, NoMemor
 
 /// Puts the features of each layer of the data into segments, and shares it.
 fn share_layers(alloc: Global, layers: Vec<Layer>) -> Result<Vec<Arc<ChunkedLayer>>, NoMemory>
-    requires { All IsLayer layers.items }
     ensures { IfOk result (λ shared. shared_layers shared.items ≡ layers.items) }
 {
     let mut shared = Vec::with_capacity(alloc, layers.len())?;
@@ -141,7 +139,7 @@ fn finders_of<'a>(
     let mut finders = Vec::with_capacity(alloc, shared.len())?;
     for layer in shared {
         let layer: &'a ChunkedLayer = layer;
-        finders.push(LayerFinder::of(alloc, layer))?;
+        finders.push(LayerFinder::of(layer))?;
     }
     Ok(finders)
 }

@@ -4,7 +4,7 @@ use Rattle.std.specs.Int.{bit_at}
 use Rattle.plain_world.specs.declared.world.Point.{Point}
 use Rattle.plain_shapes.specs.Features.{Feature}
 use Rattle.geo_model.specs.declared.bounds.Bounds.{Bounds}
-use Rattle.geo_model.specs.Bounds.{bounds_of, InBounds, Within}
+use Rattle.geo_model.specs.Bounds.{bounds_of, InBounds}
 use Rattle.geo_model.specs.Shapes.{parts_of}
 use Rattle.data_versions.specs.declared.cells.CellBlock.{CellBlock}
 
@@ -42,17 +42,11 @@ pub record IsWide (b : Bounds) : Type 0 where
 abbrev pub box_of : Feature → Bounds
 box_of f = bounds_of (parts_of f.geometry)
 
--- the feature's box lies in the box, and holds a point
-pub record IsBoxed (box : Bounds) (f : Feature) : Type 0 where
-  pub within : Within (box_of f) box
-  pub wide : IsWide (box_of f)
-
 -- the feature's cells are among the cells
 abbrev pub IsMarked : Bounds → List ℕ → Feature → Type 0
 IsMarked box cells f = HasCells box (box_of f) cells
 
--- each of the features lies in the box and in the cells, which have 64 rows
+-- the cells, of 64 rows, hold those of each of the features
 pub record IsPlaced (box : Bounds) (cells : List ℕ) (features : List Feature) : Type 0 where
   pub rows : length cells ≡ 64
-  pub boxed : All (IsBoxed box) features
   pub marked : All (IsMarked box cells) features

@@ -1,14 +1,13 @@
 -- A layer while it is changed: slots in which features stand, or stood.
-use Rattle.std.specs.Prelude.{◌≡◌, ◌⊎◌, ◌+◌, ◌<◌, ◌≤◌, ℕ, not, nat_eq, if◌then◌else◌, List, [], ◌∷◌, ◌++◌, length, take, map, filter, get_or, Option, Some, None, option_map}
+use Rattle.std.specs.Prelude.{◌≡◌, ◌⊎◌, ◌≤◌, ◌-◌, ℕ, suc, not, nat_eq, if◌then◌else◌, List, [], ◌∷◌, ◌++◌, length, replicate, map, filter, get_or, Option, Some, None, option_map, unwrap_or}
 use Rattle.std.specs.Ordering.{nat_cmp}
-use Rattle.std.specs.List.{filter_map, flat_map}
-use Rattle.std.specs.BTreeMap.{BTreeMap, get}
-use Rattle.std.specs.declared.alloc.Global.{Global}
-use Rattle.std.specs.declared.sync.Arc.{Arc}
-use Rattle.std.specs.Arc.{arc_value}
+use Rattle.std.specs.List.{filter_map}
+use Rattle.std.specs.Map.{lookup}
+use Rattle.std.specs.BTreeMap.{BTreeMap, get, is_at}
+use Rattle.std.specs.Borrow.{Bor}
+use Rattle.std.specs.Option.{option_copied}
 use Rattle.plain_shapes.specs.Features.{Feature}
 use Rattle.plain_shapes.specs.Data.{has_id, ids_of}
-use Rattle.plain_shapes.specs.Limits.{most_features}
 use Rattle.data_versions.specs.Near.{place_of}
 
 -- the features that stand in the slots, in order
@@ -19,26 +18,19 @@ standing slots = filter_map (λ s. s) slots
 abbrev pub slot_id : Option Feature → Option ℕ
 slot_id s = option_map (λ f. f.id) s
 
--- the slots of a chunk in which nothing has changed
-abbrev pub whole : Arc (List Feature) Global → List (Option Feature)
-whole chunk = map Some (arc_value chunk)
+-- the slots from the start: one for each feature, which stands there, and as many more as there are then, in which nothing stands
+abbrev pub base_slots : List Feature → ℕ → List (Option Feature)
+base_slots features count = map Some features ++ replicate (count - length features) None
 
--- the slots of the chunks, one chunk after another
-abbrev pub laid : List (List (Option Feature)) → List (Option Feature)
-laid pieces = flat_map (λ p. p) pieces
+-- the slots, of which the first has the number n, with what was put into some
+abbrev pub overlaid : ℕ → List (ℕ × Option (Bor Feature)) → List (Option Feature) → List (Option Feature)
+overlaid n put [] = []
+overlaid n put (s ∷ slots) = unwrap_or (option_map option_copied (lookup (is_at (nat_cmp n)) put)) s ∷ overlaid (suc n) put slots
 
--- the number of each chunk's first slot, and how many slots there are, at most 1,000,000
-pub record IsLaid (starts : List ℕ) (count : ℕ) (pieces : List (List (Option Feature))) : Type 0 where
-  pub long : length starts ≡ length pieces
-  pub each : (k : ℕ) → k < length pieces → get_or starts k 0 ≡ length (laid (take k pieces))
-  pub counted : count ≡ length (laid pieces)
-  pub few : count ≤ most_features
-
--- the slot of the number i is that of the number j among those of the chunk at the place k
-pub record IsSlotOf (pieces : List (List (Option Feature))) (i k j : ℕ) : Type 0 where
-  pub inside : k < length pieces
-  pub within : j < length (get_or pieces k [])
-  pub number : i ≡ length (laid (take k pieces)) + j
+-- no slot past the last one was put into
+pub record IsPutWithin (put : List (ℕ × Option (Bor Feature))) (features : List Feature) (count : ℕ) : Type 0 where
+  pub enough : length features ≤ count
+  pub none : (n : ℕ) → count ≤ n → lookup (is_at (nat_cmp n)) put ≡ None
 
 -- the id stands in no slot
 abbrev pub StandsNowhere : List (Option Feature) → ℕ → Type 0

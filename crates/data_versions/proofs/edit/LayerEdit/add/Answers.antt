@@ -1,5 +1,5 @@
 use Rattle.std.proofs.Common.{arith}
-use Rattle.data_versions.proofs.Slots.{knows_same, knows_undone, knows_added, added_is, added_count, unheld}
+use Rattle.data_versions.proofs.Standing.{knows_same, knows_undone, knows_added, added_is, added_count, unheld}
 use Rattle.data_versions.proofs.edit.LayerEdit.add.Goals as goal
 
 pub invariant_of-self : goal.invariant_of-self
@@ -18,7 +18,7 @@ invariant_of-self-in-Ok c =
     rw c.in-Ok.ensures.done (
       knows_added c.self.inside.places c.insert.new.self c.self.inside.finder.features c.self.inside.slots c.args.feature.now c.self.invariant.0
           (unheld c.self.inside.slots c.args.feature.now.id fresh)
-          (rw (c.id-id.ensures, c.in_ok-place.ensures) at c.in_ok-insert.ensures.updates),
+          (rw (c.id-id.ensures, c.next_number-place.ensures) at c.in_ok-insert.ensures.updates),
       added_count c.self.inside.slots c.args.feature.now c.self.inside.count c.self.invariant.1,
       omega (arith, c.self.invariant.1, rw (← c.self.view_is) at c.requires.room),
     )

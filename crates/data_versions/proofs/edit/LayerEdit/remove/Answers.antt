@@ -1,5 +1,5 @@
 use Rattle.std.proofs.Common.{arith, sym}
-use Rattle.data_versions.proofs.Slots.{in_slots, knows_removed, removed_is, fewer_standing, one_has, none_has}
+use Rattle.data_versions.proofs.Standing.{in_slots, knows_removed, removed_is, fewer_standing, one_has, none_has}
 use Rattle.data_versions.proofs.edit.LayerEdit.remove.Goals as goal
 
 pub set-requires : goal.set-requires

@@ -1,5 +1,5 @@
 use Rattle.std.proofs.Common.{sym, ◌∙◌}
-use Rattle.data_versions.proofs.Slots.{in_slots, knows_replaced, replaced_is, same_standing, one_has, none_has}
+use Rattle.data_versions.proofs.Standing.{in_slots, knows_replaced, replaced_is, same_standing, one_has, none_has}
 use Rattle.data_versions.proofs.edit.LayerEdit.replace.Goals as goal
 
 pub set-requires : goal.set-requires

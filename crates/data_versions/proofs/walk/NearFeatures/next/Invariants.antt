@@ -1,15 +1,15 @@
--- The walk goes on with those that were left at the start.
-use Rattle.std.proofs.Common.{◌≡◌, ◌++◌, length}
+-- What is left of the walk.
+use Rattle.std.proofs.Common.{◌≡◌, ◌≤◌, ◌-◌, ◌++◌, length, drop}
 use Rattle.data_versions.specs.Near.{all_near}
-use Rattle.data_versions.specs.inner.Cells.{IsWide}
-use Rattle.data_versions.specs.inner.Chunks.{joined}
 use Rattle.data_versions.proofs.walk.NearFeatures.next.Given as goal
 
-abbrev pub invariant-loop-feature : goal.invariant-loop-feature
-invariant-loop-feature l = record {
-  left : l.fn.self ≡ l.self-inside.here ++ all_near (joined l.self-inside.later.now) l.self-inside.around;
-  wide : IsWide l.self-inside.around;
+abbrev pub invariant-loop-place : goal.invariant-loop-place
+invariant-loop-place l = record {
+  left : l.fn.self ≡ all_near (l.here ++ drop l.from l.self-inside.segments.now) l.self-inside.around;
+  within : l.from ≤ length l.self-inside.segments.now;
+  count : l.count ≡ length l.self-inside.segments.now;
+  few : length l.here ≤ 4294967295;
 }
 
-abbrev pub decreases-loop-feature : goal.decreases-loop-feature
-decreases-loop-feature l = length l.self-inside.later.now
+abbrev pub decreases-loop-place : goal.decreases-loop-place
+decreases-loop-place l = l.count - l.from

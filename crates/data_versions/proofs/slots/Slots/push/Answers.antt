@@ -1,0 +1,8 @@
+use Rattle.std.proofs.Common.{refl}
+use Rattle.data_versions.proofs.Overlaid.{pushed_is}
+use Rattle.data_versions.proofs.slots.Slots.push.Goals as goal
+
+pub returns-clause-done : goal.returns-clause-done
+returns-clause-done c =
+    rw (← c.self.view_is) (pushed_is c.self.inside.put c.insert.new.self c.self.inside.count c.args.feature c.in_ok-insert.ensures.updates c.self.inside.layer.now.features c.self.inside.count
+    c.self.invariant.enough refl)

@@ -1,0 +1,109 @@
+//! The slots of a layer while an update changes it.
+ghost use Rattle.std.specs.Prelude.{◌≡◌, ◌<◌, ◌∷◌, ◌++◌, [], length, map, set, get_or, Some, None, IfOk, OnOk, OnErr};
+ghost use Rattle.std.specs.Option.{option_copied};
+ghost use Rattle.data_versions.specs.inner.Parts.{laid};
+ghost use Rattle.data_versions.specs.inner.Slots.{standing, slot_id};
+
+use crate::chunked::ChunkedLayer;
+use crate::edits::{Edits, edited_segments};
+use crate::segment::Segment;
+use farm_base::NoMemory;
+use geo_model::Feature;
+use std::alloc::Global;
+use std::collections::BTreeMap;
+use std::marker::Model;
+
+/// The slots of a layer's features, and of those that were added: in each stands what was put there, or else, from
+/// the start, a feature of the layer. Contracts see them as the list of what stands in them.
+#[derive(Drop)]
+pub(crate) struct Slots<'a> {
+    layer: &'a ChunkedLayer,
+    put: BTreeMap<u32, Option<&'a Feature>>,
+    count: u32,
+}
+
+impl<'a> Model for Slots<'a> {
+    ghost use Rattle.std.specs.Prelude.{List, Option};
+    ghost use Rattle.plain_shapes.specs.Features.{Feature};
+    ghost use Rattle.data_versions.specs.inner.Slots.{overlaid, base_slots, IsPutWithin};
+
+    ghost Value = { List (Option Feature) };
+
+    ghost view = { λ s. overlaid 0 s.put.entries (base_slots s.layer.now.features s.count) };
+
+    ghost invariant = { λ s. IsPutWithin s.put.entries s.layer.now.features s.count };
+}
+
+/// The feature's id, if there is one.
+fn id_of(feature: Option<&Feature>) -> Option<u64>
+    ensures { result ≡ slot_id (option_copied feature.entry) }
+{
+    match feature {
+        Some(feature) => Some(feature.id()),
+        None => None,
+    }
+}
+
+impl<'a> Slots<'a> {
+    /// A slot for each feature of the layer, which stands there.
+    pub(crate) fn of(alloc: Global, layer: &'a ChunkedLayer) -> Slots<'a>
+        ensures { result ≡ map Some layer.now.features }
+    {
+        Slots {
+            layer,
+            put: BTreeMap::new(alloc),
+            count: layer.len(),
+        }
+    }
+
+    /// The id of the feature in the slot of the number, if one stands there.
+    pub(crate) fn id_at(&self, i: u32) -> Option<u64>
+        ensures { result ≡ slot_id (get_or self.now i None) }
+    {
+        match self.put.get(&i).copied() {
+            Some(put) => id_of(put),
+            None => match self.layer.segments().get(i) {
+                Some(shared) => Some(shared.id()),
+                None => None,
+            },
+        }
+    }
+
+    /// Puts this into the slot of the number.
+    pub(crate) fn set(&mut self, i: u32, feature: Option<&'a Feature>) -> Result<(), NoMemory>
+        requires { i < length self.old }
+        ensures done { OnOk result (self.new ≡ set self.old i (option_copied feature.entry)) }
+        ensures same { OnErr result (self.new ≡ self.old) }
+    {
+        self.put.insert(i, feature)?;
+        Ok(())
+    }
+
+    /// The number of the slot that is added next.
+    pub(crate) fn next_number(&self) -> u32
+        ensures { result ≡ length self.now }
+    {
+        self.count
+    }
+
+    /// Adds a slot with this.
+    pub(crate) fn push(&mut self, feature: Option<&'a Feature>) -> Result<(), NoMemory>
+        ensures done { OnOk result (self.new ≡ self.old ++ option_copied feature.entry ∷ []) }
+        ensures same { OnErr result (self.new ≡ self.old) }
+    {
+        if self.count == u32::MAX {
+            return Err(NoMemory);
+        }
+        self.put.insert(self.count, feature)?;
+        self.count += 1;
+        Ok(())
+    }
+
+    /// What stands in the slots, in segments. One in which nothing changed is shared.
+    pub(crate) fn segments(&self, alloc: Global) -> Result<Vec<Segment>, NoMemory>
+        ensures { IfOk result (λ segments. laid segments.items ≡ standing self.now) }
+    {
+        let edits = Edits::of(alloc, &self.put)?;
+        edited_segments(alloc, self.layer.segments(), edits)
+    }
+}
