@@ -1,6 +1,5 @@
 use Rattle.std.proofs.Common.{◌∙◌, Option, subst}
 use Rattle.port_events.specs.declared.ends.FrontEnd.{FrontEnd}
-use Rattle.front_loop.specs.inner.Stands.{world}
 use Rattle.front_loop.specs.inner.Stages.{Goes}
 use Rattle.front_loop.proofs.rounds.run.Goals as goal
 
@@ -15,6 +14,5 @@ round-requires-clause-ready g c = (c.requires.ready.0, c.loop.invariant.goes c.r
 
 pub returns-in-Some-end-clause-goes : goal.returns-in-Some-end-clause-goes
 returns-in-Some-end-clause-goes g c = λ start h.
-    subst (λ (x : Option FrontEnd). Goes (g.F.Front.rules c.args.context.now.front.now c.args.context.now.farm.now) g.F.Front.knows start
-    (world (g.P.Ports.state c.round.new.ports).told ((g.M.Farm.seats c.args.context.now.farm.now).mine c.round.new.seat) c.round.new.table) x) c.in-Some-end.is
+    subst (λ (x : Option FrontEnd). Goes (g.F.Front.rules c.args.work.now.front.now c.args.work.now.farm.now) g.F.Front.knows start _ x) c.in-Some-end.is
     (c.in-Ok.ensures.goes start (c.loop.invariant.goes start h))
