@@ -1,5 +1,4 @@
-use Rattle.std.proofs.Common.{Option, sym, subst}
-use Rattle.port_events.specs.declared.ends.FrontEnd.{FrontEnd}
+use Rattle.std.proofs.Common.{sym, subst}
 use Rattle.front_loop.specs.inner.Stages.{Goes}
 use Rattle.front_loop.proofs.Goings.{goes_by}
 use Rattle.front_loop.proofs.rounds.play.Goals as goal
@@ -39,4 +38,4 @@ returns-clause-goes g c = λ start was m.
     let R = g.F.Front.rules c.args.work.now.front.now c.args.work.now.farm.now in
     let o = c.in-Ok-collect_all.ensures.goes (g.P.Ports.state c.take_event.new.ports) c.args.came.now.event start (c.in-Ok.ensures.goes start was m) in
     let v = c.in-Ok-close_all.ensures.goes c.args.came.now.event c.in-Ok-collect_all.stopped start (c.offer_all.ensures.goes c.collect_all.new.seat c.args.came.now.event c.in-Ok-collect_all.stopped start o) in
-    subst (λ (x : Option FrontEnd). Goes R g.F.Front.knows start _ x) (sym c.end_after.ensures.end) (goes_by R g.F.Front.knows c.args.came.now.event c.in-Ok-collect_all.stopped start _ v)
+    subst (Goes R g.F.Front.knows start _) (sym c.end_after.ensures.end) (goes_by R g.F.Front.knows c.args.came.now.event c.in-Ok-collect_all.stopped start _ v)

@@ -1,5 +1,4 @@
-use Rattle.std.proofs.Common.{◌∙◌, Option, subst}
-use Rattle.port_events.specs.declared.ends.FrontEnd.{FrontEnd}
+use Rattle.std.proofs.Common.{◌∙◌, subst}
 use Rattle.front_loop.specs.inner.Stages.{Goes}
 use Rattle.front_loop.proofs.rounds.run.Goals as goal
 
@@ -14,5 +13,5 @@ round-requires-clause-ready g c = (c.requires.ready.0, c.loop.invariant.goes c.r
 
 pub returns-in-Some-end-clause-goes : goal.returns-in-Some-end-clause-goes
 returns-in-Some-end-clause-goes g c = λ start h.
-    subst (λ (x : Option FrontEnd). Goes (g.F.Front.rules c.args.work.now.front.now c.args.work.now.farm.now) g.F.Front.knows start _ x) c.in-Some-end.is
+    subst (Goes (g.F.Front.rules c.args.work.now.front.now c.args.work.now.farm.now) g.F.Front.knows start _) c.in-Some-end.is
     (c.in-Ok.ensures.goes start (c.loop.invariant.goes start h))

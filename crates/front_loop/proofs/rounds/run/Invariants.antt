@@ -7,8 +7,8 @@ use Rattle.front_loop.proofs.rounds.run.Given as goal
 
 abbrev pub invariant-loop : goal.invariant-loop
 invariant-loop g l =
-    let R = g.F.Front.rules l.work.now.front.now l.work.now.farm.now in
-    let seats = g.M.Farm.seats l.work.now.farm.now in
+    let R = g.F.Front.rules l.work.front.now l.work.farm.now in
+    let seats = g.M.Farm.seats l.work.farm.now in
     record {
       seat : SameSeat seats l.fn.seat l.seat;
       count : (g.P.Ports.state l.fn.ports).faults ≤ (g.P.Ports.state l.ports).faults;
