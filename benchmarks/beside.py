@@ -158,13 +158,13 @@ def comb(teeth):
     return made
 
 
-def scattered(count):
+def scattered(count, kinds=1):
     """Small squares in no order of place, over the metatile of zoom 8 at the middle."""
     west, north, side, _ = metatile(8, 2**7, 2**7)
     draw, squares = random.Random(8), []
-    for _ in range(count):
+    for number in range(count):
         x, y, wide = west + draw.randrange(side), north + draw.randrange(side), 1024 + draw.randrange(2048)
-        squares.append((0, "polygon", [[[x, y], [x + wide, y], [x + wide, y + wide], [x, y + wide]]]))
+        squares.append((number % kinds, "polygon", [[[x, y], [x + wide, y], [x + wide, y + wide], [x, y + wide]]]))
     return {"all": squares}
 
 
@@ -198,8 +198,9 @@ def roads_on_base():
 # ---- styles: for each layer of data some rules (kind or None for the rest, symbolizers, and maybe the least and the
 # greatest scale denominator)
 
-# A layer that more than one style draws, each a list of rules.
+# A layer that more than one style draws, each a list of rules; and one that draws the data of another name.
 Styled = collections.namedtuple("Styled", "styles")
+Over = collections.namedtuple("Over", "source rules")
 
 
 def fill(colour, opacity=1):
@@ -238,8 +239,14 @@ def beside_others(count):
     return {"all": Styled([one(fill("#336699"))["all"]] + [other] * count)}
 
 
+def layers_over_one(count):
+    """So many layers over the same data, each of which draws one kind."""
+    return {"layer%d" % kind: Over("all", [(kind, [fill("#336699")])]) for kind in range(count)}
+
+
 # what is drawn, how, at which zooms, and round which point
 HERE = [MIDDLE, MIDDLE]
+FAR = [MIDDLE // 2, MIDDLE // 2]
 CASES = {
     "200": (lambda: generated(200), load_style(), [11, 12, 13, 14], HERE),
     "10000": (lambda: generated(10000), load_style(), [11, 12, 13, 14], HERE),
@@ -262,6 +269,9 @@ CASES = {
     "contours": (contours, one(stroke("#996633", 1, "butt", 0.5)), [14], HERE),
     "comb500": (comb(500), one(fill("#336699")), [14, 18], HERE),
     "scattered": (lambda: scattered(300000), one(fill("#336699")), [18], HERE),
+    "layers16": (lambda: scattered(1000000, 16), layers_over_one(16), [18], HERE),
+    "layers64": (lambda: scattered(1000000, 64), layers_over_one(64), [18], HERE),
+    "layers64_far": (lambda: scattered(1000000, 64), layers_over_one(64), [18], FAR),
     "inactive": (lambda: squares(100000), beside_others(20), [12, 14], HERE),
     "base": (roads_on_base, {"base": [(None, [{"symbolizer": "RasterSymbolizer", "opacity": "1"}])]} | one(stroke("#ffffff", 2)), [12, 14, 16, 18], HERE),
     "elsewhere": (lambda: mixed(100000), TWELVE, [18], HERE),
@@ -275,7 +285,12 @@ def styles_of(name, rules):
     """The names and the rules of the styles that draw a layer."""
     if isinstance(rules, Styled):
         return [("%s%d" % (name, place), they) for place, they in enumerate(rules.styles)]
-    return [(name, rules)]
+    return [(name, rules.rules if isinstance(rules, Over) else rules)]
+
+
+def source_of(name, rules):
+    """The name of the data that a layer draws."""
+    return rules.source if isinstance(rules, Over) else name
 
 
 def our_rule(kind, symbolizers, scales=None):
@@ -293,7 +308,7 @@ def ours(features, style):
     for name, rules in style.items():
         they = styles_of(name, rules)
         styles += [{"name": own, "rules": [our_rule(*rule) for rule in of]} for own, of in they]
-        shown.append({"name": name, "source": name, "styles": [own for own, _ in they]})
+        shown.append({"name": name, "source": source_of(name, rules), "styles": [own for own, _ in they]})
     said = {"background-color": "#f2efe9", "styles": styles, "layers": shown}
     if "base" in style:
         west, north, side, _ = metatile(12, 2**11, 2**11)
@@ -337,30 +352,46 @@ def mapnik_rule(kind, symbolizers, scales=None):
     return "".join(out) + "</Rule>"
 
 
-def mapnik_source(name, items, folder):
-    """The parameters of a layer's source; its data go into a file of the folder."""
+def mapnik_source(name, folder):
+    """The parameters of a source. One that many layers share is read from its file, by an index where mapnik-index made one:
+    kept, each of its layers has a copy."""
     if name == "base":
         west, north, side, _ = metatile(12, 2**11, 2**11)
         box = {"lox": west, "loy": WORLD - north - side, "hix": west + side, "hiy": WORLD - north}
         return {"type": "raster", "file": folder + "/base.png", "format": "png"} | box
+    kept = "false" if os.path.exists("%s/%s.geojson.index" % (folder, name)) else "true"
+    return {"type": "geojson", "file": "%s/%s.geojson" % (folder, name), "cache-features": kept}
+
+
+def put_mapnik_data(name, items, folder, shared):
+    """The file of a source, and an index of it where many layers share it."""
+    file = "%s/%s.geojson" % (folder, name)
     kinds = {"polygon": "Polygon", "lines": "MultiLineString", "points": "MultiPoint"}
     they = [{"type": "Feature", "properties": {"kind": kind}, "geometry": {"type": kinds[shape], "coordinates": [it + it[:1] for it in turned(at)] if shape == "polygon" else turned(at)}} for kind, shape, at in items]
-    with open("%s/%s.geojson" % (folder, name), "w") as file:
-        json.dump({"type": "FeatureCollection", "features": they}, file)
-    return {"type": "geojson", "file": "%s/%s.geojson" % (folder, name), "cache-features": "true"}
+    with open(file, "w") as out:
+        json.dump({"type": "FeatureCollection", "features": they}, out)
+    if os.path.exists(file + ".index"):
+        os.remove(file + ".index")
+    if shared:
+        subprocess.run(["mapnik-index", "--files", file], stdout=subprocess.DEVNULL, stderr=subprocess.DEVNULL, check=True)
 
 
 def of_mapnik(features, style, folder):
     """Mapnik's map file; the data go into files beside it."""
     out = ['<Map background-color="#f2efe9">']
     shown = []
+    sources = collections.Counter(source_of(name, rules) for name, rules in style.items())
+    for source, layers in sources.items():
+        if features.get(source):
+            put_mapnik_data(source, features[source], folder, layers > 1)
     for name, rules in style.items():
         they = styles_of(name, rules)
+        data = source_of(name, rules)
         out += ['<Style name="%s">%s</Style>' % (own, "".join(mapnik_rule(*rule) for rule in of)) for own, of in they]
-        if name != "base" and not features[name]:
+        if data != "base" and not features[data]:
             continue
         named = "".join("<StyleName>%s</StyleName>" % own for own, _ in they)
-        source = "".join('<Parameter name="%s">%s</Parameter>' % pair for pair in mapnik_source(name, features.get(name), folder).items())
+        source = "".join('<Parameter name="%s">%s</Parameter>' % pair for pair in mapnik_source(data, folder).items())
         shown.append('<Layer name="%s">%s<Datasource>%s</Datasource></Layer>' % (name, named, source))
     return "\n".join(out + shown + ["</Map>"])
 
@@ -502,6 +533,12 @@ def measure(program, raw, folder, mapnik, z, point):
     return {key: statistics.median(all_of) if all_of else None for key, all_of in got.items()}, peak, steal, same
 
 
+def beside(mapnik, style):
+    """Mapnik, but not where many layers share data and nothing can make an index of them."""
+    shared = len(set(source_of(*layer) for layer in style.items())) < len(style)
+    return mapnik if shutil.which("mapnik-index") or not shared else None
+
+
 def ratio(a, b):
     return "%.2f" % (a / b) if a is not None and b else "-"
 
@@ -524,6 +561,7 @@ def main():
     ratios = []
     for name in names or CASES:
         shapes, style, zooms, point = CASES[name]
+        peer = beside(mapnik, style)
         features = shapes()
         style_said, data_said = ours(features, style)
         for file, said in (("style", style_said), ("data", data_said)):
@@ -531,11 +569,12 @@ def main():
                 json.dump(said, out)
         if "base" in style:
             put_base(folder)
-        with open(folder + "/map.xml", "w") as out:
-            out.write(of_mapnik(features, style, folder))
+        if peer:
+            with open(folder + "/map.xml", "w") as out:
+                out.write(of_mapnik(features, style, folder))
         del features, data_said
         for z in zooms:
-            got, peak, steal, same = measure(program, folder + "/raw", folder, mapnik, z, point)
+            got, peak, steal, same = measure(program, folder + "/raw", folder, peer, z, point)
             number = lambda it: "-" if it is None else "%.4f" % it
             print(row % (name, z, number(got["mapnik"]), number(got["raw"]), number(got["ours"]), ratio(got["mapnik"], got["ours"]), ratio(got["ours"], got["raw"]), peak, "%.1f" % os.getloadavg()[0], "%.1f" % steal, {None: "-", True: "yes", False: "NO"}[same]), flush=True)
             if got["mapnik"] is not None and got["ours"] and same:

@@ -12,7 +12,8 @@
 # A case counts where both pictures agree in mean colour and cover (`alike`): Mapnik leaves parts of some pictures out. The
 # last line says which of the cases that count is the slowest against Mapnik.
 #
-# Mapnik is Debian's python3-mapnik; where no python3 has it, its column stays empty. Ours is `tilefarm script`: an ask,
+# Mapnik is Debian's python3-mapnik; where no python3 has it, its column stays empty, and in the cases of many layers over
+# the same data where mapnik-index (mapnik-utils) is not there. Ours is `tilefarm script`: an ask,
 # its claim, its end and its reply, of which the drawing and packing take nearly all, from the end of one to that of the
 # next, so that reading is in none; the write is left out (unwritten.c). Mapnik's is drawing alone, and raw is the writing of a container of one colour, in C.
 set -eu

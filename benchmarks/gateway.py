@@ -3,11 +3,13 @@
 
     benchmarks/gateway.py [SECONDS [PROCESSES]]       (10 seconds each and as many processes as processors where none are given)
 
-A farm of made land and streets draws 4,096 different tiles of zoom 14 beforehand. Then wrk asks for them at random over 32
-connections that stay open: with pictures that are made anew each time, with pictures that are known (the farm is asked), with
-If-None-Match, and with tiles that are kept; and, where nginx is installed, through its cache. Told are the tiles a second, the
-milliseconds of processor time of gateway, farm, proxy and wrk for each tile, and how much of the machine others had meanwhile.
-Needs wrk, python3-aiohttp, python3-pil and python3-numpy. With TILEFARM another program is measured.
+A farm of made land and streets draws 256 different tiles of zoom 14 beforehand. Then wrk asks for them at random over 32
+connections that stay open: with pictures that are made anew each time (`--memory 0`), with pictures that are known (the farm
+is asked), with If-None-Match, and with tiles that are kept; and, where nginx is installed, through its cache. Where something
+is known or kept, it has been asked for beforehand, until each process has it. Told are the tiles a second, the milliseconds of
+processor time of gateway, farm, proxy and wrk for each tile, what the machine's processors would give by that if they had
+nothing else to do, and how many of them others had meanwhile. Needs wrk, python3-aiohttp, python3-pil and python3-numpy. With
+TILEFARM another program is measured.
 """
 
 import concurrent.futures
@@ -15,6 +17,7 @@ import json
 import os
 import random
 import re
+import resource
 import shutil
 import subprocess
 import sys
@@ -25,7 +28,7 @@ sys.path.insert(0, os.path.join(TOP, "trials"))
 import trial  # noqa: E402
 from trial import FARMCTL, HERE, MIDDLE, PYTHON, TILE, Farm  # noqa: E402
 
-SIDE = 64  # tiles
+SIDE = 16  # tiles
 HAS_IT = '{["If-None-Match"]="*"}'  # as wrk's script sends it: fits each entity tag
 TICK = os.sysconf("SC_CLK_TCK")
 SCRIPT = """
@@ -61,16 +64,16 @@ http {
 """
 
 
-def world():
-    """Land, houses and streets over 64 by 64 tiles of zoom 14, each of which looks other."""
+def world(side):
+    """Land and streets over so many tiles of zoom 14 each way, some six of each to a tile, which all look other."""
     draw = random.Random(7)
 
     def place():
-        return MIDDLE + draw.randrange(SIDE * TILE), MIDDLE + draw.randrange(SIDE * TILE)
+        return MIDDLE + draw.randrange(side * TILE), MIDDLE + draw.randrange(side * TILE)
 
-    land = [trial.polygon(number, *place(), draw.randrange(TILE // 2)) for number in range(20000)]
+    land = [trial.polygon(number, *place(), draw.randrange(TILE // 2)) for number in range(6 * side**2)]
     roads = []
-    for number in range(20000):
+    for number in range(6 * side**2):
         x, y = place()
         roads.append(trial.road(number, (x, y), (x + draw.randrange(TILE), y + draw.randrange(TILE))))
     return {"units": "world", "layers": [{"name": "land", "features": land}, {"name": "roads", "features": roads}]}
@@ -127,26 +130,42 @@ def end(process):
     process.wait(120)
 
 
-def measure(folder, what, port, seconds, processes, heads="nil"):
+def asks(heads="nil"):
+    """What wrk does."""
+    return SCRIPT % {"x": HERE[1], "y": HERE[2], "last": SIDE - 1, "heads": heads}
+
+
+def measure(folder, what, port, seconds, processes):
     """A row of the table: processes by their names."""
-    text = SCRIPT % {"x": HERE[1], "y": HERE[2], "last": SIDE - 1, "heads": heads}
-    folder.write("asks.lua", text)
     before, others, began = {name: ticks(each.pid) for name, each in processes.items()}, machine(), time.monotonic()
+    asked = resource.getrusage(resource.RUSAGE_CHILDREN)
     words = ["wrk", "-t2", "-c32", "-d%ds" % seconds, "--timeout", "30s", "-s", folder.name("asks.lua"), "http://127.0.0.1:%d" % port]
-    asks = subprocess.Popen(words, stdout=subprocess.PIPE, text=True)
-    out = asks.communicate()[0]
+    out = subprocess.run(words, stdout=subprocess.PIPE, text=True).stdout
     took = time.monotonic() - began
     used = {name: ticks(each.pid) - before[name] for name, each in processes.items()}
+    asks = resource.getrusage(resource.RUSAGE_CHILDREN)
+    used["wrk"] = asks.ru_utime + asks.ru_stime - asked.ru_utime - asked.ru_stime
     count, errors, size = map(int, re.search(r"ANSWERS (\d+) ERRORS (\d+) BYTES (\d+)", out).groups())
     rest = machine() - others - sum(used.values())
     each = ", ".join("%s %.2f ms" % (name, 1000 * value / count) for name, value in used.items())
-    print("| %s | %d | %d | %s | %d | %.1f |" % (what, count / took, errors, each, size / count, rest / took), flush=True)
+    idle = os.cpu_count() * count / sum(used.values())
+    print("| %s | %d | %d | %s | %d | %d | %.1f |" % (what, count / took, errors, each, idle, size / count, rest / took), flush=True)
+
+
+def asked_before(folder, port, made):
+    """Asks until each process has all tiles: what a second takes of their processor time falls no more."""
+    costs = []
+    while len(costs) < 4 or min(costs[-2:]) < 0.9 * costs[-3]:
+        before = ticks(made.pid)
+        words = ["wrk", "-t2", "-c32", "-d5s", "--timeout", "30s", "-s", folder.name("asks.lua"), "http://127.0.0.1:%d" % port]
+        out = subprocess.run(words, stdout=subprocess.PIPE, text=True).stdout
+        costs.append((ticks(made.pid) - before) / max(1, int(re.search(r"ANSWERS (\d+)", out)[1])))
 
 
 def all_rows(seconds, processes):
     folder = trial.Folder()
     try:
-        folder.write("data.json", json.dumps(world()))
+        folder.write("data.json", json.dumps(world(SIDE)))
         folder.config.update(maps=trial.MAPS[:1], updates=[], restyles=[], expiries=[], workers=4)
         farm = Farm(folder)
         if not farm.wait(120):
@@ -156,18 +175,19 @@ def all_rows(seconds, processes):
             for page in pool.map(farm.get, tiles):
                 assert page.status == 200, page
         print("load %.1f, %d processors, %d processes of the gateway\n" % (os.getloadavg()[0], os.cpu_count(), processes))
-        print("| what | tiles a second | errors | processor time for each | bytes | processors that others had, wrk among them |\n|---|---|---|---|---|---|")
+        print("| what | tiles a second | errors | processor time for each | a second by that | bytes | processors that others had |\n|---|---|---|---|---|---|---|")
         port = trial.free_port()
         for what, words, heads in (
-            ("pictures made anew", ["--memory", "1"], "nil"),
+            ("pictures made anew", ["--memory", "0"], "nil"),
             ("pictures known, the farm asked", [], "nil"),
             ("304, the farm asked", [], HAS_IT),
-            ("kept for 10 s", ["--keep", "10"], "nil"),
+            ("kept", ["--keep", "3600"], "nil"),
         ):
             made = gateway(folder, port, processes, *words)
+            folder.write("asks.lua", asks(heads))
             if words[:1] != ["--memory"]:
-                subprocess.run(["wrk", "-t2", "-c32", "-d8s", "-s", folder.name("asks.lua"), "http://127.0.0.1:%d" % port], stdout=subprocess.DEVNULL)
-            measure(folder, what, port, seconds, {"gateway": made, "farm": farm.process}, heads)
+                asked_before(folder, port, made)
+            measure(folder, what, port, seconds, {"gateway": made, "farm": farm.process})
             end(made)
         if shutil.which("nginx"):
             behind_nginx(folder, farm, port, seconds, processes)
@@ -181,14 +201,15 @@ def all_rows(seconds, processes):
 
 
 def behind_nginx(folder, farm, port, seconds, processes):
-    """Each tile comes from nginx's cache, but for the first time in ten seconds."""
-    made, before = gateway(folder, port, processes, "--shared-max-age", "10"), trial.free_port()
+    """Each tile comes from nginx's cache, but for the first time in a minute."""
+    made, before = gateway(folder, port, processes, "--shared-max-age", "60"), trial.free_port()
     folder.write("nginx.conf", NGINX % {"path": folder.path, "gateway": port, "port": before})
     nginx = subprocess.Popen(["nginx", "-p", folder.path, "-c", folder.name("nginx.conf")], stderr=subprocess.DEVNULL)
     Farm.running.append(nginx)
     listens(before)
-    subprocess.run(["wrk", "-t2", "-c32", "-d5s", "-s", folder.name("asks.lua"), "http://127.0.0.1:%d" % before], stdout=subprocess.DEVNULL)
-    measure(folder, "nginx's cache of 10 s before it", before, seconds, {"gateway": made, "farm": farm.process, "nginx": nginx})
+    folder.write("asks.lua", asks())
+    asked_before(folder, before, nginx)
+    measure(folder, "nginx's cache before it", before, seconds, {"gateway": made, "farm": farm.process, "nginx": nginx})
     end(nginx)
     end(made)
 

@@ -4,7 +4,7 @@
     benchmarks/sizes.py [FEATURES ..]          (100000 and 1000000 where none are given)
 
 For each number a farm of one map with two workers is started over so many houses, some 8,000 on each tile of zoom 12.
-Told are the files' sizes, the processor time and the most memory of geojson.py and of the farm until it answers a control
+Told are the files' sizes, the processor time and the most memory of `farmctl data` and of the farm until it answers a control
 line, and how long the first tile of a metatile takes: one of zoom 14, and one that holds all houses. A million takes
 6 GB of memory and of disk in /tmp together, and some minutes. With TILEFARM another program is measured.
 """
@@ -81,16 +81,15 @@ def spent(process):
 
 
 def convert(folder, path):
-    words = [sys.executable, os.path.join(TOP, "examples", "own-data", "geojson.py"), "houses=" + path]
-    with open(folder.name("data.json"), "wb") as out:
-        child = subprocess.Popen(words, stdout=out, stderr=subprocess.DEVNULL)
-        _, status, used = os.wait4(child.pid, 0)
+    words = [trial.PYTHON, trial.FARMCTL, "data", "houses=" + path, "-o", folder.name("data.json")]
+    child = subprocess.Popen(words, stdout=subprocess.DEVNULL, stderr=subprocess.DEVNULL)
+    _, status, used = os.wait4(child.pid, 0)
     child.returncode = status
     if status:
-        sys.exit("sizes: geojson.py: status %d" % status)
+        sys.exit("sizes: farmctl data: status %d" % status)
     data = os.path.getsize(folder.name("data.json"))
     told = used.ru_utime + used.ru_stime, megabytes(used.ru_maxrss * 1024), megabytes(data)
-    print("  geojson.py    %.1f s, %s; data %s" % told)
+    print("  farmctl data  %.1f s, %s; data %s" % told)
 
 
 def serve(folder, middle):

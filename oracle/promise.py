@@ -9,7 +9,7 @@ to say something, they are tried over mistaken histories too: each of these keep
 breaks with it the sentence that stands beside it, and no other. `--gate` is shorter, at most a minute where the machine
 is idle. What a picture must be is drawn by `tilefarm.py`; Python 3 and nothing else is needed.
 
-The properties say in the words of an ordinary test what `crates/farm_laws/specs/Headline.antt` says, which is proved of
+The properties say in the words of an ordinary test what `crates/farm_laws/specs/Promise.antt` says, which is proved of
 every history; a history here is one that was seen.
 """
 
@@ -305,6 +305,7 @@ MISTAKES = (
     (1, "another map's tile", "{drawn}; ask 0 render n 0 0 0 = queued 1; claim 0 = job 1 n 0 0 0 0; finish 1 = clean; fetch n 0 0 0 = clean 0 m.-.0/0/0.-"),
     (1, "a tile that ends too early", "{drawn}; fetch m 0 0 0 = clean 0 m.-.0/0/0."),
     (1, "never claimed", "ask 0 render m 0 0 0 = queued 0; fetch m 0 0 0 = clean 0 m.-.0/0/0.-"),
+    (1, "never claimed, beside one that was stored", "{deep}; fetch m 4 8 8 = clean 0 m.-.4/8/8.-"),
     (1, "sent while it is still drawn", "{asked}; fetch m 0 0 0 = clean 0 m.-.0/0/0.-"),
     (1, "its drawing was cut", "{asked}; cut 0 = cut; fetch m 0 0 0 = clean 0 m.-.0/0/0.-"),
     (1, "the old one sent while the next is drawn", "{drawn}; expire 3 0 0 = expired 1; ask 0 render m 0 0 0 = queued 1; claim 0 = job 1 m 0 0 0 0; fetch m 0 0 0 = clean 0 m.-.0/0/0.-"),
@@ -313,6 +314,7 @@ MISTAKES = (
     (2, "expired and claimed while it is drawn", "{asked}; expire 0 0 0 = expired 0; ask 1 render m 0 0 0 = queued 1; claim 1 = job 1 m 0 0 0 0"),
     (2, "marked dirty and claimed while it is drawn", "{asked}; ask 1 dirty m 0 0 0 = silent; claim 1 = job 1 m 0 0 0 0"),
     (2, "claimed behind the end of another", "ask 0 render m 4 8 8 = queued 0; ask 0 render m 4 0 8 = queued 1; claim 0 = job 0 m 4 8 8 0; claim 1 = job 1 m 4 0 8 0; finish 1 = clean; claim 1 = job 2 m 4 8 8 0"),
+    (2, "claimed twice behind one that has ended", "{drawn}; expire 0 0 0 = expired 1; ask 0 render m 0 0 0 = queued 1; claim 0 = job 1 m 0 0 0 0; claim 1 = job 2 m 0 0 0 0"),
     (2, "claimed under the same ticket", "{asked}; claim 0 = job 0 m 0 0 0 0"),
     (3, "clean though marked dirty while it was drawn", "{asked}; ask 1 dirty m 0 0 0 = silent; finish 0 = clean"),
     (3, "clean though a renew reached it while it was drawn", "ask 0 render m 4 0 0 = queued 0; claim 0 = job 0 m 4 0 0 0; renew 0 = version 1 renewed 0; finish 0 = clean"),
@@ -355,6 +357,8 @@ PASSED_OVER = (
     ("a renew out of its reach", "{far}; renew 0 = version 1 renewed 1"),
     ("gone though it was stored", "{drawn}; fetch m 0 0 0 = gone"),
 )
+# Histories that keep the promise, though they look like one that does not; the rules answer so.
+RIGHT = (("marked dirty after a stop", "{drawn}; stop = stopping; ask 1 dirty m 0 0 0 = silent; fetch m 0 0 0 = clean 0 m.-.0/0/0.-"),)
 
 
 def small_plan():
@@ -389,13 +393,26 @@ def mistaken(number, what, text):
     return None
 
 
+def answered(lines):
+    """What the rules answer to lines, one after another."""
+    known, hand = small_farm(), set()
+    return [farm.answer_of(known, hand, *farm.line_of(line.encode())).split(b"\n")[0].decode() for line, _ in lines]
+
+
+def right(what, text):
+    """What is wrong with a history that keeps the promise: it does not, or the rules give other answers."""
+    lines = lines_in(text)
+    found, told = broken(small_plan(), [event_of(*line) for line in lines]), answered(lines)
+    first = lambda line, answer: answer.split(" ")[: 2 if line.startswith("fetch ") else None]  # behind it stands a picture
+    if found or [first(line, answer) for (line, _), answer in zip(lines, told)] != [first(*line) for line in lines]:
+        return "right history (%s): it breaks the sentences %s, and the rules answer %s" % (what, found, told)
+    return None
+
+
 def passed_over(what, text):
     """What is wrong with a mistake that no sentence speaks of: one does, or `farm.py` gives the same answers."""
-    known, hand, told = small_farm(), set(), []
     lines = lines_in(text)
-    for line, _ in lines:
-        told.append(farm.answer_of(known, hand, *farm.line_of(line.encode())).split(b"\n")[0].decode())
-    given = [answer for _, answer in lines]
+    told, given = answered(lines), [answer for _, answer in lines]
     if broken(small_plan(), [event_of(*line) for line in lines]):
         return "mistaken history (%s): it breaks a sentence" % what
     if told[:-1] != given[:-1] or told[-1] == given[-1]:
@@ -708,7 +725,7 @@ def tried(program, seconds, least=LEAST):
 def main(words):
     is_gate = words[:1] == ["--gate"]
     programs = words[1:] if is_gate else words
-    wrong = [mistaken(*mistake) for mistake in MISTAKES] + [passed_over(*mistake) for mistake in PASSED_OVER]
+    wrong = [mistaken(*mistake) for mistake in MISTAKES] + [passed_over(*mistake) for mistake in PASSED_OVER] + [right(*kept) for kept in RIGHT]
     wrong, counts = [text for text in wrong if text], collections.Counter()
     programs = programs or [differ.BUILT]
     for program in programs:

@@ -10,7 +10,7 @@ import subprocess
 import time
 
 import pictures
-from trial import Farm
+from trial import Farm, patient
 
 SIDE, TILE = 512, 256  # the window's and a tile's
 SLACK = 2  # a library may round a tile's place by as many pixels
@@ -29,6 +29,10 @@ def middle(tile):
     longitude = (x + 0.5) / 2**z * 360 - 180
     latitude = math.degrees(math.atan(math.sinh(math.pi * (1 - 2 * (y + 0.5) / 2**z))))
     return z, latitude, longitude
+
+
+class Silent(OSError):
+    """The browser has not answered in time."""
 
 
 class Browser:
@@ -52,7 +56,7 @@ class Browser:
         self.session = self.ask("Target.attachToTarget", targetId=target, flatten=True)["sessionId"]
         self.ask("Emulation.setDeviceMetricsOverride", width=SIDE, height=SIDE, deviceScaleFactor=1, mobile=False)
 
-    def ask(self, method, **what):
+    def ask(self, method, seconds=60, **what):
         """The result of one message; others that come meanwhile are passed over."""
         self.number += 1
         text = {"id": self.number, "method": method, "params": what}
@@ -61,8 +65,8 @@ class Browser:
         os.write(self.to, json.dumps(text).encode() + b"\0")
         while True:
             while b"\0" not in self.rest:
-                if not select.select([self.come], [], [], 60)[0]:
-                    raise OSError("the browser does not answer %s" % method)
+                if not select.select([self.come], [], [], patient(seconds))[0]:
+                    raise Silent("the browser does not answer %s" % method)
                 piece = os.read(self.come, 1 << 20)
                 if not piece:
                     raise OSError("the browser has ended")
@@ -76,15 +80,18 @@ class Browser:
         return self.ask("Runtime.evaluate", expression=expression)["result"].get("value")
 
     def screen(self):
-        """The middle of the screen, as rows of three bytes a pixel."""
+        """The middle of the screen, as rows of three bytes a pixel; none where there is no picture."""
         clip = {"x": FROM, "y": FROM, "width": TILE + 2 * SLACK, "height": TILE + 2 * SLACK, "scale": 1}
-        told = self.ask("Page.captureScreenshot", format="png", clip=clip)
+        try:
+            told = self.ask("Page.captureScreenshot", seconds=5, format="png", clip=clip)
+        except Silent:  # what is asked for while a page is being loaded may never come
+            return []
         return pictures.of_png(base64.b64decode(told["data"])) if "data" in told else []  # a page that is being loaded has none
 
     def end(self):
         self.session = None
         self.ask("Browser.close")
-        self.process.wait(60)
+        self.process.wait(patient(60))
 
 
 def shows(rows, picture):
@@ -99,9 +106,9 @@ def shows(rows, picture):
 
 def waits(browser, picture, seconds=150):
     """Whether the screen shows the tile within so many seconds."""
-    end = time.monotonic() + seconds
+    end = time.monotonic() + patient(seconds)
     while time.monotonic() < end:
         if shows(browser.screen(), picture):
             return True
-        time.sleep(0.5)
+        time.sleep(patient(0.5))  # each picture takes from what the page has
     return False

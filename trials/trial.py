@@ -21,7 +21,7 @@ from farmctl import client as farmclient  # noqa: E402  (the path has to be ther
 PROGRAM = os.environ.get("TILEFARM", os.path.join(TOP, "tilefarm"))
 FARMCTL = os.path.join(TOP, "farmctl", "bin", "farmctl")
 PYTHON = "/usr/bin/python3" if os.path.exists("/usr/bin/python3") else sys.executable  # Debian's own has Debian's libraries
-LIBRARIES = {"aiohttp": "python3-aiohttp", "PIL": "python3-pil", "numpy": "python3-numpy"}
+LIBRARIES = {"osgeo": "python3-gdal", "prometheus_client": "python3-prometheus-client", "aiohttp": "python3-aiohttp", "PIL": "python3-pil", "numpy": "python3-numpy"}
 MIDDLE = 2**29  # the column and row of world units where tile 14/8192/8192 begins
 TILE = 2**16  # and how many of them a tile of zoom 14 is wide
 HERE = (14, 8192, 8192)  # a tile with land; a road comes with update 0
@@ -71,17 +71,22 @@ MAPS = [
 ]
 
 
+def patient(seconds):
+    """So many seconds on a machine of one's own, and more where others wait for its processors."""
+    return seconds * min(12, max(1, 2 * os.getloadavg()[0] / os.cpu_count()))
+
+
 def tool(name, *words, folder, given=""):
     """The status of one of farmctl's commands for the farm of a folder, and all that it says."""
-    words = [FARMCTL, "--program", PROGRAM, "-c", folder.name("farm.json"), *([name] + list(words))]
-    done = subprocess.run(words, cwd=folder.path, input=given, stdout=subprocess.PIPE, stderr=subprocess.STDOUT, text=True, timeout=120)
+    words = [PYTHON, FARMCTL, "--program", PROGRAM, "-c", folder.name("farm.json"), *([name] + list(words))]
+    done = subprocess.run(words, cwd=folder.path, input=given, stdout=subprocess.PIPE, stderr=subprocess.STDOUT, text=True, timeout=600)
     return done.returncode, done.stdout
 
 
 def ctl(*words, folder=None):
     """The status of farmctl with these words, and all that it says."""
     done = subprocess.run([PYTHON, FARMCTL, *words], cwd=folder, stdin=subprocess.DEVNULL, stdout=subprocess.PIPE, text=True,
-                          stderr=subprocess.STDOUT, timeout=240, env=dict(os.environ, TILEFARM=PROGRAM))  # fmt: skip
+                          stderr=subprocess.STDOUT, timeout=600, env=dict(os.environ, TILEFARM=PROGRAM))  # fmt: skip
     return done.returncode, done.stdout
 
 
@@ -164,7 +169,7 @@ class Farm:
 
     def wait(self, seconds=30):
         """Whether it listens at all three addresses within the time; it has ended, or does not, where not."""
-        end = time.monotonic() + seconds
+        end = time.monotonic() + patient(seconds)
         for address in (self.renderd, self.tiles, self.control):
             while not self.listens(address):
                 if time.monotonic() > end or self.process.poll() is not None:
@@ -195,7 +200,7 @@ class Farm:
 
     def settled(self, tile, seconds=30, name="default"):
         """What the tile's metatile is once it is clean, or after so many seconds."""
-        end = time.monotonic() + seconds
+        end = time.monotonic() + patient(seconds)
         while time.monotonic() < end and not (self.status(tile, name) or "").startswith("clean"):
             time.sleep(0.05)
         return self.status(tile, name)
@@ -203,7 +208,7 @@ class Farm:
     def ended(self, seconds=30):
         """Status, standard output and standard error after its end; it is killed after so many seconds."""
         try:
-            status = self.process.wait(seconds)
+            status = self.process.wait(patient(seconds))
         except subprocess.TimeoutExpired:
             self.process.kill()
             self.process.wait()
@@ -271,6 +276,7 @@ def short(value):
 
 def run(trials, seconds):
     """Runs trials over a folder and a report, within so many seconds in all, and removes the folder."""
+    seconds = int(patient(seconds))
     most = resource.getrlimit(resource.RLIMIT_NOFILE)[1]
     resource.setrlimit(resource.RLIMIT_NOFILE, (min(most, 16384) if most > 0 else 16384, most))
     subprocess.run([PROGRAM], stdout=subprocess.DEVNULL, stderr=subprocess.DEVNULL)  # builds it where it is not built

@@ -6,17 +6,24 @@
 It takes Map, Style, Rule, Filter, ElseFilter, scale denominators, PolygonSymbolizer, LineSymbolizer,
 MarkersSymbolizer and Layer, their values as attributes or as CssParameter. A layer's source is its name: make
 the data with one layer of that name for each; by which command, is told on standard error. What the farm does not
-draw is left out, and each thing that is left out is named there with the place where it stands. A rule that loses
-all its symbolizers stays, since it still decides which features meet an ElseFilter. It needs Python's standard
-library alone.
+draw is left out, and each thing that is left out is named there with its line, style and rule; at the end stands how
+many rules came through, and what the picture lacks. A rule that loses its symbolizers stays where it still decides what
+others draw. A style of more rules than the farm takes is cut by its scales, so that each scale has the rules that it had.
+It needs Python's standard library alone.
 """
 
+import collections
 import colorsys
+import itertools
 import json
 import re
 import shlex
 import sys
 import xml.etree.ElementTree as tree
+from xml.parsers import expat
+
+MOST_RULES, MOST_STYLES, MOST_LAYERS, MOST_SYMBOLIZERS = 256, 256, 64, 16  # of the farm (docs/maps/styles.md)
+NO_BOUND = 10.0**12
 
 # The colour names of CSS that the farm does not know by name.
 COLOURS = """aliceblue f0f8ff antiquewhite faebd7 aquamarine 7fffd4 azure f0ffff beige f5f5dc bisque ffe4c4
@@ -47,8 +54,36 @@ CAPS = {"0": "butt", "1": "square", "2": "round"}  # as Mapnik's save_map writes
 WORDS = {"eq": "=", "neq": "!=", "lt": "<", "le": "<=", "gt": ">", "ge": ">="}
 
 
-def leave(place, what):
-    print("%s: left out: %s" % (place, what), file=sys.stderr)
+
+class Place:
+    """Where something stands: its line, and its names for a reader."""
+
+    def __init__(self, text, element):
+        self.text, self.line = text, element.line
+
+    def of(self, text, element):
+        return Place("%s, %s" % (self.text, text), element)
+
+
+class Told:
+    """What was left out: how often, by its kind, and what became of the rules."""
+
+    def __init__(self):
+        self.path, self.count, self.kinds, self.rules = "", 0, collections.Counter(), collections.Counter()
+
+
+TOLD = Told()
+
+
+def say(line, text):
+    print("%s:%d: %s" % (TOLD.path, line, " ".join(text.split())), file=sys.stderr)
+
+
+def leave(place, what, kind=None):
+    """Names what is left out; its kind is its first word."""
+    TOLD.count += 1
+    TOLD.kinds[kind or re.split(r"[=, ]", what)[0]] += 1
+    say(place.line, "%s: left out: %s" % (place.text, what))
 
 
 def hexadecimal(parts):
@@ -111,8 +146,12 @@ def values_of(element):
     return values
 
 
+# What changes no pixel here: nothing is antialiased or clipped, and features are not cached
+SAME = "clip gamma gamma-method rasterizer cache-features buffer-size clear-label-cache".split()
+
+
 def leave_rest(values, known, place):
-    for key in sorted(set(values) - set(known)):
+    for key in sorted(set(values) - set(known) - set(SAME)):
         leave(place, "%s=%s" % (key, values[key]))
 
 
@@ -168,6 +207,11 @@ def line(values, place):
 
 def markers(values, place):
     made = {"symbolizer": "MarkersSymbolizer"}
+    if values.get("placement", "point") in ("line", "vertex-first", "vertex-last"):
+        leave(place, "markers along lines", "markers along lines")
+        return None
+    if "file" in values:
+        leave(place, "file=%s: an ellipse stands in its place" % values.pop("file"), "icons")
     same = {"allow-overlap": "true", "marker-type": "ellipse", "stroke-width": "0", "placement": "point"}  # what the farm does
     known = [key for key, value in same.items() if values.get(key) == value]
     leave_rest(values, known + ["allow-overlap", "fill", "fill-opacity", "opacity", "width", "height"], place)
@@ -206,12 +250,14 @@ def filter_of(text, place):
 
 
 def rule(element, place):
-    made = {}
+    """The rule, or None where its filter cannot be kept; and what became of it is counted."""
+    before, made = TOLD.count, {}
     for child in element:
         if child.tag == "Filter":
             text = filter_of(child.text or "", place)
             if text is None:
-                leave(place, "the whole rule, since its filter cannot be kept")
+                say(place.line, "%s: left out: the whole rule, since its filter cannot be kept" % place.text)
+                TOLD.rules["not at all"] += 1
                 return None
             if text:
                 made["Filter"] = text
@@ -222,28 +268,89 @@ def rule(element, place):
             if number is not None:
                 made[child.tag] = number
         elif child.tag not in SYMBOLIZERS:
-            leave(place, child.tag)
-    symbolizers = [SYMBOLIZERS[c.tag](values_of(c), "%s, %s" % (place, c.tag)) for c in element if c.tag in SYMBOLIZERS]
+            leave(place.of(child.tag, child), child.tag)
+    asked = [child for child in element if child.tag.endswith("Symbolizer")]
+    symbolizers = [SYMBOLIZERS[c.tag](values_of(c), place.of(c.tag, c)) for c in asked if c.tag in SYMBOLIZERS]
     made["symbolizers"] = [s for s in symbolizers if s is not None]
+    if len(made["symbolizers"]) > MOST_SYMBOLIZERS:
+        leave(place, "symbolizers past the first %d" % MOST_SYMBOLIZERS)
+        del made["symbolizers"][MOST_SYMBOLIZERS:]
+    became = "whole" if TOLD.count == before else "in part" if made["symbolizers"] else "as filters alone"
+    TOLD.rules[became] += 1
     return made
+
+
+def bounds(each):
+    return float(each.get("MinScaleDenominator", 0)), float(each.get("MaxScaleDenominator", NO_BOUND))
+
+
+def without_idle(rules, is_first):
+    """The rules without those that draw nothing and decide nothing: where all are tried, those without symbolizers, and where
+    the first decides, those behind the last that draws. Where a rule is for what no other took, all stay."""
+    if any("ElseFilter" in each for each in rules):
+        return rules
+    if not is_first:
+        return [each for each in rules if each["symbolizers"]]
+    last = max([place for place, each in enumerate(rules) if each["symbolizers"]], default=-1)
+    return rules[: last + 1]
+
+
+def within(each, least, most):
+    """The rule for these scales alone."""
+    low, high = max(bounds(each)[0], least), min(bounds(each)[1], most)
+    made = {key: value for key, value in each.items() if not key.endswith("ScaleDenominator")}
+    made.update({"MinScaleDenominator": decimal(low, 2)} if low > 0 else {})
+    made.update({"MaxScaleDenominator": decimal(high, 2)} if high < NO_BOUND else {})
+    return made
+
+
+def merged(rules):
+    """The rules of which the first decides, where neighbours that draw the same become one."""
+    made = []
+    for same, group in itertools.groupby(rules, lambda each: {key: value for key, value in each.items() if key != "Filter"}):
+        group = list(group)
+        if len(group) == 1 or not all("Filter" in each for each in group):
+            made += group
+        else:
+            made.append(dict(same, Filter=" or ".join("(%s)" % each["Filter"] for each in group)))
+    return made
+
+
+def by_scales(rules, is_first, least=0.0, most=NO_BOUND):
+    """The rules in lists that the farm takes, each for a range of scales of its own."""
+    here = without_idle([within(each, least, most) for each in rules if bounds(each)[0] < most and least < bounds(each)[1]], is_first)
+    here = merged(here) if is_first else here
+    inner = sorted({bound for each in here for bound in bounds(each) if least < bound < most})
+    if len(here) <= MOST_RULES or not inner:
+        return [here] if here else []
+    middle = inner[len(inner) // 2]
+    return by_scales(rules, is_first, least, middle) + by_scales(rules, is_first, middle, most)
 
 
 def style(element):
+    """The styles that one becomes: several where it has too many rules, one for each range of scales; none where nothing of it
+    is drawn."""
     name = element.get("name", "")
-    made = {"name": name}
-    if element.get("filter-mode") in ("all", "first"):
-        made["filter-mode"] = element.get("filter-mode")
-    leave_rest(element.attrib, ["name", "filter-mode"], "style %s" % name)
-    rules = [rule(r, "style %s, rule %d" % (name, i)) for i, r in enumerate(element.findall("Rule"))]
-    made["rules"] = [r for r in rules if r is not None]
+    place = Place("style %s" % name, element)
+    leave_rest(element.attrib, ["name", "filter-mode"], place)
+    read = [rule(r, place.of("rule %d" % i, r)) for i, r in enumerate(element.findall("Rule"))]
+    is_first, made = element.get("filter-mode") == "first", []
+    parts = by_scales([each for each in read if each is not None], is_first) or [[]]
+    for number, rules in enumerate(parts):
+        if len(rules) > MOST_RULES:
+            leave(place, "%d rules of one scale past the first %d" % (len(rules) - MOST_RULES, MOST_RULES), "rules past the limit")
+        each = {"name": name if len(parts) == 1 else "%s %d" % (name, number + 1)}
+        each.update({"filter-mode": element.get("filter-mode")} if element.get("filter-mode") in ("all", "first") else {})
+        made.append(dict(each, rules=rules[:MOST_RULES]))
     return made
 
 
-def layer(element, names):
+def layer(element, parts):
+    """The layer, or None where it is off. `parts` are the styles that each of Mapnik's became."""
     name = element.get("name", "")
-    place = "layer %s" % name
+    place = Place("layer %s" % name, element)
     if element.get("status", "on") in ("off", "false", "0"):
-        leave(place, "the whole layer, which is off")
+        leave(place, "the whole layer, which is off", "layers that are off")
         return None
     made = {"name": name, "source": name, "styles": []}
     leave_rest(element.attrib, ["name", "status", "srs", "minimum-scale-denominator", "maximum-scale-denominator"], place)
@@ -253,8 +360,8 @@ def layer(element, names):
             made[key] = number
     for child in element.findall("StyleName"):
         wanted = (child.text or "").strip()
-        if wanted in names:
-            made["styles"].append(wanted)
+        if wanted in parts:
+            made["styles"] += [each["name"] for each in parts[wanted]]
         else:
             leave(place, "style %s, which is not there" % wanted)
     return made
@@ -269,28 +376,53 @@ def data_of(element):
     return dict(values, srs=element.get("srs", ""))
 
 
-def tell_source(name, data):
-    """Tells which data the source needs, and by which command they come out of a file."""
-    path, srs = data.get("file", ""), data["srs"]
-    if not path:
-        where = ["%s=%s" % (key, data[key]) for key in sorted(data) if key not in ("srs", "password") and data[key]]
-        print("source %s: its data are not in a file, but in %s" % (name, " ".join(where)), file=sys.stderr)
-        return
-    if data.get("type") == "shape" and not path.endswith(".shp"):
+def words_of(name, data):
+    """The word of `farmctl data` for a source, or None where its data are in no file."""
+    path = data.get("file", "")
+    if data.get("type") == "shape" and path and not path.endswith(".shp"):
         path += ".shp"
-    words = ["ogr2ogr", "-f", "GeoJSON"] + (["-s_srs", srs] if srs else []) + ["-t_srs", "EPSG:4326"]
-    words += ["-oo", "ENCODING=%s" % data["encoding"]] if data.get("encoding") else []
-    line = " ".join(shlex.quote(word) for word in words + [name + ".geojson", path])
-    print("source %s: make its data with: %s" % (name, line), file=sys.stderr)
+    return "%s=%s" % (name, path) if path else None
 
 
-def layers(elements, names):
+def tell_sources(sources):
+    """Tells where the data of each source are, and by which command those in files become the farm's."""
+    words, systems, encodings = [], collections.Counter(), collections.Counter()
+    for name, data, line in sources:
+        word = words_of(name, data)
+        if word is None:
+            where = ["%s=%s" % (key, data[key]) for key in sorted(data) if key not in ("srs", "password") and data[key]]
+            say(line, "source %s: its data are not in a file, but in %s" % (name, " ".join(where)))
+            continue
+        words += [word]
+        systems[data["srs"]] += 1
+        if data.get("encoding", "utf-8").lower() not in ("utf-8", "utf8"):
+            encodings[data["encoding"]] += 1
+            say(line, "source %s: its texts are in %s" % (name, data["encoding"]))
+    for srs, count in systems.items():
+        if srs and count < max(systems.values()):
+            say(0, "sources of another coordinate system, %s: where their files do not say so, ogr2ogr -a_srs writes it there" % srs)
+    if words:
+        srs = systems.most_common(1)[0][0]
+        more = (["--srs", srs] if srs else []) + (["--encoding", encodings.most_common(1)[0][0]] if encodings else [])
+        line = ["farmctl", "data"] + words + more + ["--style", "style.json", "-o", "data.json"]
+        print("make the data with: " + " ".join(shlex.quote(word) for word in line), file=sys.stderr)
+
+
+def draws(each, styles):
+    return any(rule["symbolizers"] for name in each["styles"] for rule in styles[name]["rules"])
+
+
+def layers(elements, parts):
     """The layers. Mapnik lets several have one name, the farm does not: later ones get a number, and keep the source
-    of the first where their data are the same."""
-    made, taken, sources = [], set(), {}
+    of the first where their data are the same. One of whose styles nothing is drawn is left out."""
+    made, taken, sources, told = [], set(), {}, []
+    styles = {each["name"]: each for several in parts.values() for each in several}
     for element in elements:
-        each = layer(element, names)
+        each = layer(element, parts)
         if each is None:
+            continue
+        if each["styles"] and not draws(each, styles):
+            leave(Place("layer %s" % each["name"], element), "the whole layer, of which nothing is drawn", "layers of which nothing is drawn")
             continue
         name, number, data = each["name"], 2, data_of(element)
         while each["name"] in taken:
@@ -298,42 +430,78 @@ def layers(elements, names):
         taken.add(each["name"])
         key = name, tuple(sorted((data or {}).items()))
         if data is not None and key not in sources:
-            tell_source(each["name"], data)
+            told.append((each["name"], data, element.line))
         each["source"] = sources.setdefault(key, each["name"])
         made.append(each)
+    tell_sources(told)
     return made
+
+
+class Placed(tree.Element):
+    """An element that knows its line."""
+
+    line = 0
+
+
+def parsed(path):
+    """The root element of a file."""
+    builder, parser = tree.TreeBuilder(element_factory=Placed), expat.ParserCreate()
+
+    def start(tag, attributes):
+        builder.start(tag, attributes).line = parser.CurrentLineNumber
+
+    parser.StartElementHandler, parser.EndElementHandler, parser.CharacterDataHandler = start, builder.end, builder.data
+    parser.buffer_text = True
+    with open(path, "rb") as source:
+        parser.ParseFile(source)
+    return builder.close()
 
 
 def read(path):
     """The map's element; a file that is no style of Mapnik ends the program with one line."""
     try:
-        root = tree.parse(path).getroot()
-    except (OSError, tree.ParseError, ValueError, LookupError) as fault:
+        root = parsed(path)
+    except (OSError, expat.ExpatError, ValueError, LookupError) as fault:
         sys.exit("%s: cannot be read as Mapnik's XML: %s" % (path, fault))
     if root.tag != "Map":
         sys.exit("%s: cannot be read as Mapnik's XML: it begins with %s in place of Map" % (path, root.tag))
     return root
 
 
+def tell_all():
+    """How many rules came through, and what the picture lacks."""
+    count = sum(TOLD.rules.values())
+    parts = ", ".join("%d %s (%d %%)" % (number, name, round(100 * number / count)) for name, number in TOLD.rules.most_common())
+    print("of %d rules came through: %s" % (count, parts or "none"), file=sys.stderr)
+    if TOLD.kinds:
+        print("left out: " + ", ".join("%s %d" % pair for pair in TOLD.kinds.most_common()), file=sys.stderr)
+
+
 def main(words):
     if len(words) != 1 or words[0].startswith("-"):
         sys.exit(__doc__.strip())
+    TOLD.path = words[0]
     root = read(words[0])
-    made = {}
+    made, place = {}, Place("map", root)
     background = root.get("background-color", root.get("bgcolor"))
-    colour = colour_of(background, "map") if background else None
+    colour = colour_of(background, place) if background else None
     if colour is not None:
         made["background-color"] = colour[0]
-    leave_rest(root.attrib, ["background-color", "bgcolor", "srs"], "map")
+    leave_rest(root.attrib, ["background-color", "bgcolor", "srs", "font-directory"], place)
     srs = root.get("srs", "")
     if srs and not re.search(r"\+proj=merc|:(3857|900913)$", srs):
-        leave("map", "srs=%s: the farm draws in Web Mercator" % srs)
-    made["styles"] = [style(s) for s in root.findall("Style")]
-    names = [s["name"] for s in made["styles"]]
-    made["layers"] = layers(root.findall("Layer"), names)
+        leave(place, "srs=%s: the farm draws in Web Mercator" % srs)
     for child in root:
-        if child.tag not in ("Style", "Layer"):
-            leave("map", child.tag)
+        if child.tag not in ("Style", "Layer", "Parameters", "FontSet"):
+            leave(Place("map", child), child.tag)
+    parts = {s.get("name", ""): style(s) for s in root.findall("Style")}
+    made["layers"] = layers(root.findall("Layer"), parts)
+    named = {name for each in made["layers"] for name in each["styles"]}
+    made["styles"] = [each for several in parts.values() for each in several if each["name"] in named or root.find("Layer") is None]
+    for key, most in (("layers", MOST_LAYERS), ("styles", MOST_STYLES)):
+        if len(made[key]) > most:
+            leave(place, "%d %s past the first %d: the farm refuses the style" % (len(made[key]) - most, key, most), key + " past the limit")
+    tell_all()
     json.dump(made, sys.stdout, ensure_ascii=False, indent=1)
     print()
 

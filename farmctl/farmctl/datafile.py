@@ -6,6 +6,8 @@ from __future__ import annotations
 
 import json
 import os
+from array import array
+from bisect import bisect_left
 from collections.abc import Iterable, Iterator
 from dataclasses import dataclass, field
 from pathlib import Path
@@ -14,7 +16,26 @@ from typing import IO
 from farmctl.errors import FarmError
 from farmctl.sources import Box, Item
 
-MOST_LAYERS, MOST_FEATURES = 64, 1_000_000
+MOST_LAYERS, MOST_FEATURES, MOST_BYTES = 64, 1_000_000, 1 << 31
+
+
+class Ids:
+    """The ids of a layer. Files have most of theirs in order, and those take eight bytes each."""
+
+    def __init__(self) -> None:
+        self.rising = array("Q")
+        self.others: set[int] = set()
+
+    def add(self, number: int) -> bool:
+        """Whether it is new, and then it is kept."""
+        if not self.rising or self.rising[-1] < number:
+            self.rising.append(number)
+            return True
+        place = bisect_left(self.rising, number)
+        if self.rising[place] == number or number in self.others:
+            return False
+        self.others.add(number)
+        return True
 
 
 @dataclass
@@ -24,18 +45,21 @@ class Layer:
     name: str
     path: Path
     out: IO[bytes]
-    ids: set[int] = field(default_factory=set)
+    ids: Ids = field(default_factory=Ids)
+    count: int = 0
     twice: int = 0  # features with the id of an earlier one, which are left out
     bytes: int = 0
     box: Box | None = None
 
-    def add(self, item: Item) -> None:
-        if item.id in self.ids:
+    def add(self, item: Item, leaves_out: bool) -> None:
+        if not self.ids.add(item.id):
+            if not leaves_out:
+                raise FarmError(f"{item.place}: an earlier feature has this id (--id names an attribute that is one); --leave-out leaves it out")
             self.twice += 1
             return
-        if len(self.ids) == MOST_FEATURES:
+        if self.count == MOST_FEATURES:
             raise FarmError(f"the layer {self.name} has over {MOST_FEATURES:,} features: make two of it, or take fewer (ogr2ogr -where)")
-        self.ids.add(item.id)
+        self.count += 1
         self.out.write(item.line + b"\n")
         self.bytes += len(item.line) + 1
         self.box = item.box if self.box is None else joined(self.box, item.box)
@@ -48,9 +72,10 @@ def joined(one: Box, other: Box) -> Box:
 class Layers:
     """The layers of data, in a folder of their own."""
 
-    def __init__(self, folder: Path, names: Iterable[str]) -> None:
+    def __init__(self, folder: Path, names: Iterable[str], leaves_out: bool) -> None:
         folder.mkdir(parents=True, exist_ok=True)
         self.folder = folder
+        self.leaves_out = leaves_out
         self.layers: dict[str, Layer] = {}
         for name in names:
             self.layer(name)
@@ -65,18 +90,24 @@ class Layers:
 
     def add(self, items: Iterable[Item]) -> None:
         for item in items:
-            self.layer(item.layer).add(item)
+            self.layer(item.layer).add(item, self.leaves_out)
 
     def close(self) -> None:
         """After this they may be read; the ids are let go."""
         for layer in self.layers.values():
             layer.out.close()
+            layer.ids = Ids()
 
     def by_size(self) -> list[Layer]:
         return sorted(self.layers.values(), key=lambda layer: layer.bytes)
 
     @property
+    def count(self) -> int:
+        return sum(layer.count for layer in self.layers.values())
+
+    @property
     def box(self) -> Box | None:
+        """That of all features; none where there is no feature."""
         boxes = [layer.box for layer in self.layers.values() if layer.box]
         found = boxes[0] if boxes else None
         for box in boxes[1:]:
@@ -94,6 +125,8 @@ class Layers:
                 target.write(b"]}")
             target.write(b"\n]}\n")
             length = target.tell()
+        if length > MOST_BYTES:
+            raise FarmError(f"{length:,} bytes, and a farm reads at most {MOST_BYTES:,}: --style leaves out what it does not name")
         os.replace(made, out)
         return length
 

@@ -32,9 +32,30 @@ def read_config(path: Path) -> dict[str, Any]:
         raise FarmError(f"{path}: {fault.strerror}: name the configuration by -c, or addresses (farmctl --help)") from fault
     except ValueError as fault:
         raise FarmError(f"{path}: {fault}") from fault
+    except RecursionError as fault:
+        raise FarmError(f"{path}: lists in lists, too deep") from fault
     if not isinstance(config, dict):
         raise FarmError(f"{path}: no JSON object")
+    wrong = [key for key, is_right in SHAPES.items() if not is_right(config.get(key, []))]
+    if wrong:
+        raise FarmError(f"{path}: `{wrong[0]}` is of the wrong kind (farmctl check says more)")
     return config
+
+
+def are_maps(value: Any) -> bool:
+    return isinstance(value, list) and all(isinstance(each, dict) and is_map(each) for each in value)
+
+
+def is_map(value: dict[str, Any]) -> bool:
+    sizes = value.get("tile", 0), value.get("maxzoom", 0)
+    return isinstance(value.get("name"), str) and all(isinstance(size, int) for size in sizes)
+
+
+def are_names(value: Any) -> bool:
+    return isinstance(value, list) and all(isinstance(each, str) for each in value)
+
+
+SHAPES = {"maps": are_maps, "updates": are_names, "expiries": are_names}  # what farmctl itself reads of a configuration
 
 
 @dataclass(frozen=True)

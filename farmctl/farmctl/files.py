@@ -1,4 +1,4 @@
-"""Files written whole or not at all."""
+"""Files read as text, with a line where that cannot be; files written whole or not at all."""
 
 from __future__ import annotations
 
@@ -6,7 +6,19 @@ import hashlib
 import os
 from pathlib import Path
 
+from farmctl.errors import FarmError
+
 PIECE = 1 << 20
+
+
+def text_of(path: Path) -> str:
+    """The text of a file."""
+    try:
+        return path.read_text(encoding="utf-8")
+    except OSError as fault:
+        raise FarmError(f"{path}: {fault.strerror}") from fault
+    except UnicodeDecodeError as fault:
+        raise FarmError(f"{path}: no text in UTF-8: byte {fault.start}") from fault
 
 
 def write_whole(path: Path, text: str) -> None:

@@ -31,6 +31,8 @@ from farmctl import client, pictures
 SECONDS = 120  # for a drawing, and all that waits before it
 END = 5.0  # seconds, for who is being answered when this ends
 WAITING = 1024  # connections that nobody has taken yet
+AGAIN = 0.01  # seconds
+PIECE = 1 << 16  # bytes of an answer that are read at once
 OPEN = 512  # connections to the farm, of all processes together; its front has 1,024
 TILE = re.compile(r"/([a-z0-9_-]+)/(0|[1-9]\d?)/(0|[1-9]\d{0,6})/(0|[1-9]\d{0,6})\.png")
 TILEJSON = re.compile(r"/([a-z0-9_-]+)\.json")
@@ -138,46 +140,41 @@ class Memory(Generic[Value]):
             self.bytes -= self.size_of(value)
 
 
-class Asked(asyncio.Protocol):
-    """One request to the farm: all that comes until it closes the connection, which has no more than this one."""
+def place_of(address: str) -> tuple[socket.AddressFamily, str | tuple[str, int]]:
+    """What a socket is told of an address `unix:PATH` or `tcp:a.b.c.d:PORT`."""
+    kind, _, place = address.partition(":")
+    if kind == "unix":
+        return socket.AF_UNIX, place
+    host, _, port = place.rpartition(":")
+    return socket.AF_INET, (host, int(port))
 
-    def __init__(self, target: str) -> None:
-        self.head = f"GET {target} HTTP/1.1\r\nHost: farm\r\n\r\n".encode()
-        self.pieces: list[bytes] = []
-        self.ended: asyncio.Future[None] = asyncio.get_running_loop().create_future()
 
-    def connection_made(self, transport: asyncio.BaseTransport) -> None:
-        assert isinstance(transport, asyncio.Transport)
-        transport.write(self.head)
-
-    def data_received(self, data: bytes) -> None:
-        self.pieces.append(data)
-
-    def connection_lost(self, fault: Exception | None) -> None:
-        if self.ended.done():
-            return
-        if fault is None:
-            self.ended.set_result(None)
-        else:
-            self.ended.set_exception(fault)
+async def connected(made: socket.socket, place: str | tuple[str, int]) -> None:
+    """Connects. Where too many wait at a Unix address already the system does not keep one more, and says to come again."""
+    if made.family != socket.AF_UNIX:
+        return await asyncio.get_running_loop().sock_connect(made, place)
+    while True:
+        try:
+            return made.connect(place)
+        except BlockingIOError:
+            await asyncio.sleep(AGAIN)
 
 
 async def fetched(address: str, target: str) -> client.Page:
-    """The farm's answer to a GET. Raises OSError where none comes."""
-    kind, _, place = address.partition(":")
-    loop, made = asyncio.get_running_loop(), Asked(target)
-    if kind == "unix":
-        transport, _ = await loop.create_unix_connection(lambda: made, place)
-    else:
-        host, _, port = place.rpartition(":")
-        transport, _ = await loop.create_connection(lambda: made, host, int(port))
-    try:
-        await made.ended
-    finally:
-        transport.abort()
-    if not made.pieces:
+    """The farm's answer to a GET, on a connection that has no more than this one. Raises OSError where none comes.
+
+    Sockets alone: asyncio's transports take twice the time for an answer that comes in a few pieces.
+    """
+    loop, pieces = asyncio.get_running_loop(), []
+    family, place = place_of(address)
+    with socket.socket(family, socket.SOCK_STREAM | socket.SOCK_NONBLOCK) as made:
+        await connected(made, place)
+        await loop.sock_sendall(made, f"GET {target} HTTP/1.1\r\nHost: farm\r\n\r\n".encode())
+        while piece := await loop.sock_recv(made, PIECE):
+            pieces.append(piece)
+    if not pieces:
         raise ConnectionError("the farm closed the connection without an answer")
-    return client.page_of(b"".join(made.pieces))
+    return client.page_of(b"".join(pieces))
 
 
 class Gateway:
@@ -311,7 +308,7 @@ def has(request: web.BaseRequest, etag: str) -> bool:
 def maps_of(config: dict[str, object]) -> dict[str, Map]:
     """The maps of a configuration, which the farm itself has read without a fault."""
     found = config.get("maps")
-    maps = [Map(each["name"], each["tile"], each.get("maxzoom", 18)) for each in found] if isinstance(found, list) else []
+    maps = [Map(each["name"], each.get("tile", 256), each.get("maxzoom", 18)) for each in found] if isinstance(found, list) else []
     return {each.name: each for each in maps}
 
 

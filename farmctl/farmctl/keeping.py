@@ -214,7 +214,8 @@ class Restore:
                 here.unlink(missing_ok=True)
                 config = self.members(archive, manifest)
         except (tarfile.TarError, EOFError, ValueError, zlib.error, lzma.LZMAError) as fault:
-            raise FarmError(f"{path}: {fault}") from fault
+            told = (str(fault) or "it ends too early").splitlines()[0]
+            raise FarmError(f"{path}: no backup: {told.rstrip(':')}") from fault
         except OSError as fault:
             raise FarmError(f"{fault.filename or path}: {fault.strerror or fault}") from fault
         self.give_back(manifest, config, old)

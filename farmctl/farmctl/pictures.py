@@ -1,7 +1,7 @@
 """PNG of the farm's PPM, pixel for pixel: with a palette where 256 colours suffice, else in true colours.
 
-Needs Pillow and numpy. Pillow's own ways to a palette look for colours that are near, and take five times as long; here
-each colour has its place.
+Needs Pillow and numpy. Pillow's own ways to a palette look for colours that are near, and take ten times as long; here each
+colour has its place.
 """
 
 from __future__ import annotations
@@ -13,56 +13,51 @@ import numpy
 from PIL import Image
 
 MOST = 256  # colours of a palette
-LEVEL = 6  # of zlib: lower ones make files a quarter larger, higher ones take twice the time for a fiftieth
+LEVEL = 6  # of zlib: lower ones make files up to a quarter larger, higher ones take several times as long for a fiftieth
 HEAD = re.compile(rb"P6\s+(\d+)\s+(\d+)\s+255\s")
+# The place of each colour in the palette that was made last. Pages of it that no colour met take no memory.
+PLACES = numpy.zeros(1 << 24, numpy.uint8)
 
-Colours = numpy.ndarray  # of bytes; the last axis has red, green and blue
+Numbers = numpy.ndarray  # a colour is red, and above it green, and above that blue
 
 
-def of_ppm(ppm: bytes) -> Image.Image:
-    """The picture of a binary PPM as the farm writes it."""
+def numbers_of(ppm: bytes, start: int, count: int) -> Numbers:
+    """A number for the colour of each pixel: of the four bytes from the one before it on, the upper three are its own."""
+    return numpy.ndarray(count, "<u4", ppm, start - 1, (3,)) >> 8
+
+
+def palette_of(pixels: Numbers) -> Numbers | None:
+    """The colours, each once; None where they are more than 256."""
+    begins = numpy.flatnonzero(pixels[1:] != pixels[:-1]) + 1  # runs of a colour are few on a map
+    colours = numpy.unique(numpy.append(pixels[begins], pixels[0]))
+    return colours if len(colours) <= MOST else None
+
+
+def with_palette(size: tuple[int, int], pixels: Numbers, colours: Numbers) -> Image.Image:
+    PLACES[colours] = range(len(colours))
+    made = Image.frombytes("P", size, PLACES.take(pixels, mode="clip").tobytes())  # which looks at no bound; all are below it
+    made.putpalette(colours.astype("<u4").view(numpy.uint8).reshape(-1, 4)[:, :3].tobytes())
+    return made
+
+
+def picture_of(ppm: bytes) -> Image.Image:
+    """The picture of a binary PPM as the farm writes it. Raises ValueError where it is none."""
     head = HEAD.match(ppm)
     if head is None:
         raise ValueError("no binary PPM of 256 values")
-    size = int(head[1]), int(head[2])
-    if len(ppm) - head.end() != 3 * size[0] * size[1]:
+    size, start = (int(head[1]), int(head[2])), head.end()
+    count = size[0] * size[1]
+    if count == 0 or len(ppm) - start != 3 * count:
         raise ValueError("a PPM of another length")
-    return Image.frombytes("RGB", size, ppm[head.end() :])
-
-
-def keys(colours: Colours, factor: int) -> numpy.ndarray:
-    """A number of 16 bits for each colour: red, and above it green with so many times blue, modulo 256."""
-    upper = colours[..., 1] + colours[..., 2] * numpy.uint8(factor)
-    return colours[..., 0] | upper.astype(numpy.uint16) << 8
-
-
-def factor_of(colours: Colours) -> int | None:
-    """An odd number by which the key of each of these colours is its own; None where there is none."""
-    for factor in range(1, MOST, 2):
-        if len(set(keys(colours, factor).tolist())) == len(colours):
-            return factor
-    return None
-
-
-def with_palette(picture: Image.Image) -> Image.Image | None:
-    """The same pixels with a palette, the most used colour first; None where more than 256 colours are there."""
-    counted = picture.getcolors(MOST)
-    if not counted:
-        return None
-    colours = numpy.array([colour for _, colour in sorted(counted, reverse=True)], numpy.uint8)
-    factor = factor_of(colours)
-    if factor is None:
-        return None
-    place = numpy.zeros(1 << 16, numpy.uint8)
-    place[keys(colours, factor)] = range(len(colours))
-    made = Image.frombytes("P", picture.size, place[keys(numpy.asarray(picture), factor)].tobytes())
-    made.putpalette(colours.tobytes())
-    return made
+    pixels = numbers_of(ppm, start, count)
+    colours = palette_of(pixels)
+    if colours is None:
+        return Image.frombytes("RGB", size, ppm[start:])
+    return with_palette(size, pixels, colours)
 
 
 def png_of(ppm: bytes) -> bytes:
     """The PNG of a PPM. Raises ValueError where it is none."""
-    picture = of_ppm(ppm)
     out = io.BytesIO()
-    (with_palette(picture) or picture).save(out, "PNG", compress_level=LEVEL)
+    picture_of(ppm).save(out, "PNG", compress_level=LEVEL)
     return out.getvalue()

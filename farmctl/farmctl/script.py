@@ -15,6 +15,7 @@ from typing import Any
 
 from farmctl import why
 from farmctl.errors import FarmError
+from farmctl.files import text_of
 
 SECONDS = 600.0  # the greatest data take some ten seconds
 LINES = "farm.lines"  # what was sent to a farm since it began anew, one line each
@@ -41,7 +42,7 @@ class Tried:
 
 def lines_of(path: Path) -> list[str]:
     """The control lines of a file; none where there is no file."""
-    text = path.read_text(encoding="utf-8") if path.exists() else ""
+    text = text_of(path) if path.exists() else ""
     return [line.strip() for line in text.splitlines() if line.strip()]
 
 

@@ -11,6 +11,7 @@ from pathlib import Path
 
 from farmctl.client import BULK, DONE, Renderd, Tile
 from farmctl.errors import FarmError
+from farmctl.files import text_of
 from farmctl.metatiles import Metatile, container_bytes, is_tile, metatile_of, path_of, tile_of
 
 PAUSE = 1.0  # seconds until a metatile that was not done is asked again
@@ -44,8 +45,7 @@ def size_of(metatiles: Iterable[Metatile], side: int, tiles: Path) -> Size:
 
 def of_list(name: str, path: Path) -> list[Metatile]:
     """The metatiles of a list of tiles, each once."""
-    with path.open(encoding="utf-8") as lines:
-        return list(dict.fromkeys(metatile_of(name, tile_of(line)) for line in lines if line.strip()))
+    return list(dict.fromkeys(metatile_of(name, tile_of(line)) for line in text_of(path).splitlines() if line.strip()))
 
 
 def of_log(name: str, path: Path, most: int) -> list[Metatile]:

@@ -24,14 +24,29 @@ class Outside(ValueError):
     """A coordinate that lies on no world."""
 
 
+class Bad(ValueError):
+    """A feature that cannot be kept, where none may be left out."""
+
+
 @dataclass
 class Left:
-    """What was left out, counted by its reason."""
+    """What was left out, counted by its reason, and the feature with which each reason began."""
 
+    is_strict: bool = False
+    feature: str = ""  # the one that is read
     counts: Counter[str] = field(default_factory=Counter)
+    first: dict[str, str] = field(default_factory=dict)
 
     def out(self, reason: str) -> None:
+        """What the farm's data have no room for."""
         self.counts[reason] += 1
+        self.first.setdefault(reason, self.feature)
+
+    def bad(self, reason: str) -> None:
+        """What no sound file has: it is left out only where the user said so."""
+        if self.is_strict:
+            raise Bad(reason)
+        self.out(reason)
 
 
 def parts_of(wkb: bytes) -> tuple[int, list[list[Point]]]:
@@ -89,20 +104,20 @@ def projected(parts: list[list[Point]], project: Project) -> list[list[tuple[int
 def geometry_of(geometry: Any, to_degrees: Any, project: Project, left: Left) -> dict[str, Any] | None:
     """The farm's geometry of a geometry of OGR, or None where there is none to be had."""
     if geometry is None or geometry.IsEmpty():
-        left.out("feature without a geometry")
+        left.bad("feature without a geometry")
         return None
     if geometry.HasCurveGeometry():
         geometry = geometry.GetLinearGeometry()
     geometry.FlattenTo2D()
     if to_degrees is not None:
-        geometry.Transform(to_degrees)
+        to_degrees(geometry)
     west, east, south, north = geometry.GetEnvelope()
     if not (-180.0001 <= west <= east <= 180.0001 and -90.0001 <= south <= north <= 90.0001):
         raise Outside(f"its coordinates {west:.6g} to {east:.6g}, {south:.6g} to {north:.6g} are no longitudes and latitudes")
     kind, parts = parts_of(bytes(geometry.ExportToWkb()))
     name = KINDS.get(kind)
     if name is None:
-        left.out(f"geometry of the kind {geometry.GetGeometryName()}")
+        left.bad(f"geometry of the kind {geometry.GetGeometryName()}")
         return None
     if east - west > 180 and name != "points" and any(crosses(part) for part in parts):
         left.out("geometry that may cross the antimeridian: ogr2ogr -wrapdateline -datelineoffset 60 cuts it")
@@ -166,14 +181,20 @@ def attribute_of(name: str, value: Any, rounds: dict[str, float], left: Left) ->
         if number is None:
             left.out(f"attribute {name}, a number with a fraction or past 64 bits (--round {name} keeps it rounded)")
         return number
-    left.out(f"attribute {name} that is no text in UTF-8, whole number or truth value")
+    if isinstance(value, str):
+        left.bad(f"attribute {name} that is no text in UTF-8 (--encoding says what a shapefile's texts are in)")
+    else:
+        left.out(f"attribute {name} that is no text, whole number or truth value")
     return None
 
 
 def attributes_of(values: dict[str, Any], rounds: dict[str, float], left: Left) -> dict[str, bool | int | str]:
     kept: dict[str, bool | int | str] = {}
     for name, value in sorted(values.items()):
-        if not is_text(name) or not 1 <= len(name.encode()) <= LONGEST_NAME:
+        if not is_text(name):
+            left.bad("attribute whose name is no text in UTF-8 (--encoding)")
+            continue
+        if not 1 <= len(name.encode()) <= LONGEST_NAME:
             left.out(f"attribute whose name has not 1 to {LONGEST_NAME} bytes")
             continue
         made = attribute_of(name, value, rounds, left)

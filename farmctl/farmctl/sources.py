@@ -11,7 +11,7 @@ from pathlib import Path
 from typing import Any
 
 from farmctl.errors import FarmError, library
-from farmctl.shapes import LONGEST_NAME, Left, Outside, attributes_of, box_of, geometry_of, is_text, tags_of
+from farmctl.shapes import LONGEST_NAME, Bad, Left, Outside, attributes_of, box_of, geometry_of, is_text, tags_of
 
 PACKAGE = "python3-gdal"
 DEGREES = "EPSG:4326"
@@ -24,18 +24,23 @@ OSM_NAMES = {
     "other_relations": "relations",
 }
 OTHER_TAGS = "other_tags"
+# An extract's nodes are kept in a file: GDAL's own index takes a kilobyte of memory or eight for each 65,536 ids of the world;
+# and its threads unpack some 140 MB beforehand
+OSM_OPTIONS = {"OSM_MAX_TMPFILE_SIZE": "20", "OSM_USE_CUSTOM_INDEXING": "NO", "GDAL_NUM_THREADS": "1"}
+FAR = 1e-4  # of a coordinate; there and back it differs by far less
 
 Box = tuple[int, int, int, int]
 
 
 @dataclass(frozen=True)
 class Item:
-    """A feature of a layer, as one line of JSON, and its box in centimetres."""
+    """A feature of a layer, as one line of JSON, its box in centimetres, and where it stands."""
 
     layer: str
     id: int
     line: bytes
     box: Box
+    place: str
 
 
 @dataclass
@@ -47,6 +52,8 @@ class Wanted:
     rounds: dict[str, float] = field(default_factory=dict)
     id_field: str | None = None
     system: str | None = None  # the coordinates' where a file does not say it
+    encoding: str | None = None  # the texts' of a shapefile, where it does not say it
+    leaves_out: bool = False  # what is wrong in a file is left out, in place of the whole file
 
 
 def add_options(parser: argparse.ArgumentParser) -> None:
@@ -59,6 +66,9 @@ def add_options(parser: argparse.ArgumentParser) -> None:
                         help="keep numbers of this name as whole ones, times FACTOR")  # fmt: skip
     parser.add_argument("--id", metavar="NAME", help="the attribute that is the id (of OpenStreetMap its own; else `id`, or the place)")
     parser.add_argument("--srs", metavar="EPSG:N", help="the coordinate system of files that do not say it")
+    parser.add_argument("--encoding", metavar="NAME", help="the encoding of a shapefile's texts, where it does not say it (ISO-8859-1)")
+    parser.add_argument("--leave-out", action="store_true",
+                        help="leave out features that cannot be kept, and say how many, in place of refusing the file")  # fmt: skip
 
 
 def names_of(text: str) -> frozenset[str]:
@@ -99,21 +109,33 @@ def wanted_of(args: argparse.Namespace) -> Wanted:
         rounds_of(args.round),
         args.id,
         args.srs,
+        args.encoding,
+        args.leave_out,
     )
 
 
 class Libraries:
-    """GDAL, and its two coordinate systems."""
+    """GDAL, and its two coordinate systems. What it must keep of a file goes into files of the folder."""
 
-    def __init__(self) -> None:
+    def __init__(self, folder: Path) -> None:
         self.gdal = library("osgeo.gdal", PACKAGE)
         self.osr = library("osgeo.osr", PACKAGE)
         self.ogr = library("osgeo.ogr", PACKAGE)
         for each in (self.gdal, self.osr, self.ogr):
             each.UseExceptions()
-        self.gdal.PushErrorHandler("CPLQuietErrorHandler")
+        for name, value in {**OSM_OPTIONS, "CPL_TMPDIR": str(folder)}.items():
+            self.gdal.SetConfigOption(name, value)
+        self.told = ""  # the last that GDAL said, which not every exception of it has
+        self.gdal.PushErrorHandler(self.hear)
         self.degrees = self.system(DEGREES)
         self.project = self.osr.CoordinateTransformation(self.degrees, self.system(MERCATOR)).TransformPoints
+
+    def hear(self, _class: int, _number: int, text: str) -> None:
+        self.told = text
+
+    def fault(self, fault: Exception) -> str:
+        """One line of what went wrong."""
+        return " ".join((str(fault).strip() or self.told).split())[:300] or "it cannot be read"
 
     def system(self, name: str) -> Any:
         made = self.osr.SpatialReference()
@@ -123,6 +145,29 @@ class Libraries:
             raise FarmError(f"no coordinate system {name}") from fault
         made.SetAxisMappingStrategy(self.osr.OAMS_TRADITIONAL_GIS_ORDER)
         return made
+
+
+def first_point(geometry: Any) -> tuple[float, float]:
+    while geometry.GetGeometryCount():
+        geometry = geometry.GetGeometryRef(0)
+    return geometry.GetX(0), geometry.GetY(0)
+
+
+class ToDegrees:
+    """Makes degrees of coordinates of another system. What lies outside of that system is turned round the world, so the way
+    back tells it.
+    """
+
+    def __init__(self, libraries: Libraries, system: Any) -> None:
+        self.forth = libraries.osr.CoordinateTransformation(system, libraries.degrees)
+        self.back = libraries.osr.CoordinateTransformation(libraries.degrees, system)
+
+    def __call__(self, geometry: Any) -> None:
+        before = first_point(geometry)
+        geometry.Transform(self.forth)
+        after = self.back.TransformPoint(*first_point(geometry))
+        if any(abs(was - now) > FAR * (1 + abs(was)) for was, now in zip(before, after, strict=False)):
+            raise Outside(f"its coordinates {before[0]:.6g}, {before[1]:.6g} are none of its coordinate system")
 
 
 @dataclass
@@ -167,7 +212,7 @@ class Layer:
             told = f"the layer {self.own} has no coordinate system: --srs EPSG:4326 says that it is in degrees"
             raise FarmError(f"{self.source.path}: {told}")
         system.SetAxisMappingStrategy(libraries.osr.OAMS_TRADITIONAL_GIS_ORDER)
-        return None if system.IsSame(libraries.degrees) else libraries.osr.CoordinateTransformation(system, libraries.degrees)
+        return None if system.IsSame(libraries.degrees) else ToDegrees(libraries, system)
 
     def id_of(self, feature: Any) -> int | None:
         """Its id: the named attribute, OpenStreetMap's, an attribute `id`, or its place in the file."""
@@ -218,10 +263,11 @@ class Source:
         self.passed: dict[str, int] = {}  # features of layers that are not taken
         if not Path(self.path).exists():
             raise FarmError(f"{self.path}: no such file")
+        options = [f"ENCODING={wanted.encoding}"] if wanted.encoding else []
         try:
-            self.dataset = libraries.gdal.OpenEx(self.path, libraries.gdal.OF_VECTOR)
+            self.dataset = libraries.gdal.OpenEx(self.path, libraries.gdal.OF_VECTOR, open_options=options)
         except RuntimeError as fault:
-            raise FarmError(f"{self.path}: {one_line(fault)}") from fault
+            raise FarmError(f"{self.path}: {libraries.fault(fault)}") from fault
         self.is_osm = self.dataset.GetDriver().ShortName == "OSM"
         layers = [self.dataset.GetLayer(place) for place in range(self.dataset.GetLayerCount())]
         if self.name is not None and len(layers) != 1:
@@ -239,7 +285,7 @@ class Source:
             try:
                 feature, layer = self.dataset.GetNextFeature()
             except RuntimeError as fault:
-                raise FarmError(f"{self.path}: after {count:,} features: {one_line(fault)}") from fault
+                raise FarmError(f"{self.path}: after {count:,} features: {self.libraries.fault(fault)}") from fault
             if feature is None:
                 return
             count += 1
@@ -247,20 +293,32 @@ class Source:
             if not known.is_taken:
                 self.passed[known.name] = self.passed.get(known.name, 0) + 1
                 continue
-            made = self.item(known, feature)
+            made = self.item(known, feature, count)
             if made is not None:
                 yield made
 
-    def item(self, layer: Layer, feature: Any) -> Item | None:
-        left = self.left.setdefault(layer.name, Left())
-        number = layer.id_of(feature)
-        if number is None or not 0 <= number < 2**64:
-            left.out("feature whose id is no whole number from 0 on")
-            return None
+    def left_of(self, layer: Layer) -> Left:
+        """What is left out of a layer. An extract's relations are cut at its edge, so nothing of it is refused for that."""
+        if layer.name not in self.left:
+            self.left[layer.name] = Left(not (self.wanted.leaves_out or self.is_osm))
+        return self.left[layer.name]
+
+    def item(self, layer: Layer, feature: Any, count: int) -> Item | None:
+        left, number = self.left_of(layer), layer.id_of(feature)
+        left.feature = f"feature {count:,}" if number is None else f"feature {count:,}, id {number}"
         try:
-            geometry = geometry_of(feature.GetGeometryRef(), layer.to_degrees, self.libraries.project, left)
+            return self.made(layer, feature, number, left)
+        except Bad as fault:
+            told = f"{fault}; --leave-out leaves out what is like it"
+            raise FarmError(f"{self.path}: layer {layer.own}, {left.feature}: {told}") from fault
         except (Outside, RuntimeError) as fault:
-            raise FarmError(f"{self.path}: layer {layer.own}, feature {number}: {one_line(fault)}") from fault
+            raise FarmError(f"{self.path}: layer {layer.own}, {left.feature}: {self.libraries.fault(fault)}") from fault
+
+    def made(self, layer: Layer, feature: Any, number: int | None, left: Left) -> Item | None:
+        if number is None or not 0 <= number < 2**64:
+            left.bad("feature whose id is no whole number from 0 on")
+            return None
+        geometry = geometry_of(feature.GetGeometryRef(), layer.to_degrees, self.libraries.project, left)
         if geometry is None:
             return None
         value: dict[str, Any] = {"id": number, "geometry": geometry}
@@ -268,8 +326,4 @@ class Source:
         if attributes:
             value["attrs"] = attributes
         line = json.dumps(value, ensure_ascii=False, separators=(",", ":")).encode()
-        return Item(layer.name, number, line, box_of(geometry))
-
-
-def one_line(fault: Exception) -> str:
-    return " ".join(str(fault).split())[:300] or "it cannot be read"
+        return Item(layer.name, number, line, box_of(geometry), f"{self.path}: layer {layer.own}, {left.feature}")

@@ -40,8 +40,8 @@ class Plan:
     link: Path
     other: Path
     program: str | None
-    start: str | None
-    stop: str | None
+    start: list[str] | None
+    stop: list[str] | None
     log: Path | None
     most: int
     wait: float
@@ -54,7 +54,7 @@ def farm_in(folder: Path, program: str | None) -> Farm:
 
 def maps_of(farm: Farm) -> dict[str, int]:
     """The size of a tile of each map."""
-    return {each["name"]: each["tile"] for each in farm.config["maps"]}
+    return {each["name"]: each.get("tile", 256) for each in farm.config.get("maps", [])}
 
 
 def process_at(address: str) -> int:
@@ -169,8 +169,8 @@ class Turn:
             self.run()
         tally.say(f"{self.new.folder}: {tally.tally(self.new.address('control'))}")
 
-    def command(self, text: str, farm: Farm) -> None:
-        words = [word.replace("%", farm.folder.name) for word in shlex.split(text)]
+    def command(self, named: list[str], farm: Farm) -> None:
+        words = [word.replace("%", farm.folder.name) for word in named]
         try:
             status = subprocess.run(words, stdin=subprocess.DEVNULL, timeout=self.plan.wait).returncode
         except subprocess.TimeoutExpired as fault:

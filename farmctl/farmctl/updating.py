@@ -19,7 +19,7 @@ from typing import Any
 from farmctl import client, script, tally
 from farmctl.errors import FarmError
 from farmctl.farm import Farm
-from farmctl.files import keep_owner, write_whole
+from farmctl.files import keep_owner, text_of, write_whole
 
 MOST = 256  # updates of one configuration
 ANEW = "put the newest data into `data`, empty `updates`, remove tiles/farm.saved and farm.lines"
@@ -131,7 +131,7 @@ class Update:
 
     def __init__(self, farm: Farm, restart: Sequence[str], wait: float | None) -> None:
         self.farm = farm
-        self.before = farm.path.read_text(encoding="utf-8") if farm.path.is_file() else ""
+        self.before = text_of(farm.path) if farm.path.is_file() else ""
         self.config = farm.config
         self.address = farm.address("control")
         self.words = tuple(restart)

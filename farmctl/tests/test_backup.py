@@ -84,10 +84,10 @@ class Backup(WithFarm):
         self.assertIn("is there: -f", self.farmctl("backup", self.out)[2])
         self.assertIn("the farm runs", self.restore()[2])
         self.stop()
-        self.out.write_bytes(self.out.read_bytes()[:200])
-        self.assertEqual((self.restore()[0], self.restore()[2].count("\n")), (1, 1))
-        self.out.write_bytes(b"")
-        self.assertEqual(self.restore()[0], 1)
+        whole = self.out.read_bytes()
+        for text in (whole[:200], b"", b"rubbish" * 99):
+            self.out.write_bytes(text)
+            self.assertEqual((self.restore()[0], self.restore()[2].count("\n")), (1, 1), self.restore()[2])
         self.write("farm.json", dict(self.config, data="/etc/hostname"))
         self.assertIn("outside the farm's folder", self.farmctl("backup", "-f", self.out)[2])
 

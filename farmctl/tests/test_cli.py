@@ -2,7 +2,9 @@
 
 import contextlib
 import io
+import tempfile
 import unittest
+from pathlib import Path
 
 from farmctl import cli
 
@@ -38,6 +40,26 @@ class Errors(unittest.TestCase):
         self.assertEqual((status, out), (1, ""))
         self.assertEqual(err.count("\n"), 1)
         self.assertIn("/nowhere/farm.json", err)
+
+    def test_files_that_are_none(self) -> None:
+        with tempfile.TemporaryDirectory() as folder:
+            for name, text in {"bytes": bytes(range(256)), "deep": b"[" * 99999, "list": b"[]", "kinds": b'{"maps": 7}'}.items():
+                (Path(folder) / name).write_bytes(text)
+                for words in (["control", "stats"], ["seed", "a", "1,2,3,4", "0"], ["gateway"], ["update", "x"]):
+                    with self.subTest(f"{name} {words[0]}"):
+                        status, out, err = run("-c", f"{folder}/{name}", *words)
+                        self.assertEqual((status, out, err.count("\n"), "TRACE" in err), (1, "", 1, False), err)
+            status, out, err = run("--tiles-address", "tcp:127.0.0.1:1", "expire", f"{folder}/bytes")
+            self.assertEqual((status, out, err), (1, "", f"farmctl expire: {folder}/bytes: no text in UTF-8: byte 128\n"))
+
+    def test_no_time_is_refused_as_words(self) -> None:
+        words = {"again": ["--wait"], "gateway": ["--keep"], "metrics": ["--walk"], "run": ["--grace"], "seed": ["default", "--patience"],
+                 "turn": ["a", "b", "--drain"], "update": ["file", "--wait"], "watch": ["-n"], "status": ["--slow"]}  # fmt: skip
+        for name, before in words.items():
+            for number in ("nan", "-1", "inf", "1e10", "soon"):
+                with self.subTest(f"{name} {number}"):
+                    status, out, err = run(name, *before, number)
+                    self.assertEqual((status, out, "invalid seconds value" in err), (2, "", True))
 
     def test_nobody_at_the_address_is_one_line(self) -> None:
         status, out, err = run("--control-address", "unix:/nowhere/sock", "control", "stats")

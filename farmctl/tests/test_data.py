@@ -82,7 +82,7 @@ class Data(InFolder):
         status, out, _ = self.make(collection(feature("Point", EXAMPLE, name="a", none=None, whole=8.0, part=2.5)))
         self.assertEqual(status, 0)
         self.assertEqual(self.features(), [{"id": 7, "geometry": {"points": [CENTIMETRES]}, "attrs": {"name": "a", "whole": 8}}])
-        self.assertIn("left out 1: attribute part, a number with a fraction", out)
+        self.assertIn("left out 1 (the first: feature 1, id 7): attribute part, a number with a fraction", out)
         self.make(None, "--round", "part=10", "--attributes", "part")
         self.assertEqual(self.features()[0]["attrs"], {"part": 25})
 
@@ -109,22 +109,59 @@ class Data(InFolder):
 
     def test_what_is_left_out(self) -> None:
         antimeridian = feature("LineString", [[170, 0], [-170, 9]], 2)
-        geometries = {"type": "Feature", "id": 3, "properties": {}, "geometry": {"type": "GeometryCollection", "geometries": []}}
-        filled = {"type": "GeometryCollection", "geometries": [{"type": "Point", "coordinates": [1, 1]}]}
-        bare = {"type": "Feature", "id": 4, "properties": {}, "geometry": None}
-        others = [antimeridian, geometries, dict(geometries, id=5, geometry=filled), bare]
-        status, out, _ = self.make(collection(feature("Point", [1, 1], 1), *others))
+        status, out, _ = self.make(collection(feature("Point", [1, 1], 1), antimeridian, feature("LineString", [[1, 1], [1, 1]], 3)))
         self.assertEqual((status, [each["id"] for each in self.features()]), (0, [1]))
-        for told in ("antimeridian", "GEOMETRYCOLLECTION", "without a geometry"):
+        for told in ("left out 1 (the first: feature 2, id 2): geometry that may cross the antimeridian", "feature 3, id 3): geometry with too few points"):
             self.assertIn(told, out)
 
+    def test_a_feature_that_cannot_be_kept(self) -> None:
+        """It refuses the file, and says where it is; or it is left out, and told, where the user says so."""
+        none = {"type": "Feature", "id": 3, "properties": {}, "geometry": {"type": "GeometryCollection", "geometries": []}}
+        point, filled = feature("Point", [1, 1], 1), {"type": "GeometryCollection", "geometries": [{"type": "Point", "coordinates": [1, 1]}]}
+        latin = json.dumps(collection(feature("Point", [1, 1], 1, name="strasse"), feature("Point", [1, 1], 3, name="XX")))
+        for content, words, told in [
+            (collection(point, dict(none, geometry=None)), "", "layer places, feature 2, id 3: feature without a geometry"),
+            (collection(point, none), "", "feature 2, id 3: feature without a geometry"),
+            (collection(point, dict(none, geometry=filled)), "", "feature 2, id 3: geometry of the kind GEOMETRYCOLLECTION"),
+            (collection(point, feature("Polygon", [[]], 3)), "", "feature 2, id 3: feature without a geometry"),
+            (collection(point, point), "", "feature 2, id 1: an earlier feature has this id"),
+            (collection(feature("Point", [1, 1], None, n=1), feature("Point", [1, 1], None, n=-5)), "--id n", "feature 2, id -5: feature whose id"),
+            (latin.encode().replace(b"XX", b"stra\xdfe"), "", "feature 2, id 3: attribute name that is no text in UTF-8"),
+        ]:
+            with self.subTest(told):
+                status, _, err = self.make(content, *words.split())
+                self.assertEqual((status, err.count("\n"), self.out.exists()), (1, 1, False), err)
+                self.assertIn(told, err)
+                self.assertIn("--leave-out", err)
+                status, out, err = self.make(None, "--leave-out", *words.split())
+                self.assertEqual((status, err, self.features()[0]["id"], "left out 1" in out), (0, "", 1, True), out)
+
+    def test_a_file_in_another_encoding(self) -> None:
+        from osgeo import gdal
+
+        self.make(collection(feature("Point", [1, 1], 1, name="XX")))
+        gdal.VectorTranslate(str(self.folder / "old.shp"), str(self.folder / "places.geojson"), layerCreationOptions=["ENCODING="])
+        (self.folder / "old.cpg").unlink(missing_ok=True)
+        table = (self.folder / "old.dbf").read_bytes().replace(b"XX", b"\xdf\xe4")
+        (self.folder / "old.dbf").write_bytes(table[:29] + b"\0" + table[30:])
+        status, _, err = self.make(None, name="old.shp")
+        self.assertEqual((status, "--encoding" in err), (1, True), err)
+        self.assertEqual(self.make(None, "--encoding", "ISO-8859-1", name="old.shp")[0], 0)
+        self.assertEqual(self.features()[0]["attrs"]["name"], "ßä")
+
     def test_ids(self) -> None:
-        self.make(collection(*(feature("Point", [1, 1], None, id=n) for n in (5, 5, 9))))
-        self.assertEqual([each["id"] for each in self.features()], [5, 9])
+        self.make(collection(*(feature("Point", [1, 1], None, id=n) for n in (5, 9, 5, 2, 2))), "--leave-out")
+        self.assertEqual([each["id"] for each in self.features()], [5, 9, 2])
         self.make(collection(*(feature("Point", [1, 1], None) for _ in range(3))))
         self.assertEqual(len({each["id"] for each in self.features()}), 3)
-        self.make(collection(feature("Point", [1, 1], None, ref="12"), feature("Point", [1, 1], None, ref="x")), "--id", "ref")
+        self.make(collection(feature("Point", [1, 1], None, ref="12"), feature("Point", [1, 1], None, ref="x")), "--id", "ref", "--leave-out")
         self.assertEqual([each["id"] for each in self.features()], [12])
+
+    def test_nothing_to_keep(self) -> None:
+        """An empty file is a fault of what made it; as a day's data it would remove the whole map."""
+        status, _, err = self.make(collection())
+        self.assertEqual((status, err.count("\n"), self.out.exists()), (1, 1, False), err)
+        self.assertIn("places.geojson: no feature to keep", err)
 
     def test_what_is_refused_is_one_line_and_leaves_nothing(self) -> None:
         point = feature("Point", [1, 1])
@@ -136,6 +173,9 @@ class Data(InFolder):
             "metres.geojson": collection(feature("Point", [1.2e6, 6.2e6])),
             "pole.geojson": collection(feature("Point", [0, 91])),
             "cut.osm.pbf": b"\x00\x00\x00\x0d\x0a\x09OSMHeader\x18\x7c\x10\x71",
+            "cut.osm": b"<osm version='0.6'><node id='1' lat='49' lon='8'><tag k='place' v='town'/></node><node id='2'",
+            "nan.geojson": b'{"type":"Feature","properties":{},"geometry":{"type":"Point","coordinates":[NaN,1]}}',
+            "empty.osm": b"<osm version='0.6'></osm>",
             "cut.shp": b"\0\0\x27\x0a" + b"\0" * 28 + b"\xe8\x03\0\0" + b"\xff" * 64,
             "cut.gpkg": b"SQLite format 3\0" + b"\0" * 200,
         }
@@ -226,7 +266,12 @@ class Data(InFolder):
         self.assertEqual(farmctl("changes", *words, "-o", self.folder / "u.json")[0], 0)
         (change,) = json.loads((self.folder / "u.json").read_text())["changes"]
         self.assertEqual((change["layer"], change["remove"], [put["id"] for put in change["put"]]), ("places", [2, 3], [1, 9]))
-        words[1] = words[1].replace("places=", "others=")
+        (self.folder / "farm.json").write_text(json.dumps({"updates": ["u.json"] * 255}))
+        words += ["-c", self.folder / "farm.json", "-o", self.folder / "u.json"]
+        self.assertIn("has 255 of 256 updates", farmctl("changes", *words)[1])
+        (self.folder / "farm.json").write_text(json.dumps({"updates": ["u.json"] * 256}))
+        self.assertIn("has 256 updates, and may have no more: put the newest data", farmctl("changes", *words)[2])
+        words = [words[0], words[1].replace("places=", "others=")]
         self.assertIn("others: no layer of", farmctl("changes", *words, "-o", self.folder / "u.json")[2])
 
 

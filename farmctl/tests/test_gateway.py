@@ -3,8 +3,11 @@
 from __future__ import annotations
 
 import asyncio
+import contextlib
 import importlib.util
 import io
+import socket
+import tempfile
 import unittest
 from collections.abc import Mapping
 
@@ -176,6 +179,30 @@ class Kept(Answers):
         await self.get()
         self.farm.tile(BLUE, "clean", 8)
         self.assertEqual((await self.get())[1]["X-Version"], "8")
+
+
+@unittest.skipIf(MISSING, f"no {', '.join(MISSING)}")
+class Full(unittest.IsolatedAsyncioTestCase):
+    async def test_who_finds_a_full_unix_address_waits(self) -> None:
+        with tempfile.TemporaryDirectory() as folder, socket.socket(socket.AF_UNIX) as listens, contextlib.ExitStack() as others:
+            listens.bind(f"{folder}/s")
+            listens.listen(0)
+            waiting = 0
+            with contextlib.suppress(BlockingIOError):
+                while True:
+                    other = others.enter_context(socket.socket(socket.AF_UNIX, socket.SOCK_STREAM | socket.SOCK_NONBLOCK))
+                    other.connect(f"{folder}/s")
+                    waiting += 1
+            asked = asyncio.ensure_future(gateway.fetched(f"unix:{folder}/s", "/x"))
+            await asyncio.sleep(0.05)
+            self.assertFalse(asked.done())
+            farm = FakeFarm()
+            farm.tile(RED, "clean", 3)
+            for _ in range(waiting):
+                listens.accept()[0].close()
+            server = await asyncio.start_unix_server(farm.serve, sock=listens)
+            self.assertEqual((await asked).heads["X-Version"], "3")
+            server.close()
 
 
 @unittest.skipIf(MISSING, f"no {', '.join(MISSING)}")

@@ -1,6 +1,7 @@
 """`seed`: says how much it is, draws it, goes on where it was, and waits for a farm that is away."""
 
 import threading
+import time
 import unittest
 
 from farmctl.metatiles import Metatile, container_bytes, path_of
@@ -57,7 +58,7 @@ class Seed(WithFarm):
         thread = threading.Thread(target=seeding.run)
         thread.start()
         while not done:
-            pass
+            time.sleep(0.01)
         self.stop()
         self.start()
         thread.join(SECONDS)

@@ -12,7 +12,7 @@ from farmctl.client import Tile
 from farmctl.farm import Farm
 from farmctl.metatiles import container_bytes
 from farmctl.observing import seen
-from tests.support import HERE, SECONDS, WithFarm
+from tests.support import HERE, SECONDS, WithFarm, free_port
 
 HAS_PROMETHEUS = importlib.util.find_spec("prometheus_client") is not None
 
@@ -39,8 +39,8 @@ class Status(WithFarm):
 
     def test_over_tcp_the_process_is_found_by_its_port(self) -> None:
         self.stop()
-        self.write("farm.json", dict(self.config, control="tcp:127.0.0.1:18733"))
-        self.addresses["control"] = "tcp:127.0.0.1:18733"
+        self.addresses["control"] = f"tcp:127.0.0.1:{free_port()}"
+        self.write("farm.json", dict(self.config, control=self.addresses["control"]))
         self.start()
         self.assertEqual(seen(self.farm()).process.pid, self.running[-1].pid)
 
@@ -100,9 +100,10 @@ class Status(WithFarm):
             self.assertIn(line + "\n", out)
         self.farmctl("metrics", "-o", self.folder / "t.prom")
         self.assertIn("tilefarm_up 1.0\n", (self.folder / "t.prom").read_text())
-        thread = threading.Thread(target=self.farmctl, args=("metrics", "--listen", "127.0.0.1:18734"), daemon=True)
+        listen = f"127.0.0.1:{free_port()}"
+        thread = threading.Thread(target=self.farmctl, args=("metrics", "--listen", listen), daemon=True)
         thread.start()
-        self.assertIn(b"tilefarm_stored_total 3.0\n", self.scraped("http://127.0.0.1:18734/metrics"))
+        self.assertIn(b"tilefarm_stored_total 3.0\n", self.scraped(f"http://{listen}/metrics"))
         self.stop()
         self.assertIn("tilefarm_up 0.0\n", self.farmctl("metrics")[1])
         self.assertIsNone(re.search("tilefarm_asks_total", self.farmctl("metrics")[1]))

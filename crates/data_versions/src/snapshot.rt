@@ -175,7 +175,7 @@ impl<'a> Model for LayerView<'a> {
     ghost view = { λ v. v.layer.now.features };
 }
 
-impl LayerView<'_> {
+impl<'a> LayerView<'a> {
     /// How many features the layer has.
     pub fn len(&self) -> u32
         ensures { result ≡ length self.now }
@@ -217,7 +217,7 @@ impl LayerView<'_> {
     /// A walk over the features whose bounding box, borders included, has a point in common with the
     /// rectangle, borders included, in order. The caller sees to it that the rectangle's west is not past its
     /// east, nor its north past its south.
-    pub fn near(&self, west: u32, north: u32, east: u32, south: u32) -> NearFeatures<'_>
+    pub fn near(&self, west: u32, north: u32, east: u32, south: u32) -> NearFeatures<'a>
         requires across { west ≤ east }
         requires down { north ≤ south }
         ensures { result ≡ all_near self.now (record { west = west; north = north; east = east; south = south }) }
@@ -228,6 +228,7 @@ impl LayerView<'_> {
             east,
             south,
         };
-        NearFeatures::of(self.layer.segments(), around)
+        let layer = self.layer;
+        NearFeatures::of(layer.segments(), around)
     }
 }

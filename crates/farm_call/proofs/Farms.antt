@@ -21,13 +21,15 @@ use Rattle.farm_plan.specs.Drawings.{plan_of}
 use Rattle.farm_files.specs.Inputs.{ServeInputs}
 use Rattle.farm_saved.specs.Writing.{saved_bytes}
 use Rattle.farm_refinement.specs.Seen.{FarmSeen}
+use Rattle.farm_core.specs.Answers.{at_saved}
 use Rattle.farm_core.specs.Begins.{Tells, origin}
 use Rattle.farm_shared.specs.declared.turned.LastingPart.{LastingPart}
 use Rattle.farm_shared.specs.Seats.{plain}
 use Rattle.farm_shared.specs.Shared.{lasting_of, past, MayTell}
 use Rattle.turn_cell.specs.Turns.{by}
 use Rattle.farm_laws.specs.Locality.{IsSentNow}
-use Rattle.farm_laws.specs.Headline.{Headline}
+use Rattle.farm_laws.specs.Promise.{Promise}
+use Rattle.farm_laws.proofs.Promised.{keeps as keeps_promise}
 use Rattle.farm_runs.specs.Promise.{AreSeated, AreWorked, IsServed}
 use Rattle.front_leaves.specs.Fronts.{renderd_leaves, tiles_leave}
 use Rattle.front_leaves.proofs.Laws.{marked}
@@ -41,7 +43,7 @@ use Rattle.farm_call.specs.inner.Serving.{HasServed}
 use Rattle.farm_call.specs.declared.left.Left.{Left}
 use Rattle.farm_call.specs.declared.left.Left.TheVariants.{Farm}
 use Rattle.farm_call.specs.Call.{CallBefore, CallAfter, store_of}
-use Rattle.farm_call.specs.Keeps.{MaySay, SavesSo, ServedWell}
+use Rattle.farm_call.specs.Served.{StoreTells, SavesSo, ServedWell}
 use Rattle.farm_call.specs.inner.Works.{world_before, world_after}
 use Rattle.farm_call.proofs.Owing.{none_left, paid_up}
 
@@ -139,7 +141,7 @@ module _ {D : Type 0} (state : D → Outside StoreTold) (was : CallBefore D) (is
   H = closed.1
 
   abbrev whole : List Entry
-  whole = whole_history state closed
+  whole = whole_history state closed.0 closed.1
 
   -- ---- the farm that is left, beside the one that began
 
@@ -167,7 +169,7 @@ module _ {D : Type 0} (state : D → Outside StoreTold) (was : CallBefore D) (is
   whole_last : past (lasting_of state served.last) H ≡ whole
   whole_last = ap (λ (p : LastingPart D). past p H) served.runs.kept ∙ whole_first
 
-  may_first : (told : Bool) → MaySay state was is closed told → MayTell state (lasting_of state served.first) told
+  may_first : (told : Bool) → (told ≡ true → StoreTells state was is closed.0) → MayTell state (lasting_of state served.first) told
   may_first told may e =
       let same : Tells (state was.store) closed.0.plan closed.0.saved ≡ Tells (state served.first.first) served.first.plan served.first.saved =
       ap₂ (λ (p : FarmPlan) (o : Option Saving). Tells (state was.store) p o) (sym plan_first) saved_left
@@ -175,23 +177,27 @@ module _ {D : Type 0} (state : D → Outside StoreTold) (was : CallBefore D) (is
       in
       subst (λ (T : Type 0). T) same (may e)
 
-  may_left : (told : Bool) → MaySay state was is closed told → MayTell state (lasting_of state closed.0) told
+  may_left : (told : Bool) → (told ≡ true → StoreTells state was is closed.0) → MayTell state (lasting_of state closed.0) told
   may_left told may e = subst (λ (at : Outside StoreTold). Tells at closed.0.plan closed.0.saved) (sym first_left) (may e)
 
   -- ---- the headline, and points 1 to 5
 
-  pub headline : (told : Bool) → MaySay state was is closed told → Headline closed.0.plan told whole
-  headline told may =
-      subst (λ (p : FarmPlan). Headline p told whole) plan_first
-      (subst (Headline served.first.plan told) whole_first (served.runs.headline told (may_first told may)))
-
-  pub sent_now : MaySay state was is closed true → has_plain_update whole ≡ false → EachMoment (IsSentNow closed.0.plan) whole
-  sent_now may renewed =
-      subst (λ (p : FarmPlan). EachMoment (IsSentNow p) whole) plan_first
-      (subst (EachMoment (IsSentNow served.first.plan)) whole_first (served.runs.sent_now (may_first true may) (subst (λ (g : List Entry). has_plain_update g ≡ false) (sym whole_first) renewed)))
-
-  legal : (told : Bool) → MaySay state was is closed told → Legal (plan_of closed.0.plan) told whole
+  legal : (told : Bool) → (told ≡ true → StoreTells state was is closed.0) → Legal (plan_of closed.0.plan) told whole
   legal told may = (kept.after.each told (may_left told may)).legal
+
+  untold : false ≡ true → StoreTells state was is closed.0
+  untold never = cc
+
+  pub headline : Promise closed.0.plan (StoreTells state was is closed.0) whole
+  headline =
+      keeps_promise closed.0.plan (StoreTells state was is closed.0) false whole (kept.after.each false (may_left false untold)).valid (legal false untold)
+      (λ tells. legal true (λ is. tells))
+
+  pub sent_now : StoreTells state was is closed.0 → has_plain_update whole ≡ false → EachMoment (IsSentNow closed.0.plan) whole
+  sent_now tells renewed =
+      subst (λ (p : FarmPlan). EachMoment (IsSentNow p) whole) plan_first
+      (subst (EachMoment (IsSentNow served.first.plan)) whole_first
+      (served.runs.sent_now (may_first true (λ is. tells) refl) (subst (λ (g : List Entry). has_plain_update g ≡ false) (sym whole_first) renewed)))
 
   resumes : ResumesFrom (state was.store) closed.0.plan s.config.resume closed.0.saved
   resumes =
@@ -262,6 +268,22 @@ module _ {D : Type 0} (state : D → Outside StoreTold) (was : CallBefore D) (is
   saves =
       subst (λ (fs : List FrontDone). SavesSo state was is closed.0.plan whole s.config.resume (why_by fs) served.winds.saved) (sym served.fronts_are)
       (saves_as s.config.resume (why_by (fronts_of served.done)) served.winds.saved refl served.winds.saves)
+
+  -- ---- what is not to be saved
+
+  begun_same : s.config.resume ≡ false → state served.first.store ≡ state was.store
+  begun_same none = subst (λ (b : Bool). HasEmptied b (state was.store) (state served.first.store)) none served.begun.emptied
+
+  left_same : (resume : Bool) (why saved : Result (Unit {0}) Stop) → MaySave state resume why served.last closed.0 H saved → resume ≡ false → closed.0 ≡ served.last
+  left_same false (Ok done) saved may none = may.0
+  left_same false (Err w) saved may none = may.0
+  left_same true why saved may none = cc
+
+  unsaved : s.config.resume ≡ false → at_saved (state (store_of is.left)) ≡ at_saved (state was.store)
+  unsaved none =
+      at_left (λ at. at_saved at ≡ at_saved (state was.store))
+      (ap (λ (f : FarmSeen D). at_saved (state f.store)) (left_same s.config.resume _ served.winds.saved served.winds.saves none)
+      ∙ (ap (λ (p : LastingPart D). p.beside) served.runs.kept ∙ ap at_saved (begun_same none)))
 
   -- ---- all turns were drawn
 
@@ -334,7 +356,7 @@ module _ {D : Type 0} (state : D → Outside StoreTold) (was : CallBefore D) (is
 
   -- ---- all of it
 
-  pub served_well : ServedWell state was is s closed end
+  pub served_well : ServedWell state was is s closed.0 closed.1 end
   served_well = record {
     plan_is = plan_left;
     first_is = first_left;
@@ -354,6 +376,7 @@ module _ {D : Type 0} (state : D → Outside StoreTold) (was : CallBefore D) (is
     stopped = served.runs.stops;
     saved = served.winds.saved;
     saves = saves;
+    unsaved = unsaved;
     turns_gone = gone_turns;
     counted = served.winds.told;
     collected = λ before after n front answer.

@@ -21,20 +21,22 @@ use Rattle.farm_files.specs.Inputs.{ServeInputs}
 use Rattle.farm_runs.specs.declared.each_front.EachFront.{EachFront}
 use Rattle.script_command.specs.Scripts.{Scripts}
 use Rattle.load_command.specs.Runs.{Loads}
-use Rattle.farm_call.specs.Serves.{ClosedFarm, whole_history}
+use Rattle.farm_call.specs.Serves.{ClosedFarm}
+use Rattle.farm_refinement.specs.Seen.{FarmSeen}
+use Rattle.farm_history.specs.Entries.{Entry}
 use Rattle.farm_call.specs.inner.Serving as inner
 use Rattle.farm_call.specs.inner.Serving.{World, HasServed, Serves}
 use Rattle.farm_call.specs.declared.left.Left.{Left}
 use Rattle.farm_call.specs.declared.left.Left.TheVariants.{Store, Farm}
 use Rattle.farm_call.specs.Call.{CallBefore, CallAfter, Work, puts, scripts, loads, serves, store_of, PortsRose}
 use Rattle.farm_call.specs.Words.{Asks}
-use Rattle.farm_call.specs.Keeps.{AreLed, SavedRefused, ReadFailed, Idle, StoreIsLeft, MaySay, ServesTo, Done, Worked, Cause, EndsFor, StoreFailed, TurnsAreGone, Unhindered, Keeps}
+use Rattle.farm_call.specs.Keeps.{ComesTo, FilesMake, FilesRefuse, SavedRefused, ReadFailed, Idle, StoreIsLeft, ServesTo, Done, Worked, Cause, EndsFor, StoreFailed, TurnsAreGone, Unhindered, Served, Keeps}
 use Rattle.farm_call.specs.inner.Works.{Does, world_before, world_after}
 use Rattle.farm_call.proofs.Asked.{asks_one}
 use Rattle.farm_call.proofs.Followed as follow
 use Rattle.farm_call.proofs.Followed.{Followed, followed}
 use Rattle.farm_call.proofs.Farms.{headline, sent_now, served_well}
-use Rattle.farm_call.proofs.Whys.{Why, by_store}
+use Rattle.farm_call.proofs.Whys.{Why, TurnsGone, by_store}
 use Rattle.farm_call.proofs.Scripting.{scripts_stops, scripts_noticed}
 use Rattle.farm_call.proofs.Loading.{loads_stops, loads_noticed}
 use Rattle.farm_call.proofs.Serving.{serves_stops, serves_noticed, serves_fault}
@@ -136,8 +138,8 @@ module _ {D : Type 0} (state : D → Outside StoreTold) (was : CallBefore D) (is
   )
 
   data Ran (end : Result (Unit {0}) Stop) : Type 0 where
-    worked : (v : Work) → AreLed state was is (made v) → is.files ≡ was.files → Does state v w w' end → Ran end
-    refuses : (line : List ℕ) → AreLed state was is (refused line) → is.files ≡ was.files → Idles → end ≡ Err (stop.Refused line) → Ran end
+    worked : (v : Work) → FilesMake state was is v → is.files ≡ was.files → Does state v w w' end → Ran end
+    refuses : (line : List ℕ) → FilesRefuse state was is line → is.files ≡ was.files → Idles → end ≡ Err (stop.Refused line) → Ran end
     misses : (line : List ℕ) → ReadFailed state was is line → Idles → (end ≡ Err (stop.Unreadable line)) ⊎ (end ≡ Err stop.NoMemory) → Ran end
     words : ((course : Course Work) → ¬ (Asks was.words course)) → is.files ≡ was.files → Idles → end ≡ Err stop.Words → Ran end
     wants : is.files ≡ was.files → Idles → end ≡ Err stop.NoMemory → Ran end
@@ -172,17 +174,20 @@ module _ {D : Type 0} (state : D → Outside StoreTold) (was : CallBefore D) (is
   ran end (inr (inl none)) = words none.0 none.1.files_same (idles none.1.world_same) none.1.ends
   ran end (inr (inr want)) = wants want.files_same (idles want.world_same) want.ends
 
+  turns_are_gone : TurnsGone state w' → TurnsAreGone state was is
+  turns_are_gone gone = (gone.0.0, gone.0.1, gone.1, gone.2)
+
   -- ---- why it ended
 
   -- what is saved is refused, of the work that is asked
-  saved_refused : (v : Work) → AreLed state was is (made v) → (line : List ℕ) → Why state v (stop.Refused line) w w' → SavedRefused state was is line
+  saved_refused : (v : Work) → FilesMake state was is v → (line : List ℕ) → Why state v (stop.Refused line) w w' → SavedRefused state was is line
   saved_refused v asked line why =
-      record { served = why.served; asked = subst (λ (x : Work). AreLed state was is (made x)) why.is_work asked; resume = why.resume; why = why.why; fault = why.fault; line_is = why.line_is }
+      record { served = why.served; asked = subst (λ (x : Work). FilesMake state was is x) why.is_work asked; resume = why.resume; why = why.why; fault = why.fault; line_is = why.line_is }
 
-  worked_for : (v : Work) → AreLed state was is (made v) → is.files ≡ was.files → (end : Result (Unit {0}) Stop) → Does state v w w' end → Worked state was is end
+  worked_for : (v : Work) → FilesMake state was is v → is.files ≡ was.files → (end : Result (Unit {0}) Stop) → Does state v w w' end → Worked state was is end
   worked_for v asked files end did = record { work = v; asked = asked; files = files; done = done_so v end did }
 
-  stopped_for : (v : Work) → AreLed state was is (made v) → is.files ≡ was.files → (q : Stop) → Why state v q w w' → Worked state was is (Err q) → Cause state was is (Err q)
+  stopped_for : (v : Work) → FilesMake state was is v → is.files ≡ was.files → (q : Stop) → Why state v q w w' → Worked state was is (Err q) → Cause state was is (Err q)
   stopped_for v asked files (stop.Refused line) why did =
       (files, inr (saved_refused v asked line why, why.out, record { store = why.store; left = why.left; ports = why.ports; it_holds = why.shows }))
   stopped_for v asked files stop.Words why did = absurd why
@@ -193,7 +198,7 @@ module _ {D : Type 0} (state : D → Outside StoreTold) (was : CallBefore D) (is
   stopped_for v asked files stop.PortsFailed why did = did
   stopped_for v asked files stop.TurnsUsedUp why did = did
 
-  worked_cause : (v : Work) → AreLed state was is (made v) → is.files ≡ was.files → (end : Result (Unit {0}) Stop) → Does state v w w' end → Cause state was is end
+  worked_cause : (v : Work) → FilesMake state was is v → is.files ≡ was.files → (end : Result (Unit {0}) Stop) → Does state v w w' end → Cause state was is end
   worked_cause v asked files (Ok u) did = worked_for v asked files (Ok tt) did
   worked_cause v asked files (Err q) did = stopped_for v asked files q (stops v q did) (worked_for v asked files (Err q) did)
 
@@ -201,9 +206,9 @@ module _ {D : Type 0} (state : D → Outside StoreTold) (was : CallBefore D) (is
   cause end (worked v asked files did) = worked_cause v asked files end did
   cause end (refuses line file files idle e) = subst (Cause state was is) (sym e) (files, inl (file, idle.0))
   cause end (misses line read idle (inl e)) = subst (Cause state was is) (sym e) (read, idle.0)
-  cause end (misses line read idle (inr e)) = subst (Cause state was is) (sym e) (inl idle.0)
+  cause end (misses line read idle (inr e)) = subst (Cause state was is) (sym e) (inl (idle.0, inr (line, read)))
   cause end (words none files idle e) = subst (Cause state was is) (sym e) (none, files, idle.0)
-  cause end (wants files idle e) = subst (Cause state was is) (sym e) (inl idle.0)
+  cause end (wants files idle e) = subst (Cause state was is) (sym e) (inl (idle.0, inl files))
 
   no_fronts : (end : Result (Unit {0}) Stop) → Ran end → (store : D) → is.left ≡ Store store → is.fronts ≡ []
   no_fronts end (worked v asked files did) = no_fronts_of v end did
@@ -214,22 +219,31 @@ module _ {D : Type 0} (state : D → Outside StoreTold) (was : CallBefore D) (is
 
   -- ---- where a farm is left
 
-  is_farm : (closed : ClosedFarm D) → is.left ≡ Farm closed → (store : D) → ¬ (is.left ≡ Store store)
-  is_farm closed left store e = let both = sym left ∙ e in cc
+  module _ (farm : FarmSeen D) (turns : List (ℕ × Entry)) (left : is.left ≡ Farm (farm, turns)) where
+    not_store : (store : D) → ¬ (is.left ≡ Store store)
+    not_store store e = let both = sym left ∙ e in cc
 
-  serving : (v : Work) (end : Result (Unit {0}) Stop) → Does state v w w' end → (closed : ClosedFarm D) → is.left ≡ Farm closed → (x : ServeInputs) × HasServed state x was.store closed w w' end
-  serving (puts text) end did closed left = absurd (is_farm closed left was.store did.1)
-  serving (scripts x) end did closed left = absurd (is_farm closed left did.1 did.3)
-  serving (loads seed n) end did closed left = absurd (is_farm closed left did.1 did.3)
-  serving (serves x) end did closed left =
-      (x, subst (λ (l : Left D). inner.ServesTo state x was.store w w' end l) left (subst (λ (d : D). Serves state x d w w' end) (same_store did.0 did.1) did.2))
+    serving : (v : Work) → FilesMake state was is v → is.files ≡ was.files → (end : Result (Unit {0}) Stop) → Does state v w w' end → Served state was is farm turns end
+    serving (puts text) asked files end did = absurd (not_store was.store did.1)
+    serving (scripts x) asked files end did = absurd (not_store did.1 did.3)
+    serving (loads seed n) asked files end did = absurd (not_store did.1 did.3)
+    serving (serves x) asked files end did =
+        let h : HasServed state x was.store (farm, turns) w w' end = subst (λ (l : Left D). inner.ServesTo state x was.store w w' end l) left (subst (λ (d : D). Serves state x d w w' end) (same_store did.0 did.1) did.2) in
+        record {
+          headline = headline state was is x (farm, turns) left end h;
+          sent_now = sent_now state was is x (farm, turns) left end h;
+          inputs = x;
+          asked = asked;
+          files = files;
+          well = served_well state was is x (farm, turns) left end h;
+        }
 
-  served : (end : Result (Unit {0}) Stop) → Ran end → (closed : ClosedFarm D) → is.left ≡ Farm closed → (x : ServeInputs) × HasServed state x was.store closed w w' end
-  served end (worked v asked files did) closed left = serving v end did closed left
-  served end (refuses line file files idle e) closed left = absurd (is_farm closed left idle.0.1.store idle.0.1.left)
-  served end (misses line read idle e) closed left = absurd (is_farm closed left idle.0.1.store idle.0.1.left)
-  served end (words none files idle e) closed left = absurd (is_farm closed left idle.0.1.store idle.0.1.left)
-  served end (wants files idle e) closed left = absurd (is_farm closed left idle.0.1.store idle.0.1.left)
+    served : (end : Result (Unit {0}) Stop) → Ran end → Served state was is farm turns end
+    served end (worked v asked files did) = serving v asked files end did
+    served end (refuses line file files idle e) = absurd (not_store idle.0.1.store idle.0.1.left)
+    served end (misses line read idle e) = absurd (not_store idle.0.1.store idle.0.1.left)
+    served end (words none files idle e) = absurd (not_store idle.0.1.store idle.0.1.left)
+    served end (wants files idle e) = absurd (not_store idle.0.1.store idle.0.1.left)
 
   -- ---- and it ends so wherever there is cause
 
@@ -245,7 +259,7 @@ module _ {D : Type 0} (state : D → Outside StoreTold) (was : CallBefore D) (is
         by_end (wants files idle e) = inr e
 
     -- the files lead what is asked to one end
-    same_end : was.files.told ≢ None → (x y : Course Work) → IsEnd x → IsEnd y → AreLed state was is x → AreLed state was is y → x ≡ y
+    same_end : was.files.told ≢ None → (x y : Course Work) → IsEnd x → IsEnd y → ComesTo state was is x → ComesTo state was is y → x ≡ y
     same_end known x y ends also a b =
         let first = told was.files.told (λ t. Leads t.content a.course x) known a.leads in
         let second = at_told was.files.told first.it (λ t. Leads t.content b.course y) first.is_told b.leads in
@@ -253,17 +267,17 @@ module _ {D : Type 0} (state : D → Outside StoreTold) (was : CallBefore D) (is
         (subst (λ (c : Course Work). Leads first.it.content c y) (asks_one was.words b.course a.course b.asks a.asks) second)
 
     -- where they make something of it, no file is refused
-    no_fault : was.files.told ≢ None → (v : Work) → AreLed state was is (made v) → (line : List ℕ) → AreLed state was is (refused line) → ⊥
+    no_fault : was.files.told ≢ None → (v : Work) → FilesMake state was is v → (line : List ℕ) → FilesRefuse state was is line → ⊥
     no_fault known v a line b = let same : made v ≡ refused line = same_end known (made v) (refused line) tt tt a b in absurd (cc)
 
-    same_fault : was.files.told ≢ None → (line other : List ℕ) → AreLed state was is (refused line) → AreLed state was is (refused other) → line ≡ other
+    same_fault : was.files.told ≢ None → (line other : List ℕ) → FilesRefuse state was is line → FilesRefuse state was is other → line ≡ other
     same_fault known line other a b =
         let same : ◌≡◌ {A = Course Work} (refused line) (refused other) = same_end known (refused line) (refused other) tt tt a b in cc
 
-    same_work : was.files.told ≢ None → (v u : Work) → AreLed state was is (made v) → AreLed state was is (made u) → v ≡ u
+    same_work : was.files.told ≢ None → (v u : Work) → FilesMake state was is v → FilesMake state was is u → v ≡ u
     same_work known v u a b = let same : made v ≡ made u = same_end known (made v) (made u) tt tt a b in cc
 
-    file_refused : (line : List ℕ) → was.files.told ≢ None → AreLed state was is (refused line) → ¬ (Rose was.files.faults is.files.faults) → EndsFor state was is end (stop.Refused line)
+    file_refused : (line : List ℕ) → was.files.told ≢ None → FilesRefuse state was is line → ¬ (Rose was.files.faults is.files.faults) → EndsFor state was is end (stop.Refused line)
     file_refused line known file calm = by_end how
       where
         by_end : Ran end → EndsFor state was is end (stop.Refused line)
@@ -311,10 +325,10 @@ module _ {D : Type 0} (state : D → Outside StoreTold) (was : CallBefore D) (is
         by_end (words none files idle e) = absurd (kept idle)
         by_end (wants files idle e) = absurd (kept idle)
 
-    complete : was.files.told ≢ None → (v : Work) → AreLed state was is (made v) → Unhindered state was is → (end ≡ Ok tt) ⊎ (end ≡ Err stop.NoMemory)
+    complete : was.files.told ≢ None → (v : Work) → FilesMake state was is v → Unhindered state was is → (end ≡ Ok tt) ⊎ (end ≡ Err stop.NoMemory)
     complete known v asks free = by_end how
       where
-        by_why : (u : Work) → AreLed state was is (made u) → (q : Stop) → Why state u q w w' → (fails q ≡ Ok tt) ⊎ (fails q ≡ Err stop.NoMemory)
+        by_why : (u : Work) → FilesMake state was is u → (q : Stop) → Why state u q w w' → (fails q ≡ Ok tt) ⊎ (fails q ≡ Err stop.NoMemory)
         by_why u asked (stop.Refused line) why = absurd (free.saved line (saved_refused u asked line why))
         by_why u asked stop.Words why = absurd why
         by_why u asked (stop.Unreadable line) why = absurd why
@@ -322,9 +336,9 @@ module _ {D : Type 0} (state : D → Outside StoreTold) (was : CallBefore D) (is
         by_why u asked stop.NoMemory why = inr refl
         by_why u asked stop.StoreFailed why = absurd (free.store why)
         by_why u asked stop.PortsFailed why = absurd (free.ports why)
-        by_why u asked stop.TurnsUsedUp why = absurd (free.turns why)
+        by_why u asked stop.TurnsUsedUp why = absurd (free.turns (turns_are_gone why))
 
-        by_work : (u : Work) → AreLed state was is (made u) → (e : Result (Unit {0}) Stop) → Does state u w w' e → (e ≡ Ok tt) ⊎ (e ≡ Err stop.NoMemory)
+        by_work : (u : Work) → FilesMake state was is u → (e : Result (Unit {0}) Stop) → Does state u w w' e → (e ≡ Ok tt) ⊎ (e ≡ Err stop.NoMemory)
         by_work u asked (Ok done) did = inl refl
         by_work u asked (Err q) did = by_why u asked q (stops u q did)
 
@@ -368,8 +382,7 @@ module _ {D : Type 0} (state : D → Outside StoreTold) (was : CallBefore D) (is
         end = end;
         report = call.reports;
         cause = cause call.end how;
-        headline = λ closed left. (let farm = served call.end how closed left in headline state was is farm.0 closed left call.end farm.1);
-        sent_now = λ closed left. (let farm = served call.end how closed left in sent_now state was is farm.0 closed left call.end farm.1);
+        served = λ farm turns left. served farm turns left call.end how;
         no_fronts = no_fronts call.end how;
         no_words = none_asked call.end how;
         refused = file_refused call.end how;
@@ -380,5 +393,5 @@ module _ {D : Type 0} (state : D → Outside StoreTold) (was : CallBefore D) (is
         sink_lost = λ e. (why_of call.end how stop.SinkFailed tt e).1;
         store_lost = λ e. (why_of call.end how stop.StoreFailed tt e).1;
         ports_lost = λ e. (why_of call.end how stop.PortsFailed tt e).1;
-        turns_gone = λ e. (why_of call.end how stop.TurnsUsedUp tt e).1;
+        turns_gone = λ e. turns_are_gone (why_of call.end how stop.TurnsUsedUp tt e).1;
       }

@@ -1,13 +1,18 @@
 -- What a call is handed, and what it leaves.
-use Rattle.std.specs.Prelude.{◌⊎◌, ℕ, List}
+use Rattle.std.specs.Prelude.{◌⊎◌, ℕ, List, Result}
 use Rattle.farm_base.specs.Outside.{Outside, Rose}
 use Rattle.port_events.specs.declared.ends.FrontDone.{FrontDone}
 use Rattle.port_events.specs.Told.{PortsTold}
 use Rattle.exit_status.specs.Ends.{FilesAt, SinkAt}
+use Rattle.exit_status.specs.declared.stops.Stop.{Stop}
 use Rattle.farm_runs.specs.declared.each_front.EachFront.{EachFront}
 use Rattle.farm_files.specs.Inputs.{ScriptInputs, ServeInputs}
 use Rattle.farm_call.specs.declared.left.Left.{Left}
 use Rattle.farm_call.specs.declared.left.Left.TheVariants.{Store, Farm}
+
+-- how a call ends: well, or why not
+abbrev pub End : Type 0
+End = Result (Unit {0}) Stop
 
 -- the words after the program's name, the store, and what the files, out, err and the ports show
 pub record CallBefore (D : Type 0) : Type 0 where

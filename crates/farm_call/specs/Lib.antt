@@ -2,6 +2,7 @@ pub mod Call
 pub mod Words
 pub mod Owing
 pub mod Keeps
+pub mod Served
 pub mod Serves
 pub mod Beginnings
 pub mod Listens

@@ -53,8 +53,8 @@ ClosedFarm D = FarmSeen D × List (ℕ × Entry)
 
 -- all that happened to the farm, the newest entry first: what it was resumed from, replayed, and then the entries of
 -- this run
-abbrev pub whole_history : {D : Type 0} → (D → Outside StoreTold) → ClosedFarm D → List Entry
-whole_history state closed = past (lasting_of state closed.0) closed.1
+abbrev pub whole_history : {D : Type 0} → (D → Outside StoreTold) → FarmSeen D → List (ℕ × Entry) → List Entry
+whole_history state farm turns = past (lasting_of state farm) turns
 
 module _ {D : Type 0} (state : D → Outside StoreTold) (s : ServeInputs) (store : D) where
   -- Why no actor was started: no farm was begun, and then no port was listened on; or a farm was, whose store is left, and

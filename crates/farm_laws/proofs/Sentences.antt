@@ -1,33 +1,27 @@
--- Each legal history keeps the four sentences.
-use Rattle.std.proofs.Common.{◌≡◌, ℕ, ◌<◌, Bool, true, false, cond, ◌==◌, ◌⊎◌, inl, inr, List, [], ◌∷◌, ◌++◌, find, filter, slice_get, Option, Some, None, refl, sym, ap, ◌∙◌, subst, arith}
+-- Of each legal history: no metatile is drawn twice at once, and what is touched while it is being drawn is left dirty.
+use Rattle.std.proofs.Common.{◌≡◌, ℕ, ◌<◌, Bool, true, false, cond, ◌==◌, ◌⊎◌, inl, inr, List, [], ◌∷◌, ◌++◌, find, filter, length, Option, Some, None, refl, sym, ap, ◌∙◌, subst, arith}
 use Rattle.std.specs.Option.{option_or}
 use Rattle.std.proofs.lemmas.Bool.Decides.{nat_tests}
 use Rattle.std.proofs.lemmas.List.Folds.{find-append}
 use Rattle.farm_history.specs.declared.keys.Key.{Key}
-use Rattle.farm_history.specs.declared.asks.Spot.{Spot}
 use Rattle.farm_history.specs.declared.answers.ClaimAnswer.TheVariants.{Job}
 use Rattle.farm_history.specs.declared.answers.Finished.{Finished}
 use Rattle.farm_history.specs.declared.answers.Finished.TheVariants.{Stored}
-use Rattle.farm_history.specs.declared.answers.Fetched.{Fetched}
-use Rattle.farm_history.specs.Entries.{Entry, Claim, Finish, Fetch, EachMoment, EachPast}
-use Rattle.farm_history.specs.Plans.{Plan, AreApart, same_key, key_of, map_of, spot_tile}
-use Rattle.farm_history.specs.Past.{Flight, flights, flight_in, jobs, data_after, style_after}
+use Rattle.farm_history.specs.Entries.{Entry, Claim, Finish, EachMoment, EachPast}
+use Rattle.farm_history.specs.Plans.{Plan, AreApart, same_key}
+use Rattle.farm_history.specs.Past.{Flight, flights, flight_in, jobs, is_touched_after}
 use Rattle.farm_history.specs.Rules.{FlightFits, Fits, Legal}
-use Rattle.farm_history.specs.Laws.{flight_key, GapAt, DoneAt, DoneReply}
+use Rattle.farm_history.specs.Laws.{flight_key, GapAt, StaysDirty}
 use Rattle.farm_history.proofs.Lists.{same_key-self, any-append, each-map, each-none, find-none}
 use Rattle.farm_history.proofs.Apart.{job_is_next}
 use Rattle.farm_history.proofs.Numbers.{tickets_below}
-use Rattle.farm_history.proofs.Flying.{ends_ticket, still_flies}
-use Rattle.farm_history.proofs.Since.{clean_since}
-use Rattle.farm_history.proofs.Sounds.{legal_before, sent_clean, shown_drawn, sound}
-use Rattle.farm_plan.specs.Plans.{MapPlan, FarmPlan, IsPlan}
-use Rattle.farm_plan.specs.Drawings.{tile_in, data_of, plan_of}
-use Rattle.farm_plan.proofs.Spots.{spot_of}
-use Rattle.farm_laws.specs.Headline.{is_finish_of, is_finished_in, IsCleanTile, CleanTiles, DrawnOnce, LeftDirty, NamesStored, LawHeadline}
+use Rattle.farm_history.proofs.Flying.{still_flies}
+use Rattle.farm_history.proofs.Sounds.{legal_before, sound}
+use Rattle.farm_laws.specs.Promise.{is_finished_in}
 
 -- What holds at each moment, and of each past, at one of them.
 
-at_moment : (P : List Entry → Entry → Type 0) (later : List Entry) (e : Entry) (g : List Entry) → EachMoment P (later ++ e ∷ g) → P g e
+pub at_moment : (P : List Entry → Entry → Type 0) (later : List Entry) (e : Entry) (g : List Entry) → EachMoment P (later ++ e ∷ g) → P g e
 at_moment P [] e g each = each.0
 at_moment P (x ∷ later) e g each = at_moment P later e g each.1
 
@@ -112,48 +106,16 @@ only : (p : Plan) (told : Bool) (between : List Entry) (worker t v : ℕ) (k : K
 only p told [] worker t v k before legal = only_new p told worker t v k before legal
 only p told (e ∷ between) worker t v k before legal = only_later p told e (between ++ Claim worker (Job t k v) ∷ before) t (flight_of t k before) legal.0 (only p told between worker t v k before legal.1)
 
--- 1.
-
-clean_tile : (plan : FarmPlan) (told : Bool) (g : List Entry) (spot : Spot) (v : ℕ) (bytes : List ℕ) → IsPlan plan → Legal (plan_of plan) told (Fetch spot (Fetched.Clean v bytes) ∷ g) → IsCleanTile plan told g spot v bytes
-unfolding Fits plan_of
-clean_tile plan told g spot v bytes valid legal =
-    let s = sent_clean (plan_of plan) told g spot v bytes legal.0 in
-    let d = shown_drawn (plan_of plan) told g (key_of spot) s.before legal.1 s.is_shown in
-    let c = clean_since (plan_of plan) told g (key_of spot) s.before legal.1 s.is_shown s.is_untouched in
-    let m = spot_of plan spot valid s.servable in
-    record {
-      since = d.since;
-      worker = d.worker;
-      ticket = d.ticket;
-      before = s.before;
-      is_claimed = d.is_claim;
-      is_stored = d.is_stored;
-      is_untouched = s.is_untouched;
-      version_is = s.version_is;
-      is_plain = λ tells. record {
-        map = m.map;
-        is_map = m.is_map;
-        bytes_are = s.bytes_are tells ∙ (ap (λ o. tile_in plan (slice_get plan.maps (map_of spot)) o (spot_tile spot) (data_of plan (data_after s.before))) (sym c.same_style)
-            ∙ ap (λ (o : Option MapPlan). tile_in plan o (style_after (plan_of plan) g (map_of spot)) (spot_tile spot) (data_of plan (data_after s.before))) m.is_map);
-      };
-    }
-
-clean_tiles : (plan : FarmPlan) (told : Bool) (h : List Entry) → IsPlan plan → Legal (plan_of plan) told h → CleanTiles plan told h
-clean_tiles plan told h valid legal later g spot v bytes is =
-    clean_tile plan told g spot v bytes valid (legal_before (plan_of plan) told later (Fetch spot (Fetched.Clean v bytes) ∷ g) (subst (Legal (plan_of plan) told) is legal))
-
--- 2.
-
-same_test : (e : Entry) (t : ℕ) → is_finish_of t e ≡ ends_ticket e t
-same_test (Finish u drawn answer) t = refl
-same_test e t = refl
+-- No metatile is drawn twice at once.
 
 -- without its Finish a drawing is still under way
 still : (p : Plan) (told : Bool) (between : List Entry) (worker t v : ℕ) (k : Key) (before : List Entry) → Legal p told (between ++ Claim worker (Job t k v) ∷ before) → is_finished_in between t ≡ false →
     flight_in (flights (between ++ Claim worker (Job t k v) ∷ before)) t ≡ Some (flight_of t k before)
 still p told [] worker t v k before legal none = new_flies p told worker t v k before legal
+still p told (Finish u drawn answer ∷ between) worker t v k before legal none =
+    still_flies (Finish u drawn answer) (between ++ Claim worker (Job t k v) ∷ before) t (flight_of t k before) (grind arith) (still p told between worker t v k before legal.1 (grind arith))
 still p told (e ∷ between) worker t v k before legal none =
-    still_flies e (between ++ Claim worker (Job t k v) ∷ before) t (flight_of t k before) (grind (arith, same_test e t)) (still p told between worker t v k before legal.1 (grind arith))
+    still_flies e (between ++ Claim worker (Job t k v) ∷ before) t (flight_of t k before) refl (still p told between worker t v k before legal.1 none)
 
 apart_last : (fs : List Flight) (f x : Flight) (q : Flight → Bool) → AreApart flight_key (fs ++ x ∷ []) → find q fs ≡ Some f → same_key x.key f.key ≡ false
 apart_last [] f x q apart is = cc
@@ -166,15 +128,14 @@ apart_last (y ∷ fs) f x q apart is = go (q y) (apart_last fs f x q apart.1) is
     go true later is = let same : y ≡ f = cc in subst (λ (z : Flight). same_key x.key z.key ≡ false) same other
     go false later is = later is
 
-drawn_once : (p : Plan) (told : Bool) (h : List Entry) → Legal p told h → DrawnOnce h
+-- between two Claims of one metatile stands the Finish of the first
+pub drawn_once : (p : Plan) (told : Bool) (between before : List Entry) (worker other ticket next v w : ℕ) (k : Key) → Legal p told (Claim other (Job next k w) ∷ (between ++ Claim worker (Job ticket k v) ∷ before)) →
+    is_finished_in between ticket ≡ true
 unfolding flights
-drawn_once p told h legal later between before worker other ticket next v w k is = go (is_finished_in between ticket) refl
+drawn_once p told between before worker other ticket next v w k at = go (is_finished_in between ticket) refl
   where
     g : List Entry
     g = between ++ Claim worker (Job ticket k v) ∷ before
-
-    at : Legal p told (Claim other (Job next k w) ∷ g)
-    at = legal_before p told later (Claim other (Job next k w) ∷ g) (subst (Legal p told) is legal)
 
     apart : AreApart flight_key (flights g ++ flight_of next k g ∷ [])
     apart = here (λ past. AreApart flight_key (flights past)) (Claim other (Job next k w) ∷ g) (sound p told (Claim other (Job next k w) ∷ g) at).single
@@ -187,7 +148,7 @@ drawn_once p told h legal later between before worker other ticket next v w k is
         let own = same_key-self k in
         cc
 
--- 3.
+-- What is touched while it is being drawn is left dirty.
 
 -- where a drawing ends it was under way
 ended : (p : Plan) (g : List Entry) (o : Option Flight) (f : Flight) (drawn : Bool) (answer : Finished) → FlightFits p g o drawn answer → (o ≡ Some f) ⊎ (o ≡ None) → o ≡ Some f
@@ -195,14 +156,13 @@ ended p g o f drawn answer fits (inl is) = is
 ended p g None f drawn answer fits (inr none) = absurd fits
 ended p g (Some x) f drawn answer fits (inr none) = cc
 
-left_dirty : (plan : FarmPlan) (told : Bool) (h : List Entry) → Legal (plan_of plan) told h → LeftDirty plan h
+pub left_dirty : (p : Plan) (told : Bool) (h later between before : List Entry) (worker ticket v : ℕ) (k : Key) (drawn clean : Bool) → Legal p told h →
+    h ≡ later ++ Finish ticket drawn (Stored clean) ∷ (between ++ Claim worker (Job ticket k v) ∷ before) → is_touched_after p (between ++ Claim worker (Job ticket k v) ∷ before) (length before) k ≡ true →
+    StaysDirty p h (length (between ++ Claim worker (Job ticket k v) ∷ before)) k clean
 unfolding Fits
-left_dirty plan told h legal later between before worker ticket v k drawn clean is touched =
+left_dirty p told h later between before worker ticket v k drawn clean legal is touched =
     here (GapAt p) h (sound p told h legal).gap later ticket drawn clean g f is flies touched
   where
-    p : Plan
-    p = plan_of plan
-
     g : List Entry
     g = between ++ Claim worker (Job ticket k v) ∷ before
 
@@ -214,19 +174,3 @@ left_dirty plan told h legal later between before worker ticket v k drawn clean 
 
     flies : flight_in (flights g) ticket ≡ Some f
     flies = ended p g (flight_in (flights g) ticket) f drawn (Stored clean) at.0 (only p told between worker ticket v k before at.1).found
-
--- 4.
-
-names_stored : (plan : FarmPlan) (told : Bool) (h : List Entry) → Legal (plan_of plan) told h → NamesStored plan h
-names_stored plan told h legal = record {
-  at_once = λ later g conn command spot is. at_moment (DoneAt (plan_of plan)) later _ g (subst (EachMoment (DoneAt (plan_of plan))) is (sound (plan_of plan) told h legal).done);
-  by_reply = λ later g front r is done. subst (DoneReply g r) done (at_moment (DoneAt (plan_of plan)) later _ g (subst (EachMoment (DoneAt (plan_of plan))) is (sound (plan_of plan) told h legal).done));
-}
-
-pub headline : LawHeadline
-headline plan told h valid legal = record {
-  clean_tiles = clean_tiles plan told h valid legal;
-  drawn_once = drawn_once (plan_of plan) told h legal;
-  left_dirty = left_dirty plan told h legal;
-  done = names_stored plan told h legal;
-}

@@ -2,7 +2,7 @@
 //! over the history of what happened to it.
 //!
 //! Each function here has an empty body. Its contract is a law over the definitions alone, and the check
-//! proves it: what a call of a farm promises in these words holds with the laws. `specs/Headline.antt` says the four
+//! proves it: what a call of a farm promises in these words holds with the laws. `specs/Promise.antt` says the four
 //! sentences: in terms of a farm's own plan, of the plain drawing of its styles over its data, and of where entries
 //! stand in the history. Each legal history keeps them.
 #![tactic(auto)]
@@ -11,7 +11,7 @@ ghost use Rattle.std.specs.Prelude.{true, false, ◌≡◌};
 ghost use Rattle.farm_history.specs.Laws.{IsLocal, LawApart, LawNow, LawOneReply, LawSound, has_plain_update};
 ghost use Rattle.farm_history.specs.Replays.{LawResumed, IsSaved, replay};
 ghost use Rattle.farm_history.specs.Rules.{Legal};
-ghost use Rattle.farm_laws.specs.Headline.{LawHeadline};
+ghost use Rattle.farm_laws.specs.Promise.{LawPromise};
 ghost use Rattle.farm_laws.specs.Locality.{LawLocal, LawPassedOver, LawSentNow, LawUpdatesLocal};
 ghost use Rattle.farm_laws.specs.Examples.{changing, changed, saved_changes, resumed_changes, low_narrow, narrow, plain, renewed, restyled, updated, asked_twice, expired_while_drawn, updated_then_expired, expired_from_above, updated_while_drawn, queues_filled, asked_just_often, asked_too_often, put_failed, drawing_cut, left_alone, lifted_from_bulk, marked_dirty, restyled_while_drawn, renewed_one, renewed_both, has_each};
 ghost use Rattle.farm_laws.specs.Mistakes.{IsMistake, stored_clean_though_expired, clean_by_version, dirty_by_update, updated_past_the_table, update_fault_passed_over, queued_while_drawn, claimed_twice, replied_out_of_order, drawn_over_newest_data, expired_on_its_zoom_alone, expired_beside, joined_though_overtaken, dirty_before_low, dropped_though_room, deferred_past_the_limit, more_drawn_than_workers, claimed_after_stop, shown_after_failed_put, done_after_failed_put, stored_though_cut, ended_twice, replied_though_left, left_with_its_items, counted_before_collected, queued_a_second_time, joined_in_bulk, marked_and_clean, clean_in_the_old_style, drawn_in_the_old_style, restyled_past_the_table, clean_though_reached, renewed_out_of_reach, gone_though_told};
@@ -19,9 +19,10 @@ ghost use Rattle.farm_laws.specs.Mistakes.{IsMistake, stored_clean_though_expire
 /// In each legal history of a valid plan: every tile sent as clean is the plain drawing, byte for byte, of its
 /// map's style over the data of one version, which was taken after the last entry that touches it; between two
 /// Claims of one metatile stands the Finish of the first; what is touched while it is being drawn stays dirty until
-/// a later drawing of it is stored; and every Done names a metatile that was clean at the ask or stored after it.
-pub fn law_headline()
-    ensures { LawHeadline }
+/// a drawing of it that was claimed later is stored; and every Done names a metatile that was clean at the ask or
+/// stored after it. What is said of bytes, it says of histories that are legal over a store that tells.
+pub fn law_promise()
+    ensures { LawPromise }
 {}
 
 /// In each legal history: every tile sent as clean is of a drawing that was claimed and then stored, and nothing

@@ -23,12 +23,13 @@ use Rattle.turn_cell.specs.SeatStates.{Made, SeatState, SameSeat, Knows, worn_ou
 use Rattle.farm_shared.specs.declared.turned.LastingPart.{LastingPart}
 use Rattle.farm_shared.specs.declared.turned.Turned.{Turned}
 use Rattle.farm_shared.specs.Seats.{plain}
+use Rattle.farm_core.specs.Begins.{Tells}
 use Rattle.farm_shared.specs.Shared.{lasting_of, past, MayTell, Adds, IsClosed}
 use Rattle.render_workers.specs.declared.worker.WorkEnd.{WorkEnd}
 use Rattle.farm_laws.specs.Locality.{IsSentNow}
 use Rattle.farm_laws.proofs.Newest.{sent_now}
-use Rattle.farm_laws.specs.Headline.{Headline}
-use Rattle.farm_laws.proofs.Sentences.{headline}
+use Rattle.farm_laws.specs.Promise.{Promise}
+use Rattle.farm_laws.proofs.Promised.{keeps}
 use Rattle.farm_runs.specs.declared.each_front.EachFront.{EachFront}
 use Rattle.farm_runs.specs.declared.pool.Actor.{Actor}
 use Rattle.front_leaves.specs.Kinds.{Leaving, AreOfFront}
@@ -314,23 +315,29 @@ module _ {D : Type 0} (state : D → Outside StoreTold) (made : Made (Turned D))
     stops xs ys (suc (suc (suc zero))) is = inl refl
     stops xs ys (suc (suc (suc (suc w)))) is = absurd (never_stops (suc (suc (suc (suc w)))) h.seen xs ys is (worker_none w))
 
-    -- the headline
-    told_of : (l : LastingPart D) → lasting_of state farm ≡ l → (tells : Bool) → MayTell state l tells → Headline l.plan tells (past l h.seen)
-    told_of l is tells may = subst (λ m. MayTell state m tells → Headline m.plan tells (past m h.seen)) is (λ m. let s = c.closed.after.each tells m in headline farm.plan tells _ s.valid s.legal) may
+    -- the promise
+    abbrev Told : LastingPart D → Type 0
+    Told l = Tells (state l.first) l.plan l.saved
+
+    promised : Promise farm.plan (Told (lasting_of state farm)) (past (lasting_of state farm) h.seen)
+    promised = let s = c.closed.after.each false untold in keeps farm.plan (Told (lasting_of state farm)) false _ s.valid s.legal (λ tells. (c.closed.after.each true (λ is. tells)).legal)
+
+    promised_of : (l : LastingPart D) → lasting_of state farm ≡ l → Promise l.plan (Told l) (past l h.seen)
+    promised_of l is = subst (λ m. Promise m.plan (Told m) (past m h.seen)) is promised
 
     -- what is sent as clean, where every update was a renew
     abbrev SentNow : LastingPart D → Type 0
-    SentNow l = MayTell state l true → has_plain_update (past l h.seen) ≡ false → EachMoment (IsSentNow l.plan) (past l h.seen)
+    SentNow l = Told l → has_plain_update (past l h.seen) ≡ false → EachMoment (IsSentNow l.plan) (past l h.seen)
 
     ranged : AreRanged farm.plan
     ranged = subst AreRanged (sym (ap (λ (l : LastingPart D). l.plan) c.closed.kept)) c.ranged
 
     sent_of : (l : LastingPart D) → lasting_of state farm ≡ l → SentNow l
-    sent_of l is = subst SentNow is (λ may renewed. let s = c.closed.after.each true may in sent_now farm.plan _ s.valid ranged renewed s.legal)
+    sent_of l is = subst SentNow is (λ tells renewed. let s = c.closed.after.each true (λ always. tells) in sent_now farm.plan _ s.valid ranged renewed s.legal)
 
     pub runs_well : RunsWell state made.about.first.value.farm farm h.seen leaves leaves' leaves'' told told' done ends_are
     runs_well = record {
-      headline = told_of (lasting_of state made.about.first.value.farm) c.closed.kept;
+      headline = promised_of (lasting_of state made.about.first.value.farm) c.closed.kept;
       sent_now = sent_of (lasting_of state made.about.first.value.farm) c.closed.kept;
       after = c.closed.after;
       kept = c.closed.kept;

@@ -9,15 +9,16 @@ use Rattle.farm_history.specs.Entries.{Entry, EachMoment, Stop, Tally}
 use Rattle.farm_history.specs.Laws.{has_plain_update}
 use Rattle.farm_history.specs.Past.{flights}
 use Rattle.farm_refinement.specs.Seen.{FarmSeen}
+use Rattle.farm_core.specs.Begins.{Tells}
 use Rattle.port_events.specs.declared.ends.FrontDone.{FrontDone}
 use Rattle.port_events.specs.declared.ends.FrontEnd.{FrontEnd}
 use Rattle.port_events.specs.Told.{PortsTold}
 use Rattle.turn_cell.specs.Turns.{by, NoneAbove}
 use Rattle.farm_shared.specs.Seats.{plain}
-use Rattle.farm_shared.specs.Shared.{lasting_of, past, MayTell, IsAfter}
+use Rattle.farm_shared.specs.Shared.{lasting_of, past, IsAfter}
 use Rattle.render_workers.specs.declared.worker.WorkEnd.{WorkEnd}
 use Rattle.farm_laws.specs.Locality.{IsSentNow}
-use Rattle.farm_laws.specs.Headline.{Headline}
+use Rattle.farm_laws.specs.Promise.{Promise}
 use Rattle.farm_runs.specs.declared.each_front.EachFront.{EachFront}
 use Rattle.front_leaves.specs.Kinds.{Leaving}
 use Rattle.farm_runs.specs.Actors.{WorkBy}
@@ -79,10 +80,10 @@ IsStop done n after =
 
 -- The whole promise. `first` is the farm that the run began with, `farm` the one that is left, and H what happened between them
 pub record RunsWell {D : Type 0} (state : D → Outside StoreTold) (first farm : FarmSeen D) (H : List (ℕ × Entry)) (leaves leaves' leaves'' : Leaving) (told told' : EachFront (Outside PortsTold)) (done : EachFront FrontDone) (ends : Ends) : Type 0 where
-  -- the headline holds of all that happened, after what the farm began with
-  pub headline : (tells : Bool) → MayTell state (lasting_of state first) tells → Headline first.plan tells (past (lasting_of state first) H)
+  -- the promise holds of all that happened, after what the farm began with
+  pub headline : Promise first.plan (Tells (state first.first) first.plan first.saved) (past (lasting_of state first) H)
   -- and where every update that succeeded was made as a renew, over a store that tells what it holds, each tile sent as clean is the plain drawing over the data of that very moment
-  pub sent_now : MayTell state (lasting_of state first) true → has_plain_update (past (lasting_of state first) H) ≡ false → EachMoment (IsSentNow first.plan) (past (lasting_of state first) H)
+  pub sent_now : Tells (state first.first) first.plan first.saved → has_plain_update (past (lasting_of state first) H) ≡ false → EachMoment (IsSentNow first.plan) (past (lasting_of state first) H)
   -- the farm that is left stands for it, and kept what no event changes
   pub after : IsAfter state farm H
   pub kept : lasting_of state farm ≡ lasting_of state first

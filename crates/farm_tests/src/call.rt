@@ -9,7 +9,6 @@ use std::alloc::Global;
 use std::process::Abort;
 use std::rt::Clock;
 use std::sync::Wait;
-use std::test::Fail;
 use std::thread::Threads;
 use tile_store::MemStore;
 
@@ -27,14 +26,14 @@ pub struct Ended {
 impl Ended {
     /// The call ended with this status and this line on err, and put nothing on out.
     pub(crate) fn says(&self, rt: &impl Abort, status: u8, line: &str) {
-        assert_eq!(rt; self.status, status, "for {line}");
+        assert!(rt; self.status == status, "for {line}");
         assert!(rt; self.err.bytes() == line.as_bytes(), "for {line}");
         assert!(rt; self.out.bytes().is_empty(), "for {line}");
     }
 
     /// The call ended with 0, put exactly this on out, and nothing on err.
     pub(crate) fn put(&self, rt: &impl Abort, text: &[u8]) {
-        assert_eq!(rt; self.status, 0);
+        assert!(rt; self.status == 0);
         assert!(rt; self.out.bytes() == text);
         assert!(rt; self.err.bytes().is_empty());
     }
@@ -67,42 +66,62 @@ pub(crate) fn files_of(
     MemFiles::new(alloc, files, Vec::from_slice(alloc, reads)?)
 }
 
+fn words_of(alloc: Global, words: &[&str]) -> Result<Vec<String>, NoMemory> {
+    let mut all = Vec::new(alloc);
+    for word in words {
+        all.push(String::from_str(alloc, *word)?)?;
+    }
+    Ok(all)
+}
+
+fn sink(alloc: Global, fails: &[u64]) -> Result<MemSink, NoMemory> {
+    MemSink::new(alloc, 1000, Vec::from_slice(alloc, fails)?)
+}
+
 /// Calls with these words over these files. Nobody listens at the ports, which `sockets` would give.
-pub(crate) fn call<R: Threads + Wait + Clock + Sync>(
+pub(crate) fn call<R: Threads + Wait + Clock + Sync + Abort>(
     rt: &R,
     sockets: HostRuntime,
     alloc: Global,
     words: &[&str],
     held: &[(&str, &[u8])],
     faults: Faults,
-) -> Result<Ended, Fail> {
-    let mut ports = SocketPorts::three(alloc, sockets)?;
-    let ended = call_over(rt, alloc, words, held, faults, &mut ports);
-    drop(ports);
-    Ok(ended?)
+) -> Ended {
+    let Ok(mut ports) = SocketPorts::three(alloc, sockets) else {
+        panic!(rt; "no ports")
+    };
+    call_over(rt, alloc, words, held, faults, &mut ports)
 }
 
 /// Calls with these words over these files and ports.
-pub(crate) fn call_over<R: Threads + Wait + Clock + Sync, P: Ports + Send, B: Bell + Send + Sync>(
+pub(crate) fn call_over<
+    R: Threads + Wait + Clock + Sync + Abort,
+    P: Ports + Send,
+    B: Bell + Send + Sync,
+>(
     rt: &R,
     alloc: Global,
     words: &[&str],
     held: &[(&str, &[u8])],
     faults: Faults,
     ports: &mut ThreePorts<P, B>,
-) -> Result<Ended, NoMemory> {
-    let mut all = Vec::new(alloc);
-    for word in words {
-        all.push(String::from_str(alloc, *word)?)?;
-    }
-    let mut files = files_of(alloc, held, faults.reads)?;
-    let mut out = MemSink::new(alloc, 1000, Vec::from_slice(alloc, faults.out)?)?;
-    let mut err = MemSink::new(alloc, 1000, Vec::from_slice(alloc, faults.err)?)?;
-    let store = MemStore::new(alloc, Vec::new(alloc), Vec::new(alloc), Vec::new(alloc))?;
+) -> Ended {
+    let Ok(words) = words_of(alloc, words) else {
+        panic!(rt; "no memory")
+    };
+    let Ok(mut files) = files_of(alloc, held, faults.reads) else {
+        panic!(rt; "no memory")
+    };
+    let (Ok(mut out), Ok(mut err)) = (sink(alloc, faults.out), sink(alloc, faults.err)) else {
+        panic!(rt; "no memory")
+    };
+    let Ok(store) = MemStore::new(alloc, Vec::new(alloc), Vec::new(alloc), Vec::new(alloc)) else {
+        panic!(rt; "no memory")
+    };
     let end = farm_main(
         rt,
         alloc,
-        all.as_slice(),
+        words.as_slice(),
         &mut files,
         &mut out,
         &mut err,
@@ -111,5 +130,5 @@ pub(crate) fn call_over<R: Threads + Wait + Clock + Sync, P: Ports + Send, B: Be
         &SlowGate { rt },
     );
     let status = end.into_status();
-    Ok(Ended { status, out, err })
+    Ended { status, out, err }
 }

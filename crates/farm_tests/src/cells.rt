@@ -24,5 +24,5 @@ fn threads_count_every_turn_once(rt: HostRuntime) {
     let Some(closed) = count_both(&rt, rt.alloc(), 1000) else {
         panic!(rt; "no memory, or the cell wore out")
     };
-    assert_eq!(rt; closed.into_value().count, 2000);
+    assert!(rt; closed.into_value().count == 2000);
 }

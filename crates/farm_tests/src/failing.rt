@@ -2,9 +2,9 @@
 //! and what it refuses, is shown by the program `command_cases`.
 use crate::call::{Ended, Faults, NONE, USAGE, call};
 use std::alloc::Global;
+use std::process::Abort;
 use std::rt::Clock;
 use std::sync::Wait;
-use std::test::Fail;
 use std::thread::Threads;
 
 // Two rasters.
@@ -19,12 +19,12 @@ const RASTER: &[u8] = b"P6 1 1 255\n\xff\x00\x00";
 const NUMBERS: &[u8] = b"META\x40\0\0\0\0\0\0\0\0\0\0\0\0\0\0\0\x14\x02\0\0\x01\0\0\0";
 
 // `render` of a white tile over a style with two rasters.
-fn render<R: Threads + Wait + Clock + Sync>(
+fn render<R: Threads + Wait + Clock + Sync + Abort>(
     rt: &R,
     sockets: HostRuntime,
     alloc: Global,
     faults: Faults,
-) -> Result<Ended, Fail> {
+) -> Ended {
     let words = ["render", "S", "D", "16", "0", "0", "0"];
     let files = [("S", STYLE), ("R", RASTER), ("Q", RASTER), ("D", DATA)];
     call(
@@ -37,91 +37,78 @@ fn render<R: Threads + Wait + Clock + Sync>(
     )
 }
 
-// The status, and whether a proper front of this was put on out, and nothing on err.
-fn put_front(ended: &Ended, whole: &[u8]) -> (u8, bool) {
-    let was_put = ended.out.bytes();
-    let is_front = was_put.len() < whole.len() && whole.starts_with(was_put);
-    (ended.status, is_front && ended.err.bytes().is_empty())
+// Whether it ended so, put a proper front of this on out, and nothing on err.
+fn is_front(ended: &Ended, status: u8, whole: &[u8]) -> bool {
+    let put = ended.out.bytes();
+    ended.status == status
+        && put.len() < whole.len()
+        && whole.starts_with(put)
+        && ended.err.bytes().is_empty()
 }
 
-// What is put on out where nothing fails.
-fn tile<R: Threads + Wait + Clock + Sync>(
-    rt: &R,
-    sockets: HostRuntime,
-    alloc: Global,
-) -> Result<Vec<u8>, Fail> {
-    let ended = render(rt, sockets, alloc, NONE)?;
-    let bytes = Vec::from_slice(alloc, ended.out.bytes());
-    drop(ended);
-    Ok(bytes?)
-}
-
-// The status, and whether so many bytes were put on out, and none on err.
-fn put_all(ended: &Ended, count: usize) -> (u8, bool) {
-    let is_all = ended.out.bytes().len() == count;
-    (ended.status, is_all && ended.err.bytes().is_empty())
+// Whether it ended with 0, put so many bytes on out, and none on err.
+fn is_all(ended: &Ended, count: usize) -> bool {
+    ended.status == 0 && ended.out.bytes().len() == count && ended.err.bytes().is_empty()
 }
 
 // A put on err that is to fail asks nothing of a success.
 #[test]
-fn a_success_puts_nothing_on_err(rt: HostRuntime) -> Result<(), Fail> {
-    let ended = render(&rt, rt, rt.alloc(), Faults { err: &[0], ..NONE })?;
-    assert_eq!(rt; put_all(&ended, 781), (0, true));
-    Ok(())
+fn a_success_puts_nothing_on_err(rt: HostRuntime) {
+    let ended = render(&rt, rt, rt.alloc(), Faults { err: &[0], ..NONE });
+    assert!(rt; is_all(&ended, 781));
 }
 
 // A put on out that fails leaves a front of the tile, and err stays empty.
 #[test]
-fn a_tile_whose_put_fails(rt: HostRuntime) -> Result<(), Fail> {
-    let whole = tile(&rt, rt, rt.alloc())?;
-    let ended = render(&rt, rt, rt.alloc(), Faults { out: &[0], ..NONE })?;
-    assert_eq!(rt; put_front(&ended, whole.as_slice()), (4, true));
-    Ok(())
+fn a_tile_whose_put_fails(rt: HostRuntime) {
+    let whole = render(&rt, rt, rt.alloc(), NONE);
+    let ended = render(&rt, rt, rt.alloc(), Faults { out: &[0], ..NONE });
+    assert!(rt; is_front(&ended, 4, whole.out.bytes()));
 }
 
 // A put on err that fails turns a refusal into 4, with a front of its line.
 #[test]
-fn a_refusal_whose_put_fails(rt: HostRuntime) -> Result<(), Fail> {
-    let ended = call(&rt, rt, rt.alloc(), &[], &[], Faults { err: &[0], ..NONE })?;
-    let is_front = USAGE.as_bytes().starts_with(ended.err.bytes());
-    let is_told = is_front && ended.out.bytes().is_empty();
-    assert_eq!(rt; (ended.status, is_told), (4, true));
-    Ok(())
+fn a_refusal_whose_put_fails(rt: HostRuntime) {
+    let ended = call(&rt, rt, rt.alloc(), &[], &[], Faults { err: &[0], ..NONE });
+    let is_told = USAGE.as_bytes().starts_with(ended.err.bytes());
+    assert!(rt; ended.status == 4 && is_told && ended.out.bytes().is_empty());
 }
 
 // `meta` of a container of one tile of one byte.
-fn meta<R: Threads + Wait + Clock + Sync>(
+fn meta<R: Threads + Wait + Clock + Sync + Abort>(
     rt: &R,
     sockets: HostRuntime,
     alloc: Global,
     faults: Faults,
-) -> Result<Ended, Fail> {
-    let mut bytes = Vec::from_slice(alloc, NUMBERS)?;
+) -> Ended {
+    let Ok(mut bytes) = Vec::from_slice(alloc, NUMBERS) else {
+        panic!(rt; "no memory")
+    };
     for _ in 0..505 {
-        bytes.push(0)?;
+        let Ok(()) = bytes.push(0) else {
+            panic!(rt; "no memory")
+        };
     }
     let files = [("M", bytes.as_slice())];
     call(rt, sockets, alloc, &["meta", "M"], files.as_slice(), faults)
 }
 
 #[test]
-fn a_container_whose_read_fails(rt: HostRuntime) -> Result<(), Fail> {
+fn a_container_whose_read_fails(rt: HostRuntime) {
     let alloc = rt.alloc();
-    meta(&rt, rt, alloc, NONE)?.put(&rt, b"0 0 0\n0 532 1\n");
+    meta(&rt, rt, alloc, NONE).put(&rt, b"0 0 0\n0 532 1\n");
     let unread = Faults {
         reads: &[0],
         ..NONE
     };
-    meta(&rt, rt, alloc, unread)?.says(&rt, 3, "tilefarm: M: cannot be read\n");
-    Ok(())
+    meta(&rt, rt, alloc, unread).says(&rt, 3, "tilefarm: M: cannot be read\n");
 }
 
 #[test]
-fn a_container_whose_put_fails(rt: HostRuntime) -> Result<(), Fail> {
-    let ended = meta(&rt, rt, rt.alloc(), Faults { out: &[0], ..NONE })?;
+fn a_container_whose_put_fails(rt: HostRuntime) {
+    let ended = meta(&rt, rt, rt.alloc(), Faults { out: &[0], ..NONE });
     let is_half = ended.out.bytes() == b"0 0 0\n0".as_slice() && ended.err.bytes().is_empty();
-    assert_eq!(rt; (ended.status, is_half), (4, true));
-    Ok(())
+    assert!(rt; ended.status == 4 && is_half);
 }
 
 // A farm of one map over a square, and its files by the names that stand in them. The script draws the world, draws it
@@ -152,33 +139,31 @@ const ANSWERS: &[u8] =
 const PUTS: u64 = 16;
 
 // `script` over these files.
-fn script<R: Threads + Wait + Clock + Sync>(
+fn script<R: Threads + Wait + Clock + Sync + Abort>(
     rt: &R,
     sockets: HostRuntime,
     alloc: Global,
     faults: Faults,
-) -> Result<Ended, Fail> {
+) -> Ended {
     call(rt, sockets, alloc, &["script", "C", "L"], &SQUARE, faults)
 }
 
-// The status where that put on out fails, and whether a front of all that is put else was put, and nothing on err.
-fn unput<R: Threads + Wait + Clock + Sync>(
+// The script where that put on out fails.
+fn unput<R: Threads + Wait + Clock + Sync + Abort>(
     rt: &R,
     sockets: HostRuntime,
     alloc: Global,
     put: u64,
-    whole: &[u8],
-) -> Result<(u8, bool), Fail> {
+) -> Ended {
     let faults = Faults {
         out: &[put],
         ..NONE
     };
-    let ended = script(rt, sockets, alloc, faults)?;
-    Ok(put_front(&ended, whole))
+    script(rt, sockets, alloc, faults)
 }
 
 #[test]
-fn a_script_whose_reads_fail(rt: HostRuntime) -> Result<(), Fail> {
+fn a_script_whose_reads_fail(rt: HostRuntime) {
     let alloc = rt.alloc();
     for (read, line) in [
         (0, "tilefarm: C: cannot be read\n"),
@@ -190,35 +175,21 @@ fn a_script_whose_reads_fail(rt: HostRuntime) -> Result<(), Fail> {
             reads: &[read],
             ..NONE
         };
-        script(&rt, rt, alloc, faults)?.says(&rt, 3, line);
+        script(&rt, rt, alloc, faults).says(&rt, 3, line);
     }
-    Ok(())
-}
-
-// Whether the script ends as it is to, and all that it puts.
-fn whole_script<R: Threads + Wait + Clock + Sync>(
-    rt: &R,
-    sockets: HostRuntime,
-    alloc: Global,
-) -> Result<(bool, Vec<u8>), Fail> {
-    let ended = script(rt, sockets, alloc, NONE)?;
-    let bytes = Vec::from_slice(alloc, ended.out.bytes());
-    let is_told = ended.out.bytes().starts_with(ANSWERS);
-    let is_whole = put_all(&ended, ANSWERS.len() + 769) == (0, true);
-    drop(ended);
-    Ok((is_told && is_whole, bytes?))
 }
 
 #[test]
-fn a_script_whose_puts_fail(rt: HostRuntime) -> Result<(), Fail> {
+fn a_script_whose_puts_fail(rt: HostRuntime) {
     let alloc = rt.alloc();
-    let (is_whole, whole) = whole_script(&rt, rt, alloc)?;
-    assert!(rt; is_whole, "the script where nothing fails");
+    let whole = script(&rt, rt, alloc, NONE);
+    let is_told = whole.out.bytes().starts_with(ANSWERS);
+    assert!(rt; is_told && is_all(&whole, ANSWERS.len() + 769));
     for put in 0..PUTS {
-        let seen = unput(&rt, rt, alloc, put, whole.as_slice())?;
-        assert_eq!(rt; seen, (4, true), "at put {put}");
+        let cut = unput(&rt, rt, alloc, put);
+        assert!(rt; is_front(&cut, 4, whole.out.bytes()), "at put {put}");
     }
     // There is no further put that could fail.
-    assert_eq!(rt; unput(&rt, rt, alloc, PUTS, whole.as_slice())?, (0, false));
-    Ok(())
+    let last = unput(&rt, rt, alloc, PUTS);
+    assert!(rt; is_all(&last, ANSWERS.len() + 769));
 }

@@ -5,10 +5,9 @@ ghost use Rattle.std.specs.Prelude.{IfSome};
 ghost use Rattle.plain_world.specs.World.{IsMeta};
 
 use expiry_lists::{Key, Marks};
-use farm_base::NoMemory;
 use merc_fixed::{meta_of, tile};
 use std::alloc::Global;
-use std::test::Fail;
+use std::process::Abort;
 
 // The metatile of the tile, on that map.
 fn key(map: u32, z: u32, x: u32, y: u32) -> Option<Key>
@@ -19,24 +18,23 @@ fn key(map: u32, z: u32, x: u32, y: u32) -> Option<Key>
 }
 
 // Shows it, clean.
-fn show(marks: &mut Marks, key: Option<Key>) -> Result<(), NoMemory>
+fn show(rt: &impl Abort, marks: &mut Marks, key: Option<Key>)
     requires { IfSome key (λ k. IsMeta k.meta) }
 {
     if let Some(key) = key {
-        marks.reserve_one()?;
+        assert!(rt; marks.reserve_one().is_ok(), "no memory");
         marks.show(key, 0, true);
     }
-    Ok(())
 }
 
 // The metatile, its neighbour to the east, the same on another map, and one of the next zoom within it.
-fn shown(alloc: Global) -> Result<Marks, NoMemory> {
+fn shown(rt: &impl Abort, alloc: Global) -> Marks {
     let mut marks = Marks::new(alloc);
-    show(&mut marks, key(0, 10, 528, 336))?;
-    show(&mut marks, key(0, 10, 536, 336))?;
-    show(&mut marks, key(1, 10, 528, 336))?;
-    show(&mut marks, key(0, 11, 1056, 672))?;
-    Ok(marks)
+    show(rt, &mut marks, key(0, 10, 528, 336));
+    show(rt, &mut marks, key(0, 10, 536, 336));
+    show(rt, &mut marks, key(1, 10, 528, 336));
+    show(rt, &mut marks, key(0, 11, 1056, 672));
+    marks
 }
 
 fn is_clean(marks: &Marks, key: Option<Key>) -> Option<bool> {
@@ -54,40 +52,21 @@ fn cleans(marks: &Marks) -> [Option<bool>; 4] {
 }
 
 #[test]
-fn a_rectangle_on_one_map_at_one_zoom(rt: HostRuntime) -> Result<(), Fail> {
-    let mut marks = shown(rt.alloc())?;
+fn a_rectangle_on_one_map_at_one_zoom(rt: HostRuntime) {
+    let mut marks = shown(&rt, rt.alloc());
     // The row above the square.
-    assert_eq!(rt;
-        marks.expire_box(0, 10, 553648128, 352321535, 562036735, 352321535),
-        0
-    );
+    let above = marks.expire_box(0, 10, 553648128, 352321535, 562036735, 352321535);
     // The last point of its first row, twice.
-    assert_eq!(rt;
-        marks.expire_box(0, 10, 562036735, 352321536, 562036735, 352321536),
-        1
-    );
-    assert_eq!(rt;
-        marks.expire_box(0, 10, 562036735, 352321536, 562036735, 352321536),
-        0
-    );
-    assert_eq!(rt;
-        cleans(&marks),
-        [Some(false), Some(true), Some(true), Some(true)]
-    );
+    let first = marks.expire_box(0, 10, 562036735, 352321536, 562036735, 352321536);
+    let second = marks.expire_box(0, 10, 562036735, 352321536, 562036735, 352321536);
+    assert!(rt; above == 0 && first == 1 && second == 0);
+    assert!(rt; cleans(&marks) == [Some(false), Some(true), Some(true), Some(true)]);
     // The first column of the square to the east.
-    assert_eq!(rt;
-        marks.expire_box(0, 10, 562036736, 352321536, 562036736, 360710143),
-        1
-    );
-    assert_eq!(rt;
-        cleans(&marks),
-        [Some(false), Some(false), Some(true), Some(true)]
-    );
+    let east = marks.expire_box(0, 10, 562036736, 352321536, 562036736, 360710143);
+    assert!(rt; east == 1);
+    assert!(rt; cleans(&marks) == [Some(false), Some(false), Some(true), Some(true)]);
     // The world at the next zoom.
-    assert_eq!(rt; marks.expire_box(0, 11, 0, 0, 1073741823, 1073741823), 1);
-    assert_eq!(rt;
-        cleans(&marks),
-        [Some(false), Some(false), Some(true), Some(false)]
-    );
-    Ok(())
+    let next = marks.expire_box(0, 11, 0, 0, 1073741823, 1073741823);
+    assert!(rt; next == 1);
+    assert!(rt; cleans(&marks) == [Some(false), Some(false), Some(true), Some(false)]);
 }

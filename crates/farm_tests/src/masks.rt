@@ -9,7 +9,6 @@ use plain_shapes::{Colour, Path};
 use plain_world::{Point, Window};
 use raster_core::fill_mask;
 use std::alloc::Global;
-use std::test::Fail;
 use tiled_image::TiledImage;
 
 const WHITE: Colour = Colour {
@@ -36,7 +35,7 @@ fn square(alloc: Global) -> Result<Vec<Path>, NoMemory>
 // The pixels are 4 units wide and high, so their centres lie at 2, 6, 10 and 14: the square's west and north edges
 // pass through the first ones, which it has, and its east and south edges through the third ones, which it has not.
 #[test]
-fn a_square_with_centres_on_its_edges(rt: HostRuntime) -> Result<(), Fail> {
+fn a_square_with_centres_on_its_edges(rt: HostRuntime) {
     let alloc = rt.alloc();
     let window = Window {
         west: 0,
@@ -45,17 +44,20 @@ fn a_square_with_centres_on_its_edges(rt: HostRuntime) -> Result<(), Fail> {
         cols: 4,
         rows: 3,
     };
-    let mut mask = Mask::new(alloc, 4, 3)?;
-    fill_mask(alloc, square(alloc)?.as_slice(), window, &mut mask)?;
+    let (Ok(square), Ok(mut mask)) = (square(alloc), Mask::new(alloc, 4, 3)) else {
+        panic!(rt; "no memory")
+    };
+    let filled = fill_mask(alloc, square.as_slice(), window, &mut mask);
     let wanted = [
         true, true, false, false, true, true, false, false, false, false, false, false,
     ];
-    assert!(rt; mask.bits() == wanted.as_slice());
+    assert!(rt; filled.is_ok() && mask.bits() == wanted.as_slice());
 
-    let mut image = Image::new(alloc, 4, 3, WHITE)?;
+    let Ok(mut image) = Image::new(alloc, 4, 3, WHITE) else {
+        panic!(rt; "no memory")
+    };
     image.paint(&mask, RED, 1000);
     assert!(rt; image.pixel(1, 1) == RED && image.pixel(2, 1) == WHITE);
-    Ok(())
 }
 
 // The four parts of an image of 32 by 32 pixels, by columns.
@@ -71,26 +73,28 @@ fn put_parts(image: &TiledImage, out: &mut Vec<u8>) -> Result<(), NoMemory>
 
 // The run lies in two tiles: the columns 14 and 15 of the western one, and 0 to 3 of the eastern one.
 #[test]
-fn an_image_of_four_tiles(rt: HostRuntime) -> Result<(), Fail> {
+fn an_image_of_four_tiles(rt: HostRuntime) {
     let alloc = rt.alloc();
-    let mut image = TiledImage::over(alloc, 4, 16, 2, WHITE)?;
+    let Ok(mut image) = TiledImage::over(alloc, 4, 16, 2, WHITE) else {
+        panic!(rt; "no memory")
+    };
     image.blend_run(3, 14, 20, RED, 1000);
     let mut part = Vec::new(alloc);
-    image.put_part(16, 0, 16, 16, &mut part)?;
+    let put = image.put_part(16, 0, 16, 16, &mut part);
+    assert!(rt; put.is_ok());
     assert!(rt; is_boxed(part.as_slice(), b"P6\n16 16\n255\n", 16, [0, 3, 4, 4]));
 
     let mut wanted = Vec::new(alloc);
-    wanted.extend_from_slice(b"head")?;
-    put_parts(&image, &mut wanted)?;
+    assert!(rt; wanted.extend_from_slice(b"head").is_ok());
+    assert!(rt; put_parts(&image, &mut wanted).is_ok());
     let Err(image) = image.into_texts(b"", 16, 2) else {
-        return Err(Fail::new("no bytes stood before the texts"));
+        panic!(rt; "no bytes stood before the texts")
     };
     let Err(image) = image.into_texts(b"head", 32, 1) else {
-        return Err(Fail::new("the image was one tile"));
+        panic!(rt; "the image was one tile")
     };
     let Ok(texts) = image.into_texts(b"head", 16, 2) else {
-        return Err(Fail::new("the tiles were others"));
+        panic!(rt; "the tiles were others")
     };
     assert!(rt; texts == wanted);
-    Ok(())
 }

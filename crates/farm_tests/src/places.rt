@@ -31,8 +31,8 @@ fn the_path_and_the_place_of_a_tile(rt: HostRuntime) -> Result<(), Fail> {
         x: 528,
         y: 336,
     };
-    assert_eq!(rt; metatile(), Some(m));
-    assert_eq!(rt; place(), Some(60));
+    assert!(rt; metatile() == Some(m));
+    assert!(rt; place() == Some(60));
     assert!(rt; is_path("default", "default/10/0/0/33/21/0.meta"));
     Ok(())
 }
@@ -82,8 +82,8 @@ fn an_entry_from_the_head(rt: HostRuntime) -> Result<(), Fail> {
         offset: 532,
         size: 781,
     };
-    assert_eq!(rt; bytes.len(), HEAD_BYTES);
-    assert_eq!(rt; entry_of_the_world(bytes.as_slice()), Some(entry));
+    assert!(rt; bytes.len() == HEAD_BYTES);
+    assert!(rt; entry_of_the_world(bytes.as_slice()) == Some(entry));
     let _last = bytes.pop();
     let fault = fault_of_the_world(bytes.as_slice());
     assert!(rt; matches!(fault, Some(MetaFault::Short(531))));

@@ -11,7 +11,6 @@ use std::net::{Net, TcpListener, TcpStream};
 use std::process::Abort;
 use std::rt::Clock;
 use std::sync::Wait;
-use std::test::Fail;
 use std::thread::{Threads, join, sleep};
 use std::time::Duration;
 
@@ -142,9 +141,9 @@ fn visit<R: Net<Stream = TcpStream> + Clock + Abort>(rt: &R, alloc: Global, plac
     let alone = is_alone(rt, alloc, renderd).unwrap_or(false);
     assert!(rt; alone, "another address is listened at");
     let tile = length_and_sum(rt, alloc, tiles, DRAWN).unwrap_or((0, 0));
-    assert_eq!(rt; tile, (908, 80424079));
+    assert!(rt; tile == (908, 80424079));
     let tile = length_and_sum(rt, alloc, tiles, FRESH).unwrap_or((0, 0));
-    assert_eq!(rt; tile, (908, 86299279));
+    assert!(rt; tile == (908, 86299279));
     let stopping = is_answered(rt, alloc, control, b"stop\n", b"stopping\n").unwrap_or(false);
     assert!(rt; stopping, "not told that it stops");
 }
@@ -161,38 +160,39 @@ fn config(alloc: Global, places: Places) -> Result<String, NoMemory> {
     )?)
 }
 
-/// Serves until the farm is stopped: the status, and whether it put the tally on out and nothing on err.
-fn serve<R: Threads + Wait + Clock + Sync, P: Ports + Send, B: Bell + Send + Sync>(
+/// Serves until the farm is stopped: whether it ended with 0, put the tally on out and nothing on err.
+fn serve<R: Threads + Wait + Clock + Sync + Abort, P: Ports + Send, B: Bell + Send + Sync>(
     rt: &R,
     alloc: Global,
     places: Places,
     ports: &mut ThreePorts<P, B>,
-) -> Result<(u8, bool), NoMemory> {
-    let config = config(alloc, places)?;
+) -> bool {
+    let Ok(config) = config(alloc, places) else {
+        panic!(rt; "no memory")
+    };
     let held = [
         ("farm.config", config.as_bytes()),
         ("red.style", STYLE),
         ("square.data", DATA),
     ];
     let words = ["serve", "farm.config"];
-    let ended = call_over(rt, alloc, words.as_slice(), held.as_slice(), NONE, ports)?;
-    let is_told = ended.out.bytes() == TALLY && ended.err.bytes().is_empty();
-    let told = (ended.status, is_told);
-    drop(ended);
-    Ok(told)
+    let ended = call_over(rt, alloc, words.as_slice(), held.as_slice(), NONE, ports);
+    ended.status == 0 && ended.out.bytes() == TALLY && ended.err.bytes().is_empty()
 }
 
 #[test]
-fn a_client_over_loopback(rt: HostRuntime) -> Result<(), Fail> {
+fn a_client_over_loopback(rt: HostRuntime) {
     let alloc = rt.alloc();
-    let places = free_places(&rt)?;
-    let mut ports = SocketPorts::three(alloc, rt)?;
+    let Ok(places) = free_places(&rt) else {
+        panic!(rt; "no free port")
+    };
+    let Ok(mut ports) = SocketPorts::three(alloc, rt) else {
+        panic!(rt; "no ports")
+    };
     let (_, served) = join(
         &rt,
         || visit(&rt, alloc, places),
         || serve(&rt, alloc, places, &mut ports),
     );
-    drop(ports);
-    assert_eq!(rt; served?, (0, true));
-    Ok(())
+    assert!(rt; served);
 }

@@ -2,28 +2,38 @@
 use std::alloc::Global;
 use std::fs::{self, File};
 use std::io;
+use std::os::unix::fs::symlink;
 use std::process::Abort;
 use std::rt::Files;
-use std::test::Fail;
 use tile_store::{
     FileStaging, FileStore, Folder, MOST_PART_BYTES, MemStore, Stage, Staged, StoreFault,
     TileStore, stage_bytes,
 };
 
-/// What a get gave, as a slice.
-fn slice(found: &Result<Option<Vec<u8>>, StoreFault>) -> Result<Option<&[u8]>, StoreFault> {
-    match found {
-        Ok(Some(bytes)) => Ok(Some(bytes.as_slice())),
-        Ok(None) => Ok(None),
-        Err(fault) => Err(*fault),
-    }
+/// The path whose parts are read, and the file of it.
+const PATH: &str = "map/0/0/0/0/0/0.meta";
+
+const PARTED: &str = "tiles/map/0/0/0/0/0/0.meta";
+
+/// Whether a get gave these bytes.
+fn is_got(found: &Result<Option<Vec<u8>>, StoreFault>, wanted: &[u8]) -> bool {
+    matches!(found, Ok(Some(bytes)) if bytes.as_slice() == wanted)
 }
 
 fn gets<S: TileStore>(rt: &impl Abort, store: &mut S, alloc: Global, path: &str, wanted: &[u8]) {
-    assert!(rt;
-        slice(&store.get(alloc, path)) == Ok(Some(wanted)),
-        "get of {path}"
-    );
+    let found = store.get(alloc, path);
+    assert!(rt; is_got(&found, wanted), "get of {path}");
+}
+
+fn puts<S: TileStore>(rt: &impl Abort, store: &mut S, alloc: Global, path: &str, bytes: &[u8]) {
+    let put = store.put(alloc, path, bytes);
+    assert!(rt; put.is_ok(), "put of {path}");
+}
+
+/// Nothing is at the path.
+fn misses<S: TileStore>(rt: &impl Abort, store: &mut S, alloc: Global, path: &str) {
+    let found = store.get(alloc, path);
+    assert!(rt; matches!(found, Ok(None)), "get of {path}");
 }
 
 fn gets_part<S: TileStore>(
@@ -34,18 +44,18 @@ fn gets_part<S: TileStore>(
     len: u32,
     wanted: &[u8],
 ) {
-    let found = store.get_part(alloc, "map/0/0/0/0/0/0.meta", offset, len);
-    assert!(rt; slice(&found) == Ok(Some(wanted)), "{len} from {offset}");
+    let found = store.get_part(alloc, PATH, offset, len);
+    assert!(rt; is_got(&found, wanted), "{len} from {offset}");
 }
 
 /// What every store does with paths, whole contents and parts.
 fn holds<S: TileStore>(rt: &impl Abort, store: &mut S, alloc: Global) {
-    let path = "map/0/0/0/0/0/0.meta";
-    assert!(rt; slice(&store.get(alloc, path)) == Ok(None));
-    assert!(rt; slice(&store.get_part(alloc, path, 0, 9)) == Ok(None));
-    assert_eq!(rt; store.put(alloc, path, b"abcdef"), Ok(()));
-    assert_eq!(rt; store.put(alloc, "farm.saved", b""), Ok(()));
-    gets(rt, store, alloc, path, b"abcdef");
+    misses(rt, store, alloc, PATH);
+    let part = store.get_part(alloc, PATH, 0, 9);
+    assert!(rt; matches!(part, Ok(None)));
+    puts(rt, store, alloc, PATH, b"abcdef");
+    puts(rt, store, alloc, "farm.saved", b"");
+    gets(rt, store, alloc, PATH, b"abcdef");
     gets(rt, store, alloc, "farm.saved", b"");
     gets_part(rt, store, alloc, 0, 6, b"abcdef");
     gets_part(rt, store, alloc, 2, 3, b"cde");
@@ -56,17 +66,14 @@ fn holds<S: TileStore>(rt: &impl Abort, store: &mut S, alloc: Global) {
     // A beginning that was read is of its own path alone.
     gets_part(rt, store, alloc, 0, 1, b"a");
     let other = store.get_part(alloc, "farm.saved", 1, 1);
-    assert!(rt;
-        slice(&other) == Ok(Some(b"")),
-        "behind the beginning of another path"
-    );
+    assert!(rt; is_got(&other, b""), "behind the beginning of another path");
     // A beginning that was read does not keep what a put replaces.
     gets_part(rt, store, alloc, 0, 1, b"a");
-    assert_eq!(rt; store.put(alloc, path, b"xy"), Ok(()));
+    puts(rt, store, alloc, PATH, b"xy");
     gets_part(rt, store, alloc, 1, 1, b"y");
-    gets(rt, store, alloc, path, b"xy");
+    gets(rt, store, alloc, PATH, b"xy");
     gets(rt, store, alloc, "farm.saved", b"");
-    assert_eq!(rt; store.faults(), 0);
+    assert!(rt; store.faults() == 0);
 }
 
 /// Removes what a run left.
@@ -75,32 +82,31 @@ fn clear<R: Files + Alloc>(rt: &R) {
 }
 
 #[test]
-fn memory_and_files_hold(rt: HostRuntime) -> Result<(), Fail> {
+fn memory_and_files_hold(rt: HostRuntime) {
     let alloc = rt.alloc();
-    let mut memory = MemStore::new(alloc, Vec::new(alloc), Vec::new(alloc), Vec::new(alloc))?;
+    let Ok(mut memory) = MemStore::new(alloc, Vec::new(alloc), Vec::new(alloc), Vec::new(alloc))
+    else {
+        panic!(rt; "no memory")
+    };
     holds(&rt, &mut memory, alloc);
     clear(&rt);
     let folder = Folder::new();
     let mut files = FileStore::new(rt, &folder);
     holds(&rt, &mut files, alloc);
-    gets(&rt, &mut files, alloc, "map/0/0/0/0/0/0.meta", b"xy");
+    gets(&rt, &mut files, alloc, PATH, b"xy");
     clear(&rt);
-    Ok(())
 }
 
 /// What the system refuses is Failed, and counted.
 fn refuses<S: TileStore>(rt: &impl Abort, store: &mut S, alloc: Global, path: &str) {
     let before = store.faults();
-    assert_eq!(rt; store.put(alloc, path, b"x"), Err(StoreFault::Failed));
-    assert!(rt;
-        slice(&store.get(alloc, path)) == Err(StoreFault::Failed),
-        "get of {path}"
-    );
-    assert!(rt;
-        slice(&store.get_part(alloc, path, 0, 1)) == Err(StoreFault::Failed),
-        "part of {path}"
-    );
-    assert_eq!(rt; before.checked_add(3), Some(store.faults()));
+    let put = store.put(alloc, path, b"x");
+    assert!(rt; matches!(put, Err(StoreFault::Failed)), "put of {path}");
+    let found = store.get(alloc, path);
+    assert!(rt; matches!(found, Err(StoreFault::Failed)), "get of {path}");
+    let part = store.get_part(alloc, path, 0, 1);
+    assert!(rt; matches!(part, Err(StoreFault::Failed)), "part of {path}");
+    assert!(rt; before.checked_add(3) == Some(store.faults()));
 }
 
 fn is_missing<R: Files>(rt: &R, name: &str) -> bool {
@@ -116,13 +122,13 @@ fn the_system_refuses(rt: HostRuntime) {
     clear(&rt);
     let folder = Folder::new();
     let mut files = FileStore::new(rt, &folder);
-    assert_eq!(rt; files.put(alloc, "one", b"one"), Ok(()));
+    puts(&rt, &mut files, alloc, "one", b"one");
     assert!(rt;
         is_missing(&rt, "tiles/one.new"),
         "written beside and renamed"
     );
     refuses(&rt, &mut files, alloc, "one/below_a_file");
-    assert!(rt; fs::create_dir(&rt, "tiles/folder").is_ok());
+    makes_folder(&rt, "tiles/folder");
     refuses(&rt, &mut files, alloc, "folder");
     assert!(rt;
         is_missing(&rt, "tiles/folder.new"),
@@ -130,6 +136,29 @@ fn the_system_refuses(rt: HostRuntime) {
     );
     gets(&rt, &mut files, alloc, "one", b"one");
     clear(&rt);
+}
+
+/// Whether the file has these bytes.
+fn is_file<R: Files + Alloc>(rt: &R, name: &str, bytes: &[u8]) -> bool {
+    match fs::read(rt, name) {
+        Ok(read) => read.as_slice() == bytes,
+        Err(_) => false,
+    }
+}
+
+/// Another file takes the place of the one whose parts are read.
+fn takes_place<R: Files + Abort>(rt: &R, bytes: &[u8]) {
+    makes_file(rt, "tiles/other", bytes);
+    let named = fs::rename(rt, "tiles/other", PARTED);
+    assert!(rt; named.is_ok());
+}
+
+fn makes_file<R: Files + Abort>(rt: &R, name: &str, bytes: &[u8]) {
+    assert!(rt; fs::write(rt, name, bytes).is_ok(), "no file {name}");
+}
+
+fn makes_folder<R: Files + Abort>(rt: &R, name: &str) {
+    assert!(rt; fs::create_dir_all(rt, name).is_ok(), "no folder {name}");
 }
 
 /// The bytes, staged under the number.
@@ -149,10 +178,41 @@ fn staged_as<R: Files>(
     staged
 }
 
+/// The bytes are handed back, and not staged under the number.
+fn is_not_staged<R: Files>(
+    rt: &impl Abort,
+    staging: &FileStaging<'_, R>,
+    alloc: Global,
+    number: u64,
+    bytes: &[u8],
+) {
+    let Ok(given) = Vec::from_slice(alloc, bytes) else {
+        panic!(rt; "no memory")
+    };
+    let staged = stage_bytes(staging, alloc, number, given);
+    assert!(rt;
+        matches!(&staged, Err(back) if back.as_slice() == bytes),
+        "staged as {number}"
+    );
+}
+
 /// The first call of a store, which takes the folder.
 fn takes_folder<S: TileStore>(rt: &impl Abort, files: &mut S, alloc: Global) {
-    let found = files.get(alloc, "nothing");
-    assert!(rt; slice(&found) == Ok(None), "the folder is taken");
+    misses(rt, files, alloc, "nothing");
+}
+
+/// Whether a get gave all of these bytes but the first.
+fn is_rest(found: &Result<Option<Vec<u8>>, StoreFault>, bytes: &[u8]) -> bool {
+    match bytes.get(1..) {
+        Some(rest) => is_got(found, rest),
+        None => false,
+    }
+}
+
+/// What was staged is put at the path `one`.
+fn puts_one<S: TileStore>(rt: &impl Abort, store: &mut S, alloc: Global, staged: &Staged) {
+    let put = store.put_staged(alloc, "one", staged);
+    assert!(rt; put.is_ok(), "staged put of one");
 }
 
 /// Stages the bytes, puts them at the path and clears what is left. The staged file itself is put, and a beginning that was read
@@ -171,8 +231,8 @@ fn puts_staged<R: Files<File = File> + Abort>(
     assert!(rt; is_missing(rt, "tiles/.new/7"), "renamed to {path}");
     let rest = files.get_part(alloc, path, 1, MOST_PART_BYTES);
     staging.clear(alloc, 7);
-    assert!(rt; put == Ok(()), "staged put of {path}");
-    assert!(rt; slice(&rest) == Ok(bytes.get(1..)), "the rest of {path}");
+    assert!(rt; put.is_ok(), "staged put of {path}");
+    assert!(rt; is_rest(&rest, bytes), "the rest of {path}");
     gets(rt, files, alloc, path, bytes);
 }
 
@@ -210,7 +270,7 @@ fn two_are_staged_at_once(rt: HostRuntime) {
     let far = staged_as(&rt, &staging, alloc, FAR, b"far");
     let earlier = files.put_staged(alloc, "map/7", &seven);
     let later = files.put_staged(alloc, "map/far", &far);
-    assert!(rt; earlier == Ok(()) && later == Ok(()));
+    assert!(rt; earlier.is_ok() && later.is_ok());
     gets(&rt, &mut files, alloc, "map/7", b"seven");
     gets(&rt, &mut files, alloc, "map/far", b"far");
     clear(&rt);
@@ -218,104 +278,132 @@ fn two_are_staged_at_once(rt: HostRuntime) {
 
 /// Where the number has a file, nothing is staged, and the file stays as it is.
 #[test]
-fn a_number_that_is_there_is_not_staged(rt: HostRuntime) -> Result<(), Fail> {
+fn a_number_that_is_there_is_not_staged(rt: HostRuntime) {
     let alloc = rt.alloc();
     clear(&rt);
     let folder = Folder::new();
     let (staging, mut files) = (FileStaging::new(rt, &folder), FileStore::new(rt, &folder));
     takes_folder(&rt, &mut files, alloc);
     let _never_put = staged_as(&rt, &staging, alloc, 7, b"earlier");
-    let bytes = Vec::from_slice(alloc, b"later")?;
-    assert!(rt; stage_bytes(&staging, alloc, 7, bytes).is_err());
-    assert!(rt; fs::read(&rt, "tiles/.new/7")?.as_slice() == b"earlier".as_slice());
+    is_not_staged(&rt, &staging, alloc, 7, b"later");
+    assert!(rt; is_file(&rt, "tiles/.new/7", b"earlier"));
     clear(&rt);
-    Ok(())
 }
 
 /// What a put of a staged file replaces stays until the clear; where it cannot be kept it is replaced all the same.
 #[test]
-fn what_is_replaced_is_kept_until_the_clear(rt: HostRuntime) -> Result<(), Fail> {
+fn what_is_replaced_is_kept_until_the_clear(rt: HostRuntime) {
     let alloc = rt.alloc();
     clear(&rt);
     let folder = Folder::new();
     let (staging, mut files) = (FileStaging::new(rt, &folder), FileStore::new(rt, &folder));
-    assert_eq!(rt; files.put(alloc, "one", b"one"), Ok(()));
+    puts(&rt, &mut files, alloc, "one", b"one");
     let two = staged_as(&rt, &staging, alloc, 7, b"two");
-    assert_eq!(rt; files.put_staged(alloc, "one", &two), Ok(()));
-    assert!(rt; fs::read(&rt, "tiles/.new/7.old")?.as_slice() == b"one".as_slice());
+    puts_one(&rt, &mut files, alloc, &two);
+    assert!(rt; is_file(&rt, "tiles/.new/7.old", b"one"));
     staging.clear(alloc, 7);
-    fs::create_dir(&rt, "tiles/.new/8.old")?;
+    makes_folder(&rt, "tiles/.new/8.old");
     let three = staged_as(&rt, &staging, alloc, 8, b"three");
-    assert_eq!(rt; files.put_staged(alloc, "one", &three), Ok(()));
+    puts_one(&rt, &mut files, alloc, &three);
     assert!(rt; is_missing(&rt, "tiles/.new/8"));
     gets(&rt, &mut files, alloc, "one", b"three");
     clear(&rt);
-    Ok(())
 }
 
 /// What an earlier run left of its staging is removed by the first call; without it nothing is staged.
 #[test]
-fn what_a_run_left_is_removed(rt: HostRuntime) -> Result<(), Fail> {
+fn what_a_run_left_is_removed(rt: HostRuntime) {
     let alloc = rt.alloc();
     clear(&rt);
-    fs::create_dir_all(&rt, "tiles/.new")?;
-    fs::write(&rt, "tiles/.new/3", b"left")?;
-    fs::write(&rt, "tiles/.new/70.old", b"left")?;
+    makes_folder(&rt, "tiles/.new");
+    makes_file(&rt, "tiles/.new/3", b"left");
+    makes_file(&rt, "tiles/.new/70.old", b"left");
     let folder = Folder::new();
     let (staging, mut files) = (FileStaging::new(rt, &folder), FileStore::new(rt, &folder));
-    let bytes = Vec::from_slice(alloc, b"early")?;
-    assert!(rt; stage_bytes(&staging, alloc, 4, bytes).is_err());
+    is_not_staged(&rt, &staging, alloc, 4, b"early");
     assert!(rt; is_missing(&rt, "tiles/.new/4") && is_missing(&rt, "tiles/.lock"));
     takes_folder(&rt, &mut files, alloc);
     assert!(rt; is_missing(&rt, "tiles/.new/3") && is_missing(&rt, "tiles/.new/70.old"));
     puts_staged(&rt, &staging, &mut files, alloc, "map/one", b"first");
     clear(&rt);
-    Ok(())
 }
 
 /// While one store has the folder another one fails, stages nothing and clears nothing.
 #[test]
-fn one_store_has_the_folder(rt: HostRuntime) -> Result<(), Fail> {
+fn one_store_has_the_folder(rt: HostRuntime) {
     let alloc = rt.alloc();
     clear(&rt);
     let (ours, theirs) = (Folder::new(), Folder::new());
     let mut second = FileStore::new(rt, &theirs);
     {
         let (staging, mut first) = (FileStaging::new(rt, &ours), FileStore::new(rt, &ours));
-        assert_eq!(rt; first.put(alloc, "one", b"one"), Ok(()));
+        puts(&rt, &mut first, alloc, "one", b"one");
         let staged = staged_as(&rt, &staging, alloc, 7, b"two");
         refuses(&rt, &mut second, alloc, "one");
         let others = FileStaging::new(rt, &theirs);
-        let bytes = Vec::from_slice(alloc, b"bytes")?;
-        assert!(rt; stage_bytes(&others, alloc, 8, bytes).is_err());
+        is_not_staged(&rt, &others, alloc, 8, b"bytes");
         others.clear(alloc, 7);
-        assert_eq!(rt; first.put_staged(alloc, "one", &staged), Ok(()));
+        puts_one(&rt, &mut first, alloc, &staged);
         assert!(rt;
             is_missing(&rt, "tiles/.new/7"),
             "what was staged stood there"
         );
-        assert_eq!(rt; first.faults(), 0);
+        assert!(rt; first.faults() == 0);
     }
     gets(&rt, &mut second, alloc, "one", b"two");
     clear(&rt);
-    Ok(())
 }
 
-/// A part is no longer than a tile's text can be, whatever length a container tells.
+/// A file that was cut to nothing is read anew from its beginning, once it has bytes again; so is one whose beginning was read.
 #[test]
-fn the_longest_part(rt: HostRuntime) -> Result<(), Fail> {
+fn a_cut_file_is_read_anew(rt: HostRuntime) {
     let alloc = rt.alloc();
     clear(&rt);
     let folder = Folder::new();
     let mut files = FileStore::new(rt, &folder);
-    let long = vec![in alloc; 7; 786_448]?;
-    assert_eq!(rt; files.put(alloc, "long", long.as_slice()), Ok(()));
-    let all = files.get_part(alloc, "long", 0, 4_294_967_295);
-    assert!(rt; slice(&all) == Err(StoreFault::Failed));
-    let most = files.get_part(alloc, "long", 1, 4_294_967_295);
-    assert!(rt; slice(&most) == Ok(long.as_slice().get(1..)));
+    takes_folder(&rt, &mut files, alloc);
+    makes_folder(&rt, "tiles/map/0/0/0/0/0");
+    makes_file(&rt, PARTED, b"");
+    gets_part(&rt, &mut files, alloc, 0, 4, b"");
+    takes_place(&rt, b"whole");
+    gets_part(&rt, &mut files, alloc, 0, 4, b"whol");
+    takes_place(&rt, b"later");
+    gets_part(&rt, &mut files, alloc, 4, 4, b"e");
+    gets_part(&rt, &mut files, alloc, 0, 4, b"late");
     clear(&rt);
-    Ok(())
+}
+
+/// Where the folder of what is staged is a link, what it leads to stays.
+#[test]
+fn a_linked_folder_is_not_emptied(rt: HostRuntime) {
+    let alloc = rt.alloc();
+    clear(&rt);
+    makes_folder(&rt, "tiles/other");
+    makes_file(&rt, "tiles/other/kept", b"mine");
+    assert!(rt; symlink(&rt, "other", "tiles/.new").is_ok());
+    let folder = Folder::new();
+    let mut files = FileStore::new(rt, &folder);
+    takes_folder(&rt, &mut files, alloc);
+    gets(&rt, &mut files, alloc, "other/kept", b"mine");
+    clear(&rt);
+}
+
+/// A part is no longer than a tile's text can be, whatever length a container tells.
+#[test]
+fn the_longest_part(rt: HostRuntime) {
+    let alloc = rt.alloc();
+    clear(&rt);
+    let folder = Folder::new();
+    let mut files = FileStore::new(rt, &folder);
+    let Ok(long) = vec![in alloc; 7; 786_448] else {
+        panic!(rt; "no memory")
+    };
+    puts(&rt, &mut files, alloc, "long", long.as_slice());
+    let all = files.get_part(alloc, "long", 0, 4_294_967_295);
+    assert!(rt; matches!(all, Err(StoreFault::Failed)));
+    let most = files.get_part(alloc, "long", 1, 4_294_967_295);
+    assert!(rt; is_rest(&most, long.as_slice()));
+    clear(&rt);
 }
 
 /// Where its staged file is gone the bytes are put all the same, in place of those before.
@@ -326,10 +414,10 @@ fn bytes_whose_file_is_gone_are_put(rt: HostRuntime) {
     let folder = Folder::new();
     let (staging, mut files) = (FileStaging::new(rt, &folder), FileStore::new(rt, &folder));
     takes_folder(&rt, &mut files, alloc);
-    assert_eq!(rt; files.put(alloc, "one", b"one"), Ok(()));
+    puts(&rt, &mut files, alloc, "one", b"one");
     let staged = staged_as(&rt, &staging, alloc, 8, b"two");
     assert!(rt; fs::remove_file(&rt, "tiles/.new/8").is_ok());
-    assert_eq!(rt; files.put_staged(alloc, "one", &staged), Ok(()));
+    puts_one(&rt, &mut files, alloc, &staged);
     gets(&rt, &mut files, alloc, "one", b"two");
     clear(&rt);
 }
@@ -342,10 +430,10 @@ fn a_staged_put_that_fails_is_told(rt: HostRuntime) {
     let folder = Folder::new();
     let (staging, mut files) = (FileStaging::new(rt, &folder), FileStore::new(rt, &folder));
     takes_folder(&rt, &mut files, alloc);
-    assert_eq!(rt; files.put(alloc, "map/one", b"one"), Ok(()));
+    puts(&rt, &mut files, alloc, "map/one", b"one");
     let staged = staged_as(&rt, &staging, alloc, 9, b"two");
     let answer = files.put_staged(alloc, "map", &staged);
-    assert!(rt; answer == Err(StoreFault::Failed) && files.faults() == 1);
+    assert!(rt; matches!(answer, Err(StoreFault::Failed)) && files.faults() == 1);
     staging.clear(alloc, 9);
     gets(&rt, &mut files, alloc, "map/one", b"one");
     assert!(rt; is_missing(&rt, "tiles/.new/9") && is_missing(&rt, "tiles/map.new"));
@@ -354,17 +442,14 @@ fn a_staged_put_that_fails_is_told(rt: HostRuntime) {
 
 /// No folder can be made where a file stands.
 #[test]
-fn a_staging_that_fails_is_told(rt: HostRuntime) -> Result<(), Fail> {
+fn a_staging_that_fails_is_told(rt: HostRuntime) {
     let alloc = rt.alloc();
     clear(&rt);
     let folder = Folder::new();
     let (staging, mut files) = (FileStaging::new(rt, &folder), FileStore::new(rt, &folder));
     takes_folder(&rt, &mut files, alloc);
     clear(&rt);
-    fs::write(&rt, "tiles", b"a file")?;
-    let bytes = Vec::from_slice(alloc, b"bytes")?;
-    let staged = stage_bytes(&staging, alloc, 9, bytes);
-    assert!(rt; matches!(&staged, Err(back) if back.as_slice() == b"bytes".as_slice()));
+    makes_file(&rt, "tiles", b"a file");
+    is_not_staged(&rt, &staging, alloc, 9, b"bytes");
     assert!(rt; fs::remove_file(&rt, "tiles").is_ok());
-    Ok(())
 }

@@ -3,3 +3,5 @@ pub mod Keys
 pub mod Ids
 pub mod Parts
 pub mod Validity
+pub mod Gathered
+pub mod GatheredUpdates

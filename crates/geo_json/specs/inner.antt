@@ -1,3 +1,4 @@
+pub mod Gathered
 pub mod Keys
 pub mod KnownIds
 pub mod Parts

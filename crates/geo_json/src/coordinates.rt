@@ -1,12 +1,18 @@
 //! The units of a text, and points in them.
-ghost use Rattle.std.specs.Prelude.{◌≡◌};
+ghost use Rattle.std.specs.Prelude.{◌≡◌, ◌<◌, ℕ, Some, Ok, IfSome, OnSome, IsTrue, length, List};
+ghost use Rattle.json.specs.Json.{value};
+ghost use Rattle.serde_json.specs.Data.{string};
+ghost use Rattle.serde_json.specs.Read.{of_json, converted};
 ghost use Rattle.serde_json.specs.View.{view};
 ghost use Rattle.plain_world.specs.World as world;
 ghost use Rattle.geo_json.specs.Coordinates as spec;
+ghost use Rattle.geo_json.specs.declared.faults.DataFault.TheVariants.{Shape};
 
 use crate::faults::DataFault;
+use json::Reader;
 use merc_fixed::{x_from_cm, y_from_cm};
 use plain_world::Point;
+use pulled_json::str_from;
 use reading::{list, signed, text};
 use serde_json::Value;
 
@@ -33,6 +39,28 @@ fn units_named(name: &str, shape: DataFault) -> Result<Units, DataFault>
         "world" => Ok(Units::World),
         _ => Err(shape),
     }
+}
+
+/// Whether both are the same.
+pub(crate) fn are_same(a: Units, b: Units) -> bool
+    ensures { IsTrue result → a ≡ b }
+{
+    match (a, b) {
+        (Units::Centimetres, Units::Centimetres) => true,
+        (Units::World, Units::World) => true,
+        _ => false,
+    }
+}
+
+/// The next value as units.
+pub(crate) fn units_from(reader: &mut Reader<'_>) -> Option<Units>
+    ensures value { IfSome result (λ u. (name : List ℕ)
+        × ((depth : ℕ) → converted of_json (value depth reader.old) ≡ Some (string name, reader.new))
+        × (spec.units_named (Shape 0 0) name ≡ Ok u)) }
+    ensures shorter { OnSome result (length reader.new < length reader.old) }
+{
+    let name = str_from(reader)?;
+    units_named(name, DataFault::Shape(0, 0)).ok()
 }
 
 /// The units that the object tells, or centimetres.

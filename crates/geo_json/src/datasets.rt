@@ -1,5 +1,5 @@
 //! Datasets of texts.
-ghost use Rattle.std.specs.Prelude.{◌≡◌, ◌≤◌, ◌<◌, ◌^◌, [], ℕ, nat_le, length, IfOk, IsTrue, ⊤};
+ghost use Rattle.std.specs.Prelude.{◌≡◌, ◌≤◌, ◌<◌, ◌^◌, [], ℕ, nat_le, length, IfOk, IsTrue};
 ghost use Rattle.std.specs.Str.{bytes_eq};
 ghost use Rattle.serde_json.specs.Events.{items_len};
 ghost use Rattle.serde_json.specs.View.{view, items_view};
@@ -16,11 +16,11 @@ use crate::coordinates::{Units, units_at};
 use crate::faults::DataFault;
 use crate::feature_texts::new_features;
 use crate::openings::{name_at, open};
-use crate::settled::{ReadLayers, settled};
+use crate::pulled_data::pulled_layers;
 use data_versions::{Dataset, Layer};
 use farm_base::Text;
 use plain_shapes::{MOST_DATA_LAYERS, MOST_FEATURES};
-use reading::{ReadKnown, list, read_json, read_list_with};
+use reading::{ReadItem, list, read_json, read_list};
 use serde_json::Value;
 use std::alloc::Global;
 use std::collections::BTreeSet;
@@ -32,16 +32,26 @@ use std::collections::BTreeSet;
 pub fn read_data(alloc: Global, bytes: &[u8]) -> Result<Dataset, DataFault>
     ensures { Gives fault.NoMemory (λ d. d) (spec.dataset_in bytes.now) result }
 {
-    let read = read_layers(alloc, bytes)?;
-    let layers = settled(alloc, read)?;
+    let layers = read_layers(alloc, bytes)?;
     Ok(Dataset::of(layers))
 }
 
-/// The layers that the bytes say.
+/// The layers that the bytes say: pulled from the text, and where that comes to no end, read from the tree of
+/// the text, which knows the first fault.
+fn read_layers(alloc: Global, bytes: &[u8]) -> Result<Vec<Layer>, DataFault>
+    ensures value { Gives fault.NoMemory (λ v. v.items) (spec.dataset_in bytes.now) result }
+    ensures valid { IfOk result (λ v. IsTrue (each_after spec.is_read [] v.items)) }
+{
+    match pulled_layers(alloc, bytes) {
+        Some(layers) => Ok(layers),
+        None => layers_by_tree(alloc, bytes),
+    }
+}
+
 #[tactic(auto, unfolding(crate::specs::DataTexts::dataset_in))]
-fn read_layers(alloc: Global, bytes: &[u8]) -> Result<ReadLayers, DataFault>
-    ensures value { Gives fault.NoMemory (λ r. r.layers.items) (spec.dataset_in bytes.now) result }
-    ensures valid { IfOk result (λ r. IsTrue (each_after spec.is_read [] r.layers.items)) }
+fn layers_by_tree(alloc: Global, bytes: &[u8]) -> Result<Vec<Layer>, DataFault>
+    ensures value { Gives fault.NoMemory (λ v. v.items) (spec.dataset_in bytes.now) result }
+    ensures valid { IfOk result (λ v. IsTrue (each_after spec.is_read [] v.items)) }
 {
     let value = read_json(alloc, bytes, DataFault::NotJson)?;
     layers_in(alloc, &value)
@@ -54,36 +64,24 @@ fn open_data(object: &Value, shape: DataFault) -> Result<(), DataFault>
 }
 
 #[tactic(auto, unfolding(crate::specs::DataTexts::layers_of))]
-fn layers_in(alloc: Global, object: &Value) -> Result<ReadLayers, DataFault>
-    ensures value { Gives fault.NoMemory (λ r. r.layers.items) (spec.layers_of (view object.now)) result }
-    ensures valid { IfOk result (λ r. IsTrue (each_after spec.is_read [] r.layers.items)) }
+fn layers_in(alloc: Global, object: &Value) -> Result<Vec<Layer>, DataFault>
+    ensures value { Gives fault.NoMemory (λ v. v.items) (spec.layers_of (view object.now)) result }
+    ensures valid { IfOk result (λ v. IsTrue (each_after spec.is_read [] v.items)) }
 {
     let shape = DataFault::Shape(0, 0);
     open_data(object, shape)?;
     let units = units_at(object, shape)?;
     let items = list(object.get("layers"), shape)?;
-    let mut ids = Vec::new(alloc);
-    match layers(alloc, units, &mut ids, items) {
-        Ok(layers) => Ok(ReadLayers { layers, ids }),
-        Err(fault) => {
-            drop(ids);
-            Err(fault)
-        }
-    }
+    layers(alloc, units, items)
 }
 
-fn layers(
-    alloc: Global,
-    units: Units,
-    ids: &mut Vec<BTreeSet<u64>>,
-    items: &[Value],
-) -> Result<Vec<Layer>, DataFault>
+fn layers(alloc: Global, units: Units, items: &[Value]) -> Result<Vec<Layer>, DataFault>
     requires { length items.now < 2 ^ 64 }
     ensures value { Gives fault.NoMemory (λ v. v.items)
         (list_of (λ before e. spec.layer_said units (length before) before e) (items_view items.now)) result }
     ensures valid { IfOk result (λ v. IsTrue (each_after spec.is_read [] v.items)) }
 {
-    read_list_with(alloc, &LayerItems { units }, ids, items)
+    read_list(alloc, &LayerItems { units }, items)
 }
 
 /// Whether there are at most 1,000,000 values.
@@ -94,7 +92,7 @@ pub(crate) fn is_few(items: &[Value]) -> bool
     items.len() <= MOST_FEATURES
 }
 
-fn has_layer(layers: &[Layer], name: &str) -> bool
+pub(crate) fn has_layer(layers: &[Layer], name: &str) -> bool
     ensures { result ≡ spec.has_layer layers.now name.now }
 {
     layers.iter().any(|l| is_named(l, name))
@@ -112,15 +110,9 @@ fn open_layer(object: &Value, shape: DataFault) -> Result<(), DataFault>
     open(object, &["name", "features"], shape)
 }
 
-/// The layer that the value says, after those before it. The set of its ids is kept with the others.
+/// The layer that the value says, after those before it.
 #[tactic(auto, unfolding(crate::specs::DataTexts::layer_said), using(crate::proofs::Validity::values_few))]
-fn layer(
-    alloc: Global,
-    units: Units,
-    ids: &mut Vec<BTreeSet<u64>>,
-    before: &[Layer],
-    object: &Value,
-) -> Result<Layer, DataFault>
+fn layer(alloc: Global, units: Units, before: &[Layer], object: &Value) -> Result<Layer, DataFault>
     ensures value { Gives fault.NoMemory (λ l. l)
         (spec.layer_said units (length before.now) before.now (view object.now)) result }
     ensures valid { IfOk result (λ l. IsTrue (spec.is_read before.now l)) }
@@ -139,20 +131,10 @@ fn layer(
     if !is_few(items) {
         return Err(DataFault::TooMany(part));
     }
-    // Dropped by a call: `?` would drop, and have proved, each part in this function.
     let mut known = BTreeSet::new(alloc);
-    let features = match new_features(alloc, units, part, &mut known, items) {
-        Ok(features) => features,
-        Err(fault) => {
-            drop(known);
-            return Err(fault);
-        }
-    };
-    if let Err(refused) = ids.push(known) {
-        drop(refused);
-        drop(features);
-        return Err(DataFault::NoMemory);
-    }
+    let read = new_features(alloc, units, part, &mut known, items);
+    drop(known);
+    let features = read?;
     let Ok(name) = Text::of(alloc, name) else {
         drop(features);
         return Err(DataFault::NoMemory);
@@ -160,18 +142,16 @@ fn layer(
     Ok(Layer { name, features })
 }
 
-// The layers of data, with the sets of the ids of those before.
+// The layers of data.
 #[derive(Drop)]
 struct LayerItems {
     units: Units,
 }
 
-impl ReadKnown for LayerItems {
+impl ReadItem for LayerItems {
     type Item = Layer;
 
     type Fault = DataFault;
-
-    type Known = Vec<BTreeSet<u64>>;
 
     ghost limit = { λ r. 2 ^ 64 };
 
@@ -179,15 +159,7 @@ impl ReadKnown for LayerItems {
 
     ghost keeps = { λ r before l. spec.is_read before l };
 
-    ghost knows = { λ ids before. ⊤ };
-
-    fn read(
-        &self,
-        alloc: Global,
-        known: &mut Vec<BTreeSet<u64>>,
-        before: &[Layer],
-        value: &Value,
-    ) -> Result<Layer, DataFault> {
-        layer(alloc, self.units, known, before, value)
+    fn read(&self, alloc: Global, before: &[Layer], value: &Value) -> Result<Layer, DataFault> {
+        layer(alloc, self.units, before, value)
     }
 }

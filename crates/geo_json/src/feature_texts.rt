@@ -101,7 +101,7 @@ fn open_feature(object: &Value, shape: DataFault) -> Result<(), DataFault>
 
 /// The feature that the value says, at its place in the list of its layer or change.
 #[tactic(auto, unfolding(crate::specs::FeatureTexts::feature_of))]
-fn feature(
+pub(crate) fn feature(
     alloc: Global,
     units: Units,
     part: u32,
@@ -125,7 +125,7 @@ fn feature(
 
 /// The feature that the value says after those before it, whose ids are known.
 #[tactic(auto, unfolding(crate::specs::FeatureTexts::new_feature_after), using(crate::proofs::Ids::ids_more))]
-fn new_feature(
+pub(crate) fn new_feature(
     alloc: Global,
     units: Units,
     part: u32,

@@ -8,7 +8,10 @@ mod faults;
 mod feature_texts;
 mod geometries;
 mod openings;
-mod settled;
+mod pulled_changes;
+mod pulled_data;
+mod pulled_layers;
+mod pulled_updates;
 mod updates;
 
 pub use coordinates::Units;

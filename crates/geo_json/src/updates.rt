@@ -18,6 +18,7 @@ use crate::datasets::is_few;
 use crate::faults::DataFault;
 use crate::feature_texts::{features, id_of};
 use crate::openings::{name_at, open};
+use crate::pulled_updates::pulled_changes;
 use data_versions::{Change, Update};
 use farm_base::Text;
 use plain_shapes::MOST_FEATURES;
@@ -28,8 +29,18 @@ use std::alloc::Global;
 /// The update that the bytes say, or the first fault in reading order. Reading goes by place: a change's own
 /// keys, then whether it has too many puts, and then each put: its form and the faults of its parts. Puts
 /// may name an id more than once.
-#[tactic(auto, unfolding(crate::specs::UpdateTexts::update_in))]
+#[tactic(auto, using(crate::proofs::Validity::update_read))]
 pub fn read_update(alloc: Global, bytes: &[u8]) -> Result<Update, DataFault>
+    ensures { Gives fault.NoMemory (λ u. u) (spec.update_in bytes.now) result }
+{
+    match pulled_changes(alloc, bytes) {
+        Some(changes) => Ok(Update::of(changes)),
+        None => update_by_tree(alloc, bytes),
+    }
+}
+
+#[tactic(auto, unfolding(crate::specs::UpdateTexts::update_in))]
+fn update_by_tree(alloc: Global, bytes: &[u8]) -> Result<Update, DataFault>
     ensures { Gives fault.NoMemory (λ u. u) (spec.update_in bytes.now) result }
 {
     let value = read_json(alloc, bytes, DataFault::NotJson)?;

@@ -4,6 +4,7 @@ pub mod Choices
 pub mod Covering
 pub mod GridRuns
 pub mod Joining
+pub mod Keeping
 pub mod Metas
 pub mod Painted
 pub mod Pixels

@@ -4,6 +4,7 @@ pub mod Chosen
 pub mod Covers
 pub mod GridPlaces
 pub mod Items
+pub mod Nearby
 pub mod Pieces
 pub mod Places
 pub mod Regions

@@ -4,6 +4,7 @@ ghost use Rattle.std.specs.Option.{option_copied};
 ghost use Rattle.std.specs.Str.{bytes_eq};
 ghost use Rattle.plain_drawing.specs.Drawing.{items_of, item_attrs};
 ghost use Rattle.tile_render.specs.inner.Items.{item_of, items_in};
+ghost use Rattle.tile_render.specs.inner.Nearby.{FromData};
 
 use data_versions::{LayerView, Snapshot};
 use farm_base::Attr;
@@ -17,11 +18,18 @@ pub(crate) enum Item<'a> {
     Raster(&'a Grid),
 }
 
+/// A layer of data that is drawn: its name and its features.
+#[derive(Drop)]
+pub(crate) struct Source<'a> {
+    pub name: &'a str,
+    pub features: LayerView<'a>,
+}
+
 /// All items of a layer.
 #[derive(Drop)]
 pub(crate) enum Items<'a> {
     Raster(&'a Grid),
-    Features(LayerView<'a>),
+    Features(Source<'a>),
     Nothing,
 }
 
@@ -46,13 +54,14 @@ fn find_grid<'a>(grids: &'a [Grid], name: &str) -> Option<&'a Grid>
 
 /// What a layer with this source draws: the bound grid of the name, else the features of the data's layer
 /// of the name, else nothing.
-pub(crate) fn items_of<'a>(style: &'a MapStyle, snapshot: &'a Snapshot, name: &str) -> Items<'a>
-    ensures { items_in result ≡ items_of style.now.grids snapshot.now name.now }
+pub(crate) fn items_of<'a>(style: &'a MapStyle, snapshot: &'a Snapshot, name: &'a str) -> Items<'a>
+    ensures items { items_in result ≡ items_of style.entry.now.grids snapshot.entry.now name.entry.now }
+    ensures source { FromData snapshot.entry.now result }
 {
     match find_grid(&style.grids, name) {
         Some(grid) => Items::Raster(grid),
         None => match snapshot.layer(name) {
-            Some(features) => Items::Features(features),
+            Some(features) => Items::Features(Source { name, features }),
             None => Items::Nothing,
         },
     }

@@ -8,6 +8,7 @@ mod grids;
 mod items;
 mod layers;
 mod metatiles;
+mod nearby;
 mod painting;
 mod pieces;
 mod regions;

@@ -4,15 +4,19 @@ ghost use Rattle.plain_drawing.specs.Drawing.{feature, item_attrs};
 ghost use Rattle.plain_drawing.specs.inner.Pictures.{with_item, with_style};
 ghost use Rattle.tile_render.specs.inner.Chosen.{is_chosen, with_rule, with_chosen};
 ghost use Rattle.tile_render.specs.inner.Items.{item_of, items_in};
+ghost use Rattle.tile_render.specs.inner.Nearby.{IsSource, FromData};
+ghost use Rattle.tile_render.specs.inner.Regions.{around};
 
 use crate::canvas::Canvas;
-use crate::items::{Item, Items};
+use crate::items::{Item, Items, Source};
+use crate::nearby::NearData;
 use crate::regions::around;
 use crate::rules::{Choice, first_match, is_chosen};
 use crate::scaled::ScaledStyle;
 use crate::symbolizers::draw_symbolizer;
 use data_versions::LayerView;
 use farm_base::NoMemory;
+use geo_model::Feature;
 use plain_drawing::{FilterMode, Rule, Style};
 use std::alloc::Global;
 
@@ -103,18 +107,66 @@ fn draw_features(
     Ok(())
 }
 
+/// Draws features by a style, in order.
+fn draw_listed(
+    alloc: Global,
+    scaled: &ScaledStyle<'_>,
+    features: &[&Feature],
+    canvas: &mut Canvas,
+) -> Result<(), NoMemory>
+    ensures drawn { OnOk result (canvas.new.image
+        ≡ fold (with_item canvas.old.window scaled.now.denominator scaled.now.style) canvas.old.image (map feature (map (λ f. f.now) features.now))) }
+    ensures window { canvas.new.window ≡ canvas.old.window }
+{
+    for feature in features {
+        draw_item(alloc, scaled, Item::Feature(feature), canvas)?;
+    }
+    Ok(())
+}
+
+/// Draws the features of a layer of data by a style, in order: those that are kept of it, where they are kept.
+fn draw_source<'a>(
+    alloc: Global,
+    scaled: &ScaledStyle<'_>,
+    source: &Source<'a>,
+    nearby: &mut NearData<'a>,
+    canvas: &mut Canvas,
+) -> Result<(), NoMemory>
+    requires source { IsSource nearby.old.layers source.now }
+    requires near { nearby.old.around ≡ around canvas.old.window }
+    ensures drawn { OnOk result (canvas.new.image
+        ≡ fold (with_item canvas.old.window scaled.now.denominator scaled.now.style) canvas.old.image (map feature source.now.features)) }
+    ensures window { canvas.new.window ≡ canvas.old.window }
+    ensures nearby { nearby.new ≡ nearby.old }
+{
+    scaled.know();
+    // Read for what it says of the window: it is one.
+    let _window = canvas.window();
+    nearby.keep(alloc, source)?;
+    match nearby.kept(source.name) {
+        Some(layer) if layer.has_all => {
+            draw_listed(alloc, scaled, layer.features.as_slice(), canvas)
+        }
+        _ => draw_features(alloc, scaled, &source.features, canvas),
+    }
+}
+
 /// Draws all items of a layer by a style: one pass. Where no rule of the style is at scale, none is looked at.
 #[tactic(auto, unfolding(plain_drawing::specs::inner::Pictures::with_style))]
-pub(crate) fn draw_style(
+pub(crate) fn draw_style<'a>(
     alloc: Global,
     denominator: u64,
     style: &Style,
-    items: &Items<'_>,
+    items: &Items<'a>,
+    nearby: &mut NearData<'a>,
     canvas: &mut Canvas,
 ) -> Result<(), NoMemory>
-    requires { 100 * denominator < 2 ^ 64 }
+    requires denominator { 100 * denominator < 2 ^ 64 }
+    requires source { FromData nearby.old.layers items.now }
+    requires near { nearby.old.around ≡ around canvas.old.window }
     ensures drawn { OnOk result (canvas.new.image ≡ with_style canvas.old.window denominator (items_in items.now) canvas.old.image style.now) }
     ensures window { canvas.new.window ≡ canvas.old.window }
+    ensures nearby { nearby.new ≡ nearby.old }
 {
     let scaled = ScaledStyle::of(alloc, style, denominator)?;
     if scaled.rules().is_empty() {
@@ -125,7 +177,7 @@ pub(crate) fn draw_style(
             let grid = *grid;
             draw_item(alloc, &scaled, Item::Raster(grid), canvas)
         }
-        Items::Features(features) => draw_features(alloc, &scaled, features, canvas),
+        Items::Features(source) => draw_source(alloc, &scaled, source, nearby, canvas),
         Items::Nothing => Ok(()),
     }
 }

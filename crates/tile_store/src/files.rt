@@ -16,6 +16,7 @@ use farm_base::{Gate, MOST_FILE_BYTES, read_to_end};
 use std::alloc::Global;
 use std::fs::{self, File, OpenFile};
 use std::io::{self, Read, Seek, SeekFrom, Write};
+use std::num::NonZeroU64;
 use std::path::Path;
 use std::rt;
 
@@ -57,11 +58,12 @@ struct Opened {
     length: u64,
 }
 
-/// The file whose beginning was read last, and how far it was read.
+/// The file whose beginning was read last, and how far it was read. One of which nothing was read is none: what is read from
+/// its beginning on is read anew.
 #[derive(Drop)]
 struct Begun {
     file: Opened,
-    end: u64,
+    end: NonZeroU64,
 }
 
 impl<'a, R: rt::Files<File = File>> FileStore<'a, R> {
@@ -96,7 +98,7 @@ impl<'a, R: rt::Files<File = File>> FileStore<'a, R> {
         ensures own { IfOk result (λ found. IfSome found (λ file. string_bytes file.name ≡ string_bytes name)) }
     {
         match self.begun.take() {
-            Some(begun) if begun.end <= offset && begun.file.name == name => Ok(Some(begun.file)),
+            Some(Begun { file, end }) if end.get() <= offset && file.name == name => Ok(Some(file)),
             _ => open(&self.rt, name),
         }
     }
@@ -120,8 +122,9 @@ impl<'a, R: rt::Files<File = File>> FileStore<'a, R> {
             return Ok(None);
         };
         let bytes = part_of(alloc, &mut file, offset, len)?;
-        if offset == 0 {
-            let end = bytes.len() as u64;
+        if offset == 0
+            && let Some(end) = NonZeroU64::new(bytes.len() as u64)
+        {
             self.begun = Some(Begun { file, end });
         }
         Ok(Some(bytes))

@@ -81,8 +81,12 @@ fn lock_file<R: rt::Files<File = File>>(files: &R) -> io::Result<File> {
     }
 }
 
-/// Removes the files in the folder of what is staged. The folder stays, with its group and its rights.
+/// Removes the files in the folder of what is staged. The folder stays, with its group and its rights. Where it is a link,
+/// nothing is removed: what it leads to may be another's.
 fn empty_staged<R: rt::Files>(alloc: Global, files: &R) -> io::Result<()> {
+    if !fs::symlink_metadata(files, STAGED)?.is_dir() {
+        return Ok(());
+    }
     for entry in fs::read_dir(&(files, alloc), STAGED)? {
         let _or_refused = fs::remove_file(files, entry?.path());
     }

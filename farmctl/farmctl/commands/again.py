@@ -12,6 +12,7 @@ from pathlib import Path
 
 from farmctl import script, tally
 from farmctl.farm import Farm
+from farmctl.words import seconds
 
 HELP = "send a farm that began anew its lines again"
 EXAMPLE = """
@@ -22,7 +23,7 @@ EXAMPLE = """
 
 def add(parser: argparse.ArgumentParser) -> None:
     parser.add_argument("--lines", metavar="FILE", type=Path, help="the lines (farm.lines in the farm's folder)")
-    parser.add_argument("--wait", metavar="SECONDS", type=float, default=600, help="at most so long until it answers (600)")
+    parser.add_argument("--wait", metavar="SECONDS", type=seconds, default=600, help="at most so long until it answers (600)")
 
 
 def run(args: argparse.Namespace) -> int:

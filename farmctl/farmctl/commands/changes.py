@@ -3,9 +3,10 @@
 OLD is what the farm's data were made of, or last updated to, and NEW is today's; both are read as `farmctl data` reads
 them, and with the same words. NEW may be a change file of OpenStreetMap (.osc, .osc.gz) over OLD. Features that are gone are
 removed, those that are new or differ are put. `farmctl update` brings the update into a running farm. A layer that the
-data do not have cannot come by an update: make the data anew.
+data do not have cannot come by an update: make the data anew. Where a farm's configuration is here (or named by -c) it is
+said how many updates it has of those that it may have.
 
-Status 0: OUT is the update. 3: nothing has changed, and there is no OUT.
+Status 0: OUT is the update. 3: nothing has changed, and there is no OUT. 1: anything else; nothing is written.
 """
 
 from __future__ import annotations
@@ -24,9 +25,11 @@ from farmctl.commands.data import AROUND, read, tell_left
 from farmctl.commands.status import size
 from farmctl.datafile import MOST_FEATURES, Layers, lines_of, quoted
 from farmctl.errors import FarmError
+from farmctl.farm import Farm
 from farmctl.metatiles import SIDE
 from farmctl.shapes import WEST, box_of
 from farmctl.sources import Box, add_options
+from farmctl.updating import ANEW, MOST
 
 HELP = "make an update of two extracts, or of one and its changes"
 EXAMPLE = """
@@ -125,7 +128,18 @@ def write(changes: list[Change], out: Path) -> int:
     return out.stat().st_size
 
 
+def room(farm: Farm) -> str:
+    """How many updates the farm has, where there is one; it may not have all already."""
+    if not farm.path.is_file():
+        return ""
+    count = len(farm.config.get("updates", []))
+    if count >= MOST:
+        raise FarmError(f"{farm.path} has {count} updates, and may have no more: {ANEW}")
+    return f"{farm.path} has {count} of {MOST} updates: after {MOST} {ANEW}"
+
+
 def run(args: argparse.Namespace) -> int:
+    known = room(Farm.of(args))
     place = args.output.absolute().parent
     if not place.is_dir():
         raise FarmError(f"{place} is no folder")
@@ -145,16 +159,18 @@ def run(args: argparse.Namespace) -> int:
         changes = [change for change in found if change.put or change.remove]
         if args.keep:
             shutil.move(newer, args.keep)
-    return tell(changes, args.output)
-
-
-def tell(changes: list[Change], out: Path) -> int:
     if not changes:
         print("nothing has changed")
         return NOTHING
+    tell(changes, args.output)
+    if known:
+        print(known)
+    return 0
+
+
+def tell(changes: list[Change], out: Path) -> None:
     length = write(changes, out)
     for change in changes:
         print(f"{change.layer}: removes {len(change.remove):,} and puts {len(change.put):,} features")
     boxes = [box for change in changes for box in change.boxes]
     print(f"{out}: {size(length)}; it touches {touched(boxes):,} metatiles of zoom {ZOOM} where they are drawn")
-    return 0

@@ -16,6 +16,7 @@ from pathlib import Path
 from farmctl import client, script, tally
 from farmctl.errors import FarmError
 from farmctl.farm import Farm
+from farmctl.files import text_of
 
 HELP = "send control lines and print the answers"
 EXAMPLE = """
@@ -57,7 +58,7 @@ def to_all(farms: list[str], line: str) -> list[str]:
 
 def run(args: argparse.Namespace) -> int:
     if args.farms:
-        farms = args.farms.read_text(encoding="utf-8").split()
+        farms = text_of(args.farms).split()
         failed = {address for line in args.lines for address in to_all(farms, line)}
         for address in sorted(failed):
             tally.say(f"{address} missed a line, or stands otherwise: keep it out until it was told farm.lines anew")

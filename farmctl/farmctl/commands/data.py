@@ -6,8 +6,10 @@ part of what they were, and so is the farm's memory. What is null is never kept,
 Coordinates of any system become Web Mercator in centimetres. Ids are OpenStreetMap's, those of an attribute `id`, or the
 place in the file; `farmctl changes` tells features apart by them.
 
-Files are read feature by feature. The data are written beside OUT and renamed: what is refused leaves nothing behind. At
-the end stand what was left out, the box, and a tile to look at first.
+Files are read feature by feature. A file that is cut, of another projection than it says, or has a feature that cannot be
+kept (none or a collection of geometries, an id for the second time, a text that is no UTF-8) is refused with the feature's
+place, unless --leave-out has such features left out. The data are written beside OUT and renamed: what is refused leaves
+nothing behind. At the end stand what was left out, the box, and a tile to look at first.
 """
 
 from __future__ import annotations
@@ -30,6 +32,7 @@ EXAMPLE = """
 """
 READING = 21  # times the data's bytes in memory, while a farm reads them
 AROUND = 4007501668  # the equator in centimetres
+ADDRESS = "http://127.0.0.1:8080/"  # where the gateway shows its page
 
 
 def add(parser: argparse.ArgumentParser) -> None:
@@ -40,14 +43,19 @@ def add(parser: argparse.ArgumentParser) -> None:
 
 def read(words: list[str], args: argparse.Namespace, folder: Path) -> tuple[Layers, list[Source]]:
     """All features of the sources, layer by layer in the folder."""
-    wanted, libraries = wanted_of(args), Libraries()
+    folder.mkdir(parents=True, exist_ok=True)
+    wanted, libraries = wanted_of(args), Libraries(folder)
     sources = [Source(word, wanted, libraries) for word in words]
-    layers = Layers(folder, [name for source in sources for name in source.taken()])
+    layers = Layers(folder, [name for source in sources for name in source.taken()], wanted.leaves_out)
     try:
         for source in sources:
             layers.add(source.items())
     finally:
         layers.close()
+    if layers.count == 0:
+        passed = sum(count for source in sources for count in source.passed.values())
+        told = f"; {passed:,} are of layers that are not taken" if passed else ""
+        raise FarmError(f"{', '.join(source.path for source in sources)}: no feature to keep{told}")
     return layers, sources
 
 
@@ -55,13 +63,13 @@ def tell_left(layers: Layers, sources: list[Source]) -> None:
     for source in sources:
         for name, left in source.left.items():
             for reason, count in sorted(left.counts.items()):
-                print(f"{source.path}: {name}: left out {count:,}: {reason}")
+                print(f"{source.path}: {name}: left out {count:,} (the first: {left.first[reason]}): {reason}")
         for name, count in source.passed.items():
             print(f"{source.path}: {name}: {count:,} features are not taken: no style draws them, or --layers does not name them")
     for layer in layers.layers.values():
         if layer.twice:
             print(f"{layer.name}: left out {layer.twice:,}: feature with the id of an earlier one")
-        print(f"{layer.name}: {len(layer.ids):,} features, {size(layer.bytes)}")
+        print(f"{layer.name}: {layer.count:,} features, {size(layer.bytes)}")
 
 
 def degrees_of(box: tuple[int, int, int, int], libraries: Libraries) -> Box:
@@ -77,19 +85,16 @@ def first_zoom(box: tuple[int, int, int, int]) -> int:
     return max(0, min(DEEPEST, math.ceil(math.log2(AROUND / wide))))
 
 
-def tell_place(layers: Layers, libraries: Libraries) -> None:
+def tell_place(box: Box, z: int, args: argparse.Namespace) -> None:
     """The box, a tile to look at first, and how to see it."""
-    if layers.box is None:
-        print("there is no feature")
-        return
-    box, z = degrees_of(layers.box, libraries), first_zoom(layers.box)
     longitude, latitude = (box.west + box.east) / 2, (box.south + box.north) / 2
     x, y = column_at(longitude, z), row_at(latitude, z)
     edges = ",".join(f"{number:.5f}" for number in (box.west, box.south, box.east, box.north))
+    style = args.style[0] if args.style else "STYLE"
     print(f"the box in degrees: {edges}")
-    print(f"to look at first: tilefarm render STYLE DATA 256 {z} {x} {y} > tile.ppm")
-    print(f"in a browser: farmctl gateway --view {z}/{latitude:.5f}/{longitude:.5f}")
-    print(f"drawn beforehand: farmctl seed MAP {edges} 0..{min(DEEPEST, z + 4)}")
+    print(f"to look at first: tilefarm render {style} {args.output} 256 {z} {x} {y} > tile.ppm")
+    print(f"in a browser: farmctl gateway --view {z}/{latitude:.5f}/{longitude:.5f}, and {ADDRESS}")
+    print(f"drawn beforehand: farmctl seed default {edges} 0..{min(DEEPEST, z + 4)}")
 
 
 def run(args: argparse.Namespace) -> int:
@@ -99,7 +104,7 @@ def run(args: argparse.Namespace) -> int:
         layers, sources = read(args.files, args, Path(folder))
         length = layers.write(args.output)
     tell_left(layers, sources)
-    count = sum(len(layer.ids) for layer in layers.layers.values())
-    print(f"{args.output}: {count:,} features, {size(length)}; a farm needs some {size(READING * length)} of memory while it reads them")
-    tell_place(layers, sources[0].libraries)
+    print(f"{args.output}: {layers.count:,} features, {size(length)}; a farm needs some {size(READING * length)} of memory while it reads them")
+    if layers.box is not None:
+        tell_place(degrees_of(layers.box, sources[0].libraries), first_zoom(layers.box), args)
     return 0

@@ -18,6 +18,7 @@ from farmctl import client
 from farmctl.client import Tile
 from farmctl.errors import FarmError
 from farmctl.farm import Farm
+from farmctl.files import text_of
 from farmctl.metatiles import Metatile, stored, tile_of
 
 HELP = "make dirty what a list of today overlaps"
@@ -57,7 +58,7 @@ def marked(address: str, metatile: Metatile) -> bool:
 def run(args: argparse.Namespace) -> int:
     farm = Farm.of(args)
     named = args.list and str(args.list) != "-"
-    text = args.list.read_text(encoding="utf-8") if named else sys.stdin.read()
+    text = text_of(args.list) if named else sys.stdin.read()
     expired = Expired(tile_of(line) for line in text.splitlines() if line.strip())
     address = farm.address("tiles")
     if not farm.tiles.is_dir():

@@ -23,6 +23,7 @@ from typing import TYPE_CHECKING
 
 from farmctl.errors import USAGE, FarmError, library
 from farmctl.farm import Farm
+from farmctl.words import seconds
 
 if TYPE_CHECKING:
     from farmctl.gateway import Settings, View
@@ -39,13 +40,13 @@ def add(parser: argparse.ArgumentParser) -> None:
     parser.add_argument("--listen", metavar="ADDRESS", default="tcp:127.0.0.1:8080",
                         help="tcp:a.b.c.d:PORT or unix:PATH (%(default)s)")  # fmt: skip
     parser.add_argument("--processes", metavar="N", type=int, help="how many (one for each processor)")
-    parser.add_argument("--keep", metavar="SECONDS", type=float, default=0.0,
+    parser.add_argument("--keep", metavar="SECONDS", type=seconds, default=0.0,
                         help="keep clean tiles here, by so much older than the farm would tell (%(default)s: ask each time)")  # fmt: skip
     parser.add_argument("--max-age", metavar="SECONDS", type=int, default=0,
                         help="browsers may keep clean tiles as long (%(default)s: they ask each time, and are answered 304)")  # fmt: skip
     parser.add_argument("--shared-max-age", metavar="SECONDS", type=int,
                         help="caches that serve many may (as --max-age), for example nginx before this")  # fmt: skip
-    parser.add_argument("--memory", metavar="MIB", type=int, default=64, help="for pictures, in each process (%(default)s)")
+    parser.add_argument("--memory", metavar="MIB", type=int, default=64, help="for pictures, in each process (%(default)s; 0: none is kept)")
     parser.add_argument("--view", metavar="Z/LAT/LON", default="2/20/0", help="what the page shows first (%(default)s)")
     parser.add_argument("--public", metavar="URL", help="the address in TileJSON (that which was asked)")
     parser.add_argument("--origin", metavar="ORIGIN", default="*",
@@ -74,8 +75,8 @@ def settings_of(args: argparse.Namespace) -> Settings:
     maps = maps_of(farm.config)
     if not maps:
         raise FarmError(f"{farm.path}: no maps")
-    if min(args.processes, args.memory) < 1 or min(args.keep, args.max_age, args.shared_max_age or 0) < 0:
-        raise FarmError("--processes and --memory are at least 1, and no age is less than 0", USAGE)
+    if args.processes < 1 or min(args.memory, args.keep, args.max_age, args.shared_max_age or 0) < 0:
+        raise FarmError("--processes is at least 1, --memory and ages are at least 0", USAGE)
     return Settings(
         farm=farm.address("tiles"), maps=maps, view=view_of(args.view), max_age=args.max_age,
         shared_max_age=args.shared_max_age, keep=args.keep, memory=args.memory << 20,

@@ -16,6 +16,7 @@ from typing import Any
 from farmctl.errors import FarmError, library
 from farmctl.farm import Farm
 from farmctl.observing import Seen, Store, maps_of, seen, store_of
+from farmctl.words import seconds
 
 HELP = "tell Prometheus how a farm is"
 EXAMPLE = """
@@ -52,7 +53,7 @@ WALK = 300.0
 def add(parser: argparse.ArgumentParser) -> None:
     parser.add_argument("-o", "--output", metavar="FILE", type=Path, help="write a file, whole, for node_exporter's textfile collector")
     parser.add_argument("--listen", metavar="HOST:PORT", help="serve them over HTTP until this is ended")
-    parser.add_argument("--walk", metavar="SECONDS", type=float, default=WALK, help="between two walks through the store (300)")
+    parser.add_argument("--walk", metavar="SECONDS", type=seconds, default=WALK, help="between two walks through the store (300)")
 
 
 def values(now: Seen) -> dict[str, float | None]:
@@ -115,7 +116,7 @@ class Collector:
 
 def served(listen: str, registry: Any) -> int:
     host, colon, port = listen.rpartition(":")
-    if not colon or not port.isdecimal():
+    if not colon or not port.isdecimal() or int(port) > 65535:
         raise FarmError(f"no HOST:PORT: {listen}")
     try:
         library("prometheus_client", "python3-prometheus-client").start_http_server(int(port), host, registry)

@@ -14,6 +14,7 @@ import argparse
 
 from farmctl.farm import Farm
 from farmctl.running import Run
+from farmctl.words import seconds
 
 HELP = "run a farm, stopped in order by signals"
 EXAMPLE = """
@@ -23,7 +24,7 @@ EXAMPLE = """
 
 
 def add(parser: argparse.ArgumentParser) -> None:
-    parser.add_argument("--grace", metavar="SECONDS", type=float, default=100, help="at most so long for an orderly end (100)")
+    parser.add_argument("--grace", metavar="SECONDS", type=seconds, default=100, help="at most so long for an orderly end (100)")
 
 
 def run(args: argparse.Namespace) -> int:

@@ -26,6 +26,7 @@ from farmctl.errors import USAGE, FarmError, library
 from farmctl.farm import Farm
 from farmctl.metatiles import DEEPEST, Metatile, box_of, in_box, zooms_of
 from farmctl.seeding import PATIENCE, Seeding, Size, of_list, of_log, size_of
+from farmctl.words import seconds
 
 HELP = "have the tiles of a box drawn beforehand"
 EXAMPLE = """
@@ -50,7 +51,7 @@ def add(parser: argparse.ArgumentParser) -> None:
     parser.add_argument("-y", "--yes", action="store_true", help="do not ask")
     parser.add_argument("-n", "--open", metavar="N", type=int, default=OPEN, help=f"asks that are open at once, 1 to 32 ({OPEN})")
     parser.add_argument("-q", "--quiet", action="store_true", help="no progress")
-    parser.add_argument("--patience", metavar="SECONDS", type=float, default=PATIENCE, help="give up after so long without one (120)")
+    parser.add_argument("--patience", metavar="SECONDS", type=seconds, default=PATIENCE, help="give up after so long without one (120)")
 
 
 @dataclass(frozen=True)

@@ -18,6 +18,7 @@ from collections.abc import Iterator
 from farmctl.farm import Farm
 from farmctl.metatiles import container_bytes
 from farmctl.observing import Seen, seen
+from farmctl.words import days, seconds
 
 HELP = "say how a farm is"
 EXAMPLE = """
@@ -32,9 +33,9 @@ MOST_FILES = 0.9  # of those that the process may open
 
 def add(parser: argparse.ArgumentParser) -> None:
     parser.add_argument("--check", action="store_true", help="one line, and status 0, 1 or 2")
-    parser.add_argument("--warning-days", metavar="N", type=float, default=7, help="until the disk is full (7)")
-    parser.add_argument("--critical-days", metavar="N", type=float, default=1, help="until the disk is full (1)")
-    parser.add_argument("--slow", metavar="SECONDS", type=float, default=2, help="an answer that takes longer is a warning (2)")
+    parser.add_argument("--warning-days", metavar="N", type=days, default=7, help="until the disk is full (7)")
+    parser.add_argument("--critical-days", metavar="N", type=days, default=1, help="until the disk is full (1)")
+    parser.add_argument("--slow", metavar="SECONDS", type=seconds, default=2, help="an answer that takes longer is a warning (2)")
 
 
 def size(count: float | None) -> str:

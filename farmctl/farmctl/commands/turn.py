@@ -13,6 +13,7 @@ import argparse
 from pathlib import Path
 
 from farmctl.turning import Plan, Turn
+from farmctl.words import command, seconds
 
 HELP = "have another folder's farm take over, unseen"
 EXAMPLE = """
@@ -24,13 +25,13 @@ EXAMPLE = """
 def add(parser: argparse.ArgumentParser) -> None:
     parser.add_argument("link", metavar="LINK", type=Path, help="the link to the folder of the farm that serves")
     parser.add_argument("other", metavar="OTHER", type=Path, help="the folder whose farm takes over")
-    parser.add_argument("--start", metavar="COMMAND",
+    parser.add_argument("--start", metavar="COMMAND", type=command,
                         help="starts the other, where %% is its folder's name, and ends once it has begun (farmctl run, in the background)")  # fmt: skip
-    parser.add_argument("--stop", metavar="COMMAND", help="stops the first, likewise (the control line stop)")
+    parser.add_argument("--stop", metavar="COMMAND", type=command, help="stops the first, likewise (the control line stop)")
     parser.add_argument("--from-log", metavar="FILE", type=Path, help="the access log of a proxy or of the gateway")
     parser.add_argument("--most", metavar="N", type=int, default=200, help="so many metatiles of it are drawn first (%(default)s)")
-    parser.add_argument("--wait", metavar="SECONDS", type=float, default=600, help="at most so long for a start or an end (%(default)s)")
-    parser.add_argument("--drain", metavar="SECONDS", type=float, default=60,
+    parser.add_argument("--wait", metavar="SECONDS", type=seconds, default=600, help="at most so long for a start or an end (%(default)s)")
+    parser.add_argument("--drain", metavar="SECONDS", type=seconds, default=60,
                         help="at most so long for the first's last connections (%(default)s)")  # fmt: skip
 
 

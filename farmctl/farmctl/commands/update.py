@@ -15,12 +15,11 @@ from __future__ import annotations
 
 import argparse
 import os
-import shlex
 from pathlib import Path
 
-from farmctl.errors import FarmError
 from farmctl.farm import Farm
 from farmctl.updating import Update
+from farmctl.words import command, seconds
 
 HELP = "bring new updates into a running farm"
 RESTART = "systemctl restart tilefarm"
@@ -33,15 +32,12 @@ EXAMPLE = """
 def add(parser: argparse.ArgumentParser) -> None:
     parser.add_argument("files", metavar="FILE", nargs="+", type=Path, help="an update; several become one")
     named = os.environ.get("FARMCTL_RESTART", RESTART)
-    parser.add_argument("--restart", metavar="COMMAND", default=named, help=f"restarts the farm in order (FARMCTL_RESTART, or {RESTART})")
+    parser.add_argument("--restart", metavar="COMMAND", type=command, default=named, help=f"restarts the farm in order (FARMCTL_RESTART, or {RESTART})")
     parser.add_argument(
-        "--wait", metavar="SECONDS", type=float, help="at most so long for the restart and for the start (20 times the check, at least 60)"
+        "--wait", metavar="SECONDS", type=seconds, help="at most so long for the restart and for the start (20 times the check, at least 60)"
     )
 
 
 def run(args: argparse.Namespace) -> int:
-    restart = shlex.split(args.restart)
-    if not restart:
-        raise FarmError("--restart has no words")
-    print(Update(Farm.of(args), restart, args.wait).come(args.files))
+    print(Update(Farm.of(args), args.restart, args.wait).come(args.files))
     return 0

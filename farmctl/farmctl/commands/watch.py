@@ -16,6 +16,7 @@ from farmctl.commands.status import size
 from farmctl.farm import Farm
 from farmctl.process import process_at
 from farmctl.tally import Tally
+from farmctl.words import seconds
 
 HELP = "show a farm's work as it goes, a line a second"
 EXAMPLE = """
@@ -27,7 +28,7 @@ HEAD_EVERY = 20
 
 
 def add(parser: argparse.ArgumentParser) -> None:
-    parser.add_argument("-n", "--interval", metavar="SECONDS", type=float, default=1, help="between two lines (1)")
+    parser.add_argument("-n", "--interval", metavar="SECONDS", type=seconds, default=1, help="between two lines (1)")
     parser.add_argument("--count", metavar="N", type=int, help="end after so many lines")
 
 

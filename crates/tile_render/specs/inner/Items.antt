@@ -14,5 +14,5 @@ item_of (item.Raster g) = plain.raster g.now
 -- all items of a layer, in order
 abbrev pub items_in : Items → List plain.Item
 items_in (items.Raster g) = plain.raster g.now ∷ []
-items_in (items.Features features) = map plain.feature features
+items_in (items.Features source) = map plain.feature source.features
 items_in items.Nothing = []

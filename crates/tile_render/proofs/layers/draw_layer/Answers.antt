@@ -25,6 +25,7 @@ loop-name-preserved-in_default c =
           (found_named c.deref.result.now c.args.style.now.styles c.as_str-in-loop-name.result.now c.name-item.result None c.in_default.ensures
           (c.deref.ensures.value ∙ ap (λ s. s.styles) c.style.view_is) c.as_str-in-loop-name.ensures));
       window = c.loop-name.invariant.window;
+      nearby = c.loop-name.invariant.nearby;
     }
 
 pub loop-name-preserved : goal.loop-name-preserved
@@ -40,4 +41,5 @@ loop-name-preserved c =
           (found_named c.deref.result.now c.args.style.now.styles c.as_str-in-loop-name.result.now c.name-item.result (Some c.in-Some.named.now) c.in-Some.ensures
           (c.deref.ensures.value ∙ ap (λ s. s.styles) c.style.view_is) c.as_str-in-loop-name.ensures));
       window = c.draw_style.ensures.window ∙ c.loop-name.invariant.window;
+      nearby = c.draw_style.ensures.nearby ∙ c.loop-name.invariant.nearby;
     }

@@ -8,4 +8,5 @@ abbrev pub invariant-loop-name : goal.invariant-loop-name
 invariant-loop-name l = record {
   drawn : l.canvas.image ≡ fold (with_style l.fn.canvas.window l.denominator (items_in l.items)) l.fn.canvas.image (flat_map (style_named l.style.styles) (take l.name-index l.name-items));
   window : l.canvas.window ≡ l.fn.canvas.window;
+  nearby : l.nearby ≡ l.fn.nearby;
 }

@@ -1,6 +1,0 @@
--- The features so far are copied.
-use Rattle.std.proofs.Common.{◌≡◌, take}
-use Rattle.geo_json.proofs.settled.copy_features.Given as goal
-
-abbrev pub invariant-loop-feature : goal.invariant-loop-feature
-invariant-loop-feature l = l.copies.items ≡ take l.feature-index l.features
