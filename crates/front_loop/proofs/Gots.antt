@@ -520,8 +520,7 @@ module _ {A W T : Type 0} (R : Rules A W) (K : List ℕ → List (Move A) → T 
       let c = reply.conn.number in
       let p = before h.rounds h.round c in
       let sits = sat e start w reply i s h at sc in
-      let rp = a.replied (after (collecting h.replies h.round) c p).given (after (collecting h.replies h.round) c p).moves (sits.keeping a.kept).knows in
-      (
+      let rp = a.replied (after (collecting h.replies h.round) c p).given (after (collecting h.replies h.round) c p).moves (sits.keeping a.kept).knows in (
         collecting (record { reply = reply; behind = rp.behind } ∷ h.replies) h.round ∷ h.rounds,
         told_got start w.told w.mine mine' w.starved h.rounds h.round h.replies reply rp.behind h.makes.stands.are_told (rp.mine_is ∙ ap (λ es. es ++ rp.behind) m) rp.fits,
       )

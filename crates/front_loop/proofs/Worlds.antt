@@ -240,8 +240,7 @@ module _ {A W T : Type 0} (R : Rules A W) (K : List ℕ → List (Move A) → T 
   bytes_worn piece start told w i s mine' m at h =
       let c = s.conn in
       let q = each_at (λ (x : Session T). Waits R K (conn m.rounds x.conn) x w.told w.box) w.sessions i s at m.can.each in
-      let hd = h.heard (conn m.rounds c).given (conn m.rounds c).moves q.knows q.asked_all q.whole q.read in
-      (
+      let hd = h.heard (conn m.rounds c).given (conn m.rounds c).moves q.knows q.asked_all q.whole q.read in (
         begun (event.Bytes c) piece false hd.acts ∷ m.rounds,
         told_begun (event.Bytes c) piece hd.acts start told w mine' m (plain_bytes c) (hd.mine_is ∙ acts_are R c hd.acts w.mine) (fits_acts c piece hd.acts start told w m hd.fits hd.begins),
       )

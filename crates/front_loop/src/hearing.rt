@@ -166,7 +166,12 @@ fn admit<R, M: Farm, F: Front<M>>(
     }
     match place_of(table.sessions.as_slice(), conn) {
         Some(_) => false,
-        None => match add(work.alloc, table, conn, work.front.begin(work.alloc, work.farm)) {
+        None => match add(
+            work.alloc,
+            table,
+            conn,
+            work.front.begin(work.alloc, work.farm),
+        ) {
             Ok(()) => true,
             Err(NoMemory) => false,
         },

@@ -20,8 +20,7 @@ returns-in-Opened-clause-goes g c = λ start was m.
 
 pub hear-requires-clause-ready : goal.hear-requires-clause-ready
 hear-requires-clause-ready g c =
-    let r = c.requires.ready in
-    (
+    let r = c.requires.ready in (
       g.P.Ports.state c.args.ports.now,
       (r.0, r.1, came_as (g.F.Front.rules c.args.work.now.front.now c.args.work.now.farm.now) g.F.Front.knows c.args.came.now.event (event.Bytes c.in-Bytes.conn) c.args.came.now.piece.now r.0 _ _ c.in-Bytes.is r.2),
     )

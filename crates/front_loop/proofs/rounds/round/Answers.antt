@@ -14,8 +14,7 @@ returns-in-None-clause-goes g c = λ start h. c.play.ensures.goes start (g.P.Por
 
 pub play-requires-clause-ready : goal.play-requires-clause-ready
 play-requires-clause-ready g c =
-    let r = c.requires.ready in
-    (
+    let r = c.requires.ready in (
       r.0,
       (g.P.Ports.state c.args.ports.now).told,
       record {
