@@ -157,7 +157,7 @@ def asked_before(folder, port, made):
     costs = []
     while len(costs) < 4 or min(costs[-2:]) < 0.9 * costs[-3]:
         before = ticks(made.pid)
-        words = ["wrk", "-t2", "-c32", "-d5s", "--timeout", "30s", "-s", folder.name("asks.lua"), "http://127.0.0.1:%d" % port]
+        words = ["wrk", "-t2", "-c32", "-d2s", "--timeout", "30s", "-s", folder.name("asks.lua"), "http://127.0.0.1:%d" % port]
         out = subprocess.run(words, stdout=subprocess.PIPE, text=True).stdout
         costs.append((ticks(made.pid) - before) / max(1, int(re.search(r"ANSWERS (\d+)", out)[1])))
 

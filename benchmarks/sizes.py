@@ -2,11 +2,14 @@
 """What data of a site's size take: GeoJSON of houses becomes data, and a farm reads them and draws.
 
     benchmarks/sizes.py [FEATURES ..]          (100000 and 1000000 where none are given)
+    benchmarks/sizes.py layers
 
 For each number a farm of one map with two workers is started over so many houses, some 8,000 on each tile of zoom 12.
 Told are the files' sizes, the processor time and the most memory of `farmctl data` and of the farm until it answers a control
 line, and how long the first tile of a metatile takes: one of zoom 14, and one that holds all houses. A million takes
-6 GB of memory and of disk in /tmp together, and some minutes. With TILEFARM another program is measured.
+6 GB of memory and of disk in /tmp together, and some minutes. With `layers` it is told what memory a farm takes while it
+reads 37 MB of data of three layers, in three orders, without updates and with one of 16 MB, and what stays once it answers.
+With TILEFARM another program is measured.
 """
 
 import json
@@ -110,6 +113,64 @@ def serve(folder, middle):
     farm.stop()
 
 
+LAYERS = (("greatest first", (100000, 50000, 10000)), ("in the middle", (10000, 100000, 50000)), ("last", (10000, 50000, 100000)))
+
+
+def shape(number, draw):
+    x, y = draw.randrange(2 * 10**9), draw.randrange(2 * 10**9)
+    corners = [[x, y], [x + 900, y + 200], [x + 800, y + 1100], [x - 100, y + 900], [x, y]]
+    attrs = {"building": draw.choice(KINDS), "street": draw.choice(STREETS), "number": str(number % 200), "levels": number % 6, "osm": number + 10**8}
+    return json.dumps({"id": number, "geometry": {"polygon": [corners]}, "attrs": attrs})
+
+
+def write_features(out, count, draw):
+    for number in range(count):
+        out.write((", " if number else "") + shape(number, draw))
+
+
+def write_layers(path, counts):
+    draw = random.Random(7)
+    with open(path, "w") as out:
+        out.write('{"layers": [')
+        for place, count in enumerate(counts):
+            out.write(', ' * (place > 0) + '{"name": "%s", "features": [' % ("houses" if place == 0 else "layer%d" % place))
+            write_features(out, count, draw)
+            out.write("]}")
+        out.write("]}")
+
+
+def write_update(path, count):
+    with open(path, "w") as out:
+        out.write('{"changes": [{"layer": "houses", "put": [')
+        write_features(out, count, random.Random(8))
+        out.write("]}]}")
+
+
+def layers_kept(order, counts, updates):
+    folder = Folder()
+    folder.config.update(maps=trial.MAPS[:1], updates=updates, restyles=[], expiries=[])
+    folder.write("style.json", json.dumps(STYLE))
+    write_layers(folder.name("data.json"), counts)
+    for name in updates:
+        write_update(folder.name(name), 70000)
+    try:
+        farm = Farm(folder)
+        if not farm.wait(600):
+            sys.exit("sizes: the farm does not listen: %s" % (farm.ended(0),))
+        farm.stats()
+        size = sum(os.path.getsize(folder.name(name)) for name in ["data.json"] + updates)
+        seconds, now, most = spent(farm.process)
+        told = order, len(updates), megabytes(size), seconds, megabytes(most), most / size, megabytes(now), now / size
+        print("%-15s %d updates, %s: %.1f s of processor, at most %s (%.1f bytes a byte), %s stay (%.1f)" % told, flush=True)
+        farm.stop()
+    finally:
+        for process in Farm.running:
+            if process.poll() is None:
+                process.kill()
+                process.wait()
+        folder.remove()
+
+
 def measure(count):
     folder = Folder()
     folder.config.update(maps=trial.MAPS[:1], updates=[], restyles=[], expiries=[])
@@ -133,6 +194,11 @@ if __name__ == "__main__":
     most = resource.getrlimit(resource.RLIMIT_NOFILE)[1]
     resource.setrlimit(resource.RLIMIT_NOFILE, (most, most))
     subprocess.run([trial.PROGRAM], stdout=subprocess.DEVNULL, stderr=subprocess.DEVNULL)  # builds it where it is not built
-    for number in [int(word) for word in sys.argv[1:]] or [100000, 1000000]:
-        measure(number)
+    if sys.argv[1:] == ["layers"]:
+        for updates in ([], ["update.json"]):
+            for order, counts in LAYERS:
+                layers_kept(order, counts, updates)
+    else:
+        for number in [int(word) for word in sys.argv[1:]] or [100000, 1000000]:
+            measure(number)
     print("load %.1f" % os.getloadavg()[0])

@@ -149,11 +149,13 @@ def run(args: argparse.Namespace) -> int:
         if args.keep and not is_osc:
             raise FarmError("--keep is for a change file")
         newer = applied(args.old, args.new, folder) if is_osc else args.new
-        old, _ = read([args.old], args, folder / "old")
+        old = read([args.old], args, folder / "old")[0]
         new, sources = read([newer], args, folder / "new")
         unknown = sorted(set(new.layers) - set(old.layers))
         if unknown:
             raise FarmError(f"{', '.join(unknown)}: no layer of {args.old}: make the data anew (farmctl data)")
+        for source in sources:
+            source.path = args.new  # which is what the user knows of
         tell_left(new, sources)
         found = [change_of(old, new, name) for name in new.layers]
         changes = [change for change in found if change.put or change.remove]

@@ -30,7 +30,7 @@ EXAMPLE = """
     farmctl data town.osm.pbf --style style.json -o data.json
     farmctl data land=coast.shp lakes=lakes.gpkg --round area=100 -o data.json
 """
-READING = 21  # times the data's bytes in memory, while a farm reads them
+READING, STAYS = 5, 3  # times the data's bytes in a farm's memory: while it reads them, and then
 AROUND = 4007501668  # the equator in centimetres
 ADDRESS = "http://127.0.0.1:8080/"  # where the gateway shows its page
 
@@ -104,7 +104,8 @@ def run(args: argparse.Namespace) -> int:
         layers, sources = read(args.files, args, Path(folder))
         length = layers.write(args.output)
     tell_left(layers, sources)
-    print(f"{args.output}: {layers.count:,} features, {size(length)}; a farm needs some {size(READING * length)} of memory while it reads them")
+    needs = f"a farm needs some {size(READING * length)} of memory while it reads them, and {size(STAYS * length)} then"
+    print(f"{args.output}: {layers.count:,} features, {size(length)}; {needs}")
     if layers.box is not None:
         tell_place(degrees_of(layers.box, sources[0].libraries), first_zoom(layers.box), args)
     return 0
